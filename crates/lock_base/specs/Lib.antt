@@ -1,0 +1,14 @@
+pub mod Modes
+pub mod ModeRuns
+pub mod Kind
+pub mod Party
+pub mod Fault
+pub mod Limits
+pub mod Tokens
+pub mod Operation
+pub mod Entries
+pub mod Machine
+pub mod Refusals
+pub mod Calls
+pub mod Steps
+pub mod Legal

@@ -1,0 +1,5 @@
+//! What every lock of the workspace stands on: the machine of guards with its definitions, and the raw states behind it.
+#![tactic(auto)]
+
+pub mod machine;
+pub mod raw;

@@ -1,0 +1,13 @@
+//! The range of limits.
+ghost use Rattle.std.specs.Prelude.{◌↔◌, IsTrue};
+ghost use Rattle.lock_base.specs.Limits.{IsLimit};
+
+/// The largest number of places, readers, levels or parties.
+pub const MAX_LIMIT: u64 = 4_294_967_295;
+
+/// Whether the number may be a limit: from 1 to `MAX_LIMIT`.
+pub fn is_limit(limit: u64) -> bool
+    ensures { IsTrue result ↔ IsLimit limit }
+{
+    limit != 0 && limit <= MAX_LIMIT
+}
