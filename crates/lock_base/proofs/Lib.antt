@@ -1,0 +1,2 @@
+pub mod TokenBags
+pub mod Compatible
