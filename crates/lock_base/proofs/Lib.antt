@@ -1,2 +1,3 @@
 pub mod TokenBags
 pub mod Compatible
+pub mod Counting

@@ -8,7 +8,8 @@ use Rattle.std.proofs.lemmas.Option.{slice_get_within}
 use Rattle.lock_base.specs.Modes.{empty_bag, one_more, tokens}
 use Rattle.lock_base.specs.declared.machine.bag.Bag.{Bag}
 use Rattle.lock_base.specs.Tokens.{bag_of_tokens}
-use Rattle.lock_base.proofs.SameBags.{turned, joined, with_one, without_one, one_more-swap, tokens-one_more}
+use Rattle.lock_base.proofs.TokenBags.{turned, joined}
+use Rattle.lock_base.proofs.Counting.{with_one, without_one, one_more-swap, tokens-one_more}
 use Rattle.std.proofs.Math.ListN.{set}
 use Rattle.lock_base.specs.declared.machine.mode.Mode.{Mode}
 use Rattle.lock_base.specs.declared.machine.mode.Mode.TheVariants.{Shared, Exclusive, Upgradable}
@@ -227,7 +228,7 @@ pub taken_of_free : {items places : List (Option Mode)} {place : ℕ} {mode : Mo
 taken_of_free {items} {places} {place} {mode} same free = subst (λ ps. SameBag (tokens_of (set ps place (Some mode))) ((place_token place, mode) ∷ tokens_of places)) (sym same) (taken places place mode free)
 
 -- whether what a place is found to be is taken in the mode
-abbrev is_in : Option Mode → Mode → Bool
+abbrev pub is_in : Option Mode → Mode → Bool
 is_in None mode = false
 is_in (Some taken) mode = sameb the_type taken mode
 
@@ -252,6 +253,12 @@ found_taken (p ∷ places) (suc i) mode there = found_taken places i mode there
 in_mode : (found : Option Mode) (mode : Mode) → is_in found mode ≡ true → found ≡ Some mode
 in_mode None mode e = cc
 in_mode (Some taken) mode e = ap Some (sameb-true taken mode e)
+
+pub found_in : {found : Option Mode} {taken : Mode} {answer : Bool} (mode : Mode) → found ≡ Some taken → answer ≡ sameb the_type taken mode → answer ≡ is_in found mode
+found_in {found} {taken} {answer} mode is tested = tested ∙ ap (λ f. is_in f mode) (sym is)
+
+pub found_free : {found : Option Mode} (mode : Mode) → found ≡ None → false ≡ is_in found mode
+found_free {found} mode is = ap (λ f. is_in f mode) (sym is)
 
 -- a look at a place tells whether its token is out in the mode
 pub tells_out : (places : List (Option Mode)) (token : TableToken) (mode : Mode) (found : Option Mode) (answer : Bool) → found ≡ get_or places token.place None → answer ≡ is_in found mode → (answer ≡ true → IsOutAs (tokens_of places) token mode) × (IsOutAs (tokens_of places) token mode → answer ≡ true)

@@ -49,7 +49,10 @@ impl TokenTable {
         ensures same { self.new ≡ self.old }
         ensures out { IsTrue result ↔ IsOutAs (tokens_of self.old.places) token.now mode }
     {
-        matches!(self.mode_at(token.place), Some(taken) if taken == mode)
+        match self.mode_at(token.place) {
+            Some(taken) => taken == mode,
+            None => false,
+        }
     }
 
     /// The mode in which a place is taken.

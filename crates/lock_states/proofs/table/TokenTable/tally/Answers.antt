@@ -1,5 +1,5 @@
 use Rattle.lock_base.specs.Modes.{tokens}
-use Rattle.lock_base.proofs.SameBags.{tokens-bag_of_tokens}
+use Rattle.lock_base.proofs.Counting.{tokens-bag_of_tokens}
 use Rattle.lock_states.specs.Table.{tokens_of}
 use Rattle.std.proofs.Common.{◌∙◌, ap, arith, length}
 use Rattle.lock_states.proofs.Places.{tally-free, tally-taken, tally-small, tally-all, tokens_within}
