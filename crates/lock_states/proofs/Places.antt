@@ -70,12 +70,14 @@ pub record IsTally (bag : Bag) (places : List (Option Mode)) (k : ℕ) : Type 0 
 pub tally-free : {bag after : Bag} {places seen : List (Option Mode)} {k : ℕ} → IsTally bag places k → seen ≡ places → get_or seen k None ≡ None → after ≡ bag → IsTally after places (k + 1)
 tally-free {bag} {after} {places} {seen} {k} tally same there is = let there' : get_or places k None ≡ None = subst (λ s. get_or s k None ≡ None) same there in let more : bag_of_tokens (tokens_of (take (k + 1) places)) ≡ bag_of_tokens (tokens_of (take k places)) = subst (λ j. bag_of_tokens (tokens_of (take j places)) ≡ bag_of_tokens (tokens_of (take k places))) (sym (add-one k)) (bag-take_free 0 places k there') in subst (λ b. IsTally b places (k + 1)) (sym is) (record {
   so_far = tally.so_far ∙ sym more;
-  within = omega (arith, tally.within) })
+  within = omega (arith, tally.within);
+})
 
 pub tally-taken : {bag after : Bag} {places seen : List (Option Mode)} {k : ℕ} {mode : Mode} → IsTally bag places k → seen ≡ places → get_or seen k None ≡ Some mode → after ≡ one_more bag mode → IsTally after places (k + 1)
 tally-taken {bag} {after} {places} {seen} {k} {mode} tally same there is = let there' : get_or places k None ≡ Some mode = subst (λ s. get_or s k None ≡ Some mode) same there in let more : bag_of_tokens (tokens_of (take (k + 1) places)) ≡ one_more (bag_of_tokens (tokens_of (take k places))) mode = subst (λ j. bag_of_tokens (tokens_of (take j places)) ≡ one_more (bag_of_tokens (tokens_of (take k places))) mode) (sym (add-one k)) (bag-take_taken 0 places k mode there') in subst (λ b. IsTally b places (k + 1)) (sym is) (record {
   so_far = ap (λ b. one_more b mode) tally.so_far ∙ sym more;
-  within = omega (arith, tally.within, tokens-one_more bag mode) })
+  within = omega (arith, tally.within, tokens-one_more bag mode);
+})
 
 -- of all places
 pub tally-all : {bag : Bag} {places seen : List (Option Mode)} {k : ℕ} → IsTally bag places k → seen ≡ places → length seen ≤ k → bag ≡ bag_of_tokens (tokens_of places)
@@ -177,10 +179,10 @@ left_of_out {items} {places} {token} {mode} {others} same out = subst (λ ps. Sa
 -- what stands in its place where its mode is changed
 pub changed : {items places : List (Option Mode)} {token : TableToken} {from : Mode} {others : List (TableToken × Mode)} (to : Mode) → items ≡ places → SameBag (tokens_of places) ((token, from) ∷ others) → SameBag (tokens_of (set items token.place (Some to))) ((token, to) ∷ others)
 changed {items} {places} {token} {from} {others} to same out =
-  let there = taken_of_out places token from others out in
-  let new = freed (set items token.place (Some to)) token.place to (get_set items token.place (Some to) (Some from) (subst (λ ps. slice_get ps token.place ≡ Some (Some from)) (sym same) there)) in
-  let rest = subst (λ ps. SameBag (tokens_of ps) others) (sym (set_twice items token.place (Some to) None)) (left_of_out same out) in
-  joined new (with_one (token, to) rest)
+    let there = taken_of_out places token from others out in
+    let new = freed (set items token.place (Some to)) token.place to (get_set items token.place (Some to) (Some from) (subst (λ ps. slice_get ps token.place ≡ Some (Some from)) (sym same) there)) in
+    let rest = subst (λ ps. SameBag (tokens_of ps) others) (sym (set_twice items token.place (Some to) None)) (left_of_out same out) in
+    joined new (with_one (token, to) rest)
 
 -- all places of a new table are free
 pub none_out : (first n : ℕ) → tokens_from first (replicate n None) ≡ []
@@ -217,11 +219,11 @@ found_none n len P past = elim (leb_tells (suc n) len) [ inl w ↦ subst (λ b. 
 -- what a search for a free place finds
 pub first_free : {places seen : List (Option Mode)} {found : Option ℕ} → seen ≡ places → found ≡ (if nat_lt (position_or_len is_none seen) (length seen) then Some (position_or_len is_none seen) else None) → IfSome found (λ place. slice_get places place ≡ Some None)
 first_free {places} {seen} {found} same is =
-  subst (λ r. IfSome r (λ place. slice_get places place ≡ Some None)) (sym is) (found_place (position_or_len is_none seen) (length seen) (λ place. slice_get places place ≡ Some None) (λ within. subst (λ ps. slice_get ps (position_or_len is_none seen) ≡ Some None) same (first_free_at seen within)))
+    subst (λ r. IfSome r (λ place. slice_get places place ≡ Some None)) (sym is) (found_place (position_or_len is_none seen) (length seen) (λ place. slice_get places place ≡ Some None) (λ within. subst (λ ps. slice_get ps (position_or_len is_none seen) ≡ Some None) same (first_free_at seen within)))
 
 pub none_free : {places seen : List (Option Mode)} {found : Option ℕ} → seen ≡ places → found ≡ (if nat_lt (position_or_len is_none seen) (length seen) then Some (position_or_len is_none seen) else None) → IfNone found (length (tokens_of places) ≡ length places)
 none_free {places} {seen} {found} same is =
-  subst (λ r. IfNone r (length (tokens_of places) ≡ length places)) (sym is) (found_none (position_or_len is_none seen) (length seen) (length (tokens_of places) ≡ length places) (λ full. subst (λ ps. length (tokens_of ps) ≡ length ps) same (none_free_from 0 seen full)))
+    subst (λ r. IfNone r (length (tokens_of places) ≡ length places)) (sym is) (found_none (position_or_len is_none seen) (length seen) (length (tokens_of places) ≡ length places) (λ full. subst (λ ps. length (tokens_of ps) ≡ length ps) same (none_free_from 0 seen full)))
 
 -- the token of a place that was free
 pub taken_of_free : {items places : List (Option Mode)} {place : ℕ} {mode : Mode} → items ≡ places → slice_get places place ≡ Some None → SameBag (tokens_of (set items place (Some mode))) ((record { place = place }, mode) ∷ tokens_of places)

@@ -2,3 +2,5 @@
 #![tactic(auto)]
 
 pub mod table;
+#[cfg(test)]
+mod tests;

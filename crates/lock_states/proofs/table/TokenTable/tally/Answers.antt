@@ -11,8 +11,9 @@ one_more-bag-requires c = tally-small c.loop-place.invariant c.deref-place-items
 
 pub loop-place-preserved : goal.loop-place-preserved
 loop-place-preserved c = let same = c.deref-place-items.ensures.value ∙ ap (λ t. t.places) c.self.view_is in elim c.match-place.branch [
-    in-Some w ↦ tally-taken c.loop-place.invariant same w.in-Some.is (w.bag-is ∙ w.one_more-bag.ensures)
-  | in_default w ↦ tally-free c.loop-place.invariant same w.in_default.is w.bag-is ]
+  | in-Some w ↦ tally-taken c.loop-place.invariant same w.in-Some.is (w.bag-is ∙ w.one_more-bag.ensures)
+  | in_default w ↦ tally-free c.loop-place.invariant same w.in_default.is w.bag-is
+]
 
 pub returns-clause-bag : goal.returns-clause-bag
 returns-clause-bag c = tally-all c.loop-place.invariant (c.deref-place-items.ensures.value ∙ ap (λ t. t.places) c.self.view_is) c.loop-place-test.false
