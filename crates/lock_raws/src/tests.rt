@@ -45,9 +45,15 @@ fn readers_upgrade_and_downgrade(rt: HostRuntime) {
     let upgradable = raw.lock_upgradable();
     let shared = raw.lock_shared();
     assert!(rt; raw.try_lock_shared().is_none());
-    let upgradable = raw.try_upgrade(upgradable).err().expect(&rt, "a reader is out");
+    let upgradable = raw
+        .try_upgrade(upgradable)
+        .err()
+        .expect(&rt, "a reader is out");
     raw.unlock_shared(shared);
-    let exclusive = raw.try_upgrade(upgradable).ok().expect(&rt, "the sole token");
+    let exclusive = raw
+        .try_upgrade(upgradable)
+        .ok()
+        .expect(&rt, "the sole token");
     assert!(rt; raw.is_locked_exclusive());
     assert!(rt; raw.try_lock_upgradable().is_none());
     let upgradable = raw.downgrade_to_upgradable(exclusive);
@@ -76,9 +82,15 @@ fn timed_tries_are_tries(rt: HostRuntime) {
     let exclusive = raw.bump_exclusive(exclusive);
     raw.unlock_exclusive_fair(exclusive);
     let upgradable = raw.try_lock_upgradable_until(()).expect(&rt, "a free lock");
-    let exclusive = raw.try_upgrade_for(upgradable, ()).ok().expect(&rt, "the sole token");
+    let exclusive = raw
+        .try_upgrade_for(upgradable, ())
+        .ok()
+        .expect(&rt, "the sole token");
     let upgradable = raw.downgrade_to_upgradable(exclusive);
-    let exclusive = raw.try_upgrade_until(upgradable, ()).ok().expect(&rt, "the sole token");
+    let exclusive = raw
+        .try_upgrade_until(upgradable, ())
+        .ok()
+        .expect(&rt, "the sole token");
     raw.unlock_exclusive(exclusive);
     let exclusive = raw.lock_exclusive();
     raw.unlock_exclusive(exclusive);
