@@ -12,3 +12,4 @@ pub mod Refusals
 pub mod Calls
 pub mod Steps
 pub mod Legal
+pub mod Lens
