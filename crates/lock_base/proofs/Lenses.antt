@@ -2,7 +2,7 @@
 use Rattle.std.specs.Prelude.{◌≡◌, Option, None, Some, IsSome, is_some, option_and_then, refl}
 use Rattle.std.specs.Option.{option_map_or}
 use Rattle.std.specs.Borrow.{GName}
-use Rattle.std.proofs.Common.{◌∙◌, ap, sym, inl, inr}
+use Rattle.std.proofs.Common.{ap, sym, inl, inr}
 use borrow.Follows.Closed.{read_of}
 use mathlib.Core.Option as maybe
 use Rattle.lock_base.specs.Lens.{Lens, IsLawful, through}

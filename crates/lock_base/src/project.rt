@@ -4,7 +4,10 @@ mod missed;
 mod projection;
 mod then;
 
-pub use laws::{kept_part, lawful_then, mapped_twice, missed_write, regrouped};
+pub use laws::{
+    mapping_twice_is_then, missed_write_changes_nothing, then_is_associative, then_is_lawful,
+    then_misses_in_order, write_keeps_part,
+};
 pub use missed::Missed;
 pub use projection::{Project, TryProject};
 pub use then::Then;
