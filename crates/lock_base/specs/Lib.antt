@@ -13,3 +13,4 @@ pub mod Calls
 pub mod Steps
 pub mod Legal
 pub mod Lens
+pub mod Then
