@@ -1,3 +1,4 @@
 pub mod TokenBags
 pub mod Compatible
 pub mod Counting
+pub mod Lenses

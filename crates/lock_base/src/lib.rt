@@ -2,4 +2,5 @@
 #![tactic(auto)]
 
 pub mod machine;
+pub mod project;
 pub mod raw;
