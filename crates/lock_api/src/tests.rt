@@ -1,4 +1,6 @@
 //! Tests that span crates.
 mod callers;
+mod flag;
 mod liar;
+mod markers;
 mod mutex;
