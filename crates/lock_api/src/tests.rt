@@ -1,0 +1,6 @@
+//! Tests that span crates.
+mod callers;
+mod liar;
+mod markers;
+mod mutex;
+mod shared_like_desk;
