@@ -6,7 +6,7 @@ mod raw_rwlock;
 mod raw_state;
 
 pub use fault::Fault;
-pub use limits::{MAX_LIMIT, is_limit};
+pub use limits::{DEFAULT_READERS, MAX_LIMIT, is_limit};
 pub use raw_mutex::{RawMutex, RawMutexFair, RawMutexTimed};
 pub use raw_rwlock::{
     RawRwLock, RawRwLockDowngrade, RawRwLockFair, RawRwLockTimed, RawRwLockUpgrade,
