@@ -8,5 +8,5 @@ mod value_guard;
 pub use held::Held;
 pub use inner::Inner;
 pub use lock::{Acquire, AcquireFair, Release};
-pub use text::fmt_lock;
+pub use text::{Locked, fmt_lock};
 pub use value_guard::{ValueGuard, ValueGuardMut};
