@@ -1,1 +1,1 @@
-pub mod Guard
+pub mod MutexGuard

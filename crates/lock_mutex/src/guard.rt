@@ -19,7 +19,7 @@ pub struct Guard<L: Acquire> {
 pub type MutexGuard<'a, R, T> = Guard<&'a Mutex<R, T>>;
 
 impl<'a, R: RawMutex, T> Guard<&'a Mutex<R, T>> {
-    ghost use Rattle.lock_mutex.specs.Guard.{lock_of};
+    ghost use Rattle.lock_mutex.specs.MutexGuard.{lock_of};
 
     pub(crate) fn new(mutex: &'a Mutex<R, T>, token: R::Guard) -> MutexGuard<'a, R, T>
         ensures { (lock_of result).ref_ptr ≡ mutex.entry.ref_ptr }
@@ -47,7 +47,7 @@ impl<'a, R: RawMutex, T> Guard<&'a Mutex<R, T>> {
 }
 
 impl<'a, R: RawMutexFair, T> Guard<&'a Mutex<R, T>> {
-    ghost use Rattle.lock_mutex.specs.Guard.{lock_of};
+    ghost use Rattle.lock_mutex.specs.MutexGuard.{lock_of};
 
     /// Ends the guard, and lets those that wait go first.
     pub fn unlock_fair(guard: MutexGuard<'a, R, T>) {
@@ -72,7 +72,7 @@ impl<'a, R: RawMutexFair, T> Guard<&'a Mutex<R, T>> {
 }
 
 impl<L: Acquire> Deref for Guard<L> {
-    ghost use Rattle.lock_mutex.specs.Guard.{guard_value};
+    ghost use Rattle.lock_mutex.specs.MutexGuard.{guard_value};
 
     type Target = <L::Shown as ValueGuard>::Value;
 
@@ -88,7 +88,7 @@ where
     L::Shown: ValueGuardMut,
 {
     ghost use Rattle.lock_mutex.specs.contracts.guard.Guard.{the_row};
-    ghost use Rattle.lock_mutex.specs.Guard.{guard_value, guard_with_value};
+    ghost use Rattle.lock_mutex.specs.MutexGuard.{guard_value, guard_with_value};
 
     ghost deref_mut_gives = { λ guard value. guard_value L.Shown.shown guard ≡ Some value };
 

@@ -17,7 +17,7 @@ pub struct Mutex<R, T> {
 }
 
 impl<R: RawMutex, T> Mutex<R, T> {
-    ghost use Rattle.lock_mutex.specs.Guard.{lock_of};
+    ghost use Rattle.lock_mutex.specs.MutexGuard.{lock_of};
 
     /// A free mutex over a new raw lock. Where that is refused, the value is dropped.
     pub fn new(alloc: Global, waiter: R::Waiter, value: T) -> Result<Mutex<R, T>, Fault>
@@ -94,7 +94,7 @@ impl<R: RawMutex, T> Mutex<R, T> {
 }
 
 impl<R: RawMutexTimed, T> Mutex<R, T> {
-    ghost use Rattle.lock_mutex.specs.Guard.{lock_of};
+    ghost use Rattle.lock_mutex.specs.MutexGuard.{lock_of};
 
     /// None where the raw lock refuses for that long.
     pub fn try_lock_for(&self, timeout: R::Duration) -> Option<MutexGuard<'_, R, T>>

@@ -1,2 +1,2 @@
 pub mod Closure
-pub mod Guard
+pub mod RwLockGuard

@@ -20,7 +20,7 @@ pub struct RwLockGuard<L: Acquire> {
 }
 
 impl<L: Acquire> RwLockGuard<L> {
-    ghost use Rattle.lock_rwlock.specs.Guard.{lock_of};
+    ghost use Rattle.lock_rwlock.specs.RwLockGuard.{lock_of};
 
     /// Gives the lock up for the length of the closure, and waits for it again.
     pub fn unlocked<U, F: FnOnce() -> U>(guard: &mut Self, f: F) -> U
@@ -40,7 +40,7 @@ impl<L: Acquire> RwLockGuard<L> {
 }
 
 impl<L: AcquireFair> RwLockGuard<L> {
-    ghost use Rattle.lock_rwlock.specs.Guard.{lock_of};
+    ghost use Rattle.lock_rwlock.specs.RwLockGuard.{lock_of};
 
     /// Ends the guard, and lets those that wait go first.
     pub fn unlock_fair(guard: Self) {
@@ -65,7 +65,7 @@ impl<L: AcquireFair> RwLockGuard<L> {
 }
 
 impl<L: Acquire> Deref for RwLockGuard<L> {
-    ghost use Rattle.lock_rwlock.specs.Guard.{guard_value};
+    ghost use Rattle.lock_rwlock.specs.RwLockGuard.{guard_value};
 
     type Target = <L::Shown as ValueGuard>::Value;
 
@@ -81,7 +81,7 @@ where
     L::Shown: ValueGuardMut,
 {
     ghost use Rattle.lock_rwlock.specs.contracts.guard.RwLockGuard.{the_row};
-    ghost use Rattle.lock_rwlock.specs.Guard.{guard_value, guard_with_value};
+    ghost use Rattle.lock_rwlock.specs.RwLockGuard.{guard_value, guard_with_value};
 
     ghost deref_mut_gives = { λ guard value. guard_value L.Shown.shown guard ≡ Some value };
 

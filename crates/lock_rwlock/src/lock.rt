@@ -20,7 +20,7 @@ pub struct RwLock<R, T> {
 }
 
 impl<R: RawRwLock, T> RwLock<R, T> {
-    ghost use Rattle.lock_rwlock.specs.Guard.{rwlock_address};
+    ghost use Rattle.lock_rwlock.specs.RwLockGuard.{IsGuardOf};
 
     /// A free lock over a new raw lock with `DEFAULT_READERS`. The value is dropped where it is refused.
     pub fn new(alloc: Global, waiter: R::Waiter, value: T) -> Result<RwLock<R, T>, Fault>
@@ -63,14 +63,13 @@ impl<R: RawRwLock, T> RwLock<R, T> {
         ensures fault { IfErr result IsMakerFault }
     {
         let raw = R::new(alloc, waiter, readers)?;
-        RwLock::from_raw(alloc, raw, value)
+        RwLock::from_raw(raw, value)
     }
 
-    /// A lock over a raw lock that was made apart.
-    pub fn from_raw(alloc: Global, raw: R, value: T) -> Result<RwLock<R, T>, Fault>
+    /// A lock over a raw lock that was made apart. It takes no memory, so it is never refused.
+    pub fn from_raw(raw: R, value: T) -> Result<RwLock<R, T>, Fault>
         ensures { IsOk result }
     {
-        let _ = alloc;
         Ok(RwLock {
             raw,
             value: sync::RwLock::new(value),
@@ -106,28 +105,28 @@ impl<R: RawRwLock, T> RwLock<R, T> {
 
     /// Waits until the raw lock admits one more to read.
     pub fn read(&self) -> RwLockReadGuard<'_, R, T>
-        ensures { rwlock_address result ≡ self.entry.ref_ptr }
+        ensures { IsGuardOf self.entry result }
     {
         RwLockReadGuard::new(self, self.raw.lock_shared())
     }
 
     /// None where the raw lock refuses.
     pub fn try_read(&self) -> Option<RwLockReadGuard<'_, R, T>>
-        ensures { IfSome result (λ guard. rwlock_address guard ≡ self.entry.ref_ptr) }
+        ensures { IfSome result (IsGuardOf self.entry) }
     {
         Some(RwLockReadGuard::new(self, self.raw.try_lock_shared()?))
     }
 
     /// Waits until the raw lock admits one to write.
     pub fn write(&self) -> RwLockWriteGuard<'_, R, T>
-        ensures { rwlock_address result ≡ self.entry.ref_ptr }
+        ensures { IsGuardOf self.entry result }
     {
         RwLockWriteGuard::new(self, self.raw.lock_exclusive())
     }
 
     /// None where the raw lock refuses.
     pub fn try_write(&self) -> Option<RwLockWriteGuard<'_, R, T>>
-        ensures { IfSome result (λ guard. rwlock_address guard ≡ self.entry.ref_ptr) }
+        ensures { IfSome result (IsGuardOf self.entry) }
     {
         Some(RwLockWriteGuard::new(self, self.raw.try_lock_exclusive()?))
     }
@@ -143,11 +142,11 @@ impl<R: RawRwLock, T> RwLock<R, T> {
 }
 
 impl<R: RawRwLockTimed, T> RwLock<R, T> {
-    ghost use Rattle.lock_rwlock.specs.Guard.{rwlock_address};
+    ghost use Rattle.lock_rwlock.specs.RwLockGuard.{IsGuardOf};
 
     /// None where the raw lock refuses for that long.
     pub fn try_read_for(&self, timeout: R::Duration) -> Option<RwLockReadGuard<'_, R, T>>
-        ensures { IfSome result (λ guard. rwlock_address guard ≡ self.entry.ref_ptr) }
+        ensures { IfSome result (IsGuardOf self.entry) }
     {
         let token = self.raw.try_lock_shared_for(timeout)?;
         Some(RwLockReadGuard::new(self, token))
@@ -155,7 +154,7 @@ impl<R: RawRwLockTimed, T> RwLock<R, T> {
 
     /// None where the raw lock refuses until then.
     pub fn try_read_until(&self, deadline: R::Instant) -> Option<RwLockReadGuard<'_, R, T>>
-        ensures { IfSome result (λ guard. rwlock_address guard ≡ self.entry.ref_ptr) }
+        ensures { IfSome result (IsGuardOf self.entry) }
     {
         let token = self.raw.try_lock_shared_until(deadline)?;
         Some(RwLockReadGuard::new(self, token))
@@ -163,7 +162,7 @@ impl<R: RawRwLockTimed, T> RwLock<R, T> {
 
     /// None where the raw lock refuses for that long.
     pub fn try_write_for(&self, timeout: R::Duration) -> Option<RwLockWriteGuard<'_, R, T>>
-        ensures { IfSome result (λ guard. rwlock_address guard ≡ self.entry.ref_ptr) }
+        ensures { IfSome result (IsGuardOf self.entry) }
     {
         let token = self.raw.try_lock_exclusive_for(timeout)?;
         Some(RwLockWriteGuard::new(self, token))
@@ -171,7 +170,7 @@ impl<R: RawRwLockTimed, T> RwLock<R, T> {
 
     /// None where the raw lock refuses until then.
     pub fn try_write_until(&self, deadline: R::Instant) -> Option<RwLockWriteGuard<'_, R, T>>
-        ensures { IfSome result (λ guard. rwlock_address guard ≡ self.entry.ref_ptr) }
+        ensures { IfSome result (IsGuardOf self.entry) }
     {
         let token = self.raw.try_lock_exclusive_until(deadline)?;
         Some(RwLockWriteGuard::new(self, token))
@@ -179,18 +178,18 @@ impl<R: RawRwLockTimed, T> RwLock<R, T> {
 }
 
 impl<R: RawRwLockUpgrade, T> RwLock<R, T> {
-    ghost use Rattle.lock_rwlock.specs.Guard.{rwlock_address};
+    ghost use Rattle.lock_rwlock.specs.RwLockGuard.{IsGuardOf};
 
     /// Waits until the raw lock admits one to read and then, perhaps, to write.
     pub fn upgradable_read(&self) -> RwLockUpgradableReadGuard<'_, R, T>
-        ensures { rwlock_address result ≡ self.entry.ref_ptr }
+        ensures { IsGuardOf self.entry result }
     {
         RwLockUpgradableReadGuard::new(self, self.raw.lock_upgradable())
     }
 
     /// None where the raw lock refuses.
     pub fn try_upgradable_read(&self) -> Option<RwLockUpgradableReadGuard<'_, R, T>>
-        ensures { IfSome result (λ guard. rwlock_address guard ≡ self.entry.ref_ptr) }
+        ensures { IfSome result (IsGuardOf self.entry) }
     {
         let token = self.raw.try_lock_upgradable()?;
         Some(RwLockUpgradableReadGuard::new(self, token))
@@ -198,14 +197,14 @@ impl<R: RawRwLockUpgrade, T> RwLock<R, T> {
 }
 
 impl<R: RawRwLockUpgradeTimed, T> RwLock<R, T> {
-    ghost use Rattle.lock_rwlock.specs.Guard.{rwlock_address};
+    ghost use Rattle.lock_rwlock.specs.RwLockGuard.{IsGuardOf};
 
     /// None where the raw lock refuses for that long.
     pub fn try_upgradable_read_for(
         &self,
         timeout: R::Duration,
     ) -> Option<RwLockUpgradableReadGuard<'_, R, T>>
-        ensures { IfSome result (λ guard. rwlock_address guard ≡ self.entry.ref_ptr) }
+        ensures { IfSome result (IsGuardOf self.entry) }
     {
         let token = self.raw.try_lock_upgradable_for(timeout)?;
         Some(RwLockUpgradableReadGuard::new(self, token))
@@ -216,7 +215,7 @@ impl<R: RawRwLockUpgradeTimed, T> RwLock<R, T> {
         &self,
         deadline: R::Instant,
     ) -> Option<RwLockUpgradableReadGuard<'_, R, T>>
-        ensures { IfSome result (λ guard. rwlock_address guard ≡ self.entry.ref_ptr) }
+        ensures { IfSome result (IsGuardOf self.entry) }
     {
         let token = self.raw.try_lock_upgradable_until(deadline)?;
         Some(RwLockUpgradableReadGuard::new(self, token))

@@ -51,7 +51,7 @@ impl<L: Acquire> Held<L> {
     {
         self.lock.release(self.inner.empty());
         let answer = f();
-        self.inner.fill(self.lock.acquire(), self.lock.show());
+        self.inner.refill(&self.lock);
         answer
     }
 }
@@ -86,7 +86,7 @@ impl<L: AcquireFair> Held<L> {
     {
         self.lock.release_fair(self.inner.empty());
         let answer = f();
-        self.inner.fill(self.lock.acquire(), self.lock.show());
+        self.inner.refill(&self.lock);
         answer
     }
 

@@ -4,7 +4,7 @@ ghost use Rattle.std.specs.Borrow.{Lends, sem};
 ghost use Rattle.lock_base.specs.Inner.{is_filled, inner_value, inner_with_value};
 ghost use Rattle.lock_base.specs.contracts.guard.inner.Inner.{the_row};
 
-use crate::guard::{ValueGuard, ValueGuardMut};
+use crate::guard::{Acquire, ValueGuard, ValueGuardMut};
 use std::mem;
 
 /// A token with what shows the value, or neither. It cannot be dropped: whoever empties it gives the token back.
@@ -50,6 +50,14 @@ impl<K, V: Drop> Inner<K, V> {
 }
 
 impl<K, V: ValueGuard> Inner<K, V> {
+    /// Waits for a token of the lock, and fills an empty part with it.
+    pub fn refill<L: Acquire<Token = K, Shown = V>>(&mut self, lock: &L)
+        requires { is_filled self.old ≡ false }
+        ensures { is_filled self.new ≡ true }
+    {
+        self.fill(lock.acquire(), lock.show());
+    }
+
     pub fn value(&self) -> &V::Value
         requires { is_filled self.now ≡ true }
         ensures { inner_value V.shown self.now ≡ Some result.now }

@@ -11,11 +11,11 @@ use lock_base::raw::RawRwLock;
 pub type RwLockReadGuard<'a, R, T> = RwLockGuard<InMode<'a, Shared, R, T>>;
 
 impl<'a, R: RawRwLock, T> RwLockGuard<InMode<'a, Shared, R, T>> {
-    ghost use Rattle.lock_rwlock.specs.Guard.{rwlock_address};
+    ghost use Rattle.lock_rwlock.specs.RwLockGuard.{IsGuardOf, SameLock};
 
     /// The guard of a token that the raw lock gave out.
     pub(crate) fn new(rwlock: &'a RwLock<R, T>, token: R::SharedGuard) -> RwLockReadGuard<'a, R, T>
-        ensures { rwlock_address result ≡ rwlock.entry.ref_ptr }
+        ensures { IsGuardOf rwlock.entry result }
     {
         RwLockGuard {
             held: Held::new(InMode::new(rwlock), token),
@@ -24,7 +24,7 @@ impl<'a, R: RawRwLock, T> RwLockGuard<InMode<'a, Shared, R, T>> {
 
     /// The lock that the guard was made of.
     pub fn rwlock(guard: &RwLockReadGuard<'a, R, T>) -> &'a RwLock<R, T>
-        ensures { result.ref_ptr ≡ rwlock_address guard.now }
+        ensures { IsGuardOf result guard.now }
     {
         guard.held.lock.rwlock
     }

@@ -12,14 +12,14 @@ use lock_base::raw::{RawRwLockUpgrade, RawRwLockUpgradeDowngrade, RawRwLockUpgra
 pub type RwLockUpgradableReadGuard<'a, R, T> = RwLockGuard<InMode<'a, Upgradable, R, T>>;
 
 impl<'a, R: RawRwLockUpgrade, T> RwLockGuard<InMode<'a, Upgradable, R, T>> {
-    ghost use Rattle.lock_rwlock.specs.Guard.{rwlock_address};
+    ghost use Rattle.lock_rwlock.specs.RwLockGuard.{IsGuardOf, SameLock};
 
     /// The guard of a token that the raw lock gave out.
     pub(crate) fn new(
         rwlock: &'a RwLock<R, T>,
         token: R::UpgradableGuard,
     ) -> RwLockUpgradableReadGuard<'a, R, T>
-        ensures { rwlock_address result ≡ rwlock.entry.ref_ptr }
+        ensures { IsGuardOf rwlock.entry result }
     {
         RwLockGuard {
             held: Held::new(InMode::new(rwlock), token),
@@ -28,14 +28,14 @@ impl<'a, R: RawRwLockUpgrade, T> RwLockGuard<InMode<'a, Upgradable, R, T>> {
 
     /// The lock that the guard was made of.
     pub fn rwlock(guard: &RwLockUpgradableReadGuard<'a, R, T>) -> &'a RwLock<R, T>
-        ensures { result.ref_ptr ≡ rwlock_address guard.now }
+        ensures { IsGuardOf result guard.now }
     {
         guard.held.lock.rwlock
     }
 
     /// The right to write in place of this one, once no other guard is left.
     pub fn upgrade(guard: RwLockUpgradableReadGuard<'a, R, T>) -> RwLockWriteGuard<'a, R, T>
-        ensures { rwlock_address result ≡ rwlock_address guard.entry }
+        ensures { SameLock guard.entry result }
     {
         let (lock, token) = guard.into_token();
         RwLockWriteGuard::new(lock.rwlock, lock.rwlock.raw.upgrade(token))
@@ -47,7 +47,7 @@ impl<'a, R: RawRwLockUpgrade, T> RwLockGuard<InMode<'a, Upgradable, R, T>> {
     pub fn try_upgrade(
         guard: RwLockUpgradableReadGuard<'a, R, T>,
     ) -> Result<RwLockWriteGuard<'a, R, T>, RwLockUpgradableReadGuard<'a, R, T>>
-        ensures { MatchResult result (λ writer. rwlock_address writer ≡ rwlock_address guard.entry) (λ same. rwlock_address same ≡ rwlock_address guard.entry) }
+        ensures { MatchResult result (SameLock guard.entry) (SameLock guard.entry) }
     {
         let (lock, token) = guard.into_token();
         RwLockUpgradableReadGuard::upgraded(lock.rwlock, lock.rwlock.raw.try_upgrade(token))
@@ -58,7 +58,7 @@ impl<'a, R: RawRwLockUpgrade, T> RwLockGuard<InMode<'a, Upgradable, R, T>> {
         rwlock: &'a RwLock<R, T>,
         answer: Result<R::ExclusiveGuard, R::UpgradableGuard>,
     ) -> Result<RwLockWriteGuard<'a, R, T>, RwLockUpgradableReadGuard<'a, R, T>>
-        ensures { MatchResult result (λ writer. rwlock_address writer ≡ rwlock.entry.ref_ptr) (λ same. rwlock_address same ≡ rwlock.entry.ref_ptr) }
+        ensures { MatchResult result (IsGuardOf rwlock.entry) (IsGuardOf rwlock.entry) }
     {
         match answer {
             Ok(token) => Ok(RwLockWriteGuard::new(rwlock, token)),
@@ -68,14 +68,14 @@ impl<'a, R: RawRwLockUpgrade, T> RwLockGuard<InMode<'a, Upgradable, R, T>> {
 }
 
 impl<'a, R: RawRwLockUpgradeTimed, T> RwLockGuard<InMode<'a, Upgradable, R, T>> {
-    ghost use Rattle.lock_rwlock.specs.Guard.{rwlock_address};
+    ghost use Rattle.lock_rwlock.specs.RwLockGuard.{IsGuardOf, SameLock};
 
     /// `try_upgrade`, where the raw lock may wait for that long before it refuses.
     pub fn try_upgrade_for(
         guard: RwLockUpgradableReadGuard<'a, R, T>,
         timeout: R::Duration,
     ) -> Result<RwLockWriteGuard<'a, R, T>, RwLockUpgradableReadGuard<'a, R, T>>
-        ensures { MatchResult result (λ writer. rwlock_address writer ≡ rwlock_address guard.entry) (λ same. rwlock_address same ≡ rwlock_address guard.entry) }
+        ensures { MatchResult result (SameLock guard.entry) (SameLock guard.entry) }
     {
         let (lock, token) = guard.into_token();
         let answer = lock.rwlock.raw.try_upgrade_for(token, timeout);
@@ -87,7 +87,7 @@ impl<'a, R: RawRwLockUpgradeTimed, T> RwLockGuard<InMode<'a, Upgradable, R, T>> 
         guard: RwLockUpgradableReadGuard<'a, R, T>,
         deadline: R::Instant,
     ) -> Result<RwLockWriteGuard<'a, R, T>, RwLockUpgradableReadGuard<'a, R, T>>
-        ensures { MatchResult result (λ writer. rwlock_address writer ≡ rwlock_address guard.entry) (λ same. rwlock_address same ≡ rwlock_address guard.entry) }
+        ensures { MatchResult result (SameLock guard.entry) (SameLock guard.entry) }
     {
         let (lock, token) = guard.into_token();
         let answer = lock.rwlock.raw.try_upgrade_until(token, deadline);
@@ -96,11 +96,11 @@ impl<'a, R: RawRwLockUpgradeTimed, T> RwLockGuard<InMode<'a, Upgradable, R, T>> 
 }
 
 impl<'a, R: RawRwLockUpgradeDowngrade, T> RwLockGuard<InMode<'a, Upgradable, R, T>> {
-    ghost use Rattle.lock_rwlock.specs.Guard.{rwlock_address};
+    ghost use Rattle.lock_rwlock.specs.RwLockGuard.{IsGuardOf, SameLock};
 
     /// The right to read in place of this one. No other writes between.
     pub fn downgrade(guard: RwLockUpgradableReadGuard<'a, R, T>) -> RwLockReadGuard<'a, R, T>
-        ensures { rwlock_address result ≡ rwlock_address guard.entry }
+        ensures { SameLock guard.entry result }
     {
         let (lock, token) = guard.into_token();
         RwLockReadGuard::new(lock.rwlock, lock.rwlock.raw.downgrade_upgradable(token))
@@ -110,7 +110,7 @@ impl<'a, R: RawRwLockUpgradeDowngrade, T> RwLockGuard<InMode<'a, Upgradable, R, 
     pub fn with_upgraded<U, F: FnOnce(&mut T) -> U>(&mut self, f: F) -> U
         requires { F.IsAlwaysCallable f }
         ensures answer { AnswersSomeValue F.FnOnce f result }
-        ensures lock { rwlock_address self.new ≡ rwlock_address self.old }
+        ensures lock { SameLock self.old self.new }
     {
         let held = &mut self.held;
         let rwlock = held.lock.rwlock;
@@ -127,7 +127,7 @@ impl<'a, R: RawRwLockUpgradeDowngrade, T> RwLockGuard<InMode<'a, Upgradable, R, 
         F: Drop,
         requires { F.IsAlwaysCallable f }
         ensures answer { IfSome result (AnswersSomeValue F.FnOnce f) }
-        ensures lock { rwlock_address self.new ≡ rwlock_address self.old }
+        ensures lock { SameLock self.old self.new }
     {
         let held = &mut self.held;
         let rwlock = held.lock.rwlock;
@@ -141,7 +141,7 @@ impl<'a, R: RawRwLockUpgradeDowngrade, T> RwLockGuard<InMode<'a, Upgradable, R, 
 impl<'a, R: RawRwLockUpgradeTimed + RawRwLockUpgradeDowngrade, T> RwLockGuard<
     InMode<'a, Upgradable, R, T>,
 > {
-    ghost use Rattle.lock_rwlock.specs.Guard.{rwlock_address};
+    ghost use Rattle.lock_rwlock.specs.RwLockGuard.{IsGuardOf, SameLock};
 
     /// `try_with_upgraded`, where the raw lock may wait for that long before it refuses.
     pub fn try_with_upgraded_for<U, F: FnOnce(&mut T) -> U>(
@@ -153,7 +153,7 @@ impl<'a, R: RawRwLockUpgradeTimed + RawRwLockUpgradeDowngrade, T> RwLockGuard<
         F: Drop,
         requires { F.IsAlwaysCallable f }
         ensures answer { IfSome result (AnswersSomeValue F.FnOnce f) }
-        ensures lock { rwlock_address self.new ≡ rwlock_address self.old }
+        ensures lock { SameLock self.old self.new }
     {
         let held = &mut self.held;
         let rwlock = held.lock.rwlock;
@@ -173,7 +173,7 @@ impl<'a, R: RawRwLockUpgradeTimed + RawRwLockUpgradeDowngrade, T> RwLockGuard<
         F: Drop,
         requires { F.IsAlwaysCallable f }
         ensures answer { IfSome result (AnswersSomeValue F.FnOnce f) }
-        ensures lock { rwlock_address self.new ≡ rwlock_address self.old }
+        ensures lock { SameLock self.old self.new }
     {
         let held = &mut self.held;
         let rwlock = held.lock.rwlock;

@@ -11,14 +11,14 @@ use lock_base::raw::{RawRwLock, RawRwLockDowngrade, RawRwLockUpgradeDowngrade};
 pub type RwLockWriteGuard<'a, R, T> = RwLockGuard<InMode<'a, Exclusive, R, T>>;
 
 impl<'a, R: RawRwLock, T> RwLockGuard<InMode<'a, Exclusive, R, T>> {
-    ghost use Rattle.lock_rwlock.specs.Guard.{rwlock_address};
+    ghost use Rattle.lock_rwlock.specs.RwLockGuard.{IsGuardOf, SameLock};
 
     /// The guard of a token that the raw lock gave out.
     pub(crate) fn new(
         rwlock: &'a RwLock<R, T>,
         token: R::ExclusiveGuard,
     ) -> RwLockWriteGuard<'a, R, T>
-        ensures { rwlock_address result ≡ rwlock.entry.ref_ptr }
+        ensures { IsGuardOf rwlock.entry result }
     {
         RwLockGuard {
             held: Held::new(InMode::new(rwlock), token),
@@ -27,18 +27,18 @@ impl<'a, R: RawRwLock, T> RwLockGuard<InMode<'a, Exclusive, R, T>> {
 
     /// The lock that the guard was made of.
     pub fn rwlock(guard: &RwLockWriteGuard<'a, R, T>) -> &'a RwLock<R, T>
-        ensures { result.ref_ptr ≡ rwlock_address guard.now }
+        ensures { IsGuardOf result guard.now }
     {
         guard.held.lock.rwlock
     }
 }
 
 impl<'a, R: RawRwLockDowngrade, T> RwLockGuard<InMode<'a, Exclusive, R, T>> {
-    ghost use Rattle.lock_rwlock.specs.Guard.{rwlock_address};
+    ghost use Rattle.lock_rwlock.specs.RwLockGuard.{IsGuardOf, SameLock};
 
     /// The right to read in place of this one. No other writes between.
     pub fn downgrade(guard: RwLockWriteGuard<'a, R, T>) -> RwLockReadGuard<'a, R, T>
-        ensures { rwlock_address result ≡ rwlock_address guard.entry }
+        ensures { SameLock guard.entry result }
     {
         let (lock, token) = guard.into_token();
         RwLockReadGuard::new(lock.rwlock, lock.rwlock.raw.downgrade(token))
@@ -46,13 +46,13 @@ impl<'a, R: RawRwLockDowngrade, T> RwLockGuard<InMode<'a, Exclusive, R, T>> {
 }
 
 impl<'a, R: RawRwLockUpgradeDowngrade, T> RwLockGuard<InMode<'a, Exclusive, R, T>> {
-    ghost use Rattle.lock_rwlock.specs.Guard.{rwlock_address};
+    ghost use Rattle.lock_rwlock.specs.RwLockGuard.{IsGuardOf, SameLock};
 
     /// An upgradable guard in place of this one. No other writes between.
     pub fn downgrade_to_upgradable(
         guard: RwLockWriteGuard<'a, R, T>,
     ) -> RwLockUpgradableReadGuard<'a, R, T>
-        ensures { rwlock_address result ≡ rwlock_address guard.entry }
+        ensures { SameLock guard.entry result }
     {
         let (lock, token) = guard.into_token();
         let token = lock.rwlock.raw.downgrade_to_upgradable(token);

@@ -1,0 +1,1 @@
+pub use Rattle.lock_mutex.specs.MutexGuard

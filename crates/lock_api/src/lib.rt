@@ -1,0 +1,15 @@
+//! Locks over any raw lock, their guards, and the machine of guards: the whole workspace under one name.
+#![tactic(auto)]
+
+pub use lock_base::machine::{
+    Bag, Call, Form, Kind, Mode, ModeStep, Op, PartyId, Reply, Want, Way,
+};
+pub use lock_base::raw::{
+    Fault, GuardNoSend, GuardSend, MAX_LIMIT, RawMutex, RawMutexFair, RawMutexTimed, RawRwLock,
+    RawRwLockDowngrade, RawRwLockFair, RawRwLockTimed, RawRwLockUpgrade, RawRwLockUpgradeDowngrade,
+    RawRwLockUpgradeFair, RawRwLockUpgradeTimed, RawState, is_limit,
+};
+pub use lock_mutex::{Mutex, MutexGuard};
+
+#[cfg(test)]
+mod tests;
