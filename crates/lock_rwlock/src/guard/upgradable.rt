@@ -1,5 +1,5 @@
 //! The guard of an upgradable lock.
-ghost use Rattle.std.specs.Prelude.{◌≡◌, IfSome, MatchResult};
+ghost use Rattle.std.specs.Prelude.{◌≡◌, IfSome, MatchResult, is_ok, is_some};
 ghost use Rattle.lock_rwlock.specs.Closure.{AnswersSomeValue};
 
 use super::{RwLockGuard, RwLockReadGuard, RwLockWriteGuard};
@@ -58,7 +58,8 @@ impl<'a, R: RawRwLockUpgrade, T> RwLockGuard<InMode<'a, Upgradable, R, T>> {
         rwlock: &'a RwLock<R, T>,
         answer: Result<R::ExclusiveGuard, R::UpgradableGuard>,
     ) -> Result<RwLockWriteGuard<'a, R, T>, RwLockUpgradableReadGuard<'a, R, T>>
-        ensures { MatchResult result (IsGuardOf rwlock.entry) (IsGuardOf rwlock.entry) }
+        ensures upgraded { is_ok result ≡ is_ok answer }
+        ensures lock { MatchResult result (IsGuardOf rwlock.entry) (IsGuardOf rwlock.entry) }
     {
         match answer {
             Ok(token) => Ok(RwLockWriteGuard::new(rwlock, token)),
@@ -193,7 +194,8 @@ fn with_if_upgraded<R: RawRwLockUpgradeDowngrade, T, U, F: FnOnce(&mut T) -> U>(
 where
     F: Drop,
     requires { F.IsAlwaysCallable f }
-    ensures { IfSome result.1 (AnswersSomeValue F.FnOnce f) }
+    ensures called { is_some result.1 ≡ is_ok upgraded }
+    ensures answer { IfSome result.1 (AnswersSomeValue F.FnOnce f) }
 {
     match upgraded {
         Ok(token) => {
