@@ -14,3 +14,4 @@ pub mod Steps
 pub mod Legal
 pub mod Inner
 pub mod Held
+pub mod Lens
