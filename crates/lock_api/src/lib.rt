@@ -5,11 +5,12 @@ pub use lock_base::machine::{
     Bag, Call, Form, Kind, Mode, ModeStep, Op, PartyId, Reply, Want, Way,
 };
 pub use lock_base::raw::{
-    Fault, GuardNoSend, GuardSend, MAX_LIMIT, RawMutex, RawMutexFair, RawMutexTimed, RawRwLock,
+    DEFAULT_READERS, Fault, GuardNoSend, GuardSend, MAX_LIMIT, RawMutex, RawMutexFair, RawMutexTimed, RawRwLock,
     RawRwLockDowngrade, RawRwLockFair, RawRwLockTimed, RawRwLockUpgrade, RawRwLockUpgradeDowngrade,
     RawRwLockUpgradeFair, RawRwLockUpgradeTimed, RawState, is_limit,
 };
 pub use lock_mutex::{Mutex, MutexGuard};
+pub use lock_rwlock::{RwLock, RwLockReadGuard, RwLockUpgradableReadGuard, RwLockWriteGuard};
 
 #[cfg(test)]
 mod tests;

@@ -2,3 +2,6 @@
 mod callers;
 mod liar;
 mod mutex;
+mod rwlock;
+mod rwlock_callers;
+mod rwlock_liar;
