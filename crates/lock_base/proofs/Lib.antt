@@ -1,1 +1,4 @@
 pub mod Lenses
+pub mod TokenBags
+pub mod Compatible
+pub mod Counting
