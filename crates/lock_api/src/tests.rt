@@ -1,6 +1,8 @@
 //! Tests that span crates.
 mod callers;
+mod flag;
 mod liar;
+mod markers;
 mod mutex;
 mod rwlock;
 mod rwlock_callers;
