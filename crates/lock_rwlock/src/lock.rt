@@ -1,5 +1,5 @@
 //! A reader-writer lock over any raw lock.
-ghost use Rattle.std.specs.Prelude.{◌≡◌, ◌↔◌, IfSome, IfOk, IfErr, IsOk, IsOkUnless};
+ghost use Rattle.std.specs.Prelude.{◌≡◌, ◌↔◌, IfSome, IfOk, IfErr, IsOkAnd, IsOkUnless};
 ghost use Rattle.lock_base.specs.Limits.{IsLimit, IsMakerFault};
 ghost use Rattle.lock_rwlock.specs.Closure.{AnswersSomeValue};
 
@@ -20,6 +20,7 @@ pub struct RwLock<R, T> {
 }
 
 impl<R: RawRwLock, T> RwLock<R, T> {
+    ghost use Rattle.lock_rwlock.specs.RwLock.{raw_of};
     ghost use Rattle.lock_rwlock.specs.RwLockGuard.{IsGuardOf};
 
     /// A free lock over a new raw lock with `DEFAULT_READERS`. The value is dropped where it is refused.
@@ -68,7 +69,7 @@ impl<R: RawRwLock, T> RwLock<R, T> {
 
     /// A lock over a raw lock that was made apart. It takes no memory, so it is never refused.
     pub fn from_raw(raw: R, value: T) -> Result<RwLock<R, T>, Fault>
-        ensures { IsOk result }
+        ensures { IsOkAnd result (λ lock. raw_of lock ≡ raw) }
     {
         Ok(RwLock {
             raw,
@@ -84,7 +85,9 @@ impl<R: RawRwLock, T> RwLock<R, T> {
     }
 
     /// The raw lock, and the value.
-    pub fn into_inner_with_raw(self) -> (R, T) {
+    pub fn into_inner_with_raw(self) -> (R, T)
+        ensures { result.0 ≡ raw_of self }
+    {
         let RwLock { raw, value } = self;
         (raw, value.into_inner())
     }
