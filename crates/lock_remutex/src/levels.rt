@@ -1,7 +1,10 @@
 //! The state behind a reentrant lock.
 use lock_base::machine::PartyId;
-use lock_base::raw::{Fault, is_limit};
+use lock_base::raw::{Fault, MAX_LIMIT, is_limit};
 use std::marker::Model;
+
+/// How many levels an owner may have where a maker is not told.
+pub const DEFAULT_LEVELS: u64 = MAX_LIMIT;
 
 /// Who owns a reentrant lock, at how many levels, and the raw lock's token that the owner holds.
 #[derive(Drop)]
@@ -29,6 +32,20 @@ impl<G> Model for Levels<G> {
     ghost view = { λ l. record { limit = l.limit; owner = option_map (λ o. record { party = id_of o.party; count = o.count; token = o.token }) l.owner } };
 
     ghost invariant = { λ l. IsLimit l.limit × IfSome l.owner (λ o. (0 < o.count) × (o.count ≤ l.limit)) };
+}
+
+impl<G> Default for Levels<G> {
+    ghost use Rattle.std.specs.Prelude.{◌≡◌};
+    ghost use Rattle.lock_remutex.specs.Ownership.{unowned};
+
+    fn default() -> Self
+        ensures { result ≡ unowned DEFAULT_LEVELS }
+    {
+        Levels {
+            limit: DEFAULT_LEVELS,
+            owner: None,
+        }
+    }
 }
 
 impl<G: Drop> Levels<G> {

@@ -2,5 +2,7 @@
 #![tactic(auto)]
 
 mod levels;
+mod raw_reentrant_mutex;
 
-pub use levels::Levels;
+pub use levels::{DEFAULT_LEVELS, Levels};
+pub use raw_reentrant_mutex::RawReentrantMutex;
