@@ -3,6 +3,10 @@
 
 mod levels;
 mod raw_reentrant_mutex;
+mod reentrant_mutex;
+mod reentrant_mutex_guard;
 
 pub use levels::{DEFAULT_LEVELS, Levels};
 pub use raw_reentrant_mutex::RawReentrantMutex;
+pub use reentrant_mutex::ReentrantMutex;
+pub use reentrant_mutex_guard::ReentrantMutexGuard;

@@ -13,10 +13,7 @@ use std::sync::{Mutex, Wait};
 /// The owner's token lies behind a lock of std's, so it is `Send`. Of a lock that is dropped while it is owned, the
 /// token is dropped too.
 #[derive(Drop)]
-pub struct RawReentrantMutex<R: RawMutex>
-where
-    R::Guard: Send,
-{
+pub struct RawReentrantMutex<R: RawMutex> {
     raw: R,
     levels: Mutex<Levels<R::Guard>>,
 }
@@ -47,6 +44,12 @@ where
         RawReentrantMutex { raw, levels }
     }
 
+}
+
+impl<R: RawMutex> RawReentrantMutex<R>
+where
+    R::Guard: Drop,
+{
     /// The raw lock. A token that is left is dropped.
     pub(crate) fn into_raw(self) -> R
         ensures { result ≡ self.raw }
@@ -148,7 +151,7 @@ where
 
 impl<R: RawMutexFair> RawReentrantMutex<R>
 where
-    R::Guard: Send + Drop,
+    R::Guard: Drop,
 {
     /// As `unlock`, by a fair release.
     pub fn unlock_fair(&self, party: PartyId) -> Result<(), Fault>
@@ -194,7 +197,7 @@ where
 
 impl<R: RawMutexTimed> RawReentrantMutex<R>
 where
-    R::Guard: Send + Drop,
+    R::Guard: Drop,
 {
     /// As `try_lock`, where the raw lock may wait that long.
     pub fn try_lock_for(&self, party: PartyId, timeout: R::Duration) -> Result<bool, Fault>
