@@ -37,10 +37,11 @@ impl<G> Model for Levels<G> {
 impl<G> Default for Levels<G> {
     ghost use Rattle.std.specs.Prelude.{◌≡◌};
     ghost use Rattle.lock_remutex.specs.Ownership.{unowned};
+    ghost use Rattle.lock_remutex.specs.declared.levels.TheConstants.{DEFAULT_LEVELS};
 
-    fn default() -> Self
-        ensures { result ≡ unowned DEFAULT_LEVELS }
-    {
+    ghost is_default = { λ levels. levels ≡ unowned DEFAULT_LEVELS };
+
+    fn default() -> Self {
         Levels {
             limit: DEFAULT_LEVELS,
             owner: None,

@@ -5,6 +5,7 @@ mod levels;
 mod raw_reentrant_mutex;
 mod reentrant_mutex;
 mod reentrant_mutex_guard;
+mod text;
 
 pub use levels::{DEFAULT_LEVELS, Levels};
 pub use raw_reentrant_mutex::RawReentrantMutex;

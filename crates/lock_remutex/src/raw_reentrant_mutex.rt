@@ -1,6 +1,6 @@
 //! A raw lock that its owner may take again.
-ghost use Rattle.std.specs.Prelude.{◌≡◌, IfErr, IsOk};
-ghost use Rattle.lock_base.specs.Limits.{IsLimit};
+ghost use Rattle.std.specs.Prelude.{◌≡◌, ◌↔◌, IfOk, IfErr, IsOkUnless};
+ghost use Rattle.lock_base.specs.Limits.{IsLimit, IsMakerFault};
 
 use crate::levels::Levels;
 use lock_base::machine::PartyId;
@@ -23,13 +23,17 @@ where
     R::Guard: Send + Drop,
 {
     /// A free lock of `DEFAULT_LEVELS`.
-    pub fn new(alloc: Global, waiter: R::Waiter) -> Result<Self, Fault> {
+    pub fn new(alloc: Global, waiter: R::Waiter) -> Result<Self, Fault>
+        ensures { IsOkUnless result Fault.OutOfMemory }
+    {
         Ok(RawReentrantMutex::from_raw(R::new(alloc, waiter)?))
     }
 
     /// A free lock of so many levels. Their number is tested before memory is asked for.
     pub fn with_levels(alloc: Global, waiter: R::Waiter, levels: u64) -> Result<Self, Fault>
-        ensures range { (¬ IsLimit levels) → result ≡ Err Fault.BadLimits }
+        ensures range { (result ≡ Err Fault.BadLimits) ↔ (¬ IsLimit levels) }
+        ensures in_range { IfOk result (λ _. IsLimit levels) }
+        ensures fault { IfErr result IsMakerFault }
     {
         let levels = Mutex::new(Levels::new(levels)?);
         let raw = R::new(alloc, waiter)?;

@@ -19,15 +19,16 @@ impl<R: RawMutex, T: Sync> ReentrantMutex<R, T>
 where
     R::Guard: Send + Drop,
 {
-    ghost use Rattle.std.specs.Prelude.{◌≡◌, IfOk};
-    ghost use Rattle.lock_base.specs.Limits.{IsLimit};
+    ghost use Rattle.std.specs.Prelude.{◌≡◌, ◌↔◌, IsOk, IfOk, IfErr, IsOkUnless};
+    ghost use Rattle.lock_base.specs.Limits.{IsLimit, IsMakerFault};
     ghost use Rattle.lock_remutex.specs.Guards.{value_of};
 
-    /// A free lock of `DEFAULT_LEVELS`.
+    /// A free lock of `DEFAULT_LEVELS` over a new raw lock. Where that is refused, the value is dropped.
     pub fn new(alloc: Global, waiter: R::Waiter, value: T) -> Result<Self, Fault>
     where
         T: Drop,
-        ensures { IfOk result (λ lock. value_of lock ≡ value) }
+        ensures fault { IsOkUnless result Fault.OutOfMemory }
+        ensures value { IfOk result (λ lock. value_of lock ≡ value) }
     {
         let raw = RawReentrantMutex::new(alloc, waiter)?;
         Ok(ReentrantMutex { raw, value })
@@ -42,39 +43,43 @@ where
     ) -> Result<Self, Fault>
     where
         T: Drop,
-        ensures range { (¬ IsLimit levels) → result ≡ Err Fault.BadLimits }
+        ensures range { (result ≡ Err Fault.BadLimits) ↔ (¬ IsLimit levels) }
+        ensures in_range { IfOk result (λ _. IsLimit levels) }
+        ensures fault { IfErr result IsMakerFault }
         ensures value { IfOk result (λ lock. value_of lock ≡ value) }
     {
         let raw = RawReentrantMutex::with_levels(alloc, waiter, levels)?;
         Ok(ReentrantMutex { raw, value })
     }
 
-    /// As `new`.
+    /// `new`, under the name of std's conversion.
     pub fn from(alloc: Global, waiter: R::Waiter, value: T) -> Result<Self, Fault>
     where
         T: Drop,
-        ensures { IfOk result (λ lock. value_of lock ≡ value) }
+        ensures fault { IsOkUnless result Fault.OutOfMemory }
+        ensures value { IfOk result (λ lock. value_of lock ≡ value) }
     {
         ReentrantMutex::new(alloc, waiter, value)
     }
 
-    /// As `new`, of the value's default.
+    /// `new`, over the default value.
     pub fn default(alloc: Global, waiter: R::Waiter) -> Result<Self, Fault>
     where
         T: Default + Drop,
-        ensures { IfOk result (λ lock. T.is_default (value_of lock)) }
+        ensures fault { IsOkUnless result Fault.OutOfMemory }
+        ensures value { IfOk result (λ lock. T.is_default (value_of lock)) }
     {
         ReentrantMutex::new(alloc, waiter, T::default())
     }
 
-    /// A lock of `DEFAULT_LEVELS` over this raw lock, which is free.
-    pub fn from_raw(raw: R, value: T) -> Self
-        ensures { value_of result ≡ value }
+    /// A lock of `DEFAULT_LEVELS` over a raw lock that was made apart. It takes no memory, so it is never refused.
+    pub fn from_raw(raw: R, value: T) -> Result<Self, Fault>
+        ensures made { IsOk result }
+        ensures value { IfOk result (λ lock. value_of lock ≡ value) }
     {
         let raw = RawReentrantMutex::from_raw(raw);
-        ReentrantMutex { raw, value }
+        Ok(ReentrantMutex { raw, value })
     }
-
 }
 
 impl<R: RawMutex, T> ReentrantMutex<R, T>
