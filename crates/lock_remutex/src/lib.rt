@@ -11,3 +11,6 @@ pub use levels::{DEFAULT_LEVELS, Levels};
 pub use raw_reentrant_mutex::RawReentrantMutex;
 pub use reentrant_mutex::ReentrantMutex;
 pub use reentrant_mutex_guard::ReentrantMutexGuard;
+
+#[cfg(test)]
+mod tests;
