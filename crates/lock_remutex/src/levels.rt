@@ -93,10 +93,8 @@ impl<G: Drop> Levels<G> {
     pub fn again(&mut self, party: PartyId) -> Result<bool, Fault>
         ensures full { IsErr result ↔ (level_of self.old (id_of party) ≡ self.old.limit) }
         ensures fault { IfErr result (λ fault. (fault ≡ Fault.FullCount) × (self.new ≡ self.old)) }
-        ensures more {
-            let level = level_of self.old (id_of party) in
-            IfOk result (λ more. MatchBool more ((0 < level) × (self.new ≡ at_level self.old (level + 1))) ((level ≡ 0) × (self.new ≡ self.old)))
-        }
+        ensures more { let level = level_of self.old (id_of party) in
+            IfOk result (λ more. MatchBool more ((0 < level) × (self.new ≡ at_level self.old (level + 1))) ((level ≡ 0) × (self.new ≡ self.old))) }
     {
         let level = self.level(party);
         if level == 0 {
@@ -129,13 +127,9 @@ impl<G: Drop> Levels<G> {
     pub fn leave(&mut self, party: PartyId) -> Result<Option<G>, Fault>
         ensures owner { IsOk result ↔ (0 < level_of self.old (id_of party)) }
         ensures fault { IfErr result (λ fault. (fault ≡ Fault.Foreign) × (self.new ≡ self.old)) }
-        ensures less {
-            let level = level_of self.old (id_of party) in
-            IfOk result (λ token. IfNone token ((1 < level) × (self.new ≡ at_level self.old (level - 1))))
-        }
-        ensures last {
-            IfOk result (λ token. IfSome token (λ token. GivesTokenBack self.old self.new (id_of party) token))
-        }
+        ensures less { let level = level_of self.old (id_of party) in
+            IfOk result (λ token. IfNone token ((1 < level) × (self.new ≡ at_level self.old (level - 1)))) }
+        ensures last { IfOk result (λ token. IfSome token (λ token. GivesTokenBack self.old self.new (id_of party) token)) }
     {
         let level = self.level(party);
         if level == 0 {
@@ -152,12 +146,8 @@ impl<G: Drop> Levels<G> {
     pub fn leave_sole(&mut self, party: PartyId) -> Result<Option<G>, Fault>
         ensures owner { IsOk result ↔ (0 < level_of self.old (id_of party)) }
         ensures fault { IfErr result (λ fault. (fault ≡ Fault.Foreign) × (self.new ≡ self.old)) }
-        ensures kept {
-            IfOk result (λ token. IfNone token ((1 < level_of self.old (id_of party)) × (self.new ≡ self.old)))
-        }
-        ensures sole {
-            IfOk result (λ token. IfSome token (λ token. GivesTokenBack self.old self.new (id_of party) token))
-        }
+        ensures kept { IfOk result (λ token. IfNone token ((1 < level_of self.old (id_of party)) × (self.new ≡ self.old))) }
+        ensures sole { IfOk result (λ token. IfSome token (λ token. GivesTokenBack self.old self.new (id_of party) token)) }
     {
         if self.level(party) > 1 {
             return Ok(None);

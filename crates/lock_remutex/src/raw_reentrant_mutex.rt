@@ -47,7 +47,6 @@ where
         let levels = Mutex::new(Levels::default());
         RawReentrantMutex { raw, levels }
     }
-
 }
 
 impl<R: RawMutex> RawReentrantMutex<R>

@@ -86,7 +86,7 @@ impl<R: RawMutex, T> ReentrantMutex<R, T>
 where
     R::Guard: Drop,
 {
-    ghost use Rattle.std.specs.Prelude.{◌≡◌, IfOk, IfErr, IfSome};
+    ghost use Rattle.std.specs.Prelude.{◌≡◌, ◌↔◌, IsTrue, IsSome, IfOk, IfErr, IfSome};
     ghost use Rattle.std.specs.Borrow.{Lends, sem};
     ghost use Rattle.lock_base.specs.Party.{id_of};
     ghost use Rattle.lock_remutex.specs.Guards.{value_of, with_value, IsGuardOf};
@@ -145,7 +145,8 @@ where
 
     /// The guard of a level that the party has just got, if it has got it.
     fn guard_if(&self, has_level: bool, party: PartyId) -> Option<ReentrantMutexGuard<'_, R, T>>
-        ensures { IfSome result (λ guard. IsGuardOf self.entry (id_of party) guard) }
+        ensures some { IsSome result ↔ IsTrue has_level }
+        ensures guard { IfSome result (λ guard. IsGuardOf self.entry (id_of party) guard) }
     {
         if !has_level {
             return None;

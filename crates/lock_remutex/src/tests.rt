@@ -78,7 +78,10 @@ fn a_full_count_is_refused(rt: HostRuntime) -> Result<(), Fail> {
     assert_eq!(rt; lock.lock(first).err(), Some(Fault::FullCount));
     assert_eq!(rt; lock.try_lock(first).err(), Some(Fault::FullCount));
     assert_eq!(rt; lock.try_lock_for(first, ()).err(), Some(Fault::FullCount));
-    assert_eq!(rt; lock.try_lock_until(first, ()).err(), Some(Fault::FullCount));
+    assert_eq!(rt;
+        lock.try_lock_until(first, ()).err(),
+        Some(Fault::FullCount)
+    );
     assert!(rt; lock.try_lock(second)?.is_none());
     drop(outer);
     assert!(rt; lock.try_lock(first)?.is_some());
@@ -155,10 +158,19 @@ fn the_value_comes_back(rt: HostRuntime) -> Result<(), Fail> {
 #[test]
 fn limits_of_levels(rt: HostRuntime) -> Result<(), Fail> {
     let alloc: Global = rt.alloc();
-    let rows = [(0, false), (1, true), (DEFAULT_LEVELS, true), (DEFAULT_LEVELS + 1, false)];
+    let rows = [
+        (0, false),
+        (1, true),
+        (DEFAULT_LEVELS, true),
+        (DEFAULT_LEVELS + 1, false),
+    ];
     for (levels, is_lawful) in rows {
         assert_eq!(rt; Levels::<u8>::new(levels).is_ok(), is_lawful, "at {levels}");
-        assert_eq!(rt; Honest::with_levels(alloc, rt, levels, 0).is_ok(), is_lawful, "at {levels}");
+        assert_eq!(rt;
+            Honest::with_levels(alloc, rt, levels, 0).is_ok(),
+            is_lawful,
+            "at {levels}"
+        );
     }
     Ok(())
 }
@@ -168,7 +180,10 @@ fn texts_of_the_lock_and_its_guard(rt: HostRuntime) -> Result<(), Fail> {
     let alloc: Global = rt.alloc();
     let (first, _) = parties()?;
     let lock = Honest::new(alloc, rt, 5)?;
-    assert_eq!(rt; format!(in alloc; "{lock:?}")?.as_str(), "ReentrantMutex { data: 5 }");
+    assert_eq!(rt;
+        format!(in alloc; "{lock:?}")?.as_str(),
+        "ReentrantMutex { data: 5 }"
+    );
     let guard = lock.lock(first)?;
     assert_eq!(rt;
         format!(in alloc; "{lock:?} {guard:?} {guard}")?.as_str(),
@@ -196,8 +211,11 @@ fn count_up<W: Wait + Clone + Drop>(
 fn two_parties_take_turns(rt: HostRuntime) -> Result<(), Fail> {
     let alloc: Global = rt.alloc();
     let (first, second) = parties()?;
-    let lock =
-        ReentrantMutex::<Counting<HostRuntime>, AtomicU64>::new(alloc, rt, AtomicU64::new(0))?;
+    let lock = ReentrantMutex::<Counting<HostRuntime>, AtomicU64>::new(
+        alloc,
+        rt,
+        AtomicU64::new(0),
+    )?;
     let (one, two) = thread::join(&rt, || count_up(&lock, first), || count_up(&lock, second));
     one?;
     two?;
