@@ -1,5 +1,5 @@
 -- Who owns a reentrant lock, and at how many levels.
-use Rattle.std.specs.Prelude.{◌≡◌, ℕ, ◌<◌, ◌≤◌, ◌==◌, IfSome, if◌then◌else◌, Option, None, Some}
+use Rattle.std.specs.Prelude.{◌≡◌, ℕ, ◌+◌, ◌-◌, ◌<◌, ◌≤◌, ◌==◌, IfSome, if◌then◌else◌, Option, None, Some}
 use Rattle.std.specs.Option.{option_map, option_map_or}
 use Rattle.lock_base.specs.Limits.{IsLimit}
 
@@ -39,8 +39,18 @@ module _ {G : Type 0} where
   abbrev pub token_of : Ownership G → Option G
   token_of l = option_map (λ o. o.token) l.owner
 
+-- the party had a level, and has one more now
+pub record GainsLevel {G : Type 0} (old new : Ownership G) (party : ℕ) : Type 0 where
+  pub owned : 0 < level_of old party
+  pub after : new ≡ at_level old (level_of old party + 1)
+
+-- the party had more than one level, and has one less now
+pub record LosesLevel {G : Type 0} (old new : Ownership G) (party : ℕ) : Type 0 where
+  pub nested : 1 < level_of old party
+  pub after : new ≡ at_level old (level_of old party - 1)
+
 -- the party had one level, it held this token, and now nobody owns the lock
 pub record GivesTokenBack {G : Type 0} (old new : Ownership G) (party : ℕ) (token : G) : Type 0 where
   pub sole : level_of old party ≡ 1
-  pub given : token_of old ≡ Some token
+  pub held : token_of old ≡ Some token
   pub after : new ≡ unowned old.limit

@@ -29,7 +29,9 @@ impl<G> Model for Levels<G> {
 
     ghost Value = { Ownership G };
 
-    ghost view = { λ l. record { limit = l.limit; owner = option_map (λ o. record { party = id_of o.party; count = o.count; token = o.token }) l.owner } };
+    ghost view = { λ l. record {
+        limit = l.limit;
+        owner = option_map (λ o. record { party = id_of o.party; count = o.count; token = o.token }) l.owner } };
 
     ghost invariant = { λ l. IsLimit l.limit × IfSome l.owner (λ o. (0 < o.count) × (o.count ≤ l.limit)) };
 }
@@ -54,7 +56,7 @@ impl<G: Drop> Levels<G> {
     ghost use Rattle.std.specs.Bool.{MatchBool};
     ghost use Rattle.lock_base.specs.Limits.{IsLimit};
     ghost use Rattle.lock_base.specs.Party.{id_of};
-    ghost use Rattle.lock_remutex.specs.Ownership.{IsLawful, GivesTokenBack, unowned, owned_by, at_level, level_of, token_of};
+    ghost use Rattle.lock_remutex.specs.Ownership.{IsLawful, GainsLevel, LosesLevel, GivesTokenBack, unowned, owned_by, at_level, level_of, token_of};
 
     /// No owner yet. Refused where the number of levels is out of its range.
     pub fn new(levels: u64) -> Result<Self, Fault>
@@ -93,8 +95,9 @@ impl<G: Drop> Levels<G> {
     pub fn again(&mut self, party: PartyId) -> Result<bool, Fault>
         ensures full { IsErr result ↔ (level_of self.old (id_of party) ≡ self.old.limit) }
         ensures fault { IfErr result (λ fault. (fault ≡ Fault.FullCount) × (self.new ≡ self.old)) }
-        ensures more { let level = level_of self.old (id_of party) in
-            IfOk result (λ more. MatchBool more ((0 < level) × (self.new ≡ at_level self.old (level + 1))) ((level ≡ 0) × (self.new ≡ self.old))) }
+        ensures more { IfOk result (λ more. MatchBool more
+            (GainsLevel self.old self.new (id_of party))
+            ((level_of self.old (id_of party) ≡ 0) × (self.new ≡ self.old))) }
     {
         let level = self.level(party);
         if level == 0 {
@@ -109,7 +112,8 @@ impl<G: Drop> Levels<G> {
 
     /// Level 1 of the party where there is no owner, and else the token back.
     pub fn first(&mut self, party: PartyId, token: G) -> Option<G>
-        ensures taken { IfNone result (IsNone self.old.owner × (self.new ≡ owned_by self.old (id_of party) token)) }
+        ensures taken { IfNone result
+            (IsNone self.old.owner × (self.new ≡ owned_by self.old (id_of party) token)) }
         ensures back { IfSome result (λ back. IsSome self.old.owner × (back ≡ token) × (self.new ≡ self.old)) }
     {
         if self.is_owned() {
@@ -127,9 +131,8 @@ impl<G: Drop> Levels<G> {
     pub fn leave(&mut self, party: PartyId) -> Result<Option<G>, Fault>
         ensures owner { IsOk result ↔ (0 < level_of self.old (id_of party)) }
         ensures fault { IfErr result (λ fault. (fault ≡ Fault.Foreign) × (self.new ≡ self.old)) }
-        ensures less { let level = level_of self.old (id_of party) in
-            IfOk result (λ token. IfNone token ((1 < level) × (self.new ≡ at_level self.old (level - 1)))) }
-        ensures last { IfOk result (λ token. IfSome token (λ token. GivesTokenBack self.old self.new (id_of party) token)) }
+        ensures less { IfOk result (λ token. IfNone token (LosesLevel self.old self.new (id_of party))) }
+        ensures last { IfOk result (λ token. IfSome token (GivesTokenBack self.old self.new (id_of party))) }
     {
         let level = self.level(party);
         if level == 0 {
@@ -146,8 +149,9 @@ impl<G: Drop> Levels<G> {
     pub fn leave_sole(&mut self, party: PartyId) -> Result<Option<G>, Fault>
         ensures owner { IsOk result ↔ (0 < level_of self.old (id_of party)) }
         ensures fault { IfErr result (λ fault. (fault ≡ Fault.Foreign) × (self.new ≡ self.old)) }
-        ensures kept { IfOk result (λ token. IfNone token ((1 < level_of self.old (id_of party)) × (self.new ≡ self.old))) }
-        ensures sole { IfOk result (λ token. IfSome token (λ token. GivesTokenBack self.old self.new (id_of party) token)) }
+        ensures kept { IfOk result (λ token.
+            IfNone token ((1 < level_of self.old (id_of party)) × (self.new ≡ self.old))) }
+        ensures sole { IfOk result (λ token. IfSome token (GivesTokenBack self.old self.new (id_of party))) }
     {
         if self.level(party) > 1 {
             return Ok(None);

@@ -109,7 +109,8 @@ where
     }
 
     pub fn get_mut(&mut self) -> &mut T
-        ensures* writes_back { sem 𝓛 (Lends (the_row R.row T.row R.Guard.row R.Waiter.row) T.row self.entry result (with_value self.old)) }
+        ensures* writes_back { sem 𝓛 (Lends (the_row R.row T.row R.Guard.row R.Waiter.row) T.row
+            self.entry result (with_value self.old)) }
         ensures value { result.now ≡ value_of self.old }
     {
         &mut self.value
@@ -127,7 +128,7 @@ where
 
     /// Waits until no other party owns the lock. Refused where the party has all its levels.
     pub fn lock(&self, party: PartyId) -> Result<ReentrantMutexGuard<'_, R, T>, Fault>
-        ensures guard { IfOk result (λ guard. IsGuardOf self.entry (id_of party) guard) }
+        ensures guard { IfOk result (IsGuardOf self.entry (id_of party)) }
         ensures fault { IfErr result (λ fault. fault ≡ Fault.FullCount) }
     {
         self.raw.lock(party)?;
@@ -136,7 +137,7 @@ where
 
     /// As `lock`, and none where that would wait.
     pub fn try_lock(&self, party: PartyId) -> Result<Option<ReentrantMutexGuard<'_, R, T>>, Fault>
-        ensures guard { IfOk result (λ got. IfSome got (λ guard. IsGuardOf self.entry (id_of party) guard)) }
+        ensures guard { IfOk result (λ got. IfSome got (IsGuardOf self.entry (id_of party))) }
         ensures fault { IfErr result (λ fault. fault ≡ Fault.FullCount) }
     {
         let has_level = self.raw.try_lock(party)?;
@@ -146,7 +147,7 @@ where
     /// The guard of a level that the party has just got, if it has got it.
     fn guard_if(&self, has_level: bool, party: PartyId) -> Option<ReentrantMutexGuard<'_, R, T>>
         ensures some { IsSome result ↔ IsTrue has_level }
-        ensures guard { IfSome result (λ guard. IsGuardOf self.entry (id_of party) guard) }
+        ensures guard { IfSome result (IsGuardOf self.entry (id_of party)) }
     {
         if !has_level {
             return None;
@@ -180,7 +181,7 @@ where
         party: PartyId,
         timeout: R::Duration,
     ) -> Result<Option<ReentrantMutexGuard<'_, R, T>>, Fault>
-        ensures guard { IfOk result (λ got. IfSome got (λ guard. IsGuardOf self.entry (id_of party) guard)) }
+        ensures guard { IfOk result (λ got. IfSome got (IsGuardOf self.entry (id_of party))) }
         ensures fault { IfErr result (λ fault. fault ≡ Fault.FullCount) }
     {
         let has_level = self.raw.try_lock_for(party, timeout)?;
@@ -193,7 +194,7 @@ where
         party: PartyId,
         deadline: R::Instant,
     ) -> Result<Option<ReentrantMutexGuard<'_, R, T>>, Fault>
-        ensures guard { IfOk result (λ got. IfSome got (λ guard. IsGuardOf self.entry (id_of party) guard)) }
+        ensures guard { IfOk result (λ got. IfSome got (IsGuardOf self.entry (id_of party))) }
         ensures fault { IfErr result (λ fault. fault ≡ Fault.FullCount) }
     {
         let has_level = self.raw.try_lock_until(party, deadline)?;
