@@ -30,8 +30,9 @@ impl<G> Model for Levels<G> {
     ghost Value = { Ownership G };
 
     ghost view = { λ l. record {
-        limit = l.limit;
-        owner = option_map (λ o. record { party = id_of o.party; count = o.count; token = o.token }) l.owner } };
+      limit = l.limit;
+      owner = option_map (λ o. record { party = id_of o.party; count = o.count; token = o.token }) l.owner;
+    } };
 
     ghost invariant = { λ l. IsLimit l.limit × IfSome l.owner (λ o. (0 < o.count) × (o.count ≤ l.limit)) };
 }
@@ -52,7 +53,7 @@ impl<G> Default for Levels<G> {
 }
 
 impl<G: Drop> Levels<G> {
-    ghost use Rattle.std.specs.Prelude.{◌≡◌, ◌+◌, ◌-◌, ◌<◌, ◌≤◌, ◌↔◌, IsTrue, IsOk, IsErr, IsSome, IsNone, IfOk, IfErr, IfSome, IfNone};
+    ghost use Rattle.std.specs.Prelude.{◌≡◌, ◌<◌, ◌≤◌, ◌↔◌, IsTrue, IsOk, IsErr, IsSome, IsNone, IfOk, IfErr, IfSome, IfNone};
     ghost use Rattle.std.specs.Bool.{MatchBool};
     ghost use Rattle.lock_base.specs.Limits.{IsLimit};
     ghost use Rattle.lock_base.specs.Party.{id_of};

@@ -19,7 +19,7 @@ where
 {
     ghost use Rattle.std.specs.Prelude.{◌≡◌, IfOk, IfErr, MatchResult};
     ghost use Rattle.lock_base.specs.Party.{id_of};
-    ghost use Rattle.lock_remutex.specs.Guards.{guard_lock, guard_party, guard_value, IsGuardOf, IsSameGuard};
+    ghost use Rattle.lock_remutex.specs.Guards.{guard_lock, IsGuardOf, IsSameGuard};
 
     /// The guard of a level that the party has.
     pub(crate) fn new(remutex: &'a ReentrantMutex<R, T>, party: PartyId) -> Self
