@@ -1,0 +1,4 @@
+pub mod Kept
+pub mod Numbers
+pub mod Sound
+pub mod TokenSteps
