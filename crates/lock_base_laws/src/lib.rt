@@ -2,5 +2,7 @@
 #![tactic(auto)]
 
 mod kept;
+mod reached;
 
-pub use kept::{refusals_keep_machine, refused_upgrades_keep_guard};
+pub use kept::{refused_upgrades_keep_guard, refusals_keep_machine};
+pub use reached::runs_are_sound;
