@@ -51,7 +51,7 @@ pub data Effect {O T A : Type 0} (m : Machine T) : Call O → Reply A → List M
   unlocked : {call : Call O} (guard : ℕ) (e : Entry) → IsOut m guard e true
       → Effect m call Reply.Done (only_if (gives_token_back m.kind (without guard m.entries)) (Release e.mode ∷ [])) (released m (without guard m.entries))
   parks : {call : Call O} (guard : ℕ) (e : Entry) → IsOut m guard e true
-      → Effect m call Reply.Done (only_if (gives_token_back m.kind (without guard m.entries)) (Release e.mode ∷ [])) (released m (update guard parked m.entries))
+      → Effect m call Reply.Done (only_if (gives_token_back m.kind (update guard parked m.entries)) (Release e.mode ∷ [])) (released m (update guard parked m.entries))
   resumes : {call : Call O} (party guard : ℕ) (e : Entry) → IsOut m guard e false → (IsTrue (is_reentrant m.kind) → e.party ≡ party)
       → IsTrue (admitted m.kind m.limit m.entries party e.mode)
       → Effect m call Reply.Done (only_if (takes_token m.kind m.entries) (Acquire e.mode ∷ [])) (record m { entries = update guard resumed m.entries })
@@ -149,12 +149,12 @@ module _ {O T A : Type 0} (meaning : O → Operation T A) (m : Machine T) where
           (unlocked guard e (out_of m held_guard (id_of party) guard e meets)))
 
   -- both forms of parking do the same
-  of_park : (call : Call O) (party guard : ℕ) → asked_steps m call ≡ steps_back m guard → Has O T A m call (told done (park m party guard))
+  of_park : (call : Call O) (party guard : ℕ) → asked_steps m call ≡ steps_back m guard (update guard parked m.entries) → Has O T A m call (told done (park m party guard))
   of_park call party guard asked =
       of_told O T A m call done held_guard party guard _
       (λ e meets. subst (λ steps. Effect {A = A} m call Reply.Done steps (released m (update guard parked m.entries))) (sym asked)
           (by_found O T A m call guard e (released m (update guard parked m.entries))
-          (λ mode. only_if (gives_token_back m.kind (without guard m.entries)) (Release mode ∷ [])) meets.found
+          (λ mode. only_if (gives_token_back m.kind (update guard parked m.entries)) (Release mode ∷ [])) meets.found
           (parks guard e (out_of m held_guard party guard e meets))))
 
   of_resume : (party : PartyId) (guard : ℕ) → Has O T A m (Call.Resume party guard) (step meaning m (Call.Resume party guard))

@@ -4,3 +4,6 @@ pub mod Refusals
 pub mod Splices
 pub mod Held
 pub mod RunsReached
+pub mod TokenLevels
+pub mod TokenRuns
+pub mod Spending

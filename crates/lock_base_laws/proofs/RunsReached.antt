@@ -1,5 +1,5 @@
 -- Each call keeps a machine sound, so every run does.
-use Rattle.std.proofs.Common.{◌≡◌, ◌≢◌, ℕ, ◌+◌, ◌<◌, ◌≤◌, Bool, true, false, List, [], ◌∷◌, ◌++◌, length, IsTrue, refl, ap, sym, ◌∙◌, subst, arith, append-nil}
+use Rattle.std.proofs.Common.{◌≡◌, ◌≢◌, ℕ, ◌+◌, ◌<◌, ◌≤◌, Bool, true, false, List, [], ◌∷◌, ◌++◌, length, Some, IsTrue, refl, ap, sym, ◌∙◌, subst, arith, append-nil}
 use Rattle.lock_base.specs.declared.machine.mode.Mode.{Mode}
 use Rattle.lock_base.specs.declared.machine.mode.Mode.TheVariants.{Exclusive}
 use Rattle.lock_base.specs.declared.machine.mode_step.ModeStep.{ModeStep}
@@ -134,6 +134,10 @@ module _ {T : Type 0} (m : Machine T) (sound : IsSound m) where
     effect_sound (Effect.moves guard e to out kind move sole) = moved_sound guard e (splice guard e m.entries out.found) m.spent to out.held kind move sole
     effect_sound (Effect.written guard e answer value out kind mode) = rest_sound value m.spent
     effect_sound (Effect.written_upgraded guard e answer value out kind mode sole) = rest_sound value m.spent
+
+-- a guard that is out has a mode of the kind
+pub out_mode : {T : Type 0} (m : Machine T) (guard : ℕ) (e : Entry) → IsSound m → find guard m.entries ≡ Some e → IsModeOf m.kind e.mode
+out_mode m guard e sound found = (whole_modes m sound guard e (splice guard e m.entries found) m.spent).0
 
 -- nothing is out of a new machine
 start_legal : (kind : Kind) (limit : ℕ) → AreLegallyHeld (is_reentrant kind) limit []
