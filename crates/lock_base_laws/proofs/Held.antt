@@ -84,7 +84,7 @@ issued_is_more es number e held =
 
 -- the party of what is held
 
-of_party_removed : (party : ℕ) (hs : List Entry) (e : Entry) (ks : List Entry) → AreOfParty party (hs ++ e ∷ ks) → (e.party ≡ party) × AreOfParty party (hs ++ ks)
+pub of_party_removed : (party : ℕ) (hs : List Entry) (e : Entry) (ks : List Entry) → AreOfParty party (hs ++ e ∷ ks) → (e.party ≡ party) × AreOfParty party (hs ++ ks)
 of_party_removed party [] e ks h = h
 of_party_removed party (x ∷ hs) e ks h = let rest = of_party_removed party hs e ks h.1 in (rest.0, (h.0, rest.1))
 

@@ -7,3 +7,7 @@ pub mod RunsReached
 pub mod TokenLevels
 pub mod TokenRuns
 pub mod Spending
+pub mod Written
+pub mod GuardNumbers
+pub mod OneToken
+pub mod ParkedGuards

@@ -12,15 +12,7 @@ use Rattle.lock_base_laws.proofs.Effects.{Effect, effect}
 machine_kept : {O T A : Type 0} {m after : Machine T} {call : Call O} {reply : Reply A} {steps : List ModeStep} → Effect m call reply steps after
     → IsTrue (is_refusal reply) → after ≡ m
 machine_kept (Effect.kept unnumbered) h = refl
-machine_kept (Effect.acquired party mode admits) h = cc
-machine_kept (Effect.unlocked guard e out) h = cc
-machine_kept (Effect.parks guard e out) h = cc
-machine_kept (Effect.resumes party guard e out own admitted) h = cc
-machine_kept (Effect.abandoned guard e out) h = cc
-machine_kept (Effect.bumped party guard e out) h = cc
-machine_kept (Effect.moves guard e to out kind move sole) h = cc
-machine_kept (Effect.written guard e answer value out kind mode) h = cc
-machine_kept (Effect.written_upgraded guard e answer value out kind mode sole) h = cc
+machine_kept other h = cc
 
 guard_kept : {T : Type 0} (old new : Machine T) (guard : ℕ) → new ≡ old → KeepsGuard old new guard
 guard_kept old new guard same = record { same_guard = ap (λ (m : _). find guard m.entries) same; same_value = ap (λ (m : _). m.value) same }

@@ -41,16 +41,12 @@ spends_bump n false mode small = omega arith
 
 module _ {O T A : Type 0} {m : Machine T} (small : m.spent ≤ 2 ^ 64 - 1) where
   effect_spends : {call : Call O} {reply : Reply A} {steps : List ModeStep} {after : Machine T} → Effect m call reply steps after → Spends m.spent steps after.spent
-  effect_spends (Effect.kept unnumbered) = spends_none m.spent small
   effect_spends (Effect.acquired party mode admits) = spends_no_release m.spent _ mode small
   effect_spends (Effect.unlocked guard e out) = spends_one m.spent (gives_token_back m.kind (without guard m.entries)) e.mode small
   effect_spends (Effect.parks guard e out) = spends_one m.spent (gives_token_back m.kind (update guard parked m.entries)) e.mode small
   effect_spends (Effect.resumes party guard e out own ok) = spends_no_release m.spent _ e.mode small
-  effect_spends (Effect.abandoned guard e out) = spends_none m.spent small
   effect_spends (Effect.bumped party guard e out) = spends_bump m.spent (bumps_token m.kind m.entries) e.mode small
-  effect_spends (Effect.moves guard e to out kind move sole) = spends_none m.spent small
-  effect_spends (Effect.written guard e answer value out kind mode) = spends_none m.spent small
-  effect_spends (Effect.written_upgraded guard e answer value out kind mode sole) = spends_none m.spent small
+  effect_spends other = spends_none m.spent small
 
 module _ {O T A : Type 0} (meaning : O → Operation T A) where
   run_spends : (m : Machine T) (calls : List (Call O)) → m.spent ≤ 2 ^ 64 - 1 → Spends m.spent (all_token_steps meaning m calls) (after_all meaning m calls).spent

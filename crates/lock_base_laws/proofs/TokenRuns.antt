@@ -139,15 +139,7 @@ pub record HasSameLimit {T : Type 0} (old new : Machine T) : Type 0 where
 
 pub same_limit : {O T A : Type 0} {m after : Machine T} {call : Call O} {reply : Reply A} {steps : List ModeStep} → Effect m call reply steps after → HasSameLimit m after
 same_limit (Effect.kept unnumbered) = record { same_kind = refl; same_limit = refl }
-same_limit (Effect.acquired party mode admits) = record { same_kind = refl; same_limit = refl }
-same_limit (Effect.unlocked guard e out) = record { same_kind = refl; same_limit = refl }
-same_limit (Effect.parks guard e out) = record { same_kind = refl; same_limit = refl }
-same_limit (Effect.resumes party guard e out own ok) = record { same_kind = refl; same_limit = refl }
-same_limit (Effect.abandoned guard e out) = record { same_kind = refl; same_limit = refl }
-same_limit (Effect.bumped party guard e out) = record { same_kind = refl; same_limit = refl }
-same_limit (Effect.moves guard e to out kind move sole) = record { same_kind = refl; same_limit = refl }
-same_limit (Effect.written guard e answer value out kind mode) = record { same_kind = refl; same_limit = refl }
-same_limit (Effect.written_upgraded guard e answer value out kind mode sole) = record { same_kind = refl; same_limit = refl }
+same_limit other = record { same_kind = refl; same_limit = refl }
 
 start_empty : (kind : Kind) → tokens_of kind [] ≡ empty_bag
 start_empty Mutex = refl

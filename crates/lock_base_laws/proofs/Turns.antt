@@ -1,6 +1,6 @@
 -- A call on a guard is refused, or acts on an entry that meets what the call asks.
-use Rattle.std.proofs.Common.{◌≡◌, ℕ, Bool, true, false, not, ◌&&◌, ◌==◌, if◌then◌else◌, List, [], ◌∷◌, Option, Some, None, IsTrue, refl, eqb-true}
-use Rattle.std.proofs.lemmas.Bool.{and_cases, not-true, not-false}
+use Rattle.std.proofs.Common.{◌≡◌, ℕ, Bool, true, false, not, ◌&&◌, ◌==◌, if◌then◌else◌, List, [], ◌∷◌, Option, Some, None, IsTrue, refl, ap, ◌∙◌, eqb-true, eq-eqb}
+use Rattle.std.proofs.lemmas.Bool.{not-false, not_from_true}
 use Rattle.lock_base.specs.declared.machine.kind.Kind.{Kind}
 use Rattle.lock_base.specs.declared.raw.fault.Fault.{Fault}
 use Rattle.lock_base.specs.declared.raw.fault.Fault.TheVariants as fault
@@ -93,3 +93,26 @@ module _ {R T : Type 0} where
   pub of_both : (P : Turn R T → Type 0) (b : Bool) (x y : Turn R T) → (IsTrue b → P x) → (b ≡ false → P y) → P (if b then x else y)
   of_both P true x y one other = one refl
   of_both P false x y one other = other refl
+
+passes_own : (reentrant : Bool) (x y : ℕ) → (IsTrue reentrant → x ≡ y) → (reentrant && not (x == y)) ≡ false
+passes_own true x y own = not_from_true (x == y) (eq-eqb x y (own refl))
+passes_own false x y own = refl
+
+passes_held : (asked held : Bool) → held ≡ asked → AllPassed (asked && not held) (not asked && held) false false
+passes_held true true h = record { first = refl; second = refl; third = refl; fourth = refl }
+passes_held true false h = cc
+passes_held false true h = cc
+passes_held false false h = record { first = refl; second = refl; third = refl; fourth = refl }
+
+-- a call on a guard whose entry meets what it asks acts on that entry
+pub on_guard-met : {R T : Type 0} (m : Machine T) (demand : Demand) (party guard : ℕ) (act : Entry → Turn R T) (e : Entry) → Meets m demand party guard e
+    → on_guard m demand party guard act ≡ act e
+on_guard-met m demand party guard act e meets =
+    let held = passes_held demand.held e.held meets.held in
+    let none : entry_refusal m.kind demand party e ≡ None =
+            refusal-none (is_reentrant m.kind && not (e.party == party)) (demand.held && not e.held) (not demand.held && e.held) (not (demand.in_mode e.mode))
+            fault.Foreign fault.Parked fault.NotParked fault.WrongMode
+            (record { first = passes_own (is_reentrant m.kind) e.party party meets.own; second = held.first; third = held.second; fourth = not_from_true (demand.in_mode e.mode) meets.in_mode }) in
+    let found : found_refusal m.kind demand party (find guard m.entries) ≡ None = ap (λ (o : Option Entry). found_refusal m.kind demand party o) meets.found ∙ none in
+    let passed : guard_refusal m demand party guard ≡ None = kind_passes (demand.on_kind m.kind) (found_refusal m.kind demand party (find guard m.entries)) meets.on_kind found in
+    ap (λ (o : Option Fault). unless o m (at_entry (find guard m.entries) m act)) passed ∙ ap (λ (o : Option Entry). at_entry o m act) meets.found
