@@ -1,6 +1,6 @@
 -- All that a call can do to a machine: each law goes by these cases.
-use Rattle.std.proofs.Common.{◌≡◌, ◌≢◌, ℕ, ◌+◌, ◌-◌, ◌^◌, Bool, true, false, not, ◌&&◌, ◌==◌, if◌then◌else◌, List, [], ◌∷◌, ◌++◌, length, Option, Some, None, Result, Ok, Err, IsTrue, refl, sym, subst}
-use Rattle.std.proofs.lemmas.Bool.{not-true, not-false, eqb-false}
+use Rattle.std.proofs.Common.{◌≡◌, ◌≢◌, ℕ, ◌+◌, ◌-◌, ◌^◌, Bool, true, false, not, ◌==◌, if◌then◌else◌, List, [], ◌∷◌, length, Option, Some, None, IsTrue, refl, sym, subst}
+use Rattle.std.proofs.lemmas.Bool.{not-true, eqb-false}
 use Rattle.lock_base.specs.declared.machine.mode.Mode.{Mode}
 use Rattle.lock_base.specs.declared.machine.mode.Mode.TheVariants.{Shared, Exclusive, Upgradable}
 use Rattle.lock_base.specs.declared.machine.mode_step.ModeStep.{ModeStep}
@@ -15,22 +15,21 @@ use Rattle.lock_base.specs.declared.machine.call.Want.{Want}
 use Rattle.lock_base.specs.declared.machine.call.Want.TheVariants.{Lock, Read, Write, UpgradableRead}
 use Rattle.lock_base.specs.declared.machine.party.PartyId.{PartyId}
 use Rattle.lock_base.specs.declared.machine.reply.Reply.{Reply}
-use Rattle.lock_base.specs.declared.raw.fault.Fault.{Fault}
 use Rattle.lock_base.specs.declared.raw.fault.Fault.TheVariants as fault
 use Rattle.lock_base.specs.Operation.{Operation}
 use Rattle.lock_base.specs.Party.{id_of}
 use Rattle.lock_base.specs.Modes.{is_move, may_become, is_shared, is_exclusive, is_upgradable}
 use Rattle.lock_base.specs.Kind.{is_reentrant, is_rwlock}
-use Rattle.lock_base.specs.Entries.{Entry, find, without, update, parked, resumed, in_mode, held_bag}
+use Rattle.lock_base.specs.Entries.{Entry, find, without, update, parked, resumed, held_bag}
 use Rattle.lock_base.specs.Machine.{Machine, admitted, is_full_count, released, gives_token_back, bumps_token, one_spent_more}
 use Rattle.lock_base.specs.Refusals.{Demand, mode_of, has_want, acquisition_refusal, held_guard, parked_guard, writing_guard, upgradable_guard, unshared_guard, exclusive_guard}
-use Rattle.lock_base.specs.Calls.{Turn, give, refuse, unless, on_guard, issued, moved, acquire, unlock, park, resume, abandon, bump, upgrade, downgrade, downgrade_to_upgradable, with_upgraded, ask, change, is_locked_exclusive, is_owned_by}
-use Rattle.lock_base.specs.Steps.{Told, told, told_in_form, reply_in_form, done, step}
+use Rattle.lock_base.specs.Calls.{Turn, give, on_guard, issued, moved, park}
+use Rattle.lock_base.specs.Steps.{Told, told, told_in_form, done, step}
 use Rattle.lock_base_laws.specs.Kept.{is_refusal}
 use Rattle.lock_base_laws.specs.Numbers.{numbers_of}
 use Rattle.lock_base_laws.specs.Sound.{IsModeOf}
 use Rattle.lock_base_laws.specs.TokenSteps.{takes_token, only_if, by_mode, steps_back, asked_steps, token_steps}
-use Rattle.lock_base_laws.proofs.Turns.{Meets, AllPassed, all_passed, of_unless, of_guard, of_both}
+use Rattle.lock_base_laws.proofs.Turns.{Meets, all_passed, of_unless, of_guard, of_both}
 
 -- what an acquisition that gives a guard was asked, and found
 pub record Admits {T : Type 0} (m : Machine T) (party : ℕ) (mode : Mode) : Type 0 where
@@ -58,7 +57,7 @@ pub data Effect {O T A : Type 0} (m : Machine T) : Call O → Reply A → List M
   abandoned : {call : Call O} (guard : ℕ) (e : Entry) → IsOut m guard e false → Effect m call Reply.Done [] (record m { entries = without guard m.entries })
   bumped : (party : PartyId) (guard : ℕ) (e : Entry) → IsOut m guard e true
       → Effect m (Call.Bump party guard) Reply.Done (only_if (bumps_token m.kind m.entries) (Release e.mode ∷ Acquire e.mode ∷ []))
-        (record m { spent = if bumps_token m.kind m.entries then one_spent_more m.spent else m.spent })
+      (record m { spent = if bumps_token m.kind m.entries then one_spent_more m.spent else m.spent })
   moves : {call : Call O} (guard : ℕ) (e : Entry) (to : Mode) → IsOut m guard e true → m.kind ≡ RwLock → IsTrue (is_move e.mode to)
       → IsTrue (may_become (held_bag m.entries) to) → Effect m call Reply.Done (Change e.mode to ∷ []) (moved m guard to)
   written : {party : PartyId} {op : O} (guard : ℕ) (e : Entry) (answer : A) (value : T) → IsOut m guard e true → is_reentrant m.kind ≡ false → e.mode ≡ Exclusive
@@ -135,38 +134,38 @@ module _ {O T A : Type 0} (meaning : O → Operation T A) (m : Machine T) where
       let call : Call O = Call.Acquire want form party in
       of_unless (λ turn. Has O T A m call (told_in_form form Reply.Guard turn)) m (acquisition_refusal m want (id_of party)) _ (λ f. kept refl)
       (λ passed.
-          let all = all_passed (not (has_want m.kind want)) (length m.entries == m.places) (m.last == 2 ^ 64 - 1) (is_full_count m.kind m.limit m.entries (id_of party))
-              fault.WrongKind fault.NoPlace fault.NumbersSpent fault.FullCount passed in
-          of_both (λ turn. Has O T A m call (told_in_form form Reply.Guard turn)) (admitted m.kind m.limit m.entries (id_of party) (mode_of want)) _ _
-          (λ ok. acquired (id_of party) (mode_of want) (record { mode_of_kind = want_of_kind m.kind want all.first; room = eqb-false _ _ all.second; admitted = ok }))
-          (λ no. none_kept O T A m call form Reply.Guard))
+      let all = all_passed (not (has_want m.kind want)) (length m.entries == m.places) (m.last == 2 ^ 64 - 1) (is_full_count m.kind m.limit m.entries (id_of party))
+      fault.WrongKind fault.NoPlace fault.NumbersSpent fault.FullCount passed in
+      of_both (λ turn. Has O T A m call (told_in_form form Reply.Guard turn)) (admitted m.kind m.limit m.entries (id_of party) (mode_of want)) _ _
+      (λ ok. acquired (id_of party) (mode_of want) (record { mode_of_kind = want_of_kind m.kind want all.first; room = eqb-false _ _ all.second; admitted = ok }))
+      (λ no. none_kept O T A m call form Reply.Guard))
 
   of_unlock : (party : PartyId) (guard : ℕ) (way : Way) → Has O T A m (Call.Unlock party guard way) (step meaning m (Call.Unlock party guard way))
   of_unlock party guard way =
       of_told O T A m (Call.Unlock party guard way) done held_guard (id_of party) guard _
       (λ e meets. by_found O T A m (Call.Unlock party guard way) guard e (released m (without guard m.entries))
-          (λ mode. only_if (gives_token_back m.kind (without guard m.entries)) (Release mode ∷ [])) meets.found
-          (unlocked guard e (out_of m held_guard (id_of party) guard e meets)))
+      (λ mode. only_if (gives_token_back m.kind (without guard m.entries)) (Release mode ∷ [])) meets.found
+      (unlocked guard e (out_of m held_guard (id_of party) guard e meets)))
 
   -- both forms of parking do the same
   of_park : (call : Call O) (party guard : ℕ) → asked_steps m call ≡ steps_back m guard (update guard parked m.entries) → Has O T A m call (told done (park m party guard))
   of_park call party guard asked =
       of_told O T A m call done held_guard party guard _
       (λ e meets. subst (λ steps. Effect {A = A} m call Reply.Done steps (released m (update guard parked m.entries))) (sym asked)
-          (by_found O T A m call guard e (released m (update guard parked m.entries))
-          (λ mode. only_if (gives_token_back m.kind (update guard parked m.entries)) (Release mode ∷ [])) meets.found
-          (parks guard e (out_of m held_guard party guard e meets))))
+      (by_found O T A m call guard e (released m (update guard parked m.entries))
+      (λ mode. only_if (gives_token_back m.kind (update guard parked m.entries)) (Release mode ∷ [])) meets.found
+      (parks guard e (out_of m held_guard party guard e meets))))
 
   of_resume : (party : PartyId) (guard : ℕ) → Has O T A m (Call.Resume party guard) (step meaning m (Call.Resume party guard))
   of_resume party guard =
       of_told O T A m (Call.Resume party guard) done parked_guard (id_of party) guard _
       (λ e meets.
-          of_both (λ turn. Has O T A m (Call.Resume party guard) (told done turn)) (is_full_count m.kind m.limit m.entries (id_of party)) _ _ (λ full. kept refl)
-          (λ room. of_both (λ turn. Has O T A m (Call.Resume party guard) (told done turn)) (admitted m.kind m.limit m.entries (id_of party) e.mode) _ _
-              (λ ok. by_found O T A m (Call.Resume party guard) guard e (record m { entries = update guard resumed m.entries })
-                  (λ mode. only_if (takes_token m.kind m.entries) (Acquire mode ∷ [])) meets.found
-                  (resumes (id_of party) guard e (out_of m parked_guard (id_of party) guard e meets) meets.own ok))
-              (λ no. kept refl)))
+      of_both (λ turn. Has O T A m (Call.Resume party guard) (told done turn)) (is_full_count m.kind m.limit m.entries (id_of party)) _ _ (λ full. kept refl)
+      (λ room. of_both (λ turn. Has O T A m (Call.Resume party guard) (told done turn)) (admitted m.kind m.limit m.entries (id_of party) e.mode) _ _
+      (λ ok. by_found O T A m (Call.Resume party guard) guard e (record m { entries = update guard resumed m.entries })
+      (λ mode. only_if (takes_token m.kind m.entries) (Acquire mode ∷ [])) meets.found
+      (resumes (id_of party) guard e (out_of m parked_guard (id_of party) guard e meets) meets.own ok))
+      (λ no. kept refl)))
 
   of_abandon : (party : PartyId) (guard : ℕ) → Has O T A m (Call.Abandon party guard) (step meaning m (Call.Abandon party guard))
   of_abandon party guard =
@@ -178,26 +177,26 @@ module _ {O T A : Type 0} (meaning : O → Operation T A) (m : Machine T) where
       let after : Machine T = record m { spent = if bumps_token m.kind m.entries then one_spent_more m.spent else m.spent } in
       of_told O T A m (Call.Bump party guard) done held_guard (id_of party) guard _
       (λ e meets. by_found O T A m (Call.Bump party guard) guard e after
-          (λ mode. only_if (bumps_token m.kind m.entries) (Release mode ∷ Acquire mode ∷ [])) meets.found
-          (bumped party guard e (out_of m held_guard (id_of party) guard e meets)))
+      (λ mode. only_if (bumps_token m.kind m.entries) (Release mode ∷ Acquire mode ∷ [])) meets.found
+      (bumped party guard e (out_of m held_guard (id_of party) guard e meets)))
 
   of_upgrade : (form : Form) (party : PartyId) (guard : ℕ) → Has O T A m (Call.Upgrade form party guard) (step meaning m (Call.Upgrade form party guard))
   of_upgrade form party guard =
       let call : Call O = Call.Upgrade form party guard in
       of_told_in_form O T A m call form done upgradable_guard (id_of party) guard _
       (λ e meets.
-          let mode = upgradable_is e.mode meets.in_mode in
-          of_both (λ turn. Has O T A m call (told_in_form form done turn)) (may_become (held_bag m.entries) Exclusive) _ _
-          (λ sole. subst (λ (x : Mode). Effect {A = A} m call Reply.Done (Change x Exclusive ∷ []) (moved m guard Exclusive)) mode
-              (moves guard e Exclusive (out_of m upgradable_guard (id_of party) guard e meets) (rwlock_is m.kind meets.on_kind)
-              (subst (λ (x : Mode). IsTrue (is_move x Exclusive)) (sym mode) refl) sole))
-          (λ beside. none_kept O T A m call form done))
+      let mode = upgradable_is e.mode meets.in_mode in
+      of_both (λ turn. Has O T A m call (told_in_form form done turn)) (may_become (held_bag m.entries) Exclusive) _ _
+      (λ sole. subst (λ (x : Mode). Effect {A = A} m call Reply.Done (Change x Exclusive ∷ []) (moved m guard Exclusive)) mode
+      (moves guard e Exclusive (out_of m upgradable_guard (id_of party) guard e meets) (rwlock_is m.kind meets.on_kind)
+      (subst (λ (x : Mode). IsTrue (is_move x Exclusive)) (sym mode) refl) sole))
+      (λ beside. none_kept O T A m call form done))
 
   of_downgrade : (party : PartyId) (guard : ℕ) → Has O T A m (Call.Downgrade party guard) (step meaning m (Call.Downgrade party guard))
   of_downgrade party guard =
       of_told O T A m (Call.Downgrade party guard) done unshared_guard (id_of party) guard _
       (λ e meets. by_found O T A m (Call.Downgrade party guard) guard e (moved m guard Shared) (λ mode. Change mode Shared ∷ []) meets.found
-          (moves guard e Shared (out_of m unshared_guard (id_of party) guard e meets) (rwlock_is m.kind meets.on_kind) (shared_move e.mode meets.in_mode) refl))
+      (moves guard e Shared (out_of m unshared_guard (id_of party) guard e meets) (rwlock_is m.kind meets.on_kind) (shared_move e.mode meets.in_mode) refl))
 
   of_downgrade_to_upgradable : (party : PartyId) (guard : ℕ)
       → Has O T A m (Call.DowngradeToUpgradable party guard) (step meaning m (Call.DowngradeToUpgradable party guard))
@@ -205,10 +204,10 @@ module _ {O T A : Type 0} (meaning : O → Operation T A) (m : Machine T) where
       let call : Call O = Call.DowngradeToUpgradable party guard in
       of_told O T A m call done exclusive_guard (id_of party) guard _
       (λ e meets.
-          let mode = exclusive_is e.mode meets.in_mode in
-          subst (λ (x : Mode). Effect {A = A} m call Reply.Done (Change x Upgradable ∷ []) (moved m guard Upgradable)) mode
-          (moves guard e Upgradable (out_of m exclusive_guard (id_of party) guard e meets) (rwlock_is m.kind meets.on_kind)
-          (subst (λ (x : Mode). IsTrue (is_move x Upgradable)) (sym mode) refl) refl))
+      let mode = exclusive_is e.mode meets.in_mode in
+      subst (λ (x : Mode). Effect {A = A} m call Reply.Done (Change x Upgradable ∷ []) (moved m guard Upgradable)) mode
+      (moves guard e Upgradable (out_of m exclusive_guard (id_of party) guard e meets) (rwlock_is m.kind meets.on_kind)
+      (subst (λ (x : Mode). IsTrue (is_move x Upgradable)) (sym mode) refl) refl))
 
   of_with_upgraded : (form : Form) (party : PartyId) (guard : ℕ) (op : O)
       → Has O T A m (Call.WithUpgraded form party guard op) (step meaning m (Call.WithUpgraded form party guard op))
@@ -216,12 +215,12 @@ module _ {O T A : Type 0} (meaning : O → Operation T A) (m : Machine T) where
       let call : Call O = Call.WithUpgraded form party guard op in
       of_told_in_form O T A m call form Reply.Answer upgradable_guard (id_of party) guard _
       (λ e meets.
-          of_both (λ turn. Has O T A m call (told_in_form form Reply.Answer turn)) ((meaning op).fits m.value) _ _
-          (λ fits. of_both (λ turn. Has O T A m call (told_in_form form Reply.Answer turn)) (may_become (held_bag m.entries) Exclusive) _ _
-              (λ sole. written_upgraded guard e ((meaning op).applied m.value) ((meaning op).after m.value) (out_of m upgradable_guard (id_of party) guard e meets)
-                  (rwlock_is m.kind meets.on_kind) (upgradable_is e.mode meets.in_mode) sole)
-              (λ beside. none_kept O T A m call form Reply.Answer))
-          (λ unfit. kept refl))
+      of_both (λ turn. Has O T A m call (told_in_form form Reply.Answer turn)) ((meaning op).fits m.value) _ _
+      (λ fits. of_both (λ turn. Has O T A m call (told_in_form form Reply.Answer turn)) (may_become (held_bag m.entries) Exclusive) _ _
+      (λ sole. written_upgraded guard e ((meaning op).applied m.value) ((meaning op).after m.value) (out_of m upgradable_guard (id_of party) guard e meets)
+      (rwlock_is m.kind meets.on_kind) (upgradable_is e.mode meets.in_mode) sole)
+      (λ beside. none_kept O T A m call form Reply.Answer))
+      (λ unfit. kept refl))
 
   of_get : (party : PartyId) (guard : ℕ) (op : O) → Has O T A m (Call.Get party guard op) (step meaning m (Call.Get party guard op))
   of_get party guard op =
@@ -232,9 +231,9 @@ module _ {O T A : Type 0} (meaning : O → Operation T A) (m : Machine T) where
   of_change party guard op =
       of_told O T A m (Call.Change party guard op) Reply.Answer writing_guard (id_of party) guard _
       (λ e meets. of_both (λ turn. Has O T A m (Call.Change party guard op) (told Reply.Answer turn)) ((meaning op).fits m.value) _ _
-          (λ fits. written guard e ((meaning op).applied m.value) ((meaning op).after m.value) (out_of m writing_guard (id_of party) guard e meets)
-              (not-true (is_reentrant m.kind) meets.on_kind) (exclusive_is e.mode meets.in_mode))
-          (λ unfit. kept refl))
+      (λ fits. written guard e ((meaning op).applied m.value) ((meaning op).after m.value) (out_of m writing_guard (id_of party) guard e meets)
+      (not-true (is_reentrant m.kind) meets.on_kind) (exclusive_is e.mode meets.in_mode))
+      (λ unfit. kept refl))
 
   of_is_locked_exclusive : Has O T A m Call.IsLockedExclusive (step meaning m Call.IsLockedExclusive)
   of_is_locked_exclusive =

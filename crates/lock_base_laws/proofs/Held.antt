@@ -1,16 +1,16 @@
 -- What is held: a map that has one held entry more than another, and what that makes of bags, counts and legality.
-use Rattle.std.proofs.Common.{◌≡◌, ℕ, ◌+◌, ◌<◌, ◌≤◌, Bool, true, false, ◌&&◌, ◌==◌, nat_lt, if◌then◌else◌, List, [], ◌∷◌, ◌++◌, length, IsTrue, Some, refl, ap, sym, ◌∙◌, subst, arith, eqb-true, ltb-true, append-nil, length-append}
+use Rattle.std.proofs.Common.{◌≡◌, ℕ, ◌+◌, ◌≤◌, Bool, true, false, ◌&&◌, ◌==◌, nat_lt, if◌then◌else◌, List, [], ◌∷◌, ◌++◌, length, IsTrue, refl, ap, sym, ◌∙◌, subst, arith, eqb-true, ltb-true, append-nil, length-append}
 use Rattle.std.proofs.lemmas.Bool.{and_parts}
 use Rattle.lock_base.specs.declared.machine.mode.Mode.{Mode}
 use Rattle.lock_base.specs.declared.machine.bag.Bag.{Bag}
 use Rattle.lock_base.specs.declared.machine.kind.Kind.{Kind}
 use Rattle.lock_base.specs.Modes.{bag_of, one_more, AreCompatible, admits}
 use Rattle.lock_base.specs.Kind.{is_reentrant}
-use Rattle.lock_base.specs.Entries.{Entry, find, without, update, parked, resumed, in_mode, held_entries, held_count, held_bag, modes_of_entries, all_of_party}
+use Rattle.lock_base.specs.Entries.{Entry, without, update, parked, resumed, in_mode, held_entries, held_count, held_bag, modes_of_entries, all_of_party}
 use Rattle.lock_base.specs.Machine.{admitted}
 use Rattle.lock_base.specs.Legal.{AreOfParty, AreLegallyHeld}
 use Rattle.lock_base.proofs.ModeLemmas.{compatible_acquired, compatible_released}
-use Rattle.lock_base_laws.proofs.Splices.{Splice, splice, held-append, bag_of-modes-middle}
+use Rattle.lock_base_laws.proofs.Splices.{Splice, held-append, bag_of-modes-middle}
 
 -- the one map has what the other has held, and this entry
 pub record HasOneMore (e : Entry) (more fewer : List (ℕ × Entry)) : Type 0 where

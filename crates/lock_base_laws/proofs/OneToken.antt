@@ -1,5 +1,5 @@
 -- The one token of a reentrant machine.
-use Rattle.std.proofs.Common.{◌≡◌, ℕ, ◌+◌, ◌<◌, ◌≤◌, Bool, true, false, not, ◌==◌, if◌then◌else◌, List, [], ◌∷◌, ◌++◌, length, Option, Some, None, IsTrue, refl, ap, sym, ◌∙◌, subst, arith}
+use Rattle.std.proofs.Common.{◌≡◌, ℕ, ◌+◌, ◌<◌, Bool, true, false, not, ◌==◌, if◌then◌else◌, List, [], ◌∷◌, ◌++◌, length, Option, Some, None, IsTrue, refl, ap, sym, ◌∙◌, subst, arith}
 use Rattle.std.proofs.lemmas.Bool.{ne_eqb}
 use Rattle.lock_base.specs.declared.machine.mode.Mode.{Mode}
 use Rattle.lock_base.specs.declared.machine.mode.Mode.TheVariants.{Exclusive}
@@ -8,11 +8,10 @@ use Rattle.lock_base.specs.declared.machine.mode_step.ModeStep.TheVariants.{Acqu
 use Rattle.lock_base.specs.declared.machine.kind.Kind.{Kind}
 use Rattle.lock_base.specs.declared.machine.kind.Kind.TheVariants.{RwLock}
 use Rattle.lock_base.specs.declared.machine.call.Call.{Call}
-use Rattle.lock_base.specs.declared.machine.party.PartyId.{PartyId}
 use Rattle.lock_base.specs.declared.machine.reply.Reply.{Reply}
 use Rattle.lock_base.specs.Operation.{Operation}
 use Rattle.lock_base.specs.Kind.{is_reentrant}
-use Rattle.lock_base.specs.Entries.{Entry, find, without, update, parked, resumed, held_entries, held_count}
+use Rattle.lock_base.specs.Entries.{Entry, find, without, update, parked, resumed, held_count}
 use Rattle.lock_base.specs.Machine.{Machine, bumps_token}
 use Rattle.lock_base.specs.Calls.{is_locked}
 use Rattle.lock_base.specs.Steps.{step}
@@ -21,7 +20,7 @@ use Rattle.lock_base_laws.specs.Sound.{IsSound}
 use Rattle.lock_base_laws.specs.TokenSteps.{only_if, by_mode}
 use Rattle.lock_base_laws.specs.Levels.{is_bump, one_token_steps, NestedGuardsMakeOneToken, NestedBumpsKeepToken}
 use Rattle.lock_base_laws.proofs.Splices.{splice}
-use Rattle.lock_base_laws.proofs.Held.{HasOneMore, held_count-more, more_than_rest, more_than_parked, resumed_is_more, abandoned_holds_same, issued_is_more}
+use Rattle.lock_base_laws.proofs.Held.{held_count-more, more_than_rest, more_than_parked, resumed_is_more, abandoned_holds_same, issued_is_more}
 use Rattle.lock_base_laws.proofs.Effects.{Effect, effect}
 use Rattle.lock_base_laws.proofs.RunsReached.{out_mode}
 use Rattle.lock_base_laws.proofs.TokenRuns.{reentrant_mode}

@@ -1,29 +1,24 @@
 -- A parked guard is resumed at once.
-use Rattle.std.proofs.Common.{◌≡◌, ℕ, ◌+◌, ◌<◌, ◌≤◌, Bool, true, false, not, ◌&&◌, ◌||◌, ◌==◌, nat_lt, if◌then◌else◌, List, [], ◌∷◌, ◌++◌, length, Option, Some, None, Result, Ok, Err, IsTrue, refl, ap, sym, ◌∙◌, subst, arith, eq-eqb, lt-ltb}
-use Rattle.std.proofs.lemmas.Bool.{and_from, and_right, ne_eqb, not_from_true}
-use Rattle.lock_base.specs.declared.machine.mode.Mode.{Mode}
+use Rattle.std.proofs.Common.{◌≡◌, ℕ, ◌≤◌, Bool, true, false, ◌&&◌, ◌==◌, nat_lt, if◌then◌else◌, List, [], ◌∷◌, ◌++◌, Some, IsTrue, refl, ap, sym, ◌∙◌, subst, arith, eq-eqb, lt-ltb}
+use Rattle.std.proofs.lemmas.Bool.{and_from, and_right, ne_eqb}
 use Rattle.lock_base.specs.declared.machine.bag.Bag.{Bag}
-use Rattle.lock_base.specs.declared.machine.kind.Kind.{Kind}
-use Rattle.lock_base.specs.declared.machine.call.Call.{Call}
-use Rattle.lock_base.specs.declared.machine.party.PartyId.{PartyId}
 use Rattle.lock_base.specs.declared.machine.reply.Reply.{Reply}
-use Rattle.lock_base.specs.declared.raw.fault.Fault.{Fault}
 use Rattle.lock_base.specs.declared.raw.fault.Fault.TheVariants as fault
 use Rattle.lock_base.specs.Operation.{Operation}
 use Rattle.lock_base.specs.Party.{id_of}
-use Rattle.lock_base.specs.Modes.{one_more, admits, AreCompatible}
+use Rattle.lock_base.specs.Modes.{admits, AreCompatible}
 use Rattle.lock_base.specs.Kind.{is_reentrant}
-use Rattle.lock_base.specs.Entries.{Entry, find, without, update, parked, resumed, held_entries, held_bag, held_count, all_of_party, some_of_party}
+use Rattle.lock_base.specs.Entries.{Entry, find, update, parked, resumed, held_entries, held_bag, held_count, all_of_party, some_of_party}
 use Rattle.lock_base.specs.Machine.{Machine, admitted, is_full_count, released}
-use Rattle.lock_base.specs.Refusals.{guard_refusal, held_guard, parked_guard}
-use Rattle.lock_base.specs.Calls.{Turn, give, refuse, on_guard, park, resume}
+use Rattle.lock_base.specs.Refusals.{held_guard, parked_guard}
+use Rattle.lock_base.specs.Calls.{Turn, give, refuse, park, resume}
 use Rattle.lock_base.specs.Legal.{AreOfParty, AreLegallyHeld}
-use Rattle.lock_base.specs.Steps.{Told, told, reply_of, done, step}
+use Rattle.lock_base.specs.Steps.{told, reply_of, done}
 use Rattle.lock_base.proofs.ModeLemmas.{admits-released}
 use Rattle.lock_base_laws.specs.Sound.{IsSound}
 use Rattle.lock_base_laws.specs.Parking.{ParkedIsResumed}
 use Rattle.lock_base_laws.proofs.Turns.{Meets, of_guard, on_guard-met}
-use Rattle.lock_base_laws.proofs.Splices.{Splice, splice}
+use Rattle.lock_base_laws.proofs.Splices.{splice}
 use Rattle.lock_base_laws.proofs.Held.{HasOneMore, held_bag-more, held_count-more, of_party_removed, more_than_parked}
 
 -- the map that has a guard parked and resumed
@@ -107,12 +102,12 @@ module _ {T : Type 0} (m : Machine T) (party guard : ℕ) (sound : IsSound m) wh
       let next : Machine T = released m left in
       let one = more_than_parked guard e m.entries (splice guard e m.entries meets.found) meets.held in
       let meets_parked : Meets next parked_guard party guard (parked e) =
-              record { found = find-update guard parked e m.entries meets.found; on_kind = refl; own = meets.own; held = refl; in_mode = refl } in
+      record { found = find-update guard parked e m.entries meets.found; on_kind = refl; own = meets.own; held = refl; in_mode = refl } in
       let held_again : Turn (Unit {0}) T = give tt (record next { entries = update guard resumed left }) in
       let admits_it : Turn (Unit {0}) T = (if admitted m.kind m.limit left party e.mode then held_again else refuse next fault.WouldWait) in
       on_guard-met next parked_guard party guard
       (λ x. if is_full_count m.kind m.limit left party then refuse next fault.FullCount
-          else (if admitted m.kind m.limit left party x.mode then held_again else refuse next fault.WouldWait))
+      else (if admitted m.kind m.limit left party x.mode then held_again else refuse next fault.WouldWait))
       (parked e) meets_parked
       ∙ ap (λ (b : Bool). if b then refuse next fault.FullCount else admits_it) (not_full m.limit party e m.entries left one (is_reentrant m.kind) sound.legal.held)
       ∙ ap (λ (b : Bool). if b then held_again else refuse next fault.WouldWait)

@@ -1,7 +1,6 @@
 -- Each call keeps a machine sound, so every run does.
-use Rattle.std.proofs.Common.{◌≡◌, ◌≢◌, ℕ, ◌+◌, ◌<◌, ◌≤◌, Bool, true, false, List, [], ◌∷◌, ◌++◌, length, Some, IsTrue, refl, ap, sym, ◌∙◌, subst, arith, append-nil}
+use Rattle.std.proofs.Common.{◌≡◌, ℕ, ◌+◌, true, false, List, [], ◌∷◌, ◌++◌, length, Some, IsTrue, refl, ap, sym, subst, arith, append-nil}
 use Rattle.lock_base.specs.declared.machine.mode.Mode.{Mode}
-use Rattle.lock_base.specs.declared.machine.mode.Mode.TheVariants.{Exclusive}
 use Rattle.lock_base.specs.declared.machine.mode_step.ModeStep.{ModeStep}
 use Rattle.lock_base.specs.declared.machine.bag.Bag.{Bag}
 use Rattle.lock_base.specs.declared.machine.kind.Kind.{Kind}
@@ -13,14 +12,14 @@ use Rattle.lock_base.specs.Modes.{one_more, is_move, may_become, AreCompatible}
 use Rattle.lock_base.specs.Kind.{is_reentrant}
 use Rattle.lock_base.specs.Entries.{Entry, find, without, update, parked, resumed, in_mode, held_bag}
 use Rattle.lock_base.specs.Machine.{Machine, admitted, start}
-use Rattle.lock_base.specs.Calls.{issued, moved}
-use Rattle.lock_base.specs.Legal.{AreLegallyHeld, AreNumbered, IsLegal}
+use Rattle.lock_base.specs.Calls.{issued}
+use Rattle.lock_base.specs.Legal.{AreLegallyHeld, AreNumbered}
 use Rattle.lock_base.specs.Steps.{step, after_all}
 use Rattle.lock_base.proofs.ModeLemmas.{compatible_changed, compatible_empty}
 use Rattle.lock_base_laws.specs.Sound.{IsLimitOf, IsModeOf, HaveModesOf, IsSound, RunsAreSound}
 use Rattle.lock_base_laws.proofs.Splices.{Splice, splice, length-middle, numbered_removed, numbered_changed, numbered_issued, have_modes_removed, have_modes_added}
-use Rattle.lock_base_laws.proofs.Held.{HasOneMore, held_bag-more, more_than_rest, more_than_parked, resumed_is_more, moved_is_more, abandoned_holds_same, issued_is_more, legal_same, legal_fewer, legal_more}
-use Rattle.lock_base_laws.proofs.Effects.{Effect, effect, Admits, IsOut}
+use Rattle.lock_base_laws.proofs.Held.{held_bag-more, more_than_rest, more_than_parked, resumed_is_more, moved_is_more, abandoned_holds_same, issued_is_more, legal_same, legal_fewer, legal_more}
+use Rattle.lock_base_laws.proofs.Effects.{Effect, effect, Admits}
 
 module _ {T : Type 0} (m : Machine T) (sound : IsSound m) where
   issued_sound : (party : ℕ) (mode : Mode) → Admits m party mode → IsSound (issued m party mode)
@@ -109,10 +108,10 @@ module _ {T : Type 0} (m : Machine T) (sound : IsSound m) where
         let rest : Bag = held_bag (without guard m.entries) in
         let before : held_bag m.entries ≡ one_more rest e.mode = held_bag-more e m.entries (without guard m.entries) (more_than_rest guard e m.entries s held) in
         let after : held_bag (update guard (in_mode to) m.entries) ≡ one_more rest to =
-                held_bag-more (in_mode to e) (update guard (in_mode to) m.entries) (without guard m.entries) (moved_is_more guard e m.entries s to held) in
+        held_bag-more (in_mode to e) (update guard (in_mode to) m.entries) (without guard m.entries) (moved_is_more guard e m.entries s to held) in
         let legal = subst (λ (k : Kind). AreLegallyHeld (is_reentrant k) m.limit m.entries) kind sound.legal.held in
         let changed = compatible_changed m.limit rest e.mode to (subst (λ (k : Kind). IsLimitOf k m.limit) kind sound.limit) move
-                (subst (λ (b : Bag). IsTrue (may_become b to)) before sole) (subst (λ (b : Bag). AreCompatible m.limit b) before legal) in
+        (subst (λ (b : Bag). IsTrue (may_become b to)) before sole) (subst (λ (b : Bag). AreCompatible m.limit b) before legal) in
         update_sound (in_mode to) (subst (λ (k : Kind). IsModeOf k to) (sym kind) tt)
         (subst (λ (k : Kind). AreLegallyHeld (is_reentrant k) m.limit (update guard (in_mode to) m.entries)) (sym kind)
         (subst (λ (b : Bag). AreCompatible m.limit b) (sym after) changed))

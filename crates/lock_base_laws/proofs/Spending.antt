@@ -1,9 +1,8 @@
 -- What was spent is the number of releases.
-use Rattle.std.proofs.Common.{◌≡◌, ℕ, ◌+◌, ◌-◌, ◌^◌, ◌<◌, ◌≤◌, min, Bool, true, false, if◌then◌else◌, List, [], ◌∷◌, ◌++◌, refl, ap, sym, ◌∙◌, subst, arith}
+use Rattle.std.proofs.Common.{◌≡◌, ℕ, ◌+◌, ◌-◌, ◌^◌, ◌≤◌, min, Bool, true, false, if◌then◌else◌, List, [], ◌∷◌, ◌++◌, arith}
 use Rattle.lock_base.specs.declared.machine.mode.Mode.{Mode}
 use Rattle.lock_base.specs.declared.machine.mode_step.ModeStep.{ModeStep}
 use Rattle.lock_base.specs.declared.machine.mode_step.ModeStep.TheVariants.{Acquire, Release, Change}
-use Rattle.lock_base.specs.declared.machine.kind.Kind.{Kind}
 use Rattle.lock_base.specs.declared.machine.call.Call.{Call}
 use Rattle.lock_base.specs.declared.machine.reply.Reply.{Reply}
 use Rattle.lock_base.specs.Operation.{Operation}

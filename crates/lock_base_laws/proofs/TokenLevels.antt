@@ -1,14 +1,13 @@
 -- What the raw state is asked where one more, or one fewer, is held: by the modes, and on a reentrant machine by levels.
-use Rattle.std.proofs.Common.{◌≡◌, ℕ, ◌+◌, ◌<◌, ◌≤◌, Bool, true, false, ◌&&◌, ◌==◌, nat_lt, if◌then◌else◌, List, [], ◌∷◌, ◌++◌, IsTrue, refl, ap, sym, ◌∙◌, subst, arith, eqb-true}
-use Rattle.std.proofs.lemmas.Bool.{ne_eqb, eqb-false}
+use Rattle.std.proofs.Common.{◌≡◌, ℕ, ◌+◌, Bool, true, false, ◌==◌, if◌then◌else◌, [], ◌∷◌, IsTrue, refl, ap, sym, ◌∙◌, subst, arith}
+use Rattle.std.proofs.lemmas.Bool.{ne_eqb}
 use Rattle.lock_base.specs.declared.machine.mode.Mode.{Mode}
-use Rattle.lock_base.specs.declared.machine.mode.Mode.TheVariants.{Shared, Exclusive, Upgradable}
-use Rattle.lock_base.specs.declared.machine.mode_step.ModeStep.{ModeStep}
+use Rattle.lock_base.specs.declared.machine.mode.Mode.TheVariants.{Exclusive, Upgradable}
 use Rattle.lock_base.specs.declared.machine.mode_step.ModeStep.TheVariants.{Acquire, Release, Change}
 use Rattle.lock_base.specs.declared.machine.bag.Bag.{Bag}
-use Rattle.lock_base.specs.Modes.{empty_bag, one_more, one_less, count_of, admits, is_move, may_become, AreCompatible}
+use Rattle.lock_base.specs.Modes.{empty_bag, one_more, admits, is_move, may_become}
 use Rattle.lock_base.specs.ModeRuns.{IsModeRun}
-use Rattle.lock_base.proofs.ModeLemmas.{count-one_more, one_less-one_more, admits-released, compatible_acquired, IsModeRun-append}
+use Rattle.lock_base.proofs.ModeLemmas.{count-one_more, one_less-one_more, IsModeRun-append}
 use Rattle.lock_base_laws.specs.TokenSteps.{only_if}
 
 -- runs of one step or two beside a bag
@@ -48,7 +47,6 @@ some_level n some = ap (λ (b : Bool). if b then empty_bag else one_more empty_b
 
 pub one_level_more : (n k : ℕ) → k ≡ n + 1 → (k == 0) ≡ false
 one_level_more n k more = ne_eqb k 0 (λ zero. omega arith)
-
 
 -- the first level takes the token
 pub level_taken : (n k : ℕ) (none : Bool) → (n == 0) ≡ none → (k == 0) ≡ false → IsModeRun 1 (level_token n) (only_if none (Acquire Exclusive ∷ [])) (level_token k)

@@ -1,7 +1,7 @@
 -- What the calls ask of the raw state is a run of the modes, which ends with the tokens of what is held.
-use Rattle.std.proofs.Common.{◌≡◌, ℕ, ◌+◌, ◌<◌, ◌≤◌, Bool, true, false, ◌&&◌, ◌==◌, nat_lt, if◌then◌else◌, List, [], ◌∷◌, ◌++◌, length, IsTrue, Some, refl, ap, sym, ◌∙◌, subst, arith}
+use Rattle.std.proofs.Common.{◌≡◌, ℕ, ◌+◌, Bool, true, false, ◌&&◌, ◌==◌, nat_lt, if◌then◌else◌, List, [], ◌∷◌, ◌++◌, length, IsTrue, Some, refl, ap, sym, ◌∙◌, subst}
 use Rattle.lock_base.specs.declared.machine.mode.Mode.{Mode}
-use Rattle.lock_base.specs.declared.machine.mode.Mode.TheVariants.{Shared, Exclusive, Upgradable}
+use Rattle.lock_base.specs.declared.machine.mode.Mode.TheVariants.{Exclusive, Upgradable}
 use Rattle.lock_base.specs.declared.machine.mode_step.ModeStep.{ModeStep}
 use Rattle.lock_base.specs.declared.machine.mode_step.ModeStep.TheVariants.{Acquire, Release, Change}
 use Rattle.lock_base.specs.declared.machine.bag.Bag.{Bag}
@@ -14,15 +14,15 @@ use Rattle.lock_base.specs.Modes.{empty_bag, one_more, bag_of, admits, is_move, 
 use Rattle.lock_base.specs.ModeRuns.{IsModeRun}
 use Rattle.lock_base.specs.Kind.{is_reentrant}
 use Rattle.lock_base.specs.Entries.{Entry, find, without, update, parked, resumed, in_mode, held_entries, held_bag, held_count, modes_of_entries, all_of_party}
-use Rattle.lock_base.specs.Machine.{Machine, start, admitted}
+use Rattle.lock_base.specs.Machine.{Machine, start}
 use Rattle.lock_base.specs.Legal.{AreLegallyHeld}
 use Rattle.lock_base.specs.Steps.{step, after_all}
 use Rattle.lock_base.proofs.ModeLemmas.{admits-released, IsModeRun-append}
-use Rattle.lock_base_laws.specs.Sound.{IsLimitOf, IsModeOf, IsSound}
+use Rattle.lock_base_laws.specs.Sound.{IsModeOf, IsSound}
 use Rattle.lock_base_laws.specs.TokenSteps.{tokens_of, tokens_out, token_limit, only_if, token_steps, all_token_steps, TokensAreThoseHeld}
 use Rattle.lock_base_laws.proofs.Splices.{splice}
 use Rattle.lock_base_laws.proofs.Held.{HasOneMore, held_bag-more, held_count-more, more_than_rest, more_than_parked, resumed_is_more, moved_is_more, abandoned_holds_same, issued_is_more}
-use Rattle.lock_base_laws.proofs.Effects.{Effect, effect, Admits, IsOut}
+use Rattle.lock_base_laws.proofs.Effects.{Effect, effect}
 use Rattle.lock_base_laws.proofs.RunsReached.{out_mode, start_sound, step_sound}
 use Rattle.lock_base_laws.proofs.TokenLevels.{acquire_run, release_run, bump_run, change_run, upgraded_run, level_token, one_level_more, level_taken, level_given_back, level_bumped}
 
@@ -43,7 +43,7 @@ module _ (limit : ℕ) (e : Entry) (more fewer : List (ℕ × Entry)) (one : Has
   taken_run : (reentrant : Bool) (party : ℕ) → (IsTrue reentrant → e.mode ≡ Exclusive)
       → IsTrue (if reentrant then all_of_party party (held_entries fewer) && nat_lt (held_count fewer) limit else admits limit (held_bag fewer) e.mode)
       → IsModeRun (if reentrant then 1 else limit) (tokens_in reentrant fewer) (only_if (if reentrant then held_count fewer == 0 else true) (Acquire e.mode ∷ []))
-        (tokens_in reentrant more)
+      (tokens_in reentrant more)
   taken_run true party mode ok =
       subst (λ (x : Mode). IsModeRun 1 (level_token (held_count fewer)) (only_if (held_count fewer == 0) (Acquire x ∷ [])) (level_token (held_count more))) (sym (mode refl))
       (level_taken (held_count fewer) (held_count more) (held_count fewer == 0) refl is_held)
@@ -54,7 +54,7 @@ module _ (limit : ℕ) (e : Entry) (more fewer : List (ℕ × Entry)) (one : Has
   -- one fewer is held
   given_back_run : (reentrant : Bool) → (IsTrue reentrant → e.mode ≡ Exclusive)
       → IsModeRun (if reentrant then 1 else limit) (tokens_in reentrant more) (only_if (if reentrant then held_count fewer == 0 else true) (Release e.mode ∷ []))
-        (tokens_in reentrant fewer)
+      (tokens_in reentrant fewer)
   given_back_run true mode =
       subst (λ (x : Mode). IsModeRun 1 (level_token (held_count more)) (only_if (held_count fewer == 0) (Release x ∷ [])) (level_token (held_count fewer))) (sym (mode refl))
       (level_given_back (held_count fewer) (held_count more) (held_count fewer == 0) refl is_held)
@@ -64,7 +64,7 @@ module _ (limit : ℕ) (e : Entry) (more fewer : List (ℕ × Entry)) (one : Has
   -- what is held stays
   bumped_run : (reentrant : Bool) → (IsTrue reentrant → e.mode ≡ Exclusive) → AreLegallyHeld reentrant limit more
       → IsModeRun (if reentrant then 1 else limit) (tokens_in reentrant more)
-        (only_if (if reentrant then held_count more == 1 else true) (Release e.mode ∷ Acquire e.mode ∷ [])) (tokens_in reentrant more)
+      (only_if (if reentrant then held_count more == 1 else true) (Release e.mode ∷ Acquire e.mode ∷ [])) (tokens_in reentrant more)
   bumped_run true mode legal =
       subst (λ (x : Mode). IsModeRun 1 (level_token (held_count more)) (only_if (held_count more == 1) (Release x ∷ Acquire x ∷ [])) (level_token (held_count more)))
       (sym (mode refl)) (level_bumped (held_count more) (held_count more == 1) is_held)
@@ -94,7 +94,7 @@ module _ {T : Type 0} (m : Machine T) (sound : IsSound m) where
     moved_run to held kind move sole =
         let before = held_bag-more e m.entries (without guard m.entries) (rest held) in
         let after = held_bag-more (in_mode to e) (update guard (in_mode to) m.entries) (without guard m.entries)
-                (moved_is_more guard e m.entries (splice guard e m.entries found) to held) in
+        (moved_is_more guard e m.entries (splice guard e m.entries found) to held) in
         let run = change_run m.limit (held_bag (without guard m.entries)) e.mode to move (subst (λ (b : Bag). IsTrue (may_become b to)) before sole) in
         subst (λ (k : Kind). IsModeRun (token_limit k m.limit) (tokens_of k m.entries) (Change e.mode to ∷ []) (tokens_of k (update guard (in_mode to) m.entries))) (sym kind)
         (subst (λ (b : Bag). IsModeRun m.limit b (Change e.mode to ∷ []) (held_bag (update guard (in_mode to) m.entries))) (sym before)
@@ -105,7 +105,7 @@ module _ {T : Type 0} (m : Machine T) (sound : IsSound m) where
     with_upgraded_run held kind mode sole =
         let left : Bag = held_bag (without guard m.entries) in
         let before : held_bag m.entries ≡ one_more left Upgradable =
-                held_bag-more e m.entries (without guard m.entries) (rest held) ∙ ap (λ (x : Mode). one_more left x) mode in
+        held_bag-more e m.entries (without guard m.entries) (rest held) ∙ ap (λ (x : Mode). one_more left x) mode in
         let run = upgraded_run m.limit left (subst (λ (b : Bag). IsTrue (may_become b Exclusive)) before sole) in
         subst (λ (k : Kind). IsModeRun (token_limit k m.limit) (tokens_of k m.entries) (Change Upgradable Exclusive ∷ Change Exclusive Upgradable ∷ []) (tokens_of k m.entries))
         (sym kind) (subst (λ (b : Bag). IsModeRun m.limit b (Change Upgradable Exclusive ∷ Change Exclusive Upgradable ∷ []) b) (sym before) run)
@@ -154,8 +154,8 @@ module _ {O T A : Type 0} (meaning : O → Operation T A) where
       let same = same_limit (effect meaning m call) in
       let rest = run_of_run next calls (step_sound meaning m call sound) in
       let rest_here = subst (λ (k : Kind). IsModeRun (token_limit k m.limit) (tokens_out next) (all_token_steps meaning next calls) (tokens_out (after_all meaning next calls)))
-              same.same_kind (subst (λ (n : ℕ). IsModeRun (token_limit next.kind n) (tokens_out next) (all_token_steps meaning next calls) (tokens_out (after_all meaning next calls)))
-              same.same_limit rest) in
+      same.same_kind (subst (λ (n : ℕ). IsModeRun (token_limit next.kind n) (tokens_out next) (all_token_steps meaning next calls) (tokens_out (after_all meaning next calls)))
+      same.same_limit rest) in
       IsModeRun-append (token_limit m.kind m.limit) (tokens_out m) (tokens_out next) (tokens_out (after_all meaning next calls)) (token_steps meaning m call)
       (all_token_steps meaning next calls) (effect_run m sound (effect meaning m call)) rest_here
 

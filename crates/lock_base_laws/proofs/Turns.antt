@@ -1,7 +1,6 @@
 -- A call on a guard is refused, or acts on an entry that meets what the call asks.
-use Rattle.std.proofs.Common.{◌≡◌, ℕ, Bool, true, false, not, ◌&&◌, ◌==◌, if◌then◌else◌, List, [], ◌∷◌, Option, Some, None, IsTrue, refl, ap, ◌∙◌, eqb-true, eq-eqb}
+use Rattle.std.proofs.Common.{◌≡◌, ℕ, Bool, true, false, not, ◌&&◌, ◌==◌, if◌then◌else◌, [], ◌∷◌, Option, Some, None, IsTrue, refl, ap, ◌∙◌, eqb-true, eq-eqb}
 use Rattle.std.proofs.lemmas.Bool.{not-false, not_from_true}
-use Rattle.lock_base.specs.declared.machine.kind.Kind.{Kind}
 use Rattle.lock_base.specs.declared.raw.fault.Fault.{Fault}
 use Rattle.lock_base.specs.declared.raw.fault.Fault.TheVariants as fault
 use Rattle.lock_base.specs.Kind.{is_reentrant}
@@ -87,8 +86,8 @@ module _ {R T : Type 0} where
   of_guard P m demand party guard act refused made =
       of_unless P m (guard_refusal m demand party guard) (at_entry (find guard m.entries) m act) refused
       (λ none.
-          let two = kind_passed (demand.on_kind m.kind) (found_refusal m.kind demand party (find guard m.entries)) none in
-          of_entry P m demand party guard act (find guard m.entries) refl two.0 two.1 made)
+      let two = kind_passed (demand.on_kind m.kind) (found_refusal m.kind demand party (find guard m.entries)) none in
+      of_entry P m demand party guard act (find guard m.entries) refl two.0 two.1 made)
 
   pub of_both : (P : Turn R T → Type 0) (b : Bool) (x y : Turn R T) → (IsTrue b → P x) → (b ≡ false → P y) → P (if b then x else y)
   of_both P true x y one other = one refl
@@ -110,9 +109,9 @@ pub on_guard-met : {R T : Type 0} (m : Machine T) (demand : Demand) (party guard
 on_guard-met m demand party guard act e meets =
     let held = passes_held demand.held e.held meets.held in
     let none : entry_refusal m.kind demand party e ≡ None =
-            refusal-none (is_reentrant m.kind && not (e.party == party)) (demand.held && not e.held) (not demand.held && e.held) (not (demand.in_mode e.mode))
-            fault.Foreign fault.Parked fault.NotParked fault.WrongMode
-            (record { first = passes_own (is_reentrant m.kind) e.party party meets.own; second = held.first; third = held.second; fourth = not_from_true (demand.in_mode e.mode) meets.in_mode }) in
+    refusal-none (is_reentrant m.kind && not (e.party == party)) (demand.held && not e.held) (not demand.held && e.held) (not (demand.in_mode e.mode))
+    fault.Foreign fault.Parked fault.NotParked fault.WrongMode
+    (record { first = passes_own (is_reentrant m.kind) e.party party meets.own; second = held.first; third = held.second; fourth = not_from_true (demand.in_mode e.mode) meets.in_mode }) in
     let found : found_refusal m.kind demand party (find guard m.entries) ≡ None = ap (λ (o : Option Entry). found_refusal m.kind demand party o) meets.found ∙ none in
     let passed : guard_refusal m demand party guard ≡ None = kind_passes (demand.on_kind m.kind) (found_refusal m.kind demand party (find guard m.entries)) meets.on_kind found in
     ap (λ (o : Option Fault). unless o m (at_entry (find guard m.entries) m act)) passed ∙ ap (λ (o : Option Entry). at_entry o m act) meets.found

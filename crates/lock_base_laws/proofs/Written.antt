@@ -1,12 +1,10 @@
 -- When the value changes.
-use Rattle.std.proofs.Common.{◌≡◌, ℕ, ◌+◌, ◌<◌, ◌≤◌, Bool, true, false, ◌==◌, if◌then◌else◌, List, [], ◌∷◌, Option, Some, IsTrue, refl, ap, sym, ◌∙◌, subst, arith, eqb-true}
+use Rattle.std.proofs.Common.{◌≡◌, ℕ, ◌+◌, ◌<◌, Bool, true, false, ◌==◌, if◌then◌else◌, List, [], ◌∷◌, Option, Some, IsTrue, refl, ap, sym, ◌∙◌, subst, arith, eqb-true}
 use Rattle.std.proofs.lemmas.Bool.{eqb-false, ne_eqb}
 use Rattle.lock_base.specs.declared.machine.mode.Mode.{Mode}
 use Rattle.lock_base.specs.declared.machine.mode.Mode.TheVariants.{Shared, Exclusive, Upgradable}
 use Rattle.lock_base.specs.declared.machine.mode_step.ModeStep.{ModeStep}
 use Rattle.lock_base.specs.declared.machine.bag.Bag.{Bag}
-use Rattle.lock_base.specs.declared.machine.kind.Kind.{Kind}
-use Rattle.lock_base.specs.declared.machine.kind.Kind.TheVariants.{RwLock}
 use Rattle.lock_base.specs.declared.machine.call.Call.{Call}
 use Rattle.lock_base.specs.declared.machine.reply.Reply.{Reply}
 use Rattle.lock_base.specs.Operation.{Operation}
@@ -15,10 +13,10 @@ use Rattle.lock_base.specs.Kind.{is_reentrant}
 use Rattle.lock_base.specs.Entries.{Entry, find, without, held_bag}
 use Rattle.lock_base.specs.Machine.{Machine}
 use Rattle.lock_base.specs.Legal.{AreLegallyHeld}
-use Rattle.lock_base.specs.Steps.{step, after_all}
+use Rattle.lock_base.specs.Steps.{step}
 use Rattle.lock_base.proofs.ModeLemmas.{count-one_more, tokens-one_more, count-le-tokens}
 use Rattle.lock_base_laws.specs.Sound.{IsSound}
-use Rattle.lock_base_laws.specs.Values.{is_write, IsReading, raises, ReadsThroughout, OnlyWritesChangeValue, ReadersSeeOneValue}
+use Rattle.lock_base_laws.specs.Values.{is_write, IsReading, raises, OnlyWritesChangeValue, ReadersSeeOneValue}
 use Rattle.lock_base_laws.proofs.Splices.{splice}
 use Rattle.lock_base_laws.proofs.Held.{held_bag-more, more_than_rest}
 use Rattle.lock_base_laws.proofs.Effects.{Effect, effect}
@@ -62,7 +60,7 @@ module _ {T : Type 0} (m : Machine T) (guard : ℕ) (reading : IsReading m guard
   no_writer writer e sound found held plain mode =
       let compatible = compatible_if (is_reentrant m.kind) m.limit m.entries plain sound.legal.held in
       let writes : 0 < count_of (held_bag m.entries) Exclusive =
-              subst (λ (x : Mode). 0 < count_of (held_bag m.entries) x) mode (held_is_counted writer e m.entries found held) in
+      subst (λ (x : Mode). 0 < count_of (held_bag m.entries) x) mode (held_is_counted writer e m.entries found held) in
       let reads = reader_is_counted (held_bag m.entries) reading.entry.mode reading.reads (held_is_counted guard reading.entry m.entries reading.found reading.held) in
       let alone = compatible.alone writes in
       omega arith
@@ -72,9 +70,9 @@ module _ {T : Type 0} (m : Machine T) (guard : ℕ) (reading : IsReading m guard
   no_sole writer e found held sole differs =
       let rest : Bag = held_bag (without writer m.entries) in
       let bag : held_bag m.entries ≡ one_more rest e.mode =
-              held_bag-more e m.entries (without writer m.entries) (more_than_rest writer e m.entries (splice writer e m.entries found) held) in
+      held_bag-more e m.entries (without writer m.entries) (more_than_rest writer e m.entries (splice writer e m.entries found) held) in
       let beside : 0 < count_of rest reading.entry.mode =
-              held_is_counted guard reading.entry (without writer m.entries) (find-without guard writer m.entries differs ∙ reading.found) reading.held in
+      held_is_counted guard reading.entry (without writer m.entries) (find-without guard writer m.entries differs ∙ reading.found) reading.held in
       let within = count-le-tokens rest reading.entry.mode in
       let more : tokens (held_bag m.entries) ≡ tokens rest + 1 = ap (λ (b : Bag). tokens b) bag ∙ tokens-one_more rest e.mode in
       let one : tokens (held_bag m.entries) ≡ 1 = eqb-true (tokens (held_bag m.entries)) 1 sole in

@@ -1,5 +1,5 @@
 -- The tokens of the raw state behind a machine: which are out, and what each call takes and gives back.
-use Rattle.std.specs.Prelude.{◌≡◌, ℕ, ◌+◌, ◌-◌, ◌^◌, Bool, true, false, not, ◌==◌, if◌then◌else◌, List, [], ◌∷◌, ◌++◌, Option, Some, None, min}
+use Rattle.std.specs.Prelude.{◌≡◌, ℕ, ◌+◌, ◌-◌, ◌^◌, Bool, true, not, ◌==◌, if◌then◌else◌, List, [], ◌∷◌, ◌++◌, Option, Some, None, min}
 use Rattle.lock_base.specs.declared.machine.mode.Mode.{Mode}
 use Rattle.lock_base.specs.declared.machine.mode.Mode.TheVariants.{Shared, Exclusive, Upgradable}
 use Rattle.lock_base.specs.declared.machine.mode_step.ModeStep.{ModeStep}
@@ -91,7 +91,7 @@ module _ {O T A : Type 0} (meaning : O → Operation T A) where
   TokensAreThoseHeld =
       (kind : Kind) (value : T) (places limit : ℕ) (calls : List (Call O)) → IsLimitOf kind limit
       → IsModeRun (token_limit kind limit) empty_bag (all_token_steps (start kind value places limit) calls)
-        (tokens_out (after_all meaning (start kind value places limit) calls))
+      (tokens_out (after_all meaning (start kind value places limit) calls))
 
   -- what was spent is how often a token was given back, up to the largest count
   abbrev pub SpentCountsReleases : Type 0

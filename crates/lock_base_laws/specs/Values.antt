@@ -5,7 +5,6 @@ use Rattle.lock_base.specs.Operation.{Operation}
 use Rattle.lock_base.specs.Modes.{is_exclusive}
 use Rattle.lock_base.specs.Entries.{Entry, find}
 use Rattle.lock_base.specs.Machine.{Machine}
-use Rattle.lock_base.specs.Legal.{IsLegal}
 use Rattle.lock_base.specs.Steps.{step, after_all}
 use Rattle.lock_base_laws.specs.Sound.{IsSound}
 

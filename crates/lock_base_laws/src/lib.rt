@@ -8,7 +8,7 @@ mod reached;
 mod tokens;
 mod values;
 
-pub use kept::{refused_upgrades_keep_guard, refusals_keep_machine};
+pub use kept::{refusals_keep_machine, refused_upgrades_keep_guard};
 pub use numbers::numbers_are_used_once;
 pub use parking::parked_is_resumed;
 pub use reached::runs_are_sound;

@@ -7,5 +7,4 @@ use lock_base::machine::Op;
 pub fn numbers_are_used_once<T, O: Op<T>>()
     ensures rising { NumbersAreUsedOnce O.meaning }
     ensures free { NewNumbersAreFree O.meaning }
-{
-}
+{}
