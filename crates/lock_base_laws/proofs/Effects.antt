@@ -102,8 +102,8 @@ out_of m demand party guard e meets = record { found = meets.found; held = meets
 
 module _ (O T A : Type 0) where
   -- the effect of a call, by what it was told
-  abbrev Has : Machine T → Call O → Told A T → Type 0
-  Has m call t = Effect m call t.reply (only_if (not (is_refusal t.reply)) (asked_steps m call)) t.machine
+  abbrev HasEffect : Machine T → Call O → Told A T → Type 0
+  HasEffect m call t = Effect m call t.reply (only_if (not (is_refusal t.reply)) (asked_steps m call)) t.machine
 
   module _ (m : Machine T) (call : Call O) where
     -- the steps by the mode of a guard that is out
@@ -111,36 +111,36 @@ module _ (O T A : Type 0) where
         → Effect {A = A} m call Reply.Done (steps e.mode) next → Effect {A = A} m call Reply.Done (by_mode (find guard m.entries) steps) next
     by_found guard e next steps found h = subst (λ (o : Option Entry). Effect {A = A} m call Reply.Done (by_mode o steps) next) (sym found) h
 
-    none_kept : {R : Type 0} (form : Form) (answered : R → Reply A) → Has m call (told_in_form form answered (give None m))
+    none_kept : {R : Type 0} (form : Form) (answered : R → Reply A) → HasEffect m call (told_in_form form answered (give None m))
     none_kept Block answered = kept refl
     none_kept Try answered = kept refl
     none_kept For answered = kept refl
     none_kept Until answered = kept refl
 
     of_told : {R : Type 0} (answered : R → Reply A) (demand : Demand) (party guard : ℕ) (act : Entry → Turn R T)
-        → ((e : Entry) → Meets m demand party guard e → Has m call (told answered (act e))) → Has m call (told answered (on_guard m demand party guard act))
+        → ((e : Entry) → Meets m demand party guard e → HasEffect m call (told answered (act e))) → HasEffect m call (told answered (on_guard m demand party guard act))
     of_told answered demand party guard act acts =
-        of_guard (λ turn. Has m call (told answered turn)) m demand party guard act (λ f. kept refl) acts
+        of_guard (λ turn. HasEffect m call (told answered turn)) m demand party guard act (λ f. kept refl) acts
 
     of_told_in_form : {R : Type 0} (form : Form) (answered : R → Reply A) (demand : Demand) (party guard : ℕ) (act : Entry → Turn (Option R) T)
-        → ((e : Entry) → Meets m demand party guard e → Has m call (told_in_form form answered (act e)))
-        → Has m call (told_in_form form answered (on_guard m demand party guard act))
+        → ((e : Entry) → Meets m demand party guard e → HasEffect m call (told_in_form form answered (act e)))
+        → HasEffect m call (told_in_form form answered (on_guard m demand party guard act))
     of_told_in_form form answered demand party guard act acts =
-        of_guard (λ turn. Has m call (told_in_form form answered turn)) m demand party guard act (λ f. kept refl) acts
+        of_guard (λ turn. HasEffect m call (told_in_form form answered turn)) m demand party guard act (λ f. kept refl) acts
 
 module _ {O T A : Type 0} (meaning : O → Operation T A) (m : Machine T) where
-  of_acquire : (want : Want) (form : Form) (party : PartyId) → Has O T A m (Call.Acquire want form party) (step meaning m (Call.Acquire want form party))
+  of_acquire : (want : Want) (form : Form) (party : PartyId) → HasEffect O T A m (Call.Acquire want form party) (step meaning m (Call.Acquire want form party))
   of_acquire want form party =
       let call : Call O = Call.Acquire want form party in
-      of_unless (λ turn. Has O T A m call (told_in_form form Reply.Guard turn)) m (acquisition_refusal m want (id_of party)) _ (λ f. kept refl)
+      of_unless (λ turn. HasEffect O T A m call (told_in_form form Reply.Guard turn)) m (acquisition_refusal m want (id_of party)) _ (λ f. kept refl)
       (λ passed.
       let all = all_passed (not (has_want m.kind want)) (length m.entries == m.places) (m.last == 2 ^ 64 - 1) (is_full_count m.kind m.limit m.entries (id_of party))
       fault.WrongKind fault.NoPlace fault.NumbersSpent fault.FullCount passed in
-      of_both (λ turn. Has O T A m call (told_in_form form Reply.Guard turn)) (admitted m.kind m.limit m.entries (id_of party) (mode_of want)) _ _
+      of_both (λ turn. HasEffect O T A m call (told_in_form form Reply.Guard turn)) (admitted m.kind m.limit m.entries (id_of party) (mode_of want)) _ _
       (λ ok. acquired (id_of party) (mode_of want) (record { mode_of_kind = want_of_kind m.kind want all.first; room = eqb-false _ _ all.second; admitted = ok }))
       (λ no. none_kept O T A m call form Reply.Guard))
 
-  of_unlock : (party : PartyId) (guard : ℕ) (way : Way) → Has O T A m (Call.Unlock party guard way) (step meaning m (Call.Unlock party guard way))
+  of_unlock : (party : PartyId) (guard : ℕ) (way : Way) → HasEffect O T A m (Call.Unlock party guard way) (step meaning m (Call.Unlock party guard way))
   of_unlock party guard way =
       of_told O T A m (Call.Unlock party guard way) done held_guard (id_of party) guard _
       (λ e meets. by_found O T A m (Call.Unlock party guard way) guard e (released m (without guard m.entries))
@@ -148,7 +148,7 @@ module _ {O T A : Type 0} (meaning : O → Operation T A) (m : Machine T) where
       (unlocked guard e (out_of m held_guard (id_of party) guard e meets)))
 
   -- both forms of parking do the same
-  of_park : (call : Call O) (party guard : ℕ) → asked_steps m call ≡ steps_back m guard (update guard parked m.entries) → Has O T A m call (told done (park m party guard))
+  of_park : (call : Call O) (party guard : ℕ) → asked_steps m call ≡ steps_back m guard (update guard parked m.entries) → HasEffect O T A m call (told done (park m party guard))
   of_park call party guard asked =
       of_told O T A m call done held_guard party guard _
       (λ e meets. subst (λ steps. Effect {A = A} m call Reply.Done steps (released m (update guard parked m.entries))) (sym asked)
@@ -156,23 +156,23 @@ module _ {O T A : Type 0} (meaning : O → Operation T A) (m : Machine T) where
       (λ mode. only_if (gives_token_back m.kind (update guard parked m.entries)) (Release mode ∷ [])) meets.found
       (parks guard e (out_of m held_guard party guard e meets))))
 
-  of_resume : (party : PartyId) (guard : ℕ) → Has O T A m (Call.Resume party guard) (step meaning m (Call.Resume party guard))
+  of_resume : (party : PartyId) (guard : ℕ) → HasEffect O T A m (Call.Resume party guard) (step meaning m (Call.Resume party guard))
   of_resume party guard =
       of_told O T A m (Call.Resume party guard) done parked_guard (id_of party) guard _
       (λ e meets.
-      of_both (λ turn. Has O T A m (Call.Resume party guard) (told done turn)) (is_full_count m.kind m.limit m.entries (id_of party)) _ _ (λ full. kept refl)
-      (λ room. of_both (λ turn. Has O T A m (Call.Resume party guard) (told done turn)) (admitted m.kind m.limit m.entries (id_of party) e.mode) _ _
+      of_both (λ turn. HasEffect O T A m (Call.Resume party guard) (told done turn)) (is_full_count m.kind m.limit m.entries (id_of party)) _ _ (λ full. kept refl)
+      (λ room. of_both (λ turn. HasEffect O T A m (Call.Resume party guard) (told done turn)) (admitted m.kind m.limit m.entries (id_of party) e.mode) _ _
       (λ ok. by_found O T A m (Call.Resume party guard) guard e (record m { entries = update guard resumed m.entries })
       (λ mode. only_if (takes_token m.kind m.entries) (Acquire mode ∷ [])) meets.found
       (resumes (id_of party) guard e (out_of m parked_guard (id_of party) guard e meets) meets.own ok))
       (λ no. kept refl)))
 
-  of_abandon : (party : PartyId) (guard : ℕ) → Has O T A m (Call.Abandon party guard) (step meaning m (Call.Abandon party guard))
+  of_abandon : (party : PartyId) (guard : ℕ) → HasEffect O T A m (Call.Abandon party guard) (step meaning m (Call.Abandon party guard))
   of_abandon party guard =
       of_told O T A m (Call.Abandon party guard) done parked_guard (id_of party) guard _
       (λ e meets. abandoned guard e (out_of m parked_guard (id_of party) guard e meets))
 
-  of_bump : (party : PartyId) (guard : ℕ) → Has O T A m (Call.Bump party guard) (step meaning m (Call.Bump party guard))
+  of_bump : (party : PartyId) (guard : ℕ) → HasEffect O T A m (Call.Bump party guard) (step meaning m (Call.Bump party guard))
   of_bump party guard =
       let after : Machine T = record m { spent = if bumps_token m.kind m.entries then one_spent_more m.spent else m.spent } in
       of_told O T A m (Call.Bump party guard) done held_guard (id_of party) guard _
@@ -180,26 +180,26 @@ module _ {O T A : Type 0} (meaning : O → Operation T A) (m : Machine T) where
       (λ mode. only_if (bumps_token m.kind m.entries) (Release mode ∷ Acquire mode ∷ [])) meets.found
       (bumped party guard e (out_of m held_guard (id_of party) guard e meets)))
 
-  of_upgrade : (form : Form) (party : PartyId) (guard : ℕ) → Has O T A m (Call.Upgrade form party guard) (step meaning m (Call.Upgrade form party guard))
+  of_upgrade : (form : Form) (party : PartyId) (guard : ℕ) → HasEffect O T A m (Call.Upgrade form party guard) (step meaning m (Call.Upgrade form party guard))
   of_upgrade form party guard =
       let call : Call O = Call.Upgrade form party guard in
       of_told_in_form O T A m call form done upgradable_guard (id_of party) guard _
       (λ e meets.
       let mode = upgradable_is e.mode meets.in_mode in
-      of_both (λ turn. Has O T A m call (told_in_form form done turn)) (may_become (held_bag m.entries) Exclusive) _ _
+      of_both (λ turn. HasEffect O T A m call (told_in_form form done turn)) (may_become (held_bag m.entries) Exclusive) _ _
       (λ sole. subst (λ (x : Mode). Effect {A = A} m call Reply.Done (Change x Exclusive ∷ []) (moved m guard Exclusive)) mode
       (moves guard e Exclusive (out_of m upgradable_guard (id_of party) guard e meets) (rwlock_is m.kind meets.on_kind)
       (subst (λ (x : Mode). IsTrue (is_move x Exclusive)) (sym mode) refl) sole))
       (λ beside. none_kept O T A m call form done))
 
-  of_downgrade : (party : PartyId) (guard : ℕ) → Has O T A m (Call.Downgrade party guard) (step meaning m (Call.Downgrade party guard))
+  of_downgrade : (party : PartyId) (guard : ℕ) → HasEffect O T A m (Call.Downgrade party guard) (step meaning m (Call.Downgrade party guard))
   of_downgrade party guard =
       of_told O T A m (Call.Downgrade party guard) done unshared_guard (id_of party) guard _
       (λ e meets. by_found O T A m (Call.Downgrade party guard) guard e (moved m guard Shared) (λ mode. Change mode Shared ∷ []) meets.found
       (moves guard e Shared (out_of m unshared_guard (id_of party) guard e meets) (rwlock_is m.kind meets.on_kind) (shared_move e.mode meets.in_mode) refl))
 
   of_downgrade_to_upgradable : (party : PartyId) (guard : ℕ)
-      → Has O T A m (Call.DowngradeToUpgradable party guard) (step meaning m (Call.DowngradeToUpgradable party guard))
+      → HasEffect O T A m (Call.DowngradeToUpgradable party guard) (step meaning m (Call.DowngradeToUpgradable party guard))
   of_downgrade_to_upgradable party guard =
       let call : Call O = Call.DowngradeToUpgradable party guard in
       of_told O T A m call done exclusive_guard (id_of party) guard _
@@ -210,38 +210,38 @@ module _ {O T A : Type 0} (meaning : O → Operation T A) (m : Machine T) where
       (subst (λ (x : Mode). IsTrue (is_move x Upgradable)) (sym mode) refl) refl))
 
   of_with_upgraded : (form : Form) (party : PartyId) (guard : ℕ) (op : O)
-      → Has O T A m (Call.WithUpgraded form party guard op) (step meaning m (Call.WithUpgraded form party guard op))
+      → HasEffect O T A m (Call.WithUpgraded form party guard op) (step meaning m (Call.WithUpgraded form party guard op))
   of_with_upgraded form party guard op =
       let call : Call O = Call.WithUpgraded form party guard op in
       of_told_in_form O T A m call form Reply.Answer upgradable_guard (id_of party) guard _
       (λ e meets.
-      of_both (λ turn. Has O T A m call (told_in_form form Reply.Answer turn)) ((meaning op).fits m.value) _ _
-      (λ fits. of_both (λ turn. Has O T A m call (told_in_form form Reply.Answer turn)) (may_become (held_bag m.entries) Exclusive) _ _
+      of_both (λ turn. HasEffect O T A m call (told_in_form form Reply.Answer turn)) ((meaning op).fits m.value) _ _
+      (λ fits. of_both (λ turn. HasEffect O T A m call (told_in_form form Reply.Answer turn)) (may_become (held_bag m.entries) Exclusive) _ _
       (λ sole. written_upgraded guard e ((meaning op).applied m.value) ((meaning op).after m.value) (out_of m upgradable_guard (id_of party) guard e meets)
       (rwlock_is m.kind meets.on_kind) (upgradable_is e.mode meets.in_mode) sole)
       (λ beside. none_kept O T A m call form Reply.Answer))
       (λ unfit. kept refl))
 
-  of_get : (party : PartyId) (guard : ℕ) (op : O) → Has O T A m (Call.Get party guard op) (step meaning m (Call.Get party guard op))
+  of_get : (party : PartyId) (guard : ℕ) (op : O) → HasEffect O T A m (Call.Get party guard op) (step meaning m (Call.Get party guard op))
   of_get party guard op =
       of_told O T A m (Call.Get party guard op) Reply.Answer held_guard (id_of party) guard _
-      (λ e meets. of_both (λ turn. Has O T A m (Call.Get party guard op) (told Reply.Answer turn)) ((meaning op).fits m.value) _ _ (λ fits. kept refl) (λ unfit. kept refl))
+      (λ e meets. of_both (λ turn. HasEffect O T A m (Call.Get party guard op) (told Reply.Answer turn)) ((meaning op).fits m.value) _ _ (λ fits. kept refl) (λ unfit. kept refl))
 
-  of_change : (party : PartyId) (guard : ℕ) (op : O) → Has O T A m (Call.Change party guard op) (step meaning m (Call.Change party guard op))
+  of_change : (party : PartyId) (guard : ℕ) (op : O) → HasEffect O T A m (Call.Change party guard op) (step meaning m (Call.Change party guard op))
   of_change party guard op =
       of_told O T A m (Call.Change party guard op) Reply.Answer writing_guard (id_of party) guard _
-      (λ e meets. of_both (λ turn. Has O T A m (Call.Change party guard op) (told Reply.Answer turn)) ((meaning op).fits m.value) _ _
+      (λ e meets. of_both (λ turn. HasEffect O T A m (Call.Change party guard op) (told Reply.Answer turn)) ((meaning op).fits m.value) _ _
       (λ fits. written guard e ((meaning op).applied m.value) ((meaning op).after m.value) (out_of m writing_guard (id_of party) guard e meets)
       (not-true (is_reentrant m.kind) meets.on_kind) (exclusive_is e.mode meets.in_mode))
       (λ unfit. kept refl))
 
-  of_is_locked_exclusive : Has O T A m Call.IsLockedExclusive (step meaning m Call.IsLockedExclusive)
+  of_is_locked_exclusive : HasEffect O T A m Call.IsLockedExclusive (step meaning m Call.IsLockedExclusive)
   of_is_locked_exclusive =
-      of_both (λ turn. Has O T A m Call.IsLockedExclusive (told Reply.Bool turn)) (is_rwlock m.kind) _ _ (λ has. kept refl) (λ lacks. kept refl)
+      of_both (λ turn. HasEffect O T A m Call.IsLockedExclusive (told Reply.Bool turn)) (is_rwlock m.kind) _ _ (λ has. kept refl) (λ lacks. kept refl)
 
-  of_is_owned_by : (party : PartyId) → Has O T A m (Call.IsOwnedBy party) (step meaning m (Call.IsOwnedBy party))
+  of_is_owned_by : (party : PartyId) → HasEffect O T A m (Call.IsOwnedBy party) (step meaning m (Call.IsOwnedBy party))
   of_is_owned_by party =
-      of_both (λ turn. Has O T A m (Call.IsOwnedBy party) (told Reply.Bool turn)) (is_reentrant m.kind) _ _ (λ has. kept refl) (λ lacks. kept refl)
+      of_both (λ turn. HasEffect O T A m (Call.IsOwnedBy party) (told Reply.Bool turn)) (is_reentrant m.kind) _ _ (λ has. kept refl) (λ lacks. kept refl)
 
   -- what each call does is one of the effects
   pub effect : (call : Call O) → Effect m call (step meaning m call).reply (token_steps meaning m call) (step meaning m call).machine

@@ -2,6 +2,7 @@
 use Rattle.std.proofs.Common.{◌≡◌, ℕ, ◌≤◌, Bool, true, false, ◌&&◌, ◌==◌, nat_lt, if◌then◌else◌, List, [], ◌∷◌, ◌++◌, Some, IsTrue, refl, ap, sym, ◌∙◌, subst, arith, eq-eqb, lt-ltb}
 use Rattle.std.proofs.lemmas.Bool.{and_from, and_right, ne_eqb}
 use Rattle.lock_base.specs.declared.machine.bag.Bag.{Bag}
+use Rattle.lock_base.specs.declared.machine.call.Call.{Call}
 use Rattle.lock_base.specs.declared.machine.reply.Reply.{Reply}
 use Rattle.lock_base.specs.declared.raw.fault.Fault.TheVariants as fault
 use Rattle.lock_base.specs.Operation.{Operation}
@@ -115,9 +116,12 @@ module _ {T : Type 0} (m : Machine T) (party guard : ℕ) (sound : IsSound m) wh
       ∙ ap (λ (es : List (ℕ × Entry)). give tt (record next { entries = es })) (update-back guard e m.entries meets.found meets.held)
 
 module _ {O T A : Type 0} (meaning : O → Operation T A) where
-  pub parked_is_resumed : ParkedIsResumed meaning
+  -- whichever call parked it
+  pub parked_is_resumed : ParkedIsResumed meaning Call.Park
   parked_is_resumed m party guard sound answered =
       let p = parked_turn m (id_of party) guard sound {A = A} answered in
-      let after : Machine T = (park m (id_of party) guard).machine in
       subst (λ (next : Machine T). told (done {A = A}) (resume next (id_of party) guard) ≡ record { reply = Reply.Done; machine = record m { spent = next.spent } }) (sym p.machine_is)
       (ap (λ (turn : Turn (Unit {0}) T). told (done {A = A}) turn) (resumed_turn m (id_of party) guard sound p.entry p.meets))
+
+  pub fairly_parked_is_resumed : ParkedIsResumed meaning Call.ParkFair
+  fairly_parked_is_resumed = parked_is_resumed

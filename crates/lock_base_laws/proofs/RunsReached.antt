@@ -1,5 +1,5 @@
 -- Each call keeps a machine sound, so every run does.
-use Rattle.std.proofs.Common.{◌≡◌, ℕ, ◌+◌, true, false, List, [], ◌∷◌, ◌++◌, length, Some, IsTrue, refl, ap, sym, subst, arith, append-nil}
+use Rattle.std.proofs.Common.{◌≡◌, ◌∙◌, ℕ, ◌+◌, true, false, List, [], ◌∷◌, ◌++◌, length, Some, IsTrue, refl, ap, sym, subst, arith, append-nil}
 use Rattle.lock_base.specs.declared.machine.mode.Mode.{Mode}
 use Rattle.lock_base.specs.declared.machine.mode_step.ModeStep.{ModeStep}
 use Rattle.lock_base.specs.declared.machine.bag.Bag.{Bag}
@@ -16,7 +16,7 @@ use Rattle.lock_base.specs.Calls.{issued}
 use Rattle.lock_base.specs.Legal.{AreLegallyHeld, AreNumbered}
 use Rattle.lock_base.specs.Steps.{step, after_all}
 use Rattle.lock_base.proofs.ModeLemmas.{compatible_changed, compatible_empty}
-use Rattle.lock_base_laws.specs.Sound.{IsLimitOf, IsModeOf, HaveModesOf, IsSound, RunsAreSound}
+use Rattle.lock_base_laws.specs.Sound.{IsLimitOf, IsModeOf, HaveModesOf, IsSound, RunsAreSound, KeepsLimits, RunsKeepLimits}
 use Rattle.lock_base_laws.proofs.Splices.{Splice, splice, length-middle, numbered_removed, numbered_changed, numbered_issued, have_modes_removed, have_modes_added}
 use Rattle.lock_base_laws.proofs.Held.{held_bag-more, more_than_rest, more_than_parked, resumed_is_more, moved_is_more, abandoned_holds_same, issued_is_more, legal_same, legal_fewer, legal_more}
 use Rattle.lock_base_laws.proofs.Effects.{Effect, effect, Admits}
@@ -138,6 +138,11 @@ module _ {T : Type 0} (m : Machine T) (sound : IsSound m) where
 pub out_mode : {T : Type 0} (m : Machine T) (guard : ℕ) (e : Entry) → IsSound m → find guard m.entries ≡ Some e → IsModeOf m.kind e.mode
 out_mode m guard e sound found = (whole_modes m sound guard e (splice guard e m.entries found) m.spent).0
 
+-- no call changes the kind or a limit
+effect_limits : {O T A : Type 0} {m after : Machine T} {call : Call O} {reply : Reply A} {steps : List ModeStep} → Effect m call reply steps after → KeepsLimits m after
+effect_limits (Effect.kept unnumbered) = record { same_kind = refl; same_places = refl; same_limit = refl }
+effect_limits other = record { same_kind = refl; same_places = refl; same_limit = refl }
+
 -- nothing is out of a new machine
 start_legal : (kind : Kind) (limit : ℕ) → AreLegallyHeld (is_reentrant kind) limit []
 start_legal Mutex limit = compatible_empty limit
@@ -151,6 +156,20 @@ start_sound kind value places limit lawful =
 module _ {O T A : Type 0} (meaning : O → Operation T A) where
   pub step_sound : (m : Machine T) (call : Call O) → IsSound m → IsSound (step meaning m call).machine
   step_sound m call sound = effect_sound m sound (effect meaning m call)
+
+  pub step_limits : (m : Machine T) (call : Call O) → KeepsLimits m (step meaning m call).machine
+  step_limits m call = effect_limits (effect meaning m call)
+
+  pub runs_limits : RunsKeepLimits meaning
+  runs_limits m [] = record { same_kind = refl; same_places = refl; same_limit = refl }
+  runs_limits m (call ∷ calls) =
+      let one = step_limits m call in
+      let rest = runs_limits (step meaning m call).machine calls in
+      record {
+        same_kind = rest.same_kind ∙ one.same_kind;
+        same_places = rest.same_places ∙ one.same_places;
+        same_limit = rest.same_limit ∙ one.same_limit;
+      }
 
   run_sound : (m : Machine T) (calls : List (Call O)) → IsSound m → IsSound (after_all meaning m calls)
   run_sound m [] sound = sound

@@ -23,7 +23,7 @@ use Rattle.lock_base_laws.specs.TokenSteps.{tokens_of, tokens_out, token_limit, 
 use Rattle.lock_base_laws.proofs.Splices.{splice}
 use Rattle.lock_base_laws.proofs.Held.{HasOneMore, held_bag-more, held_count-more, more_than_rest, more_than_parked, resumed_is_more, moved_is_more, abandoned_holds_same, issued_is_more}
 use Rattle.lock_base_laws.proofs.Effects.{Effect, effect}
-use Rattle.lock_base_laws.proofs.RunsReached.{out_mode, start_sound, step_sound}
+use Rattle.lock_base_laws.proofs.RunsReached.{out_mode, start_sound, step_sound, step_limits}
 use Rattle.lock_base_laws.proofs.TokenLevels.{acquire_run, release_run, bump_run, change_run, upgraded_run, level_token, one_level_more, level_taken, level_given_back, level_bumped}
 
 pub reentrant_mode : (kind : Kind) (mode : Mode) → IsModeOf kind mode → IsTrue (is_reentrant kind) → mode ≡ Exclusive
@@ -133,14 +133,6 @@ module _ {T : Type 0} (m : Machine T) (sound : IsSound m) where
     effect_run (Effect.written guard e answer value out kind mode) = refl
     effect_run (Effect.written_upgraded guard e answer value out kind mode sole) = with_upgraded_run guard e out.found out.held kind mode sole
 
-pub record HasSameLimit {T : Type 0} (old new : Machine T) : Type 0 where
-  pub same_kind : new.kind ≡ old.kind
-  pub same_limit : new.limit ≡ old.limit
-
-pub same_limit : {O T A : Type 0} {m after : Machine T} {call : Call O} {reply : Reply A} {steps : List ModeStep} → Effect m call reply steps after → HasSameLimit m after
-same_limit (Effect.kept unnumbered) = record { same_kind = refl; same_limit = refl }
-same_limit other = record { same_kind = refl; same_limit = refl }
-
 start_empty : (kind : Kind) → tokens_of kind [] ≡ empty_bag
 start_empty Mutex = refl
 start_empty RwLock = refl
@@ -151,7 +143,7 @@ module _ {O T A : Type 0} (meaning : O → Operation T A) where
   run_of_run m [] sound = refl
   run_of_run m (call ∷ calls) sound =
       let next : Machine T = (step meaning m call).machine in
-      let same = same_limit (effect meaning m call) in
+      let same = step_limits meaning m call in
       let rest = run_of_run next calls (step_sound meaning m call sound) in
       let rest_here = subst (λ (k : Kind). IsModeRun (token_limit k m.limit) (tokens_out next) (all_token_steps meaning next calls) (tokens_out (after_all meaning next calls)))
       same.same_kind (subst (λ (n : ℕ). IsModeRun (token_limit next.kind n) (tokens_out next) (all_token_steps meaning next calls) (tokens_out (after_all meaning next calls)))

@@ -34,7 +34,17 @@ pub record IsSound {T : Type 0} (m : Machine T) : Type 0 where
   pub limit : IsLimitOf m.kind m.limit
   pub modes : HaveModesOf m.kind m.entries
 
+-- the kind and the limits stay as the maker made them
+pub record KeepsLimits {T : Type 0} (old new : Machine T) : Type 0 where
+  pub same_kind : new.kind ≡ old.kind
+  pub same_places : new.places ≡ old.places
+  pub same_limit : new.limit ≡ old.limit
+
 -- each machine that a run reaches from a start is sound
 abbrev pub RunsAreSound : {O T A : Type 0} → (O → Operation T A) → Type 0
 RunsAreSound {O} {T} meaning =
     (kind : Kind) (value : T) (places limit : ℕ) (calls : List (Call O)) → IsLimitOf kind limit → IsSound (after_all meaning (start kind value places limit) calls)
+
+-- no run changes the kind or a limit
+abbrev pub RunsKeepLimits : {O T A : Type 0} → (O → Operation T A) → Type 0
+RunsKeepLimits {O} {T} meaning = (m : Machine T) (calls : List (Call O)) → KeepsLimits m (after_all meaning m calls)
