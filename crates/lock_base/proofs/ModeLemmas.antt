@@ -128,16 +128,16 @@ IsModeRun-append limit first middle last (step ∷ steps) more run rest =
 pub compatible_after : (limit : ℕ) (b : Bag) (step : ModeStep) → 0 < limit → AreCompatible limit b → Permits limit b step → AreCompatible limit (bag_after b step)
 compatible_after limit b (Acquire mode) positive c p = compatible_acquired limit b mode c p
 compatible_after limit b (Release mode) positive c p =
-    compatible_released limit (one_less b mode) mode (subst (λ (x : Bag). AreCompatible limit x) (sym (one_more-one_less b mode p)) c)
+    compatible_released limit (one_less b mode) mode (subst (AreCompatible limit) (sym (one_more-one_less b mode p)) c)
 compatible_after limit b (Change from to) positive c p =
     let whole = sym (one_more-one_less b from p.0) in
     compatible_changed limit (one_less b from) from to positive p.1 (subst (λ (x : Bag). IsTrue (may_become x to)) whole p.2)
-    (subst (λ (x : Bag). AreCompatible limit x) whole c)
+    (subst (AreCompatible limit) whole c)
 
 -- what a run of the modes leads to from a compatible bag is compatible
 pub compatible_after_run : (limit : ℕ) (before after : Bag) (steps : List ModeStep) → 0 < limit → AreCompatible limit before → IsModeRun limit before steps after
     → AreCompatible limit after
-compatible_after_run limit before after [] positive c run = subst (λ (b : Bag). AreCompatible limit b) run c
+compatible_after_run limit before after [] positive c run = subst (AreCompatible limit) run c
 compatible_after_run limit before after (step ∷ steps) positive c run =
     compatible_after_run limit (bag_after before step) after steps positive (compatible_after limit before step positive c run.0) run.1
 

@@ -10,16 +10,16 @@ use Rattle.lock_base.specs.Entries.{Entry, without, update, parked, resumed, in_
 use Rattle.lock_base.specs.Machine.{admitted}
 use Rattle.lock_base.specs.Legal.{AreOfParty, AreLegallyHeld}
 use Rattle.lock_base.proofs.ModeLemmas.{compatible_acquired, compatible_released}
-use Rattle.lock_base_laws.proofs.Splices.{Splice, held-append, bag_of-modes-middle}
+use Rattle.lock_base_laws.proofs.Splices.{EntryMap, Splice, held-append, bag_of-modes-middle}
 
 -- the one map has what the other has held, and this entry
-pub record HasOneMore (e : Entry) (more fewer : List (ℕ × Entry)) : Type 0 where
+pub record HasOneMore (e : Entry) (more fewer : EntryMap) : Type 0 where
   pub before : List Entry
   pub after : List Entry
   pub more_is : held_entries more ≡ before ++ e ∷ after
   pub fewer_is : held_entries fewer ≡ before ++ after
 
-pub held_bag-more : (e : Entry) (more fewer : List (ℕ × Entry)) → HasOneMore e more fewer → held_bag more ≡ one_more (held_bag fewer) e.mode
+pub held_bag-more : (e : Entry) (more fewer : EntryMap) → HasOneMore e more fewer → held_bag more ≡ one_more (held_bag fewer) e.mode
 held_bag-more e more fewer h =
     ap (λ (hs : List Entry). bag_of (modes_of_entries hs)) h.more_is
     ∙ bag_of-modes-middle h.before e h.after
@@ -28,39 +28,39 @@ held_bag-more e more fewer h =
 length-one_more : (hs : List Entry) (e : Entry) (ks : List Entry) → length (hs ++ e ∷ ks) ≡ length (hs ++ ks) + 1
 length-one_more hs e ks = simp length-append (omega arith)
 
-pub held_count-more : (e : Entry) (more fewer : List (ℕ × Entry)) → HasOneMore e more fewer → held_count more ≡ held_count fewer + 1
+pub held_count-more : (e : Entry) (more fewer : EntryMap) → HasOneMore e more fewer → held_count more ≡ held_count fewer + 1
 held_count-more e more fewer h =
-    ap (λ (hs : List Entry). length hs) h.more_is ∙ length-one_more h.before e h.after ∙ ap (λ (hs : List Entry). length hs + 1) (sym h.fewer_is)
+    ap length h.more_is ∙ length-one_more h.before e h.after ∙ ap (λ (hs : List Entry). length hs + 1) (sym h.fewer_is)
 
 -- an entry that is held, or is not, at its place
 
-held_here : (xs : List (ℕ × Entry)) (number : ℕ) (e : Entry) (ys : List (ℕ × Entry)) → IsTrue e.held
+held_here : (xs : EntryMap) (number : ℕ) (e : Entry) (ys : EntryMap) → IsTrue e.held
     → held_entries (xs ++ (number, e) ∷ ys) ≡ held_entries xs ++ e ∷ held_entries ys
 held_here xs number e ys held =
     held-append xs ((number, e) ∷ ys) ∙ ap (λ (b : Bool). held_entries xs ++ (if b then e ∷ held_entries ys else held_entries ys)) held
 
-held_past : (xs : List (ℕ × Entry)) (number : ℕ) (e : Entry) (ys : List (ℕ × Entry)) → e.held ≡ false
+held_past : (xs : EntryMap) (number : ℕ) (e : Entry) (ys : EntryMap) → e.held ≡ false
     → held_entries (xs ++ (number, e) ∷ ys) ≡ held_entries xs ++ held_entries ys
 held_past xs number e ys free =
     held-append xs ((number, e) ∷ ys) ∙ ap (λ (b : Bool). held_entries xs ++ (if b then e ∷ held_entries ys else held_entries ys)) free
 
-module _ (guard : ℕ) (e : Entry) (es : List (ℕ × Entry)) (s : Splice guard e es) where
+module _ (guard : ℕ) (e : Entry) (es : EntryMap) (s : Splice guard e es) where
   -- of two maps that have all but this guard alike, one may have it held, and the other parked or not at all
 
   whole_held : IsTrue e.held → held_entries es ≡ held_entries s.before ++ e ∷ held_entries s.after
-  whole_held held = ap (λ (xs : List (ℕ × Entry)). held_entries xs) s.whole ∙ held_here s.before guard e s.after held
+  whole_held held = ap held_entries s.whole ∙ held_here s.before guard e s.after held
 
   whole_parked : e.held ≡ false → held_entries es ≡ held_entries s.before ++ held_entries s.after
-  whole_parked free = ap (λ (xs : List (ℕ × Entry)). held_entries xs) s.whole ∙ held_past s.before guard e s.after free
+  whole_parked free = ap held_entries s.whole ∙ held_past s.before guard e s.after free
 
   rest_held : held_entries (without guard es) ≡ held_entries s.before ++ held_entries s.after
-  rest_held = ap (λ (xs : List (ℕ × Entry)). held_entries xs) s.removed ∙ held-append s.before s.after
+  rest_held = ap held_entries s.removed ∙ held-append s.before s.after
 
   updated_held : (change : Entry → Entry) → IsTrue (change e).held → held_entries (update guard change es) ≡ held_entries s.before ++ change e ∷ held_entries s.after
-  updated_held change held = ap (λ (xs : List (ℕ × Entry)). held_entries xs) (s.updated change) ∙ held_here s.before guard (change e) s.after held
+  updated_held change held = ap held_entries (s.updated change) ∙ held_here s.before guard (change e) s.after held
 
   updated_parked : (change : Entry → Entry) → (change e).held ≡ false → held_entries (update guard change es) ≡ held_entries s.before ++ held_entries s.after
-  updated_parked change free = ap (λ (xs : List (ℕ × Entry)). held_entries xs) (s.updated change) ∙ held_past s.before guard (change e) s.after free
+  updated_parked change free = ap held_entries (s.updated change) ∙ held_past s.before guard (change e) s.after free
 
   pub more_than_rest : IsTrue e.held → HasOneMore e es (without guard es)
   more_than_rest held = record { before = held_entries s.before; after = held_entries s.after; more_is = whole_held held; fewer_is = rest_held }
@@ -78,7 +78,7 @@ module _ (guard : ℕ) (e : Entry) (es : List (ℕ × Entry)) (s : Splice guard 
   pub abandoned_holds_same : e.held ≡ false → held_entries (without guard es) ≡ held_entries es
   abandoned_holds_same free = rest_held ∙ sym (whole_parked free)
 
-pub issued_is_more : (es : List (ℕ × Entry)) (number : ℕ) (e : Entry) → IsTrue e.held → HasOneMore e (es ++ (number, e) ∷ []) es
+pub issued_is_more : (es : EntryMap) (number : ℕ) (e : Entry) → IsTrue e.held → HasOneMore e (es ++ (number, e) ∷ []) es
 issued_is_more es number e held =
     record { before = held_entries es; after = []; more_is = held_here es number e [] held; fewer_is = sym (append-nil (held_entries es)) }
 
@@ -98,23 +98,23 @@ of_party_from party (x ∷ hs) h = let two = and_parts (x.party == party) (all_o
 
 -- what is held stays legal
 
-pub legal_same : (reentrant : Bool) (limit : ℕ) (es other : List (ℕ × Entry)) → held_entries other ≡ held_entries es → AreLegallyHeld reentrant limit es
+pub legal_same : (reentrant : Bool) (limit : ℕ) (es other : EntryMap) → held_entries other ≡ held_entries es → AreLegallyHeld reentrant limit es
     → AreLegallyHeld reentrant limit other
 legal_same true limit es other same h =
-    ((h.0.0, subst (λ (hs : List Entry). AreOfParty h.0.0 hs) (sym same) h.0.1), subst (λ (hs : List Entry). length hs ≤ limit) (sym same) h.1)
+    ((h.0.0, subst (AreOfParty h.0.0) (sym same) h.0.1), subst (λ (hs : List Entry). length hs ≤ limit) (sym same) h.1)
 legal_same false limit es other same h = subst (λ (hs : List Entry). AreCompatible limit (bag_of (modes_of_entries hs))) (sym same) h
 
-pub legal_fewer : (reentrant : Bool) (limit : ℕ) (e : Entry) (more fewer : List (ℕ × Entry)) → HasOneMore e more fewer → AreLegallyHeld reentrant limit more
+pub legal_fewer : (reentrant : Bool) (limit : ℕ) (e : Entry) (more fewer : EntryMap) → HasOneMore e more fewer → AreLegallyHeld reentrant limit more
     → AreLegallyHeld reentrant limit fewer
 legal_fewer true limit e more fewer one h =
     let party = h.0.0 in
-    let rest = of_party_removed party one.before e one.after (subst (λ (hs : List Entry). AreOfParty party hs) one.more_is h.0.1) in
+    let rest = of_party_removed party one.before e one.after (subst (AreOfParty party) one.more_is h.0.1) in
     let count = held_count-more e more fewer one in
-    ((party, subst (λ (hs : List Entry). AreOfParty party hs) (sym one.fewer_is) rest.1), omega (arith, h.1, count))
+    ((party, subst (AreOfParty party) (sym one.fewer_is) rest.1), omega (arith, h.1, count))
 legal_fewer false limit e more fewer one h =
-    compatible_released limit (held_bag fewer) e.mode (subst (λ (b : Bag). AreCompatible limit b) (held_bag-more e more fewer one) h)
+    compatible_released limit (held_bag fewer) e.mode (subst (AreCompatible limit) (held_bag-more e more fewer one) h)
 
-pub legal_more : (kind : Kind) (limit party : ℕ) (e : Entry) (more fewer : List (ℕ × Entry)) → HasOneMore e more fewer
+pub legal_more : (kind : Kind) (limit party : ℕ) (e : Entry) (more fewer : EntryMap) → HasOneMore e more fewer
     → (IsTrue (is_reentrant kind) → e.party ≡ party) → IsTrue (admitted kind limit fewer party e.mode) → AreLegallyHeld (is_reentrant kind) limit fewer
     → AreLegallyHeld (is_reentrant kind) limit more
 legal_more kind limit party e more fewer one own ok h = legal_if (is_reentrant kind) own ok h
@@ -126,7 +126,7 @@ legal_more kind limit party e more fewer one own ok h = legal_if (is_reentrant k
         let two = and_parts (all_of_party party (held_entries fewer)) (nat_lt (held_count fewer) limit) ok in
         let count = held_count-more e more fewer one in
         let below = ltb-true (held_count fewer) limit two.1 in
-        let all = subst (λ (hs : List Entry). AreOfParty party hs) one.fewer_is (of_party_from party (held_entries fewer) two.0) in
-        ((party, subst (λ (hs : List Entry). AreOfParty party hs) (sym one.more_is) (of_party_added party one.before e one.after (own refl) all)), omega (arith, count, below))
+        let all = subst (AreOfParty party) one.fewer_is (of_party_from party (held_entries fewer) two.0) in
+        ((party, subst (AreOfParty party) (sym one.more_is) (of_party_added party one.before e one.after (own refl) all)), omega (arith, count, below))
     legal_if false own ok h =
-        subst (λ (b : Bag). AreCompatible limit b) (sym (held_bag-more e more fewer one)) (compatible_acquired limit (held_bag fewer) e.mode h ok)
+        subst (AreCompatible limit) (sym (held_bag-more e more fewer one)) (compatible_acquired limit (held_bag fewer) e.mode h ok)

@@ -28,7 +28,7 @@ module _ {T : Type 0} (m : Machine T) (sound : IsSound m) where
       let one = issued_is_more m.entries (m.last + 1) e refl in
       let rest = append-nil m.entries in
       let more = length-middle m.entries (m.last + 1, e) [] in
-      let same = ap (λ (es : List (ℕ × Entry)). length es) rest in
+      let same = ap length rest in
       let within = sound.legal.room in
       let room = admits.room in
       record {
@@ -38,49 +38,49 @@ module _ {T : Type 0} (m : Machine T) (sound : IsSound m) where
           room = omega arith;
         };
         limit = sound.limit;
-        modes = have_modes_added m.kind m.entries (m.last + 1, e) [] admits.mode_of_kind (subst (λ (es : List (ℕ × Entry)). HaveModesOf m.kind es) (sym rest) sound.modes);
+        modes = have_modes_added m.kind m.entries (m.last + 1, e) [] admits.mode_of_kind (subst (HaveModesOf m.kind) (sym rest) sound.modes);
       }
 
   module _ (guard : ℕ) (e : Entry) (s : Splice guard e m.entries) (spent : ℕ) where
     whole_numbered : AreNumbered 0 m.last (s.before ++ (guard, e) ∷ s.after)
-    whole_numbered = subst (λ (es : List (ℕ × Entry)). AreNumbered 0 m.last es) s.whole sound.legal.numbered
+    whole_numbered = subst (AreNumbered 0 m.last) s.whole sound.legal.numbered
 
     whole_modes : IsModeOf m.kind e.mode × HaveModesOf m.kind (s.before ++ s.after)
-    whole_modes = have_modes_removed m.kind s.before (guard, e) s.after (subst (λ (es : List (ℕ × Entry)). HaveModesOf m.kind es) s.whole sound.modes)
+    whole_modes = have_modes_removed m.kind s.before (guard, e) s.after (subst (HaveModesOf m.kind) s.whole sound.modes)
 
     -- the machine without the guard, and with the guard changed, is sound where what is held is legal
     without_sound : AreLegallyHeld (is_reentrant m.kind) m.limit (without guard m.entries) → IsSound (record m { entries = without guard m.entries; spent = spent })
     without_sound held =
-        let whole = ap (λ (es : List (ℕ × Entry)). length es) s.whole in
-        let removed = ap (λ (es : List (ℕ × Entry)). length es) s.removed in
+        let whole = ap length s.whole in
+        let removed = ap length s.removed in
         let more = length-middle s.before (guard, e) s.after in
         let within = sound.legal.room in
         record {
           legal = record {
             held = held;
-            numbered = subst (λ (es : List (ℕ × Entry)). AreNumbered 0 m.last es) (sym s.removed) (numbered_removed 0 m.last s.before (guard, e) s.after whole_numbered);
+            numbered = subst (AreNumbered 0 m.last) (sym s.removed) (numbered_removed 0 m.last s.before (guard, e) s.after whole_numbered);
             room = omega arith;
           };
           limit = sound.limit;
-          modes = subst (λ (es : List (ℕ × Entry)). HaveModesOf m.kind es) (sym s.removed) whole_modes.1;
+          modes = subst (HaveModesOf m.kind) (sym s.removed) whole_modes.1;
         }
 
     update_sound : (change : Entry → Entry) → IsModeOf m.kind (change e).mode → AreLegallyHeld (is_reentrant m.kind) m.limit (update guard change m.entries)
         → IsSound (record m { entries = update guard change m.entries; spent = spent })
     update_sound change mode held =
-        let whole = ap (λ (es : List (ℕ × Entry)). length es) s.whole in
-        let updated = ap (λ (es : List (ℕ × Entry)). length es) (s.updated change) in
+        let whole = ap length s.whole in
+        let updated = ap length (s.updated change) in
         let more = length-middle s.before (guard, e) s.after in
         let more_too = length-middle s.before (guard, change e) s.after in
         let within = sound.legal.room in
         record {
           legal = record {
             held = held;
-            numbered = subst (λ (es : List (ℕ × Entry)). AreNumbered 0 m.last es) (sym (s.updated change)) (numbered_changed 0 m.last guard s.before e (change e) s.after whole_numbered);
+            numbered = subst (AreNumbered 0 m.last) (sym (s.updated change)) (numbered_changed 0 m.last guard s.before e (change e) s.after whole_numbered);
             room = omega arith;
           };
           limit = sound.limit;
-          modes = subst (λ (es : List (ℕ × Entry)). HaveModesOf m.kind es) (sym (s.updated change)) (have_modes_added m.kind s.before (guard, change e) s.after mode whole_modes.1);
+          modes = subst (HaveModesOf m.kind) (sym (s.updated change)) (have_modes_added m.kind s.before (guard, change e) s.after mode whole_modes.1);
         }
 
     unlocked_sound : IsTrue e.held → IsSound (record m { entries = without guard m.entries; spent = spent })
@@ -111,10 +111,10 @@ module _ {T : Type 0} (m : Machine T) (sound : IsSound m) where
         held_bag-more (in_mode to e) (update guard (in_mode to) m.entries) (without guard m.entries) (moved_is_more guard e m.entries s to held) in
         let legal = subst (λ (k : Kind). AreLegallyHeld (is_reentrant k) m.limit m.entries) kind sound.legal.held in
         let changed = compatible_changed m.limit rest e.mode to (subst (λ (k : Kind). IsLimitOf k m.limit) kind sound.limit) move
-        (subst (λ (b : Bag). IsTrue (may_become b to)) before sole) (subst (λ (b : Bag). AreCompatible m.limit b) before legal) in
+        (subst (λ (b : Bag). IsTrue (may_become b to)) before sole) (subst (AreCompatible m.limit) before legal) in
         update_sound (in_mode to) (subst (λ (k : Kind). IsModeOf k to) (sym kind) tt)
         (subst (λ (k : Kind). AreLegallyHeld (is_reentrant k) m.limit (update guard (in_mode to) m.entries)) (sym kind)
-        (subst (λ (b : Bag). AreCompatible m.limit b) (sym after) changed))
+        (subst (AreCompatible m.limit) (sym after) changed))
 
   -- only the entries, their numbers, the kind and the limits say whether a machine is sound
   rest_sound : (value : T) (spent : ℕ) → IsSound (record m { value = value; spent = spent })

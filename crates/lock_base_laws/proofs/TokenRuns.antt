@@ -20,7 +20,7 @@ use Rattle.lock_base.specs.Steps.{step, after_all}
 use Rattle.lock_base.proofs.ModeLemmas.{admits-released, IsModeRun-append}
 use Rattle.lock_base_laws.specs.Sound.{IsModeOf, IsSound}
 use Rattle.lock_base_laws.specs.TokenSteps.{tokens_of, tokens_out, token_limit, only_if, token_steps, all_token_steps, TokensAreThoseHeld}
-use Rattle.lock_base_laws.proofs.Splices.{splice}
+use Rattle.lock_base_laws.proofs.Splices.{EntryMap, splice}
 use Rattle.lock_base_laws.proofs.Held.{HasOneMore, held_bag-more, held_count-more, more_than_rest, more_than_parked, resumed_is_more, moved_is_more, abandoned_holds_same, issued_is_more}
 use Rattle.lock_base_laws.proofs.Effects.{Effect, effect}
 use Rattle.lock_base_laws.proofs.RunsReached.{out_mode, start_sound, step_sound, step_limits}
@@ -32,10 +32,10 @@ reentrant_mode RwLock mode h r = cc
 reentrant_mode Reentrant mode h r = h
 
 -- the tokens, by whether the machine is reentrant
-abbrev tokens_in : Bool → List (ℕ × Entry) → Bag
+abbrev tokens_in : Bool → EntryMap → Bag
 tokens_in reentrant es = if reentrant then level_token (held_count es) else held_bag es
 
-module _ (limit : ℕ) (e : Entry) (more fewer : List (ℕ × Entry)) (one : HasOneMore e more fewer) where
+module _ (limit : ℕ) (e : Entry) (more fewer : EntryMap) (one : HasOneMore e more fewer) where
   is_held : (held_count more == 0) ≡ false
   is_held = one_level_more (held_count fewer) (held_count more) (held_count-more e more fewer one)
 
@@ -71,9 +71,9 @@ module _ (limit : ℕ) (e : Entry) (more fewer : List (ℕ × Entry)) (one : Has
   bumped_run false mode legal =
       let bag = held_bag-more e more fewer one in
       subst (λ (b : Bag). IsModeRun limit b (Release e.mode ∷ Acquire e.mode ∷ []) b) (sym bag)
-      (bump_run limit (held_bag fewer) e.mode (admits-released limit (held_bag fewer) e.mode (subst (λ (b : Bag). AreCompatible limit b) bag legal)))
+      (bump_run limit (held_bag fewer) e.mode (admits-released limit (held_bag fewer) e.mode (subst (AreCompatible limit) bag legal)))
 
-same_tokens : (reentrant : Bool) (es other : List (ℕ × Entry)) → held_entries other ≡ held_entries es → tokens_in reentrant es ≡ tokens_in reentrant other
+same_tokens : (reentrant : Bool) (es other : EntryMap) → held_entries other ≡ held_entries es → tokens_in reentrant es ≡ tokens_in reentrant other
 same_tokens true es other same = ap (λ (hs : List Entry). level_token (length hs)) (sym same)
 same_tokens false es other same = ap (λ (hs : List Entry). bag_of (modes_of_entries hs)) (sym same)
 
@@ -105,7 +105,7 @@ module _ {T : Type 0} (m : Machine T) (sound : IsSound m) where
     with_upgraded_run held kind mode sole =
         let left : Bag = held_bag (without guard m.entries) in
         let before : held_bag m.entries ≡ one_more left Upgradable =
-        held_bag-more e m.entries (without guard m.entries) (rest held) ∙ ap (λ (x : Mode). one_more left x) mode in
+        held_bag-more e m.entries (without guard m.entries) (rest held) ∙ ap (one_more left) mode in
         let run = upgraded_run m.limit left (subst (λ (b : Bag). IsTrue (may_become b Exclusive)) before sole) in
         subst (λ (k : Kind). IsModeRun (token_limit k m.limit) (tokens_of k m.entries) (Change Upgradable Exclusive ∷ Change Exclusive Upgradable ∷ []) (tokens_of k m.entries))
         (sym kind) (subst (λ (b : Bag). IsModeRun m.limit b (Change Upgradable Exclusive ∷ Change Exclusive Upgradable ∷ []) b) (sym before) run)

@@ -112,6 +112,6 @@ on_guard-met m demand party guard act e meets =
     refusal-none (is_reentrant m.kind && not (e.party == party)) (demand.held && not e.held) (not demand.held && e.held) (not (demand.in_mode e.mode))
     fault.Foreign fault.Parked fault.NotParked fault.WrongMode
     (record { first = passes_own (is_reentrant m.kind) e.party party meets.own; second = held.first; third = held.second; fourth = not_from_true (demand.in_mode e.mode) meets.in_mode }) in
-    let found : found_refusal m.kind demand party (find guard m.entries) ≡ None = ap (λ (o : Option Entry). found_refusal m.kind demand party o) meets.found ∙ none in
+    let found : found_refusal m.kind demand party (find guard m.entries) ≡ None = ap (found_refusal m.kind demand party) meets.found ∙ none in
     let passed : guard_refusal m demand party guard ≡ None = kind_passes (demand.on_kind m.kind) (found_refusal m.kind demand party (find guard m.entries)) meets.on_kind found in
     ap (λ (o : Option Fault). unless o m (at_entry (find guard m.entries) m act)) passed ∙ ap (λ (o : Option Entry). at_entry o m act) meets.found

@@ -17,7 +17,7 @@ use Rattle.lock_base.specs.Steps.{step}
 use Rattle.lock_base.proofs.ModeLemmas.{count-one_more, tokens-one_more, count-le-tokens}
 use Rattle.lock_base_laws.specs.Sound.{IsSound}
 use Rattle.lock_base_laws.specs.Values.{is_write, IsReading, raises, OnlyWritesChangeValue, ReadersSeeOneValue}
-use Rattle.lock_base_laws.proofs.Splices.{splice}
+use Rattle.lock_base_laws.proofs.Splices.{EntryMap, splice}
 use Rattle.lock_base_laws.proofs.Held.{held_bag-more, more_than_rest}
 use Rattle.lock_base_laws.proofs.Effects.{Effect, effect}
 use Rattle.lock_base_laws.proofs.RunsReached.{step_sound}
@@ -29,7 +29,7 @@ value_kept (Effect.written_upgraded guard e answer value out kind mode sole) rea
 value_kept other reads = refl
 
 -- a held guard counts in the bag
-held_is_counted : (guard : ℕ) (e : Entry) (es : List (ℕ × Entry)) → find guard es ≡ Some e → IsTrue e.held → 0 < count_of (held_bag es) e.mode
+held_is_counted : (guard : ℕ) (e : Entry) (es : EntryMap) → find guard es ≡ Some e → IsTrue e.held → 0 < count_of (held_bag es) e.mode
 held_is_counted guard e es found held =
     subst (λ (b : Bag). 0 < count_of b e.mode) (sym (held_bag-more e es (without guard es) (more_than_rest guard e es (splice guard e es found) held)))
     (count-one_more (held_bag (without guard es)) e.mode)
@@ -39,18 +39,18 @@ reader_is_counted b Shared reads out = omega arith
 reader_is_counted b Exclusive reads out = cc
 reader_is_counted b Upgradable reads out = omega arith
 
-find_past : (x : ℕ × Entry) (guard other : ℕ) (es : List (ℕ × Entry)) (here : Bool) → (x.0 == other) ≡ here → (other ≡ guard → ⊥) → find guard (without other es) ≡ find guard es
+find_past : (x : ℕ × Entry) (guard other : ℕ) (es : EntryMap) (here : Bool) → (x.0 == other) ≡ here → (other ≡ guard → ⊥) → find guard (without other es) ≡ find guard es
     → find guard (if here then es else x ∷ without other es) ≡ find guard (x ∷ es)
 find_past x guard other es true at differs rest =
     let here = eqb-true x.0 other at in
     sym (ap (λ (b : Bool). if b then Some x.1 else find guard es) (ne_eqb x.0 guard (λ same. differs (sym here ∙ same))))
 find_past x guard other es false at differs rest = ap (λ (o : Option Entry). if x.0 == guard then Some x.1 else o) rest
 
-find-without : (guard other : ℕ) (es : List (ℕ × Entry)) → (other ≡ guard → ⊥) → find guard (without other es) ≡ find guard es
+find-without : (guard other : ℕ) (es : EntryMap) → (other ≡ guard → ⊥) → find guard (without other es) ≡ find guard es
 find-without guard other [] differs = refl
 find-without guard other (x ∷ es) differs = find_past x guard other es (x.0 == other) refl differs (find-without guard other es differs)
 
-compatible_if : (reentrant : Bool) (limit : ℕ) (es : List (ℕ × Entry)) → reentrant ≡ false → AreLegallyHeld reentrant limit es → AreCompatible limit (held_bag es)
+compatible_if : (reentrant : Bool) (limit : ℕ) (es : EntryMap) → reentrant ≡ false → AreLegallyHeld reentrant limit es → AreCompatible limit (held_bag es)
 compatible_if true limit es plain h = cc
 compatible_if false limit es plain h = h
 
@@ -74,7 +74,7 @@ module _ {T : Type 0} (m : Machine T) (guard : ℕ) (reading : IsReading m guard
       let beside : 0 < count_of rest reading.entry.mode =
       held_is_counted guard reading.entry (without writer m.entries) (find-without guard writer m.entries differs ∙ reading.found) reading.held in
       let within = count-le-tokens rest reading.entry.mode in
-      let more : tokens (held_bag m.entries) ≡ tokens rest + 1 = ap (λ (b : Bag). tokens b) bag ∙ tokens-one_more rest e.mode in
+      let more : tokens (held_bag m.entries) ≡ tokens rest + 1 = ap tokens bag ∙ tokens-one_more rest e.mode in
       let one : tokens (held_bag m.entries) ≡ 1 = eqb-true (tokens (held_bag m.entries)) 1 sole in
       omega arith
 
