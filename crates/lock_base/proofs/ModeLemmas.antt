@@ -31,7 +31,8 @@ upgradable_admitted limit b h =
 
 -- a permitted step keeps a bag compatible. The limit is positive, since a downgrade makes a reader
 
-pub compatible_acquired : (limit : ℕ) (b : Bag) (mode : Mode) → AreCompatible limit b → IsTrue (admits limit b mode) → AreCompatible limit (one_more b mode)
+pub compatible_acquired : (limit : ℕ) (b : Bag) (mode : Mode) → AreCompatible limit b → IsTrue (admits limit b mode)
+    → AreCompatible limit (one_more b mode)
 compatible_acquired limit b Shared c p =
     let a = shared_admitted limit b p in record { alone = λ h. omega arith; one_upgradable = omega arith; within = omega arith }
 compatible_acquired limit b Exclusive c p =
@@ -44,13 +45,18 @@ compatible_released limit b Shared c = record { alone = λ h. omega arith; one_u
 compatible_released limit b Exclusive c = record { alone = λ h. omega arith; one_upgradable = omega arith; within = omega arith }
 compatible_released limit b Upgradable c = record { alone = λ h. omega arith; one_upgradable = omega arith; within = omega arith }
 
-pub compatible_changed : (limit : ℕ) (b : Bag) (from to : Mode) → 0 < limit → IsTrue (is_move from to) → IsTrue (may_become (one_more b from) to)
+pub compatible_changed : (limit : ℕ) (b : Bag) (from to : Mode) → 0 < limit → IsTrue (is_move from to)
+    → IsTrue (may_become (one_more b from) to)
     → AreCompatible limit (one_more b from) → AreCompatible limit (one_more b to)
 compatible_changed limit b Upgradable Exclusive positive move sole c =
-    let one = eqb-true (tokens (one_more b Upgradable)) 1 sole in record { alone = λ h. omega arith; one_upgradable = omega arith; within = omega arith }
-compatible_changed limit b Exclusive Shared positive move sole c = record { alone = λ h. omega arith; one_upgradable = omega arith; within = omega arith }
-compatible_changed limit b Exclusive Upgradable positive move sole c = record { alone = λ h. omega arith; one_upgradable = omega arith; within = omega arith }
-compatible_changed limit b Upgradable Shared positive move sole c = record { alone = λ h. omega arith; one_upgradable = omega arith; within = omega arith }
+    let one = eqb-true (tokens (one_more b Upgradable)) 1 sole in
+    record { alone = λ h. omega arith; one_upgradable = omega arith; within = omega arith }
+compatible_changed limit b Exclusive Shared positive move sole c =
+    record { alone = λ h. omega arith; one_upgradable = omega arith; within = omega arith }
+compatible_changed limit b Exclusive Upgradable positive move sole c =
+    record { alone = λ h. omega arith; one_upgradable = omega arith; within = omega arith }
+compatible_changed limit b Upgradable Shared positive move sole c =
+    record { alone = λ h. omega arith; one_upgradable = omega arith; within = omega arith }
 compatible_changed limit b Upgradable Upgradable positive move sole c = absurd (false≢true move)
 compatible_changed limit b Exclusive Exclusive positive move sole c = absurd (false≢true move)
 compatible_changed limit b Shared Shared positive move sole c = absurd (false≢true move)
@@ -60,7 +66,8 @@ compatible_changed limit b Shared Upgradable positive move sole c = absurd (fals
 -- one of a mode that was out beside the others is admitted again beside them
 pub admits-released : (limit : ℕ) (b : Bag) (mode : Mode) → AreCompatible limit (one_more b mode) → IsTrue (admits limit b mode)
 admits-released limit b Shared c =
-    and_from (b.exclusive == 0) (nat_lt (readers b) limit) (eq-eqb b.exclusive 0 (grind (arith, c.alone))) (lt-ltb (readers b) limit (omega arith))
+    and_from (b.exclusive == 0) (nat_lt (readers b) limit) (eq-eqb b.exclusive 0 (grind (arith, c.alone)))
+    (lt-ltb (readers b) limit (omega arith))
 admits-released limit b Exclusive c = eq-eqb (tokens b) 0 (let one = c.alone (omega arith) in omega arith)
 admits-released limit b Upgradable c =
     and_from (b.exclusive == 0) ((b.upgradable == 0) && nat_lt (readers b) limit) (eq-eqb b.exclusive 0 (grind (arith, c.alone)))
@@ -118,14 +125,16 @@ bag_of-middle (m ∷ ms) mode ns = ap (λ (b : Bag). one_more b m) (bag_of-middl
 -- runs of the modes
 
 -- a run, and a run from where it ends, make one
-pub IsModeRun-append : (limit : ℕ) (first middle last : Bag) (steps more : List ModeStep) → IsModeRun limit first steps middle → IsModeRun limit middle more last
+pub IsModeRun-append : (limit : ℕ) (first middle last : Bag) (steps more : List ModeStep) → IsModeRun limit first steps middle
+    → IsModeRun limit middle more last
     → IsModeRun limit first (steps ++ more) last
 IsModeRun-append limit first middle last [] more run rest = subst (λ (b : Bag). IsModeRun limit b more last) (sym run) rest
 IsModeRun-append limit first middle last (step ∷ steps) more run rest =
     (run.0, IsModeRun-append limit (bag_after first step) middle last steps more run.1 rest)
 
 -- a step that may be made keeps the bag compatible
-pub compatible_after : (limit : ℕ) (b : Bag) (step : ModeStep) → 0 < limit → AreCompatible limit b → Permits limit b step → AreCompatible limit (bag_after b step)
+pub compatible_after : (limit : ℕ) (b : Bag) (step : ModeStep) → 0 < limit → AreCompatible limit b → Permits limit b step
+    → AreCompatible limit (bag_after b step)
 compatible_after limit b (Acquire mode) positive c p = compatible_acquired limit b mode c p
 compatible_after limit b (Release mode) positive c p =
     compatible_released limit (one_less b mode) mode (subst (AreCompatible limit) (sym (one_more-one_less b mode p)) c)
@@ -135,7 +144,8 @@ compatible_after limit b (Change from to) positive c p =
     (subst (AreCompatible limit) whole c)
 
 -- what a run of the modes leads to from a compatible bag is compatible
-pub compatible_after_run : (limit : ℕ) (before after : Bag) (steps : List ModeStep) → 0 < limit → AreCompatible limit before → IsModeRun limit before steps after
+pub compatible_after_run : (limit : ℕ) (before after : Bag) (steps : List ModeStep) → 0 < limit → AreCompatible limit before
+    → IsModeRun limit before steps after
     → AreCompatible limit after
 compatible_after_run limit before after [] positive c run = subst (AreCompatible limit) run c
 compatible_after_run limit before after (step ∷ steps) positive c run =

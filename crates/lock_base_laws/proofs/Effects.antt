@@ -48,23 +48,30 @@ pub data Effect {O T A : Type 0} (m : Machine T) : Call O → Reply A → List M
   acquired : {call : Call O} (party : ℕ) (mode : Mode) → Admits m party mode
       → Effect m call (Reply.Guard (m.last + 1)) (only_if (takes_token m.kind m.entries) (Acquire mode ∷ [])) (issued m party mode)
   unlocked : {call : Call O} (guard : ℕ) (e : Entry) → IsOut m guard e true
-      → Effect m call Reply.Done (only_if (gives_token_back m.kind (without guard m.entries)) (Release e.mode ∷ [])) (released m (without guard m.entries))
+      → Effect m call Reply.Done (only_if (gives_token_back m.kind (without guard m.entries)) (Release e.mode ∷ []))
+      (released m (without guard m.entries))
   parks : {call : Call O} (guard : ℕ) (e : Entry) → IsOut m guard e true
-      → Effect m call Reply.Done (only_if (gives_token_back m.kind (update guard parked m.entries)) (Release e.mode ∷ [])) (released m (update guard parked m.entries))
+      → Effect m call Reply.Done (only_if (gives_token_back m.kind (update guard parked m.entries)) (Release e.mode ∷ []))
+      (released m (update guard parked m.entries))
   resumes : {call : Call O} (party guard : ℕ) (e : Entry) → IsOut m guard e false → (IsTrue (is_reentrant m.kind) → e.party ≡ party)
       → IsTrue (admitted m.kind m.limit m.entries party e.mode)
-      → Effect m call Reply.Done (only_if (takes_token m.kind m.entries) (Acquire e.mode ∷ [])) (record m { entries = update guard resumed m.entries })
-  abandoned : {call : Call O} (guard : ℕ) (e : Entry) → IsOut m guard e false → Effect m call Reply.Done [] (record m { entries = without guard m.entries })
+      → Effect m call Reply.Done (only_if (takes_token m.kind m.entries) (Acquire e.mode ∷ []))
+      (record m { entries = update guard resumed m.entries })
+  abandoned : {call : Call O} (guard : ℕ) (e : Entry) → IsOut m guard e false
+      → Effect m call Reply.Done [] (record m { entries = without guard m.entries })
   bumped : (party : PartyId) (guard : ℕ) (e : Entry) → IsOut m guard e true
       → Effect m (Call.Bump party guard) Reply.Done (only_if (bumps_token m.kind m.entries) (Release e.mode ∷ Acquire e.mode ∷ []))
       (record m { spent = if bumps_token m.kind m.entries then one_spent_more m.spent else m.spent })
   moves : {call : Call O} (guard : ℕ) (e : Entry) (to : Mode) → IsOut m guard e true → m.kind ≡ RwLock → IsTrue (is_move e.mode to)
       → IsTrue (may_become (held_bag m.entries) to) → Effect m call Reply.Done (Change e.mode to ∷ []) (moved m guard to)
-  written : {party : PartyId} {op : O} (guard : ℕ) (e : Entry) (answer : A) (value : T) → IsOut m guard e true → is_reentrant m.kind ≡ false → e.mode ≡ Exclusive
+  written : {party : PartyId} {op : O} (guard : ℕ) (e : Entry) (answer : A) (value : T) → IsOut m guard e true
+      → is_reentrant m.kind ≡ false → e.mode ≡ Exclusive
       → Effect m (Call.Change party guard op) (Reply.Answer answer) [] (record m { value = value })
-  written_upgraded : {form : Form} {party : PartyId} {op : O} (guard : ℕ) (e : Entry) (answer : A) (value : T) → IsOut m guard e true → m.kind ≡ RwLock
+  written_upgraded : {form : Form} {party : PartyId} {op : O} (guard : ℕ) (e : Entry) (answer : A) (value : T) → IsOut m guard e true
+      → m.kind ≡ RwLock
       → e.mode ≡ Upgradable → IsTrue (may_become (held_bag m.entries) Exclusive)
-      → Effect m (Call.WithUpgraded form party guard op) (Reply.Answer answer) (Change Upgradable Exclusive ∷ Change Exclusive Upgradable ∷ []) (record m { value = value })
+      → Effect m (Call.WithUpgraded form party guard op) (Reply.Answer answer)
+      (Change Upgradable Exclusive ∷ Change Exclusive Upgradable ∷ []) (record m { value = value })
 
 rwlock_is : (kind : Kind) → IsTrue (is_rwlock kind) → kind ≡ RwLock
 rwlock_is Mutex h = cc
@@ -97,7 +104,8 @@ shared_move Shared h = cc
 shared_move Exclusive h = refl
 shared_move Upgradable h = refl
 
-out_of : {T : Type 0} (m : Machine T) (demand : Demand) (party guard : ℕ) (e : Entry) → Meets m demand party guard e → IsOut m guard e demand.held
+out_of : {T : Type 0} (m : Machine T) (demand : Demand) (party guard : ℕ) (e : Entry) → Meets m demand party guard e
+    → IsOut m guard e demand.held
 out_of m demand party guard e meets = record { found = meets.found; held = meets.held }
 
 module _ (O T A : Type 0) where
@@ -108,8 +116,10 @@ module _ (O T A : Type 0) where
   module _ (m : Machine T) (call : Call O) where
     -- the steps by the mode of a guard that is out
     by_found : (guard : ℕ) (e : Entry) (next : Machine T) (steps : Mode → List ModeStep) → find guard m.entries ≡ Some e
-        → Effect {A = A} m call Reply.Done (steps e.mode) next → Effect {A = A} m call Reply.Done (by_mode (find guard m.entries) steps) next
-    by_found guard e next steps found h = subst (λ (o : Option Entry). Effect {A = A} m call Reply.Done (by_mode o steps) next) (sym found) h
+        → Effect {A = A} m call Reply.Done (steps e.mode) next
+        → Effect {A = A} m call Reply.Done (by_mode (find guard m.entries) steps) next
+    by_found guard e next steps found h =
+        subst (λ (o : Option Entry). Effect {A = A} m call Reply.Done (by_mode o steps) next) (sym found) h
 
     none_kept : {R : Type 0} (form : Form) (answered : R → Reply A) → HasEffect m call (told_in_form form answered (give None m))
     none_kept Block answered = kept refl
@@ -118,29 +128,37 @@ module _ (O T A : Type 0) where
     none_kept Until answered = kept refl
 
     of_told : {R : Type 0} (answered : R → Reply A) (demand : Demand) (party guard : ℕ) (act : Entry → Turn R T)
-        → ((e : Entry) → Meets m demand party guard e → HasEffect m call (told answered (act e))) → HasEffect m call (told answered (on_guard m demand party guard act))
+        → ((e : Entry) → Meets m demand party guard e → HasEffect m call (told answered (act e)))
+        → HasEffect m call (told answered (on_guard m demand party guard act))
     of_told answered demand party guard act acts =
         of_guard (λ turn. HasEffect m call (told answered turn)) m demand party guard act (λ f. kept refl) acts
 
-    of_told_in_form : {R : Type 0} (form : Form) (answered : R → Reply A) (demand : Demand) (party guard : ℕ) (act : Entry → Turn (Option R) T)
+    of_told_in_form : {R : Type 0} (form : Form) (answered : R → Reply A) (demand : Demand) (party guard : ℕ)
+        (act : Entry → Turn (Option R) T)
         → ((e : Entry) → Meets m demand party guard e → HasEffect m call (told_in_form form answered (act e)))
         → HasEffect m call (told_in_form form answered (on_guard m demand party guard act))
     of_told_in_form form answered demand party guard act acts =
         of_guard (λ turn. HasEffect m call (told_in_form form answered turn)) m demand party guard act (λ f. kept refl) acts
 
 module _ {O T A : Type 0} (meaning : O → Operation T A) (m : Machine T) where
-  of_acquire : (want : Want) (form : Form) (party : PartyId) → HasEffect O T A m (Call.Acquire want form party) (step meaning m (Call.Acquire want form party))
+  of_acquire : (want : Want) (form : Form) (party : PartyId)
+      → HasEffect O T A m (Call.Acquire want form party) (step meaning m (Call.Acquire want form party))
   of_acquire want form party =
       let call : Call O = Call.Acquire want form party in
-      of_unless (λ turn. HasEffect O T A m call (told_in_form form Reply.Guard turn)) m (acquisition_refusal m want (id_of party)) _ (λ f. kept refl)
+      of_unless (λ turn. HasEffect O T A m call (told_in_form form Reply.Guard turn)) m (acquisition_refusal m want (id_of party)) _
+      (λ f. kept refl)
       (λ passed.
-      let all = all_passed (not (has_want m.kind want)) (length m.entries == m.places) (m.last == 2 ^ 64 - 1) (is_full_count m.kind m.limit m.entries (id_of party))
+      let all = all_passed (not (has_want m.kind want)) (length m.entries == m.places) (m.last == 2 ^ 64 - 1)
+      (is_full_count m.kind m.limit m.entries (id_of party))
       fault.WrongKind fault.NoPlace fault.NumbersSpent fault.FullCount passed in
-      of_both (λ turn. HasEffect O T A m call (told_in_form form Reply.Guard turn)) (admitted m.kind m.limit m.entries (id_of party) (mode_of want)) _ _
-      (λ ok. acquired (id_of party) (mode_of want) (record { mode_of_kind = want_of_kind m.kind want all.first; room = eqb-false _ _ all.second; admitted = ok }))
+      of_both (λ turn. HasEffect O T A m call (told_in_form form Reply.Guard turn))
+      (admitted m.kind m.limit m.entries (id_of party) (mode_of want)) _ _
+      (λ ok. acquired (id_of party) (mode_of want)
+      (record { mode_of_kind = want_of_kind m.kind want all.first; room = eqb-false _ _ all.second; admitted = ok }))
       (λ no. none_kept O T A m call form Reply.Guard))
 
-  of_unlock : (party : PartyId) (guard : ℕ) (way : Way) → HasEffect O T A m (Call.Unlock party guard way) (step meaning m (Call.Unlock party guard way))
+  of_unlock : (party : PartyId) (guard : ℕ) (way : Way)
+      → HasEffect O T A m (Call.Unlock party guard way) (step meaning m (Call.Unlock party guard way))
   of_unlock party guard way =
       of_told O T A m (Call.Unlock party guard way) done held_guard (id_of party) guard _
       (λ e meets. by_found O T A m (Call.Unlock party guard way) guard e (released m (without guard m.entries))
@@ -148,7 +166,8 @@ module _ {O T A : Type 0} (meaning : O → Operation T A) (m : Machine T) where
       (unlocked guard e (out_of m held_guard (id_of party) guard e meets)))
 
   -- both forms of parking do the same
-  of_park : (call : Call O) (party guard : ℕ) → asked_steps m call ≡ steps_back m guard (update guard parked m.entries) → HasEffect O T A m call (told done (park m party guard))
+  of_park : (call : Call O) (party guard : ℕ) → asked_steps m call ≡ steps_back m guard (update guard parked m.entries)
+      → HasEffect O T A m call (told done (park m party guard))
   of_park call party guard asked =
       of_told O T A m call done held_guard party guard _
       (λ e meets. subst (λ steps. Effect {A = A} m call Reply.Done steps (released m (update guard parked m.entries))) (sym asked)
@@ -160,8 +179,10 @@ module _ {O T A : Type 0} (meaning : O → Operation T A) (m : Machine T) where
   of_resume party guard =
       of_told O T A m (Call.Resume party guard) done parked_guard (id_of party) guard _
       (λ e meets.
-      of_both (λ turn. HasEffect O T A m (Call.Resume party guard) (told done turn)) (is_full_count m.kind m.limit m.entries (id_of party)) _ _ (λ full. kept refl)
-      (λ room. of_both (λ turn. HasEffect O T A m (Call.Resume party guard) (told done turn)) (admitted m.kind m.limit m.entries (id_of party) e.mode) _ _
+      of_both (λ turn. HasEffect O T A m (Call.Resume party guard) (told done turn))
+      (is_full_count m.kind m.limit m.entries (id_of party)) _ _ (λ full. kept refl)
+      (λ room. of_both (λ turn. HasEffect O T A m (Call.Resume party guard) (told done turn))
+      (admitted m.kind m.limit m.entries (id_of party) e.mode) _ _
       (λ ok. by_found O T A m (Call.Resume party guard) guard e (record m { entries = update guard resumed m.entries })
       (λ mode. only_if (takes_token m.kind m.entries) (Acquire mode ∷ [])) meets.found
       (resumes (id_of party) guard e (out_of m parked_guard (id_of party) guard e meets) meets.own ok))
@@ -180,7 +201,8 @@ module _ {O T A : Type 0} (meaning : O → Operation T A) (m : Machine T) where
       (λ mode. only_if (bumps_token m.kind m.entries) (Release mode ∷ Acquire mode ∷ [])) meets.found
       (bumped party guard e (out_of m held_guard (id_of party) guard e meets)))
 
-  of_upgrade : (form : Form) (party : PartyId) (guard : ℕ) → HasEffect O T A m (Call.Upgrade form party guard) (step meaning m (Call.Upgrade form party guard))
+  of_upgrade : (form : Form) (party : PartyId) (guard : ℕ)
+      → HasEffect O T A m (Call.Upgrade form party guard) (step meaning m (Call.Upgrade form party guard))
   of_upgrade form party guard =
       let call : Call O = Call.Upgrade form party guard in
       of_told_in_form O T A m call form done upgradable_guard (id_of party) guard _
@@ -192,11 +214,13 @@ module _ {O T A : Type 0} (meaning : O → Operation T A) (m : Machine T) where
       (subst (λ (x : Mode). IsTrue (is_move x Exclusive)) (sym mode) refl) sole))
       (λ beside. none_kept O T A m call form done))
 
-  of_downgrade : (party : PartyId) (guard : ℕ) → HasEffect O T A m (Call.Downgrade party guard) (step meaning m (Call.Downgrade party guard))
+  of_downgrade : (party : PartyId) (guard : ℕ)
+      → HasEffect O T A m (Call.Downgrade party guard) (step meaning m (Call.Downgrade party guard))
   of_downgrade party guard =
       of_told O T A m (Call.Downgrade party guard) done unshared_guard (id_of party) guard _
       (λ e meets. by_found O T A m (Call.Downgrade party guard) guard e (moved m guard Shared) (λ mode. Change mode Shared ∷ []) meets.found
-      (moves guard e Shared (out_of m unshared_guard (id_of party) guard e meets) (rwlock_is m.kind meets.on_kind) (shared_move e.mode meets.in_mode) refl))
+      (moves guard e Shared (out_of m unshared_guard (id_of party) guard e meets) (rwlock_is m.kind meets.on_kind)
+      (shared_move e.mode meets.in_mode) refl))
 
   of_downgrade_to_upgradable : (party : PartyId) (guard : ℕ)
       → HasEffect O T A m (Call.DowngradeToUpgradable party guard) (step meaning m (Call.DowngradeToUpgradable party guard))
@@ -216,8 +240,10 @@ module _ {O T A : Type 0} (meaning : O → Operation T A) (m : Machine T) where
       of_told_in_form O T A m call form Reply.Answer upgradable_guard (id_of party) guard _
       (λ e meets.
       of_both (λ turn. HasEffect O T A m call (told_in_form form Reply.Answer turn)) ((meaning op).fits m.value) _ _
-      (λ fits. of_both (λ turn. HasEffect O T A m call (told_in_form form Reply.Answer turn)) (may_become (held_bag m.entries) Exclusive) _ _
-      (λ sole. written_upgraded guard e ((meaning op).applied m.value) ((meaning op).after m.value) (out_of m upgradable_guard (id_of party) guard e meets)
+      (λ fits. of_both (λ turn. HasEffect O T A m call (told_in_form form Reply.Answer turn))
+      (may_become (held_bag m.entries) Exclusive) _ _
+      (λ sole. written_upgraded guard e ((meaning op).applied m.value) ((meaning op).after m.value)
+      (out_of m upgradable_guard (id_of party) guard e meets)
       (rwlock_is m.kind meets.on_kind) (upgradable_is e.mode meets.in_mode) sole)
       (λ beside. none_kept O T A m call form Reply.Answer))
       (λ unfit. kept refl))
@@ -225,23 +251,28 @@ module _ {O T A : Type 0} (meaning : O → Operation T A) (m : Machine T) where
   of_get : (party : PartyId) (guard : ℕ) (op : O) → HasEffect O T A m (Call.Get party guard op) (step meaning m (Call.Get party guard op))
   of_get party guard op =
       of_told O T A m (Call.Get party guard op) Reply.Answer held_guard (id_of party) guard _
-      (λ e meets. of_both (λ turn. HasEffect O T A m (Call.Get party guard op) (told Reply.Answer turn)) ((meaning op).fits m.value) _ _ (λ fits. kept refl) (λ unfit. kept refl))
+      (λ e meets. of_both (λ turn. HasEffect O T A m (Call.Get party guard op) (told Reply.Answer turn)) ((meaning op).fits m.value) _ _
+      (λ fits. kept refl) (λ unfit. kept refl))
 
-  of_change : (party : PartyId) (guard : ℕ) (op : O) → HasEffect O T A m (Call.Change party guard op) (step meaning m (Call.Change party guard op))
+  of_change : (party : PartyId) (guard : ℕ) (op : O)
+      → HasEffect O T A m (Call.Change party guard op) (step meaning m (Call.Change party guard op))
   of_change party guard op =
       of_told O T A m (Call.Change party guard op) Reply.Answer writing_guard (id_of party) guard _
       (λ e meets. of_both (λ turn. HasEffect O T A m (Call.Change party guard op) (told Reply.Answer turn)) ((meaning op).fits m.value) _ _
-      (λ fits. written guard e ((meaning op).applied m.value) ((meaning op).after m.value) (out_of m writing_guard (id_of party) guard e meets)
+      (λ fits. written guard e ((meaning op).applied m.value) ((meaning op).after m.value)
+      (out_of m writing_guard (id_of party) guard e meets)
       (not-true (is_reentrant m.kind) meets.on_kind) (exclusive_is e.mode meets.in_mode))
       (λ unfit. kept refl))
 
   of_is_locked_exclusive : HasEffect O T A m Call.IsLockedExclusive (step meaning m Call.IsLockedExclusive)
   of_is_locked_exclusive =
-      of_both (λ turn. HasEffect O T A m Call.IsLockedExclusive (told Reply.Bool turn)) (is_rwlock m.kind) _ _ (λ has. kept refl) (λ lacks. kept refl)
+      of_both (λ turn. HasEffect O T A m Call.IsLockedExclusive (told Reply.Bool turn)) (is_rwlock m.kind) _ _ (λ has. kept refl)
+      (λ lacks. kept refl)
 
   of_is_owned_by : (party : PartyId) → HasEffect O T A m (Call.IsOwnedBy party) (step meaning m (Call.IsOwnedBy party))
   of_is_owned_by party =
-      of_both (λ turn. HasEffect O T A m (Call.IsOwnedBy party) (told Reply.Bool turn)) (is_reentrant m.kind) _ _ (λ has. kept refl) (λ lacks. kept refl)
+      of_both (λ turn. HasEffect O T A m (Call.IsOwnedBy party) (told Reply.Bool turn)) (is_reentrant m.kind) _ _ (λ has. kept refl)
+      (λ lacks. kept refl)
 
   -- what each call does is one of the effects
   pub effect : (call : Call O) → Effect m call (step meaning m call).reply (token_steps meaning m call) (step meaning m call).machine

@@ -33,12 +33,14 @@ module _ {T : Type 0} (m : Machine T) (sound : IsSound m) where
       let room = admits.room in
       record {
         legal = record {
-          held = legal_more m.kind m.limit party e (m.entries ++ (m.last + 1, e) ∷ []) m.entries one (λ r. refl) admits.admitted sound.legal.held;
+          held = legal_more m.kind m.limit party e (m.entries ++ (m.last + 1, e) ∷ []) m.entries one
+              (λ r. refl) admits.admitted sound.legal.held;
           numbered = numbered_issued 0 m.last m.entries e sound.legal.numbered;
           room = omega arith;
         };
         limit = sound.limit;
-        modes = have_modes_added m.kind m.entries (m.last + 1, e) [] admits.mode_of_kind (subst (HaveModesOf m.kind) (sym rest) sound.modes);
+        modes = have_modes_added m.kind m.entries (m.last + 1, e) [] admits.mode_of_kind
+            (subst (HaveModesOf m.kind) (sym rest) sound.modes);
       }
 
   module _ (guard : ℕ) (e : Entry) (s : Splice guard e m.entries) (spent : ℕ) where
@@ -49,7 +51,8 @@ module _ {T : Type 0} (m : Machine T) (sound : IsSound m) where
     whole_modes = have_modes_removed m.kind s.before (guard, e) s.after (subst (HaveModesOf m.kind) s.whole sound.modes)
 
     -- the machine without the guard, and with the guard changed, is sound where what is held is legal
-    without_sound : AreLegallyHeld (is_reentrant m.kind) m.limit (without guard m.entries) → IsSound (record m { entries = without guard m.entries; spent = spent })
+    without_sound : AreLegallyHeld (is_reentrant m.kind) m.limit (without guard m.entries)
+        → IsSound (record m { entries = without guard m.entries; spent = spent })
     without_sound held =
         let whole = ap length s.whole in
         let removed = ap length s.removed in
@@ -65,7 +68,8 @@ module _ {T : Type 0} (m : Machine T) (sound : IsSound m) where
           modes = subst (HaveModesOf m.kind) (sym s.removed) whole_modes.1;
         }
 
-    update_sound : (change : Entry → Entry) → IsModeOf m.kind (change e).mode → AreLegallyHeld (is_reentrant m.kind) m.limit (update guard change m.entries)
+    update_sound : (change : Entry → Entry) → IsModeOf m.kind (change e).mode
+        → AreLegallyHeld (is_reentrant m.kind) m.limit (update guard change m.entries)
         → IsSound (record m { entries = update guard change m.entries; spent = spent })
     update_sound change mode held =
         let whole = ap length s.whole in
@@ -76,39 +80,48 @@ module _ {T : Type 0} (m : Machine T) (sound : IsSound m) where
         record {
           legal = record {
             held = held;
-            numbered = subst (AreNumbered 0 m.last) (sym (s.updated change)) (numbered_changed 0 m.last guard s.before e (change e) s.after whole_numbered);
+            numbered = subst (AreNumbered 0 m.last) (sym (s.updated change))
+                (numbered_changed 0 m.last guard s.before e (change e) s.after whole_numbered);
             room = omega arith;
           };
           limit = sound.limit;
-          modes = subst (HaveModesOf m.kind) (sym (s.updated change)) (have_modes_added m.kind s.before (guard, change e) s.after mode whole_modes.1);
+          modes = subst (HaveModesOf m.kind) (sym (s.updated change))
+              (have_modes_added m.kind s.before (guard, change e) s.after mode whole_modes.1);
         }
 
     unlocked_sound : IsTrue e.held → IsSound (record m { entries = without guard m.entries; spent = spent })
     unlocked_sound held =
-        without_sound (legal_fewer (is_reentrant m.kind) m.limit e m.entries (without guard m.entries) (more_than_rest guard e m.entries s held) sound.legal.held)
+        without_sound (legal_fewer (is_reentrant m.kind) m.limit e m.entries (without guard m.entries)
+        (more_than_rest guard e m.entries s held) sound.legal.held)
 
     parked_sound : IsTrue e.held → IsSound (record m { entries = update guard parked m.entries; spent = spent })
     parked_sound held =
         update_sound parked whole_modes.0
-        (legal_fewer (is_reentrant m.kind) m.limit e m.entries (update guard parked m.entries) (more_than_parked guard e m.entries s held) sound.legal.held)
+        (legal_fewer (is_reentrant m.kind) m.limit e m.entries (update guard parked m.entries)
+        (more_than_parked guard e m.entries s held) sound.legal.held)
 
-    resumed_sound : (party : ℕ) → e.held ≡ false → (IsTrue (is_reentrant m.kind) → e.party ≡ party) → IsTrue (admitted m.kind m.limit m.entries party e.mode)
+    resumed_sound : (party : ℕ) → e.held ≡ false → (IsTrue (is_reentrant m.kind) → e.party ≡ party)
+        → IsTrue (admitted m.kind m.limit m.entries party e.mode)
         → IsSound (record m { entries = update guard resumed m.entries; spent = spent })
     resumed_sound party free own ok =
         update_sound resumed whole_modes.0
-        (legal_more m.kind m.limit party (resumed e) (update guard resumed m.entries) m.entries (resumed_is_more guard e m.entries s free) own ok sound.legal.held)
+        (legal_more m.kind m.limit party (resumed e) (update guard resumed m.entries) m.entries
+        (resumed_is_more guard e m.entries s free) own ok sound.legal.held)
 
     abandoned_sound : e.held ≡ false → IsSound (record m { entries = without guard m.entries; spent = spent })
     abandoned_sound free =
-        without_sound (legal_same (is_reentrant m.kind) m.limit m.entries (without guard m.entries) (abandoned_holds_same guard e m.entries s free) sound.legal.held)
+        without_sound (legal_same (is_reentrant m.kind) m.limit m.entries (without guard m.entries)
+        (abandoned_holds_same guard e m.entries s free) sound.legal.held)
 
     moved_sound : (to : Mode) → IsTrue e.held → m.kind ≡ RwLock → IsTrue (is_move e.mode to) → IsTrue (may_become (held_bag m.entries) to)
         → IsSound (record m { entries = update guard (in_mode to) m.entries; spent = spent })
     moved_sound to held kind move sole =
         let rest : Bag = held_bag (without guard m.entries) in
-        let before : held_bag m.entries ≡ one_more rest e.mode = held_bag-more e m.entries (without guard m.entries) (more_than_rest guard e m.entries s held) in
+        let before : held_bag m.entries ≡ one_more rest e.mode = held_bag-more e m.entries (without guard m.entries)
+        (more_than_rest guard e m.entries s held) in
         let after : held_bag (update guard (in_mode to) m.entries) ≡ one_more rest to =
-        held_bag-more (in_mode to e) (update guard (in_mode to) m.entries) (without guard m.entries) (moved_is_more guard e m.entries s to held) in
+        held_bag-more (in_mode to e) (update guard (in_mode to) m.entries) (without guard m.entries)
+        (moved_is_more guard e m.entries s to held) in
         let legal = subst (λ (k : Kind). AreLegallyHeld (is_reentrant k) m.limit m.entries) kind sound.legal.held in
         let changed = compatible_changed m.limit rest e.mode to (subst (λ (k : Kind). IsLimitOf k m.limit) kind sound.limit) move
         (subst (λ (b : Bag). IsTrue (may_become b to)) before sole) (subst (AreCompatible m.limit) before legal) in
@@ -119,18 +132,25 @@ module _ {T : Type 0} (m : Machine T) (sound : IsSound m) where
   -- only the entries, their numbers, the kind and the limits say whether a machine is sound
   rest_sound : (value : T) (spent : ℕ) → IsSound (record m { value = value; spent = spent })
   rest_sound value spent =
-      record { legal = record { held = sound.legal.held; numbered = sound.legal.numbered; room = sound.legal.room }; limit = sound.limit; modes = sound.modes }
+      record {
+        legal = record { held = sound.legal.held; numbered = sound.legal.numbered; room = sound.legal.room };
+        limit = sound.limit;
+        modes = sound.modes;
+      }
 
   module _ {O A : Type 0} where
-    pub effect_sound : {call : Call O} {reply : Reply A} {steps : List ModeStep} {after : Machine T} → Effect m call reply steps after → IsSound after
+    pub effect_sound : {call : Call O} {reply : Reply A} {steps : List ModeStep} {after : Machine T} → Effect m call reply steps after
+        → IsSound after
     effect_sound (Effect.kept unnumbered) = sound
     effect_sound (Effect.acquired party mode admits) = issued_sound party mode admits
     effect_sound (Effect.unlocked guard e out) = unlocked_sound guard e (splice guard e m.entries out.found) _ out.held
     effect_sound (Effect.parks guard e out) = parked_sound guard e (splice guard e m.entries out.found) _ out.held
-    effect_sound (Effect.resumes party guard e out own ok) = resumed_sound guard e (splice guard e m.entries out.found) m.spent party out.held own ok
+    effect_sound (Effect.resumes party guard e out own ok) =
+        resumed_sound guard e (splice guard e m.entries out.found) m.spent party out.held own ok
     effect_sound (Effect.abandoned guard e out) = abandoned_sound guard e (splice guard e m.entries out.found) m.spent out.held
     effect_sound (Effect.bumped party guard e out) = rest_sound m.value _
-    effect_sound (Effect.moves guard e to out kind move sole) = moved_sound guard e (splice guard e m.entries out.found) m.spent to out.held kind move sole
+    effect_sound (Effect.moves guard e to out kind move sole) =
+        moved_sound guard e (splice guard e m.entries out.found) m.spent to out.held kind move sole
     effect_sound (Effect.written guard e answer value out kind mode) = rest_sound value m.spent
     effect_sound (Effect.written_upgraded guard e answer value out kind mode sole) = rest_sound value m.spent
 
@@ -139,7 +159,8 @@ pub out_mode : {T : Type 0} (m : Machine T) (guard : ℕ) (e : Entry) → IsSoun
 out_mode m guard e sound found = (whole_modes m sound guard e (splice guard e m.entries found) m.spent).0
 
 -- no call changes the kind or a limit
-effect_limits : {O T A : Type 0} {m after : Machine T} {call : Call O} {reply : Reply A} {steps : List ModeStep} → Effect m call reply steps after → KeepsLimits m after
+effect_limits : {O T A : Type 0} {m after : Machine T} {call : Call O} {reply : Reply A} {steps : List ModeStep}
+    → Effect m call reply steps after → KeepsLimits m after
 effect_limits (Effect.kept unnumbered) = record { same_kind = refl; same_places = refl; same_limit = refl }
 effect_limits other = record { same_kind = refl; same_places = refl; same_limit = refl }
 
@@ -176,4 +197,5 @@ module _ {O T A : Type 0} (meaning : O → Operation T A) where
   run_sound m (call ∷ calls) sound = run_sound (step meaning m call).machine calls (step_sound m call sound)
 
   pub runs_sound : RunsAreSound meaning
-  runs_sound kind value places limit calls lawful = run_sound (start kind value places limit) calls (start_sound kind value places limit lawful)
+  runs_sound kind value places limit calls lawful =
+      run_sound (start kind value places limit) calls (start_sound kind value places limit lawful)

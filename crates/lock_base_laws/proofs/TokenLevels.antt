@@ -12,7 +12,8 @@ use Rattle.lock_base_laws.specs.TokenSteps.{only_if}
 
 -- runs of one step or two beside a bag
 
-pub acquire_run : (limit : ℕ) (rest : Bag) (mode : Mode) → IsTrue (admits limit rest mode) → IsModeRun limit rest (Acquire mode ∷ []) (one_more rest mode)
+pub acquire_run : (limit : ℕ) (rest : Bag) (mode : Mode) → IsTrue (admits limit rest mode)
+    → IsModeRun limit rest (Acquire mode ∷ []) (one_more rest mode)
 acquire_run limit rest mode ok = (ok, refl)
 
 pub release_run : (limit : ℕ) (rest : Bag) (mode : Mode) → IsModeRun limit (one_more rest mode) (Release mode ∷ []) rest
@@ -21,7 +22,8 @@ release_run limit rest mode = (count-one_more rest mode, one_less-one_more rest 
 pub bump_run : (limit : ℕ) (rest : Bag) (mode : Mode) → IsTrue (admits limit rest mode)
     → IsModeRun limit (one_more rest mode) (Release mode ∷ Acquire mode ∷ []) (one_more rest mode)
 bump_run limit rest mode ok =
-    IsModeRun-append limit (one_more rest mode) rest (one_more rest mode) (Release mode ∷ []) (Acquire mode ∷ []) (release_run limit rest mode) (acquire_run limit rest mode ok)
+    IsModeRun-append limit (one_more rest mode) rest (one_more rest mode) (Release mode ∷ []) (Acquire mode ∷ [])
+    (release_run limit rest mode) (acquire_run limit rest mode ok)
 
 pub change_run : (limit : ℕ) (rest : Bag) (from to : Mode) → IsTrue (is_move from to) → IsTrue (may_become (one_more rest from) to)
     → IsModeRun limit (one_more rest from) (Change from to ∷ []) (one_more rest to)
@@ -31,7 +33,8 @@ change_run limit rest from to move sole =
 pub upgraded_run : (limit : ℕ) (rest : Bag) → IsTrue (may_become (one_more rest Upgradable) Exclusive)
     → IsModeRun limit (one_more rest Upgradable) (Change Upgradable Exclusive ∷ Change Exclusive Upgradable ∷ []) (one_more rest Upgradable)
 upgraded_run limit rest sole =
-    IsModeRun-append limit (one_more rest Upgradable) (one_more rest Exclusive) (one_more rest Upgradable) (Change Upgradable Exclusive ∷ []) (Change Exclusive Upgradable ∷ [])
+    IsModeRun-append limit (one_more rest Upgradable) (one_more rest Exclusive) (one_more rest Upgradable)
+    (Change Upgradable Exclusive ∷ []) (Change Exclusive Upgradable ∷ [])
     (change_run limit rest Upgradable Exclusive refl sole) (change_run limit rest Exclusive Upgradable refl refl)
 
 -- the one token of a reentrant machine, by how many levels there are
@@ -49,21 +52,26 @@ pub one_level_more : (n k : ℕ) → k ≡ n + 1 → (k == 0) ≡ false
 one_level_more n k more = ne_eqb k 0 (λ zero. omega arith)
 
 -- the first level takes the token
-pub level_taken : (n k : ℕ) (none : Bool) → (n == 0) ≡ none → (k == 0) ≡ false → IsModeRun 1 (level_token n) (only_if none (Acquire Exclusive ∷ [])) (level_token k)
+pub level_taken : (n k : ℕ) (none : Bool) → (n == 0) ≡ none → (k == 0) ≡ false
+    → IsModeRun 1 (level_token n) (only_if none (Acquire Exclusive ∷ [])) (level_token k)
 level_taken n k true first more =
     subst (λ (b : Bag). IsModeRun 1 b (Acquire Exclusive ∷ []) (level_token k)) (sym (no_level n first))
-    (subst (λ (b : Bag). IsModeRun 1 empty_bag (Acquire Exclusive ∷ []) b) (sym (some_level k more)) (acquire_run 1 empty_bag Exclusive refl))
+    (subst (λ (b : Bag). IsModeRun 1 empty_bag (Acquire Exclusive ∷ []) b) (sym (some_level k more))
+    (acquire_run 1 empty_bag Exclusive refl))
 level_taken n k false first more = some_level n first ∙ sym (some_level k more)
 
 -- the last level gives the token back
-pub level_given_back : (n k : ℕ) (none : Bool) → (n == 0) ≡ none → (k == 0) ≡ false → IsModeRun 1 (level_token k) (only_if none (Release Exclusive ∷ [])) (level_token n)
+pub level_given_back : (n k : ℕ) (none : Bool) → (n == 0) ≡ none → (k == 0) ≡ false
+    → IsModeRun 1 (level_token k) (only_if none (Release Exclusive ∷ [])) (level_token n)
 level_given_back n k true last more =
     subst (λ (b : Bag). IsModeRun 1 (level_token k) (Release Exclusive ∷ []) b) (sym (no_level n last))
     (subst (λ (b : Bag). IsModeRun 1 b (Release Exclusive ∷ []) empty_bag) (sym (some_level k more)) (release_run 1 empty_bag Exclusive))
 level_given_back n k false last more = some_level k more ∙ sym (some_level n last)
 
 -- a sole level may give the token back and take it again
-pub level_bumped : (k : ℕ) (sole : Bool) → (k == 0) ≡ false → IsModeRun 1 (level_token k) (only_if sole (Release Exclusive ∷ Acquire Exclusive ∷ [])) (level_token k)
+pub level_bumped : (k : ℕ) (sole : Bool) → (k == 0) ≡ false
+    → IsModeRun 1 (level_token k) (only_if sole (Release Exclusive ∷ Acquire Exclusive ∷ [])) (level_token k)
 level_bumped k true more =
-    subst (λ (b : Bag). IsModeRun 1 b (Release Exclusive ∷ Acquire Exclusive ∷ []) b) (sym (some_level k more)) (bump_run 1 empty_bag Exclusive refl)
+    subst (λ (b : Bag). IsModeRun 1 b (Release Exclusive ∷ Acquire Exclusive ∷ []) b) (sym (some_level k more))
+    (bump_run 1 empty_bag Exclusive refl)
 level_bumped k false more = refl

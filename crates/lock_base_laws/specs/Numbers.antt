@@ -36,4 +36,5 @@ module _ {O T A : Type 0} (meaning : O → Operation T A) where
   -- no guard that is out has the number of a new one
   abbrev pub NewNumbersAreFree : Type 0
   NewNumbersAreFree =
-      (m : Machine T) (call : Call O) (number : ℕ) → IsSound m → (step meaning m call).reply ≡ Reply.Guard number → find number m.entries ≡ None
+      (m : Machine T) (call : Call O) (number : ℕ) → IsSound m → (step meaning m call).reply ≡ Reply.Guard number
+      → find number m.entries ≡ None

@@ -43,7 +43,8 @@ pub record KeepsLimits {T : Type 0} (old new : Machine T) : Type 0 where
 -- each machine that a run reaches from a start is sound
 abbrev pub RunsAreSound : {O T A : Type 0} → (O → Operation T A) → Type 0
 RunsAreSound {O} {T} meaning =
-    (kind : Kind) (value : T) (places limit : ℕ) (calls : List (Call O)) → IsLimitOf kind limit → IsSound (after_all meaning (start kind value places limit) calls)
+    (kind : Kind) (value : T) (places limit : ℕ) (calls : List (Call O)) → IsLimitOf kind limit
+    → IsSound (after_all meaning (start kind value places limit) calls)
 
 -- no run changes the kind or a limit
 abbrev pub RunsKeepLimits : {O T A : Type 0} → (O → Operation T A) → Type 0
