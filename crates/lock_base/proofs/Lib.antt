@@ -2,3 +2,4 @@ pub mod TokenBags
 pub mod Compatible
 pub mod Counting
 pub mod Lenses
+pub mod ModeLemmas

@@ -1,0 +1,13 @@
+pub mod Turns
+pub mod Effects
+pub mod Refusals
+pub mod Splices
+pub mod Held
+pub mod RunsReached
+pub mod TokenLevels
+pub mod TokenRuns
+pub mod Spending
+pub mod Written
+pub mod GuardNumbers
+pub mod OneToken
+pub mod ParkedGuards

@@ -1,0 +1,40 @@
+-- The numbers of guards.
+use Rattle.std.specs.Prelude.{◌≡◌, ℕ, ◌<◌, List, [], ◌∷◌, ◌++◌, None}
+use Rattle.lock_base.specs.declared.machine.call.Call.{Call}
+use Rattle.lock_base.specs.declared.machine.reply.Reply.{Reply}
+use Rattle.lock_base.specs.Operation.{Operation}
+use Rattle.lock_base.specs.Entries.{find}
+use Rattle.lock_base.specs.Machine.{Machine}
+use Rattle.lock_base.specs.Steps.{step}
+use Rattle.lock_base_laws.specs.Sound.{IsSound}
+
+-- the number of the guard that the reply gives, where it gives one
+abbrev pub numbers_of : {A : Type 0} → Reply A → List ℕ
+numbers_of (Reply.Guard number) = number ∷ []
+numbers_of Reply.NoGuard = []
+numbers_of Reply.Done = []
+numbers_of (Reply.Answer answer) = []
+numbers_of (Reply.Bool b) = []
+numbers_of (Reply.Count n) = []
+numbers_of (Reply.Refused fault) = []
+
+-- the numbers rise, from above `low`
+abbrev pub AreRising : ℕ → List ℕ → Type 0
+AreRising low [] = Unit {0}
+AreRising low (n ∷ ns) = (low < n) × AreRising n ns
+
+module _ {O T A : Type 0} (meaning : O → Operation T A) where
+  -- the numbers of the guards that a list of calls gives, in order
+  abbrev pub issued_numbers : Machine T → List (Call O) → List ℕ
+  issued_numbers m [] = []
+  issued_numbers m (call ∷ calls) = numbers_of (step meaning m call).reply ++ issued_numbers (step meaning m call).machine calls
+
+  -- each new guard has a number above every one issued before, so no number is used twice
+  abbrev pub NumbersAreUsedOnce : Type 0
+  NumbersAreUsedOnce = (m : Machine T) (calls : List (Call O)) → AreRising m.last (issued_numbers m calls)
+
+  -- no guard that is out has the number of a new one
+  abbrev pub NewNumbersAreFree : Type 0
+  NewNumbersAreFree =
+      (m : Machine T) (call : Call O) (number : ℕ) → IsSound m → (step meaning m call).reply ≡ Reply.Guard number
+      → find number m.entries ≡ None
