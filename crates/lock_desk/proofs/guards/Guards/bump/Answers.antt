@@ -40,8 +40,8 @@ returns-clause-kept g c =
     let at = shown_at found.place ss _ s.0 _ shown c.requires.at s.1 in
     let may = sym c.bumps.ensures ∙ c.if-not-bumps.false in
     let is : c.resume.result ≡ true = c.resume.ensures.admitted ∙ ap (λ h. admitted h.kind h.limit h.entries (id_of found.party) found.mode) c.park.ensures
-      ∙ sym (ap (λ h. admitted h.kind h.limit (update_at found.place parked h.entries) (id_of found.party) found.mode) c.self.view_is)
-      ∙ sym (ap (λ e. admitted c.self.inside.backing.kind c.self.inside.backing.limit (update_at found.place parked (entries_of ss)) e.party e.mode) at.1)
-      ∙ admitted_after_park found.place ss s.0 c.self.inside.backing at.0 s.1 (ap (λ e. e.held) at.1 ∙ c.requires.held) may c.self.invariant.backed in
+    ∙ sym (ap (λ h. admitted h.kind h.limit (update_at found.place parked h.entries) (id_of found.party) found.mode) c.self.view_is)
+    ∙ sym (ap (λ e. admitted c.self.inside.backing.kind c.self.inside.backing.limit (update_at found.place parked (entries_of ss)) e.party e.mode) at.1)
+    ∙ admitted_after_park found.place ss s.0 c.self.inside.backing at.0 s.1 (ap (λ e. e.held) at.1 ∙ c.requires.held) may c.self.invariant.backed in
     let held = rw is at c.resume.ensures.held in
     back_again c.args.self.now c.park.new.self c.resume.new.self found.place c.requires.at.0 (entry_of found) parked resumed c.requires.at.1 (resumed_again (entry_of found) c.requires.held) c.park.ensures held
