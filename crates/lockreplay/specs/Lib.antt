@@ -1,3 +1,5 @@
+pub mod Answers
+pub mod Faults
 pub mod Lines
 pub mod Pair
 pub mod Script

@@ -1,7 +1,6 @@
 -- The lines of a script: the words of each call.
-use Rattle.std.specs.Prelude.{ℕ, ℤ, List, [], ◌∷◌, ◌++◌, codes, decimal, signed_decimal}
-use Rattle.lock_base.specs.declared.machine.kind.Kind.{Kind}
-use Rattle.lock_base.specs.declared.machine.kind.Kind.TheVariants.{Mutex, RwLock, Reentrant}
+use Rattle.std.specs.Prelude.{ℕ, ℤ, List, [], ◌∷◌, ◌++◌, codes, decimal}
+use Rattle.std.specs.Fmt.{signed_decimal}
 use Rattle.lock_base.specs.declared.machine.call.Form.{Form}
 use Rattle.lock_base.specs.declared.machine.call.Form.TheVariants.{Block, Try, For, Until}
 use Rattle.lock_base.specs.declared.machine.call.Want.{Want}
@@ -11,6 +10,8 @@ use Rattle.lock_base.specs.declared.machine.call.Way.TheVariants.{Plain, Fair, I
 use Rattle.lock_base.specs.declared.machine.call.Call.{Call}
 use Rattle.lock_base.specs.declared.machine.party.PartyId.{PartyId}
 use Rattle.lock_base.specs.Party.{id_of}
+use Rattle.lockreplay.specs.declared.maker.Maker.{Maker}
+use Rattle.lockreplay.specs.declared.pair.Pair.{Pair}
 use Rattle.lockreplay.specs.declared.pair.PairOp.{PairOp}
 use Rattle.lockreplay.specs.declared.pair.PairOp.TheVariants.{Item, Set, Add}
 
@@ -62,8 +63,8 @@ call_fields (Call.Upgrade form party guard) = on_guard (in_form form (codes "upg
 call_fields (Call.Downgrade party guard) = on_guard (codes "downgrade") party guard
 call_fields (Call.DowngradeToUpgradable party guard) = on_guard (codes "downgrade_to_upgradable") party guard
 call_fields (Call.WithUpgraded form party guard (Add k n)) = with_number (in_form form (codes "with_upgraded")) party guard k n
-call_fields (Call.WithUpgraded form party guard (Item k)) = []
-call_fields (Call.WithUpgraded form party guard (Set k n)) = []
+call_fields (Call.WithUpgraded _ party guard (Item k)) = []
+call_fields (Call.WithUpgraded _ party guard (Set k n)) = []
 call_fields (Call.Get party guard (Item k)) = on_item (codes "get") party guard k
 call_fields (Call.Get party guard (Set k n)) = []
 call_fields (Call.Get party guard (Add k n)) = []
@@ -74,3 +75,13 @@ call_fields Call.IsLocked = codes "is_locked" ∷ []
 call_fields Call.IsLockedExclusive = codes "is_locked_exclusive" ∷ []
 call_fields (Call.IsOwnedBy party) = by_party (codes "is_owned_by") party
 call_fields Call.Spent = codes "spent" ∷ []
+
+-- the two numbers of a pair
+abbrev pub pair_fields : Pair → List (List ℕ)
+pair_fields pair = signed_decimal pair.first ∷ signed_decimal pair.second ∷ []
+
+-- the fields of a script's first line
+abbrev pub maker_fields : Maker → List (List ℕ)
+maker_fields (Maker.Mutex places pair) = codes "mutex" ∷ decimal places ∷ pair_fields pair
+maker_fields (Maker.RwLock places readers pair) = codes "rwlock" ∷ decimal places ∷ decimal readers ∷ pair_fields pair
+maker_fields (Maker.Reentrant places levels pair) = codes "reentrant" ∷ decimal places ∷ decimal levels ∷ pair_fields pair
