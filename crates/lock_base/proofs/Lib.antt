@@ -1,0 +1,3 @@
+pub mod TokenBags
+pub mod Compatible
+pub mod Counting
