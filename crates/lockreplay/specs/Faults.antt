@@ -1,7 +1,8 @@
 -- Which faults a step of a replay meets.
-use Rattle.std.specs.Prelude.{ℕ, ◌≤◌, max, List, length, ⊤}
+use Rattle.std.specs.Prelude.{ℕ, List, ⊤}
 use Rattle.lockreplay.specs.declared.fault.ReplayFault.{ReplayFault}
 use Rattle.lockreplay.specs.declared.fault.ReplayFault.TheVariants.{BadLine, TooLong, OutOfMemory, InputFailed, OutputFailed}
+use Rattle.lockreplay.specs.Words.{IsFirstBad}
 
 -- a fault of one read, or of memory for what it gave
 abbrev pub IsInputFault : ReplayFault → Type 0
@@ -19,9 +20,9 @@ IsReadingFault OutOfMemory = ⊤
 IsReadingFault InputFailed = ⊤
 IsReadingFault OutputFailed = ⊥
 
--- a fault of parsing these lines: a bad line is one of them, or the first of none
+-- a fault of parsing these lines: a bad line is the first of them
 abbrev pub IsParsingFault : List (List ℕ) → ReplayFault → Type 0
-IsParsingFault lines (BadLine number) = (1 ≤ number) × (number ≤ max 1 (length lines))
+IsParsingFault lines (BadLine number) = IsFirstBad lines number
 IsParsingFault lines TooLong = ⊥
 IsParsingFault lines OutOfMemory = ⊤
 IsParsingFault lines InputFailed = ⊥

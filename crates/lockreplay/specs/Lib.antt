@@ -3,3 +3,5 @@ pub mod Faults
 pub mod Lines
 pub mod Pair
 pub mod Script
+pub mod Session
+pub mod Words

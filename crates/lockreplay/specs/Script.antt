@@ -80,8 +80,12 @@ call_fields Call.Spent = codes "spent" ∷ []
 abbrev pub pair_fields : Pair → List (List ℕ)
 pair_fields pair = signed_decimal pair.first ∷ signed_decimal pair.second ∷ []
 
+-- a word, the places, a limit and a pair
+abbrev pub limited_fields : List ℕ → ℕ → ℕ → Pair → List (List ℕ)
+limited_fields word places limit pair = word ∷ decimal places ∷ decimal limit ∷ pair_fields pair
+
 -- the fields of a script's first line
 abbrev pub maker_fields : Maker → List (List ℕ)
 maker_fields (Maker.Mutex places pair) = codes "mutex" ∷ decimal places ∷ pair_fields pair
-maker_fields (Maker.RwLock places readers pair) = codes "rwlock" ∷ decimal places ∷ decimal readers ∷ pair_fields pair
-maker_fields (Maker.Reentrant places levels pair) = codes "reentrant" ∷ decimal places ∷ decimal levels ∷ pair_fields pair
+maker_fields (Maker.RwLock places readers pair) = limited_fields (codes "rwlock") places readers pair
+maker_fields (Maker.Reentrant places levels pair) = limited_fields (codes "reentrant") places levels pair

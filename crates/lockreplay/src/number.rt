@@ -1,14 +1,14 @@
 //! Numbers as a script writes them: as the answers write them, with no leading zero and no plus.
-ghost use Rattle.std.specs.Prelude.{◌≡◌, ◌≢◌, ◌^◌, ◌<◌, ◌↔◌, ℕ, ℤ, FitsSigned, IfNone, IfSome, IsTrue, decimal};
+ghost use Rattle.std.specs.Prelude.{◌≡◌, ◌↔◌, IfSome, IsSome, IsTrue, decimal};
 ghost use Rattle.std.specs.Fmt.{signed_decimal};
-ghost use Rattle.std.specs.Int.{w64};
+ghost use Rattle.lockreplay.specs.Words.{IsSigned, IsUnsigned};
 
 use itoa::{Buffer, Integer};
 
 /// The unsigned number of 64 bits that a field is.
 pub fn unsigned(field: &str) -> Option<u64>
-    ensures some { IfSome result (λ number. decimal number ≡ field.now) }
-    ensures none { IfNone result ((number : ℕ) → number < 2 ^ 64 → decimal number ≢ field.now) }
+    ensures text { IfSome result (λ number. decimal number ≡ field.now) }
+    ensures some { IsSome result ↔ IsUnsigned field.now }
 {
     let number: u64 = field.parse().ok()?;
     if is_text_of(number, field) { Some(number) } else { None }
@@ -16,8 +16,8 @@ pub fn unsigned(field: &str) -> Option<u64>
 
 /// The signed number of 64 bits that a field is.
 pub fn signed(field: &str) -> Option<i64>
-    ensures some { IfSome result (λ number. signed_decimal number ≡ field.now) }
-    ensures none { IfNone result ((number : ℤ) → FitsSigned w64 number → signed_decimal number ≢ field.now) }
+    ensures text { IfSome result (λ number. signed_decimal number ≡ field.now) }
+    ensures some { IsSome result ↔ IsSigned field.now }
 {
     let number: i64 = field.parse().ok()?;
     if is_text_of(number, field) { Some(number) } else { None }

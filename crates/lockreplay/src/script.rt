@@ -1,8 +1,9 @@
 //! A script: from its bytes to a maker and calls.
-ghost use Rattle.std.specs.Prelude.{◌≡◌, ◌==◌, ◌<◌, ◌∷◌, length, map, position, IfOk, IfErr, IfSome};
+ghost use Rattle.std.specs.Prelude.{◌≡◌, ◌==◌, ◌<◌, ◌↔◌, ◌∷◌, length, map, position, IfOk, IfErr, IfSome, IsSome};
 ghost use Rattle.lockreplay.specs.Faults.{IsParsingFault};
 ghost use Rattle.lockreplay.specs.Lines.{fields_of, lines_of};
 ghost use Rattle.lockreplay.specs.Script.{call_fields, maker_fields};
+ghost use Rattle.lockreplay.specs.Words.{IsCallLine, IsMakerLine};
 
 use crate::fault::ReplayFault;
 use crate::line;
@@ -66,7 +67,8 @@ fn line_end(bytes: &[u8]) -> Option<usize>
 
 /// What a first line makes. None: it is bad.
 fn read_maker(alloc: Global, line: &[u8]) -> Result<Option<Maker>, AllocError>
-    ensures { IfOk result (λ found. IfSome found (λ maker. maker_fields maker ≡ fields_of line.now)) }
+    ensures some { IfOk result (λ found. IsSome found ↔ IsMakerLine line.now) }
+    ensures fields { IfOk result (λ found. IfSome found (λ maker. maker_fields maker ≡ fields_of line.now)) }
 {
     let Ok(line) = str::from_utf8(line) else {
         return Ok(None);
@@ -77,7 +79,8 @@ fn read_maker(alloc: Global, line: &[u8]) -> Result<Option<Maker>, AllocError>
 
 /// The call of a further line. None: it is bad.
 fn read_call(alloc: Global, line: &[u8]) -> Result<Option<Call<PairOp>>, AllocError>
-    ensures { IfOk result (λ found. IfSome found (λ call. call_fields call ≡ fields_of line.now)) }
+    ensures some { IfOk result (λ found. IsSome found ↔ IsCallLine line.now) }
+    ensures fields { IfOk result (λ found. IfSome found (λ call. call_fields call ≡ fields_of line.now)) }
 {
     let Ok(line) = str::from_utf8(line) else {
         return Ok(None);
