@@ -37,6 +37,29 @@ impl Model for TokenTable {
 }
 
 impl TokenTable {
+    /// How many tokens of each mode are out.
+    pub fn tally(&self) -> Bag
+        ensures bag { result ≡ bag_of_tokens (tokens_of self.now.places) }
+        ensures number { tokens result ≡ length (tokens_of self.now.places) }
+        ensures within { tokens result ≤ length self.now.places }
+        ensures small { length self.now.places < 2 ^ 32 }
+    {
+        let mut bag = Bag::empty();
+        for place in &self.places {
+            if let Some(mode) = place {
+                bag = bag.one_more(*mode);
+            }
+        }
+        bag
+    }
+
+    /// How many tokens may be shared or upgradable.
+    pub fn readers(&self) -> u64
+        ensures { result ≡ self.now.readers }
+    {
+        self.readers
+    }
+
     /// Whether there is a place for one more token.
     pub fn room(&self) -> bool
         ensures { IsTrue result ↔ (length (tokens_of self.now.places) < length self.now.places) }
@@ -68,22 +91,6 @@ impl TokenTable {
         ensures full { IfNone result (length (tokens_of self.now.places) ≡ length self.now.places) }
     {
         self.places.iter().position(|place| place.is_none())
-    }
-
-    /// How many tokens of each mode are out.
-    fn tally(&self) -> Bag
-        ensures bag { result ≡ bag_of_tokens (tokens_of self.now.places) }
-        ensures number { tokens result ≡ length (tokens_of self.now.places) }
-        ensures within { tokens result ≤ length self.now.places }
-        ensures small { length self.now.places < 2 ^ 32 }
-    {
-        let mut bag = Bag::empty();
-        for place in &self.places {
-            if let Some(mode) = place {
-                bag = bag.one_more(*mode);
-            }
-        }
-        bag
     }
 }
 

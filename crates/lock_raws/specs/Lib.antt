@@ -1,0 +1,2 @@
+pub mod LegalTable
+pub mod LetsOn

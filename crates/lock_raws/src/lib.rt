@@ -1,0 +1,19 @@
+//! Raw locks over a sequential state behind a lock of std's.
+#![tactic(auto)]
+
+mod held_place;
+mod legal_table;
+mod lets_on;
+mod mutex;
+mod rwlock;
+mod sequential_state;
+mod state_raw;
+#[cfg(test)]
+mod tests;
+mod tokens;
+
+pub use held_place::HeldPlace;
+pub use legal_table::LegalTable;
+pub use sequential_state::SequentialState;
+pub use state_raw::{StateRaw, TokenRaw};
+pub use tokens::{ExclusiveToken, SharedToken, UpgradableToken};
