@@ -15,3 +15,32 @@ pub fn which(words: &[String]) -> Option<Which>
         _ => None,
     }
 }
+
+#[cfg(test)]
+mod tests {
+    use super::which;
+    use crate::choice::Which;
+    use std::test::Fail;
+
+    #[test]
+    fn one_word_is_a_machine(rt: HostRuntime) -> Result<(), Fail> {
+        let alloc = rt.alloc();
+        for (text, want) in [
+            ("table", Some(Which::Table)),
+            ("word", None),
+            ("steps", None),
+            ("tables", None),
+            ("", None),
+        ] {
+            let word = String::from_str(alloc, text)?;
+            assert_eq!(rt; which(&[word]), want, "at {text:?}");
+        }
+        let twice = [
+            String::from_str(alloc, "table")?,
+            String::from_str(alloc, "table")?,
+        ];
+        assert_eq!(rt; which(&twice), None);
+        assert_eq!(rt; which(&[]), None);
+        Ok(())
+    }
+}
