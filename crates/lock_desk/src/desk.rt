@@ -25,7 +25,7 @@ use std::marker::Model;
 /// guards does, and none but the makers and `run` takes memory.
 #[derive(Drop)]
 pub struct Desk<R: RawState, T> {
-    guards: Guards<R>,
+    pub(crate) guards: Guards<R>,
     value: T,
     last: u64,
     spent: u64,
