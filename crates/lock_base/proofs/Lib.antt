@@ -1,3 +1,5 @@
 pub mod TokenBags
 pub mod Compatible
 pub mod Counting
+pub mod Lenses
+pub mod ModeLemmas

@@ -12,3 +12,7 @@ pub mod Refusals
 pub mod Calls
 pub mod Steps
 pub mod Legal
+pub mod Inner
+pub mod Held
+pub mod Lens
+pub mod Then

@@ -1,0 +1,3 @@
+pub use Rattle.lock_mutex.specs.MutexGuard
+pub use Rattle.lock_rwlock.specs.Closure
+pub use Rattle.lock_rwlock.specs.RwLockGuard

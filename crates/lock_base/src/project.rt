@@ -1,0 +1,13 @@
+//! Projections: a part of a value, read and written through the whole.
+mod laws;
+mod missed;
+mod projection;
+mod then;
+
+pub use laws::{
+    mapping_twice_is_then, missed_write_changes_nothing, then_is_associative, then_is_lawful,
+    then_misses_in_order, write_keeps_part,
+};
+pub use missed::Missed;
+pub use projection::{Project, TryProject};
+pub use then::Then;

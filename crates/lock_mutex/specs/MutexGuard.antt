@@ -1,0 +1,17 @@
+-- What the guard of a mutex shows.
+use Rattle.std.specs.Prelude.{Option}
+use Rattle.lock_base.specs.Held.{held_value, held_with_value}
+use Rattle.lock_mutex.specs.declared.guard.Guard.{Guard}
+
+module _ {L V K W X : Type 0} {g : _} where
+  -- the mutex that a guard is of
+  abbrev pub lock_of : Guard L V K W X g → L
+  lock_of guard = guard.held.lock
+
+  -- the value that a guard shows
+  abbrev pub guard_value : (V → X) → Guard L V K W X g → Option X
+  guard_value value_of guard = held_value value_of guard.held
+
+  -- the same guard, with another value behind it
+  abbrev pub guard_with_value : (V → X → V) → Guard L V K W X g → X → Guard L V K W X g
+  guard_with_value with_value guard value = record { held = held_with_value with_value guard.held value }

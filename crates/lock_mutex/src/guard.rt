@@ -1,0 +1,119 @@
+//! The guard of a mutex.
+ghost use Rattle.std.specs.Prelude.{◌≡◌, Some};
+ghost use Rattle.std.specs.Borrow.{Lends, sem};
+
+use crate::Mutex;
+use lock_base::guard::{Acquire, AcquireFair, Held, ValueGuard, ValueGuardMut};
+use lock_base::raw::{RawMutex, RawMutexFair};
+use std::fmt;
+use std::fmt::{Debug, Display, Formatter};
+use std::ops::{Deref, DerefMut};
+
+/// The right to the value of a mutex, `L` being a reference to it. Its end gives the mutex up.
+#[derive(Drop)]
+pub struct Guard<L: Acquire> {
+    held: Held<L>,
+}
+
+/// The right to the value of a mutex. Its end gives the mutex up.
+pub type MutexGuard<'a, R, T> = Guard<&'a Mutex<R, T>>;
+
+impl<'a, R: RawMutex, T> Guard<&'a Mutex<R, T>> {
+    ghost use Rattle.lock_mutex.specs.MutexGuard.{lock_of};
+
+    pub(crate) fn new(mutex: &'a Mutex<R, T>, token: R::Guard) -> MutexGuard<'a, R, T>
+        ensures { (lock_of result).ref_ptr ≡ mutex.entry.ref_ptr }
+    {
+        Guard {
+            held: Held::new(mutex, token),
+        }
+    }
+
+    /// The mutex that the guard was made of.
+    pub fn mutex(guard: &MutexGuard<'a, R, T>) -> &'a Mutex<R, T>
+        ensures { result.ref_ptr ≡ (lock_of guard.now).ref_ptr }
+    {
+        guard.held.lock
+    }
+
+    /// Gives the mutex up for the length of the closure, and waits for it again.
+    pub fn unlocked<U, F: FnOnce() -> U>(guard: &mut MutexGuard<'a, R, T>, f: F) -> U
+        requires { F.IsAlwaysCallable f }
+        ensures answer { F.post f result }
+        ensures lock { lock_of guard.new ≡ lock_of guard.old }
+    {
+        guard.held.unlocked(f)
+    }
+}
+
+impl<'a, R: RawMutexFair, T> Guard<&'a Mutex<R, T>> {
+    ghost use Rattle.lock_mutex.specs.MutexGuard.{lock_of};
+
+    /// Ends the guard, and lets those that wait go first.
+    pub fn unlock_fair(guard: MutexGuard<'a, R, T>) {
+        guard.held.unlock_fair();
+    }
+
+    /// `unlocked`, by a fair release.
+    pub fn unlocked_fair<U, F: FnOnce() -> U>(guard: &mut MutexGuard<'a, R, T>, f: F) -> U
+        requires { F.IsAlwaysCallable f }
+        ensures answer { F.post f result }
+        ensures lock { lock_of guard.new ≡ lock_of guard.old }
+    {
+        guard.held.unlocked_fair(f)
+    }
+
+    /// Lets those that wait go first, and waits for the mutex again.
+    pub fn bump(guard: &mut MutexGuard<'a, R, T>)
+        ensures { lock_of guard.new ≡ lock_of guard.old }
+    {
+        guard.held.bump();
+    }
+}
+
+impl<L: Acquire> Deref for Guard<L> {
+    ghost use Rattle.lock_mutex.specs.MutexGuard.{guard_value};
+
+    type Target = <L::Shown as ValueGuard>::Value;
+
+    ghost deref_gives = { λ guard value. guard_value L.Shown.shown guard ≡ Some value };
+
+    fn deref(&self) -> &<L::Shown as ValueGuard>::Value {
+        self.held.value()
+    }
+}
+
+impl<L: Acquire> DerefMut for Guard<L>
+where
+    L::Shown: ValueGuardMut,
+{
+    ghost use Rattle.lock_mutex.specs.contracts.guard.Guard.{the_row};
+    ghost use Rattle.lock_mutex.specs.MutexGuard.{guard_value, guard_with_value};
+
+    ghost deref_mut_gives = { λ guard value. guard_value L.Shown.shown guard ≡ Some value };
+
+    fn deref_mut(&mut self) -> &mut <L::Shown as ValueGuard>::Value
+        ensures* writes_back { sem 𝓛 (Lends (the_row L.row L.Shown.row L.Token.row L.Waiter.row L.Shown.Value.row L.Shown.ValueGuard) L.Shown.Value.row self.entry result (guard_with_value L.Shown.with_shown self.old)) }
+        ensures value { guard_value L.Shown.shown self.old ≡ Some result.now }
+    {
+        self.held.value_mut()
+    }
+}
+
+impl<L: Acquire> Debug for Guard<L>
+where
+    <L::Shown as ValueGuard>::Value: Debug,
+{
+    fn fmt<W: fmt::Write>(&self, f: &mut Formatter<W>) -> fmt::Result {
+        self.held.value().fmt(f)
+    }
+}
+
+impl<L: Acquire> Display for Guard<L>
+where
+    <L::Shown as ValueGuard>::Value: Display,
+{
+    fn fmt<W: fmt::Write>(&self, f: &mut Formatter<W>) -> fmt::Result {
+        self.held.value().fmt(f)
+    }
+}

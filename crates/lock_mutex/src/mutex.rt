@@ -1,0 +1,154 @@
+//! A mutex over any raw lock.
+ghost use Rattle.std.specs.Prelude.{◌≡◌, IfSome, IsOk, IsOkUnless};
+
+use crate::{Guard, MutexGuard};
+use lock_base::guard::{Acquire, AcquireFair, Locked, Release, fmt_lock};
+use lock_base::raw::{Fault, RawMutex, RawMutexFair, RawMutexTimed};
+use std::alloc::Global;
+use std::fmt::{Debug, Formatter};
+use std::{fmt, sync};
+
+/// A value behind a raw lock. It lies in a std lock, which is taken after the raw lock admits and given back before
+/// the raw lock is. So a raw lock that lies can make a call wait, and nothing worse.
+#[derive(Drop)]
+pub struct Mutex<R, T> {
+    raw: R,
+    value: sync::Mutex<T>,
+}
+
+impl<R: RawMutex, T> Mutex<R, T> {
+    ghost use Rattle.lock_mutex.specs.MutexGuard.{lock_of};
+
+    /// A free mutex over a new raw lock. Where that is refused, the value is dropped.
+    pub fn new(alloc: Global, waiter: R::Waiter, value: T) -> Result<Mutex<R, T>, Fault>
+    where
+        T: Drop,
+        ensures { IsOkUnless result Fault.OutOfMemory }
+    {
+        Mutex::from_raw(R::new(alloc, waiter)?, value)
+    }
+
+    /// `new`, under the name of std's conversion.
+    pub fn from(alloc: Global, waiter: R::Waiter, value: T) -> Result<Mutex<R, T>, Fault>
+    where
+        T: Drop,
+        ensures { IsOkUnless result Fault.OutOfMemory }
+    {
+        Mutex::new(alloc, waiter, value)
+    }
+
+    /// `new`, over the default value.
+    pub fn default(alloc: Global, waiter: R::Waiter) -> Result<Mutex<R, T>, Fault>
+    where
+        T: Default + Drop,
+        ensures { IsOkUnless result Fault.OutOfMemory }
+    {
+        Mutex::new(alloc, waiter, T::default())
+    }
+
+    /// A mutex over a raw lock that was made apart. It takes no memory, so it is never refused.
+    pub fn from_raw(raw: R, value: T) -> Result<Mutex<R, T>, Fault>
+        ensures { IsOk result }
+    {
+        Ok(Mutex {
+            raw,
+            value: sync::Mutex::new(value),
+        })
+    }
+
+    pub fn into_inner(self) -> T
+    where
+        R: Drop,
+    {
+        self.into_inner_with_raw().1
+    }
+
+    /// The raw lock, and the value.
+    pub fn into_inner_with_raw(self) -> (R, T) {
+        let Mutex { raw, value } = self;
+        (raw, value.into_inner())
+    }
+
+    pub fn get_mut(&mut self) -> &mut T {
+        self.value.get_mut()
+    }
+
+    /// Waits until the raw lock admits.
+    pub fn lock(&self) -> MutexGuard<'_, R, T>
+        ensures { (lock_of result).ref_ptr ≡ self.entry.ref_ptr }
+    {
+        Guard::new(self, self.raw.lock())
+    }
+
+    /// None where the raw lock refuses.
+    pub fn try_lock(&self) -> Option<MutexGuard<'_, R, T>>
+        ensures { IfSome result (λ guard. (lock_of guard).ref_ptr ≡ self.entry.ref_ptr) }
+    {
+        Some(Guard::new(self, self.raw.try_lock()?))
+    }
+
+    /// What the raw lock answers, which may be old at once.
+    pub fn is_locked(&self) -> bool {
+        self.raw.is_locked()
+    }
+}
+
+impl<R: RawMutexTimed, T> Mutex<R, T> {
+    ghost use Rattle.lock_mutex.specs.MutexGuard.{lock_of};
+
+    /// None where the raw lock refuses for that long.
+    pub fn try_lock_for(&self, timeout: R::Duration) -> Option<MutexGuard<'_, R, T>>
+        ensures { IfSome result (λ guard. (lock_of guard).ref_ptr ≡ self.entry.ref_ptr) }
+    {
+        Some(Guard::new(self, self.raw.try_lock_for(timeout)?))
+    }
+
+    /// None where the raw lock refuses until then.
+    pub fn try_lock_until(&self, deadline: R::Instant) -> Option<MutexGuard<'_, R, T>>
+        ensures { IfSome result (λ guard. (lock_of guard).ref_ptr ≡ self.entry.ref_ptr) }
+    {
+        Some(Guard::new(self, self.raw.try_lock_until(deadline)?))
+    }
+}
+
+impl<R: RawMutex, T> Release for &Mutex<R, T> {
+    type Token = R::Guard;
+
+    type Waiter = R::Waiter;
+
+    fn release(&self, token: R::Guard) {
+        self.raw.unlock(token);
+    }
+}
+
+impl<'a, R: RawMutex, T> Acquire for &'a Mutex<R, T> {
+    type Shown = sync::MutexGuard<'a, T>;
+
+    fn acquire(&self) -> R::Guard {
+        self.raw.lock()
+    }
+
+    fn show(&self) -> sync::MutexGuard<'a, T> {
+        let mutex: &'a Mutex<R, T> = *self;
+        mutex.value.lock(mutex.raw.waiter())
+    }
+}
+
+impl<'a, R: RawMutexFair, T> AcquireFair for &'a Mutex<R, T> {
+    fn release_fair(&self, token: R::Guard) {
+        self.raw.unlock_fair(token);
+    }
+
+    fn bump(&self, token: R::Guard) -> R::Guard {
+        self.raw.bump(token)
+    }
+}
+
+impl<R: RawMutex, T: Debug> Debug for Mutex<R, T> {
+    fn fmt<W: fmt::Write>(&self, f: &mut Formatter<W>) -> fmt::Result {
+        match self.try_lock() {
+            Some(guard) => fmt_lock(f, "Mutex", &*guard),
+            None => fmt_lock(f, "Mutex", &Locked),
+        }
+    }
+}

@@ -1,0 +1,2 @@
+pub mod ConditionLoop
+pub mod Script
