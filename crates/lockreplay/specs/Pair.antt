@@ -43,5 +43,5 @@ meaning op = record {
   fits = fits op;
   asked = item (item_of op);
   applied = new_item op;
-  after = λ pair. with_item (item_of op) (new_item op pair) pair
+  after = λ pair. with_item (item_of op) (new_item op pair) pair;
 }

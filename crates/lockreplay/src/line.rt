@@ -166,13 +166,7 @@ fn of_item(word: &str, party: PartyId, guard: u64, item: u64) -> Option<Call<Pai
 }
 
 /// The call of a word, a party, a guard, an item and a number.
-fn of_number(
-    word: &str,
-    party: PartyId,
-    guard: u64,
-    item: u64,
-    number: i64,
-) -> Option<Call<PairOp>>
+fn of_number(word: &str, party: PartyId, guard: u64, item: u64, number: i64) -> Option<Call<PairOp>>
     ensures fields { IfSome result (λ call. call_fields call ≡ with_number word.now party guard item number) }
     ensures words { IsSome result ↔ IsOneOf number_words word.now }
 {

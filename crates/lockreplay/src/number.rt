@@ -11,7 +11,11 @@ pub fn unsigned(field: &str) -> Option<u64>
     ensures some { IsSome result ↔ IsUnsigned field.now }
 {
     let number: u64 = field.parse().ok()?;
-    if is_text_of(number, field) { Some(number) } else { None }
+    if is_text_of(number, field) {
+        Some(number)
+    } else {
+        None
+    }
 }
 
 /// The signed number of 64 bits that a field is.
@@ -20,7 +24,11 @@ pub fn signed(field: &str) -> Option<i64>
     ensures some { IsSome result ↔ IsSigned field.now }
 {
     let number: i64 = field.parse().ok()?;
-    if is_text_of(number, field) { Some(number) } else { None }
+    if is_text_of(number, field) {
+        Some(number)
+    } else {
+        None
+    }
 }
 
 /// Whether the field is what an answer writes for the number.

@@ -209,7 +209,10 @@ fn the_last_line_may_lack_its_end(rt: HostRuntime) -> Result<(), Fail> {
     let mut script: &[u8] = b"mutex 4 -9223372036854775808 0\nlock 1\nget 1 1 0";
     let got = replay(alloc, Which::Table, &mut script, &mut out);
     assert_eq!(rt; got, Ok(()));
-    assert_eq!(rt; out.as_slice(), b"ok\nguard 1\nvalue -9223372036854775808\n".as_slice());
+    assert_eq!(rt;
+        out.as_slice(),
+        b"ok\nguard 1\nvalue -9223372036854775808\n".as_slice()
+    );
     Ok(())
 }
 

@@ -10,7 +10,7 @@ invariant-loop-rest l = record {
   lines : maker_fields l.maker ∷ (map call_fields l.calls.items ++ map fields_of (lines_of l.rest)) ≡ map fields_of (lines_of l.bytes);
   count : vec_len l.calls + (1 + length (lines_of l.rest)) ≡ length (lines_of l.bytes);
   next : l.number ≡ vec_len l.calls + 2;
-  first : (bad : ℕ) → IsFirstBadCall (lines_of l.rest) l.number bad → IsFirstBad (lines_of l.bytes) bad
+  first : (bad : ℕ) → IsFirstBadCall (lines_of l.rest) l.number bad → IsFirstBad (lines_of l.bytes) bad;
 }
 
 abbrev pub decreases-loop-rest : goal.decreases-loop-rest
