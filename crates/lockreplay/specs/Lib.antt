@@ -1,0 +1,7 @@
+pub mod Answers
+pub mod Faults
+pub mod Lines
+pub mod Pair
+pub mod Script
+pub mod Session
+pub mod Words

@@ -1,0 +1,8 @@
+//! The machine that a script is run on.
+
+/// The machine that a script is run on.
+#[derive(Clone, Copy, PartialEq, Eq, Debug)]
+pub enum Which {
+    /// A desk over a table of tokens.
+    Table,
+}

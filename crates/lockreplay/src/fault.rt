@@ -1,0 +1,18 @@
+//! Why a replay ends early.
+use thiserror::Error;
+
+/// Why a replay ended before all answers were written. The texts are those of the program.
+#[derive(Clone, Copy, Debug, PartialEq, Eq, Error)]
+pub enum ReplayFault {
+    /// The first line, counted from 1, that is none of the format's.
+    #[error("bad line {0}")]
+    BadLine(u64),
+    #[error("input too long")]
+    TooLong,
+    #[error("out of memory")]
+    OutOfMemory,
+    #[error("input failed")]
+    InputFailed,
+    #[error("output failed")]
+    OutputFailed,
+}
