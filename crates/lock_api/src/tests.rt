@@ -1,9 +1,10 @@
 //! Tests that span crates.
 mod callers;
-mod flag;
 mod liar;
 mod markers;
 mod mutex;
 mod rwlock;
 mod rwlock_callers;
 mod rwlock_liar;
+mod rwlock_rows;
+mod shared_like_desk;

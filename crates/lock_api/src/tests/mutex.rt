@@ -1,13 +1,12 @@
 //! The mutex, over a raw lock that is honest and over one that lies.
-use super::flag::Flag;
 use super::liar::Liar;
-use crate::{Fault, Mutex, MutexGuard, RawMutex};
+use crate::{Fault, Mutex, MutexGuard, RawMutex, TokenRaw};
 use std::alloc::Global;
 use std::test::Fail;
 use std::thread;
 
 /// A number behind an honest raw lock.
-type Counter = Mutex<Flag<HostRuntime>, u64>;
+type Counter = Mutex<TokenRaw<HostRuntime>, u64>;
 
 /// Adds 1 to the value, a thousand times.
 fn add_a_thousand<R: RawMutex>(counter: &Mutex<R, u64>) {
@@ -44,12 +43,12 @@ fn four_threads_count_over_a_lying_raw_lock(rt: HostRuntime) -> Result<(), Fail>
 #[test]
 fn a_mutex_gives_what_was_put_in(rt: HostRuntime) -> Result<(), Fail> {
     let alloc: Global = rt.alloc();
-    let raw = Flag::new(alloc, rt)?;
-    let mut mutex: Counter = Mutex::from_raw(raw, 5)?;
+    let raw: TokenRaw<HostRuntime> = RawMutex::new(alloc, rt)?;
+    let mut mutex = Mutex::from_raw(raw, 5u64)?;
     *mutex.get_mut() = 6;
     let (raw, value) = mutex.into_inner_with_raw();
     assert_eq!(rt; value, 6);
-    assert!(rt; !raw.is_locked());
+    assert!(rt; raw.try_lock().is_some());
     Ok(())
 }
 
