@@ -4,16 +4,29 @@
 pub use lock_base::machine::{
     Bag, Call, Form, Kind, Mode, ModeStep, Op, PartyId, Reply, Want, Way,
 };
-pub use lock_base::project::{Missed, Project, Then, TryProject};
-pub use lock_base::raw::{
-    DEFAULT_READERS, Fault, GuardNoSend, GuardSend, MAX_LIMIT, RawMutex, RawMutexFair, RawMutexTimed, RawRwLock,
-    RawRwLockDowngrade, RawRwLockFair, RawRwLockTimed, RawRwLockUpgrade, RawRwLockUpgradeDowngrade,
-    RawRwLockUpgradeFair, RawRwLockUpgradeTimed, RawState, is_limit,
+pub use lock_base::project::{
+    Missed, Project, Then, TryProject, mapping_twice_is_then, missed_write_changes_nothing,
+    then_is_associative, then_is_lawful, then_misses_in_order, write_keeps_part,
 };
+pub use lock_base::raw::{
+    DEFAULT_READERS, Fault, GuardNoSend, GuardSend, MAX_LIMIT, RawMutex, RawMutexFair,
+    RawMutexTimed, RawRwLock, RawRwLockDowngrade, RawRwLockFair, RawRwLockTimed, RawRwLockUpgrade,
+    RawRwLockUpgradeDowngrade, RawRwLockUpgradeFair, RawRwLockUpgradeTimed, RawState, is_limit,
+};
+pub use lock_base_laws::{
+    nested_guards_make_one_token, numbers_are_used_once, only_writes_change_value,
+    parked_is_resumed, readers_see_one_value, refusals_keep_machine, refused_upgrades_keep_guard,
+    runs_are_sound, spent_counts_releases, tokens_are_those_held,
+};
+pub use lock_desk::Desk;
 pub use lock_mutex::{Mutex, MutexGuard};
+pub use lock_mutex_loop::{LoopEnd, Script, Waits, run_loop};
 pub use lock_raws::{ExclusiveToken, SharedToken, StateRaw, TokenRaw, UpgradableToken};
-pub use lock_states::table::{TableToken, TokenTable};
+pub use lock_remutex::{
+    DEFAULT_LEVELS, Levels, RawReentrantMutex, ReentrantMutex, ReentrantMutexGuard,
+};
 pub use lock_rwlock::{RwLock, RwLockReadGuard, RwLockUpgradableReadGuard, RwLockWriteGuard};
+pub use lock_states::table::{TableToken, TokenTable};
 
 #[cfg(test)]
 mod tests;

@@ -1,0 +1,257 @@
+//! Rows of calls, each made on a reader-writer lock over a table of tokens and on a desk, with equal answers.
+ghost use Rattle.std.specs.Prelude.{true};
+
+use crate::{
+    Call, Form, Op, PartyId, RawRwLock, Reply, RwLock, RwLockReadGuard, RwLockUpgradableReadGuard,
+    RwLockWriteGuard, TokenRaw, TokenTable, Want, Way,
+};
+use lock_base::guard::AcquireFair;
+use lock_desk::Desk;
+use lock_rwlock::RwLockGuard;
+use std::clone::Clone;
+use std::sync::Wait;
+use std::test::Fail;
+
+type Table = Desk<TokenTable, u64>;
+
+type Shared<W> = RwLock<TokenRaw<W>, u64>;
+
+type Upgradable<'a, W> = RwLockUpgradableReadGuard<'a, TokenRaw<W>, u64>;
+
+/// Puts a value in place of the old one, and answers it. Where it only reads, it answers the value that is there.
+#[derive(Clone, Copy)]
+struct Put(u64);
+
+impl Op<u64> for Put {
+    type Answer = u64;
+
+    ghost meaning = { λ put. record {
+      fits = λ _. true;
+      asked = λ value. value;
+      applied = λ _. put.0;
+      after = λ _. put.0;
+    } };
+
+    fn fits(&self, _value: &u64) -> bool {
+        true
+    }
+
+    fn ask(&self, value: &u64) -> u64 {
+        *value
+    }
+
+    fn apply(&self, value: &mut u64) -> u64 {
+        *value = self.0;
+        self.0
+    }
+}
+
+/// Makes the call on the desk, whose reply is to be the lock's.
+fn same(desk: &mut Table, call: Call<Put>, on_lock: Reply<u64>) -> Result<(), Fail> {
+    if desk.apply(&call) == on_lock {
+        Ok(())
+    } else {
+        Err(Fail::from("the desk and the lock answer differently"))
+    }
+}
+
+/// The reply to a try of an operation under an upgraded guard.
+fn answered(answer: Option<u64>) -> Reply<u64> {
+    match answer {
+        Some(answer) => Reply::Answer(answer),
+        None => Reply::NoGuard,
+    }
+}
+
+/// The reply to an acquisition whose guard has this number.
+fn given(is_given: bool, number: u64) -> Reply<u64> {
+    if is_given {
+        Reply::Guard(number)
+    } else {
+        Reply::NoGuard
+    }
+}
+
+fn party(id: u64) -> Result<PartyId, Fail> {
+    Ok(PartyId::new(id).ok_or("the id of a party is not 0")?)
+}
+
+/// Puts 2, 3 and 4 under an upgraded guard, by one form of a try each.
+fn put_by_each_form<W: Wait + Clone + Drop>(
+    desk: &mut Table,
+    one: PartyId,
+    guard: &mut Upgradable<'_, W>,
+) -> Result<(), Fail> {
+    let put = |value: &mut u64| {
+        *value = 2;
+        *value
+    };
+    let answer = answered(guard.try_with_upgraded(put));
+    same(desk, Call::WithUpgraded(Form::Try, one, 1, Put(2)), answer)?;
+    let put = |value: &mut u64| {
+        *value = 3;
+        *value
+    };
+    let answer = answered(guard.try_with_upgraded_for((), put));
+    same(desk, Call::WithUpgraded(Form::For, one, 1, Put(3)), answer)?;
+    let put = |value: &mut u64| {
+        *value = 4;
+        *value
+    };
+    let answer = answered(guard.try_with_upgraded_until((), put));
+    same(desk, Call::WithUpgraded(Form::Until, one, 1, Put(4)), answer)
+}
+
+/// The same guard, after a refused try by each form.
+fn refused_by_each_form<'a, W: Wait + Clone + Drop>(
+    desk: &mut Table,
+    one: PartyId,
+    guard: Upgradable<'a, W>,
+) -> Result<Upgradable<'a, W>, Fail> {
+    let guard = RwLockUpgradableReadGuard::try_upgrade(guard).err();
+    let guard = guard.ok_or("upgraded beside a reader")?;
+    same(desk, Call::Upgrade(Form::Try, one, 1), Reply::NoGuard)?;
+    let guard = RwLockUpgradableReadGuard::try_upgrade_for(guard, ()).err();
+    let guard = guard.ok_or("upgraded beside a reader")?;
+    same(desk, Call::Upgrade(Form::For, one, 1), Reply::NoGuard)?;
+    let guard = RwLockUpgradableReadGuard::try_upgrade_until(guard, ()).err();
+    let guard = guard.ok_or("upgraded beside a reader")?;
+    same(desk, Call::Upgrade(Form::Until, one, 1), Reply::NoGuard)?;
+    Ok(guard)
+}
+
+#[test]
+fn an_upgrade_waits_for_readers(rt: HostRuntime) -> Result<(), Fail> {
+    let one = party(1)?;
+    let two = party(2)?;
+    let lock: Shared<HostRuntime> = RwLock::with_readers(rt.alloc(), rt, 8, 1)?;
+    let mut table = Table::rwlock(rt.alloc(), 4, 8, 1)?;
+    let desk = &mut table;
+
+    let guard = lock.upgradable_read();
+    same(desk, Call::Acquire(Want::UpgradableRead, Form::Block, one), Reply::Guard(1))?;
+    let reader = lock.read();
+    same(desk, Call::Acquire(Want::Read, Form::Block, two), Reply::Guard(2))?;
+    let mut guard = refused_by_each_form(desk, one, guard)?;
+    put_by_each_form(desk, one, &mut guard)?;
+    same(desk, Call::Get(one, 1, Put(0)), Reply::Answer(*guard))?;
+    let is_given = lock.try_upgradable_read().is_some();
+    same(desk, Call::Acquire(Want::UpgradableRead, Form::Try, two), given(is_given, 3))?;
+    let is_given = lock.try_write_for(()).is_some();
+    same(desk, Call::Acquire(Want::Write, Form::For, two), given(is_given, 3))?;
+
+    drop(reader);
+    same(desk, Call::Unlock(two, 2, Way::Plain), Reply::Done)?;
+    put_by_each_form(desk, one, &mut guard)?;
+    let writer = RwLockUpgradableReadGuard::upgrade(guard);
+    same(desk, Call::Upgrade(Form::Block, one, 1), Reply::Done)?;
+    same(desk, Call::IsLockedExclusive, Reply::Bool(lock.is_locked_exclusive()))?;
+    let guard = RwLockWriteGuard::downgrade_to_upgradable(writer);
+    same(desk, Call::DowngradeToUpgradable(one, 1), Reply::Done)?;
+    same(desk, Call::IsLockedExclusive, Reply::Bool(lock.is_locked_exclusive()))?;
+    let writer = RwLockUpgradableReadGuard::try_upgrade_for(guard, ()).ok();
+    same(desk, Call::Upgrade(Form::For, one, 1), Reply::Done)?;
+    let reader = RwLockWriteGuard::downgrade(writer.ok_or("not upgraded alone")?);
+    same(desk, Call::Downgrade(one, 1), Reply::Done)?;
+    assert_eq!(rt; *reader, 4);
+    same(desk, Call::Get(one, 1, Put(0)), Reply::Answer(*reader))?;
+    drop(reader);
+    same(desk, Call::Unlock(one, 1, Way::Plain), Reply::Done)?;
+    same(desk, Call::IsLocked, Reply::Bool(lock.is_locked()))
+}
+
+/// Gives a guard up and takes it again, plainly, fairly and at once, and ends it.
+fn gives_up_and_takes_again<R: RawRwLock, L: AcquireFair>(
+    desk: &mut Table,
+    one: PartyId,
+    number: u64,
+    lock: &RwLock<R, u64>,
+    guard: RwLockGuard<L>,
+) -> Result<(), Fail> {
+    let mut guard = guard;
+    let is_locked = RwLockGuard::unlocked(&mut guard, || lock.is_locked());
+    same(desk, Call::Park(one, number), Reply::Done)?;
+    same(desk, Call::IsLocked, Reply::Bool(is_locked))?;
+    same(desk, Call::Resume(one, number), Reply::Done)?;
+    let is_locked = RwLockGuard::unlocked_fair(&mut guard, || lock.is_locked());
+    same(desk, Call::ParkFair(one, number), Reply::Done)?;
+    same(desk, Call::IsLocked, Reply::Bool(is_locked))?;
+    same(desk, Call::Resume(one, number), Reply::Done)?;
+    RwLockGuard::bump(&mut guard);
+    same(desk, Call::Bump(one, number), Reply::Done)?;
+    same(desk, Call::IsLocked, Reply::Bool(lock.is_locked()))?;
+    RwLockGuard::unlock_fair(guard);
+    same(desk, Call::Unlock(one, number, Way::Fair), Reply::Done)?;
+    same(desk, Call::IsLocked, Reply::Bool(lock.is_locked()))
+}
+
+#[test]
+fn each_guard_is_given_up_and_taken_again(rt: HostRuntime) -> Result<(), Fail> {
+    let one = party(1)?;
+    let lock: Shared<HostRuntime> = RwLock::with_readers(rt.alloc(), rt, 1, 0)?;
+    let mut table = Table::rwlock(rt.alloc(), 1, 1, 0)?;
+    let desk = &mut table;
+
+    let reader = lock.try_read_for(()).ok_or("not free")?;
+    same(desk, Call::Acquire(Want::Read, Form::For, one), Reply::Guard(1))?;
+    gives_up_and_takes_again(desk, one, 1, &lock, reader)?;
+    let writer = lock.try_write_until(()).ok_or("not free")?;
+    same(desk, Call::Acquire(Want::Write, Form::Until, one), Reply::Guard(2))?;
+    gives_up_and_takes_again(desk, one, 2, &lock, writer)?;
+    let guard = lock.try_upgradable_read_for(()).ok_or("not free")?;
+    same(desk, Call::Acquire(Want::UpgradableRead, Form::For, one), Reply::Guard(3))?;
+    gives_up_and_takes_again(desk, one, 3, &lock, guard)
+}
+
+#[test]
+fn a_guard_goes_up_and_down_in_place(rt: HostRuntime) -> Result<(), Fail> {
+    let one = party(1)?;
+    let lock: Shared<HostRuntime> = RwLock::with_readers(rt.alloc(), rt, 8, 0)?;
+    let mut table = Table::rwlock(rt.alloc(), 4, 8, 0)?;
+    let desk = &mut table;
+
+    let guard = lock.upgradable_read();
+    same(desk, Call::Acquire(Want::UpgradableRead, Form::Block, one), Reply::Guard(1))?;
+    let writer = RwLockUpgradableReadGuard::try_upgrade_until(guard, ()).ok();
+    let mut writer = writer.ok_or("not upgraded alone")?;
+    same(desk, Call::Upgrade(Form::Until, one, 1), Reply::Done)?;
+    *writer = 7;
+    same(desk, Call::Change(one, 1, Put(7)), Reply::Answer(*writer))?;
+    RwLockWriteGuard::bump(&mut writer);
+    same(desk, Call::Bump(one, 1), Reply::Done)?;
+    let mut guard = RwLockWriteGuard::downgrade_to_upgradable(writer);
+    same(desk, Call::DowngradeToUpgradable(one, 1), Reply::Done)?;
+    same(desk, Call::Get(one, 1, Put(0)), Reply::Answer(*guard))?;
+    let put = |value: &mut u64| {
+        *value = 8;
+        *value
+    };
+    let answer = guard.with_upgraded(put);
+    same(desk, Call::WithUpgraded(Form::Block, one, 1, Put(8)), Reply::Answer(answer))?;
+    let reader = RwLockUpgradableReadGuard::downgrade(guard);
+    same(desk, Call::Downgrade(one, 1), Reply::Done)?;
+    same(desk, Call::Get(one, 1, Put(0)), Reply::Answer(*reader))?;
+    RwLockReadGuard::unlock_fair(reader);
+    same(desk, Call::Unlock(one, 1, Way::Fair), Reply::Done)?;
+    same(desk, Call::IsLocked, Reply::Bool(lock.is_locked()))
+}
+
+#[test]
+fn readers_stop_at_their_limit(rt: HostRuntime) -> Result<(), Fail> {
+    let one = party(1)?;
+    let two = party(2)?;
+    let lock: Shared<HostRuntime> = RwLock::with_readers(rt.alloc(), rt, 1, 0)?;
+    let mut table = Table::rwlock(rt.alloc(), 4, 1, 0)?;
+    let desk = &mut table;
+
+    let guard = lock.upgradable_read();
+    same(desk, Call::Acquire(Want::UpgradableRead, Form::Block, one), Reply::Guard(1))?;
+    let reader = RwLockUpgradableReadGuard::downgrade(guard);
+    same(desk, Call::Downgrade(one, 1), Reply::Done)?;
+    let is_given = lock.try_read().is_some();
+    same(desk, Call::Acquire(Want::Read, Form::Try, two), given(is_given, 2))?;
+    drop(reader);
+    same(desk, Call::Unlock(one, 1, Way::Plain), Reply::Done)?;
+    let is_given = lock.try_read().is_some();
+    same(desk, Call::Acquire(Want::Read, Form::Try, two), given(is_given, 2))
+}
