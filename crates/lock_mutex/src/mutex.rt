@@ -1,5 +1,5 @@
 //! A mutex over any raw lock.
-ghost use Rattle.std.specs.Prelude.{◌≡◌, IfSome, IsOk, IsOkUnless};
+ghost use Rattle.std.specs.Prelude.{◌≡◌, IfSome, IsOkAnd, IsOkUnless};
 
 use crate::{Guard, MutexGuard};
 use lock_base::guard::{Acquire, AcquireFair, Locked, Release, fmt_lock};
@@ -17,6 +17,7 @@ pub struct Mutex<R, T> {
 }
 
 impl<R: RawMutex, T> Mutex<R, T> {
+    ghost use Rattle.lock_mutex.specs.Mutex.{raw_of};
     ghost use Rattle.lock_mutex.specs.MutexGuard.{lock_of};
 
     /// A free mutex over a new raw lock. Where that is refused, the value is dropped.
@@ -48,7 +49,7 @@ impl<R: RawMutex, T> Mutex<R, T> {
 
     /// A mutex over a raw lock that was made apart. It takes no memory, so it is never refused.
     pub fn from_raw(raw: R, value: T) -> Result<Mutex<R, T>, Fault>
-        ensures { IsOk result }
+        ensures { IsOkAnd result (λ mutex. raw_of mutex ≡ raw) }
     {
         Ok(Mutex {
             raw,
@@ -64,7 +65,9 @@ impl<R: RawMutex, T> Mutex<R, T> {
     }
 
     /// The raw lock, and the value.
-    pub fn into_inner_with_raw(self) -> (R, T) {
+    pub fn into_inner_with_raw(self) -> (R, T)
+        ensures { result.0 ≡ raw_of self }
+    {
         let Mutex { raw, value } = self;
         (raw, value.into_inner())
     }

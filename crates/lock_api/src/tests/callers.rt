@@ -40,7 +40,10 @@ fn answer_unlocked<R: RawMutex>(mutex: &Mutex<R, u64>, answer: u64) -> u64
 }
 
 /// The closure's answer comes back from a fair release, and the guard is of the same mutex afterwards.
-fn same_mutex_after_all<'a, R: RawMutexFair>(mutex: &'a Mutex<R, u64>, answer: u64) -> (&'a Mutex<R, u64>, u64)
+fn same_mutex_after_all<'a, R: RawMutexFair>(
+    mutex: &'a Mutex<R, u64>,
+    answer: u64,
+) -> (&'a Mutex<R, u64>, u64)
     ensures mutex { result.0.ref_ptr ≡ mutex.entry.ref_ptr }
     ensures answer { result.1 ≡ answer }
 {

@@ -21,8 +21,16 @@ fn four_threads_count_over_an_honest_raw_lock(rt: HostRuntime) -> Result<(), Fai
     let counter = Counter::new(rt.alloc(), rt, 0)?;
     thread::join(
         &rt,
-        || thread::join(&rt, || add_a_thousand(&counter), || add_a_thousand(&counter)),
-        || thread::join(&rt, || add_a_thousand(&counter), || add_a_thousand(&counter)),
+        || thread::join(
+            &rt,
+            || add_a_thousand(&counter),
+            || add_a_thousand(&counter),
+        ),
+        || thread::join(
+            &rt,
+            || add_a_thousand(&counter),
+            || add_a_thousand(&counter),
+        ),
     );
     assert_eq!(rt; counter.into_inner(), 4_000);
     Ok(())
@@ -33,8 +41,16 @@ fn four_threads_count_over_a_lying_raw_lock(rt: HostRuntime) -> Result<(), Fail>
     let counter: Mutex<Liar<HostRuntime>, u64> = Mutex::new(rt.alloc(), rt, 0)?;
     thread::join(
         &rt,
-        || thread::join(&rt, || add_a_thousand(&counter), || add_a_thousand(&counter)),
-        || thread::join(&rt, || add_a_thousand(&counter), || add_a_thousand(&counter)),
+        || thread::join(
+            &rt,
+            || add_a_thousand(&counter),
+            || add_a_thousand(&counter),
+        ),
+        || thread::join(
+            &rt,
+            || add_a_thousand(&counter),
+            || add_a_thousand(&counter),
+        ),
     );
     assert_eq!(rt; counter.into_inner(), 4_000);
     Ok(())
@@ -67,7 +83,10 @@ fn a_guard_is_of_its_mutex(rt: HostRuntime) -> Result<(), Fail> {
 fn texts_of_a_mutex_and_its_guard(rt: HostRuntime) -> Result<(), Fail> {
     let alloc: Global = rt.alloc();
     let mutex = Counter::new(alloc, rt, 5)?;
-    assert_eq!(rt; format!(in alloc; "{mutex:?}")?.as_str(), "Mutex { data: 5 }");
+    assert_eq!(rt;
+        format!(in alloc; "{mutex:?}")?.as_str(),
+        "Mutex { data: 5 }"
+    );
     let guard = mutex.lock();
     assert_eq!(rt;
         format!(in alloc; "{mutex:?} {guard:?} {guard}")?.as_str(),

@@ -25,11 +25,20 @@ fn parked_and_bumped<R: RawMutexFair>(
     let read = *guard;
     MutexGuard::unlock_fair(guard);
     let replies = vec![in alloc;
-        Reply::Guard(1), tried,
-        Reply::Done, Reply::Bool(parked), Reply::Done,
-        Reply::Done, Reply::Bool(bumped),
-        Reply::Done, Reply::Bool(parked_fair), Reply::Done,
-        Reply::Answer(read), Reply::Done, Reply::Bool(mutex.is_locked())]?;
+        Reply::Guard(1),
+        tried,
+        Reply::Done,
+        Reply::Bool(parked),
+        Reply::Done,
+        Reply::Done,
+        Reply::Bool(bumped),
+        Reply::Done,
+        Reply::Bool(parked_fair),
+        Reply::Done,
+        Reply::Answer(read),
+        Reply::Done,
+        Reply::Bool(mutex.is_locked()),
+    ]?;
     Ok(replies)
 }
 
@@ -45,9 +54,16 @@ fn tried_for_a_time<R: RawMutexFair + RawMutexTimed<Duration = (), Instant = ()>
     let free_for = reply_of(mutex.try_lock_for(()), 2);
     let free_until = reply_of(mutex.try_lock_until(()), 3);
     let replies = vec![in alloc;
-        first, held_for, held_until, Reply::Done,
-        free_for, Reply::Done,
-        free_until, Reply::Done, Reply::Bool(mutex.is_locked())]?;
+        first,
+        held_for,
+        held_until,
+        Reply::Done,
+        free_for,
+        Reply::Done,
+        free_until,
+        Reply::Done,
+        Reply::Bool(mutex.is_locked()),
+    ]?;
     Ok(replies)
 }
 
@@ -67,9 +83,16 @@ fn changed_and_read<R: RawMutexFair>(
     let bumped = *guard;
     drop(guard);
     let replies = vec![in alloc;
-        Reply::Guard(1), Reply::Answer(written), Reply::Done,
-        Reply::Guard(2), Reply::Answer(read), Reply::Answer(8), Reply::Done,
-        Reply::Answer(bumped), Reply::Done]?;
+        Reply::Guard(1),
+        Reply::Answer(written),
+        Reply::Done,
+        Reply::Guard(2),
+        Reply::Answer(read),
+        Reply::Answer(8),
+        Reply::Done,
+        Reply::Answer(bumped),
+        Reply::Done,
+    ]?;
     Ok(replies)
 }
 
@@ -78,11 +101,20 @@ fn a_parked_guard_is_as_the_machine_has_it(rt: HostRuntime) -> Result<(), Fail> 
     let alloc: Global = rt.alloc();
     let mutex: Mutex<TokenRaw<HostRuntime>, i64> = Mutex::new(alloc, rt, 2)?;
     let replies = vec![in alloc;
-        Reply::Guard(1), Reply::NoGuard,
-        Reply::Done, Reply::Bool(false), Reply::Done,
-        Reply::Done, Reply::Bool(true),
-        Reply::Done, Reply::Bool(false), Reply::Done,
-        Reply::Answer(2), Reply::Done, Reply::Bool(false)]?;
+        Reply::Guard(1),
+        Reply::NoGuard,
+        Reply::Done,
+        Reply::Bool(false),
+        Reply::Done,
+        Reply::Done,
+        Reply::Bool(true),
+        Reply::Done,
+        Reply::Bool(false),
+        Reply::Done,
+        Reply::Answer(2),
+        Reply::Done,
+        Reply::Bool(false),
+    ]?;
     assert_eq!(rt; parked_and_bumped(alloc, &mutex)?, replies);
     Ok(())
 }
@@ -92,9 +124,16 @@ fn timed_tries_are_as_the_machine_has_them(rt: HostRuntime) -> Result<(), Fail> 
     let alloc: Global = rt.alloc();
     let mutex: Mutex<TokenRaw<HostRuntime>, i64> = Mutex::new(alloc, rt, 2)?;
     let replies = vec![in alloc;
-        Reply::Guard(1), Reply::NoGuard, Reply::NoGuard, Reply::Done,
-        Reply::Guard(2), Reply::Done,
-        Reply::Guard(3), Reply::Done, Reply::Bool(false)]?;
+        Reply::Guard(1),
+        Reply::NoGuard,
+        Reply::NoGuard,
+        Reply::Done,
+        Reply::Guard(2),
+        Reply::Done,
+        Reply::Guard(3),
+        Reply::Done,
+        Reply::Bool(false),
+    ]?;
     assert_eq!(rt; tried_for_a_time(alloc, &mutex)?, replies);
     Ok(())
 }
@@ -104,9 +143,16 @@ fn a_change_is_as_the_machine_has_it(rt: HostRuntime) -> Result<(), Fail> {
     let alloc: Global = rt.alloc();
     let mutex: Mutex<TokenRaw<HostRuntime>, i64> = Mutex::new(alloc, rt, 2)?;
     let replies = vec![in alloc;
-        Reply::Guard(1), Reply::Answer(-7), Reply::Done,
-        Reply::Guard(2), Reply::Answer(-7), Reply::Answer(8), Reply::Done,
-        Reply::Answer(8), Reply::Done]?;
+        Reply::Guard(1),
+        Reply::Answer(-7),
+        Reply::Done,
+        Reply::Guard(2),
+        Reply::Answer(-7),
+        Reply::Answer(8),
+        Reply::Done,
+        Reply::Answer(8),
+        Reply::Done,
+    ]?;
     assert_eq!(rt; changed_and_read(alloc, &mutex)?, replies);
     Ok(())
 }
