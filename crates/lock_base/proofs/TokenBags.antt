@@ -5,6 +5,7 @@ use Rattle.lock_base.specs.declared.machine.mode.Mode.TheVariants.{Shared, Exclu
 use Rattle.lock_base.specs.declared.machine.bag.Bag.{Bag}
 use Rattle.lock_base.specs.Modes.{is_shared, is_exclusive, is_upgradable, one_more, tokens}
 use Rattle.lock_base.specs.Tokens.{count, SameBag, bag_of_tokens}
+use Rattle.lock_base.proofs.ModeLemmas.{tokens-one_more}
 
 pub count-append : {X : Type 0} (test : X → Bool) (xs ys : List X) → count test (xs ++ ys) ≡ count test xs + count test ys
 count-append test [] ys = omega arith
@@ -19,6 +20,12 @@ module _ {X : Type 0} where
 
   pub joined : {xs ys zs : List X} → SameBag xs ys → SameBag ys zs → SameBag xs zs
   joined p q = record { counts = λ test. p.counts test ∙ q.counts test }
+
+  pub with_one : {xs ys : List X} (x : X) → SameBag xs ys → SameBag (x ∷ xs) (x ∷ ys)
+  with_one x p = record { counts = λ test. omega (arith, p.counts test) }
+
+  pub without_one : {xs ys : List X} (x : X) → SameBag (x ∷ xs) (x ∷ ys) → SameBag xs ys
+  without_one x p = record { counts = λ test. omega (arith, p.counts test) }
 
   count_all : (xs : List X) → count (λ x. true) xs ≡ length xs
   count_all [] = refl
@@ -64,3 +71,8 @@ module _ {K : Type 0} where
       (shared_counted ts ∙ p.counts (λ t. is_shared t.1) ∙ sym (shared_counted us))
       (exclusive_counted ts ∙ p.counts (λ t. is_exclusive t.1) ∙ sym (exclusive_counted us))
       (upgradable_counted ts ∙ p.counts (λ t. is_upgradable t.1) ∙ sym (upgradable_counted us))
+
+  -- the bag has as many as there are tokens
+  pub tokens-bag_of_tokens : (ts : List (K × Mode)) → tokens (bag_of_tokens ts) ≡ length ts
+  tokens-bag_of_tokens [] = refl
+  tokens-bag_of_tokens (t ∷ ts) = tokens-one_more (bag_of_tokens ts) t.1 ∙ omega (arith, tokens-bag_of_tokens ts)

@@ -14,7 +14,7 @@ use Rattle.lock_base.specs.Entries.{Entry, parked, held_bag, in_mode, modes_of_e
 use Rattle.lock_base.specs.Machine.{admitted, is_full_count, bumps_token}
 use Rattle.lock_base.specs.Tokens.{count, SameBag, bag_of_tokens, modes_of, IsOut, Removes, Adds, Replaces}
 use Rattle.lock_base.proofs.TokenBags.{count-append, same_length, same_as_none, bag_of_same}
-use Rattle.lock_base.proofs.Compatible.{compatible_none, compatible_more, compatible_less, compatible_moved, admitted_again}
+use Rattle.lock_base.proofs.ModeLemmas.{compatible_empty, compatible_acquired, compatible_released, compatible_changed, admits-released}
 use Rattle.lock_desk.specs.declared.slot.Hold.{Hold}
 use Rattle.lock_desk.specs.declared.slot.Hold.TheVariants.{Parked, Token, Level}
 use Rattle.lock_desk.specs.declared.slot.Slot.{Slot}
@@ -99,7 +99,7 @@ module _ {K : Type 0} where
       record {
         bag = subst (λ o. SameBag new.tokens (tokens_in others ++ token_of_owner o)) (sym owner) left;
         holders = subst (λ o. AreHeldBy (is_reentrant new.kind) others o) (sym owner) (subst (λ n. AreHeldBy n others old.owner) (sym (same_nesting old new keeps)) (holders_by (is_reentrant old.kind) b.holders));
-        compatible = subst (λ n. AreCompatible n (bag_of_tokens new.tokens)) (sym (same_behind old new keeps)) (subst (λ g. AreCompatible readers g) (sym (bag_of_same new.tokens rest left)) (compatible_less readers (bag_of_tokens rest) s.mode before));
+        compatible = subst (λ n. AreCompatible n (bag_of_tokens new.tokens)) (sym (same_behind old new keeps)) (subst (λ g. AreCompatible readers g) (sym (bag_of_same new.tokens rest left)) (compatible_released readers (bag_of_tokens rest) s.mode before));
         positive = still_positive old new keeps b.positive;
       }
     where
@@ -117,7 +117,7 @@ module _ {K : Type 0} where
         holders = subst (λ o. AreHeldBy (is_reentrant new.kind) ss o) (sym owner)
             (subst (λ w. AreHeldBy w ss old.owner) (sym (same_nesting old new keeps ∙ n)) (d.more is_level (ap is_level e) held.0, held.1));
         compatible = subst (λ w. AreCompatible w (bag_of_tokens new.tokens)) (sym (same_behind old new keeps))
-            (subst (λ g. AreCompatible readers g) (sym (bag_of_same new.tokens ((k, mode) ∷ old.tokens) added)) (compatible_more readers (bag_of_tokens old.tokens) mode admits b.compatible));
+            (subst (λ g. AreCompatible readers g) (sym (bag_of_same new.tokens ((k, mode) ∷ old.tokens) added)) (compatible_acquired readers (bag_of_tokens old.tokens) mode b.compatible admits));
         positive = still_positive old new keeps b.positive;
       }
 
@@ -131,8 +131,8 @@ module _ {K : Type 0} where
   owner_compatible owner tokens p = subst (λ g. AreCompatible 1 g) (sym (bag_of_same tokens (token_of_owner owner) p)) (one_token owner)
     where
       one_token : (owner : Option (Owner K)) → AreCompatible 1 (bag_of_tokens (token_of_owner owner))
-      one_token None = compatible_none 1
-      one_token (Some o) = compatible_more 1 _ Exclusive refl (compatible_none 1)
+      one_token None = compatible_empty 1
+      one_token (Some o) = compatible_acquired 1 _ Exclusive (compatible_empty 1) refl
 
   -- an owner's levels are backed by its token
   owner_backs : (ss : List (Slot K)) (t : Stock K) → is_reentrant t.kind ≡ true → 0 < t.limit → NoHold is_token ss → OwnsLevels t.owner (held_of ss) → SameBag t.tokens (token_of_owner t.owner) → AreBacked ss t
@@ -297,7 +297,7 @@ module _ {K : Type 0} where
       let held = of_others ss old n b in
       let behind : readers_behind old.kind old.limit ≡ old.limit = rw n refl in
       let before : AreCompatible old.limit (bag_of_tokens ((k, s.mode) ∷ rest)) = subst (λ w. AreCompatible w (bag_of_tokens ((k, s.mode) ∷ rest))) behind (subst (λ g. AreCompatible (readers_behind old.kind old.limit) g) was b.compatible) in
-      let after : AreCompatible old.limit (bag_of_tokens ((l, mode) ∷ rest)) = compatible_moved old.limit (bag_of_tokens rest) s.mode mode b.positive moves (subst (λ g. IsTrue (may_become g mode)) was may) before in
+      let after : AreCompatible old.limit (bag_of_tokens ((l, mode) ∷ rest)) = compatible_changed old.limit (bag_of_tokens rest) s.mode mode b.positive moves (subst (λ g. IsTrue (may_become g mode)) was may) before in
       record {
         bag = subst (λ o. SameBag new.tokens (tokens_in us ++ token_of_owner o)) (sym owner)
             (record { counts = λ test. omega (arith, now.counts test, f.tokens test, ap (λ w. count test (token_in w u.mode)) hold, ap (λ w. count test (token_in (Token l) w)) to, count-append test (tokens_in us) (token_of_owner old.owner), count-append test (tokens_in others) (token_of_owner old.owner)) });
@@ -359,7 +359,7 @@ module _ {K : Type 0} where
           let behind : readers_behind t.kind t.limit ≡ t.limit = rw n refl in
           let bag : bag_of_tokens t.tokens ≡ one_more (held_bag (entries_of us)) s.mode = bag_of_held ss t n b ∙ bag_with s u ss us others t n d f held parked b in
           let compatible : AreCompatible t.limit (one_more (held_bag (entries_of us)) s.mode) = subst (λ g. AreCompatible t.limit g) bag (subst (λ l. AreCompatible l (bag_of_tokens t.tokens)) behind b.compatible) in
-          rw n (admitted_again t.limit (held_bag (entries_of us)) s.mode compatible)
+          rw n (admits-released t.limit (held_bag (entries_of us)) s.mode compatible)
 
   -- a guard that gives its token back is admitted again
   pub admitted_after_park : (i : ℕ) (ss : List (Slot K)) (s : Slot K) (t : Stock K) → i < length ss → s ≡ get_or ss i s → is_held s.hold ≡ true → bumps t ≡ true → AreBacked ss t

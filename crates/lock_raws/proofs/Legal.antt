@@ -9,19 +9,18 @@ use Rattle.lock_base.specs.Limits.{IsLimit}
 use Rattle.lock_states.specs.declared.table.TableToken.{TableToken}
 use Rattle.lock_states.specs.Table.{Table, tokens_of}
 use Rattle.lock_raws.specs.LegalTable.{IsLegalTable}
-use Rattle.lock_base.proofs.Counting.{tokens-one_more, tokens-bag_of_tokens}
-use Rattle.lock_base.proofs.TokenBags.{bag_of_same}
-use Rattle.lock_base.proofs.Compatible.{compatible_more, compatible_less, compatible_moved}
+use Rattle.lock_base.proofs.TokenBags.{bag_of_same, tokens-bag_of_tokens}
+use Rattle.lock_base.proofs.ModeLemmas.{compatible_acquired, compatible_released, compatible_changed, tokens-one_more}
 
 module _ {K : Type 0} where
   pub legal_more : {old new : List (K × Mode)} {token : K} (mode : Mode) (limit : ℕ) → IsTrue (admits limit (bag_of_tokens old) mode) → Adds old new token mode → AreCompatible limit (bag_of_tokens old) → AreCompatible limit (bag_of_tokens new)
-  legal_more {old} {new} {token} mode limit admitted added legal = subst (AreCompatible limit) (sym (bag_of_same new ((token, mode) ∷ old) added)) (compatible_more limit (bag_of_tokens old) mode admitted legal)
+  legal_more {old} {new} {token} mode limit admitted added legal = subst (AreCompatible limit) (sym (bag_of_same new ((token, mode) ∷ old) added)) (compatible_acquired limit (bag_of_tokens old) mode legal admitted)
 
   pub legal_less : {old new : List (K × Mode)} {token : K} (mode : Mode) (limit : ℕ) → IsOutAs old token mode → Removes old new token → AreCompatible limit (bag_of_tokens old) → AreCompatible limit (bag_of_tokens new)
   legal_less {old} {new} {token} mode limit out removed legal =
       let others = out.0 in
       let before = subst (AreCompatible limit) (bag_of_same old ((token, mode) ∷ others) out.1) legal in
-      subst (AreCompatible limit) (sym (bag_of_same new others (removed mode others out.1))) (compatible_less limit (bag_of_tokens others) mode before)
+      subst (AreCompatible limit) (sym (bag_of_same new others (removed mode others out.1))) (compatible_released limit (bag_of_tokens others) mode before)
 
   pub legal_moved : {old new : List (K × Mode)} {token next : K} (from to : Mode) (limit : ℕ) → 0 < limit → IsTrue (is_move from to) → IsTrue (may_become (bag_of_tokens old) to) → IsOutAs old token from → Replaces old new token next to → AreCompatible limit (bag_of_tokens old) → AreCompatible limit (bag_of_tokens new)
   legal_moved {old} {new} {token} {next} from to limit positive move allowed out replaced legal =
@@ -29,7 +28,7 @@ module _ {K : Type 0} where
       let same = bag_of_same old ((token, from) ∷ others) out.1 in
       let allowed' = subst (λ b. IsTrue (may_become b to)) same allowed in
       let before = subst (AreCompatible limit) same legal in
-      subst (AreCompatible limit) (sym (bag_of_same new ((next, to) ∷ others) (replaced from others out.1))) (compatible_moved limit (bag_of_tokens others) from to positive move allowed' before)
+      subst (AreCompatible limit) (sym (bag_of_same new ((next, to) ∷ others) (replaced from others out.1))) (compatible_changed limit (bag_of_tokens others) from to positive move allowed' before)
 
 -- tokens that may be out together are no more than the limit
 pub compatible_within : (limit : ℕ) (b : Bag) → 0 < limit → AreCompatible limit b → tokens b ≤ limit
@@ -44,7 +43,7 @@ pub full_admits_none : {table : Table} {room : Bool} (mode : Mode) → IsLegalTa
 full_admits_none {table} {room} mode legal told full =
     let bag = bag_of_tokens (tokens_of table.places) in
     not_true (admits table.readers bag mode) (λ admitted.
-    let one_more_legal = compatible_more table.readers bag mode admitted legal.compatible in
+    let one_more_legal = compatible_acquired table.readers bag mode legal.compatible admitted in
     let bound = compatible_within table.readers (one_more bag mode) legal.lawful.0 one_more_legal in
     let fits : length (tokens_of table.places) < length table.places = omega (arith, bound, tokens-one_more bag mode, tokens-bag_of_tokens (tokens_of table.places), legal.as_many) in
     let wrong : true ≡ false = sym (told.1 fits) ∙ full in cc)
