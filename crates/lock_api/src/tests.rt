@@ -4,3 +4,6 @@ mod liar;
 mod markers;
 mod mutex;
 mod shared_like_desk;
+mod rwlock;
+mod rwlock_callers;
+mod rwlock_liar;

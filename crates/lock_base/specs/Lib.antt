@@ -15,3 +15,4 @@ pub mod Legal
 pub mod Inner
 pub mod Held
 pub mod Lens
+pub mod Then

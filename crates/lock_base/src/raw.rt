@@ -8,7 +8,7 @@ mod raw_state;
 
 pub use fault::Fault;
 pub use guard_marker::{GuardNoSend, GuardSend};
-pub use limits::{MAX_LIMIT, is_limit};
+pub use limits::{DEFAULT_READERS, MAX_LIMIT, is_limit};
 pub use raw_mutex::{RawMutex, RawMutexFair, RawMutexTimed};
 pub use raw_rwlock::{
     RawRwLock, RawRwLockDowngrade, RawRwLockFair, RawRwLockTimed, RawRwLockUpgrade,

@@ -6,7 +6,7 @@ use Rattle.std.proofs.Common.{◌∙◌, sym, subst}
 use denote.Param.Members.{Called}
 use Rattle.lock_mutex_loop.specs.declared.loop_end.LoopEnd.{LoopEnd}
 use Rattle.lock_mutex_loop.specs.declared.loop_end.LoopEnd.TheVariants.{False, TimedOut, RanOut}
-use Rattle.lock_mutex_loop.specs.ConditionLoop.{Check, left_by, LeadsTo, InTurn, last_of, EndsBy, ConditionLoop}
+use Rattle.lock_mutex_loop.specs.ConditionLoop.{Check, InTurn, last_of, EndsBy, ConditionLoop}
 
 -- the answer of the last check
 abbrev pub answer_of : LoopEnd → Bool
@@ -41,12 +41,15 @@ module _ {F W X : Type 0} (calls : Mut F (MutBor X × Unit {0}) (Bool × (MutBor
     starts_late = refl;
     starts_with = refl;
     starts_on = refl;
-    in_turn = (record {
-      holds = refl;
-      in_time = in_time;
-      waits = subst (λ b. waited (with_current w left.now) (Some b) loop.first.waits) (sym loop.starts_late) (subst (λ v. waited (with_current w left.now) (Some next) v) (sym loop.starts_on) waits);
-      condition = loop.starts_with;
-    }, loop.in_turn);
+    in_turn = (
+      record {
+        holds = refl;
+        in_time = in_time;
+        waits = subst (λ b. waited (with_current w left.now) (Some b) loop.first.waits) (sym loop.starts_late) (subst (λ v. waited (with_current w left.now) (Some next) v) (sym loop.starts_on) waits);
+        condition = loop.starts_with;
+      },
+      loop.in_turn,
+    );
     ends = loop.ends;
     value = loop.value;
   }
@@ -101,7 +104,7 @@ module _ {F W X : Type 0} (calls : Mut F (MutBor X × Unit {0}) (Bool × (MutBor
   last_check {after = after} {end = end} loop =
       let last : AnyCheck = last_of _ _ _ _ loop.first loop.rest in
       let called : CalledAtMut calls last.condition (current last.waits) (answer_of end) last.next_condition last.left =
-          subst (λ b. CalledAtMut calls last.condition (current last.waits) b last.next_condition last.left) (answer_at last end after loop.ends) last.called in
+      subst (λ b. CalledAtMut calls last.condition (current last.waits) b last.next_condition last.left) (answer_at last end after loop.ends) last.called in
       (last.condition, last.next_condition, current last.waits, subst (λ x. CalledAtMut calls last.condition (current last.waits) (answer_of end) last.next_condition x) (sym loop.value) called)
 
   -- where there is always one more wait, no loop runs out

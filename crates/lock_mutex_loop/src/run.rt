@@ -1,6 +1,6 @@
 //! The condition loop.
-ghost use Rattle.lock_mutex_loop.specs.ConditionLoop.{ConditionLoop};
 ghost use Rattle.std.specs.Prelude.{false};
+ghost use Rattle.lock_mutex_loop.specs.ConditionLoop.{ConditionLoop};
 
 use crate::{LoopEnd, Waits};
 use std::sync::Wait;
@@ -10,12 +10,12 @@ use std::sync::Wait;
 pub fn run_loop<R: Wait, W: Waits, F: FnMut(&mut W::Value) -> bool>(
     waiter: &R,
     waits: &mut W,
-    condition: F,
+    mut condition: F,
 ) -> LoopEnd
     requires { F.IsAlwaysCallable condition }
-    ensures { ConditionLoop F.FnMut W.current W.with_current W.waited false condition waits.old result waits.new }
+    ensures { ConditionLoop F.FnMut W.current W.with_current W.waited false
+        condition waits.old result waits.new }
 {
-    let mut condition = condition;
     let mut timed_out = false;
     for _ in waiter.forever() {
         if !condition(waits.value()) {

@@ -17,7 +17,8 @@ impl<T: Drop> Script<T> {
     /// there is no entry.
     pub fn new(entries: Vec<(T, bool)>) -> Option<Script<T>>
         ensures none { IsNone result ↔ (entries.items ≡ []) }
-        ensures some { IfSome result (λ script. (flag : Bool) × (entries.items ≡ (present script, flag) ∷ to_come script)) }
+        ensures some { IfSome result (λ script.
+            (flag : Bool) × (entries.items ≡ (present script, flag) ∷ to_come script)) }
     {
         let mut waits = entries.into_iter();
         let (value, _) = waits.next()?;

@@ -1,5 +1,5 @@
 -- What holds of the table behind a lock.
-use Rattle.std.specs.Prelude.{◌≡◌, ℕ, length}
+use Rattle.std.specs.Prelude.{◌≡◌, length}
 use Rattle.lock_base.specs.Modes.{AreCompatible}
 use Rattle.lock_base.specs.Tokens.{bag_of_tokens}
 use Rattle.lock_base.specs.Limits.{IsLimit}

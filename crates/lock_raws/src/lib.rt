@@ -8,6 +8,8 @@ mod mutex;
 mod rwlock;
 mod sequential_state;
 mod state_raw;
+#[cfg(test)]
+mod tests;
 mod tokens;
 
 pub use held_place::HeldPlace;

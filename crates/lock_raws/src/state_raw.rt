@@ -101,7 +101,12 @@ impl<S: SequentialState, W: Wait + Clone + Drop> StateRaw<S, W> {
     }
 
     /// The place in the other mode, or the same place where the move is not admitted.
-    pub(crate) fn change(&self, place: TableToken, from: Mode, to: Mode) -> Result<TableToken, TableToken>
+    pub(crate) fn change(
+        &self,
+        place: TableToken,
+        from: Mode,
+        to: Mode,
+    ) -> Result<TableToken, TableToken>
         requires { IsTrue (is_move from to) }
     {
         let mut state = self.state.lock(&self.waiter);

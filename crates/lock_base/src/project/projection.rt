@@ -28,7 +28,8 @@ pub trait TryProject<T> {
     fn get_mut<'a>(whole: &'a mut T, projection: &Self) -> Option<&'a mut Self::Part>
     where
         Self: 'a,
-        ensures* writes_back { sem 𝓛 (LendsIf T.row Self.Part.row whole.entry result ((lens projection.now).put whole.old) whole.old) }
+        ensures* writes_back { sem 𝓛 (LendsIf T.row Self.Part.row whole.entry result
+            ((lens projection.now).put whole.old) whole.old) }
         ensures value { option_copied_mut result ≡ (lens projection.now).part whole.old };
 
     /// Of a value that has a part this says nothing.
@@ -49,7 +50,8 @@ pub trait Project<T>: TryProject<T> {
     fn of_mut<'a>(whole: &'a mut T, projection: &Self) -> &'a mut Self::Part
     where
         Self: 'a,
-        ensures* writes_back { sem 𝓛 (Lends T.row Self.Part.row whole.entry result ((Self.lens projection.now).put whole.old)) }
+        ensures* writes_back { sem 𝓛 (Lends T.row Self.Part.row whole.entry result
+            ((Self.lens projection.now).put whole.old)) }
         ensures value { (Self.lens projection.now).part whole.old ≡ Some result.now };
 
     ghost total: { (p : Self) → IsTotal (Self.lens p) };

@@ -1,0 +1,199 @@
+//! The reader-writer lock, over a table of tokens and over a raw lock that lies.
+use super::liar::Liar;
+use super::rwlock_callers::{
+    answer_unlocked, read_twice, same_lock_after_all, swap_in, write_and_read,
+};
+use crate::{
+    Fault, RawRwLock, RwLock, RwLockReadGuard, RwLockUpgradableReadGuard, RwLockWriteGuard,
+};
+use lock_raws::TokenRaw;
+use std::cell::Cell;
+use std::sync::atomic::{AtomicBool, Ordering};
+use std::test::Fail;
+use std::thread;
+
+/// A number behind an honest raw lock.
+type Shared = RwLock<TokenRaw<HostRuntime>, u64>;
+
+/// Adds 1 to the value, a thousand times.
+fn add_a_thousand<R: RawRwLock>(counter: &RwLock<R, u64>) {
+    for _ in 0..1_000 {
+        let mut value = counter.write();
+        *value = value.wrapping_add(1);
+    }
+}
+
+#[test]
+fn four_threads_count_over_an_honest_raw_rwlock(rt: HostRuntime) -> Result<(), Fail> {
+    let counter = Shared::new(rt.alloc(), rt, 0)?;
+    thread::join(
+        &rt,
+        || thread::join(&rt, || add_a_thousand(&counter), || add_a_thousand(&counter)),
+        || thread::join(&rt, || add_a_thousand(&counter), || add_a_thousand(&counter)),
+    );
+    assert_eq!(rt; counter.into_inner(), 4_000);
+    Ok(())
+}
+
+#[test]
+fn four_threads_count_over_a_lying_raw_rwlock(rt: HostRuntime) -> Result<(), Fail> {
+    let counter: RwLock<Liar<HostRuntime>, u64> = RwLock::new(rt.alloc(), rt, 0)?;
+    thread::join(
+        &rt,
+        || thread::join(&rt, || add_a_thousand(&counter), || add_a_thousand(&counter)),
+        || thread::join(&rt, || add_a_thousand(&counter), || add_a_thousand(&counter)),
+    );
+    assert_eq!(rt; counter.into_inner(), 4_000);
+    Ok(())
+}
+
+#[test]
+fn callers_get_what_they_were_promised(rt: HostRuntime) -> Result<(), Fail> {
+    let lock = Shared::new(rt.alloc(), rt, 0)?;
+    assert_eq!(rt; write_and_read(&lock, 5), 5);
+    assert_eq!(rt; read_twice(&lock.read()), (5, 5));
+    assert_eq!(rt; answer_unlocked(&lock, 6), 6);
+    assert_eq!(rt; swap_in(&lock, 7), Some(7));
+    assert_eq!(rt; *same_lock_after_all(&lock).read(), 7);
+    Ok(())
+}
+
+#[test]
+fn a_refused_upgrade_calls_no_closure(rt: HostRuntime) -> Result<(), Fail> {
+    let lock = Shared::new(rt.alloc(), rt, 1)?;
+    let mut guard = lock.upgradable_read();
+    let reader = lock.read();
+    let calls = Cell::new(0u64);
+    let answer = guard.try_with_upgraded(|value| {
+        calls.set(calls.get().wrapping_add(1));
+        *value = 9;
+    });
+    assert_eq!(rt; answer, None);
+    assert_eq!(rt; calls.get(), 0);
+    assert_eq!(rt; *guard, 1);
+    drop(reader);
+    assert!(rt; RwLockUpgradableReadGuard::rwlock(&guard).is_locked());
+    assert_eq!(rt; *RwLockUpgradableReadGuard::upgrade(guard), 1);
+    Ok(())
+}
+
+#[test]
+fn a_guard_is_of_its_lock(rt: HostRuntime) -> Result<(), Fail> {
+    let lock = Shared::new(rt.alloc(), rt, 1)?;
+    let reader = lock.read();
+    assert!(rt; !RwLockReadGuard::rwlock(&reader).is_locked_exclusive());
+    drop(reader);
+    let writer = lock.write();
+    assert!(rt; RwLockWriteGuard::rwlock(&writer).is_locked_exclusive());
+    drop(writer);
+    Ok(())
+}
+
+/// Raises a flag while it reads, and looks for the other's. One thread alone never sees it.
+fn sees_the_other<R: RawRwLock>(
+    lock: &RwLock<R, u64>,
+    mine: &AtomicBool,
+    other: &AtomicBool,
+) -> bool {
+    let _guard = lock.read();
+    mine.store(true, Ordering::SeqCst);
+    for _ in 0..100_000_000u32 {
+        if other.load(Ordering::SeqCst) {
+            return true;
+        }
+    }
+    false
+}
+
+#[test]
+fn two_readers_hold_at_once(rt: HostRuntime) -> Result<(), Fail> {
+    let lock = Shared::new(rt.alloc(), rt, 0)?;
+    let first = AtomicBool::new(false);
+    let second = AtomicBool::new(false);
+    let seen = thread::join(
+        &rt,
+        || sees_the_other(&lock, &first, &second),
+        || sees_the_other(&lock, &second, &first),
+    );
+    assert_eq!(rt; seen, (true, true));
+    Ok(())
+}
+
+/// A maker keeps its value, or lacks memory.
+fn is_made_or_lacks_memory<R: RawRwLock + Drop>(
+    made: Result<RwLock<R, u64>, Fault>,
+    value: u64,
+) -> bool {
+    match made {
+        Ok(lock) => lock.into_inner() == value,
+        Err(fault) => fault == Fault::OutOfMemory,
+    }
+}
+
+#[test]
+fn refused_memory_rwlock_makers(rt: HostRuntime) {
+    let alloc = rt.alloc();
+    assert!(rt; is_made_or_lacks_memory(Shared::new(alloc, rt, 5), 5));
+    assert!(rt; is_made_or_lacks_memory(Shared::from(alloc, rt, 6), 6));
+    assert!(rt; is_made_or_lacks_memory(Shared::default(alloc, rt), 0));
+    assert!(rt; is_made_or_lacks_memory(Shared::with_readers(alloc, rt, 1, 7), 7));
+}
+
+#[test]
+fn makers_refuse_limits_out_of_range(rt: HostRuntime) {
+    let alloc = rt.alloc();
+    let none = Shared::with_readers(alloc, rt, 0, 5);
+    assert!(rt; matches!(&none, Err(Fault::BadLimits)));
+    drop(none);
+    let many = Shared::with_readers(alloc, rt, 4_294_967_296, 5);
+    assert!(rt; matches!(&many, Err(Fault::BadLimits)));
+    drop(many);
+}
+
+#[test]
+fn each_acquisition_of_a_free_lock(rt: HostRuntime) -> Result<(), Fail> {
+    let mut lock = Shared::new(rt.alloc(), rt, 4)?;
+    *lock.get_mut() = 5;
+    assert_eq!(rt; *lock.read(), 5);
+    assert_eq!(rt; lock.try_read().map(|guard| *guard), Some(5));
+    assert_eq!(rt; lock.try_read_for(()).map(|guard| *guard), Some(5));
+    assert_eq!(rt; lock.try_read_until(()).map(|guard| *guard), Some(5));
+    assert_eq!(rt; *lock.write(), 5);
+    assert_eq!(rt; lock.try_write().map(|guard| *guard), Some(5));
+    assert_eq!(rt; lock.try_write_for(()).map(|guard| *guard), Some(5));
+    assert_eq!(rt; lock.try_write_until(()).map(|guard| *guard), Some(5));
+    assert_eq!(rt; *lock.upgradable_read(), 5);
+    assert_eq!(rt; lock.try_upgradable_read().map(|guard| *guard), Some(5));
+    assert_eq!(rt; lock.try_upgradable_read_for(()).map(|guard| *guard), Some(5));
+    assert_eq!(rt; lock.try_upgradable_read_until(()).map(|guard| *guard), Some(5));
+    assert!(rt; !lock.is_locked());
+    assert!(rt; !lock.is_locked_exclusive());
+    let (raw, value) = lock.into_inner_with_raw();
+    let lock = Shared::from_raw(raw, value)?;
+    assert_eq!(rt; lock.into_inner(), 5);
+    Ok(())
+}
+
+#[test]
+fn locks_and_guards_print_as_told(rt: HostRuntime) -> Result<(), Fail> {
+    let alloc = rt.alloc();
+    let lock = Shared::new(alloc, rt, 5)?;
+    let reader = lock.read();
+    assert_eq!(rt;
+        format!(in alloc; "{lock:?} {reader:?} {reader}")?.as_str(),
+        "RwLock { data: 5 } 5 5"
+    );
+    drop(reader);
+    let writer = lock.write();
+    assert_eq!(rt;
+        format!(in alloc; "{lock:?} {writer:?} {writer}")?.as_str(),
+        "RwLock { data: <locked> } 5 5"
+    );
+    drop(writer);
+    let upgradable = lock.upgradable_read();
+    assert_eq!(rt;
+        format!(in alloc; "{lock:?} {upgradable:?} {upgradable}")?.as_str(),
+        "RwLock { data: 5 } 5 5"
+    );
+    Ok(())
+}

@@ -1,0 +1,4 @@
+pub mod Demands
+pub mod Slots
+pub mod Backing
+pub mod Guards

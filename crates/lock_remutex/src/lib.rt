@@ -1,0 +1,16 @@
+//! A lock that its owner may take again.
+#![tactic(auto)]
+
+mod levels;
+mod raw_reentrant_mutex;
+mod reentrant_mutex;
+mod reentrant_mutex_guard;
+mod text;
+
+pub use levels::{DEFAULT_LEVELS, Levels};
+pub use raw_reentrant_mutex::RawReentrantMutex;
+pub use reentrant_mutex::ReentrantMutex;
+pub use reentrant_mutex_guard::ReentrantMutexGuard;
+
+#[cfg(test)]
+mod tests;

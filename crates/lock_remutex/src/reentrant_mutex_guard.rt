@@ -1,0 +1,129 @@
+//! The guard of one level of a reentrant lock.
+use crate::reentrant_mutex::ReentrantMutex;
+use lock_base::machine::PartyId;
+use lock_base::raw::{Fault, RawMutex, RawMutexFair};
+use std::ops::Deref;
+
+/// One level of a party's, which reads the value. Its end gives the level up, and the raw lock with the last one.
+pub struct ReentrantMutexGuard<'a, R: RawMutex, T>
+where
+    R::Guard: Drop,
+{
+    remutex: &'a ReentrantMutex<R, T>,
+    party: PartyId,
+}
+
+impl<'a, R: RawMutex, T> ReentrantMutexGuard<'a, R, T>
+where
+    R::Guard: Drop,
+{
+    ghost use Rattle.std.specs.Prelude.{◌≡◌, IfOk, IfErr, MatchResult};
+    ghost use Rattle.lock_base.specs.Party.{id_of};
+    ghost use Rattle.lock_remutex.specs.Guards.{guard_lock, IsGuardOf, IsSameGuard};
+
+    /// The guard of a level that the party has.
+    pub(crate) fn new(remutex: &'a ReentrantMutex<R, T>, party: PartyId) -> Self
+        ensures { IsGuardOf remutex.entry (id_of party) result }
+    {
+        ReentrantMutexGuard { remutex, party }
+    }
+
+    /// The lock that the guard was made of.
+    pub fn remutex(s: &Self) -> &'a ReentrantMutex<R, T>
+        ensures { result.ref_ptr ≡ guard_lock s.now }
+    {
+        s.remutex
+    }
+
+    /// Gives one level up for the length of the closure, and takes one again as `lock` does. Where the count is full
+    /// on the way back the level stays given up.
+    pub fn unlocked<U, F: FnOnce() -> U>(s: Self, f: F) -> Result<(Self, U), (Fault, U)>
+        requires { F.IsAlwaysCallable f }
+        ensures answer { MatchResult result (λ back. F.post f back.1) (λ refused. F.post f refused.1) }
+        ensures guard { IfOk result (λ back. IsSameGuard s.entry back.0) }
+        ensures fault { IfErr result (λ refused. refused.0 ≡ Fault.FullCount) }
+    {
+        let ReentrantMutexGuard { remutex, party } = s;
+        let _ = remutex.raw().unlock(party);
+        let answer = f();
+        ReentrantMutexGuard::lock_again(remutex, party, answer)
+    }
+
+    /// The guard of another level of the party, with that answer.
+    fn lock_again<U>(
+        remutex: &'a ReentrantMutex<R, T>,
+        party: PartyId,
+        answer: U,
+    ) -> Result<(Self, U), (Fault, U)>
+        ensures answer { MatchResult result (λ back. back.1 ≡ answer) (λ refused. refused.1 ≡ answer) }
+        ensures guard { IfOk result (λ back. IsGuardOf remutex.entry (id_of party) back.0) }
+        ensures fault { IfErr result (λ refused. refused.0 ≡ Fault.FullCount) }
+    {
+        match remutex.lock(party) {
+            Ok(guard) => Ok((guard, answer)),
+            Err(fault) => Err((fault, answer)),
+        }
+    }
+}
+
+impl<R: RawMutexFair, T> ReentrantMutexGuard<'_, R, T>
+where
+    R::Guard: Drop,
+{
+    ghost use Rattle.std.specs.Prelude.{◌≡◌, IfOk, IfErr, MatchResult};
+    ghost use Rattle.lock_remutex.specs.Guards.{IsSameGuard};
+
+    /// Gives the level up, and the raw lock fairly with the last one.
+    pub fn unlock_fair(s: Self) {
+        let ReentrantMutexGuard { remutex, party } = s;
+        let _ = remutex.raw().unlock_fair(party);
+    }
+
+    /// `unlocked`, by a fair release.
+    pub fn unlocked_fair<U, F: FnOnce() -> U>(s: Self, f: F) -> Result<(Self, U), (Fault, U)>
+        requires { F.IsAlwaysCallable f }
+        ensures answer { MatchResult result (λ back. F.post f back.1) (λ refused. F.post f refused.1) }
+        ensures guard { IfOk result (λ back. IsSameGuard s.entry back.0) }
+        ensures fault { IfErr result (λ refused. refused.0 ≡ Fault.FullCount) }
+    {
+        let ReentrantMutexGuard { remutex, party } = s;
+        let _ = remutex.raw().unlock_fair(party);
+        let answer = f();
+        ReentrantMutexGuard::lock_again(remutex, party, answer)
+    }
+
+    /// Where the party has this level alone, lets those that wait go first, and locks again.
+    pub fn bump(s: &mut Self)
+        ensures { IsSameGuard s.old s.new }
+    {
+        let _ = s.remutex.raw().bump(s.party);
+    }
+}
+
+impl<R: RawMutex, T> Deref for ReentrantMutexGuard<'_, R, T>
+where
+    R::Guard: Drop,
+{
+    ghost use Rattle.std.specs.Prelude.{◌≡◌};
+    ghost use Rattle.lock_remutex.specs.Guards.{guard_value};
+
+    type Target = T;
+
+    ghost deref_gives = { λ guard value. guard_value guard ≡ value };
+
+    fn deref(&self) -> &T
+        ensures { result.now ≡ guard_value self.now }
+    {
+        self.remutex.value()
+    }
+}
+
+impl<R: RawMutex, T> Drop for ReentrantMutexGuard<'_, R, T>
+where
+    R::Guard: Drop,
+{
+    fn drop(self) {
+        let ReentrantMutexGuard { remutex, party } = self;
+        let _ = remutex.raw().unlock(party);
+    }
+}

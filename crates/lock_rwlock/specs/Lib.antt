@@ -1,0 +1,3 @@
+pub mod Closure
+pub mod RwLock
+pub mod RwLockGuard

@@ -1,0 +1,112 @@
+//! The guard of a lock that is held.
+mod read;
+mod upgradable;
+mod write;
+
+ghost use Rattle.std.specs.Prelude.{◌≡◌, Some};
+ghost use Rattle.std.specs.Borrow.{Lends, sem};
+
+use lock_base::guard::{Acquire, AcquireFair, Held, ValueGuard, ValueGuardMut};
+pub use read::RwLockReadGuard;
+use std::fmt;
+use std::ops::{Deref, DerefMut};
+pub use upgradable::RwLockUpgradableReadGuard;
+pub use write::RwLockWriteGuard;
+
+/// The right to the value of a lock, in one mode. Its end gives the value back, and then the token.
+#[derive(Drop)]
+pub struct RwLockGuard<L: Acquire> {
+    pub(crate) held: Held<L>,
+}
+
+impl<L: Acquire> RwLockGuard<L> {
+    ghost use Rattle.lock_rwlock.specs.RwLockGuard.{lock_of};
+
+    /// Gives the lock up for the length of the closure, and waits for it again.
+    pub fn unlocked<U, F: FnOnce() -> U>(guard: &mut Self, f: F) -> U
+        requires { F.IsAlwaysCallable f }
+        ensures answer { F.post f result }
+        ensures lock { lock_of guard.new ≡ lock_of guard.old }
+    {
+        guard.held.unlocked(f)
+    }
+
+    /// Gives the value back, and hands the lock and the token on.
+    pub(crate) fn into_token(self) -> (L, L::Token)
+        ensures { result.0 ≡ lock_of self }
+    {
+        self.held.into_token()
+    }
+}
+
+impl<L: AcquireFair> RwLockGuard<L> {
+    ghost use Rattle.lock_rwlock.specs.RwLockGuard.{lock_of};
+
+    /// Ends the guard, and lets those that wait go first.
+    pub fn unlock_fair(guard: Self) {
+        guard.held.unlock_fair();
+    }
+
+    /// `unlocked`, by a fair release.
+    pub fn unlocked_fair<U, F: FnOnce() -> U>(guard: &mut Self, f: F) -> U
+        requires { F.IsAlwaysCallable f }
+        ensures answer { F.post f result }
+        ensures lock { lock_of guard.new ≡ lock_of guard.old }
+    {
+        guard.held.unlocked_fair(f)
+    }
+
+    /// Lets those that wait go first, and waits for the lock again.
+    pub fn bump(guard: &mut Self)
+        ensures { lock_of guard.new ≡ lock_of guard.old }
+    {
+        guard.held.bump();
+    }
+}
+
+impl<L: Acquire> Deref for RwLockGuard<L> {
+    ghost use Rattle.lock_rwlock.specs.RwLockGuard.{guard_value};
+
+    type Target = <L::Shown as ValueGuard>::Value;
+
+    ghost deref_gives = { λ guard value. guard_value L.Shown.shown guard ≡ Some value };
+
+    fn deref(&self) -> &<L::Shown as ValueGuard>::Value {
+        self.held.value()
+    }
+}
+
+impl<L: Acquire> DerefMut for RwLockGuard<L>
+where
+    L::Shown: ValueGuardMut,
+{
+    ghost use Rattle.lock_rwlock.specs.contracts.guard.RwLockGuard.{the_row};
+    ghost use Rattle.lock_rwlock.specs.RwLockGuard.{guard_value, guard_with_value};
+
+    ghost deref_mut_gives = { λ guard value. guard_value L.Shown.shown guard ≡ Some value };
+
+    fn deref_mut(&mut self) -> &mut <L::Shown as ValueGuard>::Value
+        ensures* writes_back { sem 𝓛 (Lends (the_row L.row L.Shown.row L.Token.row L.Waiter.row L.Shown.Value.row L.Shown.ValueGuard) L.Shown.Value.row self.entry result (guard_with_value L.Shown.with_shown self.old)) }
+        ensures value { guard_value L.Shown.shown self.old ≡ Some result.now }
+    {
+        self.held.value_mut()
+    }
+}
+
+impl<L: Acquire> fmt::Debug for RwLockGuard<L>
+where
+    <L::Shown as ValueGuard>::Value: fmt::Debug,
+{
+    fn fmt<W: fmt::Write>(&self, f: &mut fmt::Formatter<W>) -> fmt::Result {
+        self.held.value().fmt(f)
+    }
+}
+
+impl<L: Acquire> fmt::Display for RwLockGuard<L>
+where
+    <L::Shown as ValueGuard>::Value: fmt::Display,
+{
+    fn fmt<W: fmt::Write>(&self, f: &mut fmt::Formatter<W>) -> fmt::Result {
+        self.held.value().fmt(f)
+    }
+}

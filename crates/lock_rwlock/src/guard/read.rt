@@ -1,0 +1,31 @@
+//! The guard of a shared lock.
+ghost use Rattle.std.specs.Prelude.{◌≡◌};
+
+use super::RwLockGuard;
+use crate::lock::RwLock;
+use crate::mode::{InMode, Shared};
+use lock_base::guard::Held;
+use lock_base::raw::RawRwLock;
+
+/// The right to read the value of a lock, beside others that read.
+pub type RwLockReadGuard<'a, R, T> = RwLockGuard<InMode<'a, Shared, R, T>>;
+
+impl<'a, R: RawRwLock, T> RwLockGuard<InMode<'a, Shared, R, T>> {
+    ghost use Rattle.lock_rwlock.specs.RwLockGuard.{IsGuardOf, SameLock};
+
+    /// The guard of a token that the raw lock gave out.
+    pub(crate) fn new(rwlock: &'a RwLock<R, T>, token: R::SharedGuard) -> RwLockReadGuard<'a, R, T>
+        ensures { IsGuardOf rwlock.entry result }
+    {
+        RwLockGuard {
+            held: Held::new(InMode::new(rwlock), token),
+        }
+    }
+
+    /// The lock that the guard was made of.
+    pub fn rwlock(guard: &RwLockReadGuard<'a, R, T>) -> &'a RwLock<R, T>
+        ensures { IsGuardOf result guard.now }
+    {
+        guard.held.lock.rwlock
+    }
+}

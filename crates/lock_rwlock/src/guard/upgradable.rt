@@ -1,0 +1,207 @@
+//! The guard of an upgradable lock.
+ghost use Rattle.std.specs.Prelude.{◌≡◌, IfSome, MatchResult, is_ok, is_some};
+ghost use Rattle.lock_rwlock.specs.Closure.{AnswersSomeValue};
+
+use super::{RwLockGuard, RwLockReadGuard, RwLockWriteGuard};
+use crate::lock::RwLock;
+use crate::mode::{InMode, Upgradable};
+use lock_base::guard::{Acquire, Held};
+use lock_base::raw::{RawRwLockUpgrade, RawRwLockUpgradeDowngrade, RawRwLockUpgradeTimed};
+
+/// The right to read the value of a lock, beside others that read, and to become the one that writes.
+pub type RwLockUpgradableReadGuard<'a, R, T> = RwLockGuard<InMode<'a, Upgradable, R, T>>;
+
+impl<'a, R: RawRwLockUpgrade, T> RwLockGuard<InMode<'a, Upgradable, R, T>> {
+    ghost use Rattle.lock_rwlock.specs.RwLockGuard.{IsGuardOf, SameLock};
+
+    /// The guard of a token that the raw lock gave out.
+    pub(crate) fn new(
+        rwlock: &'a RwLock<R, T>,
+        token: R::UpgradableGuard,
+    ) -> RwLockUpgradableReadGuard<'a, R, T>
+        ensures { IsGuardOf rwlock.entry result }
+    {
+        RwLockGuard {
+            held: Held::new(InMode::new(rwlock), token),
+        }
+    }
+
+    /// The lock that the guard was made of.
+    pub fn rwlock(guard: &RwLockUpgradableReadGuard<'a, R, T>) -> &'a RwLock<R, T>
+        ensures { IsGuardOf result guard.now }
+    {
+        guard.held.lock.rwlock
+    }
+
+    /// The right to write in place of this one, once no other guard is left.
+    pub fn upgrade(guard: RwLockUpgradableReadGuard<'a, R, T>) -> RwLockWriteGuard<'a, R, T>
+        ensures { SameLock guard.entry result }
+    {
+        let (lock, token) = guard.into_token();
+        RwLockWriteGuard::new(lock.rwlock, lock.rwlock.raw.upgrade(token))
+    }
+
+    /// The right to write in place of this one, or this one again where the raw lock refuses.
+    ///
+    /// The guard that comes back has the same lock, and reads the value anew.
+    pub fn try_upgrade(
+        guard: RwLockUpgradableReadGuard<'a, R, T>,
+    ) -> Result<RwLockWriteGuard<'a, R, T>, RwLockUpgradableReadGuard<'a, R, T>>
+        ensures { MatchResult result (SameLock guard.entry) (SameLock guard.entry) }
+    {
+        let (lock, token) = guard.into_token();
+        RwLockUpgradableReadGuard::upgraded(lock.rwlock, lock.rwlock.raw.try_upgrade(token))
+    }
+
+    /// The guard of the token that the raw lock answered.
+    fn upgraded(
+        rwlock: &'a RwLock<R, T>,
+        answer: Result<R::ExclusiveGuard, R::UpgradableGuard>,
+    ) -> Result<RwLockWriteGuard<'a, R, T>, RwLockUpgradableReadGuard<'a, R, T>>
+        ensures upgraded { is_ok result ≡ is_ok answer }
+        ensures lock { MatchResult result (IsGuardOf rwlock.entry) (IsGuardOf rwlock.entry) }
+    {
+        match answer {
+            Ok(token) => Ok(RwLockWriteGuard::new(rwlock, token)),
+            Err(token) => Err(RwLockUpgradableReadGuard::new(rwlock, token)),
+        }
+    }
+}
+
+impl<'a, R: RawRwLockUpgradeTimed, T> RwLockGuard<InMode<'a, Upgradable, R, T>> {
+    ghost use Rattle.lock_rwlock.specs.RwLockGuard.{IsGuardOf, SameLock};
+
+    /// `try_upgrade`, where the raw lock may wait for that long before it refuses.
+    pub fn try_upgrade_for(
+        guard: RwLockUpgradableReadGuard<'a, R, T>,
+        timeout: R::Duration,
+    ) -> Result<RwLockWriteGuard<'a, R, T>, RwLockUpgradableReadGuard<'a, R, T>>
+        ensures { MatchResult result (SameLock guard.entry) (SameLock guard.entry) }
+    {
+        let (lock, token) = guard.into_token();
+        let answer = lock.rwlock.raw.try_upgrade_for(token, timeout);
+        RwLockUpgradableReadGuard::upgraded(lock.rwlock, answer)
+    }
+
+    /// `try_upgrade`, where the raw lock may wait until then before it refuses.
+    pub fn try_upgrade_until(
+        guard: RwLockUpgradableReadGuard<'a, R, T>,
+        deadline: R::Instant,
+    ) -> Result<RwLockWriteGuard<'a, R, T>, RwLockUpgradableReadGuard<'a, R, T>>
+        ensures { MatchResult result (SameLock guard.entry) (SameLock guard.entry) }
+    {
+        let (lock, token) = guard.into_token();
+        let answer = lock.rwlock.raw.try_upgrade_until(token, deadline);
+        RwLockUpgradableReadGuard::upgraded(lock.rwlock, answer)
+    }
+}
+
+impl<'a, R: RawRwLockUpgradeDowngrade, T> RwLockGuard<InMode<'a, Upgradable, R, T>> {
+    ghost use Rattle.lock_rwlock.specs.RwLockGuard.{IsGuardOf, SameLock};
+
+    /// The right to read in place of this one. No other writes between.
+    pub fn downgrade(guard: RwLockUpgradableReadGuard<'a, R, T>) -> RwLockReadGuard<'a, R, T>
+        ensures { SameLock guard.entry result }
+    {
+        let (lock, token) = guard.into_token();
+        RwLockReadGuard::new(lock.rwlock, lock.rwlock.raw.downgrade_upgradable(token))
+    }
+
+    /// Calls the closure on the value while this is the one that writes, once no other guard is left.
+    pub fn with_upgraded<U, F: FnOnce(&mut T) -> U>(&mut self, f: F) -> U
+        requires { F.IsAlwaysCallable f }
+        ensures answer { AnswersSomeValue F.FnOnce f result }
+        ensures lock { SameLock self.old self.new }
+    {
+        let held = &mut self.held;
+        let rwlock = held.lock.rwlock;
+        let token = rwlock.raw.upgrade(held.inner.empty());
+        let answer = rwlock.with_value(f);
+        let token = rwlock.raw.downgrade_to_upgradable(token);
+        held.inner.fill(token, held.lock.show());
+        answer
+    }
+
+    /// `with_upgraded` where the raw lock admits it now, or None without a call of the closure.
+    pub fn try_with_upgraded<U, F: FnOnce(&mut T) -> U>(&mut self, f: F) -> Option<U>
+    where
+        F: Drop,
+        requires { F.IsAlwaysCallable f }
+        ensures answer { IfSome result (AnswersSomeValue F.FnOnce f) }
+        ensures lock { SameLock self.old self.new }
+    {
+        let held = &mut self.held;
+        let rwlock = held.lock.rwlock;
+        let upgraded = rwlock.raw.try_upgrade(held.inner.empty());
+        let (token, answer) = with_if_upgraded(rwlock, upgraded, f);
+        held.inner.fill(token, held.lock.show());
+        answer
+    }
+}
+
+impl<'a, R: RawRwLockUpgradeTimed + RawRwLockUpgradeDowngrade, T> RwLockGuard<
+    InMode<'a, Upgradable, R, T>,
+> {
+    ghost use Rattle.lock_rwlock.specs.RwLockGuard.{IsGuardOf, SameLock};
+
+    /// `try_with_upgraded`, where the raw lock may wait for that long before it refuses.
+    pub fn try_with_upgraded_for<U, F: FnOnce(&mut T) -> U>(
+        &mut self,
+        timeout: R::Duration,
+        f: F,
+    ) -> Option<U>
+    where
+        F: Drop,
+        requires { F.IsAlwaysCallable f }
+        ensures answer { IfSome result (AnswersSomeValue F.FnOnce f) }
+        ensures lock { SameLock self.old self.new }
+    {
+        let held = &mut self.held;
+        let rwlock = held.lock.rwlock;
+        let upgraded = rwlock.raw.try_upgrade_for(held.inner.empty(), timeout);
+        let (token, answer) = with_if_upgraded(rwlock, upgraded, f);
+        held.inner.fill(token, held.lock.show());
+        answer
+    }
+
+    /// `try_with_upgraded`, where the raw lock may wait until then before it refuses.
+    pub fn try_with_upgraded_until<U, F: FnOnce(&mut T) -> U>(
+        &mut self,
+        deadline: R::Instant,
+        f: F,
+    ) -> Option<U>
+    where
+        F: Drop,
+        requires { F.IsAlwaysCallable f }
+        ensures answer { IfSome result (AnswersSomeValue F.FnOnce f) }
+        ensures lock { SameLock self.old self.new }
+    {
+        let held = &mut self.held;
+        let rwlock = held.lock.rwlock;
+        let upgraded = rwlock.raw.try_upgrade_until(held.inner.empty(), deadline);
+        let (token, answer) = with_if_upgraded(rwlock, upgraded, f);
+        held.inner.fill(token, held.lock.show());
+        answer
+    }
+}
+
+/// Calls the closure on the value where the raw lock upgraded the token. The token is upgradable again afterwards.
+fn with_if_upgraded<R: RawRwLockUpgradeDowngrade, T, U, F: FnOnce(&mut T) -> U>(
+    rwlock: &RwLock<R, T>,
+    upgraded: Result<R::ExclusiveGuard, R::UpgradableGuard>,
+    f: F,
+) -> (R::UpgradableGuard, Option<U>)
+where
+    F: Drop,
+    requires { F.IsAlwaysCallable f }
+    ensures called { is_some result.1 ≡ is_ok upgraded }
+    ensures answer { IfSome result.1 (AnswersSomeValue F.FnOnce f) }
+{
+    match upgraded {
+        Ok(token) => {
+            let answer = rwlock.with_value(f);
+            (rwlock.raw.downgrade_to_upgradable(token), Some(answer))
+        }
+        Err(token) => (token, None),
+    }
+}

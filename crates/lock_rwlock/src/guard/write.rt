@@ -1,0 +1,61 @@
+//! The guard of an exclusive lock.
+ghost use Rattle.std.specs.Prelude.{◌≡◌};
+
+use super::{RwLockGuard, RwLockReadGuard, RwLockUpgradableReadGuard};
+use crate::lock::RwLock;
+use crate::mode::{Exclusive, InMode};
+use lock_base::guard::Held;
+use lock_base::raw::{RawRwLock, RawRwLockDowngrade, RawRwLockUpgradeDowngrade};
+
+/// The right to read and write the value of a lock.
+pub type RwLockWriteGuard<'a, R, T> = RwLockGuard<InMode<'a, Exclusive, R, T>>;
+
+impl<'a, R: RawRwLock, T> RwLockGuard<InMode<'a, Exclusive, R, T>> {
+    ghost use Rattle.lock_rwlock.specs.RwLockGuard.{IsGuardOf, SameLock};
+
+    /// The guard of a token that the raw lock gave out.
+    pub(crate) fn new(
+        rwlock: &'a RwLock<R, T>,
+        token: R::ExclusiveGuard,
+    ) -> RwLockWriteGuard<'a, R, T>
+        ensures { IsGuardOf rwlock.entry result }
+    {
+        RwLockGuard {
+            held: Held::new(InMode::new(rwlock), token),
+        }
+    }
+
+    /// The lock that the guard was made of.
+    pub fn rwlock(guard: &RwLockWriteGuard<'a, R, T>) -> &'a RwLock<R, T>
+        ensures { IsGuardOf result guard.now }
+    {
+        guard.held.lock.rwlock
+    }
+}
+
+impl<'a, R: RawRwLockDowngrade, T> RwLockGuard<InMode<'a, Exclusive, R, T>> {
+    ghost use Rattle.lock_rwlock.specs.RwLockGuard.{IsGuardOf, SameLock};
+
+    /// The right to read in place of this one. No other writes between.
+    pub fn downgrade(guard: RwLockWriteGuard<'a, R, T>) -> RwLockReadGuard<'a, R, T>
+        ensures { SameLock guard.entry result }
+    {
+        let (lock, token) = guard.into_token();
+        RwLockReadGuard::new(lock.rwlock, lock.rwlock.raw.downgrade(token))
+    }
+}
+
+impl<'a, R: RawRwLockUpgradeDowngrade, T> RwLockGuard<InMode<'a, Exclusive, R, T>> {
+    ghost use Rattle.lock_rwlock.specs.RwLockGuard.{IsGuardOf, SameLock};
+
+    /// An upgradable guard in place of this one. No other writes between.
+    pub fn downgrade_to_upgradable(
+        guard: RwLockWriteGuard<'a, R, T>,
+    ) -> RwLockUpgradableReadGuard<'a, R, T>
+        ensures { SameLock guard.entry result }
+    {
+        let (lock, token) = guard.into_token();
+        let token = lock.rwlock.raw.downgrade_to_upgradable(token);
+        RwLockUpgradableReadGuard::new(lock.rwlock, token)
+    }
+}
