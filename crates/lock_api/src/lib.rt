@@ -6,14 +6,15 @@ pub use lock_base::machine::{
 };
 pub use lock_base::project::{Missed, Project, Then, TryProject};
 pub use lock_base::raw::{
-    DEFAULT_READERS, Fault, GuardNoSend, GuardSend, MAX_LIMIT, RawMutex, RawMutexFair, RawMutexTimed, RawRwLock,
-    RawRwLockDowngrade, RawRwLockFair, RawRwLockTimed, RawRwLockUpgrade, RawRwLockUpgradeDowngrade,
-    RawRwLockUpgradeFair, RawRwLockUpgradeTimed, RawState, is_limit,
+    DEFAULT_READERS, Fault, GuardNoSend, GuardSend, MAX_LIMIT, RawMutex, RawMutexFair,
+    RawMutexTimed, RawRwLock, RawRwLockDowngrade, RawRwLockFair, RawRwLockTimed, RawRwLockUpgrade,
+    RawRwLockUpgradeDowngrade, RawRwLockUpgradeFair, RawRwLockUpgradeTimed, RawState, is_limit,
 };
+pub use lock_desk::Desk;
 pub use lock_mutex::{Mutex, MutexGuard};
 pub use lock_raws::{ExclusiveToken, SharedToken, StateRaw, TokenRaw, UpgradableToken};
-pub use lock_states::table::{TableToken, TokenTable};
 pub use lock_rwlock::{RwLock, RwLockReadGuard, RwLockUpgradableReadGuard, RwLockWriteGuard};
+pub use lock_states::table::{TableToken, TokenTable};
 
 #[cfg(test)]
 mod tests;

@@ -3,7 +3,7 @@ mod callers;
 mod liar;
 mod markers;
 mod mutex;
-mod shared_like_desk;
 mod rwlock;
 mod rwlock_callers;
 mod rwlock_liar;
+mod shared_like_desk;
