@@ -1,5 +1,11 @@
-//! Shared locks on one thread, beside what the machine of guards replies to the same calls.
-use crate::{Mutex, MutexGuard, RawMutexFair, RawMutexTimed, Reply, TokenRaw};
+//! Shared locks on one thread, beside a `Desk` that is given the same calls.
+mod put;
+
+use crate::{
+    Call, Desk, Form, Mutex, MutexGuard, PartyId, RawMutexFair, RawMutexTimed, Reply, TokenRaw,
+    TokenTable, Want, Way,
+};
+use put::Put;
 use std::alloc::{AllocError, Global};
 use std::test::Fail;
 
@@ -24,7 +30,7 @@ fn parked_and_bumped<R: RawMutexFair>(
     let parked_fair = MutexGuard::unlocked_fair(&mut guard, || mutex.is_locked());
     let read = *guard;
     MutexGuard::unlock_fair(guard);
-    let replies = vec![in alloc;
+    let listed = vec![in alloc;
         Reply::Guard(1),
         tried,
         Reply::Done,
@@ -39,7 +45,31 @@ fn parked_and_bumped<R: RawMutexFair>(
         Reply::Done,
         Reply::Bool(mutex.is_locked()),
     ]?;
-    Ok(replies)
+    Ok(listed)
+}
+
+/// The calls of `parked_and_bumped`, by this party and one other.
+fn calls_of_parked_and_bumped(
+    alloc: Global,
+    party: PartyId,
+    other: PartyId,
+) -> Result<Vec<Call<Put>>, AllocError> {
+    let listed = vec![in alloc;
+        Call::Acquire(Want::Lock, Form::Block, party),
+        Call::Acquire(Want::Lock, Form::Try, other),
+        Call::Park(party, 1),
+        Call::IsLocked,
+        Call::Resume(party, 1),
+        Call::Bump(party, 1),
+        Call::IsLocked,
+        Call::ParkFair(party, 1),
+        Call::IsLocked,
+        Call::Resume(party, 1),
+        Call::Get(party, 1, Put(0)),
+        Call::Unlock(party, 1, Way::Fair),
+        Call::IsLocked,
+    ]?;
+    Ok(listed)
 }
 
 /// Tries for a time and until a time, each beside a guard that is held, and each on a free mutex.
@@ -53,7 +83,7 @@ fn tried_for_a_time<R: RawMutexFair + RawMutexTimed<Duration = (), Instant = ()>
     let first = reply_of(guard, 1);
     let free_for = reply_of(mutex.try_lock_for(()), 2);
     let free_until = reply_of(mutex.try_lock_until(()), 3);
-    let replies = vec![in alloc;
+    let listed = vec![in alloc;
         first,
         held_for,
         held_until,
@@ -64,7 +94,27 @@ fn tried_for_a_time<R: RawMutexFair + RawMutexTimed<Duration = (), Instant = ()>
         Reply::Done,
         Reply::Bool(mutex.is_locked()),
     ]?;
-    Ok(replies)
+    Ok(listed)
+}
+
+/// The calls of `tried_for_a_time`.
+fn calls_of_tried_for_a_time(
+    alloc: Global,
+    party: PartyId,
+    other: PartyId,
+) -> Result<Vec<Call<Put>>, AllocError> {
+    let listed = vec![in alloc;
+        Call::Acquire(Want::Lock, Form::Try, party),
+        Call::Acquire(Want::Lock, Form::For, other),
+        Call::Acquire(Want::Lock, Form::Until, other),
+        Call::Unlock(party, 1, Way::Plain),
+        Call::Acquire(Want::Lock, Form::For, other),
+        Call::Unlock(other, 2, Way::Plain),
+        Call::Acquire(Want::Lock, Form::Until, party),
+        Call::Unlock(party, 3, Way::Plain),
+        Call::IsLocked,
+    ]?;
+    Ok(listed)
 }
 
 /// A change that the next holder reads.
@@ -82,7 +132,7 @@ fn changed_and_read<R: RawMutexFair>(
     MutexGuard::bump(&mut guard);
     let bumped = *guard;
     drop(guard);
-    let replies = vec![in alloc;
+    let listed = vec![in alloc;
         Reply::Guard(1),
         Reply::Answer(written),
         Reply::Done,
@@ -93,66 +143,61 @@ fn changed_and_read<R: RawMutexFair>(
         Reply::Answer(bumped),
         Reply::Done,
     ]?;
-    Ok(replies)
+    Ok(listed)
+}
+
+/// The calls of `changed_and_read`.
+fn calls_of_changed_and_read(
+    alloc: Global,
+    party: PartyId,
+    other: PartyId,
+) -> Result<Vec<Call<Put>>, AllocError> {
+    let listed = vec![in alloc;
+        Call::Acquire(Want::Lock, Form::Block, party),
+        Call::Change(party, 1, Put(-7)),
+        Call::Unlock(party, 1, Way::Plain),
+        Call::Acquire(Want::Lock, Form::Block, other),
+        Call::Get(other, 2, Put(0)),
+        Call::Change(other, 2, Put(8)),
+        Call::Bump(other, 2),
+        Call::Get(other, 2, Put(0)),
+        Call::Unlock(other, 2, Way::Plain),
+    ]?;
+    Ok(listed)
 }
 
 #[test]
-fn a_parked_guard_is_as_the_machine_has_it(rt: HostRuntime) -> Result<(), Fail> {
+fn a_parked_guard_is_as_on_a_desk(rt: HostRuntime) -> Result<(), Fail> {
     let alloc: Global = rt.alloc();
+    let party = PartyId::new(1).ok_or("no party")?;
+    let other = PartyId::new(2).ok_or("no party")?;
     let mutex: Mutex<TokenRaw<HostRuntime>, i64> = Mutex::new(alloc, rt, 2)?;
-    let replies = vec![in alloc;
-        Reply::Guard(1),
-        Reply::NoGuard,
-        Reply::Done,
-        Reply::Bool(false),
-        Reply::Done,
-        Reply::Done,
-        Reply::Bool(true),
-        Reply::Done,
-        Reply::Bool(false),
-        Reply::Done,
-        Reply::Answer(2),
-        Reply::Done,
-        Reply::Bool(false),
-    ]?;
-    assert_eq!(rt; parked_and_bumped(alloc, &mutex)?, replies);
+    let mut desk = Desk::<TokenTable, i64>::mutex(alloc, 2, 2)?;
+    let calls = calls_of_parked_and_bumped(alloc, party, other)?;
+    assert_eq!(rt; parked_and_bumped(alloc, &mutex)?, desk.run(alloc, &calls)?);
     Ok(())
 }
 
 #[test]
-fn timed_tries_are_as_the_machine_has_them(rt: HostRuntime) -> Result<(), Fail> {
+fn timed_tries_are_as_on_a_desk(rt: HostRuntime) -> Result<(), Fail> {
     let alloc: Global = rt.alloc();
+    let party = PartyId::new(1).ok_or("no party")?;
+    let other = PartyId::new(2).ok_or("no party")?;
     let mutex: Mutex<TokenRaw<HostRuntime>, i64> = Mutex::new(alloc, rt, 2)?;
-    let replies = vec![in alloc;
-        Reply::Guard(1),
-        Reply::NoGuard,
-        Reply::NoGuard,
-        Reply::Done,
-        Reply::Guard(2),
-        Reply::Done,
-        Reply::Guard(3),
-        Reply::Done,
-        Reply::Bool(false),
-    ]?;
-    assert_eq!(rt; tried_for_a_time(alloc, &mutex)?, replies);
+    let mut desk = Desk::<TokenTable, i64>::mutex(alloc, 2, 2)?;
+    let calls = calls_of_tried_for_a_time(alloc, party, other)?;
+    assert_eq!(rt; tried_for_a_time(alloc, &mutex)?, desk.run(alloc, &calls)?);
     Ok(())
 }
 
 #[test]
-fn a_change_is_as_the_machine_has_it(rt: HostRuntime) -> Result<(), Fail> {
+fn a_change_is_as_on_a_desk(rt: HostRuntime) -> Result<(), Fail> {
     let alloc: Global = rt.alloc();
+    let party = PartyId::new(1).ok_or("no party")?;
+    let other = PartyId::new(2).ok_or("no party")?;
     let mutex: Mutex<TokenRaw<HostRuntime>, i64> = Mutex::new(alloc, rt, 2)?;
-    let replies = vec![in alloc;
-        Reply::Guard(1),
-        Reply::Answer(-7),
-        Reply::Done,
-        Reply::Guard(2),
-        Reply::Answer(-7),
-        Reply::Answer(8),
-        Reply::Done,
-        Reply::Answer(8),
-        Reply::Done,
-    ]?;
-    assert_eq!(rt; changed_and_read(alloc, &mutex)?, replies);
+    let mut desk = Desk::<TokenTable, i64>::mutex(alloc, 2, 2)?;
+    let calls = calls_of_changed_and_read(alloc, party, other)?;
+    assert_eq!(rt; changed_and_read(alloc, &mutex)?, desk.run(alloc, &calls)?);
     Ok(())
 }
