@@ -6,9 +6,9 @@ pub use lock_base::machine::{
 };
 pub use lock_base::project::{Missed, Project, Then, TryProject};
 pub use lock_base::raw::{
-    DEFAULT_READERS, Fault, GuardNoSend, GuardSend, MAX_LIMIT, RawMutex, RawMutexFair, RawMutexTimed, RawRwLock,
-    RawRwLockDowngrade, RawRwLockFair, RawRwLockTimed, RawRwLockUpgrade, RawRwLockUpgradeDowngrade,
-    RawRwLockUpgradeFair, RawRwLockUpgradeTimed, RawState, is_limit,
+    DEFAULT_READERS, Fault, GuardNoSend, GuardSend, MAX_LIMIT, RawMutex, RawMutexFair,
+    RawMutexTimed, RawRwLock, RawRwLockDowngrade, RawRwLockFair, RawRwLockTimed, RawRwLockUpgrade,
+    RawRwLockUpgradeDowngrade, RawRwLockUpgradeFair, RawRwLockUpgradeTimed, RawState, is_limit,
 };
 pub use lock_mutex::{Mutex, MutexGuard};
 pub use lock_raws::{ExclusiveToken, SharedToken, StateRaw, TokenRaw, UpgradableToken};

@@ -28,8 +28,16 @@ fn four_threads_count_over_an_honest_raw_rwlock(rt: HostRuntime) -> Result<(), F
     let counter = Shared::new(rt.alloc(), rt, 0)?;
     thread::join(
         &rt,
-        || thread::join(&rt, || add_a_thousand(&counter), || add_a_thousand(&counter)),
-        || thread::join(&rt, || add_a_thousand(&counter), || add_a_thousand(&counter)),
+        || thread::join(
+            &rt,
+            || add_a_thousand(&counter),
+            || add_a_thousand(&counter),
+        ),
+        || thread::join(
+            &rt,
+            || add_a_thousand(&counter),
+            || add_a_thousand(&counter),
+        ),
     );
     assert_eq!(rt; counter.into_inner(), 4_000);
     Ok(())
@@ -40,8 +48,16 @@ fn four_threads_count_over_a_lying_raw_rwlock(rt: HostRuntime) -> Result<(), Fai
     let counter: RwLock<Liar<HostRuntime>, u64> = RwLock::new(rt.alloc(), rt, 0)?;
     thread::join(
         &rt,
-        || thread::join(&rt, || add_a_thousand(&counter), || add_a_thousand(&counter)),
-        || thread::join(&rt, || add_a_thousand(&counter), || add_a_thousand(&counter)),
+        || thread::join(
+            &rt,
+            || add_a_thousand(&counter),
+            || add_a_thousand(&counter),
+        ),
+        || thread::join(
+            &rt,
+            || add_a_thousand(&counter),
+            || add_a_thousand(&counter),
+        ),
     );
     assert_eq!(rt; counter.into_inner(), 4_000);
     Ok(())
@@ -164,8 +180,14 @@ fn each_acquisition_of_a_free_lock(rt: HostRuntime) -> Result<(), Fail> {
     assert_eq!(rt; lock.try_write_until(()).map(|guard| *guard), Some(5));
     assert_eq!(rt; *lock.upgradable_read(), 5);
     assert_eq!(rt; lock.try_upgradable_read().map(|guard| *guard), Some(5));
-    assert_eq!(rt; lock.try_upgradable_read_for(()).map(|guard| *guard), Some(5));
-    assert_eq!(rt; lock.try_upgradable_read_until(()).map(|guard| *guard), Some(5));
+    assert_eq!(rt;
+        lock.try_upgradable_read_for(()).map(|guard| *guard),
+        Some(5)
+    );
+    assert_eq!(rt;
+        lock.try_upgradable_read_until(()).map(|guard| *guard),
+        Some(5)
+    );
     assert!(rt; !lock.is_locked());
     assert!(rt; !lock.is_locked_exclusive());
     let (raw, value) = lock.into_inner_with_raw();
