@@ -99,7 +99,11 @@ fn put_by_each_form<W: Wait + Clone + Drop>(
         *value
     };
     let answer = answered(guard.try_with_upgraded_until((), put));
-    same(desk, Call::WithUpgraded(Form::Until, one, 1, Put(4)), answer)
+    same(
+        desk,
+        Call::WithUpgraded(Form::Until, one, 1, Put(4)),
+        answer,
+    )
 }
 
 /// The same guard, after a refused try by each form.
@@ -129,26 +133,50 @@ fn an_upgrade_waits_for_readers(rt: HostRuntime) -> Result<(), Fail> {
     let desk = &mut table;
 
     let guard = lock.upgradable_read();
-    same(desk, Call::Acquire(Want::UpgradableRead, Form::Block, one), Reply::Guard(1))?;
+    same(
+        desk,
+        Call::Acquire(Want::UpgradableRead, Form::Block, one),
+        Reply::Guard(1),
+    )?;
     let reader = lock.read();
-    same(desk, Call::Acquire(Want::Read, Form::Block, two), Reply::Guard(2))?;
+    same(
+        desk,
+        Call::Acquire(Want::Read, Form::Block, two),
+        Reply::Guard(2),
+    )?;
     let mut guard = refused_by_each_form(desk, one, guard)?;
     put_by_each_form(desk, one, &mut guard)?;
     same(desk, Call::Get(one, 1, Put(0)), Reply::Answer(*guard))?;
     let is_given = lock.try_upgradable_read().is_some();
-    same(desk, Call::Acquire(Want::UpgradableRead, Form::Try, two), given(is_given, 3))?;
+    same(
+        desk,
+        Call::Acquire(Want::UpgradableRead, Form::Try, two),
+        given(is_given, 3),
+    )?;
     let is_given = lock.try_write_for(()).is_some();
-    same(desk, Call::Acquire(Want::Write, Form::For, two), given(is_given, 3))?;
+    same(
+        desk,
+        Call::Acquire(Want::Write, Form::For, two),
+        given(is_given, 3),
+    )?;
 
     drop(reader);
     same(desk, Call::Unlock(two, 2, Way::Plain), Reply::Done)?;
     put_by_each_form(desk, one, &mut guard)?;
     let writer = RwLockUpgradableReadGuard::upgrade(guard);
     same(desk, Call::Upgrade(Form::Block, one, 1), Reply::Done)?;
-    same(desk, Call::IsLockedExclusive, Reply::Bool(lock.is_locked_exclusive()))?;
+    same(
+        desk,
+        Call::IsLockedExclusive,
+        Reply::Bool(lock.is_locked_exclusive()),
+    )?;
     let guard = RwLockWriteGuard::downgrade_to_upgradable(writer);
     same(desk, Call::DowngradeToUpgradable(one, 1), Reply::Done)?;
-    same(desk, Call::IsLockedExclusive, Reply::Bool(lock.is_locked_exclusive()))?;
+    same(
+        desk,
+        Call::IsLockedExclusive,
+        Reply::Bool(lock.is_locked_exclusive()),
+    )?;
     let writer = RwLockUpgradableReadGuard::try_upgrade_for(guard, ()).ok();
     same(desk, Call::Upgrade(Form::For, one, 1), Reply::Done)?;
     let reader = RwLockWriteGuard::downgrade(writer.ok_or("not upgraded alone")?);
@@ -193,13 +221,25 @@ fn each_guard_is_given_up_and_taken_again(rt: HostRuntime) -> Result<(), Fail> {
     let desk = &mut table;
 
     let reader = lock.try_read_for(()).ok_or("not free")?;
-    same(desk, Call::Acquire(Want::Read, Form::For, one), Reply::Guard(1))?;
+    same(
+        desk,
+        Call::Acquire(Want::Read, Form::For, one),
+        Reply::Guard(1),
+    )?;
     gives_up_and_takes_again(desk, one, 1, &lock, reader)?;
     let writer = lock.try_write_until(()).ok_or("not free")?;
-    same(desk, Call::Acquire(Want::Write, Form::Until, one), Reply::Guard(2))?;
+    same(
+        desk,
+        Call::Acquire(Want::Write, Form::Until, one),
+        Reply::Guard(2),
+    )?;
     gives_up_and_takes_again(desk, one, 2, &lock, writer)?;
     let guard = lock.try_upgradable_read_for(()).ok_or("not free")?;
-    same(desk, Call::Acquire(Want::UpgradableRead, Form::For, one), Reply::Guard(3))?;
+    same(
+        desk,
+        Call::Acquire(Want::UpgradableRead, Form::For, one),
+        Reply::Guard(3),
+    )?;
     gives_up_and_takes_again(desk, one, 3, &lock, guard)
 }
 
@@ -211,7 +251,11 @@ fn a_guard_goes_up_and_down_in_place(rt: HostRuntime) -> Result<(), Fail> {
     let desk = &mut table;
 
     let guard = lock.upgradable_read();
-    same(desk, Call::Acquire(Want::UpgradableRead, Form::Block, one), Reply::Guard(1))?;
+    same(
+        desk,
+        Call::Acquire(Want::UpgradableRead, Form::Block, one),
+        Reply::Guard(1),
+    )?;
     let writer = RwLockUpgradableReadGuard::try_upgrade_until(guard, ()).ok();
     let mut writer = writer.ok_or("not upgraded alone")?;
     same(desk, Call::Upgrade(Form::Until, one, 1), Reply::Done)?;
@@ -227,7 +271,11 @@ fn a_guard_goes_up_and_down_in_place(rt: HostRuntime) -> Result<(), Fail> {
         *value
     };
     let answer = guard.with_upgraded(put);
-    same(desk, Call::WithUpgraded(Form::Block, one, 1, Put(8)), Reply::Answer(answer))?;
+    same(
+        desk,
+        Call::WithUpgraded(Form::Block, one, 1, Put(8)),
+        Reply::Answer(answer),
+    )?;
     let reader = RwLockUpgradableReadGuard::downgrade(guard);
     same(desk, Call::Downgrade(one, 1), Reply::Done)?;
     same(desk, Call::Get(one, 1, Put(0)), Reply::Answer(*reader))?;
@@ -245,13 +293,25 @@ fn readers_stop_at_their_limit(rt: HostRuntime) -> Result<(), Fail> {
     let desk = &mut table;
 
     let guard = lock.upgradable_read();
-    same(desk, Call::Acquire(Want::UpgradableRead, Form::Block, one), Reply::Guard(1))?;
+    same(
+        desk,
+        Call::Acquire(Want::UpgradableRead, Form::Block, one),
+        Reply::Guard(1),
+    )?;
     let reader = RwLockUpgradableReadGuard::downgrade(guard);
     same(desk, Call::Downgrade(one, 1), Reply::Done)?;
     let is_given = lock.try_read().is_some();
-    same(desk, Call::Acquire(Want::Read, Form::Try, two), given(is_given, 2))?;
+    same(
+        desk,
+        Call::Acquire(Want::Read, Form::Try, two),
+        given(is_given, 2),
+    )?;
     drop(reader);
     same(desk, Call::Unlock(one, 1, Way::Plain), Reply::Done)?;
     let is_given = lock.try_read().is_some();
-    same(desk, Call::Acquire(Want::Read, Form::Try, two), given(is_given, 2))
+    same(
+        desk,
+        Call::Acquire(Want::Read, Form::Try, two),
+        given(is_given, 2),
+    )
 }

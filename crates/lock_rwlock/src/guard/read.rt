@@ -11,7 +11,7 @@ use lock_base::raw::RawRwLock;
 pub type RwLockReadGuard<'a, R, T> = RwLockGuard<InMode<'a, Shared, R, T>>;
 
 impl<'a, R: RawRwLock, T> RwLockGuard<InMode<'a, Shared, R, T>> {
-    ghost use Rattle.lock_rwlock.specs.RwLockGuard.{IsGuardOf, SameLock};
+    ghost use Rattle.lock_rwlock.specs.RwLockGuard.{IsGuardOf};
 
     /// The guard of a token that the raw lock gave out.
     pub(crate) fn new(rwlock: &'a RwLock<R, T>, token: R::SharedGuard) -> RwLockReadGuard<'a, R, T>

@@ -69,7 +69,7 @@ impl<'a, R: RawRwLockUpgrade, T> RwLockGuard<InMode<'a, Upgradable, R, T>> {
 }
 
 impl<'a, R: RawRwLockUpgradeTimed, T> RwLockGuard<InMode<'a, Upgradable, R, T>> {
-    ghost use Rattle.lock_rwlock.specs.RwLockGuard.{IsGuardOf, SameLock};
+    ghost use Rattle.lock_rwlock.specs.RwLockGuard.{SameLock};
 
     /// `try_upgrade`, where the raw lock may wait for that long before it refuses.
     pub fn try_upgrade_for(
@@ -97,7 +97,7 @@ impl<'a, R: RawRwLockUpgradeTimed, T> RwLockGuard<InMode<'a, Upgradable, R, T>> 
 }
 
 impl<'a, R: RawRwLockUpgradeDowngrade, T> RwLockGuard<InMode<'a, Upgradable, R, T>> {
-    ghost use Rattle.lock_rwlock.specs.RwLockGuard.{IsGuardOf, SameLock};
+    ghost use Rattle.lock_rwlock.specs.RwLockGuard.{SameLock};
 
     /// The right to read in place of this one. No other writes between.
     pub fn downgrade(guard: RwLockUpgradableReadGuard<'a, R, T>) -> RwLockReadGuard<'a, R, T>
@@ -142,7 +142,7 @@ impl<'a, R: RawRwLockUpgradeDowngrade, T> RwLockGuard<InMode<'a, Upgradable, R, 
 impl<'a, R: RawRwLockUpgradeTimed + RawRwLockUpgradeDowngrade, T> RwLockGuard<
     InMode<'a, Upgradable, R, T>,
 > {
-    ghost use Rattle.lock_rwlock.specs.RwLockGuard.{IsGuardOf, SameLock};
+    ghost use Rattle.lock_rwlock.specs.RwLockGuard.{SameLock};
 
     /// `try_with_upgraded`, where the raw lock may wait for that long before it refuses.
     pub fn try_with_upgraded_for<U, F: FnOnce(&mut T) -> U>(

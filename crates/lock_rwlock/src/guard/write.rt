@@ -11,7 +11,7 @@ use lock_base::raw::{RawRwLock, RawRwLockDowngrade, RawRwLockUpgradeDowngrade};
 pub type RwLockWriteGuard<'a, R, T> = RwLockGuard<InMode<'a, Exclusive, R, T>>;
 
 impl<'a, R: RawRwLock, T> RwLockGuard<InMode<'a, Exclusive, R, T>> {
-    ghost use Rattle.lock_rwlock.specs.RwLockGuard.{IsGuardOf, SameLock};
+    ghost use Rattle.lock_rwlock.specs.RwLockGuard.{IsGuardOf};
 
     /// The guard of a token that the raw lock gave out.
     pub(crate) fn new(
@@ -34,7 +34,7 @@ impl<'a, R: RawRwLock, T> RwLockGuard<InMode<'a, Exclusive, R, T>> {
 }
 
 impl<'a, R: RawRwLockDowngrade, T> RwLockGuard<InMode<'a, Exclusive, R, T>> {
-    ghost use Rattle.lock_rwlock.specs.RwLockGuard.{IsGuardOf, SameLock};
+    ghost use Rattle.lock_rwlock.specs.RwLockGuard.{SameLock};
 
     /// The right to read in place of this one. No other writes between.
     pub fn downgrade(guard: RwLockWriteGuard<'a, R, T>) -> RwLockReadGuard<'a, R, T>
@@ -46,7 +46,7 @@ impl<'a, R: RawRwLockDowngrade, T> RwLockGuard<InMode<'a, Exclusive, R, T>> {
 }
 
 impl<'a, R: RawRwLockUpgradeDowngrade, T> RwLockGuard<InMode<'a, Exclusive, R, T>> {
-    ghost use Rattle.lock_rwlock.specs.RwLockGuard.{IsGuardOf, SameLock};
+    ghost use Rattle.lock_rwlock.specs.RwLockGuard.{SameLock};
 
     /// An upgradable guard in place of this one. No other writes between.
     pub fn downgrade_to_upgradable(
