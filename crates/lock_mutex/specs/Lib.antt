@@ -1,1 +1,3 @@
 pub mod MutexGuard
+pub mod LastCheck
+pub mod Waiting
