@@ -6,12 +6,13 @@ pub use lock_base::machine::{
 };
 pub use lock_base::project::{Missed, Project, Then, TryProject};
 pub use lock_base::raw::{
-    DEFAULT_READERS, Fault, GuardNoSend, GuardSend, MAX_LIMIT, RawMutex, RawMutexFair, RawMutexTimed, RawRwLock,
+    DEFAULT_READERS, Fault, GuardNoSend, GuardSend, MAX_LIMIT, RawCondvar, RawCondvarTimed, RawMutex, RawMutexFair, RawMutexTimed, RawRwLock,
     RawRwLockDowngrade, RawRwLockFair, RawRwLockTimed, RawRwLockUpgrade, RawRwLockUpgradeDowngrade,
     RawRwLockUpgradeFair, RawRwLockUpgradeTimed, RawState, is_limit,
 };
-pub use lock_mutex::{Mutex, MutexGuard};
-pub use lock_raws::{ExclusiveToken, SharedToken, StateRaw, TokenRaw, UpgradableToken};
+pub use lock_mutex::{Condvar, Mutex, MutexGuard, WaitTimeoutResult};
+pub use lock_mutex_loop::{LoopEnd, Script, Waits, run_loop};
+pub use lock_raws::{ExclusiveToken, SharedToken, SpuriousCondvar, StateRaw, TokenRaw, UpgradableToken};
 pub use lock_states::table::{TableToken, TokenTable};
 pub use lock_rwlock::{RwLock, RwLockReadGuard, RwLockUpgradableReadGuard, RwLockWriteGuard};
 
