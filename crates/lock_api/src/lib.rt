@@ -9,9 +9,10 @@ pub use lock_base::project::{
     then_is_associative, then_is_lawful, then_misses_in_order, write_keeps_part,
 };
 pub use lock_base::raw::{
-    DEFAULT_READERS, Fault, GuardNoSend, GuardSend, MAX_LIMIT, RawMutex, RawMutexFair,
-    RawMutexTimed, RawRwLock, RawRwLockDowngrade, RawRwLockFair, RawRwLockTimed, RawRwLockUpgrade,
-    RawRwLockUpgradeDowngrade, RawRwLockUpgradeFair, RawRwLockUpgradeTimed, RawState, is_limit,
+    DEFAULT_READERS, Fault, GuardNoSend, GuardSend, MAX_LIMIT, RawCondvar, RawCondvarTimed,
+    RawMutex, RawMutexFair, RawMutexTimed, RawRwLock, RawRwLockDowngrade, RawRwLockFair,
+    RawRwLockTimed, RawRwLockUpgrade, RawRwLockUpgradeDowngrade, RawRwLockUpgradeFair,
+    RawRwLockUpgradeTimed, RawState, is_limit,
 };
 pub use lock_base_laws::{
     nested_guards_make_one_token, numbers_are_used_once, only_writes_change_value,
@@ -19,9 +20,11 @@ pub use lock_base_laws::{
     runs_are_sound, spent_counts_releases, tokens_are_those_held,
 };
 pub use lock_desk::Desk;
-pub use lock_mutex::{Mutex, MutexGuard};
+pub use lock_mutex::{Condvar, Mutex, MutexGuard, WaitTimeoutResult};
 pub use lock_mutex_loop::{LoopEnd, Script, Waits, run_loop};
-pub use lock_raws::{ExclusiveToken, SharedToken, StateRaw, TokenRaw, UpgradableToken};
+pub use lock_raws::{
+    ExclusiveToken, SharedToken, SpuriousCondvar, StateRaw, TokenRaw, UpgradableToken,
+};
 pub use lock_remutex::{
     DEFAULT_LEVELS, Levels, RawReentrantMutex, ReentrantMutex, ReentrantMutexGuard,
 };

@@ -1,5 +1,6 @@
 //! Tests that span crates.
 mod callers;
+mod condvar;
 mod liar;
 mod markers;
 mod mutex;

@@ -12,7 +12,7 @@ use std::ops::{Deref, DerefMut};
 /// The right to the value of a mutex, `L` being a reference to it. Its end gives the mutex up.
 #[derive(Drop)]
 pub struct Guard<L: Acquire> {
-    held: Held<L>,
+    pub(crate) held: Held<L>,
 }
 
 /// The right to the value of a mutex. Its end gives the mutex up.

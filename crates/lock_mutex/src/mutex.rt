@@ -12,7 +12,7 @@ use std::{fmt, sync};
 /// the raw lock is. So a raw lock that lies can make a call wait, and nothing worse.
 #[derive(Drop)]
 pub struct Mutex<R, T> {
-    raw: R,
+    pub(crate) raw: R,
     value: sync::Mutex<T>,
 }
 

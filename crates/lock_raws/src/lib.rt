@@ -7,6 +7,7 @@ mod lets_on;
 mod mutex;
 mod rwlock;
 mod sequential_state;
+mod spurious_condvar;
 mod state_raw;
 #[cfg(test)]
 mod tests;
@@ -15,5 +16,6 @@ mod tokens;
 pub use held_place::HeldPlace;
 pub use legal_table::LegalTable;
 pub use sequential_state::SequentialState;
+pub use spurious_condvar::SpuriousCondvar;
 pub use state_raw::{StateRaw, TokenRaw};
 pub use tokens::{ExclusiveToken, SharedToken, UpgradableToken};

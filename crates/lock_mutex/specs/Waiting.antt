@@ -1,0 +1,36 @@
+-- The value of a lock whose holder waits.
+use Rattle.std.specs.Prelude.{◌≡◌, true, false, Some, refl}
+use Rattle.lock_base.specs.declared.guard.inner.Inner.{Inner}
+use Rattle.lock_base.specs.declared.guard.inner.Inner.TheVariants.{Filled, Empty}
+use Rattle.lock_base.specs.Inner.{is_filled, inner_value, inner_with_value}
+use Rattle.lock_base.specs.Held.{held_with_value}
+use Rattle.lock_mutex.specs.declared.waiting.Waiting.{Waiting}
+
+pub false_not_true : false ≡ true → ⊥
+false_not_true is = Prim.cc
+
+module _ {K V X : Type 0} where
+  -- the value that a filled part shows
+  abbrev pub filled_value : (V → X) → (inner : Inner K V) → is_filled inner ≡ true → X
+  filled_value value_of (Filled token shown) filled = value_of shown
+  filled_value value_of Empty filled = absurd (false_not_true filled)
+
+  pub inner_value-filled : (value_of : V → X) (inner : Inner K V) (filled : is_filled inner ≡ true) → inner_value value_of inner ≡ Some (filled_value value_of inner filled)
+  inner_value-filled value_of (Filled token shown) filled = refl
+  inner_value-filled value_of Empty filled = absurd (false_not_true filled)
+
+  pub filled_value-with : (value_of : V → X) (with_value : V → X → V) → ((shown : V) (value : X) → value_of (with_value shown value) ≡ value)
+      → (inner : Inner K V) (value : X) (filled : is_filled (inner_with_value with_value inner value) ≡ true) → filled_value value_of (inner_with_value with_value inner value) filled ≡ value
+  filled_value-with value_of with_value law (Filled token shown) value filled = law shown value
+  filled_value-with value_of with_value law Empty value filled = absurd (false_not_true filled)
+
+module _ {L S V K W X : Type 0} {g : _} where
+  abbrev pub waiting_value : (V → X) → Waiting L S V K W X g → X
+  waiting_value value_of waiting = filled_value value_of waiting.held.inner waiting.held.filled
+
+  abbrev pub waiting_with_value : (V → X → V) → Waiting L S V K W X g → X → Waiting L S V K W X g
+  waiting_with_value with_value waiting value = record waiting { held = held_with_value with_value waiting.held value }
+
+  pub waiting_value-with : (value_of : V → X) (with_value : V → X → V) → ((shown : V) (value : X) → value_of (with_value shown value) ≡ value)
+      → (waiting : Waiting L S V K W X g) (value : X) → waiting_value value_of (waiting_with_value with_value waiting value) ≡ value
+  waiting_value-with value_of with_value law waiting value = filled_value-with value_of with_value law waiting.held.inner value _

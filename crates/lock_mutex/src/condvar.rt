@@ -1,0 +1,155 @@
+//! A condition variable over any raw one.
+ghost use Rattle.std.specs.Prelude.{◌≡◌, false, IsOkUnless};
+ghost use Rattle.std.specs.Sync.Mutex.{mutex_guard_value};
+ghost use Rattle.lock_mutex.specs.LastCheck.{LastCheck, is_late};
+
+use crate::sleep::{Sleep, UntilInstant, UntilNotified, trade};
+use crate::waiting::sleep_while;
+use crate::{MutexGuard, WaitTimeoutResult};
+use lock_base::raw::{Fault, RawCondvar, RawCondvarTimed, RawMutex, RawMutexTimed};
+use std::alloc::Global;
+use std::fmt;
+use std::fmt::{Debug, Formatter};
+
+/// A condition variable, which waits with the guard of a mutex. A wait may end with no notification.
+#[derive(Drop)]
+pub struct Condvar<C> {
+    raw: C,
+}
+
+impl<C: RawCondvar> Condvar<C> {
+    ghost use Rattle.lock_mutex.specs.MutexGuard.{lock_of, guard_value};
+
+    pub fn new(alloc: Global) -> Result<Condvar<C>, Fault>
+        ensures { IsOkUnless result Fault.OutOfMemory }
+    {
+        Ok(Condvar {
+            raw: C::new(alloc)?,
+        })
+    }
+
+    /// `new`, under the name of std's default.
+    pub fn default(alloc: Global) -> Result<Condvar<C>, Fault>
+        ensures { IsOkUnless result Fault.OutOfMemory }
+    {
+        Condvar::new(alloc)
+    }
+
+    pub fn raw(&self) -> &C {
+        &self.raw
+    }
+
+    /// Whether one that waits was woken, as the raw condition variable answers.
+    pub fn notify_one(&self) -> bool {
+        self.raw.notify_one()
+    }
+
+    /// How many that wait were woken, as the raw condition variable answers.
+    pub fn notify_all(&self) -> usize {
+        self.raw.notify_all()
+    }
+
+    /// Gives the mutex up, waits, and takes it again.
+    pub fn wait<T>(&self, guard: &mut MutexGuard<'_, C::RawMutex, T>)
+        ensures { lock_of guard.new ≡ lock_of guard.old }
+    {
+        UntilNotified { raw: &self.raw }.sleep(&mut guard.held);
+    }
+
+    /// Waits while the condition is true. It is checked first: where it is false, nothing is waited for.
+    pub fn wait_while<T, F: FnMut(&mut T) -> bool>(
+        &self,
+        guard: &mut MutexGuard<'_, C::RawMutex, T>,
+        condition: F,
+    )
+        requires { F.IsAlwaysCallable condition }
+        ensures lock { lock_of guard.new ≡ lock_of guard.old }
+        ensures last { LastCheck F.FnMut false (guard_value mutex_guard_value guard.new) }
+    {
+        let sleep = UntilNotified { raw: &self.raw };
+        let waiter = guard.held.lock.raw.waiter();
+        sleep_while(waiter, &mut guard.held, sleep, condition);
+    }
+}
+
+impl<C: RawCondvarTimed> Condvar<C>
+where
+    C::RawMutex: RawMutexTimed,
+{
+    ghost use Rattle.lock_mutex.specs.MutexGuard.{lock_of, guard_value};
+
+    /// `wait`, until that instant.
+    pub fn wait_until<T>(
+        &self,
+        guard: &mut MutexGuard<'_, C::RawMutex, T>,
+        deadline: <C::RawMutex as RawMutexTimed>::Instant,
+    ) -> WaitTimeoutResult
+        ensures { lock_of guard.new ≡ lock_of guard.old }
+    {
+        let sleep = UntilInstant {
+            raw: &self.raw,
+            deadline,
+        };
+        let late = sleep.sleep(&mut guard.held);
+        WaitTimeoutResult { late }
+    }
+
+    /// `wait`, for that long. Where there is no such instant, it waits on and does not time out.
+    pub fn wait_for<T>(
+        &self,
+        guard: &mut MutexGuard<'_, C::RawMutex, T>,
+        timeout: <C::RawMutex as RawMutexTimed>::Duration,
+    ) -> WaitTimeoutResult
+        ensures { lock_of guard.new ≡ lock_of guard.old }
+    {
+        let mutex = guard.held.lock;
+        let late = trade(&mut guard.held, |token| {
+            self.raw.wait_for(&mutex.raw, token, &timeout)
+        });
+        WaitTimeoutResult { late }
+    }
+
+    /// `wait_while`, until that instant. Where the time came, the condition is checked once more.
+    pub fn wait_while_until<T, F: FnMut(&mut T) -> bool>(
+        &self,
+        guard: &mut MutexGuard<'_, C::RawMutex, T>,
+        condition: F,
+        deadline: <C::RawMutex as RawMutexTimed>::Instant,
+    ) -> WaitTimeoutResult
+        requires { F.IsAlwaysCallable condition }
+        ensures lock { lock_of guard.new ≡ lock_of guard.old }
+        ensures last { LastCheck F.FnMut (is_late result) (guard_value mutex_guard_value guard.new) }
+    {
+        let sleep = UntilInstant {
+            raw: &self.raw,
+            deadline,
+        };
+        let waiter = guard.held.lock.raw.waiter();
+        let late = sleep_while(waiter, &mut guard.held, sleep, condition);
+        WaitTimeoutResult { late }
+    }
+
+    /// `wait_while`, for that long. Where there is no such instant, it waits on and does not time out.
+    pub fn wait_while_for<T, F: FnMut(&mut T) -> bool>(
+        &self,
+        guard: &mut MutexGuard<'_, C::RawMutex, T>,
+        condition: F,
+        timeout: <C::RawMutex as RawMutexTimed>::Duration,
+    ) -> WaitTimeoutResult
+        requires { F.IsAlwaysCallable condition }
+        ensures lock { lock_of guard.new ≡ lock_of guard.old }
+        ensures last { LastCheck F.FnMut (is_late result) (guard_value mutex_guard_value guard.new) }
+    {
+        if let Some(deadline) = C::checked_duration_to_instant(&timeout) {
+            return self.wait_while_until(guard, condition, deadline);
+        }
+        self.wait_while(guard, condition);
+        WaitTimeoutResult { late: false }
+    }
+}
+
+impl<C> Debug for Condvar<C> {
+    fn fmt<W: fmt::Write>(&self, f: &mut Formatter<W>) -> fmt::Result {
+        f.write_str("Condvar { .. }")
+    }
+}

@@ -1,0 +1,73 @@
+//! A held lock whose holder waits for a condition.
+ghost use Rattle.std.specs.Prelude.{◌≡◌, Bool, false, IsSomeAnd};
+ghost use Rattle.lock_base.specs.Held.{held_value};
+ghost use Rattle.lock_mutex.specs.LastCheck.{LastCheck};
+
+use crate::sleep::Sleep;
+use lock_base::guard::{Acquire, Held, Inner, ValueGuard, ValueGuardMut};
+use lock_mutex_loop::{LoopEnd, Waits, run_loop};
+use std::mem;
+use std::sync::Wait;
+
+/// A held lock, and the sleep between two checks.
+pub struct Waiting<L: Acquire, S> {
+    pub held: Held<L>,
+    pub sleep: S,
+}
+
+impl<L: Acquire, S: Sleep<L>> Waits for Waiting<L, S>
+where
+    L::Shown: ValueGuardMut,
+{
+    ghost use Rattle.lock_mutex.specs.Waiting.{waiting_value, waiting_with_value, waiting_value-with};
+
+    type Value = <L::Shown as ValueGuard>::Value;
+
+    ghost current = { waiting_value L.Shown.shown };
+
+    ghost with_current = { waiting_with_value L.Shown.with_shown };
+
+    ghost waited = { λ before answer after. IsSomeAnd answer S.may_answer };
+
+    fn value(&mut self) -> &mut <L::Shown as ValueGuard>::Value {
+        self.held.value_mut()
+    }
+
+    fn wait(&mut self) -> Option<bool> {
+        Some(self.sleep.sleep(&mut self.held))
+    }
+
+    ghost current_with = { waiting_value-with L.Shown.shown L.Shown.with_shown L.Shown.shown_with };
+}
+
+/// Sleeps while the condition is true, until a sleep timed out. Whether the last check, which left the value that is
+/// held, answered true.
+pub fn sleep_while<
+    W: Wait,
+    L: Acquire + Copy,
+    S: Sleep<L>,
+    F: FnMut(&mut <L::Shown as ValueGuard>::Value) -> bool,
+>(waiter: &W, held: &mut Held<L>, sleep: S, condition: F) -> bool
+where
+    L::Shown: ValueGuardMut,
+    requires { F.IsAlwaysCallable condition }
+    ensures lock { held.new.lock ≡ held.old.lock }
+    ensures last { LastCheck F.FnMut result (held_value L.Shown.shown held.new) }
+    ensures in_time { ((late : Bool) → S.may_answer late → late ≡ false) → result ≡ false }
+{
+    let inner = mem::replace(&mut held.inner, Inner::Empty);
+    let mut waiting = Waiting {
+        held: Held {
+            lock: held.lock,
+            inner,
+        },
+        sleep,
+    };
+    let end = run_loop(waiter, &mut waiting, condition);
+    let Waiting {
+        held: waited,
+        sleep: _,
+    } = waiting;
+    held.inner.put(waited.into_inner());
+    end == LoopEnd::TimedOut
+}
