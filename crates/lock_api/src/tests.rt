@@ -1,11 +1,16 @@
 //! Tests that span crates.
+mod beside_desk;
 mod callers;
 mod condvar;
+mod counting;
+mod four_threads;
 mod liar;
+mod makers;
 mod markers;
 mod mutex;
+mod mutex_rows;
+mod remutex_rows;
 mod rwlock;
 mod rwlock_callers;
 mod rwlock_liar;
 mod rwlock_rows;
-mod shared_like_desk;

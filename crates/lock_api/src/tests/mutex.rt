@@ -1,9 +1,10 @@
 //! The mutex, over a raw lock that is honest and over one that lies.
+use super::four_threads::on_four_threads;
 use super::liar::Liar;
-use crate::{Fault, Mutex, MutexGuard, RawMutex, TokenRaw};
+use super::makers::holds_or_lacks_memory;
+use crate::{Mutex, MutexGuard, RawMutex, TokenRaw};
 use std::alloc::Global;
 use std::test::Fail;
-use std::thread;
 
 /// A number behind an honest raw lock.
 type Counter = Mutex<TokenRaw<HostRuntime>, u64>;
@@ -19,19 +20,7 @@ fn add_a_thousand<R: RawMutex>(counter: &Mutex<R, u64>) {
 #[test]
 fn four_threads_count_over_an_honest_raw_lock(rt: HostRuntime) -> Result<(), Fail> {
     let counter = Counter::new(rt.alloc(), rt, 0)?;
-    thread::join(
-        &rt,
-        || thread::join(
-            &rt,
-            || add_a_thousand(&counter),
-            || add_a_thousand(&counter),
-        ),
-        || thread::join(
-            &rt,
-            || add_a_thousand(&counter),
-            || add_a_thousand(&counter),
-        ),
-    );
+    on_four_threads(&rt, || add_a_thousand(&counter));
     assert_eq!(rt; counter.into_inner(), 4_000);
     Ok(())
 }
@@ -39,19 +28,7 @@ fn four_threads_count_over_an_honest_raw_lock(rt: HostRuntime) -> Result<(), Fai
 #[test]
 fn four_threads_count_over_a_lying_raw_lock(rt: HostRuntime) -> Result<(), Fail> {
     let counter: Mutex<Liar<HostRuntime>, u64> = Mutex::new(rt.alloc(), rt, 0)?;
-    thread::join(
-        &rt,
-        || thread::join(
-            &rt,
-            || add_a_thousand(&counter),
-            || add_a_thousand(&counter),
-        ),
-        || thread::join(
-            &rt,
-            || add_a_thousand(&counter),
-            || add_a_thousand(&counter),
-        ),
-    );
+    on_four_threads(&rt, || add_a_thousand(&counter));
     assert_eq!(rt; counter.into_inner(), 4_000);
     Ok(())
 }
@@ -95,18 +72,13 @@ fn texts_of_a_mutex_and_its_guard(rt: HostRuntime) -> Result<(), Fail> {
     Ok(())
 }
 
-/// Whether a maker gave a mutex of the value, or told the refused allocation.
-fn is_refused_or_holds<R: RawMutex + Drop>(made: Result<Mutex<R, u64>, Fault>, value: u64) -> bool {
-    match made {
-        Ok(mutex) => mutex.into_inner() == value,
-        Err(fault) => fault == Fault::OutOfMemory,
-    }
-}
-
 #[test]
 fn refused_memory_in_makers_of_a_mutex(rt: HostRuntime) {
     let alloc: Global = rt.alloc();
-    assert!(rt; is_refused_or_holds(Counter::new(alloc, rt, 5), 5));
-    assert!(rt; is_refused_or_holds(Counter::from(alloc, rt, 6), 6));
-    assert!(rt; is_refused_or_holds(Counter::default(alloc, rt), 0));
+    let made = Counter::new(alloc, rt, 5);
+    assert!(rt; holds_or_lacks_memory(made.map(|lock| lock.into_inner()), 5));
+    let made = Counter::from(alloc, rt, 6);
+    assert!(rt; holds_or_lacks_memory(made.map(|lock| lock.into_inner()), 6));
+    let made = Counter::default(alloc, rt);
+    assert!(rt; holds_or_lacks_memory(made.map(|lock| lock.into_inner()), 0));
 }

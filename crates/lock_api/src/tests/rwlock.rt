@@ -1,5 +1,7 @@
 //! The reader-writer lock, over a table of tokens and over a raw lock that lies.
+use super::four_threads::on_four_threads;
 use super::liar::Liar;
+use super::makers::holds_or_lacks_memory;
 use super::rwlock_callers::{
     answer_unlocked, read_twice, same_lock_after_all, swap_in, write_and_read,
 };
@@ -26,19 +28,7 @@ fn add_a_thousand<R: RawRwLock>(counter: &RwLock<R, u64>) {
 #[test]
 fn four_threads_count_over_an_honest_raw_rwlock(rt: HostRuntime) -> Result<(), Fail> {
     let counter = Shared::new(rt.alloc(), rt, 0)?;
-    thread::join(
-        &rt,
-        || thread::join(
-            &rt,
-            || add_a_thousand(&counter),
-            || add_a_thousand(&counter),
-        ),
-        || thread::join(
-            &rt,
-            || add_a_thousand(&counter),
-            || add_a_thousand(&counter),
-        ),
-    );
+    on_four_threads(&rt, || add_a_thousand(&counter));
     assert_eq!(rt; counter.into_inner(), 4_000);
     Ok(())
 }
@@ -46,19 +36,7 @@ fn four_threads_count_over_an_honest_raw_rwlock(rt: HostRuntime) -> Result<(), F
 #[test]
 fn four_threads_count_over_a_lying_raw_rwlock(rt: HostRuntime) -> Result<(), Fail> {
     let counter: RwLock<Liar<HostRuntime>, u64> = RwLock::new(rt.alloc(), rt, 0)?;
-    thread::join(
-        &rt,
-        || thread::join(
-            &rt,
-            || add_a_thousand(&counter),
-            || add_a_thousand(&counter),
-        ),
-        || thread::join(
-            &rt,
-            || add_a_thousand(&counter),
-            || add_a_thousand(&counter),
-        ),
-    );
+    on_four_threads(&rt, || add_a_thousand(&counter));
     assert_eq!(rt; counter.into_inner(), 4_000);
     Ok(())
 }
@@ -135,24 +113,17 @@ fn two_readers_hold_at_once(rt: HostRuntime) -> Result<(), Fail> {
     Ok(())
 }
 
-/// A maker keeps its value, or lacks memory.
-fn is_made_or_lacks_memory<R: RawRwLock + Drop>(
-    made: Result<RwLock<R, u64>, Fault>,
-    value: u64,
-) -> bool {
-    match made {
-        Ok(lock) => lock.into_inner() == value,
-        Err(fault) => fault == Fault::OutOfMemory,
-    }
-}
-
 #[test]
 fn refused_memory_rwlock_makers(rt: HostRuntime) {
     let alloc = rt.alloc();
-    assert!(rt; is_made_or_lacks_memory(Shared::new(alloc, rt, 5), 5));
-    assert!(rt; is_made_or_lacks_memory(Shared::from(alloc, rt, 6), 6));
-    assert!(rt; is_made_or_lacks_memory(Shared::default(alloc, rt), 0));
-    assert!(rt; is_made_or_lacks_memory(Shared::with_readers(alloc, rt, 1, 7), 7));
+    let made = Shared::new(alloc, rt, 5);
+    assert!(rt; holds_or_lacks_memory(made.map(|lock| lock.into_inner()), 5));
+    let made = Shared::from(alloc, rt, 6);
+    assert!(rt; holds_or_lacks_memory(made.map(|lock| lock.into_inner()), 6));
+    let made = Shared::default(alloc, rt);
+    assert!(rt; holds_or_lacks_memory(made.map(|lock| lock.into_inner()), 0));
+    let made = Shared::with_readers(alloc, rt, 1, 7);
+    assert!(rt; holds_or_lacks_memory(made.map(|lock| lock.into_inner()), 7));
 }
 
 #[test]

@@ -1,79 +1,25 @@
 //! Rows of calls, each made on a reader-writer lock over a table of tokens and on a desk, with equal answers.
-ghost use Rattle.std.specs.Prelude.{true};
-
+use super::beside_desk::{Put, Table, given, party, same};
 use crate::{
-    Call, Form, Op, PartyId, RawRwLock, Reply, RwLock, RwLockReadGuard, RwLockUpgradableReadGuard,
-    RwLockWriteGuard, TokenRaw, TokenTable, Want, Way,
+    Call, Form, PartyId, RawRwLock, Reply, RwLock, RwLockReadGuard, RwLockUpgradableReadGuard,
+    RwLockWriteGuard, TokenRaw, Want, Way,
 };
 use lock_base::guard::AcquireFair;
-use lock_desk::Desk;
 use lock_rwlock::RwLockGuard;
 use std::clone::Clone;
 use std::sync::Wait;
 use std::test::Fail;
 
-type Table = Desk<TokenTable, u64>;
+type Shared<W> = RwLock<TokenRaw<W>, i64>;
 
-type Shared<W> = RwLock<TokenRaw<W>, u64>;
-
-type Upgradable<'a, W> = RwLockUpgradableReadGuard<'a, TokenRaw<W>, u64>;
-
-/// Puts a value in place of the old one, and answers it. Where it only reads, it answers the value that is there.
-#[derive(Clone, Copy)]
-struct Put(u64);
-
-impl Op<u64> for Put {
-    type Answer = u64;
-
-    ghost meaning = { λ put. record {
-      fits = λ _. true;
-      asked = λ value. value;
-      applied = λ _. put.0;
-      after = λ _. put.0;
-    } };
-
-    fn fits(&self, _value: &u64) -> bool {
-        true
-    }
-
-    fn ask(&self, value: &u64) -> u64 {
-        *value
-    }
-
-    fn apply(&self, value: &mut u64) -> u64 {
-        *value = self.0;
-        self.0
-    }
-}
-
-/// Makes the call on the desk, whose reply is to be the lock's.
-fn same(desk: &mut Table, call: Call<Put>, on_lock: Reply<u64>) -> Result<(), Fail> {
-    if desk.apply(&call) == on_lock {
-        Ok(())
-    } else {
-        Err(Fail::from("the desk and the lock answer differently"))
-    }
-}
+type Upgradable<'a, W> = RwLockUpgradableReadGuard<'a, TokenRaw<W>, i64>;
 
 /// The reply to a try of an operation under an upgraded guard.
-fn answered(answer: Option<u64>) -> Reply<u64> {
+fn answered(answer: Option<i64>) -> Reply<i64> {
     match answer {
         Some(answer) => Reply::Answer(answer),
         None => Reply::NoGuard,
     }
-}
-
-/// The reply to an acquisition whose guard has this number.
-fn given(is_given: bool, number: u64) -> Reply<u64> {
-    if is_given {
-        Reply::Guard(number)
-    } else {
-        Reply::NoGuard
-    }
-}
-
-fn party(id: u64) -> Result<PartyId, Fail> {
-    Ok(PartyId::new(id).ok_or("the id of a party is not 0")?)
 }
 
 /// Puts 2, 3 and 4 under an upgraded guard, by one form of a try each.
@@ -82,19 +28,19 @@ fn put_by_each_form<W: Wait + Clone + Drop>(
     one: PartyId,
     guard: &mut Upgradable<'_, W>,
 ) -> Result<(), Fail> {
-    let put = |value: &mut u64| {
+    let put = |value: &mut i64| {
         *value = 2;
         *value
     };
     let answer = answered(guard.try_with_upgraded(put));
     same(desk, Call::WithUpgraded(Form::Try, one, 1, Put(2)), answer)?;
-    let put = |value: &mut u64| {
+    let put = |value: &mut i64| {
         *value = 3;
         *value
     };
     let answer = answered(guard.try_with_upgraded_for((), put));
     same(desk, Call::WithUpgraded(Form::For, one, 1, Put(3)), answer)?;
-    let put = |value: &mut u64| {
+    let put = |value: &mut i64| {
         *value = 4;
         *value
     };
@@ -193,7 +139,7 @@ fn gives_up_and_takes_again<R: RawRwLock, L: AcquireFair>(
     desk: &mut Table,
     one: PartyId,
     number: u64,
-    lock: &RwLock<R, u64>,
+    lock: &RwLock<R, i64>,
     guard: RwLockGuard<L>,
 ) -> Result<(), Fail> {
     let mut guard = guard;
@@ -266,7 +212,7 @@ fn a_guard_goes_up_and_down_in_place(rt: HostRuntime) -> Result<(), Fail> {
     let mut guard = RwLockWriteGuard::downgrade_to_upgradable(writer);
     same(desk, Call::DowngradeToUpgradable(one, 1), Reply::Done)?;
     same(desk, Call::Get(one, 1, Put(0)), Reply::Answer(*guard))?;
-    let put = |value: &mut u64| {
+    let put = |value: &mut i64| {
         *value = 8;
         *value
     };
