@@ -1,0 +1,73 @@
+//! A desk that is a reentrant lock.
+use crate::Desk;
+use crate::tests::operations::Add;
+use crate::tests::{CountedDesk, party, replay};
+use lock_base::machine::{Call, Form, Reply, Want, Way};
+use lock_base::raw::Fault;
+use std::test::Fail;
+
+#[test]
+fn spent_is_give_backs(rt: HostRuntime) -> Result<(), Fail> {
+    let one = party(1)?;
+    let mut desk: CountedDesk = Desk::reentrant(rt.alloc(), 4, 4, 0)?;
+    let session = [
+        (Call::Acquire(Want::Lock, Form::Block, one), Reply::Guard(1)),
+        (Call::Acquire(Want::Lock, Form::Block, one), Reply::Guard(2)),
+        (Call::Unlock(one, 1, Way::Plain), Reply::Done),
+        (Call::Spent, Reply::Count(0)),
+        (Call::Bump(one, 2), Reply::Done),
+        (Call::Spent, Reply::Count(1)),
+        (Call::Park(one, 2), Reply::Done),
+        (Call::Spent, Reply::Count(2)),
+        (Call::Resume(one, 2), Reply::Done),
+        (Call::Unlock(one, 2, Way::Fair), Reply::Done),
+        (Call::Spent, Reply::Count(3)),
+        (Call::IsLocked, Reply::Bool(false)),
+    ];
+    assert_eq!(rt; replay(&mut desk, &session), Ok(()));
+    Ok(())
+}
+
+#[test]
+fn others_are_kept_out(rt: HostRuntime) -> Result<(), Fail> {
+    let one = party(1)?;
+    let two = party(2)?;
+    let mut desk: CountedDesk = Desk::reentrant(rt.alloc(), 4, 4, 5)?;
+    let session = [
+        (Call::Acquire(Want::Lock, Form::Block, one), Reply::Guard(1)),
+        (Call::Acquire(Want::Lock, Form::Block, one), Reply::Guard(2)),
+        (Call::Bump(one, 1), Reply::Done),
+        (Call::Spent, Reply::Count(0)),
+        (Call::Get(two, 1, Add(0)), Reply::Refused(Fault::Foreign)),
+        (Call::Acquire(Want::Lock, Form::Try, two), Reply::NoGuard),
+        (
+            Call::Acquire(Want::Lock, Form::Block, two),
+            Reply::Refused(Fault::WouldWait),
+        ),
+        (Call::IsOwnedBy(one), Reply::Bool(true)),
+        (Call::IsOwnedBy(two), Reply::Bool(false)),
+        (
+            Call::Change(one, 1, Add(9)),
+            Reply::Refused(Fault::WrongKind),
+        ),
+    ];
+    assert_eq!(rt; replay(&mut desk, &session), Ok(()));
+    Ok(())
+}
+
+#[test]
+fn levels_up_to_the_limit(rt: HostRuntime) -> Result<(), Fail> {
+    let one = party(1)?;
+    let two = party(2)?;
+    let mut desk: CountedDesk = Desk::reentrant(rt.alloc(), 4, 2, 0)?;
+    assert_eq!(rt; desk.lock(one), Ok(1));
+    assert_eq!(rt; desk.lock(one), Ok(2));
+    assert_eq!(rt; desk.lock(one), Err(Fault::FullCount));
+    assert_eq!(rt; desk.try_lock(one), Err(Fault::FullCount));
+    assert_eq!(rt; desk.lock(two), Err(Fault::WouldWait));
+    assert_eq!(rt; desk.park(one, 1), Ok(()));
+    assert_eq!(rt; desk.lock(one), Ok(3));
+    assert_eq!(rt; desk.resume(one, 1), Err(Fault::FullCount));
+    assert_eq!(rt; desk.is_owned_by(one), Ok(true));
+    Ok(())
+}
