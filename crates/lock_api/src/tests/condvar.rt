@@ -104,7 +104,10 @@ fn each_wait_unlocks_once(rt: HostRuntime) -> Result<(), Fail> {
 fn text_of_a_condvar(rt: HostRuntime) -> Result<(), Fail> {
     let alloc: Global = rt.alloc();
     let condvar: Condvar<SpuriousCondvar<Raw>> = Condvar::new(alloc)?;
-    assert_eq!(rt; format!(in alloc; "{condvar:?}")?.as_str(), "Condvar { .. }");
+    assert_eq!(rt;
+        format!(in alloc; "{condvar:?}")?.as_str(),
+        "Condvar { .. }"
+    );
     let _raw: &SpuriousCondvar<Raw> = condvar.raw();
     Ok(())
 }
