@@ -2,12 +2,11 @@
 mod put;
 
 use crate::{Call, Desk, PartyId, Reply, TokenTable};
+pub use put::Put;
 use std::alloc::Global;
 use std::sync::Arc;
 use std::sync::atomic::{AtomicU64, Ordering};
 use std::test::Fail;
-
-pub use put::Put;
 
 pub type Table = Desk<TokenTable, i64>;
 

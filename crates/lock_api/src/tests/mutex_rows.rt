@@ -27,10 +27,7 @@ fn a_parked_guard_is_as_on_a_desk(rt: HostRuntime) -> Result<(), Fail> {
     let (mutex, mut desk) = mutex_beside_desk(rt.alloc(), rt)?;
 
     let mut guard = mutex.lock();
-    desk.same(
-        Call::Acquire(Want::Lock, Form::Block, one),
-        Reply::Guard(1),
-    )?;
+    desk.same(Call::Acquire(Want::Lock, Form::Block, one), Reply::Guard(1))?;
     let is_given = mutex.try_lock().is_some();
     desk.same(
         Call::Acquire(Want::Lock, Form::Try, two),
@@ -68,10 +65,7 @@ fn each_way_gives_the_token_back_once(rt: HostRuntime) -> Result<(), Fail> {
     MutexGuard::unlock_fair(guard);
     desk.same(Call::Unlock(one, 1, Way::Fair), Reply::Done)?;
     let guard = mutex.lock();
-    desk.same(
-        Call::Acquire(Want::Lock, Form::Block, one),
-        Reply::Guard(2),
-    )?;
+    desk.same(Call::Acquire(Want::Lock, Form::Block, one), Reply::Guard(2))?;
     drop(guard);
     desk.same(Call::Unlock(one, 2, Way::Plain), Reply::Done)?;
     desk.same(Call::Spent, Reply::Count(4))
@@ -109,19 +103,13 @@ fn a_change_is_as_on_a_desk(rt: HostRuntime) -> Result<(), Fail> {
     let (mutex, mut desk) = mutex_beside_desk(rt.alloc(), rt)?;
 
     let mut guard = mutex.lock();
-    desk.same(
-        Call::Acquire(Want::Lock, Form::Block, one),
-        Reply::Guard(1),
-    )?;
+    desk.same(Call::Acquire(Want::Lock, Form::Block, one), Reply::Guard(1))?;
     *guard = -7;
     desk.same(Call::Change(one, 1, Put(-7)), Reply::Answer(*guard))?;
     drop(guard);
     desk.same(Call::Unlock(one, 1, Way::Plain), Reply::Done)?;
     let mut guard = mutex.lock();
-    desk.same(
-        Call::Acquire(Want::Lock, Form::Block, two),
-        Reply::Guard(2),
-    )?;
+    desk.same(Call::Acquire(Want::Lock, Form::Block, two), Reply::Guard(2))?;
     desk.same(Call::Get(two, 2, Put(0)), Reply::Answer(*guard))?;
     *guard = 8;
     desk.same(Call::Change(two, 2, Put(8)), Reply::Answer(*guard))?;

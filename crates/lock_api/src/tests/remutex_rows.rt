@@ -28,15 +28,9 @@ fn levels_are_as_on_a_desk(rt: HostRuntime) -> Result<(), Fail> {
     let (remutex, mut desk) = remutex_beside_desk(rt.alloc(), rt)?;
 
     let outer = remutex.lock(one)?;
-    desk.same(
-        Call::Acquire(Want::Lock, Form::Block, one),
-        Reply::Guard(1),
-    )?;
+    desk.same(Call::Acquire(Want::Lock, Form::Block, one), Reply::Guard(1))?;
     let mut inner = remutex.lock(one)?;
-    desk.same(
-        Call::Acquire(Want::Lock, Form::Block, one),
-        Reply::Guard(2),
-    )?;
+    desk.same(Call::Acquire(Want::Lock, Form::Block, one), Reply::Guard(2))?;
     drop(outer);
     desk.same(Call::Unlock(one, 1, Way::Plain), Reply::Done)?;
     ReentrantMutexGuard::bump(&mut inner);
@@ -59,10 +53,7 @@ fn owners_are_as_on_a_desk(rt: HostRuntime) -> Result<(), Fail> {
     let (remutex, mut desk) = remutex_beside_desk(rt.alloc(), rt)?;
 
     let mut outer = remutex.lock(one)?;
-    desk.same(
-        Call::Acquire(Want::Lock, Form::Block, one),
-        Reply::Guard(1),
-    )?;
+    desk.same(Call::Acquire(Want::Lock, Form::Block, one), Reply::Guard(1))?;
     let inner = remutex.try_lock(one)?.ok_or("not locked again")?;
     desk.same(Call::Acquire(Want::Lock, Form::Try, one), Reply::Guard(2))?;
     ReentrantMutexGuard::bump(&mut outer);
