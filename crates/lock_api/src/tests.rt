@@ -12,5 +12,6 @@ mod mutex_rows;
 mod remutex_rows;
 mod rwlock;
 mod rwlock_callers;
+mod rwlock_counting;
 mod rwlock_liar;
 mod rwlock_rows;

@@ -1,15 +1,34 @@
-//! A raw mutex that counts what it gets back.
+//! A raw lock that counts what it gets back.
+ghost use Rattle.std.specs.Prelude.{IsOkUnless};
+
 use crate::{Fault, RawMutex, RawMutexFair, RawMutexTimed, TokenRaw};
 use std::alloc::Global;
 use std::clone::Clone;
 use std::sync::atomic::{AtomicU64, Ordering};
 use std::sync::{Arc, Wait};
 
-/// An honest raw mutex, with the number of tokens that it got back.
+/// An honest raw lock, with the number of tokens that it got back.
 #[derive(Drop)]
 pub struct Counting<W: Wait + Clone + Drop> {
-    raw: TokenRaw<W>,
+    pub raw: TokenRaw<W>,
     pub spent: Arc<AtomicU64, Global>,
+}
+
+impl<W: Wait + Clone + Drop> Counting<W> {
+    /// The raw lock, which got back none yet.
+    pub fn over(alloc: Global, raw: TokenRaw<W>) -> Result<Counting<W>, Fault>
+        ensures { IsOkUnless result Fault.OutOfMemory }
+    {
+        match Arc::new(alloc, AtomicU64::new(0)) {
+            Ok(spent) => Ok(Counting { raw, spent }),
+            Err(_) => Err(Fault::OutOfMemory),
+        }
+    }
+
+    /// One token more came back.
+    pub fn spend(&self) {
+        self.spent.fetch_add(1, Ordering::SeqCst);
+    }
 }
 
 impl<W: Wait + Clone + Drop> RawMutex for Counting<W> {
@@ -18,11 +37,7 @@ impl<W: Wait + Clone + Drop> RawMutex for Counting<W> {
     type Waiter = W;
 
     fn new(alloc: Global, waiter: W) -> Result<Counting<W>, Fault> {
-        let Ok(spent) = Arc::new(alloc, AtomicU64::new(0)) else {
-            return Err(Fault::OutOfMemory);
-        };
-        let raw = RawMutex::new(alloc, waiter)?;
-        Ok(Counting { raw, spent })
+        Counting::over(alloc, RawMutex::new(alloc, waiter)?)
     }
 
     fn waiter(&self) -> &W {
@@ -38,7 +53,7 @@ impl<W: Wait + Clone + Drop> RawMutex for Counting<W> {
     }
 
     fn unlock(&self, token: Self::Guard) {
-        self.spent.fetch_add(1, Ordering::SeqCst);
+        self.spend();
         self.raw.unlock(token);
     }
 
@@ -49,7 +64,7 @@ impl<W: Wait + Clone + Drop> RawMutex for Counting<W> {
 
 impl<W: Wait + Clone + Drop> RawMutexFair for Counting<W> {
     fn unlock_fair(&self, token: Self::Guard) {
-        self.spent.fetch_add(1, Ordering::SeqCst);
+        self.spend();
         self.raw.unlock_fair(token);
     }
 }

@@ -1,5 +1,6 @@
 //! Rows of calls, each made on a reader-writer lock over a table of tokens and on a desk, with equal answers.
-use super::beside_desk::{Put, Table, given, party, same};
+use super::beside_desk::{Put, SpendingDesk, Table, given, party, same};
+use super::counting::Counting;
 use crate::{
     Call, Form, PartyId, RawRwLock, Reply, RwLock, RwLockReadGuard, RwLockUpgradableReadGuard,
     RwLockWriteGuard, TokenRaw, Want, Way,
@@ -7,7 +8,7 @@ use crate::{
 use lock_base::guard::AcquireFair;
 use lock_rwlock::RwLockGuard;
 use std::clone::Clone;
-use std::sync::Wait;
+use std::sync::{Arc, Wait};
 use std::test::Fail;
 
 type Shared<W> = RwLock<TokenRaw<W>, i64>;
@@ -187,6 +188,47 @@ fn each_guard_is_given_up_and_taken_again(rt: HostRuntime) -> Result<(), Fail> {
         Reply::Guard(3),
     )?;
     gives_up_and_takes_again(desk, one, 3, &lock, guard)
+}
+
+/// Bumps a guard and gives it up fairly.
+fn is_bumped_and_given_up<L: AcquireFair>(
+    desk: &mut SpendingDesk,
+    one: PartyId,
+    number: u64,
+    guard: RwLockGuard<L>,
+) -> Result<(), Fail> {
+    let mut guard = guard;
+    RwLockGuard::bump(&mut guard);
+    desk.same(Call::Bump(one, number), Reply::Done)?;
+    RwLockGuard::unlock_fair(guard);
+    desk.same(Call::Unlock(one, number, Way::Fair), Reply::Done)
+}
+
+#[test]
+fn each_bump_gives_the_token_back_once(rt: HostRuntime) -> Result<(), Fail> {
+    let one = party(1)?;
+    let raw: Counting<HostRuntime> = RawRwLock::new(rt.alloc(), rt, 1)?;
+    let spent = Arc::try_clone(&raw.spent)?;
+    let lock = RwLock::from_raw(raw, 0)?;
+    let table = Table::rwlock(rt.alloc(), 1, 1, 0)?;
+    let mut desk = SpendingDesk { table, spent };
+
+    let reader = lock.read();
+    desk.same(Call::Acquire(Want::Read, Form::Block, one), Reply::Guard(1))?;
+    is_bumped_and_given_up(&mut desk, one, 1, reader)?;
+    let writer = lock.write();
+    desk.same(
+        Call::Acquire(Want::Write, Form::Block, one),
+        Reply::Guard(2),
+    )?;
+    is_bumped_and_given_up(&mut desk, one, 2, writer)?;
+    let guard = lock.upgradable_read();
+    desk.same(
+        Call::Acquire(Want::UpgradableRead, Form::Block, one),
+        Reply::Guard(3),
+    )?;
+    is_bumped_and_given_up(&mut desk, one, 3, guard)?;
+    desk.same(Call::Spent, Reply::Count(6))
 }
 
 #[test]
