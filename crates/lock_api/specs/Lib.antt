@@ -16,7 +16,7 @@ pub use Rattle.lock_base.specs.Lens
 pub use Rattle.lock_states.specs.Table
 pub use Rattle.lock_mutex.specs.Mutex
 pub use Rattle.lock_mutex.specs.MutexGuard
-pub use Rattle.lock_mutex.specs.LastCheck
+pub use Rattle.lock_mutex.specs.WaitsWhile
 pub use Rattle.lock_mutex_loop.specs.ConditionLoop
 pub use Rattle.lock_mutex_loop.specs.Script
 pub use Rattle.lock_rwlock.specs.Closure

@@ -1,4 +1,4 @@
 pub mod Mutex
 pub mod MutexGuard
-pub mod LastCheck
+pub mod WaitsWhile
 pub mod Waiting

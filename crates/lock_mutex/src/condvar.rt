@@ -1,7 +1,7 @@
 //! A condition variable over any raw one.
 ghost use Rattle.std.specs.Prelude.{◌≡◌, false, IsOkUnless};
 ghost use Rattle.std.specs.Sync.Mutex.{mutex_guard_value};
-ghost use Rattle.lock_mutex.specs.LastCheck.{LastCheck, is_late};
+ghost use Rattle.lock_mutex.specs.WaitsWhile.{WaitsWhile, is_late};
 
 use crate::sleep::{Sleep, UntilInstant, UntilNotified, trade};
 use crate::waiting::sleep_while;
@@ -64,7 +64,7 @@ impl<C: RawCondvar> Condvar<C> {
     )
         requires { F.IsAlwaysCallable condition }
         ensures lock { lock_of guard.new ≡ lock_of guard.old }
-        ensures last { LastCheck F.FnMut false (guard_value mutex_guard_value guard.new) }
+        ensures checks { WaitsWhile F.FnMut condition (guard_value mutex_guard_value guard.old) false (guard_value mutex_guard_value guard.new) }
     {
         let sleep = UntilNotified { raw: &self.raw };
         let waiter = guard.held.lock.raw.waiter();
@@ -118,7 +118,7 @@ where
     ) -> WaitTimeoutResult
         requires { F.IsAlwaysCallable condition }
         ensures lock { lock_of guard.new ≡ lock_of guard.old }
-        ensures last { LastCheck F.FnMut (is_late result) (guard_value mutex_guard_value guard.new) }
+        ensures checks { WaitsWhile F.FnMut condition (guard_value mutex_guard_value guard.old) (is_late result) (guard_value mutex_guard_value guard.new) }
     {
         let sleep = UntilInstant {
             raw: &self.raw,
@@ -138,7 +138,7 @@ where
     ) -> WaitTimeoutResult
         requires { F.IsAlwaysCallable condition }
         ensures lock { lock_of guard.new ≡ lock_of guard.old }
-        ensures last { LastCheck F.FnMut (is_late result) (guard_value mutex_guard_value guard.new) }
+        ensures checks { WaitsWhile F.FnMut condition (guard_value mutex_guard_value guard.old) (is_late result) (guard_value mutex_guard_value guard.new) }
     {
         if let Some(deadline) = C::checked_duration_to_instant(&timeout) {
             return self.wait_while_until(guard, condition, deadline);

@@ -8,7 +8,7 @@ pub struct WaitTimeoutResult {
 }
 
 impl WaitTimeoutResult {
-    ghost use Rattle.lock_mutex.specs.LastCheck.{is_late};
+    ghost use Rattle.lock_mutex.specs.WaitsWhile.{is_late};
 
     pub fn timed_out(self) -> bool
         ensures { result ≡ is_late self }

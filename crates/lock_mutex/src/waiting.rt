@@ -1,7 +1,7 @@
 //! A held lock whose holder waits for a condition.
 ghost use Rattle.std.specs.Prelude.{◌≡◌, Bool, false, IsSomeAnd};
 ghost use Rattle.lock_base.specs.Held.{held_value};
-ghost use Rattle.lock_mutex.specs.LastCheck.{LastCheck};
+ghost use Rattle.lock_mutex.specs.WaitsWhile.{WaitsWhile};
 
 use crate::sleep::Sleep;
 use lock_base::guard::{Acquire, Held, Inner, ValueGuard, ValueGuardMut};
@@ -52,7 +52,7 @@ where
     L::Shown: ValueGuardMut,
     requires { F.IsAlwaysCallable condition }
     ensures lock { held.new.lock ≡ held.old.lock }
-    ensures last { LastCheck F.FnMut result (held_value L.Shown.shown held.new) }
+    ensures checks { WaitsWhile F.FnMut condition (held_value L.Shown.shown held.old) result (held_value L.Shown.shown held.new) }
     ensures in_time { ((late : Bool) → S.may_answer late → late ≡ false) → result ≡ false }
 {
     let inner = mem::replace(&mut held.inner, Inner::Empty);

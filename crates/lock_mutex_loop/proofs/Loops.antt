@@ -1,18 +1,12 @@
 -- How condition loops are put together, and what a caller learns of one.
 use Rattle.std.specs.Prelude.{◌≡◌, Bool, true, false, Option, None, Some, List, [], ◌∷◌, refl}
 use Rattle.std.specs.Borrow.{MutBor}
-use Rattle.std.specs.Fn.{Mut, CalledAtMut}
+use Rattle.std.specs.Fn.{Mut}
 use Rattle.std.proofs.Common.{◌∙◌, sym, subst}
 use denote.Param.Members.{Called}
 use Rattle.lock_mutex_loop.specs.declared.loop_end.LoopEnd.{LoopEnd}
 use Rattle.lock_mutex_loop.specs.declared.loop_end.LoopEnd.TheVariants.{False, TimedOut, RanOut}
 use Rattle.lock_mutex_loop.specs.ConditionLoop.{Check, InTurn, last_of, EndsBy, ConditionLoop}
-
--- the answer of the last check
-abbrev pub answer_of : LoopEnd → Bool
-answer_of False = false
-answer_of TimedOut = true
-answer_of RanOut = true
 
 module _ {F W X : Type 0} (calls : Mut F (MutBor X × Unit {0}) (Bool × (MutBor X × Unit {0}))) (current : W → X) (with_current : W → X → W) (waited : W → Option Bool → W → Type 0) where
   abbrev AnyCheck : Type 0
@@ -92,24 +86,6 @@ module _ {F W X : Type 0} (calls : Mut F (MutBor X × Unit {0}) (Bool × (MutBor
       ends = (refl, in_time, spent);
       value = stays ∙ current_with w left.now;
     }
-
-  answer_at : (last : AnyCheck) (end : LoopEnd) (after : W) → EndsBy calls current with_current waited last end after → last.answer ≡ answer_of end
-  answer_at last False after ends = ends.0
-  answer_at last TimedOut after ends = ends.0
-  answer_at last RanOut after ends = ends.0
-
-  -- a last check was made, whose answer the end tells, and which left the value that is there after the loop
-  pub last_check : {late : Bool} {f : F} {w after : W} {end : LoopEnd} → Loop late f w end after
-      → (f₀ f₁ : F) × (x : X) × CalledAtMut calls f₀ x (answer_of end) f₁ (current after)
-  last_check {after = after} {end = end} loop =
-      let last : AnyCheck = last_of _ _ _ _ loop.first loop.rest in
-      let called : CalledAtMut calls last.condition (current last.waits) (answer_of end) last.next_condition last.left =
-      subst (λ b. CalledAtMut calls last.condition (current last.waits) b last.next_condition last.left) (answer_at last end after loop.ends) last.called in
-      (last.condition, last.next_condition, current last.waits, subst (λ x. CalledAtMut calls last.condition (current last.waits) (answer_of end) last.next_condition x) (sym loop.value) called)
-
-  -- where there is always one more wait, no loop runs out
-  pub never_out : ((w v : W) → waited w None v → ⊥) → {late : Bool} {f : F} {w after : W} → Loop late f w RanOut after → ⊥
-  never_out more loop = more _ _ loop.ends.2
 
   -- where no wait times out, the last check is not late
   last_in_time : ((w v : W) (late : Bool) → waited w (Some late) v → late ≡ false) → (first : AnyCheck) (rest : List AnyCheck) → first.late ≡ false

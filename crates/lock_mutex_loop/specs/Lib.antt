@@ -1,2 +1,3 @@
 pub mod ConditionLoop
 pub mod Script
+pub mod ValueLoop

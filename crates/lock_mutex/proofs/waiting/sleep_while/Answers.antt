@@ -1,9 +1,17 @@
-use Rattle.std.proofs.Common.{◌≡◌}
+use Rattle.std.proofs.Common.{◌≡◌, ◌∙◌}
 use Rattle.lock_mutex_loop.proofs.Loops.{only_false}
-use Rattle.lock_mutex_loop.specs.declared.loop_end.LoopEnd.TheVariants.{False}
+use Rattle.lock_mutex_loop.specs.declared.loop_end.LoopEnd.TheVariants.{False, TimedOut}
+use Rattle.lock_mutex.proofs.Waits.{waits_while}
 use Rattle.lock_mutex.proofs.waiting.sleep_while.Goals as goal
 
 pub returns-clause-in_time : goal.returns-clause-in_time
 returns-clause-in_time g c never =
     let ended : c.run_loop-end.result ≡ False = only_false _ _ _ _ (λ w v late may. never late may) (λ w v none. none) c.run_loop-end.ensures in
     rw ended at c.eq.ensures
+
+pub returns-clause-checks : goal.returns-clause-checks
+returns-clause-checks g c =
+    waits_while g.L.Shown.ValueGuard.shown g.L.Shown.ValueGuardMut.with_shown g.met.L.Shown.ValueGuardMut.shown_with g.F.FnMut g.S.Sleep.may_answer
+    c.run_loop-end.ensures c.replace-inner.ensures.value (c.put.ensures ∙ c.into_inner.ensures)
+    (λ (ended : c.run_loop-end.result ≡ False). rw ended at c.eq.ensures)
+    (λ (ended : c.run_loop-end.result ≡ TimedOut). rw ended at c.eq.ensures)

@@ -1,0 +1,21 @@
+-- A wait for a condition, as the guard of a mutex shows it.
+use Rattle.std.specs.Prelude.{◌≡◌, Bool, Option, Some, if◌then◌else◌}
+use Rattle.std.specs.Borrow.{MutBor}
+use Rattle.std.specs.Fn.{Mut}
+use Rattle.lock_mutex.specs.declared.wait_timeout_result.WaitTimeoutResult.{WaitTimeoutResult}
+use Rattle.lock_mutex_loop.specs.declared.loop_end.LoopEnd.{LoopEnd}
+use Rattle.lock_mutex_loop.specs.declared.loop_end.LoopEnd.TheVariants.{False, TimedOut}
+use Rattle.lock_mutex_loop.specs.ValueLoop.{ValueLoop}
+
+-- whether the wait timed out
+abbrev pub is_late : WaitTimeoutResult → Bool
+is_late result = result.late
+
+-- how the loop of a wait ended
+abbrev pub end_of : Bool → LoopEnd
+end_of late = if late then TimedOut else False
+
+-- The condition loop from the value that was held to the value that is held, which ends late or with a false condition
+abbrev pub WaitsWhile : {F X : Type 0} → Mut F (MutBor X × Unit {0}) (Bool × (MutBor X × Unit {0})) → F → Option X → Bool → Option X → Type 0
+WaitsWhile {F} {X} calls condition before late after =
+    (value : X) × (left : X) × (before ≡ Some value) × (after ≡ Some left) × ValueLoop calls condition value (end_of late) left
