@@ -1,6 +1,7 @@
 //! A lock for one thread, over any raw state.
 mod acquire;
 mod hold;
+mod part;
 mod transition;
 mod value;
 mod whole_run;
