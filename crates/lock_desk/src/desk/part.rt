@@ -1,5 +1,6 @@
 //! The value of a lock, or a part of it, lent to a closure.
-ghost use Rattle.std.specs.Prelude.{◌≡◌, None, IfSome, IsOkAnd, IsSomeAnd, MatchOption};
+ghost use Rattle.std.specs.Prelude.{◌≡◌, None, IsOkAnd, IsSomeAnd, MatchOption};
+ghost use Rattle.std.specs.Option.{ForSome};
 ghost use Rattle.std.specs.Fn.{FnOnceTakesAt, FnOnceTakesAtMut, FnOnceReturnsAt};
 ghost use Rattle.lock_base.specs.Party.{id_of};
 ghost use Rattle.lock_base.specs.Refusals.{guard_refusal, held_guard, writing_guard};
@@ -54,7 +55,7 @@ impl<R: RawState, T> Desk<R, T> {
         projection: &P,
         read: F,
     ) -> Result<U, Fault>
-        requires { IfSome ((P.lens projection.now).part self.now.value) (FnOnceTakesAt F.FnOnce read) }
+        requires { ForSome ((P.lens projection.now).part self.now.value) (FnOnceTakesAt F.FnOnce read) }
         ensures { OnPart (guard_refusal self.now held_guard (id_of party) guard)
             ((P.lens projection.now).part self.now.value)
             (λ fault. result ≡ Err fault)
@@ -76,7 +77,7 @@ impl<R: RawState, T> Desk<R, T> {
         projection: &P,
         write: F,
     ) -> Result<U, Fault>
-        requires { IfSome ((P.lens projection.now).part self.old.value) (FnOnceTakesAtMut F.FnOnce write) }
+        requires { ForSome ((P.lens projection.now).part self.old.value) (FnOnceTakesAtMut F.FnOnce write) }
         ensures { OnPart (guard_refusal self.old writing_guard (id_of party) guard)
             ((P.lens projection.now).part self.old.value)
             (λ fault. (result ≡ Err fault) × (self.new ≡ self.old))
@@ -97,7 +98,7 @@ fn write_to_part<T, P: TryProject<T>, U, F: FnOnce(&mut P::Part) -> U + Drop>(
     projection: &P,
     write: F,
 ) -> Option<U>
-    requires { IfSome ((P.lens projection.now).part whole.old) (FnOnceTakesAtMut F.FnOnce write) }
+    requires { ForSome ((P.lens projection.now).part whole.old) (FnOnceTakesAtMut F.FnOnce write) }
     ensures { MatchOption ((P.lens projection.now).part whole.old)
         ((result ≡ None) × (whole.new ≡ whole.old))
         (λ part. IsSomeAnd result (AnswersAndLeaves F.FnOnce write part
