@@ -1,9 +1,11 @@
 //! A lock for one thread, over any raw state.
 mod acquire;
 mod hold;
+mod part;
 mod transition;
 mod value;
 mod whole_run;
+mod with;
 
 ghost use Rattle.std.specs.Prelude.{◌≡◌, ℕ, length, IfNone, IfOk, IfErr, MatchResult, ◌↔◌, if◌then◌else◌, None, Some};
 ghost use Rattle.lock_base.specs.Limits.{IsLimit, IsMakerFault};

@@ -3,6 +3,7 @@ mod counted_table;
 mod limits;
 mod mutex;
 mod operations;
+mod part;
 mod reentrant;
 mod refused_memory;
 mod rwlock;
