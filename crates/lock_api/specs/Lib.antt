@@ -24,3 +24,5 @@ pub use Rattle.lock_rwlock.specs.RwLock
 pub use Rattle.lock_rwlock.specs.RwLockGuard
 pub use Rattle.lock_remutex.specs.Guards
 pub use Rattle.lock_remutex.specs.Ownership
+pub use Rattle.lock_raws.specs.Journal
+pub use Rattle.lock_raws.specs.Recording

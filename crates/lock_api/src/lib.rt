@@ -23,7 +23,8 @@ pub use lock_desk::Desk;
 pub use lock_mutex::{Condvar, Mutex, MutexGuard, WaitTimeoutResult};
 pub use lock_mutex_loop::{LoopEnd, Script, Waits, run_loop};
 pub use lock_raws::{
-    ExclusiveToken, SharedToken, SpuriousCondvar, StateRaw, TokenRaw, UpgradableToken,
+    DEFAULT_ENTRIES, ExclusiveToken, HeldPlace, Recorded, RecordingRaw, SequentialState,
+    SharedToken, SpuriousCondvar, StateRaw, TokenRaw, UpgradableToken,
 };
 pub use lock_remutex::{
     DEFAULT_LEVELS, Levels, RawReentrantMutex, ReentrantMutex, ReentrantMutexGuard,

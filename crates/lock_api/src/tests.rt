@@ -8,6 +8,7 @@ mod makers;
 mod markers;
 mod mutex;
 mod mutex_rows;
+mod recording;
 mod remutex_rows;
 mod rwlock;
 mod rwlock_callers;

@@ -3,7 +3,7 @@ use Rattle.std.specs.Prelude.{◌≡◌, ℕ, ◌<◌, List, [], ◌∷◌, IsTr
 use Rattle.lock_base.specs.declared.machine.mode_step.ModeStep.{ModeStep}
 use Rattle.lock_base.specs.declared.machine.mode_step.ModeStep.TheVariants.{Acquire, Release, Change}
 use Rattle.lock_base.specs.declared.machine.bag.Bag.{Bag}
-use Rattle.lock_base.specs.Modes.{count_of, one_more, one_less, admits, is_move, may_become}
+use Rattle.lock_base.specs.Modes.{empty_bag, count_of, one_more, one_less, admits, is_move, may_become}
 
 -- the step may be made where these are out
 abbrev pub Permits : ℕ → Bag → ModeStep → Type 0
@@ -21,3 +21,7 @@ bag_after b (Change from to) = one_more (one_less b from) to
 abbrev pub IsModeRun : ℕ → Bag → List ModeStep → Bag → Type 0
 IsModeRun limit before [] after = before ≡ after
 IsModeRun limit before (step ∷ steps) after = Permits limit before step × IsModeRun limit (bag_after before step) steps after
+
+-- these steps may be made one after another where nothing is out at first
+abbrev pub Replays : ℕ → List ModeStep → Type 0
+Replays limit steps = (last : Bag) × IsModeRun limit empty_bag steps last

@@ -1,2 +1,4 @@
 pub mod LegalTable
 pub mod LetsOn
+pub mod Journal
+pub mod Recording

@@ -24,12 +24,31 @@ impl Model for LegalTable {
     ghost invariant = { λ legal. IsLegalTable legal.table };
 }
 
+impl LegalTable {
+    ghost use Rattle.std.specs.Prelude.{◌≡◌, ◌↔◌, IsTrue};
+    ghost use Rattle.lock_base.specs.Tokens.{IsOutAs};
+    ghost use Rattle.lock_states.specs.Table.{tokens_of};
+
+    /// Whether the token is out in its mode.
+    pub(crate) fn out(&mut self, held: &HeldPlace) -> bool
+        ensures same { self.new ≡ self.old }
+        ensures out { IsTrue result ↔ IsOutAs (tokens_of self.old.places) held.now.place held.now.mode }
+    {
+        self.table.out(&held.place, held.mode)
+    }
+}
+
 impl SequentialState for LegalTable {
+    ghost use Rattle.std.specs.Prelude.{⊤};
     ghost use Rattle.lock_states.specs.Table.{tokens_of};
 
     ghost taken = { λ table. tokens_of table.places };
 
     ghost reader_limit = { λ table. table.readers };
+
+    ghost starts = { λ _. ⊤ };
+
+    ghost records = { λ _ _ _. ⊤ };
 
     fn new(alloc: Global, readers: u64) -> Result<LegalTable, Fault> {
         let table: TokenTable = RawState::new(alloc, readers, readers)?;
@@ -53,15 +72,15 @@ impl SequentialState for LegalTable {
     }
 
     fn give_back(&mut self, held: HeldPlace) {
-        let HeldPlace { place, mode } = held;
-        if self.table.out(&place, mode) {
-            self.table.give_back(place);
+        if self.out(&held) {
+            self.table.give_back(held.place);
         }
     }
 
     fn change(&mut self, held: HeldPlace, mode: Mode) -> Result<HeldPlace, HeldPlace> {
+        let out = self.out(&held);
         let HeldPlace { place, mode: from } = held;
-        if !self.table.out(&place, from) {
+        if !out {
             return Ok(HeldPlace { place, mode });
         }
         match self.table.change(place, mode) {

@@ -23,8 +23,8 @@ pub type TokenRaw<W> = StateRaw<LegalTable, W>;
 /// where only one token may be out at a time, and all that wait where readers may get on together.
 #[derive(Drop)]
 pub struct StateRaw<S: SequentialState, W: Wait + Clone + Drop> {
-    waiter: W,
-    state: Mutex<S>,
+    pub(crate) waiter: W,
+    pub(crate) state: Mutex<S>,
     changed: Condvar,
 }
 

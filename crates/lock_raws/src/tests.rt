@@ -1,3 +1,5 @@
+mod recording;
+
 use crate::TokenRaw;
 use lock_base::raw::{
     Fault, RawMutex, RawMutexFair, RawMutexTimed, RawRwLock, RawRwLockDowngrade, RawRwLockFair,

@@ -1,0 +1,80 @@
+-- A journal tells the steps of a lock.
+use Rattle.std.proofs.Common.{◌≡◌, ℕ, ◌<◌, Bool, true, false, nat_lt, [], ◌∷◌, ◌++◌, length, length-append, refl, sym, ap, ◌∙◌, subst, arith, ltb-true}
+use Rattle.std.specs.Prelude.{if◌then◌else◌}
+use Rattle.std.proofs.lemmas.Bool.{false≢true}
+use Rattle.lock_base.specs.declared.machine.mode_step.ModeStep.{ModeStep}
+use Rattle.lock_base.specs.declared.machine.bag.Bag.{Bag}
+use Rattle.lock_base.specs.Modes.{empty_bag}
+use Rattle.lock_base.specs.ModeRuns.{Permits, bag_after, IsModeRun}
+use Rattle.lock_base.specs.Tokens.{bag_of_tokens}
+use Rattle.lock_base.specs.Limits.{IsLimit}
+use Rattle.lock_states.specs.Table.{Table, tokens_of}
+use Rattle.lock_raws.specs.Journal.{Journal, empty_journal, written, IsJournalOf}
+use Rattle.lock_raws.specs.Recording.{Recording, IsRecording}
+use Rattle.lock_base.proofs.ModeLemmas.{IsModeRun-push}
+use Rattle.lock_raws.proofs.TokenSteps.{MakesStep}
+
+empty_is_journal : (limit room : ℕ) → IsJournalOf limit empty_bag (empty_journal room)
+empty_is_journal limit room = record {
+  replays = (empty_bag, refl);
+  to_bag = λ going. refl;
+  within = omega arith;
+  full = λ stopped. absurd (false≢true stopped);
+}
+
+-- a journal with room has not stopped
+has_not_stopped : {limit : ℕ} {bag : Bag} (journal : Journal) → IsJournalOf limit bag journal → length journal.steps < journal.room → (stopped : Bool) → journal.stopped ≡ stopped → stopped ≡ false
+has_not_stopped journal kept room false is = refl
+has_not_stopped journal kept room true is = absurd (let full = kept.full is in omega arith)
+
+written_step : (limit : ℕ) (bag : Bag) (journal : Journal) (step : ModeStep) → IsJournalOf limit bag journal → Permits limit bag step
+    → (room : Bool)
+    → nat_lt (length journal.steps) journal.room ≡ room
+    → IsJournalOf limit (bag_after bag step) (if room then record journal { steps = journal.steps ++ step ∷ [] } else record journal { stopped = true })
+written_step limit bag journal step kept permitted true is =
+    let room = ltb-true (length journal.steps) journal.room is in
+    let going : journal.stopped ≡ false = has_not_stopped journal kept room journal.stopped refl in
+    let run : IsModeRun limit empty_bag (journal.steps ++ step ∷ []) (bag_after bag step) = IsModeRun-push limit empty_bag bag journal.steps step (kept.to_bag going) permitted in
+    record {
+      replays = (bag_after bag step, run);
+      to_bag = λ still. run;
+      within = omega (arith, length-append journal.steps (step ∷ []));
+      full = λ stopped. absurd (false≢true (sym going ∙ stopped));
+    }
+written_step limit bag journal step kept permitted false is = record {
+  replays = kept.replays;
+  to_bag = λ going. absurd (false≢true (sym going));
+  within = kept.within;
+  full = λ stopped. grind (arith, kept.within, is);
+}
+
+-- a step that is permitted keeps the journal, written or not
+pub IsJournalOf-written : (limit : ℕ) (bag : Bag) (journal : Journal) (step : ModeStep) → IsJournalOf limit bag journal → Permits limit bag step → IsJournalOf limit (bag_after bag step) (written journal step)
+IsJournalOf-written limit bag journal step kept permitted = written_step limit bag journal step kept permitted (nat_lt (length journal.steps) journal.room) refl
+
+journal_along : {limit limit' : ℕ} {bag bag' : Bag} {journal journal' : Journal} → limit' ≡ limit → bag' ≡ bag → journal' ≡ journal → IsJournalOf limit bag journal → IsJournalOf limit' bag' journal'
+journal_along {limit} {limit'} {bag} {bag'} {journal} {journal'} same_limit same_bag same_journal kept =
+    subst (λ l. IsJournalOf l bag' journal') (sym same_limit)
+    (subst (λ b. IsJournalOf limit b journal') (sym same_bag)
+    (subst (λ j. IsJournalOf limit bag j) (sym same_journal) kept))
+
+-- after a call that looked for a token, which changed nothing, and made a step
+pub recording_stepped : {old new : Recording} {looked : Table} (step : ModeStep) → IsRecording old → looked ≡ old.table
+    → MakesStep looked.readers (tokens_of looked.places) (tokens_of new.table.places) step
+    → new.table.readers ≡ looked.readers
+    → new.journal ≡ written old.journal step
+    → IsRecording new
+recording_stepped {old} {new} {looked} step kept same made same_limit same_journal =
+    let journal_of : Table → Type 0 = λ table. IsJournalOf table.readers (bag_of_tokens (tokens_of table.places)) old.journal in
+    let before : journal_of looked = subst journal_of (sym same) kept.journal in
+    record {
+      lawful = subst IsLimit (sym same_limit) (subst (λ (table : Table). IsLimit table.readers) (sym same) kept.lawful);
+      journal = journal_along same_limit made.after same_journal (IsJournalOf-written looked.readers (bag_of_tokens (tokens_of looked.places)) old.journal step before made.permitted);
+    }
+
+-- with no token out, and nothing written
+pub new_recording : {r : Recording} (room : ℕ) → IsLimit r.table.readers → tokens_of r.table.places ≡ [] → r.journal ≡ empty_journal room → IsRecording r
+new_recording {r} room lawful none_out none_written = record {
+  lawful = lawful;
+  journal = journal_along refl (ap bag_of_tokens none_out) none_written (empty_is_journal r.table.readers room);
+}

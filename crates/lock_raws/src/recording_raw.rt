@@ -1,0 +1,50 @@
+//! A raw lock that keeps a journal of its steps.
+use crate::recorded::Recorded;
+use crate::state_raw::StateRaw;
+use lock_base::machine::ModeStep;
+use lock_base::raw::{Fault, MAX_LIMIT};
+use std::alloc::Global;
+use std::clone::Clone;
+use std::sync::Wait;
+
+/// A raw lock as `TokenRaw`, which keeps a journal of its steps. The raw traits make it with `DEFAULT_ENTRIES`.
+pub type RecordingRaw<W> = StateRaw<Recorded, W>;
+
+impl<W: Wait + Clone + Drop> StateRaw<Recorded, W> {
+    ghost use Rattle.std.specs.Prelude.{◌≡◌, ◌↔◌, IfOk, IfErr, IsOkUnless};
+    ghost use Rattle.lock_base.specs.Limits.{IsLimit, IsMakerFault};
+    ghost use Rattle.lock_base.specs.ModeRuns.{Replays};
+
+    /// A free lock of as many places as readers, whose journal has room for so many steps.
+    pub fn with_room(
+        alloc: Global,
+        waiter: W,
+        readers: u64,
+        entries: usize,
+    ) -> Result<StateRaw<Recorded, W>, Fault>
+        ensures limits { (result ≡ Err Fault.BadLimits) ↔ (IsLimit readers → ⊥) }
+        ensures in_range { IfOk result (λ _. IsLimit readers) }
+        ensures fault { IfErr result IsMakerFault }
+    {
+        let state = Recorded::new(alloc, readers, entries)?;
+        Ok(StateRaw::over(state, waiter))
+    }
+
+    /// The steps that are written now, which may be old at once. They replay under the largest limit of readers, and
+    /// under the lock's own, which no contract can name.
+    pub fn journal(&self, alloc: Global) -> Result<Vec<ModeStep>, Fault>
+        ensures replays { IfOk result (λ steps. Replays MAX_LIMIT steps.items) }
+        ensures fault { IsOkUnless result Fault.OutOfMemory }
+    {
+        let state = self.state.lock(&self.waiter);
+        let Ok(steps) = Vec::from_slice(alloc, state.journal()) else {
+            return Err(Fault::OutOfMemory);
+        };
+        Ok(steps)
+    }
+
+    /// Whether a step found the journal full, which may be old at once where it is false.
+    pub fn stopped(&self) -> bool {
+        self.state.lock(&self.waiter).stopped()
+    }
+}
