@@ -16,10 +16,11 @@ pub use Rattle.lock_base.specs.Lens
 pub use Rattle.lock_states.specs.Table
 pub use Rattle.lock_mutex.specs.Mutex
 pub use Rattle.lock_mutex.specs.MutexGuard
+pub use Rattle.lock_mutex.specs.ArcMutexGuard
 pub use Rattle.lock_mutex.specs.LastCheck
 pub use Rattle.lock_mutex_loop.specs.ConditionLoop
 pub use Rattle.lock_mutex_loop.specs.Script
-pub use Rattle.lock_rwlock.specs.Closure
+pub use Rattle.lock_base.specs.Closure
 pub use Rattle.lock_rwlock.specs.RwLock
 pub use Rattle.lock_rwlock.specs.RwLockGuard
 pub use Rattle.lock_remutex.specs.Guards

@@ -20,7 +20,7 @@ pub use lock_base_laws::{
     runs_are_sound, spent_counts_releases, tokens_are_those_held,
 };
 pub use lock_desk::Desk;
-pub use lock_mutex::{Condvar, Mutex, MutexGuard, WaitTimeoutResult};
+pub use lock_mutex::{ArcMutexGuard, Condvar, Mutex, MutexGuard, WaitTimeoutResult};
 pub use lock_mutex_loop::{LoopEnd, Script, Waits, run_loop};
 pub use lock_raws::{
     ExclusiveToken, SharedToken, SpuriousCondvar, StateRaw, TokenRaw, UpgradableToken,

@@ -1,4 +1,6 @@
 //! Tests that span crates.
+mod arc_callers;
+mod arc_mutex;
 mod beside_desk;
 mod callers;
 mod condvar;
