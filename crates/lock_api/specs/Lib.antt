@@ -12,6 +12,7 @@ pub use Rattle.lock_base.specs.Refusals
 pub use Rattle.lock_base.specs.Calls
 pub use Rattle.lock_base.specs.Steps
 pub use Rattle.lock_base.specs.Legal
+pub use Rattle.lock_base.specs.Closure
 pub use Rattle.lock_base.specs.Lens
 pub use Rattle.lock_states.specs.Table
 pub use Rattle.lock_mutex.specs.Mutex
@@ -20,8 +21,9 @@ pub use Rattle.lock_mutex.specs.ArcMutexGuard
 pub use Rattle.lock_mutex.specs.LastCheck
 pub use Rattle.lock_mutex_loop.specs.ConditionLoop
 pub use Rattle.lock_mutex_loop.specs.Script
-pub use Rattle.lock_base.specs.Closure
 pub use Rattle.lock_rwlock.specs.RwLock
 pub use Rattle.lock_rwlock.specs.RwLockGuard
+pub use Rattle.lock_rwlock_arc.specs.ArcRwLockGuard
 pub use Rattle.lock_remutex.specs.Guards
+pub use Rattle.lock_remutex.specs.ArcGuards
 pub use Rattle.lock_remutex.specs.Ownership

@@ -26,9 +26,14 @@ pub use lock_raws::{
     ExclusiveToken, SharedToken, SpuriousCondvar, StateRaw, TokenRaw, UpgradableToken,
 };
 pub use lock_remutex::{
-    DEFAULT_LEVELS, Levels, RawReentrantMutex, ReentrantMutex, ReentrantMutexGuard,
+    ArcReentrantMutexGuard, DEFAULT_LEVELS, Levels, RawReentrantMutex, ReentrantMutex,
+    ReentrantMutexGuard,
 };
 pub use lock_rwlock::{RwLock, RwLockReadGuard, RwLockUpgradableReadGuard, RwLockWriteGuard};
+pub use lock_rwlock_arc::{
+    ArcRwLockReadGuard, ArcRwLockUpgradableReadGuard, ArcRwLockWriteGuard, RwLockArc,
+    RwLockArcTimed, RwLockArcUpgrade, RwLockArcUpgradeTimed,
+};
 pub use lock_states::table::{TableToken, TokenTable};
 
 #[cfg(test)]
