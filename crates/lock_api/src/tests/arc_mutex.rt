@@ -1,6 +1,7 @@
 //! The guards that keep a mutex alive.
-use super::beside_desk::{Table, given, party, same};
-use crate::{ArcMutexGuard, Call, Form, Mutex, Reply, TokenRaw, Want, Way};
+use super::beside_desk::{SpendingDesk, Table, given, party};
+use super::counting::Counting;
+use crate::{ArcMutexGuard, Call, Form, Mutex, RawMutex, Reply, TokenRaw, Want, Way};
 use std::sync::Arc;
 use std::test::Fail;
 
@@ -10,40 +11,33 @@ type Shared = Mutex<TokenRaw<HostRuntime>, i64>;
 #[test]
 fn an_arc_guard_of_a_mutex_is_as_on_a_desk(rt: HostRuntime) -> Result<(), Fail> {
     let (one, two) = (party(1)?, party(2)?);
-    let mutex = Arc::new(rt.alloc(), Shared::new(rt.alloc(), rt, 0)?)?;
-    let mut table = Table::mutex(rt.alloc(), 4, 0)?;
-    let desk = &mut table;
+    let raw: Counting<HostRuntime> = RawMutex::new(rt.alloc(), rt)?;
+    let spent = Arc::try_clone(&raw.spent)?;
+    let mutex = Arc::new(rt.alloc(), Mutex::from_raw(raw, 0)?)?;
+    let table = Table::mutex(rt.alloc(), 4, 0)?;
+    let mut desk = SpendingDesk { table, spent };
 
     let mut guard = Mutex::try_lock_arc_for(&mutex, ())?.ok_or("not free")?;
-    same(
-        desk,
-        Call::Acquire(Want::Lock, Form::For, one),
-        Reply::Guard(1),
-    )?;
+    desk.same(Call::Acquire(Want::Lock, Form::For, one), Reply::Guard(1))?;
     let is_locked = ArcMutexGuard::unlocked(&mut guard, || mutex.is_locked());
-    same(desk, Call::Park(one, 1), Reply::Done)?;
-    same(desk, Call::IsLocked, Reply::Bool(is_locked))?;
-    same(desk, Call::Resume(one, 1), Reply::Done)?;
+    desk.same(Call::Park(one, 1), Reply::Done)?;
+    desk.same(Call::IsLocked, Reply::Bool(is_locked))?;
+    desk.same(Call::Resume(one, 1), Reply::Done)?;
     ArcMutexGuard::bump(&mut guard);
-    same(desk, Call::Bump(one, 1), Reply::Done)?;
-    same(desk, Call::IsLocked, Reply::Bool(mutex.is_locked()))?;
+    desk.same(Call::Bump(one, 1), Reply::Done)?;
     let owner = ArcMutexGuard::into_arc_fair(guard);
-    same(desk, Call::Unlock(one, 1, Way::IntoArcFair), Reply::Done)?;
+    desk.same(Call::Unlock(one, 1, Way::IntoArcFair), Reply::Done)?;
     let guard = Mutex::lock_arc(&owner)?;
-    same(
-        desk,
-        Call::Acquire(Want::Lock, Form::Block, one),
-        Reply::Guard(2),
-    )?;
+    desk.same(Call::Acquire(Want::Lock, Form::Block, one), Reply::Guard(2))?;
     let is_given = mutex.try_lock().is_some();
-    same(
-        desk,
+    desk.same(
         Call::Acquire(Want::Lock, Form::Try, two),
         given(is_given, 3),
     )?;
     drop(guard);
-    same(desk, Call::Unlock(one, 2, Way::Plain), Reply::Done)?;
-    same(desk, Call::IsLocked, Reply::Bool(mutex.is_locked()))
+    desk.same(Call::Unlock(one, 2, Way::Plain), Reply::Done)?;
+    desk.same(Call::Spent, Reply::Count(4))?;
+    desk.same(Call::IsLocked, Reply::Bool(mutex.is_locked()))
 }
 
 #[test]

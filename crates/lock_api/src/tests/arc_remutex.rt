@@ -1,7 +1,9 @@
 //! The guards that keep a reentrant lock alive.
 use super::beside_desk::party;
-use crate::{ArcReentrantMutexGuard, Fault, ReentrantMutex, TokenRaw};
+use super::counting::Counting;
+use crate::{ArcReentrantMutexGuard, Fault, RawMutex, ReentrantMutex, TokenRaw};
 use std::sync::Arc;
+use std::sync::atomic::Ordering;
 use std::test::Fail;
 
 /// A number behind an honest raw lock.
@@ -30,7 +32,9 @@ fn each_acquisition_of_a_free_remutex_by_an_arc(rt: HostRuntime) -> Result<(), F
 #[test]
 fn an_arc_guard_gives_one_level_up(rt: HostRuntime) -> Result<(), Fail> {
     let one = party(1)?;
-    let lock = Arc::new(rt.alloc(), Shared::new(rt.alloc(), rt, 5)?)?;
+    let raw: Counting<HostRuntime> = RawMutex::new(rt.alloc(), rt)?;
+    let spent = Arc::try_clone(&raw.spent)?;
+    let lock = Arc::new(rt.alloc(), ReentrantMutex::from_raw(raw, 5)?)?;
     let mut outer = ReentrantMutex::lock_arc(&lock, one)?;
     ArcReentrantMutexGuard::bump(&mut outer);
     let back = ArcReentrantMutexGuard::unlocked(outer, || lock.is_locked());
@@ -43,6 +47,7 @@ fn an_arc_guard_gives_one_level_up(rt: HostRuntime) -> Result<(), Fail> {
     drop(outer);
     assert!(rt; ArcReentrantMutexGuard::remutex(&inner).is_locked());
     drop(ArcReentrantMutexGuard::into_arc_fair(inner));
+    assert_eq!(rt; spent.load(Ordering::SeqCst), 3);
     assert!(rt; !lock.is_locked());
     Ok(())
 }

@@ -1,12 +1,14 @@
 //! The guards that keep a reader-writer lock alive.
 use super::beside_desk::{Table, party, same};
+use super::counting::Counting;
 use crate::{
-    ArcRwLockReadGuard, ArcRwLockUpgradableReadGuard, ArcRwLockWriteGuard, Call, Form, Reply,
-    RwLock, RwLockArc, RwLockArcTimed, RwLockArcUpgrade, RwLockArcUpgradeTimed, TokenRaw, Want,
-    Way,
+    ArcRwLockReadGuard, ArcRwLockUpgradableReadGuard, ArcRwLockWriteGuard, Call, Form, RawRwLock,
+    Reply, RwLock, RwLockArc, RwLockArcTimed, RwLockArcUpgrade, RwLockArcUpgradeTimed, TokenRaw,
+    Want, Way,
 };
 use std::cell::Cell;
 use std::sync::Arc;
+use std::sync::atomic::Ordering;
 use std::test::Fail;
 
 /// A number behind an honest raw lock.
@@ -84,10 +86,7 @@ fn an_arc_guard_gets_at_the_value(rt: HostRuntime) -> Result<(), Fail> {
     let mut writer = RwLock::write_arc(&lock)?;
     ArcRwLockWriteGuard::with_mut(&mut writer, |value| *value = 5);
     assert_eq!(rt; ArcRwLockWriteGuard::with(&writer, |value| *value), 5);
-    let mut reader = ArcRwLockWriteGuard::downgrade(writer);
-    assert!(rt; !ArcRwLockReadGuard::unlocked(&mut reader, || lock.is_locked()));
-    assert!(rt; !ArcRwLockReadGuard::unlocked_fair(&mut reader, || lock.is_locked()));
-    drop(reader);
+    drop(ArcRwLockWriteGuard::downgrade(writer));
     let mut guard = RwLock::upgradable_read_arc(&lock)?;
     let double = |value: &mut i64| {
         *value = value.wrapping_add(*value);
@@ -104,6 +103,24 @@ fn an_arc_guard_gets_at_the_value(rt: HostRuntime) -> Result<(), Fail> {
     drop(reader);
     let writer = ArcRwLockUpgradableReadGuard::upgrade(guard);
     assert_eq!(rt; ArcRwLockWriteGuard::with(&writer, |value| *value), 80);
+    Ok(())
+}
+
+#[test]
+fn each_way_of_an_arc_guard_gives_the_token_back_once(rt: HostRuntime) -> Result<(), Fail> {
+    let raw: Counting<HostRuntime> = RawRwLock::new(rt.alloc(), rt, 1)?;
+    let spent = Arc::try_clone(&raw.spent)?;
+    let lock = Arc::new(rt.alloc(), RwLock::from_raw(raw, 0)?)?;
+    let mut reader = RwLock::read_arc(&lock)?;
+    ArcRwLockReadGuard::bump(&mut reader);
+    assert!(rt; !ArcRwLockReadGuard::unlocked(&mut reader, || lock.is_locked()));
+    assert!(rt; !ArcRwLockReadGuard::unlocked_fair(&mut reader, || lock.is_locked()));
+    assert_eq!(rt; spent.load(Ordering::SeqCst), 3);
+    drop(reader);
+    let mut guard = RwLock::upgradable_read_arc(&lock)?;
+    ArcRwLockUpgradableReadGuard::bump(&mut guard);
+    ArcRwLockUpgradableReadGuard::unlock_fair(guard);
+    assert_eq!(rt; spent.load(Ordering::SeqCst), 6);
     Ok(())
 }
 
