@@ -1,4 +1,8 @@
 //! Tests that span crates.
+mod arc_callers;
+mod arc_mutex;
+mod arc_remutex;
+mod arc_rwlock;
 mod beside_desk;
 mod callers;
 mod condvar;

@@ -14,5 +14,6 @@ pub mod Steps
 pub mod Legal
 pub mod Inner
 pub mod Held
+pub mod Closure
 pub mod Lens
 pub mod Then

@@ -2,11 +2,13 @@
 mod held;
 mod inner;
 mod lock;
+mod owner;
 mod text;
 mod value_guard;
 
 pub use held::Held;
 pub use inner::Inner;
 pub use lock::{Acquire, AcquireFair, Release};
+pub use owner::another_owner;
 pub use text::{Locked, fmt_lock};
 pub use value_guard::{ValueGuard, ValueGuardMut};

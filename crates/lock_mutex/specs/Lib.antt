@@ -2,3 +2,4 @@ pub mod Mutex
 pub mod MutexGuard
 pub mod WaitsWhile
 pub mod Waiting
+pub mod ArcMutexGuard

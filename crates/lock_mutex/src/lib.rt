@@ -1,13 +1,17 @@
 //! A mutex over any raw lock, its guard, and the condition variable to wait on with it.
 #![tactic(auto)]
 
+mod arc;
+mod arc_guard;
 mod condvar;
 mod guard;
 mod mutex;
+mod owned;
 mod sleep;
 mod wait_timeout_result;
 mod waiting;
 
+pub use arc_guard::ArcMutexGuard;
 pub use condvar::Condvar;
 pub use guard::{Guard, MutexGuard};
 pub use mutex::Mutex;

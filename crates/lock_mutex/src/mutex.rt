@@ -1,5 +1,6 @@
 //! A mutex over any raw lock.
 ghost use Rattle.std.specs.Prelude.{◌≡◌, IfSome, IsOkAnd, IsOkUnless};
+ghost use Rattle.lock_base.specs.Closure.{ReadsSomeValue, AnswersSomeValue};
 
 use crate::{Guard, MutexGuard};
 use lock_base::guard::{Acquire, AcquireFair, Locked, Release, fmt_lock};
@@ -93,6 +94,24 @@ impl<R: RawMutex, T> Mutex<R, T> {
     /// What the raw lock answers, which may be old at once.
     pub fn is_locked(&self) -> bool {
         self.raw.is_locked()
+    }
+
+    /// Calls the closure on the value, whose own lock is held for the length of the call.
+    pub(crate) fn with_value<U, F: FnOnce(&T) -> U>(&self, f: F) -> U
+        requires { F.IsAlwaysCallable f }
+        ensures { ReadsSomeValue F.FnOnce f result }
+    {
+        let value = self.value.lock(self.raw.waiter());
+        f(&value)
+    }
+
+    /// `with_value`, by a closure that may change the value.
+    pub(crate) fn with_value_mut<U, F: FnOnce(&mut T) -> U>(&self, f: F) -> U
+        requires { F.IsAlwaysCallable f }
+        ensures { AnswersSomeValue F.FnOnce f result }
+    {
+        let mut value = self.value.lock(self.raw.waiter());
+        f(&mut value)
     }
 }
 

@@ -1,2 +1,3 @@
 pub mod Ownership
 pub mod Guards
+pub mod ArcGuards

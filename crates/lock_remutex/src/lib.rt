@@ -1,12 +1,15 @@
 //! A lock that its owner may take again.
 #![tactic(auto)]
 
+mod arc;
+mod arc_guard;
 mod levels;
 mod raw_reentrant_mutex;
 mod reentrant_mutex;
 mod reentrant_mutex_guard;
 mod text;
 
+pub use arc_guard::ArcReentrantMutexGuard;
 pub use levels::{DEFAULT_LEVELS, Levels};
 pub use raw_reentrant_mutex::RawReentrantMutex;
 pub use reentrant_mutex::ReentrantMutex;

@@ -4,7 +4,8 @@
 mod guard;
 mod lock;
 mod mode;
+pub mod parts;
 
 pub use guard::{RwLockGuard, RwLockReadGuard, RwLockUpgradableReadGuard, RwLockWriteGuard};
 pub use lock::RwLock;
-pub use mode::{Exclusive, InMode, Shared, Upgradable};
+pub use mode::{Exclusive, FairMode, InMode, LockMode, Shared, Upgradable};

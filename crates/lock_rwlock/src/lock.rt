@@ -1,7 +1,6 @@
 //! A reader-writer lock over any raw lock.
 ghost use Rattle.std.specs.Prelude.{◌≡◌, ◌↔◌, IfSome, IfOk, IfErr, IsOkAnd, IsOkUnless};
 ghost use Rattle.lock_base.specs.Limits.{IsLimit, IsMakerFault};
-ghost use Rattle.lock_rwlock.specs.Closure.{AnswersSomeValue};
 
 use crate::guard::{RwLockReadGuard, RwLockUpgradableReadGuard, RwLockWriteGuard};
 use lock_base::guard::{Locked, fmt_lock};
@@ -132,15 +131,6 @@ impl<R: RawRwLock, T> RwLock<R, T> {
         ensures { IfSome result (IsGuardOf self.entry) }
     {
         Some(RwLockWriteGuard::new(self, self.raw.try_lock_exclusive()?))
-    }
-
-    /// Calls the closure on the value, whose own lock is held for the length of the call.
-    pub(crate) fn with_value<U, F: FnOnce(&mut T) -> U>(&self, f: F) -> U
-        requires { F.IsAlwaysCallable f }
-        ensures { AnswersSomeValue F.FnOnce f result }
-    {
-        let mut value = self.value.write(self.raw.waiter());
-        f(&mut value)
     }
 }
 

@@ -7,9 +7,37 @@ ghost use Rattle.std.specs.Prelude.{◌≡◌};
 
 use crate::lock::RwLock;
 pub use exclusive::Exclusive;
+use lock_base::guard::{Acquire, AcquireFair, Release, ValueGuard};
+use lock_base::raw::RawRwLock;
 pub use shared::Shared;
 use std::marker::PhantomData;
 pub use upgradable::Upgradable;
+
+/// The calls of a raw lock for one mode. The markers of the modes have it, for whoever holds the lock.
+pub trait LockMode<R: RawRwLock> {
+    /// What an acquisition in this mode gives.
+    type Token;
+
+    /// Waits until the raw lock admits.
+    fn acquire(raw: &R) -> Self::Token;
+
+    fn release(raw: &R, token: Self::Token);
+}
+
+/// The calls of a raw lock for one mode, where it can hand itself on in the order of those that wait.
+pub trait FairMode<R: RawRwLock>: LockMode<R> {
+    fn release_fair(raw: &R, token: Self::Token);
+
+    /// Lets those that wait go first, and acquires again.
+    fn bump(raw: &R, token: Self::Token) -> Self::Token;
+}
+
+/// How std's lock of the value shows it to whoever borrows the lock and holds it in one mode.
+pub trait ShowMode<'a, R: RawRwLock, T>: LockMode<R> {
+    type Shown: ValueGuard;
+
+    fn show(rwlock: &'a RwLock<R, T>) -> Self::Shown;
+}
 
 /// A lock, to be held in the mode M: `Shared`, `Exclusive` or `Upgradable`.
 #[derive_where(Clone, Copy)]
@@ -26,5 +54,37 @@ impl<'a, M, R, T> InMode<'a, M, R, T> {
             rwlock,
             mode: PhantomData,
         }
+    }
+}
+
+impl<M: LockMode<R>, R: RawRwLock, T> Release for InMode<'_, M, R, T> {
+    type Token = M::Token;
+
+    type Waiter = R::Waiter;
+
+    fn release(&self, token: M::Token) {
+        M::release(&self.rwlock.raw, token);
+    }
+}
+
+impl<'a, M: ShowMode<'a, R, T>, R: RawRwLock, T> Acquire for InMode<'a, M, R, T> {
+    type Shown = M::Shown;
+
+    fn acquire(&self) -> M::Token {
+        M::acquire(&self.rwlock.raw)
+    }
+
+    fn show(&self) -> M::Shown {
+        M::show(self.rwlock)
+    }
+}
+
+impl<'a, M: FairMode<R> + ShowMode<'a, R, T>, R: RawRwLock, T> AcquireFair for InMode<'a, M, R, T> {
+    fn release_fair(&self, token: M::Token) {
+        M::release_fair(&self.rwlock.raw, token);
+    }
+
+    fn bump(&self, token: M::Token) -> M::Token {
+        M::bump(&self.rwlock.raw, token)
     }
 }

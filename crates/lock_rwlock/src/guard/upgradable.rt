@@ -1,10 +1,11 @@
 //! The guard of an upgradable lock.
-ghost use Rattle.std.specs.Prelude.{◌≡◌, IfSome, MatchResult, is_ok, is_some};
-ghost use Rattle.lock_rwlock.specs.Closure.{AnswersSomeValue};
+ghost use Rattle.std.specs.Prelude.{◌≡◌, IfSome, MatchResult, is_ok};
+ghost use Rattle.lock_base.specs.Closure.{AnswersSomeValue};
 
 use super::{RwLockGuard, RwLockReadGuard, RwLockWriteGuard};
 use crate::lock::RwLock;
 use crate::mode::{InMode, Upgradable};
+use crate::parts;
 use lock_base::guard::{Acquire, Held};
 use lock_base::raw::{RawRwLockUpgrade, RawRwLockUpgradeDowngrade, RawRwLockUpgradeTimed};
 
@@ -114,10 +115,7 @@ impl<'a, R: RawRwLockUpgradeDowngrade, T> RwLockGuard<InMode<'a, Upgradable, R, 
         ensures lock { SameLock self.old self.new }
     {
         let held = &mut self.held;
-        let rwlock = held.lock.rwlock;
-        let token = rwlock.raw.upgrade(held.inner.empty());
-        let answer = rwlock.with_value(f);
-        let token = rwlock.raw.downgrade_to_upgradable(token);
+        let (token, answer) = parts::with_upgraded(held.lock.rwlock, held.inner.empty(), f);
         held.inner.fill(token, held.lock.show());
         answer
     }
@@ -131,9 +129,8 @@ impl<'a, R: RawRwLockUpgradeDowngrade, T> RwLockGuard<InMode<'a, Upgradable, R, 
         ensures lock { SameLock self.old self.new }
     {
         let held = &mut self.held;
-        let rwlock = held.lock.rwlock;
-        let upgraded = rwlock.raw.try_upgrade(held.inner.empty());
-        let (token, answer) = with_if_upgraded(rwlock, upgraded, f);
+        let token = held.inner.empty();
+        let (token, answer) = parts::try_with_upgraded(held.lock.rwlock, token, f);
         held.inner.fill(token, held.lock.show());
         answer
     }
@@ -157,9 +154,8 @@ impl<'a, R: RawRwLockUpgradeTimed + RawRwLockUpgradeDowngrade, T> RwLockGuard<
         ensures lock { SameLock self.old self.new }
     {
         let held = &mut self.held;
-        let rwlock = held.lock.rwlock;
-        let upgraded = rwlock.raw.try_upgrade_for(held.inner.empty(), timeout);
-        let (token, answer) = with_if_upgraded(rwlock, upgraded, f);
+        let token = held.inner.empty();
+        let (token, answer) = parts::try_with_upgraded_for(held.lock.rwlock, token, timeout, f);
         held.inner.fill(token, held.lock.show());
         answer
     }
@@ -177,31 +173,9 @@ impl<'a, R: RawRwLockUpgradeTimed + RawRwLockUpgradeDowngrade, T> RwLockGuard<
         ensures lock { SameLock self.old self.new }
     {
         let held = &mut self.held;
-        let rwlock = held.lock.rwlock;
-        let upgraded = rwlock.raw.try_upgrade_until(held.inner.empty(), deadline);
-        let (token, answer) = with_if_upgraded(rwlock, upgraded, f);
+        let token = held.inner.empty();
+        let (token, answer) = parts::try_with_upgraded_until(held.lock.rwlock, token, deadline, f);
         held.inner.fill(token, held.lock.show());
         answer
-    }
-}
-
-/// Calls the closure on the value where the raw lock upgraded the token. The token is upgradable again afterwards.
-fn with_if_upgraded<R: RawRwLockUpgradeDowngrade, T, U, F: FnOnce(&mut T) -> U>(
-    rwlock: &RwLock<R, T>,
-    upgraded: Result<R::ExclusiveGuard, R::UpgradableGuard>,
-    f: F,
-) -> (R::UpgradableGuard, Option<U>)
-where
-    F: Drop,
-    requires { F.IsAlwaysCallable f }
-    ensures called { is_some result.1 ≡ is_ok upgraded }
-    ensures answer { IfSome result.1 (AnswersSomeValue F.FnOnce f) }
-{
-    match upgraded {
-        Ok(token) => {
-            let answer = rwlock.with_value(f);
-            (rwlock.raw.downgrade_to_upgradable(token), Some(answer))
-        }
-        Err(token) => (token, None),
     }
 }

@@ -1,6 +1,6 @@
 //! One holds a lock exclusive, and reads and writes.
-use super::InMode;
-use lock_base::guard::{Acquire, AcquireFair, Release};
+use super::{FairMode, LockMode, ShowMode};
+use crate::lock::RwLock;
 use lock_base::raw::{RawRwLock, RawRwLockFair};
 use std::sync;
 
@@ -8,34 +8,32 @@ use std::sync;
 #[derive(Clone, Copy, Debug)]
 pub struct Exclusive;
 
-impl<R: RawRwLock, T> Release for InMode<'_, Exclusive, R, T> {
+impl<R: RawRwLock> LockMode<R> for Exclusive {
     type Token = R::ExclusiveGuard;
 
-    type Waiter = R::Waiter;
+    fn acquire(raw: &R) -> R::ExclusiveGuard {
+        raw.lock_exclusive()
+    }
 
-    fn release(&self, token: R::ExclusiveGuard) {
-        self.rwlock.raw.unlock_exclusive(token);
+    fn release(raw: &R, token: R::ExclusiveGuard) {
+        raw.unlock_exclusive(token);
     }
 }
 
-impl<'a, R: RawRwLock, T> Acquire for InMode<'a, Exclusive, R, T> {
+impl<R: RawRwLockFair> FairMode<R> for Exclusive {
+    fn release_fair(raw: &R, token: R::ExclusiveGuard) {
+        raw.unlock_exclusive_fair(token);
+    }
+
+    fn bump(raw: &R, token: R::ExclusiveGuard) -> R::ExclusiveGuard {
+        raw.bump_exclusive(token)
+    }
+}
+
+impl<'a, R: RawRwLock, T: 'a> ShowMode<'a, R, T> for Exclusive {
     type Shown = sync::RwLockWriteGuard<'a, T>;
 
-    fn acquire(&self) -> R::ExclusiveGuard {
-        self.rwlock.raw.lock_exclusive()
-    }
-
-    fn show(&self) -> sync::RwLockWriteGuard<'a, T> {
-        self.rwlock.value.write(self.rwlock.raw.waiter())
-    }
-}
-
-impl<R: RawRwLockFair, T> AcquireFair for InMode<'_, Exclusive, R, T> {
-    fn release_fair(&self, token: R::ExclusiveGuard) {
-        self.rwlock.raw.unlock_exclusive_fair(token);
-    }
-
-    fn bump(&self, token: R::ExclusiveGuard) -> R::ExclusiveGuard {
-        self.rwlock.raw.bump_exclusive(token)
+    fn show(rwlock: &'a RwLock<R, T>) -> sync::RwLockWriteGuard<'a, T> {
+        rwlock.value.write(rwlock.raw.waiter())
     }
 }

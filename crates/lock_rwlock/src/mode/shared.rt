@@ -1,6 +1,6 @@
 //! Many may hold a lock shared, and read.
-use super::InMode;
-use lock_base::guard::{Acquire, AcquireFair, Release};
+use super::{FairMode, LockMode, ShowMode};
+use crate::lock::RwLock;
 use lock_base::raw::{RawRwLock, RawRwLockFair};
 use std::sync;
 
@@ -8,34 +8,32 @@ use std::sync;
 #[derive(Clone, Copy, Debug)]
 pub struct Shared;
 
-impl<R: RawRwLock, T> Release for InMode<'_, Shared, R, T> {
+impl<R: RawRwLock> LockMode<R> for Shared {
     type Token = R::SharedGuard;
 
-    type Waiter = R::Waiter;
+    fn acquire(raw: &R) -> R::SharedGuard {
+        raw.lock_shared()
+    }
 
-    fn release(&self, token: R::SharedGuard) {
-        self.rwlock.raw.unlock_shared(token);
+    fn release(raw: &R, token: R::SharedGuard) {
+        raw.unlock_shared(token);
     }
 }
 
-impl<'a, R: RawRwLock, T> Acquire for InMode<'a, Shared, R, T> {
+impl<R: RawRwLockFair> FairMode<R> for Shared {
+    fn release_fair(raw: &R, token: R::SharedGuard) {
+        raw.unlock_shared_fair(token);
+    }
+
+    fn bump(raw: &R, token: R::SharedGuard) -> R::SharedGuard {
+        raw.bump_shared(token)
+    }
+}
+
+impl<'a, R: RawRwLock, T: 'a> ShowMode<'a, R, T> for Shared {
     type Shown = sync::RwLockReadGuard<'a, T>;
 
-    fn acquire(&self) -> R::SharedGuard {
-        self.rwlock.raw.lock_shared()
-    }
-
-    fn show(&self) -> sync::RwLockReadGuard<'a, T> {
-        self.rwlock.value.read(self.rwlock.raw.waiter())
-    }
-}
-
-impl<R: RawRwLockFair, T> AcquireFair for InMode<'_, Shared, R, T> {
-    fn release_fair(&self, token: R::SharedGuard) {
-        self.rwlock.raw.unlock_shared_fair(token);
-    }
-
-    fn bump(&self, token: R::SharedGuard) -> R::SharedGuard {
-        self.rwlock.raw.bump_shared(token)
+    fn show(rwlock: &'a RwLock<R, T>) -> sync::RwLockReadGuard<'a, T> {
+        rwlock.value.read(rwlock.raw.waiter())
     }
 }

@@ -1,6 +1,6 @@
 //! One holds a lock upgradable, and reads beside the shared ones.
-use super::InMode;
-use lock_base::guard::{Acquire, AcquireFair, Release};
+use super::{FairMode, LockMode, ShowMode};
+use crate::lock::RwLock;
 use lock_base::raw::{RawRwLockUpgrade, RawRwLockUpgradeFair};
 use std::sync;
 
@@ -8,34 +8,32 @@ use std::sync;
 #[derive(Clone, Copy, Debug)]
 pub struct Upgradable;
 
-impl<R: RawRwLockUpgrade, T> Release for InMode<'_, Upgradable, R, T> {
+impl<R: RawRwLockUpgrade> LockMode<R> for Upgradable {
     type Token = R::UpgradableGuard;
 
-    type Waiter = R::Waiter;
+    fn acquire(raw: &R) -> R::UpgradableGuard {
+        raw.lock_upgradable()
+    }
 
-    fn release(&self, token: R::UpgradableGuard) {
-        self.rwlock.raw.unlock_upgradable(token);
+    fn release(raw: &R, token: R::UpgradableGuard) {
+        raw.unlock_upgradable(token);
     }
 }
 
-impl<'a, R: RawRwLockUpgrade, T> Acquire for InMode<'a, Upgradable, R, T> {
+impl<R: RawRwLockUpgradeFair> FairMode<R> for Upgradable {
+    fn release_fair(raw: &R, token: R::UpgradableGuard) {
+        raw.unlock_upgradable_fair(token);
+    }
+
+    fn bump(raw: &R, token: R::UpgradableGuard) -> R::UpgradableGuard {
+        raw.bump_upgradable(token)
+    }
+}
+
+impl<'a, R: RawRwLockUpgrade, T: 'a> ShowMode<'a, R, T> for Upgradable {
     type Shown = sync::RwLockReadGuard<'a, T>;
 
-    fn acquire(&self) -> R::UpgradableGuard {
-        self.rwlock.raw.lock_upgradable()
-    }
-
-    fn show(&self) -> sync::RwLockReadGuard<'a, T> {
-        self.rwlock.value.read(self.rwlock.raw.waiter())
-    }
-}
-
-impl<R: RawRwLockUpgradeFair, T> AcquireFair for InMode<'_, Upgradable, R, T> {
-    fn release_fair(&self, token: R::UpgradableGuard) {
-        self.rwlock.raw.unlock_upgradable_fair(token);
-    }
-
-    fn bump(&self, token: R::UpgradableGuard) -> R::UpgradableGuard {
-        self.rwlock.raw.bump_upgradable(token)
+    fn show(rwlock: &'a RwLock<R, T>) -> sync::RwLockReadGuard<'a, T> {
+        rwlock.value.read(rwlock.raw.waiter())
     }
 }

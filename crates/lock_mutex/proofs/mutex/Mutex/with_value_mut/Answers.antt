@@ -1,5 +1,5 @@
 use Rattle.std.proofs.Common.{refl}
-use Rattle.lock_rwlock.proofs.lock.RwLock.with_value.Goals as goal
+use Rattle.lock_mutex.proofs.mutex.Mutex.with_value_mut.Goals as goal
 
 pub returns : goal.returns
 returns g c =

@@ -1,0 +1,140 @@
+//! The guards that keep a reader-writer lock alive.
+use super::beside_desk::{Table, party, same};
+use super::counting::Counting;
+use crate::{
+    ArcRwLockReadGuard, ArcRwLockUpgradableReadGuard, ArcRwLockWriteGuard, Call, Form, RawRwLock,
+    Reply, RwLock, RwLockArc, RwLockArcTimed, RwLockArcUpgrade, RwLockArcUpgradeTimed, TokenRaw,
+    Want, Way,
+};
+use std::cell::Cell;
+use std::sync::Arc;
+use std::sync::atomic::Ordering;
+use std::test::Fail;
+
+/// A number behind an honest raw lock.
+type Shared = RwLock<TokenRaw<HostRuntime>, i64>;
+
+#[test]
+fn an_arc_guard_goes_up_and_down_as_on_a_desk(rt: HostRuntime) -> Result<(), Fail> {
+    let one = party(1)?;
+    let lock = Arc::new(rt.alloc(), Shared::with_readers(rt.alloc(), rt, 8, 0)?)?;
+    let mut table = Table::rwlock(rt.alloc(), 4, 8, 0)?;
+    let desk = &mut table;
+
+    let guard = RwLock::upgradable_read_arc(&lock)?;
+    let call = Call::Acquire(Want::UpgradableRead, Form::Block, one);
+    same(desk, call, Reply::Guard(1))?;
+    let reader = RwLock::read_arc(&lock)?;
+    let call = Call::Acquire(Want::Read, Form::Block, one);
+    same(desk, call, Reply::Guard(2))?;
+    let guard = ArcRwLockUpgradableReadGuard::try_upgrade(guard).err();
+    let guard = guard.ok_or("upgraded beside a reader")?;
+    same(desk, Call::Upgrade(Form::Try, one, 1), Reply::NoGuard)?;
+    drop(reader);
+    same(desk, Call::Unlock(one, 2, Way::Plain), Reply::Done)?;
+    let writer = ArcRwLockUpgradableReadGuard::try_upgrade_until(guard, ()).ok();
+    let writer = writer.ok_or("not upgraded alone")?;
+    same(desk, Call::Upgrade(Form::Until, one, 1), Reply::Done)?;
+    let guard = ArcRwLockWriteGuard::downgrade_to_upgradable(writer);
+    same(desk, Call::DowngradeToUpgradable(one, 1), Reply::Done)?;
+    let writer = ArcRwLockUpgradableReadGuard::try_upgrade_for(guard, ()).ok();
+    let mut writer = writer.ok_or("not upgraded alone")?;
+    same(desk, Call::Upgrade(Form::For, one, 1), Reply::Done)?;
+    ArcRwLockWriteGuard::bump(&mut writer);
+    same(desk, Call::Bump(one, 1), Reply::Done)?;
+    let guard = ArcRwLockWriteGuard::downgrade_to_upgradable(writer);
+    same(desk, Call::DowngradeToUpgradable(one, 1), Reply::Done)?;
+    let reader = ArcRwLockUpgradableReadGuard::downgrade(guard);
+    same(desk, Call::Downgrade(one, 1), Reply::Done)?;
+    same(desk, Call::IsLocked, Reply::Bool(lock.is_locked()))?;
+    let owner = ArcRwLockReadGuard::into_arc(reader);
+    same(desk, Call::Unlock(one, 1, Way::IntoArc), Reply::Done)?;
+    same(desk, Call::IsLocked, Reply::Bool(owner.is_locked()))
+}
+
+#[test]
+fn each_acquisition_of_a_free_rwlock_by_an_arc(rt: HostRuntime) -> Result<(), Fail> {
+    let lock = Arc::new(rt.alloc(), Shared::new(rt.alloc(), rt, 4)?)?;
+    let reader = RwLock::read_arc(&lock)?;
+    assert!(rt; ArcRwLockReadGuard::rwlock(&reader).is_locked());
+    let owner = ArcRwLockReadGuard::into_arc(reader);
+    assert!(rt; !lock.is_locked());
+    assert!(rt; RwLock::try_read_arc(&lock)?.is_some());
+    assert!(rt; RwLock::try_read_arc_for(&lock, ())?.is_some());
+    assert!(rt; RwLock::try_read_arc_until(&lock, ())?.is_some());
+    assert!(rt; !lock.is_locked());
+    let writer = RwLock::write_arc(&owner)?;
+    assert!(rt; RwLock::try_read_arc(&lock)?.is_none());
+    ArcRwLockWriteGuard::unlock_fair(writer);
+    assert!(rt; RwLock::try_write_arc(&lock)?.is_some());
+    assert!(rt; RwLock::try_write_arc_for(&lock, ())?.is_some());
+    assert!(rt; RwLock::try_write_arc_until(&lock, ())?.is_some());
+    assert!(rt; !lock.is_locked());
+    let guard = RwLock::upgradable_read_arc(&lock)?;
+    assert!(rt; RwLock::try_write_arc(&lock)?.is_none());
+    drop(ArcRwLockUpgradableReadGuard::into_arc_fair(guard));
+    assert!(rt; RwLock::try_upgradable_read_arc(&lock)?.is_some());
+    assert!(rt; RwLock::try_upgradable_read_arc_for(&lock, ())?.is_some());
+    assert!(rt; RwLock::try_upgradable_read_arc_until(&lock, ())?.is_some());
+    assert!(rt; !lock.is_locked());
+    Ok(())
+}
+
+#[test]
+fn an_arc_guard_gets_at_the_value(rt: HostRuntime) -> Result<(), Fail> {
+    let lock = Arc::new(rt.alloc(), Shared::new(rt.alloc(), rt, 1)?)?;
+    let mut writer = RwLock::write_arc(&lock)?;
+    ArcRwLockWriteGuard::with_mut(&mut writer, |value| *value = 5);
+    assert_eq!(rt; ArcRwLockWriteGuard::with(&writer, |value| *value), 5);
+    drop(ArcRwLockWriteGuard::downgrade(writer));
+    let mut guard = RwLock::upgradable_read_arc(&lock)?;
+    let double = |value: &mut i64| {
+        *value = value.wrapping_add(*value);
+        *value
+    };
+    assert_eq!(rt; guard.with_upgraded(double), 10);
+    assert_eq!(rt; guard.try_with_upgraded(double), Some(20));
+    assert_eq!(rt; guard.try_with_upgraded_for((), double), Some(40));
+    assert_eq!(rt; guard.try_with_upgraded_until((), double), Some(80));
+    let reader = RwLock::read_arc(&lock)?;
+    let calls = Cell::new(0u64);
+    assert_eq!(rt; guard.try_with_upgraded(|_| calls.set(1)), None);
+    assert_eq!(rt; calls.get(), 0);
+    drop(reader);
+    let writer = ArcRwLockUpgradableReadGuard::upgrade(guard);
+    assert_eq!(rt; ArcRwLockWriteGuard::with(&writer, |value| *value), 80);
+    Ok(())
+}
+
+#[test]
+fn each_way_of_an_arc_guard_gives_the_token_back_once(rt: HostRuntime) -> Result<(), Fail> {
+    let raw: Counting<HostRuntime> = RawRwLock::new(rt.alloc(), rt, 1)?;
+    let spent = Arc::try_clone(&raw.spent)?;
+    let lock = Arc::new(rt.alloc(), RwLock::from_raw(raw, 0)?)?;
+    let mut reader = RwLock::read_arc(&lock)?;
+    ArcRwLockReadGuard::bump(&mut reader);
+    assert!(rt; !ArcRwLockReadGuard::unlocked(&mut reader, || lock.is_locked()));
+    assert!(rt; !ArcRwLockReadGuard::unlocked_fair(&mut reader, || lock.is_locked()));
+    assert_eq!(rt; spent.load(Ordering::SeqCst), 3);
+    drop(reader);
+    let mut guard = RwLock::upgradable_read_arc(&lock)?;
+    ArcRwLockUpgradableReadGuard::bump(&mut guard);
+    ArcRwLockUpgradableReadGuard::unlock_fair(guard);
+    assert_eq!(rt; spent.load(Ordering::SeqCst), 6);
+    Ok(())
+}
+
+#[test]
+fn arc_guards_print_as_told(rt: HostRuntime) -> Result<(), Fail> {
+    let alloc = rt.alloc();
+    let lock = Arc::new(alloc, Shared::new(alloc, rt, 5)?)?;
+    let reader = RwLock::read_arc(&lock)?;
+    assert_eq!(rt; format!(in alloc; "{reader:?} {reader}")?.as_str(), "5 5");
+    drop(reader);
+    let writer = RwLock::write_arc(&lock)?;
+    assert_eq!(rt; format!(in alloc; "{writer:?} {writer}")?.as_str(), "5 5");
+    drop(writer);
+    let guard = RwLock::upgradable_read_arc(&lock)?;
+    assert_eq!(rt; format!(in alloc; "{guard:?} {guard}")?.as_str(), "5 5");
+    Ok(())
+}

@@ -1,0 +1,58 @@
+//! The acquisitions of a mutex by guards that keep it alive.
+ghost use Rattle.std.specs.Prelude.{IfOk, IfSome, IsOkUnless};
+ghost use Rattle.lock_mutex.specs.ArcMutexGuard.{IsArcGuardOf};
+
+use crate::{ArcMutexGuard, Mutex};
+use lock_base::guard::another_owner;
+use lock_base::raw::{Fault, RawMutex, RawMutexTimed};
+use std::sync::Arc;
+
+impl<R: RawMutex + Drop, T: Drop> Mutex<R, T> {
+    /// `lock`, by a guard that keeps the mutex alive. Where there is no memory for that, nothing is locked.
+    pub fn lock_arc(this: &Arc<Mutex<R, T>>) -> Result<ArcMutexGuard<R, T>, Fault>
+        ensures fault { IsOkUnless result Fault.OutOfMemory }
+        ensures lock { IfOk result (IsArcGuardOf this.now) }
+    {
+        let mutex = another_owner(this)?;
+        let token = mutex.raw.lock();
+        Ok(ArcMutexGuard::new(mutex, token))
+    }
+
+    /// `try_lock`, by a guard that keeps the mutex alive. Where there is no memory for that, nothing is locked.
+    pub fn try_lock_arc(this: &Arc<Mutex<R, T>>) -> Result<Option<ArcMutexGuard<R, T>>, Fault>
+        ensures fault { IsOkUnless result Fault.OutOfMemory }
+        ensures lock { IfOk result (λ got. IfSome got (IsArcGuardOf this.now)) }
+    {
+        let mutex = another_owner(this)?;
+        let token = mutex.raw.try_lock();
+        Ok(ArcMutexGuard::of_token(mutex, token))
+    }
+}
+
+impl<R: RawMutexTimed + Drop, T: Drop> Mutex<R, T> {
+    /// `try_lock_arc`, where the raw lock may wait that long.
+    pub fn try_lock_arc_for(
+        this: &Arc<Mutex<R, T>>,
+        timeout: R::Duration,
+    ) -> Result<Option<ArcMutexGuard<R, T>>, Fault>
+        ensures fault { IsOkUnless result Fault.OutOfMemory }
+        ensures lock { IfOk result (λ got. IfSome got (IsArcGuardOf this.now)) }
+    {
+        let mutex = another_owner(this)?;
+        let token = mutex.raw.try_lock_for(timeout);
+        Ok(ArcMutexGuard::of_token(mutex, token))
+    }
+
+    /// `try_lock_arc`, where the raw lock may wait until then.
+    pub fn try_lock_arc_until(
+        this: &Arc<Mutex<R, T>>,
+        deadline: R::Instant,
+    ) -> Result<Option<ArcMutexGuard<R, T>>, Fault>
+        ensures fault { IsOkUnless result Fault.OutOfMemory }
+        ensures lock { IfOk result (λ got. IfSome got (IsArcGuardOf this.now)) }
+    {
+        let mutex = another_owner(this)?;
+        let token = mutex.raw.try_lock_until(deadline);
+        Ok(ArcMutexGuard::of_token(mutex, token))
+    }
+}

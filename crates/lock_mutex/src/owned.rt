@@ -1,0 +1,42 @@
+//! A mutex that is kept alive.
+use crate::Mutex;
+use lock_base::guard::{Acquire, AcquireFair, Release};
+use lock_base::raw::{RawMutex, RawMutexFair};
+use std::sync::Arc;
+
+/// One owner of a mutex, as its guard sees it.
+#[derive(Drop)]
+pub struct OwnedMutex<R: RawMutex + Drop, T: Drop> {
+    pub(crate) mutex: Arc<Mutex<R, T>>,
+}
+
+impl<R: RawMutex + Drop, T: Drop> Release for OwnedMutex<R, T> {
+    type Token = R::Guard;
+
+    type Waiter = R::Waiter;
+
+    fn release(&self, token: R::Guard) {
+        self.mutex.raw.unlock(token);
+    }
+}
+
+/// It shows nothing: std's guard of the value would borrow from the mutex that is owned beside it.
+impl<R: RawMutex + Drop, T: Drop> Acquire for OwnedMutex<R, T> {
+    type Shown = ();
+
+    fn acquire(&self) -> R::Guard {
+        self.mutex.raw.lock()
+    }
+
+    fn show(&self) {}
+}
+
+impl<R: RawMutexFair + Drop, T: Drop> AcquireFair for OwnedMutex<R, T> {
+    fn release_fair(&self, token: R::Guard) {
+        self.mutex.raw.unlock_fair(token);
+    }
+
+    fn bump(&self, token: R::Guard) -> R::Guard {
+        self.mutex.raw.bump(token)
+    }
+}

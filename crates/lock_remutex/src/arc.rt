@@ -1,0 +1,75 @@
+//! The acquisitions of a reentrant lock by guards that keep it alive.
+ghost use Rattle.std.specs.Prelude.{IfErr, IfOk, IfSome};
+ghost use Rattle.lock_base.specs.Party.{id_of};
+ghost use Rattle.lock_remutex.specs.ArcGuards.{IsArcFault, IsArcGuardOf};
+
+use crate::arc_guard::ArcReentrantMutexGuard;
+use crate::reentrant_mutex::ReentrantMutex;
+use lock_base::guard::another_owner;
+use lock_base::machine::PartyId;
+use lock_base::raw::{Fault, RawMutex, RawMutexTimed};
+use std::sync::Arc;
+
+impl<R: RawMutex + Drop, T: Drop> ReentrantMutex<R, T>
+where
+    R::Guard: Drop,
+{
+    /// `lock`, by a guard that keeps the lock alive. Where there is no memory for that, nothing is locked.
+    pub fn lock_arc(
+        this: &Arc<ReentrantMutex<R, T>>,
+        party: PartyId,
+    ) -> Result<ArcReentrantMutexGuard<R, T>, Fault>
+        ensures guard { IfOk result (IsArcGuardOf this.now (id_of party)) }
+        ensures fault { IfErr result IsArcFault }
+    {
+        let remutex = another_owner(this)?;
+        remutex.raw().lock(party)?;
+        Ok(ArcReentrantMutexGuard::new(remutex, party))
+    }
+
+    /// `try_lock`, by a guard that keeps the lock alive. Where there is no memory for that, nothing is locked.
+    pub fn try_lock_arc(
+        this: &Arc<ReentrantMutex<R, T>>,
+        party: PartyId,
+    ) -> Result<Option<ArcReentrantMutexGuard<R, T>>, Fault>
+        ensures guard { IfOk result (λ got. IfSome got (IsArcGuardOf this.now (id_of party))) }
+        ensures fault { IfErr result IsArcFault }
+    {
+        let remutex = another_owner(this)?;
+        let has_level = remutex.raw().try_lock(party)?;
+        Ok(ArcReentrantMutexGuard::if_level(remutex, party, has_level))
+    }
+}
+
+impl<R: RawMutexTimed + Drop, T: Drop> ReentrantMutex<R, T>
+where
+    R::Guard: Drop,
+{
+    /// As `try_lock_arc`, where the raw lock may wait that long.
+    pub fn try_lock_arc_for(
+        this: &Arc<ReentrantMutex<R, T>>,
+        party: PartyId,
+        timeout: R::Duration,
+    ) -> Result<Option<ArcReentrantMutexGuard<R, T>>, Fault>
+        ensures guard { IfOk result (λ got. IfSome got (IsArcGuardOf this.now (id_of party))) }
+        ensures fault { IfErr result IsArcFault }
+    {
+        let remutex = another_owner(this)?;
+        let has_level = remutex.raw().try_lock_for(party, timeout)?;
+        Ok(ArcReentrantMutexGuard::if_level(remutex, party, has_level))
+    }
+
+    /// As `try_lock_arc`, where the raw lock may wait until then.
+    pub fn try_lock_arc_until(
+        this: &Arc<ReentrantMutex<R, T>>,
+        party: PartyId,
+        deadline: R::Instant,
+    ) -> Result<Option<ArcReentrantMutexGuard<R, T>>, Fault>
+        ensures guard { IfOk result (λ got. IfSome got (IsArcGuardOf this.now (id_of party))) }
+        ensures fault { IfErr result IsArcFault }
+    {
+        let remutex = another_owner(this)?;
+        let has_level = remutex.raw().try_lock_until(party, deadline)?;
+        Ok(ArcReentrantMutexGuard::if_level(remutex, party, has_level))
+    }
+}

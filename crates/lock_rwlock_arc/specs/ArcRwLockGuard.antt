@@ -1,0 +1,16 @@
+-- The lock of a guard that keeps it alive.
+use Rattle.std.specs.Prelude.{◌≡◌}
+use Rattle.std.specs.Arc.{arc_value}
+use Rattle.std.specs.declared.alloc.Global.{Global}
+use Rattle.std.specs.declared.sync.Arc.{Arc}
+use Rattle.lock_rwlock.specs.declared.lock.RwLock.{RwLock}
+use Rattle.lock_rwlock_arc.specs.declared.guard.ArcRwLockGuard.{ArcRwLockGuard}
+
+module _ {M R T K W S X : Type 0} where
+  -- the lock that a guard is of, in whatever mode
+  abbrev pub arc_of : ArcRwLockGuard M R T K W S X → Arc (RwLock R T) Global
+  arc_of guard = guard.held.lock.rwlock
+
+  -- the guard is one of this lock
+  abbrev pub IsArcGuardOf : Arc (RwLock R T) Global → ArcRwLockGuard M R T K W S X → Type 0
+  IsArcGuardOf lock guard = arc_value (arc_of guard) ≡ arc_value lock

@@ -1,0 +1,159 @@
+//! What the guard of an upgradable lock can do beside.
+ghost use Rattle.std.specs.Prelude.{◌≡◌, IfSome, MatchResult, is_ok};
+ghost use Rattle.lock_base.specs.Closure.{AnswersSomeValue};
+ghost use Rattle.lock_rwlock_arc.specs.ArcRwLockGuard.{arc_of};
+
+use super::{
+    ArcRwLockGuard, ArcRwLockReadGuard, ArcRwLockUpgradableReadGuard, ArcRwLockWriteGuard,
+};
+use lock_base::raw::{RawRwLockUpgrade, RawRwLockUpgradeDowngrade, RawRwLockUpgradeTimed};
+use lock_rwlock::parts::{
+    raw, try_with_upgraded, try_with_upgraded_for, try_with_upgraded_until, with_upgraded,
+};
+use lock_rwlock::{RwLock, Upgradable};
+use std::sync::Arc;
+
+impl<R: RawRwLockUpgrade + Drop, T: Drop> ArcRwLockGuard<Upgradable, R, T> {
+    /// The right to write in place of this one, once no other guard is left.
+    pub fn upgrade(guard: ArcRwLockUpgradableReadGuard<R, T>) -> ArcRwLockWriteGuard<R, T>
+        ensures { arc_of result ≡ arc_of guard }
+    {
+        let (rwlock, token) = guard.into_token();
+        let token = raw(&rwlock).upgrade(token);
+        ArcRwLockGuard::new(rwlock, token)
+    }
+
+    /// The right to write in place of this one, or this one again where the raw lock refuses.
+    pub fn try_upgrade(
+        guard: ArcRwLockUpgradableReadGuard<R, T>,
+    ) -> Result<ArcRwLockWriteGuard<R, T>, ArcRwLockUpgradableReadGuard<R, T>>
+        ensures { MatchResult result (λ upgraded. arc_of upgraded ≡ arc_of guard) (λ same. arc_of same ≡ arc_of guard) }
+    {
+        let (rwlock, token) = guard.into_token();
+        let answer = raw(&rwlock).try_upgrade(token);
+        ArcRwLockGuard::upgraded(rwlock, answer)
+    }
+
+    /// The guard of the token that the raw lock answered.
+    fn upgraded(
+        rwlock: Arc<RwLock<R, T>>,
+        answer: Result<R::ExclusiveGuard, R::UpgradableGuard>,
+    ) -> Result<ArcRwLockWriteGuard<R, T>, ArcRwLockUpgradableReadGuard<R, T>>
+        ensures upgraded { is_ok result ≡ is_ok answer }
+        ensures lock { MatchResult result (λ upgraded. arc_of upgraded ≡ rwlock) (λ same. arc_of same ≡ rwlock) }
+    {
+        match answer {
+            Ok(token) => Ok(ArcRwLockGuard::new(rwlock, token)),
+            Err(token) => Err(ArcRwLockGuard::new(rwlock, token)),
+        }
+    }
+}
+
+impl<R: RawRwLockUpgradeTimed + Drop, T: Drop> ArcRwLockGuard<Upgradable, R, T> {
+    /// `try_upgrade`, where the raw lock may wait for that long before it refuses.
+    pub fn try_upgrade_for(
+        guard: ArcRwLockUpgradableReadGuard<R, T>,
+        timeout: R::Duration,
+    ) -> Result<ArcRwLockWriteGuard<R, T>, ArcRwLockUpgradableReadGuard<R, T>>
+        ensures { MatchResult result (λ upgraded. arc_of upgraded ≡ arc_of guard) (λ same. arc_of same ≡ arc_of guard) }
+    {
+        let (rwlock, token) = guard.into_token();
+        let answer = raw(&rwlock).try_upgrade_for(token, timeout);
+        ArcRwLockGuard::upgraded(rwlock, answer)
+    }
+
+    /// `try_upgrade`, where the raw lock may wait until then before it refuses.
+    pub fn try_upgrade_until(
+        guard: ArcRwLockUpgradableReadGuard<R, T>,
+        deadline: R::Instant,
+    ) -> Result<ArcRwLockWriteGuard<R, T>, ArcRwLockUpgradableReadGuard<R, T>>
+        ensures { MatchResult result (λ upgraded. arc_of upgraded ≡ arc_of guard) (λ same. arc_of same ≡ arc_of guard) }
+    {
+        let (rwlock, token) = guard.into_token();
+        let answer = raw(&rwlock).try_upgrade_until(token, deadline);
+        ArcRwLockGuard::upgraded(rwlock, answer)
+    }
+}
+
+impl<R: RawRwLockUpgradeDowngrade + Drop, T: Drop> ArcRwLockGuard<Upgradable, R, T> {
+    /// The right to read in place of this one. No other writes between.
+    pub fn downgrade(guard: ArcRwLockUpgradableReadGuard<R, T>) -> ArcRwLockReadGuard<R, T>
+        ensures { arc_of result ≡ arc_of guard }
+    {
+        let (rwlock, token) = guard.into_token();
+        let token = raw(&rwlock).downgrade_upgradable(token);
+        ArcRwLockGuard::new(rwlock, token)
+    }
+
+    /// Calls the closure on the value while this is the one that writes, once no other guard is left.
+    pub fn with_upgraded<U, F: FnOnce(&mut T) -> U>(&mut self, f: F) -> U
+        requires { F.IsAlwaysCallable f }
+        ensures answer { AnswersSomeValue F.FnOnce f result }
+        ensures lock { arc_of self.new ≡ arc_of self.old }
+    {
+        let held = &mut self.held;
+        let token = held.inner.empty();
+        let (token, answer) = with_upgraded(&held.lock.rwlock, token, f);
+        held.inner.fill(token, ());
+        answer
+    }
+
+    /// `with_upgraded` where the raw lock admits it now, or None without a call of the closure.
+    pub fn try_with_upgraded<U, F: FnOnce(&mut T) -> U>(&mut self, f: F) -> Option<U>
+    where
+        F: Drop,
+        requires { F.IsAlwaysCallable f }
+        ensures answer { IfSome result (AnswersSomeValue F.FnOnce f) }
+        ensures lock { arc_of self.new ≡ arc_of self.old }
+    {
+        let held = &mut self.held;
+        let token = held.inner.empty();
+        let (token, answer) = try_with_upgraded(&held.lock.rwlock, token, f);
+        held.inner.fill(token, ());
+        answer
+    }
+}
+
+impl<R: RawRwLockUpgradeTimed + RawRwLockUpgradeDowngrade + Drop, T: Drop> ArcRwLockGuard<
+    Upgradable,
+    R,
+    T,
+> {
+    /// `try_with_upgraded`, where the raw lock may wait for that long before it refuses.
+    pub fn try_with_upgraded_for<U, F: FnOnce(&mut T) -> U>(
+        &mut self,
+        timeout: R::Duration,
+        f: F,
+    ) -> Option<U>
+    where
+        F: Drop,
+        requires { F.IsAlwaysCallable f }
+        ensures answer { IfSome result (AnswersSomeValue F.FnOnce f) }
+        ensures lock { arc_of self.new ≡ arc_of self.old }
+    {
+        let held = &mut self.held;
+        let token = held.inner.empty();
+        let (token, answer) = try_with_upgraded_for(&held.lock.rwlock, token, timeout, f);
+        held.inner.fill(token, ());
+        answer
+    }
+
+    /// `try_with_upgraded`, where the raw lock may wait until then before it refuses.
+    pub fn try_with_upgraded_until<U, F: FnOnce(&mut T) -> U>(
+        &mut self,
+        deadline: R::Instant,
+        f: F,
+    ) -> Option<U>
+    where
+        F: Drop,
+        requires { F.IsAlwaysCallable f }
+        ensures answer { IfSome result (AnswersSomeValue F.FnOnce f) }
+        ensures lock { arc_of self.new ≡ arc_of self.old }
+    {
+        let held = &mut self.held;
+        let token = held.inner.empty();
+        let (token, answer) = try_with_upgraded_until(&held.lock.rwlock, token, deadline, f);
+        held.inner.fill(token, ());
+        answer
+    }
+}

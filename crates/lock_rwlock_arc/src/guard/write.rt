@@ -1,0 +1,46 @@
+//! What the guard of an exclusive lock can do beside.
+ghost use Rattle.std.specs.Prelude.{◌≡◌};
+ghost use Rattle.lock_base.specs.Closure.{AnswersSomeValue};
+ghost use Rattle.lock_rwlock_arc.specs.ArcRwLockGuard.{arc_of};
+
+use super::{
+    ArcRwLockGuard, ArcRwLockReadGuard, ArcRwLockUpgradableReadGuard, ArcRwLockWriteGuard,
+};
+use lock_base::raw::{RawRwLock, RawRwLockDowngrade, RawRwLockUpgradeDowngrade};
+use lock_rwlock::Exclusive;
+use lock_rwlock::parts::{raw, write_with};
+
+impl<R: RawRwLock + Drop, T: Drop> ArcRwLockGuard<Exclusive, R, T> {
+    /// `with`, by a closure that may change the value.
+    pub fn with_mut<U, F: FnOnce(&mut T) -> U>(guard: &mut ArcRwLockWriteGuard<R, T>, f: F) -> U
+        requires { F.IsAlwaysCallable f }
+        ensures answer { AnswersSomeValue F.FnOnce f result }
+        ensures lock { arc_of guard.new ≡ arc_of guard.old }
+    {
+        write_with(&guard.held.lock.rwlock, f)
+    }
+}
+
+impl<R: RawRwLockDowngrade + Drop, T: Drop> ArcRwLockGuard<Exclusive, R, T> {
+    /// The right to read in place of this one. No other writes between.
+    pub fn downgrade(guard: ArcRwLockWriteGuard<R, T>) -> ArcRwLockReadGuard<R, T>
+        ensures { arc_of result ≡ arc_of guard }
+    {
+        let (rwlock, token) = guard.into_token();
+        let token = raw(&rwlock).downgrade(token);
+        ArcRwLockGuard::new(rwlock, token)
+    }
+}
+
+impl<R: RawRwLockUpgradeDowngrade + Drop, T: Drop> ArcRwLockGuard<Exclusive, R, T> {
+    /// An upgradable guard in place of this one. No other writes between.
+    pub fn downgrade_to_upgradable(
+        guard: ArcRwLockWriteGuard<R, T>,
+    ) -> ArcRwLockUpgradableReadGuard<R, T>
+        ensures { arc_of result ≡ arc_of guard }
+    {
+        let (rwlock, token) = guard.into_token();
+        let token = raw(&rwlock).downgrade_to_upgradable(token);
+        ArcRwLockGuard::new(rwlock, token)
+    }
+}

@@ -1,0 +1,12 @@
+//! The guards of a reader-writer lock that keep it alive.
+#![tactic(auto)]
+
+mod acquire;
+mod guard;
+mod owned;
+mod text;
+
+pub use acquire::{RwLockArc, RwLockArcTimed, RwLockArcUpgrade, RwLockArcUpgradeTimed};
+pub use guard::{
+    ArcRwLockGuard, ArcRwLockReadGuard, ArcRwLockUpgradableReadGuard, ArcRwLockWriteGuard,
+};

@@ -1,0 +1,58 @@
+//! A reader-writer lock that is kept alive.
+ghost use Rattle.std.specs.Prelude.{◌≡◌};
+
+use lock_base::guard::{Acquire, AcquireFair, Release};
+use lock_base::raw::RawRwLock;
+use lock_rwlock::parts::raw;
+use lock_rwlock::{FairMode, LockMode, RwLock};
+use std::marker::PhantomData;
+use std::sync::Arc;
+
+/// One owner of a lock, to be held in the mode M.
+#[derive(Drop)]
+pub struct OwnedInMode<M: LockMode<R>, R: RawRwLock + Drop, T: Drop> {
+    pub(crate) rwlock: Arc<RwLock<R, T>>,
+    mode: PhantomData<M>,
+}
+
+impl<M: LockMode<R>, R: RawRwLock + Drop, T: Drop> OwnedInMode<M, R, T> {
+    pub(crate) fn new(rwlock: Arc<RwLock<R, T>>) -> Self
+        ensures { result.rwlock ≡ rwlock }
+    {
+        OwnedInMode {
+            rwlock,
+            mode: PhantomData,
+        }
+    }
+}
+
+impl<M: LockMode<R>, R: RawRwLock + Drop, T: Drop> Release for OwnedInMode<M, R, T> {
+    type Token = M::Token;
+
+    type Waiter = R::Waiter;
+
+    fn release(&self, token: M::Token) {
+        M::release(raw(&self.rwlock), token);
+    }
+}
+
+/// It shows nothing: std's guard of the value would borrow from the lock that is owned beside it.
+impl<M: LockMode<R>, R: RawRwLock + Drop, T: Drop> Acquire for OwnedInMode<M, R, T> {
+    type Shown = ();
+
+    fn acquire(&self) -> M::Token {
+        M::acquire(raw(&self.rwlock))
+    }
+
+    fn show(&self) {}
+}
+
+impl<M: FairMode<R>, R: RawRwLock + Drop, T: Drop> AcquireFair for OwnedInMode<M, R, T> {
+    fn release_fair(&self, token: M::Token) {
+        M::release_fair(raw(&self.rwlock), token);
+    }
+
+    fn bump(&self, token: M::Token) -> M::Token {
+        M::bump(raw(&self.rwlock), token)
+    }
+}
