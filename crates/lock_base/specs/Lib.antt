@@ -14,5 +14,7 @@ pub mod Steps
 pub mod Legal
 pub mod Inner
 pub mod Held
+pub mod GuardPart
+pub mod Mapped
 pub mod Lens
 pub mod Then

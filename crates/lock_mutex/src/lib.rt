@@ -3,6 +3,7 @@
 
 mod condvar;
 mod guard;
+mod mapped;
 mod mutex;
 mod sleep;
 mod wait_timeout_result;
@@ -10,5 +11,6 @@ mod waiting;
 
 pub use condvar::Condvar;
 pub use guard::{Guard, MutexGuard};
+pub use mapped::MappedMutexGuard;
 pub use mutex::Mutex;
 pub use wait_timeout_result::WaitTimeoutResult;
