@@ -20,15 +20,19 @@ pub use lock_base_laws::{
     runs_are_sound, spent_counts_releases, tokens_are_those_held,
 };
 pub use lock_desk::Desk;
-pub use lock_mutex::{Condvar, Mutex, MutexGuard, WaitTimeoutResult};
+pub use lock_mutex::{Condvar, MappedMutexGuard, Mutex, MutexGuard, WaitTimeoutResult};
 pub use lock_mutex_loop::{LoopEnd, Script, Waits, run_loop};
 pub use lock_raws::{
     ExclusiveToken, SharedToken, SpuriousCondvar, StateRaw, TokenRaw, UpgradableToken,
 };
 pub use lock_remutex::{
-    DEFAULT_LEVELS, Levels, RawReentrantMutex, ReentrantMutex, ReentrantMutexGuard,
+    DEFAULT_LEVELS, Levels, MappedReentrantMutexGuard, RawReentrantMutex, ReentrantMutex,
+    ReentrantMutexGuard,
 };
-pub use lock_rwlock::{RwLock, RwLockReadGuard, RwLockUpgradableReadGuard, RwLockWriteGuard};
+pub use lock_rwlock::{
+    MappedRwLockReadGuard, MappedRwLockWriteGuard, RwLock, RwLockReadGuard,
+    RwLockUpgradableReadGuard, RwLockWriteGuard,
+};
 pub use lock_states::table::{TableToken, TokenTable};
 
 #[cfg(test)]

@@ -2,12 +2,14 @@
 #![tactic(auto)]
 
 mod levels;
+mod mapped;
 mod raw_reentrant_mutex;
 mod reentrant_mutex;
 mod reentrant_mutex_guard;
 mod text;
 
 pub use levels::{DEFAULT_LEVELS, Levels};
+pub use mapped::MappedReentrantMutexGuard;
 pub use raw_reentrant_mutex::RawReentrantMutex;
 pub use reentrant_mutex::ReentrantMutex;
 pub use reentrant_mutex_guard::ReentrantMutexGuard;

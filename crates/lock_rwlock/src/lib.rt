@@ -5,6 +5,9 @@ mod guard;
 mod lock;
 mod mode;
 
-pub use guard::{RwLockGuard, RwLockReadGuard, RwLockUpgradableReadGuard, RwLockWriteGuard};
+pub use guard::{
+    Mappable, MappedRwLockReadGuard, MappedRwLockWriteGuard, RwLockGuard, RwLockReadGuard,
+    RwLockUpgradableReadGuard, RwLockWriteGuard,
+};
 pub use lock::RwLock;
 pub use mode::{Exclusive, InMode, Shared, Upgradable};
