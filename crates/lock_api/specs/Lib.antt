@@ -14,6 +14,9 @@ pub use Rattle.lock_base.specs.Steps
 pub use Rattle.lock_base.specs.Legal
 pub use Rattle.lock_base.specs.Closure
 pub use Rattle.lock_base.specs.Lens
+pub use Rattle.lock_base.specs.Then
+pub use Rattle.lock_base.specs.GuardPart
+pub use Rattle.lock_base.specs.Mapped
 pub use Rattle.lock_states.specs.Table
 pub use Rattle.lock_mutex.specs.Mutex
 pub use Rattle.lock_mutex.specs.MutexGuard

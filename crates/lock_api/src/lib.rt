@@ -20,17 +20,22 @@ pub use lock_base_laws::{
     runs_are_sound, spent_counts_releases, tokens_are_those_held,
 };
 pub use lock_desk::Desk;
-pub use lock_mutex::{ArcMutexGuard, Condvar, Mutex, MutexGuard, WaitTimeoutResult};
+pub use lock_mutex::{
+    ArcMutexGuard, Condvar, MappedMutexGuard, Mutex, MutexGuard, WaitTimeoutResult,
+};
 pub use lock_mutex_loop::{LoopEnd, Script, Waits, run_loop};
 pub use lock_raws::{
     DEFAULT_ENTRIES, ExclusiveToken, HeldPlace, Recorded, RecordingRaw, SequentialState,
     SharedToken, SpuriousCondvar, StateRaw, TokenRaw, UpgradableToken,
 };
 pub use lock_remutex::{
-    ArcReentrantMutexGuard, DEFAULT_LEVELS, Levels, RawReentrantMutex, ReentrantMutex,
-    ReentrantMutexGuard,
+    ArcReentrantMutexGuard, DEFAULT_LEVELS, Levels, MappedReentrantMutexGuard, RawReentrantMutex,
+    ReentrantMutex, ReentrantMutexGuard,
 };
-pub use lock_rwlock::{RwLock, RwLockReadGuard, RwLockUpgradableReadGuard, RwLockWriteGuard};
+pub use lock_rwlock::{
+    MappedRwLockReadGuard, MappedRwLockWriteGuard, RwLock, RwLockReadGuard,
+    RwLockUpgradableReadGuard, RwLockWriteGuard,
+};
 pub use lock_rwlock_arc::{
     ArcRwLockReadGuard, ArcRwLockUpgradableReadGuard, ArcRwLockWriteGuard, RwLockArc,
     RwLockArcTimed, RwLockArcUpgrade, RwLockArcUpgradeTimed,

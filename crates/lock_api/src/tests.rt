@@ -9,6 +9,8 @@ mod condvar;
 mod counting;
 mod liar;
 mod makers;
+mod mapped;
+mod mapped_callers;
 mod markers;
 mod mutex;
 mod mutex_rows;

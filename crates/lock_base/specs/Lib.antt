@@ -15,5 +15,7 @@ pub mod Legal
 pub mod Inner
 pub mod Held
 pub mod Closure
+pub mod GuardPart
+pub mod Mapped
 pub mod Lens
 pub mod Then

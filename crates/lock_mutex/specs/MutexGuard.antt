@@ -1,9 +1,14 @@
 -- What the guard of a mutex shows.
 use Rattle.std.specs.Prelude.{Option}
+use Rattle.lock_base.specs.declared.guard.held.Held.{Held}
 use Rattle.lock_base.specs.Held.{held_value, held_with_value}
 use Rattle.lock_mutex.specs.declared.guard.Guard.{Guard}
 
 module _ {L V K W X : Type 0} {g : _} where
+  -- what a guard holds: the mutex, its token, and the value that it shows
+  abbrev pub held_of : Guard L V K W X g → Held L V K W X g
+  held_of guard = guard.held
+
   -- the mutex that a guard is of
   abbrev pub lock_of : Guard L V K W X g → L
   lock_of guard = guard.held.lock

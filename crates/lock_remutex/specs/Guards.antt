@@ -1,5 +1,5 @@
 -- What a clause reads of a reentrant lock and of its guards.
-use Rattle.std.specs.Prelude.{◌≡◌, ℕ}
+use Rattle.std.specs.Prelude.{◌≡◌, ℕ, Option, Some}
 use Rattle.std.specs.Borrow.{Bor}
 use Rattle.lock_base.specs.Party.{id_of}
 use Rattle.lock_remutex.specs.declared.reentrant_mutex.ReentrantMutex.{ReentrantMutex}
@@ -25,6 +25,10 @@ module _ {R T G W : Type 0} where
   -- the value that a guard reads
   abbrev pub guard_value : ReentrantMutexGuard R T G W → T
   guard_value guard = value_of guard.remutex.now
+
+  -- the same, as what all guards have: it is there as long as the guard is
+  abbrev pub shown_value : ReentrantMutexGuard R T G W → Option T
+  shown_value guard = Some (guard_value guard)
 
   -- a guard of this lock for the party
   pub record IsGuardOf (lock : Bor (ReentrantMutex R T G W)) (party : ℕ) (guard : ReentrantMutexGuard R T G W) : Type 0 where

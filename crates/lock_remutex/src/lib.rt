@@ -4,6 +4,7 @@
 mod arc;
 mod arc_guard;
 mod levels;
+mod mapped;
 mod raw_reentrant_mutex;
 mod reentrant_mutex;
 mod reentrant_mutex_guard;
@@ -11,6 +12,7 @@ mod text;
 
 pub use arc_guard::ArcReentrantMutexGuard;
 pub use levels::{DEFAULT_LEVELS, Levels};
+pub use mapped::MappedReentrantMutexGuard;
 pub use raw_reentrant_mutex::RawReentrantMutex;
 pub use reentrant_mutex::ReentrantMutex;
 pub use reentrant_mutex_guard::ReentrantMutexGuard;

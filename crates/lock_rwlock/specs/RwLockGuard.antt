@@ -1,11 +1,16 @@
 -- The value that a guard shows, and its lock.
 use Rattle.std.specs.Prelude.{◌≡◌, Option}
 use Rattle.std.specs.Borrow.{Bor}
+use Rattle.lock_base.specs.declared.guard.held.Held.{Held}
 use Rattle.lock_base.specs.Held.{held_value, held_with_value}
 use Rattle.lock_rwlock.specs.declared.guard.RwLockGuard.{RwLockGuard}
 use Rattle.lock_rwlock.specs.declared.mode.InMode.{InMode}
 
 module _ {L V K W X : Type 0} {g : _} where
+  -- what a guard holds: the lock in its mode, its token, and the value that it shows
+  abbrev pub held_of : RwLockGuard L V K W X g → Held L V K W X g
+  held_of guard = guard.held
+
   -- the lock that a guard holds, in its mode
   abbrev pub lock_of : RwLockGuard L V K W X g → L
   lock_of guard = guard.held.lock

@@ -1,4 +1,5 @@
 //! The guard of a lock that is held.
+mod mapped;
 mod read;
 mod upgradable;
 mod write;
@@ -7,6 +8,7 @@ ghost use Rattle.std.specs.Prelude.{◌≡◌, Some};
 ghost use Rattle.std.specs.Borrow.{Lends, sem};
 
 use lock_base::guard::{Acquire, AcquireFair, Held, ValueGuard, ValueGuardMut};
+pub use mapped::{Mappable, MappedRwLockReadGuard, MappedRwLockWriteGuard};
 pub use read::RwLockReadGuard;
 use std::fmt;
 use std::ops::{Deref, DerefMut};

@@ -6,6 +6,9 @@ mod lock;
 mod mode;
 pub mod parts;
 
-pub use guard::{RwLockGuard, RwLockReadGuard, RwLockUpgradableReadGuard, RwLockWriteGuard};
+pub use guard::{
+    Mappable, MappedRwLockReadGuard, MappedRwLockWriteGuard, RwLockGuard, RwLockReadGuard,
+    RwLockUpgradableReadGuard, RwLockWriteGuard,
+};
 pub use lock::RwLock;
 pub use mode::{Exclusive, FairMode, InMode, LockMode, Shared, Upgradable};

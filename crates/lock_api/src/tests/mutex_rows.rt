@@ -1,30 +1,32 @@
 //! Rows of calls, each made on a mutex whose raw lock counts what it gets back and on a desk, with equal answers.
 use super::beside_desk::{Put, SpendingDesk, Table, given, party};
 use super::counting::Counting;
-use crate::{Call, Form, Mutex, MutexGuard, RawMutex, Reply, Want, Way};
+use crate::{Call, Form, MappedMutexGuard, Mutex, MutexGuard, RawMutex, Reply, Want, Way};
+use lock_parts::Item0;
 use std::alloc::Global;
 use std::clone::Clone;
 use std::sync::{Arc, Wait};
 use std::test::Fail;
 
-type Counted<W> = Mutex<Counting<W>, i64>;
+type Counted<W, T> = Mutex<Counting<W>, T>;
 
-/// A mutex of 2, and a desk beside it.
-fn mutex_beside_desk<W: Wait + Clone + Drop>(
+/// A mutex of the value, and a desk of 2 beside it.
+fn mutex_beside_desk<W: Wait + Clone + Drop, T: Drop>(
     alloc: Global,
     waiter: W,
-) -> Result<(Counted<W>, SpendingDesk), Fail> {
+    value: T,
+) -> Result<(Counted<W, T>, SpendingDesk), Fail> {
     let raw = Counting::new(alloc, waiter)?;
     let spent = Arc::try_clone(&raw.spent)?;
     let table = Table::mutex(alloc, 2, 2)?;
-    let mutex = Mutex::from_raw(raw, 2)?;
+    let mutex = Mutex::from_raw(raw, value)?;
     Ok((mutex, SpendingDesk { table, spent }))
 }
 
 #[test]
 fn a_parked_guard_is_as_on_a_desk(rt: HostRuntime) -> Result<(), Fail> {
     let (one, two) = (party(1)?, party(2)?);
-    let (mutex, mut desk) = mutex_beside_desk(rt.alloc(), rt)?;
+    let (mutex, mut desk) = mutex_beside_desk(rt.alloc(), rt, (2, 0))?;
 
     let mut guard = mutex.lock();
     desk.same(Call::Acquire(Want::Lock, Form::Block, one), Reply::Guard(1))?;
@@ -44,8 +46,9 @@ fn a_parked_guard_is_as_on_a_desk(rt: HostRuntime) -> Result<(), Fail> {
     desk.same(Call::ParkFair(one, 1), Reply::Done)?;
     desk.same(Call::IsLocked, Reply::Bool(is_locked))?;
     desk.same(Call::Resume(one, 1), Reply::Done)?;
-    desk.same(Call::Get(one, 1, Put(0)), Reply::Answer(*guard))?;
-    MutexGuard::unlock_fair(guard);
+    let part = MutexGuard::map(guard, Item0);
+    desk.same(Call::Get(one, 1, Put(0)), Reply::Answer(*part))?;
+    MappedMutexGuard::unlock_fair(part);
     desk.same(Call::Unlock(one, 1, Way::Fair), Reply::Done)?;
     desk.same(Call::IsLocked, Reply::Bool(mutex.is_locked()))
 }
@@ -53,7 +56,7 @@ fn a_parked_guard_is_as_on_a_desk(rt: HostRuntime) -> Result<(), Fail> {
 #[test]
 fn each_way_gives_the_token_back_once(rt: HostRuntime) -> Result<(), Fail> {
     let one = party(1)?;
-    let (mutex, mut desk) = mutex_beside_desk(rt.alloc(), rt)?;
+    let (mutex, mut desk) = mutex_beside_desk(rt.alloc(), rt, 2)?;
 
     let mut guard = mutex.try_lock_for(()).ok_or("not free")?;
     desk.same(Call::Acquire(Want::Lock, Form::For, one), Reply::Guard(1))?;
@@ -74,7 +77,7 @@ fn each_way_gives_the_token_back_once(rt: HostRuntime) -> Result<(), Fail> {
 #[test]
 fn timed_tries_are_as_on_a_desk(rt: HostRuntime) -> Result<(), Fail> {
     let (one, two) = (party(1)?, party(2)?);
-    let (mutex, mut desk) = mutex_beside_desk(rt.alloc(), rt)?;
+    let (mutex, mut desk) = mutex_beside_desk(rt.alloc(), rt, 2)?;
 
     let guard = mutex.try_lock().ok_or("not free")?;
     desk.same(Call::Acquire(Want::Lock, Form::Try, one), Reply::Guard(1))?;
@@ -100,7 +103,7 @@ fn timed_tries_are_as_on_a_desk(rt: HostRuntime) -> Result<(), Fail> {
 #[test]
 fn a_change_is_as_on_a_desk(rt: HostRuntime) -> Result<(), Fail> {
     let (one, two) = (party(1)?, party(2)?);
-    let (mutex, mut desk) = mutex_beside_desk(rt.alloc(), rt)?;
+    let (mutex, mut desk) = mutex_beside_desk(rt.alloc(), rt, 2)?;
 
     let mut guard = mutex.lock();
     desk.same(Call::Acquire(Want::Lock, Form::Block, one), Reply::Guard(1))?;

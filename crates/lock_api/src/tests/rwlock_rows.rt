@@ -6,6 +6,7 @@ use crate::{
     RwLockWriteGuard, TokenRaw, Want, Way,
 };
 use lock_base::guard::AcquireFair;
+use lock_parts::Item0;
 use lock_rwlock::RwLockGuard;
 use std::clone::Clone;
 use std::sync::{Arc, Wait};
@@ -13,7 +14,12 @@ use std::test::Fail;
 
 type Shared<W> = RwLock<TokenRaw<W>, i64>;
 
-type Upgradable<'a, W> = RwLockUpgradableReadGuard<'a, TokenRaw<W>, i64>;
+/// The value, and another beside it.
+type Pair = (i64, i64);
+
+type Paired<W> = RwLock<TokenRaw<W>, Pair>;
+
+type Upgradable<'a, W> = RwLockUpgradableReadGuard<'a, TokenRaw<W>, Pair>;
 
 /// The reply to a try of an operation under an upgraded guard.
 fn answered(answer: Option<i64>) -> Reply<i64> {
@@ -29,21 +35,21 @@ fn put_by_each_form<W: Wait + Clone + Drop>(
     one: PartyId,
     guard: &mut Upgradable<'_, W>,
 ) -> Result<(), Fail> {
-    let put = |value: &mut i64| {
-        *value = 2;
-        *value
+    let put = |pair: &mut Pair| {
+        pair.0 = 2;
+        pair.0
     };
     let answer = answered(guard.try_with_upgraded(put));
     same(desk, Call::WithUpgraded(Form::Try, one, 1, Put(2)), answer)?;
-    let put = |value: &mut i64| {
-        *value = 3;
-        *value
+    let put = |pair: &mut Pair| {
+        pair.0 = 3;
+        pair.0
     };
     let answer = answered(guard.try_with_upgraded_for((), put));
     same(desk, Call::WithUpgraded(Form::For, one, 1, Put(3)), answer)?;
-    let put = |value: &mut i64| {
-        *value = 4;
-        *value
+    let put = |pair: &mut Pair| {
+        pair.0 = 4;
+        pair.0
     };
     let answer = answered(guard.try_with_upgraded_until((), put));
     same(
@@ -75,7 +81,7 @@ fn refused_by_each_form<'a, W: Wait + Clone + Drop>(
 fn an_upgrade_waits_for_readers(rt: HostRuntime) -> Result<(), Fail> {
     let one = party(1)?;
     let two = party(2)?;
-    let lock: Shared<HostRuntime> = RwLock::with_readers(rt.alloc(), rt, 8, 1)?;
+    let lock: Paired<HostRuntime> = RwLock::with_readers(rt.alloc(), rt, 8, (1, 0))?;
     let mut table = Table::rwlock(rt.alloc(), 4, 8, 1)?;
     let desk = &mut table;
 
@@ -93,7 +99,7 @@ fn an_upgrade_waits_for_readers(rt: HostRuntime) -> Result<(), Fail> {
     )?;
     let mut guard = refused_by_each_form(desk, one, guard)?;
     put_by_each_form(desk, one, &mut guard)?;
-    same(desk, Call::Get(one, 1, Put(0)), Reply::Answer(*guard))?;
+    same(desk, Call::Get(one, 1, Put(0)), Reply::Answer(guard.0))?;
     let is_given = lock.try_upgradable_read().is_some();
     same(
         desk,
@@ -128,9 +134,10 @@ fn an_upgrade_waits_for_readers(rt: HostRuntime) -> Result<(), Fail> {
     same(desk, Call::Upgrade(Form::For, one, 1), Reply::Done)?;
     let reader = RwLockWriteGuard::downgrade(writer.ok_or("not upgraded alone")?);
     same(desk, Call::Downgrade(one, 1), Reply::Done)?;
-    assert_eq!(rt; *reader, 4);
-    same(desk, Call::Get(one, 1, Put(0)), Reply::Answer(*reader))?;
-    drop(reader);
+    let part = RwLockReadGuard::map(reader, Item0);
+    assert_eq!(rt; *part, 4);
+    same(desk, Call::Get(one, 1, Put(0)), Reply::Answer(*part))?;
+    drop(part);
     same(desk, Call::Unlock(one, 1, Way::Plain), Reply::Done)?;
     same(desk, Call::IsLocked, Reply::Bool(lock.is_locked()))
 }

@@ -1,0 +1,75 @@
+//! Guards of a part of the value of a reentrant lock.
+ghost use Rattle.std.specs.Prelude.{◌≡◌, None, Some, IsSome, IfOk, IfErr};
+ghost use Rattle.lock_base.specs.GuardPart.{guard_part, guard_miss};
+ghost use Rattle.lock_base.specs.Mapped.{IsMapOf};
+ghost use Rattle.lock_remutex.specs.Guards.{guard_value, shown_value};
+
+use crate::reentrant_mutex_guard::ReentrantMutexGuard;
+use lock_base::guard::{LockGuard, LockGuardFair, Mapped};
+use lock_base::project::{Project, TryProject};
+use lock_base::raw::{RawMutex, RawMutexFair};
+use std::ops::Deref;
+
+/// One level of a party's, which reads a part of the value. Its end gives the level up.
+pub type MappedReentrantMutexGuard<'a, R, T, P> = Mapped<ReentrantMutexGuard<'a, R, T>, P>;
+
+impl<R: RawMutex, T> LockGuard for ReentrantMutexGuard<'_, R, T>
+where
+    R::Guard: Drop,
+{
+    type Value = T;
+
+    ghost value_of = { shown_value };
+
+    fn value(&self) -> &T {
+        self.deref()
+    }
+}
+
+impl<R: RawMutexFair, T> LockGuardFair for ReentrantMutexGuard<'_, R, T>
+where
+    R::Guard: Drop,
+{
+    fn unlock_fair(self) {
+        ReentrantMutexGuard::unlock_fair(self);
+    }
+}
+
+impl<'a, R: RawMutex, T> ReentrantMutexGuard<'a, R, T>
+where
+    R::Guard: Drop,
+{
+    /// The guard of a part, by a projection that always has one.
+    pub fn map<P: Project<T>>(s: Self, projection: P) -> MappedReentrantMutexGuard<'a, R, T, P>
+        ensures { IsMapOf s.entry projection result }
+    {
+        Mapped::of(s, projection)
+    }
+
+    /// The guard of a part, or the same guard where there is none.
+    pub fn try_map<P: TryProject<T>>(
+        s: Self,
+        projection: P,
+    ) -> Result<MappedReentrantMutexGuard<'a, R, T, P>, Self>
+        ensures found { IfOk result (λ _. IsSome (guard_part shown_value (P.lens projection) s.entry)) }
+        ensures mapped { IfOk result (IsMapOf s.entry projection) }
+        ensures missed { IfErr result (λ _. guard_part shown_value (P.lens projection) s.entry ≡ None) }
+        ensures back { IfErr result (λ back. back ≡ s.entry) }
+    {
+        Mapped::try_of(s, projection)
+    }
+
+    /// The guard of a part, or the same guard with what the projection tells of a value without one.
+    pub fn try_map_or_err<P: TryProject<T>>(
+        s: Self,
+        projection: P,
+    ) -> Result<MappedReentrantMutexGuard<'a, R, T, P>, (Self, P::Miss)>
+        ensures found { IfOk result (λ _. IsSome (guard_part shown_value (P.lens projection) s.entry)) }
+        ensures mapped { IfOk result (IsMapOf s.entry projection) }
+        ensures missed { IfErr result (λ _. guard_part shown_value (P.lens projection) s.entry ≡ None) }
+        ensures back { IfErr result (λ back. back.0 ≡ s.entry) }
+        ensures miss { IfErr result (λ back. guard_miss shown_value (P.missed projection) s.entry ≡ Some back.1) }
+    {
+        Mapped::try_of_or_err(s, projection)
+    }
+}

@@ -1,0 +1,70 @@
+//! Guards of a part of the value of a lock.
+ghost use Rattle.std.specs.Prelude.{◌≡◌, None, Some, IsSome, IfOk, IfErr};
+ghost use Rattle.lock_base.specs.GuardPart.{guard_part, guard_miss};
+ghost use Rattle.lock_base.specs.Mapped.{IsMapOf};
+
+use super::RwLockGuard;
+use crate::mode::{Exclusive, InMode, Shared};
+use lock_base::guard::{Acquire, Held, Mapped, ValueGuard};
+use lock_base::project::{Project, TryProject};
+use lock_base::raw::RawRwLock;
+
+/// The right to read a part of the value of a lock, beside others that read.
+pub type MappedRwLockReadGuard<'a, R, T, P> = Mapped<Held<InMode<'a, Shared, R, T>>, P>;
+
+/// The right to read and write a part of the value of a lock.
+pub type MappedRwLockWriteGuard<'a, R, T, P> = Mapped<Held<InMode<'a, Exclusive, R, T>>, P>;
+
+/// A lock in a mode whose guards can be mapped. Upgradable ones cannot.
+pub trait Mappable: Acquire {}
+
+impl<R: RawRwLock, T> Mappable for InMode<'_, Shared, R, T> {}
+
+impl<R: RawRwLock, T> Mappable for InMode<'_, Exclusive, R, T> {}
+
+impl<L: Mappable> RwLockGuard<L> {
+    ghost use Rattle.lock_rwlock.specs.RwLockGuard.{held_of, guard_value};
+
+    /// The guard of a part, by a projection that always has one.
+    pub fn map<P: Project<<L::Shown as ValueGuard>::Value>>(
+        guard: Self,
+        projection: P,
+    ) -> Mapped<Held<L>, P>
+        ensures { IsMapOf (held_of guard) projection result }
+    {
+        Mapped::of(guard.held, projection)
+    }
+
+    /// The guard of a part, or the same guard where there is none.
+    pub fn try_map<P: TryProject<<L::Shown as ValueGuard>::Value>>(
+        guard: Self,
+        projection: P,
+    ) -> Result<Mapped<Held<L>, P>, Self>
+        ensures found { IfOk result (λ _. IsSome (guard_part (guard_value L.Shown.shown) (P.lens projection) guard)) }
+        ensures mapped { IfOk result (IsMapOf (held_of guard) projection) }
+        ensures missed { IfErr result (λ _. guard_part (guard_value L.Shown.shown) (P.lens projection) guard ≡ None) }
+        ensures back { IfErr result (λ back. back ≡ guard) }
+    {
+        match Mapped::try_of(guard.held, projection) {
+            Ok(mapped) => Ok(mapped),
+            Err(held) => Err(RwLockGuard { held }),
+        }
+    }
+
+    /// The guard of a part, or the same guard with what the projection tells of a value without one.
+    pub fn try_map_or_err<P: TryProject<<L::Shown as ValueGuard>::Value>>(
+        guard: Self,
+        projection: P,
+    ) -> Result<Mapped<Held<L>, P>, (Self, P::Miss)>
+        ensures found { IfOk result (λ _. IsSome (guard_part (guard_value L.Shown.shown) (P.lens projection) guard)) }
+        ensures mapped { IfOk result (IsMapOf (held_of guard) projection) }
+        ensures missed { IfErr result (λ _. guard_part (guard_value L.Shown.shown) (P.lens projection) guard ≡ None) }
+        ensures back { IfErr result (λ back. back.0 ≡ guard) }
+        ensures miss { IfErr result (λ back. guard_miss (guard_value L.Shown.shown) (P.missed projection) guard ≡ Some back.1) }
+    {
+        match Mapped::try_of_or_err(guard.held, projection) {
+            Ok(mapped) => Ok(mapped),
+            Err((held, miss)) => Err((RwLockGuard { held }, miss)),
+        }
+    }
+}
