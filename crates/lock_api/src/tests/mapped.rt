@@ -86,7 +86,8 @@ fn parts_of_a_value_that_is_written(rt: HostRuntime) -> Result<(), Fail> {
     let back = RwLockWriteGuard::try_map_or_err(guard.ok_or("a third item")?, Nth(5)).err();
     let (guard, missed) = back.ok_or("a sixth item")?;
     assert_eq!(rt; missed, 5);
-    let mut part = RwLockWriteGuard::map(guard, Item1);
+    let item = Item1;
+    let mut part = RwLockWriteGuard::map(guard, &item);
     *part = 7;
     assert!(rt; lock.is_locked_exclusive());
     MappedRwLockWriteGuard::unlock_fair(part);
