@@ -72,6 +72,12 @@ impl TokenTable {
         ensures same { self.new ≡ self.old }
         ensures out { IsTrue result ↔ IsOutAs (tokens_of self.old.places) token.now mode }
     {
+        self.is_out(token, mode)
+    }
+
+    fn is_out(&self, token: &TableToken, mode: Mode) -> bool
+        ensures { IsTrue result ↔ IsOutAs (tokens_of self.now.places) token.now mode }
+    {
         match self.mode_at(token.place) {
             Some(taken) => taken == mode,
             None => false,
