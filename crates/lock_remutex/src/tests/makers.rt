@@ -23,7 +23,7 @@ fn the_raw_lock_comes_back_with_the_value(rt: HostRuntime) -> Result<(), Fail> {
     Ok(())
 }
 
-/// Whether so many levels are taken by both makers that ask for them, or by neither.
+/// Whether so many levels are taken by `Levels`, and by a lock over them.
 fn makers_take<W: Wait + Clone + Drop>(alloc: Global, waiter: W, levels: u64) -> (bool, bool) {
     (
         Levels::<u8>::new(levels).is_ok(),

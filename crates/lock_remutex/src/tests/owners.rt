@@ -46,9 +46,17 @@ fn beside_owner<W: Wait + Clone + Drop>(
 fn others_are_refused_while_a_party_owns(rt: HostRuntime) -> Result<(), Fail> {
     let (first, second) = two_parties();
     let lock = Honest::from(rt.alloc(), rt, 5)?;
-    assert_eq!(rt; beside_owner(&lock, first, first), Ok((GIVEN, true)));
-    assert_eq!(rt; beside_owner(&lock, first, second), Ok((NOT_GIVEN, false)));
-    assert_eq!(rt; beside_owner(&lock, second, first), Ok((NOT_GIVEN, false)));
+    let seen = [
+        beside_owner(&lock, first, first),
+        beside_owner(&lock, first, second),
+        beside_owner(&lock, second, first),
+    ];
+    let wanted = [
+        Ok((GIVEN, true)),
+        Ok((NOT_GIVEN, false)),
+        Ok((NOT_GIVEN, false)),
+    ];
+    assert_eq!(rt; seen, wanted);
     assert_eq!(rt; tries(&lock, second), GIVEN);
     assert!(rt; !lock.is_owned_by_current_thread(second));
     Ok(())
