@@ -50,11 +50,13 @@ fn others_are_refused_while_a_party_owns(rt: HostRuntime) -> Result<(), Fail> {
         beside_owner(&lock, first, first),
         beside_owner(&lock, first, second),
         beside_owner(&lock, second, first),
+        beside_owner(&lock, second, second),
     ];
     let wanted = [
         Ok((GIVEN, true)),
         Ok((NOT_GIVEN, false)),
         Ok((NOT_GIVEN, false)),
+        Ok((GIVEN, true)),
     ];
     assert_eq!(rt; seen, wanted);
     assert_eq!(rt; tries(&lock, second), GIVEN);
