@@ -1,55 +1,69 @@
 //! The guards that keep a reader-writer lock alive.
-use super::beside_desk::{Table, party, same};
+use super::beside_desk::{BesideDesk, Table, party};
 use super::counting::Counting;
 use crate::{
     ArcRwLockReadGuard, ArcRwLockUpgradableReadGuard, ArcRwLockWriteGuard, Call, Form, RawRwLock,
     Reply, RwLock, RwLockArc, RwLockArcTimed, RwLockArcUpgrade, RwLockArcUpgradeTimed, TokenRaw,
     Want, Way,
 };
+use std::alloc::Global;
 use std::cell::Cell;
-use std::sync::Arc;
+use std::clone::Clone;
 use std::sync::atomic::Ordering;
+use std::sync::{Arc, Wait};
 use std::test::Fail;
 
 /// A number behind an honest raw lock.
-type Shared = RwLock<TokenRaw<HostRuntime>, i64>;
+type Shared<W> = RwLock<TokenRaw<W>, i64>;
+
+/// A lock of 0 for 8 readers, and a desk beside it.
+fn arc_beside_desk<W: Wait + Clone + Drop>(
+    alloc: Global,
+    waiter: W,
+) -> Result<(Arc<Shared<W>>, BesideDesk), Fail> {
+    let lock = Arc::new(alloc, Shared::with_readers(alloc, waiter, 8, 0)?)?;
+    let table = Table::rwlock(alloc, 4, 8, 0)?;
+    Ok((lock, BesideDesk::new(table, None)))
+}
 
 #[test]
 fn an_arc_guard_goes_up_and_down_as_on_a_desk(rt: HostRuntime) -> Result<(), Fail> {
     let one = party(1)?;
-    let lock = Arc::new(rt.alloc(), Shared::with_readers(rt.alloc(), rt, 8, 0)?)?;
-    let mut table = Table::rwlock(rt.alloc(), 4, 8, 0)?;
-    let desk = &mut table;
+    let (lock, mut desk) = arc_beside_desk(rt.alloc(), rt)?;
 
-    let guard = RwLock::upgradable_read_arc(&lock)?;
-    let call = Call::Acquire(Want::UpgradableRead, Form::Block, one);
-    same(desk, call, Reply::Guard(1))?;
-    let reader = RwLock::read_arc(&lock)?;
-    let call = Call::Acquire(Want::Read, Form::Block, one);
-    same(desk, call, Reply::Guard(2))?;
+    let guard = RwLock::upgradable_read_arc(&lock).ok();
+    let guard = guard.expect(&rt, "an owner more");
+    desk.same(
+        Call::Acquire(Want::UpgradableRead, Form::Block, one),
+        Reply::Guard(1),
+    );
+    let reader = RwLock::read_arc(&lock).ok().expect(&rt, "an owner more");
+    desk.same(Call::Acquire(Want::Read, Form::Block, one), Reply::Guard(2));
     let guard = ArcRwLockUpgradableReadGuard::try_upgrade(guard).err();
-    let guard = guard.ok_or("upgraded beside a reader")?;
-    same(desk, Call::Upgrade(Form::Try, one, 1), Reply::NoGuard)?;
+    let guard = guard.expect(&rt, "a reader beside it");
+    desk.same(Call::Upgrade(Form::Try, one, 1), Reply::NoGuard);
     drop(reader);
-    same(desk, Call::Unlock(one, 2, Way::Plain), Reply::Done)?;
+    desk.same(Call::Unlock(one, 2, Way::Plain), Reply::Done);
     let writer = ArcRwLockUpgradableReadGuard::try_upgrade_until(guard, ()).ok();
-    let writer = writer.ok_or("not upgraded alone")?;
-    same(desk, Call::Upgrade(Form::Until, one, 1), Reply::Done)?;
+    let writer = writer.expect(&rt, "alone");
+    desk.same(Call::Upgrade(Form::Until, one, 1), Reply::Done);
     let guard = ArcRwLockWriteGuard::downgrade_to_upgradable(writer);
-    same(desk, Call::DowngradeToUpgradable(one, 1), Reply::Done)?;
+    desk.same(Call::DowngradeToUpgradable(one, 1), Reply::Done);
     let writer = ArcRwLockUpgradableReadGuard::try_upgrade_for(guard, ()).ok();
-    let mut writer = writer.ok_or("not upgraded alone")?;
-    same(desk, Call::Upgrade(Form::For, one, 1), Reply::Done)?;
+    let mut writer = writer.expect(&rt, "alone");
+    desk.same(Call::Upgrade(Form::For, one, 1), Reply::Done);
     ArcRwLockWriteGuard::bump(&mut writer);
-    same(desk, Call::Bump(one, 1), Reply::Done)?;
+    desk.same(Call::Bump(one, 1), Reply::Done);
     let guard = ArcRwLockWriteGuard::downgrade_to_upgradable(writer);
-    same(desk, Call::DowngradeToUpgradable(one, 1), Reply::Done)?;
+    desk.same(Call::DowngradeToUpgradable(one, 1), Reply::Done);
     let reader = ArcRwLockUpgradableReadGuard::downgrade(guard);
-    same(desk, Call::Downgrade(one, 1), Reply::Done)?;
-    same(desk, Call::IsLocked, Reply::Bool(lock.is_locked()))?;
+    desk.same(Call::Downgrade(one, 1), Reply::Done);
+    desk.same(Call::IsLocked, Reply::Bool(lock.is_locked()));
     let owner = ArcRwLockReadGuard::into_arc(reader);
-    same(desk, Call::Unlock(one, 1, Way::IntoArc), Reply::Done)?;
-    same(desk, Call::IsLocked, Reply::Bool(owner.is_locked()))
+    desk.same(Call::Unlock(one, 1, Way::IntoArc), Reply::Done);
+    desk.same(Call::IsLocked, Reply::Bool(owner.is_locked()));
+    assert_eq!(rt; desk.first_difference(), None);
+    Ok(())
 }
 
 #[test]
