@@ -23,3 +23,4 @@ mod rwlock_counting;
 mod rwlock_liar;
 mod rwlock_rows;
 mod texts;
+mod tries;

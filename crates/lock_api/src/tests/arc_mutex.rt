@@ -1,6 +1,7 @@
 //! The guards that keep a mutex alive.
 use super::beside_desk::{BesideDesk, Table, given, two_parties};
 use super::counting::Counting;
+use super::tries::{gives, gives_none};
 use crate::{ArcMutexGuard, Call, Form, Mutex, RawMutex, Reply, TokenRaw, Want, Way};
 use std::alloc::Global;
 use std::clone::Clone;
@@ -58,18 +59,19 @@ fn an_arc_guard_of_a_mutex_is_as_on_a_desk(rt: HostRuntime) -> Result<(), Fail> 
 #[test]
 fn each_acquisition_of_a_free_mutex_by_an_arc(rt: HostRuntime) -> Result<(), Fail> {
     let mutex = Arc::new(rt.alloc(), Shared::new(rt.alloc(), rt, 0)?)?;
-    let mut guard = Mutex::lock_arc(&mutex)?;
+    let mut guard = Mutex::lock_arc(&mutex).ok().expect(&rt, "an owner more");
     ArcMutexGuard::with_mut(&mut guard, |value| *value = 5);
     assert_eq!(rt; ArcMutexGuard::with(&guard, |value| *value), 5);
     assert!(rt; !ArcMutexGuard::unlocked_fair(&mut guard, || mutex.is_locked()));
     assert!(rt; ArcMutexGuard::mutex(&guard).is_locked());
     let owner = ArcMutexGuard::into_arc(guard);
     assert!(rt; !mutex.is_locked());
-    let guard = Mutex::try_lock_arc(&owner)?.ok_or("not free")?;
-    assert!(rt; Mutex::try_lock_arc(&mutex)?.is_none());
+    let guard = Mutex::try_lock_arc(&owner).ok().flatten();
+    let guard = guard.expect(&rt, "a free lock");
+    assert!(rt; gives_none(Mutex::try_lock_arc(&mutex)));
     ArcMutexGuard::unlock_fair(guard);
-    assert!(rt; Mutex::try_lock_arc_for(&mutex, ())?.is_some());
-    assert!(rt; Mutex::try_lock_arc_until(&mutex, ())?.is_some());
+    assert!(rt; gives(Mutex::try_lock_arc_for(&mutex, ())));
+    assert!(rt; gives(Mutex::try_lock_arc_until(&mutex, ())));
     assert!(rt; !mutex.is_locked());
     Ok(())
 }

@@ -2,6 +2,7 @@
 //! answers.
 use super::beside_desk::{BesideDesk, Put, Table, given, party, two_parties};
 use super::counting::Counting;
+use super::tries::gives;
 use crate::{Call, Form, RawMutex, ReentrantMutex, ReentrantMutexGuard, Reply, Want, Way};
 use std::alloc::Global;
 use std::clone::Clone;
@@ -64,7 +65,7 @@ fn owners_are_as_on_a_desk(rt: HostRuntime) -> Result<(), Fail> {
     desk.same(Call::Acquire(Want::Lock, Form::Try, one), Reply::Guard(2));
     ReentrantMutexGuard::bump(&mut outer);
     desk.same(Call::Bump(one, 1), Reply::Done);
-    let is_given = remutex.try_lock(two).ok().flatten().is_some();
+    let is_given = gives(remutex.try_lock(two));
     desk.same(
         Call::Acquire(Want::Lock, Form::Try, two),
         given(is_given, 3),
