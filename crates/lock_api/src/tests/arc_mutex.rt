@@ -1,60 +1,77 @@
 //! The guards that keep a mutex alive.
-use super::beside_desk::{SpendingDesk, Table, given, party};
+use super::beside_desk::{BesideDesk, Table, given, two_parties};
 use super::counting::Counting;
+use super::tries::{gives, gives_none};
 use crate::{ArcMutexGuard, Call, Form, Mutex, RawMutex, Reply, TokenRaw, Want, Way};
-use std::sync::Arc;
+use std::alloc::Global;
+use std::clone::Clone;
+use std::sync::{Arc, Wait};
 use std::test::Fail;
 
 /// A number behind an honest raw lock.
 type Shared = Mutex<TokenRaw<HostRuntime>, i64>;
 
+type Counted<W> = Mutex<Counting<W>, i64>;
+
+/// A mutex of 0 that counts what it gets back, and a desk beside it.
+fn arc_beside_desk<W: Wait + Clone + Drop>(
+    alloc: Global,
+    waiter: W,
+) -> Result<(Arc<Counted<W>>, BesideDesk), Fail> {
+    let raw: Counting<W> = RawMutex::new(alloc, waiter)?;
+    let spent = Arc::try_clone(&raw.spent)?;
+    let table = Table::mutex(alloc, 4, 0)?;
+    let mutex = Arc::new(alloc, Mutex::from_raw(raw, 0)?)?;
+    Ok((mutex, BesideDesk::new(table, Some(spent))))
+}
+
 #[test]
 fn an_arc_guard_of_a_mutex_is_as_on_a_desk(rt: HostRuntime) -> Result<(), Fail> {
-    let (one, two) = (party(1)?, party(2)?);
-    let raw: Counting<HostRuntime> = RawMutex::new(rt.alloc(), rt)?;
-    let spent = Arc::try_clone(&raw.spent)?;
-    let mutex = Arc::new(rt.alloc(), Mutex::from_raw(raw, 0)?)?;
-    let table = Table::mutex(rt.alloc(), 4, 0)?;
-    let mut desk = SpendingDesk { table, spent };
+    let (one, two) = two_parties()?;
+    let (mutex, mut desk) = arc_beside_desk(rt.alloc(), rt)?;
 
-    let mut guard = Mutex::try_lock_arc_for(&mutex, ())?.ok_or("not free")?;
-    desk.same(Call::Acquire(Want::Lock, Form::For, one), Reply::Guard(1))?;
+    let guard = Mutex::try_lock_arc_for(&mutex, ()).ok().flatten();
+    let mut guard = guard.expect(&rt, "a free lock");
+    desk.same(Call::Acquire(Want::Lock, Form::For, one), Reply::Guard(1));
     let is_locked = ArcMutexGuard::unlocked(&mut guard, || mutex.is_locked());
-    desk.same(Call::Park(one, 1), Reply::Done)?;
-    desk.same(Call::IsLocked, Reply::Bool(is_locked))?;
-    desk.same(Call::Resume(one, 1), Reply::Done)?;
+    desk.same(Call::Park(one, 1), Reply::Done);
+    desk.same(Call::IsLocked, Reply::Bool(is_locked));
+    desk.same(Call::Resume(one, 1), Reply::Done);
     ArcMutexGuard::bump(&mut guard);
-    desk.same(Call::Bump(one, 1), Reply::Done)?;
+    desk.same(Call::Bump(one, 1), Reply::Done);
     let owner = ArcMutexGuard::into_arc_fair(guard);
-    desk.same(Call::Unlock(one, 1, Way::IntoArcFair), Reply::Done)?;
-    let guard = Mutex::lock_arc(&owner)?;
-    desk.same(Call::Acquire(Want::Lock, Form::Block, one), Reply::Guard(2))?;
+    desk.same(Call::Unlock(one, 1, Way::IntoArcFair), Reply::Done);
+    let guard = Mutex::lock_arc(&owner).ok().expect(&rt, "an owner more");
+    desk.same(Call::Acquire(Want::Lock, Form::Block, one), Reply::Guard(2));
     let is_given = mutex.try_lock().is_some();
     desk.same(
         Call::Acquire(Want::Lock, Form::Try, two),
         given(is_given, 3),
-    )?;
+    );
     drop(guard);
-    desk.same(Call::Unlock(one, 2, Way::Plain), Reply::Done)?;
-    desk.same(Call::Spent, Reply::Count(4))?;
-    desk.same(Call::IsLocked, Reply::Bool(mutex.is_locked()))
+    desk.same(Call::Unlock(one, 2, Way::Plain), Reply::Done);
+    desk.same(Call::Spent, Reply::Count(4));
+    desk.same(Call::IsLocked, Reply::Bool(mutex.is_locked()));
+    assert_eq!(rt; desk.first_difference(), None);
+    Ok(())
 }
 
 #[test]
 fn each_acquisition_of_a_free_mutex_by_an_arc(rt: HostRuntime) -> Result<(), Fail> {
     let mutex = Arc::new(rt.alloc(), Shared::new(rt.alloc(), rt, 0)?)?;
-    let mut guard = Mutex::lock_arc(&mutex)?;
+    let mut guard = Mutex::lock_arc(&mutex).ok().expect(&rt, "an owner more");
     ArcMutexGuard::with_mut(&mut guard, |value| *value = 5);
     assert_eq!(rt; ArcMutexGuard::with(&guard, |value| *value), 5);
     assert!(rt; !ArcMutexGuard::unlocked_fair(&mut guard, || mutex.is_locked()));
     assert!(rt; ArcMutexGuard::mutex(&guard).is_locked());
     let owner = ArcMutexGuard::into_arc(guard);
     assert!(rt; !mutex.is_locked());
-    let guard = Mutex::try_lock_arc(&owner)?.ok_or("not free")?;
-    assert!(rt; Mutex::try_lock_arc(&mutex)?.is_none());
+    let guard = Mutex::try_lock_arc(&owner).ok().flatten();
+    let guard = guard.expect(&rt, "a free lock");
+    assert!(rt; gives_none(Mutex::try_lock_arc(&mutex)));
     ArcMutexGuard::unlock_fair(guard);
-    assert!(rt; Mutex::try_lock_arc_for(&mutex, ())?.is_some());
-    assert!(rt; Mutex::try_lock_arc_until(&mutex, ())?.is_some());
+    assert!(rt; gives(Mutex::try_lock_arc_for(&mutex, ())));
+    assert!(rt; gives(Mutex::try_lock_arc_until(&mutex, ())));
     assert!(rt; !mutex.is_locked());
     Ok(())
 }

@@ -10,15 +10,6 @@ use std::test::Fail;
 
 pub type Table = Desk<TokenTable, i64>;
 
-/// Makes the call on the desk, whose reply is to be the lock's.
-pub fn same(desk: &mut Table, call: Call<Put>, on_lock: Reply<i64>) -> Result<(), Fail> {
-    if desk.apply(&call) == on_lock {
-        Ok(())
-    } else {
-        Err(Fail::from("the desk and the lock answer differently"))
-    }
-}
-
 /// The reply to an acquisition whose guard would have this number.
 pub fn given(is_given: bool, number: u64) -> Reply<i64> {
     if is_given {
@@ -32,18 +23,49 @@ pub fn party(id: u64) -> Result<PartyId, Fail> {
     Ok(PartyId::new(id).ok_or("the id of a party is not 0")?)
 }
 
-/// A desk, beside a lock whose raw lock counts the tokens that it gets back.
-#[derive(Drop)]
-pub struct SpendingDesk {
-    pub table: Table,
-    pub spent: Arc<AtomicU64, Global>,
+pub fn two_parties() -> Result<(PartyId, PartyId), Fail> {
+    Ok((party(1)?, party(2)?))
 }
 
-impl SpendingDesk {
-    /// `same`, with as many tokens spent on the desk as on the lock afterwards.
-    pub fn same(&mut self, call: Call<Put>, on_lock: Reply<i64>) -> Result<(), Fail> {
-        same(&mut self.table, call, on_lock)?;
-        let spent = self.spent.load(Ordering::SeqCst);
-        same(&mut self.table, Call::Spent, Reply::Count(spent))
+/// A desk that remembers where it first differed from the lock beside it.
+#[derive(Drop)]
+pub struct BesideDesk {
+    table: Table,
+    /// How many tokens the raw lock got back, where it counts them.
+    spent: Option<Arc<AtomicU64, Global>>,
+    calls: u64,
+    first_difference: Option<u64>,
+}
+
+impl BesideDesk {
+    pub fn new(table: Table, spent: Option<Arc<AtomicU64, Global>>) -> BesideDesk {
+        BesideDesk {
+            table,
+            spent,
+            calls: 0,
+            first_difference: None,
+        }
+    }
+
+    /// Makes the call on the desk, whose reply is to be the lock's, with as many tokens spent as on the lock
+    /// afterwards. A difference that was not the first is not remembered.
+    pub fn same(&mut self, call: Call<Put>, on_lock: Reply<i64>) {
+        self.calls = self.calls.wrapping_add(1);
+        let is_same = self.table.apply(&call) == on_lock && self.spends_the_same();
+        if !is_same && self.first_difference.is_none() {
+            self.first_difference = Some(self.calls);
+        }
+    }
+
+    fn spends_the_same(&self) -> bool {
+        match &self.spent {
+            Some(spent) => self.table.spent() == spent.load(Ordering::SeqCst),
+            None => true,
+        }
+    }
+
+    /// Which call was the first to differ, counted from 1.
+    pub fn first_difference(&self) -> Option<u64> {
+        self.first_difference
     }
 }

@@ -1,38 +1,21 @@
 //! The mutex, over a raw lock that is honest and over one that lies.
+use super::four_threads::add_in_four_threads;
 use super::liar::Liar;
 use super::makers::holds_or_lacks_memory;
+use super::texts::{debug_is, texts_are};
 use crate::{Mutex, MutexGuard, RawMutex, TokenRaw};
 use std::alloc::Global;
+use std::clone::Clone;
+use std::sync::Wait;
 use std::test::Fail;
-use std::thread;
 
 /// A number behind an honest raw lock.
 type Counter = Mutex<TokenRaw<HostRuntime>, u64>;
 
-/// Adds 1 to the value, a thousand times.
-fn add_a_thousand<R: RawMutex>(counter: &Mutex<R, u64>) {
-    for _ in 0..1_000 {
-        let mut value = counter.lock();
-        *value = value.wrapping_add(1);
-    }
-}
-
 #[test]
 fn four_threads_count_over_an_honest_raw_lock(rt: HostRuntime) -> Result<(), Fail> {
     let counter = Counter::new(rt.alloc(), rt, 0)?;
-    thread::join(
-        &rt,
-        || thread::join(
-            &rt,
-            || add_a_thousand(&counter),
-            || add_a_thousand(&counter),
-        ),
-        || thread::join(
-            &rt,
-            || add_a_thousand(&counter),
-            || add_a_thousand(&counter),
-        ),
-    );
+    add_in_four_threads(&rt, &counter);
     assert_eq!(rt; counter.into_inner(), 4_000);
     Ok(())
 }
@@ -40,28 +23,23 @@ fn four_threads_count_over_an_honest_raw_lock(rt: HostRuntime) -> Result<(), Fai
 #[test]
 fn four_threads_count_over_a_lying_raw_lock(rt: HostRuntime) -> Result<(), Fail> {
     let counter: Mutex<Liar<HostRuntime>, u64> = Mutex::new(rt.alloc(), rt, 0)?;
-    thread::join(
-        &rt,
-        || thread::join(
-            &rt,
-            || add_a_thousand(&counter),
-            || add_a_thousand(&counter),
-        ),
-        || thread::join(
-            &rt,
-            || add_a_thousand(&counter),
-            || add_a_thousand(&counter),
-        ),
-    );
+    add_in_four_threads(&rt, &counter);
     assert_eq!(rt; counter.into_inner(), 4_000);
     Ok(())
 }
 
+/// A mutex of 5 over a raw lock of its own.
+fn mutex_over_raw<W: Wait + Clone + Drop>(
+    alloc: Global,
+    waiter: W,
+) -> Result<Mutex<TokenRaw<W>, u64>, Fail> {
+    let raw: TokenRaw<W> = RawMutex::new(alloc, waiter)?;
+    Ok(Mutex::from_raw(raw, 5)?)
+}
+
 #[test]
 fn a_mutex_gives_what_was_put_in(rt: HostRuntime) -> Result<(), Fail> {
-    let alloc: Global = rt.alloc();
-    let raw: TokenRaw<HostRuntime> = RawMutex::new(alloc, rt)?;
-    let mut mutex = Mutex::from_raw(raw, 5u64)?;
+    let mut mutex = mutex_over_raw(rt.alloc(), rt)?;
     *mutex.get_mut() = 6;
     let (raw, value) = mutex.into_inner_with_raw();
     assert_eq!(rt; value, 6);
@@ -84,15 +62,10 @@ fn a_guard_is_of_its_mutex(rt: HostRuntime) -> Result<(), Fail> {
 fn texts_of_a_mutex_and_its_guard(rt: HostRuntime) -> Result<(), Fail> {
     let alloc: Global = rt.alloc();
     let mutex = Counter::new(alloc, rt, 5)?;
-    assert_eq!(rt;
-        format!(in alloc; "{mutex:?}")?.as_str(),
-        "Mutex { data: 5 }"
-    );
+    assert!(rt; debug_is(alloc, &mutex, "Mutex { data: 5 }"));
     let guard = mutex.lock();
-    assert_eq!(rt;
-        format!(in alloc; "{mutex:?} {guard:?} {guard}")?.as_str(),
-        "Mutex { data: <locked> } 5 5"
-    );
+    assert!(rt; debug_is(alloc, &mutex, "Mutex { data: <locked> }"));
+    assert!(rt; texts_are(alloc, &guard, "5"));
     Ok(())
 }
 

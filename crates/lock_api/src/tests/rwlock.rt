@@ -1,9 +1,11 @@
 //! The reader-writer lock, over a table of tokens and over a raw lock that lies.
+use super::four_threads::add_in_four_threads;
 use super::liar::Liar;
 use super::makers::holds_or_lacks_memory;
 use super::rwlock_callers::{
     answer_unlocked, read_twice, same_lock_after_all, swap_in, write_and_read,
 };
+use super::texts::{debug_is, texts_are};
 use crate::{
     Fault, RawRwLock, RwLock, RwLockReadGuard, RwLockUpgradableReadGuard, RwLockWriteGuard,
 };
@@ -16,30 +18,10 @@ use std::thread;
 /// A number behind an honest raw lock.
 type Shared = RwLock<TokenRaw<HostRuntime>, u64>;
 
-/// Adds 1 to the value, a thousand times.
-fn add_a_thousand<R: RawRwLock>(counter: &RwLock<R, u64>) {
-    for _ in 0..1_000 {
-        let mut value = counter.write();
-        *value = value.wrapping_add(1);
-    }
-}
-
 #[test]
 fn four_threads_count_over_an_honest_raw_rwlock(rt: HostRuntime) -> Result<(), Fail> {
     let counter = Shared::new(rt.alloc(), rt, 0)?;
-    thread::join(
-        &rt,
-        || thread::join(
-            &rt,
-            || add_a_thousand(&counter),
-            || add_a_thousand(&counter),
-        ),
-        || thread::join(
-            &rt,
-            || add_a_thousand(&counter),
-            || add_a_thousand(&counter),
-        ),
-    );
+    add_in_four_threads(&rt, &counter);
     assert_eq!(rt; counter.into_inner(), 4_000);
     Ok(())
 }
@@ -47,19 +29,7 @@ fn four_threads_count_over_an_honest_raw_rwlock(rt: HostRuntime) -> Result<(), F
 #[test]
 fn four_threads_count_over_a_lying_raw_rwlock(rt: HostRuntime) -> Result<(), Fail> {
     let counter: RwLock<Liar<HostRuntime>, u64> = RwLock::new(rt.alloc(), rt, 0)?;
-    thread::join(
-        &rt,
-        || thread::join(
-            &rt,
-            || add_a_thousand(&counter),
-            || add_a_thousand(&counter),
-        ),
-        || thread::join(
-            &rt,
-            || add_a_thousand(&counter),
-            || add_a_thousand(&counter),
-        ),
-    );
+    add_in_four_threads(&rt, &counter);
     assert_eq!(rt; counter.into_inner(), 4_000);
     Ok(())
 }
@@ -189,21 +159,15 @@ fn locks_and_guards_print_as_told(rt: HostRuntime) -> Result<(), Fail> {
     let alloc = rt.alloc();
     let lock = Shared::new(alloc, rt, 5)?;
     let reader = lock.read();
-    assert_eq!(rt;
-        format!(in alloc; "{lock:?} {reader:?} {reader}")?.as_str(),
-        "RwLock { data: 5 } 5 5"
-    );
+    assert!(rt; debug_is(alloc, &lock, "RwLock { data: 5 }"));
+    assert!(rt; texts_are(alloc, &reader, "5"));
     drop(reader);
     let writer = lock.write();
-    assert_eq!(rt;
-        format!(in alloc; "{lock:?} {writer:?} {writer}")?.as_str(),
-        "RwLock { data: <locked> } 5 5"
-    );
+    assert!(rt; debug_is(alloc, &lock, "RwLock { data: <locked> }"));
+    assert!(rt; texts_are(alloc, &writer, "5"));
     drop(writer);
     let upgradable = lock.upgradable_read();
-    assert_eq!(rt;
-        format!(in alloc; "{lock:?} {upgradable:?} {upgradable}")?.as_str(),
-        "RwLock { data: 5 } 5 5"
-    );
+    assert!(rt; debug_is(alloc, &lock, "RwLock { data: 5 }"));
+    assert!(rt; texts_are(alloc, &upgradable, "5"));
     Ok(())
 }
