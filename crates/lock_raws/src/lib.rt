@@ -12,8 +12,6 @@ mod sequential_state;
 mod spurious_condvar;
 mod state_raw;
 mod step_journal;
-#[cfg(test)]
-mod tests;
 mod tokens;
 
 pub use held_place::HeldPlace;

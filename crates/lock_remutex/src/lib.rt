@@ -16,6 +16,3 @@ pub use mapped::MappedReentrantMutexGuard;
 pub use raw_reentrant_mutex::RawReentrantMutex;
 pub use reentrant_mutex::ReentrantMutex;
 pub use reentrant_mutex_guard::ReentrantMutexGuard;
-
-#[cfg(test)]
-mod tests;

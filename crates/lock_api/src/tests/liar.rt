@@ -1,12 +1,21 @@
 //! A raw lock that admits everything.
-use crate::{Fault, GuardSend, RawMutex};
+use crate::{Fault, GuardSend, RawMutex, RawMutexFair};
 use std::alloc::Global;
-use std::sync::Wait;
+use std::sync::atomic::{AtomicU64, Ordering};
+use std::sync::{Arc, Wait};
 
-/// A raw lock that lies: it gives a token to whoever asks.
+/// A raw lock that lies: it gives a token to whoever asks, and counts them.
 #[derive(Drop)]
 pub struct Liar<W: Wait + Clone + Drop> {
     waiter: W,
+    pub given: Arc<AtomicU64, Global>,
+}
+
+impl<W: Wait + Clone + Drop> Liar<W> {
+    fn give(&self) -> GuardSend {
+        self.given.fetch_add(1, Ordering::SeqCst);
+        GuardSend::new()
+    }
 }
 
 impl<W: Wait + Clone + Drop> RawMutex for Liar<W> {
@@ -14,8 +23,11 @@ impl<W: Wait + Clone + Drop> RawMutex for Liar<W> {
 
     type Waiter = W;
 
-    fn new(_alloc: Global, waiter: W) -> Result<Liar<W>, Fault> {
-        Ok(Liar { waiter })
+    fn new(alloc: Global, waiter: W) -> Result<Liar<W>, Fault> {
+        match Arc::new(alloc, AtomicU64::new(0)) {
+            Ok(given) => Ok(Liar { waiter, given }),
+            Err(_) => Err(Fault::OutOfMemory),
+        }
     }
 
     fn waiter(&self) -> &W {
@@ -23,11 +35,11 @@ impl<W: Wait + Clone + Drop> RawMutex for Liar<W> {
     }
 
     fn lock(&self) -> GuardSend {
-        GuardSend::new()
+        self.give()
     }
 
     fn try_lock(&self) -> Option<GuardSend> {
-        Some(GuardSend::new())
+        Some(self.give())
     }
 
     fn unlock(&self, _token: GuardSend) {}
@@ -35,4 +47,8 @@ impl<W: Wait + Clone + Drop> RawMutex for Liar<W> {
     fn is_locked(&self) -> bool {
         false
     }
+}
+
+impl<W: Wait + Clone + Drop> RawMutexFair for Liar<W> {
+    fn unlock_fair(&self, _token: GuardSend) {}
 }

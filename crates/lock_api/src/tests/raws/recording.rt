@@ -1,9 +1,8 @@
 //! What a recording lock writes.
 use super::{raw_mutex, raw_rwlock};
-use crate::{ModeStep, Recorded, RecordingRaw, SequentialState};
-use lock_base::machine::Mode;
-use lock_base::raw::{
-    Fault, RawMutex, RawMutexFair, RawRwLock, RawRwLockDowngrade, RawRwLockFair, RawRwLockUpgrade,
+use crate::{
+    Fault, Mode, ModeStep, RawMutex, RawMutexFair, RawRwLock, RawRwLockDowngrade, RawRwLockFair,
+    RawRwLockUpgrade, Recorded, RecordingRaw, SequentialState,
 };
 use std::alloc::Global;
 use std::clone::Clone;

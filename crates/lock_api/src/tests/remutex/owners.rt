@@ -1,9 +1,9 @@
 //! Who gets a lock while a party owns it, over an honest raw lock and over one that lies.
-use super::raws::{Counting, Liar};
-use super::{Honest, two_parties};
-use crate::{RawReentrantMutex, ReentrantMutex, ReentrantMutexGuard};
-use lock_base::machine::PartyId;
-use lock_base::raw::Fault;
+use super::Honest;
+use crate::tests::beside_desk::two_parties;
+use crate::tests::counting::Counting;
+use crate::tests::liar::Liar;
+use crate::{Fault, PartyId, RawReentrantMutex, ReentrantMutex, ReentrantMutexGuard};
 use std::sync::Wait;
 use std::test::Fail;
 
@@ -44,7 +44,7 @@ fn beside_owner<W: Wait + Clone + Drop>(
 
 #[test]
 fn others_are_refused_while_a_party_owns(rt: HostRuntime) -> Result<(), Fail> {
-    let (first, second) = two_parties();
+    let (first, second) = two_parties()?;
     let lock = Honest::from(rt.alloc(), rt, 5)?;
     let seen = [
         beside_owner(&lock, first, first),
@@ -81,7 +81,7 @@ fn beside_two_levels<W: Wait + Clone + Drop>(
 
 #[test]
 fn a_full_count_is_refused(rt: HostRuntime) -> Result<(), Fail> {
-    let (first, second) = two_parties();
+    let (first, second) = two_parties()?;
     let lock = Honest::with_levels(rt.alloc(), rt, 2, 0)?;
     let seen = beside_two_levels(&lock, first, second);
     let wanted = (Some(Fault::FullCount), [FULL, NOT_GIVEN, GIVEN]);
@@ -116,7 +116,7 @@ fn left<W: Wait + Clone + Drop>(
 
 #[test]
 fn a_raw_reentrant_lock_is_left_by_its_owner_alone(rt: HostRuntime) -> Result<(), Fail> {
-    let (first, second) = two_parties();
+    let (first, second) = two_parties()?;
     let lock = RawReentrantMutex::<Counting<HostRuntime>>::new(rt.alloc(), rt)?;
     assert_eq!(rt;
         (lock.lock(first), lock.try_lock(first)),
@@ -148,7 +148,7 @@ fn owned_over_a_liar<W: Wait + Clone + Drop>(
 
 #[test]
 fn a_raw_lock_that_lies_makes_no_second_owner(rt: HostRuntime) -> Result<(), Fail> {
-    let (first, second) = two_parties();
+    let (first, second) = two_parties()?;
     let lock = RawReentrantMutex::new(rt.alloc(), rt)?;
     assert_eq!(rt;
         owned_over_a_liar(&lock, first, second),
@@ -170,7 +170,7 @@ fn guarded_over_a_liar<W: Wait + Clone + Drop>(
 
 #[test]
 fn a_raw_lock_that_lies_makes_no_second_guard(rt: HostRuntime) -> Result<(), Fail> {
-    let (first, second) = two_parties();
+    let (first, second) = two_parties()?;
     let lock = ReentrantMutex::new(rt.alloc(), rt, 7)?;
     assert_eq!(rt;
         guarded_over_a_liar(&lock, first, second),

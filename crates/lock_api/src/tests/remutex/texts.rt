@@ -1,6 +1,7 @@
 //! Texts of the lock and of its guard.
-use super::{Honest, two_parties};
-use lock_base::machine::PartyId;
+use super::Honest;
+use crate::PartyId;
+use crate::tests::beside_desk::party;
 use std::alloc::Global;
 use std::sync::Wait;
 use std::test::Fail;
@@ -18,7 +19,7 @@ fn texts<W: Wait + Clone + Drop>(
 
 #[test]
 fn texts_of_the_lock_and_its_guard(rt: HostRuntime) -> Result<(), Fail> {
-    let (first, _) = two_parties();
+    let first = party(1)?;
     let lock = Honest::new(rt.alloc(), rt, 5)?;
     let shown = texts(rt.alloc(), &lock, first).ok_or("no memory")?;
     assert_eq!(rt;

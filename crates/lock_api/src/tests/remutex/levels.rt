@@ -1,9 +1,8 @@
 //! Levels that are taken and given up, and the raw token that goes back with the last.
-use super::raws::Counting;
-use super::{Honest, two_parties};
-use crate::ReentrantMutexGuard;
-use lock_base::machine::PartyId;
-use lock_base::raw::{Fault, RawMutex};
+use super::Honest;
+use crate::tests::beside_desk::party;
+use crate::tests::counting::Counting;
+use crate::{Fault, PartyId, RawMutex, ReentrantMutexGuard};
 use std::sync::atomic::{AtomicU64, Ordering};
 use std::sync::{Arc, Wait};
 use std::test::Fail;
@@ -49,9 +48,9 @@ fn unlocked_for_a_look<W: Wait + Clone + Drop>(
 
 #[test]
 fn the_raw_token_goes_back_with_the_last_level(rt: HostRuntime) -> Result<(), Fail> {
-    let (first, _) = two_parties();
+    let first = party(1)?;
     let raw = Counting::new(rt.alloc(), rt)?;
-    let releases = Arc::try_clone(&raw.releases)?;
+    let releases = Arc::try_clone(&raw.spent)?;
     let lock = Honest::from_raw(raw, 5)?;
     assert_eq!(rt; releases_of_levels(&lock, &releases, first), Ok((0, 1, 2)));
     let seen = unlocked_for_a_look(&lock, &releases, first);
@@ -77,7 +76,7 @@ fn taken_meanwhile<W: Wait + Clone + Drop>(
 
 #[test]
 fn a_level_that_is_taken_meanwhile_is_given_up(rt: HostRuntime) -> Result<(), Fail> {
-    let (first, _) = two_parties();
+    let first = party(1)?;
     let lock = Honest::with_levels(rt.alloc(), rt, 1, 7)?;
     let seen = taken_meanwhile(&lock, first);
     assert_eq!(rt; seen, Some((Fault::FullCount, 7, true)));

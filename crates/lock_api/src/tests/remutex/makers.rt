@@ -1,8 +1,7 @@
 //! What the makers refuse, and what comes back of a lock.
 use super::Honest;
-use super::raws::Counting;
-use crate::{DEFAULT_LEVELS, Levels, RawReentrantMutex};
-use lock_base::raw::{Fault, RawMutex};
+use crate::tests::counting::Counting;
+use crate::{DEFAULT_LEVELS, Fault, Levels, RawMutex, RawReentrantMutex};
 use std::alloc::Global;
 use std::sync::Wait;
 use std::test::Fail;

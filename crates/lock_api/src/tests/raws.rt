@@ -1,10 +1,10 @@
+//! The raw locks by themselves.
 mod recording;
 
-use crate::TokenRaw;
-use lock_base::raw::{
+use crate::{
     Fault, RawMutex, RawMutexFair, RawMutexTimed, RawRwLock, RawRwLockDowngrade, RawRwLockFair,
     RawRwLockTimed, RawRwLockUpgrade, RawRwLockUpgradeDowngrade, RawRwLockUpgradeFair,
-    RawRwLockUpgradeTimed,
+    RawRwLockUpgradeTimed, TokenRaw,
 };
 use std::alloc::Global;
 use std::clone::Clone;
