@@ -1,21 +1,10 @@
 //! Replays a script of calls of a lock from standard input, and prints the answers.
 #![tactic(auto)]
 
-mod answer;
-mod arguments;
-mod choice;
-mod fault;
-mod line;
-mod maker;
-mod number;
-mod pair;
-mod reading;
-mod replay;
-mod script;
-mod session;
+#[cfg(test)]
+mod tests;
 
-use arguments::which;
-use fault::ReplayFault;
+use lock_script::{ReplayFault, replay, which};
 use std::process::ExitCode;
 use std::rt::Env;
 use std::{env, io};
@@ -30,7 +19,7 @@ fn main(rt: HostRuntime) -> ExitCode {
         let _ = eprintln!(rt; "{USAGE}");
         return ExitCode::from(2);
     };
-    match replay::replay(rt.alloc(), machine, &mut rt.stdin(), &mut rt.stdout()) {
+    match replay(rt.alloc(), machine, &mut rt.stdin(), &mut rt.stdout()) {
         Ok(()) => ExitCode::SUCCESS,
         Err(fault) => told(&rt, fault),
     }

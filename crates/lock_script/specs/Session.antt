@@ -1,0 +1,50 @@
+-- What a script is answered.
+use Rattle.std.specs.Prelude.{◌≡◌, ℕ, ℤ, List, [], ◌∷◌, Option, map}
+use Rattle.std.specs.Io.KnownBytes.{Appends}
+use Rattle.lock_base.specs.declared.machine.kind.Kind.{Kind}
+use Rattle.lock_base.specs.declared.machine.call.Call.{Call}
+use Rattle.lock_base.specs.declared.machine.reply.Reply.{Reply}
+use Rattle.lock_base.specs.declared.raw.fault.Fault.TheVariants.{BadLimits}
+use Rattle.lock_base.specs.Limits.{IsLimit}
+use Rattle.lock_base.specs.Machine.{Machine, start}
+use Rattle.lock_base.specs.Steps.{replies}
+use Rattle.lock_script.specs.declared.maker.Maker.{Maker}
+use Rattle.lock_script.specs.declared.pair.Pair.{Pair}
+use Rattle.lock_script.specs.declared.pair.PairOp.{PairOp}
+use Rattle.lock_script.specs.Answers.{answer_lines}
+use Rattle.lock_script.specs.Lines.{fields_of, lines_of}
+use Rattle.lock_script.specs.Pair.{meaning}
+use Rattle.lock_script.specs.Script.{call_fields, maker_fields}
+
+-- the limits are lawful
+abbrev pub HasLimits : Maker → Type 0
+HasLimits (Maker.Mutex places pair) = IsLimit places
+HasLimits (Maker.RwLock places readers pair) = IsLimit places × IsLimit readers
+HasLimits (Maker.Reentrant places levels pair) = IsLimit places × IsLimit levels
+
+-- the machine that is made then
+abbrev pub machine_of : Maker → Machine Pair
+machine_of (Maker.Mutex places pair) = start Kind.Mutex pair places 1
+machine_of (Maker.RwLock places readers pair) = start Kind.RwLock pair places readers
+machine_of (Maker.Reentrant places levels pair) = start Kind.Reentrant pair places levels
+
+-- the replies to the calls on that machine
+abbrev pub replies_to : Maker → List (Call PairOp) → List (Reply ℤ)
+replies_to maker calls = replies meaning (machine_of maker) calls
+
+-- the text answers the maker and the calls: where the limits are lawful it is done and each call has its reply, else it alone is refused
+pub record Answers (maker : Maker) (calls : List (Call PairOp)) (text : List ℕ) : Type 0 where
+  pub made : HasLimits maker → text ≡ answer_lines (Reply.Done ∷ replies_to maker calls)
+  pub refused : (HasLimits maker → ⊥) → text ≡ answer_lines (Reply.Refused BadLimits ∷ [])
+
+-- the lines of the script are those of the maker and the calls
+abbrev pub IsScriptOf : List ℕ → Maker → List (Call PairOp) → Type 0
+IsScriptOf bytes maker calls = maker_fields maker ∷ map call_fields calls ≡ map fields_of (lines_of bytes)
+
+-- the text answers the script of these bytes
+abbrev pub IsAnswer : List ℕ → List ℕ → Type 0
+IsAnswer bytes text = (maker : Maker) × ((calls : List (Call PairOp)) × (IsScriptOf bytes maker calls × Answers maker calls text))
+
+-- what was written in addition answers the script of these bytes
+abbrev pub WritesAnswer : List ℕ → Option (List ℕ) → Option (List ℕ) → Type 0
+WritesAnswer bytes old new = (text : List ℕ) × (IsAnswer bytes text × Appends old new text)

@@ -1,0 +1,17 @@
+//! The words after the program's name.
+ghost use Rattle.std.specs.Prelude.{◌≡◌, ◌∷◌, ◌↔◌, [], codes, map, Some, string_bytes};
+
+use crate::choice::Which;
+
+/// The machine that the words ask for. None: the usage line.
+pub fn which(words: &[String]) -> Option<Which>
+    ensures { (result ≡ Some Which.Table) ↔ (map string_bytes words.now ≡ codes "table" ∷ []) }
+{
+    let [word] = words else {
+        return None;
+    };
+    match word.as_str() {
+        "table" => Some(Which::Table),
+        _ => None,
+    }
+}

@@ -1,0 +1,21 @@
+//! Scripts of calls of a lock: read, run, and answered.
+#![tactic(auto)]
+
+mod answer;
+mod arguments;
+mod choice;
+mod fault;
+mod line;
+mod maker;
+mod number;
+mod pair;
+mod reading;
+mod script;
+mod session;
+mod streams;
+
+pub use arguments::which;
+pub use choice::Which;
+pub use fault::ReplayFault;
+pub use reading::SCRIPT_LIMIT;
+pub use streams::replay;
