@@ -8,22 +8,22 @@ pub use lock_base::project::{
     Missed, Project, Then, TryProject, mapping_twice_is_then, missed_write_changes_nothing,
     then_is_associative, then_is_lawful, then_misses_in_order, write_keeps_part,
 };
-pub use lock_base::raw::{
-    DEFAULT_READERS, Fault, GuardNoSend, GuardSend, MAX_LIMIT, RawCondvar, RawCondvarTimed,
-    RawMutex, RawMutexFair, RawMutexTimed, RawRwLock, RawRwLockDowngrade, RawRwLockFair,
-    RawRwLockTimed, RawRwLockUpgrade, RawRwLockUpgradeDowngrade, RawRwLockUpgradeFair,
-    RawRwLockUpgradeTimed, RawState, is_limit,
-};
+pub use lock_base::raw::{DEFAULT_READERS, Fault, MAX_LIMIT, RawState, is_limit};
 pub use lock_base_laws::{
     nested_guards_make_one_token, numbers_are_used_once, only_writes_change_value,
     parked_is_resumed, readers_see_one_value, refusals_keep_machine, refused_upgrades_keep_guard,
     runs_are_sound, spent_counts_releases, tokens_are_those_held,
 };
 pub use lock_desk::Desk;
-pub use lock_mutex::{
-    ArcMutexGuard, Condvar, MappedMutexGuard, Mutex, MutexGuard, WaitTimeoutResult,
+pub use lock_guard::raw::{
+    GuardNoSend, GuardSend, RawCondvar, RawCondvarTimed, RawMutex, RawMutexFair, RawMutexTimed,
+    RawRwLock, RawRwLockDowngrade, RawRwLockFair, RawRwLockTimed, RawRwLockUpgrade,
+    RawRwLockUpgradeDowngrade, RawRwLockUpgradeFair, RawRwLockUpgradeTimed,
 };
-pub use lock_mutex_loop::{LoopEnd, Script, Waits, run_loop};
+pub use lock_mutex::{
+    ArcMutexGuard, Condvar, LoopEnd, MappedMutexGuard, Mutex, MutexGuard, Script,
+    WaitTimeoutResult, Waits, run_loop,
+};
 pub use lock_raws::{
     DEFAULT_ENTRIES, ExclusiveToken, HeldPlace, Recorded, RecordingRaw, SequentialState,
     SharedToken, SpuriousCondvar, StateRaw, TokenRaw, UpgradableToken,

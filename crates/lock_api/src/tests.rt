@@ -5,6 +5,7 @@ mod arc_remutex;
 mod arc_rwlock;
 mod beside_desk;
 mod callers;
+mod condition_loop;
 mod condvar;
 mod counting;
 mod four_threads;

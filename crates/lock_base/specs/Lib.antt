@@ -12,10 +12,5 @@ pub mod Refusals
 pub mod Calls
 pub mod Steps
 pub mod Legal
-pub mod Inner
-pub mod Held
-pub mod Closure
-pub mod GuardPart
-pub mod Mapped
 pub mod Lens
 pub mod Then

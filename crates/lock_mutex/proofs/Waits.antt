@@ -3,16 +3,16 @@ use Rattle.std.specs.Prelude.{◌≡◌, Bool, true, false, Option, Some, IsSome
 use Rattle.std.specs.Borrow.{MutBor}
 use Rattle.std.specs.Fn.{Mut}
 use Rattle.std.proofs.Common.{sym, subst}
-use Rattle.lock_base.specs.declared.guard.inner.Inner.{Inner}
-use Rattle.lock_base.specs.Inner.{inner_value}
+use Rattle.lock_guard.specs.declared.guard.inner.Inner.{Inner}
+use Rattle.lock_guard.specs.Inner.{inner_value}
 use Rattle.lock_mutex.specs.declared.waiting.Waiting.{Waiting}
 use Rattle.lock_mutex.specs.Waiting.{inner_value-filled, waiting_value, waiting_with_value, waiting_value-with}
 use Rattle.lock_mutex.specs.WaitsWhile.{end_of, WaitsWhile}
-use Rattle.lock_mutex_loop.specs.declared.loop_end.LoopEnd.{LoopEnd}
-use Rattle.lock_mutex_loop.specs.declared.loop_end.LoopEnd.TheVariants.{False, TimedOut, RanOut}
-use Rattle.lock_mutex_loop.specs.ConditionLoop.{ConditionLoop}
-use Rattle.lock_mutex_loop.specs.ValueLoop.{ValueLoop}
-use Rattle.lock_mutex_loop.proofs.Values.{value_loop}
+use Rattle.lock_mutex.specs.declared.condition_loop.loop_end.LoopEnd.{LoopEnd}
+use Rattle.lock_mutex.specs.declared.condition_loop.loop_end.LoopEnd.TheVariants.{False, TimedOut, RanOut}
+use Rattle.lock_mutex.specs.ConditionLoop.{ConditionLoop}
+use Rattle.lock_mutex.specs.ValueLoop.{ValueLoop}
+use Rattle.lock_mutex.proofs.Values.{value_loop}
 
 module _ {L S V K W X F : Type 0} {g : _} (value_of : V → X) (with_value : V → X → V) (law : (shown : V) (value : X) → value_of (with_value shown value) ≡ value)
     (calls : Mut F (MutBor X × Unit {0}) (Bool × (MutBor X × Unit {0}))) (may_answer : Bool → Type 0) where

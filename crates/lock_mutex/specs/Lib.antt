@@ -1,3 +1,6 @@
+pub mod ConditionLoop
+pub mod Script
+pub mod ValueLoop
 pub mod Mutex
 pub mod MutexGuard
 pub mod WaitsWhile

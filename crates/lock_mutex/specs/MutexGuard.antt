@@ -1,7 +1,7 @@
 -- What the guard of a mutex shows.
 use Rattle.std.specs.Prelude.{Option}
-use Rattle.lock_base.specs.declared.guard.held.Held.{Held}
-use Rattle.lock_base.specs.Held.{held_value, held_with_value}
+use Rattle.lock_guard.specs.declared.guard.held.Held.{Held}
+use Rattle.lock_guard.specs.Held.{held_value, held_with_value}
 use Rattle.lock_mutex.specs.declared.guard.Guard.{Guard}
 
 module _ {L V K W X : Type 0} {g : _} where

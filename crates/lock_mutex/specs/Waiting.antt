@@ -1,9 +1,9 @@
 -- The value of a lock whose holder waits.
 use Rattle.std.specs.Prelude.{◌≡◌, true, false, Some, refl}
-use Rattle.lock_base.specs.declared.guard.inner.Inner.{Inner}
-use Rattle.lock_base.specs.declared.guard.inner.Inner.TheVariants.{Filled, Empty}
-use Rattle.lock_base.specs.Inner.{is_filled, inner_value, inner_with_value}
-use Rattle.lock_base.specs.Held.{held_with_value}
+use Rattle.lock_guard.specs.declared.guard.inner.Inner.{Inner}
+use Rattle.lock_guard.specs.declared.guard.inner.Inner.TheVariants.{Filled, Empty}
+use Rattle.lock_guard.specs.Inner.{is_filled, inner_value, inner_with_value}
+use Rattle.lock_guard.specs.Held.{held_with_value}
 use Rattle.lock_mutex.specs.declared.waiting.Waiting.{Waiting}
 
 pub false_not_true : false ≡ true → ⊥

@@ -3,8 +3,9 @@ ghost use Rattle.std.specs.Prelude.{IfOk, IfSome, IsOkUnless};
 ghost use Rattle.lock_mutex.specs.ArcMutexGuard.{IsArcGuardOf};
 
 use crate::{ArcMutexGuard, Mutex};
-use lock_base::guard::another_owner;
-use lock_base::raw::{Fault, RawMutex, RawMutexTimed};
+use lock_base::raw::Fault;
+use lock_guard::guard::another_owner;
+use lock_guard::raw::{RawMutex, RawMutexTimed};
 use std::sync::Arc;
 
 impl<R: RawMutex + Drop, T: Drop> Mutex<R, T> {

@@ -1,12 +1,12 @@
 //! The guard that keeps its mutex alive.
 ghost use Rattle.std.specs.Prelude.{◌≡◌, IfSome, is_some};
-ghost use Rattle.lock_base.specs.Closure.{ReadsSomeValue, AnswersSomeValue};
+ghost use Rattle.lock_guard.specs.Closure.{ReadsSomeValue, AnswersSomeValue};
 ghost use Rattle.lock_mutex.specs.ArcMutexGuard.{arc_of};
 
 use crate::Mutex;
 use crate::owned::OwnedMutex;
-use lock_base::guard::{AcquireFair, Held, Release};
-use lock_base::raw::{RawMutex, RawMutexFair};
+use lock_guard::guard::{AcquireFair, Held, Release};
+use lock_guard::raw::{RawMutex, RawMutexFair};
 use std::sync::Arc;
 
 /// The right to the value of a mutex, which it keeps alive. Its end gives the mutex up. The value is lent for the length

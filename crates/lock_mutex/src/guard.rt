@@ -3,8 +3,8 @@ ghost use Rattle.std.specs.Prelude.{◌≡◌, Some};
 ghost use Rattle.std.specs.Borrow.{Lends, sem};
 
 use crate::Mutex;
-use lock_base::guard::{Acquire, AcquireFair, Held, ValueGuard, ValueGuardMut};
-use lock_base::raw::{RawMutex, RawMutexFair};
+use lock_guard::guard::{Acquire, AcquireFair, Held, ValueGuard, ValueGuardMut};
+use lock_guard::raw::{RawMutex, RawMutexFair};
 use std::fmt;
 use std::fmt::{Debug, Display, Formatter};
 use std::ops::{Deref, DerefMut};

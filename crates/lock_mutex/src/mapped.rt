@@ -1,11 +1,11 @@
 //! Guards of a part of the value of a mutex.
 ghost use Rattle.std.specs.Prelude.{◌≡◌, None, Some, IsSome, IfOk, IfErr};
-ghost use Rattle.lock_base.specs.GuardPart.{guard_part, guard_miss};
-ghost use Rattle.lock_base.specs.Mapped.{IsMapOf};
+ghost use Rattle.lock_guard.specs.GuardPart.{guard_part, guard_miss};
+ghost use Rattle.lock_guard.specs.Mapped.{IsMapOf};
 
 use crate::{Guard, Mutex};
-use lock_base::guard::{Acquire, Held, Mapped, ValueGuard};
 use lock_base::project::{Project, TryProject};
+use lock_guard::guard::{Acquire, Held, Mapped, ValueGuard};
 
 /// The right to a part of the value of a mutex. Its end gives the mutex up.
 pub type MappedMutexGuard<'a, R, T, P> = Mapped<Held<&'a Mutex<R, T>>, P>;

@@ -1,10 +1,11 @@
 //! A mutex over any raw lock.
 ghost use Rattle.std.specs.Prelude.{◌≡◌, IfSome, IsOkAnd, IsOkUnless};
-ghost use Rattle.lock_base.specs.Closure.{ReadsSomeValue, AnswersSomeValue};
+ghost use Rattle.lock_guard.specs.Closure.{ReadsSomeValue, AnswersSomeValue};
 
 use crate::{Guard, MutexGuard};
-use lock_base::guard::{Acquire, AcquireFair, Locked, Release, fmt_lock};
-use lock_base::raw::{Fault, RawMutex, RawMutexFair, RawMutexTimed};
+use lock_base::raw::Fault;
+use lock_guard::guard::{Acquire, AcquireFair, Locked, Release, fmt_lock};
+use lock_guard::raw::{RawMutex, RawMutexFair, RawMutexTimed};
 use std::alloc::Global;
 use std::fmt::{Debug, Formatter};
 use std::{fmt, sync};

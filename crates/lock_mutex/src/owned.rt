@@ -1,7 +1,7 @@
 //! A mutex that is kept alive.
 use crate::Mutex;
-use lock_base::guard::{Acquire, AcquireFair, Release};
-use lock_base::raw::{RawMutex, RawMutexFair};
+use lock_guard::guard::{Acquire, AcquireFair, Release};
+use lock_guard::raw::{RawMutex, RawMutexFair};
 use std::sync::Arc;
 
 /// One owner of a mutex, as its guard sees it.

@@ -2,8 +2,8 @@
 ghost use Rattle.std.specs.Prelude.{◌≡◌, false, Bool, ⊤};
 
 use crate::Mutex;
-use lock_base::guard::{Acquire, Held};
-use lock_base::raw::{RawCondvar, RawCondvarTimed, RawMutex, RawMutexTimed};
+use lock_guard::guard::{Acquire, Held};
+use lock_guard::raw::{RawCondvar, RawCondvarTimed, RawMutex, RawMutexTimed};
 
 /// A wait with a lock that is held.
 pub trait Sleep<L: Acquire>: Drop {

@@ -1,11 +1,11 @@
 //! A held lock whose holder waits for a condition.
 ghost use Rattle.std.specs.Prelude.{◌≡◌, Bool, false, IsSomeAnd};
-ghost use Rattle.lock_base.specs.Held.{held_value};
+ghost use Rattle.lock_guard.specs.Held.{held_value};
 ghost use Rattle.lock_mutex.specs.WaitsWhile.{WaitsWhile};
 
+use crate::condition_loop::{LoopEnd, Waits, run_loop};
 use crate::sleep::Sleep;
-use lock_base::guard::{Acquire, Held, Inner, ValueGuard, ValueGuardMut};
-use lock_mutex_loop::{LoopEnd, Waits, run_loop};
+use lock_guard::guard::{Acquire, Held, Inner, ValueGuard, ValueGuardMut};
 use std::mem;
 use std::sync::Wait;
 

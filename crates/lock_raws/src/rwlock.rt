@@ -3,8 +3,9 @@ use crate::sequential_state::SequentialState;
 use crate::state_raw::StateRaw;
 use crate::tokens::{ExclusiveToken, SharedToken, UpgradableToken};
 use lock_base::machine::Mode;
-use lock_base::raw::{
-    Fault, RawRwLock, RawRwLockDowngrade, RawRwLockFair, RawRwLockTimed, RawRwLockUpgrade,
+use lock_base::raw::Fault;
+use lock_guard::raw::{
+    RawRwLock, RawRwLockDowngrade, RawRwLockFair, RawRwLockTimed, RawRwLockUpgrade,
     RawRwLockUpgradeDowngrade, RawRwLockUpgradeFair, RawRwLockUpgradeTimed,
 };
 use std::alloc::Global;

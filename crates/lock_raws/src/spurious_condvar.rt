@@ -1,5 +1,6 @@
 //! A condition variable that wakes at once.
-use lock_base::raw::{Fault, RawCondvar, RawCondvarTimed, RawMutex, RawMutexTimed};
+use lock_base::raw::Fault;
+use lock_guard::raw::{RawCondvar, RawCondvarTimed, RawMutex, RawMutexTimed};
 use std::alloc::Global;
 use std::marker::PhantomData;
 

@@ -5,9 +5,10 @@ ghost use Rattle.lock_remutex.specs.ArcGuards.{IsArcFault, IsArcGuardOf};
 
 use crate::arc_guard::ArcReentrantMutexGuard;
 use crate::reentrant_mutex::ReentrantMutex;
-use lock_base::guard::another_owner;
 use lock_base::machine::PartyId;
-use lock_base::raw::{Fault, RawMutex, RawMutexTimed};
+use lock_base::raw::Fault;
+use lock_guard::guard::another_owner;
+use lock_guard::raw::{RawMutex, RawMutexTimed};
 use std::sync::Arc;
 
 impl<R: RawMutex + Drop, T: Drop> ReentrantMutex<R, T>

@@ -5,7 +5,8 @@ ghost use Rattle.lock_remutex.specs.ArcGuards.{arc_of, arc_party, arc_guard_valu
 
 use crate::reentrant_mutex::ReentrantMutex;
 use lock_base::machine::PartyId;
-use lock_base::raw::{Fault, RawMutex, RawMutexFair};
+use lock_base::raw::Fault;
+use lock_guard::raw::{RawMutex, RawMutexFair};
 use std::ops::Deref;
 use std::sync::Arc;
 

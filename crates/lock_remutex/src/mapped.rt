@@ -1,13 +1,13 @@
 //! Guards of a part of the value of a reentrant lock.
 ghost use Rattle.std.specs.Prelude.{◌≡◌, None, Some, IsSome, IfOk, IfErr};
-ghost use Rattle.lock_base.specs.GuardPart.{guard_part, guard_miss};
-ghost use Rattle.lock_base.specs.Mapped.{IsMapOf};
+ghost use Rattle.lock_guard.specs.GuardPart.{guard_part, guard_miss};
+ghost use Rattle.lock_guard.specs.Mapped.{IsMapOf};
 ghost use Rattle.lock_remutex.specs.Guards.{guard_value, shown_value};
 
 use crate::reentrant_mutex_guard::ReentrantMutexGuard;
-use lock_base::guard::{LockGuard, LockGuardFair, Mapped};
 use lock_base::project::{Project, TryProject};
-use lock_base::raw::{RawMutex, RawMutexFair};
+use lock_guard::guard::{LockGuard, LockGuardFair, Mapped};
+use lock_guard::raw::{RawMutex, RawMutexFair};
 use std::ops::Deref;
 
 /// One level of a party's, which reads a part of the value. Its end gives the level up.

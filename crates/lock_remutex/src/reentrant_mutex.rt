@@ -2,7 +2,8 @@
 use crate::raw_reentrant_mutex::RawReentrantMutex;
 use crate::reentrant_mutex_guard::ReentrantMutexGuard;
 use lock_base::machine::PartyId;
-use lock_base::raw::{Fault, RawMutex, RawMutexTimed};
+use lock_base::raw::Fault;
+use lock_guard::raw::{RawMutex, RawMutexTimed};
 use std::alloc::Global;
 
 /// A value behind a lock that its owner may take again.

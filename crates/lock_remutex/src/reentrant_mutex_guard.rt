@@ -1,7 +1,8 @@
 //! The guard of one level of a reentrant lock.
 use crate::reentrant_mutex::ReentrantMutex;
 use lock_base::machine::PartyId;
-use lock_base::raw::{Fault, RawMutex, RawMutexFair};
+use lock_base::raw::Fault;
+use lock_guard::raw::{RawMutex, RawMutexFair};
 use std::ops::Deref;
 
 /// One level of a party's, which reads the value. Its end gives the level up, and the raw lock with the last one.

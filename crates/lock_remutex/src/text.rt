@@ -1,8 +1,8 @@
 //! The texts of the lock and of its guard.
 use crate::reentrant_mutex::ReentrantMutex;
 use crate::reentrant_mutex_guard::ReentrantMutexGuard;
-use lock_base::guard::{Locked, fmt_lock};
-use lock_base::raw::RawMutex;
+use lock_guard::guard::{Locked, fmt_lock};
+use lock_guard::raw::RawMutex;
 use std::fmt;
 use std::fmt::{Debug, Display, Formatter};
 use std::ops::Deref;

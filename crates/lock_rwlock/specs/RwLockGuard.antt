@@ -1,8 +1,8 @@
 -- The value that a guard shows, and its lock.
 use Rattle.std.specs.Prelude.{◌≡◌, Option}
 use Rattle.std.specs.Borrow.{Bor}
-use Rattle.lock_base.specs.declared.guard.held.Held.{Held}
-use Rattle.lock_base.specs.Held.{held_value, held_with_value}
+use Rattle.lock_guard.specs.declared.guard.held.Held.{Held}
+use Rattle.lock_guard.specs.Held.{held_value, held_with_value}
 use Rattle.lock_rwlock.specs.declared.guard.RwLockGuard.{RwLockGuard}
 use Rattle.lock_rwlock.specs.declared.mode.InMode.{InMode}
 

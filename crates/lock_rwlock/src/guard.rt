@@ -7,7 +7,7 @@ mod write;
 ghost use Rattle.std.specs.Prelude.{◌≡◌, Some};
 ghost use Rattle.std.specs.Borrow.{Lends, sem};
 
-use lock_base::guard::{Acquire, AcquireFair, Held, ValueGuard, ValueGuardMut};
+use lock_guard::guard::{Acquire, AcquireFair, Held, ValueGuard, ValueGuardMut};
 pub use mapped::{Mappable, MappedRwLockReadGuard, MappedRwLockWriteGuard};
 pub use read::RwLockReadGuard;
 use std::fmt;

@@ -3,10 +3,9 @@ ghost use Rattle.std.specs.Prelude.{◌≡◌, ◌↔◌, IfSome, IfOk, IfErr, I
 ghost use Rattle.lock_base.specs.Limits.{IsLimit, IsMakerFault};
 
 use crate::guard::{RwLockReadGuard, RwLockUpgradableReadGuard, RwLockWriteGuard};
-use lock_base::guard::{Locked, fmt_lock};
-use lock_base::raw::{
-    DEFAULT_READERS, Fault, RawRwLock, RawRwLockTimed, RawRwLockUpgrade, RawRwLockUpgradeTimed,
-};
+use lock_base::raw::{DEFAULT_READERS, Fault};
+use lock_guard::guard::{Locked, fmt_lock};
+use lock_guard::raw::{RawRwLock, RawRwLockTimed, RawRwLockUpgrade, RawRwLockUpgradeTimed};
 use std::alloc::Global;
 use std::{fmt, sync};
 

@@ -7,8 +7,8 @@ ghost use Rattle.std.specs.Prelude.{◌≡◌};
 
 use crate::lock::RwLock;
 pub use exclusive::Exclusive;
-use lock_base::guard::{Acquire, AcquireFair, Release, ValueGuard};
-use lock_base::raw::RawRwLock;
+use lock_guard::guard::{Acquire, AcquireFair, Release, ValueGuard};
+use lock_guard::raw::RawRwLock;
 pub use shared::Shared;
 use std::marker::PhantomData;
 pub use upgradable::Upgradable;

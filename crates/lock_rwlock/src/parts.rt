@@ -2,11 +2,11 @@
 mod upgraded;
 
 ghost use Rattle.std.specs.Prelude.{◌≡◌};
-ghost use Rattle.lock_base.specs.Closure.{ReadsSomeValue, AnswersSomeValue};
+ghost use Rattle.lock_guard.specs.Closure.{ReadsSomeValue, AnswersSomeValue};
 ghost use Rattle.lock_rwlock.specs.RwLock.{raw_of};
 
 use crate::lock::RwLock;
-use lock_base::raw::RawRwLock;
+use lock_guard::raw::RawRwLock;
 pub use upgraded::{
     try_with_upgraded, try_with_upgraded_for, try_with_upgraded_until, with_upgraded,
 };

@@ -3,7 +3,8 @@ ghost use Rattle.std.specs.Prelude.{IfOk, IfSome, IsOkUnless};
 ghost use Rattle.lock_rwlock_arc.specs.ArcRwLockGuard.{IsArcGuardOf};
 
 use crate::guard::{ArcRwLockReadGuard, ArcRwLockUpgradableReadGuard, ArcRwLockWriteGuard};
-use lock_base::raw::{Fault, RawRwLock, RawRwLockTimed, RawRwLockUpgrade, RawRwLockUpgradeTimed};
+use lock_base::raw::Fault;
+use lock_guard::raw::{RawRwLock, RawRwLockTimed, RawRwLockUpgrade, RawRwLockUpgradeTimed};
 use lock_rwlock::RwLock;
 use std::sync::Arc;
 

@@ -3,12 +3,13 @@ mod upgradable;
 mod write;
 
 ghost use Rattle.std.specs.Prelude.{◌≡◌, IfOk, IfSome, IsOkUnless, is_some};
-ghost use Rattle.lock_base.specs.Closure.{ReadsSomeValue};
+ghost use Rattle.lock_guard.specs.Closure.{ReadsSomeValue};
 ghost use Rattle.lock_rwlock_arc.specs.ArcRwLockGuard.{arc_of, IsArcGuardOf};
 
 use crate::owned::OwnedInMode;
-use lock_base::guard::{AcquireFair, Held, Release, another_owner};
-use lock_base::raw::{Fault, RawRwLock};
+use lock_base::raw::Fault;
+use lock_guard::guard::{AcquireFair, Held, Release, another_owner};
+use lock_guard::raw::RawRwLock;
 use lock_rwlock::parts::{raw, read_with};
 use lock_rwlock::{Exclusive, FairMode, LockMode, RwLock, Shared, Upgradable};
 use std::sync::Arc;

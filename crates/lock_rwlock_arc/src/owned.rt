@@ -1,8 +1,8 @@
 //! A reader-writer lock that is kept alive.
 ghost use Rattle.std.specs.Prelude.{◌≡◌};
 
-use lock_base::guard::{Acquire, AcquireFair, Release};
-use lock_base::raw::RawRwLock;
+use lock_guard::guard::{Acquire, AcquireFair, Release};
+use lock_guard::raw::RawRwLock;
 use lock_rwlock::parts::raw;
 use lock_rwlock::{FairMode, LockMode, RwLock};
 use std::marker::PhantomData;

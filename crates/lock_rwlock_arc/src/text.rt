@@ -1,6 +1,6 @@
 //! The texts of guards: that of the value, whose own lock is held for the length of the call.
 use crate::guard::ArcRwLockGuard;
-use lock_base::raw::RawRwLock;
+use lock_guard::raw::RawRwLock;
 use lock_rwlock::LockMode;
 use std::fmt;
 use std::fmt::{Debug, Display, Formatter};

@@ -5,7 +5,7 @@ use crate::{
     Call, Form, PartyId, RawRwLock, Reply, RwLock, RwLockReadGuard, RwLockUpgradableReadGuard,
     RwLockWriteGuard, TokenRaw, Want, Way,
 };
-use lock_base::guard::AcquireFair;
+use lock_guard::guard::AcquireFair;
 use lock_parts::Item0;
 use lock_rwlock::RwLockGuard;
 use std::alloc::Global;

@@ -1,13 +1,13 @@
 //! Guards of a part of the value of a lock.
 ghost use Rattle.std.specs.Prelude.{◌≡◌, None, Some, IsSome, IfOk, IfErr};
-ghost use Rattle.lock_base.specs.GuardPart.{guard_part, guard_miss};
-ghost use Rattle.lock_base.specs.Mapped.{IsMapOf};
+ghost use Rattle.lock_guard.specs.GuardPart.{guard_part, guard_miss};
+ghost use Rattle.lock_guard.specs.Mapped.{IsMapOf};
 
 use super::RwLockGuard;
 use crate::mode::{Exclusive, InMode, Shared};
-use lock_base::guard::{Acquire, Held, Mapped, ValueGuard};
 use lock_base::project::{Project, TryProject};
-use lock_base::raw::RawRwLock;
+use lock_guard::guard::{Acquire, Held, Mapped, ValueGuard};
+use lock_guard::raw::RawRwLock;
 
 /// The right to read a part of the value of a lock, beside others that read.
 pub type MappedRwLockReadGuard<'a, R, T, P> = Mapped<Held<InMode<'a, Shared, R, T>>, P>;

@@ -4,8 +4,8 @@ ghost use Rattle.std.specs.Prelude.{◌≡◌};
 use super::RwLockGuard;
 use crate::lock::RwLock;
 use crate::mode::{InMode, Shared};
-use lock_base::guard::Held;
-use lock_base::raw::RawRwLock;
+use lock_guard::guard::Held;
+use lock_guard::raw::RawRwLock;
 
 /// The right to read the value of a lock, beside others that read.
 pub type RwLockReadGuard<'a, R, T> = RwLockGuard<InMode<'a, Shared, R, T>>;

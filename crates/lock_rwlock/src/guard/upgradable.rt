@@ -1,13 +1,13 @@
 //! The guard of an upgradable lock.
 ghost use Rattle.std.specs.Prelude.{◌≡◌, IfSome, MatchResult, is_ok};
-ghost use Rattle.lock_base.specs.Closure.{AnswersSomeValue};
+ghost use Rattle.lock_guard.specs.Closure.{AnswersSomeValue};
 
 use super::{RwLockGuard, RwLockReadGuard, RwLockWriteGuard};
 use crate::lock::RwLock;
 use crate::mode::{InMode, Upgradable};
 use crate::parts;
-use lock_base::guard::{Acquire, Held};
-use lock_base::raw::{RawRwLockUpgrade, RawRwLockUpgradeDowngrade, RawRwLockUpgradeTimed};
+use lock_guard::guard::{Acquire, Held};
+use lock_guard::raw::{RawRwLockUpgrade, RawRwLockUpgradeDowngrade, RawRwLockUpgradeTimed};
 
 /// The right to read the value of a lock, beside others that read, and to become the one that writes.
 pub type RwLockUpgradableReadGuard<'a, R, T> = RwLockGuard<InMode<'a, Upgradable, R, T>>;

@@ -4,8 +4,8 @@ ghost use Rattle.std.specs.Prelude.{◌≡◌};
 use super::{RwLockGuard, RwLockReadGuard, RwLockUpgradableReadGuard};
 use crate::lock::RwLock;
 use crate::mode::{Exclusive, InMode};
-use lock_base::guard::Held;
-use lock_base::raw::{RawRwLock, RawRwLockDowngrade, RawRwLockUpgradeDowngrade};
+use lock_guard::guard::Held;
+use lock_guard::raw::{RawRwLock, RawRwLockDowngrade, RawRwLockUpgradeDowngrade};
 
 /// The right to read and write the value of a lock.
 pub type RwLockWriteGuard<'a, R, T> = RwLockGuard<InMode<'a, Exclusive, R, T>>;

@@ -1,7 +1,7 @@
 //! One holds a lock exclusive, and reads and writes.
 use super::{FairMode, LockMode, ShowMode};
 use crate::lock::RwLock;
-use lock_base::raw::{RawRwLock, RawRwLockFair};
+use lock_guard::raw::{RawRwLock, RawRwLockFair};
 use std::sync;
 
 /// The mode of a write guard.

@@ -1,7 +1,7 @@
 //! Many may hold a lock shared, and read.
 use super::{FairMode, LockMode, ShowMode};
 use crate::lock::RwLock;
-use lock_base::raw::{RawRwLock, RawRwLockFair};
+use lock_guard::raw::{RawRwLock, RawRwLockFair};
 use std::sync;
 
 /// The mode of a read guard.

@@ -1,7 +1,7 @@
 //! One holds a lock upgradable, and reads beside the shared ones.
 use super::{FairMode, LockMode, ShowMode};
 use crate::lock::RwLock;
-use lock_base::raw::{RawRwLockUpgrade, RawRwLockUpgradeFair};
+use lock_guard::raw::{RawRwLockUpgrade, RawRwLockUpgradeFair};
 use std::sync;
 
 /// The mode of an upgradable guard.

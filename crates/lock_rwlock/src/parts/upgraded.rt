@@ -1,10 +1,10 @@
 //! A call under an upgraded token, which is upgradable again afterwards.
 ghost use Rattle.std.specs.Prelude.{◌≡◌, IfSome, is_ok, is_some};
-ghost use Rattle.lock_base.specs.Closure.{AnswersSomeValue};
+ghost use Rattle.lock_guard.specs.Closure.{AnswersSomeValue};
 
 use super::write_with;
 use crate::lock::RwLock;
-use lock_base::raw::{RawRwLockUpgradeDowngrade, RawRwLockUpgradeTimed};
+use lock_guard::raw::{RawRwLockUpgradeDowngrade, RawRwLockUpgradeTimed};
 
 /// Calls the closure on the value once no other token is out.
 pub fn with_upgraded<R: RawRwLockUpgradeDowngrade, T, U, F: FnOnce(&mut T) -> U>(

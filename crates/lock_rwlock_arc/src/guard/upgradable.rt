@@ -1,12 +1,12 @@
 //! What the guard of an upgradable lock can do beside.
 ghost use Rattle.std.specs.Prelude.{◌≡◌, IfSome, MatchResult, is_ok};
-ghost use Rattle.lock_base.specs.Closure.{AnswersSomeValue};
+ghost use Rattle.lock_guard.specs.Closure.{AnswersSomeValue};
 ghost use Rattle.lock_rwlock_arc.specs.ArcRwLockGuard.{arc_of};
 
 use super::{
     ArcRwLockGuard, ArcRwLockReadGuard, ArcRwLockUpgradableReadGuard, ArcRwLockWriteGuard,
 };
-use lock_base::raw::{RawRwLockUpgrade, RawRwLockUpgradeDowngrade, RawRwLockUpgradeTimed};
+use lock_guard::raw::{RawRwLockUpgrade, RawRwLockUpgradeDowngrade, RawRwLockUpgradeTimed};
 use lock_rwlock::parts::{
     raw, try_with_upgraded, try_with_upgraded_for, try_with_upgraded_until, with_upgraded,
 };

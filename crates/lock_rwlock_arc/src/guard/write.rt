@@ -1,12 +1,12 @@
 //! What the guard of an exclusive lock can do beside.
 ghost use Rattle.std.specs.Prelude.{◌≡◌};
-ghost use Rattle.lock_base.specs.Closure.{AnswersSomeValue};
+ghost use Rattle.lock_guard.specs.Closure.{AnswersSomeValue};
 ghost use Rattle.lock_rwlock_arc.specs.ArcRwLockGuard.{arc_of};
 
 use super::{
     ArcRwLockGuard, ArcRwLockReadGuard, ArcRwLockUpgradableReadGuard, ArcRwLockWriteGuard,
 };
-use lock_base::raw::{RawRwLock, RawRwLockDowngrade, RawRwLockUpgradeDowngrade};
+use lock_guard::raw::{RawRwLock, RawRwLockDowngrade, RawRwLockUpgradeDowngrade};
 use lock_rwlock::Exclusive;
 use lock_rwlock::parts::{raw, write_with};
 

@@ -1,6 +1,6 @@
 use Rattle.std.proofs.Common.{◌≡◌, ◌∙◌}
-use Rattle.lock_mutex_loop.proofs.Loops.{only_false}
-use Rattle.lock_mutex_loop.specs.declared.loop_end.LoopEnd.TheVariants.{False, TimedOut}
+use Rattle.lock_mutex.proofs.Loops.{only_false}
+use Rattle.lock_mutex.specs.declared.condition_loop.loop_end.LoopEnd.TheVariants.{False, TimedOut}
 use Rattle.lock_mutex.proofs.Waits.{waits_while}
 use Rattle.lock_mutex.proofs.waiting.sleep_while.Goals as goal
 

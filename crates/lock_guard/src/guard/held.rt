@@ -1,0 +1,115 @@
+//! A lock that is held.
+ghost use Rattle.std.specs.Prelude.{◌≡◌, true, Some};
+ghost use Rattle.std.specs.Borrow.{Lends, sem};
+ghost use Rattle.lock_guard.specs.Inner.{is_filled};
+
+use crate::guard::{Acquire, AcquireFair, Inner, ValueGuard, ValueGuardMut};
+
+/// A lock with the token of one acquisition and the value that it shows. The end gives the value back, and then the
+/// token.
+///
+/// What it borrows lies in its type parameter, so that a proof follows what is written through it.
+pub struct Held<L: Acquire> {
+    pub lock: L,
+    pub inner: Inner<L::Token, L::Shown>,
+    ghost filled: { is_filled inner ≡ true },
+}
+
+impl<L: Acquire> Held<L> {
+    ghost use Rattle.lock_guard.specs.Held.{held_value};
+
+    /// The lock held by that token of its own.
+    pub fn new(lock: L, token: L::Token) -> Held<L>
+        ensures { result.lock ≡ lock }
+    {
+        let shown = lock.show();
+        Held {
+            lock,
+            inner: Inner::Filled(token, shown),
+        }
+    }
+
+    /// Gives the value back, and hands out the lock with its token.
+    pub fn into_token(self) -> (L, L::Token)
+        ensures { result.0 ≡ self.lock }
+    {
+        let Held { lock, inner } = self;
+        (lock, inner.into_token())
+    }
+
+    /// The inner part, still held. Whoever takes it gives the token back to the lock.
+    pub fn into_inner(self) -> Inner<L::Token, L::Shown>
+        ensures { result ≡ self.inner }
+    {
+        let Held { lock: _, inner } = self;
+        inner
+    }
+
+    pub fn value(&self) -> &<L::Shown as ValueGuard>::Value
+        ensures { held_value L.Shown.shown self.now ≡ Some result.now }
+    {
+        self.inner.value()
+    }
+
+    /// Gives the lock up for the length of the closure.
+    pub fn unlocked<U, F: FnOnce() -> U>(&mut self, f: F) -> U
+        requires { F.IsAlwaysCallable f }
+        ensures answer { F.post f result }
+        ensures lock { self.new.lock ≡ self.old.lock }
+    {
+        self.lock.release(self.inner.empty());
+        let answer = f();
+        self.inner.refill(&self.lock);
+        answer
+    }
+}
+
+impl<L: Acquire> Held<L>
+where
+    L::Shown: ValueGuardMut,
+{
+    ghost use Rattle.lock_guard.specs.contracts.guard.held.Held.{the_row};
+    ghost use Rattle.lock_guard.specs.Held.{held_value, held_with_value};
+
+    pub fn value_mut(&mut self) -> &mut <L::Shown as ValueGuard>::Value
+        ensures* writes_back { sem 𝓛 (Lends (the_row L.row L.Shown.row L.Token.row L.Waiter.row L.Shown.Value.row L.Shown.ValueGuard) L.Shown.Value.row self.entry result (held_with_value L.Shown.with_shown self.old)) }
+        ensures value { held_value L.Shown.shown self.old ≡ Some result.now }
+    {
+        self.inner.value_mut()
+    }
+}
+
+impl<L: AcquireFair> Held<L> {
+    /// Ends the guard, and lets those that wait go first.
+    pub fn unlock_fair(self) {
+        let (lock, token) = self.into_token();
+        lock.release_fair(token);
+    }
+
+    /// `unlocked`, by a fair release.
+    pub fn unlocked_fair<U, F: FnOnce() -> U>(&mut self, f: F) -> U
+        requires { F.IsAlwaysCallable f }
+        ensures answer { F.post f result }
+        ensures lock { self.new.lock ≡ self.old.lock }
+    {
+        self.lock.release_fair(self.inner.empty());
+        let answer = f();
+        self.inner.refill(&self.lock);
+        answer
+    }
+
+    /// Lets those that wait go first, and acquires again.
+    pub fn bump(&mut self)
+        ensures { self.new.lock ≡ self.old.lock }
+    {
+        let next = self.lock.bump(self.inner.empty());
+        self.inner.fill(next, self.lock.show());
+    }
+}
+
+impl<L: Acquire> Drop for Held<L> {
+    fn drop(self) {
+        let (lock, token) = self.into_token();
+        lock.release(token);
+    }
+}

@@ -1,0 +1,91 @@
+//! The inner part of a guard.
+ghost use Rattle.std.specs.Prelude.{◌≡◌, true, false, Some};
+ghost use Rattle.std.specs.Borrow.{Lends, sem};
+ghost use Rattle.lock_guard.specs.Inner.{is_filled, inner_value, inner_with_value};
+ghost use Rattle.lock_guard.specs.contracts.guard.inner.Inner.{the_row};
+
+use crate::guard::{Acquire, ValueGuard, ValueGuardMut};
+use std::mem;
+
+/// A token with what shows the value, or neither. It cannot be dropped: whoever empties it gives the token back.
+pub enum Inner<K, V> {
+    Filled(K, V),
+    Empty,
+}
+
+impl<K, V> Inner<K, V> {
+    /// Fills an empty part.
+    pub fn fill(&mut self, token: K, shown: V)
+        requires { is_filled self.old ≡ false }
+        ensures { is_filled self.new ≡ true }
+    {
+        self.put(Inner::Filled(token, shown));
+    }
+
+    /// Puts a part where an empty one is.
+    pub fn put(&mut self, inner: Inner<K, V>)
+        requires { is_filled self.old ≡ false }
+        ensures { self.new ≡ inner }
+    {
+        match mem::replace(self, inner) {
+            Inner::Filled(_token, _shown) => unreachable!(),
+            Inner::Empty => {}
+        }
+    }
+}
+
+impl<K, V: Drop> Inner<K, V> {
+    /// Gives the value back, and hands the token out.
+    pub fn empty(&mut self) -> K
+        requires { is_filled self.old ≡ true }
+        ensures { is_filled self.new ≡ false }
+    {
+        mem::replace(self, Inner::Empty).into_token()
+    }
+
+    /// Gives the value back, and hands the token out.
+    pub fn into_token(self) -> K
+        requires { is_filled self ≡ true }
+    {
+        match self {
+            Inner::Filled(token, shown) => {
+                drop(shown);
+                token
+            }
+            Inner::Empty => unreachable!(),
+        }
+    }
+}
+
+impl<K, V: ValueGuard> Inner<K, V> {
+    /// Waits for a token of the lock, and fills an empty part with it.
+    pub fn refill<L: Acquire<Token = K, Shown = V>>(&mut self, lock: &L)
+        requires { is_filled self.old ≡ false }
+        ensures { is_filled self.new ≡ true }
+    {
+        self.fill(lock.acquire(), lock.show());
+    }
+
+    pub fn value(&self) -> &V::Value
+        requires { is_filled self.now ≡ true }
+        ensures { inner_value V.shown self.now ≡ Some result.now }
+    {
+        match self {
+            Inner::Filled(_, shown) => shown.value(),
+            Inner::Empty => unreachable!(),
+        }
+    }
+}
+
+impl<K, V: ValueGuardMut> Inner<K, V> {
+    pub fn value_mut(&mut self) -> &mut V::Value
+        requires { is_filled self.old ≡ true }
+        ensures* writes_back { sem 𝓛 (Lends (the_row K.row V.row) V.Value.row self.entry result (inner_with_value V.with_shown self.old)) }
+        ensures value { inner_value V.shown self.old ≡ Some result.now }
+    {
+        match self {
+            Inner::Filled(_, shown) => shown.value_mut(),
+            Inner::Empty => unreachable!(),
+        }
+    }
+}

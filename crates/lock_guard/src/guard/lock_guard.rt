@@ -1,0 +1,72 @@
+//! Guards of locks, seen as the value behind them.
+ghost use Rattle.std.specs.Prelude.{◌≡◌, Option, Some};
+ghost use Rattle.std.specs.Borrow.{Lends, sem};
+ghost use Rattle.lock_guard.specs.Held.{held_value, held_with_value, held_with_same, held_value_with};
+
+use crate::guard::{Acquire, AcquireFair, Held, ValueGuard, ValueGuardMut};
+
+/// What shows the value of a lock to those who hold it. Its end gives the lock up.
+pub trait LockGuard: Drop {
+    type Value;
+
+    /// The value, which is there outside `unlocked`.
+    ghost value_of: { Self → Option Self.Value };
+
+    fn value(&self) -> &Self::Value
+        ensures { value_of self.now ≡ Some result.now };
+}
+
+/// What lends the value of a lock.
+pub trait LockGuardMut: LockGuard {
+    /// The guard with another value behind it.
+    ghost with_value: { Self → Self.Value → Self };
+
+    fn value_mut(&mut self) -> &mut Self::Value
+        ensures* writes_back { sem 𝓛 (Lends Self.row Self.Value.row self.entry result (with_value self.old)) }
+        ensures value { Self.value_of self.old ≡ Some result.now };
+
+    /// Writing back what is shown changes nothing.
+    ghost with_same: { (guard : Self) (value : Self.Value) →
+        Self.value_of guard ≡ Some value → with_value guard value ≡ guard };
+
+    /// What was written is shown.
+    ghost value_with: { (guard : Self) (old new : Self.Value) →
+        Self.value_of guard ≡ Some old → Self.value_of (with_value guard new) ≡ Some new };
+}
+
+/// What can hand its lock on in the order of those that wait.
+pub trait LockGuardFair: LockGuard {
+    /// Ends the guard, and lets those that wait go first.
+    fn unlock_fair(self);
+}
+
+impl<L: Acquire> LockGuard for Held<L> {
+    type Value = <L::Shown as ValueGuard>::Value;
+
+    ghost value_of = { held_value L.Shown.shown };
+
+    fn value(&self) -> &<L::Shown as ValueGuard>::Value {
+        Held::value(self)
+    }
+}
+
+impl<L: Acquire> LockGuardMut for Held<L>
+where
+    L::Shown: ValueGuardMut,
+{
+    ghost with_value = { held_with_value L.Shown.with_shown };
+
+    fn value_mut(&mut self) -> &mut <L::Shown as ValueGuard>::Value {
+        Held::value_mut(self)
+    }
+
+    ghost with_same = { held_with_same L.Shown.shown L.Shown.with_shown L.Shown.with_same };
+
+    ghost value_with = { held_value_with L.Shown.shown L.Shown.with_shown L.Shown.shown_with };
+}
+
+impl<L: AcquireFair> LockGuardFair for Held<L> {
+    fn unlock_fair(self) {
+        Held::unlock_fair(self);
+    }
+}

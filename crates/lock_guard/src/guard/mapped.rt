@@ -1,0 +1,271 @@
+//! Guards of a part of the value.
+ghost use Rattle.std.specs.Prelude.{◌≡◌, None, Some, IsSome, IfOk, IfErr, MatchBool, option_and_then, option_copied};
+ghost use Rattle.std.specs.Option.{option_copied_mut};
+ghost use Rattle.std.specs.Borrow.{Lends, LendsIf, sem};
+ghost use Rattle.lock_guard.specs.GuardPart.{guard_part, guard_with_part};
+
+use crate::guard::{LockGuard, LockGuardFair, LockGuardMut};
+use lock_base::project::{Missed, Project, Then, TryProject};
+use std::fmt;
+use std::fmt::{Debug, Display, Formatter};
+use std::ops::{Deref, DerefMut};
+
+/// The right to a part of the value that a guard of type `G` shows. It keeps no fact of its part.
+#[derive(Drop)]
+pub struct Mapped<G, P> {
+    guard: G,
+    projection: P,
+}
+
+impl<G: LockGuard, P: TryProject<G::Value>> Mapped<G, P> {
+    ghost use Rattle.lock_guard.specs.GuardPart.{guard_miss};
+    ghost use Rattle.lock_base.specs.Then.{then};
+    ghost use Rattle.lock_guard.specs.Mapped.{IsMapOf, mapped_part};
+
+    /// The guard of the part by a projection that always has one.
+    pub fn of(guard: G, projection: P) -> Self
+    where
+        P: Project<G::Value>,
+        ensures { IsMapOf guard projection result }
+    {
+        Mapped { guard, projection }
+    }
+
+    /// The guard of the part, or the same guard where there is none.
+    pub fn try_of(guard: G, projection: P) -> Result<Self, G>
+        ensures found { IfOk result (λ _. IsSome (guard_part G.value_of (P.lens projection) guard)) }
+        ensures mapped { IfOk result (IsMapOf guard projection) }
+        ensures missed { IfErr result (λ _. guard_part G.value_of (P.lens projection) guard ≡ None) }
+        ensures back { IfErr result (λ back. back ≡ guard) }
+    {
+        let mapped = Mapped { guard, projection };
+        if mapped.has_part() {
+            return Ok(mapped);
+        }
+        Err(mapped.into_guard())
+    }
+
+    /// The guard of the part, or the same guard with what the projection tells of a value without one.
+    pub fn try_of_or_err(guard: G, projection: P) -> Result<Self, (G, P::Miss)>
+        ensures found { IfOk result (λ _. IsSome (guard_part G.value_of (P.lens projection) guard)) }
+        ensures mapped { IfOk result (IsMapOf guard projection) }
+        ensures missed { IfErr result (λ _. guard_part G.value_of (P.lens projection) guard ≡ None) }
+        ensures back { IfErr result (λ back. back.0 ≡ guard) }
+        ensures miss { IfErr result (λ back. guard_miss G.value_of (P.missed projection) guard ≡ Some back.1) }
+    {
+        let mapped = Mapped { guard, projection };
+        if mapped.has_part() {
+            return Ok(mapped);
+        }
+        let miss = mapped.miss();
+        Err((mapped.into_guard(), miss))
+    }
+
+    /// The part, where the value has one.
+    pub fn get(guard: &Self) -> Option<&P::Part>
+        ensures { option_copied result ≡ mapped_part G.value_of P.lens guard.now }
+    {
+        guard.projection.get(guard.guard.value())
+    }
+
+    /// The guard of the part of the part, by a projection that always has one.
+    pub fn map<Q: Project<P::Part>>(guard: Self, projection: Q) -> Mapped<G, Then<P, Q>>
+        ensures { IsMapOf guard.guard (then guard.projection projection) result }
+    {
+        guard.then(projection)
+    }
+
+    /// The guard of the part of the part, or the same guard where there is none.
+    pub fn try_map<Q: TryProject<P::Part>>(
+        guard: Self,
+        projection: Q,
+    ) -> Result<Mapped<G, Then<P, Q>>, Self>
+        ensures found { IfOk result (λ _. IsSome (option_and_then (Q.lens projection).part (mapped_part G.value_of P.lens guard))) }
+        ensures mapped { IfOk result (IsMapOf guard.guard (then guard.projection projection)) }
+        ensures missed { IfErr result (λ _. option_and_then (Q.lens projection).part (mapped_part G.value_of P.lens guard) ≡ None) }
+        ensures back { IfErr result (λ back. back ≡ guard) }
+    {
+        let both = guard.then(projection);
+        if both.has_part() {
+            return Ok(both);
+        }
+        Err(both.into_first())
+    }
+
+    /// The guard of the part of the part, or the same guard with what was missed.
+    pub fn try_map_or_err<Q: TryProject<P::Part>>(
+        guard: Self,
+        projection: Q,
+    ) -> Result<Mapped<G, Then<P, Q>>, (Self, Missed<P::Miss, Q::Miss>)>
+        ensures found { IfOk result (λ _. IsSome (option_and_then (Q.lens projection).part (mapped_part G.value_of P.lens guard))) }
+        ensures mapped { IfOk result (IsMapOf guard.guard (then guard.projection projection)) }
+        ensures missed { IfErr result (λ _. option_and_then (Q.lens projection).part (mapped_part G.value_of P.lens guard) ≡ None) }
+        ensures back { IfErr result (λ back. back.0 ≡ guard) }
+        ensures miss { IfErr result (λ back.
+            guard_miss G.value_of (⟦<Then<P, Q> as TryProject<G::Value>>⟧.missed (then guard.projection projection)) guard.guard ≡ Some back.1) }
+    {
+        let both = guard.then(projection);
+        if both.has_part() {
+            return Ok(both);
+        }
+        let miss = both.miss();
+        Err((both.into_first(), miss))
+    }
+
+    /// Ends the guard, and lets those that wait go first.
+    pub fn unlock_fair(guard: Self)
+    where
+        G: LockGuardFair,
+    {
+        guard.into_guard().unlock_fair();
+    }
+
+    fn has_part(&self) -> bool
+        ensures { MatchBool result
+            (IsSome (mapped_part G.value_of P.lens self.now))
+            (mapped_part G.value_of P.lens self.now ≡ None) }
+    {
+        Mapped::get(self).is_some()
+    }
+
+    /// What the projection tells of a value without a part.
+    fn miss(&self) -> P::Miss
+        ensures { mapped_part G.value_of P.lens self.now ≡ None →
+            guard_miss G.value_of (P.missed self.now.projection) self.now.guard ≡ Some result }
+    {
+        self.projection.miss(self.guard.value())
+    }
+
+    fn into_guard(self) -> G
+        ensures { result ≡ self.guard }
+    {
+        let Mapped {
+            guard,
+            projection: _,
+        } = self;
+        guard
+    }
+
+    fn then<Q>(self, second: Q) -> Mapped<G, Then<P, Q>>
+        ensures { IsMapOf self.guard (then self.projection second) result }
+    {
+        let Mapped {
+            guard,
+            projection: first,
+        } = self;
+        Mapped {
+            guard,
+            projection: Then { first, second },
+        }
+    }
+}
+
+impl<G, P, Q: Drop> Mapped<G, Then<P, Q>> {
+    ghost use Rattle.lock_guard.specs.Mapped.{IsMapOf};
+
+    /// The guard by the first projection alone.
+    fn into_first(self) -> Mapped<G, P>
+        ensures { IsMapOf self.guard self.projection.first result }
+    {
+        let Mapped {
+            guard,
+            projection: Then { first, second: _ },
+        } = self;
+        Mapped {
+            guard,
+            projection: first,
+        }
+    }
+}
+
+impl<G: LockGuardMut, P: TryProject<G::Value> + Copy> Mapped<G, P> {
+    ghost use Rattle.lock_guard.specs.contracts.guard.mapped.Mapped.{the_row};
+    ghost use Rattle.lock_guard.specs.Mapped.{mapped_part, mapped_with_part};
+
+    /// The part, where the value has one. What is written through it is put into the value.
+    ///
+    /// The projection is copied, since a proof follows no field that is lent beside the guard. One that is not `Copy` is
+    /// lent: a reference to a projection is a projection.
+    pub fn get_mut(guard: &mut Self) -> Option<&mut P::Part>
+        ensures* writes_back { sem 𝓛 (LendsIf (the_row G.row P.row) P.Part.row guard.entry result
+            (mapped_with_part G.value_of G.with_value P.lens guard.old) guard.old) }
+        ensures value { option_copied_mut result ≡ mapped_part G.value_of P.lens guard.old }
+    {
+        let projection = guard.projection;
+        part_mut(&mut guard.guard, &projection)
+    }
+}
+
+impl<G: LockGuard, P: Project<G::Value>> Deref for Mapped<G, P> {
+    ghost use Rattle.lock_guard.specs.Mapped.{mapped_part};
+
+    type Target = P::Part;
+
+    ghost deref_gives = { λ mapped part. mapped_part G.value_of P.lens mapped ≡ Some part };
+
+    fn deref(&self) -> &P::Part {
+        self.projection.of(self.guard.value())
+    }
+}
+
+impl<G: LockGuardMut, P: Project<G::Value> + Copy> DerefMut for Mapped<G, P> {
+    ghost use Rattle.lock_guard.specs.contracts.guard.mapped.Mapped.{the_row};
+    ghost use Rattle.lock_guard.specs.Mapped.{mapped_part, mapped_with_part};
+
+    ghost deref_mut_gives = { λ mapped part. mapped_part G.value_of P.lens mapped ≡ Some part };
+
+    fn deref_mut(&mut self) -> &mut P::Part
+        ensures* writes_back { sem 𝓛 (Lends (the_row G.row P.row) P.Part.row self.entry result
+            (mapped_with_part G.value_of G.with_value P.lens self.old)) }
+        ensures value { mapped_part G.value_of P.lens self.old ≡ Some result.now }
+    {
+        let projection = self.projection;
+        total_part_mut(&mut self.guard, &projection)
+    }
+}
+
+impl<G: LockGuard, P: Project<G::Value>> Debug for Mapped<G, P>
+where
+    P::Part: Debug,
+{
+    fn fmt<W: fmt::Write>(&self, f: &mut Formatter<W>) -> fmt::Result {
+        self.deref().fmt(f)
+    }
+}
+
+impl<G: LockGuard, P: Project<G::Value>> Display for Mapped<G, P>
+where
+    P::Part: Display,
+{
+    fn fmt<W: fmt::Write>(&self, f: &mut Formatter<W>) -> fmt::Result {
+        self.deref().fmt(f)
+    }
+}
+
+/// The part of the value that a guard lends.
+fn part_mut<'a, G: LockGuardMut, P: TryProject<G::Value>>(
+    guard: &'a mut G,
+    projection: &P,
+) -> Option<&'a mut P::Part>
+where
+    P: 'a,
+    ensures* writes_back { sem 𝓛 (LendsIf G.row P.Part.row guard.entry result
+        (guard_with_part G.value_of G.with_value (P.lens projection.now) guard.old) guard.old) }
+    ensures value { option_copied_mut result ≡ guard_part G.value_of (P.lens projection.now) guard.old }
+{
+    P::get_mut(guard.value_mut(), projection)
+}
+
+/// The part of the value that a guard lends, by a projection that always has one.
+fn total_part_mut<'a, G: LockGuardMut, P: Project<G::Value>>(
+    guard: &'a mut G,
+    projection: &P,
+) -> &'a mut P::Part
+where
+    P: 'a,
+    ensures* writes_back { sem 𝓛 (Lends G.row P.Part.row guard.entry result
+        (guard_with_part G.value_of G.with_value (P.lens projection.now) guard.old)) }
+    ensures value { guard_part G.value_of (P.lens projection.now) guard.old ≡ Some result.now }
+{
+    P::of_mut(guard.value_mut(), projection)
+}

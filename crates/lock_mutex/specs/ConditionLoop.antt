@@ -1,0 +1,56 @@
+-- The condition loop: a list of checks, with a wait between one check and the next.
+use Rattle.std.specs.Prelude.{◌≡◌, Bool, true, false, Option, None, Some, List, [], ◌∷◌, ⊤}
+use Rattle.std.specs.Borrow.{MutBor}
+use Rattle.std.specs.Fn.{Mut, CalledAtMut}
+use Rattle.lock_mutex.specs.declared.condition_loop.loop_end.LoopEnd.{LoopEnd}
+use Rattle.lock_mutex.specs.declared.condition_loop.loop_end.LoopEnd.TheVariants.{False, TimedOut, RanOut}
+
+module _ {F W X : Type 0} (calls : Mut F (MutBor X × Unit {0}) (Bool × (MutBor X × Unit {0}))) (current : W → X) (with_current : W → X → W) (waited : W → Option Bool → W → Type 0) where
+  -- a check: the condition is called on the value as it is, answers, and may change itself and the value
+  pub record Check : Type 0 where
+    -- whether the wait before this check timed out
+    pub late : Bool
+    pub condition : F
+    pub waits : W
+    pub answer : Bool
+    pub next_condition : F
+    pub left : X
+    pub called : CalledAtMut calls condition (current waits) answer next_condition left
+
+  abbrev pub left_by : Check → W
+  left_by check = with_current check.waits check.left
+
+  -- a check answers true, the wait before it did not time out, and the next check is made on what the wait after it leaves
+  pub record LeadsTo (check next : Check) : Type 0 where
+    pub holds : check.answer ≡ true
+    pub in_time : check.late ≡ false
+    pub waits : waited (left_by check) (Some next.late) next.waits
+    pub condition : next.condition ≡ check.next_condition
+
+  -- each check leads to the next
+  abbrev pub InTurn : Check → List Check → Type 0
+  InTurn check [] = ⊤
+  InTurn check (next ∷ rest) = LeadsTo check next × InTurn next rest
+
+  abbrev pub last_of : Check → List Check → Check
+  last_of check [] = check
+  last_of check (next ∷ rest) = last_of next rest
+
+  -- the last check answers false; or true after a wait that timed out; or true, no wait before it timed out, and
+  -- nothing is left to wait for
+  abbrev pub EndsBy : Check → LoopEnd → W → Type 0
+  EndsBy last False after = (last.answer ≡ false) × (after ≡ left_by last)
+  EndsBy last TimedOut after = (last.answer ≡ true) × (last.late ≡ true) × (after ≡ left_by last)
+  EndsBy last RanOut after = (last.answer ≡ true) × (last.late ≡ false) × waited (left_by last) None after
+
+  -- The first check is made on what is there at the start, where `late` says whether a wait timed out before. The value
+  -- after the loop is as the last check left it
+  pub record ConditionLoop (late : Bool) (condition : F) (waits : W) (end : LoopEnd) (after : W) : Type 0 where
+    pub first : Check
+    pub rest : List Check
+    pub starts_late : first.late ≡ late
+    pub starts_with : first.condition ≡ condition
+    pub starts_on : first.waits ≡ waits
+    pub in_turn : InTurn first rest
+    pub ends : EndsBy (last_of first rest) end after
+    pub value : current after ≡ (last_of first rest).left

@@ -1,0 +1,33 @@
+//! The condition loop.
+ghost use Rattle.std.specs.Prelude.{false};
+ghost use Rattle.lock_mutex.specs.ConditionLoop.{ConditionLoop};
+
+use crate::condition_loop::{LoopEnd, Waits};
+use std::sync::Wait;
+
+/// Checks the condition, and waits and checks again while it is true, until a wait timed out before the check or
+/// nothing is left to wait for. It may never return.
+pub fn run_loop<R: Wait, W: Waits, F: FnMut(&mut W::Value) -> bool>(
+    waiter: &R,
+    waits: &mut W,
+    mut condition: F,
+) -> LoopEnd
+    requires { F.IsAlwaysCallable condition }
+    ensures { ConditionLoop F.FnMut W.current W.with_current W.waited false
+        condition waits.old result waits.new }
+{
+    let mut timed_out = false;
+    for _ in waiter.forever() {
+        if !condition(waits.value()) {
+            return LoopEnd::False;
+        }
+        if timed_out {
+            return LoopEnd::TimedOut;
+        }
+        match waits.wait() {
+            None => return LoopEnd::RanOut,
+            Some(late) => timed_out = late,
+        }
+    }
+    unreachable!()
+}

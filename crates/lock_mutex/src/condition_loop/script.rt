@@ -1,0 +1,49 @@
+//! Waits that are written down beforehand.
+ghost use Rattle.std.specs.Prelude.{◌≡◌, Bool, [], ◌∷◌, IfSome, IsNone, ◌↔◌, refl};
+ghost use Rattle.lock_mutex.specs.Script.{present, to_come, with_present, Waited};
+
+use crate::condition_loop::Waits;
+use std::vec::IntoIter;
+
+/// A value, and for each wait to come what it leaves and whether it times out.
+#[derive(Drop)]
+pub struct Script<T> {
+    value: T,
+    waits: IntoIter<(T, bool)>,
+}
+
+impl<T: Drop> Script<T> {
+    /// The first entry has the present value, and its flag says nothing. Each wait goes to the next entry. None where
+    /// there is no entry.
+    pub fn new(entries: Vec<(T, bool)>) -> Option<Script<T>>
+        ensures none { IsNone result ↔ (entries.items ≡ []) }
+        ensures some { IfSome result (λ script.
+            (flag : Bool) × (entries.items ≡ (present script, flag) ∷ to_come script)) }
+    {
+        let mut waits = entries.into_iter();
+        let (value, _) = waits.next()?;
+        Some(Script { value, waits })
+    }
+}
+
+impl<T: Drop> Waits for Script<T> {
+    type Value = T;
+
+    ghost current = { present };
+
+    ghost with_current = { with_present };
+
+    ghost waited = { Waited };
+
+    ghost current_with = { λ script value. refl };
+
+    fn value(&mut self) -> &mut T {
+        &mut self.value
+    }
+
+    fn wait(&mut self) -> Option<bool> {
+        let (value, timed_out) = self.waits.next()?;
+        self.value = value;
+        Some(timed_out)
+    }
+}

@@ -1,3 +1,0 @@
-pub mod ConditionLoop
-pub mod Script
-pub mod ValueLoop
