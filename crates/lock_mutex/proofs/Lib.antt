@@ -1,3 +1,3 @@
 pub mod Loops
 pub mod Values
-pub mod Waits
+pub mod WaitLemmas

@@ -5,7 +5,7 @@ use lock_base::raw::Fault;
 use lock_guard::raw::{
     RawMutex, RawMutexFair, RawRwLock, RawRwLockDowngrade, RawRwLockFair, RawRwLockUpgrade,
 };
-use lock_raws::{Recorded, RecordingRaw, SequentialState};
+use lock_raws::{Arbiter, RecordingArbiter, RecordingRaw, TableArbiter};
 use std::alloc::Global;
 use std::clone::Clone;
 use std::sync::Wait;
@@ -132,23 +132,25 @@ fn limits_of_a_recording_lock(rt: HostRuntime) {
 }
 
 #[test]
-fn a_recorded_state_by_itself(rt: HostRuntime) {
-    let mut state = Recorded::new(rt.alloc(), 2, 3)
+fn a_recording_arbiter_by_itself(rt: HostRuntime) {
+    let mut arbiter: RecordingArbiter<TableArbiter> = RecordingArbiter::with_room(rt.alloc(), 2, 3)
         .ok()
         .expect(&rt, "ample memory");
-    let held = state.admit(Mode::Upgradable).expect(&rt, "the first token");
-    let held = state
-        .change(held, Mode::Shared)
+    let token = arbiter
+        .admit(Mode::Upgradable)
+        .expect(&rt, "the first token");
+    let token = arbiter
+        .change(token, Mode::Upgradable, Mode::Shared)
         .ok()
         .expect(&rt, "an admitted move");
-    state.give_back(held);
+    assert!(rt; arbiter.give_back(token, Mode::Shared));
     let wanted = [
         ModeStep::Acquire(Mode::Upgradable),
         ModeStep::Change(Mode::Upgradable, Mode::Shared),
         ModeStep::Release(Mode::Shared),
     ];
-    assert!(rt; state.journal() == wanted.as_slice());
-    assert!(rt; !state.stopped());
+    assert!(rt; arbiter.journal() == wanted.as_slice());
+    assert!(rt; !arbiter.stopped());
 }
 
 #[test]
