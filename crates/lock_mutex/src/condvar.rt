@@ -68,7 +68,7 @@ impl<C: RawCondvar> Condvar<C> {
         ensures checks { WaitsWhile F.FnMut condition (guard_value mutex_guard_value guard.old) false (guard_value mutex_guard_value guard.new) }
     {
         let sleep = UntilNotified { raw: &self.raw };
-        let waiter = guard.held.lock.raw.waiter();
+        let waiter = guard.held.lock.mutex.raw.waiter();
         sleep_while(waiter, &mut guard.held, sleep, condition);
     }
 }
@@ -103,7 +103,7 @@ where
     ) -> WaitTimeoutResult
         ensures { lock_of guard.new ≡ lock_of guard.old }
     {
-        let mutex = guard.held.lock;
+        let mutex = guard.held.lock.mutex;
         let late = trade(&mut guard.held, |token| {
             self.raw.wait_for(&mutex.raw, token, &timeout)
         });
@@ -125,7 +125,7 @@ where
             raw: &self.raw,
             deadline,
         };
-        let waiter = guard.held.lock.raw.waiter();
+        let waiter = guard.held.lock.mutex.raw.waiter();
         let late = sleep_while(waiter, &mut guard.held, sleep, condition);
         WaitTimeoutResult { late }
     }

@@ -3,37 +3,38 @@ ghost use Rattle.std.specs.Prelude.{◌≡◌, Some};
 ghost use Rattle.std.specs.Borrow.{Lends, sem};
 
 use crate::Mutex;
+use crate::borrowed::BorrowedMutex;
 use lock_guard::guard::{Acquire, AcquireFair, Held, ValueGuard, ValueGuardMut};
 use lock_guard::raw::{RawMutex, RawMutexFair};
 use std::fmt;
 use std::fmt::{Debug, Display, Formatter};
 use std::ops::{Deref, DerefMut};
 
-/// The right to the value of a mutex, `L` being a reference to it. Its end gives the mutex up.
+/// The right to the value of a mutex, `L` being what borrows it. Its end gives the mutex up.
 #[derive(Drop)]
 pub struct Guard<L: Acquire> {
     pub(crate) held: Held<L>,
 }
 
 /// The right to the value of a mutex. Its end gives the mutex up.
-pub type MutexGuard<'a, R, T> = Guard<&'a Mutex<R, T>>;
+pub type MutexGuard<'a, R, T> = Guard<BorrowedMutex<'a, R, T>>;
 
-impl<'a, R: RawMutex, T> Guard<&'a Mutex<R, T>> {
-    ghost use Rattle.lock_mutex.specs.MutexGuard.{lock_of};
+impl<'a, R: RawMutex, T> Guard<BorrowedMutex<'a, R, T>> {
+    ghost use Rattle.lock_mutex.specs.MutexGuard.{lock_of, IsGuardOf};
 
     pub(crate) fn new(mutex: &'a Mutex<R, T>, token: R::Guard) -> MutexGuard<'a, R, T>
-        ensures { (lock_of result).ref_ptr ≡ mutex.entry.ref_ptr }
+        ensures { IsGuardOf mutex.entry result }
     {
         Guard {
-            held: Held::new(mutex, token),
+            held: Held::new(BorrowedMutex { mutex }, token),
         }
     }
 
     /// The mutex that the guard was made of.
     pub fn mutex(guard: &MutexGuard<'a, R, T>) -> &'a Mutex<R, T>
-        ensures { result.ref_ptr ≡ (lock_of guard.now).ref_ptr }
+        ensures { IsGuardOf result guard.now }
     {
-        guard.held.lock
+        guard.held.lock.mutex
     }
 
     /// Gives the mutex up for the length of the closure, and waits for it again.
@@ -46,7 +47,7 @@ impl<'a, R: RawMutex, T> Guard<&'a Mutex<R, T>> {
     }
 }
 
-impl<'a, R: RawMutexFair, T> Guard<&'a Mutex<R, T>> {
+impl<'a, R: RawMutexFair, T> Guard<BorrowedMutex<'a, R, T>> {
     ghost use Rattle.lock_mutex.specs.MutexGuard.{lock_of};
 
     /// Ends the guard, and lets those that wait go first.

@@ -3,6 +3,7 @@
 
 mod arc;
 mod arc_guard;
+mod borrowed;
 mod condition_loop;
 mod condvar;
 mod guard;

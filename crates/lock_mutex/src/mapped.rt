@@ -3,12 +3,13 @@ ghost use Rattle.std.specs.Prelude.{◌≡◌, None, Some, IsSome, IfOk, IfErr};
 ghost use Rattle.lock_guard.specs.GuardPart.{guard_part, guard_miss};
 ghost use Rattle.lock_guard.specs.Mapped.{IsMapOf};
 
-use crate::{Guard, Mutex};
+use crate::Guard;
+use crate::borrowed::BorrowedMutex;
 use lock_base::project::{Project, TryProject};
 use lock_guard::guard::{Acquire, Held, Mapped, ValueGuard};
 
 /// The right to a part of the value of a mutex. Its end gives the mutex up.
-pub type MappedMutexGuard<'a, R, T, P> = Mapped<Held<&'a Mutex<R, T>>, P>;
+pub type MappedMutexGuard<'a, R, T, P> = Mapped<Held<BorrowedMutex<'a, R, T>>, P>;
 
 impl<L: Acquire> Guard<L> {
     ghost use Rattle.lock_mutex.specs.MutexGuard.{held_of, guard_value};
