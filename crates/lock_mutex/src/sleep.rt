@@ -38,7 +38,7 @@ impl<C> Drop for UntilNotified<'_, C> {
 }
 
 impl<'a, C: RawCondvar, T> Sleep<BorrowedMutex<'a, C::RawMutex, T>> for UntilNotified<'_, C> {
-    ghost may_answer = { λ late. late ≡ false };
+    ghost may_answer = { λ timed_out. timed_out ≡ false };
 
     fn sleep(&self, held: &mut Held<BorrowedMutex<'a, C::RawMutex, T>>) -> bool {
         let mutex = held.lock.mutex;
