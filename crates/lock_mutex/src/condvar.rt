@@ -141,7 +141,8 @@ where
         ensures lock { lock_of guard.new ≡ lock_of guard.old }
         ensures checks { WaitsWhile F.FnMut condition (guard_value mutex_guard_value guard.old) (is_late result) (guard_value mutex_guard_value guard.new) }
     {
-        if let Some(deadline) = C::checked_duration_to_instant(&timeout) {
+        let mutex = guard.held.lock;
+        if let Some(deadline) = C::instant_after(&mutex.raw, &timeout) {
             return self.wait_while_until(guard, condition, deadline);
         }
         self.wait_while(guard, condition);
