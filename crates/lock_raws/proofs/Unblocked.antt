@@ -8,7 +8,7 @@ use Rattle.lock_base.specs.declared.machine.mode.Mode.TheVariants.{Shared, Exclu
 use Rattle.lock_base.specs.declared.machine.mode_step.ModeStep.{ModeStep}
 use Rattle.lock_base.specs.declared.machine.mode_step.ModeStep.TheVariants.{Acquire, Release, Change}
 use Rattle.lock_base.specs.declared.machine.bag.Bag.{Bag}
-use Rattle.lock_base.specs.Modes.{tokens, admits, may_become, count_of, one_less}
+use Rattle.lock_base.specs.Modes.{tokens, admits, count_of, one_less}
 use Rattle.lock_base.specs.ModeRuns.{has, Permits, bag_after}
 use Rattle.lock_base.specs.Tokens.{bag_of_tokens}
 use Rattle.lock_raws.specs.Unblocking.{unblocks, may_upgrade}
