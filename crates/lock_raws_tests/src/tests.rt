@@ -2,3 +2,4 @@
 mod markers;
 mod raws;
 mod recording;
+mod wakes;
