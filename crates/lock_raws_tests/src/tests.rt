@@ -5,3 +5,4 @@ mod raws;
 mod recording;
 mod threads;
 mod wake_ups;
+mod wakes;
