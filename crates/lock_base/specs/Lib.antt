@@ -7,6 +7,7 @@ pub mod Limits
 pub mod Tokens
 pub mod Operation
 pub mod Entries
+pub mod Register
 pub mod Machine
 pub mod Refusals
 pub mod Calls

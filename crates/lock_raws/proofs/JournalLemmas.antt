@@ -12,7 +12,7 @@ use Rattle.lock_states.specs.Table.{Table, tokens_of}
 use Rattle.lock_raws.specs.Journal.{Journal, empty_journal, written, IsJournalOf}
 use Rattle.lock_raws.specs.Recording.{Recording, IsRecording}
 use Rattle.lock_base.proofs.ModeLemmas.{IsModeRun-push}
-use Rattle.lock_raws.proofs.TokenSteps.{MakesStep}
+use Rattle.lock_base.proofs.TokenSteps.{MakesStep}
 
 empty_is_journal : (limit room : ℕ) → IsJournalOf limit empty_bag (empty_journal room)
 empty_is_journal limit room = record {

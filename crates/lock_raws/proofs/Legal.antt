@@ -12,7 +12,7 @@ use Rattle.lock_states.specs.Table.{Table, tokens_of}
 use Rattle.lock_raws.specs.LegalTable.{IsLegalTable}
 use Rattle.lock_base.proofs.TokenBags.{tokens-bag_of_tokens}
 use Rattle.lock_base.proofs.ModeLemmas.{compatible_acquired, tokens-one_more}
-use Rattle.lock_raws.proofs.TokenSteps.{MakesStep, acquires, releases, changes, stay_compatible}
+use Rattle.lock_base.proofs.TokenSteps.{MakesStep, acquires, releases, changes, stay_compatible}
 
 -- tokens that may be out together are no more than the limit
 pub compatible_within : (limit : ℕ) (b : Bag) → 0 < limit → AreCompatible limit b → tokens b ≤ limit

@@ -1,3 +1,2 @@
-pub mod TokenSteps
 pub mod Legal
 pub mod JournalLemmas

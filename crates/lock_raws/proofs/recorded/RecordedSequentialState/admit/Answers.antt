@@ -1,6 +1,6 @@
 use Rattle.std.proofs.Common.{refl, sym}
 use Rattle.lock_base.specs.declared.machine.mode_step.ModeStep.TheVariants.{Acquire}
-use Rattle.lock_raws.proofs.TokenSteps.{acquires}
+use Rattle.lock_base.proofs.TokenSteps.{acquires}
 use Rattle.lock_raws.proofs.JournalLemmas.{recording_stepped}
 use Rattle.lock_raws.proofs.recorded.RecordedSequentialState.admit.Goals as goal
 

@@ -2,7 +2,7 @@ use Rattle.std.proofs.Common.{sym, subst}
 use Rattle.lock_base.specs.declared.machine.mode_step.ModeStep.TheVariants.{Change}
 use Rattle.lock_base.specs.Tokens.{IsOutAs}
 use Rattle.lock_states.specs.Table.{Table, tokens_of}
-use Rattle.lock_raws.proofs.TokenSteps.{changes}
+use Rattle.lock_base.proofs.TokenSteps.{changes}
 use Rattle.lock_raws.proofs.JournalLemmas.{recording_stepped}
 use Rattle.lock_raws.proofs.recorded.RecordedSequentialState.change.Goals as goal
 
