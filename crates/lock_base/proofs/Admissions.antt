@@ -1,8 +1,8 @@
 -- Whom a register lets in, and that what is held stays legal then. A change of `lets_in` changes these lemmas.
-use Rattle.std.proofs.Common.{◌≡◌, ℕ, ◌<◌, ◌≤◌, Bool, true, false, ◌&&◌, ◌||◌, ◌==◌, nat_lt, if◌then◌else◌, List, [], ◌∷◌, ◌++◌, length, IsTrue, refl, ap, sym, ◌∙◌, subst, arith, eqb-true, eq-eqb, ltb-true, lt-ltb}
+use Rattle.std.proofs.Common.{◌≡◌, ℕ, ◌<◌, ◌≤◌, Bool, true, false, ◌&&◌, ◌==◌, nat_lt, if◌then◌else◌, List, [], ◌∷◌, ◌++◌, length, IsTrue, refl, ap, sym, ◌∙◌, subst, arith, eqb-true, eq-eqb, ltb-true, lt-ltb}
 use Rattle.std.proofs.lemmas.Bool.{and_parts, and_from, and_right, ne_eqb}
 use Rattle.lock_base.specs.declared.machine.mode.Mode.{Mode}
-use Rattle.lock_base.specs.Modes.{bag_of, one_more, AreCompatible, admits}
+use Rattle.lock_base.specs.Modes.{bag_of, AreCompatible, admits}
 use Rattle.lock_base.specs.Kind.{is_reentrant}
 use Rattle.lock_base.specs.Entries.{Entry, held_entries, held_count, held_bag, modes_of_entries, all_of_party}
 use Rattle.lock_base.specs.Register.{Register, lets_in, owns, is_full_count}
@@ -54,6 +54,13 @@ module _ (r : Register) (party : ℕ) (mode : Mode) where
 
   pub lets_in-mode : is_reentrant r.kind ≡ false → IsTrue (admits r.limit (held_bag r.entries) mode) → IsTrue (lets_in r party mode)
   lets_in-mode plain ok = from_else (is_reentrant r.kind) _ (admits r.limit (held_bag r.entries) mode) plain ok
+
+-- only what is held counts
+pub lets_in-same_held : (r : Register) (es : EntryMap) (party : ℕ) (mode : Mode) → held_entries es ≡ held_entries r.entries
+    → lets_in (record r { entries = es }) party mode ≡ lets_in r party mode
+lets_in-same_held r es party mode same =
+    ap (λ (hs : List Entry). if is_reentrant r.kind then all_of_party party hs && nat_lt (length hs) r.limit
+    else admits r.limit (bag_of (modes_of_entries hs)) mode) same
 
 -- the party of what is held
 

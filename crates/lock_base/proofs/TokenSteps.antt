@@ -44,8 +44,11 @@ module _ {K : Type 0} where
       let rest : one_less (bag_of_tokens old) from ≡ bag_of_tokens others =
       ap (λ (b : Bag). one_less b from) before ∙ one_less-one_more (bag_of_tokens others) from in
       record {
-        permitted = (subst (λ (b : Bag). 0 < count_of b from) (sym before) (count-one_more (bag_of_tokens others) from), move,
-            allowed);
+        permitted = (
+          subst (λ (b : Bag). 0 < count_of b from) (sym before) (count-one_more (bag_of_tokens others) from),
+          move,
+          allowed,
+        );
         after = bag_of_same new ((next, to) ∷ others) (replaced from others out.1) ∙ ap (λ (b : Bag). one_more b to) (sym rest);
       }
 

@@ -1,5 +1,5 @@
 -- What each call of the machine answers and leaves. A call that may have to wait answers `None` where it would.
-use Rattle.std.specs.Prelude.{ℕ, ◌+◌, ◌-◌, Bool, true, not, ◌==◌, if◌then◌else◌, Option, Some, None, Result, Ok, Err}
+use Rattle.std.specs.Prelude.{ℕ, ◌+◌, ◌-◌, Bool, not, ◌==◌, if◌then◌else◌, Option, Some, None, Result, Ok, Err}
 use Rattle.lock_base.specs.declared.machine.mode.Mode.{Mode}
 use Rattle.lock_base.specs.declared.machine.mode.Mode.TheVariants.{Shared, Exclusive, Upgradable}
 use Rattle.lock_base.specs.declared.machine.call.Want.{Want}

@@ -164,7 +164,7 @@ module _ {O T A : Type 0} (meaning : O → Operation T A) (m : Machine T) where
       → HasEffect O T A m (Call.Acquire want form party) (step meaning m (Call.Acquire want form party))
   of_acquire want form party =
       let call : Call O = Call.Acquire want form party in
-      of_unless (λ turn. HasEffect O T A m call (response_in_form form Reply.Guard turn)) m 
+      of_unless (λ turn. HasEffect O T A m call (response_in_form form Reply.Guard turn)) m
       (acquisition_refusal m.register want (id_of party)) _ (refused_kept O T A m call form Reply.Guard)
       (λ passed.
       let all = all_passed (not (has_want m.kind want)) (length m.entries == m.places) (m.last == 2 ^ 64 - 1)

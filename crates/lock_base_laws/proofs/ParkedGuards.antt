@@ -1,5 +1,5 @@
 -- A parked guard is resumed at once.
-use Rattle.std.proofs.Common.{◌≡◌, ℕ, Bool, true, false, ◌==◌, if◌then◌else◌, List, [], ◌∷◌, ◌++◌, Some, IsTrue, refl, ap, sym, ◌∙◌, subst}
+use Rattle.std.proofs.Common.{◌≡◌, ℕ, Bool, true, false, ◌==◌, if◌then◌else◌, [], ◌∷◌, ◌++◌, Some, IsTrue, refl, ap, sym, ◌∙◌, subst}
 use Rattle.lock_base.specs.declared.machine.call.Call.{Call}
 use Rattle.lock_base.specs.declared.machine.reply.Reply.{Reply}
 use Rattle.lock_base.specs.declared.raw.fault.Fault.TheVariants as fault

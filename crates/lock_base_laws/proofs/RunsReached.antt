@@ -14,7 +14,7 @@ use Rattle.lock_base.specs.Entries.{Entry, find, without, update, parked_entry, 
 use Rattle.lock_base.specs.Register.{Register, lets_in, with_guard, without_guard, with_change}
 use Rattle.lock_base.specs.Machine.{Machine, start}
 use Rattle.lock_base.specs.Legal.{AreLegallyHeld, AreNumbered}
-use Rattle.lock_base.specs.Steps.{step, after_all}
+use Rattle.lock_base.specs.Steps.{step}
 use Rattle.lock_base.proofs.ModeLemmas.{compatible_changed, compatible_empty}
 use Rattle.lock_base.proofs.Splices.{EntryMap, Splice, splice, length-middle, numbered_removed, numbered_changed, numbered_issued}
 use Rattle.lock_base.proofs.HeldEntries.{held_bag-more, more_than_rest, more_than_parked, resumed_is_more, moved_is_more, abandoned_holds_same, issued_is_more}
@@ -140,22 +140,23 @@ module _ (r : Register) (sound : IsSound r) where
         (subst (λ (k : Kind). AreLegallyHeld (is_reentrant k) r.limit (update guard (in_mode to) r.entries)) (sym kind)
         (subst (AreCompatible r.limit) (sym after) changed))
 
-module _ {O T A : Type 0} (m : Machine T) (sound : IsSound m.register) where
-  at_guard : (guard : ℕ) (e : Entry) {held : Bool} → IsOut m.register guard e held → Splice guard e m.entries
-  at_guard guard e out = splice guard e m.entries out.found
+-- where the guard of an effect stands
+at_guard : (r : Register) (guard : ℕ) (e : Entry) (held : Bool) → IsOut r guard e held → Splice guard e r.entries
+at_guard r guard e held out = splice guard e r.entries out.found
 
+module _ {O T A : Type 0} (m : Machine T) (sound : IsSound m.register) where
   pub effect_sound : {call : Call O} {reply : Reply A} {steps : List ModeStep} {after : Machine T} → Effect m call reply steps after
       → IsSound after.register
   effect_sound (Effect.kept unnumbered) = sound
   effect_sound (Effect.acquired party mode lets) = with_guard_sound m.register sound party mode lets
-  effect_sound (Effect.unlocked guard e out) = unlocked_sound m.register sound guard e (at_guard guard e out) out.held
-  effect_sound (Effect.parks guard e out) = parked_sound m.register sound guard e (at_guard guard e out) out.held
+  effect_sound (Effect.unlocked guard e out) = unlocked_sound m.register sound guard e (at_guard m.register guard e _ out) out.held
+  effect_sound (Effect.parks guard e out) = parked_sound m.register sound guard e (at_guard m.register guard e _ out) out.held
   effect_sound (Effect.resumes party guard e out own ok) =
-      resumed_sound m.register sound guard e (at_guard guard e out) party out.held own ok
-  effect_sound (Effect.abandoned guard e out) = abandoned_sound m.register sound guard e (at_guard guard e out) out.held
+      resumed_sound m.register sound guard e (at_guard m.register guard e _ out) party out.held own ok
+  effect_sound (Effect.abandoned guard e out) = abandoned_sound m.register sound guard e (at_guard m.register guard e _ out) out.held
   effect_sound (Effect.bumped party guard e out) = sound
   effect_sound (Effect.moves guard e to out kind move sole) =
-      moved_sound m.register sound guard e (at_guard guard e out) to out.held kind move sole
+      moved_sound m.register sound guard e (at_guard m.register guard e _ out) to out.held kind move sole
   effect_sound (Effect.written guard e answer value out kind mode) = sound
   effect_sound (Effect.written_upgraded guard e answer value out kind mode sole) = sound
 

@@ -18,14 +18,14 @@ use Rattle.lock_base.specs.Steps.{step}
 
 -- the calls that a kind of machine has
 abbrev pub has_call : {O : Type 0} → Kind → Call O → Bool
-has_call kind (Call.Acquire Lock form party) = not (is_rwlock kind)
-has_call kind (Call.Acquire Read form party) = is_rwlock kind
-has_call kind (Call.Acquire Write form party) = is_rwlock kind
-has_call kind (Call.Acquire UpgradableRead form party) = is_rwlock kind
-has_call kind (Call.Upgrade form party guard) = is_rwlock kind
+has_call kind (Call.Acquire Lock _ party) = not (is_rwlock kind)
+has_call kind (Call.Acquire Read _ party) = is_rwlock kind
+has_call kind (Call.Acquire Write _ party) = is_rwlock kind
+has_call kind (Call.Acquire UpgradableRead _ party) = is_rwlock kind
+has_call kind (Call.Upgrade _ party guard) = is_rwlock kind
 has_call kind (Call.Downgrade party guard) = is_rwlock kind
 has_call kind (Call.DowngradeToUpgradable party guard) = is_rwlock kind
-has_call kind (Call.WithUpgraded form party guard op) = is_rwlock kind
+has_call kind (Call.WithUpgraded _ party guard op) = is_rwlock kind
 has_call kind (Call.Change party guard op) = not (is_reentrant kind)
 has_call kind Call.IsLockedExclusive = is_rwlock kind
 has_call kind (Call.IsOwnedBy party) = is_reentrant kind
