@@ -1,8 +1,10 @@
 -- The register of a lock: its kind and its limits, and the guards that are out. It is all that admission looks at.
 use Rattle.std.specs.Prelude.{ℕ, ◌+◌, Bool, true, ◌&&◌, ◌==◌, nat_lt, if◌then◌else◌, List, [], ◌∷◌, ◌++◌}
 use Rattle.lock_base.specs.declared.machine.mode.Mode.{Mode}
+use Rattle.lock_base.specs.declared.machine.mode.Mode.TheVariants.{Exclusive}
+use Rattle.lock_base.specs.declared.machine.bag.Bag.{Bag}
 use Rattle.lock_base.specs.declared.machine.kind.Kind.{Kind}
-use Rattle.lock_base.specs.Modes.{admits}
+use Rattle.lock_base.specs.Modes.{empty_bag, one_more, admits}
 use Rattle.lock_base.specs.Kind.{is_reentrant}
 use Rattle.lock_base.specs.Entries.{Entry, without, update, held_entries, held_bag, held_count, all_of_party, some_of_party}
 
@@ -36,6 +38,13 @@ owns r party = some_of_party party (held_entries r.entries)
 -- whether the party owns a reentrant lock with as many levels as there may be
 abbrev pub is_full_count : Register → ℕ → Bool
 is_full_count r party = is_reentrant r.kind && (owns r party && (held_count r.entries == r.limit))
+
+-- the tokens that are out: those of the held guards, and on a reentrant lock one exclusive while any is held
+abbrev pub tokens_of : Register → Bag
+tokens_of r =
+    if is_reentrant r.kind
+    then (if held_count r.entries == 0 then empty_bag else one_more empty_bag Exclusive)
+    else held_bag r.entries
 
 -- how many of the tokens behind a lock may read: behind a reentrant one there is one token
 abbrev pub token_limit : Kind → ℕ → ℕ
