@@ -13,5 +13,6 @@ pub mod Refusals
 pub mod Calls
 pub mod Steps
 pub mod Legal
+pub mod Sound
 pub mod Lens
 pub mod Then

@@ -17,10 +17,10 @@ use Rattle.lock_base.specs.Refusals.{mode_of, acquisition_refusal, parked_guard}
 use Rattle.lock_base.specs.Calls.{Turn, blocking_answer, refuse, give, with_register, acquire, resume}
 use Rattle.lock_base.proofs.Splices.{find-append}
 use Rattle.lock_base.proofs.Admissions.{admitted_mode}
-use Rattle.lock_base_laws.specs.Sound.{IsModeOf}
+use Rattle.lock_base.specs.Sound.{IsModeOf}
 use Rattle.lock_base_laws.specs.Exclusion.{IsHeld, LetsNobodyIn, ExclusiveGuardsExclude, MutexGuardsExclude, NewGuardsAreHeld}
 use Rattle.lock_base_laws.proofs.Turns.{of_unless, of_guard, of_both}
-use Rattle.lock_base_laws.proofs.RunsReached.{out_mode}
+use Rattle.lock_base.proofs.SoundRegisters.{out_mode}
 use Rattle.lock_base_laws.proofs.GuardNumbers.{find-above}
 use Rattle.lock_base_laws.proofs.Written.{held_is_counted}
 
