@@ -14,6 +14,7 @@ pub use Rattle.lock_base.specs.Refusals
 pub use Rattle.lock_base.specs.Calls
 pub use Rattle.lock_base.specs.Steps
 pub use Rattle.lock_base.specs.Legal
+pub use Rattle.lock_base.specs.Sound
 pub use Rattle.lock_guard.specs.Closure
 pub use Rattle.lock_base.specs.Lens
 pub use Rattle.lock_base.specs.Then
