@@ -11,8 +11,11 @@ use Rattle.lock_base.proofs.ModeLemmas.{one_more-one_less, count-one_more}
 use Rattle.lock_states.specs.declared.word.PackedToken.{PackedToken}
 use Rattle.lock_states.specs.Packed.{token_of, tokens_in}
 
+-- how many of the tokens pass a test, mode by mode
 counted : (test : PackedToken × Mode → Bool) (b : Bag)
-    → count test (tokens_in b) ≡ count test (replicate b.shared (token_of Shared)) + (count test (replicate b.exclusive (token_of Exclusive)) + count test (replicate b.upgradable (token_of Upgradable)))
+    → count test (tokens_in b)
+    ≡ count test (replicate b.shared (token_of Shared))
+    + (count test (replicate b.exclusive (token_of Exclusive)) + count test (replicate b.upgradable (token_of Upgradable)))
 counted test b =
     let readers = replicate b.shared (token_of Shared) in
     let writers = replicate b.exclusive (token_of Exclusive) in
@@ -25,12 +28,22 @@ block test n t = let e : n + 1 ≡ suc n = omega arith in ap (λ (m : ℕ). coun
 
 -- one token of the mode more
 pub added : (b : Bag) (mode : Mode) → SameBag (tokens_in (one_more b mode)) (token_of mode ∷ tokens_in b)
-added b Shared = record { counts = λ test. omega (arith, counted test (one_more b Shared), counted test b, block test b.shared (token_of Shared)) }
-added b Exclusive = record { counts = λ test. omega (arith, counted test (one_more b Exclusive), counted test b, block test b.exclusive (token_of Exclusive)) }
-added b Upgradable = record { counts = λ test. omega (arith, counted test (one_more b Upgradable), counted test b, block test b.upgradable (token_of Upgradable)) }
+added b Shared =
+    record {
+      counts = λ test. omega (arith, counted test (one_more b Shared), counted test b, block test b.shared (token_of Shared));
+    }
+added b Exclusive =
+    record {
+      counts = λ test. omega (arith, counted test (one_more b Exclusive), counted test b, block test b.exclusive (token_of Exclusive));
+    }
+added b Upgradable =
+    record {
+      counts = λ test. omega (arith, counted test (one_more b Upgradable), counted test b, block test b.upgradable (token_of Upgradable));
+    }
 
 -- the counts of the tokens are the bag
 
+-- so many more of the mode
 abbrev plus : Bag → Mode → ℕ → Bag
 plus b Shared n = record b { shared = b.shared + n }
 plus b Exclusive n = record b { exclusive = b.exclusive + n }
@@ -42,14 +55,18 @@ plus_zero b Exclusive = same_counts b (plus b Exclusive 0) refl (omega arith) re
 plus_zero b Upgradable = same_counts b (plus b Upgradable 0) refl refl (omega arith)
 
 plus_suc : (b : Bag) (mode : Mode) (n : ℕ) → one_more (plus b mode n) mode ≡ plus b mode (suc n)
-plus_suc b Shared n = same_counts (one_more (plus b Shared n) Shared) (plus b Shared (suc n)) (omega arith) refl refl
-plus_suc b Exclusive n = same_counts (one_more (plus b Exclusive n) Exclusive) (plus b Exclusive (suc n)) refl (omega arith) refl
-plus_suc b Upgradable n = same_counts (one_more (plus b Upgradable n) Upgradable) (plus b Upgradable (suc n)) refl refl (omega arith)
+plus_suc b Shared n =
+    same_counts (one_more (plus b Shared n) Shared) (plus b Shared (suc n)) (omega arith) refl refl
+plus_suc b Exclusive n =
+    same_counts (one_more (plus b Exclusive n) Exclusive) (plus b Exclusive (suc n)) refl (omega arith) refl
+plus_suc b Upgradable n =
+    same_counts (one_more (plus b Upgradable n) Upgradable) (plus b Upgradable (suc n)) refl refl (omega arith)
 
 bag_of_block : (n : ℕ) (mode : Mode) (ts : List (PackedToken × Mode))
     → bag_of_tokens (replicate n (token_of mode) ++ ts) ≡ plus (bag_of_tokens ts) mode n
 bag_of_block zero mode ts = plus_zero (bag_of_tokens ts) mode
-bag_of_block (suc n) mode ts = ap (λ (b : Bag). one_more b mode) (bag_of_block n mode ts) ∙ plus_suc (bag_of_tokens ts) mode n
+bag_of_block (suc n) mode ts =
+    ap (λ (b : Bag). one_more b mode) (bag_of_block n mode ts) ∙ plus_suc (bag_of_tokens ts) mode n
 
 last_block : (n : ℕ) → bag_of_tokens (replicate n (token_of Upgradable)) ≡ plus empty_bag Upgradable n
 last_block zero = plus_zero empty_bag Upgradable
@@ -60,10 +77,12 @@ bag_of_tokens_in b =
     let writers = replicate b.exclusive (token_of Exclusive) ++ replicate b.upgradable (token_of Upgradable) in
     let last = last_block b.upgradable in
     let middle : bag_of_tokens writers ≡ plus (plus empty_bag Upgradable b.upgradable) Exclusive b.exclusive
-    = bag_of_block b.exclusive Exclusive (replicate b.upgradable (token_of Upgradable)) ∙ ap (λ (x : Bag). plus x Exclusive b.exclusive) last in
+    = bag_of_block b.exclusive Exclusive (replicate b.upgradable (token_of Upgradable))
+    ∙ ap (λ (x : Bag). plus x Exclusive b.exclusive) last in
     let all : bag_of_tokens (tokens_in b) ≡ plus (plus (plus empty_bag Upgradable b.upgradable) Exclusive b.exclusive) Shared b.shared
     = bag_of_block b.shared Shared writers ∙ ap (λ (x : Bag). plus x Shared b.shared) middle in
-    all ∙ same_counts (plus (plus (plus empty_bag Upgradable b.upgradable) Exclusive b.exclusive) Shared b.shared) b (omega arith) (omega arith) (omega arith)
+    all
+    ∙ same_counts (plus (plus (plus empty_bag Upgradable b.upgradable) Exclusive b.exclusive) Shared b.shared) b (omega arith) (omega arith) (omega arith)
 
 pub length_of_tokens_in : (b : Bag) → length (tokens_in b) ≡ tokens b
 length_of_tokens_in b = sym (tokens-bag_of_tokens (tokens_in b)) ∙ ap tokens (bag_of_tokens_in b)
@@ -95,7 +114,13 @@ none_pass test (suc n) t fails = omega (arith, none_pass test n t fails, fails_c
 
 none_strange : (b : Bag) → count is_strange (tokens_in b) ≡ 0
 none_strange b =
-    omega (arith, counted is_strange b, none_pass is_strange b.shared (token_of Shared) refl, none_pass is_strange b.exclusive (token_of Exclusive) refl, none_pass is_strange b.upgradable (token_of Upgradable) refl)
+    omega (
+      arith,
+      counted is_strange b,
+      none_pass is_strange b.shared (token_of Shared) refl,
+      none_pass is_strange b.exclusive (token_of Exclusive) refl,
+      none_pass is_strange b.upgradable (token_of Upgradable) refl,
+    )
 
 token_is : (b : Bag) (held mode : Mode) (others : List (PackedToken × Mode)) → IsOutIn (tokens_in b) (record { mode = held }) mode others → held ≡ mode
 token_is b Shared Shared others out = refl
@@ -118,11 +143,15 @@ pub stands : (b : Bag) (token : PackedToken) (mode : Mode) (others : List (Packe
     → IsOutIn (tokens_in b) token mode others → Stands b token mode others
 stands b token mode others out =
     let own = token_is b token.mode mode others out in
-    let whole : b ≡ one_more (bag_of_tokens others) mode = sym (bag_of_tokens_in b) ∙ bag_of_same (tokens_in b) ((token, mode) ∷ others) out in
-    let some : 0 < count_of b mode = subst (λ (x : Bag). 0 < count_of x mode) (sym whole) (count-one_more (bag_of_tokens others) mode) in
+    let whole : b ≡ one_more (bag_of_tokens others) mode
+    = sym (bag_of_tokens_in b) ∙ bag_of_same (tokens_in b) ((token, mode) ∷ others) out in
+    let some : 0 < count_of b mode
+    = subst (λ (x : Bag). 0 < count_of x mode) (sym whole) (count-one_more (bag_of_tokens others) mode) in
     let first : SameBag (token_of mode ∷ tokens_in (one_less b mode)) (tokens_in b)
-    = subst (λ (x : Bag). SameBag (token_of mode ∷ tokens_in (one_less b mode)) (tokens_in x)) (one_more-one_less b mode some) (turned (added (one_less b mode) mode)) in
-    let second : SameBag (tokens_in b) (token_of mode ∷ others) = subst (λ (m : Mode). SameBag (tokens_in b) ((record { mode = m }, mode) ∷ others)) own out in
+    = subst (λ (x : Bag). SameBag (token_of mode ∷ tokens_in (one_less b mode)) (tokens_in x)) (one_more-one_less b mode some)
+    (turned (added (one_less b mode) mode)) in
+    let second : SameBag (tokens_in b) (token_of mode ∷ others)
+    = subst (λ (m : Mode). SameBag (tokens_in b) ((record { mode = m }, mode) ∷ others)) own out in
     record { own = own; some = some; left = without_one (token_of mode) (joined first second) }
 
 -- the calls of a raw state
@@ -137,7 +166,8 @@ given_back b token mode others out =
     let s = stands b token mode others out in
     subst (λ (m : Mode). SameBag (tokens_in (one_less b m)) others) (sym s.own) s.left
 
-pub replaced : (b : Bag) (token : PackedToken) (to : Mode) → Replaces (tokens_in b) (tokens_in (one_more (one_less b token.mode) to)) token (record { mode = to }) to
+pub replaced : (b : Bag) (token : PackedToken) (to : Mode)
+    → Replaces (tokens_in b) (tokens_in (one_more (one_less b token.mode) to)) token (record { mode = to }) to
 replaced b token to from others out =
     joined (added (one_less b token.mode) to) (with_one (token_of to) (given_back b token from others out))
 
