@@ -6,3 +6,4 @@ mod raws;
 mod recording;
 mod threads;
 mod wake_ups;
+mod wakes;
