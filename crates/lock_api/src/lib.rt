@@ -33,6 +33,10 @@ pub use lock_raws::{
     RecordingRaw, SharedToken, SpuriousCondvar, TableArbiter, TokenArbiter, TokenRaw, Unchanged,
     UpgradableToken,
 };
+pub use lock_raws_timed::{RealTime, TimedCondvar, TimedRaw};
+pub use lock_raws_word::{
+    NoTime, SleepingCondvar, Timing, WordCore, WordLock, WordRaw, WordToken, wakes_are_of_bags,
+};
 pub use lock_remutex::{
     ArcReentrantMutexGuard, MappedReentrantMutexGuard, RawReentrantMutex, ReentrantMutex,
     ReentrantMutexGuard,
