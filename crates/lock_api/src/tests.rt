@@ -1,29 +1,6 @@
-//! Tests that span crates.
+//! Callers that name this crate alone.
 mod arc_callers;
-mod arc_mutex;
-mod arc_remutex;
-mod arc_rwlock;
-mod beside_desk;
 mod callers;
-mod condition_loop;
-mod condvar;
-mod counting;
-mod four_threads;
-mod liar;
-mod makers;
-mod mapped;
 mod mapped_callers;
-mod markers;
-mod mutex;
-mod mutex_rows;
-mod raws;
 mod recording;
-mod remutex;
-mod remutex_rows;
-mod rwlock;
 mod rwlock_callers;
-mod rwlock_counting;
-mod rwlock_liar;
-mod rwlock_rows;
-mod texts;
-mod tries;

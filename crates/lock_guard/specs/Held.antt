@@ -21,8 +21,10 @@ module _ {L V K W X : Type 0} {g : _} where
   }
 
   -- held locks with one lock and one inner part are equal
-  pub same_held : (lock : L) (inner : Inner K V) (p q : is_filled inner ≡ true) → ◌≡◌ {A = Held L V K W X g} (record { lock = lock; inner = inner; filled = p }) (record { lock = lock; inner = inner; filled = q })
-  same_held lock inner p q = ap (λ f. let made : Held L V K W X g = record { lock = lock; inner = inner; filled = f } in made) (Bool-set _ _ p q)
+  pub same_held : (lock : L) (inner : Inner K V) (p q : is_filled inner ≡ true)
+      → ◌≡◌ {A = Held L V K W X g} (record { lock = lock; inner = inner; filled = p }) (record { lock = lock; inner = inner; filled = q })
+  same_held lock inner p q =
+      ap (λ f. let made : Held L V K W X g = record { lock = lock; inner = inner; filled = f } in made) (Bool-set _ _ p q)
 
   same_held_at : (a b : Held L V K W X g) → a.lock ≡ b.lock → a.inner ≡ b.inner → a ≡ b
   same_held_at a b lock inner = λ i. record {
@@ -32,11 +34,15 @@ module _ {L V K W X : Type 0} {g : _} where
   }
 
   -- writing back what is shown changes nothing
-  pub held_with_same : (value_of : V → X) (with_value : V → X → V) → ((shown : V) → with_value shown (value_of shown) ≡ shown)
-      → (held : Held L V K W X g) (value : X) → held_value value_of held ≡ Some value → held_with_value with_value held value ≡ held
-  held_with_same value_of with_value law held value is = same_held_at _ _ refl (inner_with_same value_of with_value law held.inner value is)
+  pub held_with_same : (value_of : V → X) (with_value : V → X → V)
+      → ((shown : V) → with_value shown (value_of shown) ≡ shown) → (held : Held L V K W X g) (value : X)
+      → held_value value_of held ≡ Some value → held_with_value with_value held value ≡ held
+  held_with_same value_of with_value law held value is =
+      same_held_at _ _ refl (inner_with_same value_of with_value law held.inner value is)
 
   -- what was written is shown
-  pub held_value_with : (value_of : V → X) (with_value : V → X → V) → ((shown : V) (value : X) → value_of (with_value shown value) ≡ value)
-      → (held : Held L V K W X g) (old new : X) → held_value value_of held ≡ Some old → held_value value_of (held_with_value with_value held new) ≡ Some new
-  held_value_with value_of with_value law held old new is = inner_value_with value_of with_value law held.inner old new is
+  pub held_value_with : (value_of : V → X) (with_value : V → X → V)
+      → ((shown : V) (value : X) → value_of (with_value shown value) ≡ value) → (held : Held L V K W X g) (old new : X)
+      → held_value value_of held ≡ Some old → held_value value_of (held_with_value with_value held new) ≡ Some new
+  held_value_with value_of with_value law held old new is =
+      inner_value_with value_of with_value law held.inner old new is

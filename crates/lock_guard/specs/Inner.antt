@@ -21,19 +21,22 @@ module _ {K V : Type 0} where
     inner_with_value with_value (Filled token shown) value = Filled token (with_value shown value)
     inner_with_value with_value Empty value = Empty
 
-    pub is_filled-inner_with_value : (with_value : V → X → V) (inner : Inner K V) (value : X) → is_filled inner ≡ true → is_filled (inner_with_value with_value inner value) ≡ true
+    pub is_filled-inner_with_value : (with_value : V → X → V) (inner : Inner K V) (value : X)
+        → is_filled inner ≡ true → is_filled (inner_with_value with_value inner value) ≡ true
     is_filled-inner_with_value with_value (Filled token shown) value filled = refl
     is_filled-inner_with_value with_value Empty value filled = filled
 
     -- writing back what is shown changes nothing
-    pub inner_with_same : (value_of : V → X) (with_value : V → X → V) → ((shown : V) → with_value shown (value_of shown) ≡ shown)
-        → (inner : Inner K V) (value : X) → inner_value value_of inner ≡ Some value → inner_with_value with_value inner value ≡ inner
+    pub inner_with_same : (value_of : V → X) (with_value : V → X → V)
+        → ((shown : V) → with_value shown (value_of shown) ≡ shown) → (inner : Inner K V) (value : X)
+        → inner_value value_of inner ≡ Some value → inner_with_value with_value inner value ≡ inner
     inner_with_same value_of with_value law (Filled token shown) value is =
         ap (λ written. Filled token (with_value shown written)) (sym (same_Some _ _ is)) ∙ ap (Filled token) (law shown)
     inner_with_same value_of with_value law Empty value is = refl
 
     -- what was written is shown
-    pub inner_value_with : (value_of : V → X) (with_value : V → X → V) → ((shown : V) (value : X) → value_of (with_value shown value) ≡ value)
-        → (inner : Inner K V) (old new : X) → inner_value value_of inner ≡ Some old → inner_value value_of (inner_with_value with_value inner new) ≡ Some new
+    pub inner_value_with : (value_of : V → X) (with_value : V → X → V)
+        → ((shown : V) (value : X) → value_of (with_value shown value) ≡ value) → (inner : Inner K V) (old new : X)
+        → inner_value value_of inner ≡ Some old → inner_value value_of (inner_with_value with_value inner new) ≡ Some new
     inner_value_with value_of with_value law (Filled token shown) old new is = ap Some (law shown new)
     inner_value_with value_of with_value law Empty old new is = Prim.cc

@@ -5,11 +5,12 @@ use Rattle.std.specs.Fn.{Mut, CalledAtMut}
 use Rattle.lock_mutex.specs.declared.condition_loop.loop_end.LoopEnd.{LoopEnd}
 use Rattle.lock_mutex.specs.declared.condition_loop.loop_end.LoopEnd.TheVariants.{False, TimedOut, RanOut}
 
-module _ {F W X : Type 0} (calls : Mut F (MutBor X × Unit {0}) (Bool × (MutBor X × Unit {0}))) (current : W → X) (with_current : W → X → W) (waited : W → Option Bool → W → Type 0) where
+module _ {F W X : Type 0} (calls : Mut F (MutBor X × Unit {0}) (Bool × (MutBor X × Unit {0})))
+    (current : W → X) (with_current : W → X → W) (wait_gives : W → Option Bool → W → Type 0) where
   -- a check: the condition is called on the value as it is, answers, and may change itself and the value
   pub record Check : Type 0 where
     -- whether the wait before this check timed out
-    pub late : Bool
+    pub timed_out : Bool
     pub condition : F
     pub waits : W
     pub answer : Bool
@@ -17,14 +18,15 @@ module _ {F W X : Type 0} (calls : Mut F (MutBor X × Unit {0}) (Bool × (MutBor
     pub left : X
     pub called : CalledAtMut calls condition (current waits) answer next_condition left
 
-  abbrev pub left_by : Check → W
-  left_by check = with_current check.waits check.left
+  abbrev pub state_after : Check → W
+  state_after check = with_current check.waits check.left
 
-  -- a check answers true, the wait before it did not time out, and the next check is made on what the wait after it leaves
+  -- a check answers true, the wait before it did not time out, and the next check is made on what the wait after it
+  -- leaves
   pub record LeadsTo (check next : Check) : Type 0 where
     pub holds : check.answer ≡ true
-    pub in_time : check.late ≡ false
-    pub waits : waited (left_by check) (Some next.late) next.waits
+    pub in_time : check.timed_out ≡ false
+    pub waits : wait_gives (state_after check) (Some next.timed_out) next.waits
     pub condition : next.condition ≡ check.next_condition
 
   -- each check leads to the next
@@ -39,16 +41,16 @@ module _ {F W X : Type 0} (calls : Mut F (MutBor X × Unit {0}) (Bool × (MutBor
   -- the last check answers false; or true after a wait that timed out; or true, no wait before it timed out, and
   -- nothing is left to wait for
   abbrev pub EndsBy : Check → LoopEnd → W → Type 0
-  EndsBy last False after = (last.answer ≡ false) × (after ≡ left_by last)
-  EndsBy last TimedOut after = (last.answer ≡ true) × (last.late ≡ true) × (after ≡ left_by last)
-  EndsBy last RanOut after = (last.answer ≡ true) × (last.late ≡ false) × waited (left_by last) None after
+  EndsBy last False after = (last.answer ≡ false) × (after ≡ state_after last)
+  EndsBy last TimedOut after = (last.answer ≡ true) × (last.timed_out ≡ true) × (after ≡ state_after last)
+  EndsBy last RanOut after = (last.answer ≡ true) × (last.timed_out ≡ false) × wait_gives (state_after last) None after
 
-  -- The first check is made on what is there at the start, where `late` says whether a wait timed out before. The value
-  -- after the loop is as the last check left it
-  pub record ConditionLoop (late : Bool) (condition : F) (waits : W) (end : LoopEnd) (after : W) : Type 0 where
+  -- The first check is made on what is there at the start, where `timed_out` says whether a wait timed out before. The
+  -- value after the loop is as the last check left it
+  pub record ConditionLoop (timed_out : Bool) (condition : F) (waits : W) (end : LoopEnd) (after : W) : Type 0 where
     pub first : Check
     pub rest : List Check
-    pub starts_late : first.late ≡ late
+    pub starts_timed_out : first.timed_out ≡ timed_out
     pub starts_with : first.condition ≡ condition
     pub starts_on : first.waits ≡ waits
     pub in_turn : InTurn first rest

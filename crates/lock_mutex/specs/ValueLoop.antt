@@ -6,9 +6,11 @@ use Rattle.lock_mutex.specs.declared.condition_loop.loop_end.LoopEnd.{LoopEnd}
 use Rattle.lock_mutex.specs.ConditionLoop.{ConditionLoop}
 
 -- a wait may leave any value, and there is always one more
-abbrev pub leaves_any : {X : Type 0} → X → Option Bool → X → Type 0
-leaves_any before answer after = IsSome answer
+abbrev pub LeavesAny : {X : Type 0} → X → Option Bool → X → Type 0
+LeavesAny before answer after = IsSome answer
 
 -- the condition loop that waits on the value itself
-abbrev pub ValueLoop : {F X : Type 0} → Mut F (MutBor X × Unit {0}) (Bool × (MutBor X × Unit {0})) → F → X → LoopEnd → X → Type 0
-ValueLoop calls condition value end after = ConditionLoop calls (λ x. x) (λ x left. left) leaves_any false condition value end after
+abbrev pub ValueLoop : {F X : Type 0} → Mut F (MutBor X × Unit {0}) (Bool × (MutBor X × Unit {0}))
+    → F → X → LoopEnd → X → Type 0
+ValueLoop calls condition value end after =
+    ConditionLoop calls (λ x. x) (λ x left. left) LeavesAny false condition value end after

@@ -15,12 +15,15 @@ module _ {K V X : Type 0} where
   filled_value value_of (Filled token shown) filled = value_of shown
   filled_value value_of Empty filled = absurd (false_not_true filled)
 
-  pub inner_value-filled : (value_of : V → X) (inner : Inner K V) (filled : is_filled inner ≡ true) → inner_value value_of inner ≡ Some (filled_value value_of inner filled)
+  pub inner_value-filled : (value_of : V → X) (inner : Inner K V) (filled : is_filled inner ≡ true)
+      → inner_value value_of inner ≡ Some (filled_value value_of inner filled)
   inner_value-filled value_of (Filled token shown) filled = refl
   inner_value-filled value_of Empty filled = absurd (false_not_true filled)
 
-  pub filled_value-with : (value_of : V → X) (with_value : V → X → V) → ((shown : V) (value : X) → value_of (with_value shown value) ≡ value)
-      → (inner : Inner K V) (value : X) (filled : is_filled (inner_with_value with_value inner value) ≡ true) → filled_value value_of (inner_with_value with_value inner value) filled ≡ value
+  pub filled_value-with : (value_of : V → X) (with_value : V → X → V)
+      → ((shown : V) (value : X) → value_of (with_value shown value) ≡ value) → (inner : Inner K V) (value : X)
+      → (filled : is_filled (inner_with_value with_value inner value) ≡ true)
+      → filled_value value_of (inner_with_value with_value inner value) filled ≡ value
   filled_value-with value_of with_value law (Filled token shown) value filled = law shown value
   filled_value-with value_of with_value law Empty value filled = absurd (false_not_true filled)
 
@@ -31,6 +34,9 @@ module _ {L S V K W X : Type 0} {g : _} where
   abbrev pub waiting_with_value : (V → X → V) → Waiting L S V K W X g → X → Waiting L S V K W X g
   waiting_with_value with_value waiting value = record waiting { held = held_with_value with_value waiting.held value }
 
-  pub waiting_value-with : (value_of : V → X) (with_value : V → X → V) → ((shown : V) (value : X) → value_of (with_value shown value) ≡ value)
-      → (waiting : Waiting L S V K W X g) (value : X) → waiting_value value_of (waiting_with_value with_value waiting value) ≡ value
-  waiting_value-with value_of with_value law waiting value = filled_value-with value_of with_value law waiting.held.inner value _
+  pub waiting_value-with : (value_of : V → X) (with_value : V → X → V)
+      → ((shown : V) (value : X) → value_of (with_value shown value) ≡ value)
+      → (waiting : Waiting L S V K W X g) (value : X)
+      → waiting_value value_of (waiting_with_value with_value waiting value) ≡ value
+  waiting_value-with value_of with_value law waiting value =
+      filled_value-with value_of with_value law waiting.held.inner value _

@@ -1,7 +1,7 @@
 //! A condition variable over any raw one.
 ghost use Rattle.std.specs.Prelude.{◌≡◌, false, IsOkUnless};
 ghost use Rattle.std.specs.Sync.Mutex.{mutex_guard_value};
-ghost use Rattle.lock_mutex.specs.WaitsWhile.{WaitsWhile, is_late};
+ghost use Rattle.lock_mutex.specs.WaitsWhile.{WaitsWhile, has_timed_out};
 
 use crate::sleep::{Sleep, UntilInstant, UntilNotified, trade};
 use crate::waiting::sleep_while;
@@ -19,7 +19,8 @@ pub struct Condvar<C> {
 }
 
 impl<C: RawCondvar> Condvar<C> {
-    ghost use Rattle.lock_mutex.specs.MutexGuard.{lock_of, guard_value};
+    ghost use Rattle.lock_guard.specs.Held.{held_value};
+    ghost use Rattle.lock_mutex.specs.MutexGuard.{held_of};
 
     pub fn new(alloc: Global) -> Result<Condvar<C>, Fault>
         ensures { IsOkUnless result Fault.OutOfMemory }
@@ -52,7 +53,7 @@ impl<C: RawCondvar> Condvar<C> {
 
     /// Gives the mutex up, waits, and takes it again.
     pub fn wait<T>(&self, guard: &mut MutexGuard<'_, C::RawMutex, T>)
-        ensures { lock_of guard.new ≡ lock_of guard.old }
+        ensures { (held_of guard.new).lock ≡ (held_of guard.old).lock }
     {
         UntilNotified { raw: &self.raw }.sleep(&mut guard.held);
     }
@@ -64,11 +65,13 @@ impl<C: RawCondvar> Condvar<C> {
         condition: F,
     )
         requires { F.IsAlwaysCallable condition }
-        ensures lock { lock_of guard.new ≡ lock_of guard.old }
-        ensures checks { WaitsWhile F.FnMut condition (guard_value mutex_guard_value guard.old) false (guard_value mutex_guard_value guard.new) }
+        ensures lock { (held_of guard.new).lock ≡ (held_of guard.old).lock }
+        ensures checks { WaitsWhile F.FnMut condition
+            (held_value mutex_guard_value (held_of guard.old)) false
+            (held_value mutex_guard_value (held_of guard.new)) }
     {
         let sleep = UntilNotified { raw: &self.raw };
-        let waiter = guard.held.lock.raw.waiter();
+        let waiter = guard.held.lock.mutex.raw.waiter();
         sleep_while(waiter, &mut guard.held, sleep, condition);
     }
 }
@@ -77,7 +80,8 @@ impl<C: RawCondvarTimed> Condvar<C>
 where
     C::RawMutex: RawMutexTimed,
 {
-    ghost use Rattle.lock_mutex.specs.MutexGuard.{lock_of, guard_value};
+    ghost use Rattle.lock_guard.specs.Held.{held_value};
+    ghost use Rattle.lock_mutex.specs.MutexGuard.{held_of};
 
     /// `wait`, until that instant.
     pub fn wait_until<T>(
@@ -85,14 +89,14 @@ where
         guard: &mut MutexGuard<'_, C::RawMutex, T>,
         deadline: <C::RawMutex as RawMutexTimed>::Instant,
     ) -> WaitTimeoutResult
-        ensures { lock_of guard.new ≡ lock_of guard.old }
+        ensures { (held_of guard.new).lock ≡ (held_of guard.old).lock }
     {
         let sleep = UntilInstant {
             raw: &self.raw,
             deadline,
         };
-        let late = sleep.sleep(&mut guard.held);
-        WaitTimeoutResult { late }
+        let timed_out = sleep.sleep(&mut guard.held);
+        WaitTimeoutResult { timed_out }
     }
 
     /// `wait`, for that long. Where there is no such instant, it waits on and does not time out.
@@ -101,13 +105,13 @@ where
         guard: &mut MutexGuard<'_, C::RawMutex, T>,
         timeout: <C::RawMutex as RawMutexTimed>::Duration,
     ) -> WaitTimeoutResult
-        ensures { lock_of guard.new ≡ lock_of guard.old }
+        ensures { (held_of guard.new).lock ≡ (held_of guard.old).lock }
     {
-        let mutex = guard.held.lock;
-        let late = trade(&mut guard.held, |token| {
+        let mutex = guard.held.lock.mutex;
+        let timed_out = trade(&mut guard.held, |token| {
             self.raw.wait_for(&mutex.raw, token, &timeout)
         });
-        WaitTimeoutResult { late }
+        WaitTimeoutResult { timed_out }
     }
 
     /// `wait_while`, until that instant. Where the time came, the condition is checked once more.
@@ -118,16 +122,18 @@ where
         deadline: <C::RawMutex as RawMutexTimed>::Instant,
     ) -> WaitTimeoutResult
         requires { F.IsAlwaysCallable condition }
-        ensures lock { lock_of guard.new ≡ lock_of guard.old }
-        ensures checks { WaitsWhile F.FnMut condition (guard_value mutex_guard_value guard.old) (is_late result) (guard_value mutex_guard_value guard.new) }
+        ensures lock { (held_of guard.new).lock ≡ (held_of guard.old).lock }
+        ensures checks { WaitsWhile F.FnMut condition
+            (held_value mutex_guard_value (held_of guard.old)) (has_timed_out result)
+            (held_value mutex_guard_value (held_of guard.new)) }
     {
         let sleep = UntilInstant {
             raw: &self.raw,
             deadline,
         };
-        let waiter = guard.held.lock.raw.waiter();
-        let late = sleep_while(waiter, &mut guard.held, sleep, condition);
-        WaitTimeoutResult { late }
+        let waiter = guard.held.lock.mutex.raw.waiter();
+        let timed_out = sleep_while(waiter, &mut guard.held, sleep, condition);
+        WaitTimeoutResult { timed_out }
     }
 
     /// `wait_while`, for that long. Where there is no such instant, it waits on and does not time out.
@@ -138,14 +144,16 @@ where
         timeout: <C::RawMutex as RawMutexTimed>::Duration,
     ) -> WaitTimeoutResult
         requires { F.IsAlwaysCallable condition }
-        ensures lock { lock_of guard.new ≡ lock_of guard.old }
-        ensures checks { WaitsWhile F.FnMut condition (guard_value mutex_guard_value guard.old) (is_late result) (guard_value mutex_guard_value guard.new) }
+        ensures lock { (held_of guard.new).lock ≡ (held_of guard.old).lock }
+        ensures checks { WaitsWhile F.FnMut condition
+            (held_value mutex_guard_value (held_of guard.old)) (has_timed_out result)
+            (held_value mutex_guard_value (held_of guard.new)) }
     {
         if let Some(deadline) = C::checked_duration_to_instant(&timeout) {
             return self.wait_while_until(guard, condition, deadline);
         }
         self.wait_while(guard, condition);
-        WaitTimeoutResult { late: false }
+        WaitTimeoutResult { timed_out: false }
     }
 }
 

@@ -3,80 +3,88 @@ ghost use Rattle.std.specs.Prelude.{◌≡◌, Some};
 ghost use Rattle.std.specs.Borrow.{Lends, sem};
 
 use crate::Mutex;
-use lock_guard::guard::{Acquire, AcquireFair, Held, ValueGuard, ValueGuardMut};
-use lock_guard::raw::{RawMutex, RawMutexFair};
+use crate::borrowed::BorrowedMutex;
+use lock_guard::guard::{
+    Acquire, AcquireFair, Held, LockGuard, LockGuardMut, ValueGuard, ValueGuardMut,
+};
+use lock_guard::raw::RawMutex;
 use std::fmt;
 use std::fmt::{Debug, Display, Formatter};
 use std::ops::{Deref, DerefMut};
 
-/// The right to the value of a mutex, `L` being a reference to it. Its end gives the mutex up.
+/// The right to the value of a mutex, `L` being what borrows it. Its end gives the mutex up.
 #[derive(Drop)]
 pub struct Guard<L: Acquire> {
     pub(crate) held: Held<L>,
 }
 
 /// The right to the value of a mutex. Its end gives the mutex up.
-pub type MutexGuard<'a, R, T> = Guard<&'a Mutex<R, T>>;
+pub type MutexGuard<'a, R, T> = Guard<BorrowedMutex<'a, R, T>>;
 
-impl<'a, R: RawMutex, T> Guard<&'a Mutex<R, T>> {
-    ghost use Rattle.lock_mutex.specs.MutexGuard.{lock_of};
+impl<'a, R: RawMutex, T> Guard<BorrowedMutex<'a, R, T>> {
+    ghost use Rattle.lock_mutex.specs.MutexGuard.{IsGuardOf};
 
     pub(crate) fn new(mutex: &'a Mutex<R, T>, token: R::Guard) -> MutexGuard<'a, R, T>
-        ensures { (lock_of result).ref_ptr ≡ mutex.entry.ref_ptr }
+        ensures { IsGuardOf mutex.entry result }
     {
         Guard {
-            held: Held::new(mutex, token),
+            held: Held::new(BorrowedMutex { mutex }, token),
         }
     }
 
     /// The mutex that the guard was made of.
     pub fn mutex(guard: &MutexGuard<'a, R, T>) -> &'a Mutex<R, T>
-        ensures { result.ref_ptr ≡ (lock_of guard.now).ref_ptr }
+        ensures { IsGuardOf result guard.now }
     {
-        guard.held.lock
+        guard.held.lock.mutex
     }
+}
+
+impl<L: Acquire> Guard<L> {
+    ghost use Rattle.lock_mutex.specs.MutexGuard.{held_of};
 
     /// Gives the mutex up for the length of the closure, and waits for it again.
-    pub fn unlocked<U, F: FnOnce() -> U>(guard: &mut MutexGuard<'a, R, T>, f: F) -> U
+    pub fn unlocked<U, F: FnOnce() -> U>(guard: &mut Self, f: F) -> U
         requires { F.IsAlwaysCallable f }
         ensures answer { F.post f result }
-        ensures lock { lock_of guard.new ≡ lock_of guard.old }
+        ensures lock { (held_of guard.new).lock ≡ (held_of guard.old).lock }
     {
         guard.held.unlocked(f)
     }
 }
 
-impl<'a, R: RawMutexFair, T> Guard<&'a Mutex<R, T>> {
-    ghost use Rattle.lock_mutex.specs.MutexGuard.{lock_of};
+impl<L: AcquireFair> Guard<L> {
+    ghost use Rattle.lock_mutex.specs.MutexGuard.{held_of};
 
     /// Ends the guard, and lets those that wait go first.
-    pub fn unlock_fair(guard: MutexGuard<'a, R, T>) {
+    pub fn unlock_fair(guard: Self) {
         guard.held.unlock_fair();
     }
 
     /// `unlocked`, by a fair release.
-    pub fn unlocked_fair<U, F: FnOnce() -> U>(guard: &mut MutexGuard<'a, R, T>, f: F) -> U
+    pub fn unlocked_fair<U, F: FnOnce() -> U>(guard: &mut Self, f: F) -> U
         requires { F.IsAlwaysCallable f }
         ensures answer { F.post f result }
-        ensures lock { lock_of guard.new ≡ lock_of guard.old }
+        ensures lock { (held_of guard.new).lock ≡ (held_of guard.old).lock }
     {
         guard.held.unlocked_fair(f)
     }
 
     /// Lets those that wait go first, and waits for the mutex again.
-    pub fn bump(guard: &mut MutexGuard<'a, R, T>)
-        ensures { lock_of guard.new ≡ lock_of guard.old }
+    pub fn bump(guard: &mut Self)
+        ensures { (held_of guard.new).lock ≡ (held_of guard.old).lock }
     {
         guard.held.bump();
     }
 }
 
 impl<L: Acquire> Deref for Guard<L> {
-    ghost use Rattle.lock_mutex.specs.MutexGuard.{guard_value};
+    ghost use Rattle.lock_guard.specs.Held.{held_value};
+    ghost use Rattle.lock_mutex.specs.MutexGuard.{held_of};
 
     type Target = <L::Shown as ValueGuard>::Value;
 
-    ghost deref_gives = { λ guard value. guard_value L.Shown.shown guard ≡ Some value };
+    ghost deref_gives = { λ guard value. held_value L.Shown.shown (held_of guard) ≡ Some value };
 
     fn deref(&self) -> &<L::Shown as ValueGuard>::Value {
         self.held.value()
@@ -88,13 +96,17 @@ where
     L::Shown: ValueGuardMut,
 {
     ghost use Rattle.lock_mutex.specs.contracts.guard.Guard.{the_row};
-    ghost use Rattle.lock_mutex.specs.MutexGuard.{guard_value, guard_with_value};
+    ghost use Rattle.lock_guard.specs.Held.{held_value, held_with_value};
+    ghost use Rattle.lock_mutex.specs.MutexGuard.{held_of};
 
-    ghost deref_mut_gives = { λ guard value. guard_value L.Shown.shown guard ≡ Some value };
+    ghost deref_mut_gives = { λ guard value. held_value L.Shown.shown (held_of guard) ≡ Some value };
 
     fn deref_mut(&mut self) -> &mut <L::Shown as ValueGuard>::Value
-        ensures* writes_back { sem 𝓛 (Lends (the_row L.row L.Shown.row L.Token.row L.Waiter.row L.Shown.Value.row L.Shown.ValueGuard) L.Shown.Value.row self.entry result (guard_with_value L.Shown.with_shown self.old)) }
-        ensures value { guard_value L.Shown.shown self.old ≡ Some result.now }
+        ensures* writes_back { sem 𝓛 (Lends
+            (the_row L.row L.Shown.row L.Token.row L.Waiter.row L.Shown.Value.row L.Shown.ValueGuard)
+            L.Shown.Value.row self.entry result
+            (λ value. record { held = held_with_value L.Shown.with_shown (held_of self.old) value })) }
+        ensures value { held_value L.Shown.shown (held_of self.old) ≡ Some result.now }
     {
         self.held.value_mut()
     }

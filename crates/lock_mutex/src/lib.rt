@@ -3,6 +3,7 @@
 
 mod arc;
 mod arc_guard;
+mod borrowed;
 mod condition_loop;
 mod condvar;
 mod guard;
@@ -14,6 +15,7 @@ mod wait_timeout_result;
 mod waiting;
 
 pub use arc_guard::ArcMutexGuard;
+pub use borrowed::BorrowedMutex;
 pub use condition_loop::{LoopEnd, Script, Waits, run_loop};
 pub use condvar::Condvar;
 pub use guard::{Guard, MutexGuard};

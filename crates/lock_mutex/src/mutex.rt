@@ -4,8 +4,8 @@ ghost use Rattle.lock_guard.specs.Closure.{ReadsSomeValue, AnswersSomeValue};
 
 use crate::{Guard, MutexGuard};
 use lock_base::raw::Fault;
-use lock_guard::guard::{Acquire, AcquireFair, Locked, Release, fmt_lock};
-use lock_guard::raw::{RawMutex, RawMutexFair, RawMutexTimed};
+use lock_guard::guard::{Locked, fmt_lock};
+use lock_guard::raw::{RawMutex, RawMutexTimed};
 use std::alloc::Global;
 use std::fmt::{Debug, Formatter};
 use std::{fmt, sync};
@@ -15,12 +15,12 @@ use std::{fmt, sync};
 #[derive(Drop)]
 pub struct Mutex<R, T> {
     pub(crate) raw: R,
-    value: sync::Mutex<T>,
+    pub(crate) value: sync::Mutex<T>,
 }
 
 impl<R: RawMutex, T> Mutex<R, T> {
     ghost use Rattle.lock_mutex.specs.Mutex.{raw_of};
-    ghost use Rattle.lock_mutex.specs.MutexGuard.{lock_of};
+    ghost use Rattle.lock_mutex.specs.MutexGuard.{IsGuardOf};
 
     /// A free mutex over a new raw lock. Where that is refused, the value is dropped.
     pub fn new(alloc: Global, waiter: R::Waiter, value: T) -> Result<Mutex<R, T>, Fault>
@@ -80,14 +80,14 @@ impl<R: RawMutex, T> Mutex<R, T> {
 
     /// Waits until the raw lock admits.
     pub fn lock(&self) -> MutexGuard<'_, R, T>
-        ensures { (lock_of result).ref_ptr ≡ self.entry.ref_ptr }
+        ensures { IsGuardOf self.entry result }
     {
         Guard::new(self, self.raw.lock())
     }
 
     /// None where the raw lock refuses.
     pub fn try_lock(&self) -> Option<MutexGuard<'_, R, T>>
-        ensures { IfSome result (λ guard. (lock_of guard).ref_ptr ≡ self.entry.ref_ptr) }
+        ensures { IfSome result (IsGuardOf self.entry) }
     {
         Some(Guard::new(self, self.raw.try_lock()?))
     }
@@ -117,53 +117,20 @@ impl<R: RawMutex, T> Mutex<R, T> {
 }
 
 impl<R: RawMutexTimed, T> Mutex<R, T> {
-    ghost use Rattle.lock_mutex.specs.MutexGuard.{lock_of};
+    ghost use Rattle.lock_mutex.specs.MutexGuard.{IsGuardOf};
 
     /// None where the raw lock refuses for that long.
     pub fn try_lock_for(&self, timeout: R::Duration) -> Option<MutexGuard<'_, R, T>>
-        ensures { IfSome result (λ guard. (lock_of guard).ref_ptr ≡ self.entry.ref_ptr) }
+        ensures { IfSome result (IsGuardOf self.entry) }
     {
         Some(Guard::new(self, self.raw.try_lock_for(timeout)?))
     }
 
     /// None where the raw lock refuses until then.
     pub fn try_lock_until(&self, deadline: R::Instant) -> Option<MutexGuard<'_, R, T>>
-        ensures { IfSome result (λ guard. (lock_of guard).ref_ptr ≡ self.entry.ref_ptr) }
+        ensures { IfSome result (IsGuardOf self.entry) }
     {
         Some(Guard::new(self, self.raw.try_lock_until(deadline)?))
-    }
-}
-
-impl<R: RawMutex, T> Release for &Mutex<R, T> {
-    type Token = R::Guard;
-
-    type Waiter = R::Waiter;
-
-    fn release(&self, token: R::Guard) {
-        self.raw.unlock(token);
-    }
-}
-
-impl<'a, R: RawMutex, T> Acquire for &'a Mutex<R, T> {
-    type Shown = sync::MutexGuard<'a, T>;
-
-    fn acquire(&self) -> R::Guard {
-        self.raw.lock()
-    }
-
-    fn show(&self) -> sync::MutexGuard<'a, T> {
-        let mutex: &'a Mutex<R, T> = *self;
-        mutex.value.lock(mutex.raw.waiter())
-    }
-}
-
-impl<'a, R: RawMutexFair, T> AcquireFair for &'a Mutex<R, T> {
-    fn release_fair(&self, token: R::Guard) {
-        self.raw.unlock_fair(token);
-    }
-
-    fn bump(&self, token: R::Guard) -> R::Guard {
-        self.raw.bump(token)
     }
 }
 

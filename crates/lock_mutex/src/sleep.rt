@@ -1,7 +1,7 @@
 //! The waits in which a lock that is held is given up and taken again.
 ghost use Rattle.std.specs.Prelude.{◌≡◌, false, Bool, ⊤};
 
-use crate::Mutex;
+use crate::borrowed::BorrowedMutex;
 use lock_guard::guard::{Acquire, Held};
 use lock_guard::raw::{RawCondvar, RawCondvarTimed, RawMutex, RawMutexTimed};
 
@@ -37,11 +37,11 @@ impl<C> Drop for UntilNotified<'_, C> {
     }
 }
 
-impl<'a, C: RawCondvar, T> Sleep<&'a Mutex<C::RawMutex, T>> for UntilNotified<'_, C> {
-    ghost may_answer = { λ late. late ≡ false };
+impl<'a, C: RawCondvar, T> Sleep<BorrowedMutex<'a, C::RawMutex, T>> for UntilNotified<'_, C> {
+    ghost may_answer = { λ timed_out. timed_out ≡ false };
 
-    fn sleep(&self, held: &mut Held<&'a Mutex<C::RawMutex, T>>) -> bool {
-        let mutex = held.lock;
+    fn sleep(&self, held: &mut Held<BorrowedMutex<'a, C::RawMutex, T>>) -> bool {
+        let mutex = held.lock.mutex;
         trade(held, |token| (self.raw.wait(&mutex.raw, token), ()));
         false
     }
@@ -62,15 +62,15 @@ impl<C, I: Drop> Drop for UntilInstant<'_, C, I> {
     }
 }
 
-impl<'a, C: RawCondvarTimed, T> Sleep<&'a Mutex<C::RawMutex, T>>
+impl<'a, C: RawCondvarTimed, T> Sleep<BorrowedMutex<'a, C::RawMutex, T>>
     for UntilInstant<'_, C, <C::RawMutex as RawMutexTimed>::Instant>
 where
     C::RawMutex: RawMutexTimed,
 {
     ghost may_answer = { λ _. ⊤ };
 
-    fn sleep(&self, held: &mut Held<&'a Mutex<C::RawMutex, T>>) -> bool {
-        let mutex = held.lock;
+    fn sleep(&self, held: &mut Held<BorrowedMutex<'a, C::RawMutex, T>>) -> bool {
+        let mutex = held.lock.mutex;
         trade(held, |token| {
             self.raw.wait_until(&mutex.raw, token, &self.deadline)
         })

@@ -5,7 +5,7 @@ ghost use Rattle.lock_mutex.specs.WaitsWhile.{WaitsWhile};
 
 use crate::condition_loop::{LoopEnd, Waits, run_loop};
 use crate::sleep::Sleep;
-use lock_guard::guard::{Acquire, Held, Inner, ValueGuard, ValueGuardMut};
+use lock_guard::guard::{Acquire, Held, Inner, LockGuardMut, ValueGuard, ValueGuardMut};
 use std::mem;
 use std::sync::Wait;
 
@@ -27,7 +27,7 @@ where
 
     ghost with_current = { waiting_with_value L.Shown.with_shown };
 
-    ghost waited = { λ before answer after. IsSomeAnd answer S.may_answer };
+    ghost wait_gives = { λ before answer after. IsSomeAnd answer S.may_answer };
 
     fn value(&mut self) -> &mut <L::Shown as ValueGuard>::Value {
         self.held.value_mut()
@@ -52,8 +52,9 @@ where
     L::Shown: ValueGuardMut,
     requires { F.IsAlwaysCallable condition }
     ensures lock { held.new.lock ≡ held.old.lock }
-    ensures checks { WaitsWhile F.FnMut condition (held_value L.Shown.shown held.old) result (held_value L.Shown.shown held.new) }
-    ensures in_time { ((late : Bool) → S.may_answer late → late ≡ false) → result ≡ false }
+    ensures checks { WaitsWhile F.FnMut condition (held_value L.Shown.shown held.old) result
+        (held_value L.Shown.shown held.new) }
+    ensures in_time { ((timed_out : Bool) → S.may_answer timed_out → timed_out ≡ false) → result ≡ false }
 {
     let inner = mem::replace(&mut held.inner, Inner::Empty);
     let mut waiting = Waiting {

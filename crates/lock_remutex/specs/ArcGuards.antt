@@ -28,7 +28,8 @@ module _ {R T G W : Type 0} where
   arc_guard_value guard = value_of (arc_value (arc_of guard))
 
   -- a guard of this lock for the party
-  pub record IsArcGuardOf (lock : Arc (ReentrantMutex R T G W) Global) (party : ℕ) (guard : ArcReentrantMutexGuard R T G W) : Type 0 where
+  pub record IsArcGuardOf (lock : Arc (ReentrantMutex R T G W) Global) (party : ℕ)
+      (guard : ArcReentrantMutexGuard R T G W) : Type 0 where
     pub same_lock : arc_value (arc_of guard) ≡ arc_value lock
     pub same_party : arc_party guard ≡ party
 

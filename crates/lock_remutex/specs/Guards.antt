@@ -31,7 +31,8 @@ module _ {R T G W : Type 0} where
   shown_value guard = Some (guard_value guard)
 
   -- a guard of this lock for the party
-  pub record IsGuardOf (lock : Bor (ReentrantMutex R T G W)) (party : ℕ) (guard : ReentrantMutexGuard R T G W) : Type 0 where
+  pub record IsGuardOf (lock : Bor (ReentrantMutex R T G W)) (party : ℕ)
+      (guard : ReentrantMutexGuard R T G W) : Type 0 where
     pub same_lock : guard_lock guard ≡ lock.ref_ptr
     pub same_party : guard_party guard ≡ party
     pub same_value : guard_value guard ≡ value_of lock.now

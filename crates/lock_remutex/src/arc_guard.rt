@@ -49,31 +49,31 @@ where
     }
 
     /// The lock that the guard was made of.
-    pub fn remutex(s: &Self) -> &Arc<ReentrantMutex<R, T>>
-        ensures { result.now ≡ arc_of s.now }
+    pub fn remutex(guard: &Self) -> &Arc<ReentrantMutex<R, T>>
+        ensures { result.now ≡ arc_of guard.now }
     {
-        &s.remutex
+        &guard.remutex
     }
 
     /// Gives the level up, and answers the lock.
-    pub fn into_arc(s: Self) -> Arc<ReentrantMutex<R, T>>
-        ensures { result ≡ arc_of s }
+    pub fn into_arc(guard: Self) -> Arc<ReentrantMutex<R, T>>
+        ensures { result ≡ arc_of guard }
     {
-        let ArcReentrantMutexGuard { remutex, party } = s;
+        let ArcReentrantMutexGuard { remutex, party } = guard;
         let _ = remutex.raw().unlock(party);
         remutex
     }
 
     /// Gives one level up for the length of the closure, and takes one again as `lock` does. Where the count is full
     /// on the way back the level stays given up.
-    pub fn unlocked<U, F: FnOnce() -> U>(s: Self, f: F) -> Result<(Self, U), (Fault, U)>
+    pub fn unlocked<U, F: FnOnce() -> U>(guard: Self, f: F) -> Result<(Self, U), (Fault, U)>
         requires { F.IsAlwaysCallable f }
         ensures answer { MatchResult result (λ back. F.post f back.1) (λ refused. F.post f refused.1) }
-        ensures guard { IfOk result (λ back. IsSameArcGuard s back.0) }
+        ensures same { IfOk result (λ back. IsSameArcGuard guard back.0) }
         ensures fault { IfErr result (λ refused. refused.0 ≡ Fault.FullCount) }
     {
-        let party = s.party;
-        let remutex = ArcReentrantMutexGuard::into_arc(s);
+        let party = guard.party;
+        let remutex = ArcReentrantMutexGuard::into_arc(guard);
         let answer = f();
         ArcReentrantMutexGuard::lock_again(remutex, party, answer)
     }
@@ -101,38 +101,38 @@ where
     R::Guard: Drop,
 {
     /// Gives the level up, and the raw lock fairly with the last one.
-    pub fn unlock_fair(s: Self) {
-        drop(ArcReentrantMutexGuard::into_arc_fair(s));
+    pub fn unlock_fair(guard: Self) {
+        drop(ArcReentrantMutexGuard::into_arc_fair(guard));
     }
 
     /// `into_arc`, by a fair release.
-    pub fn into_arc_fair(s: Self) -> Arc<ReentrantMutex<R, T>>
-        ensures { result ≡ arc_of s }
+    pub fn into_arc_fair(guard: Self) -> Arc<ReentrantMutex<R, T>>
+        ensures { result ≡ arc_of guard }
     {
-        let ArcReentrantMutexGuard { remutex, party } = s;
+        let ArcReentrantMutexGuard { remutex, party } = guard;
         let _ = remutex.raw().unlock_fair(party);
         remutex
     }
 
     /// `unlocked`, by a fair release.
-    pub fn unlocked_fair<U, F: FnOnce() -> U>(s: Self, f: F) -> Result<(Self, U), (Fault, U)>
+    pub fn unlocked_fair<U, F: FnOnce() -> U>(guard: Self, f: F) -> Result<(Self, U), (Fault, U)>
         requires { F.IsAlwaysCallable f }
         ensures answer { MatchResult result (λ back. F.post f back.1) (λ refused. F.post f refused.1) }
-        ensures guard { IfOk result (λ back. IsSameArcGuard s back.0) }
+        ensures same { IfOk result (λ back. IsSameArcGuard guard back.0) }
         ensures fault { IfErr result (λ refused. refused.0 ≡ Fault.FullCount) }
     {
-        let party = s.party;
-        let remutex = ArcReentrantMutexGuard::into_arc_fair(s);
+        let party = guard.party;
+        let remutex = ArcReentrantMutexGuard::into_arc_fair(guard);
         let answer = f();
         ArcReentrantMutexGuard::lock_again(remutex, party, answer)
     }
 
     /// Where the party has this level alone, lets those that wait go first, and locks again.
-    pub fn bump(s: &mut Self)
-        ensures { IsSameArcGuard s.old s.new }
+    pub fn bump(guard: &mut Self)
+        ensures { IsSameArcGuard guard.old guard.new }
     {
-        let party = s.party;
-        let _ = s.remutex.raw().bump(party);
+        let party = guard.party;
+        let _ = guard.remutex.raw().bump(party);
     }
 }
 

@@ -1,11 +1,11 @@
 //! Guards of a part of the value of a reentrant lock.
-ghost use Rattle.std.specs.Prelude.{◌≡◌, None, Some, IsSome, IfOk, IfErr};
+ghost use Rattle.std.specs.Prelude.{◌≡◌, Some};
 ghost use Rattle.lock_guard.specs.GuardPart.{guard_part, guard_miss};
-ghost use Rattle.lock_guard.specs.Mapped.{IsMapOf};
+ghost use Rattle.lock_guard.specs.Mapped.{IsMapOf, IsMappedOr};
 ghost use Rattle.lock_remutex.specs.Guards.{guard_value, shown_value};
 
 use crate::reentrant_mutex_guard::ReentrantMutexGuard;
-use lock_base::project::{Project, TryProject};
+use lock_base::project::{TryView, View};
 use lock_guard::guard::{LockGuard, LockGuardFair, Mapped};
 use lock_guard::raw::{RawMutex, RawMutexFair};
 use std::ops::Deref;
@@ -40,36 +40,32 @@ where
     R::Guard: Drop,
 {
     /// The guard of a part, by a projection that always has one.
-    pub fn map<P: Project<T>>(s: Self, projection: P) -> MappedReentrantMutexGuard<'a, R, T, P>
-        ensures { IsMapOf s.entry projection result }
+    pub fn map<P: View<T>>(guard: Self, projection: P) -> MappedReentrantMutexGuard<'a, R, T, P>
+        ensures { IsMapOf guard.entry projection result }
     {
-        Mapped::of(s, projection)
+        Mapped::of(guard, projection)
     }
 
     /// The guard of a part, or the same guard where there is none.
-    pub fn try_map<P: TryProject<T>>(
-        s: Self,
+    pub fn try_map<P: TryView<T>>(
+        guard: Self,
         projection: P,
     ) -> Result<MappedReentrantMutexGuard<'a, R, T, P>, Self>
-        ensures found { IfOk result (λ _. IsSome (guard_part shown_value (P.lens projection) s.entry)) }
-        ensures mapped { IfOk result (IsMapOf s.entry projection) }
-        ensures missed { IfErr result (λ _. guard_part shown_value (P.lens projection) s.entry ≡ None) }
-        ensures back { IfErr result (λ back. back ≡ s.entry) }
+        ensures { IsMappedOr (guard_part shown_value (P.part projection) guard.entry)
+            guard.entry projection (λ back. back ≡ guard.entry) result }
     {
-        Mapped::try_of(s, projection)
+        Mapped::try_of(guard, projection)
     }
 
     /// The guard of a part, or the same guard with what the projection tells of a value without one.
-    pub fn try_map_or_err<P: TryProject<T>>(
-        s: Self,
+    pub fn try_map_or_err<P: TryView<T>>(
+        guard: Self,
         projection: P,
     ) -> Result<MappedReentrantMutexGuard<'a, R, T, P>, (Self, P::Miss)>
-        ensures found { IfOk result (λ _. IsSome (guard_part shown_value (P.lens projection) s.entry)) }
-        ensures mapped { IfOk result (IsMapOf s.entry projection) }
-        ensures missed { IfErr result (λ _. guard_part shown_value (P.lens projection) s.entry ≡ None) }
-        ensures back { IfErr result (λ back. back.0 ≡ s.entry) }
-        ensures miss { IfErr result (λ back. guard_miss shown_value (P.missed projection) s.entry ≡ Some back.1) }
+        ensures { IsMappedOr (guard_part shown_value (P.part projection) guard.entry)
+            guard.entry projection (λ back. (back.0 ≡ guard.entry)
+            × (guard_miss shown_value (P.missed projection) guard.entry ≡ Some back.1)) result }
     {
-        Mapped::try_of_or_err(s, projection)
+        Mapped::try_of_or_err(guard, projection)
     }
 }

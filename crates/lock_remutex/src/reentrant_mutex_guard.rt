@@ -30,21 +30,21 @@ where
     }
 
     /// The lock that the guard was made of.
-    pub fn remutex(s: &Self) -> &'a ReentrantMutex<R, T>
-        ensures { result.ref_ptr ≡ guard_lock s.now }
+    pub fn remutex(guard: &Self) -> &'a ReentrantMutex<R, T>
+        ensures { result.ref_ptr ≡ guard_lock guard.now }
     {
-        s.remutex
+        guard.remutex
     }
 
     /// Gives one level up for the length of the closure, and takes one again as `lock` does. Where the count is full
     /// on the way back the level stays given up.
-    pub fn unlocked<U, F: FnOnce() -> U>(s: Self, f: F) -> Result<(Self, U), (Fault, U)>
+    pub fn unlocked<U, F: FnOnce() -> U>(guard: Self, f: F) -> Result<(Self, U), (Fault, U)>
         requires { F.IsAlwaysCallable f }
         ensures answer { MatchResult result (λ back. F.post f back.1) (λ refused. F.post f refused.1) }
-        ensures guard { IfOk result (λ back. IsSameGuard s.entry back.0) }
+        ensures same { IfOk result (λ back. IsSameGuard guard.entry back.0) }
         ensures fault { IfErr result (λ refused. refused.0 ≡ Fault.FullCount) }
     {
-        let ReentrantMutexGuard { remutex, party } = s;
+        let ReentrantMutexGuard { remutex, party } = guard;
         let _ = remutex.raw().unlock(party);
         let answer = f();
         ReentrantMutexGuard::lock_again(remutex, party, answer)
@@ -75,29 +75,29 @@ where
     ghost use Rattle.lock_remutex.specs.Guards.{IsSameGuard};
 
     /// Gives the level up, and the raw lock fairly with the last one.
-    pub fn unlock_fair(s: Self) {
-        let ReentrantMutexGuard { remutex, party } = s;
+    pub fn unlock_fair(guard: Self) {
+        let ReentrantMutexGuard { remutex, party } = guard;
         let _ = remutex.raw().unlock_fair(party);
     }
 
     /// `unlocked`, by a fair release.
-    pub fn unlocked_fair<U, F: FnOnce() -> U>(s: Self, f: F) -> Result<(Self, U), (Fault, U)>
+    pub fn unlocked_fair<U, F: FnOnce() -> U>(guard: Self, f: F) -> Result<(Self, U), (Fault, U)>
         requires { F.IsAlwaysCallable f }
         ensures answer { MatchResult result (λ back. F.post f back.1) (λ refused. F.post f refused.1) }
-        ensures guard { IfOk result (λ back. IsSameGuard s.entry back.0) }
+        ensures same { IfOk result (λ back. IsSameGuard guard.entry back.0) }
         ensures fault { IfErr result (λ refused. refused.0 ≡ Fault.FullCount) }
     {
-        let ReentrantMutexGuard { remutex, party } = s;
+        let ReentrantMutexGuard { remutex, party } = guard;
         let _ = remutex.raw().unlock_fair(party);
         let answer = f();
         ReentrantMutexGuard::lock_again(remutex, party, answer)
     }
 
     /// Where the party has this level alone, lets those that wait go first, and locks again.
-    pub fn bump(s: &mut Self)
-        ensures { IsSameGuard s.old s.new }
+    pub fn bump(guard: &mut Self)
+        ensures { IsSameGuard guard.old guard.new }
     {
-        let _ = s.remutex.raw().bump(s.party);
+        let _ = guard.remutex.raw().bump(guard.party);
     }
 }
 

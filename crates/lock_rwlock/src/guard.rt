@@ -7,7 +7,9 @@ mod write;
 ghost use Rattle.std.specs.Prelude.{◌≡◌, Some};
 ghost use Rattle.std.specs.Borrow.{Lends, sem};
 
-use lock_guard::guard::{Acquire, AcquireFair, Held, ValueGuard, ValueGuardMut};
+use lock_guard::guard::{
+    Acquire, AcquireFair, Held, LockGuard, LockGuardMut, ValueGuard, ValueGuardMut,
+};
 pub use mapped::{Mappable, MappedRwLockReadGuard, MappedRwLockWriteGuard};
 pub use read::RwLockReadGuard;
 use std::fmt;
@@ -16,33 +18,36 @@ pub use upgradable::RwLockUpgradableReadGuard;
 pub use write::RwLockWriteGuard;
 
 /// The right to the value of a lock, in one mode. Its end gives the value back, and then the token.
+///
+/// Where a guard becomes one of another mode, the raw lock exchanges its token. That nobody else writes between is the raw
+/// lock's word.
 #[derive(Drop)]
 pub struct RwLockGuard<L: Acquire> {
     pub(crate) held: Held<L>,
 }
 
 impl<L: Acquire> RwLockGuard<L> {
-    ghost use Rattle.lock_rwlock.specs.RwLockGuard.{lock_of};
+    ghost use Rattle.lock_rwlock.specs.RwLockGuard.{held_of};
 
     /// Gives the lock up for the length of the closure, and waits for it again.
     pub fn unlocked<U, F: FnOnce() -> U>(guard: &mut Self, f: F) -> U
         requires { F.IsAlwaysCallable f }
         ensures answer { F.post f result }
-        ensures lock { lock_of guard.new ≡ lock_of guard.old }
+        ensures lock { (held_of guard.new).lock ≡ (held_of guard.old).lock }
     {
         guard.held.unlocked(f)
     }
 
     /// Gives the value back, and hands the lock and the token on.
     pub(crate) fn into_token(self) -> (L, L::Token)
-        ensures { result.0 ≡ lock_of self }
+        ensures { result.0 ≡ (held_of self).lock }
     {
         self.held.into_token()
     }
 }
 
 impl<L: AcquireFair> RwLockGuard<L> {
-    ghost use Rattle.lock_rwlock.specs.RwLockGuard.{lock_of};
+    ghost use Rattle.lock_rwlock.specs.RwLockGuard.{held_of};
 
     /// Ends the guard, and lets those that wait go first.
     pub fn unlock_fair(guard: Self) {
@@ -53,25 +58,26 @@ impl<L: AcquireFair> RwLockGuard<L> {
     pub fn unlocked_fair<U, F: FnOnce() -> U>(guard: &mut Self, f: F) -> U
         requires { F.IsAlwaysCallable f }
         ensures answer { F.post f result }
-        ensures lock { lock_of guard.new ≡ lock_of guard.old }
+        ensures lock { (held_of guard.new).lock ≡ (held_of guard.old).lock }
     {
         guard.held.unlocked_fair(f)
     }
 
     /// Lets those that wait go first, and waits for the lock again.
     pub fn bump(guard: &mut Self)
-        ensures { lock_of guard.new ≡ lock_of guard.old }
+        ensures { (held_of guard.new).lock ≡ (held_of guard.old).lock }
     {
         guard.held.bump();
     }
 }
 
 impl<L: Acquire> Deref for RwLockGuard<L> {
-    ghost use Rattle.lock_rwlock.specs.RwLockGuard.{guard_value};
+    ghost use Rattle.lock_guard.specs.Held.{held_value};
+    ghost use Rattle.lock_rwlock.specs.RwLockGuard.{held_of};
 
     type Target = <L::Shown as ValueGuard>::Value;
 
-    ghost deref_gives = { λ guard value. guard_value L.Shown.shown guard ≡ Some value };
+    ghost deref_gives = { λ guard value. held_value L.Shown.shown (held_of guard) ≡ Some value };
 
     fn deref(&self) -> &<L::Shown as ValueGuard>::Value {
         self.held.value()
@@ -83,13 +89,17 @@ where
     L::Shown: ValueGuardMut,
 {
     ghost use Rattle.lock_rwlock.specs.contracts.guard.RwLockGuard.{the_row};
-    ghost use Rattle.lock_rwlock.specs.RwLockGuard.{guard_value, guard_with_value};
+    ghost use Rattle.lock_guard.specs.Held.{held_value, held_with_value};
+    ghost use Rattle.lock_rwlock.specs.RwLockGuard.{held_of};
 
-    ghost deref_mut_gives = { λ guard value. guard_value L.Shown.shown guard ≡ Some value };
+    ghost deref_mut_gives = { λ guard value. held_value L.Shown.shown (held_of guard) ≡ Some value };
 
     fn deref_mut(&mut self) -> &mut <L::Shown as ValueGuard>::Value
-        ensures* writes_back { sem 𝓛 (Lends (the_row L.row L.Shown.row L.Token.row L.Waiter.row L.Shown.Value.row L.Shown.ValueGuard) L.Shown.Value.row self.entry result (guard_with_value L.Shown.with_shown self.old)) }
-        ensures value { guard_value L.Shown.shown self.old ≡ Some result.now }
+        ensures* writes_back { sem 𝓛 (Lends
+            (the_row L.row L.Shown.row L.Token.row L.Waiter.row L.Shown.Value.row L.Shown.ValueGuard)
+            L.Shown.Value.row self.entry result
+            (λ value. record { held = held_with_value L.Shown.with_shown (held_of self.old) value })) }
+        ensures value { held_value L.Shown.shown (held_of self.old) ≡ Some result.now }
     {
         self.held.value_mut()
     }

@@ -123,7 +123,8 @@ pub trait RwLockArcUpgrade<R: RawRwLockUpgrade + Drop, T: Drop> {
         ensures fault { IsOkUnless result Fault.OutOfMemory }
         ensures lock { IfOk result (IsArcGuardOf this.now) };
 
-    /// `try_upgradable_read`, by a guard that keeps the lock alive. Where there is no memory for that, nothing is locked.
+    /// `try_upgradable_read`, by a guard that keeps the lock alive. Where there is no memory for that, nothing is
+    /// locked.
     fn try_upgradable_read_arc(
         this: &Arc<RwLock<R, T>>,
     ) -> Result<Option<ArcRwLockUpgradableReadGuard<R, T>>, Fault>

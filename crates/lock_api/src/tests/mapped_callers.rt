@@ -2,7 +2,7 @@
 ghost use Rattle.std.specs.Prelude.{◌≡◌, IsErr, IsOk};
 
 use crate::{MappedMutexGuard, Mutex, MutexGuard, RawMutex};
-use lock_parts::{Item0, Nth};
+use lock_test_support::project::{Item0, Nth};
 
 /// What is written to a part is what it reads next.
 fn write_and_read<R: RawMutex>(mutex: &Mutex<R, (u64, u64)>, value: u64) -> u64

@@ -1,9 +1,8 @@
 //! A lock that is held.
-ghost use Rattle.std.specs.Prelude.{◌≡◌, true, Some};
-ghost use Rattle.std.specs.Borrow.{Lends, sem};
+ghost use Rattle.std.specs.Prelude.{◌≡◌, true};
 ghost use Rattle.lock_guard.specs.Inner.{is_filled};
 
-use crate::guard::{Acquire, AcquireFair, Inner, ValueGuard, ValueGuardMut};
+use crate::guard::{Acquire, AcquireFair, Inner};
 
 /// A lock with the token of one acquisition and the value that it shows. The end gives the value back, and then the
 /// token.
@@ -16,8 +15,6 @@ pub struct Held<L: Acquire> {
 }
 
 impl<L: Acquire> Held<L> {
-    ghost use Rattle.lock_guard.specs.Held.{held_value};
-
     /// The lock held by that token of its own.
     pub fn new(lock: L, token: L::Token) -> Held<L>
         ensures { result.lock ≡ lock }
@@ -45,12 +42,6 @@ impl<L: Acquire> Held<L> {
         inner
     }
 
-    pub fn value(&self) -> &<L::Shown as ValueGuard>::Value
-        ensures { held_value L.Shown.shown self.now ≡ Some result.now }
-    {
-        self.inner.value()
-    }
-
     /// Gives the lock up for the length of the closure.
     pub fn unlocked<U, F: FnOnce() -> U>(&mut self, f: F) -> U
         requires { F.IsAlwaysCallable f }
@@ -61,21 +52,6 @@ impl<L: Acquire> Held<L> {
         let answer = f();
         self.inner.refill(&self.lock);
         answer
-    }
-}
-
-impl<L: Acquire> Held<L>
-where
-    L::Shown: ValueGuardMut,
-{
-    ghost use Rattle.lock_guard.specs.contracts.guard.held.Held.{the_row};
-    ghost use Rattle.lock_guard.specs.Held.{held_value, held_with_value};
-
-    pub fn value_mut(&mut self) -> &mut <L::Shown as ValueGuard>::Value
-        ensures* writes_back { sem 𝓛 (Lends (the_row L.row L.Shown.row L.Token.row L.Waiter.row L.Shown.Value.row L.Shown.ValueGuard) L.Shown.Value.row self.entry result (held_with_value L.Shown.with_shown self.old)) }
-        ensures value { held_value L.Shown.shown self.old ≡ Some result.now }
-    {
-        self.inner.value_mut()
     }
 }
 

@@ -80,7 +80,8 @@ impl<K, V: ValueGuard> Inner<K, V> {
 impl<K, V: ValueGuardMut> Inner<K, V> {
     pub fn value_mut(&mut self) -> &mut V::Value
         requires { is_filled self.old ≡ true }
-        ensures* writes_back { sem 𝓛 (Lends (the_row K.row V.row) V.Value.row self.entry result (inner_with_value V.with_shown self.old)) }
+        ensures* writes_back { sem 𝓛 (Lends (the_row K.row V.row) V.Value.row self.entry result
+            (inner_with_value V.with_shown self.old)) }
         ensures value { inner_value V.shown self.old ≡ Some result.now }
     {
         match self {

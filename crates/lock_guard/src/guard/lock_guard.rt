@@ -46,7 +46,7 @@ impl<L: Acquire> LockGuard for Held<L> {
     ghost value_of = { held_value L.Shown.shown };
 
     fn value(&self) -> &<L::Shown as ValueGuard>::Value {
-        Held::value(self)
+        self.inner.value()
     }
 }
 
@@ -57,7 +57,7 @@ where
     ghost with_value = { held_with_value L.Shown.with_shown };
 
     fn value_mut(&mut self) -> &mut <L::Shown as ValueGuard>::Value {
-        Held::value_mut(self)
+        self.inner.value_mut()
     }
 
     ghost with_same = { held_with_same L.Shown.shown L.Shown.with_shown L.Shown.with_same };

@@ -5,7 +5,7 @@ ghost use Rattle.std.specs.Borrow.{Lends, LendsIf, sem};
 ghost use Rattle.lock_guard.specs.GuardPart.{guard_part, guard_with_part};
 
 use crate::guard::{LockGuard, LockGuardFair, LockGuardMut};
-use lock_base::project::{Missed, Project, Then, TryProject};
+use lock_base::project::{Missed, Project, Then, TryProject, TryView, View};
 use std::fmt;
 use std::fmt::{Debug, Display, Formatter};
 use std::ops::{Deref, DerefMut};
@@ -17,15 +17,14 @@ pub struct Mapped<G, P> {
     projection: P,
 }
 
-impl<G: LockGuard, P: TryProject<G::Value>> Mapped<G, P> {
+impl<G: LockGuard, P: TryView<G::Value>> Mapped<G, P> {
     ghost use Rattle.lock_guard.specs.GuardPart.{guard_miss};
-    ghost use Rattle.lock_base.specs.Then.{then};
-    ghost use Rattle.lock_guard.specs.Mapped.{IsMapOf, mapped_part};
+    ghost use Rattle.lock_guard.specs.Mapped.{IsMapOf, IsMappedOr, mapped_part};
 
     /// The guard of the part by a projection that always has one.
     pub fn of(guard: G, projection: P) -> Self
     where
-        P: Project<G::Value>,
+        P: View<G::Value>,
         ensures { IsMapOf guard projection result }
     {
         Mapped { guard, projection }
@@ -33,10 +32,8 @@ impl<G: LockGuard, P: TryProject<G::Value>> Mapped<G, P> {
 
     /// The guard of the part, or the same guard where there is none.
     pub fn try_of(guard: G, projection: P) -> Result<Self, G>
-        ensures found { IfOk result (λ _. IsSome (guard_part G.value_of (P.lens projection) guard)) }
-        ensures mapped { IfOk result (IsMapOf guard projection) }
-        ensures missed { IfErr result (λ _. guard_part G.value_of (P.lens projection) guard ≡ None) }
-        ensures back { IfErr result (λ back. back ≡ guard) }
+        ensures { IsMappedOr (guard_part G.value_of (P.part projection) guard) guard projection
+            (λ back. back ≡ guard) result }
     {
         let mapped = Mapped { guard, projection };
         if mapped.has_part() {
@@ -47,11 +44,9 @@ impl<G: LockGuard, P: TryProject<G::Value>> Mapped<G, P> {
 
     /// The guard of the part, or the same guard with what the projection tells of a value without one.
     pub fn try_of_or_err(guard: G, projection: P) -> Result<Self, (G, P::Miss)>
-        ensures found { IfOk result (λ _. IsSome (guard_part G.value_of (P.lens projection) guard)) }
-        ensures mapped { IfOk result (IsMapOf guard projection) }
-        ensures missed { IfErr result (λ _. guard_part G.value_of (P.lens projection) guard ≡ None) }
-        ensures back { IfErr result (λ back. back.0 ≡ guard) }
-        ensures miss { IfErr result (λ back. guard_miss G.value_of (P.missed projection) guard ≡ Some back.1) }
+        ensures { IsMappedOr (guard_part G.value_of (P.part projection) guard) guard projection
+            (λ back. (back.0 ≡ guard)
+            × (guard_miss G.value_of (P.missed projection) guard ≡ Some back.1)) result }
     {
         let mapped = Mapped { guard, projection };
         if mapped.has_part() {
@@ -63,53 +58,9 @@ impl<G: LockGuard, P: TryProject<G::Value>> Mapped<G, P> {
 
     /// The part, where the value has one.
     pub fn get(guard: &Self) -> Option<&P::Part>
-        ensures { option_copied result ≡ mapped_part G.value_of P.lens guard.now }
+        ensures { option_copied result ≡ mapped_part G.value_of P.part guard.now }
     {
         guard.projection.get(guard.guard.value())
-    }
-
-    /// The guard of the part of the part, by a projection that always has one.
-    pub fn map<Q: Project<P::Part>>(guard: Self, projection: Q) -> Mapped<G, Then<P, Q>>
-        ensures { IsMapOf guard.guard (then guard.projection projection) result }
-    {
-        guard.then(projection)
-    }
-
-    /// The guard of the part of the part, or the same guard where there is none.
-    pub fn try_map<Q: TryProject<P::Part>>(
-        guard: Self,
-        projection: Q,
-    ) -> Result<Mapped<G, Then<P, Q>>, Self>
-        ensures found { IfOk result (λ _. IsSome (option_and_then (Q.lens projection).part (mapped_part G.value_of P.lens guard))) }
-        ensures mapped { IfOk result (IsMapOf guard.guard (then guard.projection projection)) }
-        ensures missed { IfErr result (λ _. option_and_then (Q.lens projection).part (mapped_part G.value_of P.lens guard) ≡ None) }
-        ensures back { IfErr result (λ back. back ≡ guard) }
-    {
-        let both = guard.then(projection);
-        if both.has_part() {
-            return Ok(both);
-        }
-        Err(both.into_first())
-    }
-
-    /// The guard of the part of the part, or the same guard with what was missed.
-    pub fn try_map_or_err<Q: TryProject<P::Part>>(
-        guard: Self,
-        projection: Q,
-    ) -> Result<Mapped<G, Then<P, Q>>, (Self, Missed<P::Miss, Q::Miss>)>
-        ensures found { IfOk result (λ _. IsSome (option_and_then (Q.lens projection).part (mapped_part G.value_of P.lens guard))) }
-        ensures mapped { IfOk result (IsMapOf guard.guard (then guard.projection projection)) }
-        ensures missed { IfErr result (λ _. option_and_then (Q.lens projection).part (mapped_part G.value_of P.lens guard) ≡ None) }
-        ensures back { IfErr result (λ back. back.0 ≡ guard) }
-        ensures miss { IfErr result (λ back.
-            guard_miss G.value_of (⟦<Then<P, Q> as TryProject<G::Value>>⟧.missed (then guard.projection projection)) guard.guard ≡ Some back.1) }
-    {
-        let both = guard.then(projection);
-        if both.has_part() {
-            return Ok(both);
-        }
-        let miss = both.miss();
-        Err((both.into_first(), miss))
     }
 
     /// Ends the guard, and lets those that wait go first.
@@ -122,15 +73,15 @@ impl<G: LockGuard, P: TryProject<G::Value>> Mapped<G, P> {
 
     fn has_part(&self) -> bool
         ensures { MatchBool result
-            (IsSome (mapped_part G.value_of P.lens self.now))
-            (mapped_part G.value_of P.lens self.now ≡ None) }
+            (IsSome (mapped_part G.value_of P.part self.now))
+            (mapped_part G.value_of P.part self.now ≡ None) }
     {
         Mapped::get(self).is_some()
     }
 
     /// What the projection tells of a value without a part.
     fn miss(&self) -> P::Miss
-        ensures { mapped_part G.value_of P.lens self.now ≡ None →
+        ensures { mapped_part G.value_of P.part self.now ≡ None →
             guard_miss G.value_of (P.missed self.now.projection) self.now.guard ≡ Some result }
     {
         self.projection.miss(self.guard.value())
@@ -144,6 +95,57 @@ impl<G: LockGuard, P: TryProject<G::Value>> Mapped<G, P> {
             projection: _,
         } = self;
         guard
+    }
+}
+
+impl<G: LockGuard, P: TryProject<G::Value>> Mapped<G, P> {
+    ghost use Rattle.lock_guard.specs.GuardPart.{guard_miss};
+    ghost use Rattle.lock_base.specs.Then.{then};
+    ghost use Rattle.lock_guard.specs.Mapped.{IsMapOf, IsMappedOr, mapped_part};
+
+    /// The guard of the part of the part, by a projection that always has one.
+    pub fn map<Q: Project<P::Part>>(guard: Self, projection: Q) -> Mapped<G, Then<P, Q>>
+        ensures { IsMapOf guard.guard (then guard.projection projection) result }
+    {
+        guard.then(projection)
+    }
+
+    /// The guard of the part of the part, or the same guard where there is none.
+    pub fn try_map<Q: TryProject<P::Part>>(
+        guard: Self,
+        projection: Q,
+    ) -> Result<Mapped<G, Then<P, Q>>, Self>
+        ensures { IsMappedOr
+            (option_and_then (Q.lens projection).part
+            (guard_part G.value_of (P.lens guard.projection).part guard.guard))
+            guard.guard (then guard.projection projection) (λ back. back ≡ guard) result }
+    {
+        let both = guard.then(projection);
+        if both.has_part() {
+            return Ok(both);
+        }
+        Err(both.into_first())
+    }
+
+    /// The guard of the part of the part, or the same guard with what was missed.
+    pub fn try_map_or_err<Q: TryProject<P::Part>>(
+        guard: Self,
+        projection: Q,
+    ) -> Result<Mapped<G, Then<P, Q>>, (Self, Missed<P::Miss, Q::Miss>)>
+        ensures { IsMappedOr
+            (option_and_then (Q.lens projection).part
+            (guard_part G.value_of (P.lens guard.projection).part guard.guard))
+            guard.guard (then guard.projection projection)
+            (λ back. (back.0 ≡ guard) × (guard_miss G.value_of
+            (⟦<Then<P, Q> as TryProject<G::Value>>⟧.missed (then guard.projection projection))
+            guard.guard ≡ Some back.1)) result }
+    {
+        let both = guard.then(projection);
+        if both.has_part() {
+            return Ok(both);
+        }
+        let miss = both.miss();
+        Err((both.into_first(), miss))
     }
 
     fn then<Q>(self, second: Q) -> Mapped<G, Then<P, Q>>
@@ -189,19 +191,19 @@ impl<G: LockGuardMut, P: TryProject<G::Value> + Copy> Mapped<G, P> {
     pub fn get_mut(guard: &mut Self) -> Option<&mut P::Part>
         ensures* writes_back { sem 𝓛 (LendsIf (the_row G.row P.row) P.Part.row guard.entry result
             (mapped_with_part G.value_of G.with_value P.lens guard.old) guard.old) }
-        ensures value { option_copied_mut result ≡ mapped_part G.value_of P.lens guard.old }
+        ensures value { option_copied_mut result ≡ mapped_part G.value_of (λ p. (P.lens p).part) guard.old }
     {
         let projection = guard.projection;
         part_mut(&mut guard.guard, &projection)
     }
 }
 
-impl<G: LockGuard, P: Project<G::Value>> Deref for Mapped<G, P> {
+impl<G: LockGuard, P: View<G::Value>> Deref for Mapped<G, P> {
     ghost use Rattle.lock_guard.specs.Mapped.{mapped_part};
 
     type Target = P::Part;
 
-    ghost deref_gives = { λ mapped part. mapped_part G.value_of P.lens mapped ≡ Some part };
+    ghost deref_gives = { λ mapped part. mapped_part G.value_of P.part mapped ≡ Some part };
 
     fn deref(&self) -> &P::Part {
         self.projection.of(self.guard.value())
@@ -212,19 +214,20 @@ impl<G: LockGuardMut, P: Project<G::Value> + Copy> DerefMut for Mapped<G, P> {
     ghost use Rattle.lock_guard.specs.contracts.guard.mapped.Mapped.{the_row};
     ghost use Rattle.lock_guard.specs.Mapped.{mapped_part, mapped_with_part};
 
-    ghost deref_mut_gives = { λ mapped part. mapped_part G.value_of P.lens mapped ≡ Some part };
+    ghost deref_mut_gives = { λ mapped part.
+        mapped_part G.value_of (λ p. (P.lens p).part) mapped ≡ Some part };
 
     fn deref_mut(&mut self) -> &mut P::Part
         ensures* writes_back { sem 𝓛 (Lends (the_row G.row P.row) P.Part.row self.entry result
             (mapped_with_part G.value_of G.with_value P.lens self.old)) }
-        ensures value { mapped_part G.value_of P.lens self.old ≡ Some result.now }
+        ensures value { mapped_part G.value_of (λ p. (P.lens p).part) self.old ≡ Some result.now }
     {
         let projection = self.projection;
         total_part_mut(&mut self.guard, &projection)
     }
 }
 
-impl<G: LockGuard, P: Project<G::Value>> Debug for Mapped<G, P>
+impl<G: LockGuard, P: View<G::Value>> Debug for Mapped<G, P>
 where
     P::Part: Debug,
 {
@@ -233,7 +236,7 @@ where
     }
 }
 
-impl<G: LockGuard, P: Project<G::Value>> Display for Mapped<G, P>
+impl<G: LockGuard, P: View<G::Value>> Display for Mapped<G, P>
 where
     P::Part: Display,
 {
@@ -251,7 +254,7 @@ where
     P: 'a,
     ensures* writes_back { sem 𝓛 (LendsIf G.row P.Part.row guard.entry result
         (guard_with_part G.value_of G.with_value (P.lens projection.now) guard.old) guard.old) }
-    ensures value { option_copied_mut result ≡ guard_part G.value_of (P.lens projection.now) guard.old }
+    ensures value { option_copied_mut result ≡ guard_part G.value_of (P.lens projection.now).part guard.old }
 {
     P::get_mut(guard.value_mut(), projection)
 }
@@ -265,7 +268,7 @@ where
     P: 'a,
     ensures* writes_back { sem 𝓛 (Lends G.row P.Part.row guard.entry result
         (guard_with_part G.value_of G.with_value (P.lens projection.now) guard.old)) }
-    ensures value { guard_part G.value_of (P.lens projection.now) guard.old ≡ Some result.now }
+    ensures value { guard_part G.value_of (P.lens projection.now).part guard.old ≡ Some result.now }
 {
     P::of_mut(guard.value_mut(), projection)
 }

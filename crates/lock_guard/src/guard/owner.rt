@@ -3,7 +3,6 @@ ghost use Rattle.std.specs.Prelude.{◌≡◌, IfOk, IsOkUnless};
 ghost use Rattle.std.specs.Arc.{arc_value};
 
 use lock_base::raw::Fault;
-use std::alloc::AllocError;
 use std::sync::Arc;
 
 /// One more owner of a lock, for a guard that is not made yet. An acquisition asks for it before it asks the raw lock,
@@ -12,5 +11,5 @@ pub fn another_owner<L>(lock: &Arc<L>) -> Result<Arc<L>, Fault>
     ensures fault { IsOkUnless result Fault.OutOfMemory }
     ensures lock { IfOk result (λ owner. arc_value owner ≡ arc_value lock.now) }
 {
-    Arc::try_clone(lock).map_err(|_: AllocError| Fault::OutOfMemory)
+    Ok(Arc::try_clone(lock)?)
 }

@@ -13,7 +13,7 @@ pub fn run_loop<R: Wait, W: Waits, F: FnMut(&mut W::Value) -> bool>(
     mut condition: F,
 ) -> LoopEnd
     requires { F.IsAlwaysCallable condition }
-    ensures { ConditionLoop F.FnMut W.current W.with_current W.waited false
+    ensures { ConditionLoop F.FnMut W.current W.with_current W.wait_gives false
         condition waits.old result waits.new }
 {
     let mut timed_out = false;
@@ -26,7 +26,7 @@ pub fn run_loop<R: Wait, W: Waits, F: FnMut(&mut W::Value) -> bool>(
         }
         match waits.wait() {
             None => return LoopEnd::RanOut,
-            Some(late) => timed_out = late,
+            Some(answer) => timed_out = answer,
         }
     }
     unreachable!()

@@ -1,6 +1,6 @@
 //! Waits that are written down beforehand.
 ghost use Rattle.std.specs.Prelude.{◌≡◌, Bool, [], ◌∷◌, IfSome, IsNone, ◌↔◌, refl};
-ghost use Rattle.lock_mutex.specs.Script.{present, to_come, with_present, Waited};
+ghost use Rattle.lock_mutex.specs.Script.{present_value, waits_to_come, with_present_value, WaitGives};
 
 use crate::condition_loop::Waits;
 use std::vec::IntoIter;
@@ -18,7 +18,7 @@ impl<T: Drop> Script<T> {
     pub fn new(entries: Vec<(T, bool)>) -> Option<Script<T>>
         ensures none { IsNone result ↔ (entries.items ≡ []) }
         ensures some { IfSome result (λ script.
-            (flag : Bool) × (entries.items ≡ (present script, flag) ∷ to_come script)) }
+            (flag : Bool) × (entries.items ≡ (present_value script, flag) ∷ waits_to_come script)) }
     {
         let mut waits = entries.into_iter();
         let (value, _) = waits.next()?;
@@ -29,11 +29,11 @@ impl<T: Drop> Script<T> {
 impl<T: Drop> Waits for Script<T> {
     type Value = T;
 
-    ghost current = { present };
+    ghost current = { present_value };
 
-    ghost with_current = { with_present };
+    ghost with_current = { with_present_value };
 
-    ghost waited = { Waited };
+    ghost wait_gives = { WaitGives };
 
     ghost current_with = { λ script value. refl };
 

@@ -13,7 +13,7 @@ pub trait Waits {
     ghost with_current: { Self → Self.Value → Self };
 
     /// Whether a wait from the first state may give this answer and leave the second.
-    ghost waited: { Self → Option Bool → Self → Type 0 };
+    ghost wait_gives: { Self → Option Bool → Self → Type 0 };
 
     fn value(&mut self) -> &mut Self::Value
         ensures* writes_back { sem 𝓛 (Lends Self.row Self.Value.row self.entry result (with_current self.old)) }
@@ -21,7 +21,7 @@ pub trait Waits {
 
     /// Whether the wait timed out. None where nothing is left to wait for, and the value stays.
     fn wait(&mut self) -> Option<bool>
-        ensures waited { waited self.old result self.new }
+        ensures wait_gives { wait_gives self.old result self.new }
         ensures stays { IfNone result (current self.new ≡ current self.old) };
 
     ghost current_with: { (waits : Self) (value : Self.Value) → current (with_current waits value) ≡ value };

@@ -100,7 +100,7 @@ impl<'a, R: RawRwLockUpgradeTimed, T> RwLockGuard<InMode<'a, Upgradable, R, T>> 
 impl<'a, R: RawRwLockUpgradeDowngrade, T> RwLockGuard<InMode<'a, Upgradable, R, T>> {
     ghost use Rattle.lock_rwlock.specs.RwLockGuard.{SameLock};
 
-    /// The right to read in place of this one. No other writes between.
+    /// The right to read in place of this one.
     pub fn downgrade(guard: RwLockUpgradableReadGuard<'a, R, T>) -> RwLockReadGuard<'a, R, T>
         ensures { SameLock guard.entry result }
     {

@@ -36,7 +36,7 @@ impl<'a, R: RawRwLock, T> RwLockGuard<InMode<'a, Exclusive, R, T>> {
 impl<'a, R: RawRwLockDowngrade, T> RwLockGuard<InMode<'a, Exclusive, R, T>> {
     ghost use Rattle.lock_rwlock.specs.RwLockGuard.{SameLock};
 
-    /// The right to read in place of this one. No other writes between.
+    /// The right to read in place of this one.
     pub fn downgrade(guard: RwLockWriteGuard<'a, R, T>) -> RwLockReadGuard<'a, R, T>
         ensures { SameLock guard.entry result }
     {
@@ -48,7 +48,7 @@ impl<'a, R: RawRwLockDowngrade, T> RwLockGuard<InMode<'a, Exclusive, R, T>> {
 impl<'a, R: RawRwLockUpgradeDowngrade, T> RwLockGuard<InMode<'a, Exclusive, R, T>> {
     ghost use Rattle.lock_rwlock.specs.RwLockGuard.{SameLock};
 
-    /// An upgradable guard in place of this one. No other writes between.
+    /// An upgradable guard in place of this one.
     pub fn downgrade_to_upgradable(
         guard: RwLockWriteGuard<'a, R, T>,
     ) -> RwLockUpgradableReadGuard<'a, R, T>

@@ -76,7 +76,7 @@ impl<R: RawRwLockUpgradeTimed + Drop, T: Drop> ArcRwLockGuard<Upgradable, R, T> 
 }
 
 impl<R: RawRwLockUpgradeDowngrade + Drop, T: Drop> ArcRwLockGuard<Upgradable, R, T> {
-    /// The right to read in place of this one. No other writes between.
+    /// The right to read in place of this one.
     pub fn downgrade(guard: ArcRwLockUpgradableReadGuard<R, T>) -> ArcRwLockReadGuard<R, T>
         ensures { arc_of result ≡ arc_of guard }
     {

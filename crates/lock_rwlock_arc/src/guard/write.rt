@@ -22,7 +22,7 @@ impl<R: RawRwLock + Drop, T: Drop> ArcRwLockGuard<Exclusive, R, T> {
 }
 
 impl<R: RawRwLockDowngrade + Drop, T: Drop> ArcRwLockGuard<Exclusive, R, T> {
-    /// The right to read in place of this one. No other writes between.
+    /// The right to read in place of this one.
     pub fn downgrade(guard: ArcRwLockWriteGuard<R, T>) -> ArcRwLockReadGuard<R, T>
         ensures { arc_of result ≡ arc_of guard }
     {
@@ -33,7 +33,7 @@ impl<R: RawRwLockDowngrade + Drop, T: Drop> ArcRwLockGuard<Exclusive, R, T> {
 }
 
 impl<R: RawRwLockUpgradeDowngrade + Drop, T: Drop> ArcRwLockGuard<Exclusive, R, T> {
-    /// An upgradable guard in place of this one. No other writes between.
+    /// An upgradable guard in place of this one.
     pub fn downgrade_to_upgradable(
         guard: ArcRwLockWriteGuard<R, T>,
     ) -> ArcRwLockUpgradableReadGuard<R, T>

@@ -1,12 +1,12 @@
 use Rattle.std.proofs.Common.{◌≡◌, ◌∙◌}
 use Rattle.lock_mutex.proofs.Loops.{only_false}
 use Rattle.lock_mutex.specs.declared.condition_loop.loop_end.LoopEnd.TheVariants.{False, TimedOut}
-use Rattle.lock_mutex.proofs.Waits.{waits_while}
+use Rattle.lock_mutex.proofs.HeldWaits.{waits_while}
 use Rattle.lock_mutex.proofs.waiting.sleep_while.Goals as goal
 
 pub returns-clause-in_time : goal.returns-clause-in_time
 returns-clause-in_time g c never =
-    let ended : c.run_loop-end.result ≡ False = only_false _ _ _ _ (λ w v late may. never late may) (λ w v none. none) c.run_loop-end.ensures in
+    let ended : c.run_loop-end.result ≡ False = only_false _ _ _ _ (λ w v timed_out may. never timed_out may) (λ w v none. none) c.run_loop-end.ensures in
     rw ended at c.eq.ensures
 
 pub returns-clause-checks : goal.returns-clause-checks

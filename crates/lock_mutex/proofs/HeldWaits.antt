@@ -1,0 +1,43 @@
+-- What the loop of one who waits with a held lock says of the value.
+use Rattle.std.specs.Prelude.{◌≡◌, Bool, true, false, Option, Some, IsSomeAnd, refl}
+use Rattle.std.specs.Borrow.{MutBor}
+use Rattle.std.specs.Fn.{Mut}
+use Rattle.std.proofs.Common.{sym, subst}
+use Rattle.lock_guard.specs.declared.guard.inner.Inner.{Inner}
+use Rattle.lock_guard.specs.Inner.{inner_value}
+use Rattle.lock_mutex.specs.declared.waiting.Waiting.{Waiting}
+use Rattle.lock_mutex.specs.Waiting.{inner_value-filled, waiting_value, waiting_with_value, waiting_value-with}
+use Rattle.lock_mutex.specs.WaitsWhile.{end_of, WaitsWhile}
+use Rattle.lock_mutex.specs.declared.condition_loop.loop_end.LoopEnd.{LoopEnd}
+use Rattle.lock_mutex.specs.declared.condition_loop.loop_end.LoopEnd.TheVariants.{False, TimedOut, RanOut}
+use Rattle.lock_mutex.specs.ConditionLoop.{ConditionLoop}
+use Rattle.lock_mutex.specs.ValueLoop.{ValueLoop}
+use Rattle.lock_mutex.proofs.Values.{value_loop}
+
+module _ {L S V K W X F : Type 0} {g : _} (value_of : V → X) (with_value : V → X → V) (law : (shown : V) (value : X) → value_of (with_value shown value) ≡ value)
+    (calls : Mut F (MutBor X × Unit {0}) (Bool × (MutBor X × Unit {0}))) (may_answer : Bool → Type 0) where
+  -- there is always one more wait
+  abbrev wait_gives : Waiting L S V K W X g → Option Bool → Waiting L S V K W X g → Type 0
+  wait_gives before answer after = IsSomeAnd answer may_answer
+
+  abbrev Loop : F → Waiting L S V K W X g → LoopEnd → Waiting L S V K W X g → Type 0
+  Loop = ConditionLoop calls (waiting_value value_of) (waiting_with_value with_value) wait_gives false
+
+  ends : (end : LoopEnd) {condition : F} {before after : Waiting L S V K W X g} {timed_out : Bool} → Loop condition before end after
+      → (end ≡ False → timed_out ≡ false) → (end ≡ TimedOut → timed_out ≡ true) → end ≡ end_of timed_out
+  ends False loop in_time out = subst (λ (b : Bool). False ≡ end_of b) (sym (in_time refl)) refl
+  ends TimedOut loop in_time out = subst (λ (b : Bool). TimedOut ≡ end_of b) (sym (out refl)) refl
+  ends RanOut loop in_time out = absurd loop.ends.2
+
+  -- the loop from the value that the part showed before to the value that it shows after
+  pub waits_while : {condition : F} {before after : Waiting L S V K W X g} {end : LoopEnd} {timed_out : Bool} {old new : Inner K V} → Loop condition before end after
+      → before.held.inner ≡ old → new ≡ after.held.inner → (end ≡ False → timed_out ≡ false) → (end ≡ TimedOut → timed_out ≡ true)
+      → WaitsWhile calls condition (inner_value value_of old) timed_out (inner_value value_of new)
+  waits_while {condition} {before} {after} {end} {timed_out} loop from to in_time out = (
+    waiting_value value_of before,
+    waiting_value value_of after,
+    subst (λ (inner : Inner K V). inner_value value_of inner ≡ Some (waiting_value value_of before)) from (inner_value-filled value_of before.held.inner before.held.filled),
+    subst (λ (inner : Inner K V). inner_value value_of inner ≡ Some (waiting_value value_of after)) (sym to) (inner_value-filled value_of after.held.inner after.held.filled),
+    subst (λ (e : LoopEnd). ValueLoop calls condition (waiting_value value_of before) e (waiting_value value_of after)) (ends end loop in_time out)
+        (value_loop calls (waiting_value value_of) (waiting_with_value with_value) wait_gives (waiting_value-with value_of with_value law) (λ w v none. none) loop),
+  )

@@ -1,0 +1,43 @@
+-- What holds of the word and of all parties between any two atomic steps.
+use Rattle.std.specs.Prelude.{◌≡◌, ◌≢◌, ℕ, ◌-◌, ◌^◌, ◌<◌, ◌≤◌, List, map, sum_by, slice_get, Some}
+use Rattle.lock_base.specs.declared.machine.bag.Bag.{Bag}
+use Rattle.lock_base.specs.Modes.{readers, AreCompatible}
+use Rattle.lock_word.specs.declared.party.PartyState.{PartyState}
+use Rattle.lock_word.specs.Holders.{all_of, IsPart}
+use Rattle.lock_word.specs.Word.{word_of, readers_of_word}
+
+-- what each party holds
+abbrev pub holds : List PartyState → List Bag
+holds parties = map (λ (q : PartyState). q.held) parties
+
+-- what all parties hold together
+abbrev pub held_by_all : List PartyState → Bag
+held_by_all parties = all_of (holds parties)
+
+abbrev pub all_wins : List PartyState → ℕ
+all_wins parties = sum_by (λ (q : PartyState). q.wins) parties
+
+-- the wins of the others: all wins less the party's own
+abbrev pub others_wins : List PartyState → PartyState → ℕ
+others_wins parties me = all_wins parties - me.wins
+
+-- the party's fails are at most the others' wins, and fewer where the word is no longer the one that it loaded
+pub record IsBehind (others word : ℕ) (me : PartyState) : Type 0 where
+  pub bounded : me.fails ≤ others
+  pub open_load : (loaded : ℕ) → me.loaded ≡ Some loaded → word ≢ loaded → me.fails < others
+
+-- the word is that of all that is held, which may be out together, and each party's fails are behind the others' wins
+pub record KeepsRule (limit word : ℕ) (parties : List PartyState) : Type 0 where
+  pub coded : word ≡ word_of (held_by_all parties)
+  pub legal : AreCompatible limit (held_by_all parties)
+  pub behind : (k : ℕ) (me : PartyState) → slice_get parties k ≡ Some me → IsBehind (others_wins parties me) word me
+
+-- what a word says to one who holds these: it is the word of all that is held, of which these are a part
+pub record Shows (limit word : ℕ) (own : Bag) : Type 0 where
+  pub all : Bag
+  pub legal : AreCompatible limit all
+  pub part : IsPart own all
+  pub coded : word ≡ word_of all
+  -- so an exclusive holder finds no one else, and one who reads finds a reader and no exclusive holder
+  pub exclusive : 0 < own.exclusive → word ≡ 2 ^ 33
+  pub reads : 0 < readers own → (0 < readers_of_word word) × (word < 2 ^ 33)
