@@ -4,6 +4,7 @@ pub use Rattle.lock_base.specs.Kind
 pub use Rattle.lock_base.specs.Party
 pub use Rattle.lock_base.specs.Fault
 pub use Rattle.lock_base.specs.Limits
+pub use Rattle.lock_base.specs.Levels
 pub use Rattle.lock_base.specs.Tokens
 pub use Rattle.lock_base.specs.Operation
 pub use Rattle.lock_base.specs.Entries
@@ -32,7 +33,6 @@ pub use Rattle.lock_rwlock.specs.RwLockGuard
 pub use Rattle.lock_rwlock_arc.specs.ArcRwLockGuard
 pub use Rattle.lock_remutex.specs.Guards
 pub use Rattle.lock_remutex.specs.ArcGuards
-pub use Rattle.lock_remutex.specs.Ownership
 pub use Rattle.lock_raws.specs.TokenArbiter
 pub use Rattle.lock_raws.specs.Journal
 pub use Rattle.lock_raws.specs.Recording

@@ -8,7 +8,9 @@ pub use lock_base::project::{
     Missed, Project, Then, TryProject, mapping_twice_is_then, missed_write_changes_nothing,
     then_is_associative, then_is_lawful, then_misses_in_order, write_keeps_part,
 };
-pub use lock_base::raw::{DEFAULT_READERS, Fault, MAX_LIMIT, ObservableState, RawState, is_limit};
+pub use lock_base::raw::{
+    DEFAULT_LEVELS, DEFAULT_READERS, Fault, Levels, MAX_LIMIT, ObservableState, RawState, is_limit,
+};
 pub use lock_base_laws::{
     exclusive_guards_exclude, nested_guards_make_one_token, new_guards_are_held,
     numbers_are_used_once, only_writes_change_value, parked_guards_hold_nothing, parked_is_resumed,
@@ -32,8 +34,8 @@ pub use lock_raws::{
     UpgradableToken,
 };
 pub use lock_remutex::{
-    ArcReentrantMutexGuard, DEFAULT_LEVELS, Levels, MappedReentrantMutexGuard, RawReentrantMutex,
-    ReentrantMutex, ReentrantMutexGuard,
+    ArcReentrantMutexGuard, MappedReentrantMutexGuard, RawReentrantMutex, ReentrantMutex,
+    ReentrantMutexGuard,
 };
 pub use lock_rwlock::{
     MappedRwLockReadGuard, MappedRwLockWriteGuard, RwLock, RwLockReadGuard,

@@ -4,6 +4,7 @@ pub mod Kind
 pub mod Party
 pub mod Fault
 pub mod Limits
+pub mod Levels
 pub mod Tokens
 pub mod Operation
 pub mod Entries

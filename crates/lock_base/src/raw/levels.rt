@@ -1,33 +1,33 @@
-//! The state behind a reentrant lock.
-use lock_base::machine::PartyId;
-use lock_base::raw::{Fault, MAX_LIMIT, is_limit};
+//! The levels of a reentrant lock.
+use crate::machine::PartyId;
+use crate::raw::{Fault, MAX_LIMIT, is_limit};
 use std::marker::Model;
 
 /// How many levels an owner may have where a maker is not told.
 pub const DEFAULT_LEVELS: u64 = MAX_LIMIT;
 
-/// Who owns a reentrant lock, at how many levels, and the raw lock's token that the owner holds.
+/// Who owns a reentrant lock, at how many levels, and the token that the owner holds of the lock behind it.
 #[derive(Drop)]
-pub struct Levels<G> {
+pub struct Levels<K> {
     limit: u64,
-    owner: Option<Owner<G>>,
+    owner: Option<Owner<K>>,
 }
 
 #[derive(Drop)]
-struct Owner<G> {
+struct Owner<K> {
     party: PartyId,
     count: u64,
-    token: G,
+    token: K,
 }
 
-impl<G> Model for Levels<G> {
+impl<K> Model for Levels<K> {
     ghost use Rattle.std.specs.Prelude.{◌<◌, ◌≤◌, IfSome};
     ghost use Rattle.std.specs.Option.{option_map};
     ghost use Rattle.lock_base.specs.Limits.{IsLimit};
     ghost use Rattle.lock_base.specs.Party.{id_of};
-    ghost use Rattle.lock_remutex.specs.Ownership.{Ownership};
+    ghost use Rattle.lock_base.specs.Levels as levels;
 
-    ghost Value = { Ownership G };
+    ghost Value = { levels.Levels K };
 
     ghost view = { λ l. record {
       limit = l.limit;
@@ -37,10 +37,10 @@ impl<G> Model for Levels<G> {
     ghost invariant = { λ l. IsLimit l.limit × IfSome l.owner (λ o. (0 < o.count) × (o.count ≤ l.limit)) };
 }
 
-impl<G> Default for Levels<G> {
+impl<K> Default for Levels<K> {
     ghost use Rattle.std.specs.Prelude.{◌≡◌};
-    ghost use Rattle.lock_remutex.specs.Ownership.{unowned};
-    ghost use Rattle.lock_remutex.specs.declared.levels.TheConstants.{DEFAULT_LEVELS};
+    ghost use Rattle.lock_base.specs.Levels.{unowned};
+    ghost use Rattle.lock_base.specs.declared.raw.levels.TheConstants.{DEFAULT_LEVELS};
 
     ghost is_default = { λ levels. levels ≡ unowned DEFAULT_LEVELS };
 
@@ -52,12 +52,12 @@ impl<G> Default for Levels<G> {
     }
 }
 
-impl<G: Drop> Levels<G> {
-    ghost use Rattle.std.specs.Prelude.{◌≡◌, ◌<◌, ◌≤◌, ◌↔◌, IsTrue, IsOk, IsErr, IsSome, IsNone, IfOk, IfErr, IfSome, IfNone};
+impl<K: Drop> Levels<K> {
+    ghost use Rattle.std.specs.Prelude.{◌≡◌, ◌<◌, ◌≤◌, ◌↔◌, IsTrue, IsOk, IsErr, IsSome, IsNone, IfOk, IfErr, IfSome, IfNone, ◌==◌};
     ghost use Rattle.std.specs.Bool.{MatchBool};
     ghost use Rattle.lock_base.specs.Limits.{IsLimit};
     ghost use Rattle.lock_base.specs.Party.{id_of};
-    ghost use Rattle.lock_remutex.specs.Ownership.{IsLawful, GainsLevel, LosesLevel, GivesTokenBack, unowned, owned_by, at_level, level_of, token_of};
+    ghost use Rattle.lock_base.specs.Levels.{IsLawful, GainsLevel, LosesLevel, GivesTokenBack, unowned, owned_by, at_level, level_of, token_of};
 
     /// No owner yet. Refused where the number of levels is out of its range.
     pub fn new(levels: u64) -> Result<Self, Fault>
@@ -85,9 +85,17 @@ impl<G: Drop> Levels<G> {
         }
     }
 
+    /// Whether the party has as many levels as there may be.
+    pub fn is_full(&self, party: PartyId) -> bool
+        ensures { result ≡ (level_of self.now (id_of party) == self.now.limit) }
+    {
+        self.level(party) == self.limit
+    }
+
     /// Whether any party owns a level.
     pub fn is_owned(&self) -> bool
-        ensures { IsTrue result ↔ IsSome self.now.owner }
+        ensures owned { IsTrue result ↔ IsSome self.now.owner }
+        ensures lawful { IsLawful self.now }
     {
         self.owner.is_some()
     }
@@ -112,7 +120,7 @@ impl<G: Drop> Levels<G> {
     }
 
     /// Level 1 of the party where there is no owner, and else the token back.
-    pub fn first(&mut self, party: PartyId, token: G) -> Option<G>
+    pub fn first(&mut self, party: PartyId, token: K) -> Option<K>
         ensures taken { IfNone result
             (IsNone self.old.owner × (self.new ≡ owned_by self.old (id_of party) token)) }
         ensures back { IfSome result (λ back. IsSome self.old.owner × (back ≡ token) × (self.new ≡ self.old)) }
@@ -129,7 +137,7 @@ impl<G: Drop> Levels<G> {
     }
 
     /// One level less for the owner, and the token with the last.
-    pub fn leave(&mut self, party: PartyId) -> Result<Option<G>, Fault>
+    pub fn leave(&mut self, party: PartyId) -> Result<Option<K>, Fault>
         ensures owner { IsOk result ↔ (0 < level_of self.old (id_of party)) }
         ensures fault { IfErr result (λ fault. (fault ≡ Fault.Foreign) × (self.new ≡ self.old)) }
         ensures less { IfOk result (λ token. IfNone token (LosesLevel self.old self.new (id_of party))) }
@@ -147,7 +155,7 @@ impl<G: Drop> Levels<G> {
     }
 
     /// As `leave` where the party has one level. Where it has more it keeps them.
-    pub fn leave_sole(&mut self, party: PartyId) -> Result<Option<G>, Fault>
+    pub fn leave_sole(&mut self, party: PartyId) -> Result<Option<K>, Fault>
         ensures owner { IsOk result ↔ (0 < level_of self.old (id_of party)) }
         ensures fault { IfErr result (λ fault. (fault ≡ Fault.Foreign) × (self.new ≡ self.old)) }
         ensures kept { IfOk result (λ token.
@@ -173,7 +181,7 @@ impl<G: Drop> Levels<G> {
     }
 
     /// Takes the owner away, and answers the token that it held.
-    fn free(&mut self) -> Option<G>
+    fn free(&mut self) -> Option<K>
         ensures token { result ≡ token_of self.old }
         ensures after { self.new ≡ unowned self.old.limit }
     {
