@@ -149,7 +149,7 @@ where
             (held_value mutex_guard_value (held_of guard.old)) (has_timed_out result)
             (held_value mutex_guard_value (held_of guard.new)) }
     {
-        let mutex = guard.held.lock;
+        let mutex = guard.held.lock.mutex;
         if let Some(deadline) = C::instant_after(&mutex.raw, &timeout) {
             return self.wait_while_until(guard, condition, deadline);
         }
