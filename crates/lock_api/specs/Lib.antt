@@ -45,5 +45,7 @@ pub use Rattle.lock_rwlock_arc.specs.ArcRwLockGuard
 pub use Rattle.lock_remutex.specs.Guards
 pub use Rattle.lock_remutex.specs.ArcGuards
 pub use Rattle.lock_raws.specs.TokenArbiter
+pub use Rattle.lock_raws.specs.Unblocking
 pub use Rattle.lock_raws.specs.Journal
 pub use Rattle.lock_raws.specs.Recording
+pub use Rattle.lock_raws_word.specs.Waking
