@@ -18,7 +18,7 @@ pub use lock_base_laws::{
     refused_upgrades_keep_guard, replies_are_as_many, runs_are_sound, spent_counts_releases,
     tokens_are_those_held,
 };
-pub use lock_desk::Desk;
+pub use lock_desk::{Desk, desk_is_sound};
 pub use lock_guard::raw::{
     GuardNoSend, GuardSend, RawCondvar, RawCondvarTimed, RawMutex, RawMutexFair, RawMutexTimed,
     RawRwLock, RawRwLockDowngrade, RawRwLockFair, RawRwLockTimed, RawRwLockUpgrade,
