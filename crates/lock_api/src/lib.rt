@@ -1,12 +1,16 @@
-//! Locks over any raw lock, their guards, and the machine of guards: the whole workspace under one name.
+//! Locks over any raw lock, their guards, and the machine of guards: all that a user of them names, under one name.
+//!
+//! Left out are the scripts of `lockreplay` (crate `lock_script`), what guards are made of (`Held`, `Inner` and the
+//! traits under them in `lock_guard`), and `parts` of `lock_rwlock`.
 #![tactic(auto)]
 
 pub use lock_base::machine::{
     Bag, Call, Form, Kind, Mode, ModeStep, Op, PartyId, Reply, Want, Way,
 };
 pub use lock_base::project::{
-    Missed, Project, Then, TryProject, mapping_twice_is_then, missed_write_changes_nothing,
-    then_is_associative, then_is_lawful, then_misses_in_order, write_keeps_part,
+    At, Field, Missed, Project, Then, TryProject, TryView, View, mapping_twice_is_then,
+    missed_write_changes_nothing, then_is_associative, then_is_lawful, then_misses_in_order,
+    write_keeps_part,
 };
 pub use lock_base::raw::{DEFAULT_READERS, Fault, MAX_LIMIT, RawState, is_limit};
 pub use lock_base_laws::{
@@ -15,14 +19,15 @@ pub use lock_base_laws::{
     runs_are_sound, spent_counts_releases, tokens_are_those_held,
 };
 pub use lock_desk::Desk;
+pub use lock_guard::guard::Mapped;
 pub use lock_guard::raw::{
     GuardNoSend, GuardSend, RawCondvar, RawCondvarTimed, RawMutex, RawMutexFair, RawMutexTimed,
     RawRwLock, RawRwLockDowngrade, RawRwLockFair, RawRwLockTimed, RawRwLockUpgrade,
     RawRwLockUpgradeDowngrade, RawRwLockUpgradeFair, RawRwLockUpgradeTimed,
 };
 pub use lock_mutex::{
-    ArcMutexGuard, Condvar, LoopEnd, MappedMutexGuard, Mutex, MutexGuard, Script,
-    WaitTimeoutResult, Waits, run_loop,
+    ArcMutexGuard, BorrowedMutex, Condvar, Guard, LoopEnd, MappedMutexGuard, Mutex, MutexGuard,
+    Script, WaitTimeoutResult, Waits, run_loop,
 };
 pub use lock_raws::{
     DEFAULT_ENTRIES, ExclusiveToken, HeldPlace, Recorded, RecordingRaw, SequentialState,
@@ -33,12 +38,13 @@ pub use lock_remutex::{
     ReentrantMutex, ReentrantMutexGuard,
 };
 pub use lock_rwlock::{
-    MappedRwLockReadGuard, MappedRwLockWriteGuard, RwLock, RwLockReadGuard,
-    RwLockUpgradableReadGuard, RwLockWriteGuard,
+    Exclusive, FairMode, InMode, LockMode, Mappable, MappedRwLockReadGuard, MappedRwLockWriteGuard,
+    RwLock, RwLockGuard, RwLockReadGuard, RwLockUpgradableReadGuard, RwLockWriteGuard, Shared,
+    Upgradable,
 };
 pub use lock_rwlock_arc::{
-    ArcRwLockReadGuard, ArcRwLockUpgradableReadGuard, ArcRwLockWriteGuard, RwLockArc,
-    RwLockArcTimed, RwLockArcUpgrade, RwLockArcUpgradeTimed,
+    ArcRwLockGuard, ArcRwLockReadGuard, ArcRwLockUpgradableReadGuard, ArcRwLockWriteGuard,
+    RwLockArc, RwLockArcTimed, RwLockArcUpgrade, RwLockArcUpgradeTimed,
 };
 pub use lock_states::table::{TableToken, TokenTable};
 

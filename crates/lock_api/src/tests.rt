@@ -1,10 +1,8 @@
 //! Tests that span crates.
-mod arc_callers;
 mod arc_mutex;
 mod arc_remutex;
 mod arc_rwlock;
 mod beside_desk;
-mod callers;
 mod condition_loop;
 mod condvar;
 mod counting;
@@ -12,7 +10,6 @@ mod four_threads;
 mod liar;
 mod makers;
 mod mapped;
-mod mapped_callers;
 mod markers;
 mod mutex;
 mod mutex_rows;
@@ -21,7 +18,6 @@ mod recording;
 mod remutex;
 mod remutex_rows;
 mod rwlock;
-mod rwlock_callers;
 mod rwlock_counting;
 mod rwlock_liar;
 mod rwlock_rows;

@@ -17,8 +17,8 @@ use std::sync::Arc;
 /// The right to the value of a lock in the mode M. It keeps the lock alive, and its end gives the lock up. The value is
 /// lent for the length of a closure.
 ///
-/// Where a guard becomes one of another mode, the raw lock exchanges its token. That nobody else writes between is the raw
-/// lock's word.
+/// Where a guard becomes one of another mode, the raw lock exchanges its token. That nobody else writes between is the
+/// raw lock's word.
 #[derive(Drop)]
 pub struct ArcRwLockGuard<M: LockMode<R>, R: RawRwLock + Drop, T: Drop> {
     held: Held<OwnedInMode<M, R, T>>,
