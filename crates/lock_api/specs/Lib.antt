@@ -41,5 +41,6 @@ pub use Rattle.lock_rwlock_arc.specs.ArcRwLockGuard
 pub use Rattle.lock_remutex.specs.Guards
 pub use Rattle.lock_remutex.specs.ArcGuards
 pub use Rattle.lock_remutex.specs.Ownership
+pub use Rattle.lock_raws.specs.TokenArbiter
 pub use Rattle.lock_raws.specs.Journal
 pub use Rattle.lock_raws.specs.Recording

@@ -12,7 +12,7 @@ pub use lock_base::project::{
     missed_write_changes_nothing, then_is_associative, then_is_lawful, then_misses_in_order,
     write_keeps_part,
 };
-pub use lock_base::raw::{DEFAULT_READERS, Fault, MAX_LIMIT, RawState, is_limit};
+pub use lock_base::raw::{DEFAULT_READERS, Fault, MAX_LIMIT, ObservableState, RawState, is_limit};
 pub use lock_base_laws::{
     nested_guards_make_one_token, numbers_are_used_once, only_writes_change_value,
     parked_is_resumed, readers_see_one_value, refusals_keep_machine, refused_upgrades_keep_guard,
@@ -30,8 +30,9 @@ pub use lock_mutex::{
     Script, WaitTimeoutResult, Waits, run_loop,
 };
 pub use lock_raws::{
-    DEFAULT_ENTRIES, ExclusiveToken, HeldPlace, Recorded, RecordingRaw, SequentialState,
-    SharedToken, SpuriousCondvar, StateRaw, TokenRaw, UpgradableToken,
+    Arbiter, DEFAULT_ENTRIES, ExclusiveToken, LockCore, Monitor, RawLock, RecordingArbiter,
+    RecordingRaw, SharedToken, SpuriousCondvar, TableArbiter, TokenArbiter, TokenRaw, Unchanged,
+    UpgradableToken,
 };
 pub use lock_remutex::{
     ArcReentrantMutexGuard, DEFAULT_LEVELS, Levels, MappedReentrantMutexGuard, RawReentrantMutex,

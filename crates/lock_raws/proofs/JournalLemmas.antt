@@ -1,18 +1,18 @@
 -- A journal tells the steps of a lock.
-use Rattle.std.proofs.Common.{◌≡◌, ℕ, ◌<◌, Bool, true, false, nat_lt, [], ◌∷◌, ◌++◌, length, length-append, refl, sym, ap, ◌∙◌, subst, arith, ltb-true}
+use Rattle.std.proofs.Common.{◌≡◌, ℕ, ◌<◌, Bool, true, false, nat_lt, List, [], ◌∷◌, ◌++◌, length, length-append, refl, sym, ap, ◌∙◌, subst, arith, ltb-true}
 use Rattle.std.specs.Prelude.{if◌then◌else◌}
 use Rattle.std.proofs.lemmas.Bool.{false≢true}
+use Rattle.lock_base.specs.declared.machine.mode.Mode.{Mode}
 use Rattle.lock_base.specs.declared.machine.mode_step.ModeStep.{ModeStep}
 use Rattle.lock_base.specs.declared.machine.bag.Bag.{Bag}
 use Rattle.lock_base.specs.Modes.{empty_bag}
 use Rattle.lock_base.specs.ModeRuns.{Permits, bag_after, IsModeRun}
 use Rattle.lock_base.specs.Tokens.{bag_of_tokens}
 use Rattle.lock_base.specs.Limits.{IsLimit}
-use Rattle.lock_states.specs.Table.{Table, tokens_of}
 use Rattle.lock_raws.specs.Journal.{Journal, empty_journal, written, IsJournalOf}
-use Rattle.lock_raws.specs.Recording.{Recording, IsRecording}
+use Rattle.lock_raws.specs.Recording.{IsRecording}
 use Rattle.lock_base.proofs.ModeLemmas.{IsModeRun-push}
-use Rattle.lock_raws.proofs.TokenSteps.{MakesStep}
+use Rattle.lock_base.proofs.TokenSteps.{MakesStep}
 
 empty_is_journal : (limit room : ℕ) → IsJournalOf limit empty_bag (empty_journal room)
 empty_is_journal limit room = record {
@@ -58,23 +58,30 @@ journal_along {limit} {limit'} {bag} {bag'} {journal} {journal'} same_limit same
     (subst (λ b. IsJournalOf limit b journal') (sym same_bag)
     (subst (λ j. IsJournalOf limit bag j) (sym same_journal) kept))
 
--- after a call that looked for a token, which changed nothing, and made a step
-pub recording_stepped : {old new : Recording} {looked : Table} (step : ModeStep) → IsRecording old → looked ≡ old.table
-    → MakesStep looked.readers (tokens_of looked.places) (tokens_of new.table.places) step
-    → new.table.readers ≡ looked.readers
-    → new.journal ≡ written old.journal step
-    → IsRecording new
-recording_stepped {old} {new} {looked} step kept same made same_limit same_journal =
-    let journal_of : Table → Type 0 = λ table. IsJournalOf table.readers (bag_of_tokens (tokens_of table.places)) old.journal in
-    let before : journal_of looked = subst journal_of (sym same) kept.journal in
-    record {
-      lawful = subst IsLimit (sym same_limit) (subst (λ (table : Table). IsLimit table.readers) (sym same) kept.lawful);
-      journal = journal_along same_limit made.after same_journal (IsJournalOf-written looked.readers (bag_of_tokens (tokens_of looked.places)) old.journal step before made.permitted);
-    }
+module _ {K : Type 0} where
+  -- after a call that made a step
+  pub recording_stepped : {old new : List (K × Mode)} {limit limit' : ℕ} {journal journal' : Journal} (step : ModeStep)
+      → IsRecording old limit journal → MakesStep limit old new step
+      → limit' ≡ limit → journal' ≡ written journal step
+      → IsRecording new limit' journal'
+  recording_stepped {old} {new} {limit} {limit'} {journal} step recording made same_limit same_journal = record {
+    lawful = subst IsLimit (sym same_limit) recording.lawful;
+    kept = journal_along same_limit made.after same_journal (IsJournalOf-written limit (bag_of_tokens old) journal step recording.kept made.permitted);
+  }
 
--- with no token out, and nothing written
-pub new_recording : {r : Recording} (room : ℕ) → IsLimit r.table.readers → tokens_of r.table.places ≡ [] → r.journal ≡ empty_journal room → IsRecording r
-new_recording {r} room lawful none_out none_written = record {
-  lawful = lawful;
-  journal = journal_along refl (ap bag_of_tokens none_out) none_written (empty_is_journal r.table.readers room);
-}
+  -- after a call that made none
+  pub recording_kept : {old new : List (K × Mode)} {limit limit' : ℕ} {journal journal' : Journal} → IsRecording old limit journal
+      → new ≡ old → limit' ≡ limit → journal' ≡ journal
+      → IsRecording new limit' journal'
+  recording_kept recording same same_limit same_journal = record {
+    lawful = subst IsLimit (sym same_limit) recording.lawful;
+    kept = journal_along same_limit (ap bag_of_tokens same) same_journal recording.kept;
+  }
+
+  -- with no token out, and nothing written
+  pub new_recording : {ts : List (K × Mode)} {limit : ℕ} {journal : Journal} (room : ℕ) → IsLimit limit → ts ≡ [] → journal ≡ empty_journal room
+      → IsRecording ts limit journal
+  new_recording {limit = limit} room lawful none_out none_written = record {
+    lawful = lawful;
+    kept = journal_along refl (ap bag_of_tokens none_out) none_written (empty_is_journal limit room);
+  }

@@ -1,3 +1,3 @@
-pub mod TokenSteps
 pub mod Legal
 pub mod JournalLemmas
+pub mod Unblocked

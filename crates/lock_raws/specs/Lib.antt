@@ -1,4 +1,4 @@
-pub mod LegalTable
-pub mod LetsOn
+pub mod TokenArbiter
+pub mod Unblocking
 pub mod Journal
 pub mod Recording

@@ -1,25 +1,29 @@
-//! Raw locks over a sequential state behind a lock of std's.
+//! Raw locks: one that carries all raw traits over what acquires, tries, releases and changes, and a lock of std's round an arbiter for that.
 #![tactic(auto)]
 
-mod held_place;
-mod legal_table;
-mod lets_on;
+mod arbiter;
+mod lock_core;
+mod monitor;
 mod mutex;
-mod recorded;
+mod raw_lock;
+mod recording_arbiter;
 mod recording_raw;
 mod rwlock;
-mod sequential_state;
 mod spurious_condvar;
-mod state_raw;
 mod step_journal;
+mod token_arbiter;
+mod token_raw;
 mod tokens;
+mod unblocking;
 
-pub use held_place::HeldPlace;
-pub use legal_table::LegalTable;
+pub use arbiter::{Arbiter, Unchanged};
 pub use lock_base::machine::ModeStep;
-pub use recorded::{DEFAULT_ENTRIES, Recorded};
+pub use lock_core::LockCore;
+pub use monitor::Monitor;
+pub use raw_lock::RawLock;
+pub use recording_arbiter::{DEFAULT_ENTRIES, RecordingArbiter};
 pub use recording_raw::RecordingRaw;
-pub use sequential_state::SequentialState;
 pub use spurious_condvar::SpuriousCondvar;
-pub use state_raw::{StateRaw, TokenRaw};
+pub use token_arbiter::TokenArbiter;
+pub use token_raw::{TableArbiter, TokenRaw};
 pub use tokens::{ExclusiveToken, SharedToken, UpgradableToken};

@@ -1,66 +1,65 @@
-//! The raw lock as a raw mutex: one place, and one reader.
-use crate::sequential_state::SequentialState;
-use crate::state_raw::StateRaw;
+//! The raw lock as a raw mutex: of one reader.
+use crate::lock_core::LockCore;
+use crate::raw_lock::RawLock;
 use crate::tokens::ExclusiveToken;
 use lock_base::machine::Mode;
 use lock_base::raw::Fault;
 use lock_guard::raw::{RawMutex, RawMutexFair, RawMutexTimed};
 use std::alloc::Global;
-use std::clone::Clone;
-use std::sync::Wait;
 
-impl<S: SequentialState, W: Wait + Clone + Drop> RawMutex for StateRaw<S, W> {
-    type Guard = ExclusiveToken;
+impl<C: LockCore> RawMutex for RawLock<C> {
+    type Guard = ExclusiveToken<C::Token>;
 
-    type Waiter = W;
+    type Waiter = C::Waiter;
 
-    fn new(alloc: Global, waiter: W) -> Result<StateRaw<S, W>, Fault> {
-        let state: S = SequentialState::new(alloc, 1)?;
-        Ok(StateRaw::over(state, waiter))
+    fn new(alloc: Global, waiter: C::Waiter) -> Result<RawLock<C>, Fault> {
+        let core: C = LockCore::new(alloc, waiter, 1)?;
+        Ok(RawLock { core })
     }
 
-    fn waiter(&self) -> &W {
-        self.waiting()
+    fn waiter(&self) -> &C::Waiter {
+        self.core.waiter()
     }
 
-    fn lock(&self) -> ExclusiveToken {
+    fn lock(&self) -> ExclusiveToken<C::Token> {
         ExclusiveToken {
-            place: self.acquire(Mode::Exclusive),
+            token: self.core.acquire(Mode::Exclusive),
         }
     }
 
-    fn try_lock(&self) -> Option<ExclusiveToken> {
-        let place = self.try_acquire(Mode::Exclusive)?;
-        Some(ExclusiveToken { place })
+    fn try_lock(&self) -> Option<ExclusiveToken<C::Token>> {
+        let token = self.core.try_acquire(Mode::Exclusive)?;
+        Some(ExclusiveToken { token })
     }
 
-    fn unlock(&self, token: ExclusiveToken) {
-        self.release(token.place, Mode::Exclusive);
+    fn unlock(&self, token: ExclusiveToken<C::Token>) {
+        self.core.release(token.token, Mode::Exclusive);
     }
 
     fn is_locked(&self) -> bool {
-        self.any()
+        self.core.is_locked()
     }
 }
 
-/// An unlock is fair as it is: who waits in std's lock is let in before who comes later.
-impl<S: SequentialState, W: Wait + Clone + Drop> RawMutexFair for StateRaw<S, W> {
-    fn unlock_fair(&self, token: ExclusiveToken) {
+/// A fair unlock is an unlock.
+impl<C: LockCore> RawMutexFair for RawLock<C> {
+    fn unlock_fair(&self, token: ExclusiveToken<C::Token>) {
         self.unlock(token);
     }
 }
 
-/// A timed try is a try: it does not wait.
-impl<S: SequentialState, W: Wait + Clone + Drop> RawMutexTimed for StateRaw<S, W> {
-    type Duration = ();
+impl<C: LockCore> RawMutexTimed for RawLock<C> {
+    type Duration = C::Duration;
 
-    type Instant = ();
+    type Instant = C::Instant;
 
-    fn try_lock_for(&self, _timeout: ()) -> Option<ExclusiveToken> {
-        self.try_lock()
+    fn try_lock_for(&self, timeout: C::Duration) -> Option<ExclusiveToken<C::Token>> {
+        let token = self.acquire_within(Mode::Exclusive, timeout)?;
+        Some(ExclusiveToken { token })
     }
 
-    fn try_lock_until(&self, _deadline: ()) -> Option<ExclusiveToken> {
-        self.try_lock()
+    fn try_lock_until(&self, deadline: C::Instant) -> Option<ExclusiveToken<C::Token>> {
+        let token = self.core.try_acquire_until(Mode::Exclusive, deadline)?;
+        Some(ExclusiveToken { token })
     }
 }

@@ -1,6 +1,9 @@
 //! A raw lock that keeps a journal of its steps.
-use crate::recorded::Recorded;
-use crate::state_raw::StateRaw;
+use crate::arbiter::Arbiter;
+use crate::monitor::Monitor;
+use crate::raw_lock::RawLock;
+use crate::recording_arbiter::RecordingArbiter;
+use crate::token_raw::TableArbiter;
 use lock_base::machine::ModeStep;
 use lock_base::raw::{Fault, MAX_LIMIT};
 use std::alloc::Global;
@@ -8,9 +11,9 @@ use std::clone::Clone;
 use std::sync::Wait;
 
 /// A raw lock as `TokenRaw`, which keeps a journal of its steps. The raw traits make it with `DEFAULT_ENTRIES`.
-pub type RecordingRaw<W> = StateRaw<Recorded, W>;
+pub type RecordingRaw<W> = RawLock<Monitor<RecordingArbiter<TableArbiter>, W>>;
 
-impl<W: Wait + Clone + Drop> StateRaw<Recorded, W> {
+impl<A: Arbiter, W: Wait + Clone + Drop> RawLock<Monitor<RecordingArbiter<A>, W>> {
     ghost use Rattle.std.specs.Prelude.{◌≡◌, ◌↔◌, IfOk, IfErr, IsOkUnless};
     ghost use Rattle.lock_base.specs.Limits.{IsLimit, IsMakerFault};
     ghost use Rattle.lock_base.specs.ModeRuns.{Replays};
@@ -21,13 +24,15 @@ impl<W: Wait + Clone + Drop> StateRaw<Recorded, W> {
         waiter: W,
         readers: u64,
         entries: usize,
-    ) -> Result<StateRaw<Recorded, W>, Fault>
+    ) -> Result<RawLock<Monitor<RecordingArbiter<A>, W>>, Fault>
         ensures limits { (result ≡ Err Fault.BadLimits) ↔ (IsLimit readers → ⊥) }
         ensures in_range { IfOk result (λ _. IsLimit readers) }
         ensures fault { IfErr result IsMakerFault }
     {
-        let state = Recorded::new(alloc, readers, entries)?;
-        Ok(StateRaw::over(state, waiter))
+        let arbiter: RecordingArbiter<A> = RecordingArbiter::with_room(alloc, readers, entries)?;
+        Ok(RawLock {
+            core: Monitor::over(arbiter, waiter),
+        })
     }
 
     /// The steps that are written now, which may be old at once. They replay under the largest limit of readers, and
@@ -36,8 +41,8 @@ impl<W: Wait + Clone + Drop> StateRaw<Recorded, W> {
         ensures replays { IfOk result (λ steps. Replays MAX_LIMIT steps.items) }
         ensures fault { IsOkUnless result Fault.OutOfMemory }
     {
-        let state = self.state.lock(&self.waiter);
-        let Ok(steps) = Vec::from_slice(alloc, state.journal()) else {
+        let arbiter = self.core.arbiter.lock(&self.core.waiter);
+        let Ok(steps) = Vec::from_slice(alloc, arbiter.journal()) else {
             return Err(Fault::OutOfMemory);
         };
         Ok(steps)
@@ -45,6 +50,6 @@ impl<W: Wait + Clone + Drop> StateRaw<Recorded, W> {
 
     /// Whether a step found the journal full, which may be old at once where it is false.
     pub fn stopped(&self) -> bool {
-        self.state.lock(&self.waiter).stopped()
+        self.core.arbiter.lock(&self.core.waiter).stopped()
     }
 }

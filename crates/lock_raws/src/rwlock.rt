@@ -1,6 +1,6 @@
-//! The raw lock as a raw reader-writer lock: as many places as there may be readers.
-use crate::sequential_state::SequentialState;
-use crate::state_raw::StateRaw;
+//! The raw lock as a raw reader-writer lock.
+use crate::lock_core::LockCore;
+use crate::raw_lock::RawLock;
 use crate::tokens::{ExclusiveToken, SharedToken, UpgradableToken};
 use lock_base::machine::Mode;
 use lock_base::raw::Fault;
@@ -9,182 +9,195 @@ use lock_guard::raw::{
     RawRwLockUpgradeDowngrade, RawRwLockUpgradeFair, RawRwLockUpgradeTimed,
 };
 use std::alloc::Global;
-use std::clone::Clone;
-use std::sync::Wait;
 
-impl<S: SequentialState, W: Wait + Clone + Drop> RawRwLock for StateRaw<S, W> {
-    type SharedGuard = SharedToken;
+impl<C: LockCore> RawRwLock for RawLock<C> {
+    type SharedGuard = SharedToken<C::Token>;
 
-    type ExclusiveGuard = ExclusiveToken;
+    type ExclusiveGuard = ExclusiveToken<C::Token>;
 
-    type Waiter = W;
+    type Waiter = C::Waiter;
 
-    fn new(alloc: Global, waiter: W, readers: u64) -> Result<StateRaw<S, W>, Fault> {
-        let state: S = SequentialState::new(alloc, readers)?;
-        Ok(StateRaw::over(state, waiter))
+    fn new(alloc: Global, waiter: C::Waiter, readers: u64) -> Result<RawLock<C>, Fault> {
+        let core: C = LockCore::new(alloc, waiter, readers)?;
+        Ok(RawLock { core })
     }
 
-    fn waiter(&self) -> &W {
-        self.waiting()
+    fn waiter(&self) -> &C::Waiter {
+        self.core.waiter()
     }
 
-    fn lock_shared(&self) -> SharedToken {
+    fn lock_shared(&self) -> SharedToken<C::Token> {
         SharedToken {
-            place: self.acquire(Mode::Shared),
+            token: self.core.acquire(Mode::Shared),
         }
     }
 
-    fn try_lock_shared(&self) -> Option<SharedToken> {
-        let place = self.try_acquire(Mode::Shared)?;
-        Some(SharedToken { place })
+    fn try_lock_shared(&self) -> Option<SharedToken<C::Token>> {
+        let token = self.core.try_acquire(Mode::Shared)?;
+        Some(SharedToken { token })
     }
 
-    fn unlock_shared(&self, token: SharedToken) {
-        self.release(token.place, Mode::Shared);
+    fn unlock_shared(&self, token: SharedToken<C::Token>) {
+        self.core.release(token.token, Mode::Shared);
     }
 
-    fn lock_exclusive(&self) -> ExclusiveToken {
+    fn lock_exclusive(&self) -> ExclusiveToken<C::Token> {
         ExclusiveToken {
-            place: self.acquire(Mode::Exclusive),
+            token: self.core.acquire(Mode::Exclusive),
         }
     }
 
-    fn try_lock_exclusive(&self) -> Option<ExclusiveToken> {
-        let place = self.try_acquire(Mode::Exclusive)?;
-        Some(ExclusiveToken { place })
+    fn try_lock_exclusive(&self) -> Option<ExclusiveToken<C::Token>> {
+        let token = self.core.try_acquire(Mode::Exclusive)?;
+        Some(ExclusiveToken { token })
     }
 
-    fn unlock_exclusive(&self, token: ExclusiveToken) {
-        self.release(token.place, Mode::Exclusive);
+    fn unlock_exclusive(&self, token: ExclusiveToken<C::Token>) {
+        self.core.release(token.token, Mode::Exclusive);
     }
 
     fn is_locked(&self) -> bool {
-        self.any()
+        self.core.is_locked()
     }
 
     fn is_locked_exclusive(&self) -> bool {
-        self.bag().exclusive != 0
+        self.core.is_locked_exclusive()
     }
 }
 
-/// An unlock is fair as it is: who waits in std's lock is let in before who comes later.
-impl<S: SequentialState, W: Wait + Clone + Drop> RawRwLockFair for StateRaw<S, W> {
-    fn unlock_shared_fair(&self, token: SharedToken) {
+/// A fair unlock is an unlock.
+impl<C: LockCore> RawRwLockFair for RawLock<C> {
+    fn unlock_shared_fair(&self, token: SharedToken<C::Token>) {
         self.unlock_shared(token);
     }
 
-    fn unlock_exclusive_fair(&self, token: ExclusiveToken) {
+    fn unlock_exclusive_fair(&self, token: ExclusiveToken<C::Token>) {
         self.unlock_exclusive(token);
     }
 }
 
-impl<S: SequentialState, W: Wait + Clone + Drop> RawRwLockDowngrade for StateRaw<S, W> {
-    fn downgrade(&self, token: ExclusiveToken) -> SharedToken {
+impl<C: LockCore> RawRwLockDowngrade for RawLock<C> {
+    fn downgrade(&self, token: ExclusiveToken<C::Token>) -> SharedToken<C::Token> {
         SharedToken {
-            place: self.lower(token.place, Mode::Exclusive, Mode::Shared),
+            token: self.core.downgrade(token.token),
         }
     }
 }
 
-/// A timed try is a try: it does not wait.
-impl<S: SequentialState, W: Wait + Clone + Drop> RawRwLockTimed for StateRaw<S, W> {
-    type Duration = ();
+impl<C: LockCore> RawRwLockTimed for RawLock<C> {
+    type Duration = C::Duration;
 
-    type Instant = ();
+    type Instant = C::Instant;
 
-    fn try_lock_shared_for(&self, _timeout: ()) -> Option<SharedToken> {
-        self.try_lock_shared()
+    fn try_lock_shared_for(&self, timeout: C::Duration) -> Option<SharedToken<C::Token>> {
+        let token = self.acquire_within(Mode::Shared, timeout)?;
+        Some(SharedToken { token })
     }
 
-    fn try_lock_shared_until(&self, _deadline: ()) -> Option<SharedToken> {
-        self.try_lock_shared()
+    fn try_lock_shared_until(&self, deadline: C::Instant) -> Option<SharedToken<C::Token>> {
+        let token = self.core.try_acquire_until(Mode::Shared, deadline)?;
+        Some(SharedToken { token })
     }
 
-    fn try_lock_exclusive_for(&self, _timeout: ()) -> Option<ExclusiveToken> {
-        self.try_lock_exclusive()
+    fn try_lock_exclusive_for(&self, timeout: C::Duration) -> Option<ExclusiveToken<C::Token>> {
+        let token = self.acquire_within(Mode::Exclusive, timeout)?;
+        Some(ExclusiveToken { token })
     }
 
-    fn try_lock_exclusive_until(&self, _deadline: ()) -> Option<ExclusiveToken> {
-        self.try_lock_exclusive()
+    fn try_lock_exclusive_until(&self, deadline: C::Instant) -> Option<ExclusiveToken<C::Token>> {
+        let token = self.core.try_acquire_until(Mode::Exclusive, deadline)?;
+        Some(ExclusiveToken { token })
     }
 }
 
-impl<S: SequentialState, W: Wait + Clone + Drop> RawRwLockUpgrade for StateRaw<S, W> {
-    type UpgradableGuard = UpgradableToken;
+impl<C: LockCore> RawRwLockUpgrade for RawLock<C> {
+    type UpgradableGuard = UpgradableToken<C::Token>;
 
-    fn lock_upgradable(&self) -> UpgradableToken {
+    fn lock_upgradable(&self) -> UpgradableToken<C::Token> {
         UpgradableToken {
-            place: self.acquire(Mode::Upgradable),
+            token: self.core.acquire(Mode::Upgradable),
         }
     }
 
-    fn try_lock_upgradable(&self) -> Option<UpgradableToken> {
-        let place = self.try_acquire(Mode::Upgradable)?;
-        Some(UpgradableToken { place })
+    fn try_lock_upgradable(&self) -> Option<UpgradableToken<C::Token>> {
+        let token = self.core.try_acquire(Mode::Upgradable)?;
+        Some(UpgradableToken { token })
     }
 
-    fn unlock_upgradable(&self, token: UpgradableToken) {
-        self.release(token.place, Mode::Upgradable);
+    fn unlock_upgradable(&self, token: UpgradableToken<C::Token>) {
+        self.core.release(token.token, Mode::Upgradable);
     }
 
-    fn upgrade(&self, token: UpgradableToken) -> ExclusiveToken {
+    fn upgrade(&self, token: UpgradableToken<C::Token>) -> ExclusiveToken<C::Token> {
         ExclusiveToken {
-            place: self.wait_to_upgrade(token.place),
+            token: self.core.upgrade(token.token),
         }
     }
 
-    fn try_upgrade(&self, token: UpgradableToken) -> Result<ExclusiveToken, UpgradableToken> {
-        match self.change(token.place, Mode::Upgradable, Mode::Exclusive) {
-            Ok(place) => Ok(ExclusiveToken { place }),
-            Err(place) => Err(UpgradableToken { place }),
-        }
+    fn try_upgrade(
+        &self,
+        token: UpgradableToken<C::Token>,
+    ) -> Result<ExclusiveToken<C::Token>, UpgradableToken<C::Token>> {
+        by_mode(self.core.try_upgrade(token.token))
     }
 }
 
-/// An unlock is fair as it is: who waits in std's lock is let in before who comes later.
-impl<S: SequentialState, W: Wait + Clone + Drop> RawRwLockUpgradeFair for StateRaw<S, W> {
-    fn unlock_upgradable_fair(&self, token: UpgradableToken) {
+/// A fair unlock is an unlock.
+impl<C: LockCore> RawRwLockUpgradeFair for RawLock<C> {
+    fn unlock_upgradable_fair(&self, token: UpgradableToken<C::Token>) {
         self.unlock_upgradable(token);
     }
 }
 
-impl<S: SequentialState, W: Wait + Clone + Drop> RawRwLockUpgradeDowngrade for StateRaw<S, W> {
-    fn downgrade_upgradable(&self, token: UpgradableToken) -> SharedToken {
+impl<C: LockCore> RawRwLockUpgradeDowngrade for RawLock<C> {
+    fn downgrade_upgradable(&self, token: UpgradableToken<C::Token>) -> SharedToken<C::Token> {
         SharedToken {
-            place: self.lower(token.place, Mode::Upgradable, Mode::Shared),
+            token: self.core.downgrade_upgradable(token.token),
         }
     }
 
-    fn downgrade_to_upgradable(&self, token: ExclusiveToken) -> UpgradableToken {
+    fn downgrade_to_upgradable(
+        &self,
+        token: ExclusiveToken<C::Token>,
+    ) -> UpgradableToken<C::Token> {
         UpgradableToken {
-            place: self.lower(token.place, Mode::Exclusive, Mode::Upgradable),
+            token: self.core.downgrade_to_upgradable(token.token),
         }
     }
 }
 
-/// A timed try is a try: it does not wait.
-impl<S: SequentialState, W: Wait + Clone + Drop> RawRwLockUpgradeTimed for StateRaw<S, W> {
-    fn try_lock_upgradable_for(&self, _timeout: ()) -> Option<UpgradableToken> {
-        self.try_lock_upgradable()
+impl<C: LockCore> RawRwLockUpgradeTimed for RawLock<C> {
+    fn try_lock_upgradable_for(&self, timeout: C::Duration) -> Option<UpgradableToken<C::Token>> {
+        let token = self.acquire_within(Mode::Upgradable, timeout)?;
+        Some(UpgradableToken { token })
     }
 
-    fn try_lock_upgradable_until(&self, _deadline: ()) -> Option<UpgradableToken> {
-        self.try_lock_upgradable()
+    fn try_lock_upgradable_until(&self, deadline: C::Instant) -> Option<UpgradableToken<C::Token>> {
+        let token = self.core.try_acquire_until(Mode::Upgradable, deadline)?;
+        Some(UpgradableToken { token })
     }
 
     fn try_upgrade_for(
         &self,
-        token: UpgradableToken,
-        _timeout: (),
-    ) -> Result<ExclusiveToken, UpgradableToken> {
-        self.try_upgrade(token)
+        token: UpgradableToken<C::Token>,
+        timeout: C::Duration,
+    ) -> Result<ExclusiveToken<C::Token>, UpgradableToken<C::Token>> {
+        by_mode(self.upgrade_within(token.token, timeout))
     }
 
     fn try_upgrade_until(
         &self,
-        token: UpgradableToken,
-        _deadline: (),
-    ) -> Result<ExclusiveToken, UpgradableToken> {
-        self.try_upgrade(token)
+        token: UpgradableToken<C::Token>,
+        deadline: C::Instant,
+    ) -> Result<ExclusiveToken<C::Token>, UpgradableToken<C::Token>> {
+        by_mode(self.core.try_upgrade_until(token.token, deadline))
+    }
+}
+
+/// What an upgrade gave, or the upgradable token that it left.
+fn by_mode<T>(upgraded: Result<T, T>) -> Result<ExclusiveToken<T>, UpgradableToken<T>> {
+    match upgraded {
+        Ok(token) => Ok(ExclusiveToken { token }),
+        Err(token) => Err(UpgradableToken { token }),
     }
 }

@@ -5,7 +5,7 @@ ghost use Rattle.lock_base.specs.Tokens.{bag_of_tokens, IsOutAs};
 ghost use Rattle.lock_states.specs.Table.{tokens_of};
 
 use lock_base::machine::{Bag, Mode};
-use lock_base::raw::{Fault, RawState, is_limit};
+use lock_base::raw::{Fault, ObservableState, RawState, is_limit};
 use std::alloc::Global;
 use std::marker::Model;
 
@@ -38,7 +38,7 @@ impl Model for TokenTable {
 
 impl TokenTable {
     /// How many tokens of each mode are out.
-    pub fn tally(&self) -> Bag
+    fn tally(&self) -> Bag
         ensures bag { result ≡ bag_of_tokens (tokens_of self.now.places) }
         ensures number { tokens result ≡ length (tokens_of self.now.places) }
         ensures within { tokens result ≤ length self.now.places }
@@ -53,28 +53,7 @@ impl TokenTable {
         bag
     }
 
-    /// How many tokens may be shared or upgradable.
-    pub fn readers(&self) -> u64
-        ensures { result ≡ self.now.readers }
-    {
-        self.readers
-    }
-
-    /// Whether there is a place for one more token.
-    pub fn room(&self) -> bool
-        ensures { IsTrue result ↔ (length (tokens_of self.now.places) < length self.now.places) }
-    {
-        self.tally().tokens() < self.places.len() as u64
-    }
-
     /// Whether this token is out in this mode.
-    pub fn out(&mut self, token: &TableToken, mode: Mode) -> bool
-        ensures same { self.new ≡ self.old }
-        ensures out { IsTrue result ↔ IsOutAs (tokens_of self.old.places) token.now mode }
-    {
-        self.is_out(token, mode)
-    }
-
     fn is_out(&self, token: &TableToken, mode: Mode) -> bool
         ensures { IsTrue result ↔ IsOutAs (tokens_of self.now.places) token.now mode }
     {
@@ -146,5 +125,23 @@ impl RawState for TokenTable {
 
     fn exclusive(&self) -> bool {
         self.tally().exclusive != 0
+    }
+}
+
+impl ObservableState for TokenTable {
+    fn bag(&self) -> Bag {
+        self.tally()
+    }
+
+    fn readers(&self) -> u64 {
+        self.readers
+    }
+
+    fn room(&self) -> bool {
+        self.tally().tokens() < self.places.len() as u64
+    }
+
+    fn out(&mut self, token: &TableToken, mode: Mode) -> bool {
+        self.is_out(token, mode)
     }
 }

@@ -1,19 +1,20 @@
-//! A recording lock behind guards, and what a caller that names this crate alone knows of a recorded state.
+//! A recording lock behind guards, and what a caller that names this crate alone knows of a recording arbiter.
 ghost use Rattle.std.specs.Prelude.{◌≡◌, [], ◌∷◌, IfOk};
 
 use crate::{
-    Fault, Mode, ModeStep, Recorded, RecordingRaw, RwLock, RwLockWriteGuard, SequentialState,
+    Arbiter, Fault, Mode, ModeStep, RecordingArbiter, RecordingRaw, RwLock, RwLockWriteGuard,
+    TableArbiter,
 };
 use std::alloc::Global;
 use std::test::Fail;
 
-/// The first token of a state is the first step of its journal.
-pub fn first_step(alloc: Global) -> Result<Recorded, Fault>
-    ensures { IfOk result (λ state. state.journal.steps ≡ ModeStep.Acquire Mode.Shared ∷ []) }
+/// The first token of an arbiter is the first step of its journal.
+pub fn first_step(alloc: Global) -> Result<RecordingArbiter<TableArbiter>, Fault>
+    ensures { IfOk result (λ made. made.journal.steps ≡ ModeStep.Acquire Mode.Shared ∷ []) }
 {
-    let mut state = Recorded::new(alloc, 1, 2)?;
-    drop(state.admit(Mode::Shared));
-    Ok(state)
+    let mut arbiter: RecordingArbiter<TableArbiter> = RecordingArbiter::with_room(alloc, 1, 2)?;
+    drop(arbiter.admit(Mode::Shared));
+    Ok(arbiter)
 }
 
 #[test]

@@ -1,8 +1,8 @@
 //! What a recording lock writes.
 use super::{raw_mutex, raw_rwlock};
 use crate::{
-    Fault, Mode, ModeStep, RawMutex, RawMutexFair, RawRwLock, RawRwLockDowngrade, RawRwLockFair,
-    RawRwLockUpgrade, Recorded, RecordingRaw, SequentialState,
+    Arbiter, Fault, Mode, ModeStep, RawMutex, RawMutexFair, RawRwLock, RawRwLockDowngrade,
+    RawRwLockFair, RawRwLockUpgrade, RecordingArbiter, RecordingRaw, TableArbiter,
 };
 use std::alloc::Global;
 use std::clone::Clone;
@@ -130,23 +130,25 @@ fn limits_of_a_recording_lock(rt: HostRuntime) {
 }
 
 #[test]
-fn a_recorded_state_by_itself(rt: HostRuntime) {
-    let mut state = Recorded::new(rt.alloc(), 2, 3)
+fn a_recording_arbiter_by_itself(rt: HostRuntime) {
+    let mut arbiter: RecordingArbiter<TableArbiter> = RecordingArbiter::with_room(rt.alloc(), 2, 3)
         .ok()
         .expect(&rt, "ample memory");
-    let held = state.admit(Mode::Upgradable).expect(&rt, "the first token");
-    let held = state
-        .change(held, Mode::Shared)
+    let token = arbiter
+        .admit(Mode::Upgradable)
+        .expect(&rt, "the first token");
+    let token = arbiter
+        .change(token, Mode::Upgradable, Mode::Shared)
         .ok()
         .expect(&rt, "an admitted move");
-    state.give_back(held);
+    assert!(rt; arbiter.give_back(token, Mode::Shared));
     let wanted = [
         ModeStep::Acquire(Mode::Upgradable),
         ModeStep::Change(Mode::Upgradable, Mode::Shared),
         ModeStep::Release(Mode::Shared),
     ];
-    assert!(rt; state.journal() == wanted.as_slice());
-    assert!(rt; !state.stopped());
+    assert!(rt; arbiter.journal() == wanted.as_slice());
+    assert!(rt; !arbiter.stopped());
 }
 
 #[test]

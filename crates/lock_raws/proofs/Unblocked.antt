@@ -1,0 +1,66 @@
+-- Who can get on after a step: the bag after it, and that nobody can where nothing was changed.
+use Rattle.std.proofs.Common.{◌≡◌, ℕ, ◌+◌, ◌≤◌, Bool, true, false, ◌&&◌, ◌||◌, List, refl, sym, ap, ◌∙◌, arith, lt-ltb}
+use Rattle.std.specs.Prelude.{not}
+use Rattle.std.specs.Bool.{OnTrue}
+use Rattle.std.proofs.lemmas.Bool.{false≢true}
+use Rattle.lock_base.specs.declared.machine.mode.Mode.{Mode}
+use Rattle.lock_base.specs.declared.machine.mode.Mode.TheVariants.{Shared, Exclusive, Upgradable}
+use Rattle.lock_base.specs.declared.machine.mode_step.ModeStep.{ModeStep}
+use Rattle.lock_base.specs.declared.machine.mode_step.ModeStep.TheVariants.{Acquire, Release, Change}
+use Rattle.lock_base.specs.declared.machine.bag.Bag.{Bag}
+use Rattle.lock_base.specs.Modes.{tokens, admits, may_become, count_of, one_less}
+use Rattle.lock_base.specs.ModeRuns.{has, Permits, bag_after}
+use Rattle.lock_base.specs.Tokens.{bag_of_tokens}
+use Rattle.lock_raws.specs.Unblocking.{unblocks}
+use Rattle.lock_base.proofs.ModeLemmas.{tokens-one_more}
+use Rattle.lock_base.proofs.TokenSteps.{MakesStep}
+
+not_and : (x : Bool) → (not x && x) ≡ false
+not_and true = refl
+not_and false = refl
+
+none_of : {a b c d : Bool} → a ≡ false → b ≡ false → c ≡ false → d ≡ false → (a || (b || (c || d))) ≡ false
+none_of {a} {b} {c} {d} p q r s = rw (p, q, r, s) refl
+
+pub on_true : {P : Type 0} (b : Bool) → b ≡ true → OnTrue b P → P
+on_true true is p = p
+on_true false is p = absurd (false≢true is)
+
+-- where nothing was changed nobody can get on who could not before
+pub unblocks_none : (limit : ℕ) (b : Bag) → unblocks limit b b ≡ false
+unblocks_none limit b =
+    none_of (not_and (admits limit b Shared)) (not_and (admits limit b Exclusive)) (not_and (admits limit b Upgradable))
+    (not_and (may_become b Exclusive))
+
+-- a step that may be made has what it gives up
+pub has_permitted : (limit : ℕ) (b : Bag) (step : ModeStep) → Permits limit b step → has b step ≡ true
+has_permitted limit b (Acquire mode) permitted = refl
+has_permitted limit b (Release mode) permitted = lt-ltb 0 (count_of b mode) permitted
+has_permitted limit b (Change from to) permitted = lt-ltb 0 (count_of b from) permitted.0
+
+tokens-one_less : (b : Bag) (mode : Mode) → tokens (one_less b mode) ≤ tokens b
+tokens-one_less b Shared = omega arith
+tokens-one_less b Exclusive = omega arith
+tokens-one_less b Upgradable = omega arith
+
+-- a step adds one token at most
+pub tokens-bag_after : (b : Bag) (step : ModeStep) → tokens (bag_after b step) ≤ tokens b + 1
+tokens-bag_after b (Acquire mode) = omega (arith, tokens-one_more b mode)
+tokens-bag_after b (Release mode) = omega (arith, tokens-one_less b mode)
+tokens-bag_after b (Change from to) = omega (arith, tokens-one_more (one_less b from) to, tokens-one_less b from)
+
+module _ {K : Type 0} where
+  -- what was asked of the bags before and after a step is asked of the tokens
+  pub unblocked_by : {old new : List (K × Mode)} {limit limit' : ℕ} {before after : Bag} {answer : Bool} (step : ModeStep)
+      → MakesStep limit old new step → before ≡ bag_of_tokens old → after ≡ bag_after before step
+      → limit' ≡ limit → answer ≡ unblocks limit' before after
+      → answer ≡ unblocks limit (bag_of_tokens old) (bag_of_tokens new)
+  unblocked_by {old} {new} {limit} {limit'} {before} {after} step made was is same_limit asked =
+      asked ∙ (ap (λ l. unblocks l before after) same_limit
+      ∙ (ap (λ b. unblocks limit b after) was
+      ∙ ap (λ b. unblocks limit (bag_of_tokens old) b) (is ∙ ap (λ b. bag_after b step) was ∙ sym made.after)))
+
+  -- and where no step was made
+  pub unblocked_none : {old new : List (K × Mode)} (limit : ℕ) → new ≡ old → false ≡ unblocks limit (bag_of_tokens old) (bag_of_tokens new)
+  unblocked_none {old} {new} limit same =
+      sym (unblocks_none limit (bag_of_tokens old)) ∙ ap (λ (ts : List (K × Mode)). unblocks limit (bag_of_tokens old) (bag_of_tokens ts)) (sym same)

@@ -1,0 +1,11 @@
+use Rattle.std.proofs.Common.{sym}
+use Rattle.lock_base.specs.declared.machine.mode_step.ModeStep.TheVariants.{Acquire}
+use Rattle.lock_base.proofs.TokenSteps.{acquires}
+use Rattle.lock_raws.proofs.JournalLemmas.{recording_stepped}
+use Rattle.lock_raws.proofs.recording_arbiter.RecordingArbiterArbiter.admit.Goals as goal
+
+pub invariant_of-self-2 : goal.invariant_of-self-2
+invariant_of-self-2 g c =
+    let e = c.in_ok-token.ensures in
+    recording_stepped (Acquire c.args.mode) c.self.invariant (acquires (g.A.Arbiter.reader_limit c.self.inside.arbiter) c.args.mode (sym e.admitted) e.added)
+    e.limit_kept c.write.ensures

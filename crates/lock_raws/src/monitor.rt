@@ -1,0 +1,174 @@
+//! An arbiter behind a lock of std's.
+ghost use Rattle.std.specs.Prelude.{IsTrue};
+ghost use Rattle.lock_base.specs.Modes.{is_move};
+
+use crate::arbiter::{Arbiter, Unchanged};
+use crate::lock_core::LockCore;
+use crate::unblocking;
+use lock_base::machine::Mode;
+use lock_base::raw::Fault;
+use std::alloc::Global;
+use std::clone::Clone;
+use std::sync::{Condvar, Mutex, Wait};
+
+/// A std `Mutex` round an arbiter, and a std `Condvar` to wait on.
+///
+/// A call that gives a token back or changes its mode wakes nobody where nobody new is admitted. Else it wakes one
+/// where only one token may be out at a time, and all that wait where readers may get on together. A token that is not
+/// out in its mode is ignored: a release changes nothing, and a change of mode answers the same token.
+#[derive(Drop)]
+pub struct Monitor<A: Arbiter, W: Wait + Clone + Drop> {
+    pub(crate) waiter: W,
+    pub(crate) arbiter: Mutex<A>,
+    readers: u64,
+    changed: Condvar,
+}
+
+impl<A: Arbiter, W: Wait + Clone + Drop> Monitor<A, W> {
+    /// A monitor of this arbiter.
+    pub(crate) fn over(arbiter: A, waiter: W) -> Monitor<A, W> {
+        let readers = arbiter.readers();
+        Monitor {
+            waiter,
+            arbiter: Mutex::new(arbiter),
+            readers,
+            changed: Condvar::new(),
+        }
+    }
+
+    /// The token in a lower mode.
+    fn lower(&self, token: A::Token, from: Mode, to: Mode) -> A::Token
+        requires { IsTrue (is_move from to) }
+    {
+        let mut arbiter = self.arbiter.lock(&self.waiter);
+        let (token, unblocks) = unblocking::lower(&mut *arbiter, token, from, to);
+        drop(arbiter);
+        if unblocks {
+            self.wake();
+        }
+        token
+    }
+
+    /// Wakes those that wait, of which readers may get on together.
+    fn wake(&self) {
+        if self.readers == 1 {
+            self.changed.notify_one();
+        } else {
+            self.changed.notify_all();
+        }
+    }
+}
+
+impl<A: Arbiter, W: Wait + Clone + Drop> LockCore for Monitor<A, W> {
+    type Token = A::Token;
+
+    type Waiter = W;
+
+    type Duration = ();
+
+    type Instant = ();
+
+    fn new(alloc: Global, waiter: W, readers: u64) -> Result<Monitor<A, W>, Fault> {
+        let arbiter: A = Arbiter::new(alloc, readers)?;
+        Ok(Monitor::over(arbiter, waiter))
+    }
+
+    fn waiter(&self) -> &W {
+        &self.waiter
+    }
+
+    fn is_locked(&self) -> bool {
+        self.arbiter.lock(&self.waiter).bag().tokens() != 0
+    }
+
+    fn is_locked_exclusive(&self) -> bool {
+        self.arbiter.lock(&self.waiter).bag().exclusive != 0
+    }
+
+    fn acquire(&self, mode: Mode) -> A::Token {
+        let mut arbiter = self.arbiter.lock(&self.waiter);
+        for _ in self.waiter.forever() {
+            if let Some(token) = arbiter.admit(mode) {
+                return token;
+            }
+            arbiter = self.changed.wait(&self.waiter, arbiter);
+        }
+        unreachable!()
+    }
+
+    fn try_acquire(&self, mode: Mode) -> Option<A::Token> {
+        self.arbiter.lock(&self.waiter).admit(mode)
+    }
+
+    /// A timed try is a try: it does not wait.
+    fn try_acquire_until(&self, mode: Mode, _deadline: ()) -> Option<A::Token> {
+        self.try_acquire(mode)
+    }
+
+    fn release(&self, token: A::Token, mode: Mode) {
+        let mut arbiter = self.arbiter.lock(&self.waiter);
+        let unblocks = unblocking::give_back(&mut *arbiter, token, mode);
+        drop(arbiter);
+        if unblocks {
+            self.wake();
+        }
+    }
+
+    fn upgrade(&self, token: A::Token) -> A::Token {
+        let mut token = token;
+        let mut arbiter = self.arbiter.lock(&self.waiter);
+        for _ in self.waiter.forever() {
+            match upgraded(arbiter.change(token, Mode::Upgradable, Mode::Exclusive)) {
+                Ok(next) => return next,
+                Err(same) => token = same,
+            }
+            arbiter = self.changed.wait(&self.waiter, arbiter);
+        }
+        unreachable!()
+    }
+
+    fn try_upgrade(&self, token: A::Token) -> Result<A::Token, A::Token> {
+        let mut arbiter = self.arbiter.lock(&self.waiter);
+        upgraded(arbiter.change(token, Mode::Upgradable, Mode::Exclusive))
+    }
+
+    /// A timed try is a try: it does not wait.
+    fn try_upgrade_until(&self, token: A::Token, _deadline: ()) -> Result<A::Token, A::Token> {
+        self.try_upgrade(token)
+    }
+
+    fn downgrade(&self, token: A::Token) -> A::Token {
+        self.lower(token, Mode::Exclusive, Mode::Shared)
+    }
+
+    fn downgrade_to_upgradable(&self, token: A::Token) -> A::Token {
+        self.lower(token, Mode::Exclusive, Mode::Upgradable)
+    }
+
+    fn downgrade_upgradable(&self, token: A::Token) -> A::Token {
+        self.lower(token, Mode::Upgradable, Mode::Shared)
+    }
+
+    fn instant_after(&self, _timeout: ()) -> Option<()> {
+        Some(())
+    }
+}
+
+/// What an upgrade gives: a token that is not out is as good as upgraded.
+fn upgraded<T>(changed: Result<T, Unchanged<T>>) -> Result<T, T> {
+    match changed {
+        Ok(next) => Ok(next),
+        Err(
+            Unchanged {
+                token,
+                is_out: true,
+            },
+        ) => Err(token),
+        Err(
+            Unchanged {
+                token,
+                is_out: false,
+            },
+        ) => Ok(token),
+    }
+}

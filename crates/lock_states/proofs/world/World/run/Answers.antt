@@ -1,0 +1,18 @@
+use Rattle.std.proofs.Common.{◌≡◌, subst, arith}
+use Rattle.std.proofs.lemmas.Grind.{common_steps}
+use Rattle.lock_word.specs.Worlds.{world_after, IsReachable}
+use Rattle.lock_word.proofs.Reached.{run_of_steps}
+use Rattle.lock_word.proofs.Sound.{run_on_all}
+use Rattle.lock_states.proofs.world.World.run.Goals as goal
+
+pub returns-clause-by_parties : goal.returns-clause-by_parties
+returns-clause-by_parties c =
+    let h : IsReachable c.args.self.now = subst IsReachable c.self.view_is c.self.invariant in
+    let after : c.loop-step.self ≡ world_after c.args.self.now c.args.steps.now = grind (arith, common_steps) in
+    rw after (run_of_steps c.args.self.now c.args.steps.now h)
+
+pub returns-clause-run : goal.returns-clause-run
+returns-clause-run c =
+    let h : IsReachable c.args.self.now = subst IsReachable c.self.view_is c.self.invariant in
+    let after : c.loop-step.self ≡ world_after c.args.self.now c.args.steps.now = grind (arith, common_steps) in
+    rw after (run_on_all c.args.self.now c.args.steps.now h)

@@ -1,0 +1,131 @@
+//! A raw state in one number.
+ghost use Rattle.std.specs.Prelude.{◌≡◌, ◌<◌, IsTrue, if◌then◌else◌};
+ghost use Rattle.lock_base.specs.Modes.{count_of, one_more, one_less, admits, may_become, is_move};
+
+use lock_base::machine::Mode;
+use lock_base::raw::{Fault, RawState, is_limit};
+use lock_word::{Down, ExWant, has_exclusive};
+use std::alloc::Global;
+use std::marker::Model;
+
+/// A token of a packed word, which is its mode alone.
+#[derive(Drop)]
+pub struct WordToken {
+    mode: Mode,
+}
+
+/// A raw state that keeps one number, the word of the tokens that are out. A token is its mode.
+#[derive(Drop)]
+pub struct PackedWord {
+    word: u64,
+    places: u64,
+    readers: u64,
+}
+
+impl Model for PackedWord {
+    ghost use Rattle.lock_base.specs.Limits.{IsLimit};
+    ghost use Rattle.lock_word.specs.Word.{bag_of_word, IsPacked};
+    ghost use Rattle.lock_states.specs.Packed.{Packed};
+
+    ghost Value = { Packed };
+
+    ghost view = { λ w. record { bag = bag_of_word w.word; places = w.places; readers = w.readers } };
+
+    ghost invariant = { λ w. IsPacked w.readers w.word × IsLimit w.readers };
+}
+
+impl PackedWord {
+    /// One more of the mode, exactly where it is admitted.
+    fn acquire(&mut self, mode: Mode) -> bool
+        ensures admitted { result ≡ admits self.old.readers self.old.bag mode }
+        ensures after { self.new ≡ if result then record self.old { bag = one_more self.old.bag mode } else self.old }
+    {
+        let Some(next) = ExWant::of_mode(mode).exchanged(self.readers, self.word) else {
+            return false;
+        };
+        self.word = next;
+        true
+    }
+
+    /// One fewer of the mode.
+    fn release(&mut self, mode: Mode)
+        requires { 0 < count_of self.old.bag mode }
+        ensures { self.new ≡ record self.old { bag = one_less self.old.bag mode } }
+    {
+        self.word -= Down::of_mode(mode).amount();
+    }
+
+    /// One of the mode becomes one of the other by a move. An upgrade is refused where another is out.
+    fn move_to(&mut self, from: Mode, to: Mode) -> bool
+        requires out { 0 < count_of self.old.bag from }
+        requires moves { IsTrue (is_move from to) }
+        ensures allowed { result ≡ may_become self.old.bag to }
+        ensures after { self.new ≡ if result then record self.old { bag = one_more (one_less self.old.bag from) to } else self.old }
+    {
+        match (from, to) {
+            (Mode::Upgradable, Mode::Exclusive) => {
+                let Some(next) = ExWant::Upgrade.exchanged(self.readers, self.word) else {
+                    return false;
+                };
+                self.word = next;
+            }
+            (Mode::Upgradable, _) => self.word -= Down::UpgradableToShared.amount(),
+            (_, Mode::Upgradable) => self.word -= Down::ToUpgradable.amount(),
+            _ => self.word -= Down::ToShared.amount(),
+        }
+        true
+    }
+}
+
+impl RawState for PackedWord {
+    ghost use Rattle.lock_states.specs.Packed.{tokens_in};
+
+    type Token = WordToken;
+
+    ghost tokens = { λ w. tokens_in w.bag };
+
+    ghost capacity = { λ w. w.places };
+
+    ghost reader_limit = { λ w. w.readers };
+
+    fn new(_alloc: Global, places: u64, readers: u64) -> Result<PackedWord, Fault> {
+        if !is_limit(places) || !is_limit(readers) {
+            return Err(Fault::BadLimits);
+        }
+        Ok(PackedWord {
+            word: 0,
+            places,
+            readers,
+        })
+    }
+
+    #[tactic(auto, using(crate::proofs::PackedTokens::bag_of_tokens_in))]
+    fn admit(&mut self, mode: Mode) -> Option<WordToken> {
+        if !self.acquire(mode) {
+            return None;
+        }
+        Some(WordToken { mode })
+    }
+
+    #[tactic(auto, using(crate::proofs::PackedTokens::out_is_held, crate::proofs::PackedTokens::given_back))]
+    fn give_back(&mut self, token: WordToken) {
+        self.release(token.mode);
+    }
+
+    #[tactic(auto, using(crate::proofs::PackedTokens::bag_of_tokens_in, crate::proofs::PackedTokens::replaced))]
+    fn change(&mut self, token: WordToken, mode: Mode) -> Result<WordToken, WordToken> {
+        if !self.move_to(token.mode, mode) {
+            return Err(token);
+        }
+        Ok(WordToken { mode })
+    }
+
+    fn any(&self) -> bool {
+        self.word != 0
+    }
+
+    #[tactic(auto, using(crate::proofs::PackedTokens::bag_of_tokens_in))]
+    fn exclusive(&self) -> bool {
+        has_exclusive(self.word)
+    }
+}

@@ -1,0 +1,196 @@
+-- Each kind of step of one party keeps the rule: one lemma a kind, for all who step on a word.
+use Rattle.std.proofs.Common.{◌≡◌, ◌≢◌, ℕ, zero, suc, ◌+◌, ◌-◌, ◌<◌, ◌≤◌, ◌⊎◌, inl, inr, List, [], ◌∷◌, get_or, slice_get, slice_set, Some, IsTrue, refl, sym, ap, subst, ◌∙◌, arith}
+use Rattle.std.proofs.lemmas.List.{map-set, set-get_or}
+use Rattle.std.proofs.lemmas.Option.{same_Some, get_or_from_slice_get, slice_get-map}
+use Rattle.lock_base.specs.declared.machine.mode_step.ModeStep.{ModeStep}
+use Rattle.lock_base.specs.Limits.{IsLimit}
+use Rattle.lock_base.specs.Modes.{AreCompatible}
+use Rattle.lock_base.specs.ModeRuns.{Permits, bag_after}
+use Rattle.lock_base.proofs.ModeLemmas.{compatible_after}
+use Rattle.lock_word.specs.declared.want.ExWant.{ExWant}
+use Rattle.lock_word.specs.declared.down.Down.{Down}
+use Rattle.lock_word.specs.declared.party.PartyState.{PartyState}
+use Rattle.lock_word.specs.Holders.{all_of}
+use Rattle.lock_word.specs.Word.{word_of, word_admits, word_after, amount, step_of_want, step_of_down}
+use Rattle.lock_word.specs.Turns.{with_load, unloaded, won, lost}
+use Rattle.lock_word.specs.Rule.{holds, held_by_all, all_wins, others_wins, IsBehind, KeepsRule}
+use Rattle.lock_word.proofs.Holders.{Has, Has-part, IsPart, part_of_all, sum_by-slice_set, le-sum_by, all_of-after}
+use Rattle.lock_word.proofs.Words.{permits_of_word, word_after_want, permits_down, word_before_down}
+
+-- one element of a list is changed
+
+-- an element of a list of which one was changed is the new one, or is where it was
+pub changed_or_not : {A : Type 0} (xs : List A) (k j : ℕ) (y z : A) → slice_get (slice_set xs k y) j ≡ Some z
+    → ((j ≡ k) × (z ≡ y)) ⊎ ((j ≢ k) × (slice_get xs j ≡ Some z))
+changed_or_not [] k j y z h = cc
+changed_or_not (x ∷ xs) zero zero y z h = inl (refl, cc)
+changed_or_not (x ∷ xs) zero (suc j) y z h = inr ((λ e. omega arith), h)
+changed_or_not (x ∷ xs) (suc k) zero y z h = inr ((λ e. omega arith), h)
+changed_or_not (x ∷ xs) (suc k) (suc j) y z h =
+    elim (changed_or_not xs k j y z h) [ inl e ↦ inl (ap suc e.0, e.1) | inr e ↦ inr ((λ f. e.0 (omega arith)), e.1) ]
+
+-- a fact of the changed element and of each other one is a fact of all
+pub each_after : {A : Type 0} (P : A → Type 0) (xs : List A) (k : ℕ) (y : A) → P y
+    → ((j : ℕ) (z : A) → j ≢ k → slice_get xs j ≡ Some z → P z)
+    → (j : ℕ) (z : A) → slice_get (slice_set xs k y) j ≡ Some z → P z
+each_after P xs k y new old j z h =
+    elim (changed_or_not xs k j y z h) [ inl e ↦ subst P (sym e.1) new | inr e ↦ old j z e.0 e.1 ]
+
+-- what is put back where it was found changes nothing
+pub slice_set_same : {A : Type 0} (xs : List A) (k : ℕ) (x : A) → slice_get xs k ≡ Some x → slice_set xs k x ≡ xs
+slice_set_same xs k x h = let at : get_or xs k x ≡ x = get_or_from_slice_get xs k x x h in rw at at (set-get_or xs k x)
+
+-- what the parties hold, and their wins
+
+pub holds_at : (ps : List PartyState) (k : ℕ) (me : PartyState) → slice_get ps k ≡ Some me
+    → slice_get (holds ps) k ≡ Some me.held
+holds_at ps k me h = rw (slice_get-map (λ (q : PartyState). q.held) ps k, h)
+
+pub holds_set : (ps : List PartyState) (k : ℕ) (you : PartyState)
+    → holds (slice_set ps k you) ≡ slice_set (holds ps) k you.held
+holds_set ps k you = map-set (λ (q : PartyState). q.held) ps k you
+
+-- one party is changed, and it has the same modes
+pub holds_same : (ps : List PartyState) (k : ℕ) (me you : PartyState) → slice_get ps k ≡ Some me → you.held ≡ me.held
+    → holds (slice_set ps k you) ≡ holds ps
+holds_same ps k me you at held =
+    holds_set ps k you
+    ∙ (ap (λ b. slice_set (holds ps) k b) held ∙ slice_set_same (holds ps) k me.held (holds_at ps k me at))
+
+pub part_of_parties : (ps : List PartyState) (k : ℕ) (me : PartyState) → slice_get ps k ≡ Some me
+    → IsPart me.held (held_by_all ps)
+part_of_parties ps k me at = part_of_all (holds ps) k me.held (holds_at ps k me at)
+
+pub all_wins_set : (ps : List PartyState) (k : ℕ) (me you : PartyState) → slice_get ps k ≡ Some me
+    → all_wins (slice_set ps k you) + me.wins ≡ all_wins ps + you.wins
+all_wins_set ps k me you at = sum_by-slice_set (λ (q : PartyState). q.wins) ps k me you at
+
+pub wins_within : (ps : List PartyState) (k : ℕ) (me : PartyState) → slice_get ps k ≡ Some me → me.wins ≤ all_wins ps
+wins_within ps k me at = le-sum_by (λ (q : PartyState). q.wins) ps k me at
+
+-- the kinds of step
+
+-- the party has done nothing but to load, or to give its load up
+keeps_quiet : (limit word : ℕ) (ps : List PartyState) (k : ℕ) (me you : PartyState) → KeepsRule limit word ps
+    → slice_get ps k ≡ Some me → you.held ≡ me.held → you.wins ≡ me.wins → you.fails ≡ me.fails
+    → ((loaded : ℕ) → you.loaded ≡ Some loaded → word ≡ loaded)
+    → KeepsRule limit word (slice_set ps k you)
+keeps_quiet limit word ps k me you rule at held wins fails loads =
+    let same = holds_same ps k me you at held in
+    let total = all_wins_set ps k me you at in
+    let mine = rule.behind k me at in
+    let bounded = mine.bounded in
+    record {
+      coded = rw same rule.coded;
+      legal = rw same rule.legal;
+      behind =
+          each_after (λ q. IsBehind (others_wins (slice_set ps k you) q) word q) ps k you
+          (record { bounded = omega arith; open_load = λ loaded e d. absurd (d (loads loaded e)) })
+          (λ j q n h.
+          let other = rule.behind j q h in
+          let least = other.bounded in
+          record {
+            bounded = omega arith;
+            open_load = λ loaded e d. let before = other.open_load loaded e d in omega arith;
+          });
+    }
+
+pub keeps_load : (limit word : ℕ) (ps : List PartyState) (k : ℕ) (me : PartyState) → KeepsRule limit word ps
+    → slice_get ps k ≡ Some me → KeepsRule limit word (slice_set ps k (with_load me word))
+keeps_load limit word ps k me rule at =
+    keeps_quiet limit word ps k me (with_load me word) rule at refl refl refl (λ loaded e. same_Some word loaded e)
+
+-- an exchange was not admitted
+pub keeps_unloaded : (limit word : ℕ) (ps : List PartyState) (k : ℕ) (me : PartyState) → KeepsRule limit word ps
+    → slice_get ps k ≡ Some me → KeepsRule limit word (slice_set ps k (unloaded me))
+keeps_unloaded limit word ps k me rule at =
+    keeps_quiet limit word ps k me (unloaded me) rule at refl refl refl (λ loaded e. cc)
+
+-- an exchange found another word than the one that the party loaded
+pub keeps_lost : (limit word : ℕ) (ps : List PartyState) (k loaded : ℕ) (me : PartyState) → KeepsRule limit word ps
+    → slice_get ps k ≡ Some me → me.loaded ≡ Some loaded → word ≢ loaded
+    → KeepsRule limit word (slice_set ps k (lost me))
+keeps_lost limit word ps k loaded me rule at was differs =
+    let same = holds_same ps k me (lost me) at refl in
+    let total = all_wins_set ps k me (lost me) at in
+    let mine = rule.behind k me at in
+    let fewer = mine.open_load loaded was differs in
+    record {
+      coded = rw same rule.coded;
+      legal = rw same rule.legal;
+      behind =
+          each_after (λ q. IsBehind (others_wins (slice_set ps k (lost me)) q) word q) ps k (lost me)
+          (record { bounded = omega arith; open_load = λ w e d. cc })
+          (λ j q n h.
+          let other = rule.behind j q h in
+          let least = other.bounded in
+          record { bounded = omega arith; open_load = λ w e d. let before = other.open_load w e d in omega arith });
+    }
+
+-- the party has made a permitted change of modes, and the word is that of the bag after it
+keeps_won : (limit word new : ℕ) (ps : List PartyState) (k : ℕ) (me : PartyState) (s : ModeStep) → 0 < limit
+    → KeepsRule limit word ps → slice_get ps k ≡ Some me → Has me.held s → Permits limit (held_by_all ps) s
+    → new ≡ word_of (bag_after (held_by_all ps) s)
+    → KeepsRule limit new (slice_set ps k (won me s))
+keeps_won limit word new ps k me s positive rule at has permitted coded =
+    let all : held_by_all (slice_set ps k (won me s)) ≡ bag_after (held_by_all ps) s
+    = ap all_of (holds_set ps k (won me s)) ∙ all_of-after (holds ps) k me.held s (holds_at ps k me at) has in
+    let total = all_wins_set ps k me (won me s) at in
+    let mine = rule.behind k me at in
+    let bounded = mine.bounded in
+    record {
+      coded = coded ∙ ap word_of (sym all);
+      legal =
+          subst (AreCompatible limit) (sym all)
+          (compatible_after limit (held_by_all ps) s positive rule.legal permitted);
+      behind =
+          each_after (λ q. IsBehind (others_wins (slice_set ps k (won me s)) q) new q) ps k (won me s)
+          (record { bounded = omega arith; open_load = λ w e d. cc })
+          (λ j q n h.
+          let other = rule.behind j q h in
+          let least = other.bounded in
+          let own = wins_within ps j q h in
+          record { bounded = omega arith; open_load = λ w e d. omega arith });
+    }
+
+-- what the word admits is permitted where all that is held is out
+pub permits_of_rule : (limit word : ℕ) (ps : List PartyState) (want : ExWant) → IsLimit limit
+    → KeepsRule limit word ps
+    → IsTrue (word_admits limit word want) → Permits limit (held_by_all ps) (step_of_want want)
+permits_of_rule limit word ps want range rule admits =
+    permits_of_word limit (held_by_all ps) want range.1 rule.legal
+    (subst (λ w. IsTrue (word_admits limit w want)) rule.coded admits)
+
+-- an exchange was done
+pub keeps_exchange : (limit word : ℕ) (ps : List PartyState) (k : ℕ) (me : PartyState) (want : ExWant) → IsLimit limit
+    → KeepsRule limit word ps → slice_get ps k ≡ Some me → Has me.held (step_of_want want)
+    → IsTrue (word_admits limit word want)
+    → KeepsRule limit (word_after word want) (slice_set ps k (won me (step_of_want want)))
+keeps_exchange limit word ps k me want range rule at has admits =
+    let permitted = permits_of_rule limit word ps want range rule admits in
+    keeps_won limit word (word_after word want) ps k me (step_of_want want) range.0 rule at has permitted
+    (ap (λ w. word_after w want) rule.coded ∙ word_after_want limit (held_by_all ps) want permitted)
+
+-- what one party has, all together have
+pub has_of_all : (ps : List PartyState) (k : ℕ) (me : PartyState) (s : ModeStep) → slice_get ps k ≡ Some me
+    → Has me.held s → Has (held_by_all ps) s
+has_of_all ps k me s at h = Has-part me.held (held_by_all ps) s (part_of_parties ps k me at) h
+
+-- what a party's subtraction takes is part of the word
+pub amount_within : (limit word : ℕ) (ps : List PartyState) (k : ℕ) (me : PartyState) (d : Down)
+    → KeepsRule limit word ps → slice_get ps k ≡ Some me → Has me.held (step_of_down d) → amount d ≤ word
+amount_within limit word ps k me d rule at has =
+    let coded = rule.coded in
+    let before = word_before_down (held_by_all ps) d (has_of_all ps k me (step_of_down d) at has) in
+    omega arith
+
+-- a subtraction was done
+pub keeps_take : (limit word : ℕ) (ps : List PartyState) (k : ℕ) (me : PartyState) (d : Down) → IsLimit limit
+    → KeepsRule limit word ps → slice_get ps k ≡ Some me → Has me.held (step_of_down d)
+    → KeepsRule limit (word - amount d) (slice_set ps k (won me (step_of_down d)))
+keeps_take limit word ps k me d range rule at has =
+    let all = has_of_all ps k me (step_of_down d) at has in
+    let coded = rule.coded in
+    let before = word_before_down (held_by_all ps) d all in
+    keeps_won limit word (word - amount d) ps k me (step_of_down d) range.0 rule at has
+    (permits_down limit (held_by_all ps) d all) (omega arith)

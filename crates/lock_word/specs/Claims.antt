@@ -1,0 +1,88 @@
+-- What is claimed of every interleaving of atomic steps, from a new world on.
+use Rattle.std.specs.Prelude.{◌≡◌, ◌≢◌, ℕ, ◌<◌, ◌≤◌, List, [], ◌∷◌, ◌++◌, Some, ⊤}
+use Rattle.lock_base.specs.Limits.{IsLimit}
+use Rattle.lock_base.specs.Modes.{AreCompatible, empty_bag}
+use Rattle.lock_base.specs.ModeRuns.{Permits, IsModeRun}
+use Rattle.lock_word.specs.declared.want.ExWant.{ExWant}
+use Rattle.lock_word.specs.declared.party.PartyState.{PartyState}
+use Rattle.lock_word.specs.declared.step.AtomicStep.{AtomicStep}
+use Rattle.lock_word.specs.declared.step.AtomicStep.TheVariants.{Load, Exchange, Take}
+use Rattle.lock_word.specs.declared.step.Outcome.{Outcome}
+use Rattle.lock_word.specs.declared.step.Outcome.TheVariants.{Loaded, Done, NotAdmitted, Changed, Refused}
+use Rattle.lock_word.specs.Holders.{holder_at, HolderStep, IsHolderRun, steps_of}
+use Rattle.lock_word.specs.Word.{word_of, step_of_want}
+use Rattle.lock_word.specs.Rule.{holds, held_by_all, others_wins}
+use Rattle.lock_word.specs.Worlds.{WorldState, stepped, new_world, world_after, outcomes, done_steps}
+
+-- the word and what each party holds are as they were
+abbrev pub KeepsWord : WorldState → WorldState → Type 0
+KeepsWord old new = (new.word ≡ old.word) × (holds new.parties ≡ holds old.parties)
+
+-- what a step leaves as it was, by its outcome
+abbrev pub Leaves : Outcome → WorldState → WorldState → Type 0
+Leaves (Refused fault) old new = new ≡ old
+Leaves (Loaded word) old new = (word ≡ old.word) × KeepsWord old new
+Leaves NotAdmitted old new = KeepsWord old new
+Leaves Changed old new = KeepsWord old new
+Leaves Done old new = ⊤
+
+-- no party's fails outnumber the others' wins
+abbrev pub FailsAreBounded : List PartyState → Type 0
+FailsAreBounded parties =
+    (p : ℕ) (me : PartyState) → holder_at parties p ≡ Some me → me.fails ≤ others_wins parties me
+
+-- none of these steps is a load of that party
+abbrev pub NoLoadBy : ℕ → List AtomicStep → Type 0
+NoLoadBy p [] = ⊤
+NoLoadBy p (Load q ∷ ss) = (q ≢ p) × NoLoadBy p ss
+NoLoadBy p (Exchange q want ∷ ss) = NoLoadBy p ss
+NoLoadBy p (Take q down ∷ ss) = NoLoadBy p ss
+
+-- the last load of the party stands between these steps and those
+pub record IsLastLoad (steps : List AtomicStep) (p : ℕ) (before after : List AtomicStep) : Type 0 where
+  pub are : steps ≡ before ++ (Load p ∷ after)
+  pub last : NoLoadBy p after
+
+-- where the party made its last load, the bag did not permit the exchange
+pub record LastLoadRefuses (start : WorldState) (steps : List AtomicStep) (p : ℕ) (want : ExWant) : Type 0 where
+  pub before : List AtomicStep
+  pub after : List AtomicStep
+  pub split : IsLastLoad steps p before after
+  pub refuses : ¬ Permits start.readers (held_by_all (world_after start before).parties) (step_of_want want)
+
+-- the others have won since the party's last load
+pub record LastLoadOutrun (start : WorldState) (steps : List AtomicStep) (p : ℕ) : Type 0 where
+  pub before : List AtomicStep
+  pub after : List AtomicStep
+  pub split : IsLastLoad steps p before after
+  pub past : PartyState
+  pub now : PartyState
+  pub was : holder_at (world_after start before).parties p ≡ Some past
+  pub is : holder_at (world_after start steps).parties p ≡ Some now
+  pub outrun : others_wins (world_after start before).parties past < others_wins (world_after start steps).parties now
+
+-- the changes of modes that these steps make from here on
+abbrev pub changes_from : WorldState → List AtomicStep → List HolderStep
+changes_from start steps = done_steps steps (outcomes start steps)
+
+-- what is claimed of the world that these steps lead to, and of whatever step is next
+pub record IsSound (start : WorldState) (steps : List AtomicStep) (last : WorldState) : Type 0 where
+  -- the word is that of all that is held, and that may be out together
+  pub coded : last.word ≡ word_of (held_by_all last.parties)
+  pub legal : AreCompatible start.readers (held_by_all last.parties)
+  -- the steps that were done are, in order, a run of the modes by the parties
+  pub by_parties : IsHolderRun start.readers (holds start.parties) (changes_from start steps) (holds last.parties)
+  -- and a run of the modes, from nothing to all that is held
+  pub run : IsModeRun start.readers empty_bag (steps_of (changes_from start steps)) (held_by_all last.parties)
+  pub bounded : FailsAreBounded last.parties
+  pub leaves : (next : AtomicStep) → Leaves (stepped last next).outcome last (stepped last next).world
+  pub refuses : (p : ℕ) (want : ExWant) → (stepped last (Exchange p want)).outcome ≡ NotAdmitted
+      → LastLoadRefuses start steps p want
+  pub changes : (p : ℕ) (want : ExWant) → (stepped last (Exchange p want)).outcome ≡ Changed
+      → LastLoadOutrun start steps p
+
+-- every list of steps, by any parties, is sound from a new world on
+abbrev pub EveryInterleaving : Type 0
+EveryInterleaving =
+    (count limit : ℕ) (steps : List AtomicStep) → IsLimit limit
+    → IsSound (new_world count limit) steps (world_after (new_world count limit) steps)

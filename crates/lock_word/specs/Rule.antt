@@ -1,0 +1,33 @@
+-- What holds of the word and of all parties between any two atomic steps.
+use Rattle.std.specs.Prelude.{◌≡◌, ◌≢◌, ℕ, ◌-◌, ◌<◌, ◌≤◌, List, map, sum_by, slice_get, Some}
+use Rattle.lock_base.specs.declared.machine.bag.Bag.{Bag}
+use Rattle.lock_base.specs.Modes.{AreCompatible}
+use Rattle.lock_word.specs.declared.party.PartyState.{PartyState}
+use Rattle.lock_word.specs.Holders.{all_of}
+use Rattle.lock_word.specs.Word.{word_of}
+
+-- what each party holds
+abbrev pub holds : List PartyState → List Bag
+holds parties = map (λ (q : PartyState). q.held) parties
+
+-- what all parties hold together
+abbrev pub held_by_all : List PartyState → Bag
+held_by_all parties = all_of (holds parties)
+
+abbrev pub all_wins : List PartyState → ℕ
+all_wins parties = sum_by (λ (q : PartyState). q.wins) parties
+
+-- the wins of the others: all wins less the party's own
+abbrev pub others_wins : List PartyState → PartyState → ℕ
+others_wins parties me = all_wins parties - me.wins
+
+-- the party's fails are at most the others' wins, and fewer where the word is no longer the one that it loaded
+pub record IsBehind (others word : ℕ) (me : PartyState) : Type 0 where
+  pub bounded : me.fails ≤ others
+  pub open_load : (loaded : ℕ) → me.loaded ≡ Some loaded → word ≢ loaded → me.fails < others
+
+-- the word is that of all that is held, which may be out together, and each party's fails are behind the others' wins
+pub record KeepsRule (limit word : ℕ) (parties : List PartyState) : Type 0 where
+  pub coded : word ≡ word_of (held_by_all parties)
+  pub legal : AreCompatible limit (held_by_all parties)
+  pub behind : (k : ℕ) (me : PartyState) → slice_get parties k ≡ Some me → IsBehind (others_wins parties me) word me

@@ -1,0 +1,79 @@
+-- Parties that step on one word, one step after another.
+use Rattle.std.specs.Prelude.{◌≡◌, ℕ, ◌+◌, ◌-◌, ◌^◌, ◌<◌, ◌≤◌, ◌==◌, if◌then◌else◌, List, [], ◌∷◌, ◌++◌, replicate, slice_get, slice_set, Option, Some, None}
+use Rattle.lock_base.specs.declared.raw.fault.Fault.TheVariants as fault
+use Rattle.lock_base.specs.Limits.{IsLimit}
+use Rattle.lock_word.specs.declared.party.PartyState.{PartyState}
+use Rattle.lock_word.specs.declared.step.AtomicStep.{AtomicStep}
+use Rattle.lock_word.specs.declared.step.AtomicStep.TheVariants.{Exchange, Take}
+use Rattle.lock_word.specs.declared.step.Outcome.{Outcome}
+use Rattle.lock_word.specs.declared.step.Outcome.TheVariants.{Done, Refused}
+use Rattle.lock_word.specs.Holders.{holder_at, HolderStep}
+use Rattle.lock_word.specs.Word.{step_of_want, step_of_down}
+use Rattle.lock_word.specs.Turns.{Turn, idle, turn, party_of, steps_after}
+use Rattle.lock_word.specs.Rule.{KeepsRule}
+
+-- the word, how many may read, how many steps were done, and the parties, which are numbered from 1
+pub record WorldState : Type 0 where
+  pub word : ℕ
+  pub readers : ℕ
+  pub steps : ℕ
+  pub parties : List PartyState
+
+abbrev pub new_world : ℕ → ℕ → WorldState
+new_world count limit = record { word = 0; readers = limit; steps = 0; parties = replicate count idle }
+
+-- a world after a step, and what the step answered
+pub record Stepped : Type 0 where
+  pub world : WorldState
+  pub outcome : Outcome
+
+-- the party at this place of the list has made its turn
+abbrev pub turned : WorldState → ℕ → Turn → Stepped
+turned w k t =
+    record {
+      world =
+          record {
+            word = t.word;
+            readers = w.readers;
+            steps = steps_after w.steps t.outcome;
+            parties = slice_set w.parties k t.party;
+          };
+      outcome = t.outcome;
+    }
+
+abbrev pub stepped_by : WorldState → AtomicStep → Option PartyState → Stepped
+stepped_by w s None = record { world = w; outcome = Refused fault.UnknownParty }
+stepped_by w s (Some me) = turned w (party_of s - 1) (turn w.readers w.word me s)
+
+unfoldable pub stepped : WorldState → AtomicStep → Stepped
+stepped w s =
+    if w.steps == 2 ^ 64 - 1
+    then record { world = w; outcome = Refused fault.NumbersSpent }
+    else stepped_by w s (holder_at w.parties (party_of s))
+
+abbrev pub world_after : WorldState → List AtomicStep → WorldState
+world_after w [] = w
+world_after w (s ∷ ss) = world_after (stepped w s).world ss
+
+abbrev pub outcomes : WorldState → List AtomicStep → List Outcome
+outcomes w [] = []
+outcomes w (s ∷ ss) = (stepped w s).outcome ∷ outcomes (stepped w s).world ss
+
+-- the change of modes of a step that was done
+abbrev pub holder_step : AtomicStep → Outcome → List HolderStep
+holder_step (Exchange p want) Done = record { holder = p; step = step_of_want want } ∷ []
+holder_step (Take p down) Done = record { holder = p; step = step_of_down down } ∷ []
+holder_step s outcome = []
+
+-- the changes of modes of the steps that were done, in order
+abbrev pub done_steps : List AtomicStep → List Outcome → List HolderStep
+done_steps [] outcomes = []
+done_steps (s ∷ ss) [] = []
+done_steps (s ∷ ss) (outcome ∷ outcomes) = holder_step s outcome ++ done_steps ss outcomes
+
+-- a world as steps from a new one can leave it
+pub record IsReachable (w : WorldState) : Type 0 where
+  pub limit : IsLimit w.readers
+  pub steps_fit : w.steps < 2 ^ 64
+  pub rule : KeepsRule w.readers w.word w.parties
+  pub counted : (k : ℕ) (me : PartyState) → slice_get w.parties k ≡ Some me → me.wins + me.fails ≤ w.steps

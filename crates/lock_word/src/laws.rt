@@ -1,0 +1,24 @@
+//! Laws of the word and of the steps on it: functions with an empty body, whose contract is the law.
+ghost use Rattle.lock_word.specs.WordLaws.{ExchangesAreOfBags, SubtractionsAreOfBags, WordsAreOfOneBag};
+ghost use Rattle.lock_word.specs.Claims.{EveryInterleaving};
+
+/// The word of a compatible bag admits just what the bag permits, and the exchange puts the word of the bag after it.
+pub fn exchanges_are_of_bags()
+    ensures { ExchangesAreOfBags }
+{}
+
+/// A subtraction from the word of a bag that has what it gives up leaves the word of the bag after it.
+pub fn subtractions_are_of_bags()
+    ensures { SubtractionsAreOfBags }
+{}
+
+/// Two compatible bags of one word are one bag.
+pub fn words_are_of_one_bag()
+    ensures { WordsAreOfOneBag }
+{}
+
+/// Whatever steps any parties make, in whatever order, from a new world on: the steps that were done are a run of the
+/// modes, and no party's failed exchanges outnumber the others' wins.
+pub fn every_interleaving()
+    ensures { EveryInterleaving }
+{}

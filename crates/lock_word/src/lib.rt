@@ -1,0 +1,18 @@
+//! The packed word, one number for the modes that are out, and the atomic steps of parties on it.
+#![tactic(auto)]
+
+mod down;
+mod laws;
+mod party;
+mod step;
+mod want;
+mod word;
+
+pub use down::Down;
+pub use laws::{
+    every_interleaving, exchanges_are_of_bags, subtractions_are_of_bags, words_are_of_one_bag,
+};
+pub use party::PartyState;
+pub use step::{AtomicStep, Outcome};
+pub use want::{ExWant, lets_on};
+pub use word::has_exclusive;

@@ -1,0 +1,81 @@
+//! What exchanges of the word win.
+ghost use Rattle.std.specs.Prelude.{◌≡◌};
+ghost use Rattle.lock_word.specs.Word.{word_lets_on, word_newly_admits};
+
+use crate::word::{EXCLUSIVE, UPGRADABLE};
+use lock_base::machine::{Mode, ModeStep};
+
+/// What an exchange of the word is to win.
+#[derive(Clone, Copy, PartialEq, Eq, Debug)]
+pub enum ExWant {
+    /// A shared token.
+    Shared,
+    /// An exclusive token.
+    Exclusive,
+    /// An upgradable token.
+    Upgradable,
+    /// An exclusive token for the upgradable one.
+    Upgrade,
+}
+
+impl ExWant {
+    ghost use Rattle.lock_word.specs.Word.{want_of_mode, step_of_want, word_exchanged};
+
+    /// The exchange that acquires the mode.
+    pub fn of_mode(mode: Mode) -> ExWant
+        ensures { result ≡ want_of_mode mode }
+    {
+        match mode {
+            Mode::Shared => ExWant::Shared,
+            Mode::Exclusive => ExWant::Exclusive,
+            Mode::Upgradable => ExWant::Upgradable,
+        }
+    }
+
+    /// What the exchange does to the modes that are out.
+    pub fn step(self) -> ModeStep
+        ensures { result ≡ step_of_want self }
+    {
+        match self {
+            ExWant::Shared => ModeStep::Acquire(Mode::Shared),
+            ExWant::Exclusive => ModeStep::Acquire(Mode::Exclusive),
+            ExWant::Upgradable => ModeStep::Acquire(Mode::Upgradable),
+            ExWant::Upgrade => ModeStep::Change(Mode::Upgradable, Mode::Exclusive),
+        }
+    }
+
+    /// The word that the exchange puts for the loaded one, of which at most `readers` may read. None where the loaded
+    /// word does not admit what is wanted.
+    pub fn exchanged(self, readers: u64, loaded: u64) -> Option<u64>
+        ensures { result ≡ word_exchanged readers loaded self }
+    {
+        match self {
+            ExWant::Shared if loaded < EXCLUSIVE && loaded % UPGRADABLE < readers => {
+                Some(loaded + 1)
+            }
+            ExWant::Exclusive if loaded == 0 => Some(EXCLUSIVE),
+            ExWant::Upgradable if loaded < UPGRADABLE && loaded % UPGRADABLE < readers => {
+                Some(loaded + (UPGRADABLE + 1))
+            }
+            ExWant::Upgrade if loaded == UPGRADABLE + 1 => Some(loaded + (UPGRADABLE - 1)),
+            _ => None,
+        }
+    }
+
+    /// Whether the word after admits what is wanted, and the one before does not.
+    fn newly_admitted(self, readers: u64, before: u64, after: u64) -> bool
+        ensures { result ≡ word_newly_admits readers before after self }
+    {
+        self.exchanged(readers, before).is_none() && self.exchanged(readers, after).is_some()
+    }
+}
+
+/// Whether someone who waits may get on at the word after a step, and could not at the word before it.
+pub fn lets_on(readers: u64, before: u64, after: u64) -> bool
+    ensures { result ≡ word_lets_on readers before after }
+{
+    ExWant::Shared.newly_admitted(readers, before, after)
+        || ExWant::Exclusive.newly_admitted(readers, before, after)
+        || ExWant::Upgradable.newly_admitted(readers, before, after)
+        || ExWant::Upgrade.newly_admitted(readers, before, after)
+}

@@ -1,0 +1,16 @@
+//! The parts of a word.
+ghost use Rattle.std.specs.Prelude.{◌≡◌, ◌==◌, not};
+ghost use Rattle.lock_word.specs.Word.{bag_of_word};
+
+/// What an upgradable token adds to the word beside the reader that it is.
+pub(crate) const UPGRADABLE: u64 = 4_294_967_296;
+
+/// What an exclusive token adds to the word.
+pub(crate) const EXCLUSIVE: u64 = 8_589_934_592;
+
+/// Whether the word has an exclusive token.
+pub fn has_exclusive(word: u64) -> bool
+    ensures { result ≡ not ((bag_of_word word).exclusive == 0) }
+{
+    word / EXCLUSIVE % 2 != 0
+}
