@@ -6,7 +6,7 @@ use lock_api::TryView;
 use std::collections::HashMap;
 
 /// The value under this key.
-#[derive(Clone, Copy, Debug)]
+#[derive(Clone, Copy)]
 pub struct Entry(pub u64);
 
 impl<V> TryView<HashMap<u64, V>> for Entry {

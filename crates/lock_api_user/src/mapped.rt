@@ -32,7 +32,7 @@ pub fn map_it<'a, R: RawMutex>(
     guard: MutexGuard<'a, R, Settings>,
     limit: At<Limit>,
 ) -> MappedMutexGuard<'a, R, Settings, At<Limit>>
-    ensures { IsMapOf (held_of guard) limit result }
+    ensures { IsMapOf (held_of guard.entry) limit result }
 {
     MutexGuard::map(guard, limit)
 }

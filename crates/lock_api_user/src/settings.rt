@@ -11,7 +11,7 @@ pub struct Settings {
 }
 
 /// The name of the field `limit`.
-#[derive(Clone, Copy, Debug)]
+#[derive(Clone, Copy)]
 pub struct Limit;
 
 impl Field<Settings> for Limit {

@@ -1,19 +1,20 @@
 //! Every public type of `lock_api` in a signature.
 use crate::settings::{Limit, Settings};
 use lock_api::{
-    ArcMutexGuard, ArcReentrantMutexGuard, ArcRwLockGuard, ArcRwLockReadGuard,
+    Arbiter, ArcMutexGuard, ArcReentrantMutexGuard, ArcRwLockGuard, ArcRwLockReadGuard,
     ArcRwLockUpgradableReadGuard, ArcRwLockWriteGuard, At, Bag, BorrowedMutex, Call, Condvar, Desk,
-    Exclusive, ExclusiveToken, FairMode, Fault, Field, Form, Guard, GuardNoSend, GuardSend,
-    HeldPlace, InMode, Kind, Levels, LockMode, LoopEnd, Mappable, Mapped, MappedMutexGuard,
+    Exclusive, ExclusiveToken, FairMode, Fault, Field, Form, Guard, GuardNoSend, GuardSend, InMode,
+    Kind, Levels, LockCore, LockMode, LoopEnd, Mappable, Mapped, MappedMutexGuard,
     MappedReentrantMutexGuard, MappedRwLockReadGuard, MappedRwLockWriteGuard, Missed, Mode,
-    ModeStep, Mutex, MutexGuard, Op, PartyId, Project, RawCondvar, RawCondvarTimed, RawMutex,
-    RawMutexFair, RawMutexTimed, RawReentrantMutex, RawRwLock, RawRwLockDowngrade, RawRwLockFair,
-    RawRwLockTimed, RawRwLockUpgrade, RawRwLockUpgradeDowngrade, RawRwLockUpgradeFair,
-    RawRwLockUpgradeTimed, RawState, Recorded, RecordingRaw, ReentrantMutex, ReentrantMutexGuard,
-    Reply, RwLock, RwLockArc, RwLockArcTimed, RwLockArcUpgrade, RwLockArcUpgradeTimed, RwLockGuard,
-    RwLockReadGuard, RwLockUpgradableReadGuard, RwLockWriteGuard, Script, SequentialState, Shared,
-    SharedToken, SpuriousCondvar, StateRaw, TableToken, Then, TokenRaw, TokenTable, TryProject,
-    TryView, Upgradable, UpgradableToken, View, WaitTimeoutResult, Waits, Want, Way,
+    ModeStep, Monitor, Mutex, MutexGuard, ObservableState, Op, PartyId, Project, RawCondvar,
+    RawCondvarTimed, RawLock, RawMutex, RawMutexFair, RawMutexTimed, RawReentrantMutex, RawRwLock,
+    RawRwLockDowngrade, RawRwLockFair, RawRwLockTimed, RawRwLockUpgrade, RawRwLockUpgradeDowngrade,
+    RawRwLockUpgradeFair, RawRwLockUpgradeTimed, RawState, RecordingArbiter, RecordingRaw,
+    ReentrantMutex, ReentrantMutexGuard, Reply, RwLock, RwLockArc, RwLockArcTimed,
+    RwLockArcUpgrade, RwLockArcUpgradeTimed, RwLockGuard, RwLockReadGuard,
+    RwLockUpgradableReadGuard, RwLockWriteGuard, Script, Shared, SharedToken, SpuriousCondvar,
+    TableArbiter, TableToken, Then, TokenArbiter, TokenRaw, TokenTable, TryProject, TryView,
+    Unchanged, Upgradable, UpgradableToken, View, WaitTimeoutResult, Waits, Want, Way,
 };
 use std::clone::Clone;
 use std::sync::Wait;
@@ -29,18 +30,18 @@ pub fn machine<R: RawState, T, O: Op<T>>(
 ) {}
 
 /// A value of each type of the raw locks and raw states here.
-pub fn raws<W: Wait + Clone + Drop, S: SequentialState>(
+pub fn raws<W: Wait + Clone + Drop, C: LockCore, A: Arbiter, S: ObservableState>(
     _token_raw: &TokenRaw<W>,
     _recording_raw: &RecordingRaw<W>,
-    _state_raw: &StateRaw<S, W>,
-    _recorded: &Recorded,
+    _raw_lock: &RawLock<C>,
+    _monitor: &Monitor<A, W>,
+    _arbiters: (&TokenArbiter<S>, &RecordingArbiter<A>, &TableArbiter),
     _table: &TokenTable,
     _tokens: (
-        &SharedToken,
-        &ExclusiveToken,
-        &UpgradableToken,
-        &TableToken,
-        &HeldPlace,
+        &SharedToken<TableToken>,
+        &ExclusiveToken<TableToken>,
+        &UpgradableToken<TableToken>,
+        &Unchanged<TableToken>,
     ),
     _marks: (&GuardSend, &GuardNoSend),
     _condvar: &SpuriousCondvar<TokenRaw<W>>,
