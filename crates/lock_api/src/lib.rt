@@ -48,6 +48,3 @@ pub use lock_rwlock_arc::{
     RwLockArc, RwLockArcTimed, RwLockArcUpgrade, RwLockArcUpgradeTimed,
 };
 pub use lock_states::table::{TableToken, TokenTable};
-
-#[cfg(test)]
-mod tests;

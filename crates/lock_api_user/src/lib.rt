@@ -5,6 +5,7 @@
 mod arcs;
 mod desk;
 mod entry;
+mod journals;
 mod mapped;
 mod mutexes;
 mod parts_read;

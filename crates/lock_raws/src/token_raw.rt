@@ -10,6 +10,5 @@ pub type TableArbiter = TokenArbiter<TokenTable>;
 /// A raw lock over a table of places: a std `Mutex` round the table, and a std `Condvar` to wait on.
 ///
 /// Its places are its readers' limit; made as a `RawMutex` both are 1. A token that is not out there with its mode is
-/// ignored: an unlock changes nothing, and a change of mode answers a token of the new mode. An unlock is fair as far as
-/// the std `Mutex` is, and a timed try is a try.
+/// ignored: an unlock changes nothing, and a change of mode answers a token of the new mode. A timed try is a try.
 pub type TokenRaw<W> = RawLock<Monitor<TableArbiter, W>>;

@@ -11,7 +11,7 @@ use Rattle.lock_base.specs.declared.machine.bag.Bag.{Bag}
 use Rattle.lock_base.specs.Modes.{empty_bag, count_of, one_more, one_less}
 use Rattle.lock_base.specs.ModeRuns.{has, bag_after, IsModeRun}
 use Rattle.lock_base.proofs.TokenBags.{same_counts}
-use Rattle.lock_word.specs.Holders.{all_of, holder_at, HolderStep, IsHolderStep, IsHolderRun, steps_of}
+use Rattle.lock_word.specs.Holders.{all_of, IsPart, holder_at, HolderStep, IsHolderStep, IsHolderRun, steps_of}
 
 -- what the step gives up is out
 abbrev pub Has : Bag → ModeStep → Type 0
@@ -40,12 +40,6 @@ pub le-sum_by : {X : Type 0} (f : X → ℕ) (xs : List X) (k : ℕ) (x : X) →
 le-sum_by f xs k x h =
     let at : get_or xs k x ≡ x = get_or_from_slice_get xs k x x h in
     rw at at (get_or-le-sum_by f xs k x (slice_get_within xs k x h))
-
--- what one has is part of what all have
-pub record IsPart (own all : Bag) : Type 0 where
-  pub shared : own.shared ≤ all.shared
-  pub exclusive : own.exclusive ≤ all.exclusive
-  pub upgradable : own.upgradable ≤ all.upgradable
 
 pub part_of_all : (bags : List Bag) (k : ℕ) (own : Bag) → slice_get bags k ≡ Some own → IsPart own (all_of bags)
 part_of_all bags k own h =

@@ -1,21 +1,24 @@
 -- Each kind of step of one party keeps the rule: one lemma a kind, for all who step on a word.
-use Rattle.std.proofs.Common.{◌≡◌, ◌≢◌, ℕ, zero, suc, ◌+◌, ◌-◌, ◌<◌, ◌≤◌, ◌⊎◌, inl, inr, List, [], ◌∷◌, get_or, slice_get, slice_set, Some, IsTrue, refl, sym, ap, subst, ◌∙◌, arith}
-use Rattle.std.proofs.lemmas.List.{map-set, set-get_or}
+use Rattle.std.proofs.Common.{◌≡◌, ◌≢◌, ℕ, zero, suc, ◌+◌, ◌-◌, ◌<◌, ◌≤◌, ◌⊎◌, inl, inr, List, [], ◌∷◌, ◌++◌, get_or, slice_get, slice_set, Some, IsTrue, refl, sym, ap, subst, ◌∙◌, arith}
+use Rattle.std.proofs.lemmas.List.{map-set, map-append, set-get_or}
+use Rattle.std.proofs.lemmas.List.Sums.{sum_by-append}
 use Rattle.std.proofs.lemmas.Option.{same_Some, get_or_from_slice_get, slice_get-map}
 use Rattle.lock_base.specs.declared.machine.mode_step.ModeStep.{ModeStep}
+use Rattle.lock_base.specs.declared.machine.bag.Bag.{Bag}
 use Rattle.lock_base.specs.Limits.{IsLimit}
-use Rattle.lock_base.specs.Modes.{AreCompatible}
+use Rattle.lock_base.specs.Modes.{empty_bag, AreCompatible}
 use Rattle.lock_base.specs.ModeRuns.{Permits, bag_after}
+use Rattle.lock_base.proofs.TokenBags.{same_counts}
 use Rattle.lock_base.proofs.ModeLemmas.{compatible_after}
 use Rattle.lock_word.specs.declared.want.ExWant.{ExWant}
 use Rattle.lock_word.specs.declared.down.Down.{Down}
 use Rattle.lock_word.specs.declared.party.PartyState.{PartyState}
-use Rattle.lock_word.specs.Holders.{all_of}
+use Rattle.lock_word.specs.Holders.{all_of, IsPart}
 use Rattle.lock_word.specs.Word.{word_of, word_admits, word_after, amount, step_of_want, step_of_down}
-use Rattle.lock_word.specs.Turns.{with_load, unloaded, won, lost}
-use Rattle.lock_word.specs.Rule.{holds, held_by_all, all_wins, others_wins, IsBehind, KeepsRule}
-use Rattle.lock_word.proofs.Holders.{Has, Has-part, IsPart, part_of_all, sum_by-slice_set, le-sum_by, all_of-after}
-use Rattle.lock_word.proofs.Words.{permits_of_word, word_after_want, permits_down, word_before_down}
+use Rattle.lock_word.specs.Turns.{idle, with_load, unloaded, won, lost}
+use Rattle.lock_word.specs.Rule.{holds, held_by_all, all_wins, others_wins, IsBehind, KeepsRule, Shows}
+use Rattle.lock_word.proofs.Holders.{Has, Has-part, part_of_all, sum_by-slice_set, le-sum_by, all_of-after}
+use Rattle.lock_word.proofs.Words.{alone_or_none, parts_of_word, permits_of_word, word_after_want, permits_down, word_before_down}
 
 -- one element of a list is changed
 
@@ -194,3 +197,67 @@ keeps_take limit word ps k me d range rule at has =
     let before = word_before_down (held_by_all ps) d all in
     keeps_won limit word (word - amount d) ps k me (step_of_down d) range.0 rule at has
     (permits_down limit (held_by_all ps) d all) (omega arith)
+
+-- one more who steps on the word
+
+-- an element of a longer list is one of the list, or the new one
+element_of_longer : {A : Type 0} (xs : List A) (y z : A) (j : ℕ) → slice_get (xs ++ y ∷ []) j ≡ Some z
+    → (slice_get xs j ≡ Some z) ⊎ (z ≡ y)
+element_of_longer [] y z zero h = inr (same_Some z y (sym h))
+element_of_longer [] y z (suc j) h = cc
+element_of_longer (x ∷ xs) y z zero h = inl h
+element_of_longer (x ∷ xs) y z (suc j) h = element_of_longer xs y z j h
+
+held_by_longer : (ps : List PartyState) → held_by_all (ps ++ idle ∷ []) ≡ held_by_all ps
+held_by_longer ps =
+    let bags = holds ps in
+    let longer : holds (ps ++ idle ∷ []) ≡ bags ++ empty_bag ∷ [] = map-append (λ (q : PartyState). q.held) ps (idle ∷ []) in
+    let s = sum_by-append (λ (b : Bag). b.shared) bags (empty_bag ∷ []) in
+    let x = sum_by-append (λ (b : Bag). b.exclusive) bags (empty_bag ∷ []) in
+    let u = sum_by-append (λ (b : Bag). b.upgradable) bags (empty_bag ∷ []) in
+    ap all_of longer ∙ same_counts (all_of (bags ++ empty_bag ∷ [])) (all_of bags) (omega arith) (omega arith) (omega arith)
+
+pub keeps_newcomer : (limit word : ℕ) (ps : List PartyState) → KeepsRule limit word ps
+    → KeepsRule limit word (ps ++ idle ∷ [])
+keeps_newcomer limit word ps rule =
+    let same = held_by_longer ps in
+    let total : all_wins (ps ++ idle ∷ []) ≡ all_wins ps + 0
+    = sum_by-append (λ (q : PartyState). q.wins) ps (idle ∷ []) in
+    record {
+      coded = rule.coded ∙ ap word_of (sym same);
+      legal = subst (AreCompatible limit) (sym same) rule.legal;
+      behind = λ j q h.
+          elim (element_of_longer ps idle q j h) [
+            | inl old ↦
+                (let other = rule.behind j q old in
+                let least = other.bounded in
+                record {
+                  bounded = omega arith;
+                  open_load = λ loaded e d. let before = other.open_load loaded e d in omega arith;
+                })
+            | inr new ↦
+                subst (λ x. IsBehind (others_wins (ps ++ idle ∷ []) x) word x) (sym new)
+                record { bounded = omega arith; open_load = λ loaded e d. cc }
+          ];
+    }
+
+-- what the word says to a party
+
+pub shows : (limit word : ℕ) (ps : List PartyState) (k : ℕ) (me : PartyState) → IsLimit limit → KeepsRule limit word ps
+    → slice_get ps k ≡ Some me → Shows limit word me.held
+shows limit word ps k me range rule at =
+    let part = part_of_parties ps k me at in
+    let parts = parts_of_word limit (held_by_all ps) range.1 rule.legal in
+    let low = parts.low in
+    let coded = rule.coded in
+    let none = alone_or_none limit (held_by_all ps) rule.legal in
+    let one = rule.legal.one_upgradable in
+    let few = rule.legal.within in
+    record {
+      all = held_by_all ps;
+      legal = rule.legal;
+      part = part;
+      coded = rule.coded;
+      exclusive = λ some. omega arith;
+      reads = λ some. (omega arith, omega arith);
+    }

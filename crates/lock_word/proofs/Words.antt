@@ -19,7 +19,7 @@ use Rattle.lock_word.specs.WordLaws.{ExchangesAreOfBags, SubtractionsAreOfBags, 
 use Rattle.lock_word.proofs.Holders.{Has, Has_from_test}
 
 -- an exclusive token is alone, or there is none
-alone_or_none : (limit : ℕ) (b : Bag) → AreCompatible limit b → (b.exclusive ≡ 0) ⊎ (tokens b ≡ 1)
+pub alone_or_none : (limit : ℕ) (b : Bag) → AreCompatible limit b → (b.exclusive ≡ 0) ⊎ (tokens b ≡ 1)
 alone_or_none limit b l = elim (eq-zero-or-pos b.exclusive) [ inl z ↦ inl z | inr p ↦ inr (l.alone p) ]
 
 -- the word as its parts

@@ -1,5 +1,5 @@
 -- Holders of modes: what all have together, and runs of the modes by them.
-use Rattle.std.specs.Prelude.{zero, suc, ◌≡◌, ℕ, ◌-◌, List, [], ◌∷◌, sum_by, slice_get, slice_set, Option, Some, None, IsTrue}
+use Rattle.std.specs.Prelude.{zero, suc, ◌≡◌, ◌≤◌, ℕ, ◌-◌, List, [], ◌∷◌, sum_by, slice_get, slice_set, Option, Some, None, IsTrue}
 use Rattle.lock_base.specs.declared.machine.mode_step.ModeStep.{ModeStep}
 use Rattle.lock_base.specs.declared.machine.bag.Bag.{Bag}
 use Rattle.lock_base.specs.ModeRuns.{has, Permits, bag_after}
@@ -12,6 +12,12 @@ all_of bags =
       exclusive = sum_by (λ (b : Bag). b.exclusive) bags;
       upgradable = sum_by (λ (b : Bag). b.upgradable) bags;
     }
+
+-- what one has is part of what all have
+pub record IsPart (own all : Bag) : Type 0 where
+  pub shared : own.shared ≤ all.shared
+  pub exclusive : own.exclusive ≤ all.exclusive
+  pub upgradable : own.upgradable ≤ all.upgradable
 
 -- holders are numbered from 1
 abbrev pub holder_at : {A : Type 0} → List A → ℕ → Option A

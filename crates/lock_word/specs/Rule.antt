@@ -1,10 +1,10 @@
 -- What holds of the word and of all parties between any two atomic steps.
-use Rattle.std.specs.Prelude.{◌≡◌, ◌≢◌, ℕ, ◌-◌, ◌<◌, ◌≤◌, List, map, sum_by, slice_get, Some}
+use Rattle.std.specs.Prelude.{◌≡◌, ◌≢◌, ℕ, ◌-◌, ◌^◌, ◌<◌, ◌≤◌, List, map, sum_by, slice_get, Some}
 use Rattle.lock_base.specs.declared.machine.bag.Bag.{Bag}
-use Rattle.lock_base.specs.Modes.{AreCompatible}
+use Rattle.lock_base.specs.Modes.{readers, AreCompatible}
 use Rattle.lock_word.specs.declared.party.PartyState.{PartyState}
-use Rattle.lock_word.specs.Holders.{all_of}
-use Rattle.lock_word.specs.Word.{word_of}
+use Rattle.lock_word.specs.Holders.{all_of, IsPart}
+use Rattle.lock_word.specs.Word.{word_of, readers_of_word}
 
 -- what each party holds
 abbrev pub holds : List PartyState → List Bag
@@ -31,3 +31,13 @@ pub record KeepsRule (limit word : ℕ) (parties : List PartyState) : Type 0 whe
   pub coded : word ≡ word_of (held_by_all parties)
   pub legal : AreCompatible limit (held_by_all parties)
   pub behind : (k : ℕ) (me : PartyState) → slice_get parties k ≡ Some me → IsBehind (others_wins parties me) word me
+
+-- what a word says to one who holds these: it is the word of all that is held, of which these are a part
+pub record Shows (limit word : ℕ) (own : Bag) : Type 0 where
+  pub all : Bag
+  pub legal : AreCompatible limit all
+  pub part : IsPart own all
+  pub coded : word ≡ word_of all
+  -- so an exclusive holder finds no one else, and one who reads finds a reader and no exclusive holder
+  pub exclusive : 0 < own.exclusive → word ≡ 2 ^ 33
+  pub reads : 0 < readers own → (0 < readers_of_word word) × (word < 2 ^ 33)

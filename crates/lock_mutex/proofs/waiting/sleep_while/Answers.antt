@@ -1,7 +1,7 @@
 use Rattle.std.proofs.Common.{◌≡◌, ◌∙◌}
 use Rattle.lock_mutex.proofs.Loops.{only_false}
 use Rattle.lock_mutex.specs.declared.condition_loop.loop_end.LoopEnd.TheVariants.{False, TimedOut}
-use Rattle.lock_mutex.proofs.WaitLemmas.{waits_while}
+use Rattle.lock_mutex.proofs.HeldWaits.{waits_while}
 use Rattle.lock_mutex.proofs.waiting.sleep_while.Goals as goal
 
 pub returns-clause-in_time : goal.returns-clause-in_time

@@ -1,0 +1,106 @@
+//! Calls by the public functions that `apply` goes round.
+use crate::tests::CountedDesk;
+use lock_base::machine::{Call, Form, Op, PartyId, Reply, Want};
+use lock_base::raw::Fault;
+
+/// The answer of a function that may have to wait, or its refusal.
+type Answer<X> = Result<Option<X>, Fault>;
+
+/// `apply`, where a call that has four forms is made by the function of its form.
+pub fn by_name<O: Op<u64, Answer = u64>>(desk: &mut CountedDesk, call: &Call<O>) -> Reply<u64> {
+    match call {
+        Call::Acquire(want, form, party) => {
+            reply(acquire(desk, *want, *form, *party), Reply::Guard)
+        }
+        Call::Upgrade(form, party, guard) => {
+            reply(upgrade(desk, *form, *party, *guard), |_| Reply::Done)
+        }
+        Call::WithUpgraded(form, party, guard, op) => {
+            reply(
+                with_upgraded(desk, *form, *party, *guard, op),
+                Reply::Answer,
+            )
+        }
+        others => desk.apply(others),
+    }
+}
+
+/// The answer as a reply. A blocking function refuses where it would have to wait.
+fn reply<X, F: FnOnce(X) -> Reply<u64>>(answer: Answer<X>, tell: F) -> Reply<u64>
+    requires { F.IsAlwaysCallable tell }
+{
+    match answer {
+        Ok(Some(answer)) => tell(answer),
+        Ok(None) => Reply::NoGuard,
+        Err(fault) => Reply::Refused(fault),
+    }
+}
+
+fn acquire(desk: &mut CountedDesk, want: Want, form: Form, party: PartyId) -> Answer<u64> {
+    match want {
+        Want::Lock => lock(desk, form, party),
+        Want::Read => read(desk, form, party),
+        Want::Write => write(desk, form, party),
+        Want::UpgradableRead => upgradable_read(desk, form, party),
+    }
+}
+
+fn lock(desk: &mut CountedDesk, form: Form, party: PartyId) -> Answer<u64> {
+    match form {
+        Form::Block => desk.lock(party).map(Some),
+        Form::Try => desk.try_lock(party),
+        Form::For => desk.try_lock_for(party),
+        Form::Until => desk.try_lock_until(party),
+    }
+}
+
+fn read(desk: &mut CountedDesk, form: Form, party: PartyId) -> Answer<u64> {
+    match form {
+        Form::Block => desk.read(party).map(Some),
+        Form::Try => desk.try_read(party),
+        Form::For => desk.try_read_for(party),
+        Form::Until => desk.try_read_until(party),
+    }
+}
+
+fn write(desk: &mut CountedDesk, form: Form, party: PartyId) -> Answer<u64> {
+    match form {
+        Form::Block => desk.write(party).map(Some),
+        Form::Try => desk.try_write(party),
+        Form::For => desk.try_write_for(party),
+        Form::Until => desk.try_write_until(party),
+    }
+}
+
+fn upgradable_read(desk: &mut CountedDesk, form: Form, party: PartyId) -> Answer<u64> {
+    match form {
+        Form::Block => desk.upgradable_read(party).map(Some),
+        Form::Try => desk.try_upgradable_read(party),
+        Form::For => desk.try_upgradable_read_for(party),
+        Form::Until => desk.try_upgradable_read_until(party),
+    }
+}
+
+fn upgrade(desk: &mut CountedDesk, form: Form, party: PartyId, guard: u64) -> Answer<()> {
+    match form {
+        Form::Block => desk.upgrade(party, guard).map(Some),
+        Form::Try => desk.try_upgrade(party, guard),
+        Form::For => desk.try_upgrade_for(party, guard),
+        Form::Until => desk.try_upgrade_until(party, guard),
+    }
+}
+
+fn with_upgraded<O: Op<u64, Answer = u64>>(
+    desk: &mut CountedDesk,
+    form: Form,
+    party: PartyId,
+    guard: u64,
+    op: &O,
+) -> Answer<u64> {
+    match form {
+        Form::Block => desk.with_upgraded(party, guard, op).map(Some),
+        Form::Try => desk.try_with_upgraded(party, guard, op),
+        Form::For => desk.try_with_upgraded_for(party, guard, op),
+        Form::Until => desk.try_with_upgraded_until(party, guard, op),
+    }
+}

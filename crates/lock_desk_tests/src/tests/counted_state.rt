@@ -1,0 +1,53 @@
+//! A raw state that counts.
+use lock_base::machine::Mode;
+use lock_base::raw::{Fault, RawState};
+use std::alloc::Global;
+
+/// A raw state that counts the tokens that were given back.
+#[derive(Drop)]
+pub struct CountedState<R: RawState> {
+    raw: R,
+    given_back: u64,
+}
+
+impl<R: RawState> CountedState<R> {
+    pub fn given_back(&self) -> u64 {
+        self.given_back
+    }
+}
+
+impl<R: RawState> RawState for CountedState<R> {
+    type Token = R::Token;
+
+    ghost tokens = { λ counted. R.tokens counted.raw };
+
+    ghost capacity = { λ counted. R.capacity counted.raw };
+
+    ghost reader_limit = { λ counted. R.reader_limit counted.raw };
+
+    fn new(alloc: Global, places: u64, readers: u64) -> Result<CountedState<R>, Fault> {
+        let raw = R::new(alloc, places, readers)?;
+        Ok(CountedState { raw, given_back: 0 })
+    }
+
+    fn admit(&mut self, mode: Mode) -> Option<R::Token> {
+        self.raw.admit(mode)
+    }
+
+    fn give_back(&mut self, token: R::Token) {
+        self.raw.give_back(token);
+        self.given_back = self.given_back.saturating_add(1);
+    }
+
+    fn change(&mut self, token: R::Token, mode: Mode) -> Result<R::Token, R::Token> {
+        self.raw.change(token, mode)
+    }
+
+    fn any(&self) -> bool {
+        self.raw.any()
+    }
+
+    fn exclusive(&self) -> bool {
+        self.raw.exclusive()
+    }
+}

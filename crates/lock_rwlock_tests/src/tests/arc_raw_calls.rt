@@ -1,0 +1,195 @@
+//! What the raw lock is asked, call by call, where guards keep the lock alive.
+use super::watched_rwlock;
+use lock_base::machine::Mode::{self, Exclusive, Shared, Upgradable};
+use lock_base::raw::Fault;
+use lock_guard::raw::{
+    RawRwLock, RawRwLockTimed, RawRwLockUpgrade, RawRwLockUpgradeDowngrade, RawRwLockUpgradeTimed,
+};
+use lock_rwlock::{FairMode, RwLock};
+use lock_rwlock_arc::{
+    ArcRwLockGuard, ArcRwLockUpgradableReadGuard, ArcRwLockWriteGuard, RwLockArc, RwLockArcTimed,
+    RwLockArcUpgrade, RwLockArcUpgradeTimed,
+};
+use lock_test_support::raw_lock::RawCall::{
+    self, Bump, Downgrade, DowngradeToUpgradable, DowngradeUpgradable, IsLocked, Lock, TryLock,
+    TryLockFor, TryLockUntil, TryUpgrade, TryUpgradeFor, TryUpgradeUntil, Unlock, UnlockFair,
+    Upgrade,
+};
+use lock_test_support::raw_lock::Watch;
+use std::sync::{Arc, Wait};
+use std::test::Fail;
+
+type Shareable<R> = Arc<RwLock<R, u64>>;
+
+fn acquisitions<W: Wait + Drop, R: RawRwLockTimed<Duration = u64, Instant = u64> + Drop>(
+    lock: &Shareable<R>,
+    watch: &mut Watch<W, RawCall>,
+) {
+    drop(RwLock::read_arc(lock));
+    watch.saw(&[Lock(Shared), Unlock(Shared)]);
+    drop(RwLock::try_read_arc(lock));
+    watch.saw(&[TryLock(Shared), Unlock(Shared)]);
+    drop(RwLock::try_read_arc_for(lock, 3));
+    watch.saw(&[TryLockFor(Shared, 3), Unlock(Shared)]);
+    drop(RwLock::try_read_arc_until(lock, 4));
+    watch.saw(&[TryLockUntil(Shared, 4), Unlock(Shared)]);
+    drop(RwLock::write_arc(lock));
+    watch.saw(&[Lock(Exclusive), Unlock(Exclusive)]);
+    drop(RwLock::try_write_arc(lock));
+    watch.saw(&[TryLock(Exclusive), Unlock(Exclusive)]);
+    drop(RwLock::try_write_arc_for(lock, 3));
+    watch.saw(&[TryLockFor(Exclusive, 3), Unlock(Exclusive)]);
+    drop(RwLock::try_write_arc_until(lock, 4));
+    watch.saw(&[TryLockUntil(Exclusive, 4), Unlock(Exclusive)]);
+}
+
+fn upgradable_acquisitions<
+    W: Wait + Drop,
+    R: RawRwLockUpgradeTimed<Duration = u64, Instant = u64> + Drop,
+>(lock: &Shareable<R>, watch: &mut Watch<W, RawCall>) {
+    drop(RwLock::upgradable_read_arc(lock));
+    watch.saw(&[Lock(Upgradable), Unlock(Upgradable)]);
+    drop(RwLock::try_upgradable_read_arc(lock));
+    watch.saw(&[TryLock(Upgradable), Unlock(Upgradable)]);
+    drop(RwLock::try_upgradable_read_arc_for(lock, 3));
+    watch.saw(&[TryLockFor(Upgradable, 3), Unlock(Upgradable)]);
+    drop(RwLock::try_upgradable_read_arc_until(lock, 4));
+    watch.saw(&[TryLockUntil(Upgradable, 4), Unlock(Upgradable)]);
+}
+
+#[test]
+fn raw_calls_of_acquisitions_by_an_arc(rt: HostRuntime) -> Result<(), Fail> {
+    let (lock, calls) = watched_rwlock(rt.alloc(), rt, 0)?;
+    let mut watch = Watch::new(rt, calls);
+    let lock = Arc::new(rt.alloc(), lock)?;
+    acquisitions(&lock, &mut watch);
+    upgradable_acquisitions(&lock, &mut watch);
+    watch.verdict()
+}
+
+/// What a guard of the mode, which was just acquired, can do whatever its mode.
+fn calls_of_a_guard<W: Wait + Drop, M: FairMode<R>, R: RawRwLock + Drop>(
+    guard: ArcRwLockGuard<M, R, u64>,
+    mode: Mode,
+    watch: &mut Watch<W, RawCall>,
+) -> Shareable<R> {
+    let mut guard = guard;
+    ArcRwLockGuard::bump(&mut guard);
+    watch.saw(&[Lock(mode), Bump(mode)]);
+    ArcRwLockGuard::unlocked(&mut guard, || ());
+    watch.saw(&[Unlock(mode), Lock(mode)]);
+    ArcRwLockGuard::unlocked_fair(&mut guard, || ());
+    watch.saw(&[UnlockFair(mode), Lock(mode)]);
+    ArcRwLockGuard::with(&guard, |value| *value);
+    let lock = ArcRwLockGuard::into_arc_fair(guard);
+    watch.saw(&[UnlockFair(mode)]);
+    lock
+}
+
+/// The ends of guards that were just acquired: by `into_arc`, and fairly.
+fn ends_of_guards<W: Wait + Drop, M: FairMode<R>, R: RawRwLock + Drop>(
+    first: ArcRwLockGuard<M, R, u64>,
+    mode: Mode,
+    watch: &mut Watch<W, RawCall>,
+) {
+    drop(ArcRwLockGuard::into_arc(first));
+    watch.saw(&[Lock(mode), Unlock(mode)]);
+}
+
+#[test]
+fn raw_calls_of_arc_guards(rt: HostRuntime) -> Result<(), Fail> {
+    let (lock, calls) = watched_rwlock(rt.alloc(), rt, 0)?;
+    let mut watch = Watch::new(rt, calls);
+    let lock = Arc::new(rt.alloc(), lock)?;
+    drop(calls_of_a_guard(RwLock::read_arc(&lock)?, Shared, &mut watch));
+    drop(calls_of_a_guard(RwLock::write_arc(&lock)?, Exclusive, &mut watch));
+    drop(calls_of_a_guard(RwLock::upgradable_read_arc(&lock)?, Upgradable, &mut watch));
+    ends_of_guards(RwLock::read_arc(&lock)?, Shared, &mut watch);
+    ends_of_guards(RwLock::write_arc(&lock)?, Exclusive, &mut watch);
+    ArcRwLockGuard::unlock_fair(RwLock::upgradable_read_arc(&lock)?);
+    watch.saw(&[Lock(Upgradable), UnlockFair(Upgradable)]);
+    watch.verdict()
+}
+
+/// Up, and down to each lower mode.
+fn transitions<W: Wait + Drop, R: RawRwLockUpgradeDowngrade + Drop>(
+    lock: &Shareable<R>,
+    watch: &mut Watch<W, RawCall>,
+) -> Result<(), Fault> {
+    drop(ArcRwLockWriteGuard::downgrade(RwLock::write_arc(lock)?));
+    watch.saw(&[Lock(Exclusive), Downgrade, Unlock(Shared)]);
+    let guard = ArcRwLockWriteGuard::downgrade_to_upgradable(RwLock::write_arc(lock)?);
+    watch.saw(&[Lock(Exclusive), DowngradeToUpgradable]);
+    drop(ArcRwLockUpgradableReadGuard::downgrade(guard));
+    watch.saw(&[DowngradeUpgradable, Unlock(Shared)]);
+    drop(ArcRwLockUpgradableReadGuard::upgrade(RwLock::upgradable_read_arc(lock)?));
+    watch.saw(&[Lock(Upgradable), Upgrade, Unlock(Exclusive)]);
+    drop(ArcRwLockUpgradableReadGuard::try_upgrade(RwLock::upgradable_read_arc(lock)?));
+    watch.saw(&[Lock(Upgradable), TryUpgrade, Unlock(Exclusive)]);
+    Ok(())
+}
+
+fn timed_upgrades<W: Wait + Drop, R: RawRwLockUpgradeTimed<Duration = u64, Instant = u64> + Drop>(
+    lock: &Shareable<R>,
+    watch: &mut Watch<W, RawCall>,
+) -> Result<(), Fault> {
+    let guard = RwLock::upgradable_read_arc(lock)?;
+    drop(ArcRwLockUpgradableReadGuard::try_upgrade_for(guard, 3));
+    watch.saw(&[Lock(Upgradable), TryUpgradeFor(3), Unlock(Exclusive)]);
+    let guard = RwLock::upgradable_read_arc(lock)?;
+    drop(ArcRwLockUpgradableReadGuard::try_upgrade_until(guard, 4));
+    watch.saw(&[Lock(Upgradable), TryUpgradeUntil(4), Unlock(Exclusive)]);
+    let reader = RwLock::read_arc(lock)?;
+    let guard = RwLock::upgradable_read_arc(lock)?;
+    drop(ArcRwLockUpgradableReadGuard::try_upgrade(guard));
+    watch.saw(&[
+        Lock(Shared),
+        Lock(Upgradable),
+        TryUpgrade,
+        Unlock(Upgradable),
+    ]);
+    drop(reader);
+    watch.saw(&[Unlock(Shared)]);
+    Ok(())
+}
+
+#[test]
+fn raw_calls_of_transitions_by_an_arc(rt: HostRuntime) -> Result<(), Fail> {
+    let (lock, calls) = watched_rwlock(rt.alloc(), rt, 0)?;
+    let mut watch = Watch::new(rt, calls);
+    let lock = Arc::new(rt.alloc(), lock)?;
+    transitions(&lock, &mut watch)?;
+    timed_upgrades(&lock, &mut watch)?;
+    watch.verdict()
+}
+
+/// Calls under an upgraded guard, whose closure looks at the raw lock, and one that is not made beside a reader.
+fn calls_under_an_upgrade<
+    W: Wait + Drop,
+    R: RawRwLockUpgradeTimed<Duration = u64, Instant = u64> + RawRwLockUpgradeDowngrade + Drop,
+>(lock: &Shareable<R>, watch: &mut Watch<W, RawCall>) -> Result<(), Fault> {
+    let mut guard = RwLock::upgradable_read_arc(lock)?;
+    guard.with_upgraded(|_| lock.is_locked());
+    watch.saw(&[Lock(Upgradable), Upgrade, IsLocked, DowngradeToUpgradable]);
+    guard.try_with_upgraded(|_| lock.is_locked());
+    watch.saw(&[TryUpgrade, IsLocked, DowngradeToUpgradable]);
+    guard.try_with_upgraded_for(3, |_| lock.is_locked());
+    watch.saw(&[TryUpgradeFor(3), IsLocked, DowngradeToUpgradable]);
+    guard.try_with_upgraded_until(4, |_| lock.is_locked());
+    watch.saw(&[TryUpgradeUntil(4), IsLocked, DowngradeToUpgradable]);
+    let reader = RwLock::read_arc(lock)?;
+    guard.try_with_upgraded(|_| lock.is_locked());
+    watch.saw(&[Lock(Shared), TryUpgrade]);
+    drop(reader);
+    watch.saw(&[Unlock(Shared)]);
+    Ok(())
+}
+
+#[test]
+fn raw_calls_under_an_upgrade_by_an_arc(rt: HostRuntime) -> Result<(), Fail> {
+    let (lock, calls) = watched_rwlock(rt.alloc(), rt, 0)?;
+    let mut watch = Watch::new(rt, calls);
+    let lock = Arc::new(rt.alloc(), lock)?;
+    calls_under_an_upgrade(&lock, &mut watch)?;
+    watch.verdict()
+}

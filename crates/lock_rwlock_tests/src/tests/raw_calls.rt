@@ -1,0 +1,244 @@
+//! What the raw lock is asked, call by call, where guards borrow the lock.
+use super::watched_rwlock;
+use lock_base::machine::Mode::{self, Exclusive, Shared, Upgradable};
+use lock_guard::guard::AcquireFair;
+use lock_guard::raw::{
+    RawRwLock, RawRwLockFair, RawRwLockTimed, RawRwLockUpgrade, RawRwLockUpgradeDowngrade,
+    RawRwLockUpgradeFair, RawRwLockUpgradeTimed,
+};
+use lock_rwlock::{
+    MappedRwLockReadGuard, MappedRwLockWriteGuard, RwLock, RwLockGuard, RwLockReadGuard,
+    RwLockUpgradableReadGuard, RwLockWriteGuard,
+};
+use lock_test_support::project::{Item0, Nth};
+use lock_test_support::raw_lock::RawCall::{
+    self, Bump, Downgrade, DowngradeToUpgradable, DowngradeUpgradable, IsLocked, IsLockedExclusive,
+    Lock, TryLock, TryLockFor, TryLockUntil, TryUpgrade, TryUpgradeFor, TryUpgradeUntil, Unlock,
+    UnlockFair, Upgrade,
+};
+use lock_test_support::raw_lock::{Liar, Watch};
+use std::sync::Wait;
+use std::test::Fail;
+
+/// A pair of numbers behind a lock.
+type Paired<R> = RwLock<R, (u64, u64)>;
+
+fn acquisitions<W: Wait + Drop, R: RawRwLockTimed<Duration = u64, Instant = u64>>(
+    lock: &Paired<R>,
+    watch: &mut Watch<W, RawCall>,
+) {
+    drop(lock.read());
+    watch.saw(&[Lock(Shared), Unlock(Shared)]);
+    drop(lock.try_read());
+    watch.saw(&[TryLock(Shared), Unlock(Shared)]);
+    drop(lock.try_read_for(3));
+    watch.saw(&[TryLockFor(Shared, 3), Unlock(Shared)]);
+    drop(lock.try_read_until(4));
+    watch.saw(&[TryLockUntil(Shared, 4), Unlock(Shared)]);
+    drop(lock.write());
+    watch.saw(&[Lock(Exclusive), Unlock(Exclusive)]);
+    drop(lock.try_write());
+    watch.saw(&[TryLock(Exclusive), Unlock(Exclusive)]);
+    drop(lock.try_write_for(3));
+    watch.saw(&[TryLockFor(Exclusive, 3), Unlock(Exclusive)]);
+    drop(lock.try_write_until(4));
+    watch.saw(&[TryLockUntil(Exclusive, 4), Unlock(Exclusive)]);
+    lock.is_locked();
+    lock.is_locked_exclusive();
+    watch.saw(&[IsLocked, IsLockedExclusive]);
+}
+
+fn upgradable_acquisitions<W: Wait + Drop, R: RawRwLockUpgradeTimed<Duration = u64, Instant = u64>>(
+    lock: &Paired<R>,
+    watch: &mut Watch<W, RawCall>,
+) {
+    drop(lock.upgradable_read());
+    watch.saw(&[Lock(Upgradable), Unlock(Upgradable)]);
+    drop(lock.try_upgradable_read());
+    watch.saw(&[TryLock(Upgradable), Unlock(Upgradable)]);
+    drop(lock.try_upgradable_read_for(3));
+    watch.saw(&[TryLockFor(Upgradable, 3), Unlock(Upgradable)]);
+    drop(lock.try_upgradable_read_until(4));
+    watch.saw(&[TryLockUntil(Upgradable, 4), Unlock(Upgradable)]);
+}
+
+#[test]
+fn raw_calls_of_acquisitions(rt: HostRuntime) -> Result<(), Fail> {
+    let (lock, calls) = watched_rwlock(rt.alloc(), rt, (0, 0))?;
+    let mut watch = Watch::new(rt, calls);
+    acquisitions(&lock, &mut watch);
+    upgradable_acquisitions(&lock, &mut watch);
+    watch.verdict()
+}
+
+/// What a guard of the mode, which was just acquired, can do whatever its mode.
+fn calls_of_a_guard<W: Wait + Drop, R: RawRwLock, L: AcquireFair>(
+    lock: &Paired<R>,
+    guard: RwLockGuard<L>,
+    mode: Mode,
+    watch: &mut Watch<W, RawCall>,
+) {
+    let mut guard = guard;
+    RwLockGuard::bump(&mut guard);
+    watch.saw(&[Lock(mode), Bump(mode)]);
+    RwLockGuard::unlocked(&mut guard, || lock.is_locked());
+    watch.saw(&[Unlock(mode), IsLocked, Lock(mode)]);
+    RwLockGuard::unlocked_fair(&mut guard, || lock.is_locked());
+    watch.saw(&[UnlockFair(mode), IsLocked, Lock(mode)]);
+    RwLockGuard::unlock_fair(guard);
+    watch.saw(&[UnlockFair(mode)]);
+}
+
+#[test]
+fn raw_calls_of_guards(rt: HostRuntime) -> Result<(), Fail> {
+    let (lock, calls) = watched_rwlock(rt.alloc(), rt, (0, 0))?;
+    let mut watch = Watch::new(rt, calls);
+    calls_of_a_guard(&lock, lock.read(), Shared, &mut watch);
+    calls_of_a_guard(&lock, lock.write(), Exclusive, &mut watch);
+    calls_of_a_guard(&lock, lock.upgradable_read(), Upgradable, &mut watch);
+    watch.verdict()
+}
+
+/// Up, and down to each lower mode.
+fn transitions<W: Wait + Drop, R: RawRwLockUpgradeDowngrade>(
+    lock: &Paired<R>,
+    watch: &mut Watch<W, RawCall>,
+) {
+    drop(RwLockWriteGuard::downgrade(lock.write()));
+    watch.saw(&[Lock(Exclusive), Downgrade, Unlock(Shared)]);
+    let guard = RwLockWriteGuard::downgrade_to_upgradable(lock.write());
+    watch.saw(&[Lock(Exclusive), DowngradeToUpgradable]);
+    drop(RwLockUpgradableReadGuard::downgrade(guard));
+    watch.saw(&[DowngradeUpgradable, Unlock(Shared)]);
+    drop(RwLockUpgradableReadGuard::upgrade(lock.upgradable_read()));
+    watch.saw(&[Lock(Upgradable), Upgrade, Unlock(Exclusive)]);
+    drop(RwLockUpgradableReadGuard::try_upgrade(lock.upgradable_read()));
+    watch.saw(&[Lock(Upgradable), TryUpgrade, Unlock(Exclusive)]);
+}
+
+fn timed_upgrades<W: Wait + Drop, R: RawRwLockUpgradeTimed<Duration = u64, Instant = u64>>(
+    lock: &Paired<R>,
+    watch: &mut Watch<W, RawCall>,
+) {
+    drop(RwLockUpgradableReadGuard::try_upgrade_for(lock.upgradable_read(), 3));
+    watch.saw(&[Lock(Upgradable), TryUpgradeFor(3), Unlock(Exclusive)]);
+    drop(RwLockUpgradableReadGuard::try_upgrade_until(lock.upgradable_read(), 4));
+    watch.saw(&[Lock(Upgradable), TryUpgradeUntil(4), Unlock(Exclusive)]);
+}
+
+/// Upgrades that are refused beside a reader.
+fn refused_upgrades<W: Wait + Drop, R: RawRwLockUpgradeTimed<Duration = u64, Instant = u64>>(
+    lock: &Paired<R>,
+    watch: &mut Watch<W, RawCall>,
+) {
+    let reader = lock.read();
+    watch.saw(&[Lock(Shared)]);
+    drop(RwLockUpgradableReadGuard::try_upgrade(lock.upgradable_read()));
+    watch.saw(&[Lock(Upgradable), TryUpgrade, Unlock(Upgradable)]);
+    drop(RwLockUpgradableReadGuard::try_upgrade_for(lock.upgradable_read(), 3));
+    watch.saw(&[Lock(Upgradable), TryUpgradeFor(3), Unlock(Upgradable)]);
+    drop(RwLockUpgradableReadGuard::try_upgrade_until(lock.upgradable_read(), 4));
+    watch.saw(&[Lock(Upgradable), TryUpgradeUntil(4), Unlock(Upgradable)]);
+    drop(reader);
+    watch.saw(&[Unlock(Shared)]);
+}
+
+#[test]
+fn raw_calls_of_transitions(rt: HostRuntime) -> Result<(), Fail> {
+    let (lock, calls) = watched_rwlock(rt.alloc(), rt, (0, 0))?;
+    let mut watch = Watch::new(rt, calls);
+    transitions(&lock, &mut watch);
+    timed_upgrades(&lock, &mut watch);
+    refused_upgrades(&lock, &mut watch);
+    watch.verdict()
+}
+
+/// Calls under an upgraded guard, and those that are not made beside a reader. The closure looks at the raw lock.
+fn calls_under_an_upgrade<
+    W: Wait + Drop,
+    R: RawRwLockUpgradeTimed<Duration = u64, Instant = u64> + RawRwLockUpgradeDowngrade,
+>(lock: &Paired<R>, watch: &mut Watch<W, RawCall>) {
+    let mut guard = lock.upgradable_read();
+    guard.with_upgraded(|_| lock.is_locked());
+    watch.saw(&[Lock(Upgradable), Upgrade, IsLocked, DowngradeToUpgradable]);
+    guard.try_with_upgraded(|_| lock.is_locked());
+    watch.saw(&[TryUpgrade, IsLocked, DowngradeToUpgradable]);
+    guard.try_with_upgraded_for(3, |_| lock.is_locked());
+    watch.saw(&[TryUpgradeFor(3), IsLocked, DowngradeToUpgradable]);
+    guard.try_with_upgraded_until(4, |_| lock.is_locked());
+    watch.saw(&[TryUpgradeUntil(4), IsLocked, DowngradeToUpgradable]);
+    let reader = lock.read();
+    guard.try_with_upgraded(|_| lock.is_locked());
+    guard.try_with_upgraded_for(3, |_| lock.is_locked());
+    guard.try_with_upgraded_until(4, |_| lock.is_locked());
+    watch.saw(&[
+        Lock(Shared),
+        TryUpgrade,
+        TryUpgradeFor(3),
+        TryUpgradeUntil(4),
+    ]);
+    drop(reader);
+    watch.saw(&[Unlock(Shared)]);
+}
+
+#[test]
+fn raw_calls_under_an_upgrade(rt: HostRuntime) -> Result<(), Fail> {
+    let (lock, calls) = watched_rwlock(rt.alloc(), rt, (0, 0))?;
+    let mut watch = Watch::new(rt, calls);
+    calls_under_an_upgrade(&lock, &mut watch);
+    watch.verdict()
+}
+
+fn calls_of_mapped_guards<W: Wait + Drop, R: RawRwLockFair>(
+    lock: &Paired<R>,
+    watch: &mut Watch<W, RawCall>,
+) {
+    drop(RwLockReadGuard::map(lock.read(), Item0));
+    watch.saw(&[Lock(Shared), Unlock(Shared)]);
+    MappedRwLockReadGuard::unlock_fair(RwLockReadGuard::map(lock.read(), Item0));
+    watch.saw(&[Lock(Shared), UnlockFair(Shared)]);
+    drop(RwLockReadGuard::try_map(lock.read(), Nth(2)));
+    watch.saw(&[Lock(Shared), Unlock(Shared)]);
+    drop(RwLockWriteGuard::map(lock.write(), Item0));
+    watch.saw(&[Lock(Exclusive), Unlock(Exclusive)]);
+    MappedRwLockWriteGuard::unlock_fair(RwLockWriteGuard::map(lock.write(), Item0));
+    watch.saw(&[Lock(Exclusive), UnlockFair(Exclusive)]);
+    drop(RwLockWriteGuard::try_map_or_err(lock.write(), Nth(2)));
+    watch.saw(&[Lock(Exclusive), Unlock(Exclusive)]);
+}
+
+#[test]
+fn raw_calls_of_mapped_guards(rt: HostRuntime) -> Result<(), Fail> {
+    let (lock, calls) = watched_rwlock(rt.alloc(), rt, (0, 0))?;
+    let mut watch = Watch::new(rt, calls);
+    calls_of_mapped_guards(&lock, &mut watch);
+    watch.verdict()
+}
+
+fn bumps_by_default<R: RawRwLockUpgradeFair>(raw: &R) {
+    raw.unlock_shared(raw.bump_shared(raw.lock_shared()));
+    raw.unlock_exclusive(raw.bump_exclusive(raw.lock_exclusive()));
+    raw.unlock_upgradable(raw.bump_upgradable(raw.lock_upgradable()));
+}
+
+#[test]
+fn a_bump_by_default_is_a_fair_unlock_and_a_lock(rt: HostRuntime) -> Result<(), Fail> {
+    let raw: Liar<HostRuntime> = RawRwLock::new(rt.alloc(), rt, 1)?;
+    let mut watch = Watch::new(rt, raw.calls()?);
+    bumps_by_default(&raw);
+    watch.saw(&[
+        Lock(Shared),
+        UnlockFair(Shared),
+        Lock(Shared),
+        Unlock(Shared),
+        Lock(Exclusive),
+        UnlockFair(Exclusive),
+        Lock(Exclusive),
+        Unlock(Exclusive),
+        Lock(Upgradable),
+        UnlockFair(Upgradable),
+        Lock(Upgradable),
+        Unlock(Upgradable),
+    ]);
+    watch.verdict()
+}

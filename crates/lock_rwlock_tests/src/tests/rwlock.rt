@@ -1,0 +1,171 @@
+//! The reader-writer lock, over a table of tokens and over a raw lock that lies.
+use lock_base::raw::Fault;
+use lock_guard::raw::RawRwLock;
+use lock_raws::TokenRaw;
+use lock_rwlock::{RwLock, RwLockReadGuard, RwLockUpgradableReadGuard, RwLockWriteGuard};
+use lock_test_support::answer::{debug_is, holds_or_lacks_memory, texts_are};
+use lock_test_support::raw_lock::Liar;
+use lock_test_support::{Count, add_in_four_threads};
+use std::cell::Cell;
+use std::sync::atomic::{AtomicBool, Ordering};
+use std::test::Fail;
+use std::thread;
+
+/// A number behind an honest raw lock.
+type Shared = RwLock<TokenRaw<HostRuntime>, u64>;
+
+/// A lock that threads count behind.
+#[derive(Drop)]
+struct Counted<'a, R>(&'a RwLock<R, u64>);
+
+impl<R: RawRwLock> Count for Counted<'_, R> {
+    type Waiter = R::Waiter;
+
+    fn add_one(&self) {
+        let mut count = self.0.write();
+        *count = count.wrapping_add(1);
+    }
+}
+
+#[test]
+fn four_threads_count_over_an_honest_raw_rwlock(rt: HostRuntime) -> Result<(), Fail> {
+    let counter = Shared::new(rt.alloc(), rt, 0)?;
+    add_in_four_threads(&rt, &Counted(&counter));
+    assert_eq!(rt; counter.into_inner(), 4_000);
+    Ok(())
+}
+
+#[test]
+fn four_threads_count_over_a_lying_raw_rwlock(rt: HostRuntime) -> Result<(), Fail> {
+    let counter: RwLock<Liar<HostRuntime>, u64> = RwLock::new(rt.alloc(), rt, 0)?;
+    add_in_four_threads(&rt, &Counted(&counter));
+    assert_eq!(rt; counter.into_inner(), 4_000);
+    Ok(())
+}
+
+#[test]
+fn a_refused_upgrade_calls_no_closure(rt: HostRuntime) -> Result<(), Fail> {
+    let lock = Shared::new(rt.alloc(), rt, 1)?;
+    let mut guard = lock.upgradable_read();
+    let reader = lock.read();
+    let calls = Cell::new(0u64);
+    let answer = guard.try_with_upgraded(|value| {
+        calls.set(calls.get().wrapping_add(1));
+        *value = 9;
+    });
+    assert_eq!(rt; answer, None);
+    assert_eq!(rt; calls.get(), 0);
+    assert_eq!(rt; *guard, 1);
+    drop(reader);
+    assert!(rt; RwLockUpgradableReadGuard::rwlock(&guard).is_locked());
+    assert_eq!(rt; *RwLockUpgradableReadGuard::upgrade(guard), 1);
+    Ok(())
+}
+
+#[test]
+fn a_guard_is_of_its_lock(rt: HostRuntime) -> Result<(), Fail> {
+    let lock = Shared::new(rt.alloc(), rt, 1)?;
+    let reader = lock.read();
+    assert!(rt; !RwLockReadGuard::rwlock(&reader).is_locked_exclusive());
+    drop(reader);
+    let writer = lock.write();
+    assert!(rt; RwLockWriteGuard::rwlock(&writer).is_locked_exclusive());
+    drop(writer);
+    Ok(())
+}
+
+/// Raises a flag while it reads, and looks for the other's. One thread alone never sees it.
+fn sees_the_other<R: RawRwLock>(
+    lock: &RwLock<R, u64>,
+    mine: &AtomicBool,
+    other: &AtomicBool,
+) -> bool {
+    let _guard = lock.read();
+    mine.store(true, Ordering::SeqCst);
+    for _ in 0..100_000_000u32 {
+        if other.load(Ordering::SeqCst) {
+            return true;
+        }
+    }
+    false
+}
+
+#[test]
+fn two_readers_hold_at_once(rt: HostRuntime) -> Result<(), Fail> {
+    let lock = Shared::new(rt.alloc(), rt, 0)?;
+    let first = AtomicBool::new(false);
+    let second = AtomicBool::new(false);
+    let seen = thread::join(
+        &rt,
+        || sees_the_other(&lock, &first, &second),
+        || sees_the_other(&lock, &second, &first),
+    );
+    assert_eq!(rt; seen, (true, true));
+    Ok(())
+}
+
+#[test]
+fn refused_memory_rwlock_makers(rt: HostRuntime) {
+    let alloc = rt.alloc();
+    let made = Shared::new(alloc, rt, 5);
+    assert!(rt; holds_or_lacks_memory(made.map(|lock| lock.into_inner()), 5));
+    let made = Shared::from(alloc, rt, 6);
+    assert!(rt; holds_or_lacks_memory(made.map(|lock| lock.into_inner()), 6));
+    let made = Shared::default(alloc, rt);
+    assert!(rt; holds_or_lacks_memory(made.map(|lock| lock.into_inner()), 0));
+    let made = Shared::with_readers(alloc, rt, 1, 7);
+    assert!(rt; holds_or_lacks_memory(made.map(|lock| lock.into_inner()), 7));
+}
+
+#[test]
+fn makers_refuse_limits_out_of_range(rt: HostRuntime) {
+    let alloc = rt.alloc();
+    let none = Shared::with_readers(alloc, rt, 0, 5);
+    assert!(rt; matches!(&none, Err(Fault::BadLimits)));
+    drop(none);
+    let many = Shared::with_readers(alloc, rt, 4_294_967_296, 5);
+    assert!(rt; matches!(&many, Err(Fault::BadLimits)));
+    drop(many);
+}
+
+#[test]
+fn each_acquisition_of_a_free_lock(rt: HostRuntime) -> Result<(), Fail> {
+    let mut lock = Shared::new(rt.alloc(), rt, 4)?;
+    *lock.get_mut() = 5;
+    assert_eq!(rt; *lock.read(), 5);
+    assert!(rt; lock.try_read().is_some());
+    assert!(rt; lock.try_read_for(()).is_some());
+    assert!(rt; lock.try_read_until(()).is_some());
+    assert_eq!(rt; *lock.write(), 5);
+    assert!(rt; lock.try_write().is_some());
+    assert!(rt; lock.try_write_for(()).is_some());
+    assert!(rt; lock.try_write_until(()).is_some());
+    assert_eq!(rt; *lock.upgradable_read(), 5);
+    assert!(rt; lock.try_upgradable_read().is_some());
+    assert!(rt; lock.try_upgradable_read_for(()).is_some());
+    assert!(rt; lock.try_upgradable_read_until(()).is_some());
+    assert!(rt; !lock.is_locked());
+    assert!(rt; !lock.is_locked_exclusive());
+    let (raw, value) = lock.into_inner_with_raw();
+    let lock = Shared::from_raw(raw, value)?;
+    assert_eq!(rt; lock.into_inner(), 5);
+    Ok(())
+}
+
+#[test]
+fn locks_and_guards_print_as_told(rt: HostRuntime) -> Result<(), Fail> {
+    let alloc = rt.alloc();
+    let lock = Shared::new(alloc, rt, 5)?;
+    let reader = lock.read();
+    assert!(rt; debug_is(alloc, &lock, "RwLock { data: 5 }"));
+    assert!(rt; texts_are(alloc, &reader, "5"));
+    drop(reader);
+    let writer = lock.write();
+    assert!(rt; debug_is(alloc, &lock, "RwLock { data: <locked> }"));
+    assert!(rt; texts_are(alloc, &writer, "5"));
+    drop(writer);
+    let upgradable = lock.upgradable_read();
+    assert!(rt; debug_is(alloc, &lock, "RwLock { data: 5 }"));
+    assert!(rt; texts_are(alloc, &upgradable, "5"));
+    Ok(())
+}

@@ -1,0 +1,164 @@
+-- Each kind of step of a seat keeps the rule of the table, by the lemma of that kind of step.
+use Rattle.std.proofs.Common.{◌≡◌, ℕ, zero, suc, ◌+◌, ◌-◌, ◌%◌, ◌^◌, ◌<◌, ◌≤◌, inl, inr, List, [], ◌∷◌, set, get_or, slice_get, slice_set, slice_index, Some, IsTrue, refl, sym, ap, subst, ◌∙◌, arith, eqb, length-set, get_or-set_same}
+use Rattle.std.proofs.lemmas.List.{map-set, map-append}
+use Rattle.std.proofs.lemmas.Option.{slice_get-map}
+use mathlib.Core.Option.{some, none}
+use lib.ListN.{get_elem?}
+use prog.Atomic.{either}
+use Rattle.atomic_table.specs.Table.{State, Act, step, keeps, stepped, carried_after, Valid, Allows, Splits}
+use Rattle.atomic_table.proofs.Lists.{at_set, at_snoc, set_again, exchanged}
+use Rattle.lock_base.specs.Limits.{IsLimit}
+use Rattle.lock_base.specs.Modes.{tokens}
+use Rattle.lock_base.specs.ModeRuns.{has}
+use Rattle.lock_word.specs.declared.want.ExWant.{ExWant}
+use Rattle.lock_word.specs.declared.down.Down.{Down}
+use Rattle.lock_word.specs.declared.party.PartyState.{PartyState}
+use Rattle.lock_word.specs.Word.{word_admits, word_after, amount, step_of_want, step_of_down}
+use Rattle.lock_word.specs.Turns.{won, lost}
+use Rattle.lock_word.specs.Rule.{KeepsRule, held_by_all}
+use Rattle.lock_word.proofs.Holders.{Has_from_test}
+use Rattle.lock_word.proofs.Words.{parts_of_word}
+use Rattle.lock_word.proofs.Rules.{keeps_load, keeps_lost, keeps_exchange, keeps_take, keeps_newcomer, amount_within, part_of_parties, shows}
+use Rattle.lock_seated.specs.declared.rule.View.{View}
+use Rattle.lock_seated.specs.Seats.{beside, parties_of, IsKept}
+use Rattle.lock_seated.specs.Plays.{Self, after_load, Loads, Exchanges, Takes}
+
+-- the view of a seat, in the words of std
+seat_at : {A : Type 0} (xs : List A) (k : ℕ) (x : A) → get_elem? xs k ≡ some x → slice_get xs k ≡ Some x
+seat_at [] k x h = cc
+seat_at (y ∷ xs) zero x h = cc
+seat_at (y ∷ xs) (suc k) x h = seat_at xs k x h
+
+party_at : (views : List View) (k : ℕ) (v : View) → get_elem? views k ≡ some v → slice_get (parties_of views) k ≡ Some v.state
+party_at views k v h = rw (slice_get-map (λ (x : View). x.state) views k, seat_at views k v h)
+
+-- a step of the seat at id that leaves the word n and the view v
+left : (limit id n : ℕ) (s : State (Unit {0}) View) (v : View) → IsKept limit s → v.readers ≡ limit
+    → KeepsRule limit n (slice_set (parties_of s.views) id v.state)
+    → IsKept limit record { words = slice_set s.words 0 n; homes = s.homes; views = slice_set s.views id v }
+left limit id n s v kept readers rule =
+    let one = kept.one_word in
+    let is : get_or (set s.words 0 n) 0 0 ≡ n = get_or-set_same s.words 0 n 0 (omega arith) in
+    record {
+      one_word = length-set s.words 0 n ∙ kept.one_word;
+      range = kept.range;
+      known = λ k w h.
+          elim (at_set s.views id k v w h) [
+            | inl e ↦ sym (ap (λ (x : View). x.readers) e.1) ∙ readers
+            | inr e ↦ kept.known k w e.1
+          ];
+      rule = rw is (rw (map-set (λ (x : View). x.state) s.views id v) rule);
+    }
+
+pub loads : (limit slots id : ℕ) (me : Self)
+    → Allows (IsKept limit) slots id me 0 (λ n. n) (Loads (step slots 0 0 0 none) me)
+loads limit slots id me s kept same at small =
+    let word = slice_index s.words 0 in
+    let there = party_at s.views id me.0 at in
+    let readers = kept.known id me.0 at in (
+      after_load me.0 word,
+      keeps,
+      tt,
+      left limit id word s (after_load me.0 word) kept readers
+          (keeps_load limit word (parties_of s.views) id me.0.state kept.rule there),
+      (refl, rw readers (shows limit word (parties_of s.views) id me.0.state kept.range kept.rule there)),
+    )
+
+pub exchanges : (limit slots id : ℕ) (me : Self) (want : ExWant) (old new : ℕ) → me.0.state.loaded ≡ Some old
+    → IsTrue (has me.0.state.held (step_of_want want)) → IsTrue (word_admits limit old want) → new ≡ word_after old want
+    → Allows (IsKept limit) slots id me 0 (λ n. either (eqb n old) new n) (Exchanges want (step slots 0 old new none) me)
+exchanges limit slots id me want old new is_open holds admits is s kept same at small =
+    let word = slice_index s.words 0 in
+    let parties = parties_of s.views in
+    let there = party_at s.views id me.0 at in
+    let readers = kept.known id me.0 at in
+    let has = Has_from_test me.0.state.held (step_of_want want) holds in
+    exchanged word old new
+    (λ n. (w : View) × (a : Act (Unit {0})) × Valid s.homes me.1 a × IsKept limit (stepped s 0 n id me.1 w a)
+    × Exchanges want (step slots 0 old new none) me word (w, carried_after me.1 a))
+    (λ hit.
+    let v : View = record me.0 { state = won me.0.state (step_of_want want) } in
+    let here : IsTrue (word_admits limit word want) = subst (λ n. IsTrue (word_admits limit n want)) (sym hit) admits in
+    let rule = keeps_exchange limit word parties id me.0.state want kept.range kept.rule there has here in
+    let next : word_after word want ≡ new = ap (λ n. word_after n want) hit ∙ sym is in (
+      v,
+      keeps,
+      tt,
+      left limit id new s v kept readers (subst (λ n. KeepsRule limit n (slice_set parties id v.state)) next rule),
+      ((λ h. refl), (λ miss. absurd (miss hit))),
+    ))
+    (λ miss.
+    let v : View = record me.0 { state = lost me.0.state } in
+    let rule = keeps_lost limit word parties id old me.0.state kept.rule there is_open miss in
+    (v, keeps, tt, left limit id word s v kept readers rule, ((λ hit. absurd (miss hit)), (λ h. refl))))
+
+-- what a subtraction of the table comes to
+subtracted : (n k : ℕ) → k ≤ n → n < 18446744073709551616 → n - k ≡ (n + (2 ^ 64 - k)) % 2 ^ 64
+subtracted n k room small = omega arith
+
+-- what one party holds is little
+few_held : (limit word : ℕ) (ps : List PartyState) (k : ℕ) (me : PartyState) → IsLimit limit → KeepsRule limit word ps
+    → slice_get ps k ≡ Some me → tokens me.held < 2 ^ 63
+few_held limit word ps k me range rule at =
+    let part = part_of_parties ps k me at in
+    let parts = parts_of_word limit (held_by_all ps) range.1 rule.legal in
+    let small = parts.small in
+    omega arith
+
+pub takes : (limit slots id : ℕ) (me : Self) (down : Down) (k : ℕ) → IsTrue (has me.0.state.held (step_of_down down))
+    → k ≡ amount down
+    → Allows (IsKept limit) slots id me 0 (λ n. (n + (2 ^ 64 - k)) % 2 ^ 64) (Takes down (step slots 0 k 0 none) me)
+takes limit slots id me down k holds is s kept same at small =
+    let word = slice_index s.words 0 in
+    let parties = parties_of s.views in
+    let there = party_at s.views id me.0 at in
+    let readers = kept.known id me.0 at in
+    let has = Has_from_test me.0.state.held (step_of_down down) holds in
+    let v : View = record me.0 { state = won me.0.state (step_of_down down) } in
+    let within = amount_within limit word parties id me.0.state down kept.rule there has in
+    let next : word - amount down ≡ (word + (2 ^ 64 - k)) % 2 ^ 64
+    = ap (λ (j : ℕ). word - j) (sym is) ∙ subtracted word k (omega arith) small in
+    let rule = keeps_take limit word parties id me.0.state down kept.range kept.rule there has in (
+      v,
+      keeps,
+      tt,
+      left limit id ((word + (2 ^ 64 - k)) % 2 ^ 64) s v kept readers
+          (subst (λ n. KeepsRule limit n (slice_set parties id v.state)) next rule),
+      (refl, few_held limit word parties id me.0.state kept.range kept.rule there),
+    )
+
+pub parts : (limit id : ℕ) (v : View) → Splits (IsKept limit) id v v (beside v)
+parts limit id v s kept at =
+    let again : set s.views id v ≡ s.views = set_again s.views id v at in
+    let word = slice_index s.words 0 in
+    let longer = keeps_newcomer limit word (parties_of s.views) kept.rule in
+    let readers = kept.known id v at in
+    rw again record {
+      one_word = kept.one_word;
+      range = kept.range;
+      known = λ k w h.
+          elim (at_snoc s.views (beside v) w k h) [
+            | inl e ↦ kept.known k w e
+            | inr e ↦ sym (ap (λ (x : View). x.readers) e) ∙ readers
+          ];
+      rule = rw (map-append (λ (x : View). x.state) s.views (beside v ∷ [])) longer;
+    }
+
+-- the same, where the limit and the kind are known by equations
+
+pub exchanges_as : (key limit slots id : ℕ) (me : Self) (kind want : ExWant) (old new : ℕ) → limit ≡ key → want ≡ kind
+    → me.0.state.loaded ≡ Some old → IsTrue (has me.0.state.held (step_of_want want)) → IsTrue (word_admits limit old want)
+    → new ≡ word_after old want
+    → Allows (IsKept key) slots id me 0 (λ n. either (eqb n old) new n) (Exchanges kind (step slots 0 old new none) me)
+exchanges_as key limit slots id me kind want old new same_limit same_want is_open holds admits is =
+    exchanges key slots id me kind old new is_open
+    (subst (λ (w : ExWant). IsTrue (has me.0.state.held (step_of_want w))) same_want holds)
+    (subst (λ (t : ℕ × ExWant). IsTrue (word_admits t.0 old t.1)) (λ i. (same_limit i, same_want i)) admits)
+    (is ∙ ap (word_after old) same_want)
+
+pub takes_as : (limit slots id : ℕ) (me : Self) (kind down : Down) (k : ℕ) → down ≡ kind
+    → IsTrue (has me.0.state.held (step_of_down down)) → k ≡ amount down
+    → Allows (IsKept limit) slots id me 0 (λ n. (n + (2 ^ 64 - k)) % 2 ^ 64) (Takes kind (step slots 0 k 0 none) me)
+takes_as limit slots id me kind down k same_down holds is =
+    takes limit slots id me kind k (subst (λ (d : Down). IsTrue (has me.0.state.held (step_of_down d))) same_down holds)
+    (is ∙ ap amount same_down)

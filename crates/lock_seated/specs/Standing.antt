@@ -1,0 +1,34 @@
+-- What contracts see of a lock and of a party.
+use Rattle.std.specs.Prelude.{ℕ, ◌+◌}
+use Rattle.atomic_table.specs.Seated.{TableId}
+use Rattle.lock_base.specs.declared.machine.mode_step.ModeStep.{ModeStep}
+use Rattle.lock_word.specs.declared.party.PartyState.{PartyState}
+use Rattle.lock_word.specs.Turns.{idle, with_load, won, lost}
+
+-- a lock: which one it is, and how many may read
+pub record Lock : Type 0 where
+  pub id : TableId
+  pub readers : ℕ
+
+-- a party: its lock, the number of its seat, its state, and how often it loaded the word
+pub record Standing : Type 0 where
+  pub lock : Lock
+  pub number : ℕ
+  pub state : PartyState
+  pub loads : ℕ
+
+-- a party that has done nothing yet
+abbrev pub new_party : Lock → ℕ → Standing
+new_party lock number = record { lock = lock; number = number; state = idle; loads = 0 }
+
+-- the party once it has loaded this word
+abbrev pub loaded : Standing → ℕ → Standing
+loaded party word = record party { state = with_load party.state word; loads = party.loads + 1 }
+
+-- the party once a step of its own has changed its modes
+abbrev pub won_by : Standing → ModeStep → Standing
+won_by party step = record party { state = won party.state step }
+
+-- the party once its exchange found another word
+abbrev pub lost_by : Standing → Standing
+lost_by party = record party { state = lost party.state }

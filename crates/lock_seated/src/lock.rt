@@ -1,0 +1,217 @@
+//! The lock itself.
+ghost use Rattle.std.specs.Prelude.{◌≡◌, ◌≢◌, ◌↔◌, ◌+◌, ◌<◌, ◌^◌, Some, IfOk, IfErr, OnOk, IsTrue};
+ghost use Rattle.lock_base.specs.Limits.{IsLimit, IsMakerFault};
+ghost use Rattle.lock_base.specs.Modes.{count_of, tokens};
+ghost use Rattle.lock_base.specs.ModeRuns.{has};
+ghost use Rattle.lock_word.specs.Word.{word_admits, word_after, step_of_want, step_of_down, down_of_mode};
+ghost use Rattle.lock_word.specs.Turns.{won, lost};
+ghost use Rattle.lock_word.specs.Rule.{Shows};
+ghost use Rattle.lock_seated.specs.Standing.{new_party, loaded, won_by};
+ghost use Rattle.lock_seated.specs.Calls.{Attempted, Acquired};
+
+use crate::attempt::Attempt;
+use crate::party::Party;
+use crate::plays::{
+    DownToShared, DownToUpgradable, DownUpgradableToShared, Look, OffExclusive, OffShared,
+    OffUpgradable, ToExclusive, ToShared, ToUpgradable, Upgrade,
+};
+use crate::rule::{Apart, Rule, View};
+use atomic_table::{Seat, Table};
+use lock_base::machine::{Bag, Mode};
+use lock_base::raw::{Fault, is_limit};
+use lock_word::{Down, ExWant};
+use std::alloc::Global;
+use std::hint::spin_loop;
+use std::marker::Model;
+use std::sync::Wait;
+use std::thread;
+
+/// How often a call that waits spins before it yields its thread.
+const SPINS: u32 = 64;
+
+/// A reader-writer lock of one atomic word: the readers, 2^32 for an upgradable hold and 2^33 for an exclusive one.
+#[derive(Drop)]
+pub struct SeatedLock {
+    table: Table<(), View, u64, Rule, Global>,
+    readers: u64,
+}
+
+impl Model for SeatedLock {
+    ghost use Rattle.std.specs.Prelude.{◌≡◌};
+    ghost use Rattle.lock_base.specs.Limits.{IsLimit};
+    ghost use Rattle.lock_seated.specs.Standing.{Lock};
+
+    ghost Value = { Lock };
+
+    ghost view = { λ l. record { id = l.table.shared.table_id; readers = l.readers } };
+
+    ghost invariant = { λ l. (l.table.shared.table_id.words ≡ 1) × (l.table.shared.key ≡ l.readers) × IsLimit l.readers };
+}
+
+impl SeatedLock {
+    /// A free lock for at most so many readers, and the first party, which holds nothing. No other call takes memory.
+    pub fn new(alloc: Global, readers: u64) -> Result<(SeatedLock, Party), Fault>
+        ensures limits { (result ≡ Err Fault.BadLimits) ↔ (IsLimit readers → ⊥) }
+        ensures in_range { OnOk result (IsLimit readers) }
+        ensures fault { IfErr result IsMakerFault }
+        ensures readers { IfOk result (λ made. made.0.readers ≡ readers) }
+        ensures party { IfOk result (λ made. made.1 ≡ new_party made.0 0) }
+    {
+        if !is_limit(readers) {
+            return Err(Fault::BadLimits);
+        }
+        let Ok((table, seat)) = Table::of_words(alloc, &[0], &readers) else {
+            return Err(Fault::OutOfMemory);
+        };
+        let held = Bag::empty();
+        Ok((SeatedLock { table, readers }, Party { seat, held }))
+    }
+
+    /// The first keeps everything, and the second holds nothing and has counts of zero.
+    pub fn split(&self, party: Party) -> (Party, Party)
+        requires { party.lock ≡ self.now }
+        ensures first { result.0 ≡ party }
+        ensures second { result.1 ≡ new_party self.now result.1.number }
+    {
+        let Party { mut seat, held } = party;
+        let other = self.table.shared.split_seat::<Apart>(&mut seat);
+        let second = Party {
+            seat: other,
+            held: Bag::empty(),
+        };
+        (Party { seat, held }, second)
+    }
+
+    /// Reads the word, which is then the party's open load. It is the word of all that is held now, the party's own
+    /// among it.
+    pub fn load(&self, party: &mut Party) -> u64
+        requires { party.old.lock ≡ self.now }
+        ensures party { party.new ≡ loaded party.old result }
+        ensures shows { Shows self.now.readers result party.old.state.held }
+    {
+        self.table.shared.load::<Look>(&mut party.seat, 0)
+    }
+
+    /// One load, and then at most one exchange.
+    pub fn attempt(&self, party: &mut Party, want: ExWant) -> Attempt
+        requires lock { party.old.lock ≡ self.now }
+        requires has { IsTrue (has party.old.state.held (step_of_want want)) }
+        ensures { Attempted want party.old result party.new }
+    {
+        let word = self.load(party);
+        let Some(next) = want.exchanged(self.readers, word) else {
+            return Attempt::NotAdmitted(word);
+        };
+        if self.exchange(&mut party.seat, want, word, next) != word {
+            return Attempt::Changed;
+        }
+        party.held = party.held.after(want.step());
+        Attempt::Done
+    }
+
+    /// Attempts until it is done. Between two attempts it spins, and after a while it yields the thread.
+    pub fn acquire<R: Wait>(&self, rt: &R, party: &mut Party, want: ExWant)
+        requires lock { party.old.lock ≡ self.now }
+        requires has { IsTrue (has party.old.state.held (step_of_want want)) }
+        ensures { Acquired want party.old party.new }
+    {
+        let mut spins = 0;
+        for _ in rt.forever() {
+            if let Attempt::Done = self.attempt(party, want) {
+                return;
+            }
+            if spins < SPINS {
+                spins += 1;
+                spin_loop();
+            } else {
+                thread::yield_now();
+            }
+        }
+        unreachable!()
+    }
+
+    /// Gives one hold back, by one subtraction.
+    pub fn release(&self, party: &mut Party, mode: Mode)
+        requires lock { party.old.lock ≡ self.now }
+        requires holds { 0 < count_of party.old.state.held mode }
+        ensures { party.new ≡ won_by party.old (step_of_down (down_of_mode mode)) }
+    {
+        self.take(party, Down::of_mode(mode));
+    }
+
+    /// An exclusive hold becomes a shared one, by one subtraction.
+    pub fn downgrade(&self, party: &mut Party)
+        requires lock { party.old.lock ≡ self.now }
+        requires holds { 0 < party.old.state.held.exclusive }
+        ensures { party.new ≡ won_by party.old (step_of_down Down.ToShared) }
+    {
+        self.take(party, Down::ToShared);
+    }
+
+    /// An exclusive hold becomes an upgradable one, by one subtraction.
+    pub fn downgrade_to_upgradable(&self, party: &mut Party)
+        requires lock { party.old.lock ≡ self.now }
+        requires holds { 0 < party.old.state.held.exclusive }
+        ensures { party.new ≡ won_by party.old (step_of_down Down.ToUpgradable) }
+    {
+        self.take(party, Down::ToUpgradable);
+    }
+
+    /// An upgradable hold becomes a shared one, by one subtraction.
+    pub fn downgrade_upgradable(&self, party: &mut Party)
+        requires lock { party.old.lock ≡ self.now }
+        requires holds { 0 < party.old.state.held.upgradable }
+        ensures { party.new ≡ won_by party.old (step_of_down Down.UpgradableToShared) }
+    {
+        self.take(party, Down::UpgradableToShared);
+    }
+
+    fn take(&self, party: &mut Party, down: Down)
+        requires lock { party.old.lock ≡ self.now }
+        requires holds { IsTrue (has party.old.state.held (step_of_down down)) }
+        ensures { party.new ≡ won_by party.old (step_of_down down) }
+    {
+        self.subtract(&mut party.seat, down);
+        party.held = party.held.after(down.step());
+    }
+
+    /// One exchange of the word that was loaded last.
+    fn exchange(&self, seat: &mut Seat<(), View>, want: ExWant, word: u64, next: u64) -> u64
+        requires lock { seat.old.table_id ≡ self.now.id }
+        requires load { seat.old.me.0.state.loaded ≡ Some word }
+        requires holds { IsTrue (has seat.old.me.0.state.held (step_of_want want)) }
+        requires admitted { IsTrue (word_admits self.now.readers word want) }
+        requires next { next ≡ word_after word want }
+        ensures seat { (seat.new.table_id ≡ seat.old.table_id) × (seat.new.id ≡ seat.old.id) }
+        ensures done { result ≡ word → seat.new.me ≡ (record seat.old.me.0 { state = won seat.old.me.0.state (step_of_want want) }, seat.old.me.1) }
+        ensures changed { result ≢ word → seat.new.me ≡ (record seat.old.me.0 { state = lost seat.old.me.0.state }, seat.old.me.1) }
+    {
+        let shared = &self.table.shared;
+        match want {
+            ExWant::Shared => shared.compare_exchange::<ToShared>(seat, 0, word, next),
+            ExWant::Exclusive => shared.compare_exchange::<ToExclusive>(seat, 0, word, next),
+            ExWant::Upgradable => shared.compare_exchange::<ToUpgradable>(seat, 0, word, next),
+            ExWant::Upgrade => shared.compare_exchange::<Upgrade>(seat, 0, word, next),
+        }
+    }
+
+    /// One subtraction from the word.
+    fn subtract(&self, seat: &mut Seat<(), View>, down: Down)
+        requires lock { seat.old.table_id ≡ self.now.id }
+        requires holds { IsTrue (has seat.old.me.0.state.held (step_of_down down)) }
+        ensures seat { (seat.new.table_id ≡ seat.old.table_id) × (seat.new.id ≡ seat.old.id) }
+        ensures done { seat.new.me ≡ (record seat.old.me.0 { state = won seat.old.me.0.state (step_of_down down) }, seat.old.me.1) }
+        ensures room { tokens seat.old.me.0.state.held < 2 ^ 63 }
+    {
+        let shared = &self.table.shared;
+        let amount = down.amount();
+        match down {
+            Down::Shared => shared.fetch_sub::<OffShared>(seat, 0, amount),
+            Down::Exclusive => shared.fetch_sub::<OffExclusive>(seat, 0, amount),
+            Down::Upgradable => shared.fetch_sub::<OffUpgradable>(seat, 0, amount),
+            Down::ToShared => shared.fetch_sub::<DownToShared>(seat, 0, amount),
+            Down::ToUpgradable => shared.fetch_sub::<DownToUpgradable>(seat, 0, amount),
+            Down::UpgradableToShared => shared.fetch_sub::<DownUpgradableToShared>(seat, 0, amount),
+        };
+    }
+}

@@ -1,0 +1,6 @@
+//! Projections of pairs.
+mod items;
+mod nth;
+
+pub use items::{Item0, Item1};
+pub use nth::Nth;

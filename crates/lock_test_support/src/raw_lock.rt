@@ -1,0 +1,14 @@
+//! Raw locks of the tests, and the calls that they get.
+mod asked_raw;
+mod asked_rwlock;
+mod calls;
+mod liar;
+mod raw_call;
+mod rwlock_liar;
+mod watch;
+
+pub use asked_raw::AskedRaw;
+pub use calls::Calls;
+pub use liar::Liar;
+pub use raw_call::RawCall;
+pub use watch::Watch;

@@ -1,0 +1,107 @@
+//! A raw lock that writes down what it was asked.
+ghost use Rattle.std.specs.Prelude.{IsOkUnless};
+
+use crate::raw_lock::calls::Calls;
+use crate::raw_lock::raw_call::RawCall;
+use lock_base::machine::Mode;
+use lock_base::raw::Fault;
+use lock_guard::raw::{RawMutex, RawMutexFair, RawMutexTimed};
+use std::alloc::Global;
+
+/// A raw lock, honest or not, and the calls that it got. Times are numbers that it only writes down: a timed try is a
+/// try.
+#[derive(Drop)]
+pub struct AskedRaw<R> {
+    pub(crate) raw: R,
+    pub(crate) calls: Calls<RawCall>,
+}
+
+impl<R> AskedRaw<R> {
+    /// The raw lock, which got no call yet.
+    pub(crate) fn over(alloc: Global, raw: R) -> Result<AskedRaw<R>, Fault>
+    where
+        R: Drop,
+        ensures { IsOkUnless result Fault.OutOfMemory }
+    {
+        let calls = Calls::new(alloc)?;
+        Ok(AskedRaw { raw, calls })
+    }
+
+    /// The calls that it gets.
+    pub fn calls(&self) -> Result<Calls<RawCall>, Fault> {
+        self.calls.another()
+    }
+}
+
+impl<R: RawMutex + Drop> RawMutex for AskedRaw<R> {
+    type Guard = R::Guard;
+
+    type Waiter = R::Waiter;
+
+    fn new(alloc: Global, waiter: R::Waiter) -> Result<AskedRaw<R>, Fault> {
+        AskedRaw::over(alloc, R::new(alloc, waiter)?)
+    }
+
+    fn waiter(&self) -> &R::Waiter {
+        self.raw.waiter()
+    }
+
+    fn lock(&self) -> R::Guard {
+        self.calls
+            .add(self.raw.waiter(), RawCall::Lock(Mode::Exclusive));
+        self.raw.lock()
+    }
+
+    fn try_lock(&self) -> Option<R::Guard> {
+        self.calls
+            .add(self.raw.waiter(), RawCall::TryLock(Mode::Exclusive));
+        self.raw.try_lock()
+    }
+
+    fn unlock(&self, token: R::Guard) {
+        self.calls
+            .add(self.raw.waiter(), RawCall::Unlock(Mode::Exclusive));
+        self.raw.unlock(token);
+    }
+
+    fn is_locked(&self) -> bool {
+        self.calls.add(self.raw.waiter(), RawCall::IsLocked);
+        self.raw.is_locked()
+    }
+}
+
+impl<R: RawMutexFair + Drop> RawMutexFair for AskedRaw<R> {
+    fn unlock_fair(&self, token: R::Guard) {
+        self.calls
+            .add(self.raw.waiter(), RawCall::UnlockFair(Mode::Exclusive));
+        self.raw.unlock_fair(token);
+    }
+
+    fn bump(&self, token: R::Guard) -> R::Guard {
+        self.calls
+            .add(self.raw.waiter(), RawCall::Bump(Mode::Exclusive));
+        self.raw.bump(token)
+    }
+}
+
+impl<R: RawMutex + Drop> RawMutexTimed for AskedRaw<R> {
+    type Duration = u64;
+
+    type Instant = u64;
+
+    fn try_lock_for(&self, timeout: u64) -> Option<R::Guard> {
+        self.calls.add(
+            self.raw.waiter(),
+            RawCall::TryLockFor(Mode::Exclusive, timeout),
+        );
+        self.raw.try_lock()
+    }
+
+    fn try_lock_until(&self, deadline: u64) -> Option<R::Guard> {
+        self.calls.add(
+            self.raw.waiter(),
+            RawCall::TryLockUntil(Mode::Exclusive, deadline),
+        );
+        self.raw.try_lock()
+    }
+}

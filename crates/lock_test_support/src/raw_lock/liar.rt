@@ -1,0 +1,68 @@
+//! A raw lock that admits everything.
+use crate::raw_lock::calls::Calls;
+use crate::raw_lock::raw_call::RawCall;
+use lock_base::machine::Mode;
+use lock_base::raw::Fault;
+use lock_guard::raw::{GuardSend, RawMutex, RawMutexFair};
+use std::alloc::Global;
+use std::clone::Clone;
+use std::sync::Wait;
+
+/// A raw lock that lies: it gives a token to whoever asks. It writes down what it was asked, and has the default bodies
+/// of the raw traits.
+#[derive(Drop)]
+pub struct Liar<W: Wait + Clone + Drop> {
+    waiter: W,
+    calls: Calls<RawCall>,
+}
+
+impl<W: Wait + Clone + Drop> Liar<W> {
+    /// The calls that it gets.
+    pub fn calls(&self) -> Result<Calls<RawCall>, Fault> {
+        self.calls.another()
+    }
+
+    pub(crate) fn asked(&self, call: RawCall) {
+        self.calls.add(&self.waiter, call);
+    }
+}
+
+impl<W: Wait + Clone + Drop> RawMutex for Liar<W> {
+    type Guard = GuardSend;
+
+    type Waiter = W;
+
+    fn new(alloc: Global, waiter: W) -> Result<Liar<W>, Fault> {
+        let calls = Calls::new(alloc)?;
+        Ok(Liar { waiter, calls })
+    }
+
+    fn waiter(&self) -> &W {
+        &self.waiter
+    }
+
+    fn lock(&self) -> GuardSend {
+        self.asked(RawCall::Lock(Mode::Exclusive));
+        GuardSend::new()
+    }
+
+    fn try_lock(&self) -> Option<GuardSend> {
+        self.asked(RawCall::TryLock(Mode::Exclusive));
+        Some(GuardSend::new())
+    }
+
+    fn unlock(&self, _token: GuardSend) {
+        self.asked(RawCall::Unlock(Mode::Exclusive));
+    }
+
+    fn is_locked(&self) -> bool {
+        self.asked(RawCall::IsLocked);
+        false
+    }
+}
+
+impl<W: Wait + Clone + Drop> RawMutexFair for Liar<W> {
+    fn unlock_fair(&self, _token: GuardSend) {
+        self.asked(RawCall::UnlockFair(Mode::Exclusive));
+    }
+}
