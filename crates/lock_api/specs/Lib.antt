@@ -17,7 +17,7 @@ pub use Rattle.lock_base.specs.Then
 pub use Rattle.lock_base_laws.specs.Kept
 pub use Rattle.lock_base_laws.specs.Sound
 pub use Rattle.lock_base_laws.specs.TokenSteps
-pub use Rattle.lock_base_laws.specs.Levels
+pub use Rattle.lock_base_laws.specs.Nesting
 pub use Rattle.lock_base_laws.specs.Numbers
 pub use Rattle.lock_base_laws.specs.Parking
 pub use Rattle.lock_base_laws.specs.Values

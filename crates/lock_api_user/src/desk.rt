@@ -3,11 +3,13 @@ ghost use Rattle.std.specs.Prelude.{◌≡◌, IfOk, IsOkUnless};
 ghost use Rattle.std.specs.Option.{ForNone};
 ghost use Rattle.std.specs.Fn.{FnOnceTakesAtMut};
 ghost use Rattle.lock_api.specs.Closures.{AnswersAndLeaves};
+ghost use Rattle.lock_api.specs.Kept.{is_refusal};
 ghost use Rattle.lock_api.specs.Party.{id_of};
 ghost use Rattle.lock_api.specs.Refusals.{guard_refusal, writing_guard};
 ghost use Rattle.lock_api.specs.Sound.{IsSound};
+ghost use Rattle.lock_api_user.specs.Words.{answer_of};
 
-use lock_api::{Call, Desk, Fault, Op, PartyId, RawState, runs_are_sound};
+use lock_api::{Call, Desk, Fault, Op, PartyId, RawState, Reply, runs_are_sound};
 use std::alloc::Global;
 
 /// Whatever the calls are, what a law says of every run holds of the machine that they lead to.
@@ -45,4 +47,21 @@ pub fn two_places(alloc: Global) -> Result<Vec<u64>, Fault>
     ensures { IsOkUnless result Fault.OutOfMemory }
 {
     Ok(Vec::with_capacity(alloc, 2)?)
+}
+
+/// A refusal, as the laws say it.
+pub fn is_refused<A>(reply: &Reply<A>) -> bool
+    ensures { result ≡ is_refusal reply.now }
+{
+    matches!(reply, Reply::Refused(_))
+}
+
+/// The answer of an operation, by a word of the user's own.
+pub fn answered<A: Copy>(reply: &Reply<A>) -> Option<A>
+    ensures { result ≡ answer_of reply.now }
+{
+    match reply {
+        Reply::Answer(answer) => Some(*answer),
+        _ => None,
+    }
 }

@@ -13,6 +13,7 @@ mod rwlocks;
 mod settings;
 mod signatures;
 mod waits;
+mod word_raws;
 
 pub use entry::Entry;
 pub use settings::{Limit, Settings};

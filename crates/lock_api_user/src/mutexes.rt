@@ -1,8 +1,8 @@
 //! What a caller knows of a mutex.
-ghost use Rattle.std.specs.Prelude.{◌≡◌, Some, IfSome};
+ghost use Rattle.std.specs.Prelude.{◌≡◌, IfSome};
 ghost use Rattle.std.specs.Sync.Mutex.{mutex_guard_value};
-ghost use Rattle.lock_api.specs.Held.{held_value};
-ghost use Rattle.lock_api.specs.MutexGuard.{held_of, IsGuardOf};
+ghost use Rattle.lock_api.specs.MutexGuard.{IsGuardOf};
+ghost use Rattle.lock_api_user.specs.Words.{Shows};
 
 use lock_api::{Mutex, MutexGuard, RawMutex, RawMutexFair};
 
@@ -36,7 +36,7 @@ pub fn read_twice<R: RawMutex>(guard: &MutexGuard<'_, R, u64>) -> (u64, u64)
 
 /// What is written through a guard of the caller's is what it shows.
 pub fn put<R: RawMutex>(guard: &mut MutexGuard<'_, R, u64>, value: u64)
-    ensures { held_value mutex_guard_value (held_of guard.new) ≡ Some value }
+    ensures { Shows mutex_guard_value value guard.new }
 {
     **guard = value;
 }

@@ -1,4 +1,4 @@
-//! Every public type of `lock_api` in a signature.
+//! Every public type of `lock_api` in a signature, but for the raw locks on one word.
 use crate::settings::{Limit, Settings};
 use lock_api::{
     Arbiter, ArcMutexGuard, ArcReentrantMutexGuard, ArcRwLockGuard, ArcRwLockReadGuard,

@@ -1,4 +1,3 @@
-//! A condition variable over any raw one.
 ghost use Rattle.std.specs.Prelude.{◌≡◌, false, IsOkUnless};
 ghost use Rattle.std.specs.Sync.Mutex.{mutex_guard_value};
 ghost use Rattle.lock_mutex.specs.WaitsWhile.{WaitsWhile, has_timed_out};
@@ -149,7 +148,7 @@ where
             (held_value mutex_guard_value (held_of guard.old)) (has_timed_out result)
             (held_value mutex_guard_value (held_of guard.new)) }
     {
-        let mutex = guard.held.lock;
+        let mutex = guard.held.lock.mutex;
         if let Some(deadline) = C::instant_after(&mutex.raw, &timeout) {
             return self.wait_while_until(guard, condition, deadline);
         }

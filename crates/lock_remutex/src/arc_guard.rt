@@ -1,4 +1,3 @@
-//! The guard of one level of a reentrant lock, which it keeps alive.
 ghost use Rattle.std.specs.Prelude.{◌≡◌, ◌↔◌, IfErr, IfOk, IfSome, IsSome, IsTrue, MatchResult};
 ghost use Rattle.lock_base.specs.Party.{id_of};
 ghost use Rattle.lock_remutex.specs.ArcGuards.{arc_of, arc_party, arc_guard_value, IsSameArcGuard};

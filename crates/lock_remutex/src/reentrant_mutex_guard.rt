@@ -1,4 +1,3 @@
-//! The guard of one level of a reentrant lock.
 use crate::reentrant_mutex::ReentrantMutex;
 use lock_base::machine::PartyId;
 use lock_base::raw::Fault;

@@ -254,7 +254,8 @@ where
     P: 'a,
     ensures* writes_back { sem 𝓛 (LendsIf G.row P.Part.row guard.entry result
         (guard_with_part G.value_of G.with_value (P.lens projection.now) guard.old) guard.old) }
-    ensures value { option_copied_mut result ≡ guard_part G.value_of (P.lens projection.now).part guard.old }
+    ensures value { option_copied_mut result
+        ≡ guard_part G.value_of (P.lens projection.now).part guard.old }
 {
     P::get_mut(guard.value_mut(), projection)
 }
