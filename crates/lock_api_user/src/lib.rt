@@ -13,7 +13,7 @@ mod rwlocks;
 mod settings;
 mod signatures;
 mod waits;
-mod word_raws;
+mod words;
 
 pub use entry::Entry;
 pub use settings::{Limit, Settings};

@@ -1,4 +1,4 @@
-//! Every public type of `lock_api` in a signature, but for the raw locks on one word.
+//! Every public type of `lock_api` in a signature, but for those of the packed word.
 use crate::settings::{Limit, Settings};
 use lock_api::{
     Arbiter, ArcMutexGuard, ArcReentrantMutexGuard, ArcRwLockGuard, ArcRwLockReadGuard,
