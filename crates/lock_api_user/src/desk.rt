@@ -1,5 +1,5 @@
 //! What a caller knows of a `Desk`, in the words of its contracts and of the laws.
-ghost use Rattle.std.specs.Prelude.{◌≡◌, IfOk, IsOkUnless};
+ghost use Rattle.std.specs.Prelude.{◌≡◌, None, IfOk, IsOkUnless, IsTrue};
 ghost use Rattle.std.specs.Option.{ForNone};
 ghost use Rattle.std.specs.Fn.{FnOnceTakesAtMut};
 ghost use Rattle.lock_api.specs.Closures.{AnswersAndLeaves};
@@ -49,19 +49,18 @@ pub fn two_places(alloc: Global) -> Result<Vec<u64>, Fault>
     Ok(Vec::with_capacity(alloc, 2)?)
 }
 
-/// A refusal, as the laws say it.
-pub fn is_refused<A>(reply: &Reply<A>) -> bool
-    ensures { result ≡ is_refusal reply.now }
-{
-    matches!(reply, Reply::Refused(_))
-}
-
-/// The answer of an operation, by a word of the user's own.
+/// The answer of an operation, by a word of the user's own. A refusal has none, as the laws say it.
 pub fn answered<A: Copy>(reply: &Reply<A>) -> Option<A>
-    ensures { result ≡ answer_of reply.now }
+    ensures value { result ≡ answer_of reply.now }
+    ensures refused { IsTrue (is_refusal reply.now) → result ≡ None }
 {
     match reply {
+        Reply::Guard(_) => None,
+        Reply::NoGuard => None,
+        Reply::Done => None,
         Reply::Answer(answer) => Some(*answer),
-        _ => None,
+        Reply::Bool(_) => None,
+        Reply::Count(_) => None,
+        Reply::Refused(_) => None,
     }
 }

@@ -56,7 +56,7 @@ impl<L: Acquire> Guard<L> {
 impl<L: AcquireFair> Guard<L> {
     ghost use Rattle.lock_mutex.specs.MutexGuard.{held_of};
 
-    /// Ends the guard, and lets those that wait go first.
+    /// Ends the guard, by a fair release.
     pub fn unlock_fair(guard: Self) {
         guard.held.unlock_fair();
     }
@@ -70,7 +70,7 @@ impl<L: AcquireFair> Guard<L> {
         guard.held.unlocked_fair(f)
     }
 
-    /// Lets those that wait go first, and waits for the mutex again.
+    /// Gives the mutex up by a fair release, and waits for it again.
     pub fn bump(guard: &mut Self)
         ensures { (held_of guard.new).lock ≡ (held_of guard.old).lock }
     {

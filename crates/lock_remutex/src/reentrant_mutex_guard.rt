@@ -92,7 +92,7 @@ where
         ReentrantMutexGuard::lock_again(remutex, party, answer)
     }
 
-    /// Where the party has this level alone, lets those that wait go first, and locks again.
+    /// Where the party has this level alone, gives the raw lock up by a fair release, and locks again.
     pub fn bump(guard: &mut Self)
         ensures { IsSameGuard guard.old guard.new }
     {

@@ -49,7 +49,7 @@ impl<L: Acquire> RwLockGuard<L> {
 impl<L: AcquireFair> RwLockGuard<L> {
     ghost use Rattle.lock_rwlock.specs.RwLockGuard.{held_of};
 
-    /// Ends the guard, and lets those that wait go first.
+    /// Ends the guard, by a fair release.
     pub fn unlock_fair(guard: Self) {
         guard.held.unlock_fair();
     }
@@ -63,7 +63,7 @@ impl<L: AcquireFair> RwLockGuard<L> {
         guard.held.unlocked_fair(f)
     }
 
-    /// Lets those that wait go first, and waits for the lock again.
+    /// Gives the lock up by a fair release, and waits for it again.
     pub fn bump(guard: &mut Self)
         ensures { (held_of guard.new).lock ≡ (held_of guard.old).lock }
     {

@@ -114,7 +114,7 @@ impl<M: LockMode<R>, R: RawRwLock + Drop, T: Drop> ArcRwLockGuard<M, R, T> {
 }
 
 impl<M: FairMode<R>, R: RawRwLock + Drop, T: Drop> ArcRwLockGuard<M, R, T> {
-    /// Ends the guard, and lets those that wait go first.
+    /// Ends the guard, by a fair release.
     pub fn unlock_fair(guard: Self) {
         guard.held.unlock_fair();
     }
@@ -137,7 +137,7 @@ impl<M: FairMode<R>, R: RawRwLock + Drop, T: Drop> ArcRwLockGuard<M, R, T> {
         guard.held.unlocked_fair(f)
     }
 
-    /// Lets those that wait go first, and waits for the lock again.
+    /// Gives the lock up by a fair release, and waits for it again.
     pub fn bump(guard: &mut Self)
         ensures { arc_of guard.new ≡ arc_of guard.old }
     {

@@ -37,7 +37,7 @@ pub trait LockGuardMut: LockGuard {
 
 /// What can hand its lock on in the order of those that wait.
 pub trait LockGuardFair: LockGuard {
-    /// Ends the guard, and lets those that wait go first.
+    /// Ends the guard, by a fair release.
     fn unlock_fair(self);
 }
 

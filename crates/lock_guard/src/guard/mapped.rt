@@ -63,7 +63,7 @@ impl<G: LockGuard, P: TryView<G::Value>> Mapped<G, P> {
         guard.projection.get(guard.guard.value())
     }
 
-    /// Ends the guard, and lets those that wait go first.
+    /// Ends the guard, by a fair release.
     pub fn unlock_fair(guard: Self)
     where
         G: LockGuardFair,
