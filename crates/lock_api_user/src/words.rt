@@ -1,7 +1,7 @@
 //! Every public type of the packed word, and of the locks on one, in a signature.
 use lock_api::{
-    AtomicStep, Attempt, Down, ExWant, NoTime, Outcome, PackedWord, Party, PartyState, PartyView,
-    RawWordToken, RealTime, SeatedLock, SleepingCondvar, TimedCondvar, TimedRaw, Timing, WordCore,
+    AtomicStep, Attempt, Down, ExWant, NoTime, Outcome, PackedToken, PackedWord, Party, PartyState,
+    PartyView, RealTime, SeatedLock, SleepingCondvar, TimedCondvar, TimedRaw, Timing, WordCore,
     WordLock, WordRaw, WordRule, WordToken, World,
 };
 use std::clone::Clone;
@@ -14,7 +14,7 @@ pub fn word_raws<W: Wait + Clone + Drop + Clock, T: Timing<W>>(
     _timed_raw: &TimedRaw<W>,
     _core: &WordCore<W, T>,
     _lock: &WordLock,
-    _token: &RawWordToken,
+    _token: &WordToken,
     _times: (&NoTime, &RealTime),
     _condvars: (&SleepingCondvar<WordRaw<W>>, &TimedCondvar<W>),
 ) {}
@@ -22,7 +22,7 @@ pub fn word_raws<W: Wait + Clone + Drop + Clock, T: Timing<W>>(
 /// A value of each type of the word, the world and the seated lock.
 pub fn words(
     _word: &PackedWord,
-    _token: &WordToken,
+    _token: &PackedToken,
     _world: &World,
     _step: (&AtomicStep, &Outcome, &Down, &ExWant, &PartyState),
     _seated: (&SeatedLock, &Party, &PartyView, &WordRule, &Attempt),

@@ -1,5 +1,5 @@
 -- What each call of the machine answers and leaves. A call that may have to wait answers `None` where it would.
-use Rattle.std.specs.Prelude.{ℕ, ◌+◌, ◌-◌, Bool, true, not, ◌==◌, if◌then◌else◌, [], ◌∷◌, ◌++◌, Option, Some, None, Result, Ok, Err}
+use Rattle.std.specs.Prelude.{ℕ, ◌+◌, ◌-◌, Bool, not, ◌==◌, if◌then◌else◌, Option, Some, None, Result, Ok, Err}
 use Rattle.lock_base.specs.declared.machine.mode.Mode.{Mode}
 use Rattle.lock_base.specs.declared.machine.mode.Mode.TheVariants.{Shared, Exclusive, Upgradable}
 use Rattle.lock_base.specs.declared.machine.call.Want.{Want}
@@ -8,8 +8,9 @@ use Rattle.lock_base.specs.declared.raw.fault.Fault.TheVariants.{WouldWait, Unkn
 use Rattle.lock_base.specs.Operation.{Operation}
 use Rattle.lock_base.specs.Modes.{may_become}
 use Rattle.lock_base.specs.Kind.{is_reentrant, is_rwlock}
-use Rattle.lock_base.specs.Entries.{Entry, find, without, update, parked, resumed, in_mode, held_bag, held_count}
-use Rattle.lock_base.specs.Machine.{Machine, admitted, is_full_count, owns, released, bumps_token, one_spent_more}
+use Rattle.lock_base.specs.Entries.{Entry, find, parked_entry, resumed_entry, in_mode, held_bag, held_count}
+use Rattle.lock_base.specs.Register.{Register, lets_in, owns, is_full_count, bumps_token, with_guard, without_guard, with_change}
+use Rattle.lock_base.specs.Machine.{Machine, after_release, one_spent_more}
 use Rattle.lock_base.specs.Refusals.{Demand, mode_of, acquisition_refusal, guard_refusal, skip_refusal, held_guard, parked_guard, writing_guard, upgradable_guard, unshared_guard, exclusive_guard}
 
 -- what a call answers, and the machine that it leaves
@@ -18,10 +19,10 @@ pub record Turn (R T : Type 0) : Type 0 where
   pub machine : Machine T
 
 -- the answer of the blocking form: to have to wait is a refusal
-abbrev pub waited : {R : Type 0} → Result (Option R) Fault → Result R Fault
-waited (Ok (Some answer)) = Ok answer
-waited (Ok None) = Err WouldWait
-waited (Err fault) = Err fault
+abbrev pub blocking_answer : {R : Type 0} → Result (Option R) Fault → Result R Fault
+blocking_answer (Ok (Some answer)) = Ok answer
+blocking_answer (Ok None) = Err WouldWait
+blocking_answer (Err fault) = Err fault
 
 module _ {R T : Type 0} where
   abbrev pub refuse : Machine T → Fault → Turn R T
@@ -42,58 +43,67 @@ module _ {R T : Type 0} where
   -- a call on the entry of a guard, unless it is refused
   abbrev pub on_guard : Machine T → Demand → ℕ → ℕ → (Entry → Turn R T) → Turn R T
   on_guard m demand party guard act =
-      unless (guard_refusal m demand party guard) m (at_entry (find guard m.entries) m act)
+      unless (guard_refusal m.register demand party guard) m (at_entry (find guard m.entries) m act)
 
 module _ {T : Type 0} where
-  -- a new guard of the party, under the next number
-  abbrev pub issued : Machine T → ℕ → Mode → Machine T
-  issued m party mode =
-      record m { entries = m.entries ++ (m.last + 1, record { party = party; mode = mode; held = true }) ∷ []; last = m.last + 1 }
+  -- the machine with other guards
+  abbrev pub with_register : Machine T → Register → Machine T
+  with_register m r = record m { register = r }
 
   abbrev pub acquire : Machine T → Want → ℕ → Turn (Option ℕ) T
   acquire m want party =
-      unless (acquisition_refusal m want party) m
-      (if admitted m.kind m.limit m.entries party (mode_of want) then give (Some (m.last + 1)) (issued m party (mode_of want)) else give None m)
+      unless (acquisition_refusal m.register want party) m
+      (if lets_in m.register party (mode_of want)
+      then give (Some (m.last + 1)) (with_register m (with_guard m.register party (mode_of want)))
+      else give None m)
 
   -- the held guard is gone
   abbrev pub unlock : Machine T → ℕ → ℕ → Turn (Unit {0}) T
-  unlock m party guard = on_guard m held_guard party guard (λ e. give tt (released m (without guard m.entries)))
+  unlock m party guard = on_guard m held_guard party guard (λ e.
+      give tt (after_release m (without_guard m.register guard)))
 
   -- the held guard is parked
   abbrev pub park : Machine T → ℕ → ℕ → Turn (Unit {0}) T
-  park m party guard = on_guard m held_guard party guard (λ e. give tt (released m (update guard parked m.entries)))
+  park m party guard = on_guard m held_guard party guard (λ e.
+      give tt (after_release m (with_change m.register guard parked_entry)))
 
-  -- the parked guard is held again, where its mode is admitted
+  -- the parked guard is held again, where it is let in
   abbrev pub resume : Machine T → ℕ → ℕ → Turn (Unit {0}) T
   resume m party guard = on_guard m parked_guard party guard (λ e.
-      if is_full_count m.kind m.limit m.entries party then refuse m FullCount
-      else (if admitted m.kind m.limit m.entries party e.mode then give tt (record m { entries = update guard resumed m.entries }) else refuse m WouldWait))
+      if is_full_count m.register party then refuse m FullCount
+      else (if lets_in m.register party e.mode
+      then give tt (with_register m (with_change m.register guard resumed_entry))
+      else refuse m WouldWait))
 
   -- the parked guard is gone
   abbrev pub abandon : Machine T → ℕ → ℕ → Turn (Unit {0}) T
-  abandon m party guard = on_guard m parked_guard party guard (λ e. give tt (record m { entries = without guard m.entries }))
+  abandon m party guard = on_guard m parked_guard party guard (λ e.
+      give tt (with_register m (without_guard m.register guard)))
 
   -- the guards stay as they are, and a token is given back and taken again
   abbrev pub bump : Machine T → ℕ → ℕ → Turn (Unit {0}) T
   bump m party guard = on_guard m held_guard party guard (λ e.
-      give tt (record m { spent = if bumps_token m.kind m.entries then one_spent_more m.spent else m.spent }))
+      give tt (record m { spent = if bumps_token m.register then one_spent_more m.spent else m.spent }))
 
   -- the machine with the guard in another mode
-  abbrev pub moved : Machine T → ℕ → Mode → Machine T
-  moved m guard mode = record m { entries = update guard (in_mode mode) m.entries }
+  abbrev pub with_mode : Machine T → ℕ → Mode → Machine T
+  with_mode m guard mode = with_register m (with_change m.register guard (in_mode mode))
 
   -- the upgradable guard is exclusive, where it is the only one held
   abbrev pub upgrade : Machine T → ℕ → ℕ → Turn (Option (Unit {0})) T
   upgrade m party guard = on_guard m upgradable_guard party guard (λ e.
-      if may_become (held_bag m.entries) Exclusive then give (Some tt) (moved m guard Exclusive) else give None m)
+      if may_become (held_bag m.entries) Exclusive
+      then give (Some tt) (with_mode m guard Exclusive)
+      else give None m)
 
   -- the exclusive or upgradable guard is shared
   abbrev pub downgrade : Machine T → ℕ → ℕ → Turn (Unit {0}) T
-  downgrade m party guard = on_guard m unshared_guard party guard (λ e. give tt (moved m guard Shared))
+  downgrade m party guard = on_guard m unshared_guard party guard (λ e. give tt (with_mode m guard Shared))
 
   -- the exclusive guard is upgradable
   abbrev pub downgrade_to_upgradable : Machine T → ℕ → ℕ → Turn (Unit {0}) T
-  downgrade_to_upgradable m party guard = on_guard m exclusive_guard party guard (λ e. give tt (moved m guard Upgradable))
+  downgrade_to_upgradable m party guard = on_guard m exclusive_guard party guard (λ e.
+      give tt (with_mode m guard Upgradable))
 
   -- something is held
   abbrev pub is_locked : Machine T → Bool
@@ -105,11 +115,12 @@ module _ {T : Type 0} where
       if is_rwlock m.kind then give (not ((held_bag m.entries).exclusive == 0)) m else refuse m WrongKind
 
   abbrev pub is_owned_by : Machine T → ℕ → Turn Bool T
-  is_owned_by m party = if is_reentrant m.kind then give (owns m party) m else refuse m WrongKind
+  is_owned_by m party = if is_reentrant m.kind then give (owns m.register party) m else refuse m WrongKind
 
   -- the next guard has this number
   abbrev pub skip_to : Machine T → ℕ → Turn (Unit {0}) T
-  skip_to m next = unless (skip_refusal m next) m (give tt (record m { last = next - 1 }))
+  skip_to m next = unless (skip_refusal m.register next) m
+      (give tt (with_register m (record m.register { last = next - 1 })))
 
 module _ {T A : Type 0} where
   -- the operation is asked
@@ -118,17 +129,19 @@ module _ {T A : Type 0} where
       if op.fits m.value then give (op.asked m.value) m else refuse m NoFocus)
 
   -- the machine with the value that the operation leaves
-  abbrev pub applied : Machine T → Operation T A → Machine T
-  applied m op = record m { value = op.after m.value }
+  abbrev pub after_operation : Machine T → Operation T A → Machine T
+  after_operation m op = record m { value = op.after m.value }
 
   -- the operation is applied
   abbrev pub change : Machine T → ℕ → ℕ → Operation T A → Turn A T
   change m party guard op = on_guard m writing_guard party guard (λ e.
-      if op.fits m.value then give (op.applied m.value) (applied m op) else refuse m NoFocus)
+      if op.fits m.value then give (op.applied m.value) (after_operation m op) else refuse m NoFocus)
 
   -- the operation is applied by an upgradable guard that is exclusive for that time, where it is the only one held
   abbrev pub with_upgraded : Machine T → ℕ → ℕ → Operation T A → Turn (Option A) T
   with_upgraded m party guard op = on_guard m upgradable_guard party guard (λ e.
       if op.fits m.value
-      then (if may_become (held_bag m.entries) Exclusive then give (Some (op.applied m.value)) (applied m op) else give None m)
+      then (if may_become (held_bag m.entries) Exclusive
+      then give (Some (op.applied m.value)) (after_operation m op)
+      else give None m)
       else refuse m NoFocus)

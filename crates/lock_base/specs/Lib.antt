@@ -4,13 +4,16 @@ pub mod Kind
 pub mod Party
 pub mod Fault
 pub mod Limits
+pub mod Levels
 pub mod Tokens
 pub mod Operation
 pub mod Entries
+pub mod Register
 pub mod Machine
 pub mod Refusals
 pub mod Calls
 pub mod Steps
 pub mod Legal
+pub mod Sound
 pub mod Lens
 pub mod Then

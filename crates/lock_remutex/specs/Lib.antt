@@ -1,3 +1,2 @@
-pub mod Ownership
 pub mod Guards
 pub mod ArcGuards

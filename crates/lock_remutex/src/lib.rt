@@ -3,7 +3,6 @@
 
 mod arc;
 mod arc_guard;
-mod levels;
 mod mapped;
 mod raw_reentrant_mutex;
 mod reentrant_mutex;
@@ -11,7 +10,6 @@ mod reentrant_mutex_guard;
 mod text;
 
 pub use arc_guard::ArcReentrantMutexGuard;
-pub use levels::{DEFAULT_LEVELS, Levels};
 pub use mapped::MappedReentrantMutexGuard;
 pub use raw_reentrant_mutex::RawReentrantMutex;
 pub use reentrant_mutex::ReentrantMutex;

@@ -1,9 +1,8 @@
 ghost use Rattle.std.specs.Prelude.{◌≡◌, ◌↔◌, IfOk, IfErr, IsOkUnless};
 ghost use Rattle.lock_base.specs.Limits.{IsLimit, IsMakerFault};
 
-use crate::levels::Levels;
 use lock_base::machine::PartyId;
-use lock_base::raw::Fault;
+use lock_base::raw::{Fault, Levels};
 use lock_guard::raw::{RawMutex, RawMutexFair, RawMutexTimed};
 use std::alloc::Global;
 use std::sync::{Mutex, Wait};

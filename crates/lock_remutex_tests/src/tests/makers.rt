@@ -1,9 +1,9 @@
 //! What the makers refuse, and what comes back of a lock.
 use super::Honest;
-use lock_base::raw::Fault;
+use lock_base::raw::{DEFAULT_LEVELS, Fault, Levels};
 use lock_guard::raw::RawMutex;
 use lock_raws::TokenRaw;
-use lock_remutex::{DEFAULT_LEVELS, Levels, RawReentrantMutex};
+use lock_remutex::RawReentrantMutex;
 use std::alloc::Global;
 use std::sync::Wait;
 use std::test::Fail;

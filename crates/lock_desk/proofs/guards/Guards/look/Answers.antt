@@ -1,6 +1,6 @@
 use Rattle.std.proofs.Common.{Some, ap, sym, ◌∙◌}
 use Rattle.lock_base.specs.Entries.{find}
-use Rattle.lock_desk.proofs.Places.{none_found, entry_found}
+use Rattle.lock_desk.proofs.Entries.{none_found, entry_found}
 use Rattle.lock_desk.proofs.guards.Guards.look.Goals as goal
 
 pub returns-in_err-bookmark : goal.returns-in_err-bookmark

@@ -1,0 +1,190 @@
+//! The levels of a reentrant lock.
+use crate::machine::PartyId;
+use crate::raw::{Fault, MAX_LIMIT, is_limit};
+use std::marker::Model;
+
+/// How many levels an owner may have where a maker is not told.
+pub const DEFAULT_LEVELS: u64 = MAX_LIMIT;
+
+/// Who owns a reentrant lock, at how many levels, and the token that the owner holds of the lock behind it.
+#[derive(Drop)]
+pub struct Levels<K> {
+    limit: u64,
+    owner: Option<Owner<K>>,
+}
+
+#[derive(Drop)]
+struct Owner<K> {
+    party: PartyId,
+    count: u64,
+    token: K,
+}
+
+impl<K> Model for Levels<K> {
+    ghost use Rattle.std.specs.Prelude.{◌<◌, ◌≤◌, IfSome};
+    ghost use Rattle.std.specs.Option.{option_map};
+    ghost use Rattle.lock_base.specs.Limits.{IsLimit};
+    ghost use Rattle.lock_base.specs.Party.{id_of};
+    ghost use Rattle.lock_base.specs.Levels as levels;
+
+    ghost Value = { levels.Levels K };
+
+    ghost view = { λ l. record {
+      limit = l.limit;
+      owner = option_map (λ o. record { party = id_of o.party; count = o.count; token = o.token }) l.owner;
+    } };
+
+    ghost invariant = { λ l. IsLimit l.limit × IfSome l.owner (λ o. (0 < o.count) × (o.count ≤ l.limit)) };
+}
+
+impl<K> Default for Levels<K> {
+    ghost use Rattle.std.specs.Prelude.{◌≡◌};
+    ghost use Rattle.lock_base.specs.Levels.{unowned};
+    ghost use Rattle.lock_base.specs.declared.raw.levels.TheConstants.{DEFAULT_LEVELS};
+
+    ghost is_default = { λ levels. levels ≡ unowned DEFAULT_LEVELS };
+
+    fn default() -> Self {
+        Levels {
+            limit: DEFAULT_LEVELS,
+            owner: None,
+        }
+    }
+}
+
+impl<K: Drop> Levels<K> {
+    ghost use Rattle.std.specs.Prelude.{◌≡◌, ◌<◌, ◌≤◌, ◌↔◌, IsTrue, IsOk, IsErr, IsSome, IsNone, IfOk, IfErr, IfSome, IfNone, ◌==◌};
+    ghost use Rattle.std.specs.Bool.{MatchBool};
+    ghost use Rattle.lock_base.specs.Limits.{IsLimit};
+    ghost use Rattle.lock_base.specs.Party.{id_of};
+    ghost use Rattle.lock_base.specs.Levels.{IsLawful, GainsLevel, LosesLevel, GivesTokenBack, unowned, owned_by, at_level, level_of, token_of};
+
+    /// No owner yet. Refused where the number of levels is out of its range.
+    pub fn new(levels: u64) -> Result<Self, Fault>
+        ensures range { IsOk result ↔ IsLimit levels }
+        ensures made { IfOk result (λ made. made ≡ unowned levels) }
+        ensures fault { IfErr result (λ fault. fault ≡ Fault.BadLimits) }
+    {
+        if !is_limit(levels) {
+            return Err(Fault::BadLimits);
+        }
+        Ok(Levels {
+            limit: levels,
+            owner: None,
+        })
+    }
+
+    /// The levels of a party, 0 for all but the owner.
+    pub fn level(&self, party: PartyId) -> u64
+        ensures level { result ≡ level_of self.now (id_of party) }
+        ensures lawful { IsLawful self.now }
+    {
+        match &self.owner {
+            Some(owner) if owner.party == party => owner.count,
+            _ => 0,
+        }
+    }
+
+    /// Whether the party has as many levels as there may be.
+    pub fn is_full(&self, party: PartyId) -> bool
+        ensures { result ≡ (level_of self.now (id_of party) == self.now.limit) }
+    {
+        self.level(party) == self.limit
+    }
+
+    /// Whether any party owns a level.
+    pub fn is_owned(&self) -> bool
+        ensures owned { IsTrue result ↔ IsSome self.now.owner }
+        ensures lawful { IsLawful self.now }
+    {
+        self.owner.is_some()
+    }
+
+    /// One level more for the owner, and false for all others.
+    pub fn again(&mut self, party: PartyId) -> Result<bool, Fault>
+        ensures full { IsErr result ↔ (level_of self.old (id_of party) ≡ self.old.limit) }
+        ensures fault { IfErr result (λ fault. (fault ≡ Fault.FullCount) × (self.new ≡ self.old)) }
+        ensures more { IfOk result (λ more. MatchBool more
+            (GainsLevel self.old self.new (id_of party))
+            ((level_of self.old (id_of party) ≡ 0) × (self.new ≡ self.old))) }
+    {
+        let level = self.level(party);
+        if level == 0 {
+            return Ok(false);
+        }
+        if level == self.limit {
+            return Err(Fault::FullCount);
+        }
+        self.set_level(level + 1);
+        Ok(true)
+    }
+
+    /// Level 1 of the party where there is no owner, and else the token back.
+    pub fn first(&mut self, party: PartyId, token: K) -> Option<K>
+        ensures taken { IfNone result
+            (IsNone self.old.owner × (self.new ≡ owned_by self.old (id_of party) token)) }
+        ensures back { IfSome result (λ back. IsSome self.old.owner × (back ≡ token) × (self.new ≡ self.old)) }
+    {
+        if self.is_owned() {
+            return Some(token);
+        }
+        self.owner = Some(Owner {
+            party,
+            count: 1,
+            token,
+        });
+        None
+    }
+
+    /// One level less for the owner, and the token with the last.
+    pub fn leave(&mut self, party: PartyId) -> Result<Option<K>, Fault>
+        ensures owner { IsOk result ↔ (0 < level_of self.old (id_of party)) }
+        ensures fault { IfErr result (λ fault. (fault ≡ Fault.Foreign) × (self.new ≡ self.old)) }
+        ensures less { IfOk result (λ token. IfNone token (LosesLevel self.old self.new (id_of party))) }
+        ensures last { IfOk result (λ token. IfSome token (GivesTokenBack self.old self.new (id_of party))) }
+    {
+        let level = self.level(party);
+        if level == 0 {
+            return Err(Fault::Foreign);
+        }
+        if level == 1 {
+            return Ok(self.free());
+        }
+        self.set_level(level - 1);
+        Ok(None)
+    }
+
+    /// As `leave` where the party has one level. Where it has more it keeps them.
+    pub fn leave_sole(&mut self, party: PartyId) -> Result<Option<K>, Fault>
+        ensures owner { IsOk result ↔ (0 < level_of self.old (id_of party)) }
+        ensures fault { IfErr result (λ fault. (fault ≡ Fault.Foreign) × (self.new ≡ self.old)) }
+        ensures kept { IfOk result (λ token.
+            IfNone token ((1 < level_of self.old (id_of party)) × (self.new ≡ self.old))) }
+        ensures sole { IfOk result (λ token. IfSome token (GivesTokenBack self.old self.new (id_of party))) }
+    {
+        if self.level(party) > 1 {
+            return Ok(None);
+        }
+        self.leave(party)
+    }
+
+    fn set_level(&mut self, level: u64)
+        requires { (0 < level) × (level ≤ self.old.limit) }
+        ensures { self.new ≡ at_level self.old level }
+    {
+        if let Some(owner) = self.owner.take() {
+            self.owner = Some(Owner {
+                count: level,
+                ..owner
+            });
+        }
+    }
+
+    /// Takes the owner away, and answers the token that it held.
+    fn free(&mut self) -> Option<K>
+        ensures token { result ≡ token_of self.old }
+        ensures after { self.new ≡ unowned self.old.limit }
+    {
+        self.owner.take().map(|owner| owner.token)
+    }
+}
