@@ -19,7 +19,7 @@ pub fn sound_after<R: RawState, O: Op<u64>>(
 ) -> Result<Desk<R, u64>, Fault>
 where
     O::Answer: Drop,
-    ensures { IfOk result (λ desk. IsSound desk) }
+    ensures { IfOk result (λ desk. IsSound desk.register) }
 {
     runs_are_sound::<u64, O>();
     let mut desk: Desk<R, u64> = Desk::mutex(alloc, 3, 0)?;
