@@ -19,7 +19,7 @@ pub fn sound_after<R: RawState, O: Op<u64>>(
 ) -> Result<Desk<R, u64>, Fault>
 where
     O::Answer: Drop,
-    ensures { IfOk result (λ desk. IsSound desk) }
+    ensures { IfOk result (λ desk. IsSound desk.register) }
 {
     runs_are_sound::<u64, O>();
     let mut desk: Desk<R, u64> = Desk::mutex(alloc, 3, 0)?;
@@ -34,7 +34,7 @@ pub fn write_by<R: RawState, U, F: FnOnce(&mut u64) -> U + Drop>(
     guard: u64,
     write: F,
 ) -> Result<U, Fault>
-    requires { ForNone (guard_refusal desk.old writing_guard (id_of party) guard)
+    requires { ForNone (guard_refusal desk.old.register writing_guard (id_of party) guard)
         (FnOnceTakesAtMut F.FnOnce write desk.old.value) }
     ensures { IfOk result (AnswersAndLeaves F.FnOnce write desk.old.value
         (λ left. desk.new ≡ record desk.old { value = left })) }
