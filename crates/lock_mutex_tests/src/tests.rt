@@ -10,20 +10,17 @@ mod then;
 
 use lock_guard::raw::RawMutex;
 use lock_mutex::Mutex;
-use lock_raws::TokenRaw;
 use lock_test_support::raw_lock::{AskedRaw, Calls, RawCall};
 use std::alloc::Global;
-use std::clone::Clone;
-use std::sync::Wait;
 use std::test::Fail;
 
-/// A mutex over an honest raw lock, and the calls that this gets.
-fn watched_mutex<W: Wait + Clone + Drop, T: Drop>(
+/// A mutex over a raw lock that is watched, and the calls that this gets.
+fn watched_mutex<R: RawMutex + Drop, T: Drop>(
     alloc: Global,
-    waiter: W,
+    waiter: R::Waiter,
     value: T,
-) -> Result<(Mutex<AskedRaw<TokenRaw<W>>, T>, Calls<RawCall>), Fail> {
-    let raw: AskedRaw<TokenRaw<W>> = RawMutex::new(alloc, waiter)?;
+) -> Result<(Mutex<AskedRaw<R>, T>, Calls<RawCall>), Fail> {
+    let raw: AskedRaw<R> = RawMutex::new(alloc, waiter)?;
     let calls = raw.calls()?;
     Ok((Mutex::from_raw(raw, value)?, calls))
 }

@@ -8,8 +8,3 @@ mod owners;
 mod raw_calls;
 mod texts;
 mod threads;
-
-use lock_raws::TokenRaw;
-use lock_remutex::ReentrantMutex;
-
-type Honest<W> = ReentrantMutex<TokenRaw<W>, u8>;

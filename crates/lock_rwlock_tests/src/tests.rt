@@ -8,21 +8,18 @@ mod recording;
 mod rwlock;
 
 use lock_guard::raw::RawRwLock;
-use lock_raws::TokenRaw;
 use lock_rwlock::RwLock;
 use lock_test_support::raw_lock::{AskedRaw, Calls, RawCall};
 use std::alloc::Global;
-use std::clone::Clone;
-use std::sync::Wait;
 use std::test::Fail;
 
-/// A lock for 8 readers over an honest raw lock, and the calls that this gets.
-fn watched_rwlock<W: Wait + Clone + Drop, T: Drop>(
+/// A lock for 8 readers over a raw lock that is watched, and the calls that this gets.
+fn watched_rwlock<R: RawRwLock + Drop, T: Drop>(
     alloc: Global,
-    waiter: W,
+    waiter: R::Waiter,
     value: T,
-) -> Result<(RwLock<AskedRaw<TokenRaw<W>>, T>, Calls<RawCall>), Fail> {
-    let raw: AskedRaw<TokenRaw<W>> = RawRwLock::new(alloc, waiter, 8)?;
+) -> Result<(RwLock<AskedRaw<R>, T>, Calls<RawCall>), Fail> {
+    let raw: AskedRaw<R> = RawRwLock::new(alloc, waiter, 8)?;
     let calls = raw.calls()?;
     Ok((RwLock::from_raw(raw, value)?, calls))
 }

@@ -1,8 +1,11 @@
 //! Questions on what a call answered.
+
 mod makers;
 mod texts;
 mod tries;
+mod wanted;
 
 pub use makers::holds_or_lacks_memory;
 pub use texts::{debug_is, texts_are};
 pub use tries::{gives, gives_none};
+pub use wanted::equal;

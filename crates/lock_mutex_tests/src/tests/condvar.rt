@@ -8,7 +8,7 @@ use lock_base::machine::Mode::Exclusive;
 use lock_guard::raw::{RawCondvar, RawCondvarTimed, RawMutex, RawMutexTimed};
 use lock_mutex::{Condvar, Mutex, MutexGuard};
 use lock_raws::{SpuriousCondvar, TokenRaw};
-use lock_test_support::answer::debug_is;
+use lock_test_support::answer::{debug_is, equal};
 use lock_test_support::raw_lock::RawCall::{self, Lock, Unlock};
 use lock_test_support::raw_lock::{AskedRaw, Watch};
 use std::alloc::Global;
@@ -17,9 +17,9 @@ use std::test::Fail;
 
 type Raw = TokenRaw<HostRuntime>;
 
-type Spurious = Condvar<SpuriousCondvar<Raw>>;
+type Spurious = SpuriousCondvar<Raw>;
 
-type Asked = Condvar<AskedCondvar<AskedRaw<Raw>>>;
+type Asked<R> = Condvar<AskedCondvar<AskedRaw<R>>>;
 
 /// How many checks were made.
 type Checks<R> = Mutex<R, usize>;
@@ -49,14 +49,27 @@ where
     (end.timed_out(), *guard)
 }
 
+fn waits_until_false<C: RawCondvarTimed>(
+    alloc: Global,
+    waiter: <C::RawMutex as RawMutex>::Waiter,
+) -> Result<(), Fail>
+where
+    C: Drop,
+    C::RawMutex: RawMutexTimed<Duration = (), Instant = ()> + Drop,
+{
+    let condvar: Condvar<C> = Condvar::new(alloc)?;
+    let checks: Checks<C::RawMutex> = Mutex::new(alloc, waiter, 0)?;
+    let seen = [
+        wait_until_false(&condvar, &checks, 1, ()),
+        wait_until_false(&condvar, &checks, 2, ()),
+        wait_until_false(&condvar, &checks, 0, ()),
+    ];
+    equal(seen, [(false, 2), (true, 2), (false, 1)])
+}
+
 #[test]
 fn a_wait_times_out_where_its_last_check_is_true(rt: HostRuntime) -> Result<(), Fail> {
-    let condvar = Spurious::new(rt.alloc())?;
-    let checks: Checks<Raw> = Mutex::new(rt.alloc(), rt, 0)?;
-    assert_eq!(rt; wait_until_false(&condvar, &checks, 1, ()), (false, 2));
-    assert_eq!(rt; wait_until_false(&condvar, &checks, 2, ()), (true, 2));
-    assert_eq!(rt; wait_until_false(&condvar, &checks, 0, ()), (false, 1));
-    Ok(())
+    waits_until_false::<Spurious>(rt.alloc(), rt)
 }
 
 /// How many checks a wait while three answer true makes, how many are made after a plain wait more, and whether the mutex
@@ -72,12 +85,21 @@ fn wait_without_end<C: RawCondvar>(
     (made, *guard, checks.is_locked())
 }
 
+fn waits_without_end<C: RawCondvar + Drop>(
+    alloc: Global,
+    waiter: <C::RawMutex as RawMutex>::Waiter,
+) -> Result<(), Fail>
+where
+    C::RawMutex: Drop,
+{
+    let condvar: Condvar<C> = Condvar::default(alloc)?;
+    let checks: Checks<C::RawMutex> = Mutex::new(alloc, waiter, 0)?;
+    equal(wait_without_end(&condvar, &checks), (4, 4, true))
+}
+
 #[test]
 fn a_wait_without_an_end_goes_on_while_true(rt: HostRuntime) -> Result<(), Fail> {
-    let condvar = Spurious::default(rt.alloc())?;
-    let checks: Checks<Raw> = Mutex::new(rt.alloc(), rt, 0)?;
-    assert_eq!(rt; wait_without_end(&condvar, &checks), (4, 4, true));
-    Ok(())
+    waits_without_end::<Spurious>(rt.alloc(), rt)
 }
 
 /// Whether each wait with an end timed out.
@@ -92,13 +114,25 @@ where
     [ends.timed_out(), until.timed_out(), while_for.timed_out()]
 }
 
+fn waits_with_an_end<C: RawCondvarTimed + Drop>(
+    alloc: Global,
+    waiter: <C::RawMutex as RawMutex>::Waiter,
+) -> Result<(), Fail>
+where
+    C::RawMutex: RawMutexTimed<Duration = (), Instant = ()> + Drop,
+{
+    let condvar: Condvar<C> = Condvar::new(alloc)?;
+    let checks: Checks<C::RawMutex> = Mutex::new(alloc, waiter, 0)?;
+    let notified = (condvar.notify_one(), condvar.notify_all());
+    equal(
+        (timed_waits(&condvar, &checks), notified),
+        ([true; 3], (false, 0)),
+    )
+}
+
 #[test]
 fn timed_waits_that_wake_at_once_time_out(rt: HostRuntime) -> Result<(), Fail> {
-    let condvar = Spurious::new(rt.alloc())?;
-    let checks: Checks<Raw> = Mutex::new(rt.alloc(), rt, 0)?;
-    assert_eq!(rt; timed_waits(&condvar, &checks), [true; 3]);
-    assert_eq!(rt; (condvar.notify_one(), condvar.notify_all()), (false, 0));
-    Ok(())
+    waits_with_an_end::<Spurious>(rt.alloc(), rt)
 }
 
 /// Whether the raw condition variable was asked just this by a wait for so long, and whether that timed out.
@@ -142,16 +176,22 @@ fn waits<W: sync::Wait + Drop, R: RawMutexTimed<Duration = u64, Instant = u64>>(
     [plain, in_time, late, endless]
 }
 
+fn watched_waits<R: RawMutex + Drop, W: sync::Wait + Drop>(
+    alloc: Global,
+    waiter: R::Waiter,
+    watcher: W,
+) -> Result<(), Fail> {
+    let condvar: Asked<R> = Condvar::new(alloc)?;
+    let (checks, calls) = watched_mutex::<R, usize>(alloc, waiter, 0)?;
+    let mut watch = Watch::new(watcher, calls);
+    let wanted = [(true, false), (true, false), (true, true), (true, false)];
+    equal(waits(&condvar, &checks, &mut watch), wanted)?;
+    watch.verdict()
+}
+
 #[test]
 fn each_wait_is_one_call_and_unlocks_once(rt: HostRuntime) -> Result<(), Fail> {
-    let condvar = Asked::new(rt.alloc())?;
-    let (checks, calls) = watched_mutex(rt.alloc(), rt, 0)?;
-    let mut watch = Watch::new(rt, calls);
-    assert_eq!(rt;
-        waits(&condvar, &checks, &mut watch),
-        [(true, false), (true, false), (true, true), (true, false)]
-    );
-    watch.verdict()
+    watched_waits::<Raw, HostRuntime>(rt.alloc(), rt, rt)
 }
 
 /// Whether a wait while a first check is true asked the raw condition variable just this, and whether it timed out.
@@ -179,12 +219,15 @@ fn waits_while<R: RawMutexTimed<Duration = u64, Instant = u64>>(
     [plain, condvar.raw().got(&[WaitUntil(5)])]
 }
 
-#[test]
-fn each_conditional_wait_waits_as_told(rt: HostRuntime) -> Result<(), Fail> {
-    let condvar = Asked::new(rt.alloc())?;
-    let (checks, calls) = watched_mutex(rt.alloc(), rt, 0)?;
-    let mut watch = Watch::new(rt, calls);
-    assert_eq!(rt; waits_while(&condvar, &checks), [true; 2]);
+fn watched_conditional_waits<R: RawMutex + Drop, W: sync::Wait + Drop>(
+    alloc: Global,
+    waiter: R::Waiter,
+    watcher: W,
+) -> Result<(), Fail> {
+    let condvar: Asked<R> = Condvar::new(alloc)?;
+    let (checks, calls) = watched_mutex::<R, usize>(alloc, waiter, 0)?;
+    let mut watch = Watch::new(watcher, calls);
+    equal(waits_while(&condvar, &checks), [true; 2])?;
     watch.saw(&[
         Lock(Exclusive),
         Unlock(Exclusive),
@@ -193,15 +236,25 @@ fn each_conditional_wait_waits_as_told(rt: HostRuntime) -> Result<(), Fail> {
         Lock(Exclusive),
         Unlock(Exclusive),
     ]);
-    assert_eq!(rt;
-        wait_while_for(&condvar, &checks, 3, WaitUntil(4)),
-        (true, false)
-    );
-    assert_eq!(rt;
-        wait_while_for(&condvar, &checks, ENDLESS, Wait),
-        (true, false)
-    );
+    let in_time = wait_while_for(&condvar, &checks, 3, WaitUntil(4));
+    let endless = wait_while_for(&condvar, &checks, ENDLESS, Wait);
+    equal((in_time, endless), ((true, false), (true, false)))?;
+    watch.saw(&[
+        Lock(Exclusive),
+        Unlock(Exclusive),
+        Lock(Exclusive),
+        Unlock(Exclusive),
+        Lock(Exclusive),
+        Unlock(Exclusive),
+        Lock(Exclusive),
+        Unlock(Exclusive),
+    ]);
     watch.verdict()
+}
+
+#[test]
+fn each_conditional_wait_waits_as_told(rt: HostRuntime) -> Result<(), Fail> {
+    watched_conditional_waits::<Raw, HostRuntime>(rt.alloc(), rt, rt)
 }
 
 /// Whether one was woken, how many were, and whether the raw condition variable was asked once for each.
@@ -212,19 +265,22 @@ fn notify<R: RawMutex>(condvar: &Condvar<AskedCondvar<R>>, woken: usize) -> (boo
     (one, all, condvar.raw().got(&[NotifyOne, NotifyAll]))
 }
 
+fn notifications<R: RawMutex>(alloc: Global) -> Result<(), Fail> {
+    let condvar: Condvar<AskedCondvar<R>> = Condvar::new(alloc)?;
+    let seen = (notify(&condvar, 0), notify(&condvar, 3));
+    equal(seen, ((false, 0, true), (true, 3, true)))
+}
+
 #[test]
 fn a_notification_is_one_call(rt: HostRuntime) -> Result<(), Fail> {
-    let condvar = Asked::new(rt.alloc())?;
-    assert_eq!(rt; notify(&condvar, 0), (false, 0, true));
-    assert_eq!(rt; notify(&condvar, 3), (true, 3, true));
-    Ok(())
+    notifications::<Raw>(rt.alloc())
 }
 
 #[test]
 fn text_of_a_condvar(rt: HostRuntime) -> Result<(), Fail> {
     let alloc: Global = rt.alloc();
-    let condvar = Spurious::new(alloc)?;
+    let condvar: Condvar<Spurious> = Condvar::new(alloc)?;
     assert!(rt; debug_is(alloc, &condvar, "Condvar { .. }"));
-    let _raw: &SpuriousCondvar<Raw> = condvar.raw();
+    let _raw: &Spurious = condvar.raw();
     Ok(())
 }

@@ -3,13 +3,11 @@ use lock_base::project::Missed;
 use lock_guard::raw::{RawMutex, RawMutexFair};
 use lock_mutex::{MappedMutexGuard, Mutex, MutexGuard};
 use lock_raws::TokenRaw;
-use lock_test_support::answer::texts_are;
+use lock_test_support::answer::{equal, texts_are};
 use lock_test_support::project::{Item0, Item1, Nth};
 use std::alloc::Global;
 use std::process::Abort;
 use std::test::Fail;
-
-type Raw = TokenRaw<HostRuntime>;
 
 type Pair = (u64, u64);
 
@@ -18,15 +16,6 @@ fn write_part_of_a_part<R: RawMutexFair>(mutex: &Mutex<R, (Pair, u64)>) {
     let mut second = MappedMutexGuard::map(first, Item1);
     *second = 9;
     MappedMutexGuard::unlock_fair(second);
-}
-
-#[test]
-fn the_part_of_a_part_is_written(rt: HostRuntime) -> Result<(), Fail> {
-    let mutex: Mutex<Raw, (Pair, u64)> = Mutex::new(rt.alloc(), rt, ((1, 2), 3))?;
-    write_part_of_a_part(&mutex);
-    assert!(rt; !mutex.is_locked());
-    assert_eq!(rt; mutex.into_inner(), ((1, 9), 3));
-    Ok(())
 }
 
 /// Misses the third item of a pair and its sixth, of which it answers what was told, and writes 7 to the second, of which
@@ -47,15 +36,6 @@ fn miss_and_write<R: RawMutex>(rt: &impl Abort, mutex: &Mutex<R, Pair>) -> (bool
     (is_locked, missed, found)
 }
 
-#[test]
-fn a_guard_without_the_part_comes_back(rt: HostRuntime) -> Result<(), Fail> {
-    let mutex: Mutex<Raw, Pair> = Mutex::new(rt.alloc(), rt, (1, 2))?;
-    assert_eq!(rt; miss_and_write(&rt, &mutex), (true, 5, 2));
-    assert!(rt; !mutex.is_locked());
-    assert_eq!(rt; mutex.into_inner(), (1, 7));
-    Ok(())
-}
-
 /// What the fifth item of a pair in a pair misses, and the second that is found after it.
 fn miss_in_a_part<R: RawMutex>(
     rt: &impl Abort,
@@ -72,22 +52,41 @@ fn miss_in_a_part<R: RawMutex>(
     (missed, found)
 }
 
-#[test]
-fn a_mapped_guard_without_the_part_comes_back(rt: HostRuntime) -> Result<(), Fail> {
-    let mutex: Mutex<Raw, (Pair, u64)> = Mutex::new(rt.alloc(), rt, ((1, 2), 3))?;
-    assert_eq!(rt; miss_in_a_part(&rt, &mutex), (Missed::Second(4), Some(2)));
-    assert!(rt; !mutex.is_locked());
-    Ok(())
-}
-
 fn is_shown<R: RawMutex>(alloc: Global, mutex: &Mutex<R, Pair>) -> bool {
     let part = MutexGuard::map(mutex.lock(), Item0);
     texts_are(alloc, &part, "5")
 }
 
+fn parts_of_parts<R: RawMutexFair + Drop>(
+    rt: &impl Abort,
+    alloc: Global,
+    waiter: R::Waiter,
+) -> Result<(), Fail> {
+    let mutex: Mutex<R, (Pair, u64)> = Mutex::new(alloc, waiter, ((1, 2), 3))?;
+    equal(miss_in_a_part(rt, &mutex), (Missed::Second(4), Some(2)))?;
+    write_part_of_a_part(&mutex);
+    equal(mutex.is_locked(), false)?;
+    equal(mutex.into_inner(), ((1, 9), 3))
+}
+
 #[test]
-fn texts_of_a_mapped_guard_of_a_mutex(rt: HostRuntime) -> Result<(), Fail> {
-    let mutex: Mutex<Raw, Pair> = Mutex::new(rt.alloc(), rt, (5, 0))?;
-    assert!(rt; is_shown(rt.alloc(), &mutex));
-    Ok(())
+fn the_part_of_a_part_is_missed_and_written(rt: HostRuntime) -> Result<(), Fail> {
+    parts_of_parts::<TokenRaw<HostRuntime>>(&rt, rt.alloc(), rt)
+}
+
+fn parts<R: RawMutex + Drop>(
+    rt: &impl Abort,
+    alloc: Global,
+    waiter: R::Waiter,
+) -> Result<(), Fail> {
+    let mutex: Mutex<R, Pair> = Mutex::new(alloc, waiter, (5, 2))?;
+    equal(is_shown(alloc, &mutex), true)?;
+    equal(miss_and_write(rt, &mutex), (true, 5, 2))?;
+    equal(mutex.is_locked(), false)?;
+    equal(mutex.into_inner(), (5, 7))
+}
+
+#[test]
+fn a_part_is_missed_and_written_and_printed(rt: HostRuntime) -> Result<(), Fail> {
+    parts::<TokenRaw<HostRuntime>>(&rt, rt.alloc(), rt)
 }

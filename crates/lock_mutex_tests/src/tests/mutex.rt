@@ -2,7 +2,7 @@
 use lock_guard::raw::RawMutex;
 use lock_mutex::{Mutex, MutexGuard};
 use lock_raws::TokenRaw;
-use lock_test_support::answer::{debug_is, holds_or_lacks_memory, texts_are};
+use lock_test_support::answer::{debug_is, equal, holds_or_lacks_memory, texts_are};
 use lock_test_support::raw_lock::Liar;
 use lock_test_support::{Count, add_in_four_threads};
 use std::alloc::Global;
@@ -40,26 +40,28 @@ fn four_threads_count_over_a_lying_raw_lock(rt: HostRuntime) -> Result<(), Fail>
     Ok(())
 }
 
-#[test]
-fn a_mutex_gives_what_was_put_in(rt: HostRuntime) -> Result<(), Fail> {
-    let mut mutex = Counter::default(rt.alloc(), rt)?;
+fn makers<R: RawMutex + Drop>(
+    alloc: Global,
+    waiter: R::Waiter,
+    again: R::Waiter,
+) -> Result<(), Fail> {
+    let mut mutex: Mutex<R, u64> = Mutex::default(alloc, waiter)?;
     *mutex.get_mut() = 6;
     let (raw, value) = mutex.into_inner_with_raw();
-    assert!(rt; value == 6 && raw.try_lock().is_some());
-    Ok(())
+    let is_free = !raw.is_locked();
+    let from: Mutex<R, u64> = Mutex::from(alloc, again, 5)?;
+    equal((value, is_free, from.into_inner()), (6, true, 5))
+}
+
+#[test]
+fn a_mutex_gives_what_was_put_in(rt: HostRuntime) -> Result<(), Fail> {
+    makers::<TokenRaw<HostRuntime>>(rt.alloc(), rt, rt)
 }
 
 /// Whether a guard's mutex is held, and refused to another.
 fn is_held<R: RawMutex>(mutex: &Mutex<R, u64>) -> bool {
     let guard = mutex.lock();
     MutexGuard::mutex(&guard).is_locked() && mutex.try_lock().is_none()
-}
-
-#[test]
-fn a_guard_is_of_its_mutex(rt: HostRuntime) -> Result<(), Fail> {
-    let mutex = Counter::from(rt.alloc(), rt, 5)?;
-    assert!(rt; is_held(&mutex) && !mutex.is_locked());
-    Ok(())
 }
 
 /// Whether a free mutex, a held one and its guard print as they are told to.
@@ -70,11 +72,15 @@ fn are_shown<R: RawMutex>(alloc: Global, mutex: &Mutex<R, u64>) -> [bool; 3] {
     [free, held, texts_are(alloc, &guard, "5")]
 }
 
+fn held_and_shown<R: RawMutex + Drop>(alloc: Global, waiter: R::Waiter) -> Result<(), Fail> {
+    let mutex: Mutex<R, u64> = Mutex::new(alloc, waiter, 5)?;
+    equal((is_held(&mutex), mutex.is_locked()), (true, false))?;
+    equal(are_shown(alloc, &mutex), [true; 3])
+}
+
 #[test]
-fn texts_of_a_mutex_and_its_guard(rt: HostRuntime) -> Result<(), Fail> {
-    let mutex = Counter::new(rt.alloc(), rt, 5)?;
-    assert_eq!(rt; are_shown(rt.alloc(), &mutex), [true; 3]);
-    Ok(())
+fn a_guard_is_of_its_mutex_and_prints_its_value(rt: HostRuntime) -> Result<(), Fail> {
+    held_and_shown::<TokenRaw<HostRuntime>>(rt.alloc(), rt)
 }
 
 #[test]

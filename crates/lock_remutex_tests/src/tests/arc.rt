@@ -4,12 +4,11 @@ use lock_base::raw::Fault;
 use lock_guard::raw::RawMutex;
 use lock_raws::TokenRaw;
 use lock_remutex::{ArcReentrantMutexGuard, ReentrantMutex};
-use lock_test_support::answer::gives_none;
+use lock_test_support::answer::{equal, gives_none};
 use lock_test_support::two_parties;
+use std::alloc::Global;
 use std::sync::Arc;
 use std::test::Fail;
-
-type Number = ReentrantMutex<TokenRaw<HostRuntime>, i64>;
 
 /// What a guard reads and a second level is refused with; and whether the lock that its end answers is its own: owned
 /// through the one owner, it is refused to another party through the other.
@@ -32,14 +31,18 @@ where
     Ok((read, refused, is_same))
 }
 
+fn arc_guards<R: RawMutex + Drop>(alloc: Global, waiter: R::Waiter) -> Result<(), Fail>
+where
+    R::Guard: Send + Drop,
+{
+    let (one, two) = two_parties()?;
+    let lock: ReentrantMutex<R, i64> = ReentrantMutex::with_levels(alloc, waiter, 1, 5)?;
+    let lock = Arc::new(alloc, lock)?;
+    equal(seen(&lock, one, two)?, (5, Some(Fault::FullCount), true))?;
+    equal(lock.is_locked(), false)
+}
+
 #[test]
 fn an_arc_guard_is_of_its_remutex(rt: HostRuntime) -> Result<(), Fail> {
-    let (one, two) = two_parties()?;
-    let lock = Arc::new(rt.alloc(), Number::with_levels(rt.alloc(), rt, 1, 5)?)?;
-    assert_eq!(rt;
-        seen(&lock, one, two),
-        Ok((5, Some(Fault::FullCount), true))
-    );
-    assert!(rt; !lock.is_locked());
-    Ok(())
+    arc_guards::<TokenRaw<HostRuntime>>(rt.alloc(), rt)
 }

@@ -1,62 +1,77 @@
 //! What the makers refuse, and what comes back of a lock.
-use super::Honest;
 use lock_base::raw::{DEFAULT_LEVELS, Fault, Levels};
 use lock_guard::raw::RawMutex;
 use lock_raws::TokenRaw;
-use lock_remutex::RawReentrantMutex;
+use lock_remutex::{RawReentrantMutex, ReentrantMutex};
+use lock_test_support::answer::equal;
 use std::alloc::Global;
-use std::sync::Wait;
 use std::test::Fail;
 
-#[test]
-fn the_value_comes_back(rt: HostRuntime) -> Result<(), Fail> {
-    let mut lock = Honest::default(rt.alloc(), rt)?;
-    assert_eq!(rt; *lock.get_mut(), 0);
-    *lock.get_mut() = 9;
-    assert_eq!(rt; lock.into_inner(), 9);
-    Ok(())
+fn put_in_and_out<R: RawMutex + Drop>(alloc: Global, waiters: [R::Waiter; 3]) -> Result<(), Fail>
+where
+    R::Guard: Send + Drop,
+{
+    let [first, second, third] = waiters;
+    let mut default: ReentrantMutex<R, u8> = ReentrantMutex::default(alloc, first)?;
+    let was = *default.get_mut();
+    *default.get_mut() = 9;
+    let from: ReentrantMutex<R, u8> = ReentrantMutex::from(alloc, second, 3)?;
+    equal((was, default.into_inner(), from.into_inner()), (0, 9, 3))?;
+    let made: ReentrantMutex<R, u8> = ReentrantMutex::new(alloc, third, 4)?;
+    let (raw, value) = made.into_inner_with_raw();
+    equal((raw.is_locked(), value), (false, 4))
 }
 
 #[test]
-fn the_raw_lock_comes_back_with_the_value(rt: HostRuntime) -> Result<(), Fail> {
-    let (raw, value) = Honest::new(rt.alloc(), rt, 4)?.into_inner_with_raw();
-    assert_eq!(rt; (RawMutex::is_locked(&raw), value), (false, 4));
-    Ok(())
+fn the_value_and_the_raw_lock_come_back(rt: HostRuntime) -> Result<(), Fail> {
+    put_in_and_out::<TokenRaw<HostRuntime>>(rt.alloc(), [rt, rt, rt])
 }
 
 /// Whether so many levels are taken by `Levels`, and by a lock over them.
-fn makers_take<W: Wait + Clone + Drop>(alloc: Global, waiter: W, levels: u64) -> (bool, bool) {
-    (
-        Levels::<u8>::new(levels).is_ok(),
-        Honest::with_levels(alloc, waiter, levels, 0).is_ok(),
-    )
+fn makers_take<R: RawMutex + Drop>(alloc: Global, waiter: R::Waiter, levels: u64) -> (bool, bool)
+where
+    R::Guard: Send + Drop,
+{
+    let made: Result<ReentrantMutex<R, u8>, Fault> = ReentrantMutex::with_levels(
+        alloc, waiter, levels, 0,
+    );
+    (Levels::<u8>::new(levels).is_ok(), made.is_ok())
 }
 
 #[test]
-fn limits_of_levels(rt: HostRuntime) {
-    assert_eq!(rt; makers_take(rt.alloc(), rt, 0), (false, false));
-    assert_eq!(rt; makers_take(rt.alloc(), rt, 1), (true, true));
-    assert_eq!(rt; makers_take(rt.alloc(), rt, DEFAULT_LEVELS), (true, true));
-    assert_eq!(rt;
-        makers_take(rt.alloc(), rt, DEFAULT_LEVELS + 1),
-        (false, false)
-    );
+fn limits_of_levels(rt: HostRuntime) -> Result<(), Fail> {
+    for (levels, is_taken) in [
+        (0, false),
+        (1, true),
+        (DEFAULT_LEVELS, true),
+        (DEFAULT_LEVELS + 1, false),
+    ] {
+        let taken = makers_take::<TokenRaw<HostRuntime>>(rt.alloc(), rt, levels);
+        equal(taken, (is_taken, is_taken))?;
+    }
+    Ok(())
+}
+
+/// What each maker is refused with.
+fn refusals<R: RawMutex + Drop>(alloc: Global, waiters: [R::Waiter; 6]) -> [Option<Fault>; 6]
+where
+    R::Guard: Send + Drop,
+{
+    let [first, second, third, fourth, fifth, sixth] = waiters;
+    [
+        ReentrantMutex::<R, u8>::new(alloc, first, 1).err(),
+        ReentrantMutex::<R, u8>::from(alloc, second, 1).err(),
+        ReentrantMutex::<R, u8>::default(alloc, third).err(),
+        ReentrantMutex::<R, u8>::with_levels(alloc, fourth, 3, 1).err(),
+        RawReentrantMutex::<R>::new(alloc, fifth).err(),
+        RawReentrantMutex::<R>::with_levels(alloc, sixth, 3).err(),
+    ]
 }
 
 /// Passes too where an allocation is refused, as it is told then.
 #[test]
-fn refused_memory_is_told_by_the_makers(rt: HostRuntime) -> Result<(), Fail> {
-    let alloc: Global = rt.alloc();
-    let made = [
-        Honest::<HostRuntime>::new(alloc, rt, 1).err(),
-        Honest::<HostRuntime>::from(alloc, rt, 1).err(),
-        Honest::<HostRuntime>::default(alloc, rt).err(),
-        Honest::<HostRuntime>::with_levels(alloc, rt, 3, 1).err(),
-        RawReentrantMutex::<TokenRaw<HostRuntime>>::new(alloc, rt).err(),
-        RawReentrantMutex::<TokenRaw<HostRuntime>>::with_levels(alloc, rt, 3).err(),
-    ];
-    for refusal in made {
+fn refused_memory_is_told_by_the_makers(rt: HostRuntime) {
+    for refusal in refusals::<TokenRaw<HostRuntime>>(rt.alloc(), [rt, rt, rt, rt, rt, rt]) {
         assert!(rt; refusal.is_none() || refusal == Some(Fault::OutOfMemory));
     }
-    Ok(())
 }

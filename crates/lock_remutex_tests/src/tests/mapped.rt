@@ -4,7 +4,7 @@ use lock_base::raw::Fault;
 use lock_guard::raw::{RawMutex, RawMutexFair};
 use lock_raws::TokenRaw;
 use lock_remutex::{MappedReentrantMutexGuard, ReentrantMutex, ReentrantMutexGuard};
-use lock_test_support::answer::texts_are;
+use lock_test_support::answer::{equal, texts_are};
 use lock_test_support::party;
 use lock_test_support::project::{Item0, Item1, Nth};
 use std::alloc::Global;
@@ -12,8 +12,6 @@ use std::process::Abort;
 use std::test::Fail;
 
 type Pair = (u64, u64);
-
-type Paired = ReentrantMutex<TokenRaw<HostRuntime>, Pair>;
 
 /// What the sixth item of a pair misses, and the second and the first, which two guards read at once. Whether the lock is
 /// held once one has ended.
@@ -36,15 +34,6 @@ where
     Ok((missed, second, *other, lock.is_locked()))
 }
 
-#[test]
-fn parts_of_a_value_of_an_owner(rt: HostRuntime) -> Result<(), Fail> {
-    let one = party(1)?;
-    let lock = Paired::new(rt.alloc(), rt, (1, 2))?;
-    assert_eq!(rt; miss_and_read(&rt, &lock, one), Ok((5, Some(2), 1, true)));
-    assert!(rt; !lock.is_locked());
-    Ok(())
-}
-
 fn is_shown<R: RawMutex>(
     alloc: Global,
     lock: &ReentrantMutex<R, Pair>,
@@ -57,10 +46,22 @@ where
     Ok(texts_are(alloc, &part, "5"))
 }
 
-#[test]
-fn texts_of_a_mapped_guard_of_an_owner(rt: HostRuntime) -> Result<(), Fail> {
+fn parts<R: RawMutexFair + Drop>(
+    rt: &impl Abort,
+    alloc: Global,
+    waiter: R::Waiter,
+) -> Result<(), Fail>
+where
+    R::Guard: Send + Drop,
+{
     let one = party(1)?;
-    let lock = Paired::new(rt.alloc(), rt, (5, 0))?;
-    assert!(rt; is_shown(rt.alloc(), &lock, one)?);
-    Ok(())
+    let lock: ReentrantMutex<R, Pair> = ReentrantMutex::new(alloc, waiter, (5, 2))?;
+    equal(is_shown(alloc, &lock, one)?, true)?;
+    equal(miss_and_read(rt, &lock, one)?, (5, Some(2), 5, true))?;
+    equal(lock.is_locked(), false)
+}
+
+#[test]
+fn a_part_is_missed_read_and_printed(rt: HostRuntime) -> Result<(), Fail> {
+    parts::<TokenRaw<HostRuntime>>(&rt, rt.alloc(), rt)
 }

@@ -1,12 +1,13 @@
 //! Who gets a lock while a party owns it, over an honest raw lock and over one that lies.
-use super::Honest;
 use lock_base::machine::PartyId;
 use lock_base::raw::Fault;
+use lock_guard::raw::{RawMutex, RawMutexFair, RawMutexTimed};
 use lock_raws::TokenRaw;
 use lock_remutex::{RawReentrantMutex, ReentrantMutex, ReentrantMutexGuard};
+use lock_test_support::answer::equal;
 use lock_test_support::raw_lock::Liar;
 use lock_test_support::two_parties;
-use std::sync::Wait;
+use std::alloc::Global;
 use std::test::Fail;
 
 /// How each try of the party ends: whether with a guard, which ends at once.
@@ -22,7 +23,13 @@ fn is_given<G: Drop>(tried: Result<Option<G>, Fault>) -> Result<bool, Fault> {
     Ok(tried?.is_some())
 }
 
-fn tries<W: Wait + Clone + Drop>(lock: &Honest<W>, party: PartyId) -> Tries {
+fn tries<R: RawMutexTimed<Duration = (), Instant = ()>>(
+    lock: &ReentrantMutex<R, u8>,
+    party: PartyId,
+) -> Tries
+where
+    R::Guard: Drop,
+{
     [
         is_given(lock.try_lock(party)),
         is_given(lock.try_lock_for(party, ())),
@@ -31,11 +38,14 @@ fn tries<W: Wait + Clone + Drop>(lock: &Honest<W>, party: PartyId) -> Tries {
 }
 
 /// How tries of the party end while the owner has a level, and whether the party owns the lock then.
-fn beside_owner<W: Wait + Clone + Drop>(
-    lock: &Honest<W>,
+fn beside_owner<R: RawMutexTimed<Duration = (), Instant = ()>>(
+    lock: &ReentrantMutex<R, u8>,
     owner: PartyId,
     party: PartyId,
-) -> Result<(Tries, bool), Fault> {
+) -> Result<(Tries, bool), Fault>
+where
+    R::Guard: Drop,
+{
     let guard = lock.lock(owner)?;
     let tried = tries(lock, party);
     Ok((
@@ -44,35 +54,41 @@ fn beside_owner<W: Wait + Clone + Drop>(
     ))
 }
 
+fn others_beside_an_owner<R: RawMutexTimed<Duration = (), Instant = ()> + Drop>(
+    alloc: Global,
+    waiter: R::Waiter,
+) -> Result<(), Fail>
+where
+    R::Guard: Send + Drop,
+{
+    let (first, second) = two_parties()?;
+    let lock: ReentrantMutex<R, u8> = ReentrantMutex::new(alloc, waiter, 5)?;
+    equal(beside_owner(&lock, first, first)?, (GIVEN, true))?;
+    equal(beside_owner(&lock, first, second)?, (NOT_GIVEN, false))?;
+    equal(beside_owner(&lock, second, first)?, (NOT_GIVEN, false))?;
+    equal(beside_owner(&lock, second, second)?, (GIVEN, true))?;
+    let tried = tries(&lock, second);
+    equal(
+        (tried, lock.is_owned_by_current_thread(second)),
+        (GIVEN, false),
+    )
+}
+
 #[test]
 fn others_are_refused_while_a_party_owns(rt: HostRuntime) -> Result<(), Fail> {
-    let (first, second) = two_parties()?;
-    let lock = Honest::from(rt.alloc(), rt, 5)?;
-    let seen = [
-        beside_owner(&lock, first, first),
-        beside_owner(&lock, first, second),
-        beside_owner(&lock, second, first),
-        beside_owner(&lock, second, second),
-    ];
-    let wanted = [
-        Ok((GIVEN, true)),
-        Ok((NOT_GIVEN, false)),
-        Ok((NOT_GIVEN, false)),
-        Ok((GIVEN, true)),
-    ];
-    assert_eq!(rt; seen, wanted);
-    assert_eq!(rt; tries(&lock, second), GIVEN);
-    assert!(rt; !lock.is_owned_by_current_thread(second));
-    Ok(())
+    others_beside_an_owner::<TokenRaw<HostRuntime>>(rt.alloc(), rt)
 }
 
 /// What a third level by `lock` is refused with, how tries of the owner and of another end beside two levels, and how
 /// those of the owner end beside one.
-fn beside_two_levels<W: Wait + Clone + Drop>(
-    lock: &Honest<W>,
+fn beside_two_levels<R: RawMutexTimed<Duration = (), Instant = ()>>(
+    lock: &ReentrantMutex<R, u8>,
     owner: PartyId,
     other: PartyId,
-) -> Result<(Option<Fault>, [Tries; 3]), Fault> {
+) -> Result<(Option<Fault>, [Tries; 3]), Fault>
+where
+    R::Guard: Drop,
+{
     let outer = lock.lock(owner)?;
     let _inner = lock.lock(owner)?;
     let refused = lock.lock(owner).err();
@@ -81,21 +97,32 @@ fn beside_two_levels<W: Wait + Clone + Drop>(
     Ok((refused, [own, others, tries(lock, owner)]))
 }
 
+fn full_count<R: RawMutexTimed<Duration = (), Instant = ()> + Drop>(
+    alloc: Global,
+    waiter: R::Waiter,
+) -> Result<(), Fail>
+where
+    R::Guard: Send + Drop,
+{
+    let (first, second) = two_parties()?;
+    let lock: ReentrantMutex<R, u8> = ReentrantMutex::with_levels(alloc, waiter, 2, 0)?;
+    let seen = beside_two_levels(&lock, first, second)?;
+    equal(seen, (Some(Fault::FullCount), [FULL, NOT_GIVEN, GIVEN]))
+}
+
 #[test]
 fn a_full_count_is_refused(rt: HostRuntime) -> Result<(), Fail> {
-    let (first, second) = two_parties()?;
-    let lock = Honest::with_levels(rt.alloc(), rt, 2, 0)?;
-    let seen = beside_two_levels(&lock, first, second);
-    let wanted = (Some(Fault::FullCount), [FULL, NOT_GIVEN, GIVEN]);
-    assert_eq!(rt; seen, Ok(wanted));
-    Ok(())
+    full_count::<TokenRaw<HostRuntime>>(rt.alloc(), rt)
 }
 
 /// What the calls that only the owner may make answer the party.
-fn owners_calls<W: Wait + Clone + Drop>(
-    lock: &RawReentrantMutex<TokenRaw<W>>,
+fn owners_calls<R: RawMutexFair>(
+    lock: &RawReentrantMutex<R>,
     party: PartyId,
-) -> [Result<(), Fault>; 3] {
+) -> [Result<(), Fault>; 3]
+where
+    R::Guard: Drop,
+{
     [
         lock.unlock(party),
         lock.unlock_fair(party),
@@ -104,10 +131,10 @@ fn owners_calls<W: Wait + Clone + Drop>(
 }
 
 /// What `unlock` answers the party, and whether it owns the lock afterwards and anyone holds it.
-fn left<W: Wait + Clone + Drop>(
-    lock: &RawReentrantMutex<TokenRaw<W>>,
-    party: PartyId,
-) -> (Result<(), Fault>, bool, bool) {
+fn left<R: RawMutex>(lock: &RawReentrantMutex<R>, party: PartyId) -> (Result<(), Fault>, bool, bool)
+where
+    R::Guard: Drop,
+{
     let answer = lock.unlock(party);
     (
         answer,
@@ -116,31 +143,37 @@ fn left<W: Wait + Clone + Drop>(
     )
 }
 
-#[test]
-fn a_raw_reentrant_lock_is_left_by_its_owner_alone(rt: HostRuntime) -> Result<(), Fail> {
+fn left_by_its_owner<R: RawMutexFair + Drop>(alloc: Global, waiter: R::Waiter) -> Result<(), Fail>
+where
+    R::Guard: Send + Drop,
+{
     let (first, second) = two_parties()?;
-    let lock = RawReentrantMutex::<TokenRaw<HostRuntime>>::new(rt.alloc(), rt)?;
-    assert_eq!(rt;
-        (lock.lock(first), lock.try_lock(first)),
-        (Ok(()), Ok(true))
-    );
-    assert_eq!(rt; owners_calls(&lock, second), [Err(Fault::Foreign); 3]);
+    let lock: RawReentrantMutex<R> = RawReentrantMutex::new(alloc, waiter)?;
+    equal((lock.lock(first), lock.try_lock(first)), (Ok(()), Ok(true)))?;
+    equal(owners_calls(&lock, second), [Err(Fault::Foreign); 3])?;
     let lefts = [left(&lock, first), left(&lock, first), left(&lock, first)];
     let wanted = [
         (Ok(()), true, true),
         (Ok(()), false, false),
         (Err(Fault::Foreign), false, false),
     ];
-    assert_eq!(rt; lefts, wanted);
-    Ok(())
+    equal(lefts, wanted)
+}
+
+#[test]
+fn a_raw_reentrant_lock_is_left_by_its_owner_alone(rt: HostRuntime) -> Result<(), Fail> {
+    left_by_its_owner::<TokenRaw<HostRuntime>>(rt.alloc(), rt)
 }
 
 /// Whether another gets the lock of the owner, and whether that owns it afterwards and after a bump.
-fn owned_over_a_liar<W: Wait + Clone + Drop>(
-    lock: &RawReentrantMutex<Liar<W>>,
+fn owned<R: RawMutexFair>(
+    lock: &RawReentrantMutex<R>,
     owner: PartyId,
     other: PartyId,
-) -> Result<(bool, bool, bool), Fault> {
+) -> Result<(bool, bool, bool), Fault>
+where
+    R::Guard: Drop,
+{
     lock.lock(owner)?;
     let is_given = lock.try_lock(other)?;
     let is_owned = lock.is_owned_by_current_thread(owner);
@@ -148,35 +181,33 @@ fn owned_over_a_liar<W: Wait + Clone + Drop>(
     Ok((is_given, is_owned, lock.is_owned_by_current_thread(owner)))
 }
 
-#[test]
-fn a_raw_lock_that_lies_makes_no_second_owner(rt: HostRuntime) -> Result<(), Fail> {
-    let (first, second) = two_parties()?;
-    let lock = RawReentrantMutex::new(rt.alloc(), rt)?;
-    assert_eq!(rt;
-        owned_over_a_liar(&lock, first, second),
-        Ok((false, true, true))
-    );
-    Ok(())
-}
-
 /// Whether another gets a guard beside that of the owner, and whether that still owns the lock.
-fn guarded_over_a_liar<W: Wait + Clone + Drop>(
-    lock: &ReentrantMutex<Liar<W>, u8>,
+fn guarded<R: RawMutex>(
+    lock: &ReentrantMutex<R, u8>,
     owner: PartyId,
     other: PartyId,
-) -> Result<(Result<bool, Fault>, bool), Fault> {
+) -> Result<(bool, bool), Fault>
+where
+    R::Guard: Drop,
+{
     let _guard = lock.lock(owner)?;
-    let other_is_given = is_given(lock.try_lock(other));
+    let other_is_given = is_given(lock.try_lock(other))?;
     Ok((other_is_given, lock.is_owned_by_current_thread(owner)))
 }
 
-#[test]
-fn a_raw_lock_that_lies_makes_no_second_guard(rt: HostRuntime) -> Result<(), Fail> {
+fn one_owner<R: RawMutexFair + Drop>(alloc: Global, waiters: [R::Waiter; 2]) -> Result<(), Fail>
+where
+    R::Guard: Send + Drop,
+{
+    let [first_waiter, second_waiter] = waiters;
     let (first, second) = two_parties()?;
-    let lock = ReentrantMutex::new(rt.alloc(), rt, 7)?;
-    assert_eq!(rt;
-        guarded_over_a_liar(&lock, first, second),
-        Ok((Ok(false), true))
-    );
-    Ok(())
+    let raw: RawReentrantMutex<R> = RawReentrantMutex::new(alloc, first_waiter)?;
+    equal(owned(&raw, first, second)?, (false, true, true))?;
+    let lock: ReentrantMutex<R, u8> = ReentrantMutex::new(alloc, second_waiter, 7)?;
+    equal(guarded(&lock, first, second)?, (false, true))
+}
+
+#[test]
+fn a_raw_lock_that_lies_makes_no_second_owner(rt: HostRuntime) -> Result<(), Fail> {
+    one_owner::<Liar<HostRuntime>>(rt.alloc(), [rt, rt])
 }

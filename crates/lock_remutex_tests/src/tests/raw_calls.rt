@@ -14,19 +14,21 @@ use lock_test_support::raw_lock::RawCall::{
 use lock_test_support::raw_lock::{AskedRaw, Calls, Liar, Watch};
 use lock_test_support::{party, two_parties};
 use std::alloc::Global;
-use std::clone::Clone;
 use std::sync::{Arc, Wait};
 use std::test::Fail;
 
 /// A pair of numbers behind a lock.
 type Paired<R> = ReentrantMutex<R, (u64, u64)>;
 
-/// A lock over an honest raw lock, and the calls that this gets.
-fn watched_remutex<W: Wait + Clone + Drop>(
+/// A lock over a raw lock that is watched, and the calls that this gets.
+fn watched_remutex<R: RawMutex + Drop>(
     alloc: Global,
-    waiter: W,
-) -> Result<(Paired<AskedRaw<TokenRaw<W>>>, Calls<RawCall>), Fail> {
-    let raw: AskedRaw<TokenRaw<W>> = RawMutex::new(alloc, waiter)?;
+    waiter: R::Waiter,
+) -> Result<(Paired<AskedRaw<R>>, Calls<RawCall>), Fail>
+where
+    R::Guard: Send + Drop,
+{
+    let raw: AskedRaw<R> = RawMutex::new(alloc, waiter)?;
     let calls = raw.calls()?;
     Ok((ReentrantMutex::from_raw(raw, (0, 0))?, calls))
 }
@@ -139,16 +141,27 @@ where
     Ok(())
 }
 
-#[test]
-fn raw_calls_of_a_remutex(rt: HostRuntime) -> Result<(), Fail> {
+fn all_calls<R: RawMutexFair + Drop, W: Wait + Drop>(
+    alloc: Global,
+    waiter: R::Waiter,
+    watcher: W,
+) -> Result<(), Fail>
+where
+    R::Guard: Send + Drop,
+{
     let (one, two) = two_parties()?;
-    let (lock, calls) = watched_remutex(rt.alloc(), rt)?;
-    let mut watch = Watch::new(rt, calls);
+    let (lock, calls) = watched_remutex::<R>(alloc, waiter)?;
+    let mut watch = Watch::new(watcher, calls);
     acquisitions(&lock, &mut watch, one)?;
     tries_of_another(&lock, &mut watch, one, two)?;
     calls_of_a_guard(&lock, &mut watch, one)?;
     calls_of_mapped_guards(&lock, &mut watch, one)?;
     watch.verdict()
+}
+
+#[test]
+fn raw_calls_of_a_remutex(rt: HostRuntime) -> Result<(), Fail> {
+    all_calls::<TokenRaw<HostRuntime>, HostRuntime>(rt.alloc(), rt, rt)
 }
 
 fn acquisitions_by_an_arc<W: Wait + Drop, R: RawMutexTimed<Duration = u64, Instant = u64> + Drop>(
@@ -205,27 +218,54 @@ where
     Ok(())
 }
 
-#[test]
-fn raw_calls_by_an_arc_of_a_remutex(rt: HostRuntime) -> Result<(), Fail> {
+fn all_calls_by_an_arc<R: RawMutexFair + Drop, W: Wait + Drop>(
+    alloc: Global,
+    waiter: R::Waiter,
+    watcher: W,
+) -> Result<(), Fail>
+where
+    R::Guard: Send + Drop,
+{
     let one = party(1)?;
-    let (lock, calls) = watched_remutex(rt.alloc(), rt)?;
-    let mut watch = Watch::new(rt, calls);
-    let lock = Arc::new(rt.alloc(), lock)?;
+    let (lock, calls) = watched_remutex::<R>(alloc, waiter)?;
+    let mut watch = Watch::new(watcher, calls);
+    let lock = Arc::new(alloc, lock)?;
     acquisitions_by_an_arc(&lock, &mut watch, one);
     calls_of_an_arc_guard(&lock, &mut watch, one)?;
     watch.verdict()
 }
 
 #[test]
+fn raw_calls_by_an_arc_of_a_remutex(rt: HostRuntime) -> Result<(), Fail> {
+    all_calls_by_an_arc::<TokenRaw<HostRuntime>, HostRuntime>(rt.alloc(), rt, rt)
+}
+
+/// A try of a party while another owns the lock.
+fn try_beside_an_owner<R: RawMutex>(
+    lock: &Paired<R>,
+    owner: PartyId,
+    other: PartyId,
+) -> Result<(), Fault>
+where
+    R::Guard: Drop,
+{
+    let _guard = lock.lock(owner)?;
+    drop(lock.try_lock(other));
+    Ok(())
+}
+
+/// The raw lock lies, and admits both.
+#[test]
 fn a_token_that_came_too_early_is_given_back(rt: HostRuntime) -> Result<(), Fail> {
     let (one, two) = two_parties()?;
-    let raw: Liar<HostRuntime> = RawMutex::new(rt.alloc(), rt)?;
-    let mut watch = Watch::new(rt, raw.calls()?);
-    let lock = ReentrantMutex::from_raw(raw, 0)?;
-    let guard = lock.lock(one)?;
-    drop(lock.try_lock(two));
-    watch.saw(&[Lock(Exclusive), TryLock(Exclusive), Unlock(Exclusive)]);
-    drop(guard);
-    watch.saw(&[Unlock(Exclusive)]);
+    let (lock, calls) = watched_remutex::<Liar<HostRuntime>>(rt.alloc(), rt)?;
+    try_beside_an_owner(&lock, one, two)?;
+    let mut watch = Watch::new(rt, calls);
+    watch.saw(&[
+        Lock(Exclusive),
+        TryLock(Exclusive),
+        Unlock(Exclusive),
+        Unlock(Exclusive),
+    ]);
     watch.verdict()
 }

@@ -1,30 +1,35 @@
 //! Texts of the lock and of its guard.
-use super::Honest;
 use lock_base::machine::PartyId;
+use lock_guard::raw::RawMutex;
+use lock_raws::TokenRaw;
+use lock_remutex::ReentrantMutex;
+use lock_test_support::answer::equal;
 use lock_test_support::party;
 use std::alloc::Global;
-use std::sync::Wait;
 use std::test::Fail;
 
 /// The text of the lock while it is free; and, while the party has a guard, the texts of both.
-fn texts<W: Wait + Clone + Drop>(
-    alloc: Global,
-    lock: &Honest<W>,
-    party: PartyId,
-) -> Option<String> {
+fn texts<R: RawMutex>(alloc: Global, lock: &ReentrantMutex<R, u8>, party: PartyId) -> Option<String>
+where
+    R::Guard: Drop,
+{
     let free = format!(in alloc; "{lock:?}").ok()?;
     let guard = lock.lock(party).ok()?;
     format!(in alloc; "{free} {lock:?} {guard:?} {guard}").ok()
 }
 
+fn shown<R: RawMutex + Drop>(alloc: Global, waiter: R::Waiter) -> Result<(), Fail>
+where
+    R::Guard: Send + Drop,
+{
+    let one = party(1)?;
+    let lock: ReentrantMutex<R, u8> = ReentrantMutex::new(alloc, waiter, 5)?;
+    let shown = texts(alloc, &lock, one).ok_or("no memory")?;
+    let wanted = "ReentrantMutex { data: 5 } ReentrantMutex { data: <locked> } 5 5";
+    equal(shown.as_str() == wanted, true)
+}
+
 #[test]
 fn texts_of_the_lock_and_its_guard(rt: HostRuntime) -> Result<(), Fail> {
-    let first = party(1)?;
-    let lock = Honest::new(rt.alloc(), rt, 5)?;
-    let shown = texts(rt.alloc(), &lock, first).ok_or("no memory")?;
-    assert_eq!(rt;
-        shown.as_str(),
-        "ReentrantMutex { data: 5 } ReentrantMutex { data: <locked> } 5 5"
-    );
-    Ok(())
+    shown::<TokenRaw<HostRuntime>>(rt.alloc(), rt)
 }

@@ -6,6 +6,7 @@ use lock_guard::raw::{RawMutexFair, RawMutexTimed};
 use lock_mutex::{ArcMutexGuard, Mutex};
 use lock_raws::TokenRaw;
 use lock_test_support::two_parties;
+use std::alloc::Global;
 use std::process::Abort;
 use std::sync::Arc;
 use std::test::Fail;
@@ -40,12 +41,20 @@ fn owned_guards<R: RawMutexFair + RawMutexTimed<Duration = (), Instant = ()> + D
     Ok(())
 }
 
+fn row<R: RawMutexFair + RawMutexTimed<Duration = (), Instant = ()> + Drop>(
+    rt: &impl Abort,
+    alloc: Global,
+    waiter: R::Waiter,
+) -> Result<(), Fail> {
+    let (one, two) = two_parties()?;
+    let mutex: Mutex<R, i64> = Mutex::new(alloc, waiter, 0)?;
+    let mutex = Arc::new(alloc, mutex)?;
+    let mut desk = BesideDesk::new(Table::mutex(alloc, 4, 0)?);
+    owned_guards(rt, &mut desk, &mutex, one, two)?;
+    desk.verdict()
+}
+
 #[test]
 fn an_arc_guard_of_a_mutex_is_as_on_a_desk(rt: HostRuntime) -> Result<(), Fail> {
-    let (one, two) = two_parties()?;
-    let mutex: Mutex<TokenRaw<HostRuntime>, i64> = Mutex::new(rt.alloc(), rt, 0)?;
-    let mutex = Arc::new(rt.alloc(), mutex)?;
-    let mut desk = BesideDesk::new(Table::mutex(rt.alloc(), 4, 0)?);
-    owned_guards(&rt, &mut desk, &mutex, one, two)?;
-    desk.verdict()
+    row::<TokenRaw<HostRuntime>>(&rt, rt.alloc(), rt)
 }

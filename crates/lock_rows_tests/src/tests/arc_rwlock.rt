@@ -10,6 +10,7 @@ use lock_rwlock_arc::{
     RwLockArcUpgrade,
 };
 use lock_test_support::party;
+use std::alloc::Global;
 use std::process::Abort;
 use std::sync::Arc;
 use std::test::Fail;
@@ -58,12 +59,21 @@ fn up_and_down<
     Ok(())
 }
 
+fn row<
+    R: RawRwLockFair
+        + RawRwLockUpgradeTimed<Duration = (), Instant = ()>
+        + RawRwLockUpgradeDowngrade
+        + Drop,
+>(rt: &impl Abort, alloc: Global, waiter: R::Waiter) -> Result<(), Fail> {
+    let one = party(1)?;
+    let lock: RwLock<R, i64> = RwLock::with_readers(alloc, waiter, 8, 0)?;
+    let lock = Arc::new(alloc, lock)?;
+    let mut desk = BesideDesk::new(Table::rwlock(alloc, 4, 8, 0)?);
+    up_and_down(rt, &mut desk, &lock, one)?;
+    desk.verdict()
+}
+
 #[test]
 fn an_arc_guard_goes_up_and_down_as_on_a_desk(rt: HostRuntime) -> Result<(), Fail> {
-    let one = party(1)?;
-    let lock: RwLock<TokenRaw<HostRuntime>, i64> = RwLock::with_readers(rt.alloc(), rt, 8, 0)?;
-    let lock = Arc::new(rt.alloc(), lock)?;
-    let mut desk = BesideDesk::new(Table::rwlock(rt.alloc(), 4, 8, 0)?);
-    up_and_down(&rt, &mut desk, &lock, one)?;
-    desk.verdict()
+    row::<TokenRaw<HostRuntime>>(&rt, rt.alloc(), rt)
 }

@@ -6,14 +6,11 @@ use lock_mutex::{MappedMutexGuard, Mutex, MutexGuard};
 use lock_raws::TokenRaw;
 use lock_test_support::project::Item0;
 use lock_test_support::two_parties;
+use std::alloc::Global;
 use std::process::Abort;
 use std::test::Fail;
 
-type Number = Mutex<TokenRaw<HostRuntime>, i64>;
-
-type Pair = Mutex<TokenRaw<HostRuntime>, (i64, i64)>;
-
-pub fn given_up_and_taken_again<R: RawMutexFair>(
+fn given_up_and_taken_again<R: RawMutexFair>(
     desk: &mut BesideDesk,
     mutex: &Mutex<R, (i64, i64)>,
     one: PartyId,
@@ -44,16 +41,7 @@ pub fn given_up_and_taken_again<R: RawMutexFair>(
     desk.same(Call::IsLocked, Reply::Bool(mutex.is_locked()));
 }
 
-#[test]
-fn a_parked_guard_is_as_on_a_desk(rt: HostRuntime) -> Result<(), Fail> {
-    let (one, two) = two_parties()?;
-    let mutex = Pair::new(rt.alloc(), rt, (2, 0))?;
-    let mut desk = BesideDesk::new(Table::mutex(rt.alloc(), 2, 2)?);
-    given_up_and_taken_again(&mut desk, &mutex, one, two);
-    desk.verdict()
-}
-
-pub fn timed_tries<R: RawMutexTimed<Duration = (), Instant = ()>>(
+fn timed_tries<R: RawMutexTimed<Duration = (), Instant = ()>>(
     rt: &impl Abort,
     desk: &mut BesideDesk,
     mutex: &Mutex<R, i64>,
@@ -81,16 +69,7 @@ pub fn timed_tries<R: RawMutexTimed<Duration = (), Instant = ()>>(
     desk.same(Call::IsLocked, Reply::Bool(mutex.is_locked()));
 }
 
-#[test]
-fn timed_tries_are_as_on_a_desk(rt: HostRuntime) -> Result<(), Fail> {
-    let (one, two) = two_parties()?;
-    let mutex = Number::new(rt.alloc(), rt, 2)?;
-    let mut desk = BesideDesk::new(Table::mutex(rt.alloc(), 2, 2)?);
-    timed_tries(&rt, &mut desk, &mutex, one, two);
-    desk.verdict()
-}
-
-pub fn changes<R: RawMutexFair>(
+fn changes<R: RawMutexFair>(
     desk: &mut BesideDesk,
     mutex: &Mutex<R, i64>,
     one: PartyId,
@@ -114,11 +93,45 @@ pub fn changes<R: RawMutexFair>(
     desk.same(Call::Unlock(two, 2, Way::Plain), Reply::Done);
 }
 
-#[test]
-fn a_change_is_as_on_a_desk(rt: HostRuntime) -> Result<(), Fail> {
+pub fn parked_row<R: RawMutexFair + Drop>(alloc: Global, waiter: R::Waiter) -> Result<(), Fail> {
     let (one, two) = two_parties()?;
-    let mutex = Number::new(rt.alloc(), rt, 2)?;
-    let mut desk = BesideDesk::new(Table::mutex(rt.alloc(), 2, 2)?);
+    let mutex: Mutex<R, (i64, i64)> = Mutex::new(alloc, waiter, (2, 0))?;
+    let mut desk = BesideDesk::new(Table::mutex(alloc, 2, 2)?);
+    given_up_and_taken_again(&mut desk, &mutex, one, two);
+    desk.verdict()
+}
+
+#[test]
+fn a_parked_guard_is_as_on_a_desk(rt: HostRuntime) -> Result<(), Fail> {
+    parked_row::<TokenRaw<HostRuntime>>(rt.alloc(), rt)
+}
+
+pub fn timed_row<R: RawMutexTimed<Duration = (), Instant = ()> + Drop>(
+    rt: &impl Abort,
+    alloc: Global,
+    waiter: R::Waiter,
+) -> Result<(), Fail> {
+    let (one, two) = two_parties()?;
+    let mutex: Mutex<R, i64> = Mutex::new(alloc, waiter, 2)?;
+    let mut desk = BesideDesk::new(Table::mutex(alloc, 2, 2)?);
+    timed_tries(rt, &mut desk, &mutex, one, two);
+    desk.verdict()
+}
+
+#[test]
+fn timed_tries_are_as_on_a_desk(rt: HostRuntime) -> Result<(), Fail> {
+    timed_row::<TokenRaw<HostRuntime>>(&rt, rt.alloc(), rt)
+}
+
+pub fn changed_row<R: RawMutexFair + Drop>(alloc: Global, waiter: R::Waiter) -> Result<(), Fail> {
+    let (one, two) = two_parties()?;
+    let mutex: Mutex<R, i64> = Mutex::new(alloc, waiter, 2)?;
+    let mut desk = BesideDesk::new(Table::mutex(alloc, 2, 2)?);
     changes(&mut desk, &mutex, one, two);
     desk.verdict()
+}
+
+#[test]
+fn a_change_is_as_on_a_desk(rt: HostRuntime) -> Result<(), Fail> {
+    changed_row::<TokenRaw<HostRuntime>>(rt.alloc(), rt)
 }

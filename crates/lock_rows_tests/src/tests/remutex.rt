@@ -7,10 +7,9 @@ use lock_raws::TokenRaw;
 use lock_remutex::{ReentrantMutex, ReentrantMutexGuard};
 use lock_test_support::answer::gives;
 use lock_test_support::{party, two_parties};
+use std::alloc::Global;
 use std::process::Abort;
 use std::test::Fail;
-
-type Number = ReentrantMutex<TokenRaw<HostRuntime>, i64>;
 
 fn levels<R: RawMutexFair>(
     rt: &impl Abort,
@@ -39,15 +38,6 @@ where
     desk.same(Call::Unlock(one, 2, Way::Fair), Reply::Done);
     desk.same(Call::IsLocked, Reply::Bool(remutex.is_locked()));
     Ok(())
-}
-
-#[test]
-fn levels_are_as_on_a_desk(rt: HostRuntime) -> Result<(), Fail> {
-    let one = party(1)?;
-    let remutex = Number::new(rt.alloc(), rt, 5)?;
-    let mut desk = BesideDesk::new(Table::reentrant(rt.alloc(), 4, 4, 5)?);
-    levels(&rt, &mut desk, &remutex, one)?;
-    desk.verdict()
 }
 
 /// Two levels of one party, of which one ends, and what another may do beside them.
@@ -104,12 +94,43 @@ where
     Ok(())
 }
 
+fn levels_row<R: RawMutexFair + Drop>(
+    rt: &impl Abort,
+    alloc: Global,
+    waiter: R::Waiter,
+) -> Result<(), Fail>
+where
+    R::Guard: Send + Drop,
+{
+    let one = party(1)?;
+    let remutex: ReentrantMutex<R, i64> = ReentrantMutex::new(alloc, waiter, 5)?;
+    let mut desk = BesideDesk::new(Table::reentrant(alloc, 4, 4, 5)?);
+    levels(rt, &mut desk, &remutex, one)?;
+    desk.verdict()
+}
+
+#[test]
+fn levels_are_as_on_a_desk(rt: HostRuntime) -> Result<(), Fail> {
+    levels_row::<TokenRaw<HostRuntime>>(&rt, rt.alloc(), rt)
+}
+
+fn owners_row<R: RawMutexFair + Drop>(
+    rt: &impl Abort,
+    alloc: Global,
+    waiter: R::Waiter,
+) -> Result<(), Fail>
+where
+    R::Guard: Send + Drop,
+{
+    let (one, two) = two_parties()?;
+    let remutex: ReentrantMutex<R, i64> = ReentrantMutex::new(alloc, waiter, 5)?;
+    let mut desk = BesideDesk::new(Table::reentrant(alloc, 4, 4, 5)?);
+    beside_an_owner(rt, &mut desk, &remutex, one, two)?;
+    after_the_owner(rt, &mut desk, &remutex, one, two)?;
+    desk.verdict()
+}
+
 #[test]
 fn owners_are_as_on_a_desk(rt: HostRuntime) -> Result<(), Fail> {
-    let (one, two) = two_parties()?;
-    let remutex = Number::new(rt.alloc(), rt, 5)?;
-    let mut desk = BesideDesk::new(Table::reentrant(rt.alloc(), 4, 4, 5)?);
-    beside_an_owner(&rt, &mut desk, &remutex, one, two)?;
-    after_the_owner(&rt, &mut desk, &remutex, one, two)?;
-    desk.verdict()
+    owners_row::<TokenRaw<HostRuntime>>(&rt, rt.alloc(), rt)
 }

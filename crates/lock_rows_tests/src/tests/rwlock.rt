@@ -11,10 +11,9 @@ use lock_rwlock::{
 };
 use lock_test_support::project::Item0;
 use lock_test_support::{party, two_parties};
+use std::alloc::Global;
 use std::process::Abort;
 use std::test::Fail;
-
-type Number = RwLock<TokenRaw<HostRuntime>, i64>;
 
 /// The value, and another beside it.
 type Pair = (i64, i64);
@@ -106,7 +105,7 @@ fn up_and_down<
 }
 
 /// An upgradable guard beside a reader, and then alone.
-pub fn upgrades<R: RawRwLockUpgradeTimed<Duration = (), Instant = ()> + RawRwLockUpgradeDowngrade>(
+fn upgrades<R: RawRwLockUpgradeTimed<Duration = (), Instant = ()> + RawRwLockUpgradeDowngrade>(
     rt: &impl Abort,
     desk: &mut BesideDesk,
     lock: &Paired<R>,
@@ -143,15 +142,6 @@ pub fn upgrades<R: RawRwLockUpgradeTimed<Duration = (), Instant = ()> + RawRwLoc
     desk.same(Call::IsLocked, Reply::Bool(lock.is_locked()));
 }
 
-#[test]
-fn an_upgrade_waits_for_readers(rt: HostRuntime) -> Result<(), Fail> {
-    let (one, two) = two_parties()?;
-    let lock: Paired<TokenRaw<HostRuntime>> = RwLock::with_readers(rt.alloc(), rt, 8, (1, 0))?;
-    let mut desk = BesideDesk::new(Table::rwlock(rt.alloc(), 4, 8, 1)?);
-    upgrades(&rt, &mut desk, &lock, one, two);
-    desk.verdict()
-}
-
 /// Gives a guard up and takes it again, plainly, fairly and at once, and ends it.
 fn gives_up_and_takes_again<R: RawRwLock, L: AcquireFair>(
     desk: &mut BesideDesk,
@@ -178,7 +168,7 @@ fn gives_up_and_takes_again<R: RawRwLock, L: AcquireFair>(
 }
 
 /// A guard of each mode in turn.
-pub fn guards<R: RawRwLockUpgradeFair + RawRwLockUpgradeTimed<Duration = (), Instant = ()>>(
+fn guards<R: RawRwLockUpgradeFair + RawRwLockUpgradeTimed<Duration = (), Instant = ()>>(
     rt: &impl Abort,
     desk: &mut BesideDesk,
     lock: &RwLock<R, i64>,
@@ -201,17 +191,8 @@ pub fn guards<R: RawRwLockUpgradeFair + RawRwLockUpgradeTimed<Duration = (), Ins
     gives_up_and_takes_again(desk, one, 3, lock, guard);
 }
 
-#[test]
-fn each_guard_is_given_up_and_taken_again(rt: HostRuntime) -> Result<(), Fail> {
-    let one = party(1)?;
-    let lock = Number::with_readers(rt.alloc(), rt, 1, 0)?;
-    let mut desk = BesideDesk::new(Table::rwlock(rt.alloc(), 4, 1, 0)?);
-    guards(&rt, &mut desk, &lock, one);
-    desk.verdict()
-}
-
 /// Up by a try, down to upgradable, a change under an upgrade, and down to a reader.
-pub fn transitions<
+fn transitions<
     R: RawRwLockUpgradeFair
         + RawRwLockUpgradeTimed<Duration = (), Instant = ()>
         + RawRwLockUpgradeDowngrade,
@@ -248,17 +229,8 @@ pub fn transitions<
     desk.same(Call::IsLocked, Reply::Bool(lock.is_locked()));
 }
 
-#[test]
-fn a_guard_goes_up_and_down_in_place(rt: HostRuntime) -> Result<(), Fail> {
-    let one = party(1)?;
-    let lock = Number::with_readers(rt.alloc(), rt, 8, 0)?;
-    let mut desk = BesideDesk::new(Table::rwlock(rt.alloc(), 4, 8, 0)?);
-    transitions(&rt, &mut desk, &lock, one);
-    desk.verdict()
-}
-
 /// Two parties that read, where one may.
-pub fn readers<R: RawRwLockUpgradeDowngrade>(
+fn readers<R: RawRwLockUpgradeDowngrade>(
     desk: &mut BesideDesk,
     lock: &RwLock<R, i64>,
     one: PartyId,
@@ -285,11 +257,66 @@ pub fn readers<R: RawRwLockUpgradeDowngrade>(
     );
 }
 
-#[test]
-fn readers_stop_at_their_limit(rt: HostRuntime) -> Result<(), Fail> {
+pub fn upgrades_row<
+    R: RawRwLockUpgradeTimed<Duration = (), Instant = ()> + RawRwLockUpgradeDowngrade + Drop,
+>(rt: &impl Abort, alloc: Global, waiter: R::Waiter) -> Result<(), Fail> {
     let (one, two) = two_parties()?;
-    let lock = Number::with_readers(rt.alloc(), rt, 1, 0)?;
-    let mut desk = BesideDesk::new(Table::rwlock(rt.alloc(), 4, 1, 0)?);
+    let lock: Paired<R> = RwLock::with_readers(alloc, waiter, 8, (1, 0))?;
+    let mut desk = BesideDesk::new(Table::rwlock(alloc, 4, 8, 1)?);
+    upgrades(rt, &mut desk, &lock, one, two);
+    desk.verdict()
+}
+
+#[test]
+fn an_upgrade_waits_for_readers(rt: HostRuntime) -> Result<(), Fail> {
+    upgrades_row::<TokenRaw<HostRuntime>>(&rt, rt.alloc(), rt)
+}
+
+pub fn guards_row<
+    R: RawRwLockUpgradeFair + RawRwLockUpgradeTimed<Duration = (), Instant = ()> + Drop,
+>(rt: &impl Abort, alloc: Global, waiter: R::Waiter) -> Result<(), Fail> {
+    let one = party(1)?;
+    let lock: RwLock<R, i64> = RwLock::with_readers(alloc, waiter, 1, 0)?;
+    let mut desk = BesideDesk::new(Table::rwlock(alloc, 4, 1, 0)?);
+    guards(rt, &mut desk, &lock, one);
+    desk.verdict()
+}
+
+#[test]
+fn each_guard_is_given_up_and_taken_again(rt: HostRuntime) -> Result<(), Fail> {
+    guards_row::<TokenRaw<HostRuntime>>(&rt, rt.alloc(), rt)
+}
+
+pub fn transitions_row<
+    R: RawRwLockUpgradeFair
+        + RawRwLockUpgradeTimed<Duration = (), Instant = ()>
+        + RawRwLockUpgradeDowngrade
+        + Drop,
+>(rt: &impl Abort, alloc: Global, waiter: R::Waiter) -> Result<(), Fail> {
+    let one = party(1)?;
+    let lock: RwLock<R, i64> = RwLock::with_readers(alloc, waiter, 8, 0)?;
+    let mut desk = BesideDesk::new(Table::rwlock(alloc, 4, 8, 0)?);
+    transitions(rt, &mut desk, &lock, one);
+    desk.verdict()
+}
+
+#[test]
+fn a_guard_goes_up_and_down_in_place(rt: HostRuntime) -> Result<(), Fail> {
+    transitions_row::<TokenRaw<HostRuntime>>(&rt, rt.alloc(), rt)
+}
+
+pub fn readers_row<R: RawRwLockUpgradeDowngrade + Drop>(
+    alloc: Global,
+    waiter: R::Waiter,
+) -> Result<(), Fail> {
+    let (one, two) = two_parties()?;
+    let lock: RwLock<R, i64> = RwLock::with_readers(alloc, waiter, 1, 0)?;
+    let mut desk = BesideDesk::new(Table::rwlock(alloc, 4, 1, 0)?);
     readers(&mut desk, &lock, one, two);
     desk.verdict()
+}
+
+#[test]
+fn readers_stop_at_their_limit(rt: HostRuntime) -> Result<(), Fail> {
+    readers_row::<TokenRaw<HostRuntime>>(rt.alloc(), rt)
 }

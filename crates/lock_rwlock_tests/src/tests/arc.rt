@@ -9,14 +9,11 @@ use lock_rwlock_arc::{
     ArcRwLockGuard, ArcRwLockReadGuard, ArcRwLockUpgradableReadGuard, ArcRwLockWriteGuard,
     RwLockArc, RwLockArcUpgrade,
 };
-use lock_test_support::answer::{gives_none, texts_are};
+use lock_test_support::answer::{equal, gives_none, texts_are};
 use std::alloc::Global;
 use std::cell::Cell;
 use std::sync::Arc;
 use std::test::Fail;
-
-/// A number behind an honest raw lock.
-type Number = RwLock<TokenRaw<HostRuntime>, i64>;
 
 /// A lock with one owner more.
 type Owned<R> = Arc<RwLock<R, i64>>;
@@ -30,14 +27,6 @@ fn is_same<R: RawRwLockUpgrade + Drop>(lock: &Owned<R>) -> Result<bool, Fault> {
     let guard = RwLock::upgradable_read_arc(&owner)?;
     let is_locked = ArcRwLockGuard::rwlock(&guard).is_locked();
     Ok(is_refused && is_locked && gives_none(RwLock::try_write_arc(lock)))
-}
-
-#[test]
-fn an_arc_guard_is_of_its_lock(rt: HostRuntime) -> Result<(), Fail> {
-    let lock = Arc::new(rt.alloc(), Number::new(rt.alloc(), rt, 4)?)?;
-    assert!(rt; is_same(&lock)?);
-    assert!(rt; !lock.is_locked());
-    Ok(())
 }
 
 fn double(value: &mut i64) -> i64 {
@@ -78,16 +67,6 @@ fn refused<R: RawRwLockUpgradeDowngrade + Drop>(lock: &Owned<R>) -> Result<(u64,
     Ok((calls.get(), left))
 }
 
-#[test]
-fn an_arc_guard_gets_at_the_value(rt: HostRuntime) -> Result<(), Fail> {
-    let lock = Arc::new(rt.alloc(), Number::new(rt.alloc(), rt, 1)?)?;
-    let wanted = (5, [Some(10), Some(20), Some(40), Some(80)]);
-    assert_eq!(rt; written(&lock)?, wanted);
-    assert_eq!(rt; refused(&lock)?, (0, 80));
-    assert!(rt; !lock.is_locked());
-    Ok(())
-}
-
 /// Whether a guard of each mode prints the value.
 fn are_shown<R: RawRwLockUpgrade + Drop>(
     alloc: Global,
@@ -103,9 +82,21 @@ fn are_shown<R: RawRwLockUpgrade + Drop>(
     Ok([reads, writes, texts_are(alloc, &guard, "5")])
 }
 
+fn arc_guards<
+    R: RawRwLockUpgradeTimed<Duration = (), Instant = ()> + RawRwLockUpgradeDowngrade + Drop,
+>(alloc: Global, waiter: R::Waiter) -> Result<(), Fail> {
+    let lock: RwLock<R, i64> = RwLock::new(alloc, waiter, 5)?;
+    let lock = Arc::new(alloc, lock)?;
+    equal((is_same(&lock)?, lock.is_locked()), (true, false))?;
+    equal(are_shown(alloc, &lock)?, [true; 3])?;
+    equal(
+        written(&lock)?,
+        (5, [Some(10), Some(20), Some(40), Some(80)]),
+    )?;
+    equal((refused(&lock)?, lock.is_locked()), ((0, 80), false))
+}
+
 #[test]
-fn arc_guards_print_as_told(rt: HostRuntime) -> Result<(), Fail> {
-    let lock = Arc::new(rt.alloc(), Number::new(rt.alloc(), rt, 5)?)?;
-    assert_eq!(rt; are_shown(rt.alloc(), &lock)?, [true; 3]);
-    Ok(())
+fn an_arc_guard_is_of_its_lock_and_gets_at_the_value(rt: HostRuntime) -> Result<(), Fail> {
+    arc_guards::<TokenRaw<HostRuntime>>(rt.alloc(), rt)
 }

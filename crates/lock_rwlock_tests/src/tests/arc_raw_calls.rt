@@ -3,8 +3,10 @@ use super::watched_rwlock;
 use lock_base::machine::Mode::{self, Exclusive, Shared, Upgradable};
 use lock_base::raw::Fault;
 use lock_guard::raw::{
-    RawRwLock, RawRwLockTimed, RawRwLockUpgrade, RawRwLockUpgradeDowngrade, RawRwLockUpgradeTimed,
+    RawRwLock, RawRwLockTimed, RawRwLockUpgradeDowngrade, RawRwLockUpgradeFair,
+    RawRwLockUpgradeTimed,
 };
+use lock_raws::TokenRaw;
 use lock_rwlock::{FairMode, RwLock};
 use lock_rwlock_arc::{
     ArcRwLockGuard, ArcRwLockUpgradableReadGuard, ArcRwLockWriteGuard, RwLockArc, RwLockArcTimed,
@@ -16,6 +18,7 @@ use lock_test_support::raw_lock::RawCall::{
     Upgrade,
 };
 use lock_test_support::raw_lock::Watch;
+use std::alloc::Global;
 use std::sync::{Arc, Wait};
 use std::test::Fail;
 
@@ -57,16 +60,6 @@ fn upgradable_acquisitions<
     watch.saw(&[TryLockUntil(Upgradable, 4), Unlock(Upgradable)]);
 }
 
-#[test]
-fn raw_calls_of_acquisitions_by_an_arc(rt: HostRuntime) -> Result<(), Fail> {
-    let (lock, calls) = watched_rwlock(rt.alloc(), rt, 0)?;
-    let mut watch = Watch::new(rt, calls);
-    let lock = Arc::new(rt.alloc(), lock)?;
-    acquisitions(&lock, &mut watch);
-    upgradable_acquisitions(&lock, &mut watch);
-    watch.verdict()
-}
-
 /// What a guard of the mode, which was just acquired, can do whatever its mode.
 fn calls_of_a_guard<W: Wait + Drop, M: FairMode<R>, R: RawRwLock + Drop>(
     guard: ArcRwLockGuard<M, R, u64>,
@@ -86,29 +79,28 @@ fn calls_of_a_guard<W: Wait + Drop, M: FairMode<R>, R: RawRwLock + Drop>(
     lock
 }
 
-/// The ends of guards that were just acquired: by `into_arc`, and fairly.
-fn ends_of_guards<W: Wait + Drop, M: FairMode<R>, R: RawRwLock + Drop>(
-    first: ArcRwLockGuard<M, R, u64>,
+/// The end of a guard that was just acquired, by `into_arc`.
+fn end_guard<W: Wait + Drop, M: FairMode<R>, R: RawRwLock + Drop>(
+    guard: ArcRwLockGuard<M, R, u64>,
     mode: Mode,
     watch: &mut Watch<W, RawCall>,
 ) {
-    drop(ArcRwLockGuard::into_arc(first));
+    drop(ArcRwLockGuard::into_arc(guard));
     watch.saw(&[Lock(mode), Unlock(mode)]);
 }
 
-#[test]
-fn raw_calls_of_arc_guards(rt: HostRuntime) -> Result<(), Fail> {
-    let (lock, calls) = watched_rwlock(rt.alloc(), rt, 0)?;
-    let mut watch = Watch::new(rt, calls);
-    let lock = Arc::new(rt.alloc(), lock)?;
-    drop(calls_of_a_guard(RwLock::read_arc(&lock)?, Shared, &mut watch));
-    drop(calls_of_a_guard(RwLock::write_arc(&lock)?, Exclusive, &mut watch));
-    drop(calls_of_a_guard(RwLock::upgradable_read_arc(&lock)?, Upgradable, &mut watch));
-    ends_of_guards(RwLock::read_arc(&lock)?, Shared, &mut watch);
-    ends_of_guards(RwLock::write_arc(&lock)?, Exclusive, &mut watch);
-    ArcRwLockGuard::unlock_fair(RwLock::upgradable_read_arc(&lock)?);
+fn calls_of_guards<R: RawRwLockUpgradeFair + Drop, W: Wait + Drop>(
+    lock: &Shareable<R>,
+    watch: &mut Watch<W, RawCall>,
+) -> Result<(), Fault> {
+    drop(calls_of_a_guard(RwLock::read_arc(lock)?, Shared, watch));
+    drop(calls_of_a_guard(RwLock::write_arc(lock)?, Exclusive, watch));
+    drop(calls_of_a_guard(RwLock::upgradable_read_arc(lock)?, Upgradable, watch));
+    end_guard(RwLock::read_arc(lock)?, Shared, watch);
+    end_guard(RwLock::write_arc(lock)?, Exclusive, watch);
+    ArcRwLockGuard::unlock_fair(RwLock::upgradable_read_arc(lock)?);
     watch.saw(&[Lock(Upgradable), UnlockFair(Upgradable)]);
-    watch.verdict()
+    Ok(())
 }
 
 /// Up, and down to each lower mode.
@@ -153,16 +145,6 @@ fn timed_upgrades<W: Wait + Drop, R: RawRwLockUpgradeTimed<Duration = u64, Insta
     Ok(())
 }
 
-#[test]
-fn raw_calls_of_transitions_by_an_arc(rt: HostRuntime) -> Result<(), Fail> {
-    let (lock, calls) = watched_rwlock(rt.alloc(), rt, 0)?;
-    let mut watch = Watch::new(rt, calls);
-    let lock = Arc::new(rt.alloc(), lock)?;
-    transitions(&lock, &mut watch)?;
-    timed_upgrades(&lock, &mut watch)?;
-    watch.verdict()
-}
-
 /// Calls under an upgraded guard, whose closure looks at the raw lock, and one that is not made beside a reader.
 fn calls_under_an_upgrade<
     W: Wait + Drop,
@@ -185,11 +167,24 @@ fn calls_under_an_upgrade<
     Ok(())
 }
 
-#[test]
-fn raw_calls_under_an_upgrade_by_an_arc(rt: HostRuntime) -> Result<(), Fail> {
-    let (lock, calls) = watched_rwlock(rt.alloc(), rt, 0)?;
-    let mut watch = Watch::new(rt, calls);
-    let lock = Arc::new(rt.alloc(), lock)?;
+fn all_calls<R: RawRwLockUpgradeFair + RawRwLockUpgradeDowngrade + Drop, W: Wait + Drop>(
+    alloc: Global,
+    waiter: R::Waiter,
+    watcher: W,
+) -> Result<(), Fail> {
+    let (lock, calls) = watched_rwlock::<R, u64>(alloc, waiter, 0)?;
+    let mut watch = Watch::new(watcher, calls);
+    let lock = Arc::new(alloc, lock)?;
+    acquisitions(&lock, &mut watch);
+    upgradable_acquisitions(&lock, &mut watch);
+    calls_of_guards(&lock, &mut watch)?;
+    transitions(&lock, &mut watch)?;
+    timed_upgrades(&lock, &mut watch)?;
     calls_under_an_upgrade(&lock, &mut watch)?;
     watch.verdict()
+}
+
+#[test]
+fn raw_calls_by_an_arc_of_a_rwlock(rt: HostRuntime) -> Result<(), Fail> {
+    all_calls::<TokenRaw<HostRuntime>, HostRuntime>(rt.alloc(), rt, rt)
 }

@@ -4,15 +4,13 @@ use lock_raws::TokenRaw;
 use lock_rwlock::{
     MappedRwLockReadGuard, MappedRwLockWriteGuard, RwLock, RwLockReadGuard, RwLockWriteGuard,
 };
-use lock_test_support::answer::texts_are;
+use lock_test_support::answer::{equal, texts_are};
 use lock_test_support::project::{Item0, Item1, Nth};
 use std::alloc::Global;
 use std::process::Abort;
 use std::test::Fail;
 
 type Pair = (u64, u64);
-
-type Paired = RwLock<TokenRaw<HostRuntime>, Pair>;
 
 /// What the sixth item of a pair misses, and the second and the first, which two guards read at once. Whether the lock is
 /// held once one has ended.
@@ -30,14 +28,6 @@ fn miss_and_read<R: RawRwLockFair>(
     (missed, second, *other, lock.is_locked())
 }
 
-#[test]
-fn parts_of_a_value_that_is_read(rt: HostRuntime) -> Result<(), Fail> {
-    let lock = Paired::new(rt.alloc(), rt, (1, 2))?;
-    assert_eq!(rt; miss_and_read(&rt, &lock), (5, Some(2), 1, true));
-    assert!(rt; !lock.is_locked());
-    Ok(())
-}
-
 /// Writes 7 to the second item of a pair. What the sixth misses, and whether the lock is held exclusively then.
 fn miss_and_write<R: RawRwLockFair>(rt: &impl Abort, lock: &RwLock<R, Pair>) -> (usize, bool) {
     let guard = RwLockWriteGuard::try_map(lock.write(), Nth(2)).err();
@@ -51,14 +41,6 @@ fn miss_and_write<R: RawRwLockFair>(rt: &impl Abort, lock: &RwLock<R, Pair>) -> 
     (missed, is_locked)
 }
 
-#[test]
-fn parts_of_a_value_that_is_written(rt: HostRuntime) -> Result<(), Fail> {
-    let lock = Paired::new(rt.alloc(), rt, (1, 2))?;
-    assert_eq!(rt; miss_and_write(&rt, &lock), (5, true));
-    assert_eq!(rt; lock.into_inner(), (1, 7));
-    Ok(())
-}
-
 /// Whether both guards of a part print it.
 fn are_shown<R: RawRwLock>(alloc: Global, lock: &RwLock<R, Pair>) -> (bool, bool) {
     let part = RwLockReadGuard::map(lock.read(), Item0);
@@ -68,9 +50,20 @@ fn are_shown<R: RawRwLock>(alloc: Global, lock: &RwLock<R, Pair>) -> (bool, bool
     (is_shown, texts_are(alloc, &part, "5"))
 }
 
+fn parts<R: RawRwLockFair + Drop>(
+    rt: &impl Abort,
+    alloc: Global,
+    waiter: R::Waiter,
+) -> Result<(), Fail> {
+    let lock: RwLock<R, Pair> = RwLock::new(alloc, waiter, (5, 2))?;
+    equal(are_shown(alloc, &lock), (true, true))?;
+    equal(miss_and_read(rt, &lock), (5, Some(2), 5, true))?;
+    equal(miss_and_write(rt, &lock), (5, true))?;
+    equal(lock.is_locked(), false)?;
+    equal(lock.into_inner(), (5, 7))
+}
+
 #[test]
-fn texts_of_mapped_guards_of_a_rwlock(rt: HostRuntime) -> Result<(), Fail> {
-    let lock = Paired::new(rt.alloc(), rt, (5, 0))?;
-    assert_eq!(rt; are_shown(rt.alloc(), &lock), (true, true));
-    Ok(())
+fn a_part_is_missed_read_written_and_printed(rt: HostRuntime) -> Result<(), Fail> {
+    parts::<TokenRaw<HostRuntime>>(&rt, rt.alloc(), rt)
 }

@@ -6,6 +6,7 @@ use lock_guard::raw::{
     RawRwLock, RawRwLockFair, RawRwLockTimed, RawRwLockUpgrade, RawRwLockUpgradeDowngrade,
     RawRwLockUpgradeFair, RawRwLockUpgradeTimed,
 };
+use lock_raws::TokenRaw;
 use lock_rwlock::{
     MappedRwLockReadGuard, MappedRwLockWriteGuard, RwLock, RwLockGuard, RwLockReadGuard,
     RwLockUpgradableReadGuard, RwLockWriteGuard,
@@ -17,6 +18,7 @@ use lock_test_support::raw_lock::RawCall::{
     UnlockFair, Upgrade,
 };
 use lock_test_support::raw_lock::{Liar, Watch};
+use std::alloc::Global;
 use std::sync::Wait;
 use std::test::Fail;
 
@@ -62,15 +64,6 @@ fn upgradable_acquisitions<W: Wait + Drop, R: RawRwLockUpgradeTimed<Duration = u
     watch.saw(&[TryLockUntil(Upgradable, 4), Unlock(Upgradable)]);
 }
 
-#[test]
-fn raw_calls_of_acquisitions(rt: HostRuntime) -> Result<(), Fail> {
-    let (lock, calls) = watched_rwlock(rt.alloc(), rt, (0, 0))?;
-    let mut watch = Watch::new(rt, calls);
-    acquisitions(&lock, &mut watch);
-    upgradable_acquisitions(&lock, &mut watch);
-    watch.verdict()
-}
-
 /// What a guard of the mode, which was just acquired, can do whatever its mode.
 fn calls_of_a_guard<W: Wait + Drop, R: RawRwLock, L: AcquireFair>(
     lock: &Paired<R>,
@@ -87,16 +80,6 @@ fn calls_of_a_guard<W: Wait + Drop, R: RawRwLock, L: AcquireFair>(
     watch.saw(&[UnlockFair(mode), IsLocked, Lock(mode)]);
     RwLockGuard::unlock_fair(guard);
     watch.saw(&[UnlockFair(mode)]);
-}
-
-#[test]
-fn raw_calls_of_guards(rt: HostRuntime) -> Result<(), Fail> {
-    let (lock, calls) = watched_rwlock(rt.alloc(), rt, (0, 0))?;
-    let mut watch = Watch::new(rt, calls);
-    calls_of_a_guard(&lock, lock.read(), Shared, &mut watch);
-    calls_of_a_guard(&lock, lock.write(), Exclusive, &mut watch);
-    calls_of_a_guard(&lock, lock.upgradable_read(), Upgradable, &mut watch);
-    watch.verdict()
 }
 
 /// Up, and down to each lower mode.
@@ -143,16 +126,6 @@ fn refused_upgrades<W: Wait + Drop, R: RawRwLockUpgradeTimed<Duration = u64, Ins
     watch.saw(&[Unlock(Shared)]);
 }
 
-#[test]
-fn raw_calls_of_transitions(rt: HostRuntime) -> Result<(), Fail> {
-    let (lock, calls) = watched_rwlock(rt.alloc(), rt, (0, 0))?;
-    let mut watch = Watch::new(rt, calls);
-    transitions(&lock, &mut watch);
-    timed_upgrades(&lock, &mut watch);
-    refused_upgrades(&lock, &mut watch);
-    watch.verdict()
-}
-
 /// Calls under an upgraded guard, and those that are not made beside a reader. The closure looks at the raw lock.
 fn calls_under_an_upgrade<
     W: Wait + Drop,
@@ -181,14 +154,6 @@ fn calls_under_an_upgrade<
     watch.saw(&[Unlock(Shared)]);
 }
 
-#[test]
-fn raw_calls_under_an_upgrade(rt: HostRuntime) -> Result<(), Fail> {
-    let (lock, calls) = watched_rwlock(rt.alloc(), rt, (0, 0))?;
-    let mut watch = Watch::new(rt, calls);
-    calls_under_an_upgrade(&lock, &mut watch);
-    watch.verdict()
-}
-
 fn calls_of_mapped_guards<W: Wait + Drop, R: RawRwLockFair>(
     lock: &Paired<R>,
     watch: &mut Watch<W, RawCall>,
@@ -207,12 +172,49 @@ fn calls_of_mapped_guards<W: Wait + Drop, R: RawRwLockFair>(
     watch.saw(&[Lock(Exclusive), Unlock(Exclusive)]);
 }
 
-#[test]
-fn raw_calls_of_mapped_guards(rt: HostRuntime) -> Result<(), Fail> {
-    let (lock, calls) = watched_rwlock(rt.alloc(), rt, (0, 0))?;
-    let mut watch = Watch::new(rt, calls);
+/// A raw lock with all that an honest one can do.
+trait WholeRaw: RawRwLockUpgradeFair + RawRwLockUpgradeDowngrade + Drop {}
+
+impl<R: RawRwLockUpgradeFair + RawRwLockUpgradeDowngrade + Drop> WholeRaw for R {}
+
+fn calls_of_acquisitions_and_guards<R: WholeRaw, W: Wait + Drop>(
+    alloc: Global,
+    waiter: R::Waiter,
+    watcher: W,
+) -> Result<(), Fail> {
+    let (lock, calls) = watched_rwlock::<R, (u64, u64)>(alloc, waiter, (0, 0))?;
+    let mut watch = Watch::new(watcher, calls);
+    acquisitions(&lock, &mut watch);
+    upgradable_acquisitions(&lock, &mut watch);
+    calls_of_a_guard(&lock, lock.read(), Shared, &mut watch);
+    calls_of_a_guard(&lock, lock.write(), Exclusive, &mut watch);
+    calls_of_a_guard(&lock, lock.upgradable_read(), Upgradable, &mut watch);
     calls_of_mapped_guards(&lock, &mut watch);
     watch.verdict()
+}
+
+#[test]
+fn raw_calls_of_acquisitions_and_guards(rt: HostRuntime) -> Result<(), Fail> {
+    calls_of_acquisitions_and_guards::<TokenRaw<HostRuntime>, HostRuntime>(rt.alloc(), rt, rt)
+}
+
+fn calls_of_transitions<R: WholeRaw, W: Wait + Drop>(
+    alloc: Global,
+    waiter: R::Waiter,
+    watcher: W,
+) -> Result<(), Fail> {
+    let (lock, calls) = watched_rwlock::<R, (u64, u64)>(alloc, waiter, (0, 0))?;
+    let mut watch = Watch::new(watcher, calls);
+    transitions(&lock, &mut watch);
+    timed_upgrades(&lock, &mut watch);
+    refused_upgrades(&lock, &mut watch);
+    calls_under_an_upgrade(&lock, &mut watch);
+    watch.verdict()
+}
+
+#[test]
+fn raw_calls_of_transitions(rt: HostRuntime) -> Result<(), Fail> {
+    calls_of_transitions::<TokenRaw<HostRuntime>, HostRuntime>(rt.alloc(), rt, rt)
 }
 
 fn bumps_by_default<R: RawRwLockUpgradeFair>(raw: &R) {

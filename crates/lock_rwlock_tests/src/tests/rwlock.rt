@@ -3,7 +3,7 @@ use lock_base::raw::Fault;
 use lock_guard::raw::{RawRwLock, RawRwLockUpgrade, RawRwLockUpgradeDowngrade};
 use lock_raws::TokenRaw;
 use lock_rwlock::{RwLock, RwLockReadGuard, RwLockUpgradableReadGuard, RwLockWriteGuard};
-use lock_test_support::answer::{debug_is, holds_or_lacks_memory, texts_are};
+use lock_test_support::answer::{debug_is, equal, holds_or_lacks_memory, texts_are};
 use lock_test_support::raw_lock::Liar;
 use lock_test_support::{Count, add_in_four_threads};
 use std::alloc::Global;
@@ -63,13 +63,6 @@ fn refused<R: RawRwLockUpgradeDowngrade>(lock: &RwLock<R, u64>) -> (u64, u64, bo
     )
 }
 
-#[test]
-fn a_refused_upgrade_calls_no_closure(rt: HostRuntime) -> Result<(), Fail> {
-    let lock = Shared::new(rt.alloc(), rt, 1)?;
-    assert_eq!(rt; refused(&lock), (0, 1, true));
-    Ok(())
-}
-
 /// Whether the lock is held exclusively by a reader, and by a writer.
 fn is_exclusive<R: RawRwLock>(lock: &RwLock<R, u64>) -> (bool, bool) {
     let reader = lock.read();
@@ -80,13 +73,6 @@ fn is_exclusive<R: RawRwLock>(lock: &RwLock<R, u64>) -> (bool, bool) {
         by_reader,
         RwLockWriteGuard::rwlock(&writer).is_locked_exclusive(),
     )
-}
-
-#[test]
-fn a_guard_is_of_its_lock(rt: HostRuntime) -> Result<(), Fail> {
-    let lock = Shared::new(rt.alloc(), rt, 1)?;
-    assert_eq!(rt; is_exclusive(&lock), (false, true));
-    Ok(())
 }
 
 /// Raises a flag while it reads, and looks for the other's. One thread alone never sees it.
@@ -132,13 +118,6 @@ fn refused_memory_rwlock_makers(rt: HostRuntime) {
     assert!(rt; holds_or_lacks_memory(made.map(|lock| lock.into_inner()), 7));
 }
 
-#[test]
-fn makers_give_locks(rt: HostRuntime) -> Result<(), Fail> {
-    assert_eq!(rt; Shared::from(rt.alloc(), rt, 6)?.into_inner(), 6);
-    assert_eq!(rt; Shared::default(rt.alloc(), rt)?.into_inner(), 0);
-    Ok(())
-}
-
 /// How many of 66 tries give a reader beside those before.
 fn readers_of_66<R: RawRwLock>(alloc: Global, lock: &RwLock<R, u64>) -> Result<usize, Fail> {
     let mut readers = Vec::new(alloc);
@@ -150,13 +129,27 @@ fn readers_of_66<R: RawRwLock>(alloc: Global, lock: &RwLock<R, u64>) -> Result<u
     Ok(readers.len())
 }
 
+fn makers<R: RawRwLock + Drop>(alloc: Global, waiters: [R::Waiter; 4]) -> Result<(), Fail> {
+    let [first, second, third, last] = waiters;
+    let made: RwLock<R, u64> = RwLock::new(alloc, first, 0)?;
+    equal(readers_of_66(alloc, &made)?, 64)?;
+    let made: RwLock<R, u64> = RwLock::with_readers(alloc, second, 3, 0)?;
+    equal(readers_of_66(alloc, &made)?, 3)?;
+    let from: RwLock<R, u64> = RwLock::from(alloc, third, 6)?;
+    let mut default: RwLock<R, u64> = RwLock::default(alloc, last)?;
+    *default.get_mut() = 5;
+    let (raw, value) = default.into_inner_with_raw();
+    let again = RwLock::from_raw(raw, value)?;
+    let is_held = again.is_locked() || again.is_locked_exclusive();
+    equal(
+        (from.into_inner(), is_held, again.into_inner()),
+        (6, false, 5),
+    )
+}
+
 #[test]
-fn as_many_read_as_the_maker_was_told(rt: HostRuntime) -> Result<(), Fail> {
-    let lock = Shared::new(rt.alloc(), rt, 0)?;
-    assert_eq!(rt; readers_of_66(rt.alloc(), &lock)?, 64);
-    let lock = Shared::with_readers(rt.alloc(), rt, 3, 0)?;
-    assert_eq!(rt; readers_of_66(rt.alloc(), &lock)?, 3);
-    Ok(())
+fn makers_give_locks_of_as_many_readers_as_told(rt: HostRuntime) -> Result<(), Fail> {
+    makers::<TokenRaw<HostRuntime>>(rt.alloc(), [rt, rt, rt, rt])
 }
 
 #[test]
@@ -168,17 +161,6 @@ fn makers_refuse_limits_out_of_range(rt: HostRuntime) {
     let many = Shared::with_readers(alloc, rt, 4_294_967_296, 5);
     assert!(rt; matches!(&many, Err(Fault::BadLimits)));
     drop(many);
-}
-
-#[test]
-fn a_lock_gives_what_was_put_in(rt: HostRuntime) -> Result<(), Fail> {
-    let mut lock = Shared::new(rt.alloc(), rt, 4)?;
-    *lock.get_mut() = 5;
-    let (raw, value) = lock.into_inner_with_raw();
-    let lock = Shared::from_raw(raw, value)?;
-    assert!(rt; !lock.is_locked() && !lock.is_locked_exclusive());
-    assert_eq!(rt; lock.into_inner(), 5);
-    Ok(())
 }
 
 /// Whether a lock beside a guard of each mode, and the guard, print as they are told to.
@@ -203,9 +185,17 @@ fn are_shown<R: RawRwLockUpgrade>(alloc: Global, lock: &RwLock<R, u64>) -> [bool
     ]
 }
 
+fn held_and_shown<R: RawRwLockUpgradeDowngrade + Drop>(
+    alloc: Global,
+    waiter: R::Waiter,
+) -> Result<(), Fail> {
+    let lock: RwLock<R, u64> = RwLock::new(alloc, waiter, 5)?;
+    equal(are_shown(alloc, &lock), [true; 6])?;
+    equal(is_exclusive(&lock), (false, true))?;
+    equal(refused(&lock), (0, 5, true))
+}
+
 #[test]
-fn locks_and_guards_print_as_told(rt: HostRuntime) -> Result<(), Fail> {
-    let lock = Shared::new(rt.alloc(), rt, 5)?;
-    assert_eq!(rt; are_shown(rt.alloc(), &lock), [true; 6]);
-    Ok(())
+fn a_guard_is_of_its_lock_and_prints_its_value(rt: HostRuntime) -> Result<(), Fail> {
+    held_and_shown::<TokenRaw<HostRuntime>>(rt.alloc(), rt)
 }
