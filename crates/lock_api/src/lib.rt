@@ -45,7 +45,14 @@ pub use lock_rwlock_arc::{
     ArcRwLockReadGuard, ArcRwLockUpgradableReadGuard, ArcRwLockWriteGuard, RwLockArc,
     RwLockArcTimed, RwLockArcUpgrade, RwLockArcUpgradeTimed,
 };
+pub use lock_seated::{Attempt, Party, PartyView, SeatedLock, WordRule, every_state_keeps_rule};
 pub use lock_states::table::{TableToken, TokenTable};
+pub use lock_states::word::{PackedWord, WordToken};
+pub use lock_states::world::World;
+pub use lock_word::{
+    AtomicStep, Down, ExWant, Outcome, PartyState, every_interleaving, exchanges_are_of_bags,
+    subtractions_are_of_bags, words_are_of_one_bag,
+};
 
 #[cfg(test)]
 mod tests;

@@ -8,6 +8,7 @@ mod part;
 mod reentrant;
 mod refused_memory;
 mod rwlock;
+mod table_is_word;
 
 use crate::tests::by_name::by_name;
 use crate::tests::counted_state::CountedState;

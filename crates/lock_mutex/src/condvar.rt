@@ -149,7 +149,8 @@ where
             (held_value mutex_guard_value (held_of guard.old)) (has_timed_out result)
             (held_value mutex_guard_value (held_of guard.new)) }
     {
-        if let Some(deadline) = C::checked_duration_to_instant(&timeout) {
+        let mutex = guard.held.lock.mutex;
+        if let Some(deadline) = C::instant_after(&mutex.raw, &timeout) {
             return self.wait_while_until(guard, condition, deadline);
         }
         self.wait_while(guard, condition);

@@ -4,6 +4,7 @@ mod condition_loop;
 mod condvar;
 mod mapped;
 mod mutex;
+mod order;
 mod raw_calls;
 mod then;
 

@@ -8,10 +8,10 @@ use Rattle.lock_base.specs.declared.machine.mode.Mode.TheVariants.{Shared, Exclu
 use Rattle.lock_base.specs.declared.machine.mode_step.ModeStep.{ModeStep}
 use Rattle.lock_base.specs.declared.machine.mode_step.ModeStep.TheVariants.{Acquire, Release, Change}
 use Rattle.lock_base.specs.declared.machine.bag.Bag.{Bag}
-use Rattle.lock_base.specs.Modes.{tokens, admits, may_become, count_of, one_less}
+use Rattle.lock_base.specs.Modes.{tokens, admits, count_of, one_less}
 use Rattle.lock_base.specs.ModeRuns.{has, Permits, bag_after}
 use Rattle.lock_base.specs.Tokens.{bag_of_tokens}
-use Rattle.lock_raws.specs.Unblocking.{unblocks}
+use Rattle.lock_raws.specs.Unblocking.{unblocks, may_upgrade}
 use Rattle.lock_base.proofs.ModeLemmas.{tokens-one_more}
 use Rattle.lock_base.proofs.TokenSteps.{MakesStep}
 
@@ -30,7 +30,7 @@ on_true false is p = absurd (false≢true is)
 pub unblocks_none : (limit : ℕ) (b : Bag) → unblocks limit b b ≡ false
 unblocks_none limit b =
     none_of (not_and (admits limit b Shared)) (not_and (admits limit b Exclusive)) (not_and (admits limit b Upgradable))
-    (not_and (may_become b Exclusive))
+    (not_and (may_upgrade b))
 
 -- a step that may be made has what it gives up
 pub has_permitted : (limit : ℕ) (b : Bag) (step : ModeStep) → Permits limit b step → has b step ≡ true

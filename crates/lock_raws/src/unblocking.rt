@@ -2,7 +2,7 @@
 ghost use Rattle.std.specs.Prelude.{◌≡◌, ◌<◌, ◌^◌, IsTrue};
 ghost use Rattle.lock_base.specs.Modes.{tokens, is_move};
 ghost use Rattle.lock_base.specs.Tokens.{bag_of_tokens};
-ghost use Rattle.lock_raws.specs.Unblocking.{unblocks, newly_admits};
+ghost use Rattle.lock_raws.specs.Unblocking.{unblocks, newly_admits, may_upgrade};
 
 use crate::arbiter::Arbiter;
 use lock_base::machine::{Bag, Mode, ModeStep};
@@ -49,7 +49,7 @@ fn unblocks(readers: u64, before: &Bag, after: &Bag) -> bool
     newly_admits(readers, before, after, Mode::Shared)
         || newly_admits(readers, before, after, Mode::Exclusive)
         || newly_admits(readers, before, after, Mode::Upgradable)
-        || !before.may_become(Mode::Exclusive) && after.may_become(Mode::Exclusive)
+        || !may_upgrade(before) && may_upgrade(after)
 }
 
 /// Whether the mode is admitted beside these, and was not before.
@@ -59,4 +59,12 @@ fn newly_admits(readers: u64, before: &Bag, after: &Bag, mode: Mode) -> bool
     ensures { result ≡ newly_admits readers before.now after.now mode }
 {
     !before.admits(readers, mode) && after.admits(readers, mode)
+}
+
+/// Whether an upgradable token is out, and may become exclusive.
+fn may_upgrade(bag: &Bag) -> bool
+    requires { tokens bag.now < 2 ^ 64 }
+    ensures { result ≡ may_upgrade bag.now }
+{
+    bag.has(ModeStep::Change(Mode::Upgradable, Mode::Exclusive)) && bag.may_become(Mode::Exclusive)
 }

@@ -1,4 +1,8 @@
 //! What no clause says of the raw locks.
 mod markers;
+mod queue;
 mod raws;
 mod recording;
+mod threads;
+mod wake_ups;
+mod wakes;

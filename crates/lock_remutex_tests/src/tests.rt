@@ -1,5 +1,6 @@
 //! What no clause says of a reentrant lock: what a run of calls on one does, over an honest raw lock and over one that lies.
 mod arc;
+mod full_count;
 mod levels;
 mod makers;
 mod mapped;

@@ -2,6 +2,7 @@
 mod arc;
 mod arc_raw_calls;
 mod mapped;
+mod order;
 mod raw_calls;
 mod rwlock;
 

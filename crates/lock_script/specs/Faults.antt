@@ -1,32 +1,29 @@
 -- Which faults a step of a replay meets.
-use Rattle.std.specs.Prelude.{ℕ, List, ⊤}
+use Rattle.std.specs.Prelude.{◌≡◌, ◌≤◌, ℕ, List, length, ⊤, Option}
+use Rattle.std.specs.Io.KnownBytes.{Consumes}
 use Rattle.lock_script.specs.declared.fault.ReplayFault.{ReplayFault}
 use Rattle.lock_script.specs.declared.fault.ReplayFault.TheVariants.{BadLine, TooLong, OutOfMemory, InputFailed, OutputFailed}
-use Rattle.lock_script.specs.Words.{IsFirstBad}
+use Rattle.lock_script.specs.Lines.{IsFirstBad}
 
--- a fault of one read, or of memory for what it gave
-abbrev pub IsInputFault : ReplayFault → Type 0
-IsInputFault (BadLine number) = ⊥
-IsInputFault TooLong = ⊥
-IsInputFault OutOfMemory = ⊤
-IsInputFault InputFailed = ⊤
-IsInputFault OutputFailed = ⊥
+-- a reader that had some bytes ahead, and has others now, gave bytes that pass
+abbrev pub Gives : Option (List ℕ) → Option (List ℕ) → (List ℕ → Type 0) → Type 0
+Gives ahead left Passes = (bytes : List ℕ) × (Consumes ahead left bytes × Passes bytes)
 
--- a fault of reading a script
-abbrev pub IsReadingFault : ReplayFault → Type 0
-IsReadingFault (BadLine number) = ⊥
-IsReadingFault TooLong = ⊤
-IsReadingFault OutOfMemory = ⊤
-IsReadingFault InputFailed = ⊤
-IsReadingFault OutputFailed = ⊥
+-- a fault of reading a script, and how much was read then
+abbrev pub IsReadingFault : Option (List ℕ) → Option (List ℕ) → ReplayFault → Type 0
+IsReadingFault ahead left (BadLine number) = ⊥
+IsReadingFault ahead left TooLong = Gives ahead left (λ bytes. length bytes ≡ 1048577)
+IsReadingFault ahead left OutOfMemory = Gives ahead left (λ bytes. length bytes ≤ 1048577)
+IsReadingFault ahead left InputFailed = Gives ahead left (λ bytes. length bytes ≤ 1048576)
+IsReadingFault ahead left OutputFailed = ⊥
 
 -- a fault of parsing these lines: a bad line is the first of them
-abbrev pub IsParsingFault : List (List ℕ) → ReplayFault → Type 0
-IsParsingFault lines (BadLine number) = IsFirstBad lines number
-IsParsingFault lines TooLong = ⊥
-IsParsingFault lines OutOfMemory = ⊤
-IsParsingFault lines InputFailed = ⊥
-IsParsingFault lines OutputFailed = ⊥
+abbrev pub IsParsingFault : (List (List ℕ) → Type 0) → (List (List ℕ) → Type 0) → List (List ℕ) → ReplayFault → Type 0
+IsParsingFault First Further lines (BadLine number) = IsFirstBad First Further lines number
+IsParsingFault First Further lines TooLong = ⊥
+IsParsingFault First Further lines OutOfMemory = ⊤
+IsParsingFault First Further lines InputFailed = ⊥
+IsParsingFault First Further lines OutputFailed = ⊥
 
 -- a fault that comes before anything is written
 abbrev pub IsBeforeWriting : ReplayFault → Type 0

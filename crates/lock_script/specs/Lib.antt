@@ -1,7 +1,9 @@
 pub mod Answers
 pub mod Faults
 pub mod Lines
+pub mod Numbers
 pub mod Pair
+pub mod Replays
 pub mod Script
 pub mod Session
 pub mod Words

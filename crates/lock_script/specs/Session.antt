@@ -1,6 +1,5 @@
 -- What a script is answered.
-use Rattle.std.specs.Prelude.{◌≡◌, ℕ, ℤ, List, [], ◌∷◌, Option, map}
-use Rattle.std.specs.Io.KnownBytes.{Appends}
+use Rattle.std.specs.Prelude.{◌≡◌, ℕ, ℤ, List, [], ◌∷◌, map}
 use Rattle.lock_base.specs.declared.machine.kind.Kind.{Kind}
 use Rattle.lock_base.specs.declared.machine.call.Call.{Call}
 use Rattle.lock_base.specs.declared.machine.reply.Reply.{Reply}
@@ -12,9 +11,10 @@ use Rattle.lock_script.specs.declared.maker.Maker.{Maker}
 use Rattle.lock_script.specs.declared.pair.Pair.{Pair}
 use Rattle.lock_script.specs.declared.pair.PairOp.{PairOp}
 use Rattle.lock_script.specs.Answers.{answer_lines}
-use Rattle.lock_script.specs.Lines.{fields_of, lines_of}
+use Rattle.lock_script.specs.Lines.{AreLines, fields_of, lines_of}
 use Rattle.lock_script.specs.Pair.{meaning}
 use Rattle.lock_script.specs.Script.{call_fields, maker_fields}
+use Rattle.lock_script.specs.Words.{IsCall, IsMaker}
 
 -- the limits are lawful
 abbrev pub HasLimits : Maker → Type 0
@@ -41,10 +41,8 @@ pub record Answers (maker : Maker) (calls : List (Call PairOp)) (text : List ℕ
 abbrev pub IsScriptOf : List ℕ → Maker → List (Call PairOp) → Type 0
 IsScriptOf bytes maker calls = maker_fields maker ∷ map call_fields calls ≡ map fields_of (lines_of bytes)
 
--- the text answers the script of these bytes
-abbrev pub IsAnswer : List ℕ → List ℕ → Type 0
-IsAnswer bytes text = (maker : Maker) × ((calls : List (Call PairOp)) × (IsScriptOf bytes maker calls × Answers maker calls text))
-
--- what was written in addition answers the script of these bytes
-abbrev pub WritesAnswer : List ℕ → Option (List ℕ) → Option (List ℕ) → Type 0
-WritesAnswer bytes old new = (text : List ℕ) × (IsAnswer bytes text × Appends old new text)
+-- the text answers the script of these bytes, whose lines are all good
+abbrev pub IsDeskAnswer : List ℕ → List ℕ → Type 0
+IsDeskAnswer bytes text =
+    AreLines IsMaker IsCall (lines_of bytes)
+    × ((maker : Maker) × ((calls : List (Call PairOp)) × (IsScriptOf bytes maker calls × Answers maker calls text)))

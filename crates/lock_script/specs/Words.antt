@@ -1,23 +1,8 @@
--- The fields of lines: numbers, and the words of each count of fields.
-use Rattle.std.specs.Prelude.{◌≡◌, ℕ, ℤ, ◌+◌, ◌^◌, ◌<◌, FitsSigned, List, [], ◌∷◌, ◌++◌, codes, decimal, ◌⊎◌}
-use Rattle.std.specs.Fmt.{signed_decimal}
-use Rattle.std.specs.Int.{w64}
-use Rattle.std.specs.Str.{IsUtf8}
-use Rattle.lock_script.specs.Lines.{fields_of}
+-- The fields of lines: the words of each count of fields.
+use Rattle.std.specs.Prelude.{◌≡◌, ℕ, List, [], ◌∷◌, ◌++◌, codes, ◌⊎◌}
 use Rattle.lock_base.specs.declared.machine.call.Form.TheVariants.{Block, Try, For, Until}
+use Rattle.lock_script.specs.Numbers.{IsParty, IsSigned, IsUnsigned}
 use Rattle.lock_script.specs.Script.{in_form}
-
--- an unsigned number of 64 bits
-abbrev pub IsUnsigned : List ℕ → Type 0
-IsUnsigned field = (number : ℕ) × ((number < 2 ^ 64) × (decimal number ≡ field))
-
--- the same, and not 0
-abbrev pub IsParty : List ℕ → Type 0
-IsParty field = (number : ℕ) × ((0 < number) × ((number < 2 ^ 64) × (decimal number ≡ field)))
-
--- a signed number of 64 bits
-abbrev pub IsSigned : List ℕ → Type 0
-IsSigned field = (number : ℤ) × (FitsSigned w64 number × (signed_decimal number ≡ field))
 
 -- the word is one of these
 abbrev pub IsOneOf : List (List ℕ) → List ℕ → Type 0
@@ -63,34 +48,21 @@ IsCall (word ∷ party ∷ guard ∷ item ∷ number ∷ []) =
     IsOneOf number_words word × (IsParty party × (IsUnsigned guard × (IsUnsigned item × IsSigned number)))
 IsCall (word ∷ party ∷ guard ∷ item ∷ number ∷ more ∷ others) = ⊥
 
+-- two signed numbers
+abbrev pub ArePair : List (List ℕ) → Type 0
+ArePair [] = ⊥
+ArePair (first ∷ []) = ⊥
+ArePair (first ∷ second ∷ []) = IsSigned first × IsSigned second
+ArePair (first ∷ second ∷ more ∷ others) = ⊥
+
+-- a limit, and two signed numbers
+abbrev pub AreLimitAndPair : List (List ℕ) → Type 0
+AreLimitAndPair [] = ⊥
+AreLimitAndPair (limit ∷ numbers) = IsUnsigned limit × ArePair numbers
+
 -- the fields make a lock
 abbrev pub IsMaker : List (List ℕ) → Type 0
 IsMaker [] = ⊥
 IsMaker (word ∷ []) = ⊥
-IsMaker (word ∷ places ∷ []) = ⊥
-IsMaker (word ∷ places ∷ first ∷ []) = ⊥
-IsMaker (word ∷ places ∷ first ∷ second ∷ []) =
-    (word ≡ codes "mutex") × (IsUnsigned places × (IsSigned first × IsSigned second))
-IsMaker (word ∷ places ∷ limit ∷ first ∷ second ∷ []) =
-    IsOneOf limit_words word × (IsUnsigned places × (IsUnsigned limit × (IsSigned first × IsSigned second)))
-IsMaker (word ∷ places ∷ limit ∷ first ∷ second ∷ more ∷ others) = ⊥
-
--- the line is a text whose fields make a call
-abbrev pub IsCallLine : List ℕ → Type 0
-IsCallLine line = IsUtf8 line × IsCall (fields_of line)
-
--- the line is a text whose fields make a lock
-abbrev pub IsMakerLine : List ℕ → Type 0
-IsMakerLine line = IsUtf8 line × IsMaker (fields_of line)
-
--- of these lines, the first of which is line `number`, line `bad` is the first that makes no call
-abbrev pub IsFirstBadCall : List (List ℕ) → ℕ → ℕ → Type 0
-IsFirstBadCall [] number bad = ⊥
-IsFirstBadCall (line ∷ lines) number bad =
-    ((bad ≡ number) × (IsCallLine line → ⊥)) ⊎ (IsCallLine line × IsFirstBadCall lines (number + 1) bad)
-
--- of the lines of a script, line `bad` is the first that is none of the format's; a script with no line has the bad line 1
-abbrev pub IsFirstBad : List (List ℕ) → ℕ → Type 0
-IsFirstBad [] bad = bad ≡ 1
-IsFirstBad (line ∷ lines) bad =
-    ((bad ≡ 1) × (IsMakerLine line → ⊥)) ⊎ (IsMakerLine line × IsFirstBadCall lines 2 bad)
+IsMaker (word ∷ places ∷ others) =
+    IsUnsigned places × (((word ≡ codes "mutex") × ArePair others) ⊎ (IsOneOf limit_words word × AreLimitAndPair others))

@@ -1,4 +1,5 @@
 //! Why a replay ends early.
+use std::alloc::{AllocError, AllocFailed};
 use thiserror::Error;
 
 /// Why a replay ended before all answers were written. The texts are those of the program.
@@ -15,4 +16,26 @@ pub enum ReplayFault {
     InputFailed,
     #[error("output failed")]
     OutputFailed,
+}
+
+impl From<AllocError> for ReplayFault {
+    ghost use Rattle.std.specs.Prelude.{◌≡◌};
+    ghost use Rattle.lock_script.specs.declared.fault.ReplayFault.TheVariants.{OutOfMemory};
+
+    ghost from_gives = { λ _ fault. fault ≡ OutOfMemory };
+
+    fn from(_fault: AllocError) -> ReplayFault {
+        ReplayFault::OutOfMemory
+    }
+}
+
+impl<T: Drop> From<AllocFailed<T>> for ReplayFault {
+    ghost use Rattle.std.specs.Prelude.{◌≡◌};
+    ghost use Rattle.lock_script.specs.declared.fault.ReplayFault.TheVariants.{OutOfMemory};
+
+    ghost from_gives = { λ _ fault. fault ≡ OutOfMemory };
+
+    fn from(_fault: AllocFailed<T>) -> ReplayFault {
+        ReplayFault::OutOfMemory
+    }
 }

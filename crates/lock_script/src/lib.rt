@@ -3,6 +3,7 @@
 
 mod answer;
 mod arguments;
+mod call;
 mod choice;
 mod fault;
 mod line;

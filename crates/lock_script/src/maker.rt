@@ -1,4 +1,11 @@
 //! What the first line of a script makes.
+ghost use Rattle.std.specs.Prelude.{◌≡◌, ◌↔◌, ◌∷◌, IfSome, IsSome, decimal};
+ghost use Rattle.lock_script.specs.Lines.{fields_of};
+ghost use Rattle.lock_script.specs.Script.{pair_fields};
+ghost use Rattle.lock_script.specs.Words.{AreLimitAndPair, ArePair};
+
+use crate::line::{Line, first_field};
+use crate::number::{signed, unsigned};
 use crate::pair::Pair;
 
 /// The lock that a script works on: its places, its limit where it has one, and its first value.
@@ -7,4 +14,51 @@ pub enum Maker {
     Mutex(u64, Pair),
     RwLock(u64, u64, Pair),
     Reentrant(u64, u64, Pair),
+}
+
+impl Line for Maker {
+    ghost use Rattle.lock_script.specs.Script.{maker_fields};
+    ghost use Rattle.lock_script.specs.Words.{IsMaker};
+
+    ghost fields = { maker_fields };
+
+    ghost makes = { IsMaker };
+
+    fn read(line: &str) -> Option<Maker> {
+        let (word, rest) = first_field(line)?;
+        let (places, rest) = first_field(rest)?;
+        let places = unsigned(places)?;
+        match word {
+            "mutex" => Some(Maker::Mutex(places, pair(rest)?)),
+            "rwlock" => {
+                let (readers, pair) = limit_and_pair(rest)?;
+                Some(Maker::RwLock(places, readers, pair))
+            }
+            "reentrant" => {
+                let (levels, pair) = limit_and_pair(rest)?;
+                Some(Maker::Reentrant(places, levels, pair))
+            }
+            _ => None,
+        }
+    }
+}
+
+/// The limit and the pair that three fields are.
+fn limit_and_pair(fields: &str) -> Option<(u64, Pair)>
+    ensures some { IsSome result ↔ AreLimitAndPair (fields_of fields.now) }
+    ensures texts { IfSome result (λ found. decimal found.0 ∷ pair_fields found.1 ≡ fields_of fields.now) }
+{
+    let (limit, rest) = first_field(fields)?;
+    Some((unsigned(limit)?, pair(rest)?))
+}
+
+/// The pair that two fields are.
+fn pair(fields: &str) -> Option<Pair>
+    ensures some { IsSome result ↔ ArePair (fields_of fields.now) }
+    ensures texts { IfSome result (λ pair. pair_fields pair ≡ fields_of fields.now) }
+{
+    let (first, second) = first_field(fields)?;
+    let first = signed(first)?;
+    let second = signed(second)?;
+    Some(Pair { first, second })
 }

@@ -1,21 +1,17 @@
 //! Numbers as a script writes them: as the answers write them, with no leading zero and no plus.
 ghost use Rattle.std.specs.Prelude.{◌≡◌, ◌↔◌, IfSome, IsSome, IsTrue, decimal};
 ghost use Rattle.std.specs.Fmt.{signed_decimal};
-ghost use Rattle.lock_script.specs.Words.{IsSigned, IsUnsigned};
-
-use itoa::{Buffer, Integer};
+ghost use Rattle.lock_script.specs.Numbers.{BeginsAbove0, HasForm, HasSignedForm, IsSigned, IsUnsigned};
 
 /// The unsigned number of 64 bits that a field is.
 pub fn unsigned(field: &str) -> Option<u64>
     ensures text { IfSome result (λ number. decimal number ≡ field.now) }
     ensures some { IsSome result ↔ IsUnsigned field.now }
 {
-    let number: u64 = field.parse().ok()?;
-    if is_text_of(number, field) {
-        Some(number)
-    } else {
-        None
+    if !has_form(field) {
+        return None;
     }
+    field.parse().ok()
 }
 
 /// The signed number of 64 bits that a field is.
@@ -23,17 +19,35 @@ pub fn signed(field: &str) -> Option<i64>
     ensures text { IfSome result (λ number. signed_decimal number ≡ field.now) }
     ensures some { IsSome result ↔ IsSigned field.now }
 {
-    let number: i64 = field.parse().ok()?;
-    if is_text_of(number, field) {
-        Some(number)
-    } else {
-        None
+    if !has_signed_form(field) {
+        return None;
+    }
+    field.parse().ok()
+}
+
+/// Whether a field is `0`, or begins with another digit.
+fn has_form(field: &str) -> bool
+    ensures { IsTrue result ↔ HasForm field.now }
+{
+    field == "0" || begins_above_0(field.as_bytes())
+}
+
+/// The same, where a minus may stand before another digit than `0`.
+fn has_signed_form(field: &str) -> bool
+    ensures { IsTrue result ↔ HasSignedForm field.now }
+{
+    match field.as_bytes() {
+        [b'-', digits @ ..] => begins_above_0(digits),
+        _ => has_form(field),
     }
 }
 
-/// Whether the field is what an answer writes for the number.
-fn is_text_of<N: Integer>(number: N, field: &str) -> bool
-    ensures { IsTrue result ↔ (N.text number ≡ field.now) }
+/// Whether the first byte is a digit from 1 to 9.
+fn begins_above_0(bytes: &[u8]) -> bool
+    ensures { IsTrue result ↔ BeginsAbove0 bytes.now }
 {
-    Buffer::new().format(number) == field
+    match bytes {
+        [first, ..] => b'1' <= *first && *first <= b'9',
+        [] => false,
+    }
 }

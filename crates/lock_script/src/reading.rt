@@ -1,7 +1,7 @@
 //! The bytes of a script, from any reader.
-ghost use Rattle.std.specs.Prelude.{◌≡◌, ◌+◌, ◌<◌, ◌≤◌, ◌++◌, List, ℕ, length, take, IfErr, IfOk, IfSome, IsErrOf, vec_len};
-ghost use Rattle.std.specs.Io.KnownBytes.{Consumes, IsAtEnd};
-ghost use Rattle.lock_script.specs.Faults.{IsInputFault, IsReadingFault};
+ghost use Rattle.std.specs.Prelude.{◌≡◌, ◌≤◌, ◌<◌, ◌++◌, length, take, IfErr, IfOk, OnErr, OnOk, vec_len};
+ghost use Rattle.std.specs.Io.KnownBytes.{Consumes, IsAtEnd, Keeps};
+ghost use Rattle.lock_script.specs.Faults.{IsReadingFault};
 
 use crate::fault::ReplayFault;
 use std::alloc::Global;
@@ -15,17 +15,21 @@ const CHUNK: usize = 8_192;
 
 /// Reads to the end, or to the first byte past the limit.
 pub fn read_script<R: Read>(alloc: Global, reader: &mut R) -> Result<Vec<u8>, ReplayFault>
-    ensures whole { IfOk result (λ script. IfSome (R.remaining reader.old) (λ bytes. script.items ≡ bytes)) }
-    ensures bounded { IfOk result (λ script. vec_len script ≤ SCRIPT_LIMIT) }
-    ensures too_long { IsErrOf result ReplayFault.TooLong → IfSome (R.remaining reader.old) (λ bytes. SCRIPT_LIMIT < length bytes) }
-    ensures fault { IfErr result IsReadingFault }
+    ensures read { IfOk result (λ script.
+        Consumes (R.remaining reader.old) (R.remaining reader.new) script.items) }
+    ensures ended { OnOk result (IsAtEnd (R.remaining reader.new)) }
+    ensures bounded { IfOk result (λ script. vec_len script ≤ 1048576) }
+    ensures fault { IfErr result (IsReadingFault (R.remaining reader.old) (R.remaining reader.new)) }
 {
     let mut script = Vec::new(alloc);
+    let mut chunk = [0u8; CHUNK];
     for _ in 0..u64::MAX {
-        let count = read_more(reader, &mut script)?;
+        let room = (SCRIPT_LIMIT + 1 - script.len()).min(CHUNK);
+        let count = read_once(reader, &mut chunk[..room])?;
         if count == 0 {
             return Ok(script);
         }
+        keep(&mut script, &chunk[..count])?;
         if script.len() > SCRIPT_LIMIT {
             return Err(ReplayFault::TooLong);
         }
@@ -33,29 +37,14 @@ pub fn read_script<R: Read>(alloc: Global, reader: &mut R) -> Result<Vec<u8>, Re
     Err(ReplayFault::InputFailed)
 }
 
-/// Appends what one read gives, and answers its count. 0 is the end.
-fn read_more<R: Read>(reader: &mut R, script: &mut Vec<u8>) -> Result<usize, ReplayFault>
-    requires { vec_len script.old ≤ SCRIPT_LIMIT }
-    ensures read { IfOk result (λ count. (bytes : List ℕ) × (length bytes ≡ count) × (script.new.items ≡ script.old.items ++ bytes)
-        × Consumes (R.remaining reader.old) (R.remaining reader.new) bytes) }
-    ensures end { IfOk result (λ count. count ≡ 0 → IsAtEnd (R.remaining reader.new)) }
-    ensures fault { IfErr result IsInputFault }
-{
-    let mut chunk = [0u8; CHUNK];
-    let room = (SCRIPT_LIMIT + 1 - script.len()).min(CHUNK);
-    let count = read_once(reader, &mut chunk[..room])?;
-    script
-        .extend_from_slice(&chunk[..count])
-        .map_err(|_| ReplayFault::OutOfMemory)?;
-    Ok(count)
-}
-
-/// One read, tried again where a signal interrupts it.
+/// One read, tried again where a signal interrupts it. It gives nothing at the end alone.
 fn read_once<R: Read>(reader: &mut R, chunk: &mut [u8]) -> Result<usize, ReplayFault>
     requires { 0 < length chunk.old }
     ensures bound { IfOk result (λ count. count ≤ length chunk.new) }
-    ensures read { IfOk result (λ count. Consumes (R.remaining reader.old) (R.remaining reader.new) (take count chunk.new)) }
+    ensures read { IfOk result (λ count.
+        Consumes (R.remaining reader.old) (R.remaining reader.new) (take count chunk.new)) }
     ensures end { IfOk result (λ count. count ≡ 0 → IsAtEnd (R.remaining reader.new)) }
+    ensures kept { OnErr result (Keeps (R.remaining reader.old) (R.remaining reader.new)) }
     ensures fault { IfErr result (λ fault. fault ≡ ReplayFault.InputFailed) }
 {
     for _ in 0..u64::MAX {
@@ -69,4 +58,13 @@ fn read_once<R: Read>(reader: &mut R, chunk: &mut [u8]) -> Result<usize, ReplayF
         }
     }
     Err(ReplayFault::InputFailed)
+}
+
+/// Appends what was read.
+fn keep(script: &mut Vec<u8>, bytes: &[u8]) -> Result<(), ReplayFault>
+    ensures kept { OnOk result (script.new.items ≡ script.old.items ++ bytes.now) }
+    ensures fault { IfErr result (λ fault. fault ≡ ReplayFault.OutOfMemory) }
+{
+    script.extend_from_slice(bytes)?;
+    Ok(())
 }

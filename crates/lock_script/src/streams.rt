@@ -1,52 +1,86 @@
 //! From a reader's script to a writer's answers.
-ghost use Rattle.std.specs.Prelude.{◌≡◌, ◌≤◌, length, IfErr, IfOk, IfSome, OnOk, string_bytes};
+ghost use Rattle.std.specs.Prelude.{◌≡◌, ◌≤◌, ◌<◌, length, take, IfErr, IfOk, OnErr, OnOk, string_bytes};
 ghost use Rattle.std.specs.Io.KnownBytes.{Appends, Keeps};
-ghost use Rattle.lock_script.specs.Faults.{IsBeforeWriting};
-ghost use Rattle.lock_script.specs.Session.{IsAnswer, WritesAnswer};
+ghost use Rattle.lock_script.specs.Faults.{IsBeforeWriting, IsParsingFault};
+ghost use Rattle.lock_script.specs.Lines.{lines_of};
+ghost use Rattle.lock_script.specs.Replays.{AppendsAnswer, AppendsFront, GivesScript, IsAnswer, IsFirst, IsFurther, Tells};
 
 use crate::choice::Which;
 use crate::fault::ReplayFault;
-use crate::reading::{SCRIPT_LIMIT, read_script};
-use crate::script::parse;
-use crate::session::answers;
+use crate::reading::read_script;
+use crate::session::desk_answers;
+use lock_states::table::TokenTable;
 use std::alloc::Global;
-use std::io::{Read, Write};
+use std::io::{ErrorKind, Read, Write};
 
 /// Reads a script to its end, makes all its answers and then writes them, a line each.
 ///
-/// Faults are told as they are met: of reading, of the lines from the first on, of the run, of writing.
+/// Faults are told as they are met: of reading, of the lines from the first on, of the run, of
+/// writing. Of a reader that does not tell what it has ahead, the clauses speak of the bytes that
+/// it gave.
 pub fn replay<R: Read, W: Write>(
     alloc: Global,
     which: Which,
     reader: &mut R,
     writer: &mut W,
 ) -> Result<(), ReplayFault>
-    ensures answered { OnOk result (IfSome (R.remaining reader.old) (λ bytes. WritesAnswer bytes (W.contents writer.old) (W.contents writer.new))) }
-    ensures read { OnOk result (IfSome (R.remaining reader.old) (λ bytes. length bytes ≤ SCRIPT_LIMIT)) }
-    ensures unwritten { IfErr result (λ fault. IsBeforeWriting fault → Keeps (W.contents writer.old) (W.contents writer.new)) }
+    ensures answered { OnOk result (GivesScript (R.remaining reader.old) (R.remaining reader.new)
+        (λ script. AppendsAnswer which script (W.contents writer.old) (W.contents writer.new))) }
+    ensures told { IfErr result (Tells which
+        (R.remaining reader.old) (R.remaining reader.new) (W.contents writer.old) (W.contents writer.new)) }
+    ensures unwritten { IfErr result (λ fault.
+        IsBeforeWriting fault → Keeps (W.contents writer.old) (W.contents writer.new)) }
 {
-    let text = answer(alloc, which, reader)?;
+    let script = read_script(alloc, reader)?;
+    let text = answers(alloc, which, script.as_slice())?;
     put(text.as_str(), writer)
 }
 
 /// The text of all answers to a script.
-fn answer<R: Read>(alloc: Global, which: Which, reader: &mut R) -> Result<String, ReplayFault>
-    ensures answers { IfOk result (λ text. IfSome (R.remaining reader.old) (λ bytes. IsAnswer bytes (string_bytes text))) }
-    ensures read { OnOk result (IfSome (R.remaining reader.old) (λ bytes. length bytes ≤ SCRIPT_LIMIT)) }
-    ensures fault { IfErr result IsBeforeWriting }
+fn answers(alloc: Global, which: Which, script: &[u8]) -> Result<String, ReplayFault>
+    ensures answers { IfOk result (λ text. IsAnswer which script.now (string_bytes text)) }
+    ensures fault { IfErr result (IsParsingFault (IsFirst which) (IsFurther which) (lines_of script.now)) }
 {
-    let bytes = read_script(alloc, reader)?;
-    let script = parse(alloc, bytes.as_slice())?;
-    answers(alloc, which, &script).map_err(|_| ReplayFault::OutOfMemory)
+    match which {
+        Which::Table => desk_answers::<TokenTable>(alloc, script),
+    }
 }
 
-/// Writes the whole text.
+/// Writes the whole text, and then flushes.
 fn put<W: Write>(text: &str, writer: &mut W) -> Result<(), ReplayFault>
     ensures written { OnOk result (Appends (W.contents writer.old) (W.contents writer.new) text.now) }
+    ensures begun { OnErr result (AppendsFront (W.contents writer.old) (W.contents writer.new) text.now) }
     ensures fault { IfErr result (λ fault. fault ≡ ReplayFault.OutputFailed) }
 {
-    writer
-        .write_all(text.as_bytes())
-        .map_err(|_| ReplayFault::OutputFailed)?;
-    writer.flush().map_err(|_| ReplayFault::OutputFailed)
+    let bytes = text.as_bytes();
+    let mut written = 0;
+    for _ in 0..u64::MAX {
+        if written == bytes.len() {
+            return writer.flush().map_err(|_| ReplayFault::OutputFailed);
+        }
+        written += write_once(writer, &bytes[written..])?;
+    }
+    Err(ReplayFault::OutputFailed)
+}
+
+/// One write, tried again where a signal interrupts it.
+fn write_once<W: Write>(writer: &mut W, bytes: &[u8]) -> Result<usize, ReplayFault>
+    ensures bound { IfOk result (λ count. (0 < count) × (count ≤ length bytes.now)) }
+    ensures written { IfOk result (λ count.
+        Appends (W.contents writer.old) (W.contents writer.new) (take count bytes.now)) }
+    ensures kept { OnErr result (Keeps (W.contents writer.old) (W.contents writer.new)) }
+    ensures fault { IfErr result (λ fault. fault ≡ ReplayFault.OutputFailed) }
+{
+    for _ in 0..u64::MAX {
+        match writer.write(bytes) {
+            Ok(0) => return Err(ReplayFault::OutputFailed),
+            Ok(count) => return Ok(count),
+            Err(fault) => {
+                if fault.kind() != ErrorKind::Interrupted {
+                    return Err(ReplayFault::OutputFailed);
+                }
+            }
+        }
+    }
+    Err(ReplayFault::OutputFailed)
 }

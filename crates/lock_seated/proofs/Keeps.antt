@@ -18,10 +18,10 @@ use Rattle.lock_word.specs.Turns.{won, lost}
 use Rattle.lock_word.specs.Rule.{KeepsRule, held_by_all}
 use Rattle.lock_word.proofs.Holders.{Has_from_test}
 use Rattle.lock_word.proofs.Words.{parts_of_word}
-use Rattle.lock_word.proofs.Rules.{keeps_load, keeps_lost, keeps_exchange, keeps_take, keeps_newcomer, amount_within, part_of_parties, shows}
-use Rattle.lock_seated.specs.declared.rule.View.{View}
-use Rattle.lock_seated.specs.Seats.{beside, parties_of, IsKept}
-use Rattle.lock_seated.specs.Plays.{Self, after_load, Loads, Exchanges, Takes}
+use Rattle.lock_word.proofs.Rules.{keeps_load, keeps_lost, keeps_exchange, keeps_take, keeps_newcomer, amount_within, part_of_parties, shows, fails_bounded}
+use Rattle.lock_seated.specs.declared.rule.PartyView.{PartyView}
+use Rattle.lock_seated.specs.Seats.{beside, parties_of, IsKept, EveryStateKeepsRule}
+use Rattle.lock_seated.specs.Plays.{Self, view_loaded, view_won, view_lost, Loads, Exchanges, Takes}
 
 -- the view of a seat, in the words of std
 seat_at : {A : Type 0} (xs : List A) (k : ℕ) (x : A) → get_elem? xs k ≡ some x → slice_get xs k ≡ Some x
@@ -29,11 +29,11 @@ seat_at [] k x h = cc
 seat_at (y ∷ xs) zero x h = cc
 seat_at (y ∷ xs) (suc k) x h = seat_at xs k x h
 
-party_at : (views : List View) (k : ℕ) (v : View) → get_elem? views k ≡ some v → slice_get (parties_of views) k ≡ Some v.state
-party_at views k v h = rw (slice_get-map (λ (x : View). x.state) views k, seat_at views k v h)
+party_at : (views : List PartyView) (k : ℕ) (v : PartyView) → get_elem? views k ≡ some v → slice_get (parties_of views) k ≡ Some v.state
+party_at views k v h = rw (slice_get-map (λ (x : PartyView). x.state) views k, seat_at views k v h)
 
 -- a step of the seat at id that leaves the word n and the view v
-left : (limit id n : ℕ) (s : State (Unit {0}) View) (v : View) → IsKept limit s → v.readers ≡ limit
+left : (limit id n : ℕ) (s : State (Unit {0}) PartyView) (v : PartyView) → IsKept limit s → v.readers ≡ limit
     → KeepsRule limit n (slice_set (parties_of s.views) id v.state)
     → IsKept limit record { words = slice_set s.words 0 n; homes = s.homes; views = slice_set s.views id v }
 left limit id n s v kept readers rule =
@@ -44,10 +44,10 @@ left limit id n s v kept readers rule =
       range = kept.range;
       known = λ k w h.
           elim (at_set s.views id k v w h) [
-            | inl e ↦ sym (ap (λ (x : View). x.readers) e.1) ∙ readers
+            | inl e ↦ sym (ap (λ (x : PartyView). x.readers) e.1) ∙ readers
             | inr e ↦ kept.known k w e.1
           ];
-      rule = rw is (rw (map-set (λ (x : View). x.state) s.views id v) rule);
+      rule = rw is (rw (map-set (λ (x : PartyView). x.state) s.views id v) rule);
     }
 
 pub loads : (limit slots id : ℕ) (me : Self)
@@ -56,10 +56,10 @@ loads limit slots id me s kept same at small =
     let word = slice_index s.words 0 in
     let there = party_at s.views id me.0 at in
     let readers = kept.known id me.0 at in (
-      after_load me.0 word,
+      (view_loaded me word).0,
       keeps,
       tt,
-      left limit id word s (after_load me.0 word) kept readers
+      left limit id word s (view_loaded me word).0 kept readers
           (keeps_load limit word (parties_of s.views) id me.0.state kept.rule there),
       (refl, rw readers (shows limit word (parties_of s.views) id me.0.state kept.range kept.rule there)),
     )
@@ -74,10 +74,10 @@ exchanges limit slots id me want old new is_open holds admits is s kept same at 
     let readers = kept.known id me.0 at in
     let has = Has_from_test me.0.state.held (step_of_want want) holds in
     exchanged word old new
-    (λ n. (w : View) × (a : Act (Unit {0})) × Valid s.homes me.1 a × IsKept limit (stepped s 0 n id me.1 w a)
+    (λ n. (w : PartyView) × (a : Act (Unit {0})) × Valid s.homes me.1 a × IsKept limit (stepped s 0 n id me.1 w a)
     × Exchanges want (step slots 0 old new none) me word (w, carried_after me.1 a))
     (λ hit.
-    let v : View = record me.0 { state = won me.0.state (step_of_want want) } in
+    let v = (view_won me (step_of_want want)).0 in
     let here : IsTrue (word_admits limit word want) = subst (λ n. IsTrue (word_admits limit n want)) (sym hit) admits in
     let rule = keeps_exchange limit word parties id me.0.state want kept.range kept.rule there has here in
     let next : word_after word want ≡ new = ap (λ n. word_after n want) hit ∙ sym is in (
@@ -88,7 +88,7 @@ exchanges limit slots id me want old new is_open holds admits is s kept same at 
       ((λ h. refl), (λ miss. absurd (miss hit))),
     ))
     (λ miss.
-    let v : View = record me.0 { state = lost me.0.state } in
+    let v = (view_lost me).0 in
     let rule = keeps_lost limit word parties id old me.0.state kept.rule there is_open miss in
     (v, keeps, tt, left limit id word s v kept readers rule, ((λ hit. absurd (miss hit)), (λ h. refl))))
 
@@ -114,7 +114,7 @@ takes limit slots id me down k holds is s kept same at small =
     let there = party_at s.views id me.0 at in
     let readers = kept.known id me.0 at in
     let has = Has_from_test me.0.state.held (step_of_down down) holds in
-    let v : View = record me.0 { state = won me.0.state (step_of_down down) } in
+    let v = (view_won me (step_of_down down)).0 in
     let within = amount_within limit word parties id me.0.state down kept.rule there has in
     let next : word - amount down ≡ (word + (2 ^ 64 - k)) % 2 ^ 64
     = ap (λ (j : ℕ). word - j) (sym is) ∙ subtracted word k (omega arith) small in
@@ -127,7 +127,7 @@ takes limit slots id me down k holds is s kept same at small =
       (refl, few_held limit word parties id me.0.state kept.range kept.rule there),
     )
 
-pub parts : (limit id : ℕ) (v : View) → Splits (IsKept limit) id v v (beside v)
+pub parts : (limit id : ℕ) (v : PartyView) → Splits (IsKept limit) id v v (beside v)
 parts limit id v s kept at =
     let again : set s.views id v ≡ s.views = set_again s.views id v at in
     let word = slice_index s.words 0 in
@@ -139,9 +139,9 @@ parts limit id v s kept at =
       known = λ k w h.
           elim (at_snoc s.views (beside v) w k h) [
             | inl e ↦ kept.known k w e
-            | inr e ↦ sym (ap (λ (x : View). x.readers) e) ∙ readers
+            | inr e ↦ sym (ap (λ (x : PartyView). x.readers) e) ∙ readers
           ];
-      rule = rw (map-append (λ (x : View). x.state) s.views (beside v ∷ [])) longer;
+      rule = rw (map-append (λ (x : PartyView). x.state) s.views (beside v ∷ [])) longer;
     }
 
 -- the same, where the limit and the kind are known by equations
@@ -162,3 +162,7 @@ pub takes_as : (limit slots id : ℕ) (me : Self) (kind down : Down) (k : ℕ) �
 takes_as limit slots id me kind down k same_down holds is =
     takes limit slots id me kind k (subst (λ (d : Down). IsTrue (has me.0.state.held (step_of_down d))) same_down holds)
     (is ∙ ap amount same_down)
+
+pub every_state_keeps_rule : EveryStateKeepsRule IsKept
+every_state_keeps_rule limit s kept =
+    record { range = kept.range; rule = kept.rule; bounded = fails_bounded limit (slice_index s.words 0) (parties_of s.views) kept.rule }

@@ -1,4 +1,4 @@
 pub mod Seats
 pub mod Plays
 pub mod Standing
-pub mod Calls
+pub mod Attempts

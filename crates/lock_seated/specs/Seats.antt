@@ -7,22 +7,34 @@ use Rattle.lock_base.specs.Limits.{IsLimit}
 use Rattle.lock_word.specs.declared.party.PartyState.{PartyState}
 use Rattle.lock_word.specs.Turns.{idle}
 use Rattle.lock_word.specs.Rule.{KeepsRule}
-use Rattle.lock_seated.specs.declared.rule.View.{View}
+use Rattle.lock_word.specs.Claims.{FailsAreBounded}
+use Rattle.lock_seated.specs.declared.rule.PartyView.{PartyView}
 
 -- one who has done nothing yet, where so many may read
-abbrev pub newcomer : ℕ → View
+abbrev pub newcomer : ℕ → PartyView
 newcomer readers = record { state = idle; loads = 0; readers = readers }
 
 -- what a split gives to the second
-abbrev pub beside : View → View
+abbrev pub beside : PartyView → PartyView
 beside v = newcomer v.readers
 
-abbrev pub parties_of : List View → List PartyState
-parties_of views = map (λ (v : View). v.state) views
+abbrev pub parties_of : List PartyView → List PartyState
+parties_of views = map (λ (v : PartyView). v.state) views
 
 -- the rule of the table: that of its one word and of all who step on it, at the limit that each knows
-pub record IsKept (limit : ℕ) (s : State (Unit {0}) View) : Type 0 where
+pub record IsKept (limit : ℕ) (s : State (Unit {0}) PartyView) : Type 0 where
   pub one_word : length s.words ≡ 1
   pub range : IsLimit limit
-  pub known : (k : ℕ) (v : View) → get_elem? s.views k ≡ some v → v.readers ≡ limit
+  pub known : (k : ℕ) (v : PartyView) → get_elem? s.views k ≡ some v → v.readers ≡ limit
   pub rule : KeepsRule limit (slice_index s.words 0) (parties_of s.views)
+
+-- what a state of the table keeps
+pub record IsRuled (limit : ℕ) (s : State (Unit {0}) PartyView) : Type 0 where
+  pub range : IsLimit limit
+  pub rule : KeepsRule limit (slice_index s.words 0) (parties_of s.views)
+  -- so no party has failed more often than the others have won
+  pub bounded : FailsAreBounded (parties_of s.views)
+
+-- every state that a table under this rule has between two steps
+abbrev pub EveryStateKeepsRule : (ℕ → State (Unit {0}) PartyView → Type 0) → Type 0
+EveryStateKeepsRule holds = (limit : ℕ) (s : State (Unit {0}) PartyView) → holds limit s → IsRuled limit s

@@ -4,10 +4,10 @@ ghost use Rattle.lock_base.specs.Limits.{IsLimit, IsMakerFault};
 ghost use Rattle.lock_base.specs.Modes.{count_of, tokens};
 ghost use Rattle.lock_base.specs.ModeRuns.{has};
 ghost use Rattle.lock_word.specs.Word.{word_admits, word_after, step_of_want, step_of_down, down_of_mode};
-ghost use Rattle.lock_word.specs.Turns.{won, lost};
 ghost use Rattle.lock_word.specs.Rule.{Shows};
+ghost use Rattle.lock_seated.specs.Plays.{view_won, view_lost};
 ghost use Rattle.lock_seated.specs.Standing.{new_party, loaded, won_by};
-ghost use Rattle.lock_seated.specs.Calls.{Attempted, Acquired};
+ghost use Rattle.lock_seated.specs.Attempts.{Attempted, Acquired};
 
 use crate::attempt::Attempt;
 use crate::party::Party;
@@ -15,7 +15,7 @@ use crate::plays::{
     DownToShared, DownToUpgradable, DownUpgradableToShared, Look, OffExclusive, OffShared,
     OffUpgradable, ToExclusive, ToShared, ToUpgradable, Upgrade,
 };
-use crate::rule::{Apart, Rule, View};
+use crate::rule::{Apart, PartyView, WordRule};
 use atomic_table::{Seat, Table};
 use lock_base::machine::{Bag, Mode};
 use lock_base::raw::{Fault, is_limit};
@@ -32,20 +32,22 @@ const SPINS: u32 = 64;
 /// A reader-writer lock of one atomic word: the readers, 2^32 for an upgradable hold and 2^33 for an exclusive one.
 #[derive(Drop)]
 pub struct SeatedLock {
-    table: Table<(), View, u64, Rule, Global>,
+    table: Table<(), PartyView, u64, WordRule, Global>,
     readers: u64,
 }
 
 impl Model for SeatedLock {
     ghost use Rattle.std.specs.Prelude.{◌≡◌};
     ghost use Rattle.lock_base.specs.Limits.{IsLimit};
+    ghost use Rattle.lock_seated.specs.Plays.{view_won, view_lost};
     ghost use Rattle.lock_seated.specs.Standing.{Lock};
 
     ghost Value = { Lock };
 
     ghost view = { λ l. record { id = l.table.shared.table_id; readers = l.readers } };
 
-    ghost invariant = { λ l. (l.table.shared.table_id.words ≡ 1) × (l.table.shared.key ≡ l.readers) × IsLimit l.readers };
+    ghost invariant = { λ l.
+        (l.table.shared.table_id.words ≡ 1) × (l.table.shared.key ≡ l.readers) × IsLimit l.readers };
 }
 
 impl SeatedLock {
@@ -176,15 +178,15 @@ impl SeatedLock {
     }
 
     /// One exchange of the word that was loaded last.
-    fn exchange(&self, seat: &mut Seat<(), View>, want: ExWant, word: u64, next: u64) -> u64
+    fn exchange(&self, seat: &mut Seat<(), PartyView>, want: ExWant, word: u64, next: u64) -> u64
         requires lock { seat.old.table_id ≡ self.now.id }
         requires load { seat.old.me.0.state.loaded ≡ Some word }
         requires holds { IsTrue (has seat.old.me.0.state.held (step_of_want want)) }
         requires admitted { IsTrue (word_admits self.now.readers word want) }
         requires next { next ≡ word_after word want }
         ensures seat { (seat.new.table_id ≡ seat.old.table_id) × (seat.new.id ≡ seat.old.id) }
-        ensures done { result ≡ word → seat.new.me ≡ (record seat.old.me.0 { state = won seat.old.me.0.state (step_of_want want) }, seat.old.me.1) }
-        ensures changed { result ≢ word → seat.new.me ≡ (record seat.old.me.0 { state = lost seat.old.me.0.state }, seat.old.me.1) }
+        ensures done { result ≡ word → seat.new.me ≡ view_won seat.old.me (step_of_want want) }
+        ensures changed { result ≢ word → seat.new.me ≡ view_lost seat.old.me }
     {
         let shared = &self.table.shared;
         match want {
@@ -196,11 +198,11 @@ impl SeatedLock {
     }
 
     /// One subtraction from the word.
-    fn subtract(&self, seat: &mut Seat<(), View>, down: Down)
+    fn subtract(&self, seat: &mut Seat<(), PartyView>, down: Down)
         requires lock { seat.old.table_id ≡ self.now.id }
         requires holds { IsTrue (has seat.old.me.0.state.held (step_of_down down)) }
         ensures seat { (seat.new.table_id ≡ seat.old.table_id) × (seat.new.id ≡ seat.old.id) }
-        ensures done { seat.new.me ≡ (record seat.old.me.0 { state = won seat.old.me.0.state (step_of_down down) }, seat.old.me.1) }
+        ensures done { seat.new.me ≡ view_won seat.old.me (step_of_down down) }
         ensures room { tokens seat.old.me.0.state.held < 2 ^ 63 }
     {
         let shared = &self.table.shared;

@@ -2,7 +2,7 @@
 ghost use Rattle.std.specs.Prelude.{◌≡◌};
 ghost use Rattle.lock_base.specs.Modes.{count_of};
 
-use crate::rule::View;
+use crate::rule::PartyView;
 use atomic_table::Seat;
 use lock_base::machine::{Bag, Mode};
 use std::marker::Model;
@@ -13,7 +13,7 @@ use std::marker::Model;
 /// A party that is dropped while it holds something never gives that back.
 #[derive(Drop)]
 pub struct Party {
-    pub(crate) seat: Seat<(), View>,
+    pub(crate) seat: Seat<(), PartyView>,
     pub(crate) held: Bag,
 }
 

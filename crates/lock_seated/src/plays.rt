@@ -3,82 +3,82 @@ ghost use Rattle.lock_word.specs.declared.want.ExWant.TheVariants as want;
 ghost use Rattle.lock_word.specs.declared.down.Down.TheVariants as down;
 ghost use Rattle.lock_seated.specs.Plays.{Loads, Exchanges, Takes};
 
-use crate::rule::View;
+use crate::rule::PartyView;
 use atomic_table::Play;
 
 /// A load of the word.
 pub(crate) struct Look;
 
-impl Play<(), View> for Look {
+impl Play<(), PartyView> for Look {
     ghost then = { Loads };
 }
 
 /// An exchange that is to win a shared hold.
 pub(crate) struct ToShared;
 
-impl Play<(), View> for ToShared {
+impl Play<(), PartyView> for ToShared {
     ghost then = { Exchanges want.Shared };
 }
 
 /// An exchange that is to win an exclusive hold.
 pub(crate) struct ToExclusive;
 
-impl Play<(), View> for ToExclusive {
+impl Play<(), PartyView> for ToExclusive {
     ghost then = { Exchanges want.Exclusive };
 }
 
 /// An exchange that is to win an upgradable hold.
 pub(crate) struct ToUpgradable;
 
-impl Play<(), View> for ToUpgradable {
+impl Play<(), PartyView> for ToUpgradable {
     ghost then = { Exchanges want.Upgradable };
 }
 
 /// An exchange that is to make an upgradable hold exclusive.
 pub(crate) struct Upgrade;
 
-impl Play<(), View> for Upgrade {
+impl Play<(), PartyView> for Upgrade {
     ghost then = { Exchanges want.Upgrade };
 }
 
 /// A subtraction that gives a shared hold back.
 pub(crate) struct OffShared;
 
-impl Play<(), View> for OffShared {
+impl Play<(), PartyView> for OffShared {
     ghost then = { Takes down.Shared };
 }
 
 /// A subtraction that gives an exclusive hold back.
 pub(crate) struct OffExclusive;
 
-impl Play<(), View> for OffExclusive {
+impl Play<(), PartyView> for OffExclusive {
     ghost then = { Takes down.Exclusive };
 }
 
 /// A subtraction that gives an upgradable hold back.
 pub(crate) struct OffUpgradable;
 
-impl Play<(), View> for OffUpgradable {
+impl Play<(), PartyView> for OffUpgradable {
     ghost then = { Takes down.Upgradable };
 }
 
 /// A subtraction that makes an exclusive hold shared.
 pub(crate) struct DownToShared;
 
-impl Play<(), View> for DownToShared {
+impl Play<(), PartyView> for DownToShared {
     ghost then = { Takes down.ToShared };
 }
 
 /// A subtraction that makes an exclusive hold upgradable.
 pub(crate) struct DownToUpgradable;
 
-impl Play<(), View> for DownToUpgradable {
+impl Play<(), PartyView> for DownToUpgradable {
     ghost then = { Takes down.ToUpgradable };
 }
 
 /// A subtraction that makes an upgradable hold shared.
 pub(crate) struct DownUpgradableToShared;
 
-impl Play<(), View> for DownUpgradableToShared {
+impl Play<(), PartyView> for DownUpgradableToShared {
     ghost then = { Takes down.UpgradableToShared };
 }

@@ -5,7 +5,7 @@ use atomic_table::{Split, TableRule};
 use lock_word::PartyState;
 
 /// What the rule keeps of a party. No value of it is made.
-pub struct View {
+pub struct PartyView {
     /// What the party holds, its open load, its wins and fails.
     pub state: PartyState,
     /// How often it loaded the word.
@@ -15,9 +15,9 @@ pub struct View {
 }
 
 /// The rule of a word and of those who step on it. The key of the table says how many may read.
-pub struct Rule;
+pub struct WordRule;
 
-impl TableRule<(), View, u64> for Rule {
+impl TableRule<(), PartyView, u64> for WordRule {
     ghost holds = { IsKept };
 
     ghost first = { newcomer };
@@ -26,7 +26,7 @@ impl TableRule<(), View, u64> for Rule {
 /// The first keeps everything, and the second is a newcomer.
 pub(crate) struct Apart;
 
-impl Split<View> for Apart {
+impl Split<PartyView> for Apart {
     ghost left = { λ v. v };
 
     ghost right = { beside };

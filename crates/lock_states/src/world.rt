@@ -1,13 +1,12 @@
 //! Parties that step on one packed word, in any order.
-ghost use Rattle.std.specs.Prelude.{◌≡◌, ◌↔◌, ◌+◌, ◌<◌, ◌≤◌, IfOk, IfErr, IfSome, IfNone, IsSomeAnd, Some, None, length, OnOk, OnErr};
+ghost use Rattle.std.specs.Prelude.{◌≡◌, ◌↔◌, ◌+◌, ◌<◌, ◌≤◌, IfOk, IfErr, IfSome, IfNone, Some, None, length, OnOk, OnErr};
 ghost use Rattle.lock_base.specs.Modes.{count_of, AreCompatible};
-ghost use Rattle.lock_base.specs.ModeRuns.{IsModeRun};
 ghost use Rattle.lock_base.specs.Limits.{IsLimit, IsMakerFault};
-ghost use Rattle.lock_word.specs.Holders.{holder_at, IsHolderRun, steps_of};
+ghost use Rattle.lock_word.specs.Holders.{holder_at};
 ghost use Rattle.lock_word.specs.Word.{word_of};
-ghost use Rattle.lock_word.specs.Rule.{holds, held_by_all, others_wins};
-ghost use Rattle.lock_word.specs.Worlds.{stepped, new_world, world_after, outcomes, IsReachable};
-ghost use Rattle.lock_word.specs.Claims.{Leaves, FailsAreBounded, changes_from};
+ghost use Rattle.lock_word.specs.Rule.{held_by_all, others_wins};
+ghost use Rattle.lock_word.specs.Worlds.{IsOfParty, IsUnknownIn, stepped, new_world, world_after, outcomes, IsReachable};
+ghost use Rattle.lock_word.specs.Claims.{Leaves, FailsAreBounded, changes_from, IsRunByParties, IsRunOnAll};
 
 use lock_base::machine::Mode;
 use lock_base::raw::{Fault, is_limit};
@@ -29,9 +28,11 @@ impl Model for World {
 
     ghost Value = { WorldState };
 
-    ghost view = { λ w. record { word = w.word; readers = w.readers; steps = w.steps; parties = w.parties.items } };
+    ghost view = { λ w.
+        record { word = w.word; readers = w.readers; steps = w.steps; parties = w.parties.items } };
 
-    ghost invariant = { λ w. IsReachable record { word = w.word; readers = w.readers; steps = w.steps; parties = w.parties.items } };
+    ghost invariant = { λ w.
+        IsReachable record { word = w.word; readers = w.readers; steps = w.steps; parties = w.parties.items } };
 }
 
 /// Where the party of that number stands, if there is one.
@@ -78,25 +79,25 @@ impl World {
 
     /// How many tokens of the mode a party holds.
     pub fn holds(&self, party: u64, mode: Mode) -> Result<u64, Fault>
-        ensures known { IfOk result (λ n. IsSomeAnd (holder_at self.now.parties party) (λ me. n ≡ count_of me.held mode)) }
-        ensures unknown { IfErr result (λ fault. (fault ≡ Fault.UnknownParty) × (holder_at self.now.parties party ≡ None)) }
+        ensures known { IfOk result (λ n. IsOfParty self.now party (λ me. n ≡ count_of me.held mode)) }
+        ensures unknown { IfErr result (IsUnknownIn self.now party) }
     {
         Ok(self.party(party)?.held.count(mode))
     }
 
     /// How many of a party's exchanges and subtractions were done.
     pub fn wins(&self, party: u64) -> Result<u64, Fault>
-        ensures known { IfOk result (λ n. IsSomeAnd (holder_at self.now.parties party) (λ me. n ≡ me.wins)) }
-        ensures unknown { IfErr result (λ fault. (fault ≡ Fault.UnknownParty) × (holder_at self.now.parties party ≡ None)) }
+        ensures known { IfOk result (λ n. IsOfParty self.now party (λ me. n ≡ me.wins)) }
+        ensures unknown { IfErr result (IsUnknownIn self.now party) }
     {
         Ok(self.party(party)?.wins)
     }
 
     /// How many of a party's exchanges found the word changed: at most as many as the others' wins.
     pub fn fails(&self, party: u64) -> Result<u64, Fault>
-        ensures known { IfOk result (λ n. IsSomeAnd (holder_at self.now.parties party) (λ me. n ≡ me.fails)) }
-        ensures bounded { IfOk result (λ n. IsSomeAnd (holder_at self.now.parties party) (λ me. n ≤ others_wins self.now.parties me)) }
-        ensures unknown { IfErr result (λ fault. (fault ≡ Fault.UnknownParty) × (holder_at self.now.parties party ≡ None)) }
+        ensures known { IfOk result (λ n. IsOfParty self.now party (λ me. n ≡ me.fails)) }
+        ensures bounded { IfOk result (λ n. IsOfParty self.now party (λ me. n ≤ others_wins self.now.parties me)) }
+        ensures unknown { IfErr result (IsUnknownIn self.now party) }
     {
         Ok(self.party(party)?.fails)
     }
@@ -104,7 +105,7 @@ impl World {
     fn party(&self, party: u64) -> Result<PartyState, Fault>
         ensures known { IfOk result (λ me. holder_at self.now.parties party ≡ Some me) }
         ensures bounded { IfOk result (λ me. me.fails ≤ others_wins self.now.parties me) }
-        ensures unknown { IfErr result (λ fault. (fault ≡ Fault.UnknownParty) × (holder_at self.now.parties party ≡ None)) }
+        ensures unknown { IfErr result (IsUnknownIn self.now party) }
     {
         match place_of(self.parties.as_slice(), party) {
             Some(place) => Ok(self.parties[place]),
@@ -137,8 +138,8 @@ impl World {
         ensures after { OnOk result (self.new ≡ world_after self.old steps.now) }
 
         // What was done is, in order, a run of the modes: by the parties, and on what all hold together.
-        ensures by_parties { OnOk result (IsHolderRun self.old.readers (holds self.old.parties) (changes_from self.old steps.now) (holds self.new.parties)) }
-        ensures run { OnOk result (IsModeRun self.old.readers (held_by_all self.old.parties) (steps_of (changes_from self.old steps.now)) (held_by_all self.new.parties)) }
+        ensures by_parties { OnOk result (IsRunByParties self.old (changes_from self.old steps.now) self.new) }
+        ensures run { OnOk result (IsRunOnAll self.old (changes_from self.old steps.now) self.new) }
 
         ensures coded { self.new.word ≡ word_of (held_by_all self.new.parties) }
         ensures legal { AreCompatible self.new.readers (held_by_all self.new.parties) }

@@ -17,6 +17,7 @@ use Rattle.lock_word.specs.Holders.{all_of, IsPart}
 use Rattle.lock_word.specs.Word.{word_of, word_admits, word_after, amount, step_of_want, step_of_down}
 use Rattle.lock_word.specs.Turns.{idle, with_load, unloaded, won, lost}
 use Rattle.lock_word.specs.Rule.{holds, held_by_all, all_wins, others_wins, IsBehind, KeepsRule, Shows}
+use Rattle.lock_word.specs.Claims.{FailsAreBounded}
 use Rattle.lock_word.proofs.Holders.{Has, Has-part, part_of_all, sum_by-slice_set, le-sum_by, all_of-after}
 use Rattle.lock_word.proofs.Words.{alone_or_none, parts_of_word, permits_of_word, word_after_want, permits_down, word_before_down}
 
@@ -261,3 +262,8 @@ shows limit word ps k me range rule at =
       exclusive = λ some. omega arith;
       reads = λ some. (omega arith, omega arith);
     }
+
+-- no party's fails outnumber the others' wins
+pub fails_bounded : (limit word : ℕ) (ps : List PartyState) → KeepsRule limit word ps → FailsAreBounded ps
+fails_bounded limit word ps rule zero me at = cc
+fails_bounded limit word ps rule (suc k) me at = (rule.behind k me at).bounded

@@ -1,19 +1,16 @@
 -- Every list of steps from a new world is sound.
-use Rattle.std.proofs.Common.{zero, suc, List, subst}
+use Rattle.std.proofs.Common.{List, subst}
 use Rattle.lock_base.specs.Modes.{AreCompatible}
 use Rattle.lock_base.specs.ModeRuns.{IsModeRun}
 use Rattle.lock_word.specs.declared.step.AtomicStep.{AtomicStep}
 use Rattle.lock_word.specs.Holders.{steps_of}
 use Rattle.lock_word.specs.Rule.{holds, held_by_all}
 use Rattle.lock_word.specs.Worlds.{WorldState, stepped, new_world, world_after, IsReachable}
-use Rattle.lock_word.specs.Claims.{FailsAreBounded, changes_from, EveryInterleaving}
+use Rattle.lock_word.specs.Claims.{changes_from, EveryInterleaving}
 use Rattle.lock_word.proofs.Holders.{run_of_all}
+use Rattle.lock_word.proofs.Rules.{fails_bounded}
 use Rattle.lock_word.proofs.Reached.{step_effect, reachable_new, reachable_after, readers_after, held_by_idle, run_of_steps, leaves_step}
 use Rattle.lock_word.proofs.LastLoads.{refused_at_last_load, outrun_since_last_load}
-
-pub bounded_at : (w : WorldState) → IsReachable w → FailsAreBounded w.parties
-bounded_at w h zero me at = cc
-bounded_at w h (suc k) me at = (h.rule.behind k me at).bounded
 
 -- the steps that were done from a world that was reached are a run of the modes on what all hold together
 pub run_on_all : (w : WorldState) (ss : List AtomicStep) → IsReachable w
@@ -34,7 +31,7 @@ every_interleaving count limit ss range =
       run =
           subst (λ b. IsModeRun limit b (steps_of (changes_from start ss)) (held_by_all last.parties)) (held_by_idle count)
           (run_on_all start ss new);
-      bounded = bounded_at last reached;
+      bounded = fails_bounded last.readers last.word last.parties reached.rule;
       leaves = λ s. leaves_step last s (stepped last s) (step_effect last s);
       refuses = λ p want h. refused_at_last_load count limit ss p want range h;
       changes = λ p want h. outrun_since_last_load count limit ss p want range h;

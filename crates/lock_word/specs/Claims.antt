@@ -65,13 +65,22 @@ pub record LastLoadOutrun (start : WorldState) (steps : List AtomicStep) (p : �
 abbrev pub changes_from : WorldState → List AtomicStep → List HolderStep
 changes_from start steps = done_steps steps (outcomes start steps)
 
+-- these changes are a run of the modes by the parties
+abbrev pub IsRunByParties : WorldState → List HolderStep → WorldState → Type 0
+IsRunByParties old changes new = IsHolderRun old.readers (holds old.parties) changes (holds new.parties)
+
+-- these changes are a run of the modes on what all parties hold together
+abbrev pub IsRunOnAll : WorldState → List HolderStep → WorldState → Type 0
+IsRunOnAll old changes new =
+    IsModeRun old.readers (held_by_all old.parties) (steps_of changes) (held_by_all new.parties)
+
 -- what is claimed of the world that these steps lead to, and of whatever step is next
 pub record IsSound (start : WorldState) (steps : List AtomicStep) (last : WorldState) : Type 0 where
   -- the word is that of all that is held, and that may be out together
   pub coded : last.word ≡ word_of (held_by_all last.parties)
   pub legal : AreCompatible start.readers (held_by_all last.parties)
   -- the steps that were done are, in order, a run of the modes by the parties
-  pub by_parties : IsHolderRun start.readers (holds start.parties) (changes_from start steps) (holds last.parties)
+  pub by_parties : IsRunByParties start (changes_from start steps) last
   -- and a run of the modes, from nothing to all that is held
   pub run : IsModeRun start.readers empty_bag (steps_of (changes_from start steps)) (held_by_all last.parties)
   pub bounded : FailsAreBounded last.parties

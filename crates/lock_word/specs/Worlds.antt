@@ -1,5 +1,6 @@
 -- Parties that step on one word, one step after another.
-use Rattle.std.specs.Prelude.{◌≡◌, ℕ, ◌+◌, ◌-◌, ◌^◌, ◌<◌, ◌≤◌, ◌==◌, if◌then◌else◌, List, [], ◌∷◌, ◌++◌, replicate, slice_get, slice_set, Option, Some, None}
+use Rattle.std.specs.Prelude.{◌≡◌, ℕ, ◌+◌, ◌-◌, ◌^◌, ◌<◌, ◌≤◌, ◌==◌, if◌then◌else◌, List, [], ◌∷◌, ◌++◌, replicate, slice_get, slice_set, Option, Some, None, IsSomeAnd}
+use Rattle.lock_base.specs.declared.raw.fault.Fault.{Fault}
 use Rattle.lock_base.specs.declared.raw.fault.Fault.TheVariants as fault
 use Rattle.lock_base.specs.Limits.{IsLimit}
 use Rattle.lock_word.specs.declared.party.PartyState.{PartyState}
@@ -21,6 +22,14 @@ pub record WorldState : Type 0 where
 
 abbrev pub new_world : ℕ → ℕ → WorldState
 new_world count limit = record { word = 0; readers = limit; steps = 0; parties = replicate count idle }
+
+-- the party of that number is there, and has this
+abbrev pub IsOfParty : WorldState → ℕ → (PartyState → Type 0) → Type 0
+IsOfParty w party fact = IsSomeAnd (holder_at w.parties party) fact
+
+-- there is no party of that number, and this is the fault that says so
+abbrev pub IsUnknownIn : WorldState → ℕ → Fault → Type 0
+IsUnknownIn w party reply = (reply ≡ fault.UnknownParty) × (holder_at w.parties party ≡ None)
 
 -- a world after a step, and what the step answered
 pub record Stepped : Type 0 where

@@ -40,6 +40,15 @@ where
         timeout: &<Self::RawMutex as RawMutexTimed>::Duration,
     ) -> Option<<Self::RawMutex as RawMutexTimed>::Instant>;
 
+    /// The instant that is so long from now, where the raw mutex is at hand, whose waiter may have a clock. None where there
+    /// is no such instant.
+    fn instant_after(
+        _mutex: &Self::RawMutex,
+        timeout: &<Self::RawMutex as RawMutexTimed>::Duration,
+    ) -> Option<<Self::RawMutex as RawMutexTimed>::Instant> {
+        Self::checked_duration_to_instant(timeout)
+    }
+
     /// `wait`, which the instant ends too. Whether it did.
     fn wait_until(
         &self,
@@ -55,7 +64,7 @@ where
         token: <Self::RawMutex as RawMutex>::Guard,
         timeout: &<Self::RawMutex as RawMutexTimed>::Duration,
     ) -> (<Self::RawMutex as RawMutex>::Guard, bool) {
-        match Self::checked_duration_to_instant(timeout) {
+        match Self::instant_after(mutex, timeout) {
             Some(deadline) => self.wait_until(mutex, token, &deadline),
             None => (self.wait(mutex, token), false),
         }

@@ -4,6 +4,7 @@ use lock_base::machine::{Mode, ModeStep};
 use lock_base::raw::Fault;
 use lock_guard::raw::{
     RawMutex, RawMutexFair, RawRwLock, RawRwLockDowngrade, RawRwLockFair, RawRwLockUpgrade,
+    RawRwLockUpgradeDowngrade,
 };
 use lock_raws::{Arbiter, RecordingArbiter, RecordingRaw, TableArbiter};
 use std::alloc::Global;
@@ -94,6 +95,44 @@ fn a_bump_is_a_release_and_an_acquisition(rt: HostRuntime) {
         ModeStep::Release(Mode::Shared),
     ];
     assert!(rt; has_written(&raw, rt.alloc(), wanted.as_slice()));
+}
+
+/// Up and down by each transition, from an upgradable token and back to none.
+fn transitions<W: Wait + Clone + Drop>(raw: &RecordingRaw<W>) {
+    let exclusive = raw.upgrade(raw.lock_upgradable());
+    let upgradable = raw.downgrade_to_upgradable(exclusive);
+    raw.unlock_shared(raw.downgrade_upgradable(upgradable));
+    raw.unlock_shared(raw.downgrade(raw.lock_exclusive()));
+}
+
+#[test]
+fn each_transition_is_one_step(rt: HostRuntime) {
+    let raw: RecordingRaw<HostRuntime> = raw_rwlock(rt.alloc(), rt, 2)
+        .ok()
+        .expect(&rt, "ample memory");
+    transitions(&raw);
+    let wanted = [
+        ModeStep::Acquire(Mode::Upgradable),
+        ModeStep::Change(Mode::Upgradable, Mode::Exclusive),
+        ModeStep::Change(Mode::Exclusive, Mode::Upgradable),
+        ModeStep::Change(Mode::Upgradable, Mode::Shared),
+        ModeStep::Release(Mode::Shared),
+        ModeStep::Acquire(Mode::Exclusive),
+        ModeStep::Change(Mode::Exclusive, Mode::Shared),
+        ModeStep::Release(Mode::Shared),
+    ];
+    assert!(rt; has_written(&raw, rt.alloc(), wanted.as_slice()));
+}
+
+#[test]
+fn as_many_read_as_a_recording_lock_was_told(rt: HostRuntime) {
+    let raw = RecordingRaw::with_room(rt.alloc(), rt, 2, 8)
+        .ok()
+        .expect(&rt, "ample memory");
+    let (first, second) = (raw.lock_shared(), raw.lock_shared());
+    assert!(rt; raw.try_lock_shared().is_none());
+    raw.unlock_shared(first);
+    raw.unlock_shared(second);
 }
 
 #[test]

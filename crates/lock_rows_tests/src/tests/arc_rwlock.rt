@@ -1,6 +1,8 @@
 //! A row of calls on a reader-writer lock by guards that keep it alive.
 use super::beside_desk::{BesideDesk, Table};
-use lock_base::machine::{Call, Form, Reply, Want, Way};
+use lock_base::machine::{Call, Form, PartyId, Reply, Want, Way};
+use lock_base::raw::Fault;
+use lock_guard::raw::{RawRwLockFair, RawRwLockUpgradeDowngrade, RawRwLockUpgradeTimed};
 use lock_raws::TokenRaw;
 use lock_rwlock::RwLock;
 use lock_rwlock_arc::{
@@ -8,49 +10,40 @@ use lock_rwlock_arc::{
     RwLockArcUpgrade,
 };
 use lock_test_support::party;
-use std::alloc::Global;
-use std::clone::Clone;
-use std::sync::{Arc, Wait};
+use std::process::Abort;
+use std::sync::Arc;
 use std::test::Fail;
 
-/// A number behind an honest raw lock.
-type Shared<W> = RwLock<TokenRaw<W>, i64>;
-
-/// A lock of 0 for 8 readers, and a desk beside it.
-fn arc_beside_desk<W: Wait + Clone + Drop>(
-    alloc: Global,
-    waiter: W,
-) -> Result<(Arc<Shared<W>>, BesideDesk), Fail> {
-    let lock = Arc::new(alloc, Shared::with_readers(alloc, waiter, 8, 0)?)?;
-    let table = Table::rwlock(alloc, 4, 8, 0)?;
-    Ok((lock, BesideDesk::new(table, None)))
-}
-
-#[test]
-fn an_arc_guard_goes_up_and_down_as_on_a_desk(rt: HostRuntime) -> Result<(), Fail> {
-    let one = party(1)?;
-    let (lock, mut desk) = arc_beside_desk(rt.alloc(), rt)?;
-
-    let guard = RwLock::upgradable_read_arc(&lock).ok();
-    let guard = guard.expect(&rt, "an owner more");
+fn up_and_down<
+    R: RawRwLockFair
+        + RawRwLockUpgradeTimed<Duration = (), Instant = ()>
+        + RawRwLockUpgradeDowngrade
+        + Drop,
+>(
+    rt: &impl Abort,
+    desk: &mut BesideDesk,
+    lock: &Arc<RwLock<R, i64>>,
+    one: PartyId,
+) -> Result<(), Fault> {
+    let guard = RwLock::upgradable_read_arc(lock)?;
     desk.same(
         Call::Acquire(Want::UpgradableRead, Form::Block, one),
         Reply::Guard(1),
     );
-    let reader = RwLock::read_arc(&lock).ok().expect(&rt, "an owner more");
+    let reader = RwLock::read_arc(lock)?;
     desk.same(Call::Acquire(Want::Read, Form::Block, one), Reply::Guard(2));
     let guard = ArcRwLockUpgradableReadGuard::try_upgrade(guard).err();
-    let guard = guard.expect(&rt, "a reader beside it");
+    let guard = guard.expect(rt, "a reader beside it");
     desk.same(Call::Upgrade(Form::Try, one, 1), Reply::NoGuard);
     drop(reader);
     desk.same(Call::Unlock(one, 2, Way::Plain), Reply::Done);
     let writer = ArcRwLockUpgradableReadGuard::try_upgrade_until(guard, ()).ok();
-    let writer = writer.expect(&rt, "alone");
+    let writer = writer.expect(rt, "alone");
     desk.same(Call::Upgrade(Form::Until, one, 1), Reply::Done);
     let guard = ArcRwLockWriteGuard::downgrade_to_upgradable(writer);
     desk.same(Call::DowngradeToUpgradable(one, 1), Reply::Done);
     let writer = ArcRwLockUpgradableReadGuard::try_upgrade_for(guard, ()).ok();
-    let mut writer = writer.expect(&rt, "alone");
+    let mut writer = writer.expect(rt, "alone");
     desk.same(Call::Upgrade(Form::For, one, 1), Reply::Done);
     ArcRwLockWriteGuard::bump(&mut writer);
     desk.same(Call::Bump(one, 1), Reply::Done);
@@ -62,6 +55,15 @@ fn an_arc_guard_goes_up_and_down_as_on_a_desk(rt: HostRuntime) -> Result<(), Fai
     let owner = ArcRwLockReadGuard::into_arc(reader);
     desk.same(Call::Unlock(one, 1, Way::IntoArc), Reply::Done);
     desk.same(Call::IsLocked, Reply::Bool(owner.is_locked()));
-    assert_eq!(rt; desk.first_difference(), None);
     Ok(())
+}
+
+#[test]
+fn an_arc_guard_goes_up_and_down_as_on_a_desk(rt: HostRuntime) -> Result<(), Fail> {
+    let one = party(1)?;
+    let lock: RwLock<TokenRaw<HostRuntime>, i64> = RwLock::with_readers(rt.alloc(), rt, 8, 0)?;
+    let lock = Arc::new(rt.alloc(), lock)?;
+    let mut desk = BesideDesk::new(Table::rwlock(rt.alloc(), 4, 8, 0)?);
+    up_and_down(&rt, &mut desk, &lock, one)?;
+    desk.verdict()
 }

@@ -2,30 +2,26 @@
 use super::beside_desk::{BesideDesk, Put, Table, given};
 use lock_base::machine::{Call, Form, PartyId, Reply, Want, Way};
 use lock_guard::guard::AcquireFair;
-use lock_guard::raw::RawRwLock;
+use lock_guard::raw::{
+    RawRwLock, RawRwLockUpgradeDowngrade, RawRwLockUpgradeFair, RawRwLockUpgradeTimed,
+};
 use lock_raws::TokenRaw;
 use lock_rwlock::{
     RwLock, RwLockGuard, RwLockReadGuard, RwLockUpgradableReadGuard, RwLockWriteGuard,
 };
 use lock_test_support::project::Item0;
-use lock_test_support::raw_lock::Counting;
 use lock_test_support::{party, two_parties};
-use std::alloc::Global;
-use std::clone::Clone;
 use std::process::Abort;
-use std::sync::{Arc, Wait};
 use std::test::Fail;
 
-type Shared<W> = RwLock<TokenRaw<W>, i64>;
+type Number = RwLock<TokenRaw<HostRuntime>, i64>;
 
 /// The value, and another beside it.
 type Pair = (i64, i64);
 
-type Paired<W> = RwLock<TokenRaw<W>, Pair>;
+type Paired<R> = RwLock<R, Pair>;
 
-type Upgradable<'a, W> = RwLockUpgradableReadGuard<'a, TokenRaw<W>, Pair>;
-
-type Reader<'a, W> = RwLockReadGuard<'a, TokenRaw<W>, Pair>;
+type Upgradable<'a, R> = RwLockUpgradableReadGuard<'a, R, Pair>;
 
 /// The reply to a try of an operation under an upgraded guard.
 fn answered(answer: Option<i64>) -> Reply<i64> {
@@ -36,11 +32,9 @@ fn answered(answer: Option<i64>) -> Reply<i64> {
 }
 
 /// Puts 2, 3 and 4 under an upgraded guard, by one form of a try each.
-fn put_by_each_form<W: Wait + Clone + Drop>(
-    desk: &mut BesideDesk,
-    one: PartyId,
-    guard: &mut Upgradable<'_, W>,
-) {
+fn put_by_each_form<
+    R: RawRwLockUpgradeTimed<Duration = (), Instant = ()> + RawRwLockUpgradeDowngrade,
+>(desk: &mut BesideDesk, one: PartyId, guard: &mut Upgradable<'_, R>) {
     let put = |pair: &mut Pair| {
         pair.0 = 2;
         pair.0
@@ -62,12 +56,12 @@ fn put_by_each_form<W: Wait + Clone + Drop>(
 }
 
 /// The same guard, after a refused try by each form.
-fn refused_by_each_form<'a, W: Wait + Clone + Drop>(
+fn refused_by_each_form<'a, R: RawRwLockUpgradeTimed<Duration = (), Instant = ()>>(
     rt: &impl Abort,
     desk: &mut BesideDesk,
     one: PartyId,
-    guard: Upgradable<'a, W>,
-) -> Upgradable<'a, W> {
+    guard: Upgradable<'a, R>,
+) -> Upgradable<'a, R> {
     let guard = RwLockUpgradableReadGuard::try_upgrade(guard).err();
     let guard = guard.expect(rt, "a reader beside it");
     desk.same(Call::Upgrade(Form::Try, one, 1), Reply::NoGuard);
@@ -81,13 +75,16 @@ fn refused_by_each_form<'a, W: Wait + Clone + Drop>(
 }
 
 /// Up, down to upgradable, up again and down to a reader, where no other holds the lock.
-fn up_and_down<'a, W: Wait + Clone + Drop>(
+fn up_and_down<
+    'a,
+    R: RawRwLockUpgradeTimed<Duration = (), Instant = ()> + RawRwLockUpgradeDowngrade,
+>(
     rt: &impl Abort,
     desk: &mut BesideDesk,
     one: PartyId,
-    lock: &Paired<W>,
-    guard: Upgradable<'a, W>,
-) -> Reader<'a, W> {
+    lock: &Paired<R>,
+    guard: Upgradable<'a, R>,
+) -> RwLockReadGuard<'a, R, Pair> {
     let writer = RwLockUpgradableReadGuard::upgrade(guard);
     desk.same(Call::Upgrade(Form::Block, one, 1), Reply::Done);
     desk.same(
@@ -108,21 +105,14 @@ fn up_and_down<'a, W: Wait + Clone + Drop>(
     reader
 }
 
-/// A pair behind a lock, and a desk of its first item.
-fn pair_beside_desk<W: Wait + Clone + Drop>(
-    alloc: Global,
-    waiter: W,
-) -> Result<(Paired<W>, BesideDesk), Fail> {
-    let lock = Paired::with_readers(alloc, waiter, 8, (1, 0))?;
-    let table = Table::rwlock(alloc, 4, 8, 1)?;
-    Ok((lock, BesideDesk::new(table, None)))
-}
-
-#[test]
-fn an_upgrade_waits_for_readers(rt: HostRuntime) -> Result<(), Fail> {
-    let (one, two) = two_parties()?;
-    let (lock, mut desk) = pair_beside_desk(rt.alloc(), rt)?;
-
+/// An upgradable guard beside a reader, and then alone.
+fn upgrades<R: RawRwLockUpgradeTimed<Duration = (), Instant = ()> + RawRwLockUpgradeDowngrade>(
+    rt: &impl Abort,
+    desk: &mut BesideDesk,
+    lock: &Paired<R>,
+    one: PartyId,
+    two: PartyId,
+) {
     let guard = lock.upgradable_read();
     desk.same(
         Call::Acquire(Want::UpgradableRead, Form::Block, one),
@@ -130,8 +120,8 @@ fn an_upgrade_waits_for_readers(rt: HostRuntime) -> Result<(), Fail> {
     );
     let reader = lock.read();
     desk.same(Call::Acquire(Want::Read, Form::Block, two), Reply::Guard(2));
-    let mut guard = refused_by_each_form(&rt, &mut desk, one, guard);
-    put_by_each_form(&mut desk, one, &mut guard);
+    let mut guard = refused_by_each_form(rt, desk, one, guard);
+    put_by_each_form(desk, one, &mut guard);
     desk.same(Call::Get(one, 1, Put(0)), Reply::Answer(guard.0));
     let is_given = lock.try_upgradable_read().is_some();
     desk.same(
@@ -143,29 +133,23 @@ fn an_upgrade_waits_for_readers(rt: HostRuntime) -> Result<(), Fail> {
         Call::Acquire(Want::Write, Form::For, two),
         given(is_given, 3),
     );
-
     drop(reader);
     desk.same(Call::Unlock(two, 2, Way::Plain), Reply::Done);
-    put_by_each_form(&mut desk, one, &mut guard);
-    let part = RwLockReadGuard::map(up_and_down(&rt, &mut desk, one, &lock, guard), Item0);
-    assert_eq!(rt; *part, 4);
+    put_by_each_form(desk, one, &mut guard);
+    let part = RwLockReadGuard::map(up_and_down(rt, desk, one, lock, guard), Item0);
     desk.same(Call::Get(one, 1, Put(0)), Reply::Answer(*part));
     drop(part);
     desk.same(Call::Unlock(one, 1, Way::Plain), Reply::Done);
     desk.same(Call::IsLocked, Reply::Bool(lock.is_locked()));
-    assert_eq!(rt; desk.first_difference(), None);
-    Ok(())
 }
 
-/// A lock of 0 for so many readers, and a desk beside it.
-fn shared_beside_desk<W: Wait + Clone + Drop>(
-    alloc: Global,
-    waiter: W,
-    readers: u64,
-) -> Result<(Shared<W>, BesideDesk), Fail> {
-    let lock = Shared::with_readers(alloc, waiter, readers, 0)?;
-    let table = Table::rwlock(alloc, 4, readers, 0)?;
-    Ok((lock, BesideDesk::new(table, None)))
+#[test]
+fn an_upgrade_waits_for_readers(rt: HostRuntime) -> Result<(), Fail> {
+    let (one, two) = two_parties()?;
+    let lock: Paired<TokenRaw<HostRuntime>> = RwLock::with_readers(rt.alloc(), rt, 8, (1, 0))?;
+    let mut desk = BesideDesk::new(Table::rwlock(rt.alloc(), 4, 8, 1)?);
+    upgrades(&rt, &mut desk, &lock, one, two);
+    desk.verdict()
 }
 
 /// Gives a guard up and takes it again, plainly, fairly and at once, and ends it.
@@ -193,93 +177,52 @@ fn gives_up_and_takes_again<R: RawRwLock, L: AcquireFair>(
     desk.same(Call::IsLocked, Reply::Bool(lock.is_locked()));
 }
 
-#[test]
-fn each_guard_is_given_up_and_taken_again(rt: HostRuntime) -> Result<(), Fail> {
-    let one = party(1)?;
-    let (lock, mut desk) = shared_beside_desk(rt.alloc(), rt, 1)?;
-
-    let reader = lock.try_read_for(()).expect(&rt, "a free lock");
+/// A guard of each mode in turn.
+fn guards<R: RawRwLockUpgradeFair + RawRwLockUpgradeTimed<Duration = (), Instant = ()>>(
+    rt: &impl Abort,
+    desk: &mut BesideDesk,
+    lock: &RwLock<R, i64>,
+    one: PartyId,
+) {
+    let reader = lock.try_read_for(()).expect(rt, "a free lock");
     desk.same(Call::Acquire(Want::Read, Form::For, one), Reply::Guard(1));
-    gives_up_and_takes_again(&mut desk, one, 1, &lock, reader);
-    let writer = lock.try_write_until(()).expect(&rt, "a free lock");
+    gives_up_and_takes_again(desk, one, 1, lock, reader);
+    let writer = lock.try_write_until(()).expect(rt, "a free lock");
     desk.same(
         Call::Acquire(Want::Write, Form::Until, one),
         Reply::Guard(2),
     );
-    gives_up_and_takes_again(&mut desk, one, 2, &lock, writer);
-    let guard = lock.try_upgradable_read_for(()).expect(&rt, "a free lock");
+    gives_up_and_takes_again(desk, one, 2, lock, writer);
+    let guard = lock.try_upgradable_read_for(()).expect(rt, "a free lock");
     desk.same(
         Call::Acquire(Want::UpgradableRead, Form::For, one),
         Reply::Guard(3),
     );
-    gives_up_and_takes_again(&mut desk, one, 3, &lock, guard);
-    assert_eq!(rt; desk.first_difference(), None);
-    Ok(())
-}
-
-/// A lock of 0 that counts what it gets back, and a desk beside it.
-fn counted_beside_desk<W: Wait + Clone + Drop>(
-    alloc: Global,
-    waiter: W,
-) -> Result<(RwLock<Counting<W>, i64>, BesideDesk), Fail> {
-    let raw: Counting<W> = RawRwLock::new(alloc, waiter, 1)?;
-    let spent = Arc::try_clone(&raw.spent)?;
-    let table = Table::rwlock(alloc, 1, 1, 0)?;
-    let lock = RwLock::from_raw(raw, 0)?;
-    Ok((lock, BesideDesk::new(table, Some(spent))))
-}
-
-/// Bumps a guard and gives it up fairly.
-fn is_bumped_and_given_up<L: AcquireFair>(
-    desk: &mut BesideDesk,
-    one: PartyId,
-    number: u64,
-    guard: RwLockGuard<L>,
-) {
-    let mut guard = guard;
-    RwLockGuard::bump(&mut guard);
-    desk.same(Call::Bump(one, number), Reply::Done);
-    RwLockGuard::unlock_fair(guard);
-    desk.same(Call::Unlock(one, number, Way::Fair), Reply::Done);
+    gives_up_and_takes_again(desk, one, 3, lock, guard);
 }
 
 #[test]
-fn each_bump_gives_the_token_back_once(rt: HostRuntime) -> Result<(), Fail> {
+fn each_guard_is_given_up_and_taken_again(rt: HostRuntime) -> Result<(), Fail> {
     let one = party(1)?;
-    let (lock, mut desk) = counted_beside_desk(rt.alloc(), rt)?;
-
-    let reader = lock.read();
-    desk.same(Call::Acquire(Want::Read, Form::Block, one), Reply::Guard(1));
-    is_bumped_and_given_up(&mut desk, one, 1, reader);
-    let writer = lock.write();
-    desk.same(
-        Call::Acquire(Want::Write, Form::Block, one),
-        Reply::Guard(2),
-    );
-    is_bumped_and_given_up(&mut desk, one, 2, writer);
-    let guard = lock.upgradable_read();
-    desk.same(
-        Call::Acquire(Want::UpgradableRead, Form::Block, one),
-        Reply::Guard(3),
-    );
-    is_bumped_and_given_up(&mut desk, one, 3, guard);
-    desk.same(Call::Spent, Reply::Count(6));
-    assert_eq!(rt; desk.first_difference(), None);
-    Ok(())
+    let lock = Number::with_readers(rt.alloc(), rt, 1, 0)?;
+    let mut desk = BesideDesk::new(Table::rwlock(rt.alloc(), 4, 1, 0)?);
+    guards(&rt, &mut desk, &lock, one);
+    desk.verdict()
 }
 
-#[test]
-fn a_guard_goes_up_and_down_in_place(rt: HostRuntime) -> Result<(), Fail> {
-    let one = party(1)?;
-    let (lock, mut desk) = shared_beside_desk(rt.alloc(), rt, 8)?;
-
+/// Up by a try, down to upgradable, a change under an upgrade, and down to a reader.
+fn transitions<
+    R: RawRwLockUpgradeFair
+        + RawRwLockUpgradeTimed<Duration = (), Instant = ()>
+        + RawRwLockUpgradeDowngrade,
+>(rt: &impl Abort, desk: &mut BesideDesk, lock: &RwLock<R, i64>, one: PartyId) {
     let guard = lock.upgradable_read();
     desk.same(
         Call::Acquire(Want::UpgradableRead, Form::Block, one),
         Reply::Guard(1),
     );
     let writer = RwLockUpgradableReadGuard::try_upgrade_until(guard, ()).ok();
-    let mut writer = writer.expect(&rt, "alone");
+    let mut writer = writer.expect(rt, "alone");
     desk.same(Call::Upgrade(Form::Until, one, 1), Reply::Done);
     *writer = 7;
     desk.same(Call::Change(one, 1, Put(7)), Reply::Answer(*writer));
@@ -303,15 +246,24 @@ fn a_guard_goes_up_and_down_in_place(rt: HostRuntime) -> Result<(), Fail> {
     RwLockReadGuard::unlock_fair(reader);
     desk.same(Call::Unlock(one, 1, Way::Fair), Reply::Done);
     desk.same(Call::IsLocked, Reply::Bool(lock.is_locked()));
-    assert_eq!(rt; desk.first_difference(), None);
-    Ok(())
 }
 
 #[test]
-fn readers_stop_at_their_limit(rt: HostRuntime) -> Result<(), Fail> {
-    let (one, two) = two_parties()?;
-    let (lock, mut desk) = shared_beside_desk(rt.alloc(), rt, 1)?;
+fn a_guard_goes_up_and_down_in_place(rt: HostRuntime) -> Result<(), Fail> {
+    let one = party(1)?;
+    let lock = Number::with_readers(rt.alloc(), rt, 8, 0)?;
+    let mut desk = BesideDesk::new(Table::rwlock(rt.alloc(), 4, 8, 0)?);
+    transitions(&rt, &mut desk, &lock, one);
+    desk.verdict()
+}
 
+/// Two parties that read, where one may.
+fn readers<R: RawRwLockUpgradeDowngrade>(
+    desk: &mut BesideDesk,
+    lock: &RwLock<R, i64>,
+    one: PartyId,
+    two: PartyId,
+) {
     let guard = lock.upgradable_read();
     desk.same(
         Call::Acquire(Want::UpgradableRead, Form::Block, one),
@@ -331,6 +283,13 @@ fn readers_stop_at_their_limit(rt: HostRuntime) -> Result<(), Fail> {
         Call::Acquire(Want::Read, Form::Try, two),
         given(is_given, 2),
     );
-    assert_eq!(rt; desk.first_difference(), None);
-    Ok(())
+}
+
+#[test]
+fn readers_stop_at_their_limit(rt: HostRuntime) -> Result<(), Fail> {
+    let (one, two) = two_parties()?;
+    let lock = Number::with_readers(rt.alloc(), rt, 1, 0)?;
+    let mut desk = BesideDesk::new(Table::rwlock(rt.alloc(), 4, 1, 0)?);
+    readers(&mut desk, &lock, one, two);
+    desk.verdict()
 }

@@ -6,6 +6,7 @@ use lock_rwlock::{RwLock, RwLockReadGuard, RwLockUpgradableReadGuard, RwLockWrit
 use lock_test_support::answer::{debug_is, holds_or_lacks_memory, texts_are};
 use lock_test_support::raw_lock::Liar;
 use lock_test_support::{Count, add_in_four_threads};
+use std::alloc::Global;
 use std::cell::Cell;
 use std::sync::atomic::{AtomicBool, Ordering};
 use std::test::Fail;
@@ -115,6 +116,33 @@ fn refused_memory_rwlock_makers(rt: HostRuntime) {
     assert!(rt; holds_or_lacks_memory(made.map(|lock| lock.into_inner()), 0));
     let made = Shared::with_readers(alloc, rt, 1, 7);
     assert!(rt; holds_or_lacks_memory(made.map(|lock| lock.into_inner()), 7));
+}
+
+#[test]
+fn makers_give_locks(rt: HostRuntime) -> Result<(), Fail> {
+    assert_eq!(rt; Shared::from(rt.alloc(), rt, 6)?.into_inner(), 6);
+    assert_eq!(rt; Shared::default(rt.alloc(), rt)?.into_inner(), 0);
+    Ok(())
+}
+
+/// How many of 66 tries give a reader beside those before.
+fn readers_of_66<R: RawRwLock>(alloc: Global, lock: &RwLock<R, u64>) -> Result<usize, Fail> {
+    let mut readers = Vec::new(alloc);
+    for _ in 0..66u32 {
+        if let Some(reader) = lock.try_read() {
+            readers.push(reader)?;
+        }
+    }
+    Ok(readers.len())
+}
+
+#[test]
+fn as_many_read_as_the_maker_was_told(rt: HostRuntime) -> Result<(), Fail> {
+    let lock = Shared::new(rt.alloc(), rt, 0)?;
+    assert_eq!(rt; readers_of_66(rt.alloc(), &lock)?, 64);
+    let lock = Shared::with_readers(rt.alloc(), rt, 3, 0)?;
+    assert_eq!(rt; readers_of_66(rt.alloc(), &lock)?, 3);
+    Ok(())
 }
 
 #[test]

@@ -1,26 +1,14 @@
-use Rattle.std.proofs.Common.{rules, ◌≡◌, ◌∙◌, ap, sym, Ok, IsTrue, false, to_z, of_z}
-use Rattle.std.proofs.lemmas.Int.{to_z-of_z}
-use Rattle.std.specs.Fmt.{signed_decimal}
-use Rattle.std.specs.Int.{w64}
-use Rattle.std.proofs.lemmas.Fmt.{parse-signed_decimal}
+use Rattle.lock_script.proofs.NumberTexts.{HasSignedForm-number, IsSigned-read, signed_decimal-read}
 use Rattle.lock_script.proofs.number.signed.Goals as goal
 
--- the text of a number is parsed as that number
-pub returns-in_err-number-clause-some : goal.returns-in_err-number-clause-some
-returns-in_err-number-clause-some c = rw c.from_residual.ensures (
-  (λ some. cc),
-  λ found.
-      let parsed : c.parse.result ≡ Ok found.0 = parse-signed_decimal w64 found.0 c.args.field.now c.parse.result found.1.0 found.1.0.sfits (sym found.1.1) c.parse.ensures.value.0 in
-      let none = rw parsed at c.in_err-number.ensures.value in cc,
-)
+pub returns-then-not-has_signed_form-clause-some : goal.returns-then-not-has_signed_form-clause-some
+returns-then-not-has_signed_form-clause-some c =
+    ((λ some. cc), λ found. c.if-not-has_signed_form.ensures.1 (HasSignedForm-number c.args.field.now found))
 
-pub returns-else-is_text_of-clause-some : goal.returns-else-is_text_of-clause-some
-returns-else-is_text_of-clause-some c = (
-  (λ some. cc),
-  λ found.
-      let parsed : c.parse.result ≡ Ok found.0 = parse-signed_decimal w64 found.0 c.args.field.now c.parse.result found.1.0 found.1.0.sfits (sym found.1.1) c.parse.ensures.value.0 in
-      let some = rw parsed at c.in_ok-number.ensures.value in
-      let same : c.in_ok-number.number ≡ found.0 = cc in
-      let wrong : IsTrue false = c.if-is_text_of.ensures.1 (ap (λ z. signed_decimal (to_z w64 (of_z w64 z))) same ∙ ap signed_decimal (to_z-of_z w64 found.0 found.1.0) ∙ found.1.1) in
-      search rules,
-)
+pub returns-clause-text : goal.returns-clause-text
+returns-clause-text c = rw c.ok.ensures.value
+    (signed_decimal-read c.args.field.now c.parse.result c.parse.ensures.value.0 (c.has_signed_form.ensures.0 c.if-not-has_signed_form.false))
+
+pub returns-clause-some : goal.returns-clause-some
+returns-clause-some c = rw c.ok.ensures.value
+    (IsSigned-read c.args.field.now c.parse.result c.parse.ensures.value.0 (c.has_signed_form.ensures.0 c.if-not-has_signed_form.false))

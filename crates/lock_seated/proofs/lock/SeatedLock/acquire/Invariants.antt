@@ -1,4 +1,4 @@
-use Rattle.lock_seated.specs.Calls.{Tried}
+use Rattle.lock_seated.specs.Attempts.{Tried}
 use Rattle.lock_seated.proofs.lock.SeatedLock.acquire.Given as goal
 
 abbrev pub invariant-loop : goal.invariant-loop

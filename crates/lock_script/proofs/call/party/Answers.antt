@@ -1,6 +1,6 @@
 use Rattle.std.proofs.Common.{◌≡◌, ◌∙◌, sym, arith}
 use Rattle.std.proofs.lemmas.Fmt.{decimal_injective}
-use Rattle.lock_script.proofs.line.party.Goals as goal
+use Rattle.lock_script.proofs.call.party.Goals as goal
 
 -- a number has one text
 pub returns-clause-some : goal.returns-clause-some

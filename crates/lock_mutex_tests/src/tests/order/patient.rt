@@ -1,0 +1,69 @@
+//! A raw lock whose release waits.
+ghost use Rattle.std.specs.Prelude.{IsOkUnless};
+
+use lock_base::raw::Fault;
+use lock_guard::raw::{GuardSend, RawMutex};
+use std::alloc::Global;
+use std::clone::Clone;
+use std::sync::atomic::{AtomicBool, Ordering};
+use std::sync::{Arc, Wait};
+use std::thread;
+
+/// A raw lock that admits everything, and whose releases wait until they may end.
+#[derive(Drop)]
+pub struct Patient<W: Wait + Clone + Drop> {
+    waiter: W,
+    may_release: Arc<AtomicBool>,
+}
+
+impl<W: Wait + Clone + Drop> Patient<W> {
+    /// Whether releases may end.
+    pub fn may_release(&self) -> Result<Arc<AtomicBool>, Fault> {
+        match Arc::try_clone(&self.may_release) {
+            Ok(flag) => Ok(flag),
+            Err(_) => Err(Fault::OutOfMemory),
+        }
+    }
+}
+
+impl<W: Wait + Clone + Drop> RawMutex for Patient<W> {
+    type Guard = GuardSend;
+
+    type Waiter = W;
+
+    fn new(alloc: Global, waiter: W) -> Result<Patient<W>, Fault> {
+        match Arc::new(alloc, AtomicBool::new(false)) {
+            Ok(may_release) => Ok(Patient {
+                waiter,
+                may_release,
+            }),
+            Err(_) => Err(Fault::OutOfMemory),
+        }
+    }
+
+    fn waiter(&self) -> &W {
+        &self.waiter
+    }
+
+    fn lock(&self) -> GuardSend {
+        GuardSend::new()
+    }
+
+    fn try_lock(&self) -> Option<GuardSend> {
+        Some(GuardSend::new())
+    }
+
+    fn unlock(&self, _token: GuardSend) {
+        for _ in self.waiter.forever() {
+            if self.may_release.load(Ordering::SeqCst) {
+                return;
+            }
+            thread::yield_now();
+        }
+        unreachable!()
+    }
+
+    fn is_locked(&self) -> bool {
+        false
+    }
+}

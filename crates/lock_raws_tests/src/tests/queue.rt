@@ -1,0 +1,104 @@
+//! Producers and consumers that sleep on condition variables.
+use lock_base::raw::Fault;
+use lock_guard::raw::RawMutex;
+use lock_mutex::{Condvar, Mutex};
+use lock_raws::TokenRaw;
+use lock_raws_word::{SleepingCondvar, WordRaw};
+use std::alloc::Global;
+use std::sync::Wait;
+use std::test::Fail;
+use std::thread::{self, Threads};
+
+/// How many items each producer puts, and each consumer takes.
+const EACH: u64 = 10_000;
+
+/// Room for one item.
+#[derive(Drop)]
+struct Slot<R: RawMutex> {
+    item: Mutex<R, Option<u64>>,
+    filled: Condvar<SleepingCondvar<R>>,
+    emptied: Condvar<SleepingCondvar<R>>,
+}
+
+impl<R: RawMutex + Drop> Slot<R> {
+    fn new(alloc: Global, waiter: R::Waiter) -> Result<Slot<R>, Fault> {
+        Ok(Slot {
+            item: Mutex::new(alloc, waiter, None)?,
+            filled: Condvar::new(alloc)?,
+            emptied: Condvar::new(alloc)?,
+        })
+    }
+}
+
+/// Room that threads share.
+trait Room {
+    /// Where a thread waits.
+    type Waiter: Wait;
+
+    /// Waits until there is room.
+    fn put(&self, item: u64);
+
+    /// Waits until there is an item.
+    fn take(&self) -> u64;
+}
+
+impl<R: RawMutex> Room for Slot<R> {
+    type Waiter = R::Waiter;
+
+    fn put(&self, item: u64) {
+        let mut slot = self.item.lock();
+        self.emptied.wait_while(&mut slot, |slot| slot.is_some());
+        *slot = Some(item);
+        drop(slot);
+        self.filled.notify_one();
+    }
+
+    fn take(&self) -> u64 {
+        let mut slot = self.item.lock();
+        self.filled.wait_while(&mut slot, |slot| slot.is_none());
+        let item = slot.unwrap_or(0);
+        *slot = None;
+        drop(slot);
+        self.emptied.notify_one();
+        item
+    }
+}
+
+fn produce<C: Room>(room: &C, first: u64) {
+    for index in 0..EACH {
+        room.put(first.wrapping_add(index));
+    }
+}
+
+/// The sum of the items that were taken.
+fn consume<C: Room>(room: &C) -> u64 {
+    let mut sum: u64 = 0;
+    for _ in 0..EACH {
+        sum = sum.wrapping_add(room.take());
+    }
+    sum
+}
+
+fn produce_twice<T: Threads, C: Room + Sync>(rt: &T, room: &C) {
+    thread::join(rt, || produce(room, 1), || produce(room, 1 + EACH));
+}
+
+fn consume_twice<T: Threads, C: Room + Sync>(rt: &T, room: &C) -> u64 {
+    let (one, other) = thread::join(rt, || consume(room), || consume(room));
+    one.wrapping_add(other)
+}
+
+/// The sum of 1 to 20,000, where each item is taken once.
+fn sum_of_all<T: Threads + Sync, C: Room + Sync>(rt: &T, room: &C) -> u64 {
+    let (_, sum) = thread::join(rt, || produce_twice(rt, room), || consume_twice(rt, room));
+    sum
+}
+
+#[test]
+fn each_item_arrives_once(rt: HostRuntime) -> Result<(), Fail> {
+    let words: Slot<WordRaw<HostRuntime>> = Slot::new(rt.alloc(), rt)?;
+    assert_eq!(rt; sum_of_all(&rt, &words), 200_010_000);
+    let tables: Slot<TokenRaw<HostRuntime>> = Slot::new(rt.alloc(), rt)?;
+    assert_eq!(rt; sum_of_all(&rt, &tables), 200_010_000);
+    Ok(())
+}

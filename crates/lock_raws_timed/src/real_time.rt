@@ -1,0 +1,48 @@
+//! Real time, by the waiter's clock.
+use lock_raws::RawLock;
+use lock_raws_word::{SleepingCondvar, Timing, WordCore, WordLock, time_left};
+use lock_word::ExWant;
+use std::sync::Wait;
+use std::time::{Clock, Duration, Instant};
+
+/// A raw lock as `WordRaw`, whose waiter has a clock, and whose timed calls wait as long as they are told.
+pub type TimedRaw<W> = RawLock<WordCore<W, RealTime>>;
+
+/// A condition variable over it, whose timed waits sleep as long as they are told.
+pub type TimedCondvar<W> = SleepingCondvar<TimedRaw<W>>;
+
+/// Real time, by the waiter's clock. Where the clock cannot be read no time is left.
+#[derive(Drop)]
+pub struct RealTime;
+
+impl<W: Wait + Clock> Timing<W> for RealTime {
+    type Duration = Duration;
+
+    type Instant = Instant;
+
+    fn instant_after(waiter: &W, timeout: Duration) -> Option<Instant> {
+        Instant::now(waiter).ok()?.checked_add(timeout)
+    }
+
+    /// It tries after each sleep before it looks at the clock, so that a notification is not lost on one whose time is up.
+    fn wait_until(lock: &WordLock, waiter: &W, want: ExWant, deadline: Instant) -> bool {
+        if lock.try_for(want) || lock.try_again(want) {
+            return true;
+        }
+        for _ in waiter.forever() {
+            let announced = lock.sleepers().announce();
+            if lock.insist_on(waiter, want) {
+                lock.sleepers().leave();
+                return true;
+            }
+            match time_left(waiter, deadline) {
+                Some(left) => lock.sleepers().sleep_for(waiter, announced, left),
+                None => {
+                    lock.sleepers().leave();
+                    return false;
+                }
+            }
+        }
+        unreachable!()
+    }
+}

@@ -1,0 +1,71 @@
+//! A condition variable that sleeps.
+use crate::sleepers::Sleepers;
+use crate::timing::time_left;
+use lock_base::raw::Fault;
+use lock_guard::raw::{RawCondvar, RawCondvarTimed, RawMutex, RawMutexTimed};
+use std::alloc::Global;
+use std::marker::PhantomData;
+use std::time::{Clock, Duration, Instant};
+
+/// A condition variable over any raw mutex. Who waits gives the token up and sleeps until a notification that came after
+/// the wait began; with nobody waiting a notification is one load.
+#[derive(Drop)]
+pub struct SleepingCondvar<R> {
+    waiting: Sleepers,
+    mutex: PhantomData<R>,
+}
+
+impl<R: RawMutex> RawCondvar for SleepingCondvar<R> {
+    type RawMutex = R;
+
+    fn new(_alloc: Global) -> Result<SleepingCondvar<R>, Fault> {
+        Ok(SleepingCondvar {
+            waiting: Sleepers::new(),
+            mutex: PhantomData,
+        })
+    }
+
+    fn wait(&self, mutex: &R, token: R::Guard) -> R::Guard {
+        let announced = self.waiting.announce();
+        mutex.unlock(token);
+        self.waiting.sleep(mutex.waiter(), announced);
+        mutex.lock()
+    }
+
+    fn notify_one(&self) -> bool {
+        self.waiting.notify_one();
+        false
+    }
+
+    fn notify_all(&self) -> usize {
+        self.waiting.notify_all();
+        0
+    }
+}
+
+/// Over a raw mutex that measures time, by its waiter's clock.
+impl<R: RawMutexTimed<Duration = Duration, Instant = Instant>> RawCondvarTimed
+    for SleepingCondvar<R>
+where
+    R::Waiter: Clock,
+{
+    /// None: there is no clock at hand.
+    fn checked_duration_to_instant(_timeout: &Duration) -> Option<Instant> {
+        None
+    }
+
+    fn instant_after(mutex: &R, timeout: &Duration) -> Option<Instant> {
+        Instant::now(mutex.waiter()).ok()?.checked_add(*timeout)
+    }
+
+    fn wait_until(&self, mutex: &R, token: R::Guard, deadline: &Instant) -> (R::Guard, bool) {
+        let announced = self.waiting.announce();
+        mutex.unlock(token);
+        match time_left(mutex.waiter(), *deadline) {
+            Some(left) => self.waiting.sleep_for(mutex.waiter(), announced, left),
+            None => self.waiting.leave(),
+        }
+        let timed_out = time_left(mutex.waiter(), *deadline).is_none();
+        (mutex.lock(), timed_out)
+    }
+}

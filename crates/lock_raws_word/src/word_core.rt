@@ -1,0 +1,133 @@
+//! A raw lock over one word.
+use crate::timing::{NoTime, Timing};
+use crate::word_lock::WordLock;
+use lock_base::machine::Mode;
+use lock_base::raw::{Fault, is_limit};
+use lock_raws::{LockCore, RawLock};
+use lock_word::{Down, ExWant};
+use std::alloc::Global;
+use std::clone::Clone;
+use std::marker::PhantomData;
+use std::sync::Wait;
+
+/// A raw lock over one atomic word: the readers, 2^32 for an upgradable token and 2^33 for an exclusive one.
+///
+/// A try is one load and at most one exchange; it answers None too where the exchange was lost to another step. A release
+/// or a downgrade is one subtraction. Who waits tries a few times, and then sleeps. A token of another lock makes the
+/// word wrong, and nothing worse: calls may wait for ever, or let in whom they should not.
+pub type WordRaw<W> = RawLock<WordCore<W, NoTime>>;
+
+/// What an acquisition gives. Only this crate makes it.
+#[derive(Drop)]
+pub struct WordToken {
+    made: (),
+}
+
+/// Tokens in one word, with what permits waiting, and what timed calls measure.
+#[derive(Drop)]
+pub struct WordCore<W: Wait + Clone + Drop, T: Timing<W>> {
+    waiter: W,
+    lock: WordLock,
+    timing: PhantomData<T>,
+}
+
+impl<W: Wait + Clone + Drop, T: Timing<W>> LockCore for WordCore<W, T> {
+    type Token = WordToken;
+
+    type Waiter = W;
+
+    type Duration = T::Duration;
+
+    type Instant = T::Instant;
+
+    fn new(_alloc: Global, waiter: W, readers: u64) -> Result<WordCore<W, T>, Fault> {
+        if !is_limit(readers) {
+            return Err(Fault::BadLimits);
+        }
+        Ok(WordCore {
+            waiter,
+            lock: WordLock::new(readers),
+            timing: PhantomData,
+        })
+    }
+
+    fn waiter(&self) -> &W {
+        &self.waiter
+    }
+
+    fn is_locked(&self) -> bool {
+        self.lock.is_locked()
+    }
+
+    fn is_locked_exclusive(&self) -> bool {
+        self.lock.is_locked_exclusive()
+    }
+
+    fn acquire(&self, mode: Mode) -> WordToken {
+        self.lock.wait_for(&self.waiter, ExWant::of_mode(mode));
+        WordToken { made: () }
+    }
+
+    fn try_acquire(&self, mode: Mode) -> Option<WordToken> {
+        token_if(self.lock.try_for(ExWant::of_mode(mode)))
+    }
+
+    fn try_acquire_until(&self, mode: Mode, deadline: T::Instant) -> Option<WordToken> {
+        token_if(T::wait_until(&self.lock, &self.waiter, ExWant::of_mode(mode), deadline))
+    }
+
+    fn release(&self, _token: WordToken, mode: Mode) {
+        self.lock.give_up(Down::of_mode(mode));
+    }
+
+    fn upgrade(&self, token: WordToken) -> WordToken {
+        self.lock.wait_for(&self.waiter, ExWant::Upgrade);
+        token
+    }
+
+    fn try_upgrade(&self, token: WordToken) -> Result<WordToken, WordToken> {
+        upgraded_if(self.lock.try_for(ExWant::Upgrade), token)
+    }
+
+    fn try_upgrade_until(
+        &self,
+        token: WordToken,
+        deadline: T::Instant,
+    ) -> Result<WordToken, WordToken> {
+        upgraded_if(
+            T::wait_until(&self.lock, &self.waiter, ExWant::Upgrade, deadline),
+            token,
+        )
+    }
+
+    fn downgrade(&self, token: WordToken) -> WordToken {
+        self.lock.give_up(Down::ToShared);
+        token
+    }
+
+    fn downgrade_to_upgradable(&self, token: WordToken) -> WordToken {
+        self.lock.give_up(Down::ToUpgradable);
+        token
+    }
+
+    fn downgrade_upgradable(&self, token: WordToken) -> WordToken {
+        self.lock.give_up(Down::UpgradableToShared);
+        token
+    }
+
+    fn instant_after(&self, timeout: T::Duration) -> Option<T::Instant> {
+        T::instant_after(&self.waiter, timeout)
+    }
+}
+
+fn token_if(is_admitted: bool) -> Option<WordToken> {
+    if is_admitted {
+        Some(WordToken { made: () })
+    } else {
+        None
+    }
+}
+
+fn upgraded_if(is_admitted: bool, token: WordToken) -> Result<WordToken, WordToken> {
+    if is_admitted { Ok(token) } else { Err(token) }
+}

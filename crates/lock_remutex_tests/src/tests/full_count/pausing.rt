@@ -1,0 +1,59 @@
+//! A raw lock that pauses in a bump.
+use lock_base::raw::Fault;
+use lock_guard::raw::{GuardSend, RawMutex, RawMutexFair};
+use std::alloc::Global;
+use std::clone::Clone;
+use std::sync::Wait;
+use std::sync::atomic::{AtomicBool, Ordering};
+use std::thread;
+
+/// A raw lock that admits everything. A bump ends once the lock was asked whether it is held.
+#[derive(Drop)]
+pub struct Pausing<W: Wait + Clone + Drop> {
+    waiter: W,
+    was_asked: AtomicBool,
+}
+
+impl<W: Wait + Clone + Drop> RawMutex for Pausing<W> {
+    type Guard = GuardSend;
+
+    type Waiter = W;
+
+    fn new(_alloc: Global, waiter: W) -> Result<Pausing<W>, Fault> {
+        let was_asked = AtomicBool::new(false);
+        Ok(Pausing { waiter, was_asked })
+    }
+
+    fn waiter(&self) -> &W {
+        &self.waiter
+    }
+
+    fn lock(&self) -> GuardSend {
+        GuardSend::new()
+    }
+
+    fn try_lock(&self) -> Option<GuardSend> {
+        Some(GuardSend::new())
+    }
+
+    fn unlock(&self, _token: GuardSend) {}
+
+    fn is_locked(&self) -> bool {
+        self.was_asked.store(true, Ordering::SeqCst);
+        false
+    }
+}
+
+impl<W: Wait + Clone + Drop> RawMutexFair for Pausing<W> {
+    fn unlock_fair(&self, _token: GuardSend) {}
+
+    fn bump(&self, token: GuardSend) -> GuardSend {
+        for _ in self.waiter.forever() {
+            if self.was_asked.load(Ordering::SeqCst) {
+                return token;
+            }
+            thread::yield_now();
+        }
+        unreachable!()
+    }
+}

@@ -1,0 +1,104 @@
+//! The order in which a lock takes and gives back its raw lock and the lock of its value.
+use lock_guard::guard::Acquire;
+use lock_guard::raw::{RawRwLock, RawRwLockUpgrade};
+use lock_raws::TokenRaw;
+use lock_rwlock::{RwLock, RwLockGuard};
+use lock_rwlock_arc::{ArcRwLockReadGuard, RwLockArc};
+use lock_test_support::raw_lock::{Calls, Liar, RawCall};
+use std::sync::atomic::{AtomicBool, Ordering};
+use std::sync::{Arc, Wait};
+use std::test::Fail;
+use std::thread;
+
+/// Adds 1 to the value while the guard is given up.
+fn add_while_unlocked<R: RawRwLock, L: Acquire>(lock: &RwLock<R, u64>, guard: RwLockGuard<L>) {
+    let mut guard = guard;
+    RwLockGuard::unlocked(&mut guard, || {
+        let mut value = lock.write();
+        *value = value.wrapping_add(1);
+    });
+}
+
+fn add_while_each_guard_is_unlocked<R: RawRwLockUpgrade>(lock: &RwLock<R, u64>) {
+    add_while_unlocked(lock, lock.read());
+    add_while_unlocked(lock, lock.write());
+    add_while_unlocked(lock, lock.upgradable_read());
+}
+
+/// It ends only where nothing is held while the closure runs.
+#[test]
+fn a_lock_is_written_while_a_guard_is_unlocked(rt: HostRuntime) -> Result<(), Fail> {
+    let lock: RwLock<TokenRaw<HostRuntime>, u64> = RwLock::new(rt.alloc(), rt, 0)?;
+    add_while_each_guard_is_unlocked(&lock);
+    assert_eq!(rt; lock.into_inner(), 3);
+    Ok(())
+}
+
+/// Holds the value until the raw lock was asked once more, and then writes it.
+fn write_once_another_asked<W: Wait, R: RawRwLock>(
+    lock: &RwLock<R, u64>,
+    waiter: &W,
+    calls: &Calls<RawCall>,
+    is_held: &AtomicBool,
+) {
+    let mut guard = lock.write();
+    is_held.store(true, Ordering::SeqCst);
+    for _ in waiter.forever() {
+        if calls.count(waiter) >= 2 {
+            break;
+        }
+        thread::yield_now();
+    }
+    *guard = 5;
+}
+
+/// What another, which asks to write once the value is held, finds.
+fn find_once_held<W: Wait, R: RawRwLock>(
+    lock: &RwLock<R, u64>,
+    waiter: &W,
+    is_held: &AtomicBool,
+) -> u64 {
+    for _ in waiter.forever() {
+        if is_held.load(Ordering::SeqCst) {
+            break;
+        }
+        thread::yield_now();
+    }
+    *lock.write()
+}
+
+/// It ends only where a thread asks the raw lock before it takes the lock of the value.
+#[test]
+fn the_raw_lock_is_asked_before_the_value_is_taken(rt: HostRuntime) -> Result<(), Fail> {
+    let raw: Liar<HostRuntime> = RawRwLock::new(rt.alloc(), rt, 1)?;
+    let calls = raw.calls()?;
+    let is_held = AtomicBool::new(false);
+    let lock = RwLock::from_raw(raw, 0)?;
+    let ((), found) = thread::join(
+        &rt,
+        || write_once_another_asked(&lock, &rt, &calls, &is_held),
+        || find_once_held(&lock, &rt, &is_held),
+    );
+    assert_eq!(rt; found, 5);
+    Ok(())
+}
+
+/// The sum of what two guards read at once.
+fn sum<R: RawRwLock + Drop>(
+    first: &ArcRwLockReadGuard<R, u64>,
+    second: &ArcRwLockReadGuard<R, u64>,
+) -> u64 {
+    ArcRwLockReadGuard::with(
+        first,
+        |one| ArcRwLockReadGuard::with(second, |other| one.wrapping_add(*other)),
+    )
+}
+
+#[test]
+fn two_arc_guards_read_at_once(rt: HostRuntime) -> Result<(), Fail> {
+    let lock: RwLock<TokenRaw<HostRuntime>, u64> = RwLock::new(rt.alloc(), rt, 2)?;
+    let lock = Arc::new(rt.alloc(), lock)?;
+    let (first, second) = (RwLock::read_arc(&lock)?, RwLock::read_arc(&lock)?);
+    assert_eq!(rt; sum(&first, &second), 4);
+    Ok(())
+}

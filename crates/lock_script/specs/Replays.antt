@@ -1,0 +1,50 @@
+-- What a replay answers, and what its faults tell.
+use Rattle.std.specs.Prelude.{◌≡◌, ◌≤◌, ℕ, List, length, Option}
+use Rattle.std.specs.Io.{StartsWith}
+use Rattle.std.specs.Io.KnownBytes.{Appends, IsAtEnd}
+use Rattle.lock_script.specs.declared.choice.Which.{Which}
+use Rattle.lock_script.specs.declared.choice.Which.TheVariants.{Table}
+use Rattle.lock_script.specs.declared.fault.ReplayFault.{ReplayFault}
+use Rattle.lock_script.specs.declared.fault.ReplayFault.TheVariants.{BadLine, TooLong, OutOfMemory, InputFailed, OutputFailed}
+use Rattle.lock_script.specs.Faults.{Gives}
+use Rattle.lock_script.specs.Lines.{IsFirstBad, lines_of}
+use Rattle.lock_script.specs.Session.{IsDeskAnswer}
+use Rattle.lock_script.specs.Words.{IsCall, IsMaker}
+
+-- the fields make what a script begins with
+abbrev pub IsFirst : Which → List (List ℕ) → Type 0
+IsFirst Table fields = IsMaker fields
+
+-- the fields make what a further line asks for
+abbrev pub IsFurther : Which → List (List ℕ) → Type 0
+IsFurther Table fields = IsCall fields
+
+-- the text answers the script of these bytes
+abbrev pub IsAnswer : Which → List ℕ → List ℕ → Type 0
+IsAnswer Table script text = IsDeskAnswer script text
+
+-- a reader gave a script that passes, of 1,048,576 bytes at most, and has nothing left
+abbrev pub GivesScript : Option (List ℕ) → Option (List ℕ) → (List ℕ → Type 0) → Type 0
+GivesScript ahead left Passes =
+    IsAtEnd left × Gives ahead left (λ script. (length script ≤ 1048576) × Passes script)
+
+-- known bytes grow by what answers the script
+abbrev pub AppendsAnswer : Which → List ℕ → Option (List ℕ) → Option (List ℕ) → Type 0
+AppendsAnswer which script old new = (text : List ℕ) × (IsAnswer which script text × Appends old new text)
+
+-- known bytes grow by a beginning of the text
+abbrev pub AppendsFront : Option (List ℕ) → Option (List ℕ) → List ℕ → Type 0
+AppendsFront old new text = (front : List ℕ) × (StartsWith text front × Appends old new front)
+
+-- known bytes grow by a beginning of what answers the script
+abbrev pub BeginsAnswer : Which → List ℕ → Option (List ℕ) → Option (List ℕ) → Type 0
+BeginsAnswer which script old new = (text : List ℕ) × (IsAnswer which script text × AppendsFront old new text)
+
+-- what a fault tells of the bytes that the reader gave, and of those that were written
+abbrev pub Tells : Which → Option (List ℕ) → Option (List ℕ) → Option (List ℕ) → Option (List ℕ) → ReplayFault → Type 0
+Tells which ahead left old new (BadLine number) =
+    GivesScript ahead left (λ script. IsFirstBad (IsFirst which) (IsFurther which) (lines_of script) number)
+Tells which ahead left old new TooLong = Gives ahead left (λ bytes. length bytes ≡ 1048577)
+Tells which ahead left old new OutOfMemory = Gives ahead left (λ bytes. length bytes ≤ 1048577)
+Tells which ahead left old new InputFailed = Gives ahead left (λ bytes. length bytes ≤ 1048576)
+Tells which ahead left old new OutputFailed = GivesScript ahead left (λ script. BeginsAnswer which script old new)

@@ -1,0 +1,41 @@
+//! What callers of a seated lock can prove of the words that they are answered.
+ghost use Rattle.std.specs.Prelude.{◌≡◌, ◌<◌, ◌^◌};
+ghost use Rattle.lock_word.specs.Word.{readers_of_word};
+
+use lock_seated::{Attempt, ExWant, Party, SeatedLock};
+
+/// The word that an exclusive holder loads.
+pub fn loaded_alone(lock: &SeatedLock, party: &mut Party) -> u64
+    requires of_lock { party.old.lock ≡ lock.now }
+    requires holds { 0 < party.old.state.held.exclusive }
+    ensures alone { result ≡ 2 ^ 33 }
+    ensures of_lock { party.new.lock ≡ party.old.lock }
+    ensures same { party.new.state.held ≡ party.old.state.held }
+{
+    lock.load(party)
+}
+
+/// The word that a shared holder loads.
+pub fn loaded_beside_readers(lock: &SeatedLock, party: &mut Party) -> u64
+    requires of_lock { party.old.lock ≡ lock.now }
+    requires holds { 0 < party.old.state.held.shared }
+    ensures reader { 0 < readers_of_word result }
+    ensures no_writer { result < 2 ^ 33 }
+    ensures of_lock { party.new.lock ≡ party.old.lock }
+    ensures same { party.new.state.held ≡ party.old.state.held }
+{
+    lock.load(party)
+}
+
+/// The word that keeps a shared holder from an exclusive hold, or 0 where nothing kept it.
+pub fn refused_beside_readers(lock: &SeatedLock, party: &mut Party) -> u64
+    requires of_lock { party.old.lock ≡ lock.now }
+    requires holds { 0 < party.old.state.held.shared }
+    ensures no_writer { result < 2 ^ 33 }
+    ensures of_lock { party.new.lock ≡ party.old.lock }
+{
+    match lock.attempt(party, ExWant::Exclusive) {
+        Attempt::NotAdmitted(word) => word,
+        Attempt::Done | Attempt::Changed => 0,
+    }
+}

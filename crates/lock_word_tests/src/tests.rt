@@ -1,0 +1,4 @@
+mod refused_memory;
+mod seated;
+mod threads;
+mod world;

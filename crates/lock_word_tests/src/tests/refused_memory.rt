@@ -1,0 +1,43 @@
+//! Memory may be refused to each call that takes it.
+use lock_base::raw::Fault;
+use lock_seated::{Attempt, ExWant, SeatedLock};
+use lock_states::world::World;
+use lock_word::{AtomicStep, ExWant as Wanted, Outcome};
+use std::test::Fail;
+
+#[test]
+fn refused_memory_world(rt: HostRuntime) -> Result<(), Fail> {
+    let mut world = match World::new(rt.alloc(), 2, 1) {
+        Ok(world) => world,
+        Err(fault) => {
+            assert!(rt; fault == Fault::OutOfMemory);
+            return Ok(());
+        }
+    };
+    let steps = [
+        AtomicStep::Load(2),
+        AtomicStep::Exchange(2, Wanted::Exclusive),
+    ];
+    match world.run(rt.alloc(), &steps) {
+        Ok(made) => {
+            assert!(rt; made.as_slice() == [Outcome::Loaded(0), Outcome::Done].as_slice());
+            assert!(rt; world.word() == 8_589_934_592);
+        }
+        Err(fault) => {
+            assert!(rt; fault == Fault::OutOfMemory && world.word() == 0);
+            assert!(rt; world.step(AtomicStep::Load(2)) == Outcome::Loaded(0));
+        }
+    }
+    Ok(())
+}
+
+#[test]
+fn refused_memory_seated_lock(rt: HostRuntime) {
+    match SeatedLock::new(rt.alloc(), 1) {
+        Ok((lock, mut party)) => {
+            assert!(rt; lock.attempt(&mut party, ExWant::Exclusive) == Attempt::Done);
+            assert!(rt; lock.load(&mut party) == 8_589_934_592);
+        }
+        Err(fault) => assert!(rt; fault == Fault::OutOfMemory),
+    }
+}

@@ -1,0 +1,64 @@
+//! What the calls of a seated lock answer, one after another.
+use crate::callers::{loaded_alone, loaded_beside_readers, refused_beside_readers};
+use lock_base::machine::Mode;
+use lock_seated::{Attempt, ExWant, SeatedLock};
+use std::test::Fail;
+
+#[test]
+fn load_is_fresh(rt: HostRuntime) -> Result<(), Fail> {
+    let (lock, party) = SeatedLock::new(rt.alloc(), 2)?;
+    let (mut a, mut b) = lock.split(party);
+    assert!(rt; lock.load(&mut a) == 0);
+    assert!(rt; lock.attempt(&mut b, ExWant::Shared) == Attempt::Done);
+    assert!(rt; lock.load(&mut a) == 1);
+    assert!(rt; lock.attempt(&mut a, ExWant::Exclusive) == Attempt::NotAdmitted(1));
+    assert!(rt; b.holds(Mode::Shared) == 1);
+    lock.release(&mut b, Mode::Shared);
+    assert!(rt; lock.attempt(&mut a, ExWant::Exclusive) == Attempt::Done);
+    assert!(rt; lock.load(&mut a) == 8_589_934_592);
+    assert!(rt; lock.attempt(&mut b, ExWant::Shared) == Attempt::NotAdmitted(8_589_934_592));
+    Ok(())
+}
+
+#[test]
+fn upgradable_holds_move(rt: HostRuntime) -> Result<(), Fail> {
+    let (lock, party) = SeatedLock::new(rt.alloc(), 2)?;
+    let (mut a, mut b) = lock.split(party);
+    assert!(rt; lock.attempt(&mut a, ExWant::Upgradable) == Attempt::Done);
+    assert!(rt; lock.load(&mut a) == 4_294_967_297);
+    assert!(rt; lock.attempt(&mut b, ExWant::Upgradable) == Attempt::NotAdmitted(4_294_967_297));
+    assert!(rt; lock.attempt(&mut b, ExWant::Shared) == Attempt::Done);
+    assert!(rt; a.holds(Mode::Upgradable) == 1);
+    assert!(rt; lock.attempt(&mut a, ExWant::Upgrade) == Attempt::NotAdmitted(4_294_967_298));
+    assert!(rt; b.holds(Mode::Shared) == 1);
+    lock.release(&mut b, Mode::Shared);
+    assert!(rt; lock.attempt(&mut a, ExWant::Upgrade) == Attempt::Done);
+    assert!(rt; lock.load(&mut a) == 8_589_934_592);
+    assert!(rt; a.holds(Mode::Exclusive) == 1);
+    lock.downgrade_to_upgradable(&mut a);
+    assert!(rt; lock.load(&mut a) == 4_294_967_297);
+    lock.downgrade_upgradable(&mut a);
+    assert!(rt; lock.load(&mut a) == 1);
+    assert!(rt; lock.attempt(&mut a, ExWant::Exclusive) == Attempt::NotAdmitted(1));
+    assert!(rt; a.holds(Mode::Shared) == 1);
+    lock.release(&mut a, Mode::Shared);
+    assert!(rt; lock.attempt(&mut a, ExWant::Exclusive) == Attempt::Done);
+    assert!(rt; a.holds(Mode::Exclusive) == 1);
+    lock.downgrade(&mut a);
+    assert!(rt; lock.load(&mut a) == 1);
+    Ok(())
+}
+
+#[test]
+fn holders_are_told_the_word(rt: HostRuntime) -> Result<(), Fail> {
+    let (lock, mut party) = SeatedLock::new(rt.alloc(), 2)?;
+    assert!(rt; lock.attempt(&mut party, ExWant::Exclusive) == Attempt::Done);
+    assert!(rt; party.holds(Mode::Exclusive) == 1);
+    assert!(rt; loaded_alone(&lock, &mut party) == 8_589_934_592);
+    lock.downgrade(&mut party);
+    assert!(rt; party.holds(Mode::Shared) == 1);
+    assert!(rt; loaded_beside_readers(&lock, &mut party) == 1);
+    assert!(rt; party.holds(Mode::Shared) == 1);
+    assert!(rt; refused_beside_readers(&lock, &mut party) == 1);
+    Ok(())
+}

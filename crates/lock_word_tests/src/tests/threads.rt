@@ -1,0 +1,121 @@
+//! Parties of a seated lock on threads of their own.
+ghost use Rattle.std.specs.Prelude.{◌≡◌};
+
+use lock_base::machine::Mode;
+use lock_seated::{Attempt, ExWant, Party, SeatedLock};
+use std::hint::spin_loop;
+use std::sync::Wait;
+use std::sync::atomic::{AtomicBool, Ordering};
+use std::test::Fail;
+use std::thread::{Threads, join};
+
+/// Holds shared until the other does too, for at most so many turns.
+fn meet<R: Wait>(
+    rt: &R,
+    lock: &SeatedLock,
+    mut party: Party,
+    mine: &AtomicBool,
+    other: &AtomicBool,
+) -> (Party, bool)
+    requires { party.lock ≡ lock.now }
+    ensures { result.0.lock ≡ lock.now }
+{
+    lock.acquire(rt, &mut party, ExWant::Shared);
+    mine.store(true, Ordering::SeqCst);
+    let mut seen = false;
+    for _ in 0..100_000_000u64 {
+        if other.load(Ordering::SeqCst) {
+            seen = true;
+            break;
+        }
+        spin_loop();
+    }
+    lock.release(&mut party, Mode::Shared);
+    (party, seen)
+}
+
+#[test]
+fn two_readers_meet(rt: HostRuntime) -> Result<(), Fail> {
+    let (lock, party) = SeatedLock::new(rt.alloc(), 2)?;
+    let (a, b) = lock.split(party);
+    let first = AtomicBool::new(false);
+    let second = AtomicBool::new(false);
+    let ((mut a, saw_second), (_b, saw_first)) = join(
+        &rt,
+        || meet(&rt, &lock, a, &first, &second),
+        || meet(&rt, &lock, b, &second, &first),
+    );
+    assert!(rt; saw_second && saw_first);
+    lock.acquire(&rt, &mut a, ExWant::Exclusive);
+    assert!(rt; lock.load(&mut a) == 8_589_934_592);
+    assert!(rt; a.holds(Mode::Exclusive) == 1);
+    lock.release(&mut a, Mode::Exclusive);
+    assert!(rt; lock.load(&mut a) == 0);
+    Ok(())
+}
+
+/// One attempt at an exclusive hold. Who gets it swaps the flag from false to true and back, and gives it back. Whether
+/// it was done, and whether no swap found the other value.
+fn swap_alone(lock: &SeatedLock, party: &mut Party, flag: &AtomicBool) -> (bool, bool)
+    requires { party.old.lock ≡ lock.now }
+    ensures { party.new.lock ≡ lock.now }
+{
+    if lock.attempt(party, ExWant::Exclusive) != Attempt::Done {
+        return (false, true);
+    }
+    let found = flag.swap(true, Ordering::SeqCst);
+    let left = flag.swap(false, Ordering::SeqCst);
+    lock.release(party, Mode::Exclusive);
+    (true, !found && left)
+}
+
+/// Attempts 1,000 times, by the party and by one that it splits off in turn. Whether one held at all, and whether each
+/// holder was alone.
+///
+/// It takes no leave to wait, so no call of it may wait.
+fn contend(lock: &SeatedLock, party: Party, flag: &AtomicBool) -> (bool, bool)
+    requires { party.lock ≡ lock.now }
+{
+    let (mut party, mut other) = lock.split(party);
+    let mut held = false;
+    let mut alone = true;
+    for _ in 0..500u32 {
+        let first = swap_alone(lock, &mut party, flag);
+        let second = swap_alone(lock, &mut other, flag);
+        held |= first.0 || second.0;
+        alone &= first.1 && second.1;
+    }
+    (held, alone)
+}
+
+/// Two contend, on a thread each.
+fn contend_both<R: Threads + Sync>(
+    rt: &R,
+    lock: &SeatedLock,
+    a: Party,
+    b: Party,
+    flag: &AtomicBool,
+) -> (bool, bool)
+    requires first { a.lock ≡ lock.now }
+    requires second { b.lock ≡ lock.now }
+{
+    let (first, second) = join(rt, || contend(lock, a, flag), || contend(lock, b, flag));
+    (first.0 || second.0, first.1 && second.1)
+}
+
+#[test]
+fn exclusive_holders_are_alone(rt: HostRuntime) -> Result<(), Fail> {
+    let (lock, party) = SeatedLock::new(rt.alloc(), 4)?;
+    let (a, b) = lock.split(party);
+    let (a, c) = lock.split(a);
+    let (b, d) = lock.split(b);
+    let flag = AtomicBool::new(false);
+    let (first, second) = join(
+        &rt,
+        || contend_both(&rt, &lock, a, b, &flag),
+        || contend_both(&rt, &lock, c, d, &flag),
+    );
+    assert!(rt; first.0 || second.0);
+    assert!(rt; first.1 && second.1);
+    Ok(())
+}

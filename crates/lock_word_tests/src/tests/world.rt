@@ -1,0 +1,143 @@
+//! Interleavings as one list of steps each, with the outcomes that are wanted.
+use lock_base::machine::Mode;
+use lock_base::raw::Fault;
+use lock_states::world::World;
+use lock_word::AtomicStep::{Exchange, Load, Take};
+use lock_word::Outcome::{Changed, Done, Loaded, NotAdmitted, Refused};
+use lock_word::{AtomicStep, Down, ExWant, Outcome};
+use std::alloc::Global;
+use std::test::Fail;
+
+/// The world that the steps lead to from a new one. None where they have other outcomes.
+fn led_to(
+    alloc: Global,
+    parties: u64,
+    readers: u64,
+    steps: &[AtomicStep],
+    outcomes: &[Outcome],
+) -> Result<Option<World>, Fault> {
+    let mut world = World::new(alloc, parties, readers)?;
+    let made = world.run(alloc, steps)?;
+    if made.as_slice() == outcomes {
+        Ok(Some(world))
+    } else {
+        Ok(None)
+    }
+}
+
+#[test]
+fn exchange_loses_to_another(rt: HostRuntime) -> Result<(), Fail> {
+    let steps = [
+        Load(1),
+        Load(2),
+        Exchange(1, ExWant::Shared),
+        Exchange(2, ExWant::Shared),
+        Load(2),
+        Exchange(2, ExWant::Shared),
+    ];
+    let outcomes = [Loaded(0), Loaded(0), Done, Changed, Loaded(1), Done];
+    let world = led_to(rt.alloc(), 2, 3, &steps, &outcomes)?.ok_or("other outcomes")?;
+    assert!(rt; world.word() == 2 && world.fails(2) == Ok(1) && world.wins(1) == Ok(1));
+    Ok(())
+}
+
+#[test]
+fn word_that_came_back_is_the_same(rt: HostRuntime) -> Result<(), Fail> {
+    let steps = [
+        Load(1),
+        Exchange(1, ExWant::Shared),
+        Load(3),
+        Load(2),
+        Exchange(2, ExWant::Shared),
+        Take(2, Down::Shared),
+        Exchange(3, ExWant::Shared),
+    ];
+    let outcomes = [Loaded(0), Done, Loaded(1), Loaded(1), Done, Done, Done];
+    let world = led_to(rt.alloc(), 3, 3, &steps, &outcomes)?.ok_or("other outcomes")?;
+    assert!(rt; world.word() == 2 && world.fails(3) == Ok(0) && world.wins(2) == Ok(2));
+    assert!(rt; world.holds(1, Mode::Shared) == Ok(1) && world.holds(2, Mode::Shared) == Ok(0));
+    Ok(())
+}
+
+#[test]
+fn fails_are_as_many_as_the_wins_of_others(rt: HostRuntime) -> Result<(), Fail> {
+    let steps = [
+        Load(1),
+        Load(2),
+        Exchange(2, ExWant::Shared),
+        Exchange(1, ExWant::Shared),
+        Load(1),
+        Take(2, Down::Shared),
+        Exchange(1, ExWant::Shared),
+    ];
+    let outcomes = [
+        Loaded(0),
+        Loaded(0),
+        Done,
+        Changed,
+        Loaded(1),
+        Done,
+        Changed,
+    ];
+    let world = led_to(rt.alloc(), 2, 3, &steps, &outcomes)?.ok_or("other outcomes")?;
+    assert!(rt; world.fails(1) == Ok(2) && world.wins(2) == Ok(2) && world.word() == 0);
+    Ok(())
+}
+
+#[test]
+fn one_party_and_each_refusal(rt: HostRuntime) -> Result<(), Fail> {
+    let steps = [
+        Exchange(1, ExWant::Shared),
+        Take(1, Down::Shared),
+        Load(2),
+        Load(1),
+        Exchange(1, ExWant::Exclusive),
+        Take(1, Down::ToUpgradable),
+        Load(1),
+        Exchange(1, ExWant::Upgrade),
+        Take(1, Down::Shared),
+        Take(1, Down::Exclusive),
+    ];
+    let outcomes = [
+        Refused(Fault::NoLoad),
+        Refused(Fault::WrongMode),
+        Refused(Fault::UnknownParty),
+        Loaded(0),
+        Done,
+        Done,
+        Loaded(4_294_967_297),
+        Done,
+        Refused(Fault::WrongMode),
+        Done,
+    ];
+    let world = led_to(rt.alloc(), 1, 1, &steps, &outcomes)?.ok_or("other outcomes")?;
+    assert!(rt; world.word() == 0);
+    Ok(())
+}
+
+#[test]
+fn upgradable_token_is_a_reader(rt: HostRuntime) -> Result<(), Fail> {
+    let steps = [
+        Load(1),
+        Exchange(1, ExWant::Upgradable),
+        Load(2),
+        Exchange(2, ExWant::Shared),
+        Exchange(2, ExWant::Shared),
+        Take(1, Down::UpgradableToShared),
+        Load(2),
+        Exchange(2, ExWant::Exclusive),
+    ];
+    let outcomes = [
+        Loaded(0),
+        Done,
+        Loaded(4_294_967_297),
+        NotAdmitted,
+        Refused(Fault::NoLoad),
+        Done,
+        Loaded(1),
+        NotAdmitted,
+    ];
+    let world = led_to(rt.alloc(), 2, 1, &steps, &outcomes)?.ok_or("other outcomes")?;
+    assert!(rt; world.word() == 1);
+    Ok(())
+}

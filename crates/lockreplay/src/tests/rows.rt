@@ -1,0 +1,117 @@
+//! Rows of scripts and their answers.
+use super::check;
+use lock_script::Which;
+use std::test::Fail;
+
+/// Scripts of calls of a lock.
+const DESK_ROWS: [(&str, &str); 29] = [
+    (
+        "mutex 4 10 0 / lock 1 / try_lock 2 / lock 2",
+        "ok / guard 1 / none / refused 1",
+    ),
+    (
+        "mutex 1 5 0 / lock 1 / lock 1 / get 2 1 0 / get 1 1 2 / unlock 1 1 / unlock 1 1 / is_locked",
+        "ok / guard 1 / refused 8 / value 5 / refused 14 / ok / refused 2 / no",
+    ),
+    (
+        "mutex 4 1 2 / lock 1 / park 1 1 / is_locked / resume 1 1 / bump 1 1 / park_fair 1 1 / resume 1 1 / get 1 1 2 / unlock_fair 1 1 / spent / try_lock_for 1 / unlock 1 2 / try_lock_until 1 / unlock_fair 1 3 / spent / is_locked",
+        "ok / guard 1 / ok / no / ok / ok / ok / ok / refused 14 / ok / count 4 / guard 2 / ok / guard 3 / ok / count 6 / no",
+    ),
+    (
+        "mutex 4 0 0 / try_lock_for 1 / park 1 1 / resume 1 1 / bump 1 1 / into_arc_fair 1 1 / lock 1 / unlock 1 2 / spent",
+        "ok / guard 1 / ok / ok / ok / ok / guard 2 / ok / count 4",
+    ),
+    (
+        "mutex 4 0 0 / lock 1 / park 1 1 / lock 2 / resume 1 1 / unlock 1 1 / abandon 1 1 / abandon 1 1",
+        "ok / guard 1 / ok / guard 2 / refused 1 / refused 3 / ok / refused 2",
+    ),
+    (
+        "mutex 1 0 0 / lock 1 / park 1 1 / try_lock 2",
+        "ok / guard 1 / ok / refused 8",
+    ),
+    (
+        "mutex 2 1 2 / lock 1 / set 1 1 1 -7 / unlock 1 1 / lock 2 / get 2 2 1 / add 2 2 1 9223372036854775807 / add 2 2 1 8",
+        "ok / guard 1 / value -7 / ok / guard 2 / value -7 / value 9223372036854775800 / refused 14",
+    ),
+    ("mutex 0 0 0 / lock 1", "refused 12"),
+    ("mutex 4294967296 0 0", "refused 12"),
+    (
+        "rwlock 4 8 1 2 / upgradable_read 1 / read 2 / try_with_upgraded 1 1 0 1 / try_with_upgraded_for 1 1 0 1 / try_with_upgraded_until 1 1 0 1 / try_upgrade 1 1 / try_upgrade_for 1 1 / try_upgrade_until 1 1 / upgrade 1 1 / try_upgradable_read 2 / unlock 2 2 / try_with_upgraded 1 1 0 1 / try_with_upgraded_for 1 1 0 1 / try_with_upgraded_until 1 1 0 1 / upgrade 1 1 / downgrade_to_upgradable 1 1 / try_upgrade_for 1 1 / downgrade 1 1 / get 1 1 0 / unlock 1 1 / spent / is_locked",
+        "ok / guard 1 / guard 2 / none / none / none / none / none / none / refused 1 / none / ok / value 2 / value 3 / value 4 / ok / ok / ok / ok / value 4 / ok / count 2 / no",
+    ),
+    (
+        "rwlock 1 1 0 0 / try_read_for 1 / park 1 1 / resume 1 1 / park_fair 1 1 / resume 1 1 / bump 1 1 / unlock_fair 1 1 / try_write_until 1 / park 1 2 / resume 1 2 / park_fair 1 2 / resume 1 2 / bump 1 2 / unlock_fair 1 2 / try_upgradable_read_for 1 / park 1 3 / resume 1 3 / park_fair 1 3 / resume 1 3 / bump 1 3 / unlock_fair 1 3 / spent / is_locked",
+        "ok / guard 1 / ok / ok / ok / ok / ok / ok / guard 2 / ok / ok / ok / ok / ok / ok / guard 3 / ok / ok / ok / ok / ok / ok / count 12 / no",
+    ),
+    (
+        "rwlock 4 8 0 0 / upgradable_read 1 / read 1 / try_upgrade 1 1 / unlock 1 2 / try_upgrade_until 1 1 / downgrade_to_upgradable 1 1 / try_upgrade_for 1 1 / bump 1 1 / downgrade_to_upgradable 1 1 / downgrade 1 1 / into_arc 1 1 / spent / is_locked",
+        "ok / guard 1 / guard 2 / none / ok / ok / ok / ok / ok / ok / ok / ok / count 3 / no",
+    ),
+    (
+        "rwlock 4 1 0 0 / upgradable_read 1 / read 2 / downgrade 1 1 / try_read 2 / unlock 1 1 / try_read 2",
+        "ok / guard 1 / refused 1 / ok / none / ok / guard 2",
+    ),
+    (
+        "rwlock 2 2 0 0 / unlock 1 1 / unlock 1 0 / read 1 / resume 1 1 / set 1 1 0 5 / upgrade 1 1 / park 1 1 / bump 1 1 / downgrade 1 1 / try_lock 1 / spent",
+        "ok / refused 2 / refused 2 / guard 1 / refused 4 / refused 6 / refused 6 / ok / refused 3 / refused 3 / refused 7 / count 1",
+    ),
+    (
+        "rwlock 2 2 4 0 / write 1 / is_locked_exclusive / with_upgraded 1 1 0 1 / downgrade_to_upgradable 1 1 / with_upgraded 1 1 0 1 / is_locked_exclusive",
+        "ok / guard 1 / yes / refused 6 / ok / value 5 / no",
+    ),
+    ("rwlock 4 4294967296 0 0 / read 1", "refused 12"),
+    (
+        "reentrant 4 4 0 0 / lock 1 / lock 1 / unlock 1 1 / spent / bump 1 2 / spent / park 1 2 / spent / resume 1 2 / unlock_fair 1 2 / spent / is_locked",
+        "ok / guard 1 / guard 2 / ok / count 0 / ok / count 1 / ok / count 2 / ok / ok / count 3 / no",
+    ),
+    (
+        "reentrant 4 4 5 0 / lock 1 / lock 1 / bump 1 1 / spent / get 2 1 0 / try_lock 2 / lock 2 / is_owned_by 1 / is_owned_by 2 / set 1 1 0 9",
+        "ok / guard 1 / guard 2 / ok / count 0 / refused 5 / none / refused 1 / yes / no / refused 7",
+    ),
+    (
+        "reentrant 4 2 0 0 / lock 1 / lock 1 / lock 1 / try_lock 1 / lock 2 / park 1 1 / lock 1 / resume 1 1",
+        "ok / guard 1 / guard 2 / refused 10 / refused 10 / refused 1 / ok / guard 3 / refused 10",
+    ),
+    (
+        "reentrant 2 2 0 0 / lock 1 / park 1 1 / is_owned_by 1",
+        "ok / guard 1 / ok / no",
+    ),
+    (
+        "rwlock 2 2 0 0 / write 1 / park 1 1 / is_locked_exclusive",
+        "ok / guard 1 / ok / no",
+    ),
+    ("mutex 1 0 0 / is_locked_exclusive", "ok / refused 7"),
+    ("reentrant 2 2 0 0 / write 1", "ok / refused 7"),
+    (
+        "rwlock 2 2 0 0 / upgradable_read 1 / read 2 / park 2 2 / try_upgrade 1 1",
+        "ok / guard 1 / guard 2 / ok / ok",
+    ),
+    (
+        "reentrant 2 2 0 0 / lock 1 / park 1 1 / get 2 1 0",
+        "ok / guard 1 / ok / refused 5",
+    ),
+    (
+        "rwlock 2 2 0 0 / upgradable_read 1 / read 2 / try_with_upgraded 1 1 2 1",
+        "ok / guard 1 / guard 2 / refused 14",
+    ),
+    (
+        "rwlock 1 1 0 0 / read 1 / lock 1",
+        "ok / guard 1 / refused 7",
+    ),
+    (
+        "mutex 1 0 0 / lock 1 / add 1 1 0 9223372036854775807 / add 1 1 0 1 / add 1 1 1 -9223372036854775808 / add 1 1 1 -1",
+        "ok / guard 1 / value 9223372036854775807 / refused 14 / value -9223372036854775808 / refused 14",
+    ),
+    (
+        "mutex 1 0 0 / unlock 1 18446744073709551615 / lock 18446744073709551615 / get 1 1 18446744073709551615 / unlock 1 1",
+        "ok / refused 2 / guard 1 / refused 14 / ok",
+    ),
+];
+
+#[test]
+fn desks_answer(rt: HostRuntime) -> Result<(), Fail> {
+    for (row, answers) in DESK_ROWS {
+        check(rt.alloc(), Which::Table, row, answers)?;
+    }
+    Ok(())
+}

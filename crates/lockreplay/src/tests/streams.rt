@@ -1,0 +1,209 @@
+//! Readers, writers and memory that fail.
+use lock_script::{ReplayFault, SCRIPT_LIMIT, Which, replay};
+use std::alloc::Global;
+use std::io::{self, ErrorKind, Read, Write};
+use std::test::Fail;
+
+/// Fails with this kind once, at one of its calls.
+#[derive(Drop)]
+struct Fails {
+    calls: u64,
+    at: u64,
+    kind: ErrorKind,
+}
+
+impl Fails {
+    /// The next call may go on.
+    fn next(&mut self) -> io::Result<()> {
+        let fails = self.calls == self.at;
+        self.calls = self.calls.saturating_add(1);
+        if fails {
+            return Err(io::Error::from(self.kind));
+        }
+        Ok(())
+    }
+}
+
+/// Gives one line a read, four in all.
+#[derive(Drop)]
+struct Lines {
+    fails: Fails,
+    given: usize,
+}
+
+impl Read for Lines {
+    fn read(&mut self, buf: &mut [u8]) -> io::Result<usize> {
+        self.fails.next()?;
+        let lines = ["mutex 4 0 0\n", "lock 1\n", "park 1 1\n", "is_locked\n"];
+        if self.given >= lines.len() {
+            return Ok(0);
+        }
+        let line = lines[self.given].as_bytes();
+        self.given += 1;
+        let count = buf.len().min(line.len());
+        buf[..count].copy_from_slice(&line[..count]);
+        Ok(count)
+    }
+}
+
+/// What a writer was asked.
+#[derive(Clone, Copy, PartialEq, Eq, Debug)]
+enum Asked {
+    Write(usize),
+    Flush,
+}
+
+/// Takes at most four bytes a write, and writes down what it was asked.
+#[derive(Drop)]
+struct Narrow {
+    fails: Fails,
+    asked: Vec<Asked>,
+    kept: Vec<u8>,
+}
+
+impl Write for Narrow {
+    fn write(&mut self, buf: &[u8]) -> io::Result<usize> {
+        self.asked.push(Asked::Write(buf.len()))?;
+        self.fails.next()?;
+        let count = buf.len().min(4);
+        self.kept.extend_from_slice(&buf[..count])?;
+        Ok(count)
+    }
+
+    fn flush(&mut self) -> io::Result<()> {
+        self.asked.push(Asked::Flush)?;
+        self.fails.next()
+    }
+}
+
+/// A call that fails with this kind.
+fn failing(at: u64, kind: ErrorKind) -> Fails {
+    Fails { calls: 0, at, kind }
+}
+
+/// What a replay of this script told, with the writer that it wrote to.
+fn replayed<R: Read>(
+    alloc: Global,
+    reader: &mut R,
+    fails: Fails,
+) -> (Result<(), ReplayFault>, Narrow) {
+    let mut writer = Narrow {
+        fails,
+        asked: Vec::new(alloc),
+        kept: Vec::new(alloc),
+    };
+    let told = replay(alloc, Which::Table, reader, &mut writer);
+    (told, writer)
+}
+
+/// A call number that is never reached.
+const NEVER: u64 = u64::MAX;
+
+#[test]
+fn a_failing_reader_is_told(rt: HostRuntime) -> Result<(), Fail> {
+    for at in 0..5 {
+        let mut reader = Lines {
+            fails: failing(at, ErrorKind::TimedOut),
+            given: 0,
+        };
+        let (told, writer) = replayed(rt.alloc(), &mut reader, failing(NEVER, ErrorKind::TimedOut));
+        assert_eq!(rt; told, Err(ReplayFault::InputFailed), "at {at}");
+        assert!(rt; writer.asked.is_empty(), "at {at}");
+    }
+    Ok(())
+}
+
+#[test]
+fn a_writer_that_fails_once_has_a_beginning(rt: HostRuntime) -> Result<(), Fail> {
+    let answers = b"ok\nguard 1\n";
+    let calls = [
+        Asked::Write(11),
+        Asked::Write(7),
+        Asked::Write(3),
+        Asked::Flush,
+    ];
+    for at in 0..5 {
+        let mut script: &[u8] = b"mutex 4 0 0\nlock 1\n";
+        let (told, writer) = replayed(rt.alloc(), &mut script, failing(at, ErrorKind::TimedOut));
+        assert_eq!(rt; told.is_ok(), at == 4, "at {at}");
+        assert!(rt; told != Err(ReplayFault::InputFailed), "at {at}");
+        let made = (at as usize + 1).min(calls.len());
+        assert_eq!(rt; writer.asked.as_slice(), &calls[..made], "at {at}");
+        let kept = (4 * at as usize).min(answers.len());
+        assert_eq!(rt; writer.kept.as_slice(), &answers[..kept], "at {at}");
+    }
+    Ok(())
+}
+
+#[test]
+fn interrupted_calls_are_made_again(rt: HostRuntime) -> Result<(), Fail> {
+    for at in 0..3 {
+        let mut reader = Lines {
+            fails: failing(at, ErrorKind::Interrupted),
+            given: 0,
+        };
+        let (told, writer) = replayed(rt.alloc(), &mut reader, failing(at, ErrorKind::Interrupted));
+        assert_eq!(rt; told, Ok(()), "at {at}");
+        assert_eq!(rt;
+            writer.kept.as_slice(),
+            b"ok\nguard 1\nok\nno\n".as_slice(),
+            "at {at}"
+        );
+    }
+    Ok(())
+}
+
+#[test]
+fn a_bad_script_writes_nothing(rt: HostRuntime) -> Result<(), Fail> {
+    let mut script: &[u8] = b"mutex 4 0 0\nlock 1\nlock\n";
+    let (told, writer) = replayed(rt.alloc(), &mut script, failing(NEVER, ErrorKind::TimedOut));
+    assert_eq!(rt; told, Err(ReplayFault::BadLine(3)));
+    assert!(rt; writer.asked.is_empty());
+    Ok(())
+}
+
+#[test]
+fn a_script_is_read_to_the_first_byte_past_the_limit(rt: HostRuntime) -> Result<(), Fail> {
+    assert_eq!(rt; SCRIPT_LIMIT, 1_048_576);
+    for (length, want, left) in [
+        (1_048_576, ReplayFault::BadLine(1), 0),
+        (1_048_577, ReplayFault::TooLong, 0),
+        (1_048_677, ReplayFault::TooLong, 100),
+    ] {
+        let script = vec![in rt.alloc(); b'x'; length]?;
+        let mut reader = script.as_slice();
+        let (told, writer) = replayed(rt.alloc(), &mut reader, failing(NEVER, ErrorKind::TimedOut));
+        assert_eq!(rt; told, Err(want), "of {length}");
+        assert_eq!(rt; reader.len(), left, "of {length}");
+        assert!(rt; writer.asked.is_empty(), "of {length}");
+    }
+    Ok(())
+}
+
+#[test]
+fn the_last_line_may_lack_its_end(rt: HostRuntime) -> Result<(), Fail> {
+    let mut script: &[u8] = b"mutex 4 -9223372036854775808 0\nlock 1\nget 1 1 0";
+    let (told, writer) = replayed(rt.alloc(), &mut script, failing(NEVER, ErrorKind::TimedOut));
+    assert_eq!(rt; told, Ok(()));
+    assert_eq!(rt;
+        writer.kept.as_slice(),
+        b"ok\nguard 1\nvalue -9223372036854775808\n".as_slice()
+    );
+    Ok(())
+}
+
+/// Also run with one allocation after another refused.
+#[test]
+fn refused_memory_replay(rt: HostRuntime) -> Result<(), Fail> {
+    let mut kept = [0u8; 64];
+    let mut out = kept.as_mut_slice();
+    let mut script: &[u8] = b"rwlock 2 2 1 2\nread 1\nget 1 1 0\nspent\n";
+    match replay(rt.alloc(), Which::Table, &mut script, &mut out) {
+        Ok(()) => assert!(rt; kept.starts_with(b"ok\nguard 1\nvalue 1\ncount 0\n")),
+        Err(fault) => {
+            assert_eq!(rt; fault, ReplayFault::OutOfMemory);
+            assert_eq!(rt; kept, [0u8; 64]);
+        }
+    }
+    Ok(())
+}
