@@ -14,6 +14,7 @@ pub use Rattle.lock_base.specs.Refusals
 pub use Rattle.lock_base.specs.Calls
 pub use Rattle.lock_base.specs.Steps
 pub use Rattle.lock_base.specs.Legal
+pub use Rattle.lock_base.specs.Sound
 pub use Rattle.lock_guard.specs.Closure
 pub use Rattle.lock_base.specs.Lens
 pub use Rattle.lock_base.specs.Then
@@ -44,5 +45,7 @@ pub use Rattle.lock_rwlock_arc.specs.ArcRwLockGuard
 pub use Rattle.lock_remutex.specs.Guards
 pub use Rattle.lock_remutex.specs.ArcGuards
 pub use Rattle.lock_raws.specs.TokenArbiter
+pub use Rattle.lock_raws.specs.Unblocking
 pub use Rattle.lock_raws.specs.Journal
 pub use Rattle.lock_raws.specs.Recording
+pub use Rattle.lock_raws_word.specs.Waking

@@ -33,6 +33,10 @@ pub use lock_raws::{
     RecordingRaw, SharedToken, SpuriousCondvar, TableArbiter, TokenArbiter, TokenRaw, Unchanged,
     UpgradableToken,
 };
+pub use lock_raws_timed::{RealTime, TimedCondvar, TimedRaw};
+pub use lock_raws_word::{
+    NoTime, SleepingCondvar, Timing, WordCore, WordLock, WordRaw, WordToken, wakes_are_of_bags,
+};
 pub use lock_remutex::{
     ArcReentrantMutexGuard, MappedReentrantMutexGuard, RawReentrantMutex, ReentrantMutex,
     ReentrantMutexGuard,
@@ -47,7 +51,7 @@ pub use lock_rwlock_arc::{
 };
 pub use lock_seated::{Attempt, Party, PartyView, SeatedLock, WordRule, every_state_keeps_rule};
 pub use lock_states::table::{TableToken, TokenTable};
-pub use lock_states::word::{PackedWord, WordToken};
+pub use lock_states::word::{PackedToken, PackedWord};
 pub use lock_states::world::World;
 pub use lock_word::{
     AtomicStep, Down, ExWant, Outcome, PartyState, every_interleaving, exchanges_are_of_bags,

@@ -7,7 +7,7 @@ use Rattle.lock_base.specs.Kind.{is_reentrant}
 use Rattle.lock_base.specs.Entries.{Entry, held_entries, held_count, held_bag, modes_of_entries, all_of_party}
 use Rattle.lock_base.specs.Register.{Register, lets_in, owns, is_full_count}
 use Rattle.lock_base.specs.Legal.{AreLegallyHeld}
-use Rattle.lock_base.proofs.ModeLemmas.{compatible_acquired, compatible_released, admits-released}
+use Rattle.lock_base.proofs.ModeLemmas.{compatible_acquired, compatible_released, admits-released, admits-beside_exclusive}
 use Rattle.lock_base.proofs.Splices.{EntryMap}
 use Rattle.lock_base.proofs.HeldEntries.{HasOneMore, held_bag-more, held_count-more}
 
@@ -54,6 +54,19 @@ module _ (r : Register) (party : ℕ) (mode : Mode) where
 
   pub lets_in-mode : is_reentrant r.kind ≡ false → IsTrue (admits r.limit (held_bag r.entries) mode) → IsTrue (lets_in r party mode)
   lets_in-mode plain ok = from_else (is_reentrant r.kind) _ (admits r.limit (held_bag r.entries) mode) plain ok
+
+-- and nobody beside an exclusive guard
+
+not_let_in : (let_in admitted : Bool) → (IsTrue let_in → IsTrue admitted) → admitted ≡ false → let_in ≡ false
+not_let_in true true h barred = barred
+not_let_in true false h barred = sym (h refl)
+not_let_in false admitted h barred = refl
+
+pub not_let_in_beside_exclusive : (r : Register) (party : ℕ) (mode : Mode) → is_reentrant r.kind ≡ false → 0 < (held_bag r.entries).exclusive
+    → lets_in r party mode ≡ false
+not_let_in_beside_exclusive r party mode plain out =
+    not_let_in (lets_in r party mode) (admits r.limit (held_bag r.entries) mode) (admitted_mode r party mode plain)
+    (admits-beside_exclusive r.limit (held_bag r.entries) mode out)
 
 -- only what is held counts
 pub lets_in-same_held : (r : Register) (es : EntryMap) (party : ℕ) (mode : Mode) → held_entries es ≡ held_entries r.entries

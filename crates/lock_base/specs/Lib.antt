@@ -14,5 +14,6 @@ pub mod Refusals
 pub mod Calls
 pub mod Steps
 pub mod Legal
+pub mod Sound
 pub mod Lens
 pub mod Then

@@ -29,7 +29,7 @@ use Rattle.lock_base.specs.Calls.{Turn, give, refuse, on_guard, with_register, w
 use Rattle.lock_base.specs.Steps.{Response, response_of, response_in_form, done_reply, step}
 use Rattle.lock_base_laws.specs.Kept.{is_refusal}
 use Rattle.lock_base_laws.specs.Numbers.{numbers_of}
-use Rattle.lock_base_laws.specs.Sound.{IsModeOf}
+use Rattle.lock_base.specs.Sound.{IsModeOf}
 use Rattle.lock_base_laws.specs.TokenSteps.{only_if, by_mode, steps_back, asked_steps, token_steps}
 use Rattle.lock_base_laws.proofs.Turns.{Meets, all_passed, of_unless, of_guard, of_both}
 

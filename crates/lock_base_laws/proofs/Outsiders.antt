@@ -1,14 +1,12 @@
 -- Nobody is let in beside a held exclusive guard.
-use Rattle.std.proofs.Common.{◌≡◌, ℕ, ◌+◌, ◌<◌, Bool, true, false, ◌&&◌, ◌==◌, nat_lt, if◌then◌else◌, [], ◌∷◌, ◌++◌, Option, Some, None, Ok, IsTrue, refl, ap, sym, ◌∙◌, subst, arith, eq-eqb}
+use Rattle.std.proofs.Common.{◌≡◌, ℕ, ◌+◌, ◌<◌, Bool, true, false, if◌then◌else◌, [], ◌∷◌, ◌++◌, Option, Some, None, Ok, refl, ap, sym, ◌∙◌, subst, arith, eq-eqb}
 use Rattle.std.specs.Prelude.{IsErr, IfOk, IsNone}
-use Rattle.std.proofs.lemmas.Bool.{ne_eqb}
 use Rattle.lock_base.specs.declared.machine.mode.Mode.{Mode}
-use Rattle.lock_base.specs.declared.machine.mode.Mode.TheVariants.{Shared, Exclusive, Upgradable}
-use Rattle.lock_base.specs.declared.machine.bag.Bag.{Bag}
+use Rattle.lock_base.specs.declared.machine.mode.Mode.TheVariants.{Exclusive}
 use Rattle.lock_base.specs.declared.machine.kind.Kind.{Kind}
 use Rattle.lock_base.specs.declared.machine.call.Want.{Want}
 use Rattle.lock_base.specs.declared.raw.fault.Fault.TheVariants as fault
-use Rattle.lock_base.specs.Modes.{readers, tokens, count_of, admits}
+use Rattle.lock_base.specs.Modes.{count_of}
 use Rattle.lock_base.specs.Kind.{is_reentrant}
 use Rattle.lock_base.specs.Entries.{Entry, find, resumed_entry, held_bag}
 use Rattle.lock_base.specs.Register.{lets_in, is_full_count, with_guard, with_change}
@@ -16,26 +14,13 @@ use Rattle.lock_base.specs.Machine.{Machine}
 use Rattle.lock_base.specs.Refusals.{mode_of, acquisition_refusal, parked_guard}
 use Rattle.lock_base.specs.Calls.{Turn, blocking_answer, refuse, give, with_register, acquire, resume}
 use Rattle.lock_base.proofs.Splices.{find-append}
-use Rattle.lock_base.proofs.Admissions.{admitted_mode}
-use Rattle.lock_base_laws.specs.Sound.{IsModeOf}
+use Rattle.lock_base.proofs.Admissions.{not_let_in_beside_exclusive}
+use Rattle.lock_base.specs.Sound.{IsModeOf}
 use Rattle.lock_base_laws.specs.Exclusion.{IsHeld, LetsNobodyIn, ExclusiveGuardsExclude, MutexGuardsExclude, NewGuardsAreHeld}
 use Rattle.lock_base_laws.proofs.Turns.{of_unless, of_guard, of_both}
-use Rattle.lock_base_laws.proofs.RunsReached.{out_mode}
+use Rattle.lock_base.proofs.SoundRegisters.{out_mode}
 use Rattle.lock_base_laws.proofs.GuardNumbers.{find-above}
 use Rattle.lock_base_laws.proofs.Written.{held_is_counted}
-
--- where an exclusive one is out nothing is admitted
-admits-beside_exclusive : (limit : ℕ) (b : Bag) (mode : Mode) → 0 < b.exclusive → admits limit b mode ≡ false
-admits-beside_exclusive limit b Shared out =
-    ap (λ (x : Bool). x && nat_lt (readers b) limit) (ne_eqb b.exclusive 0 (λ none. omega arith))
-admits-beside_exclusive limit b Exclusive out = ne_eqb (tokens b) 0 (λ none. omega arith)
-admits-beside_exclusive limit b Upgradable out =
-    ap (λ (x : Bool). x && ((b.upgradable == 0) && nat_lt (readers b) limit)) (ne_eqb b.exclusive 0 (λ none. omega arith))
-
-not_let_in : (let_in admitted : Bool) → (IsTrue let_in → IsTrue admitted) → admitted ≡ false → let_in ≡ false
-not_let_in true true h barred = barred
-not_let_in true false h barred = sym (h refl)
-not_let_in false admitted h barred = refl
 
 module _ {T : Type 0} (m : Machine T) where
   -- a machine whose register lets in nobody
@@ -67,8 +52,7 @@ module _ {T : Type 0} (m : Machine T) where
       let counted = held_is_counted guard holder.entry m.entries holder.found holder.held in
       let out : 0 < (held_bag m.entries).exclusive =
       subst (λ (mode : Mode). 0 < count_of (held_bag m.entries) mode) exclusive counted in
-      lets_nobody_in (λ party mode. not_let_in (lets_in m.register party mode) (admits m.limit (held_bag m.entries) mode)
-      (admitted_mode m.register party mode plain) (admits-beside_exclusive m.limit (held_bag m.entries) mode out))
+      lets_nobody_in (λ party mode. not_let_in_beside_exclusive m.register party mode plain out)
 
 module _ {T : Type 0} where
   pub exclusive_excludes : ExclusiveGuardsExclude T

@@ -14,7 +14,7 @@ use Rattle.lock_base.specs.Steps.{response_of, reply_of, done_reply}
 use Rattle.lock_base.proofs.Splices.{EntryMap, splice, find-update, update-back}
 use Rattle.lock_base.proofs.HeldEntries.{resumed_entry-parked_entry, more_than_parked}
 use Rattle.lock_base.proofs.Admissions.{lets_in_again, is_full_count-fewer}
-use Rattle.lock_base_laws.specs.Sound.{IsSound}
+use Rattle.lock_base.specs.Sound.{IsSound}
 use Rattle.lock_base_laws.specs.Parking.{ParkedIsResumed}
 use Rattle.lock_base_laws.proofs.Turns.{Meets, of_guard, on_guard-met}
 

@@ -1,144 +1,18 @@
 -- Each call keeps a machine sound, so every run does.
-use Rattle.std.proofs.Common.{◌≡◌, ◌∙◌, ℕ, ◌+◌, Bool, true, false, List, [], ◌∷◌, ◌++◌, length, Some, IsTrue, refl, ap, sym, subst, arith, append-nil}
-use Rattle.lock_base.specs.declared.machine.mode.Mode.{Mode}
+use Rattle.std.proofs.Common.{◌∙◌, ℕ, Bool, List, [], ◌∷◌, refl}
 use Rattle.lock_base.specs.declared.machine.mode_step.ModeStep.{ModeStep}
-use Rattle.lock_base.specs.declared.machine.bag.Bag.{Bag}
-use Rattle.lock_base.specs.declared.machine.kind.Kind.{Kind}
-use Rattle.lock_base.specs.declared.machine.kind.Kind.TheVariants.{Mutex, RwLock, Reentrant}
 use Rattle.lock_base.specs.declared.machine.call.Call.{Call}
 use Rattle.lock_base.specs.declared.machine.reply.Reply.{Reply}
 use Rattle.lock_base.specs.Operation.{Operation}
-use Rattle.lock_base.specs.Modes.{one_more, is_move, may_become, AreCompatible}
-use Rattle.lock_base.specs.Kind.{is_reentrant}
-use Rattle.lock_base.specs.Entries.{Entry, find, without, update, parked_entry, resumed_entry, in_mode, held_bag}
-use Rattle.lock_base.specs.Register.{Register, lets_in, with_guard, without_guard, with_change}
+use Rattle.lock_base.specs.Entries.{Entry}
+use Rattle.lock_base.specs.Register.{Register}
 use Rattle.lock_base.specs.Machine.{Machine, start}
-use Rattle.lock_base.specs.Legal.{AreLegallyHeld, AreNumbered}
+use Rattle.lock_base.specs.Sound.{IsSound}
 use Rattle.lock_base.specs.Steps.{step}
-use Rattle.lock_base.proofs.ModeLemmas.{compatible_changed, compatible_empty}
-use Rattle.lock_base.proofs.Splices.{EntryMap, Splice, splice, length-middle, numbered_removed, numbered_changed, numbered_issued}
-use Rattle.lock_base.proofs.HeldEntries.{held_bag-more, more_than_rest, more_than_parked, resumed_is_more, moved_is_more, abandoned_holds_same, issued_is_more}
-use Rattle.lock_base.proofs.Admissions.{legal_same, legal_fewer, legal_more}
-use Rattle.lock_base_laws.specs.Sound.{IsLimitOf, IsModeOf, HaveModesOf, IsSound, RunsAreSound, CallsKeepSound, KeepsLimits, RunsKeepLimits}
-use Rattle.lock_base_laws.proofs.Effects.{Effect, effect, LetsIn, IsOut}
-
--- the modes of the kind
-
-have_modes_removed : (kind : Kind) (xs : EntryMap) (x : ℕ × Entry) (ys : EntryMap) → HaveModesOf kind (xs ++ x ∷ ys)
-    → IsModeOf kind x.1.mode × HaveModesOf kind (xs ++ ys)
-have_modes_removed kind [] x ys h = h
-have_modes_removed kind (e ∷ xs) x ys h = let rest = have_modes_removed kind xs x ys h.1 in (rest.0, (h.0, rest.1))
-
-have_modes_added : (kind : Kind) (xs : EntryMap) (x : ℕ × Entry) (ys : EntryMap) → IsModeOf kind x.1.mode → HaveModesOf kind (xs ++ ys)
-    → HaveModesOf kind (xs ++ x ∷ ys)
-have_modes_added kind [] x ys mode h = (mode, h)
-have_modes_added kind (e ∷ xs) x ys mode h = (h.0, have_modes_added kind xs x ys mode h.1)
-
-module _ (r : Register) (sound : IsSound r) where
-  with_guard_sound : (party : ℕ) (mode : Mode) → LetsIn r party mode → IsSound (with_guard r party mode)
-  with_guard_sound party mode lets =
-      let e : Entry = record { party = party; mode = mode; held = true } in
-      let one = issued_is_more r.entries (r.last + 1) e refl in
-      let rest = append-nil r.entries in
-      let more = length-middle r.entries (r.last + 1, e) [] in
-      let same = ap length rest in
-      let within = sound.legal.room in
-      let room = lets.room in
-      record {
-        legal = record {
-          held = legal_more r party e (r.entries ++ (r.last + 1, e) ∷ []) one (λ nested. refl) lets.let_in sound.legal.held;
-          numbered = numbered_issued 0 r.last r.entries e sound.legal.numbered;
-          room = omega arith;
-        };
-        limit = sound.limit;
-        modes = have_modes_added r.kind r.entries (r.last + 1, e) [] lets.mode_of_kind
-            (subst (HaveModesOf r.kind) (sym rest) sound.modes);
-      }
-
-  module _ (guard : ℕ) (e : Entry) (s : Splice guard e r.entries) where
-    whole_numbered : AreNumbered 0 r.last (s.before ++ (guard, e) ∷ s.after)
-    whole_numbered = subst (AreNumbered 0 r.last) s.whole sound.legal.numbered
-
-    whole_modes : IsModeOf r.kind e.mode × HaveModesOf r.kind (s.before ++ s.after)
-    whole_modes = have_modes_removed r.kind s.before (guard, e) s.after (subst (HaveModesOf r.kind) s.whole sound.modes)
-
-    -- the register without the guard, and with the guard changed, is sound where what is held is legal
-    without_sound : AreLegallyHeld (is_reentrant r.kind) r.limit (without guard r.entries) → IsSound (without_guard r guard)
-    without_sound held =
-        let whole = ap length s.whole in
-        let removed = ap length s.removed in
-        let more = length-middle s.before (guard, e) s.after in
-        let within = sound.legal.room in
-        record {
-          legal = record {
-            held = held;
-            numbered = subst (AreNumbered 0 r.last) (sym s.removed) (numbered_removed 0 r.last s.before (guard, e) s.after whole_numbered);
-            room = omega arith;
-          };
-          limit = sound.limit;
-          modes = subst (HaveModesOf r.kind) (sym s.removed) whole_modes.1;
-        }
-
-    change_sound : (change : Entry → Entry) → IsModeOf r.kind (change e).mode
-        → AreLegallyHeld (is_reentrant r.kind) r.limit (update guard change r.entries)
-        → IsSound (with_change r guard change)
-    change_sound change mode held =
-        let whole = ap length s.whole in
-        let updated = ap length (s.updated change) in
-        let more = length-middle s.before (guard, e) s.after in
-        let more_too = length-middle s.before (guard, change e) s.after in
-        let within = sound.legal.room in
-        record {
-          legal = record {
-            held = held;
-            numbered = subst (AreNumbered 0 r.last) (sym (s.updated change))
-                (numbered_changed 0 r.last guard s.before e (change e) s.after whole_numbered);
-            room = omega arith;
-          };
-          limit = sound.limit;
-          modes = subst (HaveModesOf r.kind) (sym (s.updated change))
-              (have_modes_added r.kind s.before (guard, change e) s.after mode whole_modes.1);
-        }
-
-    unlocked_sound : IsTrue e.held → IsSound (without_guard r guard)
-    unlocked_sound held =
-        without_sound (legal_fewer (is_reentrant r.kind) r.limit e r.entries (without guard r.entries)
-        (more_than_rest guard e r.entries s held) sound.legal.held)
-
-    parked_sound : IsTrue e.held → IsSound (with_change r guard parked_entry)
-    parked_sound held =
-        change_sound parked_entry whole_modes.0
-        (legal_fewer (is_reentrant r.kind) r.limit e r.entries (update guard parked_entry r.entries)
-        (more_than_parked guard e r.entries s held) sound.legal.held)
-
-    resumed_sound : (party : ℕ) → e.held ≡ false → (IsTrue (is_reentrant r.kind) → e.party ≡ party)
-        → IsTrue (lets_in r party e.mode)
-        → IsSound (with_change r guard resumed_entry)
-    resumed_sound party free own ok =
-        change_sound resumed_entry whole_modes.0
-        (legal_more r party (resumed_entry e) (update guard resumed_entry r.entries)
-        (resumed_is_more guard e r.entries s free) own ok sound.legal.held)
-
-    abandoned_sound : e.held ≡ false → IsSound (without_guard r guard)
-    abandoned_sound free =
-        without_sound (legal_same (is_reentrant r.kind) r.limit r.entries (without guard r.entries)
-        (abandoned_holds_same guard e r.entries s free) sound.legal.held)
-
-    moved_sound : (to : Mode) → IsTrue e.held → r.kind ≡ RwLock → IsTrue (is_move e.mode to) → IsTrue (may_become (held_bag r.entries) to)
-        → IsSound (with_change r guard (in_mode to))
-    moved_sound to held kind move sole =
-        let rest : Bag = held_bag (without guard r.entries) in
-        let before : held_bag r.entries ≡ one_more rest e.mode = held_bag-more e r.entries (without guard r.entries)
-        (more_than_rest guard e r.entries s held) in
-        let after : held_bag (update guard (in_mode to) r.entries) ≡ one_more rest to =
-        held_bag-more (in_mode to e) (update guard (in_mode to) r.entries) (without guard r.entries)
-        (moved_is_more guard e r.entries s to held) in
-        let legal = subst (λ (k : Kind). AreLegallyHeld (is_reentrant k) r.limit r.entries) kind sound.legal.held in
-        let changed = compatible_changed r.limit rest e.mode to (subst (λ (k : Kind). IsLimitOf k r.limit) kind sound.limit) move
-        (subst (λ (b : Bag). IsTrue (may_become b to)) before sole) (subst (AreCompatible r.limit) before legal) in
-        change_sound (in_mode to) (subst (λ (k : Kind). IsModeOf k to) (sym kind) tt)
-        (subst (λ (k : Kind). AreLegallyHeld (is_reentrant k) r.limit (update guard (in_mode to) r.entries)) (sym kind)
-        (subst (AreCompatible r.limit) (sym after) changed))
+use Rattle.lock_base.proofs.Splices.{Splice, splice}
+use Rattle.lock_base.proofs.SoundRegisters.{empty_sound, with_guard_sound, unlocked_sound, parked_sound, resumed_sound, abandoned_sound, moved_sound}
+use Rattle.lock_base_laws.specs.Sound.{RunsAreSound, CallsKeepSound, KeepsLimits, RunsKeepLimits}
+use Rattle.lock_base_laws.proofs.Effects.{Effect, effect, IsOut}
 
 -- where the guard of an effect stands
 at_guard : (r : Register) (guard : ℕ) (e : Entry) (held : Bool) → IsOut r guard e held → Splice guard e r.entries
@@ -148,7 +22,8 @@ module _ {O T A : Type 0} (m : Machine T) (sound : IsSound m.register) where
   pub effect_sound : {call : Call O} {reply : Reply A} {steps : List ModeStep} {after : Machine T} → Effect m call reply steps after
       → IsSound after.register
   effect_sound (Effect.kept unnumbered) = sound
-  effect_sound (Effect.acquired party mode lets) = with_guard_sound m.register sound party mode lets
+  effect_sound (Effect.acquired party mode lets) =
+      with_guard_sound m.register sound party mode lets.mode_of_kind lets.room lets.let_in
   effect_sound (Effect.unlocked guard e out) = unlocked_sound m.register sound guard e (at_guard m.register guard e _ out) out.held
   effect_sound (Effect.parks guard e out) = parked_sound m.register sound guard e (at_guard m.register guard e _ out) out.held
   effect_sound (Effect.resumes party guard e out own ok) =
@@ -160,26 +35,11 @@ module _ {O T A : Type 0} (m : Machine T) (sound : IsSound m.register) where
   effect_sound (Effect.written guard e answer value out kind mode) = sound
   effect_sound (Effect.written_upgraded guard e answer value out kind mode sole) = sound
 
--- a guard that is out has a mode of the kind
-pub out_mode : (r : Register) (guard : ℕ) (e : Entry) → IsSound r → find guard r.entries ≡ Some e → IsModeOf r.kind e.mode
-out_mode r guard e sound found = (whole_modes r sound guard e (splice guard e r.entries found)).0
-
 -- no call changes the kind or a limit
 effect_limits : {O T A : Type 0} {m after : Machine T} {call : Call O} {reply : Reply A} {steps : List ModeStep}
     → Effect m call reply steps after → KeepsLimits m.register after.register
 effect_limits (Effect.kept unnumbered) = record { same_kind = refl; same_places = refl; same_limit = refl }
 effect_limits other = record { same_kind = refl; same_places = refl; same_limit = refl }
-
--- nothing is out of a new machine
-start_legal : (kind : Kind) (limit : ℕ) → AreLegallyHeld (is_reentrant kind) limit []
-start_legal Mutex limit = compatible_empty limit
-start_legal RwLock limit = compatible_empty limit
-start_legal Reentrant limit = ((0, refl), omega arith)
-
-pub start_sound : {T : Type 0} (kind : Kind) (value : T) (places limit : ℕ) → IsLimitOf kind limit
-    → IsSound (start kind value places limit).register
-start_sound kind value places limit lawful =
-    record { legal = record { held = start_legal kind limit; numbered = omega arith; room = omega arith }; limit = lawful; modes = tt }
 
 module _ {O T A : Type 0} (meaning : O → Operation T A) where
   pub step_sound : (m : Machine T) (call : Call O) → IsSound m.register → IsSound (step meaning m call).machine.register
@@ -205,4 +65,4 @@ module _ {O T A : Type 0} (meaning : O → Operation T A) where
 
   pub runs_sound : RunsAreSound meaning
   runs_sound kind value places limit calls lawful =
-      run_sound (start kind value places limit) calls (start_sound kind value places limit lawful)
+      run_sound (start kind value places limit) calls (empty_sound kind places limit lawful)

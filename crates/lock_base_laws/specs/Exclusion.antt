@@ -9,7 +9,7 @@ use Rattle.lock_base.specs.Register.{Register}
 use Rattle.lock_base.specs.Machine.{Machine}
 use Rattle.lock_base.specs.Refusals.{mode_of}
 use Rattle.lock_base.specs.Calls.{blocking_answer, acquire, resume}
-use Rattle.lock_base_laws.specs.Sound.{IsSound}
+use Rattle.lock_base.specs.Sound.{IsSound}
 
 -- the guard is out, and held
 pub record IsHeld (r : Register) (guard : ℕ) : Type 0 where

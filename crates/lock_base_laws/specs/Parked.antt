@@ -18,7 +18,8 @@ without_parked m = with_register m (record m.register { entries = held_part m.en
 
 -- without its parked guards the machine lets in the same parties, and tells the same
 pub record CountsNoneParked {T : Type 0} (m : Machine T) : Type 0 where
-  pub let_in : (party : ℕ) (mode : Mode) → lets_in (without_parked m).register party mode ≡ lets_in m.register party mode
+  pub let_in : (party : ℕ) (mode : Mode)
+      → lets_in (without_parked m).register party mode ≡ lets_in m.register party mode
   pub full : (party : ℕ) → is_full_count (without_parked m).register party ≡ is_full_count m.register party
   pub locked : is_locked (without_parked m) ≡ is_locked m
   pub exclusive : (is_locked_exclusive (without_parked m)).answer ≡ (is_locked_exclusive m).answer

@@ -6,7 +6,7 @@ use Rattle.lock_base.specs.declared.machine.reply.Reply.{Reply}
 use Rattle.lock_base.specs.Operation.{Operation}
 use Rattle.lock_base.specs.Machine.{Machine}
 use Rattle.lock_base.specs.Steps.{step}
-use Rattle.lock_base_laws.specs.Sound.{IsSound}
+use Rattle.lock_base.specs.Sound.{IsSound}
 
 module _ {O T A : Type 0} (meaning : O → Operation T A) where
   -- a guard that one of the calls that park has parked is resumed at once, and only what was spent has changed

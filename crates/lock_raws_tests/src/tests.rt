@@ -1,4 +1,5 @@
 //! What no clause says of the raw locks.
+mod downgrades;
 mod markers;
 mod queue;
 mod raws;

@@ -1,12 +1,14 @@
 //! Raw locks over one packed atomic word, on which who waits sleeps, and a condition variable that sleeps.
 #![tactic(auto)]
 
+mod laws;
 mod sleepers;
 mod sleeping_condvar;
 mod timing;
 mod word_core;
 mod word_lock;
 
+pub use laws::wakes_are_of_bags;
 pub use sleepers::Sleepers;
 pub use sleeping_condvar::SleepingCondvar;
 pub use timing::{NoTime, Timing, time_left};

@@ -1,8 +1,8 @@
 -- The first field of a line, by the place of the first space.
-use Rattle.std.proofs.Common.{◌≡◌, ◌==◌, ℕ, ◌<◌, ◌+◌, suc, List, [], ◌∷◌, length, Bool, true, false, cond, not, Option, Some, None, IfSome, Bor, refl, ap, sym, ◌∙◌, arith, subst}
+use Rattle.std.proofs.Common.{◌≡◌, ◌==◌, ℕ, ◌<◌, ◌+◌, List, [], ◌∷◌, length, Bool, true, false, cond, not, Option, Some, None, IfSome, Bor, refl, ap, arith}
 use Rattle.std.specs.Prelude.{IfNone}
 use Rattle.std.specs.Option.{MatchOption}
-use Rattle.std.specs.List.{after_first, before_first, onto_first, position_or_len, slice_split}
+use Rattle.std.specs.List.{after_first, before_first, onto_first, position_or_len}
 use Rattle.std.proofs.lemmas.List.Splits.{slice_split_first}
 use Rattle.lock_script.specs.Lines.{fields_of}
 

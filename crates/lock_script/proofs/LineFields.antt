@@ -1,31 +1,68 @@
--- What the fields of a good line are, one after another.
-use Rattle.std.proofs.Common.{◌≡◌, ◌==◌, ℕ, ◌+◌, List, [], ◌∷◌, length, subst, ap, refl, arith}
-use Rattle.std.proofs.lemmas.List.Splits.{join_with_byte-slice_split, length-slice_split}
+-- The last fields of good lines.
+use Rattle.std.proofs.Common.{◌≡◌, ◌==◌, ℕ, List, [], ◌∷◌, length, subst, ap, refl, inl, inr, arith}
+use Rattle.std.specs.Prelude.{◌⊎◌}
+use Rattle.std.proofs.lemmas.List.Splits.{length-slice_split}
 use Rattle.lock_script.specs.Lines.{fields_of}
-use Rattle.lock_script.specs.Numbers.{IsSigned}
+use Rattle.lock_script.specs.Numbers.{IsSigned, IsUnsigned}
 use Rattle.lock_script.specs.Words.{ArePair, IsCall, IsOneOf, number_words}
+use Rattle.lock_script.specs.WorldLines.{AreLimits, IsChange, IsWorldCall, down_words, want_words}
 use Rattle.lock_script.proofs.NumberTexts.{line-one_field}
 
--- no line is without a field
-no_field : (line : List ℕ) → fields_of line ≡ [] → ⊥
-no_field line none = let count = length-slice_split (λ byte. byte == 32) line in omega (arith, count, ap length none)
+-- the line is one field, or falls into several
+abbrev IsOneOrMore : List ℕ → Type 0
+IsOneOrMore line =
+    (fields_of line ≡ line ∷ [])
+    ⊎ ((first : List ℕ) × ((second : List ℕ) × ((others : List (List ℕ)) × (fields_of line ≡ first ∷ second ∷ others))))
 
-number_in_call : (word id guard item number : List ℕ) (fields : List (List ℕ)) → fields_of number ≡ fields
-    → IsCall (word ∷ id ∷ guard ∷ item ∷ fields) → IsOneOf number_words word × IsSigned number
-number_in_call word id guard item number [] none call = absurd (no_field number none)
-number_in_call word id guard item number (field ∷ []) one call = (call.0, subst IsSigned (line-one_field number field one) call.1.1.1.1)
-number_in_call word id guard item number (field ∷ more ∷ fields) many call = absurd call
+one_or_more_of : (line : List ℕ) (fields : List (List ℕ)) → fields_of line ≡ fields → IsOneOrMore line
+one_or_more_of line [] none =
+    let count = length-slice_split (λ byte. byte == 32) line in absurd (omega (arith, count, ap length none))
+one_or_more_of line (field ∷ []) one = inl (subst (λ f. fields_of line ≡ f ∷ []) (line-one_field line field one) one)
+one_or_more_of line (first ∷ second ∷ others) many = inr (first, (second, (others, many)))
+
+one_or_more : (line : List ℕ) → IsOneOrMore line
+one_or_more line = one_or_more_of line (fields_of line) refl
 
 -- the word and the number of a line of five fields
-pub number_of_call : (word id guard item number : List ℕ) → IsCall (word ∷ id ∷ guard ∷ item ∷ fields_of number)
-    → IsOneOf number_words word × IsSigned number
-number_of_call word id guard item number call = number_in_call word id guard item number (fields_of number) refl call
-
-second_in_pair : (first second : List ℕ) (fields : List (List ℕ)) → fields_of second ≡ fields → ArePair (first ∷ fields) → IsSigned first × IsSigned second
-second_in_pair first second [] none pair = absurd pair
-second_in_pair first second (field ∷ []) one pair = (pair.0, subst IsSigned (line-one_field second field one) pair.1)
-second_in_pair first second (field ∷ more ∷ fields) many pair = absurd pair
+pub number_of_call : (word id guard item number : List ℕ) → IsCall (word ∷ id ∷ guard ∷ item ∷ fields_of number) → IsOneOf number_words word × IsSigned number
+number_of_call word id guard item number call =
+    elim (one_or_more number) [
+      | inl one ↦ let found = rw one at call in (found.0, found.1.1.1.1)
+      | inr many ↦ absurd (rw many.1.1.1 at call)
+    ]
 
 -- the two numbers of a pair
 pub numbers_of_pair : (first second : List ℕ) → ArePair (first ∷ fields_of second) → IsSigned first × IsSigned second
-numbers_of_pair first second pair = second_in_pair first second (fields_of second) refl pair
+numbers_of_pair first second pair =
+    elim (one_or_more second) [ inl one ↦ rw one at pair | inr many ↦ absurd (rw many.1.1.1 at pair) ]
+
+-- the two limits of a world
+pub numbers_of_limits : (parties readers : List ℕ) → AreLimits (parties ∷ fields_of readers) → IsUnsigned parties × IsUnsigned readers
+numbers_of_limits parties readers limits =
+    elim (one_or_more readers) [ inl one ↦ rw one at limits | inr many ↦ absurd (rw many.1.1.1 at limits) ]
+
+-- the change of a line of three fields
+pub change_of_call : (word party change : List ℕ) → IsWorldCall (word ∷ party ∷ fields_of change) → IsUnsigned party × IsChange word change
+change_of_call word party change call =
+    elim (one_or_more change) [ inl one ↦ rw one at call | inr many ↦ absurd (rw many.1.1.1 at call) ]
+
+want-one_field : (word : List ℕ) → IsOneOf want_words word → fields_of word ≡ word ∷ []
+want-one_field word (inl is) = rw is refl
+want-one_field word (inr (inl is)) = rw is refl
+want-one_field word (inr (inr (inl is))) = rw is refl
+want-one_field word (inr (inr (inr (inl is)))) = rw is refl
+want-one_field word (inr (inr (inr (inr none)))) = absurd none
+
+down-one_field : (word : List ℕ) → IsOneOf down_words word → fields_of word ≡ word ∷ []
+down-one_field word (inl is) = rw is refl
+down-one_field word (inr (inl is)) = rw is refl
+down-one_field word (inr (inr (inl is))) = rw is refl
+down-one_field word (inr (inr (inr (inl is)))) = rw is refl
+down-one_field word (inr (inr (inr (inr (inl is))))) = rw is refl
+down-one_field word (inr (inr (inr (inr (inr (inl is)))))) = rw is refl
+down-one_field word (inr (inr (inr (inr (inr (inr none)))))) = absurd none
+
+-- what is wanted or given up is one field
+pub fields_of-change : (word change : List ℕ) → IsChange word change → fields_of change ≡ change ∷ []
+fields_of-change word change (inl found) = want-one_field change found.1
+fields_of-change word change (inr found) = down-one_field change found.1

@@ -1,15 +1,15 @@
 -- The texts of numbers: their form, and that they are one field.
-use Rattle.std.proofs.Common.{◌≡◌, ◌≢◌, ℕ, suc, zero, ◌+◌, ◌-◌, ◌<◌, ◌≤◌, ◌^◌, Bool, true, false, List, [], ◌∷◌, length, get_or, drop, Result, Ok, Err, subst, arith, rules, refl, sym, ap, ◌∙◌, IfSome, decimal, inl, inr, cond}
-use Rattle.std.specs.Prelude.{ℤ, pos, negsuc, neg_ℤ, ◌⊎◌, FitsSigned, ◌==◌, IsSome}
-use Rattle.std.specs.Result.{OkIff, result_ok}
+use Rattle.std.proofs.Common.{◌≡◌, ◌≢◌, ℕ, suc, zero, ◌<◌, ◌≤◌, ◌^◌, false, List, [], ◌∷◌, length, get_or, Result, Ok, Err, subst, arith, refl, sym, ap, ◌∙◌, IfSome, decimal, inl, inr}
+use Rattle.std.specs.Prelude.{ℤ, pos, negsuc, neg_ℤ, FitsSigned, ◌==◌, IsSome}
+use Rattle.std.specs.Result.{result_ok}
 use Rattle.std.specs.Fmt.{signed_decimal}
 use Rattle.std.specs.Int.{IsInRange, w64}
 use Rattle.std.proofs.lemmas.Bool.Decides.{nat_tests}
-use Rattle.std.specs.List.{join_with_byte, slice_split}
-use Rattle.std.proofs.lemmas.Fmt.{decimal_digit, decimal_is_IsNumeral, decimal-digits_value, first_decimal, decimal_nonempty, parse-decimal, parse-signed_decimal}
-use Rattle.std.proofs.lemmas.Str.Parse.{IsNumeralModel, numerals_by_value, tells_digits, parse_plain, parse_signed_plain, parse_signed_minus, digit_at, digit_from_value}
+use Rattle.std.specs.List.{join_with_byte}
+use Rattle.std.proofs.lemmas.Fmt.{decimal_digit, decimal_is_IsNumeral, decimal-digits_value, first_decimal, parse-decimal, parse-signed_decimal}
+use Rattle.std.proofs.lemmas.Str.Parse.{IsNumeralModel, numerals_by_value, tells_digits, parse_plain, parse_signed_plain, parse_signed_minus, digit_from_value}
 use Rattle.std.proofs.lemmas.List.Splits.{slice_split-cons_no, join_with_byte-slice_split}
-use Rattle.std.specs.Str.Parse.{AllDigits, IsNumeral, ParsesUnsigned, ParsesSigned, digits_value}
+use Rattle.std.specs.Str.Parse.{AllDigits, ParsesUnsigned, ParsesSigned, digits_value}
 use Rattle.lock_script.specs.Lines.{fields_of}
 use Rattle.lock_script.specs.Numbers.{BeginsAbove0, HasForm, HasSignedForm, IsSigned, IsUnsigned}
 
@@ -144,3 +144,7 @@ HasForm-number bs found = subst HasForm found.1.1 (HasForm-decimal found.0 found
 
 pub HasSignedForm-number : (bs : List ℕ) → IsSigned bs → HasSignedForm bs
 HasSignedForm-number bs found = subst HasSignedForm found.1.1 (HasSignedForm-decimal found.0 found.1.0)
+
+pub fields_of-unsigned : (bs : List ℕ) → IsUnsigned bs → fields_of bs ≡ bs ∷ []
+fields_of-unsigned bs found =
+    let digits = decimal_is_IsNumeral found.0 found.1.0 in rw (← found.1.1) (fields_of-digits (decimal found.0) digits.0.1)

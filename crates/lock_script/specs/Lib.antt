@@ -7,3 +7,5 @@ pub mod Replays
 pub mod Script
 pub mod Session
 pub mod Words
+pub mod WorldLines
+pub mod WorldSession

@@ -3,25 +3,33 @@ use Rattle.std.specs.Prelude.{◌≡◌, ◌≤◌, ℕ, List, length, Option}
 use Rattle.std.specs.Io.{StartsWith}
 use Rattle.std.specs.Io.KnownBytes.{Appends, IsAtEnd}
 use Rattle.lock_script.specs.declared.choice.Which.{Which}
-use Rattle.lock_script.specs.declared.choice.Which.TheVariants.{Table}
+use Rattle.lock_script.specs.declared.choice.Which.TheVariants.{Table, Word, Steps}
 use Rattle.lock_script.specs.declared.fault.ReplayFault.{ReplayFault}
 use Rattle.lock_script.specs.declared.fault.ReplayFault.TheVariants.{BadLine, TooLong, OutOfMemory, InputFailed, OutputFailed}
 use Rattle.lock_script.specs.Faults.{Gives}
 use Rattle.lock_script.specs.Lines.{IsFirstBad, lines_of}
 use Rattle.lock_script.specs.Session.{IsDeskAnswer}
 use Rattle.lock_script.specs.Words.{IsCall, IsMaker}
+use Rattle.lock_script.specs.WorldLines.{IsWorldCall, IsWorldMaker}
+use Rattle.lock_script.specs.WorldSession.{IsWorldAnswer}
 
 -- the fields make what a script begins with
 abbrev pub IsFirst : Which → List (List ℕ) → Type 0
 IsFirst Table fields = IsMaker fields
+IsFirst Word fields = IsMaker fields
+IsFirst Steps fields = IsWorldMaker fields
 
 -- the fields make what a further line asks for
 abbrev pub IsFurther : Which → List (List ℕ) → Type 0
 IsFurther Table fields = IsCall fields
+IsFurther Word fields = IsCall fields
+IsFurther Steps fields = IsWorldCall fields
 
 -- the text answers the script of these bytes
 abbrev pub IsAnswer : Which → List ℕ → List ℕ → Type 0
 IsAnswer Table script text = IsDeskAnswer script text
+IsAnswer Word script text = IsDeskAnswer script text
+IsAnswer Steps script text = IsWorldAnswer script text
 
 -- a reader gave a script that passes, of 1,048,576 bytes at most, and has nothing left
 abbrev pub GivesScript : Option (List ℕ) → Option (List ℕ) → (List ℕ → Type 0) → Type 0

@@ -10,7 +10,7 @@ use Rattle.lock_base.specs.Steps.{replies}
 use Rattle.lock_script.specs.declared.maker.Maker.{Maker}
 use Rattle.lock_script.specs.declared.pair.Pair.{Pair}
 use Rattle.lock_script.specs.declared.pair.PairOp.{PairOp}
-use Rattle.lock_script.specs.Answers.{answer_lines}
+use Rattle.lock_script.specs.Answers.{reply_lines}
 use Rattle.lock_script.specs.Lines.{AreLines, fields_of, lines_of}
 use Rattle.lock_script.specs.Pair.{meaning}
 use Rattle.lock_script.specs.Script.{call_fields, maker_fields}
@@ -34,8 +34,8 @@ replies_to maker calls = replies meaning (machine_of maker) calls
 
 -- the text answers the maker and the calls: where the limits are lawful it is done and each call has its reply, else it alone is refused
 pub record Answers (maker : Maker) (calls : List (Call PairOp)) (text : List ℕ) : Type 0 where
-  pub made : HasLimits maker → text ≡ answer_lines (Reply.Done ∷ replies_to maker calls)
-  pub refused : (HasLimits maker → ⊥) → text ≡ answer_lines (Reply.Refused BadLimits ∷ [])
+  pub made : HasLimits maker → text ≡ reply_lines (Reply.Done ∷ replies_to maker calls)
+  pub refused : (HasLimits maker → ⊥) → text ≡ reply_lines (Reply.Refused BadLimits ∷ [])
 
 -- the lines of the script are those of the maker and the calls
 abbrev pub IsScriptOf : List ℕ → Maker → List (Call PairOp) → Type 0

@@ -5,4 +5,8 @@
 pub enum Which {
     /// A desk over a table of tokens.
     Table,
+    /// A desk over one packed word.
+    Word,
+    /// Parties that make atomic steps on one packed word.
+    Steps,
 }

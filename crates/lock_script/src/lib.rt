@@ -14,9 +14,12 @@ mod reading;
 mod script;
 mod session;
 mod streams;
+mod world_call;
+mod world_maker;
+mod world_session;
 
 pub use arguments::which;
 pub use choice::Which;
 pub use fault::ReplayFault;
 pub use reading::SCRIPT_LIMIT;
-pub use streams::replay;
+pub use streams::{answers, replay};

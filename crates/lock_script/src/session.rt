@@ -5,7 +5,7 @@ ghost use Rattle.lock_script.specs.Lines.{lines_of};
 ghost use Rattle.lock_script.specs.Session.{Answers, HasLimits, IsDeskAnswer, machine_of, replies_to};
 ghost use Rattle.lock_script.specs.Words.{IsCall, IsMaker};
 
-use crate::answer::write_answers;
+use crate::answer::write_replies;
 use crate::fault::ReplayFault;
 use crate::maker::Maker;
 use crate::pair::{Pair, PairOp};
@@ -35,10 +35,10 @@ fn answers_to<R: RawState>(alloc: Global, script: &DeskScript) -> Result<String,
     let mut text = String::new(alloc);
     match play::<R>(alloc, script) {
         Ok(replies) => {
-            write_answers(&mut text, &[Reply::Done])?;
-            write_answers(&mut text, replies.as_slice())?;
+            write_replies(&mut text, &[Reply::Done])?;
+            write_replies(&mut text, replies.as_slice())?;
         }
-        Err(Fault::BadLimits) => write_answers(&mut text, &[Reply::Refused(Fault::BadLimits)])?,
+        Err(Fault::BadLimits) => write_replies(&mut text, &[Reply::Refused(Fault::BadLimits)])?,
         Err(_) => return Err(AllocError),
     }
     Ok(text)

@@ -9,7 +9,9 @@ use crate::choice::Which;
 use crate::fault::ReplayFault;
 use crate::reading::read_script;
 use crate::session::desk_answers;
+use crate::world_session::world_answers;
 use lock_states::table::TokenTable;
+use lock_states::word::PackedWord;
 use std::alloc::Global;
 use std::io::{ErrorKind, Read, Write};
 
@@ -36,13 +38,15 @@ pub fn replay<R: Read, W: Write>(
     put(text.as_str(), writer)
 }
 
-/// The text of all answers to a script.
-fn answers(alloc: Global, which: Which, script: &[u8]) -> Result<String, ReplayFault>
+/// The text of all answers to a script, or its first bad line. Nothing else is told but want of memory.
+pub fn answers(alloc: Global, which: Which, script: &[u8]) -> Result<String, ReplayFault>
     ensures answers { IfOk result (λ text. IsAnswer which script.now (string_bytes text)) }
     ensures fault { IfErr result (IsParsingFault (IsFirst which) (IsFurther which) (lines_of script.now)) }
 {
     match which {
         Which::Table => desk_answers::<TokenTable>(alloc, script),
+        Which::Word => desk_answers::<PackedWord>(alloc, script),
+        Which::Steps => world_answers(alloc, script),
     }
 }
 

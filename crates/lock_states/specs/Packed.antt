@@ -3,7 +3,7 @@ use Rattle.std.specs.Prelude.{ℕ, List, ◌++◌, replicate}
 use Rattle.lock_base.specs.declared.machine.mode.Mode.{Mode}
 use Rattle.lock_base.specs.declared.machine.mode.Mode.TheVariants.{Shared, Exclusive, Upgradable}
 use Rattle.lock_base.specs.declared.machine.bag.Bag.{Bag}
-use Rattle.lock_states.specs.declared.word.WordToken.{WordToken}
+use Rattle.lock_states.specs.declared.word.PackedToken.{PackedToken}
 
 -- the modes that are out, and the two limits
 pub record Packed : Type 0 where
@@ -12,11 +12,11 @@ pub record Packed : Type 0 where
   pub readers : ℕ
 
 -- the token of a mode, in its mode
-abbrev pub token_of : Mode → WordToken × Mode
+abbrev pub token_of : Mode → PackedToken × Mode
 token_of mode = (record { mode = mode }, mode)
 
 -- as many tokens of each mode as the bag has
-abbrev pub tokens_in : Bag → List (WordToken × Mode)
+abbrev pub tokens_in : Bag → List (PackedToken × Mode)
 tokens_in b =
     replicate b.shared (token_of Shared)
     ++ (replicate b.exclusive (token_of Exclusive) ++ replicate b.upgradable (token_of Upgradable))

@@ -10,7 +10,7 @@ use std::marker::Model;
 
 /// A token of a packed word, which is its mode alone.
 #[derive(Drop)]
-pub struct WordToken {
+pub struct PackedToken {
     mode: Mode,
 }
 
@@ -80,7 +80,7 @@ impl PackedWord {
 impl RawState for PackedWord {
     ghost use Rattle.lock_states.specs.Packed.{tokens_in};
 
-    type Token = WordToken;
+    type Token = PackedToken;
 
     ghost tokens = { λ w. tokens_in w.bag };
 
@@ -100,24 +100,24 @@ impl RawState for PackedWord {
     }
 
     #[tactic(auto, using(crate::proofs::PackedTokens::bag_of_tokens_in))]
-    fn admit(&mut self, mode: Mode) -> Option<WordToken> {
+    fn admit(&mut self, mode: Mode) -> Option<PackedToken> {
         if !self.acquire(mode) {
             return None;
         }
-        Some(WordToken { mode })
+        Some(PackedToken { mode })
     }
 
     #[tactic(auto, using(crate::proofs::PackedTokens::out_is_held, crate::proofs::PackedTokens::given_back))]
-    fn give_back(&mut self, token: WordToken) {
+    fn give_back(&mut self, token: PackedToken) {
         self.release(token.mode);
     }
 
     #[tactic(auto, using(crate::proofs::PackedTokens::bag_of_tokens_in, crate::proofs::PackedTokens::replaced))]
-    fn change(&mut self, token: WordToken, mode: Mode) -> Result<WordToken, WordToken> {
+    fn change(&mut self, token: PackedToken, mode: Mode) -> Result<PackedToken, PackedToken> {
         if !self.move_to(token.mode, mode) {
             return Err(token);
         }
-        Ok(WordToken { mode })
+        Ok(PackedToken { mode })
     }
 
     fn any(&self) -> bool {

@@ -10,7 +10,8 @@ ghost use Rattle.lock_word.specs.Claims.{Leaves, FailsAreBounded, changes_from, 
 
 use lock_base::machine::Mode;
 use lock_base::raw::{Fault, is_limit};
-use lock_word::{AtomicStep, Outcome, PartyState};
+use lock_word::PartyState;
+pub use lock_word::{AtomicStep, Down, ExWant, Outcome};
 use std::alloc::Global;
 use std::marker::Model;
 

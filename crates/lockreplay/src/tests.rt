@@ -2,6 +2,7 @@
 mod bad_lines;
 mod rows;
 mod streams;
+mod table_is_word;
 mod texts;
 
 use lock_script::{Which, replay};

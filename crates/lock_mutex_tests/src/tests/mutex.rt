@@ -6,8 +6,6 @@ use lock_test_support::answer::{debug_is, holds_or_lacks_memory, texts_are};
 use lock_test_support::raw_lock::Liar;
 use lock_test_support::{Count, add_in_four_threads};
 use std::alloc::Global;
-use std::clone::Clone;
-use std::sync::Wait;
 use std::test::Fail;
 
 /// A number behind an honest raw lock.
@@ -42,44 +40,40 @@ fn four_threads_count_over_a_lying_raw_lock(rt: HostRuntime) -> Result<(), Fail>
     Ok(())
 }
 
-/// A mutex of 5 over a raw lock of its own.
-fn mutex_over_raw<W: Wait + Clone + Drop>(
-    alloc: Global,
-    waiter: W,
-) -> Result<Mutex<TokenRaw<W>, u64>, Fail> {
-    let raw: TokenRaw<W> = RawMutex::new(alloc, waiter)?;
-    Ok(Mutex::from_raw(raw, 5)?)
-}
-
 #[test]
 fn a_mutex_gives_what_was_put_in(rt: HostRuntime) -> Result<(), Fail> {
-    let mut mutex = mutex_over_raw(rt.alloc(), rt)?;
+    let mut mutex = Counter::default(rt.alloc(), rt)?;
     *mutex.get_mut() = 6;
     let (raw, value) = mutex.into_inner_with_raw();
-    assert_eq!(rt; value, 6);
-    assert!(rt; raw.try_lock().is_some());
+    assert!(rt; value == 6 && raw.try_lock().is_some());
     Ok(())
+}
+
+/// Whether a guard's mutex is held, and refused to another.
+fn is_held<R: RawMutex>(mutex: &Mutex<R, u64>) -> bool {
+    let guard = mutex.lock();
+    MutexGuard::mutex(&guard).is_locked() && mutex.try_lock().is_none()
 }
 
 #[test]
 fn a_guard_is_of_its_mutex(rt: HostRuntime) -> Result<(), Fail> {
-    let mutex = Counter::new(rt.alloc(), rt, 5)?;
-    let guard = mutex.lock();
-    assert!(rt; MutexGuard::mutex(&guard).is_locked());
-    assert!(rt; mutex.try_lock().is_none());
-    drop(guard);
-    assert!(rt; !mutex.is_locked());
+    let mutex = Counter::from(rt.alloc(), rt, 5)?;
+    assert!(rt; is_held(&mutex) && !mutex.is_locked());
     Ok(())
+}
+
+/// Whether a free mutex, a held one and its guard print as they are told to.
+fn are_shown<R: RawMutex>(alloc: Global, mutex: &Mutex<R, u64>) -> [bool; 3] {
+    let free = debug_is(alloc, mutex, "Mutex { data: 5 }");
+    let guard = mutex.lock();
+    let held = debug_is(alloc, mutex, "Mutex { data: <locked> }");
+    [free, held, texts_are(alloc, &guard, "5")]
 }
 
 #[test]
 fn texts_of_a_mutex_and_its_guard(rt: HostRuntime) -> Result<(), Fail> {
-    let alloc: Global = rt.alloc();
-    let mutex = Counter::new(alloc, rt, 5)?;
-    assert!(rt; debug_is(alloc, &mutex, "Mutex { data: 5 }"));
-    let guard = mutex.lock();
-    assert!(rt; debug_is(alloc, &mutex, "Mutex { data: <locked> }"));
-    assert!(rt; texts_are(alloc, &guard, "5"));
+    let mutex = Counter::new(rt.alloc(), rt, 5)?;
+    assert_eq!(rt; are_shown(rt.alloc(), &mutex), [true; 3]);
     Ok(())
 }
 

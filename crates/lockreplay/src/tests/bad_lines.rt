@@ -32,6 +32,27 @@ const DESK_SCRIPTS: [(&[u8], u64); 24] = [
     (b"mutex 4 0 0\nspent 1\n", 2),
 ];
 
+/// Scripts of steps on a world, and their first bad lines.
+const STEP_SCRIPTS: [(&[u8], u64); 17] = [
+    (b"", 1),
+    (b"world 2\n", 1),
+    (b"world 2 3 0\n", 1),
+    (b"world 2 03\n", 1),
+    (b"worlds 2 3\n", 1),
+    (b"mutex 4 0 0\n", 1),
+    (b"rwlock 4 4 0 0\n", 1),
+    (b"world 2 3\nlock 1\n", 2),
+    (b"world 2 3\nload\n", 2),
+    (b"world 2 3\nload 1 shared\n", 2),
+    (b"world 2 3\nexchange 1\n", 2),
+    (b"world 2 3\nexchange 1 to_shared\n", 2),
+    (b"world 2 3\ntake 1 upgrade\n", 2),
+    (b"world 2 3\ntake 1 shared \n", 2),
+    (b"world 2 3\nword 1\n", 2),
+    (b"world 2 3\nwins 18446744073709551616\n", 2),
+    (b"world 0 3\nload 1\nspent\n", 3),
+];
+
 /// The script's first bad line is this one, and nothing is written.
 fn check(alloc: Global, which: Which, mut script: &[u8], number: u64) -> Result<(), Fail> {
     let mut out = Vec::new(alloc);
@@ -56,6 +77,10 @@ fn long_script(alloc: Global, good: usize) -> io::Result<String> {
 fn first_bad_lines_are_told(rt: HostRuntime) -> Result<(), Fail> {
     for (script, number) in DESK_SCRIPTS {
         check(rt.alloc(), Which::Table, script, number)?;
+        check(rt.alloc(), Which::Word, script, number)?;
+    }
+    for (script, number) in STEP_SCRIPTS {
+        check(rt.alloc(), Which::Steps, script, number)?;
     }
     Ok(())
 }

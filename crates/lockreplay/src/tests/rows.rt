@@ -108,10 +108,53 @@ const DESK_ROWS: [(&str, &str); 29] = [
     ),
 ];
 
+/// Scripts of steps on a world.
+const STEP_ROWS: [(&str, &str); 9] = [
+    (
+        "world 2 3 / load 1 / load 2 / exchange 1 shared / exchange 2 shared / load 2 / exchange 2 shared / word / fails 2 / wins 1",
+        "ok / loaded 0 / loaded 0 / done / changed / loaded 1 / done / count 2 / count 1 / count 1",
+    ),
+    (
+        "world 3 3 / load 1 / exchange 1 shared / load 3 / load 2 / exchange 2 shared / take 2 shared / exchange 3 shared / word / fails 3 / wins 2",
+        "ok / loaded 0 / done / loaded 1 / loaded 1 / done / done / done / count 2 / count 0 / count 2",
+    ),
+    (
+        "world 2 3 / load 1 / load 2 / exchange 2 shared / exchange 1 shared / load 1 / take 2 shared / exchange 1 shared / fails 1 / wins 2 / word",
+        "ok / loaded 0 / loaded 0 / done / changed / loaded 1 / done / changed / count 2 / count 2 / count 0",
+    ),
+    (
+        "world 1 1 / exchange 1 shared / take 1 shared / load 2 / load 1 / exchange 1 exclusive / take 1 to_upgradable / load 1 / exchange 1 upgrade / take 1 shared / take 1 exclusive / word",
+        "ok / refused 15 / refused 6 / refused 16 / loaded 0 / done / done / loaded 4294967297 / done / refused 6 / done / count 0",
+    ),
+    (
+        "world 2 1 / load 1 / exchange 1 upgradable / load 2 / exchange 2 shared / exchange 2 shared / take 1 upgradable_to_shared / load 2 / exchange 2 exclusive / word",
+        "ok / loaded 0 / done / loaded 4294967297 / not admitted / refused 15 / done / loaded 1 / not admitted / count 1",
+    ),
+    (
+        "world 1 1 / load 1 / exchange 1 exclusive / take 1 to_shared / take 1 shared / load 1 / exchange 1 upgradable / take 1 upgradable / word",
+        "ok / loaded 0 / done / done / done / loaded 0 / done / done / count 0",
+    ),
+    (
+        "world 1 1 / load 0 / wins 0 / fails 2 / wins 18446744073709551615 / take 2 exclusive",
+        "ok / refused 16 / refused 16 / refused 16 / refused 16 / refused 16",
+    ),
+    ("world 0 1 / load 1", "refused 12"),
+    ("world 1 4294967296", "refused 12"),
+];
+
 #[test]
 fn desks_answer(rt: HostRuntime) -> Result<(), Fail> {
     for (row, answers) in DESK_ROWS {
         check(rt.alloc(), Which::Table, row, answers)?;
+        check(rt.alloc(), Which::Word, row, answers)?;
+    }
+    Ok(())
+}
+
+#[test]
+fn worlds_answer(rt: HostRuntime) -> Result<(), Fail> {
+    for (row, answers) in STEP_ROWS {
+        check(rt.alloc(), Which::Steps, row, answers)?;
     }
     Ok(())
 }

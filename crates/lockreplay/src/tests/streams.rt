@@ -192,18 +192,37 @@ fn the_last_line_may_lack_its_end(rt: HostRuntime) -> Result<(), Fail> {
     Ok(())
 }
 
+/// The script has these answers, or memory is told to be refused and nothing is written.
+fn answered_or_refused(
+    alloc: Global,
+    which: Which,
+    mut script: &[u8],
+    answers: &[u8],
+) -> Result<(), Fail> {
+    let mut kept = [0u8; 64];
+    let mut out = kept.as_mut_slice();
+    let told = replay(alloc, which, &mut script, &mut out);
+    let kept_answers = told.is_ok() && kept.starts_with(answers);
+    let kept_nothing = told == Err(ReplayFault::OutOfMemory) && kept == [0u8; 64];
+    if kept_answers || kept_nothing {
+        return Ok(());
+    }
+    Err(Fail::new("answered otherwise"))
+}
+
 /// Also run with one allocation after another refused.
 #[test]
 fn refused_memory_replay(rt: HostRuntime) -> Result<(), Fail> {
-    let mut kept = [0u8; 64];
-    let mut out = kept.as_mut_slice();
-    let mut script: &[u8] = b"rwlock 2 2 1 2\nread 1\nget 1 1 0\nspent\n";
-    match replay(rt.alloc(), Which::Table, &mut script, &mut out) {
-        Ok(()) => assert!(rt; kept.starts_with(b"ok\nguard 1\nvalue 1\ncount 0\n")),
-        Err(fault) => {
-            assert_eq!(rt; fault, ReplayFault::OutOfMemory);
-            assert_eq!(rt; kept, [0u8; 64]);
-        }
-    }
-    Ok(())
+    let script: &[u8] = b"rwlock 2 2 1 2\nread 1\nget 1 1 0\nspent\n";
+    let answers: &[u8] = b"ok\nguard 1\nvalue 1\ncount 0\n";
+    answered_or_refused(rt.alloc(), Which::Table, script, answers)?;
+    answered_or_refused(rt.alloc(), Which::Word, script, answers)
+}
+
+/// Also run with one allocation after another refused.
+#[test]
+fn refused_memory_replay_of_steps(rt: HostRuntime) -> Result<(), Fail> {
+    let script: &[u8] = b"world 2 2\nload 1\nexchange 1 shared\nword\n";
+    let answers: &[u8] = b"ok\nloaded 0\ndone\ncount 1\n";
+    answered_or_refused(rt.alloc(), Which::Steps, script, answers)
 }

@@ -9,8 +9,8 @@ fn one_word_is_a_machine(rt: HostRuntime) -> Result<(), Fail> {
     let alloc = rt.alloc();
     for (text, want) in [
         ("table", Some(Which::Table)),
-        ("word", None),
-        ("steps", None),
+        ("word", Some(Which::Word)),
+        ("steps", Some(Which::Steps)),
         ("tables", None),
         ("", None),
     ] {

@@ -17,7 +17,10 @@ returns-in_err-keep-clause-fault g c =
     let count = c.in_ok-count.ensures.bound in
     let taken = length-take-le c.in_ok-count.count c.read_once.new.chunk count in
     let room = length-take c.min-room.result c.loop.chunk in
-    rw (told.1, told.2, c.in_err-keep.ensures.fault) (c.loop.script.items ++ read, (
-      Consumes-more _ _ _ c.loop.script.items read c.loop.invariant.1 c.in_ok-count.ensures.read,
-      rw (length-append c.loop.script.items read) (omega (arith, c.read_once.auto.chunk)),
-    ))
+    rw (told.1, told.2, c.in_err-keep.ensures.fault) (
+      c.loop.script.items ++ read,
+      (
+        Consumes-more _ _ _ c.loop.script.items read c.loop.invariant.1 c.in_ok-count.ensures.read,
+        rw (length-append c.loop.script.items read) (omega (arith, c.read_once.auto.chunk)),
+      ),
+    )

@@ -7,5 +7,5 @@ pub loop-preserved : goal.loop-preserved
 loop-preserved g c = (
   omega (arith, c.in_ok-written.ensures.bound),
   Appends-take _ _ _ c.as_bytes-bytes.result.now c.loop.written c.in_ok-written.field-0 c.loop.invariant.1
-  (rw take_rest at c.in_ok-written.ensures.written),
+      (rw take_rest at c.in_ok-written.ensures.written),
 )

@@ -1,0 +1,32 @@
+-- What holds of the register of every machine that a run reaches from a start.
+use Rattle.std.specs.Prelude.{◌≡◌, ℕ, ◌<◌, List, [], ◌∷◌}
+use Rattle.lock_base.specs.declared.machine.mode.Mode.{Mode}
+use Rattle.lock_base.specs.declared.machine.mode.Mode.TheVariants.{Exclusive}
+use Rattle.lock_base.specs.declared.machine.kind.Kind.{Kind}
+use Rattle.lock_base.specs.declared.machine.kind.Kind.TheVariants.{Mutex, RwLock, Reentrant}
+use Rattle.lock_base.specs.Entries.{Entry}
+use Rattle.lock_base.specs.Register.{Register}
+use Rattle.lock_base.specs.Legal.{IsLegal}
+
+-- a mutex has the limit 1, and the others a positive one
+abbrev pub IsLimitOf : Kind → ℕ → Type 0
+IsLimitOf Mutex limit = limit ≡ 1
+IsLimitOf RwLock limit = 0 < limit
+IsLimitOf Reentrant limit = 0 < limit
+
+-- all but a reader-writer lock have exclusive guards alone
+abbrev pub IsModeOf : Kind → Mode → Type 0
+IsModeOf Mutex mode = mode ≡ Exclusive
+IsModeOf RwLock mode = Unit {0}
+IsModeOf Reentrant mode = mode ≡ Exclusive
+
+-- each guard, held or parked, has a mode of the kind
+abbrev pub HaveModesOf : Kind → List (ℕ × Entry) → Type 0
+HaveModesOf kind [] = Unit {0}
+HaveModesOf kind (e ∷ es) = IsModeOf kind e.1.mode × HaveModesOf kind es
+
+-- a legal register, with the limit and the modes of its kind
+pub record IsSound (r : Register) : Type 0 where
+  pub legal : IsLegal r
+  pub limit : IsLimitOf r.kind r.limit
+  pub modes : HaveModesOf r.kind r.entries

@@ -1,0 +1,237 @@
+//! Rounds of locks on one thread.
+use lock_base::machine::PartyId;
+use lock_guard::raw::RawMutex;
+use lock_mutex::{Condvar, Mutex};
+use lock_raws::{LockCore, Monitor, RawLock, RecordingArbiter, TableArbiter};
+use lock_raws_timed::RealTime;
+use lock_raws_word::{NoTime, SleepingCondvar, WordCore};
+use lock_remutex::ReentrantMutex;
+use lock_rwlock::{RwLock, RwLockUpgradableReadGuard, RwLockWriteGuard};
+use std::alloc::Global;
+use std::io;
+use std::sync::Wait;
+use std::thread::{self, Threads};
+use std::time::{Clock, Instant};
+
+/// How many readers the reader-writer locks have.
+const READERS: u64 = 64;
+
+/// A line for each lock and raw lock: its names, and nanoseconds a round.
+pub fn print<R: Print + Clock + Wait + Threads + Sync + Copy>(
+    rt: &R,
+    alloc: Global,
+    rounds: u64,
+) -> io::Result<()> {
+    over::<R, Monitor<TableArbiter, R>>(rt, alloc, "TokenRaw", rounds)?;
+    over::<R, Monitor<RecordingArbiter<TableArbiter>, R>>(rt, alloc, "RecordingRaw", rounds)?;
+    over::<R, WordCore<R, NoTime>>(rt, alloc, "WordRaw", rounds)?;
+    over::<R, WordCore<R, RealTime>>(rt, alloc, "TimedRaw", rounds)?;
+    trips::<R, Monitor<TableArbiter, R>>(rt, alloc, "TokenRaw", rounds / 100)?;
+    trips::<R, WordCore<R, NoTime>>(rt, alloc, "WordRaw", rounds / 100)
+}
+
+/// The lines of one raw lock.
+fn over<R: Print + Clock + Wait + Copy, C: LockCore<Waiter = R>>(
+    rt: &R,
+    alloc: Global,
+    name: &str,
+    rounds: u64,
+) -> io::Result<()>
+where
+    C::Token: Send,
+{
+    let Ok(mutex) = Mutex::<RawLock<C>, u64>::new(alloc, *rt, 0) else {
+        return println!(rt; "{name}: out of memory");
+    };
+    let start = Instant::now(rt)?;
+    lock_mutex(&mutex, rounds);
+    line(rt, name, "Mutex", start, rounds)?;
+    let (raw, _) = mutex.into_inner_with_raw();
+    let start = Instant::now(rt)?;
+    lock_raw(&raw, rounds);
+    line(rt, name, "the raw lock alone", start, rounds)?;
+    let Ok(lock) = RwLock::<RawLock<C>, u64>::with_readers(alloc, *rt, READERS, 0) else {
+        return println!(rt; "{name}: out of memory");
+    };
+    let start = Instant::now(rt)?;
+    let _ = read(&lock, rounds);
+    line(rt, name, "RwLock read", start, rounds)?;
+    let start = Instant::now(rt)?;
+    write(&lock, rounds);
+    line(rt, name, "RwLock write", start, rounds)?;
+    let start = Instant::now(rt)?;
+    let _ = walk(&lock, rounds);
+    line(rt, name, "RwLock upgrade and downgrade", start, rounds)?;
+    levels::<R, C>(rt, alloc, name, rounds)
+}
+
+/// The lines of a reentrant lock.
+fn levels<R: Print + Clock + Wait + Copy, C: LockCore<Waiter = R>>(
+    rt: &R,
+    alloc: Global,
+    name: &str,
+    rounds: u64,
+) -> io::Result<()>
+where
+    C::Token: Send,
+{
+    let Some(party) = PartyId::new(1) else {
+        return Ok(());
+    };
+    let Ok(lock) = ReentrantMutex::<RawLock<C>, u64>::new(alloc, *rt, 1) else {
+        return println!(rt; "{name}: out of memory");
+    };
+    let start = Instant::now(rt)?;
+    let _ = one_level(&lock, party, rounds);
+    line(rt, name, "ReentrantMutex, one level", start, rounds)?;
+    let start = Instant::now(rt)?;
+    let _ = two_levels(&lock, party, rounds);
+    line(rt, name, "ReentrantMutex, two levels", start, rounds)
+}
+
+/// The names, and nanoseconds a round with a tenth.
+fn line<R: Print + Clock>(
+    rt: &R,
+    name: &str,
+    what: &str,
+    start: Instant,
+    rounds: u64,
+) -> io::Result<()> {
+    let tenths = start.elapsed(rt)?.as_nanos().wrapping_mul(10) / u128::from(rounds.max(1));
+    println!(rt; "{name}, {what}: {}.{} ns", tenths / 10, tenths % 10)
+}
+
+fn lock_mutex<R: RawMutex>(mutex: &Mutex<R, u64>, rounds: u64) {
+    for _ in 0..rounds {
+        let mut count = mutex.lock();
+        *count = count.wrapping_add(1);
+    }
+}
+
+fn lock_raw<R: RawMutex>(raw: &R, rounds: u64) {
+    for _ in 0..rounds {
+        raw.unlock(raw.lock());
+    }
+}
+
+fn read<C: LockCore>(lock: &RwLock<RawLock<C>, u64>, rounds: u64) -> u64 {
+    let mut sum: u64 = 0;
+    for _ in 0..rounds {
+        sum = sum.wrapping_add(*lock.read());
+    }
+    sum
+}
+
+fn write<C: LockCore>(lock: &RwLock<RawLock<C>, u64>, rounds: u64) {
+    for _ in 0..rounds {
+        let mut count = lock.write();
+        *count = count.wrapping_add(1);
+    }
+}
+
+fn walk<C: LockCore>(lock: &RwLock<RawLock<C>, u64>, rounds: u64) -> u64 {
+    let mut sum: u64 = 0;
+    for _ in 0..rounds {
+        let mut writer = RwLockUpgradableReadGuard::upgrade(lock.upgradable_read());
+        *writer = writer.wrapping_add(1);
+        let upgradable = RwLockWriteGuard::downgrade_to_upgradable(writer);
+        let reader = RwLockUpgradableReadGuard::downgrade(upgradable);
+        sum = sum.wrapping_add(*reader);
+    }
+    sum
+}
+
+fn one_level<C: LockCore>(
+    lock: &ReentrantMutex<RawLock<C>, u64>,
+    party: PartyId,
+    rounds: u64,
+) -> u64
+where
+    C::Token: Send,
+{
+    let mut sum: u64 = 0;
+    for _ in 0..rounds {
+        if let Ok(guard) = lock.lock(party) {
+            sum = sum.wrapping_add(*guard);
+        }
+    }
+    sum
+}
+
+fn two_levels<C: LockCore>(
+    lock: &ReentrantMutex<RawLock<C>, u64>,
+    party: PartyId,
+    rounds: u64,
+) -> u64
+where
+    C::Token: Send,
+{
+    let mut sum: u64 = 0;
+    for _ in 0..rounds {
+        if let Ok(outer) = lock.lock(party) {
+            if let Ok(inner) = lock.lock(party) {
+                sum = sum.wrapping_add(*inner);
+            }
+            sum = sum.wrapping_add(*outer);
+        }
+    }
+    sum
+}
+
+/// Whose turn it is, and where the other waits for it.
+#[derive(Drop)]
+struct Turns<R: RawMutex> {
+    turn: Mutex<R, u64>,
+    changed: Condvar<SleepingCondvar<R>>,
+}
+
+/// What two threads take turns with.
+trait TakeTurns {
+    /// Where a thread waits.
+    type Waiter: Wait;
+
+    /// Waits for each turn that is `first` or every second after it, and ends it.
+    fn take_turns(&self, first: u64, rounds: u64);
+}
+
+impl<R: RawMutex> TakeTurns for Turns<R> {
+    type Waiter = R::Waiter;
+
+    fn take_turns(&self, first: u64, rounds: u64) {
+        for _ in 0..rounds {
+            let mut turn = self.turn.lock();
+            self.changed
+                .wait_while(&mut turn, |turn| *turn % 2 != first);
+            *turn = turn.wrapping_add(1);
+            drop(turn);
+            self.changed.notify_one();
+        }
+    }
+}
+
+fn in_two_threads<R: Threads, T: TakeTurns + Sync>(rt: &R, turns: &T, rounds: u64) {
+    thread::join(
+        rt,
+        || turns.take_turns(0, rounds),
+        || turns.take_turns(1, rounds),
+    );
+}
+
+/// The line of a condition variable.
+fn trips<R: Print + Clock + Wait + Threads + Sync + Copy, C: LockCore<Waiter = R> + Sync>(
+    rt: &R,
+    alloc: Global,
+    name: &str,
+    rounds: u64,
+) -> io::Result<()> {
+    let (Ok(turn), Ok(changed)) = (
+        Mutex::<RawLock<C>, u64>::new(alloc, *rt, 0),
+        Condvar::<SleepingCondvar<RawLock<C>>>::new(alloc),
+    ) else {
+        return println!(rt; "{name}: out of memory");
+    };
+    let turns = Turns { turn, changed };
+    let start = Instant::now(rt)?;
+    in_two_threads(rt, &turns, rounds);
+    line(rt, name, "a round trip over SleepingCondvar", start, rounds)
+}

@@ -1,0 +1,108 @@
+//! The steps and questions of a script on a world.
+ghost use Rattle.std.specs.Prelude.{◌≡◌, ◌↔◌, ◌∷◌, [], IfSome, IsSome, codes, decimal};
+ghost use Rattle.lock_script.specs.Words.{IsOneOf};
+ghost use Rattle.lock_script.specs.WorldLines.{IsChange, down_word, down_words, party_questions, want_word, want_words, world_call_fields};
+
+use crate::line::{Line, first_field};
+use crate::number::unsigned;
+use lock_word::{AtomicStep, Down, ExWant};
+
+/// What a further line of a script of steps asks for.
+#[derive(Clone, Copy, PartialEq, Eq, Debug)]
+pub enum WorldCall {
+    Step(AtomicStep),
+    /// The word.
+    Word,
+    /// How many exchanges and subtractions of a party were done.
+    Wins(u64),
+    /// How many exchanges of a party found the word changed.
+    Fails(u64),
+}
+
+impl Line for WorldCall {
+    ghost use Rattle.lock_script.specs.WorldLines.{IsWorldCall};
+
+    ghost fields = { world_call_fields };
+
+    ghost makes = { IsWorldCall };
+
+    fn read(line: &str) -> Option<WorldCall> {
+        let Some((word, rest)) = first_field(line) else {
+            return alone(line);
+        };
+        let Some((party, change)) = first_field(rest) else {
+            return of_party(word, unsigned(rest)?);
+        };
+        of_change(word, unsigned(party)?, change)
+    }
+}
+
+/// The question of a word alone.
+fn alone(word: &str) -> Option<WorldCall>
+    ensures fields { IfSome result (λ call. world_call_fields call ≡ word.now ∷ []) }
+    ensures words { IsSome result ↔ (word.now ≡ codes "word") }
+{
+    match word {
+        "word" => Some(WorldCall::Word),
+        _ => None,
+    }
+}
+
+/// The load or question of a word and a party.
+fn of_party(word: &str, party: u64) -> Option<WorldCall>
+    ensures fields { IfSome result (λ call. world_call_fields call ≡ word.now ∷ decimal party ∷ []) }
+    ensures words { IsSome result ↔ IsOneOf party_questions word.now }
+{
+    let call = match word {
+        "load" => WorldCall::Step(AtomicStep::Load(party)),
+        "wins" => WorldCall::Wins(party),
+        "fails" => WorldCall::Fails(party),
+        _ => return None,
+    };
+    Some(call)
+}
+
+/// The exchange or subtraction of a word, a party and what it wants or gives up.
+fn of_change(word: &str, party: u64, change: &str) -> Option<WorldCall>
+    ensures fields { IfSome result (λ call. world_call_fields call ≡ word.now ∷ decimal party ∷ change.now ∷ []) }
+    ensures words { IsSome result ↔ IsChange word.now change.now }
+{
+    let step = match word {
+        "exchange" => AtomicStep::Exchange(party, want(change)?),
+        "take" => AtomicStep::Take(party, down(change)?),
+        _ => return None,
+    };
+    Some(WorldCall::Step(step))
+}
+
+/// What an exchange wants.
+fn want(word: &str) -> Option<ExWant>
+    ensures text { IfSome result (λ want. want_word want ≡ word.now) }
+    ensures words { IsSome result ↔ IsOneOf want_words word.now }
+{
+    let want = match word {
+        "shared" => ExWant::Shared,
+        "exclusive" => ExWant::Exclusive,
+        "upgradable" => ExWant::Upgradable,
+        "upgrade" => ExWant::Upgrade,
+        _ => return None,
+    };
+    Some(want)
+}
+
+/// What a subtraction gives up.
+fn down(word: &str) -> Option<Down>
+    ensures text { IfSome result (λ down. down_word down ≡ word.now) }
+    ensures words { IsSome result ↔ IsOneOf down_words word.now }
+{
+    let down = match word {
+        "shared" => Down::Shared,
+        "exclusive" => Down::Exclusive,
+        "upgradable" => Down::Upgradable,
+        "to_shared" => Down::ToShared,
+        "to_upgradable" => Down::ToUpgradable,
+        "upgradable_to_shared" => Down::UpgradableToShared,
+        _ => return None,
+    };
+    Some(down)
+}

@@ -1,0 +1,41 @@
+//! The world that a script of steps is run on.
+ghost use Rattle.std.specs.Prelude.{◌≡◌, ◌↔◌, IfSome, IsSome};
+ghost use Rattle.lock_script.specs.Lines.{fields_of};
+ghost use Rattle.lock_script.specs.WorldLines.{AreLimits, limit_fields};
+
+use crate::line::{Line, first_field};
+use crate::number::unsigned;
+
+/// A world of so many parties, of which so many may read at a time.
+#[derive(Clone, Copy, PartialEq, Eq, Debug)]
+pub struct WorldMaker {
+    pub parties: u64,
+    pub readers: u64,
+}
+
+impl Line for WorldMaker {
+    ghost use Rattle.lock_script.specs.WorldLines.{IsWorldMaker, world_maker_fields};
+
+    ghost fields = { world_maker_fields };
+
+    ghost makes = { IsWorldMaker };
+
+    fn read(line: &str) -> Option<WorldMaker> {
+        let (word, rest) = first_field(line)?;
+        match word {
+            "world" => limits(rest),
+            _ => None,
+        }
+    }
+}
+
+/// The world whose limits two fields are.
+fn limits(fields: &str) -> Option<WorldMaker>
+    ensures some { IsSome result ↔ AreLimits (fields_of fields.now) }
+    ensures texts { IfSome result (λ maker. limit_fields maker ≡ fields_of fields.now) }
+{
+    let (parties, readers) = first_field(fields)?;
+    let parties = unsigned(parties)?;
+    let readers = unsigned(readers)?;
+    Some(WorldMaker { parties, readers })
+}
