@@ -28,7 +28,18 @@ pub fn run(rt: &HostRuntime, bench: Bench) -> io::Result<()> {
         let what = format!(in rt.alloc(); "a call of a Desk, {guards} guards out")?;
         bench.tell(rt, what.as_str(), done, start)?;
     }
+    if bench.is_timed {
+        make_largest(rt)?;
+    }
     Ok(())
+}
+
+/// A desk of as many places as there may be, for which there is hardly memory.
+fn make_largest(rt: &HostRuntime) -> io::Result<()> {
+    let start = Instant::now(rt)?;
+    let is_made = TableDesk::rwlock(rt.alloc(), 4_294_967_295, 1, 7).is_ok();
+    let took = start.elapsed(rt)?.as_micros();
+    println!(rt; "a Desk of 4294967295 places, made: {is_made}, after {took} microseconds")
 }
 
 /// Six calls a turn: the value is read, the guard is parked and held again, the lock is asked, and a guard ends and another

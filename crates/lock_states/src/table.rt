@@ -16,7 +16,8 @@ pub struct TableToken {
     place: usize,
 }
 
-/// A raw state that keeps places, each free or taken in a mode, with a chain through the free ones. A token is its place.
+/// A raw state that keeps places, each free or taken in a mode, with a chain through the free ones. A token is its
+/// place.
 ///
 /// No call looks through the places: each reads and writes three of them at most.
 #[derive(Drop)]
@@ -84,7 +85,8 @@ impl RawState for TokenTable {
     fn admit(&mut self, mode: Mode) -> Option<TableToken>
         requires { length (tokens_of self.old.places) < length self.old.places }
         ensures admitted { is_some result ≡ admits self.old.readers (bag_of_tokens (tokens_of self.old.places)) mode }
-        ensures added { IfSome result (λ token. Adds (tokens_of self.old.places) (tokens_of self.new.places) token mode) }
+        ensures added { IfSome result (λ token.
+            Adds (tokens_of self.old.places) (tokens_of self.new.places) token mode) }
         ensures refused { IfNone result (self.new ≡ self.old) }
         ensures limits { KeepsLimits self.old self.new }
         ensures count { self.new.count ≤ self.old.count + 3 }
@@ -121,7 +123,8 @@ impl RawState for TokenTable {
     fn change(&mut self, token: TableToken, mode: Mode) -> Result<TableToken, TableToken>
         requires { CanChange (tokens_of self.old.places) token mode }
         ensures admitted { is_ok result ≡ may_become (bag_of_tokens (tokens_of self.old.places)) mode }
-        ensures replaced { IfOk result (λ next. Replaces (tokens_of self.old.places) (tokens_of self.new.places) token next mode) }
+        ensures replaced { IfOk result (λ next.
+            Replaces (tokens_of self.old.places) (tokens_of self.new.places) token next mode) }
         ensures token_returned { IfErr result (λ same. same ≡ token) }
         ensures refused { OnErr result (self.new ≡ self.old) }
         ensures limits { KeepsLimits self.old self.new }
