@@ -1,62 +1,156 @@
-//! Locks over any raw lock, their guards, and the machine of guards: the whole workspace under one name.
+//! Locks over any raw lock, their guards, and the machine of guards: all that a user of them names, under one name.
+//!
+//! Left out are the scripts of `lockreplay` (crate `lock_script`), what guards are made of (`Held`, `Inner` and the
+//! traits under them in `lock_guard`), and `parts` of `lock_rwlock`.
 #![tactic(auto)]
 
-pub use lock_base::machine::{
-    Bag, Call, Form, Kind, Mode, ModeStep, Op, PartyId, Reply, Want, Way,
-};
-pub use lock_base::project::{
-    Missed, Project, Then, TryProject, mapping_twice_is_then, missed_write_changes_nothing,
-    then_is_associative, then_is_lawful, then_misses_in_order, write_keeps_part,
-};
-pub use lock_base::raw::{
-    DEFAULT_LEVELS, DEFAULT_READERS, Fault, Levels, MAX_LIMIT, ObservableState, RawState, is_limit,
-};
-pub use lock_base_laws::{
-    exclusive_guards_exclude, nested_guards_make_one_token, new_guards_are_held,
-    numbers_are_used_once, only_writes_change_value, parked_guards_hold_nothing, parked_is_resumed,
-    readers_see_one_value, refusals_come_in_order, refusals_keep_machine,
-    refused_upgrades_keep_guard, replies_are_as_many, runs_are_sound, spent_counts_releases,
-    tokens_are_those_held,
-};
+pub use lock_base::machine::Bag;
+pub use lock_base::machine::Call;
+pub use lock_base::machine::Form;
+pub use lock_base::machine::Kind;
+pub use lock_base::machine::Mode;
+pub use lock_base::machine::ModeStep;
+pub use lock_base::machine::Op;
+pub use lock_base::machine::PartyId;
+pub use lock_base::machine::Reply;
+pub use lock_base::machine::Want;
+pub use lock_base::machine::Way;
+pub use lock_base::project::At;
+pub use lock_base::project::Field;
+pub use lock_base::project::Missed;
+pub use lock_base::project::Project;
+pub use lock_base::project::Then;
+pub use lock_base::project::TryProject;
+pub use lock_base::project::TryView;
+pub use lock_base::project::View;
+pub use lock_base::project::mapping_twice_is_then;
+pub use lock_base::project::missed_write_changes_nothing;
+pub use lock_base::project::then_is_associative;
+pub use lock_base::project::then_is_lawful;
+pub use lock_base::project::then_misses_in_order;
+pub use lock_base::project::write_keeps_part;
+pub use lock_base::raw::DEFAULT_LEVELS;
+pub use lock_base::raw::DEFAULT_READERS;
+pub use lock_base::raw::Fault;
+pub use lock_base::raw::Levels;
+pub use lock_base::raw::MAX_LIMIT;
+pub use lock_base::raw::ObservableState;
+pub use lock_base::raw::RawState;
+pub use lock_base::raw::is_limit;
+pub use lock_base_laws::exclusive_guards_exclude;
+pub use lock_base_laws::nested_guards_make_one_token;
+pub use lock_base_laws::new_guards_are_held;
+pub use lock_base_laws::numbers_are_used_once;
+pub use lock_base_laws::only_writes_change_value;
+pub use lock_base_laws::parked_guards_hold_nothing;
+pub use lock_base_laws::parked_is_resumed;
+pub use lock_base_laws::readers_see_one_value;
+pub use lock_base_laws::refusals_come_in_order;
+pub use lock_base_laws::refusals_keep_machine;
+pub use lock_base_laws::refused_upgrades_keep_guard;
+pub use lock_base_laws::replies_are_as_many;
+pub use lock_base_laws::runs_are_sound;
+pub use lock_base_laws::spent_counts_releases;
+pub use lock_base_laws::tokens_are_those_held;
 pub use lock_desk::Desk;
-pub use lock_guard::raw::{
-    GuardNoSend, GuardSend, RawCondvar, RawCondvarTimed, RawMutex, RawMutexFair, RawMutexTimed,
-    RawRwLock, RawRwLockDowngrade, RawRwLockFair, RawRwLockTimed, RawRwLockUpgrade,
-    RawRwLockUpgradeDowngrade, RawRwLockUpgradeFair, RawRwLockUpgradeTimed,
-};
-pub use lock_mutex::{
-    ArcMutexGuard, Condvar, LoopEnd, MappedMutexGuard, Mutex, MutexGuard, Script,
-    WaitTimeoutResult, Waits, run_loop,
-};
-pub use lock_raws::{
-    Arbiter, DEFAULT_ENTRIES, ExclusiveToken, LockCore, Monitor, RawLock, RecordingArbiter,
-    RecordingRaw, SharedToken, SpuriousCondvar, TableArbiter, TokenArbiter, TokenRaw, Unchanged,
-    UpgradableToken,
-};
-pub use lock_raws_timed::{RealTime, TimedCondvar, TimedRaw};
-pub use lock_raws_word::{
-    NoTime, SleepingCondvar, Timing, WordCore, WordLock, WordRaw, WordToken, wakes_are_of_bags,
-};
-pub use lock_remutex::{
-    ArcReentrantMutexGuard, MappedReentrantMutexGuard, RawReentrantMutex, ReentrantMutex,
-    ReentrantMutexGuard,
-};
-pub use lock_rwlock::{
-    MappedRwLockReadGuard, MappedRwLockWriteGuard, RwLock, RwLockReadGuard,
-    RwLockUpgradableReadGuard, RwLockWriteGuard,
-};
-pub use lock_rwlock_arc::{
-    ArcRwLockReadGuard, ArcRwLockUpgradableReadGuard, ArcRwLockWriteGuard, RwLockArc,
-    RwLockArcTimed, RwLockArcUpgrade, RwLockArcUpgradeTimed,
-};
-pub use lock_seated::{Attempt, Party, PartyView, SeatedLock, WordRule, every_state_keeps_rule};
-pub use lock_states::table::{TableToken, TokenTable};
-pub use lock_states::word::{PackedToken, PackedWord};
+pub use lock_guard::guard::Mapped;
+pub use lock_guard::raw::GuardNoSend;
+pub use lock_guard::raw::GuardSend;
+pub use lock_guard::raw::RawCondvar;
+pub use lock_guard::raw::RawCondvarTimed;
+pub use lock_guard::raw::RawMutex;
+pub use lock_guard::raw::RawMutexFair;
+pub use lock_guard::raw::RawMutexTimed;
+pub use lock_guard::raw::RawRwLock;
+pub use lock_guard::raw::RawRwLockDowngrade;
+pub use lock_guard::raw::RawRwLockFair;
+pub use lock_guard::raw::RawRwLockTimed;
+pub use lock_guard::raw::RawRwLockUpgrade;
+pub use lock_guard::raw::RawRwLockUpgradeDowngrade;
+pub use lock_guard::raw::RawRwLockUpgradeFair;
+pub use lock_guard::raw::RawRwLockUpgradeTimed;
+pub use lock_mutex::ArcMutexGuard;
+pub use lock_mutex::BorrowedMutex;
+pub use lock_mutex::Condvar;
+pub use lock_mutex::Guard;
+pub use lock_mutex::LoopEnd;
+pub use lock_mutex::MappedMutexGuard;
+pub use lock_mutex::Mutex;
+pub use lock_mutex::MutexGuard;
+pub use lock_mutex::Script;
+pub use lock_mutex::WaitTimeoutResult;
+pub use lock_mutex::Waits;
+pub use lock_mutex::run_loop;
+pub use lock_raws::Arbiter;
+pub use lock_raws::DEFAULT_ENTRIES;
+pub use lock_raws::ExclusiveToken;
+pub use lock_raws::LockCore;
+pub use lock_raws::Monitor;
+pub use lock_raws::RawLock;
+pub use lock_raws::RecordingArbiter;
+pub use lock_raws::RecordingRaw;
+pub use lock_raws::SharedToken;
+pub use lock_raws::SpuriousCondvar;
+pub use lock_raws::TableArbiter;
+pub use lock_raws::TokenArbiter;
+pub use lock_raws::TokenRaw;
+pub use lock_raws::Unchanged;
+pub use lock_raws::UpgradableToken;
+pub use lock_raws_timed::RealTime;
+pub use lock_raws_timed::TimedCondvar;
+pub use lock_raws_timed::TimedRaw;
+pub use lock_raws_word::NoTime;
+pub use lock_raws_word::SleepingCondvar;
+pub use lock_raws_word::Timing;
+pub use lock_raws_word::WordCore;
+pub use lock_raws_word::WordLock;
+pub use lock_raws_word::WordRaw;
+pub use lock_raws_word::WordToken;
+pub use lock_raws_word::wakes_are_of_bags;
+pub use lock_remutex::ArcReentrantMutexGuard;
+pub use lock_remutex::MappedReentrantMutexGuard;
+pub use lock_remutex::RawReentrantMutex;
+pub use lock_remutex::ReentrantMutex;
+pub use lock_remutex::ReentrantMutexGuard;
+pub use lock_rwlock::Exclusive;
+pub use lock_rwlock::FairMode;
+pub use lock_rwlock::InMode;
+pub use lock_rwlock::LockMode;
+pub use lock_rwlock::Mappable;
+pub use lock_rwlock::MappedRwLockReadGuard;
+pub use lock_rwlock::MappedRwLockWriteGuard;
+pub use lock_rwlock::RwLock;
+pub use lock_rwlock::RwLockGuard;
+pub use lock_rwlock::RwLockReadGuard;
+pub use lock_rwlock::RwLockUpgradableReadGuard;
+pub use lock_rwlock::RwLockWriteGuard;
+pub use lock_rwlock::Shared;
+pub use lock_rwlock::Upgradable;
+pub use lock_rwlock_arc::ArcRwLockGuard;
+pub use lock_rwlock_arc::ArcRwLockReadGuard;
+pub use lock_rwlock_arc::ArcRwLockUpgradableReadGuard;
+pub use lock_rwlock_arc::ArcRwLockWriteGuard;
+pub use lock_rwlock_arc::RwLockArc;
+pub use lock_rwlock_arc::RwLockArcTimed;
+pub use lock_rwlock_arc::RwLockArcUpgrade;
+pub use lock_rwlock_arc::RwLockArcUpgradeTimed;
+pub use lock_seated::Attempt;
+pub use lock_seated::Party;
+pub use lock_seated::PartyView;
+pub use lock_seated::SeatedLock;
+pub use lock_seated::WordRule;
+pub use lock_seated::every_state_keeps_rule;
+pub use lock_states::table::TableToken;
+pub use lock_states::table::TokenTable;
+pub use lock_states::word::PackedToken;
+pub use lock_states::word::PackedWord;
 pub use lock_states::world::World;
-pub use lock_word::{
-    AtomicStep, Down, ExWant, Outcome, PartyState, every_interleaving, exchanges_are_of_bags,
-    subtractions_are_of_bags, words_are_of_one_bag,
-};
-
-#[cfg(test)]
-mod tests;
+pub use lock_word::AtomicStep;
+pub use lock_word::Down;
+pub use lock_word::ExWant;
+pub use lock_word::Outcome;
+pub use lock_word::PartyState;
+pub use lock_word::every_interleaving;
+pub use lock_word::exchanges_are_of_bags;
+pub use lock_word::subtractions_are_of_bags;
+pub use lock_word::words_are_of_one_bag;

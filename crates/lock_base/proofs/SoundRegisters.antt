@@ -1,15 +1,18 @@
 -- A sound register stays sound whichever guard comes, goes or changes.
-use Rattle.std.proofs.Common.{◌≡◌, ◌≢◌, ℕ, ◌+◌, ◌≤◌, true, false, [], ◌∷◌, ◌++◌, length, Some, IsTrue, refl, ap, sym, subst, arith, append-nil}
+use Rattle.std.proofs.Common.{◌≡◌, ◌≢◌, ◌<◌, ◌∙◌, Bool, ℕ, ◌+◌, ◌≤◌, true, false, [], ◌∷◌, ◌++◌, length, Some, IsTrue, refl, ap, sym, subst, arith, append-nil}
 use Rattle.lock_base.specs.declared.machine.mode.Mode.{Mode}
 use Rattle.lock_base.specs.declared.machine.bag.Bag.{Bag}
 use Rattle.lock_base.specs.declared.machine.kind.Kind.{Kind}
 use Rattle.lock_base.specs.declared.machine.kind.Kind.TheVariants.{Mutex, RwLock, Reentrant}
+use Rattle.lock_base.specs.declared.machine.call.Want.{Want}
+use Rattle.lock_base.specs.declared.machine.call.Want.TheVariants.{Lock, Read, Write, UpgradableRead}
 use Rattle.lock_base.specs.Modes.{one_more, is_move, may_become, AreCompatible}
-use Rattle.lock_base.specs.Kind.{is_reentrant}
+use Rattle.lock_base.specs.Kind.{is_reentrant, is_rwlock}
 use Rattle.lock_base.specs.Entries.{Entry, find, without, update, parked_entry, resumed_entry, in_mode, held_bag}
 use Rattle.lock_base.specs.Register.{Register, empty_register, lets_in, with_guard, without_guard, with_change}
 use Rattle.lock_base.specs.Legal.{AreLegallyHeld, AreNumbered}
-use Rattle.lock_base.specs.Sound.{IsLimitOf, IsModeOf, HaveModesOf, IsSound}
+use Rattle.lock_base.specs.Refusals.{has_want, mode_of}
+use Rattle.lock_base.specs.Sound.{FitsKind, IsLimitOf, IsModeOf, HaveModesOf, IsSound}
 use Rattle.lock_base.proofs.ModeLemmas.{compatible_changed, compatible_empty}
 use Rattle.lock_base.proofs.Splices.{EntryMap, Splice, splice, length-middle, numbered_removed, numbered_changed, numbered_issued}
 use Rattle.lock_base.proofs.HeldEntries.{held_bag-more, more_than_rest, more_than_parked, resumed_is_more, moved_is_more, abandoned_holds_same, issued_is_more}
@@ -146,6 +149,53 @@ module _ (r : Register) (sound : IsSound r) where
 -- a guard that is out has a mode of the kind
 pub out_mode : (r : Register) (guard : ℕ) (e : Entry) → IsSound r → find guard r.entries ≡ Some e → IsModeOf r.kind e.mode
 out_mode r guard e sound found = (whole_modes r sound guard e (splice guard e r.entries found)).0
+
+-- a guard that goes, or is parked, held or not
+
+pub removed_sound : (r : Register) (guard : ℕ) (e : Entry) → IsSound r → find guard r.entries ≡ Some e → IsSound (without_guard r guard)
+removed_sound r guard e sound found = by_held e.held refl
+  where
+    by_held : (held : Bool) → e.held ≡ held → IsSound (without_guard r guard)
+    by_held true is = unlocked_sound r sound guard e (splice guard e r.entries found) is
+    by_held false is = abandoned_sound r sound guard e (splice guard e r.entries found) is
+
+pub parked_again_sound : (r : Register) (guard : ℕ) (e : Entry) → IsSound r → find guard r.entries ≡ Some e
+    → IsSound (with_change r guard parked_entry)
+parked_again_sound r guard e sound found = by_held e.held refl
+  where
+    place : Splice guard e r.entries
+    place = splice guard e r.entries found
+
+    by_held : (held : Bool) → e.held ≡ held → IsSound (with_change r guard parked_entry)
+    by_held true is = parked_sound r sound guard e place is
+    by_held false is =
+        let same : parked_entry e ≡ e = ap (λ (b : Bool). record e { held = b }) (sym is) in
+        let entries : update guard parked_entry r.entries ≡ r.entries =
+        place.updated parked_entry ∙ ap (λ (x : Entry). place.before ++ (guard, x) ∷ place.after) same ∙ sym place.whole in
+        subst (λ (es : EntryMap). IsSound (record r { entries = es })) (sym entries) sound
+
+-- what a new register and a new guard have to fit
+
+pub limit_of_kind : (kind : Kind) (limit : ℕ) → 0 < limit → FitsKind kind limit → IsLimitOf kind limit
+limit_of_kind Mutex limit positive fits = fits
+limit_of_kind RwLock limit positive fits = positive
+limit_of_kind Reentrant limit positive fits = positive
+
+pub want_of_kind : (kind : Kind) (want : Want) → IsTrue (has_want kind want) → IsModeOf kind (mode_of want)
+want_of_kind Mutex Lock h = refl
+want_of_kind Reentrant Lock h = refl
+want_of_kind RwLock want h = tt
+want_of_kind Mutex Read h = cc
+want_of_kind Mutex Write h = refl
+want_of_kind Mutex UpgradableRead h = cc
+want_of_kind Reentrant Read h = cc
+want_of_kind Reentrant Write h = refl
+want_of_kind Reentrant UpgradableRead h = cc
+
+pub rwlock_is : (kind : Kind) → IsTrue (is_rwlock kind) → kind ≡ RwLock
+rwlock_is Mutex h = cc
+rwlock_is RwLock h = refl
+rwlock_is Reentrant h = cc
 
 -- to go on with a higher number keeps a register sound
 

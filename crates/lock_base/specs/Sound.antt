@@ -14,6 +14,12 @@ IsLimitOf Mutex limit = limit ≡ 1
 IsLimitOf RwLock limit = 0 < limit
 IsLimitOf Reentrant limit = 0 < limit
 
+-- what a lawful limit has to be besides
+abbrev pub FitsKind : Kind → ℕ → Type 0
+FitsKind Mutex limit = limit ≡ 1
+FitsKind RwLock limit = Unit {0}
+FitsKind Reentrant limit = Unit {0}
+
 -- all but a reader-writer lock have exclusive guards alone
 abbrev pub IsModeOf : Kind → Mode → Type 0
 IsModeOf Mutex mode = mode ≡ Exclusive

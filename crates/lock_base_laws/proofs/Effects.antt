@@ -1,18 +1,16 @@
 -- All that a call can do to a machine: each law goes by these cases.
 use Rattle.std.proofs.Common.{◌≡◌, ◌≢◌, ℕ, ◌+◌, ◌-◌, ◌^◌, Bool, true, false, not, ◌==◌, if◌then◌else◌, List, [], ◌∷◌, length, Option, Some, None, IsTrue, refl, sym, subst}
-use Rattle.std.proofs.lemmas.Bool.{not-true, eqb-false}
+use Rattle.std.proofs.lemmas.Bool.{not-true, not-false, eqb-false}
 use Rattle.lock_base.specs.declared.machine.mode.Mode.{Mode}
 use Rattle.lock_base.specs.declared.machine.mode.Mode.TheVariants.{Shared, Exclusive, Upgradable}
 use Rattle.lock_base.specs.declared.machine.mode_step.ModeStep.{ModeStep}
 use Rattle.lock_base.specs.declared.machine.mode_step.ModeStep.TheVariants.{Acquire, Release, Change}
-use Rattle.lock_base.specs.declared.machine.kind.Kind.{Kind}
-use Rattle.lock_base.specs.declared.machine.kind.Kind.TheVariants.{Mutex, RwLock, Reentrant}
+use Rattle.lock_base.specs.declared.machine.kind.Kind.TheVariants.{RwLock}
 use Rattle.lock_base.specs.declared.machine.call.Call.{Call}
 use Rattle.lock_base.specs.declared.machine.call.Form.{Form}
 use Rattle.lock_base.specs.declared.machine.call.Form.TheVariants.{Block, Try, For, Until}
 use Rattle.lock_base.specs.declared.machine.call.Way.{Way}
 use Rattle.lock_base.specs.declared.machine.call.Want.{Want}
-use Rattle.lock_base.specs.declared.machine.call.Want.TheVariants.{Lock, Read, Write, UpgradableRead}
 use Rattle.lock_base.specs.declared.machine.party.PartyId.{PartyId}
 use Rattle.lock_base.specs.declared.machine.reply.Reply.{Reply}
 use Rattle.lock_base.specs.declared.raw.fault.Fault.{Fault}
@@ -27,6 +25,7 @@ use Rattle.lock_base.specs.Machine.{Machine, after_release, one_spent_more}
 use Rattle.lock_base.specs.Refusals.{Demand, mode_of, has_want, acquisition_refusal, held_guard, parked_guard, writing_guard, upgradable_guard, unshared_guard, exclusive_guard}
 use Rattle.lock_base.specs.Calls.{Turn, give, refuse, on_guard, with_register, with_mode, after_operation, park}
 use Rattle.lock_base.specs.Steps.{Response, response_of, response_in_form, done_reply, step}
+use Rattle.lock_base.proofs.SoundRegisters.{want_of_kind, rwlock_is}
 use Rattle.lock_base_laws.specs.Kept.{is_refusal}
 use Rattle.lock_base_laws.specs.Numbers.{numbers_of}
 use Rattle.lock_base.specs.Sound.{IsModeOf}
@@ -76,11 +75,6 @@ pub data Effect {O T A : Type 0} (m : Machine T) : Call O → Reply A → List M
       → Effect m (Call.WithUpgraded form party guard op) (Reply.Answer answer)
       (Change Upgradable Exclusive ∷ Change Exclusive Upgradable ∷ []) (record m { value = value })
 
-rwlock_is : (kind : Kind) → IsTrue (is_rwlock kind) → kind ≡ RwLock
-rwlock_is Mutex h = cc
-rwlock_is RwLock h = refl
-rwlock_is Reentrant h = cc
-
 upgradable_is : (mode : Mode) → IsTrue (is_upgradable mode) → mode ≡ Upgradable
 upgradable_is Shared h = cc
 upgradable_is Exclusive h = cc
@@ -90,17 +84,6 @@ exclusive_is : (mode : Mode) → IsTrue (is_exclusive mode) → mode ≡ Exclusi
 exclusive_is Shared h = cc
 exclusive_is Exclusive h = refl
 exclusive_is Upgradable h = cc
-
-want_of_kind : (kind : Kind) (want : Want) → not (has_want kind want) ≡ false → IsModeOf kind (mode_of want)
-want_of_kind Mutex Lock h = refl
-want_of_kind Reentrant Lock h = refl
-want_of_kind RwLock want h = tt
-want_of_kind Mutex Read h = cc
-want_of_kind Mutex Write h = refl
-want_of_kind Mutex UpgradableRead h = cc
-want_of_kind Reentrant Read h = cc
-want_of_kind Reentrant Write h = refl
-want_of_kind Reentrant UpgradableRead h = cc
 
 shared_move : (mode : Mode) → not (is_shared mode) ≡ true → IsTrue (is_move mode Shared)
 shared_move Shared h = cc
@@ -173,7 +156,7 @@ module _ {O T A : Type 0} (meaning : O → Operation T A) (m : Machine T) where
       of_both (λ turn. HasEffect O T A m call (response_in_form form Reply.Guard turn))
       (lets_in m.register (id_of party) (mode_of want)) _ _
       (λ ok. some_given O T A m call form Reply.Guard _ _ (acquired (id_of party) (mode_of want)
-      (record { mode_of_kind = want_of_kind m.kind want all.first; room = eqb-false _ _ all.second; let_in = ok })))
+      (record { mode_of_kind = want_of_kind m.kind want (not-false (has_want m.kind want) all.first); room = eqb-false _ _ all.second; let_in = ok })))
       (λ no. none_kept O T A m call form Reply.Guard))
 
   of_unlock : (party : PartyId) (guard : ℕ) (way : Way)

@@ -11,7 +11,7 @@ use Rattle.lock_base.specs.Sound.{IsSound}
 use Rattle.lock_base.specs.Steps.{step}
 use Rattle.lock_base.proofs.Splices.{Splice, splice}
 use Rattle.lock_base.proofs.SoundRegisters.{empty_sound, with_guard_sound, unlocked_sound, parked_sound, resumed_sound, abandoned_sound, moved_sound}
-use Rattle.lock_base_laws.specs.Sound.{RunsAreSound, CallsKeepSound, KeepsLimits, RunsKeepLimits}
+use Rattle.lock_base_laws.specs.SoundRuns.{RunsAreSound, CallsKeepSound, KeepsLimits, RunsKeepLimits}
 use Rattle.lock_base_laws.proofs.Effects.{Effect, effect, IsOut}
 
 -- where the guard of an effect stands

@@ -22,9 +22,11 @@ module _ {L V K W X : Type 0} {g : _} where
 
   -- held locks with one lock and one inner part are equal
   pub same_held : (lock : L) (inner : Inner K V) (p q : is_filled inner ≡ true)
-      → ◌≡◌ {A = Held L V K W X g} (record { lock = lock; inner = inner; filled = p }) (record { lock = lock; inner = inner; filled = q })
+      → ◌≡◌ {A = Held L V K W X g} (record { lock = lock; inner = inner; filled = p })
+      (record { lock = lock; inner = inner; filled = q })
   same_held lock inner p q =
-      ap (λ f. let made : Held L V K W X g = record { lock = lock; inner = inner; filled = f } in made) (Bool-set _ _ p q)
+      ap (λ f. let made : Held L V K W X g = record { lock = lock; inner = inner; filled = f } in made)
+      (Bool-set _ _ p q)
 
   same_held_at : (a b : Held L V K W X g) → a.lock ≡ b.lock → a.inner ≡ b.inner → a ≡ b
   same_held_at a b lock inner = λ i. record {

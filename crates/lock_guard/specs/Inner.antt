@@ -37,6 +37,7 @@ module _ {K V : Type 0} where
     -- what was written is shown
     pub inner_value_with : (value_of : V → X) (with_value : V → X → V)
         → ((shown : V) (value : X) → value_of (with_value shown value) ≡ value) → (inner : Inner K V) (old new : X)
-        → inner_value value_of inner ≡ Some old → inner_value value_of (inner_with_value with_value inner new) ≡ Some new
+        → inner_value value_of inner ≡ Some old
+        → inner_value value_of (inner_with_value with_value inner new) ≡ Some new
     inner_value_with value_of with_value law (Filled token shown) old new is = ap Some (law shown new)
     inner_value_with value_of with_value law Empty old new is = Prim.cc

@@ -80,7 +80,7 @@ impl<R: RawMutex + Drop, T: Drop> ArcMutexGuard<R, T> {
 }
 
 impl<R: RawMutexFair + Drop, T: Drop> ArcMutexGuard<R, T> {
-    /// Ends the guard, and lets those that wait go first.
+    /// Ends the guard, by a fair release.
     pub fn unlock_fair(guard: ArcMutexGuard<R, T>) {
         guard.held.unlock_fair();
     }
@@ -103,7 +103,7 @@ impl<R: RawMutexFair + Drop, T: Drop> ArcMutexGuard<R, T> {
         guard.held.unlocked_fair(f)
     }
 
-    /// Lets those that wait go first, and waits for the mutex again.
+    /// Gives the mutex up by a fair release, and waits for it again.
     pub fn bump(guard: &mut ArcMutexGuard<R, T>)
         ensures { arc_of guard.new ≡ arc_of guard.old }
     {

@@ -1,4 +1,3 @@
-//! A condition variable over any raw one.
 ghost use Rattle.std.specs.Prelude.{◌≡◌, false, IsOkUnless};
 ghost use Rattle.std.specs.Sync.Mutex.{mutex_guard_value};
 ghost use Rattle.lock_mutex.specs.WaitsWhile.{WaitsWhile, has_timed_out};

@@ -56,7 +56,7 @@ impl<L: Acquire> Guard<L> {
 impl<L: AcquireFair> Guard<L> {
     ghost use Rattle.lock_mutex.specs.MutexGuard.{held_of};
 
-    /// Ends the guard, and lets those that wait go first.
+    /// Ends the guard, by a fair release.
     pub fn unlock_fair(guard: Self) {
         guard.held.unlock_fair();
     }
@@ -70,7 +70,7 @@ impl<L: AcquireFair> Guard<L> {
         guard.held.unlocked_fair(f)
     }
 
-    /// Lets those that wait go first, and waits for the mutex again.
+    /// Gives the mutex up by a fair release, and waits for it again.
     pub fn bump(guard: &mut Self)
         ensures { (held_of guard.new).lock ≡ (held_of guard.old).lock }
     {
@@ -84,7 +84,7 @@ impl<L: Acquire> Deref for Guard<L> {
 
     type Target = <L::Shown as ValueGuard>::Value;
 
-    ghost deref_gives = { λ guard value. held_value L.Shown.shown (held_of guard) ≡ Some value };
+    ghost deref_gives = { λ guard value. held_value L.Shown.value_of (held_of guard) ≡ Some value };
 
     fn deref(&self) -> &<L::Shown as ValueGuard>::Value {
         self.held.value()
@@ -99,14 +99,14 @@ where
     ghost use Rattle.lock_guard.specs.Held.{held_value, held_with_value};
     ghost use Rattle.lock_mutex.specs.MutexGuard.{held_of};
 
-    ghost deref_mut_gives = { λ guard value. held_value L.Shown.shown (held_of guard) ≡ Some value };
+    ghost deref_mut_gives = { λ guard value. held_value L.Shown.value_of (held_of guard) ≡ Some value };
 
     fn deref_mut(&mut self) -> &mut <L::Shown as ValueGuard>::Value
         ensures* writes_back { sem 𝓛 (Lends
-            (the_row L.row L.Shown.row L.Token.row L.Waiter.row L.Shown.Value.row L.Shown.ValueGuard)
-            L.Shown.Value.row self.entry result
-            (λ value. record { held = held_with_value L.Shown.with_shown (held_of self.old) value })) }
-        ensures value { held_value L.Shown.shown (held_of self.old) ≡ Some result.now }
+            (the_row L.row L.Shown.row L.Token.row L.Waiter.row L.Shown.Value.row
+            L.Shown.ValueGuard) L.Shown.Value.row self.entry result (λ value.
+            record { held = held_with_value L.Shown.with_value (held_of self.old) value })) }
+        ensures value { held_value L.Shown.value_of (held_of self.old) ≡ Some result.now }
     {
         self.held.value_mut()
     }

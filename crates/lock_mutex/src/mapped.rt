@@ -30,7 +30,8 @@ impl<L: Acquire> Guard<L> {
         guard: Self,
         projection: P,
     ) -> Result<Mapped<Held<L>, P>, Self>
-        ensures { IsMappedOr (guard_part (held_value L.Shown.shown) (P.part projection) (held_of guard))
+        ensures { IsMappedOr
+            (guard_part (held_value L.Shown.value_of) (P.part projection) (held_of guard))
             (held_of guard) projection (λ back. back ≡ guard) result }
     {
         match Mapped::try_of(guard.held, projection) {
@@ -44,10 +45,10 @@ impl<L: Acquire> Guard<L> {
         guard: Self,
         projection: P,
     ) -> Result<Mapped<Held<L>, P>, (Self, P::Miss)>
-        ensures { IsMappedOr (guard_part (held_value L.Shown.shown) (P.part projection) (held_of guard))
-            (held_of guard) projection (λ back. (back.0 ≡ guard)
-            × (guard_miss (held_value L.Shown.shown) (P.missed projection) (held_of guard) ≡ Some back.1))
-            result }
+        ensures { IsMappedOr
+            (guard_part (held_value L.Shown.value_of) (P.part projection) (held_of guard))
+            (held_of guard) projection (λ back. (back.0 ≡ guard) × (guard_miss
+            (held_value L.Shown.value_of) (P.missed projection) (held_of guard) ≡ Some back.1)) result }
     {
         match Mapped::try_of_or_err(guard.held, projection) {
             Ok(mapped) => Ok(mapped),

@@ -1,4 +1,3 @@
-//! What a wait with an end in time answers.
 ghost use Rattle.std.specs.Prelude.{◌≡◌};
 
 /// Whether a wait ended because its time came.

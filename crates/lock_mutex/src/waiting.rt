@@ -23,9 +23,9 @@ where
 
     type Value = <L::Shown as ValueGuard>::Value;
 
-    ghost current = { waiting_value L.Shown.shown };
+    ghost current = { waiting_value L.Shown.value_of };
 
-    ghost with_current = { waiting_with_value L.Shown.with_shown };
+    ghost with_current = { waiting_with_value L.Shown.with_value };
 
     ghost wait_gives = { λ before answer after. IsSomeAnd answer S.may_answer };
 
@@ -37,7 +37,7 @@ where
         Some(self.sleep.sleep(&mut self.held))
     }
 
-    ghost current_with = { waiting_value-with L.Shown.shown L.Shown.with_shown L.Shown.shown_with };
+    ghost current_with = { waiting_value-with L.Shown.value_of L.Shown.with_value L.Shown.value_with };
 }
 
 /// Sleeps while the condition is true, until a sleep timed out. Whether the last check, which left the value that is
@@ -52,9 +52,10 @@ where
     L::Shown: ValueGuardMut,
     requires { F.IsAlwaysCallable condition }
     ensures lock { held.new.lock ≡ held.old.lock }
-    ensures checks { WaitsWhile F.FnMut condition (held_value L.Shown.shown held.old) result
-        (held_value L.Shown.shown held.new) }
-    ensures in_time { ((timed_out : Bool) → S.may_answer timed_out → timed_out ≡ false) → result ≡ false }
+    ensures checks { WaitsWhile F.FnMut condition
+        (held_value L.Shown.value_of held.old) result (held_value L.Shown.value_of held.new) }
+    ensures in_time { ((timed_out : Bool) → S.may_answer timed_out → timed_out ≡ false)
+        → result ≡ false }
 {
     let inner = mem::replace(&mut held.inner, Inner::Empty);
     let mut waiting = Waiting {

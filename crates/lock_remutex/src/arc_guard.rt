@@ -1,4 +1,3 @@
-//! The guard of one level of a reentrant lock, which it keeps alive.
 ghost use Rattle.std.specs.Prelude.{◌≡◌, ◌↔◌, IfErr, IfOk, IfSome, IsSome, IsTrue, MatchResult};
 ghost use Rattle.lock_base.specs.Party.{id_of};
 ghost use Rattle.lock_remutex.specs.ArcGuards.{arc_of, arc_party, arc_guard_value, IsSameArcGuard};
@@ -127,7 +126,7 @@ where
         ArcReentrantMutexGuard::lock_again(remutex, party, answer)
     }
 
-    /// Where the party has this level alone, lets those that wait go first, and locks again.
+    /// Where the party has this level alone, gives the raw lock up by a fair release, and locks again.
     pub fn bump(guard: &mut Self)
         ensures { IsSameArcGuard guard.old guard.new }
     {

@@ -1,4 +1,3 @@
-//! A raw lock that its owner may take again.
 ghost use Rattle.std.specs.Prelude.{◌≡◌, ◌↔◌, IfOk, IfErr, IsOkUnless};
 ghost use Rattle.lock_base.specs.Limits.{IsLimit, IsMakerFault};
 
@@ -166,7 +165,7 @@ where
         Ok(())
     }
 
-    /// At one level, lets those that wait for the raw lock go first, and takes it again. At more it does nothing.
+    /// At one level, gives the raw lock up by a fair release, and takes it again. At more it does nothing.
     /// Refused where another owns the lock, or none.
     pub fn bump(&self, party: PartyId) -> Result<(), Fault>
         ensures { IfErr result (λ fault. fault ≡ Fault.Foreign) }

@@ -1,4 +1,3 @@
-//! The guard of one level of a reentrant lock.
 use crate::reentrant_mutex::ReentrantMutex;
 use lock_base::machine::PartyId;
 use lock_base::raw::Fault;
@@ -93,7 +92,7 @@ where
         ReentrantMutexGuard::lock_again(remutex, party, answer)
     }
 
-    /// Where the party has this level alone, lets those that wait go first, and locks again.
+    /// Where the party has this level alone, gives the raw lock up by a fair release, and locks again.
     pub fn bump(guard: &mut Self)
         ensures { IsSameGuard guard.old guard.new }
     {

@@ -3,5 +3,6 @@ mod arc_mutex;
 mod arc_rwlock;
 mod beside_desk;
 mod mutex;
+mod over_a_word;
 mod remutex;
 mod rwlock;

@@ -19,8 +19,8 @@ pub use write::RwLockWriteGuard;
 
 /// The right to the value of a lock, in one mode. Its end gives the value back, and then the token.
 ///
-/// Where a guard becomes one of another mode, the raw lock exchanges its token. That nobody else writes between is the raw
-/// lock's word.
+/// Where a guard becomes one of another mode, the raw lock exchanges its token. That nobody else writes between is the
+/// raw lock's word.
 #[derive(Drop)]
 pub struct RwLockGuard<L: Acquire> {
     pub(crate) held: Held<L>,
@@ -49,7 +49,7 @@ impl<L: Acquire> RwLockGuard<L> {
 impl<L: AcquireFair> RwLockGuard<L> {
     ghost use Rattle.lock_rwlock.specs.RwLockGuard.{held_of};
 
-    /// Ends the guard, and lets those that wait go first.
+    /// Ends the guard, by a fair release.
     pub fn unlock_fair(guard: Self) {
         guard.held.unlock_fair();
     }
@@ -63,7 +63,7 @@ impl<L: AcquireFair> RwLockGuard<L> {
         guard.held.unlocked_fair(f)
     }
 
-    /// Lets those that wait go first, and waits for the lock again.
+    /// Gives the lock up by a fair release, and waits for it again.
     pub fn bump(guard: &mut Self)
         ensures { (held_of guard.new).lock ≡ (held_of guard.old).lock }
     {
@@ -77,7 +77,7 @@ impl<L: Acquire> Deref for RwLockGuard<L> {
 
     type Target = <L::Shown as ValueGuard>::Value;
 
-    ghost deref_gives = { λ guard value. held_value L.Shown.shown (held_of guard) ≡ Some value };
+    ghost deref_gives = { λ guard value. held_value L.Shown.value_of (held_of guard) ≡ Some value };
 
     fn deref(&self) -> &<L::Shown as ValueGuard>::Value {
         self.held.value()
@@ -92,14 +92,14 @@ where
     ghost use Rattle.lock_guard.specs.Held.{held_value, held_with_value};
     ghost use Rattle.lock_rwlock.specs.RwLockGuard.{held_of};
 
-    ghost deref_mut_gives = { λ guard value. held_value L.Shown.shown (held_of guard) ≡ Some value };
+    ghost deref_mut_gives = { λ guard value. held_value L.Shown.value_of (held_of guard) ≡ Some value };
 
     fn deref_mut(&mut self) -> &mut <L::Shown as ValueGuard>::Value
         ensures* writes_back { sem 𝓛 (Lends
-            (the_row L.row L.Shown.row L.Token.row L.Waiter.row L.Shown.Value.row L.Shown.ValueGuard)
-            L.Shown.Value.row self.entry result
-            (λ value. record { held = held_with_value L.Shown.with_shown (held_of self.old) value })) }
-        ensures value { held_value L.Shown.shown (held_of self.old) ≡ Some result.now }
+            (the_row L.row L.Shown.row L.Token.row L.Waiter.row L.Shown.Value.row
+            L.Shown.ValueGuard) L.Shown.Value.row self.entry result (λ value.
+            record { held = held_with_value L.Shown.with_value (held_of self.old) value })) }
+        ensures value { held_value L.Shown.value_of (held_of self.old) ≡ Some result.now }
     {
         self.held.value_mut()
     }

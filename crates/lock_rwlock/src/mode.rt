@@ -28,7 +28,7 @@ pub trait LockMode<R: RawRwLock> {
 pub trait FairMode<R: RawRwLock>: LockMode<R> {
     fn release_fair(raw: &R, token: Self::Token);
 
-    /// Lets those that wait go first, and acquires again.
+    /// Gives the lock up by a fair release, and acquires it again.
     fn bump(raw: &R, token: Self::Token) -> Self::Token;
 }
 

@@ -17,8 +17,8 @@ use std::sync::Arc;
 /// The right to the value of a lock in the mode M. It keeps the lock alive, and its end gives the lock up. The value is
 /// lent for the length of a closure.
 ///
-/// Where a guard becomes one of another mode, the raw lock exchanges its token. That nobody else writes between is the raw
-/// lock's word.
+/// Where a guard becomes one of another mode, the raw lock exchanges its token. That nobody else writes between is the
+/// raw lock's word.
 #[derive(Drop)]
 pub struct ArcRwLockGuard<M: LockMode<R>, R: RawRwLock + Drop, T: Drop> {
     held: Held<OwnedInMode<M, R, T>>,
@@ -114,7 +114,7 @@ impl<M: LockMode<R>, R: RawRwLock + Drop, T: Drop> ArcRwLockGuard<M, R, T> {
 }
 
 impl<M: FairMode<R>, R: RawRwLock + Drop, T: Drop> ArcRwLockGuard<M, R, T> {
-    /// Ends the guard, and lets those that wait go first.
+    /// Ends the guard, by a fair release.
     pub fn unlock_fair(guard: Self) {
         guard.held.unlock_fair();
     }
@@ -137,7 +137,7 @@ impl<M: FairMode<R>, R: RawRwLock + Drop, T: Drop> ArcRwLockGuard<M, R, T> {
         guard.held.unlocked_fair(f)
     }
 
-    /// Lets those that wait go first, and waits for the lock again.
+    /// Gives the lock up by a fair release, and waits for it again.
     pub fn bump(guard: &mut Self)
         ensures { arc_of guard.new ≡ arc_of guard.old }
     {

@@ -4,6 +4,7 @@ mod arc_raw_calls;
 mod mapped;
 mod order;
 mod raw_calls;
+mod recording;
 mod rwlock;
 
 use lock_guard::raw::RawRwLock;

@@ -22,7 +22,8 @@ pub trait Field<T>: Drop + 'static {
 
     /// What is written through the field is put into the value.
     fn of_mut(whole: &mut T) -> &mut Self::Part
-        ensures* writes_back { sem 𝓛 (Lends T.row Self.Part.row whole.entry result (with_part whole.old)) }
+        ensures* writes_back { sem 𝓛 (Lends T.row Self.Part.row whole.entry result
+            (with_part whole.old)) }
         ensures value { result.now ≡ part whole.old };
 
     ghost is_field: { IsField part with_part };

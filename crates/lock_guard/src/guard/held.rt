@@ -56,7 +56,7 @@ impl<L: Acquire> Held<L> {
 }
 
 impl<L: AcquireFair> Held<L> {
-    /// Ends the guard, and lets those that wait go first.
+    /// Ends the guard, by a fair release.
     pub fn unlock_fair(self) {
         let (lock, token) = self.into_token();
         lock.release_fair(token);
@@ -74,7 +74,7 @@ impl<L: AcquireFair> Held<L> {
         answer
     }
 
-    /// Lets those that wait go first, and acquires again.
+    /// Gives the lock up by a fair release, and acquires it again.
     pub fn bump(&mut self)
         ensures { self.new.lock ≡ self.old.lock }
     {

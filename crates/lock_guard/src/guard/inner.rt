@@ -68,7 +68,7 @@ impl<K, V: ValueGuard> Inner<K, V> {
 
     pub fn value(&self) -> &V::Value
         requires { is_filled self.now ≡ true }
-        ensures { inner_value V.shown self.now ≡ Some result.now }
+        ensures { inner_value V.value_of self.now ≡ Some result.now }
     {
         match self {
             Inner::Filled(_, shown) => shown.value(),
@@ -81,8 +81,8 @@ impl<K, V: ValueGuardMut> Inner<K, V> {
     pub fn value_mut(&mut self) -> &mut V::Value
         requires { is_filled self.old ≡ true }
         ensures* writes_back { sem 𝓛 (Lends (the_row K.row V.row) V.Value.row self.entry result
-            (inner_with_value V.with_shown self.old)) }
-        ensures value { inner_value V.shown self.old ≡ Some result.now }
+            (inner_with_value V.with_value self.old)) }
+        ensures value { inner_value V.value_of self.old ≡ Some result.now }
     {
         match self {
             Inner::Filled(_, shown) => shown.value_mut(),

@@ -22,7 +22,8 @@ pub trait LockGuardMut: LockGuard {
     ghost with_value: { Self → Self.Value → Self };
 
     fn value_mut(&mut self) -> &mut Self::Value
-        ensures* writes_back { sem 𝓛 (Lends Self.row Self.Value.row self.entry result (with_value self.old)) }
+        ensures* writes_back { sem 𝓛 (Lends Self.row Self.Value.row self.entry result
+            (with_value self.old)) }
         ensures value { Self.value_of self.old ≡ Some result.now };
 
     /// Writing back what is shown changes nothing.
@@ -36,14 +37,14 @@ pub trait LockGuardMut: LockGuard {
 
 /// What can hand its lock on in the order of those that wait.
 pub trait LockGuardFair: LockGuard {
-    /// Ends the guard, and lets those that wait go first.
+    /// Ends the guard, by a fair release.
     fn unlock_fair(self);
 }
 
 impl<L: Acquire> LockGuard for Held<L> {
     type Value = <L::Shown as ValueGuard>::Value;
 
-    ghost value_of = { held_value L.Shown.shown };
+    ghost value_of = { held_value L.Shown.value_of };
 
     fn value(&self) -> &<L::Shown as ValueGuard>::Value {
         self.inner.value()
@@ -54,15 +55,15 @@ impl<L: Acquire> LockGuardMut for Held<L>
 where
     L::Shown: ValueGuardMut,
 {
-    ghost with_value = { held_with_value L.Shown.with_shown };
+    ghost with_value = { held_with_value L.Shown.with_value };
 
     fn value_mut(&mut self) -> &mut <L::Shown as ValueGuard>::Value {
         self.inner.value_mut()
     }
 
-    ghost with_same = { held_with_same L.Shown.shown L.Shown.with_shown L.Shown.with_same };
+    ghost with_same = { held_with_same L.Shown.value_of L.Shown.with_value L.Shown.with_same };
 
-    ghost value_with = { held_value_with L.Shown.shown L.Shown.with_shown L.Shown.shown_with };
+    ghost value_with = { held_value_with L.Shown.value_of L.Shown.with_value L.Shown.value_with };
 }
 
 impl<L: AcquireFair> LockGuardFair for Held<L> {

@@ -63,7 +63,7 @@ impl<G: LockGuard, P: TryView<G::Value>> Mapped<G, P> {
         guard.projection.get(guard.guard.value())
     }
 
-    /// Ends the guard, and lets those that wait go first.
+    /// Ends the guard, by a fair release.
     pub fn unlock_fair(guard: Self)
     where
         G: LockGuardFair,
@@ -254,7 +254,8 @@ where
     P: 'a,
     ensures* writes_back { sem 𝓛 (LendsIf G.row P.Part.row guard.entry result
         (guard_with_part G.value_of G.with_value (P.lens projection.now) guard.old) guard.old) }
-    ensures value { option_copied_mut result ≡ guard_part G.value_of (P.lens projection.now).part guard.old }
+    ensures value { option_copied_mut result
+        ≡ guard_part G.value_of (P.lens projection.now).part guard.old }
 {
     P::get_mut(guard.value_mut(), projection)
 }

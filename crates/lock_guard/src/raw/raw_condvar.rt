@@ -40,8 +40,8 @@ where
         timeout: &<Self::RawMutex as RawMutexTimed>::Duration,
     ) -> Option<<Self::RawMutex as RawMutexTimed>::Instant>;
 
-    /// The instant that is so long from now, where the raw mutex is at hand, whose waiter may have a clock. None where there
-    /// is no such instant.
+    /// The instant that is so long from now, where the raw mutex is at hand, whose waiter may have a clock. None where
+    /// there is no such instant.
     fn instant_after(
         _mutex: &Self::RawMutex,
         timeout: &<Self::RawMutex as RawMutexTimed>::Duration,

@@ -1,5 +1,3 @@
-//! How a condition loop ends.
-
 /// How a condition loop ends, by its last check and the wait before that.
 #[derive(Clone, Copy, PartialEq, Eq, Debug)]
 pub enum LoopEnd {

@@ -13,7 +13,7 @@ type Number = Mutex<TokenRaw<HostRuntime>, i64>;
 
 type Pair = Mutex<TokenRaw<HostRuntime>, (i64, i64)>;
 
-fn given_up_and_taken_again<R: RawMutexFair>(
+pub fn given_up_and_taken_again<R: RawMutexFair>(
     desk: &mut BesideDesk,
     mutex: &Mutex<R, (i64, i64)>,
     one: PartyId,
@@ -53,7 +53,7 @@ fn a_parked_guard_is_as_on_a_desk(rt: HostRuntime) -> Result<(), Fail> {
     desk.verdict()
 }
 
-fn timed_tries<R: RawMutexTimed<Duration = (), Instant = ()>>(
+pub fn timed_tries<R: RawMutexTimed<Duration = (), Instant = ()>>(
     rt: &impl Abort,
     desk: &mut BesideDesk,
     mutex: &Mutex<R, i64>,
@@ -90,7 +90,7 @@ fn timed_tries_are_as_on_a_desk(rt: HostRuntime) -> Result<(), Fail> {
     desk.verdict()
 }
 
-fn changes<R: RawMutexFair>(
+pub fn changes<R: RawMutexFair>(
     desk: &mut BesideDesk,
     mutex: &Mutex<R, i64>,
     one: PartyId,

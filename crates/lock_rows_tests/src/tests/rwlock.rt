@@ -106,7 +106,7 @@ fn up_and_down<
 }
 
 /// An upgradable guard beside a reader, and then alone.
-fn upgrades<R: RawRwLockUpgradeTimed<Duration = (), Instant = ()> + RawRwLockUpgradeDowngrade>(
+pub fn upgrades<R: RawRwLockUpgradeTimed<Duration = (), Instant = ()> + RawRwLockUpgradeDowngrade>(
     rt: &impl Abort,
     desk: &mut BesideDesk,
     lock: &Paired<R>,
@@ -178,7 +178,7 @@ fn gives_up_and_takes_again<R: RawRwLock, L: AcquireFair>(
 }
 
 /// A guard of each mode in turn.
-fn guards<R: RawRwLockUpgradeFair + RawRwLockUpgradeTimed<Duration = (), Instant = ()>>(
+pub fn guards<R: RawRwLockUpgradeFair + RawRwLockUpgradeTimed<Duration = (), Instant = ()>>(
     rt: &impl Abort,
     desk: &mut BesideDesk,
     lock: &RwLock<R, i64>,
@@ -211,7 +211,7 @@ fn each_guard_is_given_up_and_taken_again(rt: HostRuntime) -> Result<(), Fail> {
 }
 
 /// Up by a try, down to upgradable, a change under an upgrade, and down to a reader.
-fn transitions<
+pub fn transitions<
     R: RawRwLockUpgradeFair
         + RawRwLockUpgradeTimed<Duration = (), Instant = ()>
         + RawRwLockUpgradeDowngrade,
@@ -258,7 +258,7 @@ fn a_guard_goes_up_and_down_in_place(rt: HostRuntime) -> Result<(), Fail> {
 }
 
 /// Two parties that read, where one may.
-fn readers<R: RawRwLockUpgradeDowngrade>(
+pub fn readers<R: RawRwLockUpgradeDowngrade>(
     desk: &mut BesideDesk,
     lock: &RwLock<R, i64>,
     one: PartyId,

@@ -27,7 +27,8 @@ impl<R: RawRwLockUpgrade + Drop, T: Drop> ArcRwLockGuard<Upgradable, R, T> {
     pub fn try_upgrade(
         guard: ArcRwLockUpgradableReadGuard<R, T>,
     ) -> Result<ArcRwLockWriteGuard<R, T>, ArcRwLockUpgradableReadGuard<R, T>>
-        ensures { MatchResult result (λ upgraded. arc_of upgraded ≡ arc_of guard) (λ same. arc_of same ≡ arc_of guard) }
+        ensures { MatchResult result (λ upgraded. arc_of upgraded ≡ arc_of guard)
+            (λ same. arc_of same ≡ arc_of guard) }
     {
         let (rwlock, token) = guard.into_token();
         let answer = raw(&rwlock).try_upgrade(token);
@@ -40,7 +41,8 @@ impl<R: RawRwLockUpgrade + Drop, T: Drop> ArcRwLockGuard<Upgradable, R, T> {
         answer: Result<R::ExclusiveGuard, R::UpgradableGuard>,
     ) -> Result<ArcRwLockWriteGuard<R, T>, ArcRwLockUpgradableReadGuard<R, T>>
         ensures upgraded { is_ok result ≡ is_ok answer }
-        ensures lock { MatchResult result (λ upgraded. arc_of upgraded ≡ rwlock) (λ same. arc_of same ≡ rwlock) }
+        ensures lock { MatchResult result (λ upgraded. arc_of upgraded ≡ rwlock)
+            (λ same. arc_of same ≡ rwlock) }
     {
         match answer {
             Ok(token) => Ok(ArcRwLockGuard::new(rwlock, token)),
@@ -55,7 +57,8 @@ impl<R: RawRwLockUpgradeTimed + Drop, T: Drop> ArcRwLockGuard<Upgradable, R, T> 
         guard: ArcRwLockUpgradableReadGuard<R, T>,
         timeout: R::Duration,
     ) -> Result<ArcRwLockWriteGuard<R, T>, ArcRwLockUpgradableReadGuard<R, T>>
-        ensures { MatchResult result (λ upgraded. arc_of upgraded ≡ arc_of guard) (λ same. arc_of same ≡ arc_of guard) }
+        ensures { MatchResult result (λ upgraded. arc_of upgraded ≡ arc_of guard)
+            (λ same. arc_of same ≡ arc_of guard) }
     {
         let (rwlock, token) = guard.into_token();
         let answer = raw(&rwlock).try_upgrade_for(token, timeout);
@@ -67,7 +70,8 @@ impl<R: RawRwLockUpgradeTimed + Drop, T: Drop> ArcRwLockGuard<Upgradable, R, T> 
         guard: ArcRwLockUpgradableReadGuard<R, T>,
         deadline: R::Instant,
     ) -> Result<ArcRwLockWriteGuard<R, T>, ArcRwLockUpgradableReadGuard<R, T>>
-        ensures { MatchResult result (λ upgraded. arc_of upgraded ≡ arc_of guard) (λ same. arc_of same ≡ arc_of guard) }
+        ensures { MatchResult result (λ upgraded. arc_of upgraded ≡ arc_of guard)
+            (λ same. arc_of same ≡ arc_of guard) }
     {
         let (rwlock, token) = guard.into_token();
         let answer = raw(&rwlock).try_upgrade_until(token, deadline);

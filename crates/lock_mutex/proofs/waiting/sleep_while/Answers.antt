@@ -11,7 +11,7 @@ returns-clause-in_time g c never =
 
 pub returns-clause-checks : goal.returns-clause-checks
 returns-clause-checks g c =
-    waits_while g.L.Shown.ValueGuard.shown g.L.Shown.ValueGuardMut.with_shown g.met.L.Shown.ValueGuardMut.shown_with g.F.FnMut g.S.Sleep.may_answer
+    waits_while g.L.Shown.ValueGuard.value_of g.L.Shown.ValueGuardMut.with_value g.met.L.Shown.ValueGuardMut.value_with g.F.FnMut g.S.Sleep.may_answer
     c.run_loop-end.ensures c.replace-inner.ensures.value (c.put.ensures ∙ c.into_inner.ensures)
     (λ (ended : c.run_loop-end.result ≡ False). rw ended at c.eq.ensures)
     (λ (ended : c.run_loop-end.result ≡ TimedOut). rw ended at c.eq.ensures)

@@ -1,7 +1,7 @@
-//! Callers that name this crate alone, with what they know of a reader-writer lock.
+//! What a caller knows of a reader-writer lock.
 ghost use Rattle.std.specs.Prelude.{◌≡◌, IfSome};
 
-use crate::{
+use lock_api::{
     RawRwLock, RawRwLockUpgradeDowngrade, RwLock, RwLockReadGuard, RwLockUpgradableReadGuard,
     RwLockWriteGuard, TokenRaw,
 };

@@ -1,9 +1,9 @@
-//! Callers that name this crate alone, with what they know of guards that keep their lock alive.
+//! What a caller knows of guards that keep their lock alive.
 ghost use Rattle.std.specs.Prelude.{◌≡◌, IfOk};
 ghost use Rattle.std.specs.Arc.{arc_value};
 ghost use Rattle.lock_api.specs.Guards.{value_of};
 
-use crate::{
+use lock_api::{
     ArcMutexGuard, ArcReentrantMutexGuard, ArcRwLockReadGuard, ArcRwLockUpgradableReadGuard,
     ArcRwLockWriteGuard, Fault, Mutex, PartyId, RawMutex, RawMutexFair, RawRwLockUpgradeDowngrade,
     ReentrantMutex, RwLock, RwLockArc,
@@ -11,11 +11,12 @@ use crate::{
 use std::sync::Arc;
 
 /// The closures' answers come back, and the guard's mutex is the same after all calls.
-fn same_mutex_by_an_arc<R: RawMutexFair + Drop>(
+pub fn same_mutex_by_an_arc<R: RawMutexFair + Drop>(
     mutex: &Arc<Mutex<R, u64>>,
     answer: u64,
 ) -> Result<(Arc<Mutex<R, u64>>, u64, u64), Fault>
-    ensures { IfOk result (λ made. (arc_value made.0 ≡ arc_value mutex.now) × (made.1 ≡ answer) × (made.2 ≡ answer)) }
+    ensures { IfOk result (λ made.
+        (arc_value made.0 ≡ arc_value mutex.now) × (made.1 ≡ answer) × (made.2 ≡ answer)) }
 {
     let mut guard = Mutex::lock_arc(mutex)?;
     let written = ArcMutexGuard::with_mut(&mut guard, |value| {
@@ -28,7 +29,7 @@ fn same_mutex_by_an_arc<R: RawMutexFair + Drop>(
 }
 
 /// Through all transitions the guard is of one lock, and the closure's answer comes back.
-fn same_rwlock_by_an_arc<R: RawRwLockUpgradeDowngrade + Drop>(
+pub fn same_rwlock_by_an_arc<R: RawRwLockUpgradeDowngrade + Drop>(
     lock: &Arc<RwLock<R, u64>>,
     answer: u64,
 ) -> Result<(Arc<RwLock<R, u64>>, u64), Fault>
@@ -48,7 +49,7 @@ fn same_rwlock_by_an_arc<R: RawRwLockUpgradeDowngrade + Drop>(
 }
 
 /// A guard reads the value of the lock that it was made of.
-fn value_by_an_arc<R: RawMutex + Drop>(
+pub fn value_by_an_arc<R: RawMutex + Drop>(
     lock: &Arc<ReentrantMutex<R, u64>>,
     party: PartyId,
 ) -> Result<u64, Fault>

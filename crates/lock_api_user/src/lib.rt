@@ -1,0 +1,19 @@
+//! What a crate that names `lock_api` alone can write: every public type in a signature, and the words of its contracts
+//! in clauses. Each function shows what a caller knows.
+#![tactic(auto)]
+
+mod arcs;
+mod desk;
+mod entry;
+mod journals;
+mod mapped;
+mod mutexes;
+mod parts_read;
+mod rwlocks;
+mod settings;
+mod signatures;
+mod waits;
+mod words;
+
+pub use entry::Entry;
+pub use settings::{Limit, Settings};

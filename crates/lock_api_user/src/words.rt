@@ -1,0 +1,29 @@
+//! Every public type of the packed word, and of the locks on one, in a signature.
+use lock_api::{
+    AtomicStep, Attempt, Down, ExWant, NoTime, Outcome, PackedToken, PackedWord, Party, PartyState,
+    PartyView, RealTime, SeatedLock, SleepingCondvar, TimedCondvar, TimedRaw, Timing, WordCore,
+    WordLock, WordRaw, WordRule, WordToken, World,
+};
+use std::clone::Clone;
+use std::sync::Wait;
+use std::time::Clock;
+
+/// A value of each type of the raw locks on one word.
+pub fn word_raws<W: Wait + Clone + Drop + Clock, T: Timing<W>>(
+    _word_raw: &WordRaw<W>,
+    _timed_raw: &TimedRaw<W>,
+    _core: &WordCore<W, T>,
+    _lock: &WordLock,
+    _token: &WordToken,
+    _times: (&NoTime, &RealTime),
+    _condvars: (&SleepingCondvar<WordRaw<W>>, &TimedCondvar<W>),
+) {}
+
+/// A value of each type of the word, the world and the seated lock.
+pub fn words(
+    _word: &PackedWord,
+    _token: &PackedToken,
+    _world: &World,
+    _step: (&AtomicStep, &Outcome, &Down, &ExWant, &PartyState),
+    _seated: (&SeatedLock, &Party, &PartyView, &WordRule, &Attempt),
+) {}
