@@ -5,23 +5,21 @@ use std::fmt::Write;
 use std::io;
 use std::time::Instant;
 
-/// A script has this many bytes at most.
-const MOST: usize = 1_048_576;
-
 pub fn run(rt: &HostRuntime, bench: Bench) -> io::Result<()> {
-    for (guards, turns) in [(4, 31_000), (1_000, 27_000), (70_000, 0)] {
+    for (guards, turns, questions) in [(4, 26_000, 0), (1_000, 25_000, 0), (70_000, 0, 39_000)] {
         let script = if bench.is_timed {
-            script(rt, guards, turns)?
+            script(rt, guards, turns, questions)?
         } else {
-            script(rt, 4, 10)?
+            script(rt, 4, 10, 10)?
         };
         time(rt, bench, guards, script.as_str())?;
     }
     Ok(())
 }
 
-/// So many readers, so many turns in which one of them is asked and ends and another comes, and then questions to the end.
-fn script(rt: &HostRuntime, guards: u64, turns: u64) -> io::Result<String> {
+/// So many readers, so many turns in which the oldest is asked and ends and another comes, and so many questions by guards at
+/// random.
+fn script(rt: &HostRuntime, guards: u64, turns: u64, questions: u64) -> io::Result<String> {
     let mut text = String::new(rt.alloc());
     writeln!(text, "rwlock 100000 100000 7 8")?;
     for _ in 0..guards {
@@ -34,9 +32,9 @@ fn script(rt: &HostRuntime, guards: u64, turns: u64) -> io::Result<String> {
         writeln!(text, "read 1")?;
     }
     let mut seed = 1;
-    while text.len() < MOST - 20 && turns == 0 {
+    for _ in 0..questions {
         seed = after(seed);
-        let guard = below(seed, guards).wrapping_add(1);
+        let guard = turns.wrapping_add(below(seed, guards)).wrapping_add(1);
         writeln!(text, "get 1 {guard} 1")?;
     }
     Ok(text)
