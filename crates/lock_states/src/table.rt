@@ -1,9 +1,10 @@
 //! A table of places, each free or taken in a mode.
-ghost use Rattle.std.specs.Prelude.{◌≡◌, ◌<◌, ◌≤◌, ◌^◌, length, ◌↔◌, IsTrue, IfSome, IfNone, Some, None, slice_get, slice_index_or};
-ghost use Rattle.lock_base.specs.Modes.{tokens};
-ghost use Rattle.lock_base.specs.Tokens.{bag_of_tokens, IsOutAs};
-ghost use Rattle.lock_states.specs.Table.{tokens_of};
+ghost use Rattle.std.specs.Prelude.{◌≡◌, ◌+◌, ◌<◌, ◌≤◌, ◌^◌, length, ◌↔◌, IsTrue, IfOk, IfErr, IfSome, IfNone, OnErr, is_some, is_ok};
+ghost use Rattle.lock_base.specs.Modes.{tokens, admits, may_become};
+ghost use Rattle.lock_base.specs.Tokens.{bag_of_tokens, IsOut, IsOutAs, Adds, Removes, CanChange, Replaces};
+ghost use Rattle.lock_states.specs.Table.{tokens_of, KeepsLimits};
 
+pub use crate::places::{Place, Places};
 use lock_base::machine::{Bag, Mode};
 use lock_base::raw::{Fault, ObservableState, RawState, is_limit};
 use std::alloc::Global;
@@ -15,25 +16,31 @@ pub struct TableToken {
     place: usize,
 }
 
-/// A raw state that keeps a list of places, each free or taken in a mode. A token is its place.
+/// A raw state that keeps places, each free or taken in a mode, with a chain through the free ones. A token is its
+/// place.
 ///
-/// Each call looks through the places.
+/// No call looks through the places: each reads and writes three of them at most.
 #[derive(Drop)]
 pub struct TokenTable {
-    places: Vec<Option<Mode>>,
+    places: Places,
+    bag: Bag,
+    free: Option<usize>,
     readers: u64,
 }
 
 impl Model for TokenTable {
-    ghost use Rattle.std.specs.Prelude.{length};
-    ghost use Rattle.lock_base.specs.Limits.{IsLimit};
-    ghost use Rattle.lock_states.specs.Table.{Table};
+    ghost use Rattle.lock_states.specs.Places.{modes_in};
+    ghost use Rattle.lock_states.specs.Table.{Table, IsTable};
 
     ghost Value = { Table };
 
-    ghost view = { λ table. record { places = table.places.items; readers = table.readers } };
+    ghost view = { λ table. record {
+      places = modes_in table.places.places;
+      readers = table.readers;
+      count = table.places.count;
+    } };
 
-    ghost invariant = { λ table. IsLimit (length table.places.items) × IsLimit table.readers };
+    ghost invariant = { λ table. IsTable table.places.places table.bag table.free table.readers };
 }
 
 impl TokenTable {
@@ -44,38 +51,13 @@ impl TokenTable {
         ensures within { tokens result ≤ length self.now.places }
         ensures small { length self.now.places < 2 ^ 32 }
     {
-        let mut bag = Bag::empty();
-        for place in &self.places {
-            if let Some(mode) = place {
-                bag = bag.one_more(*mode);
-            }
-        }
-        bag
+        self.bag
     }
 
-    /// Whether this token is out in this mode.
-    fn is_out(&self, token: &TableToken, mode: Mode) -> bool
-        ensures { IsTrue result ↔ IsOutAs (tokens_of self.now.places) token.now mode }
+    fn capacity(&self) -> u64
+        ensures { result ≡ length self.now.places }
     {
-        match self.mode_at(token.place) {
-            Some(taken) => taken == mode,
-            None => false,
-        }
-    }
-
-    /// The mode in which a place is taken.
-    fn mode_at(&self, place: usize) -> Option<Mode>
-        ensures { result ≡ slice_index_or self.now.places place None }
-    {
-        self.places.get(place).copied().flatten()
-    }
-
-    /// The first free place.
-    fn free_place(&self) -> Option<usize>
-        ensures free { IfSome result (λ place. slice_get self.now.places place ≡ Some None) }
-        ensures full { IfNone result (length (tokens_of self.now.places) ≡ length self.now.places) }
-    {
-        self.places.iter().position(|place| place.is_none())
+        self.places.len() as u64
     }
 }
 
@@ -92,30 +74,70 @@ impl RawState for TokenTable {
         if !is_limit(places) || !is_limit(readers) {
             return Err(Fault::BadLimits);
         }
-        let Ok(places) = vec![in alloc; None; places as usize] else {
-            return Err(Fault::OutOfMemory);
-        };
-        Ok(TokenTable { places, readers })
+        Ok(TokenTable {
+            places: Places::new(alloc, places as usize)?,
+            bag: Bag::empty(),
+            free: Some(places as usize - 1),
+            readers,
+        })
     }
 
-    fn admit(&mut self, mode: Mode) -> Option<TableToken> {
+    fn admit(&mut self, mode: Mode) -> Option<TableToken>
+        requires { length (tokens_of self.old.places) < length self.old.places }
+        ensures admitted { is_some result ≡ admits self.old.readers (bag_of_tokens (tokens_of self.old.places)) mode }
+        ensures added { IfSome result (λ token.
+            Adds (tokens_of self.old.places) (tokens_of self.new.places) token mode) }
+        ensures refused { IfNone result (self.new ≡ self.old) }
+        ensures limits { KeepsLimits self.old self.new }
+        ensures count { self.new.count ≤ self.old.count + 3 }
+    {
         if !self.tally().admits(self.readers, mode) {
             return None;
         }
-        let place = self.free_place()?;
-        self.places[place] = Some(mode);
+        let Some(place) = self.free else {
+            unreachable!()
+        };
+        let Place::Free(next) = self.places.read(place) else {
+            unreachable!()
+        };
+        self.places.write(place, Place::Taken(mode));
+        self.free = next;
+        self.bag = self.bag.one_more(mode);
         Some(TableToken { place })
     }
 
-    fn give_back(&mut self, token: TableToken) {
-        self.places[token.place] = None;
+    fn give_back(&mut self, token: TableToken)
+        requires { IsOut (tokens_of self.old.places) token }
+        ensures removed { Removes (tokens_of self.old.places) (tokens_of self.new.places) token }
+        ensures limits { KeepsLimits self.old self.new }
+        ensures count { self.new.count ≤ self.old.count + 3 }
+    {
+        let Place::Taken(mode) = self.places.read(token.place) else {
+            unreachable!()
+        };
+        self.places.write(token.place, Place::Free(self.free));
+        self.free = Some(token.place);
+        self.bag = self.bag.one_less(mode);
     }
 
-    fn change(&mut self, token: TableToken, mode: Mode) -> Result<TableToken, TableToken> {
+    fn change(&mut self, token: TableToken, mode: Mode) -> Result<TableToken, TableToken>
+        requires { CanChange (tokens_of self.old.places) token mode }
+        ensures admitted { is_ok result ≡ may_become (bag_of_tokens (tokens_of self.old.places)) mode }
+        ensures replaced { IfOk result (λ next.
+            Replaces (tokens_of self.old.places) (tokens_of self.new.places) token next mode) }
+        ensures token_returned { IfErr result (λ same. same ≡ token) }
+        ensures refused { OnErr result (self.new ≡ self.old) }
+        ensures limits { KeepsLimits self.old self.new }
+        ensures count { self.new.count ≤ self.old.count + 3 }
+    {
         if !self.tally().may_become(mode) {
             return Err(token);
         }
-        self.places[token.place] = Some(mode);
+        let Place::Taken(from) = self.places.read(token.place) else {
+            unreachable!()
+        };
+        self.places.write(token.place, Place::Taken(mode));
+        self.bag = self.bag.one_less(from).one_more(mode);
         Ok(token)
     }
 
@@ -138,10 +160,21 @@ impl ObservableState for TokenTable {
     }
 
     fn room(&self) -> bool {
-        self.tally().tokens() < self.places.len() as u64
+        self.tally().tokens() < self.capacity()
     }
 
-    fn out(&mut self, token: &TableToken, mode: Mode) -> bool {
-        self.is_out(token, mode)
+    fn out(&mut self, token: &TableToken, mode: Mode) -> bool
+        ensures out { IsTrue result ↔ IsOutAs (tokens_of self.old.places) token.now mode }
+        ensures places { self.new.places ≡ self.old.places }
+        ensures limits { KeepsLimits self.old self.new }
+        ensures count { self.new.count ≤ self.old.count + 3 }
+    {
+        if token.place >= self.places.len() {
+            return false;
+        }
+        match self.places.read(token.place) {
+            Place::Taken(taken) => taken == mode,
+            Place::Free(_) => false,
+        }
     }
 }

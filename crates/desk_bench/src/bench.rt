@@ -1,0 +1,37 @@
+//! How much is measured, and how it is told.
+use std::io;
+use std::time::Instant;
+
+/// Whether calls are timed, or only made.
+#[derive(Clone, Copy)]
+pub struct Bench {
+    pub is_timed: bool,
+}
+
+impl Bench {
+    /// How often to do what takes some tens of nanoseconds.
+    pub fn turns(self) -> u64 {
+        if self.is_timed { 2_000_000 } else { 100 }
+    }
+
+    /// Tells how long each call took, or how many were done.
+    pub fn tell(self, rt: &HostRuntime, what: &str, done: u64, start: Instant) -> io::Result<()> {
+        if self.is_timed {
+            let each = start.elapsed(rt)?.as_nanos() / u128::from(done.max(1));
+            println!(rt; "{what}: {each} ns")
+        } else {
+            println!(rt; "{what}: {done} done")
+        }
+    }
+}
+
+/// The number after this one of a sequence that looks random.
+pub fn after(seed: u64) -> u64 {
+    seed.wrapping_mul(6_364_136_223_846_793_005)
+        .wrapping_add(1_442_695_040_888_963_407)
+}
+
+/// A number below a limit that is not 0.
+pub fn below(seed: u64, limit: u64) -> u64 {
+    (seed >> 32) % limit.max(1)
+}
