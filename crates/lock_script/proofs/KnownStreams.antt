@@ -17,13 +17,6 @@ Consumes-more (Some xs) None left bytes more taken then_taken = absurd taken
 Consumes-more (Some xs) (Some ys) None bytes more taken then_taken = absurd then_taken
 Consumes-more (Some xs) (Some ys) (Some zs) bytes more taken then_taken = rw append_assoc (taken ∙ ap (λ rest. bytes ++ rest) then_taken)
 
--- a failed write adds nothing
-pub Appends-kept : (old mid new : Option (List ℕ)) (bytes : List ℕ) → Appends old mid bytes → Keeps mid new → Appends old new bytes
-Appends-kept None mid new bytes added kept = tt
-Appends-kept (Some xs) None new bytes added kept = absurd added
-Appends-kept (Some xs) (Some ys) None bytes added kept = absurd kept
-Appends-kept (Some xs) (Some ys) (Some zs) bytes added kept = rw kept added
-
 -- the next write adds what comes next in the text
 pub Appends-take : (old mid new : Option (List ℕ)) (text : List ℕ) (written count : ℕ) → Appends old mid (take written text)
     → Appends mid new (take count (drop written text)) → Appends old new (take (written + count) text)

@@ -62,7 +62,8 @@ call_fields (Call.Bump party guard) = on_guard (codes "bump") party guard
 call_fields (Call.Upgrade form party guard) = on_guard (in_form form (codes "upgrade")) party guard
 call_fields (Call.Downgrade party guard) = on_guard (codes "downgrade") party guard
 call_fields (Call.DowngradeToUpgradable party guard) = on_guard (codes "downgrade_to_upgradable") party guard
-call_fields (Call.WithUpgraded form party guard (Add k n)) = with_number (in_form form (codes "with_upgraded")) party guard k n
+call_fields (Call.WithUpgraded form party guard (Add k n)) =
+    with_number (in_form form (codes "with_upgraded")) party guard k n
 call_fields (Call.WithUpgraded _ party guard (Item k)) = []
 call_fields (Call.WithUpgraded _ party guard (Set k n)) = []
 call_fields (Call.Get party guard (Item k)) = on_item (codes "get") party guard k

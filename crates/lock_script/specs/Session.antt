@@ -32,7 +32,8 @@ machine_of (Maker.Reentrant places levels pair) = start Kind.Reentrant pair plac
 abbrev pub replies_to : Maker → List (Call PairOp) → List (Reply ℤ)
 replies_to maker calls = replies meaning (machine_of maker) calls
 
--- the text answers the maker and the calls: where the limits are lawful it is done and each call has its reply, else it alone is refused
+-- the text answers the maker and the calls: where the limits are lawful it is done and each call has its reply, else
+-- it alone is refused
 pub record Answers (maker : Maker) (calls : List (Call PairOp)) (text : List ℕ) : Type 0 where
   pub made : HasLimits maker → text ≡ reply_lines (Reply.Done ∷ replies_to maker calls)
   pub refused : (HasLimits maker → ⊥) → text ≡ reply_lines (Reply.Refused BadLimits ∷ [])

@@ -18,13 +18,15 @@ lone_words = codes "is_locked" ∷ codes "is_locked_exclusive" ∷ codes "spent"
 
 abbrev pub party_words : List (List ℕ)
 party_words =
-    in_forms (codes "lock") ++ (in_forms (codes "read") ++ (in_forms (codes "write") ++ (in_forms (codes "upgradable_read")
-    ++ (codes "is_owned_by" ∷ []))))
+    in_forms (codes "lock")
+    ++ (in_forms (codes "read")
+    ++ (in_forms (codes "write") ++ (in_forms (codes "upgradable_read") ++ (codes "is_owned_by" ∷ []))))
 
 abbrev pub guard_words : List (List ℕ)
 guard_words =
     codes "unlock" ∷ codes "unlock_fair" ∷ codes "into_arc" ∷ codes "into_arc_fair" ∷ codes "park" ∷ codes "park_fair"
-    ∷ codes "resume" ∷ codes "abandon" ∷ codes "bump" ∷ codes "downgrade" ∷ codes "downgrade_to_upgradable" ∷ in_forms (codes "upgrade")
+    ∷ codes "resume" ∷ codes "abandon" ∷ codes "bump" ∷ codes "downgrade" ∷ codes "downgrade_to_upgradable"
+    ∷ in_forms (codes "upgrade")
 
 abbrev pub item_words : List (List ℕ)
 item_words = codes "get" ∷ []
@@ -65,4 +67,5 @@ abbrev pub IsMaker : List (List ℕ) → Type 0
 IsMaker [] = ⊥
 IsMaker (word ∷ []) = ⊥
 IsMaker (word ∷ places ∷ others) =
-    IsUnsigned places × (((word ≡ codes "mutex") × ArePair others) ⊎ (IsOneOf limit_words word × AreLimitAndPair others))
+    IsUnsigned places
+    × (((word ≡ codes "mutex") × ArePair others) ⊎ (IsOneOf limit_words word × AreLimitAndPair others))

@@ -16,52 +16,52 @@ use Rattle.lock_script.specs.Lines.{AreLines, fields_of, lines_of}
 use Rattle.lock_script.specs.WorldLines.{IsWorldCall, IsWorldMaker, world_call_fields, world_maker_fields}
 
 -- the answer to a step that came to this
-abbrev pub answer_of : Outcome → Answer
-answer_of (Outcome.Loaded word) = Answer.Loaded word
-answer_of Outcome.Done = Answer.Made
-answer_of Outcome.NotAdmitted = Answer.NotAdmitted
-answer_of Outcome.Changed = Answer.Changed
-answer_of (Outcome.Refused fault) = Answer.Reply (Reply.Refused fault)
+abbrev pub step_answer : Outcome → Answer
+step_answer (Outcome.Loaded word) = Answer.Loaded word
+step_answer Outcome.Done = Answer.Made
+step_answer Outcome.NotAdmitted = Answer.NotAdmitted
+step_answer Outcome.Changed = Answer.Changed
+step_answer (Outcome.Refused fault) = Answer.Reply (Reply.Refused fault)
 
 -- a count, or why there is none
-abbrev pub counted : Result ℕ Fault → Answer
-counted (Ok number) = Answer.Reply (Reply.Count number)
-counted (Err fault) = Answer.Reply (Reply.Refused fault)
+abbrev pub count_answer : Result ℕ Fault → Answer
+count_answer (Ok number) = Answer.Reply (Reply.Count number)
+count_answer (Err fault) = Answer.Reply (Reply.Refused fault)
 
 -- a count of a party, where there is that party
-abbrev pub count_of : (PartyState → ℕ) → Option PartyState → Answer
-count_of count None = counted (Err UnknownParty)
-count_of count (Some party) = counted (Ok (count party))
+abbrev pub party_count : (PartyState → ℕ) → Option PartyState → Answer
+party_count count None = count_answer (Err UnknownParty)
+party_count count (Some party) = count_answer (Ok (count party))
 
 -- what a line is answered
-abbrev pub asked : WorldState → WorldCall → Answer
-asked world (WorldCall.Step step) = answer_of (stepped world step).outcome
-asked world WorldCall.Word = Answer.Reply (Reply.Count world.word)
-asked world (WorldCall.Wins party) = count_of (λ me. me.wins) (holder_at world.parties party)
-asked world (WorldCall.Fails party) = count_of (λ me. me.fails) (holder_at world.parties party)
+abbrev pub call_answer : WorldState → WorldCall → Answer
+call_answer world (WorldCall.Step step) = step_answer (stepped world step).outcome
+call_answer world WorldCall.Word = Answer.Reply (Reply.Count world.word)
+call_answer world (WorldCall.Wins party) = party_count (λ me. me.wins) (holder_at world.parties party)
+call_answer world (WorldCall.Fails party) = party_count (λ me. me.fails) (holder_at world.parties party)
 
 -- the world that it leaves
-abbrev pub world_left : WorldState → WorldCall → WorldState
-world_left world (WorldCall.Step step) = (stepped world step).world
-world_left world WorldCall.Word = world
-world_left world (WorldCall.Wins party) = world
-world_left world (WorldCall.Fails party) = world
+abbrev pub world_after_call : WorldState → WorldCall → WorldState
+world_after_call world (WorldCall.Step step) = (stepped world step).world
+world_after_call world WorldCall.Word = world
+world_after_call world (WorldCall.Wins party) = world
+world_after_call world (WorldCall.Fails party) = world
 
 -- what lines are answered, one after another
-abbrev pub all_asked : WorldState → List WorldCall → List Answer
-all_asked world [] = []
-all_asked world (call ∷ calls) = asked world call ∷ all_asked (world_left world call) calls
+abbrev pub all_answers : WorldState → List WorldCall → List Answer
+all_answers world [] = []
+all_answers world (call ∷ calls) = call_answer world call ∷ all_answers (world_after_call world call) calls
 
 -- the limits are lawful
 abbrev pub HasWorldLimits : WorldMaker → Type 0
 HasWorldLimits maker = IsLimit maker.parties × IsLimit maker.readers
 
--- the text answers the maker and the calls: where the limits are lawful it is done and each call has its answer, else it
--- alone is refused
+-- the text answers the maker and the calls: where the limits are lawful it is done and each call has its answer, else
+-- it alone is refused
 pub record WorldAnswers (maker : WorldMaker) (calls : List WorldCall) (text : List ℕ) : Type 0 where
   pub made :
       HasWorldLimits maker
-      → text ≡ answer_lines (Answer.Reply Reply.Done ∷ all_asked (new_world maker.parties maker.readers) calls)
+      → text ≡ answer_lines (Answer.Reply Reply.Done ∷ all_answers (new_world maker.parties maker.readers) calls)
   pub refused : (HasWorldLimits maker → ⊥) → text ≡ answer_lines (Answer.Reply (Reply.Refused BadLimits) ∷ [])
 
 -- the lines of the script are those of the maker and the calls
@@ -73,4 +73,5 @@ IsWorldScriptOf bytes maker calls =
 abbrev pub IsWorldAnswer : List ℕ → List ℕ → Type 0
 IsWorldAnswer bytes text =
     AreLines IsWorldMaker IsWorldCall (lines_of bytes)
-    × ((maker : WorldMaker) × ((calls : List WorldCall) × (IsWorldScriptOf bytes maker calls × WorldAnswers maker calls text)))
+    × ((maker : WorldMaker)
+    × ((calls : List WorldCall) × (IsWorldScriptOf bytes maker calls × WorldAnswers maker calls text)))

@@ -4,7 +4,7 @@ ghost use Rattle.lock_script.specs.Faults.{IsParsingFault};
 ghost use Rattle.lock_script.specs.Answers.{answer_lines};
 ghost use Rattle.lock_script.specs.Lines.{lines_of};
 ghost use Rattle.lock_script.specs.WorldLines.{IsWorldCall, IsWorldMaker};
-ghost use Rattle.lock_script.specs.WorldSession.{IsWorldAnswer, WorldAnswers, all_asked, answer_of, asked, counted, world_left};
+ghost use Rattle.lock_script.specs.WorldSession.{IsWorldAnswer, WorldAnswers, all_answers, step_answer, call_answer, count_answer, world_after_call};
 
 use crate::answer::{Answer, write_answer};
 use crate::fault::ReplayFault;
@@ -38,7 +38,7 @@ fn answers_to(alloc: Global, script: &WorldScript) -> Result<String, AllocError>
     match World::new(alloc, script.maker.parties, script.maker.readers) {
         Ok(world) => {
             write_answer(&mut text, Answer::Reply(Reply::Done))?;
-            write_asked(&mut text, world, script.calls.as_slice())?;
+            write_calls(&mut text, world, script.calls.as_slice())?;
         }
         Err(Fault::BadLimits) => {
             write_answer(&mut text, Answer::Reply(Reply::Refused(Fault::BadLimits)))?;
@@ -49,8 +49,8 @@ fn answers_to(alloc: Global, script: &WorldScript) -> Result<String, AllocError>
 }
 
 /// Appends what a world answers.
-fn write_asked(text: &mut String, mut world: World, calls: &[WorldCall]) -> Result<(), AllocError>
-    ensures { OnOk result (string_bytes text.new ≡ string_bytes text.old ++ answer_lines (all_asked world calls.now)) }
+fn write_calls(text: &mut String, mut world: World, calls: &[WorldCall]) -> Result<(), AllocError>
+    ensures { OnOk result (string_bytes text.new ≡ string_bytes text.old ++ answer_lines (all_answers world calls.now)) }
 {
     for call in calls {
         let answer = ask(&mut world, *call);
@@ -61,20 +61,20 @@ fn write_asked(text: &mut String, mut world: World, calls: &[WorldCall]) -> Resu
 
 /// Makes a step, or answers a question.
 fn ask(world: &mut World, call: WorldCall) -> Answer
-    ensures answer { result ≡ asked world.old call }
-    ensures left { world.new ≡ world_left world.old call }
+    ensures answer { result ≡ call_answer world.old call }
+    ensures left { world.new ≡ world_after_call world.old call }
 {
     match call {
-        WorldCall::Step(step) => answer_of(world.step(step)),
+        WorldCall::Step(step) => step_answer(world.step(step)),
         WorldCall::Word => Answer::Reply(Reply::Count(world.word())),
-        WorldCall::Wins(party) => counted(world.wins(party)),
-        WorldCall::Fails(party) => counted(world.fails(party)),
+        WorldCall::Wins(party) => count_answer(world.wins(party)),
+        WorldCall::Fails(party) => count_answer(world.fails(party)),
     }
 }
 
 /// The answer to a step that came to this.
-fn answer_of(outcome: Outcome) -> Answer
-    ensures { result ≡ answer_of outcome }
+fn step_answer(outcome: Outcome) -> Answer
+    ensures { result ≡ step_answer outcome }
 {
     match outcome {
         Outcome::Loaded(word) => Answer::Loaded(word),
@@ -86,8 +86,8 @@ fn answer_of(outcome: Outcome) -> Answer
 }
 
 /// The answer that is a count, or why there is none.
-fn counted(count: Result<u64, Fault>) -> Answer
-    ensures { result ≡ counted count }
+fn count_answer(count: Result<u64, Fault>) -> Answer
+    ensures { result ≡ count_answer count }
 {
     match count {
         Ok(number) => Answer::Reply(Reply::Count(number)),

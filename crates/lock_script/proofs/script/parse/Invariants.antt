@@ -1,4 +1,5 @@
--- The lines of the calls so far and those of the rest are all further lines, the number is that of the next, good lines of the rest make a good script, and a bad line of the rest is the first of all.
+-- The lines of the calls so far and those of the rest are all further lines, the number is that of the next, good lines of
+-- the rest make a good script, and a bad line of the rest is the first of all.
 use Rattle.std.proofs.Common.{◌≡◌, ℕ, ◌+◌, ◌∷◌, ◌++◌, length, map, vec_len}
 use Rattle.std.specs.List.{AllByRecursion}
 use Rattle.lock_script.specs.Lines.{AreLines, IsFirstBad, IsFirstOther, IsLine, fields_of, lines_of}
