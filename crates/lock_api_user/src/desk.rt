@@ -13,18 +13,16 @@ use lock_api::{Call, Desk, Fault, Op, PartyId, RawState, Reply, runs_are_sound};
 use std::alloc::Global;
 
 /// Whatever the calls are, what a law says of every run holds of the machine that they lead to.
-pub fn sound_after<R: RawState, O: Op<u64>>(
+pub fn run_sound<R: RawState, T, O: Op<T>>(
     alloc: Global,
+    desk: &mut Desk<R, T>,
     calls: &[Call<O>],
-) -> Result<Desk<R, u64>, Fault>
-where
-    O::Answer: Drop,
-    ensures { IfOk result (λ desk. IsSound desk.register) }
+) -> Result<Vec<Reply<O::Answer>>, Fault>
+    requires { IsSound desk.old.register }
+    ensures { IfOk result (λ _. IsSound desk.new.register) }
 {
-    runs_are_sound::<u64, O>();
-    let mut desk: Desk<R, u64> = Desk::mutex(alloc, 3, 0)?;
-    desk.run(alloc, calls)?;
-    Ok(desk)
+    runs_are_sound::<T, O>();
+    desk.run(alloc, calls)
 }
 
 /// The clause of a call with a closure, handed on.
