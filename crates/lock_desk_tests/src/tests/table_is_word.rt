@@ -1,6 +1,7 @@
 //! A desk over a table and one over a word answer alike.
-ghost use Rattle.std.specs.Prelude.{◌≡◌, ◌<◌, length, true};
+ghost use Rattle.std.specs.Prelude.{true};
 
+use crate::tests::counted_state::CountedState;
 use lock_base::machine::{Call, Form, Op, PartyId, Reply, Want, Way};
 use lock_base::raw::{Fault, RawState};
 use lock_desk::Desk;
@@ -87,5 +88,30 @@ fn table_is_word(rt: HostRuntime) -> Result<(), Fail> {
     let one = PartyId::new(1).ok_or("a party of id 0")?;
     let two = PartyId::new(2).ok_or("a party of id 0")?;
     assert!(rt; first_unlike(rt.alloc(), &calls(one, two)) == Ok(None));
+    Ok(())
+}
+
+#[test]
+fn refused_memory_word(rt: HostRuntime) -> Result<(), Fail> {
+    let one = PartyId::new(1).ok_or("a party of id 0")?;
+    let two = PartyId::new(2).ok_or("a party of id 0")?;
+    let made: Result<Desk<CountedState<PackedWord>, u64>, Fault> = Desk::rwlock(
+        rt.alloc(),
+        3,
+        2,
+        0,
+    );
+    let mut desk = match made {
+        Ok(desk) => desk,
+        Err(fault) => {
+            assert!(rt; fault == Fault::OutOfMemory);
+            return Ok(());
+        }
+    };
+    let spent = match desk.run(rt.alloc(), &calls(one, two)) {
+        Ok(_) => 2,
+        Err(_) => 0,
+    };
+    assert!(rt; desk.spent() == spent && desk.raw().given_back() == spent);
     Ok(())
 }
