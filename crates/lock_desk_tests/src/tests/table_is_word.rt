@@ -1,6 +1,7 @@
 //! A desk over a table and one over a word answer alike.
-ghost use Rattle.std.specs.Prelude.{◌≡◌, ◌<◌, length, true};
+ghost use Rattle.std.specs.Prelude.{true};
 
+use crate::tests::counted_state::CountedState;
 use lock_base::machine::{Call, Form, Op, PartyId, Reply, Want, Way};
 use lock_base::raw::{Fault, RawState};
 use lock_desk::Desk;
@@ -66,9 +67,8 @@ fn answered_alike(alloc: Global, calls: &[Call<Ask>; 4]) -> Result<bool, Fault> 
     Ok(by_table.as_slice() == by_word.as_slice())
 }
 
-/// How many of all lists of four calls are answered alike.
-fn alike(alloc: Global, calls: &[Call<Ask>; 12]) -> Result<u64, Fault> {
-    let mut alike = 0;
+/// The number of the first list of four calls that is not answered alike, of the 20,736 that there are.
+fn first_unlike(alloc: Global, calls: &[Call<Ask>; 12]) -> Result<Option<usize>, Fault> {
     for n in 0..20_736usize {
         let list = [
             calls[n / 1728 % 12],
@@ -76,17 +76,42 @@ fn alike(alloc: Global, calls: &[Call<Ask>; 12]) -> Result<u64, Fault> {
             calls[n / 12 % 12],
             calls[n % 12],
         ];
-        if answered_alike(alloc, &list)? {
-            alike += 1;
+        if !answered_alike(alloc, &list)? {
+            return Ok(Some(n));
         }
     }
-    Ok(alike)
+    Ok(None)
 }
 
 #[test]
 fn table_is_word(rt: HostRuntime) -> Result<(), Fail> {
     let one = PartyId::new(1).ok_or("a party of id 0")?;
     let two = PartyId::new(2).ok_or("a party of id 0")?;
-    assert!(rt; alike(rt.alloc(), &calls(one, two)) == Ok(20_736));
+    assert!(rt; first_unlike(rt.alloc(), &calls(one, two)) == Ok(None));
+    Ok(())
+}
+
+#[test]
+fn refused_memory_word(rt: HostRuntime) -> Result<(), Fail> {
+    let one = PartyId::new(1).ok_or("a party of id 0")?;
+    let two = PartyId::new(2).ok_or("a party of id 0")?;
+    let made: Result<Desk<CountedState<PackedWord>, u64>, Fault> = Desk::rwlock(
+        rt.alloc(),
+        3,
+        2,
+        0,
+    );
+    let mut desk = match made {
+        Ok(desk) => desk,
+        Err(fault) => {
+            assert!(rt; fault == Fault::OutOfMemory);
+            return Ok(());
+        }
+    };
+    let spent = match desk.run(rt.alloc(), &calls(one, two)) {
+        Ok(_) => 2,
+        Err(_) => 0,
+    };
+    assert!(rt; desk.spent() == spent && desk.raw().given_back() == spent);
     Ok(())
 }
