@@ -1,8 +1,8 @@
 //! Every public type of the packed word, and of the locks on one, in a signature.
 use lock_api::{
     AtomicStep, Attempt, Down, ExWant, NoTime, Outcome, PackedToken, PackedWord, Party, PartyState,
-    PartyView, RealTime, SeatedLock, SleepingCondvar, TimedCondvar, TimedRaw, Timing, WordCore,
-    WordLock, WordRaw, WordRule, WordToken, World,
+    PartyView, Place, Places, RealTime, SeatedLock, Sleepers, SleepingCondvar, TimedCondvar,
+    TimedRaw, Timing, WordCore, WordLock, WordRaw, WordRule, WordToken, World,
 };
 use std::clone::Clone;
 use std::sync::Wait;
@@ -16,14 +16,15 @@ pub fn word_raws<W: Wait + Clone + Drop + Clock, T: Timing<W>>(
     _lock: &WordLock,
     _token: &WordToken,
     _times: (&NoTime, &RealTime),
-    _condvars: (&SleepingCondvar<WordRaw<W>>, &TimedCondvar<W>),
+    _condvars: (&SleepingCondvar<WordRaw<W>>, &TimedCondvar<W>, &Sleepers),
 ) {}
 
-/// A value of each type of the word, the world and the seated lock.
+/// A value of each type of the places of a table, the word, the world and the seated lock.
 pub fn words(
     _word: &PackedWord,
     _token: &PackedToken,
     _world: &World,
+    _places: (&Places, &Place),
     _step: (&AtomicStep, &Outcome, &Down, &ExWant, &PartyState),
     _seated: (&SeatedLock, &Party, &PartyView, &WordRule, &Attempt),
 ) {}
