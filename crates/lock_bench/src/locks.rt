@@ -1,10 +1,11 @@
 //! Rounds of locks on one thread.
 use lock_base::machine::PartyId;
+use lock_base::raw::Fault;
 use lock_guard::raw::RawMutex;
 use lock_mutex::{Condvar, Mutex};
-use lock_raws::{LockCore, Monitor, RawLock, RecordingArbiter, TableArbiter};
+use lock_raws::{LockCore, Monitor, RawLock, RecordingArbiter, TableArbiter, TokenRaw};
 use lock_raws_timed::RealTime;
-use lock_raws_word::{NoTime, SleepingCondvar, WordCore};
+use lock_raws_word::{NoTime, SleepingCondvar, WordCore, WordRaw};
 use lock_remutex::ReentrantMutex;
 use lock_rwlock::{RwLock, RwLockUpgradableReadGuard, RwLockWriteGuard};
 use std::alloc::Global;
@@ -26,8 +27,10 @@ pub fn print<R: Print + Clock + Wait + Threads + Sync + Copy>(
     over::<R, Monitor<RecordingArbiter<TableArbiter>, R>>(rt, alloc, "RecordingRaw", rounds)?;
     over::<R, WordCore<R, NoTime>>(rt, alloc, "WordRaw", rounds)?;
     over::<R, WordCore<R, RealTime>>(rt, alloc, "TimedRaw", rounds)?;
-    trips::<R, Monitor<TableArbiter, R>>(rt, alloc, "TokenRaw", rounds / 100)?;
-    trips::<R, WordCore<R, NoTime>>(rt, alloc, "WordRaw", rounds / 100)
+    let turns = Turns::<TokenRaw<R>>::new(alloc, *rt);
+    trips(rt, "TokenRaw", turns, rounds / 100)?;
+    let turns = Turns::<WordRaw<R>>::new(alloc, *rt);
+    trips(rt, "WordRaw", turns, rounds / 100)
 }
 
 /// The lines of one raw lock.
@@ -185,6 +188,15 @@ struct Turns<R: RawMutex> {
     changed: Condvar<SleepingCondvar<R>>,
 }
 
+impl<R: RawMutex + Drop> Turns<R> {
+    fn new(alloc: Global, waiter: R::Waiter) -> Result<Turns<R>, Fault> {
+        Ok(Turns {
+            turn: Mutex::new(alloc, waiter, 0)?,
+            changed: Condvar::new(alloc)?,
+        })
+    }
+}
+
 /// What two threads take turns with.
 trait TakeTurns {
     /// Where a thread waits.
@@ -218,19 +230,15 @@ fn in_two_threads<R: Threads, T: TakeTurns + Sync>(rt: &R, turns: &T, rounds: u6
 }
 
 /// The line of a condition variable.
-fn trips<R: Print + Clock + Wait + Threads + Sync + Copy, C: LockCore<Waiter = R> + Sync>(
+fn trips<R: Print + Clock + Threads + Sync, T: TakeTurns + Sync + Drop>(
     rt: &R,
-    alloc: Global,
     name: &str,
+    turns: Result<T, Fault>,
     rounds: u64,
 ) -> io::Result<()> {
-    let (Ok(turn), Ok(changed)) = (
-        Mutex::<RawLock<C>, u64>::new(alloc, *rt, 0),
-        Condvar::<SleepingCondvar<RawLock<C>>>::new(alloc),
-    ) else {
+    let Ok(turns) = turns else {
         return println!(rt; "{name}: out of memory");
     };
-    let turns = Turns { turn, changed };
     let start = Instant::now(rt)?;
     in_two_threads(rt, &turns, rounds);
     line(rt, name, "a round trip over SleepingCondvar", start, rounds)
