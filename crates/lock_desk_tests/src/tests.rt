@@ -4,11 +4,11 @@ mod counted_state;
 mod limits;
 mod mutex;
 mod operations;
+mod over_a_word;
 mod part;
 mod reentrant;
 mod refused_memory;
 mod rwlock;
-mod table_is_word;
 
 use crate::tests::by_name::by_name;
 use crate::tests::counted_state::CountedState;

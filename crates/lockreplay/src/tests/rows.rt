@@ -4,7 +4,7 @@ use lock_script::Which;
 use std::test::Fail;
 
 /// Scripts of calls of a lock.
-const DESK_ROWS: [(&str, &str); 29] = [
+const DESK_ROWS: [(&str, &str); 35] = [
     (
         "mutex 4 10 0 / lock 1 / try_lock 2 / lock 2",
         "ok / guard 1 / none / refused 1",
@@ -102,6 +102,18 @@ const DESK_ROWS: [(&str, &str); 29] = [
         "mutex 1 0 0 / lock 1 / add 1 1 0 9223372036854775807 / add 1 1 0 1 / add 1 1 1 -9223372036854775808 / add 1 1 1 -1",
         "ok / guard 1 / value 9223372036854775807 / refused 14 / value -9223372036854775808 / refused 14",
     ),
+    (
+        "reentrant 3 4 0 0 / lock 1 / park 2 1 / park 1 1 / lock 2 / resume 1 1 / get 1 2 0 / abandon 2 1 / abandon 1 1 / is_owned_by 2",
+        "ok / guard 1 / refused 5 / ok / guard 2 / refused 1 / refused 5 / refused 5 / ok / yes",
+    ),
+    (
+        "mutex 1 0 0 / downgrade 1 9 / is_owned_by 1 / lock 1 / lock 1 / set 1 1 2 0 / park 1 1 / set 1 1 2 0",
+        "ok / refused 7 / refused 7 / guard 1 / refused 8 / refused 14 / ok / refused 3",
+    ),
+    ("rwlock 4 4294967295 0 0", "ok"),
+    ("reentrant 4 4294967295 0 0", "ok"),
+    ("rwlock 4 0 0 0", "refused 12"),
+    ("reentrant 4 0 0 0", "refused 12"),
     (
         "mutex 1 0 0 / unlock 1 18446744073709551615 / lock 18446744073709551615 / get 1 1 18446744073709551615 / unlock 1 1",
         "ok / refused 2 / guard 1 / refused 14 / ok",

@@ -1,16 +1,14 @@
-//! A desk over a table and one over a word answer alike.
+//! A desk over a packed word that counts what it is given back.
 ghost use Rattle.std.specs.Prelude.{true};
 
 use crate::tests::counted_state::CountedState;
-use lock_base::machine::{Call, Form, Op, PartyId, Reply, Want, Way};
-use lock_base::raw::{Fault, RawState};
+use lock_base::machine::{Call, Form, Op, PartyId, Want, Way};
+use lock_base::raw::Fault;
 use lock_desk::Desk;
-use lock_states::table::TokenTable;
 use lock_states::word::PackedWord;
-use std::alloc::Global;
 use std::test::Fail;
 
-/// An operation that no call of these lists makes.
+/// An operation that no call of the session makes.
 #[derive(Clone, Copy)]
 struct Ask;
 
@@ -37,7 +35,7 @@ impl Op<u64> for Ask {
     }
 }
 
-/// The calls of which the lists are made.
+/// A session of two parties, two of whose calls give a token back.
 fn calls(one: PartyId, two: PartyId) -> [Call<Ask>; 12] {
     [
         Call::Acquire(Want::Read, Form::Block, one),
@@ -53,42 +51,6 @@ fn calls(one: PartyId, two: PartyId) -> [Call<Ask>; 12] {
         Call::DowngradeToUpgradable(one, 1),
         Call::Bump(one, 2),
     ]
-}
-
-/// The replies of a new desk.
-fn replies<R: RawState>(alloc: Global, calls: &[Call<Ask>; 4]) -> Result<Vec<Reply<u64>>, Fault> {
-    let mut desk: Desk<R, u64> = Desk::rwlock(alloc, 3, 2, 0)?;
-    desk.run(alloc, calls)
-}
-
-fn answered_alike(alloc: Global, calls: &[Call<Ask>; 4]) -> Result<bool, Fault> {
-    let by_table = replies::<TokenTable>(alloc, calls)?;
-    let by_word = replies::<PackedWord>(alloc, calls)?;
-    Ok(by_table.as_slice() == by_word.as_slice())
-}
-
-/// The number of the first list of four calls that is not answered alike, of the 20,736 that there are.
-fn first_unlike(alloc: Global, calls: &[Call<Ask>; 12]) -> Result<Option<usize>, Fault> {
-    for n in 0..20_736usize {
-        let list = [
-            calls[n / 1728 % 12],
-            calls[n / 144 % 12],
-            calls[n / 12 % 12],
-            calls[n % 12],
-        ];
-        if !answered_alike(alloc, &list)? {
-            return Ok(Some(n));
-        }
-    }
-    Ok(None)
-}
-
-#[test]
-fn table_is_word(rt: HostRuntime) -> Result<(), Fail> {
-    let one = PartyId::new(1).ok_or("a party of id 0")?;
-    let two = PartyId::new(2).ok_or("a party of id 0")?;
-    assert!(rt; first_unlike(rt.alloc(), &calls(one, two)) == Ok(None));
-    Ok(())
 }
 
 #[test]
