@@ -216,7 +216,8 @@ fn refused_memory_replay(rt: HostRuntime) -> Result<(), Fail> {
     let script: &[u8] = b"rwlock 2 2 1 2\nread 1\nget 1 1 0\nspent\n";
     let answers: &[u8] = b"ok\nguard 1\nvalue 1\ncount 0\n";
     answered_or_refused(rt.alloc(), Which::Table, script, answers)?;
-    answered_or_refused(rt.alloc(), Which::Word, script, answers)
+    answered_or_refused(rt.alloc(), Which::Word, script, answers)?;
+    Ok(())
 }
 
 /// Also run with one allocation after another refused.
@@ -224,5 +225,6 @@ fn refused_memory_replay(rt: HostRuntime) -> Result<(), Fail> {
 fn refused_memory_replay_of_steps(rt: HostRuntime) -> Result<(), Fail> {
     let script: &[u8] = b"world 2 2\nload 1\nexchange 1 shared\nword\n";
     let answers: &[u8] = b"ok\nloaded 0\ndone\ncount 1\n";
-    answered_or_refused(rt.alloc(), Which::Steps, script, answers)
+    answered_or_refused(rt.alloc(), Which::Steps, script, answers)?;
+    Ok(())
 }
