@@ -26,7 +26,7 @@ start_legal RwLock limit = compatible_empty limit
 start_legal Reentrant limit = ((0, refl), omega arith)
 
 -- no bar fits every kind
-no_bar : (kind : Kind) → IsBarOf kind None
+pub no_bar : (kind : Kind) → IsBarOf kind None
 no_bar Mutex = refl
 no_bar RwLock = tt
 no_bar Reentrant = refl
@@ -227,15 +227,13 @@ raised_sound r higher above sound = record {
 
 -- another bar of the kind keeps a register sound
 
+pub rwlock_bar : (kind : Kind) (bar : Option ℕ) → IsTrue (is_rwlock kind) → IsBarOf kind bar
+rwlock_bar Mutex bar h = cc
+rwlock_bar RwLock bar h = tt
+rwlock_bar Reentrant bar h = cc
+
 pub with_bar_sound : (r : Register) (bar : Option ℕ) → IsBarOf r.kind bar → IsSound r → IsSound (with_bar r bar)
 with_bar_sound r bar of_kind sound = record { legal = record { held = sound.legal.held; numbered = sound.legal.numbered; room = sound.legal.room }; limit = sound.limit; modes = sound.modes; bar = of_kind }
-
-pub no_bar_sound : (r : Register) → IsSound r → IsSound (with_bar r None)
-no_bar_sound r sound = with_bar_sound r None (no_bar r.kind) sound
-
-pub announced_sound : (r : Register) (party : ℕ) → IsTrue (is_rwlock r.kind) → IsSound r → IsSound (with_bar r (Some party))
-announced_sound r party kind sound =
-    with_bar_sound r (Some party) (subst (λ (k : Kind). IsBarOf k (Some party)) (sym (rwlock_is r.kind kind)) tt) sound
 
 pub admitted_sound : (r : Register) (mode : Mode) → IsSound r → IsSound (after_admission r mode)
 admitted_sound r mode sound = with_bar_sound r (bar_after r.bar mode) (by_mode (is_exclusive mode)) sound
