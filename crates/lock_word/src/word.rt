@@ -8,6 +8,9 @@ pub(crate) const UPGRADABLE: u64 = 4_294_967_296;
 /// What an exclusive token adds to the word.
 pub(crate) const EXCLUSIVE: u64 = 8_589_934_592;
 
+/// What a bar adds to the word.
+pub(crate) const BAR: u64 = 17_179_869_184;
+
 /// Whether the word has an exclusive token.
 pub fn has_exclusive(word: u64) -> bool
     ensures { result ≡ not ((bag_of_word word).exclusive == 0) }
