@@ -1,5 +1,5 @@
 -- All that a call can do to a machine: each law goes by these cases.
-use Rattle.std.proofs.Common.{◌≡◌, ◌≢◌, ℕ, ◌+◌, ◌-◌, ◌^◌, Bool, true, false, not, ◌==◌, if◌then◌else◌, List, [], ◌∷◌, length, Option, Some, None, IsTrue, refl, sym, subst}
+use Rattle.std.proofs.Common.{◌≡◌, ◌≢◌, ℕ, ◌+◌, ◌-◌, ◌^◌, Bool, true, false, not, ◌==◌, if◌then◌else◌, List, [], ◌∷◌, length, Option, Some, None, is_some, IsTrue, refl, sym, subst}
 use Rattle.std.proofs.lemmas.Bool.{not-true, not-false, eqb-false}
 use Rattle.lock_base.specs.declared.machine.mode.Mode.{Mode}
 use Rattle.lock_base.specs.declared.machine.mode.Mode.TheVariants.{Shared, Exclusive, Upgradable}
@@ -20,17 +20,17 @@ use Rattle.lock_base.specs.Party.{id_of}
 use Rattle.lock_base.specs.Modes.{is_move, may_become, is_shared, is_exclusive, is_upgradable}
 use Rattle.lock_base.specs.Kind.{is_reentrant, is_rwlock}
 use Rattle.lock_base.specs.Entries.{Entry, find, parked_entry, resumed_entry, held_bag}
-use Rattle.lock_base.specs.Register.{Register, lets_in, is_full_count, moves_token, bumps_token, with_guard, without_guard, with_change}
+use Rattle.lock_base.specs.Register.{Register, lets_in, is_full_count, moves_token, bumps_token, with_guard, without_guard, with_change, with_bar, after_admission}
 use Rattle.lock_base.specs.Machine.{Machine, after_release, one_spent_more}
-use Rattle.lock_base.specs.Refusals.{Demand, mode_of, has_want, acquisition_refusal, held_guard, parked_guard, writing_guard, upgradable_guard, unshared_guard, exclusive_guard}
+use Rattle.lock_base.specs.Refusals.{Demand, mode_of, has_want, acquisition_refusal, announcement_refusal, withdrawal_refusal, held_guard, parked_guard, writing_guard, upgradable_guard, unshared_guard, exclusive_guard}
 use Rattle.lock_base.specs.Calls.{Turn, give, refuse, on_guard, with_register, with_mode, after_operation, park}
 use Rattle.lock_base.specs.Steps.{Response, response_of, response_in_form, done_reply, step}
-use Rattle.lock_base.proofs.SoundRegisters.{want_of_kind, rwlock_is}
+use Rattle.lock_base.proofs.SoundRegisters.{want_of_kind, rwlock_is, no_bar, rwlock_bar}
 use Rattle.lock_base_laws.specs.Kept.{is_refusal}
 use Rattle.lock_base_laws.specs.Numbers.{numbers_of}
-use Rattle.lock_base.specs.Sound.{IsModeOf}
+use Rattle.lock_base.specs.Sound.{IsModeOf, IsBarOf}
 use Rattle.lock_base_laws.specs.TokenSteps.{only_if, by_mode, steps_back, asked_steps, token_steps}
-use Rattle.lock_base_laws.proofs.Turns.{Meets, all_passed, of_unless, of_guard, of_both}
+use Rattle.lock_base_laws.proofs.Turns.{Meets, all_passed, both_passed, of_unless, of_guard, of_both}
 
 -- what an acquisition that gives a guard was asked, and found
 pub record LetsIn (r : Register) (party : ℕ) (mode : Mode) : Type 0 where
@@ -48,7 +48,7 @@ pub data Effect {O T A : Type 0} (m : Machine T) : Call O → Reply A → List M
   kept : {call : Call O} {reply : Reply A} → numbers_of reply ≡ [] → Effect m call reply [] m
   acquired : {call : Call O} (party : ℕ) (mode : Mode) → LetsIn m.register party mode
       → Effect m call (Reply.Guard (m.last + 1)) (only_if (moves_token m.register) (Acquire mode ∷ []))
-      (with_register m (with_guard m.register party mode))
+      (with_register m (after_admission (with_guard m.register party mode) mode))
   unlocked : {call : Call O} (guard : ℕ) (e : Entry) → IsOut m.register guard e true
       → Effect m call Reply.Done (only_if (moves_token (without_guard m.register guard)) (Release e.mode ∷ []))
       (after_release m (without_guard m.register guard))
@@ -58,7 +58,7 @@ pub data Effect {O T A : Type 0} (m : Machine T) : Call O → Reply A → List M
   resumes : {call : Call O} (party guard : ℕ) (e : Entry) → IsOut m.register guard e false → (IsTrue (is_reentrant m.kind) → e.party ≡ party)
       → IsTrue (lets_in m.register party e.mode)
       → Effect m call Reply.Done (only_if (moves_token m.register) (Acquire e.mode ∷ []))
-      (with_register m (with_change m.register guard resumed_entry))
+      (with_register m (after_admission (with_change m.register guard resumed_entry) e.mode))
   abandoned : {call : Call O} (guard : ℕ) (e : Entry) → IsOut m.register guard e false
       → Effect m call Reply.Done [] (with_register m (without_guard m.register guard))
   bumped : (party : PartyId) (guard : ℕ) (e : Entry) → IsOut m.register guard e true
@@ -66,6 +66,7 @@ pub data Effect {O T A : Type 0} (m : Machine T) : Call O → Reply A → List M
       (record m { spent = if bumps_token m.register then one_spent_more m.spent else m.spent })
   moves : {call : Call O} (guard : ℕ) (e : Entry) (to : Mode) → IsOut m.register guard e true → m.kind ≡ RwLock → IsTrue (is_move e.mode to)
       → IsTrue (may_become (held_bag m.entries) to) → Effect m call Reply.Done (Change e.mode to ∷ []) (with_mode m guard to)
+  bars : {call : Call O} (bar : Option ℕ) → IsBarOf m.kind bar → Effect m call Reply.Done [] (with_register m (with_bar m.register bar))
   written : {party : PartyId} {op : O} (guard : ℕ) (e : Entry) (answer : A) (value : T) → IsOut m.register guard e true
       → is_reentrant m.kind ≡ false → e.mode ≡ Exclusive
       → Effect m (Call.Change party guard op) (Reply.Answer answer) [] (record m { value = value })
@@ -185,7 +186,8 @@ module _ {O T A : Type 0} (meaning : O → Operation T A) (m : Machine T) where
       (is_full_count m.register (id_of party)) _ _ (λ full. kept refl)
       (λ room. of_both (λ turn. HasEffect O T A m (Call.Resume party guard) (response_of done_reply turn))
       (lets_in m.register (id_of party) e.mode) _ _
-      (λ ok. by_found O T A m (Call.Resume party guard) guard e (with_register m (with_change m.register guard resumed_entry))
+      (λ ok. by_found O T A m (Call.Resume party guard) guard e
+      (with_register m (after_admission (with_change m.register guard resumed_entry) e.mode))
       (λ mode. only_if (moves_token m.register) (Acquire mode ∷ [])) meets.found
       (resumes (id_of party) guard e (out_of m.register parked_guard (id_of party) guard e meets) meets.own ok))
       (λ no. kept refl)))
@@ -278,6 +280,23 @@ module _ {O T A : Type 0} (meaning : O → Operation T A) (m : Machine T) where
       of_both (λ turn. HasEffect O T A m (Call.IsOwnedBy party) (response_of Reply.Bool turn)) (is_reentrant m.kind) _ _ (λ has. kept refl)
       (λ lacks. kept refl)
 
+  of_announce : (party : PartyId) → HasEffect O T A m (Call.Announce party) (step meaning m (Call.Announce party))
+  of_announce party =
+      of_unless (λ turn. HasEffect O T A m (Call.Announce party) (response_of done_reply turn)) m
+      (announcement_refusal m.register) _ (λ f. kept refl)
+      (λ passed. bars (Some (id_of party)) (rwlock_bar m.kind (Some (id_of party))
+      (not-false (is_rwlock m.kind) (both_passed (not (is_rwlock m.kind)) (is_some m.bar) fault.WrongKind fault.Barred passed).0)))
+
+  of_withdraw : (party : PartyId) → HasEffect O T A m (Call.Withdraw party) (step meaning m (Call.Withdraw party))
+  of_withdraw party =
+      of_unless (λ turn. HasEffect O T A m (Call.Withdraw party) (response_of done_reply turn)) m
+      (withdrawal_refusal m.register (id_of party)) _ (λ f. kept refl) (λ passed. bars None (no_bar m.kind))
+
+  of_is_barred : HasEffect O T A m Call.IsBarred (step meaning m Call.IsBarred)
+  of_is_barred =
+      of_both (λ turn. HasEffect O T A m Call.IsBarred (response_of Reply.Bool turn)) (is_rwlock m.kind) _ _ (λ has. kept refl)
+      (λ lacks. kept refl)
+
   -- what each call does is one of the effects
   pub effect : (call : Call O) → Effect m call (step meaning m call).reply (token_steps meaning m call) (step meaning m call).machine
   effect (Call.Acquire want form party) = of_acquire want form party
@@ -296,4 +315,7 @@ module _ {O T A : Type 0} (meaning : O → Operation T A) (m : Machine T) where
   effect Call.IsLocked = kept refl
   effect Call.IsLockedExclusive = of_is_locked_exclusive
   effect (Call.IsOwnedBy party) = of_is_owned_by party
+  effect (Call.Announce party) = of_announce party
+  effect (Call.Withdraw party) = of_withdraw party
+  effect Call.IsBarred = of_is_barred
   effect Call.Spent = kept refl
