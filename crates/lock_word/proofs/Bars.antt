@@ -7,6 +7,7 @@ use Rattle.lock_word.specs.declared.hold.Hold.{Hold}
 use Rattle.lock_word.specs.declared.party.PartyState.{PartyState}
 use Rattle.lock_word.specs.Holds.{bars_of, no_hold}
 use Rattle.lock_word.specs.Rule.{holds, held_by_all, KeepsRule}
+use Rattle.lock_word.specs.Worlds.{WorldState, IsReachable}
 use Rattle.lock_word.specs.Claims.{IsAnnounced, BarIsOfOne}
 use Rattle.lock_word.proofs.Holders.{sum_by-slice_set, le-sum_by}
 use Rattle.lock_word.proofs.Words.{parts_of_word}
@@ -89,3 +90,6 @@ bar_of_rule limit word ps range rule =
         λ a. announced_shows limit word ps a.0 rule a.1,
       );
     }
+
+pub bar_of_reached : (w : WorldState) → IsReachable w → BarIsOfOne w.word w.parties
+bar_of_reached w h = bar_of_rule w.readers w.word w.parties h.limit h.rule

@@ -1,6 +1,6 @@
 -- The word of a bag and a bar: it admits what they permit, and each step on it is the step of them.
-use Rattle.std.proofs.Common.{◌≡◌, ℕ, ◌+◌, ◌*◌, ◌%◌, ◌/◌, ◌^◌, ◌<◌, ◌≤◌, Bool, true, false, ◌&&◌, ◌||◌, ◌==◌, ◌⊎◌, inl, inr, IsTrue, refl, sym, ap, subst, ◌∙◌, arith, eqb-true, ltb-true, lt-ltb, eq-eqb, nat_lt, eq-zero-or-pos}
-use Rattle.std.proofs.lemmas.Bool.{and_parts, and_from}
+use Rattle.std.proofs.Common.{◌≡◌, ℕ, not, ◌+◌, ◌*◌, ◌%◌, ◌/◌, ◌^◌, ◌<◌, ◌≤◌, Bool, true, false, ◌&&◌, ◌||◌, ◌==◌, ◌⊎◌, inl, inr, IsTrue, refl, sym, ap, subst, ◌∙◌, arith, eqb-true, ltb-true, lt-ltb, eq-eqb, nat_lt, eq-zero-or-pos}
+use Rattle.std.proofs.lemmas.Bool.{and_parts, and_from, false≢true}
 use Rattle.lock_base.specs.declared.machine.bag.Bag.{Bag}
 use Rattle.lock_base.specs.declared.machine.mode.Mode.{Mode}
 use Rattle.lock_base.specs.declared.machine.mode.Mode.TheVariants as mode
@@ -8,14 +8,14 @@ use Rattle.lock_base.specs.Limits.{IsLimit}
 use Rattle.lock_base.specs.Modes.{readers, tokens, admits, may_become, AreCompatible}
 use Rattle.lock_word.specs.declared.word_step.WordStep.{WordStep}
 use Rattle.lock_word.specs.declared.word_step.WordStep.TheVariants as step
-use Rattle.lock_word.specs.Holds.{BarredBag, MayStand, bars_of, PermitsTo, barred_after}
+use Rattle.lock_word.specs.Holds.{BarredBag, is_barred, MayStand, bars_of, PermitsTo, barred_after}
 use Rattle.lock_base.proofs.TokenBags.{same_counts}
 use Rattle.lock_base.proofs.ModeLemmas.{compatible_after, shared_admitted, exclusive_admitted, upgradable_admitted}
 use Rattle.lock_word.specs.declared.want.ExWant.{ExWant}
 use Rattle.lock_word.specs.declared.want.ExWant.TheVariants.{Shared, Exclusive, Upgradable, Upgrade, Announce}
 use Rattle.lock_word.specs.declared.down.Down.{Down}
 use Rattle.lock_word.specs.declared.down.Down.TheVariants as down
-use Rattle.lock_word.specs.Word.{word_of, readers_of_word, word_admits, word_after, amount, step_of_want, step_of_down, want_of_mode, bag_of_word, barred_bag_of_word, IsPacked}
+use Rattle.lock_word.specs.Word.{word_of, readers_of_word, word_admits, word_after, amount, step_of_want, step_of_down, want_of_mode, bag_of_word, barred_bag_of_word, word_with_bar, IsPacked}
 use Rattle.lock_word.specs.WordLaws.{ExchangesAreOfBags, SubtractionsAreOfBags, WordsAreOfOneBag}
 use Rattle.lock_word.proofs.Holders.{Has, has_of_part, same_barred}
 
@@ -243,17 +243,24 @@ same_tests true b f g = sym (f refl)
 same_tests false true f g = g refl
 same_tests false false f g = refl
 
+unbarred_test : (bars : ℕ) → bars ≡ 0 → IsTrue (not (nat_lt 0 bars))
+unbarred_test bars none = rw none refl
+
+unbarred_from_test : (bars : ℕ) → IsTrue (not (nat_lt 0 bars)) → bars ≡ 0
+unbarred_from_test bars h =
+    elim (eq-zero-or-pos bars) [ inl none ↦ none | inr some ↦ absurd (false≢true (sym (ap not (lt-ltb 0 bars some)) ∙ h)) ]
+
 -- to one who has not announced itself the word admits a mode where no bar stands and the bag admits it
 pub word_admits_mode : (limit : ℕ) (all : BarredBag) (m : Mode) → limit < 2 ^ 32 → MayStand limit all
-    → word_admits false limit (word_of all) (want_of_mode m) ≡ ((all.bars == 0) && admits limit all.bag m)
+    → word_admits false limit (word_of all) (want_of_mode m) ≡ (not (is_barred all) && admits limit all.bag m)
 word_admits_mode limit all m fits stands =
-    same_tests (word_admits false limit (word_of all) (want_of_mode m)) ((all.bars == 0) && admits limit all.bag m)
+    same_tests (word_admits false limit (word_of all) (want_of_mode m)) (not (is_barred all) && admits limit all.bag m)
     (λ h.
     let p = permits_mode m (permits_of_word false limit all (want_of_mode m) fits stands (omega arith) h) in
-    and_from (all.bars == 0) (admits limit all.bag m) (eq-eqb all.bars 0 p.0) p.1)
+    and_from (not (is_barred all)) (admits limit all.bag m) (unbarred_test all.bars p.0) p.1)
     (λ h.
-    let two = and_parts (all.bars == 0) (admits limit all.bag m) h in
-    word_of_permits false limit all (want_of_mode m) fits stands (mode_permits m (eqb-true all.bars 0 two.0) two.1))
+    let two = and_parts (not (is_barred all)) (admits limit all.bag m) h in
+    word_of_permits false limit all (want_of_mode m) fits stands (mode_permits m (unbarred_from_test all.bars two.0) two.1))
   where
     permits_mode : (m : Mode) → PermitsTo false limit all (step_of_want (want_of_mode m))
         → (all.bars ≡ 0) × IsTrue (admits limit all.bag m)
@@ -274,6 +281,41 @@ word_admits_upgrade limit all fits stands some =
     same_tests (word_admits false limit (word_of all) Upgrade) (may_become all.bag mode.Exclusive)
     (λ h. (permits_of_word false limit all Upgrade fits stands (omega arith) h).0.2)
     (λ h. word_of_permits false limit all Upgrade fits stands ((some, refl, h), tt))
+
+bar_test : (barred : Bool) (bars : ℕ) → bars ≡ bars_of barred → nat_lt 0 bars ≡ barred
+bar_test true bars e = lt-ltb 0 bars (omega arith)
+bar_test false bars e = rw e refl
+
+-- a packed word with a bar, or with none, is packed, and stands for the same tokens
+pub record IsPackedBarred (limit word new : ℕ) (barred : Bool) : Type 0 where
+  pub packed : IsPacked limit new
+  pub bag : bag_of_word new ≡ bag_of_word word
+  pub bar : is_barred (barred_bag_of_word new) ≡ barred
+
+pub packed_with_bar : (limit word new : ℕ) (barred : Bool) → IsLimit limit → IsPacked limit word
+    → new ≡ word_with_bar word barred → IsPackedBarred limit word new barred
+packed_with_bar limit word new barred range p is =
+    let bag = bag_of_word word in
+    let all : BarredBag = record { bag = bag; bars = bars_of barred } in
+    let one : bars_of barred ≤ 1 = at_most_one barred in
+    let stands : MayStand limit all = record { compatible = p.legal.compatible; one_bar = one } in
+    let old = parts_of_word limit (barred_bag_of_word word) range.1 p.legal in
+    let coded = p.coded in
+    let low = old.low in
+    let none = alone_or_none limit bag p.legal.compatible in
+    let upgradable = p.legal.compatible.one_upgradable in
+    let few = p.legal.compatible.within in
+    let same : new ≡ word_of all = omega arith in
+    let stood : barred_bag_of_word new ≡ all = ap barred_bag_of_word same ∙ bag_of_word_of limit all range.1 stands in
+    record {
+      packed = record { coded = same ∙ ap word_of (sym stood); legal = subst (MayStand limit) (sym stood) stands };
+      bag = ap (λ (x : BarredBag). x.bag) stood;
+      bar = bar_test barred (new / 2 ^ 34) (ap (λ (x : BarredBag). x.bars) stood);
+    }
+  where
+    at_most_one : (b : Bool) → bars_of b ≤ 1
+    at_most_one true = omega arith
+    at_most_one false = omega arith
 
 -- laws
 

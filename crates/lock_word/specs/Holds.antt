@@ -1,5 +1,5 @@
 -- Tokens and bars: what one has, what all have together, and what each step needs and does.
-use Rattle.std.specs.Prelude.{◌≡◌, ℕ, ◌+◌, ◌-◌, ◌<◌, ◌≤◌, Bool, true, false, ◌&&◌, not, if◌then◌else◌, ⊤}
+use Rattle.std.specs.Prelude.{◌≡◌, ℕ, ◌+◌, ◌-◌, ◌<◌, ◌≤◌, Bool, true, false, ◌&&◌, not, nat_lt, if◌then◌else◌, ⊤}
 use Rattle.lock_base.specs.declared.machine.mode.Mode.TheVariants.{Shared, Exclusive, Upgradable}
 use Rattle.lock_base.specs.declared.machine.mode_step.ModeStep.{ModeStep}
 use Rattle.lock_base.specs.declared.machine.mode_step.ModeStep.TheVariants.{Acquire, Release, Change}
@@ -21,6 +21,10 @@ unbarred b = record { bag = b; bars = 0 }
 
 abbrev pub bars_of : Bool → ℕ
 bars_of announced = if announced then 1 else 0
+
+-- whether a bar stands
+abbrev pub is_barred : BarredBag → Bool
+is_barred all = nat_lt 0 all.bars
 
 -- the tokens may be out together, and at most one bar stands
 pub record MayStand (limit : ℕ) (all : BarredBag) : Type 0 where

@@ -11,7 +11,7 @@ use Rattle.lock_word.specs.declared.down.Down.{Down}
 use Rattle.lock_word.specs.declared.down.Down.TheVariants as down
 use Rattle.lock_word.specs.declared.word_step.WordStep.{WordStep}
 use Rattle.lock_word.specs.declared.word_step.WordStep.TheVariants as step
-use Rattle.lock_word.specs.Holds.{BarredBag, MayStand}
+use Rattle.lock_word.specs.Holds.{BarredBag, MayStand, bars_of}
 
 -- the readers, plus 2^32 for an upgradable token, 2^33 for an exclusive one, and 2^34 for a bar
 abbrev pub word_of : BarredBag → ℕ
@@ -106,6 +106,10 @@ bag_of_word word =
 -- and the bars beside it
 abbrev pub barred_bag_of_word : ℕ → BarredBag
 barred_bag_of_word word = record { bag = bag_of_word word; bars = word / 2 ^ 34 }
+
+-- the word with a bar, or with none
+abbrev pub word_with_bar : ℕ → Bool → ℕ
+word_with_bar word barred = word % 2 ^ 34 + 2 ^ 34 * bars_of barred
 
 -- the number is the word of a bag and a bar that may stand
 pub record IsPacked (limit word : ℕ) : Type 0 where
