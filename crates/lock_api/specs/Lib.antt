@@ -48,6 +48,7 @@ pub use Rattle.lock_seated.specs.Attempts
 pub use Rattle.lock_desk.specs.Closures
 pub use Rattle.lock_mutex.specs.Mutex
 pub use Rattle.lock_mutex.specs.MutexGuard
+pub use Rattle.lock_mutex.specs.Condvar
 pub use Rattle.lock_mutex.specs.WaitsWhile
 pub use Rattle.lock_mutex.specs.ArcMutexGuard
 pub use Rattle.lock_mutex.specs.ConditionLoop
