@@ -8,6 +8,7 @@ pub use Rattle.lock_base.specs.Levels
 pub use Rattle.lock_base.specs.Tokens
 pub use Rattle.lock_base.specs.Operation
 pub use Rattle.lock_base.specs.Entries
+pub use Rattle.lock_base.specs.Bar
 pub use Rattle.lock_base.specs.Register
 pub use Rattle.lock_base.specs.Machine
 pub use Rattle.lock_base.specs.Refusals
