@@ -6,6 +6,7 @@ use Rattle.lock_base.specs.declared.machine.bag.Bag.{Bag}
 use Rattle.lock_base.specs.declared.machine.mode.Mode.TheVariants as mode
 use Rattle.lock_base.specs.Modes.{AreCompatible, may_become}
 use Rattle.lock_word.specs.declared.want.ExWant.TheVariants.{Upgrade}
+use Rattle.lock_word.specs.Holds.{MayStand, unbarred}
 use Rattle.lock_word.specs.Word.{word_of, word_admits}
 use Rattle.lock_word.proofs.Words.{word_admits_mode, permits_of_word, word_of_permits}
 use Rattle.lock_raws.specs.Unblocking.{may_upgrade}
@@ -16,14 +17,18 @@ same_tests true b f g = sym (f refl)
 same_tests false true f g = g refl
 same_tests false false f g = refl
 
+stands : (limit : ℕ) (b : Bag) → AreCompatible limit b → MayStand limit (unbarred b)
+stands limit b legal = record { compatible = legal; one_bar = omega arith }
+
 -- the word admits an upgrade where the bag allows one
-upgrade_of_word : (limit : ℕ) (b : Bag) → limit < 2 ^ 32 → AreCompatible limit b → word_admits limit (word_of b) Upgrade ≡ may_upgrade b
+upgrade_of_word : (limit : ℕ) (b : Bag) → limit < 2 ^ 32 → AreCompatible limit b
+    → word_admits false limit (word_of (unbarred b)) Upgrade ≡ may_upgrade b
 upgrade_of_word limit b fits legal =
-    same_tests (word_admits limit (word_of b) Upgrade) (may_upgrade b)
-    (λ h. let p = permits_of_word limit b Upgrade fits legal h in
+    same_tests (word_admits false limit (word_of (unbarred b)) Upgrade) (may_upgrade b)
+    (λ h. let p = (permits_of_word false limit (unbarred b) Upgrade fits (stands limit b legal) (omega arith) h).0 in
     and_from (nat_lt 0 b.upgradable) (may_become b mode.Exclusive) (lt-ltb 0 b.upgradable p.0) p.2)
     (λ h. let two = and_parts (nat_lt 0 b.upgradable) (may_become b mode.Exclusive) h in
-    word_of_permits limit b Upgrade fits legal (ltb-true 0 b.upgradable two.0, refl, two.1))
+    word_of_permits false limit (unbarred b) Upgrade fits (stands limit b legal) ((ltb-true 0 b.upgradable two.0, refl, two.1), tt))
 
 -- a test that is the same before is newly met the same, where it is the same after
 newly : {p q r s : Bool} → p ≡ q → r ≡ s → (not p && r) ≡ (not q && s)
@@ -36,7 +41,7 @@ either {a} {b} {c} {d} {a'} {b'} {c'} {d'} p q r s =
 pub wakes : WakesAreOfBags
 wakes limit before after range legal legal' =
     either
-    (newly (word_admits_mode limit before mode.Shared range.1 legal) (word_admits_mode limit after mode.Shared range.1 legal'))
-    (newly (word_admits_mode limit before mode.Exclusive range.1 legal) (word_admits_mode limit after mode.Exclusive range.1 legal'))
-    (newly (word_admits_mode limit before mode.Upgradable range.1 legal) (word_admits_mode limit after mode.Upgradable range.1 legal'))
+    (newly (word_admits_mode limit (unbarred before) mode.Shared range.1 (stands limit before legal)) (word_admits_mode limit (unbarred after) mode.Shared range.1 (stands limit after legal')))
+    (newly (word_admits_mode limit (unbarred before) mode.Exclusive range.1 (stands limit before legal)) (word_admits_mode limit (unbarred after) mode.Exclusive range.1 (stands limit after legal')))
+    (newly (word_admits_mode limit (unbarred before) mode.Upgradable range.1 (stands limit before legal)) (word_admits_mode limit (unbarred after) mode.Upgradable range.1 (stands limit after legal')))
     (newly (upgrade_of_word limit before range.1 legal) (upgrade_of_word limit after range.1 legal'))

@@ -3,7 +3,7 @@ ghost use Rattle.lock_base.specs.Limits.{IsLimit};
 
 use crate::sleepers::Sleepers;
 use crossbeam_utils::Backoff;
-use lock_word::{Down, ExWant, has_exclusive, lets_on};
+use lock_word::{Down, ExWant, has_exclusive, has_tokens, lets_on};
 use std::sync::Wait;
 use std::sync::atomic::{AtomicU64, Ordering};
 
@@ -35,7 +35,7 @@ impl WordLock {
 
     /// Whether a token is out, which may be old at once.
     pub fn is_locked(&self) -> bool {
-        self.word.load(Ordering::SeqCst) != 0
+        has_tokens(self.word.load(Ordering::SeqCst))
     }
 
     /// Whether an exclusive token is out, which may be old at once.
@@ -51,7 +51,7 @@ impl WordLock {
     /// One load and at most one exchange. False where the word refuses, and where another step came between the two.
     pub fn try_for(&self, want: ExWant) -> bool {
         let word = self.word.load(Ordering::SeqCst);
-        match want.exchanged(self.readers, word) {
+        match want.exchanged(false, self.readers, word) {
             Some(next) => self.exchange(word, next),
             None => false,
         }
@@ -81,7 +81,7 @@ impl WordLock {
     pub fn insist_on<W: Wait>(&self, waiter: &W, want: ExWant) -> bool {
         for _ in waiter.forever() {
             let word = self.word.load(Ordering::SeqCst);
-            match want.exchanged(self.readers, word) {
+            match want.exchanged(false, self.readers, word) {
                 Some(next) if self.exchange(word, next) => return true,
                 Some(_) => {}
                 None => return false,

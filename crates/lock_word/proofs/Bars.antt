@@ -66,7 +66,7 @@ sole limit word ps rule (suc k) (suc j) a b = same (k == j) refl
         let one = rule.legal.one_bar in
         absurd (omega arith)
 
-announced_shows : (limit word : ℕ) (ps : List PartyState) (p : ℕ) → KeepsRule limit word ps → IsAnnounced ps p → 2 ^ 34 ≤ word
+pub announced_shows : (limit word : ℕ) (ps : List PartyState) (p : ℕ) → KeepsRule limit word ps → IsAnnounced ps p → 2 ^ 34 ≤ word
 announced_shows limit word ps zero rule a = let none = a.1 in cc
 announced_shows limit word ps (suc k) rule a =
     let part = part_of_parties ps k a.0 a.1 in

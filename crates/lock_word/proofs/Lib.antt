@@ -2,6 +2,7 @@ pub mod Holders
 pub mod Words
 pub mod Rules
 pub mod Bars
+pub mod Guards
 pub mod Effects
 pub mod Reached
 pub mod LastLoads

@@ -20,6 +20,10 @@ word_of all = readers all.bag + 2 ^ 32 * all.bag.upgradable + 2 ^ 33 * all.bag.e
 abbrev pub readers_of_word : ℕ → ℕ
 readers_of_word word = word % 2 ^ 32
 
+-- the guards that a word shows: its readers, plus one where it has an exclusive token
+abbrev pub guards_of_word : ℕ → ℕ
+guards_of_word word = readers_of_word word + (word / 2 ^ 33) % 2
+
 -- whether the loaded word admits what one wants who has announced itself, or has not
 abbrev pub word_admits : Bool → ℕ → ℕ → ExWant → Bool
 word_admits announced limit word Shared = nat_lt word (2 ^ 33) && nat_lt (readers_of_word word) limit
