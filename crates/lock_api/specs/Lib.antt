@@ -25,6 +25,7 @@ pub use Rattle.lock_base_laws.specs.TokenSteps
 pub use Rattle.lock_base_laws.specs.Nesting
 pub use Rattle.lock_base_laws.specs.Numbers
 pub use Rattle.lock_base_laws.specs.Parking
+pub use Rattle.lock_base_laws.specs.Barring
 pub use Rattle.lock_base_laws.specs.Values
 pub use Rattle.lock_base_laws.specs.Exclusion
 pub use Rattle.lock_base_laws.specs.Parked
