@@ -2,6 +2,8 @@
 use crate::Queue;
 use lock_api::{RawMutex, SleepingCondvar, SpuriousCondvar, TokenRaw, WordRaw};
 use std::alloc::{AllocError, Global};
+use std::clone::Clone;
+use std::sync::Wait;
 use std::test::Fail;
 use std::thread::{self, Threads};
 
@@ -27,9 +29,9 @@ fn consume<R: RawMutex>(queue: &Sleeping<R>, alloc: Global) -> Result<Vec<u64>, 
 }
 
 /// What two consumers popped, in order.
-fn consume_twice<T: Threads, R: RawMutex + Sync>(
+fn consume_twice<T: Threads, W: Wait + Clone + Drop + Sync>(
     rt: &T,
-    queue: &Sleeping<R>,
+    queue: &Sleeping<WordRaw<W>>,
     alloc: Global,
 ) -> Result<Vec<u64>, AllocError> {
     let (first, second) = thread::join(rt, || consume(queue, alloc), || consume(queue, alloc));

@@ -10,9 +10,9 @@ type Raw = WordRaw<HostRuntime>;
 #[test]
 fn entries_are_read_side_by_side(rt: HostRuntime) -> Result<(), Fail> {
     let registry: Registry<Raw, u64> = Registry::new(rt.alloc(), rt)?;
-    assert!(rt; registry.add(1, 10) == Ok(true));
-    assert!(rt; registry.add(2, 20) == Ok(true));
-    assert!(rt; registry.add(1, 30) == Ok(false));
+    assert!(rt; registry.add(1, 10)?);
+    assert!(rt; registry.add(2, 20)?);
+    assert!(rt; !registry.add(1, 30)?);
     let Ok(one) = registry.look(1) else {
         return Err("there is an entry".into());
     };
