@@ -34,6 +34,7 @@ pub use Rattle.lock_guard.specs.Inner
 pub use Rattle.lock_guard.specs.Held
 pub use Rattle.lock_guard.specs.GuardPart
 pub use Rattle.lock_guard.specs.Mapped
+pub use Rattle.lock_word.specs.Holds
 pub use Rattle.lock_word.specs.Holders
 pub use Rattle.lock_word.specs.Word
 pub use Rattle.lock_word.specs.WordLaws
