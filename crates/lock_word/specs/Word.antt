@@ -1,5 +1,5 @@
 -- The packed word: one number for a bag and the bar beside it, what it admits, and what each step makes of it.
-use Rattle.std.specs.Prelude.{◌≡◌, ℕ, ◌+◌, ◌-◌, ◌*◌, ◌/◌, ◌%◌, ◌^◌, Bool, false, ◌&&◌, ◌||◌, not, ◌==◌, nat_lt, if◌then◌else◌, Option, Some, None}
+use Rattle.std.specs.Prelude.{◌≡◌, ℕ, ◌+◌, ◌-◌, ◌*◌, ◌/◌, ◌%◌, ◌^◌, Bool, true, false, ◌&&◌, ◌||◌, not, ◌==◌, nat_lt, if◌then◌else◌, Option, Some, None}
 use Rattle.lock_base.specs.declared.machine.mode.Mode.{Mode}
 use Rattle.lock_base.specs.declared.machine.mode.Mode.TheVariants as mode
 use Rattle.lock_base.specs.declared.machine.mode_step.ModeStep.TheVariants.{Acquire, Release, Change}
@@ -90,11 +90,12 @@ abbrev pub word_newly_admits : Bool → ℕ → ℕ → ℕ → ExWant → Bool
 word_newly_admits announced limit before after want =
     not (word_admits announced limit before want) && word_admits announced limit after want
 
--- whether someone who waits, and has not announced itself, may get on at the word after, and could not at the one before
+-- whether someone who waits may get on at the word after, and could not at the one before. Under a bar one that waits for
+-- an exclusive token has announced itself
 abbrev pub word_lets_on : ℕ → ℕ → ℕ → Bool
 word_lets_on limit before after =
     word_newly_admits false limit before after Shared
-    || (word_newly_admits false limit before after Exclusive
+    || (word_newly_admits true limit before after Exclusive
     || (word_newly_admits false limit before after Upgradable
     || word_newly_admits false limit before after Upgrade))
 

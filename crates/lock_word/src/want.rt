@@ -70,22 +70,23 @@ impl ExWant {
         }
     }
 
-    /// Whether the word after admits what is wanted, and the one before does not.
-    fn newly_admitted(self, readers: u64, before: u64, after: u64) -> bool
-        ensures { result ≡ word_newly_admits false readers before after self }
+    /// Whether the word after admits what is wanted by one who has announced itself, or has not, and the one before does
+    /// not.
+    fn newly_admitted(self, announced: bool, readers: u64, before: u64, after: u64) -> bool
+        ensures { result ≡ word_newly_admits announced readers before after self }
     {
-        self.exchanged(false, readers, before).is_none()
-            && self.exchanged(false, readers, after).is_some()
+        self.exchanged(announced, readers, before).is_none()
+            && self.exchanged(announced, readers, after).is_some()
     }
 }
 
-/// Whether someone who waits, and has not announced itself, may get on at the word after a step, and could not at the
-/// word before it.
+/// Whether someone who waits may get on at the word after a step, and could not at the word before it. Under a bar one
+/// that waits for an exclusive token has announced itself.
 pub fn lets_on(readers: u64, before: u64, after: u64) -> bool
     ensures { result ≡ word_lets_on readers before after }
 {
-    ExWant::Shared.newly_admitted(readers, before, after)
-        || ExWant::Exclusive.newly_admitted(readers, before, after)
-        || ExWant::Upgradable.newly_admitted(readers, before, after)
-        || ExWant::Upgrade.newly_admitted(readers, before, after)
+    ExWant::Shared.newly_admitted(false, readers, before, after)
+        || ExWant::Exclusive.newly_admitted(true, readers, before, after)
+        || ExWant::Upgradable.newly_admitted(false, readers, before, after)
+        || ExWant::Upgrade.newly_admitted(false, readers, before, after)
 }
