@@ -13,8 +13,8 @@ use Rattle.atomic_table.proofs.Lists.{at_set, at_snoc, at_longer, set_else, set_
 use Rattle.lock_ruled.specs.declared.rule.UserStage.{UserStage}
 use Rattle.lock_ruled.specs.declared.rule.UserStage.TheVariants.{Free, Opens, Holds}
 use Rattle.lock_ruled.specs.declared.rule.UserView.{UserView}
-use Rattle.lock_ruled.specs.Known.{all_parts, Meets, Keeps}
-use Rattle.lock_ruled.specs.Known as asked
+use Rattle.lock_ruled.specs.Ruled.{all_parts, Meets, Keeps}
+use Rattle.lock_ruled.specs.Ruled as asked
 use Rattle.lock_ruled.specs.Slots.{Fits, IsAway, IsHolding, IsOut, IsRuled, taken_at, known_if, known, opener, one_fewer, one_part, both_of, spent}
 use Rattle.lock_ruled.specs.Plays.{Self, HasTaken, Carries, IsIdle, Takes, Gives, Begins}
 use Rattle.lock_ruled.proofs.Views.{known_of, known_one, known_append, parts_append, around, both_around, two_parts, alone, set_at}

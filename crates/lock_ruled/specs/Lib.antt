@@ -1,3 +1,3 @@
-pub mod Known
+pub mod Ruled
 pub mod Slots
 pub mod Plays

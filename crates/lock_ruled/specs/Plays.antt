@@ -4,7 +4,7 @@ use Rattle.std.specs.Prelude as std
 use Rattle.atomic_table.specs.Table.{Me}
 use Rattle.lock_ruled.specs.declared.rule.UserStage.TheVariants.{Free, Opens, Holds}
 use Rattle.lock_ruled.specs.declared.rule.UserView.{UserView}
-use Rattle.lock_ruled.specs.Known.{Meets}
+use Rattle.lock_ruled.specs.Ruled.{Meets}
 
 -- a user's view, and the slots that it has taken
 abbrev pub Self : Type 0 → Type 0 → Type 0

@@ -7,7 +7,7 @@ use Rattle.atomic_table.specs.Table.{State}
 use Rattle.lock_ruled.specs.declared.rule.UserStage.{UserStage}
 use Rattle.lock_ruled.specs.declared.rule.UserStage.TheVariants.{Free, Opens, Holds}
 use Rattle.lock_ruled.specs.declared.rule.UserView.{UserView}
-use Rattle.lock_ruled.specs.Known.{all_parts}
+use Rattle.lock_ruled.specs.Ruled.{all_parts}
 
 module _ {T : Type 0} where
   -- the value that was taken, or else the other one

@@ -14,7 +14,7 @@ pub struct RuledGuard<T, V> {
 
 impl<T, V> Model for RuledGuard<T, V> {
     ghost use Rattle.std.specs.Prelude.{◌≡◌, ◌<◌, [], ◌∷◌, None};
-    ghost use Rattle.lock_ruled.specs.Known.{Taken};
+    ghost use Rattle.lock_ruled.specs.Ruled.{Taken};
     ghost use Rattle.lock_ruled.specs.Slots.{taken_at, IsHolding};
 
     ghost Value = { Taken T V };

@@ -1,7 +1,7 @@
 //! The mutex itself.
 ghost use Rattle.std.specs.Prelude.{◌≡◌, ◌-◌, ◌+◌, ◌<◌, [], ◌∷◌, ℕ, true, false, IfOk, IfErr};
 ghost use Rattle.lock_base.specs.declared.raw.fault.Fault.TheVariants as fault;
-ghost use Rattle.lock_ruled.specs.Known.{all_parts, first_user, Meets, Keeps, Splits, Joins};
+ghost use Rattle.lock_ruled.specs.Ruled.{all_parts, first_user, Meets, Keeps, Splits, Joins};
 ghost use Rattle.lock_ruled.specs.Plays.{HasTaken, Carries, IsIdle};
 
 use crate::guard::RuledGuard;

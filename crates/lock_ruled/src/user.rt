@@ -13,7 +13,7 @@ pub struct User<T, V> {
 }
 
 impl<T, V> Model for User<T, V> {
-    ghost use Rattle.lock_ruled.specs.Known.{Knower};
+    ghost use Rattle.lock_ruled.specs.Ruled.{Knower};
     ghost use Rattle.lock_ruled.specs.Plays.{IsIdle};
 
     ghost Value = { Knower V };

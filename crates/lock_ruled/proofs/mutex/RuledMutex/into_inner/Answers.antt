@@ -1,5 +1,5 @@
 use Rattle.std.proofs.Common.{ap, subst, ◌∙◌, [], ◌∷◌}
-use Rattle.lock_ruled.specs.Known.{Knower}
+use Rattle.lock_ruled.specs.Ruled.{Knower}
 use Rattle.lock_ruled.proofs.Keeps.{closes}
 use Rattle.lock_ruled.proofs.mutex.RuledMutex.into_inner.Goals as goal
 

@@ -1,5 +1,5 @@
 use Rattle.std.proofs.Common.{rules, ap, sym, subst}
-use Rattle.lock_ruled.specs.Known.{Knower, Splits}
+use Rattle.lock_ruled.specs.Ruled.{Knower, Splits}
 use Rattle.lock_ruled.proofs.Keeps.{splits}
 use Rattle.lock_ruled.proofs.mutex.RuledMutex.split.Goals as goal
 

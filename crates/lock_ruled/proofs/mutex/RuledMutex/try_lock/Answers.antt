@@ -1,5 +1,5 @@
 use Rattle.std.proofs.Common.{ap}
-use Rattle.lock_ruled.specs.Known.{Knower}
+use Rattle.lock_ruled.specs.Ruled.{Knower}
 use Rattle.lock_ruled.proofs.Keeps.{has_out, has_met}
 use Rattle.lock_ruled.proofs.mutex.RuledMutex.try_lock.Goals as goal
 

@@ -1,6 +1,6 @@
 use Rattle.std.proofs.Common.{rules, ap, sym, subst, ◌∙◌, ◌<◌}
 use Rattle.lock_ruled.specs.declared.rule.UserView.{UserView}
-use Rattle.lock_ruled.specs.Known.{Taken, Keeps}
+use Rattle.lock_ruled.specs.Ruled.{Taken, Keeps}
 use Rattle.lock_ruled.specs.Plays.{Self}
 use Rattle.lock_ruled.specs.Slots.{taken_at}
 use Rattle.lock_ruled.proofs.Keeps.{gives_value, refilled}
