@@ -63,7 +63,7 @@ fn refused_memory_count(rt: HostRuntime) -> Result<(), Fail> {
 #[test]
 fn refused_memory_relay(rt: HostRuntime) -> Result<(), Fail> {
     match relay(&rt, rt.alloc(), &[3, 1, 2]) {
-        Ok(copy) => assert!(rt; copy.as_slice() == [3, 1, 2]),
+        Ok(copy) => assert!(rt; copy.as_slice() == [3, 1, 2].as_slice()),
         Err(fault) => assert!(rt; fault == Fault::OutOfMemory),
     }
     Ok(())
