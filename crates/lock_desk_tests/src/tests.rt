@@ -1,23 +1,24 @@
-//! Sessions over a table of tokens.
+//! Sessions over a table of tokens and over a packed word.
 mod by_name;
 mod counted_state;
-mod limits;
+mod maker;
 mod mutex;
 mod operations;
-mod over_a_word;
-mod part;
 mod reentrant;
 mod refused_memory;
 mod rwlock;
 
 use crate::tests::by_name::by_name;
 use crate::tests::counted_state::CountedState;
+use crate::tests::maker::Maker;
 use lock_base::machine::{Call, Op, Reply};
-use lock_base::raw::Fault;
+use lock_base::raw::{Fault, RawState};
 use lock_desk::Desk;
 use lock_states::table::TokenTable;
+use lock_states::word::PackedWord;
+use std::alloc::Global;
 
-type CountedDesk = Desk<CountedState<TokenTable>, u64>;
+type CountedDesk<R> = Desk<CountedState<R>, u64>;
 
 /// How a session went wrong.
 #[derive(Clone, Copy, PartialEq, Eq, Debug)]
@@ -32,8 +33,8 @@ enum Wrong {
 
 /// Makes the calls of a session, each beside the reply that is wanted, and compares the tokens that the desk spent with
 /// those that its raw state was given back.
-fn replay<O: Op<u64, Answer = u64>>(
-    desk: &mut CountedDesk,
+fn replay<R: RawState, O: Op<u64, Answer = u64>>(
+    desk: &mut CountedDesk<R>,
     session: &[(Call<O>, Reply<u64>)],
 ) -> Result<(), Wrong> {
     for wanted in session {
@@ -50,13 +51,24 @@ fn replay<O: Op<u64, Answer = u64>>(
     }
 }
 
-/// `replay` on a desk that was made for this session.
-fn replay_on<O: Op<u64, Answer = u64>>(
-    made: Result<CountedDesk, Fault>,
+/// `replay` on a desk over this raw state that is made for the session.
+fn replay_over<R: RawState, O: Op<u64, Answer = u64>>(
+    alloc: Global,
+    maker: Maker,
     session: &[(Call<O>, Reply<u64>)],
 ) -> Result<(), Wrong> {
-    match made {
+    match maker.desk::<R>(alloc) {
         Ok(mut desk) => replay(&mut desk, session),
         Err(fault) => Err(Wrong::Unmade(fault)),
     }
+}
+
+/// The session goes as wanted over a table and over a packed word.
+fn check<O: Op<u64, Answer = u64>>(
+    alloc: Global,
+    maker: Maker,
+    session: &[(Call<O>, Reply<u64>)],
+) -> Result<(), Wrong> {
+    replay_over::<TokenTable, O>(alloc, maker, session)?;
+    replay_over::<PackedWord, O>(alloc, maker, session)
 }

@@ -1,13 +1,16 @@
 //! Calls by the public functions that `apply` goes round.
 use crate::tests::CountedDesk;
 use lock_base::machine::{Call, Form, Op, PartyId, Reply, Want};
-use lock_base::raw::Fault;
+use lock_base::raw::{Fault, RawState};
 
 /// The answer of a function that may have to wait, or its refusal.
 type Answer<X> = Result<Option<X>, Fault>;
 
 /// `apply`, where a call that has four forms is made by the function of its form.
-pub fn by_name<O: Op<u64, Answer = u64>>(desk: &mut CountedDesk, call: &Call<O>) -> Reply<u64> {
+pub fn by_name<R: RawState, O: Op<u64, Answer = u64>>(
+    desk: &mut CountedDesk<R>,
+    call: &Call<O>,
+) -> Reply<u64> {
     match call {
         Call::Acquire(want, form, party) => {
             reply(acquire(desk, *want, *form, *party), Reply::Guard)
@@ -36,7 +39,12 @@ fn reply<X, F: FnOnce(X) -> Reply<u64>>(answer: Answer<X>, tell: F) -> Reply<u64
     }
 }
 
-fn acquire(desk: &mut CountedDesk, want: Want, form: Form, party: PartyId) -> Answer<u64> {
+fn acquire<R: RawState>(
+    desk: &mut CountedDesk<R>,
+    want: Want,
+    form: Form,
+    party: PartyId,
+) -> Answer<u64> {
     match want {
         Want::Lock => lock(desk, form, party),
         Want::Read => read(desk, form, party),
@@ -45,7 +53,7 @@ fn acquire(desk: &mut CountedDesk, want: Want, form: Form, party: PartyId) -> An
     }
 }
 
-fn lock(desk: &mut CountedDesk, form: Form, party: PartyId) -> Answer<u64> {
+fn lock<R: RawState>(desk: &mut CountedDesk<R>, form: Form, party: PartyId) -> Answer<u64> {
     match form {
         Form::Block => desk.lock(party).map(Some),
         Form::Try => desk.try_lock(party),
@@ -54,7 +62,7 @@ fn lock(desk: &mut CountedDesk, form: Form, party: PartyId) -> Answer<u64> {
     }
 }
 
-fn read(desk: &mut CountedDesk, form: Form, party: PartyId) -> Answer<u64> {
+fn read<R: RawState>(desk: &mut CountedDesk<R>, form: Form, party: PartyId) -> Answer<u64> {
     match form {
         Form::Block => desk.read(party).map(Some),
         Form::Try => desk.try_read(party),
@@ -63,7 +71,7 @@ fn read(desk: &mut CountedDesk, form: Form, party: PartyId) -> Answer<u64> {
     }
 }
 
-fn write(desk: &mut CountedDesk, form: Form, party: PartyId) -> Answer<u64> {
+fn write<R: RawState>(desk: &mut CountedDesk<R>, form: Form, party: PartyId) -> Answer<u64> {
     match form {
         Form::Block => desk.write(party).map(Some),
         Form::Try => desk.try_write(party),
@@ -72,7 +80,11 @@ fn write(desk: &mut CountedDesk, form: Form, party: PartyId) -> Answer<u64> {
     }
 }
 
-fn upgradable_read(desk: &mut CountedDesk, form: Form, party: PartyId) -> Answer<u64> {
+fn upgradable_read<R: RawState>(
+    desk: &mut CountedDesk<R>,
+    form: Form,
+    party: PartyId,
+) -> Answer<u64> {
     match form {
         Form::Block => desk.upgradable_read(party).map(Some),
         Form::Try => desk.try_upgradable_read(party),
@@ -81,7 +93,12 @@ fn upgradable_read(desk: &mut CountedDesk, form: Form, party: PartyId) -> Answer
     }
 }
 
-fn upgrade(desk: &mut CountedDesk, form: Form, party: PartyId, guard: u64) -> Answer<()> {
+fn upgrade<R: RawState>(
+    desk: &mut CountedDesk<R>,
+    form: Form,
+    party: PartyId,
+    guard: u64,
+) -> Answer<()> {
     match form {
         Form::Block => desk.upgrade(party, guard).map(Some),
         Form::Try => desk.try_upgrade(party, guard),
@@ -90,8 +107,8 @@ fn upgrade(desk: &mut CountedDesk, form: Form, party: PartyId, guard: u64) -> An
     }
 }
 
-fn with_upgraded<O: Op<u64, Answer = u64>>(
-    desk: &mut CountedDesk,
+fn with_upgraded<R: RawState, O: Op<u64, Answer = u64>>(
+    desk: &mut CountedDesk<R>,
     form: Form,
     party: PartyId,
     guard: u64,

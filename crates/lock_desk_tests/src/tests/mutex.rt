@@ -1,10 +1,14 @@
 //! A desk that is a mutex.
+use crate::tests::maker::Maker;
 use crate::tests::operations::Add;
-use crate::tests::{CountedDesk, replay, replay_on};
-use lock_base::machine::{Call, Form, Reply, Want, Way};
-use lock_base::raw::Fault;
-use lock_desk::Desk;
+use crate::tests::{CountedDesk, check};
+use lock_base::machine::{Call, Form, PartyId, Reply, Want, Way};
+use lock_base::raw::{Fault, RawState};
+use lock_states::table::TokenTable;
+use lock_states::word::PackedWord;
+use lock_test_support::answer::equal;
 use lock_test_support::{party, two_parties};
+use std::alloc::Global;
 use std::test::Fail;
 
 #[test]
@@ -31,8 +35,7 @@ fn spent_is_give_backs(rt: HostRuntime) -> Result<(), Fail> {
         (Call::Spent, Reply::Count(6)),
         (Call::IsLocked, Reply::Bool(false)),
     ];
-    let made = Desk::mutex(rt.alloc(), 4, 1);
-    assert_eq!(rt; replay_on(made, &session), Ok(()));
+    check(rt.alloc(), Maker::Mutex(4, 1), &session)?;
     Ok(())
 }
 
@@ -49,8 +52,7 @@ fn into_arc_spends_one_token(rt: HostRuntime) -> Result<(), Fail> {
         (Call::Unlock(one, 2, Way::Plain), Reply::Done),
         (Call::Spent, Reply::Count(4)),
     ];
-    let made = Desk::mutex(rt.alloc(), 4, 0);
-    assert_eq!(rt; replay_on::<Add>(made, &session), Ok(()));
+    check::<Add>(rt.alloc(), Maker::Mutex(4, 0), &session)?;
     Ok(())
 }
 
@@ -80,55 +82,40 @@ fn parked_and_abandoned(rt: HostRuntime) -> Result<(), Fail> {
         (Call::Acquire(Want::Lock, Form::Until, two), Reply::Guard(4)),
         (Call::Bump(two, 4), Reply::Done),
     ];
-    let made = Desk::mutex(rt.alloc(), 4, 0);
-    assert_eq!(rt; replay_on::<Add>(made, &session), Ok(()));
+    check::<Add>(rt.alloc(), Maker::Mutex(4, 0), &session)?;
     Ok(())
+}
+
+/// What is refused on the way to the last number, and past it.
+fn refusals<R: RawState>(desk: &mut CountedDesk<R>, one: PartyId) -> [Option<Fault>; 7] {
+    [
+        desk.skip_to(u64::MAX).err(),
+        desk.lock(one).err(),
+        desk.skip_to(5).err(),
+        desk.lock(one).err(),
+        desk.unlock(one, u64::MAX, Way::Plain).err(),
+        desk.try_lock(one).err(),
+        desk.skip_to(u64::MAX).err(),
+    ]
+}
+
+fn numbers_end<R: RawState>(alloc: Global, one: PartyId) -> Result<(), Fail> {
+    let mut desk: CountedDesk<R> = Maker::Mutex(1, 0).desk(alloc)?;
+    let wanted = [
+        None,
+        None,
+        Some(Fault::GuardsOut),
+        Some(Fault::NoPlace),
+        None,
+        Some(Fault::NumbersSpent),
+        Some(Fault::BadLimits),
+    ];
+    equal(refusals(&mut desk, one), wanted)
 }
 
 #[test]
 fn numbers_up_to_the_last(rt: HostRuntime) -> Result<(), Fail> {
     let one = party(1)?;
-    let mut desk: CountedDesk = Desk::mutex(rt.alloc(), 2, 5)?;
-    desk.skip_to(u64::MAX)?;
-    let session = [
-        (
-            Call::Acquire(Want::Lock, Form::Block, one),
-            Reply::Guard(u64::MAX),
-        ),
-        (Call::Get(one, u64::MAX, Add(1)), Reply::Answer(5)),
-        (Call::Change(one, u64::MAX, Add(1)), Reply::Answer(6)),
-    ];
-    assert_eq!(rt; replay(&mut desk, &session), Ok(()));
-    assert_eq!(rt; desk.skip_to(u64::MAX), Err(Fault::GuardsOut));
-    assert!(rt; desk.get_mut().is_err());
-    let session = [
-        (Call::Unlock(one, u64::MAX, Way::Plain), Reply::Done),
-        (
-            Call::Acquire(Want::Lock, Form::Block, one),
-            Reply::Refused(Fault::NumbersSpent),
-        ),
-    ];
-    assert_eq!(rt; replay::<Add>(&mut desk, &session), Ok(()));
-    assert_eq!(rt; desk.skip_to(7), Err(Fault::BadLimits));
-    *desk.get_mut()? = 9;
-    assert_eq!(rt; desk.into_inner().ok(), Some(9));
-    Ok(())
-}
-
-#[test]
-fn parked_guard_keeps_the_value_in(rt: HostRuntime) -> Result<(), Fail> {
-    let one = party(1)?;
-    let mut desk: CountedDesk = Desk::mutex(rt.alloc(), 1, 0)?;
-    let session = [
-        (Call::Acquire(Want::Lock, Form::Block, one), Reply::Guard(1)),
-        (Call::Park(one, 1), Reply::Done),
-        (
-            Call::Acquire(Want::Lock, Form::Try, party(2)?),
-            Reply::Refused(Fault::NoPlace),
-        ),
-    ];
-    assert_eq!(rt; replay::<Add>(&mut desk, &session), Ok(()));
-    let refused = desk.into_inner().err().map(|refused| refused.0);
-    assert_eq!(rt; refused, Some(Fault::GuardsOut));
-    Ok(())
+    numbers_end::<TokenTable>(rt.alloc(), one)?;
+    numbers_end::<PackedWord>(rt.alloc(), one)
 }

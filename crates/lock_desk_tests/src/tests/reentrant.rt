@@ -1,9 +1,9 @@
 //! A desk that is a reentrant lock.
+use crate::tests::check;
+use crate::tests::maker::Maker;
 use crate::tests::operations::Add;
-use crate::tests::replay_on;
 use lock_base::machine::{Call, Form, Reply, Want, Way};
 use lock_base::raw::Fault;
-use lock_desk::Desk;
 use lock_test_support::{party, two_parties};
 use std::test::Fail;
 
@@ -24,8 +24,7 @@ fn spent_is_give_backs(rt: HostRuntime) -> Result<(), Fail> {
         (Call::Spent, Reply::Count(3)),
         (Call::IsLocked, Reply::Bool(false)),
     ];
-    let made = Desk::reentrant(rt.alloc(), 4, 4, 0);
-    assert_eq!(rt; replay_on::<Add>(made, &session), Ok(()));
+    check::<Add>(rt.alloc(), Maker::Reentrant(4, 4, 0), &session)?;
     Ok(())
 }
 
@@ -50,8 +49,7 @@ fn others_are_kept_out(rt: HostRuntime) -> Result<(), Fail> {
             Reply::Refused(Fault::WrongKind),
         ),
     ];
-    let made = Desk::reentrant(rt.alloc(), 4, 4, 5);
-    assert_eq!(rt; replay_on(made, &session), Ok(()));
+    check(rt.alloc(), Maker::Reentrant(4, 4, 5), &session)?;
     Ok(())
 }
 
@@ -78,7 +76,6 @@ fn levels_up_to_the_limit(rt: HostRuntime) -> Result<(), Fail> {
         (Call::Resume(one, 1), Reply::Refused(Fault::FullCount)),
         (Call::IsOwnedBy(one), Reply::Bool(true)),
     ];
-    let made = Desk::reentrant(rt.alloc(), 4, 2, 0);
-    assert_eq!(rt; replay_on::<Add>(made, &session), Ok(()));
+    check::<Add>(rt.alloc(), Maker::Reentrant(4, 2, 0), &session)?;
     Ok(())
 }

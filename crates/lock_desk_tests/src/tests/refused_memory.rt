@@ -1,20 +1,34 @@
-//! Memory may be refused to each call that takes it.
+//! Memory may be refused to each call that takes it, over a table and over a packed word.
+use crate::tests::maker::Maker;
 use crate::tests::operations::Add;
-use crate::tests::{CountedDesk, Wrong, replay, replay_on};
-use lock_base::machine::{Call, Form, Reply, Want, Way};
-use lock_base::raw::Fault;
-use lock_desk::Desk;
+use crate::tests::{CountedDesk, Wrong, replay, replay_over};
+use lock_base::machine::{Call, Form, PartyId, Reply, Want, Way};
+use lock_base::raw::{Fault, RawState};
+use lock_states::table::TokenTable;
+use lock_states::word::PackedWord;
 use lock_test_support::party;
+use std::alloc::Global;
 use std::test::Fail;
 
-type Row = (Call<Add>, Reply<u64>);
+/// The session goes as wanted over this raw state, or memory was refused to the maker.
+fn replayed_or_refused<R: RawState>(
+    alloc: Global,
+    maker: Maker,
+    session: &[(Call<Add>, Reply<u64>)],
+) -> Result<(), Wrong> {
+    match replay_over::<R, Add>(alloc, maker, session) {
+        Err(Wrong::Unmade(Fault::OutOfMemory)) => Ok(()),
+        others => others,
+    }
+}
 
-/// Whether the session went as wanted, or memory was refused to the maker.
-fn replayed_unless_refused(made: Result<CountedDesk, Fault>, session: &[Row]) -> bool {
-    matches!(
-        replay_on(made, session),
-        Ok(()) | Err(Wrong::Unmade(Fault::OutOfMemory))
-    )
+fn check_or_refuse(
+    alloc: Global,
+    maker: Maker,
+    session: &[(Call<Add>, Reply<u64>)],
+) -> Result<(), Wrong> {
+    replayed_or_refused::<TokenTable>(alloc, maker, session)?;
+    replayed_or_refused::<PackedWord>(alloc, maker, session)
 }
 
 #[test]
@@ -24,8 +38,7 @@ fn refused_memory_mutex(rt: HostRuntime) -> Result<(), Fail> {
         (Call::Acquire(Want::Lock, Form::Block, one), Reply::Guard(1)),
         (Call::Get(one, 1, Add(0)), Reply::Answer(7)),
     ];
-    let made = Desk::mutex(rt.alloc(), 1, 7);
-    assert!(rt; replayed_unless_refused(made, &session));
+    check_or_refuse(rt.alloc(), Maker::Mutex(1, 7), &session)?;
     Ok(())
 }
 
@@ -40,8 +53,7 @@ fn refused_memory_rwlock(rt: HostRuntime) -> Result<(), Fail> {
         (Call::Acquire(Want::Read, Form::Block, one), Reply::Guard(2)),
         (Call::Get(one, 2, Add(0)), Reply::Answer(7)),
     ];
-    let made = Desk::rwlock(rt.alloc(), 2, 2, 7);
-    assert!(rt; replayed_unless_refused(made, &session));
+    check_or_refuse(rt.alloc(), Maker::RwLock(2, 2, 7), &session)?;
     Ok(())
 }
 
@@ -53,42 +65,46 @@ fn refused_memory_reentrant(rt: HostRuntime) -> Result<(), Fail> {
         (Call::Acquire(Want::Lock, Form::Block, one), Reply::Guard(2)),
         (Call::Get(one, 1, Add(0)), Reply::Answer(7)),
     ];
-    let made = Desk::reentrant(rt.alloc(), 2, 2, 7);
-    assert!(rt; replayed_unless_refused(made, &session));
+    check_or_refuse(rt.alloc(), Maker::Reentrant(2, 2, 7), &session)?;
     Ok(())
 }
 
-#[test]
-fn refused_memory_run(rt: HostRuntime) -> Result<(), Fail> {
-    let one = party(1)?;
-    let made: Result<CountedDesk, Fault> = Desk::rwlock(rt.alloc(), 3, 2, 7);
-    let mut desk = match made {
-        Ok(desk) => desk,
-        Err(fault) => {
-            assert_eq!(rt; fault, Fault::OutOfMemory);
-            return Ok(());
-        }
-    };
-    desk.read(one)?;
+/// A list of calls is made as a whole, or memory was refused and none of it is.
+fn ran_or_refused<R: RawState>(
+    alloc: Global,
+    desk: &mut CountedDesk<R>,
+    one: PartyId,
+) -> Result<(), Wrong> {
+    let reader = Call::Acquire(Want::Read, Form::Block, one);
+    replay::<R, Add>(desk, &[(reader, Reply::Guard(1))])?;
     let calls = [
         Call::Unlock(one, 1, Way::Plain),
         Call::Acquire(Want::Write, Form::Try, one),
         Call::Change(one, 2, Add(1)),
     ];
-    let replies = match desk.run(rt.alloc(), &calls) {
-        Ok(replies) => replies,
-        Err(fault) => {
-            assert_eq!(rt; fault, Fault::OutOfMemory);
-            let session = [
-                (Call::Spent, Reply::Count(0)),
-                (Call::Get(one, 1, Add(0)), Reply::Answer(7)),
-            ];
-            assert_eq!(rt; replay(&mut desk, &session), Ok(()));
-            return Ok(());
-        }
+    let (spent, guard, value) = match desk.run(alloc, &calls) {
+        Ok(_) => (1, 2, 8),
+        Err(_) => (0, 1, 7),
     };
-    let wanted = [Reply::Done, Reply::Guard(2), Reply::Answer(8)];
-    assert!(rt; replies.as_slice() == wanted.as_slice());
-    assert_eq!(rt; desk.spent(), 1);
+    let left = [
+        (Call::Spent, Reply::Count(spent)),
+        (Call::Get(one, guard, Add(0)), Reply::Answer(value)),
+    ];
+    replay(desk, &left)
+}
+
+fn run_or_refused<R: RawState>(alloc: Global, one: PartyId) -> Result<(), Wrong> {
+    match Maker::RwLock(3, 2, 7).desk::<R>(alloc) {
+        Ok(mut desk) => ran_or_refused(alloc, &mut desk, one),
+        Err(Fault::OutOfMemory) => Ok(()),
+        Err(fault) => Err(Wrong::Unmade(fault)),
+    }
+}
+
+#[test]
+fn refused_memory_run(rt: HostRuntime) -> Result<(), Fail> {
+    let one = party(1)?;
+    run_or_refused::<TokenTable>(rt.alloc(), one)?;
+    run_or_refused::<PackedWord>(rt.alloc(), one)?;
     Ok(())
 }

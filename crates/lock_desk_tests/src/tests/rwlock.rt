@@ -1,23 +1,25 @@
 //! A desk that is a reader-writer lock.
+use crate::tests::maker::Maker;
 use crate::tests::operations::{Add, Counted};
-use crate::tests::{CountedDesk, replay, replay_on};
-use lock_base::machine::{Call, Form, Reply, Want, Way};
-use lock_base::raw::Fault;
-use lock_desk::Desk;
+use crate::tests::{CountedDesk, Wrong, check, replay};
+use lock_base::machine::{Call, Form, PartyId, Reply, Want, Way};
+use lock_base::raw::{Fault, RawState};
+use lock_states::table::TokenTable;
+use lock_states::word::PackedWord;
 use lock_test_support::{party, two_parties};
+use std::alloc::Global;
 use std::cell::Cell;
 use std::test::Fail;
 
 #[test]
-fn upgrades_beside_a_reader(rt: HostRuntime) -> Result<(), Fail> {
+fn refused_upgrades_apply_nothing(rt: HostRuntime) -> Result<(), Fail> {
     let (one, two) = two_parties()?;
-    let mut desk: CountedDesk = Desk::rwlock(rt.alloc(), 4, 8, 1)?;
     let applied = Cell::new(0u64);
     let op = Counted {
         op: Add(1),
         applied: &applied,
     };
-    let refused = [
+    let session = [
         (
             Call::Acquire(Want::UpgradableRead, Form::Block, one),
             Reply::Guard(1),
@@ -43,26 +45,34 @@ fn upgrades_beside_a_reader(rt: HostRuntime) -> Result<(), Fail> {
         ),
         (Call::Get(one, 1, op), Reply::Answer(1)),
     ];
-    assert_eq!(rt; replay(&mut desk, &refused), Ok(()));
+    check(rt.alloc(), Maker::RwLock(4, 8, 1), &session)?;
     assert_eq!(rt; applied.get(), 0);
-    let made = [
-        (Call::Unlock(two, 2, Way::Plain), Reply::Done),
-        (Call::WithUpgraded(Form::Try, one, 1, op), Reply::Answer(2)),
-    ];
-    assert_eq!(rt; replay(&mut desk, &made), Ok(()));
-    assert_eq!(rt; applied.get(), 1);
+    Ok(())
+}
+
+/// Over each of the two raw states a call under an upgraded guard applies its operation once.
+#[test]
+fn upgrades_apply_once(rt: HostRuntime) -> Result<(), Fail> {
+    let one = party(1)?;
+    let applied = Cell::new(0u64);
+    let op = Counted {
+        op: Add(1),
+        applied: &applied,
+    };
     let session = [
         (
-            Call::WithUpgraded(Form::For, one, 1, Add(1)),
-            Reply::Answer(3),
+            Call::Acquire(Want::UpgradableRead, Form::Block, one),
+            Reply::Guard(1),
         ),
+        (Call::WithUpgraded(Form::Try, one, 1, op), Reply::Answer(2)),
+        (Call::WithUpgraded(Form::For, one, 1, op), Reply::Answer(3)),
         (
-            Call::WithUpgraded(Form::Until, one, 1, Add(1)),
+            Call::WithUpgraded(Form::Until, one, 1, op),
             Reply::Answer(4),
         ),
         (
-            Call::WithUpgraded(Form::Block, one, 1, Add(0)),
-            Reply::Answer(4),
+            Call::WithUpgraded(Form::Block, one, 1, op),
+            Reply::Answer(5),
         ),
         (Call::Upgrade(Form::Block, one, 1), Reply::Done),
         (Call::IsLockedExclusive, Reply::Bool(true)),
@@ -70,25 +80,23 @@ fn upgrades_beside_a_reader(rt: HostRuntime) -> Result<(), Fail> {
         (Call::Upgrade(Form::For, one, 1), Reply::Done),
         (Call::Downgrade(one, 1), Reply::Done),
         (Call::Downgrade(one, 1), Reply::Refused(Fault::WrongMode)),
-        (Call::Get(one, 1, Add(0)), Reply::Answer(4)),
+        (Call::Get(one, 1, op), Reply::Answer(5)),
         (Call::Unlock(one, 1, Way::Plain), Reply::Done),
-        (Call::Spent, Reply::Count(2)),
+        (Call::Spent, Reply::Count(1)),
         (Call::IsLocked, Reply::Bool(false)),
     ];
-    assert_eq!(rt; replay(&mut desk, &session), Ok(()));
+    check(rt.alloc(), Maker::RwLock(4, 8, 1), &session)?;
+    assert_eq!(rt; applied.get(), 8);
     Ok(())
 }
 
-#[test]
-fn spent_is_give_backs(rt: HostRuntime) -> Result<(), Fail> {
-    let one = party(1)?;
-    let mut desk: CountedDesk = Desk::rwlock(rt.alloc(), 1, 1, 0)?;
-    let wants = [
+/// A guard of each mode, one after another, is parked, bumped and unlocked.
+fn spend_in_each_mode<R: RawState>(desk: &mut CountedDesk<R>, one: PartyId) -> Result<(), Wrong> {
+    for (guard, want, form) in [
         (1, Want::Read, Form::For),
         (2, Want::Write, Form::Until),
         (3, Want::UpgradableRead, Form::For),
-    ];
-    for (guard, want, form) in wants {
+    ] {
         let session = [
             (Call::Acquire(want, form, one), Reply::Guard(guard)),
             (Call::Park(one, guard), Reply::Done),
@@ -97,15 +105,24 @@ fn spent_is_give_backs(rt: HostRuntime) -> Result<(), Fail> {
             (Call::Resume(one, guard), Reply::Done),
             (Call::Bump(one, guard), Reply::Done),
             (Call::Unlock(one, guard, Way::Fair), Reply::Done),
+            (Call::Spent, Reply::Count(4 * guard)),
+            (Call::IsLocked, Reply::Bool(false)),
         ];
-        assert_eq!(rt; replay::<Add>(&mut desk, &session), Ok(()));
+        replay::<R, Add>(desk, &session)?;
     }
-    let end = [
-        (Call::Spent, Reply::Count(12)),
-        (Call::IsLocked, Reply::Bool(false)),
-    ];
-    assert_eq!(rt; replay::<Add>(&mut desk, &end), Ok(()));
     Ok(())
+}
+
+fn spend_all<R: RawState>(alloc: Global, one: PartyId) -> Result<(), Fail> {
+    let mut desk: CountedDesk<R> = Maker::RwLock(1, 1, 0).desk(alloc)?;
+    Ok(spend_in_each_mode(&mut desk, one)?)
+}
+
+#[test]
+fn spent_is_give_backs(rt: HostRuntime) -> Result<(), Fail> {
+    let one = party(1)?;
+    spend_all::<TokenTable>(rt.alloc(), one)?;
+    spend_all::<PackedWord>(rt.alloc(), one)
 }
 
 #[test]
@@ -129,8 +146,7 @@ fn transitions_spend_nothing(rt: HostRuntime) -> Result<(), Fail> {
         (Call::Spent, Reply::Count(3)),
         (Call::IsLocked, Reply::Bool(false)),
     ];
-    let made = Desk::rwlock(rt.alloc(), 4, 8, 0);
-    assert_eq!(rt; replay_on::<Add>(made, &session), Ok(()));
+    check::<Add>(rt.alloc(), Maker::RwLock(4, 8, 0), &session)?;
     Ok(())
 }
 
@@ -172,7 +188,6 @@ fn readers_up_to_the_limit(rt: HostRuntime) -> Result<(), Fail> {
             Reply::Refused(Fault::WrongKind),
         ),
     ];
-    let made = Desk::rwlock(rt.alloc(), 4, 1, 0);
-    assert_eq!(rt; replay_on::<Add>(made, &session), Ok(()));
+    check::<Add>(rt.alloc(), Maker::RwLock(4, 1, 0), &session)?;
     Ok(())
 }

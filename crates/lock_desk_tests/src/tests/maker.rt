@@ -1,0 +1,25 @@
+//! Desks of the three kinds.
+use crate::tests::CountedDesk;
+use lock_base::raw::{Fault, RawState};
+use lock_desk::Desk;
+use std::alloc::Global;
+
+/// The kind of a desk, its places, its limit where it has one, and its first value.
+#[derive(Clone, Copy)]
+pub enum Maker {
+    Mutex(u64, u64),
+    RwLock(u64, u64, u64),
+    Reentrant(u64, u64, u64),
+}
+
+impl Maker {
+    pub fn desk<R: RawState>(self, alloc: Global) -> Result<CountedDesk<R>, Fault> {
+        match self {
+            Maker::Mutex(places, value) => Desk::mutex(alloc, places, value),
+            Maker::RwLock(places, readers, value) => Desk::rwlock(alloc, places, readers, value),
+            Maker::Reentrant(places, levels, value) => {
+                Desk::reentrant(alloc, places, levels, value)
+            }
+        }
+    }
+}
