@@ -77,3 +77,7 @@ module _ {T V : Type 0} where
     pub is_out : slice_index s.words 0 ≢ 0 → IsOut s.views holder
     pub each : (number : ℕ) (u : UserView T V) → get_elem? s.views number ≡ some u
         → Fits (slice_index s.words 0) s.homes value holder number u.stage
+
+  -- every state that a table under this rule has between two steps
+  abbrev pub EveryStateIsRuled : (T → List V → Type 0) → (T → State (std.Option T) (UserView T V) → Type 0) → Type 0
+  EveryStateIsRuled rule holds = (first : T) (s : State (std.Option T) (UserView T V)) → holds first s → IsRuled rule s

@@ -3,6 +3,7 @@
 #![tactic(auto)]
 
 mod guard;
+mod laws;
 mod mutex;
 mod plays;
 mod rule;
@@ -10,6 +11,7 @@ mod user;
 
 pub use atomic_table::{Join, Split};
 pub use guard::RuledGuard;
+pub use laws::every_state_is_ruled;
 pub use mutex::RuledMutex;
 pub use rule::{MutexRule, SlotRule, Turn, UserStage, UserView};
 pub use user::User;

@@ -1,7 +1,7 @@
 -- What the users of a counter do keeps its rule.
 use Rattle.std.proofs.Common.{◌≡◌, ℕ, ◌+◌, ◌%◌, ◌^◌, List, [], ◌∷◌, ◌++◌, sum, arith, ◌∙◌}
 use Rattle.std.proofs.lemmas.List.Sums.{sum_by-append, sum_by-cons}
-use Rattle.lock_ruled.specs.Ruled.{Keeps, Splits, Joins}
+use Rattle.lock_api.specs.Ruled.{Keeps, Splits, Joins}
 
 abbrev Rule : ℕ → List ℕ → Type 0
 Rule value views = value ≡ sum views % 2 ^ 64

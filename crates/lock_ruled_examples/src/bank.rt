@@ -2,8 +2,7 @@
 ghost use Rattle.std.specs.Prelude.{◌≡◌, ◌+◌, ◌^◌, ◌<◌, IfOk};
 ghost use Rattle.std.specs.Thread.{IsSync};
 
-use lock_base::raw::Fault;
-use lock_ruled::{Join, MutexRule, RuledMutex, Split, Turn, User};
+use lock_api::{Fault, Join, MutexRule, RuledMutex, Split, Turn, User};
 use std::alloc::Global;
 use std::sync::Wait;
 use std::thread::{Threads, join};

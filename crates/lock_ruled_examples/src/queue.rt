@@ -3,8 +3,7 @@ ghost use Rattle.std.specs.Prelude.{◌≡◌, ◌++◌, [], ◌∷◌, vec_len,
 ghost use Rattle.std.specs.Thread.{IsSync};
 ghost use Rattle.lock_ruled_examples.specs.Logs.{producer, consumer};
 
-use lock_base::raw::Fault;
-use lock_ruled::{Join, MutexRule, RuledMutex, Split, Turn, User};
+use lock_api::{Fault, Join, MutexRule, RuledMutex, Split, Turn, User};
 use std::alloc::Global;
 use std::collections::LinkedList;
 use std::sync::Wait;

@@ -1,7 +1,7 @@
 //! The programs run, and give what their contracts say.
 use crate::counter::{AddsOne, Counter, Sums, try_add};
 use crate::{Accounts, count, relay, shuffle};
-use lock_base::raw::Fault;
+use lock_api::Fault;
 use std::test::Fail;
 
 #[test]
@@ -17,7 +17,13 @@ fn money_stays(rt: HostRuntime) -> Result<(), Fail> {
         left: 70,
         right: 30,
     };
-    let after = shuffle(&rt, rt.alloc(), accounts, &[50, 7, 90, 1], &[20, 40, 3, 100])?;
+    let after = shuffle(
+        &rt,
+        rt.alloc(),
+        accounts,
+        &[50, 7, 90, 1],
+        &[20, 40, 3, 100],
+    )?;
     assert!(rt; after.left <= 100 && after.right == 100 - after.left);
     Ok(())
 }

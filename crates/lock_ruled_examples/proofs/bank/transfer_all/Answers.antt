@@ -1,5 +1,5 @@
 use Rattle.std.proofs.Common.{arith, ap, ◌+◌, ◌∙◌, ℕ}
-use Rattle.lock_ruled.specs.Ruled.{Knower}
+use Rattle.lock_api.specs.Ruled.{Knower}
 use Rattle.lock_ruled_examples.specs.declared.bank.Accounts.{Accounts}
 use Rattle.lock_ruled_examples.proofs.Tellers.{sum_known}
 use Rattle.lock_ruled_examples.proofs.bank.transfer_all.Goals as goal

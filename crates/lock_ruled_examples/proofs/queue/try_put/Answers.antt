@@ -1,5 +1,5 @@
 use Rattle.std.proofs.Common.{rules, ap, ◌∙◌}
-use Rattle.lock_ruled.specs.Ruled.{Knower}
+use Rattle.lock_api.specs.Ruled.{Knower}
 use Rattle.lock_ruled_examples.specs.declared.queue.Log.{Log}
 use Rattle.lock_ruled_examples.proofs.Clients.{puts_as}
 use Rattle.lock_ruled_examples.proofs.queue.try_put.Goals as goal
