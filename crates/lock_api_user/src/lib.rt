@@ -9,6 +9,7 @@ mod journals;
 mod mapped;
 mod mutexes;
 mod parts_read;
+mod ruled;
 mod rwlocks;
 mod settings;
 mod signatures;
