@@ -7,6 +7,7 @@ mod desk;
 mod journals;
 mod mapped;
 mod mutexes;
+mod ruled;
 mod rwlocks;
 mod settings;
 mod signatures;

@@ -1,0 +1,13 @@
+//! Every public type of a mutex under a rule, in a signature.
+use lock_api::{
+    Join, MutexRule, RuledGuard, RuledMutex, SlotRule, Split, Turn, User, UserStage, UserView,
+};
+
+/// A value of each type.
+pub fn ruled<T: Drop, V, P: MutexRule<T, V>, M: Turn<T, V> + Split<V> + Join<V>>(
+    _mutex: &RuledMutex<T, V, P>,
+    _user: &User<T, V>,
+    _guard: &RuledGuard<T, V>,
+    _known: (&UserView<T, V>, &UserStage<T>),
+    _rules: (&SlotRule<P>, &M),
+) {}
