@@ -1,8 +1,9 @@
 //! Every public type of the packed word, and of the locks on one, in a signature.
 use lock_api::{
-    AtomicStep, Attempt, Down, ExWant, Hold, NoTime, Outcome, PackedToken, PackedWord, Party, PartyState,
-    PartyView, Place, Places, RealTime, SeatedLock, Sleepers, SleepingCondvar, TimedCondvar,
-    TimedRaw, Timing, WordCore, WordLock, WordRaw, WordRule, WordStep, WordToken, World,
+    AtomicStep, Attempt, Down, ExWant, Hold, NoTime, Outcome, PackedToken, PackedWord, Party,
+    PartyState, PartyView, Place, Places, RealTime, SeatedLock, Sleepers, SleepingCondvar,
+    TimedCondvar, TimedRaw, Timing, WordCore, WordLock, WordRaw, WordRule, WordStep, WordToken,
+    World,
 };
 use std::clone::Clone;
 use std::sync::Wait;

@@ -12,8 +12,8 @@ use Rattle.desk_examples.proofs.calls.deposit_under_lock.Goals as goal
 pub returns : goal.returns
 returns g c =
     let calls : List (Call Entry) =
-        Call.Acquire Want.Lock Form.Block c.args.party
-        ∷ Call.Change c.args.party 1 (Entry.Deposit 250)
-        ∷ Call.Change c.args.party 1 (Entry.Withdraw 300)
-        ∷ [] in
+    Call.Acquire Want.Lock Form.Block c.args.party
+    ∷ Call.Change c.args.party 1 (Entry.Deposit 250)
+    ∷ Call.Change c.args.party 1 (Entry.Withdraw 300)
+    ∷ [] in
     subst (λ (m : Machine ℕ). IfOk c.run.result (λ told. told.items ≡ replies entry_of m calls)) c.in_ok-desk.ensures.made c.run.ensures.replies

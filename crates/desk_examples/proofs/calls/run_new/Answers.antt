@@ -17,7 +17,7 @@ returns g c =
     let sound : IsSound last.register = c.runs_are_sound.ensures.sound Kind.Mutex 0 4 1 c.args.calls.now refl in
     let kept : KeepsLimits new.register last.register = c.runs_are_sound.ensures.limits new c.args.calls.now in
     let held : AreCompatible last.register.limit (held_bag last.register.entries) =
-        subst (λ (kind : Kind). AreLegallyHeld (is_reentrant kind) last.register.limit last.register.entries) kept.same_kind sound.legal.held in
+    subst (λ (kind : Kind). AreLegallyHeld (is_reentrant kind) last.register.limit last.register.entries) kept.same_kind sound.legal.held in
     let alone : AreCompatible 1 (held_bag last.register.entries) =
-        subst (λ (limit : ℕ). AreCompatible limit (held_bag last.register.entries)) kept.same_limit held in
+    subst (λ (limit : ℕ). AreCompatible limit (held_bag last.register.entries)) kept.same_limit held in
     rw (c.in_ok-run.ensures.machine, c.in_ok-desk.ensures.made) alone
