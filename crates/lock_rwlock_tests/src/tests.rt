@@ -1,25 +1,69 @@
 //! What no clause says of a reader-writer lock.
 mod arc;
 mod arc_raw_calls;
-mod mapped;
+mod makers;
 mod order;
 mod raw_calls;
 mod recording;
-mod rwlock;
+mod texts;
+mod threads;
+mod upgrades;
 
-use lock_guard::raw::RawRwLock;
+use lock_guard::raw::{
+    RawRwLock, RawRwLockUpgradeDowngrade, RawRwLockUpgradeFair, RawRwLockUpgradeTimed,
+};
+use lock_raws::TokenRaw;
 use lock_rwlock::RwLock;
-use lock_test_support::raw_lock::{AskedRaw, Calls, RawCall};
+use lock_test_support::raw_lock::{AskedRaw, Watch};
 use std::alloc::Global;
+use std::sync::{Arc, Wait};
 use std::test::Fail;
 
-/// A lock for 8 readers over a raw lock that is watched, and the calls that this gets.
-fn watched_rwlock<R: RawRwLock + Drop, T: Drop>(
+/// An honest raw lock.
+type Honest = TokenRaw<HostRuntime>;
+
+/// Answers of a lock on one thread, and of guards that keep it alive.
+fn answers<
+    R: RawRwLockUpgradeTimed<Duration = (), Instant = ()> + RawRwLockUpgradeDowngrade + Drop,
+>(alloc: Global, waiters: [R::Waiter; 6]) -> Result<(), Fail>
+where
+    R::SharedGuard: Drop,
+{
+    let [first, second, third, fourth, fifth, last] = waiters;
+    makers::check::<R>(alloc, [first, second, third, fourth])?;
+    let lock: RwLock<R, u64> = RwLock::new(alloc, fifth, 5)?;
+    texts::check(alloc, &lock)?;
+    upgrades::check(&lock)?;
+    order::check(&lock)?;
+    let lock: RwLock<R, i64> = RwLock::new(alloc, last, 5)?;
+    arc::check(alloc, &Arc::new(alloc, lock)?)
+}
+
+#[test]
+fn answers_on_one_thread(rt: HostRuntime) -> Result<(), Fail> {
+    answers::<Honest>(rt.alloc(), [rt; 6])
+}
+
+/// What the raw lock is asked, where guards borrow a lock and where they keep one alive.
+fn calls<R: RawRwLockUpgradeFair + RawRwLockUpgradeDowngrade + Drop, W: Wait + Drop>(
     alloc: Global,
-    waiter: R::Waiter,
-    value: T,
-) -> Result<(RwLock<AskedRaw<R>, T>, Calls<RawCall>), Fail> {
-    let raw: AskedRaw<R> = RawRwLock::new(alloc, waiter, 8)?;
-    let calls = raw.calls()?;
-    Ok((RwLock::from_raw(raw, value)?, calls))
+    waiters: [R::Waiter; 2],
+    watchers: [W; 2],
+) -> Result<(), Fail> {
+    let [first, second] = waiters;
+    let [first_watcher, second_watcher] = watchers;
+    let raw: AskedRaw<R> = RawRwLock::new(alloc, first, 8)?;
+    let mut watch = Watch::new(first_watcher, raw.calls()?);
+    raw_calls::all_calls(&RwLock::from_raw(raw, (0, 0))?, &mut watch);
+    watch.verdict()?;
+    let raw: AskedRaw<R> = RawRwLock::new(alloc, second, 8)?;
+    let mut watch = Watch::new(second_watcher, raw.calls()?);
+    let lock = Arc::new(alloc, RwLock::from_raw(raw, 0)?)?;
+    arc_raw_calls::all_calls(&lock, &mut watch)?;
+    watch.verdict()
+}
+
+#[test]
+fn each_call_is_the_raw_calls_that_are_wanted(rt: HostRuntime) -> Result<(), Fail> {
+    calls::<Honest, HostRuntime>(rt.alloc(), [rt; 2], [rt; 2])
 }

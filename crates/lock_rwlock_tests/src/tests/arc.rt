@@ -1,9 +1,6 @@
 //! The guards that keep a reader-writer lock alive.
 use lock_base::raw::Fault;
-use lock_guard::raw::{
-    RawRwLock, RawRwLockUpgrade, RawRwLockUpgradeDowngrade, RawRwLockUpgradeTimed,
-};
-use lock_raws::TokenRaw;
+use lock_guard::raw::{RawRwLock, RawRwLockUpgradeDowngrade, RawRwLockUpgradeTimed};
 use lock_rwlock::RwLock;
 use lock_rwlock_arc::{
     ArcRwLockGuard, ArcRwLockReadGuard, ArcRwLockUpgradableReadGuard, ArcRwLockWriteGuard,
@@ -19,14 +16,27 @@ use std::test::Fail;
 type Owned<R> = Arc<RwLock<R, i64>>;
 
 /// Whether the lock that a guard's end answers is the guard's: held by the one owner, it is refused to the other.
-fn is_same<R: RawRwLockUpgrade + Drop>(lock: &Owned<R>) -> Result<bool, Fault> {
+fn is_same<R: RawRwLock + Drop>(lock: &Owned<R>) -> Result<bool, Fault> {
     let owner = ArcRwLockGuard::into_arc(RwLock::read_arc(lock)?);
     let guard = RwLock::write_arc(&owner)?;
-    let is_refused = gives_none(RwLock::try_read_arc(lock));
-    let owner = ArcRwLockGuard::into_arc(guard);
-    let guard = RwLock::upgradable_read_arc(&owner)?;
-    let is_locked = ArcRwLockGuard::rwlock(&guard).is_locked();
-    Ok(is_refused && is_locked && gives_none(RwLock::try_write_arc(lock)))
+    Ok(ArcRwLockGuard::rwlock(&guard).is_locked() && gives_none(RwLock::try_read_arc(lock)))
+}
+
+/// The sum of what two guards read at once.
+fn sum<R: RawRwLock + Drop>(
+    first: &ArcRwLockReadGuard<R, i64>,
+    second: &ArcRwLockReadGuard<R, i64>,
+) -> i64 {
+    ArcRwLockReadGuard::with(
+        first,
+        |one| ArcRwLockReadGuard::with(second, |other| one.wrapping_add(*other)),
+    )
+}
+
+fn read_by_two<R: RawRwLock + Drop>(lock: &Owned<R>) -> Result<i64, Fault> {
+    let first = RwLock::read_arc(lock)?;
+    let second = RwLock::read_arc(lock)?;
+    Ok(sum(&first, &second))
 }
 
 fn double(value: &mut i64) -> i64 {
@@ -67,36 +77,20 @@ fn refused<R: RawRwLockUpgradeDowngrade + Drop>(lock: &Owned<R>) -> Result<(u64,
     Ok((calls.get(), left))
 }
 
-/// Whether a guard of each mode prints the value.
-fn are_shown<R: RawRwLockUpgrade + Drop>(
-    alloc: Global,
-    lock: &Owned<R>,
-) -> Result<[bool; 3], Fault> {
+fn is_shown<R: RawRwLock + Drop>(alloc: Global, lock: &Owned<R>) -> Result<bool, Fault> {
     let reader: ArcRwLockReadGuard<R, i64> = RwLock::read_arc(lock)?;
-    let reads = texts_are(alloc, &reader, "5");
-    drop(reader);
-    let writer = RwLock::write_arc(lock)?;
-    let writes = texts_are(alloc, &writer, "5");
-    drop(writer);
-    let guard = RwLock::upgradable_read_arc(lock)?;
-    Ok([reads, writes, texts_are(alloc, &guard, "5")])
+    Ok(texts_are(alloc, &reader, "5"))
 }
 
-fn arc_guards<
+/// The answers of guards of a lock that holds 5.
+pub fn check<
     R: RawRwLockUpgradeTimed<Duration = (), Instant = ()> + RawRwLockUpgradeDowngrade + Drop,
->(alloc: Global, waiter: R::Waiter) -> Result<(), Fail> {
-    let lock: RwLock<R, i64> = RwLock::new(alloc, waiter, 5)?;
-    let lock = Arc::new(alloc, lock)?;
-    equal((is_same(&lock)?, lock.is_locked()), (true, false))?;
-    equal(are_shown(alloc, &lock)?, [true; 3])?;
+>(alloc: Global, lock: &Owned<R>) -> Result<(), Fail> {
+    equal((is_same(lock)?, is_shown(alloc, lock)?), (true, true))?;
+    equal(read_by_two(lock)?, 10)?;
     equal(
-        written(&lock)?,
+        written(lock)?,
         (5, [Some(10), Some(20), Some(40), Some(80)]),
     )?;
-    equal((refused(&lock)?, lock.is_locked()), ((0, 80), false))
-}
-
-#[test]
-fn an_arc_guard_is_of_its_lock_and_gets_at_the_value(rt: HostRuntime) -> Result<(), Fail> {
-    arc_guards::<TokenRaw<HostRuntime>>(rt.alloc(), rt)
+    equal((refused(lock)?, lock.is_locked()), ((0, 80), false))
 }

@@ -1,16 +1,14 @@
 //! What the raw lock is asked, call by call, where guards keep the lock alive.
-use super::watched_rwlock;
 use lock_base::machine::Mode::{self, Exclusive, Shared, Upgradable};
 use lock_base::raw::Fault;
 use lock_guard::raw::{
-    RawRwLock, RawRwLockTimed, RawRwLockUpgradeDowngrade, RawRwLockUpgradeFair,
+    RawRwLock, RawRwLockTimed, RawRwLockUpgrade, RawRwLockUpgradeDowngrade, RawRwLockUpgradeFair,
     RawRwLockUpgradeTimed,
 };
-use lock_raws::TokenRaw;
 use lock_rwlock::{FairMode, RwLock};
 use lock_rwlock_arc::{
-    ArcRwLockGuard, ArcRwLockUpgradableReadGuard, ArcRwLockWriteGuard, RwLockArc, RwLockArcTimed,
-    RwLockArcUpgrade, RwLockArcUpgradeTimed,
+    ArcRwLockGuard, ArcRwLockReadGuard, ArcRwLockUpgradableReadGuard, ArcRwLockWriteGuard,
+    RwLockArc, RwLockArcTimed, RwLockArcUpgrade, RwLockArcUpgradeTimed,
 };
 use lock_test_support::raw_lock::RawCall::{
     self, Bump, Downgrade, DowngradeToUpgradable, DowngradeUpgradable, IsLocked, Lock, TryLock,
@@ -18,9 +16,7 @@ use lock_test_support::raw_lock::RawCall::{
     Upgrade,
 };
 use lock_test_support::raw_lock::Watch;
-use std::alloc::Global;
 use std::sync::{Arc, Wait};
-use std::test::Fail;
 
 type Shareable<R> = Arc<RwLock<R, u64>>;
 
@@ -125,14 +121,19 @@ fn timed_upgrades<W: Wait + Drop, R: RawRwLockUpgradeTimed<Duration = u64, Insta
     lock: &Shareable<R>,
     watch: &mut Watch<W, RawCall>,
 ) -> Result<(), Fault> {
-    let guard = RwLock::upgradable_read_arc(lock)?;
-    drop(ArcRwLockUpgradableReadGuard::try_upgrade_for(guard, 3));
+    drop(ArcRwLockUpgradableReadGuard::try_upgrade_for(RwLock::upgradable_read_arc(lock)?, 3));
     watch.saw(&[Lock(Upgradable), TryUpgradeFor(3), Unlock(Exclusive)]);
-    let guard = RwLock::upgradable_read_arc(lock)?;
-    drop(ArcRwLockUpgradableReadGuard::try_upgrade_until(guard, 4));
+    drop(ArcRwLockUpgradableReadGuard::try_upgrade_until(RwLock::upgradable_read_arc(lock)?, 4));
     watch.saw(&[Lock(Upgradable), TryUpgradeUntil(4), Unlock(Exclusive)]);
-    let reader = RwLock::read_arc(lock)?;
-    let guard = RwLock::upgradable_read_arc(lock)?;
+    Ok(())
+}
+
+/// An upgrade that is refused beside a reader, which was just acquired.
+fn refused_upgrade<W: Wait + Drop, R: RawRwLockUpgrade + Drop>(
+    reader: ArcRwLockReadGuard<R, u64>,
+    watch: &mut Watch<W, RawCall>,
+) -> Result<(), Fault> {
+    let guard = RwLock::upgradable_read_arc(ArcRwLockGuard::rwlock(&reader))?;
     drop(ArcRwLockUpgradableReadGuard::try_upgrade(guard));
     watch.saw(&[
         Lock(Shared),
@@ -140,8 +141,6 @@ fn timed_upgrades<W: Wait + Drop, R: RawRwLockUpgradeTimed<Duration = u64, Insta
         TryUpgrade,
         Unlock(Upgradable),
     ]);
-    drop(reader);
-    watch.saw(&[Unlock(Shared)]);
     Ok(())
 }
 
@@ -167,24 +166,20 @@ fn calls_under_an_upgrade<
     Ok(())
 }
 
-fn all_calls<R: RawRwLockUpgradeFair + RawRwLockUpgradeDowngrade + Drop, W: Wait + Drop>(
-    alloc: Global,
-    waiter: R::Waiter,
-    watcher: W,
-) -> Result<(), Fail> {
-    let (lock, calls) = watched_rwlock::<R, u64>(alloc, waiter, 0)?;
-    let mut watch = Watch::new(watcher, calls);
-    let lock = Arc::new(alloc, lock)?;
-    acquisitions(&lock, &mut watch);
-    upgradable_acquisitions(&lock, &mut watch);
-    calls_of_guards(&lock, &mut watch)?;
-    transitions(&lock, &mut watch)?;
-    timed_upgrades(&lock, &mut watch)?;
-    calls_under_an_upgrade(&lock, &mut watch)?;
-    watch.verdict()
-}
-
-#[test]
-fn raw_calls_by_an_arc_of_a_rwlock(rt: HostRuntime) -> Result<(), Fail> {
-    all_calls::<TokenRaw<HostRuntime>, HostRuntime>(rt.alloc(), rt, rt)
+/// All of these, on a lock that is free before and after each.
+pub fn all_calls<
+    W: Wait + Drop,
+    R: RawRwLockUpgradeTimed<Duration = u64, Instant = u64>
+        + RawRwLockUpgradeFair
+        + RawRwLockUpgradeDowngrade
+        + Drop,
+>(lock: &Shareable<R>, watch: &mut Watch<W, RawCall>) -> Result<(), Fault> {
+    acquisitions(lock, watch);
+    upgradable_acquisitions(lock, watch);
+    calls_of_guards(lock, watch)?;
+    transitions(lock, watch)?;
+    timed_upgrades(lock, watch)?;
+    refused_upgrade(RwLock::read_arc(lock)?, watch)?;
+    watch.saw(&[Unlock(Shared)]);
+    calls_under_an_upgrade(lock, watch)
 }

@@ -1,12 +1,11 @@
 //! The order in which a lock takes and gives back its raw lock and the lock of its value.
 use lock_guard::guard::Acquire;
 use lock_guard::raw::{RawRwLock, RawRwLockUpgrade};
-use lock_raws::TokenRaw;
 use lock_rwlock::{RwLock, RwLockGuard};
-use lock_rwlock_arc::{ArcRwLockReadGuard, RwLockArc};
+use lock_test_support::answer::equal;
 use lock_test_support::raw_lock::{Calls, Liar, RawCall};
+use std::sync::Wait;
 use std::sync::atomic::{AtomicBool, Ordering};
-use std::sync::{Arc, Wait};
 use std::test::Fail;
 use std::thread;
 
@@ -26,12 +25,10 @@ fn add_while_each_guard_is_unlocked<R: RawRwLockUpgrade>(lock: &RwLock<R, u64>) 
 }
 
 /// It ends only where nothing is held while the closure runs.
-#[test]
-fn a_lock_is_written_while_a_guard_is_unlocked(rt: HostRuntime) -> Result<(), Fail> {
-    let lock: RwLock<TokenRaw<HostRuntime>, u64> = RwLock::new(rt.alloc(), rt, 0)?;
-    add_while_each_guard_is_unlocked(&lock);
-    assert_eq!(rt; lock.into_inner(), 3);
-    Ok(())
+pub fn check<R: RawRwLockUpgrade>(lock: &RwLock<R, u64>) -> Result<(), Fail> {
+    let before = *lock.read();
+    add_while_each_guard_is_unlocked(lock);
+    equal(*lock.read(), before.wrapping_add(3))
 }
 
 /// Holds the value until the raw lock was asked once more, and then writes it.
@@ -80,25 +77,5 @@ fn the_raw_lock_is_asked_before_the_value_is_taken(rt: HostRuntime) -> Result<()
         || find_once_held(&lock, &rt, &is_held),
     );
     assert_eq!(rt; found, 5);
-    Ok(())
-}
-
-/// The sum of what two guards read at once.
-fn sum<R: RawRwLock + Drop>(
-    first: &ArcRwLockReadGuard<R, u64>,
-    second: &ArcRwLockReadGuard<R, u64>,
-) -> u64 {
-    ArcRwLockReadGuard::with(
-        first,
-        |one| ArcRwLockReadGuard::with(second, |other| one.wrapping_add(*other)),
-    )
-}
-
-#[test]
-fn two_arc_guards_read_at_once(rt: HostRuntime) -> Result<(), Fail> {
-    let lock: RwLock<TokenRaw<HostRuntime>, u64> = RwLock::new(rt.alloc(), rt, 2)?;
-    let lock = Arc::new(rt.alloc(), lock)?;
-    let (first, second) = (RwLock::read_arc(&lock)?, RwLock::read_arc(&lock)?);
-    assert_eq!(rt; sum(&first, &second), 4);
     Ok(())
 }

@@ -1,24 +1,17 @@
 //! What the raw lock is asked, call by call, where guards borrow the lock.
-use super::watched_rwlock;
 use lock_base::machine::Mode::{self, Exclusive, Shared, Upgradable};
 use lock_guard::guard::AcquireFair;
 use lock_guard::raw::{
-    RawRwLock, RawRwLockFair, RawRwLockTimed, RawRwLockUpgrade, RawRwLockUpgradeDowngrade,
-    RawRwLockUpgradeFair, RawRwLockUpgradeTimed,
+    RawRwLock, RawRwLockTimed, RawRwLockUpgrade, RawRwLockUpgradeDowngrade, RawRwLockUpgradeFair,
+    RawRwLockUpgradeTimed,
 };
-use lock_raws::TokenRaw;
-use lock_rwlock::{
-    MappedRwLockReadGuard, MappedRwLockWriteGuard, RwLock, RwLockGuard, RwLockReadGuard,
-    RwLockUpgradableReadGuard, RwLockWriteGuard,
-};
-use lock_test_support::project::{Item0, Nth};
+use lock_rwlock::{RwLock, RwLockGuard, RwLockUpgradableReadGuard, RwLockWriteGuard};
 use lock_test_support::raw_lock::RawCall::{
     self, Bump, Downgrade, DowngradeToUpgradable, DowngradeUpgradable, IsLocked, IsLockedExclusive,
     Lock, TryLock, TryLockFor, TryLockUntil, TryUpgrade, TryUpgradeFor, TryUpgradeUntil, Unlock,
     UnlockFair, Upgrade,
 };
 use lock_test_support::raw_lock::{Liar, Watch};
-use std::alloc::Global;
 use std::sync::Wait;
 use std::test::Fail;
 
@@ -154,67 +147,22 @@ fn calls_under_an_upgrade<
     watch.saw(&[Unlock(Shared)]);
 }
 
-fn calls_of_mapped_guards<W: Wait + Drop, R: RawRwLockFair>(
-    lock: &Paired<R>,
-    watch: &mut Watch<W, RawCall>,
-) {
-    drop(RwLockReadGuard::map(lock.read(), Item0));
-    watch.saw(&[Lock(Shared), Unlock(Shared)]);
-    MappedRwLockReadGuard::unlock_fair(RwLockReadGuard::map(lock.read(), Item0));
-    watch.saw(&[Lock(Shared), UnlockFair(Shared)]);
-    drop(RwLockReadGuard::try_map(lock.read(), Nth(2)));
-    watch.saw(&[Lock(Shared), Unlock(Shared)]);
-    drop(RwLockWriteGuard::map(lock.write(), Item0));
-    watch.saw(&[Lock(Exclusive), Unlock(Exclusive)]);
-    MappedRwLockWriteGuard::unlock_fair(RwLockWriteGuard::map(lock.write(), Item0));
-    watch.saw(&[Lock(Exclusive), UnlockFair(Exclusive)]);
-    drop(RwLockWriteGuard::try_map_or_err(lock.write(), Nth(2)));
-    watch.saw(&[Lock(Exclusive), Unlock(Exclusive)]);
-}
-
-/// A raw lock with all that an honest one can do.
-trait WholeRaw: RawRwLockUpgradeFair + RawRwLockUpgradeDowngrade + Drop {}
-
-impl<R: RawRwLockUpgradeFair + RawRwLockUpgradeDowngrade + Drop> WholeRaw for R {}
-
-fn calls_of_acquisitions_and_guards<R: WholeRaw, W: Wait + Drop>(
-    alloc: Global,
-    waiter: R::Waiter,
-    watcher: W,
-) -> Result<(), Fail> {
-    let (lock, calls) = watched_rwlock::<R, (u64, u64)>(alloc, waiter, (0, 0))?;
-    let mut watch = Watch::new(watcher, calls);
-    acquisitions(&lock, &mut watch);
-    upgradable_acquisitions(&lock, &mut watch);
-    calls_of_a_guard(&lock, lock.read(), Shared, &mut watch);
-    calls_of_a_guard(&lock, lock.write(), Exclusive, &mut watch);
-    calls_of_a_guard(&lock, lock.upgradable_read(), Upgradable, &mut watch);
-    calls_of_mapped_guards(&lock, &mut watch);
-    watch.verdict()
-}
-
-#[test]
-fn raw_calls_of_acquisitions_and_guards(rt: HostRuntime) -> Result<(), Fail> {
-    calls_of_acquisitions_and_guards::<TokenRaw<HostRuntime>, HostRuntime>(rt.alloc(), rt, rt)
-}
-
-fn calls_of_transitions<R: WholeRaw, W: Wait + Drop>(
-    alloc: Global,
-    waiter: R::Waiter,
-    watcher: W,
-) -> Result<(), Fail> {
-    let (lock, calls) = watched_rwlock::<R, (u64, u64)>(alloc, waiter, (0, 0))?;
-    let mut watch = Watch::new(watcher, calls);
-    transitions(&lock, &mut watch);
-    timed_upgrades(&lock, &mut watch);
-    refused_upgrades(&lock, &mut watch);
-    calls_under_an_upgrade(&lock, &mut watch);
-    watch.verdict()
-}
-
-#[test]
-fn raw_calls_of_transitions(rt: HostRuntime) -> Result<(), Fail> {
-    calls_of_transitions::<TokenRaw<HostRuntime>, HostRuntime>(rt.alloc(), rt, rt)
+/// All of these, on a lock that is free before and after each.
+pub fn all_calls<
+    W: Wait + Drop,
+    R: RawRwLockUpgradeTimed<Duration = u64, Instant = u64>
+        + RawRwLockUpgradeFair
+        + RawRwLockUpgradeDowngrade,
+>(lock: &Paired<R>, watch: &mut Watch<W, RawCall>) {
+    acquisitions(lock, watch);
+    upgradable_acquisitions(lock, watch);
+    calls_of_a_guard(lock, lock.read(), Shared, watch);
+    calls_of_a_guard(lock, lock.write(), Exclusive, watch);
+    calls_of_a_guard(lock, lock.upgradable_read(), Upgradable, watch);
+    transitions(lock, watch);
+    timed_upgrades(lock, watch);
+    refused_upgrades(lock, watch);
+    calls_under_an_upgrade(lock, watch);
 }
 
 fn bumps_by_default<R: RawRwLockUpgradeFair>(raw: &R) {

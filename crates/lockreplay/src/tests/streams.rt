@@ -24,25 +24,19 @@ impl Fails {
     }
 }
 
-/// Gives one line a read, four in all.
+/// Gives the bytes of a script, at most so many a read.
 #[derive(Drop)]
-struct Lines {
+struct Slow<'a> {
     fails: Fails,
-    given: usize,
+    left: &'a [u8],
+    most: usize,
 }
 
-impl Read for Lines {
+impl Read for Slow<'_> {
     fn read(&mut self, buf: &mut [u8]) -> io::Result<usize> {
         self.fails.next()?;
-        let lines = ["mutex 4 0 0\n", "lock 1\n", "park 1 1\n", "is_locked\n"];
-        if self.given >= lines.len() {
-            return Ok(0);
-        }
-        let line = lines[self.given].as_bytes();
-        self.given += 1;
-        let count = buf.len().min(line.len());
-        buf[..count].copy_from_slice(&line[..count]);
-        Ok(count)
+        let count = buf.len().min(self.most);
+        self.left.read(&mut buf[..count])
     }
 }
 
@@ -53,10 +47,11 @@ enum Asked {
     Flush,
 }
 
-/// Takes at most four bytes a write, and writes down what it was asked.
+/// Takes at most so many bytes a write, and writes down what it was asked.
 #[derive(Drop)]
 struct Narrow {
     fails: Fails,
+    most: usize,
     asked: Vec<Asked>,
     kept: Vec<u8>,
 }
@@ -65,7 +60,7 @@ impl Write for Narrow {
     fn write(&mut self, buf: &[u8]) -> io::Result<usize> {
         self.asked.push(Asked::Write(buf.len()))?;
         self.fails.next()?;
-        let count = buf.len().min(4);
+        let count = buf.len().min(self.most);
         self.kept.extend_from_slice(&buf[..count])?;
         Ok(count)
     }
@@ -81,14 +76,16 @@ fn failing(at: u64, kind: ErrorKind) -> Fails {
     Fails { calls: 0, at, kind }
 }
 
-/// What a replay of this script told, with the writer that it wrote to.
+/// What a replay of this script told, with the writer, of at most so many bytes a write, that it wrote to.
 fn replayed<R: Read>(
     alloc: Global,
     reader: &mut R,
     fails: Fails,
+    most: usize,
 ) -> (Result<(), ReplayFault>, Narrow) {
     let mut writer = Narrow {
         fails,
+        most,
         asked: Vec::new(alloc),
         kept: Vec::new(alloc),
     };
@@ -99,14 +96,25 @@ fn replayed<R: Read>(
 /// A call number that is never reached.
 const NEVER: u64 = u64::MAX;
 
+/// Of 38 bytes.
+const SCRIPT: &[u8] = b"mutex 4 0 0\nlock 1\npark 1 1\nis_locked\n";
+
+const ANSWERS: &[u8] = b"ok\nguard 1\nok\nno\n";
+
 #[test]
 fn a_failing_reader_is_told(rt: HostRuntime) -> Result<(), Fail> {
     for at in 0..5 {
-        let mut reader = Lines {
+        let mut reader = Slow {
             fails: failing(at, ErrorKind::TimedOut),
-            given: 0,
+            left: SCRIPT,
+            most: 10,
         };
-        let (told, writer) = replayed(rt.alloc(), &mut reader, failing(NEVER, ErrorKind::TimedOut));
+        let (told, writer) = replayed(
+            rt.alloc(),
+            &mut reader,
+            failing(NEVER, ErrorKind::TimedOut),
+            4,
+        );
         assert_eq!(rt; told, Err(ReplayFault::InputFailed), "at {at}");
         assert!(rt; writer.asked.is_empty(), "at {at}");
     }
@@ -124,7 +132,7 @@ fn a_writer_that_fails_once_has_a_beginning(rt: HostRuntime) -> Result<(), Fail>
     ];
     for at in 0..5 {
         let mut script: &[u8] = b"mutex 4 0 0\nlock 1\n";
-        let (told, writer) = replayed(rt.alloc(), &mut script, failing(at, ErrorKind::TimedOut));
+        let (told, writer) = replayed(rt.alloc(), &mut script, failing(at, ErrorKind::TimedOut), 4);
         assert_eq!(rt; told.is_ok(), at == 4, "at {at}");
         assert!(rt; told != Err(ReplayFault::InputFailed), "at {at}");
         let made = (at as usize + 1).min(calls.len());
@@ -138,25 +146,51 @@ fn a_writer_that_fails_once_has_a_beginning(rt: HostRuntime) -> Result<(), Fail>
 #[test]
 fn interrupted_calls_are_made_again(rt: HostRuntime) -> Result<(), Fail> {
     for at in 0..3 {
-        let mut reader = Lines {
+        let mut reader = Slow {
             fails: failing(at, ErrorKind::Interrupted),
-            given: 0,
+            left: SCRIPT,
+            most: 10,
         };
-        let (told, writer) = replayed(rt.alloc(), &mut reader, failing(at, ErrorKind::Interrupted));
-        assert_eq!(rt; told, Ok(()), "at {at}");
-        assert_eq!(rt;
-            writer.kept.as_slice(),
-            b"ok\nguard 1\nok\nno\n".as_slice(),
-            "at {at}"
+        let (told, writer) = replayed(
+            rt.alloc(),
+            &mut reader,
+            failing(at, ErrorKind::Interrupted),
+            4,
         );
+        assert_eq!(rt; told, Ok(()), "at {at}");
+        assert_eq!(rt; writer.kept.as_slice(), ANSWERS, "at {at}");
     }
+    Ok(())
+}
+
+#[test]
+fn a_byte_at_a_time_is_read_and_written(rt: HostRuntime) -> Result<(), Fail> {
+    let mut reader = Slow {
+        fails: failing(NEVER, ErrorKind::TimedOut),
+        left: SCRIPT,
+        most: 1,
+    };
+    let (told, writer) = replayed(
+        rt.alloc(),
+        &mut reader,
+        failing(NEVER, ErrorKind::TimedOut),
+        1,
+    );
+    assert_eq!(rt; told, Ok(()));
+    assert_eq!(rt; writer.kept.as_slice(), ANSWERS);
+    assert_eq!(rt; writer.asked.len(), ANSWERS.len() + 1);
     Ok(())
 }
 
 #[test]
 fn a_bad_script_writes_nothing(rt: HostRuntime) -> Result<(), Fail> {
     let mut script: &[u8] = b"mutex 4 0 0\nlock 1\nlock\n";
-    let (told, writer) = replayed(rt.alloc(), &mut script, failing(NEVER, ErrorKind::TimedOut));
+    let (told, writer) = replayed(
+        rt.alloc(),
+        &mut script,
+        failing(NEVER, ErrorKind::TimedOut),
+        4,
+    );
     assert_eq!(rt; told, Err(ReplayFault::BadLine(3)));
     assert!(rt; writer.asked.is_empty());
     Ok(())
@@ -172,7 +206,12 @@ fn a_script_is_read_to_the_first_byte_past_the_limit(rt: HostRuntime) -> Result<
     ] {
         let script = vec![in rt.alloc(); b'x'; length]?;
         let mut reader = script.as_slice();
-        let (told, writer) = replayed(rt.alloc(), &mut reader, failing(NEVER, ErrorKind::TimedOut));
+        let (told, writer) = replayed(
+            rt.alloc(),
+            &mut reader,
+            failing(NEVER, ErrorKind::TimedOut),
+            4,
+        );
         assert_eq!(rt; told, Err(want), "of {length}");
         assert_eq!(rt; reader.len(), left, "of {length}");
         assert!(rt; writer.asked.is_empty(), "of {length}");
@@ -180,10 +219,50 @@ fn a_script_is_read_to_the_first_byte_past_the_limit(rt: HostRuntime) -> Result<
     Ok(())
 }
 
+/// As many bytes as a script may have, of good lines.
+fn longest_script(alloc: Global) -> io::Result<String> {
+    let mut text = String::from_str(alloc, "mutex 1 1000 10\n")?;
+    for _ in 0..174_760u32 {
+        text.push_str("spent\n")?;
+    }
+    Ok(text)
+}
+
+#[test]
+fn lines_decide_up_to_the_limit_and_not_past_it(rt: HostRuntime) -> Result<(), Fail> {
+    let mut script = longest_script(rt.alloc())?;
+    assert_eq!(rt; script.len(), SCRIPT_LIMIT);
+    let mut answers = Vec::new(rt.alloc());
+    let told = replay(
+        rt.alloc(),
+        Which::Table,
+        &mut script.as_bytes(),
+        &mut answers,
+    );
+    assert_eq!(rt; told, Ok(()));
+    assert_eq!(rt; answers.len(), 3 + 174_760 * 8);
+    script.push('\n')?;
+    let mut answers = Vec::new(rt.alloc());
+    let told = replay(
+        rt.alloc(),
+        Which::Word,
+        &mut script.as_bytes(),
+        &mut answers,
+    );
+    assert_eq!(rt; told, Err(ReplayFault::TooLong));
+    assert!(rt; answers.is_empty());
+    Ok(())
+}
+
 #[test]
 fn the_last_line_may_lack_its_end(rt: HostRuntime) -> Result<(), Fail> {
     let mut script: &[u8] = b"mutex 4 -9223372036854775808 0\nlock 1\nget 1 1 0";
-    let (told, writer) = replayed(rt.alloc(), &mut script, failing(NEVER, ErrorKind::TimedOut));
+    let (told, writer) = replayed(
+        rt.alloc(),
+        &mut script,
+        failing(NEVER, ErrorKind::TimedOut),
+        4,
+    );
     assert_eq!(rt; told, Ok(()));
     assert_eq!(rt;
         writer.kept.as_slice(),

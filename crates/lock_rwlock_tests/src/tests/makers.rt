@@ -1,0 +1,57 @@
+//! The makers of a lock.
+use super::Honest;
+use lock_base::raw::Fault;
+use lock_guard::raw::RawRwLock;
+use lock_rwlock::RwLock;
+use lock_test_support::answer::{equal, holds_or_lacks_memory};
+use std::alloc::Global;
+use std::test::Fail;
+
+/// How many of 66 tries give a token to read, none of which goes back.
+fn readers_of_66<R: RawRwLock>(raw: &R) -> u64
+where
+    R::SharedGuard: Drop,
+{
+    let mut readers = 0_u64;
+    for _ in 0..66_u32 {
+        if let Some(token) = raw.try_lock_shared() {
+            drop(token);
+            readers = readers.wrapping_add(1);
+        }
+    }
+    readers
+}
+
+pub fn check<R: RawRwLock + Drop>(alloc: Global, waiters: [R::Waiter; 4]) -> Result<(), Fail>
+where
+    R::SharedGuard: Drop,
+{
+    let [first, second, third, last] = waiters;
+    let made: RwLock<R, u64> = RwLock::new(alloc, first, 0)?;
+    equal(readers_of_66(&made.into_inner_with_raw().0), 64)?;
+    let made: RwLock<R, u64> = RwLock::with_readers(alloc, second, 3, 0)?;
+    equal(readers_of_66(&made.into_inner_with_raw().0), 3)?;
+    let from: RwLock<R, u64> = RwLock::from(alloc, third, 6)?;
+    let mut default: RwLock<R, u64> = RwLock::default(alloc, last)?;
+    *default.get_mut() = 5;
+    let (raw, value) = default.into_inner_with_raw();
+    let again = RwLock::from_raw(raw, value)?;
+    let is_held = again.is_locked() || again.is_locked_exclusive();
+    equal(
+        (from.into_inner(), is_held, again.into_inner()),
+        (6, false, 5),
+    )
+}
+
+fn holds_or_lacks<R: RawRwLock + Drop>(made: Result<RwLock<R, u64>, Fault>, value: u64) -> bool {
+    holds_or_lacks_memory(made.map(|lock| lock.into_inner()), value)
+}
+
+#[test]
+fn refused_memory_rwlock_makers(rt: HostRuntime) {
+    let alloc = rt.alloc();
+    assert!(rt; holds_or_lacks::<Honest>(RwLock::new(alloc, rt, 5), 5));
+    assert!(rt; holds_or_lacks::<Honest>(RwLock::from(alloc, rt, 6), 6));
+    assert!(rt; holds_or_lacks::<Honest>(RwLock::default(alloc, rt), 0));
+    assert!(rt; holds_or_lacks::<Honest>(RwLock::with_readers(alloc, rt, 1, 7), 7));
+}

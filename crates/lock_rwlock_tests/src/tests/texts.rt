@@ -1,0 +1,21 @@
+//! How a lock and its guards print.
+use lock_guard::raw::RawRwLock;
+use lock_rwlock::RwLock;
+use lock_test_support::answer::{debug_is, equal, texts_are};
+use std::alloc::Global;
+use std::test::Fail;
+
+/// Whether a lock beside a reader, and one beside a writer and the writer, print as they are told to.
+fn are_shown<R: RawRwLock>(alloc: Global, lock: &RwLock<R, u64>) -> [bool; 3] {
+    let reader = lock.read();
+    let read = debug_is(alloc, lock, "RwLock { data: 5 }");
+    drop(reader);
+    let writer = lock.write();
+    let written = debug_is(alloc, lock, "RwLock { data: <locked> }");
+    [read, written, texts_are(alloc, &writer, "5")]
+}
+
+/// The texts of a lock that holds 5.
+pub fn check<R: RawRwLock>(alloc: Global, lock: &RwLock<R, u64>) -> Result<(), Fail> {
+    equal(are_shown(alloc, lock), [true; 3])
+}
