@@ -8,6 +8,7 @@ pub use Rattle.lock_base.specs.Levels
 pub use Rattle.lock_base.specs.Tokens
 pub use Rattle.lock_base.specs.Operation
 pub use Rattle.lock_base.specs.Entries
+pub use Rattle.lock_base.specs.Bar
 pub use Rattle.lock_base.specs.Register
 pub use Rattle.lock_base.specs.Machine
 pub use Rattle.lock_base.specs.Refusals
@@ -24,6 +25,7 @@ pub use Rattle.lock_base_laws.specs.TokenSteps
 pub use Rattle.lock_base_laws.specs.Nesting
 pub use Rattle.lock_base_laws.specs.Numbers
 pub use Rattle.lock_base_laws.specs.Parking
+pub use Rattle.lock_base_laws.specs.Barring
 pub use Rattle.lock_base_laws.specs.Values
 pub use Rattle.lock_base_laws.specs.Exclusion
 pub use Rattle.lock_base_laws.specs.Parked
@@ -48,6 +50,7 @@ pub use Rattle.lock_seated.specs.Attempts
 pub use Rattle.lock_desk.specs.Closures
 pub use Rattle.lock_mutex.specs.Mutex
 pub use Rattle.lock_mutex.specs.MutexGuard
+pub use Rattle.lock_mutex.specs.Condvar
 pub use Rattle.lock_mutex.specs.WaitsWhile
 pub use Rattle.lock_mutex.specs.ArcMutexGuard
 pub use Rattle.lock_mutex.specs.ConditionLoop

@@ -37,6 +37,7 @@ pub use lock_base::raw::MAX_LIMIT;
 pub use lock_base::raw::ObservableState;
 pub use lock_base::raw::RawState;
 pub use lock_base::raw::is_limit;
+pub use lock_base_laws::bars_keep_others_out;
 pub use lock_base_laws::exclusive_guards_exclude;
 pub use lock_base_laws::nested_guards_make_one_token;
 pub use lock_base_laws::new_guards_are_held;

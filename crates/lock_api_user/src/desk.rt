@@ -1,9 +1,11 @@
 //! What a caller knows of a `Desk`, in the words of its contracts and of the laws.
-ghost use Rattle.std.specs.Prelude.{◌≡◌, None, IfOk, IsOkUnless, IsTrue};
+ghost use Rattle.std.specs.Prelude.{◌≡◌, None, false, IfOk, IsOkUnless, IsTrue};
 ghost use Rattle.std.specs.Option.{ForNone};
 ghost use Rattle.std.specs.Fn.{FnOnceTakesAtMut};
+ghost use Rattle.lock_api.specs.Bar.{has_announced};
 ghost use Rattle.lock_api.specs.Closures.{AnswersAndLeaves};
 ghost use Rattle.lock_api.specs.Kept.{is_refusal};
+ghost use Rattle.lock_api.specs.Kind.{is_rwlock};
 ghost use Rattle.lock_api.specs.Party.{id_of};
 ghost use Rattle.lock_api.specs.Refusals.{guard_refusal, writing_guard};
 ghost use Rattle.lock_api.specs.Sound.{IsSound};
@@ -38,6 +40,16 @@ pub fn write_by<R: RawState, U, F: FnOnce(&mut u64) -> U + Drop>(
         (λ left. desk.new ≡ record desk.old { value = left })) }
 {
     desk.with_mut(party, guard, write)
+}
+
+/// A party that has announced itself may withdraw, and the raw state has no bar then.
+pub fn without_bar<R: RawState, T>(desk: &mut Desk<R, T>, party: PartyId) -> bool
+    requires kind { IsTrue (is_rwlock desk.old.kind) }
+    requires announced { IsTrue (has_announced desk.old.bar (id_of party)) }
+    ensures { result ≡ false }
+{
+    let _ = desk.withdraw(party);
+    desk.raw().barred()
 }
 
 /// A refused allocation is the fault of that name.

@@ -5,7 +5,8 @@ use Rattle.lock_base.specs.declared.machine.mode.Mode.{Mode}
 use Rattle.lock_base.specs.Modes.{bag_of, AreCompatible, admits}
 use Rattle.lock_base.specs.Kind.{is_reentrant}
 use Rattle.lock_base.specs.Entries.{Entry, held_entries, held_count, held_bag, modes_of_entries, all_of_party}
-use Rattle.lock_base.specs.Register.{Register, lets_in, owns, is_full_count}
+use Rattle.lock_base.specs.Bar.{passes}
+use Rattle.lock_base.specs.Register.{Register, fits_in, lets_in, owns, is_full_count}
 use Rattle.lock_base.specs.Legal.{AreLegallyHeld}
 use Rattle.lock_base.proofs.ModeLemmas.{compatible_acquired, compatible_released, admits-released, admits-beside_exclusive}
 use Rattle.lock_base.proofs.Splices.{EntryMap}
@@ -33,27 +34,34 @@ pub record HasNextLevel (r : Register) (party : ℕ) : Type 0 where
   pub below : held_count r.entries < r.limit
 
 module _ (r : Register) (party : ℕ) (mode : Mode) where
-  -- whom a reentrant lock lets in
-  pub next_level : is_reentrant r.kind ≡ true → IsTrue (lets_in r party mode) → HasNextLevel r party
+  -- a guard that is let in
+  pub passed_bar : IsTrue (lets_in r party mode) → IsTrue (passes r.bar party mode)
+  passed_bar ok = (and_parts (passes r.bar party mode) (fits_in r party mode) ok).0
+
+  pub fitted_in : IsTrue (lets_in r party mode) → IsTrue (fits_in r party mode)
+  fitted_in ok = (and_parts (passes r.bar party mode) (fits_in r party mode) ok).1
+
+  -- a level of a reentrant lock that fits in
+  pub next_level : is_reentrant r.kind ≡ true → IsTrue (fits_in r party mode) → HasNextLevel r party
   next_level nested ok =
       let own : Bool = all_of_party party (held_entries r.entries) in
       let below : Bool = nat_lt (held_count r.entries) r.limit in
       let two = and_parts own below (in_then (is_reentrant r.kind) (own && below) (admits r.limit (held_bag r.entries) mode) nested ok) in
       record { own = two.0; below = ltb-true (held_count r.entries) r.limit two.1 }
 
-  pub lets_in-level : is_reentrant r.kind ≡ true → HasNextLevel r party → IsTrue (lets_in r party mode)
-  lets_in-level nested level =
+  pub fits_in-level : is_reentrant r.kind ≡ true → HasNextLevel r party → IsTrue (fits_in r party mode)
+  fits_in-level nested level =
       let own : Bool = all_of_party party (held_entries r.entries) in
       let below : Bool = nat_lt (held_count r.entries) r.limit in
       from_then (is_reentrant r.kind) (own && below) (admits r.limit (held_bag r.entries) mode) nested
       (and_from own below level.own (lt-ltb (held_count r.entries) r.limit level.below))
 
-  -- whom another lock lets in
-  pub admitted_mode : is_reentrant r.kind ≡ false → IsTrue (lets_in r party mode) → IsTrue (admits r.limit (held_bag r.entries) mode)
+  -- a guard of another lock that fits in
+  pub admitted_mode : is_reentrant r.kind ≡ false → IsTrue (fits_in r party mode) → IsTrue (admits r.limit (held_bag r.entries) mode)
   admitted_mode plain ok = in_else (is_reentrant r.kind) _ (admits r.limit (held_bag r.entries) mode) plain ok
 
-  pub lets_in-mode : is_reentrant r.kind ≡ false → IsTrue (admits r.limit (held_bag r.entries) mode) → IsTrue (lets_in r party mode)
-  lets_in-mode plain ok = from_else (is_reentrant r.kind) _ (admits r.limit (held_bag r.entries) mode) plain ok
+  pub fits_in-mode : is_reentrant r.kind ≡ false → IsTrue (admits r.limit (held_bag r.entries) mode) → IsTrue (fits_in r party mode)
+  fits_in-mode plain ok = from_else (is_reentrant r.kind) _ (admits r.limit (held_bag r.entries) mode) plain ok
 
 -- and nobody beside an exclusive guard
 
@@ -65,15 +73,16 @@ not_let_in false admitted h barred = refl
 pub not_let_in_beside_exclusive : (r : Register) (party : ℕ) (mode : Mode) → is_reentrant r.kind ≡ false → 0 < (held_bag r.entries).exclusive
     → lets_in r party mode ≡ false
 not_let_in_beside_exclusive r party mode plain out =
-    not_let_in (lets_in r party mode) (admits r.limit (held_bag r.entries) mode) (admitted_mode r party mode plain)
+    not_let_in (lets_in r party mode) (admits r.limit (held_bag r.entries) mode)
+    (λ ok. admitted_mode r party mode plain (fitted_in r party mode ok))
     (admits-beside_exclusive r.limit (held_bag r.entries) mode out)
 
 -- only what is held counts
 pub lets_in-same_held : (r : Register) (es : EntryMap) (party : ℕ) (mode : Mode) → held_entries es ≡ held_entries r.entries
     → lets_in (record r { entries = es }) party mode ≡ lets_in r party mode
 lets_in-same_held r es party mode same =
-    ap (λ (hs : List Entry). if is_reentrant r.kind then all_of_party party hs && nat_lt (length hs) r.limit
-    else admits r.limit (bag_of (modes_of_entries hs)) mode) same
+    ap (λ (hs : List Entry). passes r.bar party mode && (if is_reentrant r.kind then all_of_party party hs && nat_lt (length hs) r.limit
+    else admits r.limit (bag_of (modes_of_entries hs)) mode)) same
 
 -- the party of what is held
 
@@ -119,8 +128,8 @@ legal_fewer false limit e more fewer one h =
 
 module _ (r : Register) (party : ℕ) (e : Entry) (more : EntryMap) (one : HasOneMore e more r.entries)
     (own : is_reentrant r.kind ≡ true → e.party ≡ party) where
-  -- a guard that is let in keeps what is held legal
-  pub legal_more : IsTrue (lets_in r party e.mode) → AreLegallyHeld (is_reentrant r.kind) r.limit r.entries
+  -- a guard that fits in keeps what is held legal
+  pub legal_more : IsTrue (fits_in r party e.mode) → AreLegallyHeld (is_reentrant r.kind) r.limit r.entries
       → AreLegallyHeld (is_reentrant r.kind) r.limit more
   legal_more ok h = by_kind (is_reentrant r.kind) refl h
     where
@@ -137,11 +146,11 @@ module _ (r : Register) (party : ℕ) (e : Entry) (more : EntryMap) (one : HasOn
           subst (AreCompatible r.limit) (sym (held_bag-more e more r.entries one))
           (compatible_acquired r.limit (held_bag r.entries) e.mode h (admitted_mode r party e.mode plain ok))
 
-  -- and one that was held beside these is let in again
-  pub lets_in_again : AreLegallyHeld (is_reentrant r.kind) r.limit more → IsTrue (lets_in r party e.mode)
-  lets_in_again h = by_kind (is_reentrant r.kind) refl h
+  -- and one that was held beside these fits in again
+  pub fits_in_again : AreLegallyHeld (is_reentrant r.kind) r.limit more → IsTrue (fits_in r party e.mode)
+  fits_in_again h = by_kind (is_reentrant r.kind) refl h
     where
-      by_kind : (nested : Bool) → is_reentrant r.kind ≡ nested → AreLegallyHeld nested r.limit more → IsTrue (lets_in r party e.mode)
+      by_kind : (nested : Bool) → is_reentrant r.kind ≡ nested → AreLegallyHeld nested r.limit more → IsTrue (fits_in r party e.mode)
       by_kind true nested h =
           let owner : ℕ = h.0.0 in
           let all = subst (λ (hs : List Entry). IsTrue (all_of_party owner hs)) one.more_is h.0.1 in
@@ -149,12 +158,12 @@ module _ (r : Register) (party : ℕ) (e : Entry) (more : EntryMap) (one : HasOn
           let beside = subst (λ (hs : List Entry). IsTrue (all_of_party owner hs)) (sym one.fewer_is) rest.1 in
           let count = held_count-more e more r.entries one in
           let within : held_count more ≤ r.limit = h.1 in
-          lets_in-level r party e.mode nested (record {
+          fits_in-level r party e.mode nested (record {
             own = subst (λ (p : ℕ). IsTrue (all_of_party p (held_entries r.entries))) (sym rest.0 ∙ own nested) beside;
             below = omega (arith, count, within);
           })
       by_kind false plain h =
-          lets_in-mode r party e.mode plain
+          fits_in-mode r party e.mode plain
           (admits-released r.limit (held_bag r.entries) e.mode (subst (AreCompatible r.limit) (held_bag-more e more r.entries one) h))
 
   -- without a level there are fewer than there may be

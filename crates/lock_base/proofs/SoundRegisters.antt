@@ -1,18 +1,19 @@
 -- A sound register stays sound whichever guard comes, goes or changes.
-use Rattle.std.proofs.Common.{◌≡◌, ◌≢◌, ◌<◌, ◌∙◌, Bool, ℕ, ◌+◌, ◌≤◌, true, false, [], ◌∷◌, ◌++◌, length, Some, IsTrue, refl, ap, sym, subst, arith, append-nil}
+use Rattle.std.proofs.Common.{◌≡◌, ◌≢◌, ◌<◌, ◌∙◌, Bool, ℕ, ◌+◌, ◌≤◌, true, false, [], ◌∷◌, ◌++◌, length, if◌then◌else◌, Option, Some, None, IsTrue, refl, ap, sym, subst, arith, append-nil}
 use Rattle.lock_base.specs.declared.machine.mode.Mode.{Mode}
 use Rattle.lock_base.specs.declared.machine.bag.Bag.{Bag}
 use Rattle.lock_base.specs.declared.machine.kind.Kind.{Kind}
 use Rattle.lock_base.specs.declared.machine.kind.Kind.TheVariants.{Mutex, RwLock, Reentrant}
 use Rattle.lock_base.specs.declared.machine.call.Want.{Want}
 use Rattle.lock_base.specs.declared.machine.call.Want.TheVariants.{Lock, Read, Write, UpgradableRead}
-use Rattle.lock_base.specs.Modes.{one_more, is_move, may_become, AreCompatible}
+use Rattle.lock_base.specs.Modes.{one_more, is_exclusive, is_move, may_become, AreCompatible}
 use Rattle.lock_base.specs.Kind.{is_reentrant, is_rwlock}
 use Rattle.lock_base.specs.Entries.{Entry, find, without, update, parked_entry, resumed_entry, in_mode, held_bag}
-use Rattle.lock_base.specs.Register.{Register, empty_register, lets_in, with_guard, without_guard, with_change}
+use Rattle.lock_base.specs.Bar.{bar_after}
+use Rattle.lock_base.specs.Register.{Register, empty_register, fits_in, with_guard, without_guard, with_change, with_bar, after_admission}
 use Rattle.lock_base.specs.Legal.{AreLegallyHeld, AreNumbered}
 use Rattle.lock_base.specs.Refusals.{has_want, mode_of}
-use Rattle.lock_base.specs.Sound.{FitsKind, IsLimitOf, IsModeOf, HaveModesOf, IsSound}
+use Rattle.lock_base.specs.Sound.{FitsKind, IsLimitOf, IsModeOf, HaveModesOf, IsBarOf, IsSound}
 use Rattle.lock_base.proofs.ModeLemmas.{compatible_changed, compatible_empty}
 use Rattle.lock_base.proofs.Splices.{EntryMap, Splice, splice, length-middle, numbered_removed, numbered_changed, numbered_issued}
 use Rattle.lock_base.proofs.HeldEntries.{held_bag-more, more_than_rest, more_than_parked, resumed_is_more, moved_is_more, abandoned_holds_same, issued_is_more}
@@ -24,9 +25,15 @@ start_legal Mutex limit = compatible_empty limit
 start_legal RwLock limit = compatible_empty limit
 start_legal Reentrant limit = ((0, refl), omega arith)
 
+-- no bar fits every kind
+pub no_bar : (kind : Kind) → IsBarOf kind None
+no_bar Mutex = refl
+no_bar RwLock = tt
+no_bar Reentrant = refl
+
 pub empty_sound : (kind : Kind) (places limit : ℕ) → IsLimitOf kind limit → IsSound (empty_register kind places limit)
 empty_sound kind places limit lawful =
-    record { legal = record { held = start_legal kind limit; numbered = omega arith; room = omega arith }; limit = lawful; modes = tt }
+    record { legal = record { held = start_legal kind limit; numbered = omega arith; room = omega arith }; limit = lawful; modes = tt; bar = no_bar kind }
 
 -- the modes of the kind
 
@@ -41,9 +48,9 @@ have_modes_added kind [] x ys mode h = (mode, h)
 have_modes_added kind (e ∷ xs) x ys mode h = (h.0, have_modes_added kind xs x ys mode h.1)
 
 module _ (r : Register) (sound : IsSound r) where
-  pub with_guard_sound : (party : ℕ) (mode : Mode) → IsModeOf r.kind mode → length r.entries ≢ r.places → IsTrue (lets_in r party mode)
+  pub with_guard_sound : (party : ℕ) (mode : Mode) → IsModeOf r.kind mode → length r.entries ≢ r.places → IsTrue (fits_in r party mode)
       → IsSound (with_guard r party mode)
-  with_guard_sound party mode of_kind room let_in =
+  with_guard_sound party mode of_kind room fits =
       let e : Entry = record { party = party; mode = mode; held = true } in
       let one = issued_is_more r.entries (r.last + 1) e refl in
       let rest = append-nil r.entries in
@@ -52,13 +59,14 @@ module _ (r : Register) (sound : IsSound r) where
       let within = sound.legal.room in
       record {
         legal = record {
-          held = legal_more r party e (r.entries ++ (r.last + 1, e) ∷ []) one (λ nested. refl) let_in sound.legal.held;
+          held = legal_more r party e (r.entries ++ (r.last + 1, e) ∷ []) one (λ nested. refl) fits sound.legal.held;
           numbered = numbered_issued 0 r.last r.entries e sound.legal.numbered;
           room = omega arith;
         };
         limit = sound.limit;
         modes = have_modes_added r.kind r.entries (r.last + 1, e) [] of_kind
             (subst (HaveModesOf r.kind) (sym rest) sound.modes);
+        bar = sound.bar;
       }
 
   module _ (guard : ℕ) (e : Entry) (s : Splice guard e r.entries) where
@@ -83,6 +91,7 @@ module _ (r : Register) (sound : IsSound r) where
           };
           limit = sound.limit;
           modes = subst (HaveModesOf r.kind) (sym s.removed) whole_modes.1;
+          bar = sound.bar;
         }
 
     change_sound : (change : Entry → Entry) → IsModeOf r.kind (change e).mode
@@ -104,6 +113,7 @@ module _ (r : Register) (sound : IsSound r) where
           limit = sound.limit;
           modes = subst (HaveModesOf r.kind) (sym (s.updated change))
               (have_modes_added r.kind s.before (guard, change e) s.after mode whole_modes.1);
+          bar = sound.bar;
         }
 
     pub unlocked_sound : IsTrue e.held → IsSound (without_guard r guard)
@@ -118,7 +128,7 @@ module _ (r : Register) (sound : IsSound r) where
         (more_than_parked guard e r.entries s held) sound.legal.held)
 
     pub resumed_sound : (party : ℕ) → e.held ≡ false → (IsTrue (is_reentrant r.kind) → e.party ≡ party)
-        → IsTrue (lets_in r party e.mode)
+        → IsTrue (fits_in r party e.mode)
         → IsSound (with_change r guard resumed_entry)
     resumed_sound party free own ok =
         change_sound resumed_entry whole_modes.0
@@ -212,4 +222,22 @@ raised_sound r higher above sound = record {
   };
   limit = sound.limit;
   modes = sound.modes;
+  bar = sound.bar;
 }
+
+-- another bar of the kind keeps a register sound
+
+pub rwlock_bar : (kind : Kind) (bar : Option ℕ) → IsTrue (is_rwlock kind) → IsBarOf kind bar
+rwlock_bar Mutex bar h = cc
+rwlock_bar RwLock bar h = tt
+rwlock_bar Reentrant bar h = cc
+
+pub with_bar_sound : (r : Register) (bar : Option ℕ) → IsBarOf r.kind bar → IsSound r → IsSound (with_bar r bar)
+with_bar_sound r bar of_kind sound = record { legal = record { held = sound.legal.held; numbered = sound.legal.numbered; room = sound.legal.room }; limit = sound.limit; modes = sound.modes; bar = of_kind }
+
+pub admitted_sound : (r : Register) (mode : Mode) → IsSound r → IsSound (after_admission r mode)
+admitted_sound r mode sound = with_bar_sound r (bar_after r.bar mode) (by_mode (is_exclusive mode)) sound
+  where
+    by_mode : (ends : Bool) → IsBarOf r.kind (if ends then None else r.bar)
+    by_mode true = no_bar r.kind
+    by_mode false = sound.bar

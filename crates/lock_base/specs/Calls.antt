@@ -1,5 +1,5 @@
 -- What each call of the machine answers and leaves. A call that may have to wait answers `None` where it would.
-use Rattle.std.specs.Prelude.{ℕ, ◌+◌, ◌-◌, Bool, not, ◌==◌, if◌then◌else◌, Option, Some, None, Result, Ok, Err}
+use Rattle.std.specs.Prelude.{ℕ, ◌+◌, ◌-◌, Bool, not, ◌==◌, if◌then◌else◌, Option, Some, None, is_some, Result, Ok, Err}
 use Rattle.lock_base.specs.declared.machine.mode.Mode.{Mode}
 use Rattle.lock_base.specs.declared.machine.mode.Mode.TheVariants.{Shared, Exclusive, Upgradable}
 use Rattle.lock_base.specs.declared.machine.call.Want.{Want}
@@ -9,9 +9,9 @@ use Rattle.lock_base.specs.Operation.{Operation}
 use Rattle.lock_base.specs.Modes.{may_become}
 use Rattle.lock_base.specs.Kind.{is_reentrant, is_rwlock}
 use Rattle.lock_base.specs.Entries.{Entry, find, parked_entry, resumed_entry, in_mode, held_bag, held_count}
-use Rattle.lock_base.specs.Register.{Register, lets_in, owns, is_full_count, bumps_token, with_guard, without_guard, with_change}
+use Rattle.lock_base.specs.Register.{Register, lets_in, owns, is_full_count, bumps_token, with_guard, without_guard, with_change, with_bar, after_admission}
 use Rattle.lock_base.specs.Machine.{Machine, after_release, one_spent_more}
-use Rattle.lock_base.specs.Refusals.{Demand, mode_of, acquisition_refusal, guard_refusal, skip_refusal, held_guard, parked_guard, writing_guard, upgradable_guard, unshared_guard, exclusive_guard}
+use Rattle.lock_base.specs.Refusals.{Demand, mode_of, acquisition_refusal, announcement_refusal, withdrawal_refusal, guard_refusal, skip_refusal, held_guard, parked_guard, writing_guard, upgradable_guard, unshared_guard, exclusive_guard}
 
 -- what a call answers, and the machine that it leaves
 pub record Turn (R T : Type 0) : Type 0 where
@@ -46,7 +46,7 @@ module _ {R T : Type 0} where
       unless (guard_refusal m.register demand party guard) m (at_entry (find guard m.entries) m act)
 
 module _ {T : Type 0} where
-  -- the machine with other guards
+  -- the machine with another register
   abbrev pub with_register : Machine T → Register → Machine T
   with_register m r = record m { register = r }
 
@@ -54,7 +54,8 @@ module _ {T : Type 0} where
   acquire m want party =
       unless (acquisition_refusal m.register want party) m
       (if lets_in m.register party (mode_of want)
-      then give (Some (m.last + 1)) (with_register m (with_guard m.register party (mode_of want)))
+      then give (Some (m.last + 1))
+      (with_register m (after_admission (with_guard m.register party (mode_of want)) (mode_of want)))
       else give None m)
 
   -- the held guard is gone
@@ -72,7 +73,7 @@ module _ {T : Type 0} where
   resume m party guard = on_guard m parked_guard party guard (λ e.
       if is_full_count m.register party then refuse m FullCount
       else (if lets_in m.register party e.mode
-      then give tt (with_register m (with_change m.register guard resumed_entry))
+      then give tt (with_register m (after_admission (with_change m.register guard resumed_entry) e.mode))
       else refuse m WouldWait))
 
   -- the parked guard is gone
@@ -116,6 +117,20 @@ module _ {T : Type 0} where
 
   abbrev pub is_owned_by : Machine T → ℕ → Turn Bool T
   is_owned_by m party = if is_reentrant m.kind then give (owns m.register party) m else refuse m WrongKind
+
+  -- the bar is the party's
+  abbrev pub announce : Machine T → ℕ → Turn (Unit {0}) T
+  announce m party = unless (announcement_refusal m.register) m
+      (give tt (with_register m (with_bar m.register (Some party))))
+
+  -- the party's bar is ended
+  abbrev pub withdraw : Machine T → ℕ → Turn (Unit {0}) T
+  withdraw m party = unless (withdrawal_refusal m.register party) m
+      (give tt (with_register m (with_bar m.register None)))
+
+  -- a bar stands
+  abbrev pub is_barred : Machine T → Turn Bool T
+  is_barred m = if is_rwlock m.kind then give (is_some m.bar) m else refuse m WrongKind
 
   -- the next guard has this number
   abbrev pub skip_to : Machine T → ℕ → Turn (Unit {0}) T

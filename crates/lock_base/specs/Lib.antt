@@ -8,6 +8,7 @@ pub mod Levels
 pub mod Tokens
 pub mod Operation
 pub mod Entries
+pub mod Bar
 pub mod Register
 pub mod Machine
 pub mod Refusals

@@ -1,11 +1,12 @@
--- The register of a lock: its kind and its limits, and the guards that are out. It is all that admission looks at.
-use Rattle.std.specs.Prelude.{ℕ, ◌+◌, Bool, true, ◌&&◌, ◌==◌, nat_lt, if◌then◌else◌, List, [], ◌∷◌, ◌++◌}
+-- The register of a lock: its kind and its limits, the guards that are out, and the bar. It is all that admission looks at.
+use Rattle.std.specs.Prelude.{ℕ, ◌+◌, Bool, true, ◌&&◌, ◌==◌, nat_lt, if◌then◌else◌, List, [], ◌∷◌, ◌++◌, Option, None}
 use Rattle.lock_base.specs.declared.machine.mode.Mode.{Mode}
 use Rattle.lock_base.specs.declared.machine.mode.Mode.TheVariants.{Exclusive}
 use Rattle.lock_base.specs.declared.machine.bag.Bag.{Bag}
 use Rattle.lock_base.specs.declared.machine.kind.Kind.{Kind}
 use Rattle.lock_base.specs.Modes.{empty_bag, one_more, admits}
 use Rattle.lock_base.specs.Kind.{is_reentrant}
+use Rattle.lock_base.specs.Bar.{passes, bar_after}
 use Rattle.lock_base.specs.Entries.{Entry, without, update, held_entries, held_bag, held_count, all_of_party, some_of_party}
 
 pub record Register : Type 0 where
@@ -18,18 +19,24 @@ pub record Register : Type 0 where
   pub last : ℕ
   -- the guards that are out, each under its number, by rising numbers
   pub entries : List (ℕ × Entry)
+  -- the party that has announced itself
+  pub bar : Option ℕ
 
--- a register with no guard
+-- a register with no guard and no bar
 abbrev pub empty_register : Kind → ℕ → ℕ → Register
-empty_register kind places limit = record { kind = kind; limit = limit; places = places; last = 0; entries = [] }
+empty_register kind places limit = record { kind = kind; limit = limit; places = places; last = 0; entries = []; bar = None }
 
--- whether a guard of the party and the mode is let in beside those that are held.
+-- whether a guard of the party and the mode fits in beside those that are held.
 -- A reentrant lock asks that all are the party's, and fewer than its levels
-abbrev pub lets_in : Register → ℕ → Mode → Bool
-lets_in r party mode =
+abbrev pub fits_in : Register → ℕ → Mode → Bool
+fits_in r party mode =
     if is_reentrant r.kind
     then all_of_party party (held_entries r.entries) && nat_lt (held_count r.entries) r.limit
     else admits r.limit (held_bag r.entries) mode
+
+-- whether it is let in: it passes the bar, and fits in
+abbrev pub lets_in : Register → ℕ → Mode → Bool
+lets_in r party mode = passes r.bar party mode && fits_in r party mode
 
 -- the party holds a guard
 abbrev pub owns : Register → ℕ → Bool
@@ -59,7 +66,14 @@ moves_token r = if is_reentrant r.kind then held_count r.entries == 0 else true
 abbrev pub bumps_token : Register → Bool
 bumps_token r = if is_reentrant r.kind then held_count r.entries == 1 else true
 
--- a register with other guards
+-- a register with another bar, and with other guards
+
+abbrev pub with_bar : Register → Option ℕ → Register
+with_bar r bar = record r { bar = bar }
+
+-- with the bar that is left once a guard of the mode was let in
+abbrev pub after_admission : Register → Mode → Register
+after_admission r mode = with_bar r (bar_after r.bar mode)
 
 -- with a new held guard of the party, under the next number
 abbrev pub with_guard : Register → ℕ → Mode → Register

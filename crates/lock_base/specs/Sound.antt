@@ -1,5 +1,5 @@
 -- What holds of the register of every machine that a run reaches from a start.
-use Rattle.std.specs.Prelude.{◌≡◌, ℕ, ◌<◌, List, [], ◌∷◌}
+use Rattle.std.specs.Prelude.{◌≡◌, ℕ, ◌<◌, List, [], ◌∷◌, Option, None}
 use Rattle.lock_base.specs.declared.machine.mode.Mode.{Mode}
 use Rattle.lock_base.specs.declared.machine.mode.Mode.TheVariants.{Exclusive}
 use Rattle.lock_base.specs.declared.machine.kind.Kind.{Kind}
@@ -31,8 +31,15 @@ abbrev pub HaveModesOf : Kind → List (ℕ × Entry) → Type 0
 HaveModesOf kind [] = Unit {0}
 HaveModesOf kind (e ∷ es) = IsModeOf kind e.1.mode × HaveModesOf kind es
 
--- a legal register, with the limit and the modes of its kind
+-- a reader-writer lock alone has a bar
+abbrev pub IsBarOf : Kind → Option ℕ → Type 0
+IsBarOf Mutex bar = bar ≡ None
+IsBarOf RwLock bar = Unit {0}
+IsBarOf Reentrant bar = bar ≡ None
+
+-- a legal register, with the limit, the modes and the bar of its kind
 pub record IsSound (r : Register) : Type 0 where
   pub legal : IsLegal r
   pub limit : IsLimitOf r.kind r.limit
   pub modes : HaveModesOf r.kind r.entries
+  pub bar : IsBarOf r.kind r.bar

@@ -1,5 +1,5 @@
 -- All that a call can do to a machine: each law goes by these cases.
-use Rattle.std.proofs.Common.{◌≡◌, ◌≢◌, ℕ, ◌+◌, ◌-◌, ◌^◌, Bool, true, false, not, ◌==◌, if◌then◌else◌, List, [], ◌∷◌, length, Option, Some, None, IsTrue, refl, sym, subst}
+use Rattle.std.proofs.Common.{◌≡◌, ◌≢◌, ℕ, ◌+◌, ◌-◌, ◌^◌, Bool, true, false, not, ◌==◌, if◌then◌else◌, List, [], ◌∷◌, length, Option, Some, None, is_some, IsTrue, refl, sym, subst}
 use Rattle.std.proofs.lemmas.Bool.{not-true, not-false, eqb-false}
 use Rattle.lock_base.specs.declared.machine.mode.Mode.{Mode}
 use Rattle.lock_base.specs.declared.machine.mode.Mode.TheVariants.{Shared, Exclusive, Upgradable}
@@ -20,9 +20,10 @@ use Rattle.lock_base.specs.Party.{id_of}
 use Rattle.lock_base.specs.Modes.{is_move, may_become, is_shared, is_exclusive, is_upgradable}
 use Rattle.lock_base.specs.Kind.{is_reentrant, is_rwlock}
 use Rattle.lock_base.specs.Entries.{Entry, find, parked_entry, resumed_entry, held_bag}
-use Rattle.lock_base.specs.Register.{Register, lets_in, is_full_count, moves_token, bumps_token, with_guard, without_guard, with_change}
+use Rattle.lock_base.specs.Bar.{has_announced}
+use Rattle.lock_base.specs.Register.{Register, lets_in, is_full_count, moves_token, bumps_token, with_guard, without_guard, with_change, with_bar, after_admission}
 use Rattle.lock_base.specs.Machine.{Machine, after_release, one_spent_more}
-use Rattle.lock_base.specs.Refusals.{Demand, mode_of, has_want, acquisition_refusal, held_guard, parked_guard, writing_guard, upgradable_guard, unshared_guard, exclusive_guard}
+use Rattle.lock_base.specs.Refusals.{Demand, mode_of, has_want, acquisition_refusal, announcement_refusal, withdrawal_refusal, held_guard, parked_guard, writing_guard, upgradable_guard, unshared_guard, exclusive_guard}
 use Rattle.lock_base.specs.Calls.{Turn, give, refuse, on_guard, with_register, with_mode, after_operation, park}
 use Rattle.lock_base.specs.Steps.{Response, response_of, response_in_form, done_reply, step}
 use Rattle.lock_base.proofs.SoundRegisters.{want_of_kind, rwlock_is}
@@ -30,7 +31,7 @@ use Rattle.lock_base_laws.specs.Kept.{is_refusal}
 use Rattle.lock_base_laws.specs.Numbers.{numbers_of}
 use Rattle.lock_base.specs.Sound.{IsModeOf}
 use Rattle.lock_base_laws.specs.TokenSteps.{only_if, by_mode, steps_back, asked_steps, token_steps}
-use Rattle.lock_base_laws.proofs.Turns.{Meets, all_passed, of_unless, of_guard, of_both}
+use Rattle.lock_base_laws.proofs.Turns.{Meets, all_passed, both_passed, of_unless, of_guard, of_both}
 
 -- what an acquisition that gives a guard was asked, and found
 pub record LetsIn (r : Register) (party : ℕ) (mode : Mode) : Type 0 where
@@ -46,19 +47,20 @@ pub record IsOut (r : Register) (guard : ℕ) (e : Entry) (is_held : Bool) : Typ
 -- from a machine: the call, its reply, what it asks of the raw state, and the machine after it
 pub data Effect {O T A : Type 0} (m : Machine T) : Call O → Reply A → List ModeStep → Machine T → Type 0 where
   kept : {call : Call O} {reply : Reply A} → numbers_of reply ≡ [] → Effect m call reply [] m
-  acquired : {call : Call O} (party : ℕ) (mode : Mode) → LetsIn m.register party mode
-      → Effect m call (Reply.Guard (m.last + 1)) (only_if (moves_token m.register) (Acquire mode ∷ []))
-      (with_register m (with_guard m.register party mode))
+  acquired : {want : Want} {form : Form} (party : PartyId) (mode : Mode) → LetsIn m.register (id_of party) mode
+      → Effect m (Call.Acquire want form party) (Reply.Guard (m.last + 1)) (only_if (moves_token m.register) (Acquire mode ∷ []))
+      (with_register m (after_admission (with_guard m.register (id_of party) mode) mode))
   unlocked : {call : Call O} (guard : ℕ) (e : Entry) → IsOut m.register guard e true
       → Effect m call Reply.Done (only_if (moves_token (without_guard m.register guard)) (Release e.mode ∷ []))
       (after_release m (without_guard m.register guard))
   parks : {call : Call O} (guard : ℕ) (e : Entry) → IsOut m.register guard e true
       → Effect m call Reply.Done (only_if (moves_token (with_change m.register guard parked_entry)) (Release e.mode ∷ []))
       (after_release m (with_change m.register guard parked_entry))
-  resumes : {call : Call O} (party guard : ℕ) (e : Entry) → IsOut m.register guard e false → (IsTrue (is_reentrant m.kind) → e.party ≡ party)
-      → IsTrue (lets_in m.register party e.mode)
-      → Effect m call Reply.Done (only_if (moves_token m.register) (Acquire e.mode ∷ []))
-      (with_register m (with_change m.register guard resumed_entry))
+  resumes : (party : PartyId) (guard : ℕ) (e : Entry) → IsOut m.register guard e false
+      → (IsTrue (is_reentrant m.kind) → e.party ≡ id_of party)
+      → IsTrue (lets_in m.register (id_of party) e.mode)
+      → Effect m (Call.Resume party guard) Reply.Done (only_if (moves_token m.register) (Acquire e.mode ∷ []))
+      (with_register m (after_admission (with_change m.register guard resumed_entry) e.mode))
   abandoned : {call : Call O} (guard : ℕ) (e : Entry) → IsOut m.register guard e false
       → Effect m call Reply.Done [] (with_register m (without_guard m.register guard))
   bumped : (party : PartyId) (guard : ℕ) (e : Entry) → IsOut m.register guard e true
@@ -66,6 +68,10 @@ pub data Effect {O T A : Type 0} (m : Machine T) : Call O → Reply A → List M
       (record m { spent = if bumps_token m.register then one_spent_more m.spent else m.spent })
   moves : {call : Call O} (guard : ℕ) (e : Entry) (to : Mode) → IsOut m.register guard e true → m.kind ≡ RwLock → IsTrue (is_move e.mode to)
       → IsTrue (may_become (held_bag m.entries) to) → Effect m call Reply.Done (Change e.mode to ∷ []) (with_mode m guard to)
+  announces : (party : PartyId) → IsTrue (is_rwlock m.kind) → m.bar ≡ None
+      → Effect m (Call.Announce party) Reply.Done [] (with_register m (with_bar m.register (Some (id_of party))))
+  withdraws : (party : PartyId) → IsTrue (has_announced m.bar (id_of party))
+      → Effect m (Call.Withdraw party) Reply.Done [] (with_register m (with_bar m.register None))
   written : {party : PartyId} {op : O} (guard : ℕ) (e : Entry) (answer : A) (value : T) → IsOut m.register guard e true
       → is_reentrant m.kind ≡ false → e.mode ≡ Exclusive
       → Effect m (Call.Change party guard op) (Reply.Answer answer) [] (record m { value = value })
@@ -80,10 +86,14 @@ upgradable_is Shared h = cc
 upgradable_is Exclusive h = cc
 upgradable_is Upgradable h = refl
 
-exclusive_is : (mode : Mode) → IsTrue (is_exclusive mode) → mode ≡ Exclusive
+pub exclusive_is : (mode : Mode) → IsTrue (is_exclusive mode) → mode ≡ Exclusive
 exclusive_is Shared h = cc
 exclusive_is Exclusive h = refl
 exclusive_is Upgradable h = cc
+
+no_bar_is : (bar : Option ℕ) → is_some bar ≡ false → bar ≡ None
+no_bar_is None none = refl
+no_bar_is (Some party) none = cc
 
 shared_move : (mode : Mode) → not (is_shared mode) ≡ true → IsTrue (is_move mode Shared)
 shared_move Shared h = cc
@@ -155,7 +165,7 @@ module _ {O T A : Type 0} (meaning : O → Operation T A) (m : Machine T) where
       fault.WrongKind fault.NoPlace fault.NumbersSpent fault.FullCount passed in
       of_both (λ turn. HasEffect O T A m call (response_in_form form Reply.Guard turn))
       (lets_in m.register (id_of party) (mode_of want)) _ _
-      (λ ok. some_given O T A m call form Reply.Guard _ _ (acquired (id_of party) (mode_of want)
+      (λ ok. some_given O T A m call form Reply.Guard _ _ (acquired party (mode_of want)
       (record { mode_of_kind = want_of_kind m.kind want (not-false (has_want m.kind want) all.first); room = eqb-false _ _ all.second; let_in = ok })))
       (λ no. none_kept O T A m call form Reply.Guard))
 
@@ -185,9 +195,10 @@ module _ {O T A : Type 0} (meaning : O → Operation T A) (m : Machine T) where
       (is_full_count m.register (id_of party)) _ _ (λ full. kept refl)
       (λ room. of_both (λ turn. HasEffect O T A m (Call.Resume party guard) (response_of done_reply turn))
       (lets_in m.register (id_of party) e.mode) _ _
-      (λ ok. by_found O T A m (Call.Resume party guard) guard e (with_register m (with_change m.register guard resumed_entry))
+      (λ ok. by_found O T A m (Call.Resume party guard) guard e
+      (with_register m (after_admission (with_change m.register guard resumed_entry) e.mode))
       (λ mode. only_if (moves_token m.register) (Acquire mode ∷ [])) meets.found
-      (resumes (id_of party) guard e (out_of m.register parked_guard (id_of party) guard e meets) meets.own ok))
+      (resumes party guard e (out_of m.register parked_guard (id_of party) guard e meets) meets.own ok))
       (λ no. kept refl)))
 
   of_abandon : (party : PartyId) (guard : ℕ) → HasEffect O T A m (Call.Abandon party guard) (step meaning m (Call.Abandon party guard))
@@ -278,6 +289,27 @@ module _ {O T A : Type 0} (meaning : O → Operation T A) (m : Machine T) where
       of_both (λ turn. HasEffect O T A m (Call.IsOwnedBy party) (response_of Reply.Bool turn)) (is_reentrant m.kind) _ _ (λ has. kept refl)
       (λ lacks. kept refl)
 
+  of_announce : (party : PartyId) → HasEffect O T A m (Call.Announce party) (step meaning m (Call.Announce party))
+  of_announce party =
+      of_unless (λ turn. HasEffect O T A m (Call.Announce party) (response_of done_reply turn)) m
+      (announcement_refusal m.register) _ (λ f. kept refl)
+      (λ passed.
+      let both = both_passed (not (is_rwlock m.kind)) (is_some m.bar) fault.WrongKind fault.Barred passed in
+      announces party (not-false (is_rwlock m.kind) both.0) (no_bar_is m.bar both.1))
+
+  of_withdraw : (party : PartyId) → HasEffect O T A m (Call.Withdraw party) (step meaning m (Call.Withdraw party))
+  of_withdraw party =
+      of_unless (λ turn. HasEffect O T A m (Call.Withdraw party) (response_of done_reply turn)) m
+      (withdrawal_refusal m.register (id_of party)) _ (λ f. kept refl)
+      (λ passed.
+      let own : Bool = has_announced m.bar (id_of party) in
+      withdraws party (not-false own (both_passed (not (is_rwlock m.kind)) (not own) fault.WrongKind fault.NotAnnounced passed).1))
+
+  of_is_barred : HasEffect O T A m Call.IsBarred (step meaning m Call.IsBarred)
+  of_is_barred =
+      of_both (λ turn. HasEffect O T A m Call.IsBarred (response_of Reply.Bool turn)) (is_rwlock m.kind) _ _ (λ has. kept refl)
+      (λ lacks. kept refl)
+
   -- what each call does is one of the effects
   pub effect : (call : Call O) → Effect m call (step meaning m call).reply (token_steps meaning m call) (step meaning m call).machine
   effect (Call.Acquire want form party) = of_acquire want form party
@@ -296,4 +328,7 @@ module _ {O T A : Type 0} (meaning : O → Operation T A) (m : Machine T) where
   effect Call.IsLocked = kept refl
   effect Call.IsLockedExclusive = of_is_locked_exclusive
   effect (Call.IsOwnedBy party) = of_is_owned_by party
+  effect (Call.Announce party) = of_announce party
+  effect (Call.Withdraw party) = of_withdraw party
+  effect Call.IsBarred = of_is_barred
   effect Call.Spent = kept refl

@@ -9,7 +9,7 @@ use Rattle.lock_base.specs.declared.raw.fault.Fault.TheVariants as fault
 use Rattle.lock_base.specs.Modes.{count_of}
 use Rattle.lock_base.specs.Kind.{is_reentrant}
 use Rattle.lock_base.specs.Entries.{Entry, find, resumed_entry, held_bag}
-use Rattle.lock_base.specs.Register.{lets_in, is_full_count, with_guard, with_change}
+use Rattle.lock_base.specs.Register.{lets_in, is_full_count, with_guard, with_change, after_admission}
 use Rattle.lock_base.specs.Machine.{Machine}
 use Rattle.lock_base.specs.Refusals.{mode_of, acquisition_refusal, parked_guard}
 use Rattle.lock_base.specs.Calls.{Turn, blocking_answer, refuse, give, with_register, acquire, resume}
@@ -36,14 +36,14 @@ module _ {T : Type 0} (m : Machine T) where
       asked want party P refused none =
           of_unless P m (acquisition_refusal m.register want party) _ refused
           (λ passed. subst (λ (b : Bool). P (if b then give (Some (m.last + 1))
-          (with_register m (with_guard m.register party (mode_of want))) else give None m))
+          (with_register m (after_admission (with_guard m.register party (mode_of want)) (mode_of want))) else give None m))
           (sym (nobody party (mode_of want))) none)
 
       resume_refused : (party guard : ℕ) → IsErr (resume m party guard).answer
       resume_refused party guard =
           of_guard (λ turn. IsErr turn.answer) m parked_guard party guard _ (λ f. refl)
           (λ e meets. of_both (λ turn. IsErr turn.answer) (is_full_count m.register party) _ _ (λ full. refl)
-          (λ room. subst (λ (b : Bool). IsErr (if b then give tt (with_register m (with_change m.register guard resumed_entry))
+          (λ room. subst (λ (b : Bool). IsErr (if b then give tt (with_register m (after_admission (with_change m.register guard resumed_entry) e.mode))
           else refuse m fault.WouldWait).answer) (sym (nobody party e.mode)) refl))
 
   beside_exclusive : (guard : ℕ) (holder : IsHeld m.register guard) → is_reentrant m.kind ≡ false

@@ -1,24 +1,27 @@
 -- A parked guard is resumed at once.
-use Rattle.std.proofs.Common.{◌≡◌, ℕ, Bool, if◌then◌else◌, refl, ap, sym, ◌∙◌, subst}
+use Rattle.std.proofs.Common.{◌≡◌, ℕ, Bool, true, false, ◌&&◌, if◌then◌else◌, Option, None, refl, ap, sym, ◌∙◌, subst}
+use Rattle.lock_base.specs.declared.machine.mode.Mode.{Mode}
 use Rattle.lock_base.specs.declared.machine.call.Call.{Call}
 use Rattle.lock_base.specs.declared.machine.reply.Reply.{Reply}
 use Rattle.lock_base.specs.declared.raw.fault.Fault.TheVariants as fault
 use Rattle.lock_base.specs.Operation.{Operation}
 use Rattle.lock_base.specs.Party.{id_of}
+use Rattle.lock_base.specs.Modes.{is_exclusive}
 use Rattle.lock_base.specs.Entries.{Entry, parked_entry, resumed_entry}
-use Rattle.lock_base.specs.Register.{Register, lets_in, is_full_count, with_change}
+use Rattle.lock_base.specs.Bar.{passes, bar_after}
+use Rattle.lock_base.specs.Register.{Register, fits_in, lets_in, is_full_count, with_change, after_admission}
 use Rattle.lock_base.specs.Machine.{Machine, after_release}
 use Rattle.lock_base.specs.Refusals.{held_guard, parked_guard}
 use Rattle.lock_base.specs.Calls.{Turn, give, refuse, with_register, park, resume}
 use Rattle.lock_base.specs.Steps.{response_of, reply_of, done_reply}
 use Rattle.lock_base.proofs.Splices.{EntryMap, splice, find-update, update-back}
 use Rattle.lock_base.proofs.HeldEntries.{resumed_entry-parked_entry, more_than_parked}
-use Rattle.lock_base.proofs.Admissions.{lets_in_again, is_full_count-fewer}
+use Rattle.lock_base.proofs.Admissions.{fits_in_again, is_full_count-fewer}
 use Rattle.lock_base.specs.Sound.{IsSound}
 use Rattle.lock_base_laws.specs.Parking.{ParkedIsResumed}
 use Rattle.lock_base_laws.proofs.Turns.{Meets, of_guard, on_guard-met}
 
-module _ {T : Type 0} (m : Machine T) (party guard : ℕ) (sound : IsSound m.register) where
+module _ {T : Type 0} (m : Machine T) (party guard : ℕ) (sound : IsSound m.register) (unbarred : m.bar ≡ None) where
   -- the register with the guard parked
   abbrev left : Register
   left = with_change m.register guard parked_entry
@@ -35,6 +38,14 @@ module _ {T : Type 0} (m : Machine T) (party guard : ℕ) (sound : IsSound m.reg
       (λ e. give tt (after_release m left))
       (λ f refused. cc) (λ e meets _. record { entry = e; meets = meets; machine_is = refl }) answered
 
+  -- no bar is left where none stands
+  still_unbarred : (mode : Mode) → bar_after m.bar mode ≡ m.bar
+  still_unbarred mode = ap (λ (bar : Option ℕ). bar_after bar mode) unbarred ∙ by_mode (is_exclusive mode) ∙ sym unbarred
+    where
+      by_mode : (ends : Bool) → ◌≡◌ {A = Option ℕ} (if ends then None else None) None
+      by_mode true = refl
+      by_mode false = refl
+
   resumed_turn : (e : Entry) → Meets m.register held_guard party guard e
       → resume (after_release m left) party guard ≡ give tt (record m { spent = (after_release m left).spent })
   resumed_turn e meets =
@@ -47,28 +58,32 @@ module _ {T : Type 0} (m : Machine T) (party guard : ℕ) (sound : IsSound m.reg
         held = refl;
         in_mode = refl;
       } in
-      let held_again : Turn (Unit {0}) T = give tt (with_register next (with_change left guard resumed_entry)) in
+      let held_again : Turn (Unit {0}) T = give tt (with_register next (after_admission (with_change left guard resumed_entry) e.mode)) in
       let if_let_in : Turn (Unit {0}) T = (if lets_in left party e.mode then held_again else refuse next fault.WouldWait) in
       on_guard-met next parked_guard party guard
       (λ x. if is_full_count left party then refuse next fault.FullCount
-      else (if lets_in left party x.mode then held_again else refuse next fault.WouldWait))
+      else (if lets_in left party x.mode
+      then give tt (with_register next (after_admission (with_change left guard resumed_entry) x.mode))
+      else refuse next fault.WouldWait))
       (parked_entry e) meets_parked
       ∙ ap (λ (b : Bool). if b then refuse next fault.FullCount else if_let_in)
       (is_full_count-fewer left party e m.entries one meets.own sound.legal.held)
       ∙ ap (λ (b : Bool). if b then held_again else refuse next fault.WouldWait)
-      (lets_in_again left party e m.entries one meets.own sound.legal.held)
+      (ap (λ (bar : Option ℕ). passes bar party e.mode && fits_in left party e.mode) unbarred
+      ∙ fits_in_again left party e m.entries one meets.own sound.legal.held)
+      ∙ ap (λ (bar : Option ℕ). give tt (with_register next (record (with_change left guard resumed_entry) { bar = bar }))) (still_unbarred e.mode)
       ∙ ap (λ (es : EntryMap). give tt (with_register next (record left { entries = es })))
       (update-back guard parked_entry resumed_entry e m.entries meets.found (resumed_entry-parked_entry e meets.held))
 
 module _ {O T A : Type 0} (meaning : O → Operation T A) where
   -- whichever call parked it
   pub parked_is_resumed : ParkedIsResumed meaning Call.Park
-  parked_is_resumed m party guard sound answered =
-      let p = parked_turn m (id_of party) guard sound {A = A} answered in
+  parked_is_resumed m party guard sound unbarred answered =
+      let p = parked_turn m (id_of party) guard sound unbarred {A = A} answered in
       subst (λ (next : Machine T). response_of (done_reply {A = A}) (resume next (id_of party) guard)
       ≡ record { reply = Reply.Done; machine = record m { spent = next.spent } }) (sym p.machine_is)
       (ap (λ (turn : Turn (Unit {0}) T). response_of (done_reply {A = A}) turn)
-      (resumed_turn m (id_of party) guard sound p.entry p.meets))
+      (resumed_turn m (id_of party) guard sound unbarred p.entry p.meets))
 
   pub fairly_parked_is_resumed : ParkedIsResumed meaning Call.ParkFair
   fairly_parked_is_resumed = parked_is_resumed

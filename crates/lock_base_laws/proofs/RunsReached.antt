@@ -1,16 +1,18 @@
 -- Each call keeps a machine sound, so every run does.
-use Rattle.std.proofs.Common.{◌∙◌, ℕ, Bool, List, [], ◌∷◌, refl}
+use Rattle.std.proofs.Common.{◌∙◌, ℕ, Bool, List, [], ◌∷◌, Some, None, refl}
 use Rattle.lock_base.specs.declared.machine.mode_step.ModeStep.{ModeStep}
 use Rattle.lock_base.specs.declared.machine.call.Call.{Call}
 use Rattle.lock_base.specs.declared.machine.reply.Reply.{Reply}
 use Rattle.lock_base.specs.Operation.{Operation}
-use Rattle.lock_base.specs.Entries.{Entry}
-use Rattle.lock_base.specs.Register.{Register}
+use Rattle.lock_base.specs.Entries.{Entry, resumed_entry}
+use Rattle.lock_base.specs.Register.{Register, with_guard, with_change}
 use Rattle.lock_base.specs.Machine.{Machine, start}
 use Rattle.lock_base.specs.Sound.{IsSound}
 use Rattle.lock_base.specs.Steps.{step}
 use Rattle.lock_base.proofs.Splices.{Splice, splice}
-use Rattle.lock_base.proofs.SoundRegisters.{empty_sound, with_guard_sound, unlocked_sound, parked_sound, resumed_sound, abandoned_sound, moved_sound}
+use Rattle.lock_base.proofs.SoundRegisters.{empty_sound, with_guard_sound, unlocked_sound, parked_sound, resumed_sound, abandoned_sound, moved_sound, with_bar_sound, admitted_sound, no_bar, rwlock_bar}
+use Rattle.lock_base.specs.Party.{id_of}
+use Rattle.lock_base.proofs.Admissions.{fitted_in}
 use Rattle.lock_base_laws.specs.SoundRuns.{RunsAreSound, CallsKeepSound, KeepsLimits, RunsKeepLimits}
 use Rattle.lock_base_laws.proofs.Effects.{Effect, effect, IsOut}
 
@@ -23,15 +25,21 @@ module _ {O T A : Type 0} (m : Machine T) (sound : IsSound m.register) where
       → IsSound after.register
   effect_sound (Effect.kept unnumbered) = sound
   effect_sound (Effect.acquired party mode lets) =
-      with_guard_sound m.register sound party mode lets.mode_of_kind lets.room lets.let_in
+      admitted_sound (with_guard m.register (id_of party) mode) mode
+      (with_guard_sound m.register sound (id_of party) mode lets.mode_of_kind lets.room
+      (fitted_in m.register (id_of party) mode lets.let_in))
   effect_sound (Effect.unlocked guard e out) = unlocked_sound m.register sound guard e (at_guard m.register guard e _ out) out.held
   effect_sound (Effect.parks guard e out) = parked_sound m.register sound guard e (at_guard m.register guard e _ out) out.held
   effect_sound (Effect.resumes party guard e out own ok) =
-      resumed_sound m.register sound guard e (at_guard m.register guard e _ out) party out.held own ok
+      admitted_sound (with_change m.register guard resumed_entry) e.mode
+      (resumed_sound m.register sound guard e (at_guard m.register guard e _ out) (id_of party) out.held own (fitted_in m.register (id_of party) e.mode ok))
   effect_sound (Effect.abandoned guard e out) = abandoned_sound m.register sound guard e (at_guard m.register guard e _ out) out.held
   effect_sound (Effect.bumped party guard e out) = sound
   effect_sound (Effect.moves guard e to out kind move sole) =
       moved_sound m.register sound guard e (at_guard m.register guard e _ out) to out.held kind move sole
+  effect_sound (Effect.announces party kind none) =
+      with_bar_sound m.register (Some (id_of party)) (rwlock_bar m.kind (Some (id_of party)) kind) sound
+  effect_sound (Effect.withdraws party own) = with_bar_sound m.register None (no_bar m.kind) sound
   effect_sound (Effect.written guard e answer value out kind mode) = sound
   effect_sound (Effect.written_upgraded guard e answer value out kind mode sole) = sound
 

@@ -29,6 +29,9 @@ has_call kind (Call.WithUpgraded _ party guard op) = is_rwlock kind
 has_call kind (Call.Change party guard op) = not (is_reentrant kind)
 has_call kind Call.IsLockedExclusive = is_rwlock kind
 has_call kind (Call.IsOwnedBy party) = is_reentrant kind
+has_call kind (Call.Announce party) = is_rwlock kind
+has_call kind (Call.Withdraw party) = is_rwlock kind
+has_call kind Call.IsBarred = is_rwlock kind
 has_call kind _ = true
 
 module _ {O T A : Type 0} (meaning : O → Operation T A) where

@@ -12,14 +12,14 @@ use Rattle.lock_base.specs.Kind.{is_reentrant}
 use Rattle.lock_base.specs.Party.{id_of}
 use Rattle.lock_base.specs.Modes.{AreCompatible, empty_bag, bag_of, one_more, is_move, admits, may_become}
 use Rattle.lock_base.specs.Entries.{Entry, parked_entry, held_bag, in_mode, modes_of_entries, all_of_party, some_of_party}
-use Rattle.lock_base.specs.Register.{lets_in, is_full_count, tokens_of, token_limit, moves_token, bumps_token, with_change}
+use Rattle.lock_base.specs.Register.{fits_in, is_full_count, tokens_of, token_limit, moves_token, bumps_token, with_change}
 use Rattle.lock_base.specs.Legal.{AreLegallyHeld}
 use Rattle.lock_base.specs.Tokens.{count, SameBag, bag_of_tokens, modes_of, IsOut, Removes, Adds}
 use Rattle.lock_base.proofs.TokenBags.{count-append, same_length, same_as_none, bag_of_same}
 use Rattle.lock_base.proofs.ModeLemmas.{compatible_empty, compatible_acquired, compatible_released, compatible_changed}
 use Rattle.lock_base.proofs.Splices.{splice}
 use Rattle.lock_base.proofs.HeldEntries.{more_than_parked}
-use Rattle.lock_base.proofs.Admissions.{lets_in_again}
+use Rattle.lock_base.proofs.Admissions.{fits_in_again}
 use Rattle.lock_desk.specs.declared.slot.Hold.{Hold}
 use Rattle.lock_desk.specs.declared.slot.Hold.TheVariants.{Parked, Token, Level}
 use Rattle.lock_desk.specs.declared.slot.Slot.{Slot}
@@ -53,13 +53,17 @@ module _ {K : Type 0} where
   still_positive old new k p = subst (λ n. 0 < n) (sym k.limit) p
 
   -- nothing is backed where no token is out
-  pub nothing_backed : (kind : Kind) (limit places : ℕ) → 0 < limit → AreBacked {K = K} [] (record { kind = kind; capacity = places; tokens = []; levels = unowned limit })
+  pub nothing_backed : (kind : Kind) (limit places : ℕ) → 0 < limit → AreBacked {K = K} [] (record { kind = kind; capacity = places; tokens = []; levels = unowned limit; bar = None })
   nothing_backed kind limit places l = record {
     bag = record { counts = λ test. refl };
     holders = elim (is_reentrant kind) as (λ b. AreHeldBy {K = K} b [] None) [ true ↦ (tt, refl) | false ↦ (tt, refl) ];
     compatible = compatible_empty (token_limit kind limit);
     positive = l;
   }
+
+  -- the bar backs nothing
+  pub barred_backed : (ss : List (ℕ × Slot K)) (t : Backing K) (bar : Option ℕ) → AreBacked ss t → AreBacked ss (record t { bar = bar })
+  barred_backed ss t bar b = record { bag = b.bag; holders = b.holders; compatible = b.compatible; positive = b.positive }
 
   -- Parked slots
 
@@ -217,13 +221,13 @@ module _ {K : Type 0} where
       by_nesting false n = rw n (bag_of_held ss t n b)
 
   pub admitted_level : (r : Bool) (party : ℕ) (mode : Mode) (places last : ℕ) (ss : List (ℕ × Slot K)) (t : Backing K) → is_reentrant t.kind ≡ true
-      → r ≡ may_enter t.levels.limit party t.levels.owner → AreBacked ss t → r ≡ lets_in (register_of t places last ss) party mode
+      → r ≡ may_enter t.levels.limit party t.levels.owner → AreBacked ss t → r ≡ fits_in (register_of t places last ss) party mode
   admitted_level r party mode places last ss t n e b =
       rw n (e ∙ may_enter-held t.levels.limit party t.levels.owner (held_of ss) b.positive (of_reentrant ss t n b).1)
 
   admitted_own : (r : Bool) (party : ℕ) (mode : Mode) (places last : ℕ) (ss : List (ℕ × Slot K)) (t : Backing K) → is_reentrant t.kind ≡ false
       → r ≡ admits (token_limit t.kind t.levels.limit) (bag_of_tokens t.tokens) mode → AreBacked ss t
-      → r ≡ lets_in (register_of t places last ss) party mode
+      → r ≡ fits_in (register_of t places last ss) party mode
   admitted_own r party mode places last ss t n e b =
       let held : r ≡ admits (token_limit t.kind t.levels.limit) (held_bag (entries_of ss)) mode = e ∙ ap (λ g. admits (token_limit t.kind t.levels.limit) g mode) (bag_of_held ss t n b) in
       rw n (rw n at held)
@@ -238,9 +242,9 @@ module _ {K : Type 0} where
 
   pub admitted_token : (r : Bool) (party : ℕ) (mode : Mode) (places last : ℕ) (ss : List (ℕ × Slot K)) (seen t : Backing K) → seen ≡ t
       → is_reentrant seen.kind ≡ false → r ≡ admits (token_limit seen.kind seen.levels.limit) (bag_of_tokens seen.tokens) mode → AreBacked ss t
-      → r ≡ lets_in (register_of t places last ss) party mode
+      → r ≡ fits_in (register_of t places last ss) party mode
   admitted_token r party mode places last ss seen t same n e b =
-      subst (λ u. r ≡ lets_in (register_of u places last ss) party mode) same
+      subst (λ u. r ≡ fits_in (register_of u places last ss) party mode) same
       (admitted_own r party mode places last ss seen n e (subst (λ u. AreBacked ss u) (sym same) b))
 
   -- What room is left
@@ -411,15 +415,15 @@ module _ {K : Type 0} where
           subst (λ g. AreCompatible t.levels.limit g) (bag_of_held ss t n b)
           (subst (λ l. AreCompatible l (bag_of_tokens t.tokens)) behind b.compatible)
 
-  -- a guard that gives its token back is let in again
-  pub lets_in_after_park : (n places last : ℕ) (ss : List (ℕ × Slot K)) (s : Slot K) (t : Backing K) → items.find n ss ≡ Some s
+  -- a guard that gives its token back fits in again
+  pub fits_in_after_park : (n places last : ℕ) (ss : List (ℕ × Slot K)) (s : Slot K) (t : Backing K) → items.find n ss ≡ Some s
       → is_held s.hold ≡ true → bumps t (id_of s.party) ≡ true → AreBacked ss t
-      → lets_in (with_change (register_of t places last ss) n parked_entry) (id_of s.party) s.mode ≡ true
-  lets_in_after_park n places last ss s t e held may b =
+      → fits_in (with_change (register_of t places last ss) n parked_entry) (id_of s.party) s.mode ≡ true
+  fits_in_after_park n places last ss s t e held may b =
       let levels : is_reentrant t.kind ≡ true → level_of t.levels (id_of s.party) ≡ length (held_of ss) = λ nested. held_levels s ss _ t nested (differs_found n ss s e) held b in
       let one : is_reentrant t.kind ≡ true → length (held_of ss) ≡ 1 = λ nested. sym (levels nested) ∙ eqb-true (level_of t.levels (id_of s.party)) 1 (rw nested at may) in
       let place = splice n (shown s) (entries_of ss) (entry_found n ss s e) in
-      lets_in_again (with_change (register_of t places last ss) n parked_entry) (id_of s.party) (shown s) (entries_of ss)
+      fits_in_again (with_change (register_of t places last ss) n parked_entry) (id_of s.party) (shown s) (entries_of ss)
       (more_than_parked n (shown s) (entries_of ss) place held) (λ nested. refl) (held_legally ss t one b)
 
   pub bumps_backed : (n places last : ℕ) (ss : List (ℕ × Slot K)) (s : Slot K) (t : Backing K) → items.find n ss ≡ Some s → is_held s.hold ≡ true → AreBacked ss t

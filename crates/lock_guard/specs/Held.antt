@@ -28,7 +28,7 @@ module _ {L V K W X : Type 0} {g : _} where
       ap (λ f. let made : Held L V K W X g = record { lock = lock; inner = inner; filled = f } in made)
       (Bool-set _ _ p q)
 
-  same_held_at : (a b : Held L V K W X g) → a.lock ≡ b.lock → a.inner ≡ b.inner → a ≡ b
+  pub same_held_at : (a b : Held L V K W X g) → a.lock ≡ b.lock → a.inner ≡ b.inner → a ≡ b
   same_held_at a b lock inner = λ i. record {
     lock = lock i;
     inner = inner i;

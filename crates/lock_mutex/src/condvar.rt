@@ -19,6 +19,7 @@ pub struct Condvar<C> {
 
 impl<C: RawCondvar> Condvar<C> {
     ghost use Rattle.lock_guard.specs.Held.{held_value};
+    ghost use Rattle.lock_mutex.specs.Condvar.{raw_condvar_of};
     ghost use Rattle.lock_mutex.specs.MutexGuard.{held_of};
 
     pub fn new(alloc: Global) -> Result<Condvar<C>, Fault>
@@ -36,7 +37,10 @@ impl<C: RawCondvar> Condvar<C> {
         Condvar::new(alloc)
     }
 
-    pub fn raw(&self) -> &C {
+    /// The raw condition variable that it was made of.
+    pub fn raw(&self) -> &C
+        ensures { result.now ≡ raw_condvar_of self.now }
+    {
         &self.raw
     }
 

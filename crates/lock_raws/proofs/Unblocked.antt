@@ -11,7 +11,9 @@ use Rattle.lock_base.specs.declared.machine.bag.Bag.{Bag}
 use Rattle.lock_base.specs.Modes.{tokens, admits, count_of, one_less}
 use Rattle.lock_base.specs.ModeRuns.{has, Permits, bag_after}
 use Rattle.lock_base.specs.Tokens.{bag_of_tokens}
-use Rattle.lock_raws.specs.Unblocking.{unblocks, may_upgrade}
+use Rattle.lock_raws.specs.declared.wake.Wake.{Wake}
+use Rattle.lock_raws.specs.declared.wake.Wake.TheVariants.{Nobody}
+use Rattle.lock_raws.specs.Unblocking.{unblocks, may_upgrade, whom_to_wake, wakes}
 use Rattle.lock_base.proofs.ModeLemmas.{tokens-one_more}
 use Rattle.lock_base.proofs.TokenSteps.{MakesStep}
 
@@ -22,15 +24,19 @@ not_and false = refl
 none_of : {a b c d : Bool} → a ≡ false → b ≡ false → c ≡ false → d ≡ false → (a || (b || (c || d))) ≡ false
 none_of {a} {b} {c} {d} p q r s = rw (p, q, r, s) refl
 
+and_none : (x : Bool) {y : Bool} → y ≡ false → (x && y) ≡ false
+and_none true none = none
+and_none false none = refl
+
 pub on_true : {P : Type 0} (b : Bool) → b ≡ true → OnTrue b P → P
 on_true true is p = p
 on_true false is p = absurd (false≢true is)
 
 -- where nothing was changed nobody can get on who could not before
-pub unblocks_none : (limit : ℕ) (b : Bag) → unblocks limit b b ≡ false
-unblocks_none limit b =
-    none_of (not_and (admits limit b Shared)) (not_and (admits limit b Exclusive)) (not_and (admits limit b Upgradable))
-    (not_and (may_upgrade b))
+unblocks_none : (limit : ℕ) (bar : Bool) (b : Bag) → unblocks limit bar b b ≡ false
+unblocks_none limit bar b =
+    none_of (and_none (not bar) (not_and (admits limit b Shared))) (not_and (admits limit b Exclusive))
+    (and_none (not bar) (not_and (admits limit b Upgradable))) (not_and (may_upgrade b))
 
 -- a step that may be made has what it gives up
 pub has_permitted : (limit : ℕ) (b : Bag) (step : ModeStep) → Permits limit b step → has b step ≡ true
@@ -51,16 +57,19 @@ tokens-bag_after b (Change from to) = omega (arith, tokens-one_more (one_less b 
 
 module _ {K : Type 0} where
   -- what was asked of the bags before and after a step is asked of the tokens
-  pub unblocked_by : {old new : List (K × Mode)} {limit limit' : ℕ} {before after : Bag} {answer : Bool} (step : ModeStep)
+  pub woken_by : {old new : List (K × Mode)} {limit limit' : ℕ} {bar bar' : Bool} {before after : Bag} {answer : Wake} (step : ModeStep)
       → MakesStep limit old new step → before ≡ bag_of_tokens old → after ≡ bag_after before step
-      → limit' ≡ limit → answer ≡ unblocks limit' before after
-      → answer ≡ unblocks limit (bag_of_tokens old) (bag_of_tokens new)
-  unblocked_by {old} {new} {limit} {limit'} {before} {after} step made was is same_limit asked =
-      asked ∙ (ap (λ l. unblocks l before after) same_limit
-      ∙ (ap (λ b. unblocks limit b after) was
-      ∙ ap (λ b. unblocks limit (bag_of_tokens old) b) (is ∙ ap (λ b. bag_after b step) was ∙ sym made.after)))
+      → limit' ≡ limit → bar' ≡ bar → answer ≡ wakes limit' bar' before after
+      → answer ≡ wakes limit bar (bag_of_tokens old) (bag_of_tokens new)
+  woken_by {old} {new} {limit} {limit'} {bar} {bar'} {before} {after} step made was is same_limit same_bar asked =
+      asked ∙ (ap (λ l. wakes l bar' before after) same_limit
+      ∙ (ap (λ x. wakes limit x before after) same_bar
+      ∙ (ap (λ b. wakes limit bar b after) was
+      ∙ ap (λ b. wakes limit bar (bag_of_tokens old) b) (is ∙ ap (λ b. bag_after b step) was ∙ sym made.after))))
 
   -- and where no step was made
-  pub unblocked_none : {old new : List (K × Mode)} (limit : ℕ) → new ≡ old → false ≡ unblocks limit (bag_of_tokens old) (bag_of_tokens new)
-  unblocked_none {old} {new} limit same =
-      sym (unblocks_none limit (bag_of_tokens old)) ∙ ap (λ (ts : List (K × Mode)). unblocks limit (bag_of_tokens old) (bag_of_tokens ts)) (sym same)
+  pub woken_none : {old new : List (K × Mode)} (limit : ℕ) (bar : Bool) → new ≡ old
+      → Nobody ≡ wakes limit bar (bag_of_tokens old) (bag_of_tokens new)
+  woken_none {old} {new} limit bar same =
+      ap (λ unblocked. whom_to_wake limit bar unblocked) (sym (unblocks_none limit bar (bag_of_tokens old)))
+      ∙ ap (λ (ts : List (K × Mode)). wakes limit bar (bag_of_tokens old) (bag_of_tokens ts)) (sym same)

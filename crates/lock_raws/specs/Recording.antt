@@ -1,5 +1,5 @@
 -- The tokens that are out of a lock, with the journal of its steps.
-use Rattle.std.specs.Prelude.{◌≡◌, ℕ, List, Option, Some, None}
+use Rattle.std.specs.Prelude.{◌≡◌, ℕ, Bool, List, Option, Some, None}
 use Rattle.lock_base.specs.declared.machine.mode.Mode.{Mode}
 use Rattle.lock_base.specs.declared.machine.mode_step.ModeStep.{ModeStep}
 use Rattle.lock_base.specs.Tokens.{bag_of_tokens}
@@ -8,6 +8,7 @@ use Rattle.lock_raws.specs.Journal.{Journal, written, IsJournalOf}
 
 pub record Recording (K : Type 0) : Type 0 where
   pub tokens_out : List (K × Mode)
+  pub bar : Bool
   pub readers : ℕ
   pub journal : Journal
 

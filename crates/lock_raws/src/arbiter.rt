@@ -1,5 +1,5 @@
 //! Who decides which tokens are out of a raw lock.
-ghost use Rattle.std.specs.Prelude.{◌≡◌, ℕ, List, [], ◌↔◌, IsTrue, Option, if◌then◌else◌, is_some, is_ok, ◌<◌, ◌^◌, IfOk, IfErr, IfSome, IfNone, OnErr};
+ghost use Rattle.std.specs.Prelude.{◌≡◌, ℕ, Bool, false, not, ◌&&◌, ◌||◌, List, [], ◌↔◌, IsTrue, Option, if◌then◌else◌, is_some, is_ok, ◌<◌, ◌^◌, IfOk, IfErr, IfSome, IfNone, OnErr};
 ghost use Rattle.std.specs.Bool.{OnTrue, OnFalse};
 ghost use Rattle.lock_base.specs.declared.machine.mode.Mode.{Mode};
 ghost use Rattle.lock_base.specs.declared.machine.mode_step.ModeStep.{ModeStep};
@@ -19,8 +19,8 @@ pub struct Unchanged<T> {
     pub is_out: bool,
 }
 
-/// The tokens that are out of a raw lock, which always may be out together. A token that is not out in its mode is
-/// ignored.
+/// The tokens that are out of a raw lock, which always may be out together, and a bar or none. A token that is not out
+/// in its mode is ignored. A bar refuses every new token, and nothing else.
 pub trait Arbiter: Sized + Drop {
     type Token: Drop;
 
@@ -30,18 +30,25 @@ pub trait Arbiter: Sized + Drop {
     /// How many tokens may be shared or upgradable.
     ghost reader_limit: { Self → ℕ };
 
+    /// Whether a bar stands.
+    ghost bar: { Self → Bool };
+
+    /// Whether a bar can be set.
+    ghost has_bars: { Bool };
+
     /// What a new arbiter keeps beside its tokens.
     ghost starts: { Self → Type 0 };
 
     /// What a call does beside the tokens, from the arbiter before it to the one after it, where it made this step or none.
     ghost records: { Self → Self → Option ModeStep → Type 0 };
 
-    /// An arbiter with no token out. `BadLimits` where `readers` is no limit, else refused for want of memory alone.
+    /// An arbiter with no token out and no bar. `BadLimits` where `readers` is no limit, else refused for want of memory alone.
     fn new(alloc: Global, readers: u64) -> Result<Self, Fault>
         ensures limits { (result ≡ Err Fault.BadLimits) ↔ (IsLimit readers → ⊥) }
         ensures in_range { IfOk result (λ _. IsLimit readers) }
         ensures fault { IfErr result IsMakerFault }
         ensures empty { IfOk result (λ made. tokens_out made ≡ []) }
+        ensures unbarred { IfOk result (λ made. bar made ≡ false) }
         ensures limit_kept { IfOk result (λ made. reader_limit made ≡ readers) }
         ensures kept { IfOk result starts };
 
@@ -55,12 +62,32 @@ pub trait Arbiter: Sized + Drop {
     fn readers(&self) -> u64
         ensures { result ≡ reader_limit self.now };
 
-    /// A new token of the mode, exactly where it is admitted.
+    /// Whether a bar stands.
+    fn barred(&self) -> bool
+        ensures { result ≡ bar self.now };
+
+    /// Sets a bar where none stands and there are bars. Whether it did.
+    fn announce(&mut self) -> bool
+        ensures announced { result ≡ (has_bars && not (bar self.old)) }
+        ensures bar { bar self.new ≡ (bar self.old || result) }
+        ensures tokens_kept { tokens_out self.new ≡ tokens_out self.old }
+        ensures limit_kept { reader_limit self.new ≡ reader_limit self.old }
+        ensures recorded { records self.old self.new None };
+
+    /// Ends the bar.
+    fn withdraw(&mut self)
+        ensures bar { bar self.new ≡ false }
+        ensures tokens_kept { tokens_out self.new ≡ tokens_out self.old }
+        ensures limit_kept { reader_limit self.new ≡ reader_limit self.old }
+        ensures recorded { records self.old self.new None };
+
+    /// A new token of the mode, exactly where it is admitted and no bar stands.
     fn admit(&mut self, mode: Mode) -> Option<Self::Token>
         ensures admitted { is_some result
-            ≡ admits (reader_limit self.old) (bag_of_tokens (tokens_out self.old)) mode }
+            ≡ (not (bar self.old) && admits (reader_limit self.old) (bag_of_tokens (tokens_out self.old)) mode) }
         ensures added { IfSome result (λ token. Adds (tokens_out self.old) (tokens_out self.new) token mode) }
         ensures refused { IfNone result (tokens_out self.new ≡ tokens_out self.old) }
+        ensures bar_kept { bar self.new ≡ bar self.old }
         ensures limit_kept { reader_limit self.new ≡ reader_limit self.old }
         ensures recorded { records self.old self.new (if is_some result then Some (ModeStep.Acquire mode) else None) };
 
@@ -69,6 +96,7 @@ pub trait Arbiter: Sized + Drop {
         ensures was_out { IsTrue result ↔ IsOutAs (tokens_out self.old) token mode }
         ensures removed { OnTrue result (Removes (tokens_out self.old) (tokens_out self.new) token) }
         ensures ignored { OnFalse result (tokens_out self.new ≡ tokens_out self.old) }
+        ensures bar_kept { bar self.new ≡ bar self.old }
         ensures limit_kept { reader_limit self.new ≡ reader_limit self.old }
         ensures recorded { records self.old self.new (if result then Some (ModeStep.Release mode) else None) };
 
@@ -88,6 +116,7 @@ pub trait Arbiter: Sized + Drop {
         ensures token_returned { IfErr result (λ same. same.token ≡ token) }
         ensures is_out { IfErr result (λ same. IsTrue same.is_out ↔ IsOutAs (tokens_out self.old) token from) }
         ensures refused { OnErr result (tokens_out self.new ≡ tokens_out self.old) }
+        ensures bar_kept { bar self.new ≡ bar self.old }
         ensures limit_kept { reader_limit self.new ≡ reader_limit self.old }
         ensures recorded { records self.old self.new (if is_ok result then Some (ModeStep.Change from to) else None) };
 }

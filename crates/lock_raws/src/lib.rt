@@ -1,6 +1,7 @@
 //! Raw locks: one that carries all raw traits over what acquires, tries, releases and changes, and a lock of std's round an arbiter for that.
 #![tactic(auto)]
 
+mod announcing;
 mod arbiter;
 mod lock_core;
 mod monitor;
@@ -15,6 +16,7 @@ mod token_arbiter;
 mod token_raw;
 mod tokens;
 mod unblocking;
+mod wake;
 
 pub use arbiter::{Arbiter, Unchanged};
 pub use lock_base::machine::ModeStep;
@@ -27,3 +29,4 @@ pub use spurious_condvar::SpuriousCondvar;
 pub use token_arbiter::TokenArbiter;
 pub use token_raw::{TableArbiter, TokenRaw};
 pub use tokens::{ExclusiveToken, SharedToken, UpgradableToken};
+pub use wake::Wake;

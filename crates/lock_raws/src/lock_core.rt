@@ -41,6 +41,11 @@ pub trait LockCore: Sized + Drop {
     /// Waits until the mode is admitted.
     fn acquire(&self, mode: Mode) -> Self::Token;
 
+    /// Waits until an exclusive token is admitted. While it waits it may keep out all that come later.
+    fn acquire_announced(&self) -> Self::Token {
+        self.acquire(Mode::Exclusive)
+    }
+
     /// None where `acquire` would wait.
     fn try_acquire(&self, mode: Mode) -> Option<Self::Token>;
 
@@ -53,14 +58,16 @@ pub trait LockCore: Sized + Drop {
     fn upgrade(&self, token: Self::Token) -> Self::Token;
 
     /// The same token back where `upgrade` would wait.
-    fn try_upgrade(&self, token: Self::Token) -> Result<Self::Token, Self::Token>;
+    fn try_upgrade(&self, token: Self::Token) -> Result<Self::Token, Self::Token>
+        ensures { IfErr result (λ back. back ≡ token) };
 
     /// The same token back where another was out until then.
     fn try_upgrade_until(
         &self,
         token: Self::Token,
         deadline: Self::Instant,
-    ) -> Result<Self::Token, Self::Token>;
+    ) -> Result<Self::Token, Self::Token>
+        ensures { IfErr result (λ back. back ≡ token) };
 
     /// A shared token for the exclusive one.
     fn downgrade(&self, token: Self::Token) -> Self::Token;

@@ -1,10 +1,12 @@
 //! An arbiter behind a lock of std's.
-ghost use Rattle.std.specs.Prelude.{IsTrue};
+ghost use Rattle.std.specs.Prelude.{◌≡◌, IsTrue, IfErr};
 ghost use Rattle.lock_base.specs.Modes.{is_move};
 
+use crate::announcing::admit_or_announce;
 use crate::arbiter::{Arbiter, Unchanged};
 use crate::lock_core::LockCore;
 use crate::unblocking;
+use crate::wake::Wake;
 use lock_base::machine::Mode;
 use lock_base::raw::Fault;
 use std::alloc::Global;
@@ -14,24 +16,23 @@ use std::sync::{Condvar, Mutex, Wait};
 /// A std `Mutex` round an arbiter, and a std `Condvar` to wait on.
 ///
 /// A call that gives a token back or changes its mode wakes nobody where nobody new is admitted. Else it wakes one
-/// where only one token may be out at a time, and all that wait where readers may get on together. A token that is not
-/// out in its mode is ignored: a release changes nothing, and a change of mode answers the same token.
+/// where only one token may be out at a time, and all that wait where readers may get on together or a bar stands, which
+/// may keep out the one that is woken. A writer that gets in ends its bar and wakes nobody, since nobody gets on beside
+/// it. A token that is not out in its mode is ignored: a release changes nothing, and a change of mode answers the same
+/// token.
 #[derive(Drop)]
 pub struct Monitor<A: Arbiter, W: Wait + Clone + Drop> {
     pub(crate) waiter: W,
     pub(crate) arbiter: Mutex<A>,
-    readers: u64,
     changed: Condvar,
 }
 
 impl<A: Arbiter, W: Wait + Clone + Drop> Monitor<A, W> {
     /// A monitor of this arbiter.
     pub(crate) fn over(arbiter: A, waiter: W) -> Monitor<A, W> {
-        let readers = arbiter.readers();
         Monitor {
             waiter,
             arbiter: Mutex::new(arbiter),
-            readers,
             changed: Condvar::new(),
         }
     }
@@ -41,20 +42,17 @@ impl<A: Arbiter, W: Wait + Clone + Drop> Monitor<A, W> {
         requires { IsTrue (is_move from to) }
     {
         let mut arbiter = self.arbiter.lock(&self.waiter);
-        let (token, unblocks) = unblocking::lower(&mut *arbiter, token, from, to);
+        let (token, woken) = unblocking::lower(&mut *arbiter, token, from, to);
         drop(arbiter);
-        if unblocks {
-            self.wake();
-        }
+        self.wake(woken);
         token
     }
 
-    /// Wakes those that wait, of which readers may get on together.
-    fn wake(&self) {
-        if self.readers == 1 {
-            self.changed.notify_one();
-        } else {
-            self.changed.notify_all();
+    fn wake(&self, woken: Wake) {
+        match woken {
+            Wake::Nobody => {}
+            Wake::One => self.changed.notify_one(),
+            Wake::All => self.changed.notify_all(),
         }
     }
 }
@@ -96,6 +94,18 @@ impl<A: Arbiter, W: Wait + Clone + Drop> LockCore for Monitor<A, W> {
         unreachable!()
     }
 
+    fn acquire_announced(&self) -> A::Token {
+        let mut announced = false;
+        let mut arbiter = self.arbiter.lock(&self.waiter);
+        for _ in self.waiter.forever() {
+            if let Some(token) = admit_or_announce(&mut *arbiter, &mut announced) {
+                return token;
+            }
+            arbiter = self.changed.wait(&self.waiter, arbiter);
+        }
+        unreachable!()
+    }
+
     fn try_acquire(&self, mode: Mode) -> Option<A::Token> {
         self.arbiter.lock(&self.waiter).admit(mode)
     }
@@ -107,11 +117,9 @@ impl<A: Arbiter, W: Wait + Clone + Drop> LockCore for Monitor<A, W> {
 
     fn release(&self, token: A::Token, mode: Mode) {
         let mut arbiter = self.arbiter.lock(&self.waiter);
-        let unblocks = unblocking::give_back(&mut *arbiter, token, mode);
+        let woken = unblocking::give_back(&mut *arbiter, token, mode);
         drop(arbiter);
-        if unblocks {
-            self.wake();
-        }
+        self.wake(woken);
     }
 
     fn upgrade(&self, token: A::Token) -> A::Token {
@@ -155,7 +163,9 @@ impl<A: Arbiter, W: Wait + Clone + Drop> LockCore for Monitor<A, W> {
 }
 
 /// What an upgrade gives: a token that is not out is as good as upgraded.
-fn upgraded<T>(changed: Result<T, Unchanged<T>>) -> Result<T, T> {
+fn upgraded<T>(changed: Result<T, Unchanged<T>>) -> Result<T, T>
+    ensures { (token : T) → IfErr changed (λ same. same.token ≡ token) → IfErr result (λ back. back ≡ token) }
+{
     match changed {
         Ok(next) => Ok(next),
         Err(

@@ -1,4 +1,6 @@
 //! A raw lock over what acquires, tries, releases and changes.
+ghost use Rattle.std.specs.Prelude.{◌≡◌, IfErr};
+
 use crate::lock_core::LockCore;
 use lock_base::machine::Mode;
 
@@ -22,7 +24,9 @@ impl<C: LockCore> RawLock<C> {
         &self,
         token: C::Token,
         timeout: C::Duration,
-    ) -> Result<C::Token, C::Token> {
+    ) -> Result<C::Token, C::Token>
+        ensures { IfErr result (λ back. back ≡ token) }
+    {
         match self.core.instant_after(timeout) {
             Some(deadline) => self.core.try_upgrade_until(token, deadline),
             None => Ok(self.core.upgrade(token)),

@@ -11,7 +11,8 @@ pub const DEFAULT_ENTRIES: usize = 1_024;
 
 /// An arbiter, and a journal of the steps that were made on it.
 ///
-/// A step that finds the journal full is made and not written, and nor is any step after it.
+/// A step that finds the journal full is made and not written, and nor is any step after it. It has no bars, so that its
+/// journal is read with none.
 #[derive(Drop)]
 pub struct RecordingArbiter<A: Arbiter> {
     arbiter: A,
@@ -25,6 +26,7 @@ impl<A: Arbiter> Model for RecordingArbiter<A> {
 
     ghost view = { λ r. record {
       tokens_out = A.tokens_out r.arbiter;
+      bar = A.bar r.arbiter;
       readers = A.reader_limit r.arbiter;
       journal = r.journal;
     } };
@@ -33,7 +35,7 @@ impl<A: Arbiter> Model for RecordingArbiter<A> {
 }
 
 impl<A: Arbiter> RecordingArbiter<A> {
-    ghost use Rattle.std.specs.Prelude.{◌≡◌, ◌↔◌, [], IfOk, IfErr};
+    ghost use Rattle.std.specs.Prelude.{◌≡◌, ◌↔◌, false, [], IfOk, IfErr};
     ghost use Rattle.lock_base.specs.Limits.{IsLimit, IsMakerFault};
     ghost use Rattle.lock_raws.specs.Journal.{empty_journal};
     ghost use Rattle.lock_raws.specs.Recording.{IsRecording};
@@ -48,6 +50,7 @@ impl<A: Arbiter> RecordingArbiter<A> {
         ensures in_range { IfOk result (λ _. IsLimit readers) }
         ensures fault { IfErr result IsMakerFault }
         ensures empty { IfOk result (λ made. made.tokens_out ≡ []) }
+        ensures unbarred { IfOk result (λ made. made.bar ≡ false) }
         ensures limit_kept { IfOk result (λ made. made.readers ≡ readers) }
         ensures journal { IfOk result (λ made. made.journal ≡ empty_journal entries) }
     {
@@ -74,7 +77,7 @@ impl<A: Arbiter> RecordingArbiter<A> {
 }
 
 impl<A: Arbiter> Arbiter for RecordingArbiter<A> {
-    ghost use Rattle.std.specs.Prelude.{◌≡◌};
+    ghost use Rattle.std.specs.Prelude.{◌≡◌, false};
     ghost use Rattle.lock_raws.specs.Journal.{empty_journal};
     ghost use Rattle.lock_raws.specs.Recording.{Records};
     ghost use Rattle.lock_raws.specs.declared.recording_arbiter.TheConstants.{DEFAULT_ENTRIES};
@@ -84,6 +87,10 @@ impl<A: Arbiter> Arbiter for RecordingArbiter<A> {
     ghost tokens_out = { λ r. r.tokens_out };
 
     ghost reader_limit = { λ r. r.readers };
+
+    ghost bar = { λ r. r.bar };
+
+    ghost has_bars = { false };
 
     ghost starts = { λ r. r.journal ≡ empty_journal DEFAULT_ENTRIES };
 
@@ -99,6 +106,18 @@ impl<A: Arbiter> Arbiter for RecordingArbiter<A> {
 
     fn readers(&self) -> u64 {
         self.arbiter.readers()
+    }
+
+    fn barred(&self) -> bool {
+        self.arbiter.barred()
+    }
+
+    fn announce(&mut self) -> bool {
+        false
+    }
+
+    fn withdraw(&mut self) {
+        self.arbiter.withdraw();
     }
 
     fn admit(&mut self, mode: Mode) -> Option<A::Token> {

@@ -1,4 +1,6 @@
 //! The raw lock as a raw reader-writer lock.
+ghost use Rattle.std.specs.Prelude.{◌≡◌, MatchResult};
+
 use crate::lock_core::LockCore;
 use crate::raw_lock::RawLock;
 use crate::tokens::{ExclusiveToken, SharedToken, UpgradableToken};
@@ -41,9 +43,10 @@ impl<C: LockCore> RawRwLock for RawLock<C> {
         self.core.release(token.token, Mode::Shared);
     }
 
+    /// While it waits it may keep out all that come later.
     fn lock_exclusive(&self) -> ExclusiveToken<C::Token> {
         ExclusiveToken {
-            token: self.core.acquire(Mode::Exclusive),
+            token: self.core.acquire_announced(),
         }
     }
 
@@ -195,7 +198,9 @@ impl<C: LockCore> RawRwLockUpgradeTimed for RawLock<C> {
 }
 
 /// What an upgrade gave, or the upgradable token that it left.
-fn by_mode<T>(upgraded: Result<T, T>) -> Result<ExclusiveToken<T>, UpgradableToken<T>> {
+fn by_mode<T>(upgraded: Result<T, T>) -> Result<ExclusiveToken<T>, UpgradableToken<T>>
+    ensures { MatchResult result (λ next. Ok next.token ≡ upgraded) (λ same. Err same.token ≡ upgraded) }
+{
     match upgraded {
         Ok(token) => Ok(ExclusiveToken { token }),
         Err(token) => Err(UpgradableToken { token }),

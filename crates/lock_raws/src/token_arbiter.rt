@@ -16,19 +16,27 @@ impl<S: ObservableState> Model for TokenArbiter<S> {
 
     ghost Value = { TokensOut S.Token };
 
-    ghost view = { λ arbiter. record { tokens_out = S.tokens arbiter.state; readers = S.reader_limit arbiter.state } };
+    ghost view = { λ arbiter. record {
+      tokens_out = S.tokens arbiter.state;
+      bar = S.bar arbiter.state;
+      readers = S.reader_limit arbiter.state;
+    } };
 
     ghost invariant = { λ arbiter. IsLegalState (S.tokens arbiter.state) (S.capacity arbiter.state) (S.reader_limit arbiter.state) };
 }
 
 impl<S: ObservableState> Arbiter for TokenArbiter<S> {
-    ghost use Rattle.std.specs.Prelude.{⊤};
+    ghost use Rattle.std.specs.Prelude.{⊤, true};
 
     type Token = S::Token;
 
     ghost tokens_out = { λ arbiter. arbiter.tokens_out };
 
     ghost reader_limit = { λ arbiter. arbiter.readers };
+
+    ghost bar = { λ arbiter. arbiter.bar };
+
+    ghost has_bars = { true };
 
     ghost starts = { λ _. ⊤ };
 
@@ -45,6 +53,22 @@ impl<S: ObservableState> Arbiter for TokenArbiter<S> {
 
     fn readers(&self) -> u64 {
         self.state.readers()
+    }
+
+    fn barred(&self) -> bool {
+        self.state.barred()
+    }
+
+    fn announce(&mut self) -> bool {
+        if self.state.barred() {
+            return false;
+        }
+        self.state.set_bar(true);
+        true
+    }
+
+    fn withdraw(&mut self) {
+        self.state.set_bar(false);
     }
 
     fn admit(&mut self, mode: Mode) -> Option<S::Token> {

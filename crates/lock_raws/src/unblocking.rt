@@ -1,54 +1,70 @@
-//! Who can get on after a token was given back or changed.
+//! Who can get on after a token was given back or changed, and who of them is woken.
 ghost use Rattle.std.specs.Prelude.{◌≡◌, ◌<◌, ◌^◌, IsTrue};
 ghost use Rattle.lock_base.specs.Modes.{tokens, is_move};
 ghost use Rattle.lock_base.specs.Tokens.{bag_of_tokens};
-ghost use Rattle.lock_raws.specs.Unblocking.{unblocks, newly_admits, may_upgrade};
+ghost use Rattle.lock_raws.specs.Unblocking.{unblocks, newly_admits, may_upgrade, wakes};
 
 use crate::arbiter::Arbiter;
+use crate::wake::Wake;
 use lock_base::machine::{Bag, Mode, ModeStep};
 
-/// Gives a token back. Whether someone who waits may get on then, and could not before.
-pub(crate) fn give_back<A: Arbiter>(arbiter: &mut A, token: A::Token, mode: Mode) -> bool
-    ensures { result ≡ unblocks (A.reader_limit arbiter.old) (bag_of_tokens (A.tokens_out arbiter.old)) (bag_of_tokens (A.tokens_out arbiter.new)) }
+/// Gives a token back. Whom that wakes.
+pub(crate) fn give_back<A: Arbiter>(arbiter: &mut A, token: A::Token, mode: Mode) -> Wake
+    ensures { result ≡ wakes (A.reader_limit arbiter.old) (A.bar arbiter.old)
+        (bag_of_tokens (A.tokens_out arbiter.old)) (bag_of_tokens (A.tokens_out arbiter.new)) }
 {
     let before = arbiter.bag();
     if !arbiter.give_back(token, mode) {
-        return false;
+        return Wake::Nobody;
     }
     let after = before.after(ModeStep::Release(mode));
-    unblocks(arbiter.readers(), &before, &after)
+    whom(arbiter, &before, &after)
 }
 
-/// The token in a lower mode, or as it is where it was not out. Whether someone who waits may get on then, and could not
-/// before.
+/// The token in a lower mode, or as it is where it was not out. Whom that wakes.
 pub(crate) fn lower<A: Arbiter>(
     arbiter: &mut A,
     token: A::Token,
     from: Mode,
     to: Mode,
-) -> (A::Token, bool)
+) -> (A::Token, Wake)
     requires { IsTrue (is_move from to) }
-    ensures { result.1 ≡ unblocks (A.reader_limit arbiter.old) (bag_of_tokens (A.tokens_out arbiter.old)) (bag_of_tokens (A.tokens_out arbiter.new)) }
+    ensures { result.1 ≡ wakes (A.reader_limit arbiter.old) (A.bar arbiter.old)
+        (bag_of_tokens (A.tokens_out arbiter.old)) (bag_of_tokens (A.tokens_out arbiter.new)) }
 {
     let before = arbiter.bag();
     match arbiter.change(token, from, to) {
         Ok(next) => {
             let after = before.after(ModeStep::Change(from, to));
-            (next, unblocks(arbiter.readers(), &before, &after))
+            (next, whom(arbiter, &before, &after))
         }
-        Err(same) => (same.token, false),
+        Err(same) => (same.token, Wake::Nobody),
     }
 }
 
-/// Whether someone who waits may get on with these out, and could not before.
-fn unblocks(readers: u64, before: &Bag, after: &Bag) -> bool
+/// Whom a step wakes that led from the one bag to the other.
+fn whom<A: Arbiter>(arbiter: &A, before: &Bag, after: &Bag) -> Wake
     requires before_small { tokens before.now < 2 ^ 64 }
     requires after_small { tokens after.now < 2 ^ 64 }
-    ensures { result ≡ unblocks readers before.now after.now }
+    ensures { result ≡ wakes (A.reader_limit arbiter.now) (A.bar arbiter.now) before.now after.now }
 {
-    newly_admits(readers, before, after, Mode::Shared)
+    let (readers, is_barred) = (arbiter.readers(), arbiter.barred());
+    Wake::whom(
+        readers,
+        is_barred,
+        unblocks(readers, is_barred, before, after),
+    )
+}
+
+/// Whether someone who waits may get on with these out, and could not before.
+fn unblocks(readers: u64, is_barred: bool, before: &Bag, after: &Bag) -> bool
+    requires before_small { tokens before.now < 2 ^ 64 }
+    requires after_small { tokens after.now < 2 ^ 64 }
+    ensures { result ≡ unblocks readers is_barred before.now after.now }
+{
+    !is_barred && newly_admits(readers, before, after, Mode::Shared)
         || newly_admits(readers, before, after, Mode::Exclusive)
-        || newly_admits(readers, before, after, Mode::Upgradable)
+        || !is_barred && newly_admits(readers, before, after, Mode::Upgradable)
         || !may_upgrade(before) && may_upgrade(after)
 }
 

@@ -1,4 +1,6 @@
 //! A raw lock over one word.
+ghost use Rattle.std.specs.Prelude.{◌≡◌, IfErr};
+
 use crate::timing::{NoTime, Timing};
 use crate::word_lock::WordLock;
 use lock_base::machine::Mode;
@@ -10,7 +12,8 @@ use std::clone::Clone;
 use std::marker::PhantomData;
 use std::sync::Wait;
 
-/// A raw lock over one atomic word: the readers, 2^32 for an upgradable token and 2^33 for an exclusive one.
+/// A raw lock over one atomic word: the readers, 2^32 for an upgradable token, 2^33 for an exclusive one, and 2^34 while a
+/// writer that sleeps keeps others out.
 ///
 /// A try is one load and at most one exchange; it answers None too where the exchange was lost to another step. A release
 /// or a downgrade is one subtraction. Who waits tries a few times, and then sleeps. A token of another lock makes the
@@ -65,6 +68,11 @@ impl<W: Wait + Clone + Drop, T: Timing<W>> LockCore for WordCore<W, T> {
 
     fn acquire(&self, mode: Mode) -> WordToken {
         self.lock.wait_for(&self.waiter, ExWant::of_mode(mode));
+        WordToken { made: () }
+    }
+
+    fn acquire_announced(&self) -> WordToken {
+        self.lock.wait_announced(&self.waiter);
         WordToken { made: () }
     }
 
@@ -128,6 +136,8 @@ fn token_if(is_admitted: bool) -> Option<WordToken> {
     }
 }
 
-fn upgraded_if(is_admitted: bool, token: WordToken) -> Result<WordToken, WordToken> {
+fn upgraded_if(is_admitted: bool, token: WordToken) -> Result<WordToken, WordToken>
+    ensures { IfErr result (λ back. back ≡ token) }
+{
     if is_admitted { Ok(token) } else { Err(token) }
 }

@@ -1,9 +1,12 @@
 //! Tokens in one atomic word.
+ghost use Rattle.std.specs.Prelude.{◌≡◌};
 ghost use Rattle.lock_base.specs.Limits.{IsLimit};
+ghost use Rattle.lock_raws_word.specs.Waking.{word_wakes};
 
 use crate::sleepers::Sleepers;
 use crossbeam_utils::Backoff;
-use lock_word::{Down, ExWant, has_exclusive, lets_on};
+use lock_raws::Wake;
+use lock_word::{Down, ExWant, has_bar, has_exclusive, has_tokens, lets_on};
 use std::sync::Wait;
 use std::sync::atomic::{AtomicU64, Ordering};
 
@@ -35,7 +38,7 @@ impl WordLock {
 
     /// Whether a token is out, which may be old at once.
     pub fn is_locked(&self) -> bool {
-        self.word.load(Ordering::SeqCst) != 0
+        has_tokens(self.word.load(Ordering::SeqCst))
     }
 
     /// Whether an exclusive token is out, which may be old at once.
@@ -51,7 +54,7 @@ impl WordLock {
     /// One load and at most one exchange. False where the word refuses, and where another step came between the two.
     pub fn try_for(&self, want: ExWant) -> bool {
         let word = self.word.load(Ordering::SeqCst);
-        match want.exchanged(self.readers, word) {
+        match want.exchanged(false, self.readers, word) {
             Some(next) => self.exchange(word, next),
             None => false,
         }
@@ -61,6 +64,14 @@ impl WordLock {
     pub fn wait_for<W: Wait>(&self, waiter: &W, want: ExWant) {
         if !self.try_for(want) && !self.try_again(want) {
             self.sleep_for(waiter, want);
+        }
+    }
+
+    /// Waits until the word admits an exclusive token. Who has to sleep announces itself, where no bar stands, and keeps
+    /// out all that come later. Its bar ends as it gets in.
+    pub fn wait_announced<W: Wait>(&self, waiter: &W) {
+        if !self.try_for(ExWant::Exclusive) && !self.try_again(ExWant::Exclusive) {
+            self.sleep_announced(waiter);
         }
     }
 
@@ -79,15 +90,7 @@ impl WordLock {
     /// False only where a word that was loaded refuses: a lost exchange must not send the caller to sleep, since the
     /// step that it lost to need not wake anybody.
     pub fn insist_on<W: Wait>(&self, waiter: &W, want: ExWant) -> bool {
-        for _ in waiter.forever() {
-            let word = self.word.load(Ordering::SeqCst);
-            match want.exchanged(self.readers, word) {
-                Some(next) if self.exchange(word, next) => return true,
-                Some(_) => {}
-                None => return false,
-            }
-        }
-        unreachable!()
+        self.insist(waiter, false, want)
     }
 
     /// One subtraction. Then it wakes those that may get on by it.
@@ -99,16 +102,12 @@ impl WordLock {
         }
     }
 
-    /// Wakes where the word after admits what the one before did not: one where one token alone may be out, else all.
     #[inline(never)]
     fn wake(&self, before: u64, after: u64) {
-        if !lets_on(self.readers, before, after) {
-            return;
-        }
-        if self.readers == 1 {
-            self.freed.notify_one();
-        } else {
-            self.freed.notify_all();
+        match whom(self.readers, before, after) {
+            Wake::Nobody => {}
+            Wake::One => self.freed.notify_one(),
+            Wake::All => self.freed.notify_all(),
         }
     }
 
@@ -116,6 +115,32 @@ impl WordLock {
         self.word
             .compare_exchange(word, next, Ordering::SeqCst, Ordering::SeqCst)
             .is_ok()
+    }
+
+    /// `insist_on`, for one that has announced itself, or has not.
+    fn insist<W: Wait>(&self, waiter: &W, announced: bool, want: ExWant) -> bool {
+        for _ in waiter.forever() {
+            let word = self.word.load(Ordering::SeqCst);
+            match want.exchanged(announced, self.readers, word) {
+                Some(next) if self.exchange(word, next) => return true,
+                Some(_) => {}
+                None => return false,
+            }
+        }
+        unreachable!()
+    }
+
+    /// Insists on an exclusive token. Where the word refuses, the caller announces itself, if no bar stands, and looks
+    /// again: a release before that knew of no bar, and may have woken one whom the bar keeps out.
+    fn insist_or_announce<W: Wait>(&self, waiter: &W, announced: &mut bool) -> bool {
+        if self.insist(waiter, *announced, ExWant::Exclusive) {
+            return true;
+        }
+        if *announced || !self.insist(waiter, false, ExWant::Announce) {
+            return false;
+        }
+        *announced = true;
+        self.insist(waiter, true, ExWant::Exclusive)
     }
 
     /// Sleeps between tries.
@@ -131,4 +156,26 @@ impl WordLock {
         }
         unreachable!()
     }
+
+    /// Sleeps between tries for an exclusive token, under a bar of its own or another's.
+    #[inline(never)]
+    fn sleep_announced<W: Wait>(&self, waiter: &W) {
+        let mut is_barring = false;
+        for _ in waiter.forever() {
+            let announced = self.freed.announce();
+            if self.insist_or_announce(waiter, &mut is_barring) {
+                self.freed.leave();
+                return;
+            }
+            self.freed.sleep(waiter, announced);
+        }
+        unreachable!()
+    }
+}
+
+/// Whom a step wakes that led from the one word to the other.
+fn whom(readers: u64, before: u64, after: u64) -> Wake
+    ensures { result ≡ word_wakes readers before after }
+{
+    Wake::whom(readers, has_bar(after), lets_on(readers, before, after))
 }

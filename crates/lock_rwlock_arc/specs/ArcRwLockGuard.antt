@@ -3,13 +3,22 @@ use Rattle.std.specs.Prelude.{◌≡◌}
 use Rattle.std.specs.Arc.{arc_value}
 use Rattle.std.specs.declared.alloc.Global.{Global}
 use Rattle.std.specs.declared.sync.Arc.{Arc}
+use Rattle.lock_guard.specs.declared.guard.inner.Inner.{Inner}
 use Rattle.lock_rwlock.specs.declared.lock.RwLock.{RwLock}
 use Rattle.lock_rwlock_arc.specs.declared.guard.ArcRwLockGuard.{ArcRwLockGuard}
+use Rattle.lock_rwlock_arc.specs.declared.owned.OwnedInMode.{OwnedInMode}
 
 module _ {M R T K W S X : Type 0} where
   -- the lock that a guard is of, in whatever mode
   abbrev pub arc_of : ArcRwLockGuard M R T K W S X → Arc (RwLock R T) Global
   arc_of guard = guard.held.lock.rwlock
+
+  -- the lock in its mode, and what has the token
+  abbrev pub lock_of : ArcRwLockGuard M R T K W S X → OwnedInMode M R T K W S X
+  lock_of guard = guard.held.lock
+
+  abbrev pub inner_of : ArcRwLockGuard M R T K W S X → Inner K (Unit {0})
+  inner_of guard = guard.held.inner
 
   -- the guard is one of this lock
   abbrev pub IsArcGuardOf : Arc (RwLock R T) Global → ArcRwLockGuard M R T K W S X → Type 0

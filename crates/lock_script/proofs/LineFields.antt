@@ -51,7 +51,8 @@ want-one_field word (inl is) = rw is refl
 want-one_field word (inr (inl is)) = rw is refl
 want-one_field word (inr (inr (inl is))) = rw is refl
 want-one_field word (inr (inr (inr (inl is)))) = rw is refl
-want-one_field word (inr (inr (inr (inr none)))) = absurd none
+want-one_field word (inr (inr (inr (inr (inl is))))) = rw is refl
+want-one_field word (inr (inr (inr (inr (inr none))))) = absurd none
 
 down-one_field : (word : List ℕ) → IsOneOf down_words word → fields_of word ≡ word ∷ []
 down-one_field word (inl is) = rw is refl
@@ -60,7 +61,8 @@ down-one_field word (inr (inr (inl is))) = rw is refl
 down-one_field word (inr (inr (inr (inl is)))) = rw is refl
 down-one_field word (inr (inr (inr (inr (inl is))))) = rw is refl
 down-one_field word (inr (inr (inr (inr (inr (inl is)))))) = rw is refl
-down-one_field word (inr (inr (inr (inr (inr (inr none)))))) = absurd none
+down-one_field word (inr (inr (inr (inr (inr (inr (inl is))))))) = rw is refl
+down-one_field word (inr (inr (inr (inr (inr (inr (inr none))))))) = absurd none
 
 -- what is wanted or given up is one field
 pub fields_of-change : (word change : List ℕ) → IsChange word change → fields_of change ≡ change ∷ []

@@ -75,6 +75,9 @@ call_fields (Call.Change party guard (Item k)) = []
 call_fields Call.IsLocked = codes "is_locked" ∷ []
 call_fields Call.IsLockedExclusive = codes "is_locked_exclusive" ∷ []
 call_fields (Call.IsOwnedBy party) = by_party (codes "is_owned_by") party
+call_fields (Call.Announce party) = by_party (codes "announce") party
+call_fields (Call.Withdraw party) = by_party (codes "withdraw") party
+call_fields Call.IsBarred = codes "is_barred" ∷ []
 call_fields Call.Spent = codes "spent" ∷ []
 
 -- the two numbers of a pair

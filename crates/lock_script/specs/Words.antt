@@ -14,13 +14,14 @@ abbrev pub in_forms : List ℕ → List (List ℕ)
 in_forms word = in_form Block word ∷ in_form Try word ∷ in_form For word ∷ in_form Until word ∷ []
 
 abbrev pub lone_words : List (List ℕ)
-lone_words = codes "is_locked" ∷ codes "is_locked_exclusive" ∷ codes "spent" ∷ []
+lone_words = codes "is_locked" ∷ codes "is_locked_exclusive" ∷ codes "is_barred" ∷ codes "spent" ∷ []
 
 abbrev pub party_words : List (List ℕ)
 party_words =
     in_forms (codes "lock")
     ++ (in_forms (codes "read")
-    ++ (in_forms (codes "write") ++ (in_forms (codes "upgradable_read") ++ (codes "is_owned_by" ∷ []))))
+    ++ (in_forms (codes "write")
+    ++ (in_forms (codes "upgradable_read") ++ (codes "is_owned_by" ∷ codes "announce" ∷ codes "withdraw" ∷ []))))
 
 abbrev pub guard_words : List (List ℕ)
 guard_words =

@@ -16,6 +16,7 @@ want_word want.Shared = codes "shared"
 want_word want.Exclusive = codes "exclusive"
 want_word want.Upgradable = codes "upgradable"
 want_word want.Upgrade = codes "upgrade"
+want_word want.Announce = codes "announce"
 
 -- what a subtraction gives up
 abbrev pub down_word : Down → List ℕ
@@ -25,6 +26,7 @@ down_word down.Upgradable = codes "upgradable"
 down_word down.ToShared = codes "to_shared"
 down_word down.ToUpgradable = codes "to_upgradable"
 down_word down.UpgradableToShared = codes "upgradable_to_shared"
+down_word down.Withdraw = codes "withdraw"
 
 -- the limits of a world
 abbrev pub limit_fields : WorldMaker → List (List ℕ)
@@ -42,18 +44,20 @@ world_call_fields (WorldCall.Step (Take party down)) = codes "take" ∷ decimal 
 world_call_fields WorldCall.Word = codes "word" ∷ []
 world_call_fields (WorldCall.Wins party) = codes "wins" ∷ decimal party ∷ []
 world_call_fields (WorldCall.Fails party) = codes "fails" ∷ decimal party ∷ []
+world_call_fields (WorldCall.Announced party) = codes "announced" ∷ decimal party ∷ []
 
 abbrev pub want_words : List (List ℕ)
-want_words = codes "shared" ∷ codes "exclusive" ∷ codes "upgradable" ∷ codes "upgrade" ∷ []
+want_words =
+    codes "shared" ∷ codes "exclusive" ∷ codes "upgradable" ∷ codes "upgrade" ∷ codes "announce" ∷ []
 
 abbrev pub down_words : List (List ℕ)
 down_words =
     codes "shared" ∷ codes "exclusive" ∷ codes "upgradable" ∷ codes "to_shared" ∷ codes "to_upgradable"
-    ∷ codes "upgradable_to_shared" ∷ []
+    ∷ codes "upgradable_to_shared" ∷ codes "withdraw" ∷ []
 
 -- the words that a party alone follows
 abbrev pub party_questions : List (List ℕ)
-party_questions = codes "load" ∷ codes "wins" ∷ codes "fails" ∷ []
+party_questions = codes "load" ∷ codes "wins" ∷ codes "fails" ∷ codes "announced" ∷ []
 
 -- an exchange and what it wants, or a subtraction and what it gives up
 abbrev pub IsChange : List ℕ → List ℕ → Type 0

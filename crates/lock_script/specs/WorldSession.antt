@@ -1,5 +1,5 @@
 -- What a script of steps is answered.
-use Rattle.std.specs.Prelude.{◌≡◌, ℕ, List, [], ◌∷◌, Option, None, Some, Result, Ok, Err, map}
+use Rattle.std.specs.Prelude.{◌≡◌, ℕ, Bool, List, [], ◌∷◌, Option, None, Some, Result, Ok, Err, map}
 use Rattle.lock_base.specs.declared.machine.reply.Reply.{Reply}
 use Rattle.lock_base.specs.declared.raw.fault.Fault.{Fault}
 use Rattle.lock_base.specs.declared.raw.fault.Fault.TheVariants.{BadLimits, UnknownParty}
@@ -33,12 +33,23 @@ abbrev pub party_count : (PartyState → ℕ) → Option PartyState → Answer
 party_count count None = count_answer (Err UnknownParty)
 party_count count (Some party) = count_answer (Ok (count party))
 
+-- yes or no, or why there is neither
+abbrev pub truth_answer : Result Bool Fault → Answer
+truth_answer (Ok is) = Answer.Reply (Reply.Bool is)
+truth_answer (Err fault) = Answer.Reply (Reply.Refused fault)
+
+-- whether a party has announced itself, where there is that party
+abbrev pub party_announced : Option PartyState → Answer
+party_announced None = truth_answer (Err UnknownParty)
+party_announced (Some party) = truth_answer (Ok party.held.announced)
+
 -- what a line is answered
 abbrev pub call_answer : WorldState → WorldCall → Answer
 call_answer world (WorldCall.Step step) = step_answer (stepped world step).outcome
 call_answer world WorldCall.Word = Answer.Reply (Reply.Count world.word)
 call_answer world (WorldCall.Wins party) = party_count (λ me. me.wins) (holder_at world.parties party)
 call_answer world (WorldCall.Fails party) = party_count (λ me. me.fails) (holder_at world.parties party)
+call_answer world (WorldCall.Announced party) = party_announced (holder_at world.parties party)
 
 -- the world that it leaves
 abbrev pub world_after_call : WorldState → WorldCall → WorldState
@@ -46,6 +57,7 @@ world_after_call world (WorldCall.Step step) = (stepped world step).world
 world_after_call world WorldCall.Word = world
 world_after_call world (WorldCall.Wins party) = world
 world_after_call world (WorldCall.Fails party) = world
+world_after_call world (WorldCall.Announced party) = world
 
 -- what lines are answered, one after another
 abbrev pub all_answers : WorldState → List WorldCall → List Answer

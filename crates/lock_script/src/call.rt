@@ -53,6 +53,7 @@ fn alone(word: &str) -> Option<Call<PairOp>>
     let call = match word {
         "is_locked" => Call::IsLocked,
         "is_locked_exclusive" => Call::IsLockedExclusive,
+        "is_barred" => Call::IsBarred,
         "spent" => Call::Spent,
         _ => return None,
     };
@@ -82,6 +83,8 @@ fn of_party(word: &str, party: PartyId) -> Option<Call<PairOp>>
         "try_upgradable_read_for" => Call::Acquire(Want::UpgradableRead, Form::For, party),
         "try_upgradable_read_until" => Call::Acquire(Want::UpgradableRead, Form::Until, party),
         "is_owned_by" => Call::IsOwnedBy(party),
+        "announce" => Call::Announce(party),
+        "withdraw" => Call::Withdraw(party),
         _ => return None,
     };
     Some(call)

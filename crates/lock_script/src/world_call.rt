@@ -17,6 +17,8 @@ pub enum WorldCall {
     Wins(u64),
     /// How many exchanges of a party found the word changed.
     Fails(u64),
+    /// Whether a party has announced itself.
+    Announced(u64),
 }
 
 impl Line for WorldCall {
@@ -57,6 +59,7 @@ fn of_party(word: &str, party: u64) -> Option<WorldCall>
         "load" => WorldCall::Step(AtomicStep::Load(party)),
         "wins" => WorldCall::Wins(party),
         "fails" => WorldCall::Fails(party),
+        "announced" => WorldCall::Announced(party),
         _ => return None,
     };
     Some(call)
@@ -85,6 +88,7 @@ fn want(word: &str) -> Option<ExWant>
         "exclusive" => ExWant::Exclusive,
         "upgradable" => ExWant::Upgradable,
         "upgrade" => ExWant::Upgrade,
+        "announce" => ExWant::Announce,
         _ => return None,
     };
     Some(want)
@@ -102,6 +106,7 @@ fn down(word: &str) -> Option<Down>
         "to_shared" => Down::ToShared,
         "to_upgradable" => Down::ToUpgradable,
         "upgradable_to_shared" => Down::UpgradableToShared,
+        "withdraw" => Down::Withdraw,
         _ => return None,
     };
     Some(down)

@@ -4,7 +4,7 @@ ghost use Rattle.lock_script.specs.Faults.{IsParsingFault};
 ghost use Rattle.lock_script.specs.Answers.{answer_lines};
 ghost use Rattle.lock_script.specs.Lines.{lines_of};
 ghost use Rattle.lock_script.specs.WorldLines.{IsWorldCall, IsWorldMaker};
-ghost use Rattle.lock_script.specs.WorldSession.{IsWorldAnswer, WorldAnswers, all_answers, step_answer, call_answer, count_answer, world_after_call};
+ghost use Rattle.lock_script.specs.WorldSession.{IsWorldAnswer, WorldAnswers, all_answers, step_answer, call_answer, count_answer, truth_answer, world_after_call};
 
 use crate::answer::{Answer, write_answer};
 use crate::fault::ReplayFault;
@@ -69,6 +69,7 @@ fn ask(world: &mut World, call: WorldCall) -> Answer
         WorldCall::Word => Answer::Reply(Reply::Count(world.word())),
         WorldCall::Wins(party) => count_answer(world.wins(party)),
         WorldCall::Fails(party) => count_answer(world.fails(party)),
+        WorldCall::Announced(party) => truth_answer(world.announced(party)),
     }
 }
 
@@ -91,6 +92,16 @@ fn count_answer(count: Result<u64, Fault>) -> Answer
 {
     match count {
         Ok(number) => Answer::Reply(Reply::Count(number)),
+        Err(fault) => Answer::Reply(Reply::Refused(fault)),
+    }
+}
+
+/// The answer that is yes or no, or why there is neither.
+fn truth_answer(answer: Result<bool, Fault>) -> Answer
+    ensures { result ≡ truth_answer answer }
+{
+    match answer {
+        Ok(is) => Answer::Reply(Reply::Bool(is)),
         Err(fault) => Answer::Reply(Reply::Refused(fault)),
     }
 }

@@ -1,5 +1,6 @@
 -- Each kind of step of a seat keeps the rule of the table, by the lemma of that kind of step.
-use Rattle.std.proofs.Common.{◌≡◌, ℕ, zero, suc, ◌+◌, ◌-◌, ◌%◌, ◌^◌, ◌<◌, ◌≤◌, inl, inr, List, [], ◌∷◌, set, get_or, slice_get, slice_set, slice_index, Some, IsTrue, refl, sym, ap, subst, ◌∙◌, arith, eqb, length-set, get_or-set_same}
+use Rattle.std.proofs.Common.{◌≡◌, ℕ, zero, suc, ◌+◌, ◌-◌, ◌%◌, ◌^◌, ◌<◌, ◌≤◌, true, inl, inr, List, [], ◌∷◌, set, get_or, slice_get, slice_set, slice_index, Some, IsTrue, refl, sym, ap, subst, ◌∙◌, arith, eqb, length-set, get_or-set_same}
+use Rattle.std.proofs.lemmas.Bool.{false≢true}
 use Rattle.std.proofs.lemmas.List.{map-set, map-append}
 use Rattle.std.proofs.lemmas.Option.{slice_get-map}
 use mathlib.Core.Option.{some, none}
@@ -9,18 +10,20 @@ use Rattle.atomic_table.specs.Table.{State, Act, step, keeps, stepped, carried_a
 use Rattle.atomic_table.proofs.Lists.{at_set, at_snoc, set_again, exchanged}
 use Rattle.lock_base.specs.Limits.{IsLimit}
 use Rattle.lock_base.specs.Modes.{tokens}
-use Rattle.lock_base.specs.ModeRuns.{has}
+use Rattle.lock_word.specs.declared.hold.Hold.{Hold}
+use Rattle.lock_word.specs.declared.down.Down.TheVariants as down
+use Rattle.lock_word.specs.Holds.{hold_has, hold_after}
 use Rattle.lock_word.specs.declared.want.ExWant.{ExWant}
 use Rattle.lock_word.specs.declared.down.Down.{Down}
 use Rattle.lock_word.specs.declared.party.PartyState.{PartyState}
-use Rattle.lock_word.specs.Word.{word_admits, word_after, amount, step_of_want, step_of_down}
-use Rattle.lock_word.specs.Turns.{won, lost}
+use Rattle.lock_word.specs.Word.{guards_of_word, word_admits, word_after, amount, step_of_want, step_of_down}
 use Rattle.lock_word.specs.Rule.{KeepsRule, held_by_all}
-use Rattle.lock_word.proofs.Holders.{Has_from_test}
 use Rattle.lock_word.proofs.Words.{parts_of_word}
+use Rattle.lock_word.proofs.Bars.{announced_shows, bar_of_rule}
+use Rattle.lock_word.proofs.Guards.{GainsNoneOrUnbarred, guards_of_exchange, guards_of_take}
 use Rattle.lock_word.proofs.Rules.{keeps_load, keeps_lost, keeps_exchange, keeps_take, keeps_newcomer, amount_within, part_of_parties, shows, fails_bounded}
 use Rattle.lock_seated.specs.declared.rule.PartyView.{PartyView}
-use Rattle.lock_seated.specs.Seats.{beside, parties_of, IsKept, EveryStateKeepsRule}
+use Rattle.lock_seated.specs.Seats.{beside, parties_of, GuardsOnlyEnd, IsKept, EveryStateKeepsRule}
 use Rattle.lock_seated.specs.Plays.{Self, view_loaded, view_won, view_lost, Loads, Exchanges, Takes}
 
 -- the view of a seat, in the words of std
@@ -32,13 +35,23 @@ seat_at (y ∷ xs) (suc k) x h = seat_at xs k x h
 party_at : (views : List PartyView) (k : ℕ) (v : PartyView) → get_elem? views k ≡ some v → slice_get (parties_of views) k ≡ Some v.state
 party_at views k v h = rw (slice_get-map (λ (x : PartyView). x.state) views k, seat_at views k v h)
 
+-- the guards of an announced party's last load are no fewer than those of the word before, so than those of the word now
+still_guarded : (limit n word : ℕ) (views : List PartyView) (k : ℕ) (v : PartyView) → KeepsRule limit n (parties_of views)
+    → get_elem? views k ≡ some v → GainsNoneOrUnbarred word n → GuardsOnlyEnd v word → GuardsOnlyEnd v n
+still_guarded limit n word views k v rule at gains before announced =
+    let least = before announced in
+    let high = announced_shows limit n (parties_of views) (suc k) rule (v.state, party_at views k v at, announced) in
+    elim gains [ inl fewer ↦ omega arith | inr unbarred ↦ omega arith ]
+
 -- a step of the seat at id that leaves the word n and the view v
 left : (limit id n : ℕ) (s : State (Unit {0}) PartyView) (v : PartyView) → IsKept limit s → v.readers ≡ limit
     → KeepsRule limit n (slice_set (parties_of s.views) id v.state)
+    → GainsNoneOrUnbarred (slice_index s.words 0) n → GuardsOnlyEnd v (slice_index s.words 0)
     → IsKept limit record { words = slice_set s.words 0 n; homes = s.homes; views = slice_set s.views id v }
-left limit id n s v kept readers rule =
+left limit id n s v kept readers rule gains own =
     let one = kept.one_word in
     let is : get_or (set s.words 0 n) 0 0 ≡ n = get_or-set_same s.words 0 n 0 (omega arith) in
+    let again = map-set (λ (x : PartyView). x.state) s.views id v in
     record {
       one_word = length-set s.words 0 n ∙ kept.one_word;
       range = kept.range;
@@ -47,7 +60,13 @@ left limit id n s v kept readers rule =
             | inl e ↦ sym (ap (λ (x : PartyView). x.readers) e.1) ∙ readers
             | inr e ↦ kept.known k w e.1
           ];
-      rule = rw is (rw (map-set (λ (x : PartyView). x.state) s.views id v) rule);
+      rule = rw is (rw again rule);
+      guarded = λ k w h.
+          rw is (still_guarded limit n (slice_index s.words 0) (slice_set s.views id v) k w (rw again rule) h gains
+          (elim (at_set s.views id k v w h) [
+            | inl e ↦ subst (λ (x : PartyView). GuardsOnlyEnd x (slice_index s.words 0)) e.1 own
+            | inr e ↦ kept.guarded k w e.1
+          ]));
     }
 
 pub loads : (limit slots id : ℕ) (me : Self)
@@ -60,52 +79,75 @@ loads limit slots id me s kept same at small =
       keeps,
       tt,
       left limit id word s (view_loaded me word).0 kept readers
-          (keeps_load limit word (parties_of s.views) id me.0.state kept.rule there),
-      (refl, rw readers (shows limit word (parties_of s.views) id me.0.state kept.range kept.rule there)),
+          (keeps_load limit word (parties_of s.views) id me.0.state kept.rule there) (inl (omega arith))
+          (λ announced. omega arith),
+      (
+        refl,
+        rw readers (shows limit word (parties_of s.views) id me.0.state kept.range kept.rule there),
+        kept.guarded id me.0 at,
+      ),
     )
 
 pub exchanges : (limit slots id : ℕ) (me : Self) (want : ExWant) (old new : ℕ) → me.0.state.loaded ≡ Some old
-    → IsTrue (has me.0.state.held (step_of_want want)) → IsTrue (word_admits limit old want) → new ≡ word_after old want
+    → me.0.last ≡ old → IsTrue (hold_has me.0.state.held (step_of_want want)) → IsTrue (word_admits me.0.state.held.announced limit old want) → new ≡ word_after old want
     → Allows (IsKept limit) slots id me 0 (λ n. either (eqb n old) new n) (Exchanges want (step slots 0 old new none) me)
-exchanges limit slots id me want old new is_open holds admits is s kept same at small =
+exchanges limit slots id me want old new is_open is_last holds admits is s kept same at small =
     let word = slice_index s.words 0 in
     let parties = parties_of s.views in
     let there = party_at s.views id me.0 at in
     let readers = kept.known id me.0 at in
-    let has = Has_from_test me.0.state.held (step_of_want want) holds in
     exchanged word old new
     (λ n. (w : PartyView) × (a : Act (Unit {0})) × Valid s.homes me.1 a × IsKept limit (stepped s 0 n id me.1 w a)
     × Exchanges want (step slots 0 old new none) me word (w, carried_after me.1 a))
     (λ hit.
     let v = (view_won me (step_of_want want)).0 in
-    let here : IsTrue (word_admits limit word want) = subst (λ n. IsTrue (word_admits limit n want)) (sym hit) admits in
-    let rule = keeps_exchange limit word parties id me.0.state want kept.range kept.rule there has here in
+    let here : IsTrue (word_admits me.0.state.held.announced limit word want)
+    = subst (λ n. IsTrue (word_admits me.0.state.held.announced limit n want)) (sym hit) admits in
+    let rule = keeps_exchange limit word parties id me.0.state want kept.range kept.rule there holds here in
     let next : word_after word want ≡ new = ap (λ n. word_after n want) hit ∙ sym is in (
       v,
       keeps,
       tt,
-      left limit id new s v kept readers (subst (λ n. KeepsRule limit n (slice_set parties id v.state)) next rule),
+      left limit id new s v kept readers (subst (λ n. KeepsRule limit n (slice_set parties id v.state)) next rule)
+          (subst (GainsNoneOrUnbarred word) next
+          (guards_of_exchange limit word parties id me.0.state want kept.range kept.rule there here))
+          (λ announced. let same = ap guards_of_word (is_last ∙ sym hit) in omega arith),
       ((λ h. refl), (λ miss. absurd (miss hit))),
     ))
     (λ miss.
     let v = (view_lost me).0 in
-    let rule = keeps_lost limit word parties id old me.0.state kept.rule there is_open miss in
-    (v, keeps, tt, left limit id word s v kept readers rule, ((λ hit. absurd (miss hit)), (λ h. refl))))
+    let rule = keeps_lost limit word parties id old me.0.state kept.rule there is_open miss in (
+      v,
+      keeps,
+      tt,
+      left limit id word s v kept readers rule (inl (omega arith)) (kept.guarded id me.0 at),
+      ((λ hit. absurd (miss hit)), (λ h. refl)),
+    ))
 
 -- what a subtraction of the table comes to
 subtracted : (n k : ℕ) → k ≤ n → n < 18446744073709551616 → n - k ≡ (n + (2 ^ 64 - k)) % 2 ^ 64
 subtracted n k room small = omega arith
 
+-- who has announced itself after a subtraction had before it
+announced_before : (own : Hold) (d : Down) → (hold_after own (step_of_down d)).announced ≡ true → own.announced ≡ true
+announced_before own down.Shared h = h
+announced_before own down.Exclusive h = h
+announced_before own down.Upgradable h = h
+announced_before own down.ToShared h = h
+announced_before own down.ToUpgradable h = h
+announced_before own down.UpgradableToShared h = h
+announced_before own down.Withdraw h = absurd (false≢true h)
+
 -- what one party holds is little
 few_held : (limit word : ℕ) (ps : List PartyState) (k : ℕ) (me : PartyState) → IsLimit limit → KeepsRule limit word ps
-    → slice_get ps k ≡ Some me → tokens me.held < 2 ^ 63
+    → slice_get ps k ≡ Some me → tokens me.held.bag < 2 ^ 63
 few_held limit word ps k me range rule at =
     let part = part_of_parties ps k me at in
     let parts = parts_of_word limit (held_by_all ps) range.1 rule.legal in
     let small = parts.small in
     omega arith
 
-pub takes : (limit slots id : ℕ) (me : Self) (down : Down) (k : ℕ) → IsTrue (has me.0.state.held (step_of_down down))
+pub takes : (limit slots id : ℕ) (me : Self) (down : Down) (k : ℕ) → IsTrue (hold_has me.0.state.held (step_of_down down))
     → k ≡ amount down
     → Allows (IsKept limit) slots id me 0 (λ n. (n + (2 ^ 64 - k)) % 2 ^ 64) (Takes down (step slots 0 k 0 none) me)
 takes limit slots id me down k holds is s kept same at small =
@@ -113,17 +155,19 @@ takes limit slots id me down k holds is s kept same at small =
     let parties = parties_of s.views in
     let there = party_at s.views id me.0 at in
     let readers = kept.known id me.0 at in
-    let has = Has_from_test me.0.state.held (step_of_down down) holds in
     let v = (view_won me (step_of_down down)).0 in
-    let within = amount_within limit word parties id me.0.state down kept.rule there has in
+    let within = amount_within limit word parties id me.0.state down kept.rule there holds in
     let next : word - amount down ≡ (word + (2 ^ 64 - k)) % 2 ^ 64
     = ap (λ (j : ℕ). word - j) (sym is) ∙ subtracted word k (omega arith) small in
-    let rule = keeps_take limit word parties id me.0.state down kept.range kept.rule there has in (
+    let rule = keeps_take limit word parties id me.0.state down kept.range kept.rule there holds in (
       v,
       keeps,
       tt,
       left limit id ((word + (2 ^ 64 - k)) % 2 ^ 64) s v kept readers
-          (subst (λ n. KeepsRule limit n (slice_set parties id v.state)) next rule),
+          (subst (λ n. KeepsRule limit n (slice_set parties id v.state)) next rule)
+          (inl (subst (λ n. guards_of_word n ≤ guards_of_word word) next
+          (guards_of_take limit word parties id me.0.state down kept.range kept.rule there holds)))
+          (λ announced. kept.guarded id me.0 at (announced_before me.0.state.held down announced)),
       (refl, few_held limit word parties id me.0.state kept.range kept.rule there),
     )
 
@@ -142,27 +186,40 @@ parts limit id v s kept at =
             | inr e ↦ sym (ap (λ (x : PartyView). x.readers) e) ∙ readers
           ];
       rule = rw (map-append (λ (x : PartyView). x.state) s.views (beside v ∷ [])) longer;
+      guarded = λ k w h.
+          elim (at_snoc s.views (beside v) w k h) [
+            | inl e ↦ kept.guarded k w e
+            | inr e ↦ subst (λ (x : PartyView). GuardsOnlyEnd x word) e (λ announced. absurd (false≢true announced))
+          ];
     }
 
 -- the same, where the limit and the kind are known by equations
 
 pub exchanges_as : (key limit slots id : ℕ) (me : Self) (kind want : ExWant) (old new : ℕ) → limit ≡ key → want ≡ kind
-    → me.0.state.loaded ≡ Some old → IsTrue (has me.0.state.held (step_of_want want)) → IsTrue (word_admits limit old want)
+    → (me.0.state.loaded ≡ Some old) × (me.0.last ≡ old) → IsTrue (hold_has me.0.state.held (step_of_want want))
+    → IsTrue (word_admits me.0.state.held.announced limit old want)
     → new ≡ word_after old want
     → Allows (IsKept key) slots id me 0 (λ n. either (eqb n old) new n) (Exchanges kind (step slots 0 old new none) me)
 exchanges_as key limit slots id me kind want old new same_limit same_want is_open holds admits is =
-    exchanges key slots id me kind old new is_open
-    (subst (λ (w : ExWant). IsTrue (has me.0.state.held (step_of_want w))) same_want holds)
-    (subst (λ (t : ℕ × ExWant). IsTrue (word_admits t.0 old t.1)) (λ i. (same_limit i, same_want i)) admits)
+    exchanges key slots id me kind old new is_open.0 is_open.1
+    (subst (λ (w : ExWant). IsTrue (hold_has me.0.state.held (step_of_want w))) same_want holds)
+    (subst (λ (t : ℕ × ExWant). IsTrue (word_admits me.0.state.held.announced t.0 old t.1)) (λ i. (same_limit i, same_want i)) admits)
     (is ∙ ap (word_after old) same_want)
 
 pub takes_as : (limit slots id : ℕ) (me : Self) (kind down : Down) (k : ℕ) → down ≡ kind
-    → IsTrue (has me.0.state.held (step_of_down down)) → k ≡ amount down
+    → IsTrue (hold_has me.0.state.held (step_of_down down)) → k ≡ amount down
     → Allows (IsKept limit) slots id me 0 (λ n. (n + (2 ^ 64 - k)) % 2 ^ 64) (Takes kind (step slots 0 k 0 none) me)
 takes_as limit slots id me kind down k same_down holds is =
-    takes limit slots id me kind k (subst (λ (d : Down). IsTrue (has me.0.state.held (step_of_down d))) same_down holds)
+    takes limit slots id me kind k (subst (λ (d : Down). IsTrue (hold_has me.0.state.held (step_of_down d))) same_down holds)
     (is ∙ ap amount same_down)
 
 pub every_state_keeps_rule : EveryStateKeepsRule IsKept
 every_state_keeps_rule limit s kept =
-    record { range = kept.range; rule = kept.rule; bounded = fails_bounded limit (slice_index s.words 0) (parties_of s.views) kept.rule }
+    let word = slice_index s.words 0 in
+    record {
+      range = kept.range;
+      rule = kept.rule;
+      bounded = fails_bounded limit word (parties_of s.views) kept.rule;
+      bar = bar_of_rule limit word (parties_of s.views) kept.range kept.rule;
+      guarded = kept.guarded;
+    }

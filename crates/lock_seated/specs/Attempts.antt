@@ -1,6 +1,6 @@
 -- What the calls that may not succeed do to the party that makes them.
 use Rattle.std.specs.Prelude.{◌≡◌, ℕ, ◌+◌, ◌<◌, ◌≤◌, false, None}
-use Rattle.lock_base.specs.ModeRuns.{bag_after}
+use Rattle.lock_word.specs.Holds.{hold_after}
 use Rattle.lock_word.specs.declared.want.ExWant.{ExWant}
 use Rattle.lock_word.specs.Word.{word_admits, step_of_want}
 use Rattle.lock_word.specs.Rule.{Shows}
@@ -8,21 +8,17 @@ use Rattle.lock_seated.specs.declared.attempt.Attempt.{Attempt}
 use Rattle.lock_seated.specs.declared.attempt.Attempt.TheVariants.{Done, NotAdmitted, Changed}
 use Rattle.lock_seated.specs.Standing.{Standing, loaded, won_by, lost_by}
 
--- the party has loaded once more
-abbrev pub one_load : Standing → Standing
-one_load party = record party { loads = party.loads + 1 }
-
 -- the word was loaded, and does not admit what was wanted
 pub record IsNotAdmitted (want : ExWant) (before : Standing) (word : ℕ) (after : Standing) : Type 0 where
   pub party : after ≡ loaded before word
-  pub refuses : word_admits before.lock.readers word want ≡ false
+  pub refuses : word_admits before.state.held.announced before.lock.readers word want ≡ false
   pub shows : Shows before.lock.readers word before.state.held
 
 -- an attempt loads once, and then exchanges at most once
 abbrev pub Attempted : ExWant → Standing → Attempt → Standing → Type 0
-Attempted want before Done after = after ≡ one_load (won_by before (step_of_want want))
+Attempted want before Done after = after ≡ won_by (loaded before after.last) (step_of_want want)
 Attempted want before (NotAdmitted word) after = IsNotAdmitted want before word after
-Attempted want before Changed after = after ≡ one_load (lost_by before)
+Attempted want before Changed after = after ≡ lost_by (loaded before after.last)
 
 -- attempts that did not succeed, as many as there were
 pub record Tried (before after : Standing) : Type 0 where
@@ -37,7 +33,7 @@ pub record Tried (before after : Standing) : Type 0 where
 pub record Acquired (want : ExWant) (before after : Standing) : Type 0 where
   pub lock : after.lock ≡ before.lock
   pub number : after.number ≡ before.number
-  pub held : after.state.held ≡ bag_after before.state.held (step_of_want want)
+  pub held : after.state.held ≡ hold_after before.state.held (step_of_want want)
   pub none_open : after.state.loaded ≡ None
   pub wins : after.state.wins ≡ before.state.wins + 1
   pub fails : before.state.fails ≤ after.state.fails

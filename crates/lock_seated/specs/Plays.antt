@@ -1,23 +1,24 @@
 -- What each kind of step does to the view of the party that makes it.
 use Rattle.std.specs.Prelude.{◌≡◌, ◌≢◌, ℕ, ◌+◌, ◌^◌, ◌<◌}
 use Rattle.atomic_table.specs.Table.{Me, Step}
-use Rattle.lock_base.specs.declared.machine.mode_step.ModeStep.{ModeStep}
 use Rattle.lock_base.specs.Modes.{tokens}
 use Rattle.lock_word.specs.declared.want.ExWant.{ExWant}
 use Rattle.lock_word.specs.declared.down.Down.{Down}
+use Rattle.lock_word.specs.declared.word_step.WordStep.{WordStep}
 use Rattle.lock_word.specs.Word.{step_of_want, step_of_down}
 use Rattle.lock_word.specs.Turns.{with_load, won, lost}
 use Rattle.lock_word.specs.Rule.{Shows}
 use Rattle.lock_seated.specs.declared.rule.PartyView.{PartyView}
+use Rattle.lock_seated.specs.Seats.{GuardsOnlyEnd}
 
 -- a seat's view, and the slots that it holds, of which there are none
 abbrev pub Self : Type 0
 Self = Me (Unit {0}) PartyView
 
 abbrev pub view_loaded : Self → ℕ → Self
-view_loaded me word = (record me.0 { state = with_load me.0.state word; loads = me.0.loads + 1 }, me.1)
+view_loaded me word = (record me.0 { state = with_load me.0.state word; last = word; loads = me.0.loads + 1 }, me.1)
 
-abbrev pub view_won : Self → ModeStep → Self
+abbrev pub view_won : Self → WordStep → Self
 view_won me step = (record me.0 { state = won me.0.state step }, me.1)
 
 abbrev pub view_lost : Self → Self
@@ -25,7 +26,8 @@ view_lost me = (record me.0 { state = lost me.0.state }, me.1)
 
 -- a load tells its party the word, and what that says of all that is held
 abbrev pub Loads : Step (Unit {0}) → Self → ℕ → Self → Type 0
-Loads s me found after = (after ≡ view_loaded me found) × Shows me.0.readers found me.0.state.held
+Loads s me found after =
+    (after ≡ view_loaded me found) × Shows me.0.readers found me.0.state.held × GuardsOnlyEnd me.0 found
 
 abbrev pub Exchanges : ExWant → Step (Unit {0}) → Self → ℕ → Self → Type 0
 Exchanges want s me found after =
@@ -33,4 +35,4 @@ Exchanges want s me found after =
 
 -- what is held is little, so a count of it may rise by one
 abbrev pub Takes : Down → Step (Unit {0}) → Self → ℕ → Self → Type 0
-Takes down s me found after = (after ≡ view_won me (step_of_down down)) × (tokens me.0.state.held < 2 ^ 63)
+Takes down s me found after = (after ≡ view_won me (step_of_down down)) × (tokens me.0.state.held.bag < 2 ^ 63)

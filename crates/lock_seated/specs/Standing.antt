@@ -1,7 +1,7 @@
 -- What contracts see of a lock and of a party.
 use Rattle.std.specs.Prelude.{ℕ, ◌+◌}
 use Rattle.atomic_table.specs.Seated.{TableId}
-use Rattle.lock_base.specs.declared.machine.mode_step.ModeStep.{ModeStep}
+use Rattle.lock_word.specs.declared.word_step.WordStep.{WordStep}
 use Rattle.lock_word.specs.declared.party.PartyState.{PartyState}
 use Rattle.lock_word.specs.Turns.{idle, with_load, won, lost}
 
@@ -10,23 +10,24 @@ pub record Lock : Type 0 where
   pub id : TableId
   pub readers : ℕ
 
--- a party: its lock, the number of its seat, its state, and how often it loaded the word
+-- a party: its lock, the number of its seat, its state, the word that it loaded last, and how often it loaded
 pub record Standing : Type 0 where
   pub lock : Lock
   pub number : ℕ
   pub state : PartyState
+  pub last : ℕ
   pub loads : ℕ
 
 -- a party that has done nothing yet
 abbrev pub new_party : Lock → ℕ → Standing
-new_party lock number = record { lock = lock; number = number; state = idle; loads = 0 }
+new_party lock number = record { lock = lock; number = number; state = idle; last = 0; loads = 0 }
 
 -- the party once it has loaded this word
 abbrev pub loaded : Standing → ℕ → Standing
-loaded party word = record party { state = with_load party.state word; loads = party.loads + 1 }
+loaded party word = record party { state = with_load party.state word; last = word; loads = party.loads + 1 }
 
 -- the party once a step of its own has changed its modes
-abbrev pub won_by : Standing → ModeStep → Standing
+abbrev pub won_by : Standing → WordStep → Standing
 won_by party step = record party { state = won party.state step }
 
 -- the party once its exchange found another word

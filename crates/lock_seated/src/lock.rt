@@ -1,9 +1,9 @@
 //! The lock itself.
-ghost use Rattle.std.specs.Prelude.{◌≡◌, ◌≢◌, ◌↔◌, ◌+◌, ◌<◌, ◌^◌, Some, IfOk, IfErr, OnOk, IsTrue};
+ghost use Rattle.std.specs.Prelude.{◌≡◌, ◌≢◌, ◌↔◌, ◌+◌, ◌<◌, ◌≤◌, ◌^◌, true, Some, IfOk, IfErr, OnOk, IsTrue};
 ghost use Rattle.lock_base.specs.Limits.{IsLimit, IsMakerFault};
 ghost use Rattle.lock_base.specs.Modes.{count_of, tokens};
-ghost use Rattle.lock_base.specs.ModeRuns.{has};
-ghost use Rattle.lock_word.specs.Word.{word_admits, word_after, step_of_want, step_of_down, down_of_mode};
+ghost use Rattle.lock_word.specs.Holds.{hold_has};
+ghost use Rattle.lock_word.specs.Word.{guards_of_word, word_admits, word_after, step_of_want, step_of_down, down_of_mode};
 ghost use Rattle.lock_word.specs.Rule.{Shows};
 ghost use Rattle.lock_seated.specs.Plays.{view_won, view_lost};
 ghost use Rattle.lock_seated.specs.Standing.{new_party, loaded, won_by};
@@ -12,14 +12,14 @@ ghost use Rattle.lock_seated.specs.Attempts.{Attempted, Acquired};
 use crate::attempt::Attempt;
 use crate::party::Party;
 use crate::plays::{
-    DownToShared, DownToUpgradable, DownUpgradableToShared, Look, OffExclusive, OffShared,
-    OffUpgradable, ToExclusive, ToShared, ToUpgradable, Upgrade,
+    Announce, DownToShared, DownToUpgradable, DownUpgradableToShared, Look, OffExclusive,
+    OffShared, OffUpgradable, ToExclusive, ToShared, ToUpgradable, Upgrade, Withdraw,
 };
 use crate::rule::{Apart, PartyView, WordRule};
 use atomic_table::{Seat, Table};
-use lock_base::machine::{Bag, Mode};
+use lock_base::machine::Mode;
 use lock_base::raw::{Fault, is_limit};
-use lock_word::{Down, ExWant};
+use lock_word::{Down, ExWant, Hold};
 use std::alloc::Global;
 use std::hint::spin_loop;
 use std::marker::Model;
@@ -29,7 +29,8 @@ use std::thread;
 /// How often a call that waits spins before it yields its thread.
 const SPINS: u32 = 64;
 
-/// A reader-writer lock of one atomic word: the readers, 2^32 for an upgradable hold and 2^33 for an exclusive one.
+/// A reader-writer lock of one atomic word: the readers, 2^32 for an upgradable hold, 2^33 for an exclusive one and 2^34
+/// for the bar of a party that has announced itself.
 #[derive(Drop)]
 pub struct SeatedLock {
     table: Table<(), PartyView, u64, WordRule, Global>,
@@ -65,11 +66,11 @@ impl SeatedLock {
         let Ok((table, seat)) = Table::of_words(alloc, &[0], &readers) else {
             return Err(Fault::OutOfMemory);
         };
-        let held = Bag::empty();
+        let held = Hold::none();
         Ok((SeatedLock { table, readers }, Party { seat, held }))
     }
 
-    /// The first keeps everything, and the second holds nothing and has counts of zero.
+    /// The first keeps everything, its announcement too, and the second holds nothing and has counts of zero.
     pub fn split(&self, party: Party) -> (Party, Party)
         requires { party.lock ≡ self.now }
         ensures first { result.0 ≡ party }
@@ -79,17 +80,19 @@ impl SeatedLock {
         let other = self.table.shared.split_seat::<Apart>(&mut seat);
         let second = Party {
             seat: other,
-            held: Bag::empty(),
+            held: Hold::none(),
         };
         (Party { seat, held }, second)
     }
 
     /// Reads the word, which is then the party's open load. It is the word of all that is held now, the party's own
-    /// among it.
+    /// among it, and of the bar of the one that has announced itself.
     pub fn load(&self, party: &mut Party) -> u64
         requires { party.old.lock ≡ self.now }
         ensures party { party.new ≡ loaded party.old result }
         ensures shows { Shows self.now.readers result party.old.state.held }
+        // While the party is announced, guards only end.
+        ensures guards { party.old.state.held.announced ≡ true → guards_of_word result ≤ guards_of_word party.old.last }
     {
         self.table.shared.load::<Look>(&mut party.seat, 0)
     }
@@ -97,11 +100,11 @@ impl SeatedLock {
     /// One load, and then at most one exchange.
     pub fn attempt(&self, party: &mut Party, want: ExWant) -> Attempt
         requires lock { party.old.lock ≡ self.now }
-        requires has { IsTrue (has party.old.state.held (step_of_want want)) }
+        requires has { IsTrue (hold_has party.old.state.held (step_of_want want)) }
         ensures { Attempted want party.old result party.new }
     {
         let word = self.load(party);
-        let Some(next) = want.exchanged(self.readers, word) else {
+        let Some(next) = want.exchanged(party.held.announced, self.readers, word) else {
             return Attempt::NotAdmitted(word);
         };
         if self.exchange(&mut party.seat, want, word, next) != word {
@@ -114,7 +117,7 @@ impl SeatedLock {
     /// Attempts until it is done. Between two attempts it spins, and after a while it yields the thread.
     pub fn acquire<R: Wait>(&self, rt: &R, party: &mut Party, want: ExWant)
         requires lock { party.old.lock ≡ self.now }
-        requires has { IsTrue (has party.old.state.held (step_of_want want)) }
+        requires has { IsTrue (hold_has party.old.state.held (step_of_want want)) }
         ensures { Acquired want party.old party.new }
     {
         let mut spins = 0;
@@ -135,7 +138,7 @@ impl SeatedLock {
     /// Gives one hold back, by one subtraction.
     pub fn release(&self, party: &mut Party, mode: Mode)
         requires lock { party.old.lock ≡ self.now }
-        requires holds { 0 < count_of party.old.state.held mode }
+        requires holds { 0 < count_of party.old.state.held.bag mode }
         ensures { party.new ≡ won_by party.old (step_of_down (down_of_mode mode)) }
     {
         self.take(party, Down::of_mode(mode));
@@ -144,7 +147,7 @@ impl SeatedLock {
     /// An exclusive hold becomes a shared one, by one subtraction.
     pub fn downgrade(&self, party: &mut Party)
         requires lock { party.old.lock ≡ self.now }
-        requires holds { 0 < party.old.state.held.exclusive }
+        requires holds { 0 < party.old.state.held.bag.exclusive }
         ensures { party.new ≡ won_by party.old (step_of_down Down.ToShared) }
     {
         self.take(party, Down::ToShared);
@@ -153,7 +156,7 @@ impl SeatedLock {
     /// An exclusive hold becomes an upgradable one, by one subtraction.
     pub fn downgrade_to_upgradable(&self, party: &mut Party)
         requires lock { party.old.lock ≡ self.now }
-        requires holds { 0 < party.old.state.held.exclusive }
+        requires holds { 0 < party.old.state.held.bag.exclusive }
         ensures { party.new ≡ won_by party.old (step_of_down Down.ToUpgradable) }
     {
         self.take(party, Down::ToUpgradable);
@@ -162,15 +165,24 @@ impl SeatedLock {
     /// An upgradable hold becomes a shared one, by one subtraction.
     pub fn downgrade_upgradable(&self, party: &mut Party)
         requires lock { party.old.lock ≡ self.now }
-        requires holds { 0 < party.old.state.held.upgradable }
+        requires holds { 0 < party.old.state.held.bag.upgradable }
         ensures { party.new ≡ won_by party.old (step_of_down Down.UpgradableToShared) }
     {
         self.take(party, Down::UpgradableToShared);
     }
 
+    /// Takes the party's announcement back, by one subtraction.
+    pub fn withdraw(&self, party: &mut Party)
+        requires lock { party.old.lock ≡ self.now }
+        requires announced { party.old.state.held.announced ≡ true }
+        ensures { party.new ≡ won_by party.old (step_of_down Down.Withdraw) }
+    {
+        self.take(party, Down::Withdraw);
+    }
+
     fn take(&self, party: &mut Party, down: Down)
         requires lock { party.old.lock ≡ self.now }
-        requires holds { IsTrue (has party.old.state.held (step_of_down down)) }
+        requires holds { IsTrue (hold_has party.old.state.held (step_of_down down)) }
         ensures { party.new ≡ won_by party.old (step_of_down down) }
     {
         self.subtract(&mut party.seat, down);
@@ -180,9 +192,9 @@ impl SeatedLock {
     /// One exchange of the word that was loaded last.
     fn exchange(&self, seat: &mut Seat<(), PartyView>, want: ExWant, word: u64, next: u64) -> u64
         requires lock { seat.old.table_id ≡ self.now.id }
-        requires load { seat.old.me.0.state.loaded ≡ Some word }
-        requires holds { IsTrue (has seat.old.me.0.state.held (step_of_want want)) }
-        requires admitted { IsTrue (word_admits self.now.readers word want) }
+        requires load { (seat.old.me.0.state.loaded ≡ Some word) × (seat.old.me.0.last ≡ word) }
+        requires holds { IsTrue (hold_has seat.old.me.0.state.held (step_of_want want)) }
+        requires admitted { IsTrue (word_admits seat.old.me.0.state.held.announced self.now.readers word want) }
         requires next { next ≡ word_after word want }
         ensures seat { (seat.new.table_id ≡ seat.old.table_id) × (seat.new.id ≡ seat.old.id) }
         ensures done { result ≡ word → seat.new.me ≡ view_won seat.old.me (step_of_want want) }
@@ -194,16 +206,17 @@ impl SeatedLock {
             ExWant::Exclusive => shared.compare_exchange::<ToExclusive>(seat, 0, word, next),
             ExWant::Upgradable => shared.compare_exchange::<ToUpgradable>(seat, 0, word, next),
             ExWant::Upgrade => shared.compare_exchange::<Upgrade>(seat, 0, word, next),
+            ExWant::Announce => shared.compare_exchange::<Announce>(seat, 0, word, next),
         }
     }
 
     /// One subtraction from the word.
     fn subtract(&self, seat: &mut Seat<(), PartyView>, down: Down)
         requires lock { seat.old.table_id ≡ self.now.id }
-        requires holds { IsTrue (has seat.old.me.0.state.held (step_of_down down)) }
+        requires holds { IsTrue (hold_has seat.old.me.0.state.held (step_of_down down)) }
         ensures seat { (seat.new.table_id ≡ seat.old.table_id) × (seat.new.id ≡ seat.old.id) }
         ensures done { seat.new.me ≡ view_won seat.old.me (step_of_down down) }
-        ensures room { tokens seat.old.me.0.state.held < 2 ^ 63 }
+        ensures room { tokens seat.old.me.0.state.held.bag < 2 ^ 63 }
     {
         let shared = &self.table.shared;
         let amount = down.amount();
@@ -214,6 +227,7 @@ impl SeatedLock {
             Down::ToShared => shared.fetch_sub::<DownToShared>(seat, 0, amount),
             Down::ToUpgradable => shared.fetch_sub::<DownToUpgradable>(seat, 0, amount),
             Down::UpgradableToShared => shared.fetch_sub::<DownUpgradableToShared>(seat, 0, amount),
+            Down::Withdraw => shared.fetch_sub::<Withdraw>(seat, 0, amount),
         };
     }
 }

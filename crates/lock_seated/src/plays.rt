@@ -41,6 +41,13 @@ impl Play<(), PartyView> for Upgrade {
     ghost then = { Exchanges want.Upgrade };
 }
 
+/// An exchange that is to announce its party.
+pub(crate) struct Announce;
+
+impl Play<(), PartyView> for Announce {
+    ghost then = { Exchanges want.Announce };
+}
+
 /// A subtraction that gives a shared hold back.
 pub(crate) struct OffShared;
 
@@ -81,4 +88,11 @@ pub(crate) struct DownUpgradableToShared;
 
 impl Play<(), PartyView> for DownUpgradableToShared {
     ghost then = { Takes down.UpgradableToShared };
+}
+
+/// A subtraction that takes an announcement back.
+pub(crate) struct Withdraw;
+
+impl Play<(), PartyView> for Withdraw {
+    ghost then = { Takes down.Withdraw };
 }

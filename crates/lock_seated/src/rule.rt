@@ -8,6 +8,8 @@ use lock_word::PartyState;
 pub struct PartyView {
     /// What the party holds, its open load, its wins and fails.
     pub state: PartyState,
+    /// The word that it loaded last.
+    pub last: u64,
     /// How often it loaded the word.
     pub loads: u64,
     /// How many may read. A step cannot see the key of its table.

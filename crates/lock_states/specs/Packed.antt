@@ -1,15 +1,16 @@
 -- A packed word as a raw state: a token is its mode.
-use Rattle.std.specs.Prelude.{ℕ, List, ◌++◌, replicate}
+use Rattle.std.specs.Prelude.{ℕ, Bool, List, ◌++◌, replicate}
 use Rattle.lock_base.specs.declared.machine.mode.Mode.{Mode}
 use Rattle.lock_base.specs.declared.machine.mode.Mode.TheVariants.{Shared, Exclusive, Upgradable}
 use Rattle.lock_base.specs.declared.machine.bag.Bag.{Bag}
 use Rattle.lock_states.specs.declared.word.PackedToken.{PackedToken}
 
--- the modes that are out, and the two limits
+-- the modes that are out, the two limits, and whether a bar is set
 pub record Packed : Type 0 where
   pub bag : Bag
   pub places : ℕ
   pub readers : ℕ
+  pub bar : Bool
 
 -- the token of a mode, in its mode
 abbrev pub token_of : Mode → PackedToken × Mode

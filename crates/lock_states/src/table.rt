@@ -1,5 +1,5 @@
 //! A table of places, each free or taken in a mode.
-ghost use Rattle.std.specs.Prelude.{◌≡◌, ◌+◌, ◌<◌, ◌≤◌, ◌^◌, length, ◌↔◌, IsTrue, IfOk, IfErr, IfSome, IfNone, OnErr, is_some, is_ok};
+ghost use Rattle.std.specs.Prelude.{◌≡◌, ◌+◌, ◌<◌, ◌≤◌, ◌^◌, ◌&&◌, not, length, ◌↔◌, IsTrue, IfOk, IfErr, IfSome, IfNone, OnErr, is_some, is_ok};
 ghost use Rattle.lock_base.specs.Modes.{tokens, admits, may_become};
 ghost use Rattle.lock_base.specs.Tokens.{bag_of_tokens, IsOut, IsOutAs, Adds, Removes, CanChange, Replaces};
 ghost use Rattle.lock_states.specs.Table.{tokens_of, KeepsLimits};
@@ -26,6 +26,7 @@ pub struct TokenTable {
     bag: Bag,
     free: Option<usize>,
     readers: u64,
+    bar: bool,
 }
 
 impl Model for TokenTable {
@@ -37,6 +38,7 @@ impl Model for TokenTable {
     ghost view = { λ table. record {
       places = modes_in table.places.places;
       readers = table.readers;
+      bar = table.bar;
       count = table.places.count;
     } };
 
@@ -70,6 +72,8 @@ impl RawState for TokenTable {
 
     ghost reader_limit = { λ table. table.readers };
 
+    ghost bar = { λ table. table.bar };
+
     fn new(alloc: Global, places: u64, readers: u64) -> Result<TokenTable, Fault> {
         if !is_limit(places) || !is_limit(readers) {
             return Err(Fault::BadLimits);
@@ -79,19 +83,22 @@ impl RawState for TokenTable {
             bag: Bag::empty(),
             free: Some(places as usize - 1),
             readers,
+            bar: false,
         })
     }
 
     fn admit(&mut self, mode: Mode) -> Option<TableToken>
         requires { length (tokens_of self.old.places) < length self.old.places }
-        ensures admitted { is_some result ≡ admits self.old.readers (bag_of_tokens (tokens_of self.old.places)) mode }
+        ensures admitted { is_some result
+            ≡ (not self.old.bar && admits self.old.readers (bag_of_tokens (tokens_of self.old.places)) mode) }
         ensures added { IfSome result (λ token.
             Adds (tokens_of self.old.places) (tokens_of self.new.places) token mode) }
         ensures refused { IfNone result (self.new ≡ self.old) }
         ensures limits { KeepsLimits self.old self.new }
+        ensures bar { self.new.bar ≡ self.old.bar }
         ensures count { self.new.count ≤ self.old.count + 3 }
     {
-        if !self.tally().admits(self.readers, mode) {
+        if self.bar || !self.tally().admits(self.readers, mode) {
             return None;
         }
         let Some(place) = self.free else {
@@ -110,6 +117,7 @@ impl RawState for TokenTable {
         requires { IsOut (tokens_of self.old.places) token }
         ensures removed { Removes (tokens_of self.old.places) (tokens_of self.new.places) token }
         ensures limits { KeepsLimits self.old self.new }
+        ensures bar { self.new.bar ≡ self.old.bar }
         ensures count { self.new.count ≤ self.old.count + 3 }
     {
         let Place::Taken(mode) = self.places.read(token.place) else {
@@ -128,6 +136,7 @@ impl RawState for TokenTable {
         ensures token_returned { IfErr result (λ same. same ≡ token) }
         ensures refused { OnErr result (self.new ≡ self.old) }
         ensures limits { KeepsLimits self.old self.new }
+        ensures bar { self.new.bar ≡ self.old.bar }
         ensures count { self.new.count ≤ self.old.count + 3 }
     {
         if !self.tally().may_become(mode) {
@@ -148,6 +157,14 @@ impl RawState for TokenTable {
     fn exclusive(&self) -> bool {
         self.tally().exclusive != 0
     }
+
+    fn set_bar(&mut self, barred: bool) {
+        self.bar = barred;
+    }
+
+    fn barred(&self) -> bool {
+        self.bar
+    }
 }
 
 impl ObservableState for TokenTable {
@@ -167,6 +184,7 @@ impl ObservableState for TokenTable {
         ensures out { IsTrue result ↔ IsOutAs (tokens_of self.old.places) token.now mode }
         ensures places { self.new.places ≡ self.old.places }
         ensures limits { KeepsLimits self.old self.new }
+        ensures bar { self.new.bar ≡ self.old.bar }
         ensures count { self.new.count ≤ self.old.count + 3 }
     {
         if token.place >= self.places.len() {

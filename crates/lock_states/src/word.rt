@@ -1,10 +1,10 @@
 //! A raw state in one number.
-ghost use Rattle.std.specs.Prelude.{◌≡◌, ◌<◌, IsTrue, if◌then◌else◌};
+ghost use Rattle.std.specs.Prelude.{◌≡◌, ◌<◌, ◌&&◌, not, IsTrue, if◌then◌else◌};
 ghost use Rattle.lock_base.specs.Modes.{count_of, one_more, one_less, admits, may_become, is_move};
 
 use lock_base::machine::Mode;
 use lock_base::raw::{Fault, RawState, is_limit};
-use lock_word::{Down, ExWant, has_exclusive};
+use lock_word::{Down, ExWant, has_bar, has_exclusive, has_tokens, with_bar};
 use std::alloc::Global;
 use std::marker::Model;
 
@@ -14,7 +14,7 @@ pub struct PackedToken {
     mode: Mode,
 }
 
-/// A raw state that keeps one number, the word of the tokens that are out. A token is its mode.
+/// A raw state that keeps one number, the word of the tokens that are out and of the bar. A token is its mode.
 #[derive(Drop)]
 pub struct PackedWord {
     word: u64,
@@ -24,12 +24,18 @@ pub struct PackedWord {
 
 impl Model for PackedWord {
     ghost use Rattle.lock_base.specs.Limits.{IsLimit};
-    ghost use Rattle.lock_word.specs.Word.{bag_of_word, IsPacked};
+    ghost use Rattle.lock_word.specs.Holds.{is_barred};
+    ghost use Rattle.lock_word.specs.Word.{bag_of_word, barred_bag_of_word, IsPacked};
     ghost use Rattle.lock_states.specs.Packed.{Packed};
 
     ghost Value = { Packed };
 
-    ghost view = { λ w. record { bag = bag_of_word w.word; places = w.places; readers = w.readers } };
+    ghost view = { λ w. record {
+      bag = bag_of_word w.word;
+      places = w.places;
+      readers = w.readers;
+      bar = is_barred (barred_bag_of_word w.word);
+    } };
 
     ghost invariant = { λ w. IsPacked w.readers w.word × IsLimit w.readers };
 }
@@ -37,10 +43,10 @@ impl Model for PackedWord {
 impl PackedWord {
     /// One more of the mode, exactly where it is admitted.
     fn acquire(&mut self, mode: Mode) -> bool
-        ensures admitted { result ≡ admits self.old.readers self.old.bag mode }
+        ensures admitted { result ≡ (not self.old.bar && admits self.old.readers self.old.bag mode) }
         ensures after { self.new ≡ if result then record self.old { bag = one_more self.old.bag mode } else self.old }
     {
-        let Some(next) = ExWant::of_mode(mode).exchanged(self.readers, self.word) else {
+        let Some(next) = ExWant::of_mode(mode).exchanged(false, self.readers, self.word) else {
             return false;
         };
         self.word = next;
@@ -64,7 +70,7 @@ impl PackedWord {
     {
         match (from, to) {
             (Mode::Upgradable, Mode::Exclusive) => {
-                let Some(next) = ExWant::Upgrade.exchanged(self.readers, self.word) else {
+                let Some(next) = ExWant::Upgrade.exchanged(false, self.readers, self.word) else {
                     return false;
                 };
                 self.word = next;
@@ -87,6 +93,8 @@ impl RawState for PackedWord {
     ghost capacity = { λ w. w.places };
 
     ghost reader_limit = { λ w. w.readers };
+
+    ghost bar = { λ w. w.bar };
 
     fn new(_alloc: Global, places: u64, readers: u64) -> Result<PackedWord, Fault> {
         if !is_limit(places) || !is_limit(readers) {
@@ -121,11 +129,19 @@ impl RawState for PackedWord {
     }
 
     fn any(&self) -> bool {
-        self.word != 0
+        has_tokens(self.word)
     }
 
     #[tactic(auto, using(crate::proofs::PackedTokens::bag_of_tokens_in))]
     fn exclusive(&self) -> bool {
         has_exclusive(self.word)
+    }
+
+    fn set_bar(&mut self, barred: bool) {
+        self.word = with_bar(self.word, barred);
+    }
+
+    fn barred(&self) -> bool {
+        has_bar(self.word)
     }
 }

@@ -6,7 +6,7 @@ ghost use Rattle.lock_word.specs.Holders.{holder_at};
 ghost use Rattle.lock_word.specs.Word.{word_of};
 ghost use Rattle.lock_word.specs.Rule.{held_by_all, others_wins};
 ghost use Rattle.lock_word.specs.Worlds.{IsOfParty, IsUnknownIn, stepped, new_world, world_after, outcomes, IsReachable};
-ghost use Rattle.lock_word.specs.Claims.{Leaves, FailsAreBounded, changes_from, IsRunByParties, IsRunOnAll};
+ghost use Rattle.lock_word.specs.Claims.{Leaves, BarIsOfOne, FailsAreBounded, changes_from, IsRunByParties, IsRunOnAll};
 
 use lock_base::machine::Mode;
 use lock_base::raw::{Fault, is_limit};
@@ -69,21 +69,31 @@ impl World {
         })
     }
 
-    /// The word. It is that of all that is held, which may be out together.
+    /// The word. It is that of all that is held, which may be out together, and of the bar of the one party that has
+    /// announced itself, if one has.
     pub fn word(&self) -> u64
         ensures value { result ≡ self.now.word }
         ensures coded { result ≡ word_of (held_by_all self.now.parties) }
-        ensures legal { AreCompatible self.now.readers (held_by_all self.now.parties) }
+        ensures legal { AreCompatible self.now.readers (held_by_all self.now.parties).bag }
+        ensures bar { BarIsOfOne result self.now.parties }
     {
         self.word
     }
 
     /// How many tokens of the mode a party holds.
     pub fn holds(&self, party: u64, mode: Mode) -> Result<u64, Fault>
-        ensures known { IfOk result (λ n. IsOfParty self.now party (λ me. n ≡ count_of me.held mode)) }
+        ensures known { IfOk result (λ n. IsOfParty self.now party (λ me. n ≡ count_of me.held.bag mode)) }
         ensures unknown { IfErr result (IsUnknownIn self.now party) }
     {
-        Ok(self.party(party)?.held.count(mode))
+        Ok(self.party(party)?.held.bag.count(mode))
+    }
+
+    /// Whether a party has announced itself.
+    pub fn announced(&self, party: u64) -> Result<bool, Fault>
+        ensures known { IfOk result (λ is. IsOfParty self.now party (λ me. is ≡ me.held.announced)) }
+        ensures unknown { IfErr result (IsUnknownIn self.now party) }
+    {
+        Ok(self.party(party)?.held.announced)
     }
 
     /// How many of a party's exchanges and subtractions were done.
@@ -138,12 +148,14 @@ impl World {
         ensures outcomes { IfOk result (λ made. made.items ≡ outcomes self.old steps.now) }
         ensures after { OnOk result (self.new ≡ world_after self.old steps.now) }
 
-        // What was done is, in order, a run of the modes: by the parties, and on what all hold together.
+        // What was done is, in order, a run of the modes: by the parties, with the bar beside, and on what all hold
+        // together.
         ensures by_parties { OnOk result (IsRunByParties self.old (changes_from self.old steps.now) self.new) }
         ensures run { OnOk result (IsRunOnAll self.old (changes_from self.old steps.now) self.new) }
 
         ensures coded { self.new.word ≡ word_of (held_by_all self.new.parties) }
-        ensures legal { AreCompatible self.new.readers (held_by_all self.new.parties) }
+        ensures legal { AreCompatible self.new.readers (held_by_all self.new.parties).bag }
+        ensures bar { BarIsOfOne self.new.word self.new.parties }
         ensures bounded { FailsAreBounded self.new.parties }
         ensures fault { IfErr result (λ fault. fault ≡ Fault.OutOfMemory) }
         ensures refused { OnErr result (self.new ≡ self.old) }

@@ -4,7 +4,7 @@ use Rattle.std.proofs.lemmas.Bool.{eqb-false}
 use Rattle.lock_base.specs.declared.raw.fault.Fault.{Fault}
 use Rattle.lock_base.specs.declared.raw.fault.Fault.TheVariants as fault
 use Rattle.lock_base.specs.Limits.{IsLimit}
-use Rattle.lock_base.specs.ModeRuns.{has}
+use Rattle.lock_word.specs.Holds.{hold_has}
 use Rattle.lock_word.specs.declared.want.ExWant.{ExWant}
 use Rattle.lock_word.specs.declared.down.Down.{Down}
 use Rattle.lock_word.specs.declared.party.PartyState.{PartyState}
@@ -14,7 +14,6 @@ use Rattle.lock_word.specs.declared.step.Outcome.TheVariants.{Done, NotAdmitted,
 use Rattle.lock_word.specs.Word.{word_admits, word_after, amount, step_of_want, step_of_down}
 use Rattle.lock_word.specs.Turns.{Turn, refused_turn, won, lost, unloaded, loaded_turn, load_turn, turn}
 use Rattle.lock_word.specs.Rule.{KeepsRule}
-use Rattle.lock_word.proofs.Holders.{Has, Has_from_test}
 use Rattle.lock_word.proofs.Rules.{slice_set_same, keeps_load, keeps_unloaded, keeps_lost, keeps_exchange, keeps_take}
 
 -- all that a turn can be
@@ -22,17 +21,17 @@ pub data Effect (limit word : ℕ) (me : PartyState) (s : AtomicStep) (t : Turn)
   is_refused : (f : Fault) → ((p : ℕ) → s ≢ Load p) → t ≡ refused_turn word me f → Effect limit word me s t
   is_load : (p : ℕ) → s ≡ Load p → t ≡ load_turn word me → Effect limit word me s t
   is_not_admitted : (p : ℕ) (want : ExWant) (loaded : ℕ) → s ≡ Exchange p want → me.loaded ≡ Some loaded
-      → word_admits limit loaded want ≡ false
+      → word_admits me.held.announced limit loaded want ≡ false
       → t ≡ record { word = word; party = unloaded me; outcome = NotAdmitted }
       → Effect limit word me s t
   is_changed : (p : ℕ) (want : ExWant) (loaded : ℕ) → s ≡ Exchange p want → me.loaded ≡ Some loaded → word ≢ loaded
       → t ≡ record { word = word; party = lost me; outcome = Changed }
       → Effect limit word me s t
-  is_exchange : (p : ℕ) (want : ExWant) → s ≡ Exchange p want → Has me.held (step_of_want want)
-      → me.loaded ≡ Some word → IsTrue (word_admits limit word want)
+  is_exchange : (p : ℕ) (want : ExWant) → s ≡ Exchange p want → IsTrue (hold_has me.held (step_of_want want))
+      → me.loaded ≡ Some word → IsTrue (word_admits me.held.announced limit word want)
       → t ≡ record { word = word_after word want; party = won me (step_of_want want); outcome = Done }
       → Effect limit word me s t
-  is_take : (p : ℕ) (d : Down) → s ≡ Take p d → Has me.held (step_of_down d)
+  is_take : (p : ℕ) (d : Down) → s ≡ Take p d → IsTrue (hold_has me.held (step_of_down d))
       → t ≡ record { word = word - amount d; party = won me (step_of_down d); outcome = Done }
       → Effect limit word me s t
 
@@ -43,15 +42,15 @@ of_both P true x y f g = f refl
 of_both P false x y f g = g refl
 
 effect_loaded : (limit word : ℕ) (me : PartyState) (p : ℕ) (want : ExWant) (o : Option ℕ) → me.loaded ≡ o
-    → Has me.held (step_of_want want)
+    → IsTrue (hold_has me.held (step_of_want want))
     → Effect limit word me (Exchange p want) (loaded_turn limit word me want o)
 effect_loaded limit word me p want None was own = is_refused fault.NoLoad (λ q e. cc) refl
 effect_loaded limit word me p want (Some loaded) was own =
-    of_both (Effect limit word me (Exchange p want)) (word_admits limit loaded want) _ _
+    of_both (Effect limit word me (Exchange p want)) (word_admits me.held.announced limit loaded want) _ _
     (λ admits. of_both (Effect limit word me (Exchange p want)) (word == loaded) _ _
     (λ same.
     let e : word ≡ loaded = eqb-true word loaded same in
-    is_exchange p want refl own (was ∙ ap Some (sym e)) (ap (λ w. word_admits limit w want) e ∙ admits)
+    is_exchange p want refl own (was ∙ ap Some (sym e)) (ap (λ w. word_admits me.held.announced limit w want) e ∙ admits)
     (ap (λ w. let t : Turn = record { word = word_after w want; party = won me (step_of_want want); outcome = Done } in t)
     (sym e)))
     (λ other. is_changed p want loaded refl was (λ e. eqb-false word loaded other e) refl))
@@ -60,12 +59,12 @@ effect_loaded limit word me p want (Some loaded) was own =
 pub effect : (limit word : ℕ) (me : PartyState) (s : AtomicStep) → Effect limit word me s (turn limit word me s)
 effect limit word me (Load p) = is_load p refl refl
 effect limit word me (Exchange p want) =
-    of_both (Effect limit word me (Exchange p want)) (has me.held (step_of_want want)) _ _
-    (λ h. effect_loaded limit word me p want me.loaded refl (Has_from_test me.held (step_of_want want) h))
+    of_both (Effect limit word me (Exchange p want)) (hold_has me.held (step_of_want want)) _ _
+    (λ h. effect_loaded limit word me p want me.loaded refl h)
     (λ h. is_refused fault.WrongMode (λ q e. cc) refl)
 effect limit word me (Take p d) =
-    of_both (Effect limit word me (Take p d)) (has me.held (step_of_down d)) _ _
-    (λ h. is_take p d refl (Has_from_test me.held (step_of_down d) h) refl)
+    of_both (Effect limit word me (Take p d)) (hold_has me.held (step_of_down d)) _ _
+    (λ h. is_take p d refl h refl)
     (λ h. is_refused fault.WrongMode (λ q e. cc) refl)
 
 -- the rule after a turn of the party at k

@@ -1,5 +1,5 @@
 -- A step of one holder is that step of all together.
-use Rattle.std.proofs.Common.{◌≡◌, ℕ, zero, suc, ◌+◌, ◌-◌, ◌<◌, ◌≤◌, List, [], ◌∷◌, get_or, slice_get, slice_set, sum_by, replicate, Some, IsTrue, refl, sym, ap, subst, ◌∙◌, arith, ltb-true, lt-ltb}
+use Rattle.std.proofs.Common.{◌≡◌, ℕ, zero, suc, ◌+◌, ◌-◌, ◌<◌, ◌≤◌, Bool, true, false, ◌&&◌, not, List, [], ◌∷◌, ◌++◌, get_or, slice_get, slice_set, sum_by, replicate, Some, IsTrue, refl, sym, ap, subst, ◌∙◌, arith, ltb-true}
 use Rattle.std.specs.Prelude.{⊤}
 use Rattle.std.proofs.lemmas.List.Sums.{sum_by-set, sum_by-cons, get_or-le-sum_by}
 use Rattle.std.proofs.lemmas.Option.{slice_get_within, get_or_from_slice_get}
@@ -11,23 +11,47 @@ use Rattle.lock_base.specs.declared.machine.bag.Bag.{Bag}
 use Rattle.lock_base.specs.Modes.{empty_bag, count_of, one_more, one_less}
 use Rattle.lock_base.specs.ModeRuns.{has, bag_after, IsModeRun}
 use Rattle.lock_base.proofs.TokenBags.{same_counts}
-use Rattle.lock_word.specs.Holders.{all_of, IsPart, holder_at, HolderStep, IsHolderStep, IsHolderRun, steps_of}
+use Rattle.lock_word.specs.declared.hold.Hold.{Hold}
+use Rattle.lock_word.specs.declared.word_step.WordStep.{WordStep}
+use Rattle.lock_word.specs.declared.word_step.WordStep.TheVariants.{Modes, Announce, Withdraw}
+use Rattle.lock_word.specs.Holds.{BarredBag, bars_of, unbarred, ends_bar, PermitsTo, barred_after, no_hold, hold_has, hold_after}
+use Rattle.lock_word.specs.Holders.{all_of, IsPart, holder_at, HolderStep, IsHolderStep, IsHolderRun, modes_of, steps_of}
 
 -- what the step gives up is out
-abbrev pub Has : Bag → ModeStep → Type 0
-Has b (Acquire mode) = ⊤
-Has b (Release mode) = 0 < count_of b mode
-Has b (Change from to) = 0 < count_of b from
+abbrev pub HasModes : Bag → ModeStep → Type 0
+HasModes b (Acquire mode) = ⊤
+HasModes b (Release mode) = 0 < count_of b mode
+HasModes b (Change from to) = 0 < count_of b from
 
-pub Has_from_test : (b : Bag) (s : ModeStep) → IsTrue (has b s) → Has b s
-Has_from_test b (Acquire m) h = tt
-Has_from_test b (Release m) h = ltb-true 0 (count_of b m) h
-Has_from_test b (Change from to) h = ltb-true 0 (count_of b from) h
+-- the same of tokens and bars
+abbrev pub Has : BarredBag → WordStep → Type 0
+Has all (Modes step) = HasModes all.bag step
+Has all Announce = ⊤
+Has all Withdraw = 0 < all.bars
 
-pub test_from_Has : (b : Bag) (s : ModeStep) → Has b s → IsTrue (has b s)
-test_from_Has b (Acquire m) h = refl
-test_from_Has b (Release m) h = lt-ltb 0 (count_of b m) h
-test_from_Has b (Change from to) h = lt-ltb 0 (count_of b from) h
+modes_from_test : (b : Bag) (s : ModeStep) → IsTrue (has b s) → HasModes b s
+modes_from_test b (Acquire m) h = tt
+modes_from_test b (Release m) h = ltb-true 0 (count_of b m) h
+modes_from_test b (Change from to) h = ltb-true 0 (count_of b from) h
+
+-- what a part has of a mode, the whole has
+count-part : (own : Hold) (all : BarredBag) (mode : Mode) → IsPart own all → count_of own.bag mode ≤ count_of all.bag mode
+count-part own all Shared part = part.shared
+count-part own all Exclusive part = part.exclusive
+count-part own all Upgradable part = part.upgradable
+
+modes-part : (own : Hold) (all : BarredBag) (s : ModeStep) → IsPart own all → HasModes own.bag s → HasModes all.bag s
+modes-part own all (Acquire mode) part h = tt
+modes-part own all (Release mode) part h = let le = count-part own all mode part in omega arith
+modes-part own all (Change from to) part h = let le = count-part own all from part in omega arith
+
+pub has_of_part : (own : Hold) (all : BarredBag) (s : WordStep) → IsPart own all → IsTrue (hold_has own s) → Has all s
+has_of_part own all (Modes s) part h = modes-part own all s part (modes_from_test own.bag s h)
+has_of_part own all Announce part h = tt
+has_of_part own all Withdraw part h =
+    let bar : bars_of own.announced ≡ 1 = ap bars_of h in
+    let le = part.bars in
+    omega arith
 
 -- one element of a list is changed: the sum changes by as much
 pub sum_by-slice_set : {X : Type 0} (f : X → ℕ) (xs : List X) (k : ℕ) (x y : X) → slice_get xs k ≡ Some x
@@ -41,36 +65,19 @@ le-sum_by f xs k x h =
     let at : get_or xs k x ≡ x = get_or_from_slice_get xs k x x h in
     rw at at (get_or-le-sum_by f xs k x (slice_get_within xs k x h))
 
-pub part_of_all : (bags : List Bag) (k : ℕ) (own : Bag) → slice_get bags k ≡ Some own → IsPart own (all_of bags)
-part_of_all bags k own h =
+pub part_of_all : (holds : List Hold) (k : ℕ) (own : Hold) → slice_get holds k ≡ Some own → IsPart own (all_of holds)
+part_of_all holds k own h =
     record {
-      shared = le-sum_by (λ (b : Bag). b.shared) bags k own h;
-      exclusive = le-sum_by (λ (b : Bag). b.exclusive) bags k own h;
-      upgradable = le-sum_by (λ (b : Bag). b.upgradable) bags k own h;
+      shared = le-sum_by (λ (b : Hold). b.bag.shared) holds k own h;
+      exclusive = le-sum_by (λ (b : Hold). b.bag.exclusive) holds k own h;
+      upgradable = le-sum_by (λ (b : Hold). b.bag.upgradable) holds k own h;
+      bars = le-sum_by (λ (b : Hold). bars_of b.announced) holds k own h;
     }
 
--- what a part has of a mode, the whole has
-pub count-part : (own all : Bag) (mode : Mode) → IsPart own all → count_of own mode ≤ count_of all mode
-count-part own all Shared part = part.shared
-count-part own all Exclusive part = part.exclusive
-count-part own all Upgradable part = part.upgradable
-
-pub Has-part : (own all : Bag) (s : ModeStep) → IsPart own all → Has own s → Has all s
-Has-part own all (Acquire mode) part h = tt
-Has-part own all (Release mode) part h = let le = count-part own all mode part in omega arith
-Has-part own all (Change from to) part h = let le = count-part own all from part in omega arith
-
--- the counts of all change as those of the one
-replaced : (bags : List Bag) (k : ℕ) (own new after : Bag) → slice_get bags k ≡ Some own
-    → (all_of bags).shared + new.shared ≡ after.shared + own.shared
-    → (all_of bags).exclusive + new.exclusive ≡ after.exclusive + own.exclusive
-    → (all_of bags).upgradable + new.upgradable ≡ after.upgradable + own.upgradable
-    → all_of (slice_set bags k new) ≡ after
-replaced bags k own new after h s x u =
-    let es = sum_by-slice_set (λ (b : Bag). b.shared) bags k own new h in
-    let ex = sum_by-slice_set (λ (b : Bag). b.exclusive) bags k own new h in
-    let eu = sum_by-slice_set (λ (b : Bag). b.upgradable) bags k own new h in
-    same_counts (all_of (slice_set bags k new)) after (omega arith) (omega arith) (omega arith)
+pub same_barred : (a b : BarredBag) → a.bag ≡ b.bag → a.bars ≡ b.bars → a ≡ b
+same_barred a b same bars =
+    let barred : Bag → ℕ → BarredBag = λ x n. record { bag = x; bars = n } in
+    ap (λ x. barred x a.bars) same ∙ ap (barred b.bag) bars
 
 -- two bags change alike, count by count
 record Alike (own all own_after all_after : Bag) : Type 0 where
@@ -83,49 +90,97 @@ alike_more own all Shared = record { shared = omega arith; exclusive = omega ari
 alike_more own all Exclusive = record { shared = omega arith; exclusive = omega arith; upgradable = omega arith }
 alike_more own all Upgradable = record { shared = omega arith; exclusive = omega arith; upgradable = omega arith }
 
-alike_less : (own all : Bag) (mode : Mode) → IsPart own all → 0 < count_of own mode
-    → Alike own all (one_less own mode) (one_less all mode)
+alike_less : (own : Hold) (all : BarredBag) (mode : Mode) → IsPart own all → 0 < count_of own.bag mode
+    → Alike own.bag all.bag (one_less own.bag mode) (one_less all.bag mode)
 alike_less own all Shared part h = record { shared = omega arith; exclusive = omega arith; upgradable = omega arith }
 alike_less own all Exclusive part h = record { shared = omega arith; exclusive = omega arith; upgradable = omega arith }
 alike_less own all Upgradable part h = record { shared = omega arith; exclusive = omega arith; upgradable = omega arith }
 
-alike_after : (own all : Bag) (s : ModeStep) → IsPart own all → Has own s
-    → Alike own all (bag_after own s) (bag_after all s)
-alike_after own all (Acquire mode) part h = alike_more own all mode
-alike_after own all (Release mode) part h = alike_less own all mode part h
-alike_after own all (Change from to) part h =
+alike_modes : (own : Hold) (all : BarredBag) (s : ModeStep) → IsPart own all → HasModes own.bag s
+    → Alike own.bag all.bag (bag_after own.bag s) (bag_after all.bag s)
+alike_modes own all (Acquire mode) part h = alike_more own.bag all.bag mode
+alike_modes own all (Release mode) part h = alike_less own all mode part h
+alike_modes own all (Change from to) part h =
     let less = alike_less own all from part h in
-    let more = alike_more (one_less own from) (one_less all from) to in
+    let more = alike_more (one_less own.bag from) (one_less all.bag from) to in
     record { shared = omega arith; exclusive = omega arith; upgradable = omega arith }
 
--- a step of one holder is that step of all together
-pub all_of-after : (bags : List Bag) (k : ℕ) (own : Bag) (s : ModeStep) → slice_get bags k ≡ Some own → Has own s
-    → all_of (slice_set bags k (bag_after own s)) ≡ bag_after (all_of bags) s
-all_of-after bags k own s at h =
-    let alike = alike_after own (all_of bags) s (part_of_all bags k own at) h in
-    replaced bags k own (bag_after own s) (bag_after (all_of bags) s) at alike.shared alike.exclusive alike.upgradable
+alike_after : (own : Hold) (all : BarredBag) (s : WordStep) → IsPart own all → IsTrue (hold_has own s)
+    → Alike own.bag all.bag (hold_after own s).bag (barred_after own.announced all s).bag
+alike_after own all (Modes s) part h = alike_modes own all s part (modes_from_test own.bag s h)
+alike_after own all Announce part h = record { shared = refl; exclusive = refl; upgradable = refl }
+alike_after own all Withdraw part h = record { shared = refl; exclusive = refl; upgradable = refl }
 
-step_of_all : (limit : ℕ) (before after : List Bag) (s : HolderStep) → IsHolderStep limit before s after
-    → all_of after ≡ bag_after (all_of before) s.step
+-- a bar is the announcement of the one whose it is
+bars_left : (ends announced : Bool) (bars : ℕ) → bars_of announced ≤ bars
+    → bars + bars_of (not ends && announced) ≡ (bars - bars_of (ends && announced)) + bars_of announced
+bars_left true true bars le = omega arith
+bars_left true false bars le = omega arith
+bars_left false true bars le = omega arith
+bars_left false false bars le = omega arith
+
+bars_announced : (announced : Bool) (bars : ℕ) → bars_of announced ≤ bars → bars ≡ 0 → bars + 1 ≡ (bars + 1) + bars_of announced
+bars_announced true bars le none = omega arith
+bars_announced false bars le none = omega arith
+
+alike_bars : (limit : ℕ) (own : Hold) (all : BarredBag) (s : WordStep) → IsPart own all → IsTrue (hold_has own s)
+    → PermitsTo own.announced limit all s
+    → all.bars + bars_of (hold_after own s).announced ≡ (barred_after own.announced all s).bars + bars_of own.announced
+alike_bars limit own all (Modes s) part h permitted = bars_left (ends_bar s) own.announced all.bars part.bars
+alike_bars limit own all Announce part h none = bars_announced own.announced all.bars part.bars none
+alike_bars limit own all Withdraw part h some =
+    let bar : bars_of own.announced ≡ 1 = ap bars_of h in
+    omega arith
+
+-- a step of one holder is that step of all together
+pub all_of-after : (limit : ℕ) (holds : List Hold) (k : ℕ) (own : Hold) (s : WordStep) → slice_get holds k ≡ Some own
+    → IsTrue (hold_has own s) → PermitsTo own.announced limit (all_of holds) s
+    → all_of (slice_set holds k (hold_after own s)) ≡ barred_after own.announced (all_of holds) s
+all_of-after limit holds k own s at h permitted =
+    let part = part_of_all holds k own at in
+    let new = hold_after own s in
+    let after = barred_after own.announced (all_of holds) s in
+    let alike = alike_after own (all_of holds) s part h in
+    let bars = alike_bars limit own (all_of holds) s part h permitted in
+    let es = sum_by-slice_set (λ (b : Hold). b.bag.shared) holds k own new at in
+    let ex = sum_by-slice_set (λ (b : Hold). b.bag.exclusive) holds k own new at in
+    let eu = sum_by-slice_set (λ (b : Hold). b.bag.upgradable) holds k own new at in
+    let eb = sum_by-slice_set (λ (b : Hold). bars_of b.announced) holds k own new at in
+    let alike_shared = alike.shared in
+    let alike_exclusive = alike.exclusive in
+    let alike_upgradable = alike.upgradable in
+    same_barred (all_of (slice_set holds k new)) after
+    (same_counts (all_of (slice_set holds k new)).bag after.bag (omega arith) (omega arith) (omega arith)) (omega arith)
+
+step_of_all : (limit : ℕ) (before after : List Hold) (s : HolderStep) (made : IsHolderStep limit before s after)
+    → all_of after ≡ barred_after made.own.announced (all_of before) s.step
 step_of_all limit before after s made = at s.holder refl
   where
-    at : (p : ℕ) → s.holder ≡ p → all_of after ≡ bag_after (all_of before) s.step
+    at : (p : ℕ) → s.holder ≡ p → all_of after ≡ barred_after made.own.announced (all_of before) s.step
     at zero is = let none = ap (holder_at before) is in let own = made.is_own in cc
     at (suc k) is =
         let there : slice_get before k ≡ Some made.own = sym (ap (holder_at before) is) ∙ made.is_own in
         let index : s.holder - 1 ≡ k = omega arith in
-        ap all_of (made.changed ∙ ap (λ n. slice_set before n (bag_after made.own s.step)) index)
-        ∙ all_of-after before k made.own s.step there (Has_from_test made.own s.step made.had)
+        ap all_of (made.changed ∙ ap (λ n. slice_set before n (hold_after made.own s.step)) index)
+        ∙ all_of-after limit before k made.own s.step there made.had made.permitted
+
+-- a step on the bag and its bars is a step of the modes on the bag, or none
+modes_made : (limit : ℕ) (announced : Bool) (all : BarredBag) (s : WordStep) (rest : List ModeStep) (last : Bag)
+    → PermitsTo announced limit all s → IsModeRun limit (barred_after announced all s).bag rest last
+    → IsModeRun limit all.bag (modes_of s ++ rest) last
+modes_made limit announced all (Modes s) rest last permitted run = (permitted.0, run)
+modes_made limit announced all Announce rest last permitted run = run
+modes_made limit announced all Withdraw rest last permitted run = run
 
 -- what holders do one after another is a run of the modes on what they have together
-pub run_of_all : (limit : ℕ) (before after : List Bag) (ss : List HolderStep) → IsHolderRun limit before ss after
-    → IsModeRun limit (all_of before) (steps_of ss) (all_of after)
-run_of_all limit before after [] run = ap all_of run
-run_of_all limit before after (s ∷ ss) run = (
-  run.1.permitted,
-  subst (λ b. IsModeRun limit b (steps_of ss) (all_of after)) (step_of_all limit before run.0 s run.1)
-      (run_of_all limit run.0 after ss run.2),
-)
+pub run_of_all : (limit : ℕ) (before after : List Hold) (ss : List HolderStep) → IsHolderRun limit before ss after
+    → IsModeRun limit (all_of before).bag (steps_of ss) (all_of after).bag
+run_of_all limit before after [] run = ap (λ hs. (all_of hs).bag) run
+run_of_all limit before after (s ∷ ss) run =
+    let last = (all_of after).bag in
+    modes_made limit run.1.own.announced (all_of before) s.step (steps_of ss) last run.1.permitted
+    (subst (λ (b : BarredBag). IsModeRun limit b.bag (steps_of ss) last) (step_of_all limit before run.0 s run.1)
+    (run_of_all limit run.0 after ss run.2))
 
 sum_of_zeros : {X : Type 0} (f : X → ℕ) (n : ℕ) (x : X) → f x ≡ 0 → sum_by f (replicate n x) ≡ 0
 sum_of_zeros f zero x h = refl
@@ -134,9 +189,11 @@ sum_of_zeros f (suc n) x h =
     let e = sum_by-cons f x (replicate n x) in
     omega arith
 
-pub all_of_none : (n : ℕ) → all_of (replicate n empty_bag) ≡ empty_bag
+pub all_of_none : (n : ℕ) → all_of (replicate n no_hold) ≡ unbarred empty_bag
 all_of_none n =
-    same_counts (all_of (replicate n empty_bag)) empty_bag
-    (sum_of_zeros (λ (b : Bag). b.shared) n empty_bag refl)
-    (sum_of_zeros (λ (b : Bag). b.exclusive) n empty_bag refl)
-    (sum_of_zeros (λ (b : Bag). b.upgradable) n empty_bag refl)
+    same_barred (all_of (replicate n no_hold)) (unbarred empty_bag)
+    (same_counts (all_of (replicate n no_hold)).bag empty_bag
+    (sum_of_zeros (λ (b : Hold). b.bag.shared) n no_hold refl)
+    (sum_of_zeros (λ (b : Hold). b.bag.exclusive) n no_hold refl)
+    (sum_of_zeros (λ (b : Hold). b.bag.upgradable) n no_hold refl))
+    (sum_of_zeros (λ (b : Hold). bars_of b.announced) n no_hold refl)

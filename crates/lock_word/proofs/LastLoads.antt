@@ -1,11 +1,11 @@
 -- A party's open load is the word at its last load, and since then the others' wins have not fallen. So an exchange
 -- that is not admitted was not permitted there, and one that finds another word comes after a win of another.
-use Rattle.std.proofs.Common.{◌≡◌, ◌≢◌, ℕ, zero, suc, ◌+◌, ◌-◌, ◌^◌, ◌<◌, ◌≤◌, ◌⊎◌, inl, inr, false, IsTrue, List, [], ◌∷◌, slice_get, slice_set, Some, None, refl, sym, ap, subst, ◌∙◌, arith, true≢false}
+use Rattle.std.proofs.Common.{◌≡◌, ◌≢◌, ℕ, zero, suc, ◌+◌, ◌-◌, ◌^◌, ◌<◌, ◌≤◌, ◌⊎◌, inl, inr, Bool, false, IsTrue, List, [], ◌∷◌, slice_get, slice_set, Some, None, refl, sym, ap, subst, ◌∙◌, arith, true≢false}
 use Rattle.std.proofs.lemmas.Option.{same_Some}
 use Rattle.lock_base.specs.Limits.{IsLimit}
-use Rattle.lock_base.specs.Modes.{AreCompatible}
-use Rattle.lock_base.specs.ModeRuns.{Permits}
+use Rattle.lock_word.specs.Holds.{MayStand, PermitsTo}
 use Rattle.lock_word.specs.declared.want.ExWant.{ExWant}
+use Rattle.lock_word.specs.declared.hold.Hold.{Hold}
 use Rattle.lock_word.specs.declared.party.PartyState.{PartyState}
 use Rattle.lock_word.specs.declared.step.AtomicStep.{AtomicStep}
 use Rattle.lock_word.specs.declared.step.AtomicStep.TheVariants.{Load, Exchange, Take}
@@ -101,13 +101,15 @@ open_before w s (suc j) loaded r more e o =
 
 -- what has happened since
 
--- from one world to a later one: the others' wins have not fallen, and have grown where the word is another
+-- from one world to a later one: the others' wins have not fallen, and have grown where the word is another. What the
+-- party holds is the same, since it has a load open
 record Since (w v : WorldState) (p : ℕ) : Type 0 where
   past : PartyState
   now : PartyState
   was : holder_at w.parties p ≡ Some past
   is : holder_at v.parties p ≡ Some now
   grows : others_wins w.parties past ≤ others_wins v.parties now
+  held : now.held ≡ past.held
   moved : (w.word ≡ v.word) ⊎ (others_wins w.parties past < others_wins v.parties now)
 
 since_same : (w v : WorldState) (p : ℕ) (q : PartyState) → v ≡ w → holder_at v.parties p ≡ Some q → Since w v p
@@ -118,13 +120,14 @@ since_same w v p q e at =
       was = sym (ap (λ x. holder_at x.parties p) e) ∙ at;
       is = at;
       grows = (let same : all_wins v.parties ≡ all_wins w.parties = ap (λ x. all_wins x.parties) e in omega arith);
+      held = refl;
       moved = inl (sym (ap (λ x. x.word) e));
     }
 
 since_then : (w v u : WorldState) (p : ℕ) → Since w v p → Since v u p → Since w u p
 since_then w v u p f g =
-    let same : others_wins v.parties f.now ≡ others_wins v.parties g.past
-    = ap (others_wins v.parties) (same_Some f.now g.past (sym f.is ∙ g.was)) in
+    let between : f.now ≡ g.past = same_Some f.now g.past (sym f.is ∙ g.was) in
+    let same : others_wins v.parties f.now ≡ others_wins v.parties g.past = ap (others_wins v.parties) between in
     let first = f.grows in
     let second = g.grows in
     record {
@@ -133,6 +136,7 @@ since_then w v u p f g =
       was = f.was;
       is = g.is;
       grows = omega arith;
+      held = g.held ∙ (sym (ap (λ (x : PartyState). x.held) between) ∙ f.held);
       moved = elim f.moved [
         | inl a ↦ elim g.moved [ inl b ↦ inl (a ∙ b) | inr b ↦ inr (omega arith) ]
         | inr a ↦ inr (omega arith)
@@ -141,17 +145,17 @@ since_then w v u p f g =
 
 -- a turn wins nothing and leaves the word, or it wins and spends the open load
 data Wins (w : WorldState) (me : PartyState) (t : Turn) : Type 0 where
-  wins_nothing : t.party.wins ≡ me.wins → w.word ≡ t.word → Wins w me t
+  wins_nothing : t.party.wins ≡ me.wins → w.word ≡ t.word → t.party.held ≡ me.held → Wins w me t
   wins_once : t.party.wins ≡ me.wins + 1 → t.party.loaded ≡ None → Wins w me t
 
 wins_of : (w : WorldState) (s : AtomicStep) (me : PartyState) (t : Turn) → Effect w.readers w.word me s t
     → Wins w me t
 wins_of w s me t e =
     elim e [
-      | is_refused f x q ↦ wins_nothing (ap (λ u. u.party.wins) q) (sym (ap (λ u. u.word) q))
-      | is_load p a q ↦ wins_nothing (ap (λ u. u.party.wins) q) (sym (ap (λ u. u.word) q))
-      | is_not_admitted p want loaded a x refuses q ↦ wins_nothing (ap (λ u. u.party.wins) q) (sym (ap (λ u. u.word) q))
-      | is_changed p want loaded a x other q ↦ wins_nothing (ap (λ u. u.party.wins) q) (sym (ap (λ u. u.word) q))
+      | is_refused f x q ↦ wins_nothing (ap (λ u. u.party.wins) q) (sym (ap (λ u. u.word) q)) (ap (λ u. u.party.held) q)
+      | is_load p a q ↦ wins_nothing (ap (λ u. u.party.wins) q) (sym (ap (λ u. u.word) q)) (ap (λ u. u.party.held) q)
+      | is_not_admitted p want loaded a x refuses q ↦ wins_nothing (ap (λ u. u.party.wins) q) (sym (ap (λ u. u.word) q)) (ap (λ u. u.party.held) q)
+      | is_changed p want loaded a x other q ↦ wins_nothing (ap (λ u. u.party.wins) q) (sym (ap (λ u. u.word) q)) (ap (λ u. u.party.held) q)
       | is_exchange p want a own x admits q ↦ wins_once (ap (λ u. u.party.wins) q) (ap (λ u. u.party.loaded) q)
       | is_take p d a own q ↦ wins_once (ap (λ u. u.party.wins) q) (ap (λ u. u.party.loaded) q)
     ]
@@ -164,10 +168,10 @@ since_other w k j me q t at_k at_j other there e =
     let total = all_wins_set w.parties k me t.party at_k in
     let own = wins_within w.parties j q at_j in
     elim e [
-      | wins_nothing wins word ↦
-          record { past = q; now = q; was = at_j; is = there; grows = omega arith; moved = inl word }
+      | wins_nothing wins word held ↦
+          record { past = q; now = q; was = at_j; is = there; grows = omega arith; held = refl; moved = inl word }
       | wins_once wins none ↦
-          record { past = q; now = q; was = at_j; is = there; grows = omega arith; moved = inr (omega arith) }
+          record { past = q; now = q; was = at_j; is = there; grows = omega arith; held = refl; moved = inr (omega arith) }
     ]
 
 -- a turn of the party after which it has an open load
@@ -177,8 +181,8 @@ since_own : (w : WorldState) (k loaded : ℕ) (me : PartyState) (t : Turn) → s
 since_own w k loaded me t at there is_open e =
     let total = all_wins_set w.parties k me t.party at in
     elim e [
-      | wins_nothing wins word ↦
-          record { past = me; now = t.party; was = at; is = there; grows = omega arith; moved = inl word }
+      | wins_nothing wins word held ↦
+          record { past = me; now = t.party; was = at; is = there; grows = omega arith; held = held; moved = inl word }
       | wins_once wins none ↦ (let n : None ≡ Some loaded = sym none ∙ is_open in cc)
     ]
 
@@ -291,16 +295,16 @@ last_load count limit ss p loaded range differs o =
 
 -- what an exchange says that was not done
 
-record Missed (w : WorldState) (p : ℕ) (Why : ℕ → Type 0) : Type 0 where
+record Missed (w : WorldState) (p : ℕ) (Why : Bool → ℕ → Type 0) : Type 0 where
   loaded : ℕ
   is_open : IsOpen w p loaded
-  why : Why loaded
+  why : Why is_open.me.held.announced loaded
   more : w.steps ≢ 2 ^ 64 - 1
 
 refused_turn_says : (w : WorldState) (p k : ℕ) (want : ExWant) (me : PartyState) (t : Turn) → p ≡ suc k
     → slice_get w.parties k ≡ Some me → w.steps ≢ 2 ^ 64 - 1 → Effect w.readers w.word me (Exchange p want) t
     → t.outcome ≡ NotAdmitted
-    → Missed w p (λ loaded. word_admits w.readers loaded want ≡ false)
+    → Missed w p (λ announced loaded. word_admits announced w.readers loaded want ≡ false)
 refused_turn_says w p k want me t is at more e h =
     elim e [
       | is_refused f x q ↦ (let n : Refused f ≡ NotAdmitted = sym (ap (λ u. u.outcome) q) ∙ h in cc)
@@ -310,7 +314,7 @@ refused_turn_says w p k want me t is at more e h =
           record {
             loaded = loaded;
             is_open = record { me = me; at = ap (λ m. holder_at w.parties m) is ∙ at; open_load = was };
-            why = ap (λ x. word_admits w.readers loaded x) (sym same) ∙ refuses;
+            why = ap (λ x. word_admits me.held.announced w.readers loaded x) (sym same) ∙ refuses;
             more = more;
           })
       | is_changed n other loaded a was x q ↦ (let n : Changed ≡ NotAdmitted = sym (ap (λ u. u.outcome) q) ∙ h in cc)
@@ -319,7 +323,7 @@ refused_turn_says w p k want me t is at more e h =
     ]
 
 refused_says : (w : WorldState) (p : ℕ) (want : ExWant) (r : Stepped) → StepEffect w (Exchange p want) r
-    → r.outcome ≡ NotAdmitted → Missed w p (λ loaded. word_admits w.readers loaded want ≡ false)
+    → r.outcome ≡ NotAdmitted → Missed w p (λ announced loaded. word_admits announced w.readers loaded want ≡ false)
 refused_says w p want r e h =
     elim e [
       | none_made f none same ↦ (let n : Refused f ≡ NotAdmitted = sym (ap (λ u. u.outcome) same) ∙ h in cc)
@@ -330,7 +334,7 @@ refused_says w p want r e h =
 changed_turn_says : (w : WorldState) (p k : ℕ) (want : ExWant) (me : PartyState) (t : Turn) → p ≡ suc k
     → slice_get w.parties k ≡ Some me → w.steps ≢ 2 ^ 64 - 1 → Effect w.readers w.word me (Exchange p want) t
     → t.outcome ≡ Changed
-    → Missed w p (λ loaded. w.word ≢ loaded)
+    → Missed w p (λ announced loaded. w.word ≢ loaded)
 changed_turn_says w p k want me t is at more e h =
     elim e [
       | is_refused f x q ↦ (let n : Refused f ≡ Changed = sym (ap (λ u. u.outcome) q) ∙ h in cc)
@@ -347,7 +351,7 @@ changed_turn_says w p k want me t is at more e h =
     ]
 
 changed_says : (w : WorldState) (p : ℕ) (want : ExWant) (r : Stepped) → StepEffect w (Exchange p want) r
-    → r.outcome ≡ Changed → Missed w p (λ loaded. w.word ≢ loaded)
+    → r.outcome ≡ Changed → Missed w p (λ announced loaded. w.word ≢ loaded)
 changed_says w p want r e h =
     elim e [
       | none_made f none same ↦ (let n : Refused f ≡ Changed = sym (ap (λ u. u.outcome) same) ∙ h in cc)
@@ -358,19 +362,19 @@ changed_says w p want r e h =
 -- the two claims
 
 -- what is permitted where the party made its last load, the loaded word admits
-admitted_there : (count limit : ℕ) (ss : List AtomicStep) (loaded : ℕ) (want : ExWant) → IsLimit limit
+admitted_there : (announced : Bool) (count limit : ℕ) (ss : List AtomicStep) (loaded : ℕ) (want : ExWant) → IsLimit limit
     → (world_after (new_world count limit) ss).word ≡ loaded
-    → Permits limit (held_by_all (world_after (new_world count limit) ss).parties) (step_of_want want)
-    → IsTrue (word_admits limit loaded want)
-admitted_there count limit ss loaded want range found permitted =
+    → PermitsTo announced limit (held_by_all (world_after (new_world count limit) ss).parties) (step_of_want want)
+    → IsTrue (word_admits announced limit loaded want)
+admitted_there announced count limit ss loaded want range found permitted =
     let start = new_world count limit in
     let there = reachable_after start ss (reachable_new count limit range) in
     let all = held_by_all (world_after start ss).parties in
-    let legal = subst (λ n. AreCompatible n all) (readers_after start ss) there.rule.legal in
-    let admits = word_of_permits limit all want range.1 legal permitted in
-    subst (λ n. IsTrue (word_admits limit n want)) (sym there.rule.coded ∙ found) admits
+    let legal = subst (λ n. MayStand n all) (readers_after start ss) there.rule.legal in
+    let admits = word_of_permits announced limit all want range.1 legal permitted in
+    subst (λ n. IsTrue (word_admits announced limit n want)) (sym there.rule.coded ∙ found) admits
 
--- a NotAdmitted comes only where the bag at the party's last load did not permit the exchange
+-- a NotAdmitted comes only where what was out at the party's last load did not permit it the exchange
 pub refused_at_last_load : (count limit : ℕ) (ss : List AtomicStep) (p : ℕ) (want : ExWant) → IsLimit limit
     → (stepped (world_after (new_world count limit) ss) (Exchange p want)).outcome ≡ NotAdmitted
     → LastLoadRefuses (new_world count limit) ss p want
@@ -379,14 +383,23 @@ refused_at_last_load count limit ss p want range h =
     let w = world_after start ss in
     let missed = refused_says w p want (stepped w (Exchange p want)) (step_effect w (Exchange p want)) h in
     let l = last_load count limit ss p missed.loaded range missed.more missed.is_open in
-    let never : word_admits limit missed.loaded want ≡ false
-    = ap (λ n. word_admits n missed.loaded want) (sym (readers_after start ss)) ∙ missed.why in
+    let since = l.since in
+    let me = missed.is_open.me in
+    let held : me.held ≡ since.past.held
+    = ap (λ (x : PartyState). x.held) (same_Some me since.now (sym missed.is_open.at ∙ since.is)) ∙ since.held in
+    let never : word_admits since.past.held.announced limit missed.loaded want ≡ false
+    = ap (λ (h : Hold). word_admits h.announced limit missed.loaded want) (sym held)
+    ∙ ap (λ n. word_admits me.held.announced n missed.loaded want) (sym (readers_after start ss)) ∙ missed.why in
     record {
       before = l.before;
       after = l.after;
       split = l.split;
+      past = since.past;
+      was = since.was;
       refuses = λ permitted.
-          true≢false (sym (admitted_there count limit l.before missed.loaded want range l.found permitted) ∙ never);
+          true≢false
+          (sym (admitted_there since.past.held.announced count limit l.before missed.loaded want range l.found permitted)
+          ∙ never);
     }
 
 -- a Changed comes only where others have won since the party's last load

@@ -1,6 +1,8 @@
 pub mod Holders
 pub mod Words
 pub mod Rules
+pub mod Bars
+pub mod Guards
 pub mod Effects
 pub mod Reached
 pub mod LastLoads

@@ -1,26 +1,26 @@
 -- A world that steps have reached: each step keeps it one, and the steps that were done are a run of the modes.
-use Rattle.std.proofs.Common.{◌≡◌, ◌≢◌, ℕ, zero, suc, ◌+◌, ◌-◌, ◌^◌, ◌<◌, ◌≤◌, List, [], ◌∷◌, ◌++◌, replicate, slice_get, slice_set, Option, Some, None, refl, sym, ap, subst, ◌∙◌, arith, eqb-true, eq-eqb, ne_eqb, lit<, ◌==◌}
+use Rattle.std.proofs.Common.{◌≡◌, ◌≢◌, ℕ, zero, suc, ◌+◌, ◌-◌, ◌^◌, ◌<◌, ◌≤◌, List, [], ◌∷◌, ◌++◌, replicate, slice_get, slice_set, Option, Some, None, IsTrue, refl, sym, ap, subst, ◌∙◌, arith, eqb-true, eq-eqb, ne_eqb, lit<, ◌==◌}
 use Rattle.std.proofs.lemmas.Bool.{eqb-false}
-use Rattle.lock_base.specs.declared.machine.mode_step.ModeStep.{ModeStep}
-use Rattle.lock_base.specs.declared.machine.bag.Bag.{Bag}
 use Rattle.lock_base.specs.declared.raw.fault.Fault.{Fault}
 use Rattle.lock_base.specs.declared.raw.fault.Fault.TheVariants as fault
 use Rattle.lock_base.specs.Limits.{IsLimit}
-use Rattle.lock_base.specs.Modes.{AreCompatible, empty_bag}
-use Rattle.lock_base.specs.ModeRuns.{Permits, bag_after}
+use Rattle.lock_base.specs.Modes.{empty_bag}
 use Rattle.lock_base.proofs.ModeLemmas.{compatible_empty}
 use Rattle.lock_word.specs.declared.party.PartyState.{PartyState}
 use Rattle.lock_word.specs.declared.step.AtomicStep.{AtomicStep}
 use Rattle.lock_word.specs.declared.step.AtomicStep.TheVariants.{Load, Exchange, Take}
 use Rattle.lock_word.specs.declared.step.Outcome.{Outcome}
 use Rattle.lock_word.specs.declared.step.Outcome.TheVariants.{Loaded, Done, NotAdmitted, Changed, Refused}
+use Rattle.lock_word.specs.declared.hold.Hold.{Hold}
+use Rattle.lock_word.specs.declared.word_step.WordStep.{WordStep}
+use Rattle.lock_word.specs.Holds.{MayStand, unbarred, PermitsTo, no_hold, hold_has, hold_after}
 use Rattle.lock_word.specs.Holders.{holder_at, all_of, HolderStep, IsHolderRun}
 use Rattle.lock_word.specs.Word.{word_of, step_of_want, step_of_down}
 use Rattle.lock_word.specs.Turns.{Turn, idle, with_load, won, lost, unloaded, turn, party_of, steps_after, CanStep}
 use Rattle.lock_word.specs.Rule.{holds, held_by_all, others_wins, IsBehind, KeepsRule}
 use Rattle.lock_word.specs.Worlds.{WorldState, Stepped, turned, stepped, stepped_by, new_world, world_after, holder_step, IsReachable}
 use Rattle.lock_word.specs.Claims.{Leaves, changes_from}
-use Rattle.lock_word.proofs.Holders.{Has, test_from_Has, all_of_none}
+use Rattle.lock_word.proofs.Holders.{all_of_none}
 use Rattle.lock_word.proofs.Words.{permits_down, parts_of_word}
 use Rattle.lock_word.proofs.Rules.{slice_set_same, holds_at, holds_set, holds_same, each_after, part_of_parties, has_of_all, permits_of_rule}
 use Rattle.lock_word.proofs.Effects.{Effect, is_refused, is_load, is_not_admitted, is_changed, is_exchange, is_take, of_both, effect, keeps_turn}
@@ -162,11 +162,11 @@ get_of_replicate zero k x y h = cc
 get_of_replicate (suc n) zero x y h = cc
 get_of_replicate (suc n) (suc k) x y h = get_of_replicate n k x y h
 
-holds_of_idle : (n : ℕ) → holds (replicate n idle) ≡ replicate n empty_bag
+holds_of_idle : (n : ℕ) → holds (replicate n idle) ≡ replicate n no_hold
 holds_of_idle zero = refl
-holds_of_idle (suc n) = ap (λ bags. empty_bag ∷ bags) (holds_of_idle n)
+holds_of_idle (suc n) = ap (λ held. no_hold ∷ held) (holds_of_idle n)
 
-pub held_by_idle : (n : ℕ) → held_by_all (replicate n idle) ≡ empty_bag
+pub held_by_idle : (n : ℕ) → held_by_all (replicate n idle) ≡ unbarred empty_bag
 held_by_idle n = ap all_of (holds_of_idle n) ∙ all_of_none n
 
 pub reachable_new : (count limit : ℕ) → IsLimit limit → IsReachable (new_world count limit)
@@ -178,7 +178,9 @@ reachable_new count limit range =
       rule =
           record {
             coded = sym (ap word_of none);
-            legal = subst (AreCompatible limit) (sym none) (compatible_empty limit);
+            legal =
+                subst (MayStand limit) (sym none)
+                (record { compatible = compatible_empty limit; one_bar = omega arith });
             behind = λ k me at.
                 subst (λ q. IsBehind (others_wins (replicate count idle) q) 0 q)
                 (sym (get_of_replicate count k idle me at))
@@ -191,8 +193,8 @@ reachable_new count limit range =
 -- the steps that were done are a run of the modes
 
 -- one change of modes by the party at k
-one_step : (limit : ℕ) (ps : List PartyState) (k p : ℕ) (me : PartyState) (s : ModeStep) → p ≡ suc k
-    → slice_get ps k ≡ Some me → Has me.held s → Permits limit (held_by_all ps) s
+one_step : (limit : ℕ) (ps : List PartyState) (k p : ℕ) (me : PartyState) (s : WordStep) → p ≡ suc k
+    → slice_get ps k ≡ Some me → IsTrue (hold_has me.held s) → PermitsTo me.held.announced limit (held_by_all ps) s
     → IsHolderRun limit (holds ps) (record { holder = p; step = s } ∷ []) (holds (slice_set ps k (won me s)))
 one_step limit ps k p me s is at own permitted =
     let index : p - 1 ≡ k = omega arith in (
@@ -200,9 +202,9 @@ one_step limit ps k p me s is at own permitted =
       record {
         own = me.held;
         is_own = rw is (holds_at ps k me at);
-        had = test_from_Has me.held s own;
+        had = own;
         permitted = permitted;
-        changed = holds_set ps k (won me s) ∙ ap (λ n. slice_set (holds ps) n (bag_after me.held s)) (sym index);
+        changed = holds_set ps k (won me s) ∙ ap (λ n. slice_set (holds ps) n (hold_after me.held s)) (sym index);
       },
       refl,
     )
@@ -217,7 +219,7 @@ along limit k ps {s} {x} {t} {u} a q h =
     (subst After (sym q) h)
 
 -- a refused step makes no change of modes
-no_step : (limit : ℕ) (s : AtomicStep) (f : Fault) (before after : List Bag) → before ≡ after
+no_step : (limit : ℕ) (s : AtomicStep) (f : Fault) (before after : List Hold) → before ≡ after
     → IsHolderRun limit before (holder_step s (Refused f)) after
 no_step limit (Load p) f before after same = same
 no_step limit (Exchange p want) f before after same = same
@@ -238,11 +240,11 @@ run_of_turn limit word k ps me s t range rule is at e =
       | is_exchange p want a own was admits q ↦
           along limit k ps a q
           (one_step limit ps k p me (step_of_want want) (sym (ap party_of a) ∙ is) at own
-          (permits_of_rule limit word ps want range rule admits))
+          (permits_of_rule limit word ps k me want range rule at admits))
       | is_take p d a own q ↦
           along limit k ps a q
           (one_step limit ps k p me (step_of_down d) (sym (ap party_of a) ∙ is) at own
-          (permits_down limit (held_by_all ps) d (has_of_all ps k me (step_of_down d) at own)))
+          (permits_down me.held.announced limit (held_by_all ps) d (has_of_all ps k me (step_of_down d) at own)))
     ]
 
 run_of_step : (w : WorldState) (s : AtomicStep) (r : Stepped) → IsReachable w → StepEffect w s r
@@ -256,7 +258,7 @@ run_of_step w s r h e =
     ]
 
 -- one run after another
-joined_runs : (limit : ℕ) (first second : List HolderStep) (a b c : List Bag) → IsHolderRun limit a first b
+joined_runs : (limit : ℕ) (first second : List HolderStep) (a b c : List Hold) → IsHolderRun limit a first b
     → IsHolderRun limit b second c → IsHolderRun limit a (first ++ second) c
 joined_runs limit [] second a b c f g = subst (λ x. IsHolderRun limit x second c) (sym f) g
 joined_runs limit (s ∷ ss) second a b c f g = (f.0, f.1, joined_runs limit ss second f.0 b c f.2 g)

@@ -1,15 +1,13 @@
 -- Each kind of step of one party keeps the rule: one lemma a kind, for all who step on a word.
-use Rattle.std.proofs.Common.{◌≡◌, ◌≢◌, ℕ, zero, suc, ◌+◌, ◌-◌, ◌<◌, ◌≤◌, ◌⊎◌, inl, inr, List, [], ◌∷◌, ◌++◌, get_or, slice_get, slice_set, Some, IsTrue, refl, sym, ap, subst, ◌∙◌, arith}
+use Rattle.std.proofs.Common.{◌≡◌, ◌≢◌, ℕ, zero, suc, ◌+◌, ◌-◌, ◌<◌, ◌≤◌, ◌⊎◌, inl, inr, List, [], ◌∷◌, ◌++◌, get_or, slice_get, slice_set, Some, IsTrue, refl, sym, ap, subst, ◌∙◌, arith, eq-zero-or-pos}
 use Rattle.std.proofs.lemmas.List.{map-set, map-append, set-get_or}
 use Rattle.std.proofs.lemmas.List.Sums.{sum_by-append}
 use Rattle.std.proofs.lemmas.Option.{same_Some, get_or_from_slice_get, slice_get-map}
-use Rattle.lock_base.specs.declared.machine.mode_step.ModeStep.{ModeStep}
-use Rattle.lock_base.specs.declared.machine.bag.Bag.{Bag}
 use Rattle.lock_base.specs.Limits.{IsLimit}
-use Rattle.lock_base.specs.Modes.{empty_bag, AreCompatible}
-use Rattle.lock_base.specs.ModeRuns.{Permits, bag_after}
+use Rattle.lock_word.specs.declared.hold.Hold.{Hold}
+use Rattle.lock_word.specs.declared.word_step.WordStep.{WordStep}
+use Rattle.lock_word.specs.Holds.{MayStand, bars_of, PermitsTo, barred_after, no_hold, hold_has}
 use Rattle.lock_base.proofs.TokenBags.{same_counts}
-use Rattle.lock_base.proofs.ModeLemmas.{compatible_after}
 use Rattle.lock_word.specs.declared.want.ExWant.{ExWant}
 use Rattle.lock_word.specs.declared.down.Down.{Down}
 use Rattle.lock_word.specs.declared.party.PartyState.{PartyState}
@@ -18,8 +16,8 @@ use Rattle.lock_word.specs.Word.{word_of, word_admits, word_after, amount, step_
 use Rattle.lock_word.specs.Turns.{idle, with_load, unloaded, won, lost}
 use Rattle.lock_word.specs.Rule.{holds, held_by_all, all_wins, others_wins, IsBehind, KeepsRule, Shows}
 use Rattle.lock_word.specs.Claims.{FailsAreBounded}
-use Rattle.lock_word.proofs.Holders.{Has, Has-part, part_of_all, sum_by-slice_set, le-sum_by, all_of-after}
-use Rattle.lock_word.proofs.Words.{alone_or_none, parts_of_word, permits_of_word, word_after_want, permits_down, word_before_down}
+use Rattle.lock_word.proofs.Holders.{Has, has_of_part, part_of_all, sum_by-slice_set, le-sum_by, same_barred, all_of-after}
+use Rattle.lock_word.proofs.Words.{alone_or_none, parts_of_word, permits_of_word, word_after_want, permits_down, word_before_down, stands_after}
 
 -- one element of a list is changed
 
@@ -131,22 +129,23 @@ keeps_lost limit word ps k loaded me rule at was differs =
           record { bounded = omega arith; open_load = λ w e d. let before = other.open_load w e d in omega arith });
     }
 
--- the party has made a permitted change of modes, and the word is that of the bag after it
-keeps_won : (limit word new : ℕ) (ps : List PartyState) (k : ℕ) (me : PartyState) (s : ModeStep) → 0 < limit
-    → KeepsRule limit word ps → slice_get ps k ≡ Some me → Has me.held s → Permits limit (held_by_all ps) s
-    → new ≡ word_of (bag_after (held_by_all ps) s)
+-- the party has made a permitted step, and the word is that of what is out after it
+keeps_won : (limit word new : ℕ) (ps : List PartyState) (k : ℕ) (me : PartyState) (s : WordStep) → 0 < limit
+    → KeepsRule limit word ps → slice_get ps k ≡ Some me → IsTrue (hold_has me.held s)
+    → PermitsTo me.held.announced limit (held_by_all ps) s
+    → new ≡ word_of (barred_after me.held.announced (held_by_all ps) s)
     → KeepsRule limit new (slice_set ps k (won me s))
 keeps_won limit word new ps k me s positive rule at has permitted coded =
-    let all : held_by_all (slice_set ps k (won me s)) ≡ bag_after (held_by_all ps) s
-    = ap all_of (holds_set ps k (won me s)) ∙ all_of-after (holds ps) k me.held s (holds_at ps k me at) has in
+    let all : held_by_all (slice_set ps k (won me s)) ≡ barred_after me.held.announced (held_by_all ps) s
+    = ap all_of (holds_set ps k (won me s)) ∙ all_of-after limit (holds ps) k me.held s (holds_at ps k me at) has permitted in
     let total = all_wins_set ps k me (won me s) at in
     let mine = rule.behind k me at in
     let bounded = mine.bounded in
     record {
       coded = coded ∙ ap word_of (sym all);
       legal =
-          subst (AreCompatible limit) (sym all)
-          (compatible_after limit (held_by_all ps) s positive rule.legal permitted);
+          subst (MayStand limit) (sym all)
+          (stands_after me.held.announced limit (held_by_all ps) s positive rule.legal permitted);
       behind =
           each_after (λ q. IsBehind (others_wins (slice_set ps k (won me s)) q) new q) ps k (won me s)
           (record { bounded = omega arith; open_load = λ w e d. cc })
@@ -157,47 +156,48 @@ keeps_won limit word new ps k me s positive rule at has permitted coded =
           record { bounded = omega arith; open_load = λ w e d. omega arith });
     }
 
--- what the word admits is permitted where all that is held is out
-pub permits_of_rule : (limit word : ℕ) (ps : List PartyState) (want : ExWant) → IsLimit limit
-    → KeepsRule limit word ps
-    → IsTrue (word_admits limit word want) → Permits limit (held_by_all ps) (step_of_want want)
-permits_of_rule limit word ps want range rule admits =
-    permits_of_word limit (held_by_all ps) want range.1 rule.legal
-    (subst (λ w. IsTrue (word_admits limit w want)) rule.coded admits)
+-- what the word admits to a party is permitted to it where all that is held is out
+pub permits_of_rule : (limit word : ℕ) (ps : List PartyState) (k : ℕ) (me : PartyState) (want : ExWant) → IsLimit limit
+    → KeepsRule limit word ps → slice_get ps k ≡ Some me
+    → IsTrue (word_admits me.held.announced limit word want)
+    → PermitsTo me.held.announced limit (held_by_all ps) (step_of_want want)
+permits_of_rule limit word ps k me want range rule at admits =
+    permits_of_word me.held.announced limit (held_by_all ps) want range.1 rule.legal (part_of_parties ps k me at).bars
+    (subst (λ w. IsTrue (word_admits me.held.announced limit w want)) rule.coded admits)
 
 -- an exchange was done
 pub keeps_exchange : (limit word : ℕ) (ps : List PartyState) (k : ℕ) (me : PartyState) (want : ExWant) → IsLimit limit
-    → KeepsRule limit word ps → slice_get ps k ≡ Some me → Has me.held (step_of_want want)
-    → IsTrue (word_admits limit word want)
+    → KeepsRule limit word ps → slice_get ps k ≡ Some me → IsTrue (hold_has me.held (step_of_want want))
+    → IsTrue (word_admits me.held.announced limit word want)
     → KeepsRule limit (word_after word want) (slice_set ps k (won me (step_of_want want)))
 keeps_exchange limit word ps k me want range rule at has admits =
-    let permitted = permits_of_rule limit word ps want range rule admits in
+    let permitted = permits_of_rule limit word ps k me want range rule at admits in
     keeps_won limit word (word_after word want) ps k me (step_of_want want) range.0 rule at has permitted
-    (ap (λ w. word_after w want) rule.coded ∙ word_after_want limit (held_by_all ps) want permitted)
+    (ap (λ w. word_after w want) rule.coded ∙ word_after_want me.held.announced limit (held_by_all ps) want permitted)
 
 -- what one party has, all together have
-pub has_of_all : (ps : List PartyState) (k : ℕ) (me : PartyState) (s : ModeStep) → slice_get ps k ≡ Some me
-    → Has me.held s → Has (held_by_all ps) s
-has_of_all ps k me s at h = Has-part me.held (held_by_all ps) s (part_of_parties ps k me at) h
+pub has_of_all : (ps : List PartyState) (k : ℕ) (me : PartyState) (s : WordStep) → slice_get ps k ≡ Some me
+    → IsTrue (hold_has me.held s) → Has (held_by_all ps) s
+has_of_all ps k me s at h = has_of_part me.held (held_by_all ps) s (part_of_parties ps k me at) h
 
 -- what a party's subtraction takes is part of the word
 pub amount_within : (limit word : ℕ) (ps : List PartyState) (k : ℕ) (me : PartyState) (d : Down)
-    → KeepsRule limit word ps → slice_get ps k ≡ Some me → Has me.held (step_of_down d) → amount d ≤ word
+    → KeepsRule limit word ps → slice_get ps k ≡ Some me → IsTrue (hold_has me.held (step_of_down d)) → amount d ≤ word
 amount_within limit word ps k me d rule at has =
     let coded = rule.coded in
-    let before = word_before_down (held_by_all ps) d (has_of_all ps k me (step_of_down d) at has) in
+    let before = word_before_down me.held.announced (held_by_all ps) d (has_of_all ps k me (step_of_down d) at has) in
     omega arith
 
 -- a subtraction was done
 pub keeps_take : (limit word : ℕ) (ps : List PartyState) (k : ℕ) (me : PartyState) (d : Down) → IsLimit limit
-    → KeepsRule limit word ps → slice_get ps k ≡ Some me → Has me.held (step_of_down d)
+    → KeepsRule limit word ps → slice_get ps k ≡ Some me → IsTrue (hold_has me.held (step_of_down d))
     → KeepsRule limit (word - amount d) (slice_set ps k (won me (step_of_down d)))
 keeps_take limit word ps k me d range rule at has =
     let all = has_of_all ps k me (step_of_down d) at has in
     let coded = rule.coded in
-    let before = word_before_down (held_by_all ps) d all in
+    let before = word_before_down me.held.announced (held_by_all ps) d all in
     keeps_won limit word (word - amount d) ps k me (step_of_down d) range.0 rule at has
-    (permits_down limit (held_by_all ps) d all) (omega arith)
+    (permits_down me.held.announced limit (held_by_all ps) d all) (omega arith)
 
 -- one more who steps on the word
 
@@ -211,12 +211,16 @@ element_of_longer (x ∷ xs) y z (suc j) h = element_of_longer xs y z j h
 
 held_by_longer : (ps : List PartyState) → held_by_all (ps ++ idle ∷ []) ≡ held_by_all ps
 held_by_longer ps =
-    let bags = holds ps in
-    let longer : holds (ps ++ idle ∷ []) ≡ bags ++ empty_bag ∷ [] = map-append (λ (q : PartyState). q.held) ps (idle ∷ []) in
-    let s = sum_by-append (λ (b : Bag). b.shared) bags (empty_bag ∷ []) in
-    let x = sum_by-append (λ (b : Bag). b.exclusive) bags (empty_bag ∷ []) in
-    let u = sum_by-append (λ (b : Bag). b.upgradable) bags (empty_bag ∷ []) in
-    ap all_of longer ∙ same_counts (all_of (bags ++ empty_bag ∷ [])) (all_of bags) (omega arith) (omega arith) (omega arith)
+    let all = holds ps in
+    let more = all ++ no_hold ∷ [] in
+    let longer : holds (ps ++ idle ∷ []) ≡ more = map-append (λ (q : PartyState). q.held) ps (idle ∷ []) in
+    let s = sum_by-append (λ (b : Hold). b.bag.shared) all (no_hold ∷ []) in
+    let x = sum_by-append (λ (b : Hold). b.bag.exclusive) all (no_hold ∷ []) in
+    let u = sum_by-append (λ (b : Hold). b.bag.upgradable) all (no_hold ∷ []) in
+    let n = sum_by-append (λ (b : Hold). bars_of b.announced) all (no_hold ∷ []) in
+    ap all_of longer
+    ∙ same_barred (all_of more) (all_of all)
+    (same_counts (all_of more).bag (all_of all).bag (omega arith) (omega arith) (omega arith)) (omega arith)
 
 pub keeps_newcomer : (limit word : ℕ) (ps : List PartyState) → KeepsRule limit word ps
     → KeepsRule limit word (ps ++ idle ∷ [])
@@ -226,7 +230,7 @@ keeps_newcomer limit word ps rule =
     = sum_by-append (λ (q : PartyState). q.wins) ps (idle ∷ []) in
     record {
       coded = rule.coded ∙ ap word_of (sym same);
-      legal = subst (AreCompatible limit) (sym same) rule.legal;
+      legal = subst (MayStand limit) (sym same) rule.legal;
       behind = λ j q h.
           elim (element_of_longer ps idle q j h) [
             | inl old ↦
@@ -251,16 +255,19 @@ shows limit word ps k me range rule at =
     let parts = parts_of_word limit (held_by_all ps) range.1 rule.legal in
     let low = parts.low in
     let coded = rule.coded in
-    let none = alone_or_none limit (held_by_all ps) rule.legal in
-    let one = rule.legal.one_upgradable in
-    let few = rule.legal.within in
+    let none = alone_or_none limit (held_by_all ps).bag rule.legal.compatible in
+    let one = rule.legal.compatible.one_upgradable in
+    let few = rule.legal.compatible.within in
+    let bar = rule.legal.one_bar in
     record {
       all = held_by_all ps;
       legal = rule.legal;
       part = part;
       coded = rule.coded;
-      exclusive = λ some. omega arith;
+      exclusive = λ some.
+          elim (eq-zero-or-pos (held_by_all ps).bars) [ inl free ↦ inl (omega arith) | inr barred ↦ inr (omega arith) ];
       reads = λ some. (omega arith, omega arith);
+      announced = λ some. omega arith;
     }
 
 -- no party's fails outnumber the others' wins

@@ -1,48 +1,54 @@
--- The word of a compatible bag: it admits what the bag permits, and each step on it is the step of the bag.
-use Rattle.std.proofs.Common.{◌≡◌, ℕ, ◌+◌, ◌%◌, ◌/◌, ◌^◌, ◌<◌, ◌≤◌, Bool, true, false, ◌&&◌, ◌==◌, ◌⊎◌, inl, inr, IsTrue, refl, sym, ap, subst, ◌∙◌, arith, eqb-true, ltb-true, lt-ltb, eq-eqb, nat_lt, eq-zero-or-pos}
-use Rattle.std.proofs.lemmas.Bool.{and_parts, and_from}
-use Rattle.lock_base.specs.declared.machine.mode_step.ModeStep.{ModeStep}
+-- The word of a bag and a bar: it admits what they permit, and each step on it is the step of them.
+use Rattle.std.proofs.Common.{◌≡◌, ℕ, not, ◌+◌, ◌*◌, ◌%◌, ◌/◌, ◌^◌, ◌<◌, ◌≤◌, Bool, true, false, ◌&&◌, ◌||◌, ◌==◌, ◌⊎◌, inl, inr, IsTrue, refl, sym, ap, subst, ◌∙◌, arith, eqb-true, ltb-true, lt-ltb, eq-eqb, nat_lt, eq-zero-or-pos}
+use Rattle.std.proofs.lemmas.Bool.{and_parts, and_from, false≢true}
 use Rattle.lock_base.specs.declared.machine.bag.Bag.{Bag}
 use Rattle.lock_base.specs.declared.machine.mode.Mode.{Mode}
 use Rattle.lock_base.specs.declared.machine.mode.Mode.TheVariants as mode
 use Rattle.lock_base.specs.Limits.{IsLimit}
 use Rattle.lock_base.specs.Modes.{readers, tokens, admits, may_become, AreCompatible}
-use Rattle.lock_base.specs.ModeRuns.{Permits, bag_after}
+use Rattle.lock_word.specs.declared.word_step.WordStep.{WordStep}
+use Rattle.lock_word.specs.declared.word_step.WordStep.TheVariants as step
+use Rattle.lock_word.specs.Holds.{BarredBag, is_barred, MayStand, bars_of, PermitsTo, barred_after}
 use Rattle.lock_base.proofs.TokenBags.{same_counts}
 use Rattle.lock_base.proofs.ModeLemmas.{compatible_after, shared_admitted, exclusive_admitted, upgradable_admitted}
 use Rattle.lock_word.specs.declared.want.ExWant.{ExWant}
-use Rattle.lock_word.specs.declared.want.ExWant.TheVariants.{Shared, Exclusive, Upgradable, Upgrade}
+use Rattle.lock_word.specs.declared.want.ExWant.TheVariants.{Shared, Exclusive, Upgradable, Upgrade, Announce}
 use Rattle.lock_word.specs.declared.down.Down.{Down}
 use Rattle.lock_word.specs.declared.down.Down.TheVariants as down
-use Rattle.lock_word.specs.Word.{word_of, readers_of_word, word_admits, word_after, amount, step_of_want, step_of_down, want_of_mode, bag_of_word, IsPacked}
+use Rattle.lock_word.specs.Word.{word_of, readers_of_word, word_admits, word_after, amount, step_of_want, step_of_down, want_of_mode, bag_of_word, barred_bag_of_word, word_with_bar, IsPacked}
 use Rattle.lock_word.specs.WordLaws.{ExchangesAreOfBags, SubtractionsAreOfBags, WordsAreOfOneBag}
-use Rattle.lock_word.proofs.Holders.{Has, Has_from_test}
+use Rattle.lock_word.proofs.Holders.{Has, has_of_part, same_barred}
 
 -- an exclusive token is alone, or there is none
 pub alone_or_none : (limit : ℕ) (b : Bag) → AreCompatible limit b → (b.exclusive ≡ 0) ⊎ (tokens b ≡ 1)
 alone_or_none limit b l = elim (eq-zero-or-pos b.exclusive) [ inl z ↦ inl z | inr p ↦ inr (l.alone p) ]
 
 -- the word as its parts
-pub record HasParts (word : ℕ) (b : Bag) : Type 0 where
-  pub low : readers_of_word word ≡ readers b
-  pub upgradable : (word / 2 ^ 32) % 2 ≡ b.upgradable
-  pub exclusive : (word / 2 ^ 33) % 2 ≡ b.exclusive
-  pub small : word ≤ 2 ^ 33 + 2 ^ 32
+pub record HasParts (word : ℕ) (all : BarredBag) : Type 0 where
+  pub low : readers_of_word word ≡ readers all.bag
+  pub upgradable : (word / 2 ^ 32) % 2 ≡ all.bag.upgradable
+  pub exclusive : (word / 2 ^ 33) % 2 ≡ all.bag.exclusive
+  pub bars : word / 2 ^ 34 ≡ all.bars
+  pub small : word ≤ 2 ^ 34 + 2 ^ 33 + 2 ^ 32
 
-pub parts_of_word : (limit : ℕ) (b : Bag) → limit < 2 ^ 32 → AreCompatible limit b → HasParts (word_of b) b
-parts_of_word limit b fits l =
-    let none = alone_or_none limit b l in
+pub parts_of_word : (limit : ℕ) (all : BarredBag) → limit < 2 ^ 32 → MayStand limit all → HasParts (word_of all) all
+parts_of_word limit all fits stands =
+    let l = stands.compatible in
+    let none = alone_or_none limit all.bag l in
     let one = l.one_upgradable in
     let few = l.within in
-    record { low = omega arith; upgradable = omega arith; exclusive = omega arith; small = omega arith }
+    let bar = stands.one_bar in
+    record { low = omega arith; upgradable = omega arith; exclusive = omega arith; bars = omega arith; small = omega arith }
 
--- the word of a compatible bag stands for that bag
-pub bag_of_word_of : (limit : ℕ) (b : Bag) → limit < 2 ^ 32 → AreCompatible limit b → bag_of_word (word_of b) ≡ b
-bag_of_word_of limit b fits l =
-    let parts = parts_of_word limit b fits l in
+-- the word of what may stand together stands for that
+pub bag_of_word_of : (limit : ℕ) (all : BarredBag) → limit < 2 ^ 32 → MayStand limit all
+    → barred_bag_of_word (word_of all) ≡ all
+bag_of_word_of limit all fits stands =
+    let parts = parts_of_word limit all fits stands in
     let low = parts.low in
     let up = parts.upgradable in
-    same_counts (bag_of_word (word_of b)) b (omega arith) parts.exclusive parts.upgradable
+    same_barred (barred_bag_of_word (word_of all)) all
+    (same_counts (bag_of_word (word_of all)) all.bag (omega arith) parts.exclusive parts.upgradable) parts.bars
 
 -- exchanges
 
@@ -52,96 +58,184 @@ both_below a b c d h = let two = and_parts (nat_lt a b) (nat_lt c d) h in (ltb-t
 both_tests : (a b c d : ℕ) → a < b → c < d → (nat_lt a b && nat_lt c d) ≡ true
 both_tests a b c d p q = and_from (nat_lt a b) (nat_lt c d) (lt-ltb a b p) (lt-ltb c d q)
 
--- what the word of a compatible bag admits, the bag permits
-pub permits_of_word : (limit : ℕ) (b : Bag) (want : ExWant) → limit < 2 ^ 32 → AreCompatible limit b
-    → IsTrue (word_admits limit (word_of b) want) → Permits limit b (step_of_want want)
-permits_of_word limit b Shared fits l h =
-    let parts = parts_of_word limit b fits l in
-    let low = parts.low in
-    let two = both_below (word_of b) (2 ^ 33) (readers_of_word (word_of b)) limit h in
-    and_from (b.exclusive == 0) (nat_lt (readers b) limit) (eq-eqb b.exclusive 0 (omega arith))
-    (lt-ltb (readers b) limit (omega arith))
-permits_of_word limit b Exclusive fits l h =
-    let e = eqb-true (word_of b) 0 h in
-    eq-eqb (tokens b) 0 (omega arith)
-permits_of_word limit b Upgradable fits l h =
-    let parts = parts_of_word limit b fits l in
-    let low = parts.low in
-    let two = both_below (word_of b) (2 ^ 32) (readers_of_word (word_of b)) limit h in
-    and_from (b.exclusive == 0) ((b.upgradable == 0) && nat_lt (readers b) limit) (eq-eqb b.exclusive 0 (omega arith))
-    (and_from (b.upgradable == 0) (nat_lt (readers b) limit) (eq-eqb b.upgradable 0 (omega arith))
-    (lt-ltb (readers b) limit (omega arith)))
-permits_of_word limit b Upgrade fits l h =
-    let e = eqb-true (word_of b) (2 ^ 32 + 1) h in
-    (omega arith, refl, eq-eqb (tokens b) 1 (omega arith))
+either_test : (p q : Bool) → (p || q) ≡ true → (p ≡ true) ⊎ (q ≡ true)
+either_test true q h = inl refl
+either_test false q h = inr h
 
--- and what the bag permits, its word admits
-pub word_of_permits : (limit : ℕ) (b : Bag) (want : ExWant) → limit < 2 ^ 32 → AreCompatible limit b
-    → Permits limit b (step_of_want want) → IsTrue (word_admits limit (word_of b) want)
-word_of_permits limit b Shared fits l h =
-    let a = shared_admitted limit b h in
-    let parts = parts_of_word limit b fits l in
-    let low = parts.low in
-    let one = l.one_upgradable in
-    both_tests (word_of b) (2 ^ 33) (readers_of_word (word_of b)) limit (omega arith) (omega arith)
-word_of_permits limit b Exclusive fits l h =
-    let e = exclusive_admitted limit b h in
-    eq-eqb (word_of b) 0 (omega arith)
-word_of_permits limit b Upgradable fits l h =
-    let a = upgradable_admitted limit b h in
-    let parts = parts_of_word limit b fits l in
-    let low = parts.low in
-    both_tests (word_of b) (2 ^ 32) (readers_of_word (word_of b)) limit (omega arith) (omega arith)
-word_of_permits limit b Upgrade fits l h =
-    let sole = eqb-true (tokens b) 1 h.2 in
-    eq-eqb (word_of b) (2 ^ 32 + 1) (omega (arith, h.0))
+-- the word is one of two
+one_of : (w a b : ℕ) → ((w == a) || (w == b)) ≡ true → (w ≡ a) ⊎ (w ≡ b)
+one_of w a b h =
+    elim (either_test (w == a) (w == b) h) [ inl e ↦ inl (eqb-true w a e) | inr e ↦ inr (eqb-true w b e) ]
 
--- the word that the exchange puts is that of the bag after it
-pub word_after_want : (limit : ℕ) (b : Bag) (want : ExWant) → Permits limit b (step_of_want want)
-    → word_after (word_of b) want ≡ word_of (bag_after b (step_of_want want))
-word_after_want limit b Shared p = omega arith
-word_after_want limit b Exclusive p = let e = exclusive_admitted limit b p in omega arith
-word_after_want limit b Upgradable p = omega arith
-word_after_want limit b Upgrade p = let sole = eqb-true (tokens b) 1 p.2 in omega (arith, p.0)
+is_one_of : (w a b : ℕ) → (w ≡ a) ⊎ (w ≡ b) → ((w == a) || (w == b)) ≡ true
+is_one_of w a b h =
+    elim h [ inl e ↦ rw (eq-eqb w a e) refl | inr e ↦ second (w == a) (w == b) (eq-eqb w b e) ]
+  where
+    second : (p q : Bool) → q ≡ true → (p || q) ≡ true
+    second true q e = refl
+    second false q e = e
+
+-- an exclusive token is admitted where nothing is out but the bar of the one who wants it
+record IsFreeFor (announced : Bool) (all : BarredBag) : Type 0 where
+  none : tokens all.bag ≡ 0
+  own_bar : all.bars ≡ bars_of announced
+
+free_of_word : (announced : Bool) (all : BarredBag) → bars_of announced ≤ all.bars
+    → ((word_of all == 0) || (announced && (word_of all == 2 ^ 34))) ≡ true → all.bars ≤ 1 → IsFreeFor announced all
+free_of_word true all own h one =
+    let w = one_of (word_of all) 0 (2 ^ 34) h in
+    record { none = omega arith; own_bar = omega arith }
+free_of_word false all own h one =
+    elim (either_test (word_of all == 0) false h) [
+      | inl e ↦ (let w = eqb-true (word_of all) 0 e in record { none = omega arith; own_bar = omega arith })
+      | inr e ↦ cc
+    ]
+
+word_of_free : (announced : Bool) (all : BarredBag) → IsFreeFor announced all
+    → ((word_of all == 0) || (announced && (word_of all == 2 ^ 34))) ≡ true
+word_of_free true all free =
+    let none = free.none in
+    let bar = free.own_bar in
+    is_one_of (word_of all) 0 (2 ^ 34) (inr (omega arith))
+word_of_free false all free =
+    let none = free.none in
+    let bar = free.own_bar in
+    rw (eq-eqb (word_of all) 0 (omega arith)) refl
+
+-- what the word admits is permitted
+pub permits_of_word : (announced : Bool) (limit : ℕ) (all : BarredBag) (want : ExWant) → limit < 2 ^ 32 → MayStand limit all
+    → bars_of announced ≤ all.bars → IsTrue (word_admits announced limit (word_of all) want)
+    → PermitsTo announced limit all (step_of_want want)
+permits_of_word announced limit all Shared fits stands own h =
+    let b = all.bag in
+    let parts = parts_of_word limit all fits stands in
+    let low = parts.low in
+    let two = both_below (word_of all) (2 ^ 33) (readers_of_word (word_of all)) limit h in (
+      and_from (b.exclusive == 0) (nat_lt (readers b) limit) (eq-eqb b.exclusive 0 (omega arith))
+          (lt-ltb (readers b) limit (omega arith)),
+      omega arith,
+    )
+permits_of_word announced limit all Exclusive fits stands own h =
+    let free = free_of_word announced all own h stands.one_bar in (eq-eqb (tokens all.bag) 0 free.none, free.own_bar)
+permits_of_word announced limit all Upgradable fits stands own h =
+    let b = all.bag in
+    let parts = parts_of_word limit all fits stands in
+    let low = parts.low in
+    let two = both_below (word_of all) (2 ^ 32) (readers_of_word (word_of all)) limit h in (
+      and_from (b.exclusive == 0) ((b.upgradable == 0) && nat_lt (readers b) limit) (eq-eqb b.exclusive 0 (omega arith))
+          (and_from (b.upgradable == 0) (nat_lt (readers b) limit) (eq-eqb b.upgradable 0 (omega arith))
+          (lt-ltb (readers b) limit (omega arith))),
+      omega arith,
+    )
+permits_of_word announced limit all Upgrade fits stands own h =
+    let w = one_of (word_of all) (2 ^ 32 + 1) (2 ^ 34 + 2 ^ 32 + 1) h in
+    let bar = stands.one_bar in
+    let none = alone_or_none limit all.bag stands.compatible in
+    let few = stands.compatible.within in
+    let one = stands.compatible.one_upgradable in
+    ((omega arith, refl, eq-eqb (tokens all.bag) 1 (omega arith)), tt)
+permits_of_word announced limit all Announce fits stands own h =
+    let w = ltb-true (word_of all) (2 ^ 34) h in omega arith
+
+-- and what is permitted, the word admits
+pub word_of_permits : (announced : Bool) (limit : ℕ) (all : BarredBag) (want : ExWant) → limit < 2 ^ 32 → MayStand limit all
+    → PermitsTo announced limit all (step_of_want want) → IsTrue (word_admits announced limit (word_of all) want)
+word_of_permits announced limit all Shared fits stands h =
+    let a = shared_admitted limit all.bag h.0 in
+    let none = h.1 in
+    let parts = parts_of_word limit all fits stands in
+    let low = parts.low in
+    let one = stands.compatible.one_upgradable in
+    both_tests (word_of all) (2 ^ 33) (readers_of_word (word_of all)) limit (omega arith) (omega arith)
+word_of_permits announced limit all Exclusive fits stands h =
+    word_of_free announced all record { none = exclusive_admitted limit all.bag h.0; own_bar = h.1 }
+word_of_permits announced limit all Upgradable fits stands h =
+    let a = upgradable_admitted limit all.bag h.0 in
+    let none = h.1 in
+    let parts = parts_of_word limit all fits stands in
+    let low = parts.low in
+    both_tests (word_of all) (2 ^ 32) (readers_of_word (word_of all)) limit (omega arith) (omega arith)
+word_of_permits announced limit all Upgrade fits stands h =
+    let some = h.0.0 in
+    let sole = eqb-true (tokens all.bag) 1 h.0.2 in
+    let bar = stands.one_bar in
+    let sum : word_of all ≡ 2 ^ 32 + 1 + 2 ^ 34 * all.bars = omega arith in
+    is_one_of (word_of all) (2 ^ 32 + 1) (2 ^ 34 + 2 ^ 32 + 1)
+    (elim (eq-zero-or-pos all.bars) [ inl none ↦ inl (omega arith) | inr stood ↦ inr (omega arith) ])
+word_of_permits announced limit all Announce fits stands h =
+    let none = alone_or_none limit all.bag stands.compatible in
+    let one = stands.compatible.one_upgradable in
+    let few = stands.compatible.within in
+    lt-ltb (word_of all) (2 ^ 34) (omega arith)
+
+-- the word that the exchange puts is that of what is out after it
+pub word_after_want : (announced : Bool) (limit : ℕ) (all : BarredBag) (want : ExWant)
+    → PermitsTo announced limit all (step_of_want want)
+    → word_after (word_of all) want ≡ word_of (barred_after announced all (step_of_want want))
+word_after_want announced limit all Shared p = omega arith
+word_after_want announced limit all Exclusive p =
+    let e = exclusive_admitted limit all.bag p.0 in
+    let own = p.1 in
+    omega arith
+word_after_want announced limit all Upgradable p = omega arith
+word_after_want announced limit all Upgrade p =
+    let some = p.0.0 in
+    let sole = eqb-true (tokens all.bag) 1 p.0.2 in
+    omega arith
+word_after_want announced limit all Announce p = omega arith
 
 -- subtractions
 
--- one who has what a subtraction gives up may always make it
-pub permits_down : (limit : ℕ) (b : Bag) (d : Down) → Has b (step_of_down d) → Permits limit b (step_of_down d)
-permits_down limit b down.Shared h = h
-permits_down limit b down.Exclusive h = h
-permits_down limit b down.Upgradable h = h
-permits_down limit b down.ToShared h = (h, refl, refl)
-permits_down limit b down.ToUpgradable h = (h, refl, refl)
-permits_down limit b down.UpgradableToShared h = (h, refl, refl)
+-- where what a subtraction gives up is out, it may always be made
+pub permits_down : (announced : Bool) (limit : ℕ) (all : BarredBag) (d : Down) → Has all (step_of_down d)
+    → PermitsTo announced limit all (step_of_down d)
+permits_down announced limit all down.Shared h = (h, tt)
+permits_down announced limit all down.Exclusive h = (h, tt)
+permits_down announced limit all down.Upgradable h = (h, tt)
+permits_down announced limit all down.ToShared h = ((h, refl, refl), tt)
+permits_down announced limit all down.ToUpgradable h = ((h, refl, refl), tt)
+permits_down announced limit all down.UpgradableToShared h = ((h, refl, refl), tt)
+permits_down announced limit all down.Withdraw h = h
 
--- the word is that of the bag after the subtraction, and the amount
-pub word_before_down : (b : Bag) (d : Down) → Has b (step_of_down d)
-    → word_of b ≡ word_of (bag_after b (step_of_down d)) + amount d
-word_before_down b down.Shared h = omega arith
-word_before_down b down.Exclusive h = omega arith
-word_before_down b down.Upgradable h = omega arith
-word_before_down b down.ToShared h = omega arith
-word_before_down b down.ToUpgradable h = omega arith
-word_before_down b down.UpgradableToShared h = omega arith
+-- the word is that of what is out after the subtraction, and the amount
+pub word_before_down : (announced : Bool) (all : BarredBag) (d : Down) → Has all (step_of_down d)
+    → word_of all ≡ word_of (barred_after announced all (step_of_down d)) + amount d
+word_before_down announced all down.Shared h = omega arith
+word_before_down announced all down.Exclusive h = omega arith
+word_before_down announced all down.Upgradable h = omega arith
+word_before_down announced all down.ToShared h = omega arith
+word_before_down announced all down.ToUpgradable h = omega arith
+word_before_down announced all down.UpgradableToShared h = omega arith
+word_before_down announced all down.Withdraw h = omega arith
+
+-- a permitted step leaves what may stand
+pub stands_after : (announced : Bool) (limit : ℕ) (all : BarredBag) (s : WordStep) → 0 < limit → MayStand limit all
+    → PermitsTo announced limit all s → MayStand limit (barred_after announced all s)
+stands_after announced limit all (step.Modes s) positive stands permitted =
+    let bar = stands.one_bar in
+    record { compatible = compatible_after limit all.bag s positive stands.compatible permitted.0; one_bar = omega arith }
+stands_after announced limit all step.Announce positive stands permitted =
+    record { compatible = stands.compatible; one_bar = omega arith }
+stands_after announced limit all step.Withdraw positive stands permitted =
+    let bar = stands.one_bar in record { compatible = stands.compatible; one_bar = omega arith }
 
 -- packed words
 
--- the word after a permitted step is packed again, and stands for the bag after the step
-pub record IsRepacked (limit word new : ℕ) (s : ModeStep) : Type 0 where
+-- the word after a permitted step is packed again, and stands for what is out after the step
+pub record IsRepacked (limit word new : ℕ) (s : WordStep) : Type 0 where
   pub packed : IsPacked limit new
-  pub bag : bag_of_word new ≡ bag_after (bag_of_word word) s
+  pub all : barred_bag_of_word new ≡ barred_after false (barred_bag_of_word word) s
 
-pub repacked : (limit word new : ℕ) (s : ModeStep) → IsLimit limit → IsPacked limit word
-    → Permits limit (bag_of_word word) s → new ≡ word_of (bag_after (bag_of_word word) s)
+pub repacked : (limit word new : ℕ) (s : WordStep) → IsLimit limit → IsPacked limit word
+    → PermitsTo false limit (barred_bag_of_word word) s → new ≡ word_of (barred_after false (barred_bag_of_word word) s)
     → IsRepacked limit word new s
 repacked limit word new s range p permitted e =
-    let after = bag_after (bag_of_word word) s in
-    let legal = compatible_after limit (bag_of_word word) s range.0 p.legal permitted in
-    let same : bag_of_word new ≡ after = ap bag_of_word e ∙ bag_of_word_of limit after range.1 legal in
+    let after = barred_after false (barred_bag_of_word word) s in
+    let stands = stands_after false limit (barred_bag_of_word word) s range.0 p.legal permitted in
+    let same : barred_bag_of_word new ≡ after = ap barred_bag_of_word e ∙ bag_of_word_of limit after range.1 stands in
     record {
-      packed = record { coded = e ∙ ap word_of (sym same); legal = subst (AreCompatible limit) (sym same) legal };
-      bag = same;
+      packed = record { coded = e ∙ ap word_of (sym same); legal = subst (MayStand limit) (sym same) stands };
+      all = same;
     }
 
 same_tests : (a b : Bool) → (IsTrue a → IsTrue b) → (IsTrue b → IsTrue a) → a ≡ b
@@ -149,38 +243,96 @@ same_tests true b f g = sym (f refl)
 same_tests false true f g = g refl
 same_tests false false f g = refl
 
--- the word admits a mode where the bag admits it
-pub word_admits_mode : (limit : ℕ) (b : Bag) (m : Mode) → limit < 2 ^ 32 → AreCompatible limit b
-    → word_admits limit (word_of b) (want_of_mode m) ≡ admits limit b m
-word_admits_mode limit b mode.Shared fits l =
-    same_tests (word_admits limit (word_of b) Shared) (admits limit b mode.Shared)
-    (permits_of_word limit b Shared fits l) (word_of_permits limit b Shared fits l)
-word_admits_mode limit b mode.Exclusive fits l =
-    same_tests (word_admits limit (word_of b) Exclusive) (admits limit b mode.Exclusive)
-    (permits_of_word limit b Exclusive fits l) (word_of_permits limit b Exclusive fits l)
-word_admits_mode limit b mode.Upgradable fits l =
-    same_tests (word_admits limit (word_of b) Upgradable) (admits limit b mode.Upgradable)
-    (permits_of_word limit b Upgradable fits l) (word_of_permits limit b Upgradable fits l)
+unbarred_test : (bars : ℕ) → bars ≡ 0 → IsTrue (not (nat_lt 0 bars))
+unbarred_test bars none = rw none refl
 
--- and an upgrade where the bag allows it to one who has an upgradable one
-pub word_admits_upgrade : (limit : ℕ) (b : Bag) → limit < 2 ^ 32 → AreCompatible limit b → 0 < b.upgradable
-    → word_admits limit (word_of b) Upgrade ≡ may_become b mode.Exclusive
-word_admits_upgrade limit b fits l some =
-    same_tests (word_admits limit (word_of b) Upgrade) (may_become b mode.Exclusive)
-    (λ h. (permits_of_word limit b Upgrade fits l h).2) (λ h. word_of_permits limit b Upgrade fits l (some, refl, h))
+unbarred_from_test : (bars : ℕ) → IsTrue (not (nat_lt 0 bars)) → bars ≡ 0
+unbarred_from_test bars h =
+    elim (eq-zero-or-pos bars) [ inl none ↦ none | inr some ↦ absurd (false≢true (sym (ap not (lt-ltb 0 bars some)) ∙ h)) ]
+
+-- to one who has not announced itself the word admits a mode where no bar stands and the bag admits it
+pub word_admits_mode : (limit : ℕ) (all : BarredBag) (m : Mode) → limit < 2 ^ 32 → MayStand limit all
+    → word_admits false limit (word_of all) (want_of_mode m) ≡ (not (is_barred all) && admits limit all.bag m)
+word_admits_mode limit all m fits stands =
+    same_tests (word_admits false limit (word_of all) (want_of_mode m)) (not (is_barred all) && admits limit all.bag m)
+    (λ h.
+    let p = permits_mode m (permits_of_word false limit all (want_of_mode m) fits stands (omega arith) h) in
+    and_from (not (is_barred all)) (admits limit all.bag m) (unbarred_test all.bars p.0) p.1)
+    (λ h.
+    let two = and_parts (not (is_barred all)) (admits limit all.bag m) h in
+    word_of_permits false limit all (want_of_mode m) fits stands (mode_permits m (unbarred_from_test all.bars two.0) two.1))
+  where
+    permits_mode : (m : Mode) → PermitsTo false limit all (step_of_want (want_of_mode m))
+        → (all.bars ≡ 0) × IsTrue (admits limit all.bag m)
+    permits_mode mode.Shared p = (p.1, p.0)
+    permits_mode mode.Exclusive p = (p.1, p.0)
+    permits_mode mode.Upgradable p = (p.1, p.0)
+
+    mode_permits : (m : Mode) → all.bars ≡ 0 → IsTrue (admits limit all.bag m)
+        → PermitsTo false limit all (step_of_want (want_of_mode m))
+    mode_permits mode.Shared none h = (h, none)
+    mode_permits mode.Exclusive none h = (h, none)
+    mode_permits mode.Upgradable none h = (h, none)
+
+-- and an upgrade where the bag allows it to one who has an upgradable one, whatever bar stands
+pub word_admits_upgrade : (limit : ℕ) (all : BarredBag) → limit < 2 ^ 32 → MayStand limit all → 0 < all.bag.upgradable
+    → word_admits false limit (word_of all) Upgrade ≡ may_become all.bag mode.Exclusive
+word_admits_upgrade limit all fits stands some =
+    same_tests (word_admits false limit (word_of all) Upgrade) (may_become all.bag mode.Exclusive)
+    (λ h. (permits_of_word false limit all Upgrade fits stands (omega arith) h).0.2)
+    (λ h. word_of_permits false limit all Upgrade fits stands ((some, refl, h), tt))
+
+bar_test : (barred : Bool) (bars : ℕ) → bars ≡ bars_of barred → nat_lt 0 bars ≡ barred
+bar_test true bars e = lt-ltb 0 bars (omega arith)
+bar_test false bars e = rw e refl
+
+-- a packed word with a bar, or with none, is packed, and stands for the same tokens
+pub record IsPackedBarred (limit word new : ℕ) (barred : Bool) : Type 0 where
+  pub packed : IsPacked limit new
+  pub bag : bag_of_word new ≡ bag_of_word word
+  pub bar : is_barred (barred_bag_of_word new) ≡ barred
+
+pub packed_with_bar : (limit word new : ℕ) (barred : Bool) → IsLimit limit → IsPacked limit word
+    → new ≡ word_with_bar word barred → IsPackedBarred limit word new barred
+packed_with_bar limit word new barred range p is =
+    let bag = bag_of_word word in
+    let all : BarredBag = record { bag = bag; bars = bars_of barred } in
+    let one : bars_of barred ≤ 1 = at_most_one barred in
+    let stands : MayStand limit all = record { compatible = p.legal.compatible; one_bar = one } in
+    let old = parts_of_word limit (barred_bag_of_word word) range.1 p.legal in
+    let coded = p.coded in
+    let low = old.low in
+    let none = alone_or_none limit bag p.legal.compatible in
+    let upgradable = p.legal.compatible.one_upgradable in
+    let few = p.legal.compatible.within in
+    let same : new ≡ word_of all = omega arith in
+    let stood : barred_bag_of_word new ≡ all = ap barred_bag_of_word same ∙ bag_of_word_of limit all range.1 stands in
+    record {
+      packed = record { coded = same ∙ ap word_of (sym stood); legal = subst (MayStand limit) (sym stood) stands };
+      bag = ap (λ (x : BarredBag). x.bag) stood;
+      bar = bar_test barred (new / 2 ^ 34) (ap (λ (x : BarredBag). x.bars) stood);
+    }
+  where
+    at_most_one : (b : Bool) → bars_of b ≤ 1
+    at_most_one true = omega arith
+    at_most_one false = omega arith
 
 -- laws
 
 pub exchanges_are_of_bags : ExchangesAreOfBags
-exchanges_are_of_bags limit b want range l =
+exchanges_are_of_bags announced limit all want range stands own =
     record {
-      admits = (permits_of_word limit b want range.1 l, word_of_permits limit b want range.1 l);
-      puts = word_after_want limit b want;
+      admits = (
+        permits_of_word announced limit all want range.1 stands own,
+        word_of_permits announced limit all want range.1 stands,
+      );
+      puts = word_after_want announced limit all want;
     }
 
 pub subtractions_are_of_bags : SubtractionsAreOfBags
-subtractions_are_of_bags b d h = word_before_down b d (Has_from_test b (step_of_down d) h)
+subtractions_are_of_bags own all d part h =
+    word_before_down own.announced all d (has_of_part own all (step_of_down d) part h)
 
 pub words_are_of_one_bag : WordsAreOfOneBag
 words_are_of_one_bag limit a b range la lb same =
-    sym (bag_of_word_of limit a range.1 la) ∙ ap bag_of_word same ∙ bag_of_word_of limit b range.1 lb
+    sym (bag_of_word_of limit a range.1 la) ∙ ap barred_bag_of_word same ∙ bag_of_word_of limit b range.1 lb

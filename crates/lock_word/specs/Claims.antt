@@ -1,8 +1,9 @@
 -- What is claimed of every interleaving of atomic steps, from a new world on.
-use Rattle.std.specs.Prelude.{◌≡◌, ◌≢◌, ℕ, ◌<◌, ◌≤◌, List, [], ◌∷◌, ◌++◌, Some, ⊤}
+use Rattle.std.specs.Prelude.{◌≡◌, ◌≢◌, ◌↔◌, ℕ, ◌^◌, ◌<◌, ◌≤◌, true, List, [], ◌∷◌, ◌++◌, Some, ⊤}
 use Rattle.lock_base.specs.Limits.{IsLimit}
 use Rattle.lock_base.specs.Modes.{AreCompatible, empty_bag}
-use Rattle.lock_base.specs.ModeRuns.{Permits, IsModeRun}
+use Rattle.lock_word.specs.Holds.{PermitsTo}
+use Rattle.lock_base.specs.ModeRuns.{IsModeRun}
 use Rattle.lock_word.specs.declared.want.ExWant.{ExWant}
 use Rattle.lock_word.specs.declared.party.PartyState.{PartyState}
 use Rattle.lock_word.specs.declared.step.AtomicStep.{AtomicStep}
@@ -31,6 +32,15 @@ abbrev pub FailsAreBounded : List PartyState → Type 0
 FailsAreBounded parties =
     (p : ℕ) (me : PartyState) → holder_at parties p ≡ Some me → me.fails ≤ others_wins parties me
 
+-- that party has announced itself
+abbrev pub IsAnnounced : List PartyState → ℕ → Type 0
+IsAnnounced parties p = (me : PartyState) × (holder_at parties p ≡ Some me) × (me.held.announced ≡ true)
+
+-- at most one party has announced itself, and the word has 2^34 exactly where one has
+pub record BarIsOfOne (word : ℕ) (parties : List PartyState) : Type 0 where
+  pub sole : (p q : ℕ) → IsAnnounced parties p → IsAnnounced parties q → p ≡ q
+  pub shown : (2 ^ 34 ≤ word) ↔ ((p : ℕ) × IsAnnounced parties p)
+
 -- none of these steps is a load of that party
 abbrev pub NoLoadBy : ℕ → List AtomicStep → Type 0
 NoLoadBy p [] = ⊤
@@ -43,12 +53,15 @@ pub record IsLastLoad (steps : List AtomicStep) (p : ℕ) (before after : List A
   pub are : steps ≡ before ++ (Load p ∷ after)
   pub last : NoLoadBy p after
 
--- where the party made its last load, the bag did not permit the exchange
+-- where the party made its last load, what was out did not permit it the exchange
 pub record LastLoadRefuses (start : WorldState) (steps : List AtomicStep) (p : ℕ) (want : ExWant) : Type 0 where
   pub before : List AtomicStep
   pub after : List AtomicStep
   pub split : IsLastLoad steps p before after
-  pub refuses : ¬ Permits start.readers (held_by_all (world_after start before).parties) (step_of_want want)
+  pub past : PartyState
+  pub was : holder_at (world_after start before).parties p ≡ Some past
+  pub refuses :
+      ¬ PermitsTo past.held.announced start.readers (held_by_all (world_after start before).parties) (step_of_want want)
 
 -- the others have won since the party's last load
 pub record LastLoadOutrun (start : WorldState) (steps : List AtomicStep) (p : ℕ) : Type 0 where
@@ -61,7 +74,7 @@ pub record LastLoadOutrun (start : WorldState) (steps : List AtomicStep) (p : �
   pub is : holder_at (world_after start steps).parties p ≡ Some now
   pub outrun : others_wins (world_after start before).parties past < others_wins (world_after start steps).parties now
 
--- the changes of modes that these steps make from here on
+-- the changes of the modes and the bar that these steps make from here on
 abbrev pub changes_from : WorldState → List AtomicStep → List HolderStep
 changes_from start steps = done_steps steps (outcomes start steps)
 
@@ -72,17 +85,18 @@ IsRunByParties old changes new = IsHolderRun old.readers (holds old.parties) cha
 -- these changes are a run of the modes on what all parties hold together
 abbrev pub IsRunOnAll : WorldState → List HolderStep → WorldState → Type 0
 IsRunOnAll old changes new =
-    IsModeRun old.readers (held_by_all old.parties) (steps_of changes) (held_by_all new.parties)
+    IsModeRun old.readers (held_by_all old.parties).bag (steps_of changes) (held_by_all new.parties).bag
 
 -- what is claimed of the world that these steps lead to, and of whatever step is next
 pub record IsSound (start : WorldState) (steps : List AtomicStep) (last : WorldState) : Type 0 where
-  -- the word is that of all that is held, and that may be out together
+  -- the word is that of all that is held, which may be out together, and of the bar of the one that has announced itself
   pub coded : last.word ≡ word_of (held_by_all last.parties)
-  pub legal : AreCompatible start.readers (held_by_all last.parties)
-  -- the steps that were done are, in order, a run of the modes by the parties
+  pub legal : AreCompatible start.readers (held_by_all last.parties).bag
+  pub bar : BarIsOfOne last.word last.parties
+  -- the steps that were done are, in order, a run of the modes by the parties, with the bar beside
   pub by_parties : IsRunByParties start (changes_from start steps) last
   -- and a run of the modes, from nothing to all that is held
-  pub run : IsModeRun start.readers empty_bag (steps_of (changes_from start steps)) (held_by_all last.parties)
+  pub run : IsModeRun start.readers empty_bag (steps_of (changes_from start steps)) (held_by_all last.parties).bag
   pub bounded : FailsAreBounded last.parties
   pub leaves : (next : AtomicStep) → Leaves (stepped last next).outcome last (stepped last next).world
   pub refuses : (p : ℕ) (want : ExWant) → (stepped last (Exchange p want)).outcome ≡ NotAdmitted

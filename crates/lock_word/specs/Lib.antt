@@ -1,3 +1,4 @@
+pub mod Holds
 pub mod Holders
 pub mod Word
 pub mod WordLaws

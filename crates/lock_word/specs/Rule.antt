@@ -1,17 +1,18 @@
 -- What holds of the word and of all parties between any two atomic steps.
-use Rattle.std.specs.Prelude.{◌≡◌, ◌≢◌, ℕ, ◌-◌, ◌^◌, ◌<◌, ◌≤◌, List, map, sum_by, slice_get, Some}
-use Rattle.lock_base.specs.declared.machine.bag.Bag.{Bag}
-use Rattle.lock_base.specs.Modes.{readers, AreCompatible}
+use Rattle.std.specs.Prelude.{◌≡◌, ◌≢◌, ℕ, ◌+◌, ◌-◌, ◌%◌, ◌^◌, ◌<◌, ◌≤◌, List, map, sum_by, slice_get, Some, ◌⊎◌}
+use Rattle.lock_base.specs.Modes.{readers}
+use Rattle.lock_word.specs.declared.hold.Hold.{Hold}
 use Rattle.lock_word.specs.declared.party.PartyState.{PartyState}
+use Rattle.lock_word.specs.Holds.{BarredBag, MayStand, bars_of}
 use Rattle.lock_word.specs.Holders.{all_of, IsPart}
 use Rattle.lock_word.specs.Word.{word_of, readers_of_word}
 
 -- what each party holds
-abbrev pub holds : List PartyState → List Bag
+abbrev pub holds : List PartyState → List Hold
 holds parties = map (λ (q : PartyState). q.held) parties
 
 -- what all parties hold together
-abbrev pub held_by_all : List PartyState → Bag
+abbrev pub held_by_all : List PartyState → BarredBag
 held_by_all parties = all_of (holds parties)
 
 abbrev pub all_wins : List PartyState → ℕ
@@ -26,18 +27,20 @@ pub record IsBehind (others word : ℕ) (me : PartyState) : Type 0 where
   pub bounded : me.fails ≤ others
   pub open_load : (loaded : ℕ) → me.loaded ≡ Some loaded → word ≢ loaded → me.fails < others
 
--- the word is that of all that is held, which may be out together, and each party's fails are behind the others' wins
+-- the word is that of all that is held, which may stand together, and each party's fails are behind the others' wins
 pub record KeepsRule (limit word : ℕ) (parties : List PartyState) : Type 0 where
   pub coded : word ≡ word_of (held_by_all parties)
-  pub legal : AreCompatible limit (held_by_all parties)
+  pub legal : MayStand limit (held_by_all parties)
   pub behind : (k : ℕ) (me : PartyState) → slice_get parties k ≡ Some me → IsBehind (others_wins parties me) word me
 
 -- what a word says to one who holds these: it is the word of all that is held, of which these are a part
-pub record Shows (limit word : ℕ) (own : Bag) : Type 0 where
-  pub all : Bag
-  pub legal : AreCompatible limit all
+pub record Shows (limit word : ℕ) (own : Hold) : Type 0 where
+  pub all : BarredBag
+  pub legal : MayStand limit all
   pub part : IsPart own all
   pub coded : word ≡ word_of all
-  -- so an exclusive holder finds no one else, and one who reads finds a reader and no exclusive holder
-  pub exclusive : 0 < own.exclusive → word ≡ 2 ^ 33
-  pub reads : 0 < readers own → (0 < readers_of_word word) × (word < 2 ^ 33)
+  -- so an exclusive holder finds no one else, one who reads finds a reader and no exclusive holder, beside a bar or
+  -- none, and one who has announced itself finds a bar
+  pub exclusive : 0 < own.bag.exclusive → (word ≡ 2 ^ 33) ⊎ (word ≡ 2 ^ 34 + 2 ^ 33)
+  pub reads : 0 < readers own.bag → (0 < readers_of_word word) × (word % 2 ^ 34 < 2 ^ 33)
+  pub announced : 0 < bars_of own.announced → 2 ^ 34 ≤ word

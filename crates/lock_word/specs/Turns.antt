@@ -1,10 +1,7 @@
 -- One atomic step of one party on the word.
 use Rattle.std.specs.Prelude.{ℕ, ◌+◌, ◌-◌, ◌^◌, ◌<◌, ◌≤◌, ◌==◌, if◌then◌else◌, Option, Some, None}
-use Rattle.lock_base.specs.declared.machine.mode_step.ModeStep.{ModeStep}
 use Rattle.lock_base.specs.declared.raw.fault.Fault.{Fault}
 use Rattle.lock_base.specs.declared.raw.fault.Fault.TheVariants as fault
-use Rattle.lock_base.specs.Modes.{empty_bag}
-use Rattle.lock_base.specs.ModeRuns.{has, bag_after}
 use Rattle.lock_word.specs.declared.want.ExWant.{ExWant}
 use Rattle.lock_word.specs.declared.down.Down.{Down}
 use Rattle.lock_word.specs.declared.party.PartyState.{PartyState}
@@ -12,6 +9,8 @@ use Rattle.lock_word.specs.declared.step.AtomicStep.{AtomicStep}
 use Rattle.lock_word.specs.declared.step.AtomicStep.TheVariants.{Load, Exchange, Take}
 use Rattle.lock_word.specs.declared.step.Outcome.{Outcome}
 use Rattle.lock_word.specs.declared.step.Outcome.TheVariants.{Loaded, Done, NotAdmitted, Changed, Refused}
+use Rattle.lock_word.specs.declared.word_step.WordStep.{WordStep}
+use Rattle.lock_word.specs.Holds.{bars_of, no_hold, hold_has, hold_after}
 use Rattle.lock_word.specs.Word.{word_of, word_admits, word_after, amount, step_of_want, step_of_down}
 
 -- the word and the party that made a step, as it leaves them, and what it answered
@@ -30,7 +29,7 @@ steps_after before Changed = before + 1
 
 -- a party that has done nothing yet
 abbrev pub idle : PartyState
-idle = record { held = empty_bag; loaded = None; wins = 0; fails = 0 }
+idle = record { held = no_hold; loaded = None; wins = 0; fails = 0 }
 
 abbrev pub with_load : PartyState → ℕ → PartyState
 with_load me word = record me { loaded = Some word }
@@ -39,9 +38,9 @@ with_load me word = record me { loaded = Some word }
 abbrev pub unloaded : PartyState → PartyState
 unloaded me = record me { loaded = None }
 
--- the party's modes are changed, and its open load is spent
-abbrev pub won : PartyState → ModeStep → PartyState
-won me step = record me { held = bag_after me.held step; loaded = None; wins = me.wins + 1 }
+-- the party has made this step, and its open load is spent
+abbrev pub won : PartyState → WordStep → PartyState
+won me step = record me { held = hold_after me.held step; loaded = None; wins = me.wins + 1 }
 
 -- the party's exchange found another word
 abbrev pub lost : PartyState → PartyState
@@ -62,19 +61,19 @@ admitted_turn word me want loaded =
 abbrev pub loaded_turn : ℕ → ℕ → PartyState → ExWant → Option ℕ → Turn
 loaded_turn limit word me want None = refused_turn word me fault.NoLoad
 loaded_turn limit word me want (Some loaded) =
-    if word_admits limit loaded want
+    if word_admits me.held.announced limit loaded want
     then admitted_turn word me want loaded
     else record { word = word; party = unloaded me; outcome = NotAdmitted }
 
 abbrev pub exchange_turn : ℕ → ℕ → PartyState → ExWant → Turn
 exchange_turn limit word me want =
-    if has me.held (step_of_want want)
+    if hold_has me.held (step_of_want want)
     then loaded_turn limit word me want me.loaded
     else refused_turn word me fault.WrongMode
 
 abbrev pub take_turn : ℕ → PartyState → Down → Turn
 take_turn word me down =
-    if has me.held (step_of_down down)
+    if hold_has me.held (step_of_down down)
     then record { word = word - amount down; party = won me (step_of_down down); outcome = Done }
     else refused_turn word me fault.WrongMode
 
@@ -90,7 +89,7 @@ party_of (Take p down) = p
 
 -- the word has what the party holds, and there is room to count one step more
 pub record CanStep (word : ℕ) (me : PartyState) : Type 0 where
-  pub part : word_of me.held ≤ word
+  pub part : word_of record { bag = me.held.bag; bars = bars_of me.held.announced } ≤ word
   pub small : word < 2 ^ 63
   pub wins : me.wins < 2 ^ 64 - 1
   pub fails : me.fails < 2 ^ 64 - 1

@@ -1,29 +1,36 @@
--- The packed word: one number for a bag, what it admits, and what each step makes of it.
-use Rattle.std.specs.Prelude.{◌≡◌, ℕ, ◌+◌, ◌-◌, ◌*◌, ◌/◌, ◌%◌, ◌^◌, Bool, ◌&&◌, ◌||◌, not, ◌==◌, nat_lt, if◌then◌else◌, Option, Some, None}
+-- The packed word: one number for a bag and the bar beside it, what it admits, and what each step makes of it.
+use Rattle.std.specs.Prelude.{◌≡◌, ℕ, ◌+◌, ◌-◌, ◌*◌, ◌/◌, ◌%◌, ◌^◌, Bool, true, false, ◌&&◌, ◌||◌, not, ◌==◌, nat_lt, if◌then◌else◌, Option, Some, None}
 use Rattle.lock_base.specs.declared.machine.mode.Mode.{Mode}
 use Rattle.lock_base.specs.declared.machine.mode.Mode.TheVariants as mode
-use Rattle.lock_base.specs.declared.machine.mode_step.ModeStep.{ModeStep}
 use Rattle.lock_base.specs.declared.machine.mode_step.ModeStep.TheVariants.{Acquire, Release, Change}
 use Rattle.lock_base.specs.declared.machine.bag.Bag.{Bag}
-use Rattle.lock_base.specs.Modes.{readers, AreCompatible}
+use Rattle.lock_base.specs.Modes.{readers}
 use Rattle.lock_word.specs.declared.want.ExWant.{ExWant}
-use Rattle.lock_word.specs.declared.want.ExWant.TheVariants.{Shared, Exclusive, Upgradable, Upgrade}
+use Rattle.lock_word.specs.declared.want.ExWant.TheVariants.{Shared, Exclusive, Upgradable, Upgrade, Announce}
 use Rattle.lock_word.specs.declared.down.Down.{Down}
 use Rattle.lock_word.specs.declared.down.Down.TheVariants as down
+use Rattle.lock_word.specs.declared.word_step.WordStep.{WordStep}
+use Rattle.lock_word.specs.declared.word_step.WordStep.TheVariants as step
+use Rattle.lock_word.specs.Holds.{BarredBag, MayStand, bars_of}
 
--- the readers, plus 2^32 for an upgradable token and 2^33 for an exclusive one
-abbrev pub word_of : Bag → ℕ
-word_of b = readers b + 2 ^ 32 * b.upgradable + 2 ^ 33 * b.exclusive
+-- the readers, plus 2^32 for an upgradable token, 2^33 for an exclusive one, and 2^34 for a bar
+abbrev pub word_of : BarredBag → ℕ
+word_of all = readers all.bag + 2 ^ 32 * all.bag.upgradable + 2 ^ 33 * all.bag.exclusive + 2 ^ 34 * all.bars
 
 abbrev pub readers_of_word : ℕ → ℕ
 readers_of_word word = word % 2 ^ 32
 
--- whether the loaded word admits what the exchange wants
-abbrev pub word_admits : ℕ → ℕ → ExWant → Bool
-word_admits limit word Shared = nat_lt word (2 ^ 33) && nat_lt (readers_of_word word) limit
-word_admits limit word Exclusive = word == 0
-word_admits limit word Upgradable = nat_lt word (2 ^ 32) && nat_lt (readers_of_word word) limit
-word_admits limit word Upgrade = word == 2 ^ 32 + 1
+-- the guards that a word shows: its readers, plus one where it has an exclusive token
+abbrev pub guards_of_word : ℕ → ℕ
+guards_of_word word = readers_of_word word + (word / 2 ^ 33) % 2
+
+-- whether the loaded word admits what one wants who has announced itself, or has not
+abbrev pub word_admits : Bool → ℕ → ℕ → ExWant → Bool
+word_admits announced limit word Shared = nat_lt word (2 ^ 33) && nat_lt (readers_of_word word) limit
+word_admits announced limit word Exclusive = (word == 0) || (announced && (word == 2 ^ 34))
+word_admits announced limit word Upgradable = nat_lt word (2 ^ 32) && nat_lt (readers_of_word word) limit
+word_admits announced limit word Upgrade = (word == 2 ^ 32 + 1) || (word == 2 ^ 34 + 2 ^ 32 + 1)
+word_admits announced limit word Announce = nat_lt word (2 ^ 34)
 
 -- the word with what the exchange wants
 abbrev pub word_after : ℕ → ExWant → ℕ
@@ -31,10 +38,12 @@ word_after word Shared = word + 1
 word_after word Exclusive = 2 ^ 33
 word_after word Upgradable = word + (2 ^ 32 + 1)
 word_after word Upgrade = word + (2 ^ 32 - 1)
+word_after word Announce = word + 2 ^ 34
 
 -- the word that the exchange puts for the loaded one, where that admits what is wanted
-abbrev pub word_exchanged : ℕ → ℕ → ExWant → Option ℕ
-word_exchanged limit loaded want = if word_admits limit loaded want then Some (word_after loaded want) else None
+abbrev pub word_exchanged : Bool → ℕ → ℕ → ExWant → Option ℕ
+word_exchanged announced limit loaded want =
+    if word_admits announced limit loaded want then Some (word_after loaded want) else None
 
 -- what a subtraction takes from the word
 abbrev pub amount : Down → ℕ
@@ -44,22 +53,25 @@ amount down.Upgradable = 2 ^ 32 + 1
 amount down.ToShared = 2 ^ 33 - 1
 amount down.ToUpgradable = 2 ^ 32 - 1
 amount down.UpgradableToShared = 2 ^ 32
+amount down.Withdraw = 2 ^ 34
 
--- the change of modes that an exchange makes
-abbrev pub step_of_want : ExWant → ModeStep
-step_of_want Shared = Acquire mode.Shared
-step_of_want Exclusive = Acquire mode.Exclusive
-step_of_want Upgradable = Acquire mode.Upgradable
-step_of_want Upgrade = Change mode.Upgradable mode.Exclusive
+-- what an exchange does to the modes and the bar
+abbrev pub step_of_want : ExWant → WordStep
+step_of_want Shared = step.Modes (Acquire mode.Shared)
+step_of_want Exclusive = step.Modes (Acquire mode.Exclusive)
+step_of_want Upgradable = step.Modes (Acquire mode.Upgradable)
+step_of_want Upgrade = step.Modes (Change mode.Upgradable mode.Exclusive)
+step_of_want Announce = step.Announce
 
--- the change of modes that a subtraction makes
-abbrev pub step_of_down : Down → ModeStep
-step_of_down down.Shared = Release mode.Shared
-step_of_down down.Exclusive = Release mode.Exclusive
-step_of_down down.Upgradable = Release mode.Upgradable
-step_of_down down.ToShared = Change mode.Exclusive mode.Shared
-step_of_down down.ToUpgradable = Change mode.Exclusive mode.Upgradable
-step_of_down down.UpgradableToShared = Change mode.Upgradable mode.Shared
+-- what a subtraction does to the modes and the bar
+abbrev pub step_of_down : Down → WordStep
+step_of_down down.Shared = step.Modes (Release mode.Shared)
+step_of_down down.Exclusive = step.Modes (Release mode.Exclusive)
+step_of_down down.Upgradable = step.Modes (Release mode.Upgradable)
+step_of_down down.ToShared = step.Modes (Change mode.Exclusive mode.Shared)
+step_of_down down.ToUpgradable = step.Modes (Change mode.Exclusive mode.Upgradable)
+step_of_down down.UpgradableToShared = step.Modes (Change mode.Upgradable mode.Shared)
+step_of_down down.Withdraw = step.Withdraw
 
 -- the exchange that acquires the mode
 abbrev pub want_of_mode : Mode → ExWant
@@ -74,16 +86,18 @@ down_of_mode mode.Exclusive = down.Exclusive
 down_of_mode mode.Upgradable = down.Upgradable
 
 -- whether the word after admits what is wanted, and the one before does not
-abbrev pub word_newly_admits : ℕ → ℕ → ℕ → ExWant → Bool
-word_newly_admits limit before after want = not (word_admits limit before want) && word_admits limit after want
+abbrev pub word_newly_admits : Bool → ℕ → ℕ → ℕ → ExWant → Bool
+word_newly_admits announced limit before after want =
+    not (word_admits announced limit before want) && word_admits announced limit after want
 
--- whether someone who waits may get on at the word after, and could not at the one before
+-- whether someone who waits may get on at the word after, and could not at the one before. Under a bar one that waits for
+-- an exclusive token has announced itself
 abbrev pub word_lets_on : ℕ → ℕ → ℕ → Bool
 word_lets_on limit before after =
-    word_newly_admits limit before after Shared
-    || (word_newly_admits limit before after Exclusive
-    || (word_newly_admits limit before after Upgradable
-    || word_newly_admits limit before after Upgrade))
+    word_newly_admits false limit before after Shared
+    || (word_newly_admits true limit before after Exclusive
+    || (word_newly_admits false limit before after Upgradable
+    || word_newly_admits false limit before after Upgrade))
 
 -- the bag that a packed word stands for
 abbrev pub bag_of_word : ℕ → Bag
@@ -94,7 +108,15 @@ bag_of_word word =
       upgradable = (word / 2 ^ 32) % 2;
     }
 
--- the number is the word of a compatible bag
+-- and the bars beside it
+abbrev pub barred_bag_of_word : ℕ → BarredBag
+barred_bag_of_word word = record { bag = bag_of_word word; bars = word / 2 ^ 34 }
+
+-- the word with a bar, or with none
+abbrev pub word_with_bar : ℕ → Bool → ℕ
+word_with_bar word barred = word % 2 ^ 34 + 2 ^ 34 * bars_of barred
+
+-- the number is the word of a bag and a bar that may stand
 pub record IsPacked (limit word : ℕ) : Type 0 where
-  pub coded : word ≡ word_of (bag_of_word word)
-  pub legal : AreCompatible limit (bag_of_word word)
+  pub coded : word ≡ word_of (barred_bag_of_word word)
+  pub legal : MayStand limit (barred_bag_of_word word)

@@ -1,28 +1,32 @@
--- What the word of a bag says of the bag.
-use Rattle.std.specs.Prelude.{◌≡◌, ℕ, ◌+◌, ◌↔◌, IsTrue}
-use Rattle.lock_base.specs.declared.machine.bag.Bag.{Bag}
+-- What the word of a bag and a bar says of them.
+use Rattle.std.specs.Prelude.{◌≡◌, ℕ, ◌+◌, ◌≤◌, Bool, ◌↔◌, IsTrue}
 use Rattle.lock_base.specs.Limits.{IsLimit}
-use Rattle.lock_base.specs.Modes.{AreCompatible}
-use Rattle.lock_base.specs.ModeRuns.{has, Permits, bag_after}
 use Rattle.lock_word.specs.declared.want.ExWant.{ExWant}
 use Rattle.lock_word.specs.declared.down.Down.{Down}
+use Rattle.lock_word.specs.declared.hold.Hold.{Hold}
+use Rattle.lock_word.specs.Holds.{BarredBag, MayStand, bars_of, PermitsTo, barred_after, hold_has}
+use Rattle.lock_word.specs.Holders.{IsPart}
 use Rattle.lock_word.specs.Word.{word_of, word_admits, word_after, amount, step_of_want, step_of_down}
 
--- the word admits what the bag permits, and with what was wanted it is the word of the bag after the step
-pub record IsExchangeOf (limit : ℕ) (b : Bag) (want : ExWant) : Type 0 where
-  pub admits : IsTrue (word_admits limit (word_of b) want) ↔ Permits limit b (step_of_want want)
-  pub puts : Permits limit b (step_of_want want)
-      → word_after (word_of b) want ≡ word_of (bag_after b (step_of_want want))
+-- the word admits to one who has announced itself, or has not, what it may do where these are out, and with what was
+-- wanted it is the word of what is out after the step
+pub record IsExchangeOf (announced : Bool) (limit : ℕ) (all : BarredBag) (want : ExWant) : Type 0 where
+  pub admits :
+      IsTrue (word_admits announced limit (word_of all) want) ↔ PermitsTo announced limit all (step_of_want want)
+  pub puts : PermitsTo announced limit all (step_of_want want)
+      → word_after (word_of all) want ≡ word_of (barred_after announced all (step_of_want want))
 
+-- where one has announced itself, its bar is among those that stand
 abbrev pub ExchangesAreOfBags : Type 0
 ExchangesAreOfBags =
-    (limit : ℕ) (b : Bag) (want : ExWant) → IsLimit limit → AreCompatible limit b → IsExchangeOf limit b want
+    (announced : Bool) (limit : ℕ) (all : BarredBag) (want : ExWant) → IsLimit limit → MayStand limit all
+    → bars_of announced ≤ all.bars → IsExchangeOf announced limit all want
 
 abbrev pub SubtractionsAreOfBags : Type 0
 SubtractionsAreOfBags =
-    (b : Bag) (down : Down) → IsTrue (has b (step_of_down down))
-    → word_of b ≡ word_of (bag_after b (step_of_down down)) + amount down
+    (own : Hold) (all : BarredBag) (down : Down) → IsPart own all → IsTrue (hold_has own (step_of_down down))
+    → word_of all ≡ word_of (barred_after own.announced all (step_of_down down)) + amount down
 
 abbrev pub WordsAreOfOneBag : Type 0
 WordsAreOfOneBag =
-    (limit : ℕ) (a b : Bag) → IsLimit limit → AreCompatible limit a → AreCompatible limit b → word_of a ≡ word_of b → a ≡ b
+    (limit : ℕ) (a b : BarredBag) → IsLimit limit → MayStand limit a → MayStand limit b → word_of a ≡ word_of b → a ≡ b

@@ -1,7 +1,8 @@
 //! What subtractions from the word give up.
 ghost use Rattle.std.specs.Prelude.{◌≡◌};
 
-use crate::word::{EXCLUSIVE, UPGRADABLE};
+use crate::word::{BAR, EXCLUSIVE, UPGRADABLE};
+use crate::word_step::WordStep;
 use lock_base::machine::{Mode, ModeStep};
 
 /// What a subtraction from the word gives up.
@@ -19,6 +20,8 @@ pub enum Down {
     ToUpgradable,
     /// An upgradable token for a shared one.
     UpgradableToShared,
+    /// The bar of the one that has announced itself.
+    Withdraw,
 }
 
 impl Down {
@@ -35,18 +38,20 @@ impl Down {
         }
     }
 
-    /// What the subtraction does to the modes that are out.
-    pub fn step(self) -> ModeStep
+    /// What the subtraction does to the modes that are out and to the bar.
+    pub fn step(self) -> WordStep
         ensures { result ≡ step_of_down self }
     {
-        match self {
+        let step = match self {
             Down::Shared => ModeStep::Release(Mode::Shared),
             Down::Exclusive => ModeStep::Release(Mode::Exclusive),
             Down::Upgradable => ModeStep::Release(Mode::Upgradable),
             Down::ToShared => ModeStep::Change(Mode::Exclusive, Mode::Shared),
             Down::ToUpgradable => ModeStep::Change(Mode::Exclusive, Mode::Upgradable),
             Down::UpgradableToShared => ModeStep::Change(Mode::Upgradable, Mode::Shared),
-        }
+            Down::Withdraw => return WordStep::Withdraw,
+        };
+        WordStep::Modes(step)
     }
 
     /// What the subtraction takes from the word.
@@ -60,6 +65,7 @@ impl Down {
             Down::ToShared => EXCLUSIVE - 1,
             Down::ToUpgradable => UPGRADABLE - 1,
             Down::UpgradableToShared => UPGRADABLE,
+            Down::Withdraw => BAR,
         }
     }
 }

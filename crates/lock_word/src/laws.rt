@@ -2,17 +2,17 @@
 ghost use Rattle.lock_word.specs.WordLaws.{ExchangesAreOfBags, SubtractionsAreOfBags, WordsAreOfOneBag};
 ghost use Rattle.lock_word.specs.Claims.{EveryInterleaving};
 
-/// The word of a compatible bag admits just what the bag permits, and the exchange puts the word of the bag after it.
+/// The word of what is out admits just what may be done there, and the exchange puts the word of what is out after it.
 pub fn exchanges_are_of_bags()
     ensures { ExchangesAreOfBags }
 {}
 
-/// A subtraction from the word of a bag that has what it gives up leaves the word of the bag after it.
+/// A subtraction by one who has what it gives up leaves the word of what is out after it.
 pub fn subtractions_are_of_bags()
     ensures { SubtractionsAreOfBags }
 {}
 
-/// Two compatible bags of one word are one bag.
+/// Two compatible bags of one word, each with a bar or none, are the same.
 pub fn words_are_of_one_bag()
     ensures { WordsAreOfOneBag }
 {}

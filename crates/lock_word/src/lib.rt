@@ -1,18 +1,22 @@
-//! The packed word, one number for the modes that are out, and the atomic steps of parties on it.
+//! The packed word, one number for the modes that are out and the bar beside them, and the atomic steps of parties on it.
 #![tactic(auto)]
 
 mod down;
+mod hold;
 mod laws;
 mod party;
 mod step;
 mod want;
 mod word;
+mod word_step;
 
 pub use down::Down;
+pub use hold::Hold;
 pub use laws::{
     every_interleaving, exchanges_are_of_bags, subtractions_are_of_bags, words_are_of_one_bag,
 };
 pub use party::PartyState;
 pub use step::{AtomicStep, Outcome};
 pub use want::{ExWant, lets_on};
-pub use word::has_exclusive;
+pub use word::{has_bar, has_exclusive, has_tokens, with_bar};
+pub use word_step::WordStep;

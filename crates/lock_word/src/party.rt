@@ -2,15 +2,16 @@
 ghost use Rattle.std.specs.Prelude.{◌≡◌, ◌-◌, ◌^◌, ◌<◌, ◌≤◌, IsTrue};
 
 use crate::down::Down;
+use crate::hold::Hold;
 use crate::step::{AtomicStep, Outcome};
 use crate::want::ExWant;
-use lock_base::machine::{Bag, ModeStep};
+use crate::word_step::WordStep;
 use lock_base::raw::Fault;
 
 /// What a party holds, its open load, and how often it won and failed.
 #[derive(Clone, Copy, PartialEq, Eq, Debug)]
 pub struct PartyState {
-    pub held: Bag,
+    pub held: Hold,
     /// The word at the party's last load, until an exchange or a subtraction of its own ends it.
     pub loaded: Option<u64>,
     /// Exchanges and subtractions that were done.
@@ -21,7 +22,7 @@ pub struct PartyState {
 
 impl PartyState {
     ghost use Rattle.lock_base.specs.Modes.{tokens};
-    ghost use Rattle.lock_base.specs.ModeRuns.{has};
+    ghost use Rattle.lock_word.specs.Holds.{hold_has};
     ghost use Rattle.lock_word.specs.Word.{word_of};
     ghost use Rattle.lock_word.specs.Turns.{idle, won, load_turn, exchange_turn, take_turn, turn, CanStep};
 
@@ -30,7 +31,7 @@ impl PartyState {
         ensures { result ≡ idle }
     {
         PartyState {
-            held: Bag::empty(),
+            held: Hold::none(),
             loaded: None,
             wins: 0,
             fails: 0,
@@ -71,7 +72,7 @@ impl PartyState {
         let Some(loaded) = self.loaded else {
             return Outcome::Refused(Fault::NoLoad);
         };
-        let Some(next) = want.exchanged(readers, loaded) else {
+        let Some(next) = want.exchanged(self.held.announced, readers, loaded) else {
             self.loaded = None;
             return Outcome::NotAdmitted;
         };
@@ -99,9 +100,9 @@ impl PartyState {
         Outcome::Done
     }
 
-    fn win(&mut self, step: ModeStep)
-        requires had { IsTrue (has self.old.held step) }
-        requires room { tokens self.old.held < 2 ^ 64 - 1 }
+    fn win(&mut self, step: WordStep)
+        requires had { IsTrue (hold_has self.old.held step) }
+        requires room { tokens self.old.held.bag < 2 ^ 64 - 1 }
         requires counts { self.old.wins < 2 ^ 64 - 1 }
         ensures { self.new ≡ won self.old step }
     {

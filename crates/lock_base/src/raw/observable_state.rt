@@ -5,7 +5,7 @@ ghost use Rattle.lock_base.specs.Tokens.{bag_of_tokens, IsOutAs};
 use crate::machine::{Bag, Mode};
 use crate::raw::RawState;
 
-/// A raw state that tells which tokens are out of it. Asking changes neither the tokens nor the limits.
+/// A raw state that tells which tokens are out of it. Asking changes neither the tokens nor the limits nor the bar.
 pub trait ObservableState: RawState {
     /// How many tokens of each mode are out.
     fn bag(&self) -> Bag
@@ -23,6 +23,7 @@ pub trait ObservableState: RawState {
     fn out(&mut self, token: &Self::Token, mode: Mode) -> bool
         ensures out { IsTrue result ↔ IsOutAs (Self.tokens self.old) token.now mode }
         ensures tokens_kept { Self.tokens self.new ≡ Self.tokens self.old }
+        ensures bar_kept { Self.bar self.new ≡ Self.bar self.old }
         ensures capacity_kept { Self.capacity self.new ≡ Self.capacity self.old }
         ensures limit_kept { Self.reader_limit self.new ≡ Self.reader_limit self.old };
 }

@@ -25,6 +25,8 @@ impl<R: RawState> RawState for CountedState<R> {
 
     ghost reader_limit = { λ counted. R.reader_limit counted.raw };
 
+    ghost bar = { λ counted. R.bar counted.raw };
+
     fn new(alloc: Global, places: u64, readers: u64) -> Result<CountedState<R>, Fault> {
         let raw = R::new(alloc, places, readers)?;
         Ok(CountedState { raw, given_back: 0 })
@@ -49,5 +51,13 @@ impl<R: RawState> RawState for CountedState<R> {
 
     fn exclusive(&self) -> bool {
         self.raw.exclusive()
+    }
+
+    fn set_bar(&mut self, barred: bool) {
+        self.raw.set_bar(barred);
+    }
+
+    fn barred(&self) -> bool {
+        self.raw.barred()
     }
 }

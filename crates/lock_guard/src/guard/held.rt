@@ -1,5 +1,6 @@
 //! A lock that is held.
 ghost use Rattle.std.specs.Prelude.{◌≡◌, true};
+ghost use Rattle.lock_guard.specs.declared.guard.inner.Inner.TheVariants.{Filled};
 ghost use Rattle.lock_guard.specs.Inner.{is_filled};
 
 use crate::guard::{Acquire, AcquireFair, Inner};
@@ -32,6 +33,18 @@ impl<L: Acquire> Held<L> {
     {
         let Held { lock, inner } = self;
         (lock, inner.into_token())
+    }
+
+    /// The lock with its token and what shows the value. Whoever takes them gives the value back, and then the token.
+    pub fn into_parts(self) -> (L, L::Token, L::Shown)
+        ensures lock { result.0 ≡ self.lock }
+        ensures inner { Filled result.1 result.2 ≡ self.inner }
+    {
+        let Held { lock, inner } = self;
+        match inner {
+            Inner::Filled(token, shown) => (lock, token, shown),
+            Inner::Empty => unreachable!(),
+        }
     }
 
     /// The inner part, still held. Whoever takes it gives the token back to the lock.

@@ -113,7 +113,8 @@ pub trait RawRwLockUpgrade: RawRwLock {
     fn try_upgrade(
         &self,
         token: Self::UpgradableGuard,
-    ) -> Result<Self::ExclusiveGuard, Self::UpgradableGuard>;
+    ) -> Result<Self::ExclusiveGuard, Self::UpgradableGuard>
+        ensures { IfErr result (λ back. back ≡ token) };
 }
 
 /// A raw lock with upgradable tokens that can hand itself on in the order of those that wait.
@@ -145,12 +146,14 @@ pub trait RawRwLockUpgradeTimed: RawRwLockUpgrade + RawRwLockTimed {
         &self,
         token: Self::UpgradableGuard,
         timeout: Self::Duration,
-    ) -> Result<Self::ExclusiveGuard, Self::UpgradableGuard>;
+    ) -> Result<Self::ExclusiveGuard, Self::UpgradableGuard>
+        ensures { IfErr result (λ back. back ≡ token) };
 
     /// The same token back where another token was out until then.
     fn try_upgrade_until(
         &self,
         token: Self::UpgradableGuard,
         deadline: Self::Instant,
-    ) -> Result<Self::ExclusiveGuard, Self::UpgradableGuard>;
+    ) -> Result<Self::ExclusiveGuard, Self::UpgradableGuard>
+        ensures { IfErr result (λ back. back ≡ token) };
 }

@@ -1,19 +1,21 @@
 //! The guard of an upgradable lock.
-ghost use Rattle.std.specs.Prelude.{◌≡◌, IfSome, MatchResult, is_ok};
+ghost use Rattle.std.specs.Prelude.{◌≡◌, IfSome, IfErr, MatchResult, is_ok};
 ghost use Rattle.lock_guard.specs.Closure.{AnswersSomeValue};
 
 use super::{RwLockGuard, RwLockReadGuard, RwLockWriteGuard};
 use crate::lock::RwLock;
 use crate::mode::{InMode, Upgradable};
 use crate::parts;
-use lock_guard::guard::{Acquire, Held};
+use lock_guard::guard::{Acquire, Held, Inner};
 use lock_guard::raw::{RawRwLockUpgrade, RawRwLockUpgradeDowngrade, RawRwLockUpgradeTimed};
+use std::sync;
 
 /// The right to read the value of a lock, beside others that read, and to become the one that writes.
 pub type RwLockUpgradableReadGuard<'a, R, T> = RwLockGuard<InMode<'a, Upgradable, R, T>>;
 
 impl<'a, R: RawRwLockUpgrade, T> RwLockGuard<InMode<'a, Upgradable, R, T>> {
-    ghost use Rattle.lock_rwlock.specs.RwLockGuard.{IsGuardOf, SameLock};
+    ghost use Rattle.lock_guard.specs.declared.guard.inner.Inner.TheVariants.{Filled};
+    ghost use Rattle.lock_rwlock.specs.RwLockGuard.{IsGuardOf, SameLock, held_of};
 
     /// The guard of a token that the raw lock gave out.
     pub(crate) fn new(
@@ -43,28 +45,38 @@ impl<'a, R: RawRwLockUpgrade, T> RwLockGuard<InMode<'a, Upgradable, R, T>> {
     }
 
     /// The right to write in place of this one, or this one again where the raw lock refuses.
-    ///
-    /// The guard that comes back has the same lock, and reads the value anew.
     pub fn try_upgrade(
         guard: RwLockUpgradableReadGuard<'a, R, T>,
     ) -> Result<RwLockWriteGuard<'a, R, T>, RwLockUpgradableReadGuard<'a, R, T>>
-        ensures { MatchResult result (SameLock guard.entry) (SameLock guard.entry) }
+        ensures { MatchResult result (SameLock guard.entry) (λ same. same ≡ guard.entry) }
     {
-        let (lock, token) = guard.into_token();
-        RwLockUpgradableReadGuard::upgraded(lock.rwlock, lock.rwlock.raw.try_upgrade(token))
+        let (lock, token, shown) = guard.held.into_parts();
+        let answer = lock.rwlock.raw.try_upgrade(token);
+        RwLockUpgradableReadGuard::upgraded(lock, shown, answer)
     }
 
-    /// The guard of the token that the raw lock answered.
+    /// The guard of the token that the raw lock answered: an upgradable one shows what was shown.
     fn upgraded(
-        rwlock: &'a RwLock<R, T>,
+        lock: InMode<'a, Upgradable, R, T>,
+        shown: sync::RwLockReadGuard<'a, T>,
         answer: Result<R::ExclusiveGuard, R::UpgradableGuard>,
     ) -> Result<RwLockWriteGuard<'a, R, T>, RwLockUpgradableReadGuard<'a, R, T>>
         ensures upgraded { is_ok result ≡ is_ok answer }
-        ensures lock { MatchResult result (IsGuardOf rwlock.entry) (IsGuardOf rwlock.entry) }
+        ensures lock { MatchResult result (IsGuardOf lock.entry.rwlock) (λ same. (held_of same).lock ≡ lock.entry) }
+        ensures again { (token : R.UpgradableGuard) → IfErr answer (λ back. back ≡ token)
+            → IfErr result (λ same. (held_of same).inner ≡ Filled token shown.entry) }
     {
         match answer {
-            Ok(token) => Ok(RwLockWriteGuard::new(rwlock, token)),
-            Err(token) => Err(RwLockUpgradableReadGuard::new(rwlock, token)),
+            Ok(token) => {
+                drop(shown);
+                Ok(RwLockWriteGuard::new(lock.rwlock, token))
+            }
+            Err(token) => {
+                let inner = Inner::Filled(token, shown);
+                Err(RwLockGuard {
+                    held: Held { lock, inner },
+                })
+            }
         }
     }
 }
@@ -77,11 +89,11 @@ impl<'a, R: RawRwLockUpgradeTimed, T> RwLockGuard<InMode<'a, Upgradable, R, T>> 
         guard: RwLockUpgradableReadGuard<'a, R, T>,
         timeout: R::Duration,
     ) -> Result<RwLockWriteGuard<'a, R, T>, RwLockUpgradableReadGuard<'a, R, T>>
-        ensures { MatchResult result (SameLock guard.entry) (SameLock guard.entry) }
+        ensures { MatchResult result (SameLock guard.entry) (λ same. same ≡ guard.entry) }
     {
-        let (lock, token) = guard.into_token();
+        let (lock, token, shown) = guard.held.into_parts();
         let answer = lock.rwlock.raw.try_upgrade_for(token, timeout);
-        RwLockUpgradableReadGuard::upgraded(lock.rwlock, answer)
+        RwLockUpgradableReadGuard::upgraded(lock, shown, answer)
     }
 
     /// `try_upgrade`, where the raw lock may wait until then before it refuses.
@@ -89,11 +101,11 @@ impl<'a, R: RawRwLockUpgradeTimed, T> RwLockGuard<InMode<'a, Upgradable, R, T>> 
         guard: RwLockUpgradableReadGuard<'a, R, T>,
         deadline: R::Instant,
     ) -> Result<RwLockWriteGuard<'a, R, T>, RwLockUpgradableReadGuard<'a, R, T>>
-        ensures { MatchResult result (SameLock guard.entry) (SameLock guard.entry) }
+        ensures { MatchResult result (SameLock guard.entry) (λ same. same ≡ guard.entry) }
     {
-        let (lock, token) = guard.into_token();
+        let (lock, token, shown) = guard.held.into_parts();
         let answer = lock.rwlock.raw.try_upgrade_until(token, deadline);
-        RwLockUpgradableReadGuard::upgraded(lock.rwlock, answer)
+        RwLockUpgradableReadGuard::upgraded(lock, shown, answer)
     }
 }
 

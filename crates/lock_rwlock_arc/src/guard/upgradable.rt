@@ -1,17 +1,19 @@
 //! What the guard of an upgradable lock can do beside.
-ghost use Rattle.std.specs.Prelude.{◌≡◌, IfSome, MatchResult, is_ok};
+ghost use Rattle.std.specs.Prelude.{◌≡◌, IfSome, IfErr, MatchResult, is_ok};
 ghost use Rattle.lock_guard.specs.Closure.{AnswersSomeValue};
-ghost use Rattle.lock_rwlock_arc.specs.ArcRwLockGuard.{arc_of};
+ghost use Rattle.lock_guard.specs.declared.guard.inner.Inner.TheVariants.{Filled};
+ghost use Rattle.lock_rwlock_arc.specs.ArcRwLockGuard.{arc_of, lock_of, inner_of};
 
 use super::{
     ArcRwLockGuard, ArcRwLockReadGuard, ArcRwLockUpgradableReadGuard, ArcRwLockWriteGuard,
 };
+use crate::owned::OwnedInMode;
+use lock_guard::guard::{Held, Inner};
 use lock_guard::raw::{RawRwLockUpgrade, RawRwLockUpgradeDowngrade, RawRwLockUpgradeTimed};
 use lock_rwlock::parts::{
     raw, try_with_upgraded, try_with_upgraded_for, try_with_upgraded_until, with_upgraded,
 };
 use lock_rwlock::{RwLock, Upgradable};
-use std::sync::Arc;
 
 impl<R: RawRwLockUpgrade + Drop, T: Drop> ArcRwLockGuard<Upgradable, R, T> {
     /// The right to write in place of this one, once no other guard is left.
@@ -28,25 +30,32 @@ impl<R: RawRwLockUpgrade + Drop, T: Drop> ArcRwLockGuard<Upgradable, R, T> {
         guard: ArcRwLockUpgradableReadGuard<R, T>,
     ) -> Result<ArcRwLockWriteGuard<R, T>, ArcRwLockUpgradableReadGuard<R, T>>
         ensures { MatchResult result (λ upgraded. arc_of upgraded ≡ arc_of guard)
-            (λ same. arc_of same ≡ arc_of guard) }
+            (λ same. same ≡ guard) }
     {
-        let (rwlock, token) = guard.into_token();
-        let answer = raw(&rwlock).try_upgrade(token);
-        ArcRwLockGuard::upgraded(rwlock, answer)
+        let (lock, token, ()) = guard.held.into_parts();
+        let answer = raw(&lock.rwlock).try_upgrade(token);
+        ArcRwLockGuard::upgraded(lock, answer)
     }
 
     /// The guard of the token that the raw lock answered.
     fn upgraded(
-        rwlock: Arc<RwLock<R, T>>,
+        lock: OwnedInMode<Upgradable, R, T>,
         answer: Result<R::ExclusiveGuard, R::UpgradableGuard>,
     ) -> Result<ArcRwLockWriteGuard<R, T>, ArcRwLockUpgradableReadGuard<R, T>>
         ensures upgraded { is_ok result ≡ is_ok answer }
-        ensures lock { MatchResult result (λ upgraded. arc_of upgraded ≡ rwlock)
-            (λ same. arc_of same ≡ rwlock) }
+        ensures lock { MatchResult result (λ upgraded. arc_of upgraded ≡ lock.rwlock)
+            (λ same. lock_of same ≡ lock) }
+        ensures again { (token : R.UpgradableGuard) → IfErr answer (λ back. back ≡ token)
+            → IfErr result (λ same. inner_of same ≡ Filled token tt) }
     {
         match answer {
-            Ok(token) => Ok(ArcRwLockGuard::new(rwlock, token)),
-            Err(token) => Err(ArcRwLockGuard::new(rwlock, token)),
+            Ok(token) => Ok(ArcRwLockGuard::new(lock.rwlock, token)),
+            Err(token) => {
+                let inner = Inner::Filled(token, ());
+                Err(ArcRwLockGuard {
+                    held: Held { lock, inner },
+                })
+            }
         }
     }
 }
@@ -58,11 +67,11 @@ impl<R: RawRwLockUpgradeTimed + Drop, T: Drop> ArcRwLockGuard<Upgradable, R, T> 
         timeout: R::Duration,
     ) -> Result<ArcRwLockWriteGuard<R, T>, ArcRwLockUpgradableReadGuard<R, T>>
         ensures { MatchResult result (λ upgraded. arc_of upgraded ≡ arc_of guard)
-            (λ same. arc_of same ≡ arc_of guard) }
+            (λ same. same ≡ guard) }
     {
-        let (rwlock, token) = guard.into_token();
-        let answer = raw(&rwlock).try_upgrade_for(token, timeout);
-        ArcRwLockGuard::upgraded(rwlock, answer)
+        let (lock, token, ()) = guard.held.into_parts();
+        let answer = raw(&lock.rwlock).try_upgrade_for(token, timeout);
+        ArcRwLockGuard::upgraded(lock, answer)
     }
 
     /// `try_upgrade`, where the raw lock may wait until then before it refuses.
@@ -71,11 +80,11 @@ impl<R: RawRwLockUpgradeTimed + Drop, T: Drop> ArcRwLockGuard<Upgradable, R, T> 
         deadline: R::Instant,
     ) -> Result<ArcRwLockWriteGuard<R, T>, ArcRwLockUpgradableReadGuard<R, T>>
         ensures { MatchResult result (λ upgraded. arc_of upgraded ≡ arc_of guard)
-            (λ same. arc_of same ≡ arc_of guard) }
+            (λ same. same ≡ guard) }
     {
-        let (rwlock, token) = guard.into_token();
-        let answer = raw(&rwlock).try_upgrade_until(token, deadline);
-        ArcRwLockGuard::upgraded(rwlock, answer)
+        let (lock, token, ()) = guard.held.into_parts();
+        let answer = raw(&lock.rwlock).try_upgrade_until(token, deadline);
+        ArcRwLockGuard::upgraded(lock, answer)
     }
 }
 

@@ -28,7 +28,7 @@ const DESK_SCRIPTS: [(&[u8], u64); 24] = [
     (b"mutex 4 0 0\nlock \xff\n", 2),
     (b"mutex 4 0 0\nlock 1\nlock\nlock 0\n", 3),
     (b"mutex 4 0 0\nlock 1\ntry_lock_to 1", 3),
-    (b"mutex 4 0 0\nlock 1\nannounce 1\n", 3),
+    (b"mutex 4 0 0\nlock 1\nannounced 1\n", 3),
     (b"mutex 4 0 0\nspent 1\n", 2),
 ];
 

@@ -4,7 +4,7 @@ use lock_script::Which;
 use std::test::Fail;
 
 /// Scripts of calls of a lock.
-const DESK_ROWS: [(&str, &str); 35] = [
+const DESK_ROWS: [(&str, &str); 39] = [
     (
         "mutex 4 10 0 / lock 1 / try_lock 2 / lock 2",
         "ok / guard 1 / none / refused 1",
@@ -117,6 +117,22 @@ const DESK_ROWS: [(&str, &str); 35] = [
     (
         "mutex 1 0 0 / unlock 1 18446744073709551615 / lock 18446744073709551615 / get 1 1 18446744073709551615 / unlock 1 1",
         "ok / refused 2 / guard 1 / refused 14 / ok",
+    ),
+    (
+        "rwlock 4 4 0 0 / read 1 / announce 2 / announce 3 / announce 2 / read 3 / try_upgradable_read 3 / write 2 / unlock 1 1 / try_write 3 / write 2 / is_barred / read 1 / unlock 2 2 / read 1",
+        "ok / guard 1 / ok / refused 17 / refused 17 / refused 1 / none / refused 1 / ok / none / guard 2 / no / refused 1 / ok / guard 3",
+    ),
+    (
+        "rwlock 4 4 1 2 / upgradable_read 1 / read 1 / park 1 2 / announce 2 / resume 1 2 / bump 1 1 / try_upgrade 1 1 / is_barred / downgrade_to_upgradable 1 1 / withdraw 1 / withdraw 2 / withdraw 2 / resume 1 2 / spent",
+        "ok / guard 1 / guard 2 / ok / ok / refused 1 / ok / ok / yes / ok / refused 18 / ok / refused 18 / ok / count 2",
+    ),
+    (
+        "rwlock 4 4 0 0 / write 1 / park 1 1 / announce 2 / resume 1 1 / resume 2 1 / is_barred",
+        "ok / guard 1 / ok / ok / refused 1 / ok / no",
+    ),
+    (
+        "mutex 2 0 0 / announce 1 / withdraw 1 / is_barred",
+        "ok / refused 7 / refused 7 / refused 7",
     ),
 ];
 

@@ -4,7 +4,7 @@ use std::alloc::Global;
 use std::test::Fail;
 
 /// The lines that a script is made of, besides its first.
-const LINES: [&str; 12] = [
+const LINES: [&str; 14] = [
     "read 1\n",
     "try_read 2\n",
     "upgradable_read 1\n",
@@ -17,15 +17,17 @@ const LINES: [&str; 12] = [
     "downgrade 1 1\n",
     "downgrade_to_upgradable 1 1\n",
     "bump 1 2\n",
+    "announce 2\n",
+    "withdraw 2\n",
 ];
 
-/// The script of the four lines that the digits of a number pick, to the base 12.
+/// The script of the four lines that the digits of a number pick, to the base 14.
 fn script_of(alloc: Global, number: usize) -> Result<String, Fail> {
     let mut script = String::from_str(alloc, "rwlock 3 2 0 0\n")?;
     let mut digits = number;
     for _ in 0..4 {
-        script.push_str(LINES[digits % 12])?;
-        digits /= 12;
+        script.push_str(LINES[digits % 14])?;
+        digits /= 14;
     }
     Ok(script)
 }
@@ -37,10 +39,10 @@ fn answers_of(alloc: Global, which: Which, script: &str) -> Result<Vec<u8>, Fail
     Ok(answers)
 }
 
-/// All lists of four lines, 20,736 of them.
+/// All lists of four lines, 38,416 of them.
 #[test]
 fn table_is_word(rt: HostRuntime) -> Result<(), Fail> {
-    for number in 0..20_736 {
+    for number in 0..38_416 {
         let script = script_of(rt.alloc(), number)?;
         let table = answers_of(rt.alloc(), Which::Table, script.as_str())?;
         let word = answers_of(rt.alloc(), Which::Word, script.as_str())?;

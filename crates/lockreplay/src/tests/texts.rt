@@ -68,6 +68,11 @@ fn faults_have_texts(rt: HostRuntime) -> Result<(), Fail> {
         (Fault::NoFocus, "14: the operation does not fit the value"),
         (Fault::NoLoad, "15: there is no open load"),
         (Fault::UnknownParty, "16: there is no such party"),
+        (Fault::Barred, "17: a writer has announced itself"),
+        (
+            Fault::NotAnnounced,
+            "18: the party has not announced itself",
+        ),
     ] {
         let number = fault.number();
         let text = format!(in alloc; "{number}: {fault}")?;

@@ -1,11 +1,11 @@
-use Rattle.std.proofs.Common.{sym, subst, ◌∙◌}
+use Rattle.std.proofs.Common.{sym, subst}
 use Rattle.std.specs.Prelude.{IsTrue}
 use Rattle.lock_base.specs.declared.machine.bag.Bag.{Bag}
 use Rattle.lock_base.specs.declared.machine.mode_step.ModeStep.TheVariants.{Release}
 use Rattle.lock_base.specs.ModeRuns.{has}
 use Rattle.lock_base.specs.Tokens.{bag_of_tokens}
 use Rattle.lock_base.proofs.TokenSteps.{releases}
-use Rattle.lock_raws.proofs.Unblocked.{on_true, has_permitted, unblocked_by}
+use Rattle.lock_raws.proofs.Unblocked.{on_true, has_permitted, woken_by}
 use Rattle.lock_raws.proofs.unblocking.give_back.Goals as goal
 
 pub after-after-requires-clause-had : goal.after-after-requires-clause-had
@@ -21,6 +21,6 @@ pub returns : goal.returns
 returns g c =
     let back = c.give_back.ensures in
     let was_out = c.if-not-give_back.false in
-    unblocked_by (Release c.args.mode)
+    woken_by (Release c.args.mode)
     (releases (g.A.Arbiter.reader_limit c.args.arbiter.now) c.args.mode (back.was_out.0 was_out) (on_true c.give_back.result was_out back.removed))
-    c.bag-before.ensures.bag c.after-after.ensures (c.readers.ensures ∙ back.limit_kept) c.unblocks.ensures
+    c.bag-before.ensures.bag c.after-after.ensures back.limit_kept back.bar_kept c.whom.ensures

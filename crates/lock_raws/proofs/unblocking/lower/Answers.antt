@@ -1,11 +1,11 @@
-use Rattle.std.proofs.Common.{sym, subst, ◌∙◌}
+use Rattle.std.proofs.Common.{sym, subst}
 use Rattle.std.specs.Prelude.{IsTrue}
 use Rattle.lock_base.specs.declared.machine.bag.Bag.{Bag}
 use Rattle.lock_base.specs.declared.machine.mode_step.ModeStep.TheVariants.{Change}
 use Rattle.lock_base.specs.ModeRuns.{has}
 use Rattle.lock_base.specs.Tokens.{bag_of_tokens}
 use Rattle.lock_base.proofs.TokenSteps.{changes}
-use Rattle.lock_raws.proofs.Unblocked.{has_permitted, unblocked_by}
+use Rattle.lock_raws.proofs.Unblocked.{has_permitted, woken_by}
 use Rattle.lock_raws.proofs.unblocking.lower.Goals as goal
 
 pub after-after-requires-clause-had : goal.after-after-requires-clause-had
@@ -19,6 +19,6 @@ after-after-requires-clause-had g c =
 pub returns-in-Ok : goal.returns-in-Ok
 returns-in-Ok g c =
     let change = c.in-Ok.ensures in
-    unblocked_by (Change c.args.from c.args.to)
+    woken_by (Change c.args.from c.args.to)
     (changes (g.A.Arbiter.reader_limit c.args.arbiter.now) c.args.from c.args.to c.requires (sym (change.admitted change.was_out)) change.was_out change.replaced)
-    c.bag-before.ensures.bag c.after-after.ensures (c.readers.ensures ∙ change.limit_kept) c.unblocks.ensures
+    c.bag-before.ensures.bag c.after-after.ensures change.limit_kept change.bar_kept c.whom.ensures

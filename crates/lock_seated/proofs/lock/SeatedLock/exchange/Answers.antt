@@ -34,3 +34,11 @@ compare_exchange-requires-in-Upgrade c =
       search rules,
       exchanges_as _ _ _ _ _ _ _ _ _ readers c.in-Upgrade.is c.requires.load c.requires.holds c.requires.admitted c.requires.next,
     )
+
+pub compare_exchange-requires-in-Announce : goal.compare_exchange-requires-in-Announce
+compare_exchange-requires-in-Announce c =
+    let readers = ap (λ (l : Lock). l.readers) (sym c.self.view_is) ∙ sym c.self.invariant.1 in (
+      search rules,
+      search rules,
+      exchanges_as _ _ _ _ _ _ _ _ _ readers c.in-Announce.is c.requires.load c.requires.holds c.requires.admitted c.requires.next,
+    )

@@ -43,3 +43,10 @@ fetch_sub-requires-in-UpgradableToShared c = (
   search rules,
   takes_as _ _ _ _ _ _ _ c.in-UpgradableToShared.is c.requires.holds c.amount-amount.ensures,
 )
+
+pub fetch_sub-requires-in-Withdraw : goal.fetch_sub-requires-in-Withdraw
+fetch_sub-requires-in-Withdraw c = (
+  search rules,
+  search rules,
+  takes_as _ _ _ _ _ _ _ c.in-Withdraw.is c.requires.holds c.amount-amount.ensures,
+)

@@ -1,0 +1,40 @@
+//! A scenario whose answers are proved: two parties ask for one lock.
+ghost use Rattle.std.specs.Prelude.{◌≡◌, None, IfOk, IsOkUnless};
+
+use lock_api::{Desk, Fault, PartyId, RawState, Way};
+use std::alloc::Global;
+
+/// What the parties are answered.
+#[derive(PartialEq, Eq, Debug, Drop)]
+pub struct Answers {
+    pub locked: Result<u64, Fault>,
+    pub tried: Result<Option<u64>, Fault>,
+    pub asked: Result<u64, Fault>,
+    pub locked_again: Result<u64, Fault>,
+}
+
+/// The first party locks, the second tries and asks in vain, and gets the lock once the first has given it up.
+pub fn two_ask<R: RawState>(
+    alloc: Global,
+    first: PartyId,
+    second: PartyId,
+) -> Result<Answers, Fault>
+    ensures locked { IfOk result (λ answers. answers.locked ≡ Ok 1) }
+    ensures tried { IfOk result (λ answers. answers.tried ≡ Ok None) }
+    ensures asked { IfOk result (λ answers. answers.asked ≡ Err Fault.WouldWait) }
+    ensures locked_again { IfOk result (λ answers. answers.locked_again ≡ Ok 2) }
+    ensures fault { IsOkUnless result Fault.OutOfMemory }
+{
+    let mut desk: Desk<R, u64> = Desk::mutex(alloc, 2, 0)?;
+    let locked = desk.lock(first);
+    let tried = desk.try_lock(second);
+    let asked = desk.lock(second);
+    let _ = desk.unlock(first, 1, Way::Plain);
+    let locked_again = desk.lock(second);
+    Ok(Answers {
+        locked,
+        tried,
+        asked,
+        locked_again,
+    })
+}

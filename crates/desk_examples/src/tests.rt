@@ -1,0 +1,37 @@
+//! What no clause says: that the calls succeed with ample memory.
+use super::*;
+use lock_api::{Bag, Mode, ModeStep, Mutex, PackedWord, PartyId, RecordingRaw, Reply, TokenTable};
+use std::test::Fail;
+
+fn party(id: u64) -> Result<PartyId, Fail> {
+    Ok(PartyId::new(id).ok_or("the id of a party is not 0")?)
+}
+
+#[test]
+fn two_parties_ask(rt: HostRuntime) -> Result<(), Fail> {
+    let answers = two_ask::<TokenTable>(rt.alloc(), party(1)?, party(2)?)?;
+    assert_eq!(rt; answers.locked_again, Ok(2));
+    Ok(())
+}
+
+#[test]
+fn a_deposit_is_replied_to(rt: HostRuntime) -> Result<(), Fail> {
+    let replies = deposit_under_lock::<PackedWord>(rt.alloc(), party(1)?)?;
+    assert_eq!(rt; replies[1], Reply::Answer(250));
+    Ok(())
+}
+
+#[test]
+fn a_journal_is_audited(rt: HostRuntime) -> Result<(), Fail> {
+    let mutex: Mutex<RecordingRaw<HostRuntime>, u64> = Mutex::new(rt.alloc(), rt, 0)?;
+    *mutex.lock() = 5;
+    let (raw, value) = mutex.into_inner_with_raw();
+    assert_eq!(rt; value, 5);
+    assert_eq!(rt; audit_lock(rt.alloc(), &raw)?, Ok(Bag::empty()));
+    let twice = [
+        ModeStep::Acquire(Mode::Exclusive),
+        ModeStep::Acquire(Mode::Shared),
+    ];
+    assert_eq!(rt; audit(64, &twice), Err(1));
+    Ok(())
+}

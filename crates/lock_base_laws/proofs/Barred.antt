@@ -1,0 +1,45 @@
+-- A bar keeps others out, and stands until its party is let in or withdraws.
+use Rattle.std.proofs.Common.{◌≡◌, ℕ, false, ◌==◌, List, Option, Some, IsTrue, sym, ◌∙◌, subst, eqb-true}
+use Rattle.std.proofs.lemmas.Bool.{and_parts, eqb-false}
+use Rattle.lock_base.specs.declared.machine.mode.Mode.{Mode}
+use Rattle.lock_base.specs.declared.machine.mode_step.ModeStep.{ModeStep}
+use Rattle.lock_base.specs.declared.machine.call.Call.{Call}
+use Rattle.lock_base.specs.declared.machine.party.PartyId.{PartyId}
+use Rattle.lock_base.specs.declared.machine.reply.Reply.{Reply}
+use Rattle.lock_base.specs.Operation.{Operation}
+use Rattle.lock_base.specs.Party.{id_of}
+use Rattle.lock_base.specs.Modes.{is_exclusive}
+use Rattle.lock_base.specs.Bar.{passes, has_announced, bar_after}
+use Rattle.lock_base.specs.Register.{lets_in}
+use Rattle.lock_base.specs.Machine.{Machine}
+use Rattle.lock_base.proofs.Admissions.{passed_bar}
+use Rattle.lock_base_laws.specs.Barring.{may_end_bar, BarsStand, BarsKeepOthersOut}
+use Rattle.lock_base_laws.proofs.Effects.{Effect, effect, exclusive_is}
+
+pub keep_others_out : BarsKeepOthersOut
+keep_others_out r announced party mode stands ok =
+    let passed = subst (λ (bar : Option ℕ). IsTrue (passes bar party mode)) stands (passed_bar r party mode ok) in
+    let two = and_parts (is_exclusive mode) (announced == party) passed in
+    (sym (eqb-true announced party two.1), exclusive_is mode two.0)
+
+-- whoever else is let in: there is none
+still : {T : Type 0} (m : Machine T) (party : ℕ) → m.bar ≡ Some party → (caller : PartyId) (mode : Mode)
+    → IsTrue (lets_in m.register (id_of caller) mode) → (id_of caller == party) ≡ false
+    → bar_after m.bar mode ≡ Some party
+still m party stands caller mode ok other =
+    absurd (eqb-false (id_of caller) party other (keep_others_out m.register party (id_of caller) mode stands ok).0)
+
+module _ {O T A : Type 0} (m : Machine T) (party : ℕ) (stands : m.bar ≡ Some party) where
+  stays : {call : Call O} {reply : Reply A} {steps : List ModeStep} {after : Machine T} → Effect m call reply steps after
+      → may_end_bar party call ≡ false
+      → after.bar ≡ Some party
+  stays (Effect.acquired caller mode lets) other = still m party stands caller mode lets.let_in other
+  stays (Effect.resumes caller guard e out own ok) other = still m party stands caller e.mode ok other
+  stays (Effect.announces caller kind none) other = let clash = sym none ∙ stands in cc
+  stays (Effect.withdraws caller own) other =
+      let same = subst (λ (bar : Option ℕ). IsTrue (has_announced bar (id_of caller))) stands own in
+      absurd (eqb-false (id_of caller) party other (sym (eqb-true party (id_of caller) same)))
+  stays any other = stands
+
+pub bars_stand : {O T A : Type 0} (meaning : O → Operation T A) → BarsStand meaning
+bars_stand meaning m call party stands other = stays m party stands (effect meaning m call) other

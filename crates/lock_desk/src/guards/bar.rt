@@ -1,0 +1,51 @@
+//! The bar of a party that has announced itself.
+ghost use Rattle.std.specs.Prelude.{◌≡◌, is_some};
+ghost use Rattle.std.specs.Option.{option_map};
+ghost use Rattle.lock_base.specs.Party.{id_of};
+ghost use Rattle.lock_base.specs.Bar.{passes, has_announced};
+ghost use Rattle.lock_base.specs.Register.{with_bar, after_admission};
+ghost use Rattle.lock_base.specs.Sound.{IsBarOf};
+
+use crate::guards::Guards;
+use lock_base::machine::{Mode, PartyId};
+use lock_base::raw::RawState;
+
+impl<R: RawState> Guards<R> {
+    /// Whether a party has announced itself.
+    pub(crate) fn is_barred(&self) -> bool
+        ensures { result ≡ is_some self.now.bar }
+    {
+        self.backing.is_barred()
+    }
+
+    /// Whether the party has announced itself.
+    pub(crate) fn has_announced(&self, party: PartyId) -> bool
+        ensures { result ≡ has_announced self.now.bar (id_of party) }
+    {
+        self.backing.has_announced(party)
+    }
+
+    /// The bar is this party's, or there is none.
+    pub(crate) fn set_bar(&mut self, bar: Option<PartyId>)
+        requires { IsBarOf self.old.kind (option_map id_of bar) }
+        ensures { self.new ≡ with_bar self.old (option_map id_of bar) }
+    {
+        self.backing.set_bar(bar);
+    }
+
+    // Whether a guard of the party and the mode passes the bar.
+    pub(super) fn passes(&self, party: PartyId, mode: Mode) -> bool
+        ensures { result ≡ passes self.now.bar (id_of party) mode }
+    {
+        self.backing.passes(party, mode)
+    }
+
+    // The bar that is left once a guard of the mode was let in.
+    pub(super) fn end_bar(&mut self, mode: Mode)
+        ensures { self.new ≡ after_admission self.old mode }
+    {
+        if mode == Mode::Exclusive {
+            self.backing.set_bar(None);
+        }
+    }
+}

@@ -1,0 +1,56 @@
+//! The items of a queue. No lock is here.
+ghost use Rattle.std.specs.Prelude.{◌≡◌, ◌==◌, [], ◌∷◌, ◌++◌, false, length, IfOk};
+ghost use Rattle.lock_examples.specs.Line.{Line, is_full, is_empty};
+
+use std::alloc::{AllocError, Global};
+use std::collections::VecDeque;
+use std::marker::Model;
+
+/// Items in the order in which they came, at most so many.
+#[derive(Drop)]
+pub struct Ring<T> {
+    items: VecDeque<T>,
+}
+
+impl<T> Model for Ring<T> {
+    ghost Value = { Line T };
+
+    ghost view = { λ ring. record { items = ring.items.items; places = ring.items.cap } };
+}
+
+impl<T> Ring<T> {
+    /// All memory that is ever needed is taken here.
+    pub fn with_places(alloc: Global, places: usize) -> Result<Ring<T>, AllocError>
+        ensures { IfOk result (λ ring. ring ≡ record { items = []; places = places }) }
+    {
+        let items = VecDeque::with_capacity(alloc, places)?;
+        Ok(Ring { items })
+    }
+
+    pub fn is_full(&self) -> bool
+        ensures { result ≡ is_full self.now }
+    {
+        self.items.capacity() <= self.items.len()
+    }
+
+    pub fn is_empty(&self) -> bool
+        ensures { result ≡ is_empty self.now }
+    {
+        self.items.is_empty()
+    }
+
+    pub fn push(&mut self, item: T)
+        requires { is_full self.old ≡ false }
+        ensures { self.new ≡ record self.old { items = self.old.items ++ item ∷ [] } }
+    {
+        self.items.push_back_reserved(item);
+    }
+
+    pub fn pop(&mut self) -> T
+        requires { is_empty self.old ≡ false }
+        ensures items { self.old.items ≡ result ∷ self.new.items }
+        ensures places { self.new.places ≡ self.old.places }
+    {
+        self.items.pop_front().unwrap()
+    }
+}

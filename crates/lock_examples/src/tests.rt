@@ -1,0 +1,6 @@
+//! What no clause says: what the types answer when threads use them.
+mod first_lock;
+mod pool;
+mod queue;
+mod registry;
+mod spin_lock;

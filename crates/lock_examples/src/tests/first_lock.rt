@@ -1,0 +1,17 @@
+//! The first lock.
+use lock_api::{Mutex, WordRaw};
+use std::test::Fail;
+
+/// The raw lock, which may wait by the runtime's leave.
+type Raw = WordRaw<HostRuntime>;
+
+#[test]
+fn a_value_is_locked(rt: HostRuntime) -> Result<(), Fail> {
+    let count: Mutex<Raw, u64> = Mutex::new(rt.alloc(), rt, 0)?;
+    let mut guard = count.lock();
+    *guard = 5;
+    assert!(rt; count.try_lock().is_none());
+    drop(guard);
+    assert_eq!(rt; *count.lock(), 5);
+    Ok(())
+}

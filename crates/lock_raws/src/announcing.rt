@@ -1,0 +1,30 @@
+//! A writer that keeps others out while it waits.
+ghost use Rattle.std.specs.Prelude.{◌≡◌, ◌&&◌, ◌||◌, not, is_some};
+ghost use Rattle.lock_base.specs.Modes.{admits};
+ghost use Rattle.lock_base.specs.declared.machine.mode.Mode.TheVariants.{Exclusive};
+ghost use Rattle.lock_base.specs.Tokens.{bag_of_tokens};
+
+use crate::arbiter::Arbiter;
+use lock_base::machine::Mode;
+
+/// An exclusive token, where it is admitted to one that has announced itself, or has not. Where it is not, that one
+/// announces itself, if no bar stands. Its bar ends as it gets in.
+pub(crate) fn admit_or_announce<A: Arbiter>(
+    arbiter: &mut A,
+    announced: &mut bool,
+) -> Option<A::Token>
+    ensures admitted { is_some result ≡ ((announced.old || not (A.bar arbiter.old))
+        && admits (A.reader_limit arbiter.old) (bag_of_tokens (A.tokens_out arbiter.old)) Exclusive) }
+    ensures bar { A.bar arbiter.new ≡ (not (is_some result) && (A.has_bars || (not announced.old && A.bar arbiter.old))) }
+    ensures announced { announced.new
+        ≡ (announced.old || (not (is_some result) && (A.has_bars && not (A.bar arbiter.old)))) }
+{
+    if *announced {
+        arbiter.withdraw();
+    }
+    let token = arbiter.admit(Mode::Exclusive);
+    if token.is_none() && arbiter.announce() {
+        *announced = true;
+    }
+    token
+}

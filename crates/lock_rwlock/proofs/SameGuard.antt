@@ -1,0 +1,23 @@
+-- The guard that comes back where an upgrade was refused.
+use Rattle.std.proofs.Common.{◌≡◌, sym, ap, ◌∙◌, Result, Ok, Err}
+use Rattle.std.specs.Prelude.{MatchResult, IfErr}
+use Rattle.lock_guard.specs.declared.guard.inner.Inner.TheVariants.{Filled}
+use Rattle.lock_guard.specs.declared.guard.held.Held.{Held}
+use Rattle.lock_guard.specs.Held.{same_held_at}
+use Rattle.lock_rwlock.specs.declared.guard.RwLockGuard.{RwLockGuard}
+use Rattle.lock_rwlock.specs.declared.mode.InMode.{InMode}
+use Rattle.lock_rwlock.specs.RwLockGuard.{held_of, IsGuardOf, SameLock}
+
+module _ {M M' R T V V' K K' W X : Type 0} {g g' : _} where
+  -- a guard that was taken apart, and the guard of the same token, is the same guard
+  pub upgraded_or_same : (guard : RwLockGuard (InMode M R T) V K W X g)
+      (result : Result (RwLockGuard (InMode M' R T) V' K' W X g') (RwLockGuard (InMode M R T) V K W X g))
+      {lock : InMode M R T} {token : K} {shown : V}
+      → lock ≡ (held_of guard).lock → Filled token shown ≡ (held_of guard).inner
+      → MatchResult result (IsGuardOf lock.rwlock) (λ same. (held_of same).lock ≡ lock)
+      → IfErr result (λ same. (held_of same).inner ≡ Filled token shown)
+      → MatchResult result (SameLock guard) (λ same. same ≡ guard)
+  upgraded_or_same guard (Ok upgraded) lock inner made again = sym (made ∙ ap (λ l. l.rwlock.ref_ptr) lock)
+  upgraded_or_same guard (Err same) lock inner made again =
+      let one : Held (InMode M R T) V K W X g → RwLockGuard (InMode M R T) V K W X g = λ held. record { held = held } in
+      ap one (same_held_at (held_of same) (held_of guard) (made ∙ lock) (again ∙ inner))
