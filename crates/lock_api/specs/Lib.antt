@@ -35,6 +35,7 @@ pub use Rattle.lock_guard.specs.Inner
 pub use Rattle.lock_guard.specs.Held
 pub use Rattle.lock_guard.specs.GuardPart
 pub use Rattle.lock_guard.specs.Mapped
+pub use Rattle.lock_word.specs.Holds
 pub use Rattle.lock_word.specs.Holders
 pub use Rattle.lock_word.specs.Word
 pub use Rattle.lock_word.specs.WordLaws
@@ -47,6 +48,8 @@ pub use Rattle.lock_states.specs.Packed
 pub use Rattle.lock_seated.specs.Seats
 pub use Rattle.lock_seated.specs.Standing
 pub use Rattle.lock_seated.specs.Attempts
+pub use Rattle.lock_ruled.specs.Ruled
+pub use Rattle.lock_ruled.specs.Slots
 pub use Rattle.lock_desk.specs.Closures
 pub use Rattle.lock_mutex.specs.Mutex
 pub use Rattle.lock_mutex.specs.MutexGuard

@@ -11,7 +11,8 @@ ghost use Rattle.lock_api.specs.Refusals.{guard_refusal, writing_guard};
 ghost use Rattle.lock_api.specs.Sound.{IsSound};
 ghost use Rattle.lock_api_user.specs.Words.{answer_of};
 
-use lock_api::{Call, Desk, Fault, Op, PartyId, RawState, Reply, runs_are_sound};
+use crate::settings::{Limit, Settings};
+use lock_api::{At, Call, Desk, Fault, Op, PartyId, RawState, Reply, runs_are_sound};
 use std::alloc::Global;
 
 /// Whatever the calls are, what a law says of every run holds of the machine that they lead to.
@@ -50,6 +51,15 @@ pub fn without_bar<R: RawState, T>(desk: &mut Desk<R, T>, party: PartyId) -> boo
 {
     let _ = desk.withdraw(party);
     desk.raw().barred()
+}
+
+/// A part of the value behind a `Desk`.
+pub fn read_limit<R: RawState>(
+    desk: &Desk<R, Settings>,
+    party: PartyId,
+    guard: u64,
+) -> Result<u64, Fault> {
+    desk.read_part(party, guard, &At(Limit), |limit| *limit)
 }
 
 /// A refused allocation is the fault of that name.

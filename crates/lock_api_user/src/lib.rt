@@ -4,16 +4,13 @@
 
 mod arcs;
 mod desk;
-mod entry;
 mod journals;
 mod mapped;
 mod mutexes;
-mod parts_read;
 mod rwlocks;
 mod settings;
 mod signatures;
 mod waits;
 mod words;
 
-pub use entry::Entry;
 pub use settings::{Limit, Settings};

@@ -1,8 +1,8 @@
 //! Every public type of the packed word, and of the locks on one, in a signature.
 use lock_api::{
-    AtomicStep, Attempt, Down, ExWant, NoTime, Outcome, PackedToken, PackedWord, Party, PartyState,
+    AtomicStep, Attempt, Down, ExWant, Hold, NoTime, Outcome, PackedToken, PackedWord, Party, PartyState,
     PartyView, Place, Places, RealTime, SeatedLock, Sleepers, SleepingCondvar, TimedCondvar,
-    TimedRaw, Timing, WordCore, WordLock, WordRaw, WordRule, WordToken, World,
+    TimedRaw, Timing, WordCore, WordLock, WordRaw, WordRule, WordStep, WordToken, World,
 };
 use std::clone::Clone;
 use std::sync::Wait;
@@ -26,5 +26,6 @@ pub fn words(
     _world: &World,
     _places: (&Places, &Place),
     _step: (&AtomicStep, &Outcome, &Down, &ExWant, &PartyState),
+    _hold: (&Hold, &WordStep),
     _seated: (&SeatedLock, &Party, &PartyView, &WordRule, &Attempt),
 ) {}

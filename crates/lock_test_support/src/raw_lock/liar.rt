@@ -1,4 +1,4 @@
-//! A raw lock that admits everything.
+//! A raw lock that admits everything, or refuses every try.
 use crate::raw_lock::calls::Calls;
 use crate::raw_lock::raw_call::RawCall;
 use lock_base::machine::Mode;
@@ -8,15 +8,24 @@ use std::alloc::Global;
 use std::clone::Clone;
 use std::sync::Wait;
 
-/// A raw lock that lies: it gives a token to whoever asks. It writes down what it was asked, and has the default bodies
-/// of the raw traits.
+/// A raw lock that lies: it gives a token to whoever asks, or none to whoever tries. It writes down what it was asked, and
+/// has the default bodies of the raw traits.
 #[derive(Drop)]
 pub struct Liar<W: Wait + Clone + Drop> {
     waiter: W,
     calls: Calls<RawCall>,
+    pub(crate) refuses: bool,
 }
 
 impl<W: Wait + Clone + Drop> Liar<W> {
+    /// The same one, which refuses every try.
+    pub fn refusing(self) -> Liar<W> {
+        Liar {
+            refuses: true,
+            ..self
+        }
+    }
+
     /// The calls that it gets.
     pub fn calls(&self) -> Result<Calls<RawCall>, Fault> {
         self.calls.another()
@@ -24,6 +33,16 @@ impl<W: Wait + Clone + Drop> Liar<W> {
 
     pub(crate) fn asked(&self, call: RawCall) {
         self.calls.add(&self.waiter, call);
+    }
+
+    /// What a try in the mode answers.
+    pub(crate) fn tried(&self, mode: Mode) -> Option<GuardSend> {
+        self.asked(RawCall::TryLock(mode));
+        if self.refuses {
+            None
+        } else {
+            Some(GuardSend::new())
+        }
     }
 }
 
@@ -34,7 +53,11 @@ impl<W: Wait + Clone + Drop> RawMutex for Liar<W> {
 
     fn new(alloc: Global, waiter: W) -> Result<Liar<W>, Fault> {
         let calls = Calls::new(alloc)?;
-        Ok(Liar { waiter, calls })
+        Ok(Liar {
+            waiter,
+            calls,
+            refuses: false,
+        })
     }
 
     fn waiter(&self) -> &W {
@@ -47,8 +70,7 @@ impl<W: Wait + Clone + Drop> RawMutex for Liar<W> {
     }
 
     fn try_lock(&self) -> Option<GuardSend> {
-        self.asked(RawCall::TryLock(Mode::Exclusive));
-        Some(GuardSend::new())
+        self.tried(Mode::Exclusive)
     }
 
     fn unlock(&self, _token: GuardSend) {

@@ -1,4 +1,4 @@
-//! The raw lock that admits everything, to readers and writers.
+//! The raw lock that lies, for readers and writers.
 use crate::raw_lock::liar::Liar;
 use crate::raw_lock::raw_call::RawCall;
 use lock_base::machine::Mode;
@@ -34,8 +34,7 @@ impl<W: Wait + Clone + Drop> RawRwLock for Liar<W> {
     }
 
     fn try_lock_shared(&self) -> Option<GuardSend> {
-        self.asked(RawCall::TryLock(Mode::Shared));
-        Some(GuardSend::new())
+        self.tried(Mode::Shared)
     }
 
     fn unlock_shared(&self, _token: GuardSend) {
@@ -48,8 +47,7 @@ impl<W: Wait + Clone + Drop> RawRwLock for Liar<W> {
     }
 
     fn try_lock_exclusive(&self) -> Option<GuardSend> {
-        self.asked(RawCall::TryLock(Mode::Exclusive));
-        Some(GuardSend::new())
+        self.tried(Mode::Exclusive)
     }
 
     fn unlock_exclusive(&self, _token: GuardSend) {
@@ -86,8 +84,7 @@ impl<W: Wait + Clone + Drop> RawRwLockUpgrade for Liar<W> {
     }
 
     fn try_lock_upgradable(&self) -> Option<GuardSend> {
-        self.asked(RawCall::TryLock(Mode::Upgradable));
-        Some(GuardSend::new())
+        self.tried(Mode::Upgradable)
     }
 
     fn unlock_upgradable(&self, _token: GuardSend) {
@@ -101,7 +98,7 @@ impl<W: Wait + Clone + Drop> RawRwLockUpgrade for Liar<W> {
 
     fn try_upgrade(&self, token: GuardSend) -> Result<GuardSend, GuardSend> {
         self.asked(RawCall::TryUpgrade);
-        Ok(token)
+        if self.refuses { Err(token) } else { Ok(token) }
     }
 }
 

@@ -1,5 +1,7 @@
 //! What the calls of a seated lock answer, one after another.
-use crate::callers::{loaded_alone, loaded_beside_readers, refused_beside_readers};
+use crate::callers::{
+    loaded_alone, loaded_beside_readers, loaded_under_own_bar, refused_beside_readers,
+};
 use lock_base::machine::Mode;
 use lock_seated::{Attempt, ExWant, SeatedLock};
 use std::test::Fail;
@@ -60,5 +62,36 @@ fn holders_are_told_the_word(rt: HostRuntime) -> Result<(), Fail> {
     assert!(rt; loaded_beside_readers(&lock, &mut party) == 1);
     assert!(rt; party.holds(Mode::Shared) == 1);
     assert!(rt; refused_beside_readers(&lock, &mut party) == 1);
+    Ok(())
+}
+
+#[test]
+fn a_bar_keeps_others_out(rt: HostRuntime) -> Result<(), Fail> {
+    let (lock, party) = SeatedLock::new(rt.alloc(), 2)?;
+    let (mut a, mut b) = lock.split(party);
+    assert!(rt; lock.attempt(&mut a, ExWant::Announce) == Attempt::Done);
+    assert!(rt; lock.attempt(&mut b, ExWant::Shared) == Attempt::NotAdmitted(17_179_869_184));
+    assert!(rt; lock.attempt(&mut b, ExWant::Announce) == Attempt::NotAdmitted(17_179_869_184));
+    assert!(rt; lock.attempt(&mut a, ExWant::Exclusive) == Attempt::Done);
+    assert!(rt; lock.load(&mut a) == 8_589_934_592);
+    assert!(rt; a.holds(Mode::Exclusive) == 1);
+    lock.release(&mut a, Mode::Exclusive);
+    assert!(rt; lock.attempt(&mut b, ExWant::Shared) == Attempt::Done);
+    Ok(())
+}
+
+#[test]
+fn an_announced_party_withdraws(rt: HostRuntime) -> Result<(), Fail> {
+    let (lock, party) = SeatedLock::new(rt.alloc(), 2)?;
+    let (mut a, mut b) = lock.split(party);
+    assert!(rt; lock.attempt(&mut b, ExWant::Shared) == Attempt::Done);
+    assert!(rt; lock.attempt(&mut a, ExWant::Announce) == Attempt::Done);
+    assert!(rt; lock.attempt(&mut b, ExWant::Shared) == Attempt::NotAdmitted(17_179_869_185));
+    assert!(rt; a.announced() && !b.announced());
+    assert!(rt; loaded_under_own_bar(&lock, &mut a) == 17_179_869_185);
+    assert!(rt; a.announced());
+    lock.withdraw(&mut a);
+    assert!(rt; lock.attempt(&mut a, ExWant::Shared) == Attempt::Done);
+    assert!(rt; lock.load(&mut b) == 2);
     Ok(())
 }

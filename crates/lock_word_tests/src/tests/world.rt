@@ -141,3 +141,70 @@ fn upgradable_token_is_a_reader(rt: HostRuntime) -> Result<(), Fail> {
     assert!(rt; world.word() == 1);
     Ok(())
 }
+
+#[test]
+fn a_bar_keeps_others_out(rt: HostRuntime) -> Result<(), Fail> {
+    let steps = [
+        Load(1),
+        Exchange(1, ExWant::Shared),
+        Load(2),
+        Exchange(2, ExWant::Announce),
+        Load(1),
+        Exchange(1, ExWant::Shared),
+        Exchange(1, ExWant::Announce),
+        Take(1, Down::Withdraw),
+        Take(1, Down::Shared),
+        Load(1),
+        Exchange(1, ExWant::Exclusive),
+        Load(2),
+        Exchange(2, ExWant::Exclusive),
+    ];
+    let outcomes = [
+        Loaded(0),
+        Done,
+        Loaded(1),
+        Done,
+        Loaded(17_179_869_185),
+        NotAdmitted,
+        Refused(Fault::NoLoad),
+        Refused(Fault::WrongMode),
+        Done,
+        Loaded(17_179_869_184),
+        NotAdmitted,
+        Loaded(17_179_869_184),
+        Done,
+    ];
+    let world = led_to(rt.alloc(), 2, 3, &steps, &outcomes)?.ok_or("other outcomes")?;
+    assert!(rt; world.announced(2) == Ok(false) && world.word() == 8_589_934_592);
+    assert!(rt; world.announced(3) == Err(Fault::UnknownParty));
+    Ok(())
+}
+
+#[test]
+fn a_bar_stands_beside_an_upgrade(rt: HostRuntime) -> Result<(), Fail> {
+    let steps = [
+        Load(1),
+        Exchange(1, ExWant::Upgradable),
+        Load(2),
+        Exchange(2, ExWant::Announce),
+        Load(1),
+        Exchange(1, ExWant::Upgrade),
+    ];
+    let outcomes = [
+        Loaded(0),
+        Done,
+        Loaded(4_294_967_297),
+        Done,
+        Loaded(21_474_836_481),
+        Done,
+    ];
+    let mut world = led_to(rt.alloc(), 2, 1, &steps, &outcomes)?.ok_or("other outcomes")?;
+    assert!(rt; world.word() == 25_769_803_776 && world.announced(2) == Ok(true));
+    let made = world.run(
+        rt.alloc(),
+        &[Take(1, Down::Exclusive), Take(2, Down::Withdraw)],
+    )?;
+    assert!(rt; made.as_slice() == [Done, Done].as_slice());
+    assert!(rt; world.word() == 0 && world.wins(2) == Ok(2));
+    Ok(())
+}

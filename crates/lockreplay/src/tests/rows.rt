@@ -137,7 +137,7 @@ const DESK_ROWS: [(&str, &str); 39] = [
 ];
 
 /// Scripts of steps on a world.
-const STEP_ROWS: [(&str, &str); 9] = [
+const STEP_ROWS: [(&str, &str); 12] = [
     (
         "world 2 3 / load 1 / load 2 / exchange 1 shared / exchange 2 shared / load 2 / exchange 2 shared / word / fails 2 / wins 1",
         "ok / loaded 0 / loaded 0 / done / changed / loaded 1 / done / count 2 / count 1 / count 1",
@@ -165,6 +165,18 @@ const STEP_ROWS: [(&str, &str); 9] = [
     (
         "world 1 1 / load 0 / wins 0 / fails 2 / wins 18446744073709551615 / take 2 exclusive",
         "ok / refused 16 / refused 16 / refused 16 / refused 16 / refused 16",
+    ),
+    (
+        "world 2 3 / load 1 / exchange 1 shared / load 2 / exchange 2 announce / load 1 / exchange 1 shared / exchange 1 announce / take 1 withdraw / take 1 shared / load 1 / exchange 1 exclusive / load 2 / exchange 2 exclusive / announced 2 / word",
+        "ok / loaded 0 / done / loaded 1 / done / loaded 17179869185 / not admitted / refused 15 / refused 6 / done / loaded 17179869184 / not admitted / loaded 17179869184 / done / no / count 8589934592",
+    ),
+    (
+        "world 2 1 / load 1 / exchange 1 upgradable / load 2 / exchange 2 announce / load 1 / exchange 1 upgrade / word / take 1 exclusive / take 2 withdraw / word / wins 2",
+        "ok / loaded 0 / done / loaded 4294967297 / done / loaded 21474836481 / done / count 25769803776 / done / done / count 0 / count 2",
+    ),
+    (
+        "world 1 1 / announced 1 / load 1 / exchange 1 announce / announced 1 / announced 2",
+        "ok / no / loaded 0 / done / yes / refused 16",
     ),
     ("world 0 1 / load 1", "refused 12"),
     ("world 1 4294967296", "refused 12"),

@@ -1,0 +1,328 @@
+-- Each kind of step of a user keeps the rule of the table.
+use Rattle.std.proofs.Common.{◌≡◌, ◌≢◌, ℕ, zero, suc, ◌<◌, List, [], ◌∷◌, ◌++◌, eqb, set, get_or, slice_index, replicate, sym, refl, ap, subst, ◌∙◌, ⊎_elim, arith, suc-ne-zero, length-set, get_or-set_same, append_assoc}
+use Rattle.std.specs.Prelude.{Some, None}
+use Rattle.std.specs.Prelude as std
+use Rattle.std.specs.Option.{unwrap_or}
+use mathlib.Core.Option.{Option, some, none, some-injective, some-ne-none}
+use mathlib.Core.Logic.{dite}
+use native.Mathlib.Decide.{ℕ_discrete, dec_lt}
+use lib.ListN.{get_elem?}
+use prog.Atomic.{either}
+use Rattle.atomic_table.specs.Table.{State, Act, keeps, takes, gives, stepped, carried_after, Valid, Allows, Splits, Joins, Final, Seen, opening, put_back, rest}
+use Rattle.atomic_table.proofs.Lists.{at_set, at_snoc, at_longer, set_else, set_again, exchanged}
+use Rattle.lock_ruled.specs.declared.rule.UserStage.{UserStage}
+use Rattle.lock_ruled.specs.declared.rule.UserStage.TheVariants.{Free, Opens, Holds}
+use Rattle.lock_ruled.specs.declared.rule.UserView.{UserView}
+use Rattle.lock_ruled.specs.Ruled.{all_parts, Meets, Keeps}
+use Rattle.lock_ruled.specs.Ruled as asked
+use Rattle.lock_ruled.specs.Slots.{Fits, IsAway, IsHolding, IsOut, IsRuled, taken_at, known_if, known, opener, one_fewer, one_part, both_of, spent}
+use Rattle.lock_ruled.specs.Plays.{Self, HasTaken, Carries, IsIdle, Takes, Gives, Begins}
+use Rattle.lock_ruled.proofs.Views.{known_of, known_one, known_append, parts_append, around, both_around, two_parts, alone, set_at}
+
+abbrev Homes : Type 0 → Type 0
+Homes T = List (Option (std.Option T))
+
+module _ {T : Type 0} where
+  -- whoever does not have the value out fits any state
+  is_free : (st : UserStage T) (word holder number word' holder' : ℕ) (homes homes' : Homes T) (y y' : T)
+      → (holder ≡ number → word ≢ 0 → ⊥) → Fits word homes y holder number st → Fits word' homes' y' holder' number st
+  is_free Free word holder number word' holder' homes homes' y y' not fits = tt
+  is_free (Opens x) word holder number word' holder' homes homes' y y' not fits = absurd (not fits.0 fits.1)
+  is_free (Holds x) word holder number word' holder' homes homes' y y' not fits = absurd (not fits.0 fits.1)
+
+  -- the word may change where it does not become 0
+  still_fits : (st : UserStage T) (word word' holder number : ℕ) (homes : Homes T) (y : T) → word' ≢ 0
+      → Fits word homes y holder number st → Fits word' homes y holder number st
+  still_fits Free word word' holder number homes y away fits = tt
+  still_fits (Opens x) word word' holder number homes y away fits = (fits.0, away, fits.2, fits.3)
+  still_fits (Holds x) word word' holder number homes y away fits = (fits.0, away, fits.2, fits.3)
+
+  -- what lies in the slot that was taken last
+  abbrev slot_in : List (ℕ × std.Option T) → T → T
+  slot_in ((k, Some x) ∷ xs) other = x
+  slot_in xs other = other
+
+module _ {T : Type 0} where
+  pub holds_taken : (st : UserStage T) (other : T) → IsHolding st → st ≡ Holds (taken_at st other)
+  holds_taken Free other h = absurd h
+  holds_taken (Opens x) other h = absurd h
+  holds_taken (Holds x) other h = refl
+
+pub not_away : {T : Type 0} (st : UserStage T) → st ≡ Free → IsAway st → ⊥
+not_away st free away = subst IsAway free away
+
+module _ {T V : Type 0} (rule : T → List V → Type 0) (me after : Self T V) where
+  -- who has taken a value has it out
+  pub has_out : IsIdle me → (took : HasTaken rule me after) → Carries after took.0 took.0
+  has_out idle took =
+      (ap (λ (m : Self T V). m.0.stage) took.1, ap (λ (m : Self T V). m.1) took.1 ∙ ap (λ (c : List (ℕ × std.Option T)). (0, Some took.0) ∷ c) idle.0)
+
+  -- and the rule holds of it, beside the view that a contract sees
+  pub has_met : (took : HasTaken rule me after) (taken : T) (view : V) → taken ≡ took.0 → me.0.own ≡ view → Meets rule taken view
+  has_met took taken view same is = subst (λ (z : T × V). Meets rule z.0 z.1) (λ i. (sym same i, is i)) took.2
+
+-- a guard's value, put into its slot
+pub refilled : {T V : Type 0} (me now : Self T V) (value : T) → now ≡ (me.0, (0, Some value) ∷ rest me.1) → me.1 ≡ (0, None) ∷ [] → IsHolding me.0.stage
+    → Carries now (taken_at me.0.stage value) value
+refilled me now value is out holds =
+    (ap (λ m. m.0.stage) is ∙ holds_taken me.0.stage value holds, ap (λ m. m.1) is ∙ ap (λ l. (0, Some value) ∷ rest l) out)
+
+-- an exchange of 0 for 1 never leaves 0
+pub one_or_more : (n : ℕ) → either (eqb n 0) 1 n ≢ 0
+one_or_more n = exchanged n 0 1 (λ m. m ≢ 0) (λ hit e. suc-ne-zero 0 e) (λ miss. miss)
+
+module _ {T V : Type 0} (rule : T → List V → Type 0) where
+  -- the state that a step of one user leaves
+  left : (s : State (std.Option T) (UserView T V)) (r : IsRuled rule s) (id n holder : ℕ) (homes : Homes T) (u w : UserView T V) (y : T) → get_elem? s.views id ≡ some u
+      → w.parts ≡ u.parts → rule y (known (set s.views id w)) → (n ≡ 0 → homes ≡ some (Some y) ∷ [])
+      → (n ≢ 0 → IsOut (set s.views id w) holder) → Fits n homes y holder id w.stage
+      → ((k : ℕ) (x : UserView T V) → k ≢ id → get_elem? s.views k ≡ some x → Fits n homes y holder k x.stage)
+      → IsRuled rule record { words = set s.words 0 n; homes = homes; views = set s.views id w }
+  left s r id n holder homes u w y at same rules home out mine others =
+      let one = r.one_word in
+      let is : get_or (set s.words 0 n) 0 0 ≡ n = get_or-set_same s.words 0 n 0 (omega arith) in
+      let sum = (around s.views id u at).parts w in
+      let all = r.parts in
+      record {
+        value = y;
+        holder = holder;
+        one_word = length-set s.words 0 n ∙ r.one_word;
+        parts = omega arith;
+        kept = rules;
+        at_home = λ free. home (sym is ∙ free);
+        is_out = λ away. out (λ none. away (is ∙ none));
+        each = λ k x e. subst (λ (m : ℕ). Fits m homes y holder k x.stage) (sym is)
+            (⊎_elim (λ (here : (k ≡ id) × (w ≡ x)). subst (λ (z : ℕ × UserView T V). Fits n homes y holder z.0 z.1.stage) (λ i. (sym here.0 i, here.1 i)) mine)
+            (λ (there : (k ≢ id) × (get_elem? s.views k ≡ some x)). others k x there.0 there.1) (at_set s.views id k w x e));
+      }
+
+  abbrev After : State (std.Option T) (UserView T V) → ℕ → Self T V → ℕ → (ℕ → Self T V → Type 0) → Type 0
+  After s id me n then = (w : UserView T V) × (a : Act (std.Option T)) × Valid s.homes me.1 a × IsRuled rule (stepped s 0 n id me.1 w a)
+      × then (slice_index s.words 0) (w, carried_after me.1 a)
+
+  pub takes_value : (slots id : ℕ) (me : Self T V) (f : ℕ → ℕ) → ((n : ℕ) → f n ≢ 0) → me.0.stage ≡ Free → 0 < me.0.parts
+      → Allows (IsRuled rule) slots id me 0 f (Takes rule me)
+  takes_value slots id me f away free some_part s r same at small =
+      let word = slice_index s.words 0 in
+      let about = around s.views id me.0 at in
+      dite (ℕ_discrete word 0)
+      (λ hit.
+      let y = r.value in
+      let w : UserView T V = record me.0 { stage = Holds y } in
+      let home = r.at_home hit in
+      let there : get_elem? s.homes 0 ≡ some (some (Some y)) = ap (λ (h : Homes T). get_elem? h 0) home in
+      let homes : set s.homes 0 none ≡ none ∷ [] = ap (λ (h : Homes T). set h 0 none) home in
+      let known_same : known (set s.views id w) ≡ known s.views = about.becomes w ∙ sym about.was in
+      let mine : known s.views ≡ about.before ++ me.0.own ∷ about.after
+      = about.was ∙ ap (λ (l : List V). about.before ++ (l ++ about.after)) (known_one me.0.parts me.0.own some_part) in (
+        w,
+        takes 0 (Some y),
+        there,
+        left s r id (f word) id (set s.homes 0 none) me.0 w y at refl (subst (rule y) (sym known_same) r.kept) (λ none. absurd (away word none))
+            (λ _. (w, set_at s.views id me.0 w at, some_part, tt))
+            (refl, away word, refl, homes)
+            (λ k x apart e. is_free x.stage word r.holder k (f word) id s.homes (set s.homes 0 none) y y (λ _ nonzero. nonzero hit) (r.each k x e)),
+        ((λ _. (y, refl, (about.before, about.after, subst (rule y) mine r.kept))), (λ miss. absurd (miss hit))),
+      ))
+      (λ miss.
+      let again = set_again s.views id me.0 at in (
+        me.0,
+        keeps,
+        tt,
+        left s r id (f word) r.holder s.homes me.0 me.0 r.value at refl (subst (λ (us : List (UserView T V)). rule r.value (known us)) (sym again) r.kept)
+            (λ none. absurd (away word none)) (λ _. subst (λ (us : List (UserView T V)). IsOut us r.holder) (sym again) (r.is_out miss))
+            (still_fits me.0.stage word (f word) r.holder id s.homes r.value (away word) (r.each id me.0 at))
+            (λ k x apart e. still_fits x.stage word (f word) r.holder k s.homes r.value (away word) (r.each k x e)),
+        ((λ hit. absurd (miss hit)), (λ _. refl)),
+      ))
+
+  pub gives_value : (slots id : ℕ) (me : Self T V) (next : T → V → T → V) (taken value : T) → Carries me taken value → 0 < me.0.parts → Keeps rule taken me.0.own value (next taken me.0.own value)
+      → Allows (IsRuled rule) slots id me 0 (λ n. 0) (Gives next me)
+  gives_value slots id me next taken value out some_part turn s r same at small =
+      let holds = out.0 in
+      let carries = out.1 in
+      let word = slice_index s.words 0 in
+      let about = around s.views id me.0 at in
+      let fits : Fits word s.homes r.value r.holder id (Holds taken)
+      = subst (λ (st : UserStage T). Fits word s.homes r.value r.holder id st) holds (r.each id me.0 at) in
+      let own = next taken me.0.own value in
+      let w : UserView T V = record me.0 { own = own; stage = Free } in
+      let one = λ (v : V). known_one me.0.parts v some_part in
+      let was : known s.views ≡ about.before ++ me.0.own ∷ about.after
+      = about.was ∙ ap (λ (l : List V). about.before ++ (l ++ about.after)) (one me.0.own) in
+      let becomes : known (set s.views id w) ≡ about.before ++ own ∷ about.after
+      = about.becomes w ∙ ap (λ (l : List V). about.before ++ (l ++ about.after)) (one own) in
+      let before : rule taken (about.before ++ me.0.own ∷ about.after)
+      = subst (λ (z : T × List V). rule z.0 z.1) (λ i. (sym fits.2 i, was i)) r.kept in
+      let after = subst (rule value) (sym becomes) (turn about.before about.after before) in
+      let homes : List (Option (std.Option T)) = put_back s.homes me.1 in
+      let is : homes ≡ some (Some value) ∷ [] = (λ i. put_back (fits.3 i) (carries i)) in (
+        w,
+        gives,
+        tt,
+        left s r id 0 0 homes me.0 w value at refl after (λ _. is) (λ away. absurd (away refl)) tt
+            (λ k x apart e. is_free x.stage word r.holder k 0 0 s.homes homes r.value value (λ mine _. apart (sym mine ∙ fits.0)) (r.each k x e)),
+        (λ x y out'.
+            let held = out'.0 in
+            let in_hand = out'.1 in
+            let same_x : taken ≡ x = ap (λ (st : UserStage T). taken_at st taken) (sym holds ∙ held) in
+            let same_y : value ≡ y = ap (λ (c : List (ℕ × std.Option T)). slot_in c value) (sym carries ∙ in_hand) in
+            λ i. (record me.0 { own = next (same_x i) me.0.own (same_y i); stage = Free }, rest (carries i))),
+      )
+
+  pub begins : (slots id : ℕ) (me : Self T V) (first : T) → me.0.stage ≡ Opens first → 0 < me.0.parts
+      → Allows (IsRuled rule) slots id me 0 (λ n. 1) (λ n. Begins me 1)
+  begins slots id me first opens some_part s r same at small =
+      let word = slice_index s.words 0 in
+      let about = around s.views id me.0 at in
+      let fits : Fits word s.homes r.value r.holder id (Opens first)
+      = subst (λ (st : UserStage T). Fits word s.homes r.value r.holder id st) opens (r.each id me.0 at) in
+      let w : UserView T V = record me.0 { stage = Holds first } in
+      let known_same : known (set s.views id w) ≡ known s.views = about.becomes w ∙ sym about.was in
+      let away : 1 ≢ 0 = λ e. suc-ne-zero 0 e in (
+        w,
+        takes 0 None,
+        ap (λ (h : Homes T). get_elem? h 0) fits.3,
+        left s r id 1 id (set s.homes 0 none) me.0 w r.value at refl (subst (rule r.value) (sym known_same) r.kept) (λ none. absurd (away none))
+            (λ _. (w, set_at s.views id me.0 w at, some_part, tt))
+            (refl, away, fits.2, ap (λ (h : Homes T). set h 0 none) fits.3)
+            (λ k x apart e. is_free x.stage word r.holder k 1 id s.homes (set s.homes 0 none) r.value r.value (λ mine _. apart (sym mine ∙ fits.0)) (r.each k x e)),
+        (λ x opened i. (record me.0 { stage = Holds (ap (λ (st : UserStage T). taken_at st first) (sym opens ∙ opened) i) }, (0, None) ∷ me.1)),
+      )
+
+  maker_fits : (value : T) (view : V) (k : ℕ) (x : UserView T V) → get_elem? (opener value view ∷ []) k ≡ some x → Fits 1 (some None ∷ []) value 0 k x.stage
+  maker_fits value view zero x at =
+      subst (λ (u : UserView T V). Fits 1 (some None ∷ []) value 0 0 u.stage) (some-injective (opener value view) x at) (refl, (λ e. suc-ne-zero 0 e), refl, refl)
+  maker_fits value view (suc k) x at = absurd (some-ne-none x (sym at))
+
+  pub starts : (value : T) (view : V) → rule value (view ∷ []) → IsRuled rule (opening (1 ∷ []) (replicate 1 None) (opener value view))
+  starts value view law =
+      let u : UserView T V = opener value view in
+      record {
+        value = value;
+        holder = 0;
+        one_word = refl;
+        parts = refl;
+        kept = law;
+        at_home = λ e. absurd (suc-ne-zero 0 e);
+        is_out = λ _. (u, refl, omega arith, tt);
+        each = maker_fits value view;
+      }
+
+  -- the user that has the value out is none that has not
+  others_out : (s : State (std.Option T) (UserView T V)) (r : IsRuled rule s) (id : ℕ) (u w : UserView T V) → get_elem? s.views id ≡ some u
+      → u.stage ≡ Free → IsOut s.views r.holder → IsOut (set s.views id w) r.holder
+  others_out s r id u w at free out =
+      dite (ℕ_discrete r.holder id)
+      (λ same. absurd (not_away out.0.stage (ap (λ (x : UserView T V). x.stage) (some-injective out.0 u (sym out.1 ∙ ap (λ (k : ℕ). get_elem? s.views k) same ∙ at)) ∙ free) out.3))
+      (λ apart. (out.0, set_else s.views id r.holder w apart ∙ out.1, out.2, out.3))
+
+  pub splits : (id : ℕ) (u : UserView T V) (left_of right_of : V → V) → u.stage ≡ Free → 1 < u.parts → asked.Splits rule u.own (left_of u.own) (right_of u.own)
+      → Splits (IsRuled rule) id u (one_fewer left_of u) (one_part right_of u)
+  splits id u left_of right_of free enough law s r at =
+      let l : UserView T V = one_fewer left_of u in
+      let k : UserView T V = one_part right_of u in
+      let about = around s.views id u at in
+      let us = set s.views id l in
+      let n = slice_index s.words 0 in
+      let was : known s.views ≡ about.before ++ u.own ∷ about.after
+      = about.was ∙ ap (λ (vs : List V). about.before ++ (vs ++ about.after)) (known_one u.parts u.own (omega arith)) in
+      let becomes : known us ≡ about.before ++ l.own ∷ about.after
+      = about.becomes l ∙ ap (λ (vs : List V). about.before ++ (vs ++ about.after)) (known_one l.parts l.own (omega arith)) in
+      let all : known (us ++ k ∷ []) ≡ about.before ++ l.own ∷ (about.after ++ k.own ∷ [])
+      = known_append us (k ∷ []) ∙ (ap (λ (vs : List V). vs ++ k.own ∷ []) becomes ∙ append_assoc about.before (l.own ∷ about.after) (k.own ∷ [])) in
+      let sum = about.parts l in
+      let more = parts_append us (k ∷ []) in
+      let total = r.parts in
+      record {
+        value = r.value;
+        holder = r.holder;
+        one_word = r.one_word;
+        parts = omega arith;
+        kept = subst (rule r.value) (sym all) (law r.value about.before about.after (subst (rule r.value) was r.kept));
+        at_home = r.at_home;
+        is_out = λ away. (let out = others_out s r id u l at free (r.is_out away) in (out.0, at_longer us (k ∷ []) r.holder out.0 out.1, out.2, out.3));
+        each = λ j x e. ⊎_elim
+            (λ (old : get_elem? us j ≡ some x). ⊎_elim
+            (λ (here : (j ≡ id) × (l ≡ x)). subst (λ (y : UserView T V). Fits n s.homes r.value r.holder j y.stage) here.1 tt)
+            (λ (there : (j ≢ id) × (get_elem? s.views j ≡ some x)). r.each j x there.1) (at_set s.views id j l x old))
+            (λ (new : k ≡ x). subst (λ (y : UserView T V). Fits n s.homes r.value r.holder j y.stage) new tt) (at_snoc us k x j e);
+      }
+
+  -- the views of two users, whichever comes first, where the one takes the other in
+  joined : (us : List (UserView T V)) (id other : ℕ) (u w both gone : UserView T V) (y : T) → asked.Joins rule u.own w.own both.own → 0 < u.parts → 0 < w.parts → 0 < both.parts
+      → gone.parts ≡ 0 → other ≢ id → get_elem? us id ≡ some u → get_elem? us other ≡ some w → rule y (known us) → rule y (known (set (set us id both) other gone))
+  joined us id other u w both gone y law some_u some_w some_both no_part apart at at' kept =
+      let one_u = known_one u.parts u.own some_u in
+      let one_w = known_one w.parts w.own some_w in
+      let one = known_one both.parts both.own some_both in
+      let nothing : known_of gone ≡ [] = ap (λ (n : ℕ). known_if n gone.own) no_part in
+      dite (dec_lt id other)
+      (λ less.
+      let a = both_around us id other u w less at at' in
+      let was : known us ≡ a.before ++ u.own ∷ (a.between ++ w.own ∷ a.after)
+      = a.was ∙ (λ i. a.before ++ (one_u i ++ (a.between ++ (one_w i ++ a.after)))) in
+      let becomes : known (set (set us id both) other gone) ≡ a.before ++ both.own ∷ (a.between ++ a.after)
+      = a.becomes both gone ∙ (λ i. a.before ++ (one i ++ (a.between ++ (nothing i ++ a.after)))) in
+      subst (rule y) (sym becomes) (law.earlier y a.before a.between a.after (subst (rule y) was kept)))
+      (λ not.
+      let a = both_around us other id w u (omega arith) at' at in
+      let was : known us ≡ a.before ++ w.own ∷ (a.between ++ u.own ∷ a.after)
+      = a.was ∙ (λ i. a.before ++ (one_w i ++ (a.between ++ (one_u i ++ a.after)))) in
+      let becomes : known (set (set us id both) other gone) ≡ a.before ++ (a.between ++ both.own ∷ a.after)
+      = a.turned gone both ∙ (λ i. a.before ++ (nothing i ++ (a.between ++ (one i ++ a.after)))) in
+      subst (rule y) (sym becomes) (law.later y a.before a.between a.after (subst (rule y) was kept)))
+
+  pub joins : (id other : ℕ) (u w : UserView T V) (both : V → V → V) (gone : V) → u.stage ≡ Free → w.stage ≡ Free → 0 < u.parts → 0 < w.parts
+      → asked.Joins rule u.own w.own (both u.own w.own) → Joins (IsRuled rule) id u other w (both_of both u w) (spent gone)
+  joins id other u w both gone free free' some_u some_w law s r at apart at' =
+      let one : UserView T V = both_of both u w in
+      let left_over : UserView T V = spent gone in
+      let us = set s.views id one in
+      let n = slice_index s.words 0 in
+      let there : get_elem? s.views other ≡ some w = sym (set_else s.views id other one apart) ∙ at' in
+      let sum = (around s.views id u at).parts one in
+      let sum' = (around us other w at').parts left_over in
+      let total = r.parts in
+      record {
+        value = r.value;
+        holder = r.holder;
+        one_word = r.one_word;
+        parts = omega arith;
+        kept = joined s.views id other u w one left_over r.value law some_u some_w (omega arith) refl apart at there r.kept;
+        at_home = r.at_home;
+        is_out = λ away.
+            (let out = others_out s r id u one at free (r.is_out away) in
+            dite (ℕ_discrete r.holder other)
+            (λ same. absurd (not_away out.0.stage (ap (λ (x : UserView T V). x.stage) (some-injective out.0 w (sym out.1 ∙ ap (λ (k : ℕ). get_elem? us k) same ∙ at')) ∙ free') out.3))
+            (λ differs. (out.0, set_else us other r.holder left_over differs ∙ out.1, out.2, out.3)));
+        each = λ j x e. ⊎_elim
+            (λ (here : (j ≡ other) × (left_over ≡ x)). subst (λ (y : UserView T V). Fits n s.homes r.value r.holder j y.stage) here.1 tt)
+            (λ (rest_of : (j ≢ other) × (get_elem? us j ≡ some x)). ⊎_elim
+            (λ (here : (j ≡ id) × (one ≡ x)). subst (λ (y : UserView T V). Fits n s.homes r.value r.holder j y.stage) here.1 tt)
+            (λ (old : (j ≢ id) × (get_elem? s.views j ≡ some x)). r.each j x old.1) (at_set s.views id j one x rest_of.1))
+            (at_set us other j left_over x e);
+      }
+
+  -- who has all parts, and no guard, finds the value at home
+  pub closes : (id : ℕ) (u : UserView T V) (words : List ℕ) (slots : List (std.Option T)) → u.stage ≡ Free → u.parts ≡ all_parts
+      → Final (Seen (IsRuled rule) id u) words slots → (slot : std.Option T) → get_elem? slots 0 ≡ some slot
+      → (slot ≡ None → ⊥) × ((value : T) → slot ≡ Some value → rule value (u.own ∷ []))
+  closes id u words slots free whole last slot lies =
+      let s = last.0 in
+      let r = last.1.0 in
+      let at = last.1.1 in
+      let total = r.parts in
+      let home : slice_index s.words 0 ≡ 0 =
+      dite (ℕ_discrete (slice_index s.words 0) 0) (λ zero_word. zero_word)
+      (λ away.
+      let out = r.is_out away in
+      dite (ℕ_discrete r.holder id)
+      (λ same. absurd (not_away out.0.stage (ap (λ (x : UserView T V). x.stage) (some-injective out.0 u (sym out.1 ∙ ap (λ (k : ℕ). get_elem? s.views k) same ∙ at)) ∙ free) out.3))
+      (λ apart. (let sum = two_parts s.views r.holder id out.0 u apart out.1 at in let part = out.2 in absurd (omega arith)))) in
+      let there : get_elem? s.homes 0 ≡ some (some (Some r.value)) = ap (λ (h : Homes T). get_elem? h 0) (r.at_home home) in
+      let is : slot ≡ Some r.value = some-injective slot (Some r.value) (sym lies ∙ last.4 0 (Some r.value) there) in
+      let law : rule r.value (u.own ∷ []) = subst (rule r.value) (alone s.views id u at (total ∙ sym whole) (omega arith)) r.kept in (
+        (λ empty. (let both : Some r.value ≡ None = sym is ∙ empty in cc)),
+        (λ value full. subst (λ (y : T). rule y (u.own ∷ [])) (ap (λ (o : std.Option T). unwrap_or o r.value) (sym is ∙ full)) law),
+      )

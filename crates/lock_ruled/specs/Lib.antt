@@ -1,0 +1,3 @@
+pub mod Ruled
+pub mod Slots
+pub mod Plays

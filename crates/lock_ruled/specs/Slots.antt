@@ -1,0 +1,83 @@
+-- The rule of a table with one word and one slot, made of the rule of a mutex. The word is 0 where the value is at home.
+use Rattle.std.specs.Prelude.{◌≡◌, ◌≢◌, ℕ, zero, suc, ◌+◌, ◌-◌, ◌<◌, List, [], ◌∷◌, ◌++◌, length, slice_index, Some, None}
+use Rattle.std.specs.Prelude as std
+use mathlib.Core.Option.{Option, some, none}
+use lib.ListN.{get_elem?}
+use Rattle.atomic_table.specs.Table.{State}
+use Rattle.lock_ruled.specs.declared.rule.UserStage.{UserStage}
+use Rattle.lock_ruled.specs.declared.rule.UserStage.TheVariants.{Free, Opens, Holds}
+use Rattle.lock_ruled.specs.declared.rule.UserView.{UserView}
+use Rattle.lock_ruled.specs.Ruled.{all_parts}
+
+module _ {T : Type 0} where
+  -- the value that was taken, or else the other one
+  abbrev pub taken_at : UserStage T → T → T
+  taken_at Free other = other
+  taken_at (Opens value) other = value
+  taken_at (Holds value) other = value
+
+  abbrev pub IsAway : UserStage T → Type 0
+  IsAway Free = ⊥
+  IsAway (Opens value) = Unit {0}
+  IsAway (Holds value) = Unit {0}
+
+  abbrev pub IsHolding : UserStage T → Type 0
+  IsHolding Free = ⊥
+  IsHolding (Opens value) = ⊥
+  IsHolding (Holds value) = Unit {0}
+
+  -- whoever has the value out is the one holder, and the slot is empty, or out
+  abbrev pub Fits : ℕ → List (Option (std.Option T)) → T → ℕ → ℕ → UserStage T → Type 0
+  Fits word homes value holder number Free = Unit {0}
+  Fits word homes value holder number (Opens x) = (holder ≡ number) × (word ≢ 0) × (x ≡ value) × (homes ≡ some None ∷ [])
+  Fits word homes value holder number (Holds x) = (holder ≡ number) × (word ≢ 0) × (x ≡ value) × (homes ≡ none ∷ [])
+
+abbrev pub known_if : {V : Type 0} → ℕ → V → List V
+known_if zero v = []
+known_if (suc n) v = v ∷ []
+
+module _ {T V : Type 0} where
+  -- who makes the mutex has all its parts
+  abbrev pub opener : T → V → UserView T V
+  opener value view = record { parts = all_parts; own = view; stage = Opens value }
+
+  abbrev pub one_fewer : (V → V) → UserView T V → UserView T V
+  one_fewer left u = record { parts = u.parts - 1; own = left u.own; stage = Free }
+
+  abbrev pub one_part : (V → V) → UserView T V → UserView T V
+  one_part right u = record { parts = 1; own = right u.own; stage = Free }
+
+  abbrev pub both_of : (V → V → V) → UserView T V → UserView T V → UserView T V
+  both_of both u w = record { parts = u.parts + w.parts; own = both u.own w.own; stage = Free }
+
+  abbrev pub spent : V → UserView T V
+  spent v = record { parts = 0; own = v; stage = Free }
+
+  abbrev pub parts_of : List (UserView T V) → ℕ
+  parts_of [] = 0
+  parts_of (u ∷ us) = u.parts + parts_of us
+
+  -- the views that the rule speaks of: those of users that have a part
+  abbrev pub known : List (UserView T V) → List V
+  known [] = []
+  known (u ∷ us) = known_if u.parts u.own ++ known us
+
+  -- a user that has a part has the value out
+  abbrev pub IsOut : List (UserView T V) → ℕ → Type 0
+  IsOut views holder = (u : UserView T V) × (get_elem? views holder ≡ some u) × (0 < u.parts) × IsAway u.stage
+
+  pub record IsRuled (rule : T → List V → Type 0) (s : State (std.Option T) (UserView T V)) : Type 0 where
+    pub value : T
+    pub holder : ℕ
+    pub one_word : length s.words ≡ 1
+    pub parts : parts_of s.views ≡ all_parts
+    -- the rule of the mutex holds of the value, or of the value as it was taken
+    pub kept : rule value (known s.views)
+    pub at_home : slice_index s.words 0 ≡ 0 → s.homes ≡ some (Some value) ∷ []
+    pub is_out : slice_index s.words 0 ≢ 0 → IsOut s.views holder
+    pub each : (number : ℕ) (u : UserView T V) → get_elem? s.views number ≡ some u
+        → Fits (slice_index s.words 0) s.homes value holder number u.stage
+
+  -- every state that a table under this rule has between two steps
+  abbrev pub EveryStateIsRuled : (T → List V → Type 0) → (T → State (std.Option T) (UserView T V) → Type 0) → Type 0
+  EveryStateIsRuled rule holds = (first : T) (s : State (std.Option T) (UserView T V)) → holds first s → IsRuled rule s

@@ -1,0 +1,17 @@
+//! A mutex whose value is known across threads. It is made with a rule, a fact over the value and what each of its users
+//! knows, which holds whenever the value is at home. Who ends a guard shows that the rule is kept.
+#![tactic(auto)]
+
+mod guard;
+mod laws;
+mod mutex;
+mod plays;
+mod rule;
+mod user;
+
+pub use atomic_table::{Join, Split};
+pub use guard::RuledGuard;
+pub use laws::every_state_is_ruled;
+pub use mutex::RuledMutex;
+pub use rule::{MutexRule, SlotRule, Turn, UserStage, UserView};
+pub use user::User;

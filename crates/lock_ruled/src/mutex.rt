@@ -1,0 +1,223 @@
+//! The mutex itself.
+ghost use Rattle.std.specs.Prelude.{◌≡◌, ◌-◌, ◌+◌, ◌<◌, [], ◌∷◌, ℕ, true, false, IfOk, IfErr};
+ghost use Rattle.lock_base.specs.declared.raw.fault.Fault.TheVariants as fault;
+ghost use Rattle.lock_ruled.specs.Ruled.{all_parts, first_user, Meets, Keeps, Splits, Joins};
+ghost use Rattle.lock_ruled.specs.Plays.{HasTaken, Carries, IsIdle};
+
+use crate::guard::RuledGuard;
+use crate::plays::{Cut, Give, Open, Pair, Stay, Take};
+use crate::rule::{MutexRule, SlotRule, Turn, UserView};
+use crate::user::User;
+use atomic_table::{Join, Seat, Split, Table};
+use crossbeam_utils::Backoff;
+use lock_base::raw::Fault;
+use std::alloc::Global;
+use std::marker::Model;
+use std::sync::Wait;
+
+/// The value is at home.
+const FREE: u64 = 0;
+
+/// The value is out.
+const TAKEN: u64 = 1;
+
+/// The value is out, and a user may sleep until it is given back.
+const AWAITED: u64 = 2;
+
+/// How often a call that waits tries again before it sleeps.
+const TRIES: u32 = 10;
+
+/// A mutex under a rule. One word and one slot: to lock is an exchange that takes the value out of the slot, to unlock one
+/// that gives it back.
+#[derive(Drop)]
+pub struct RuledMutex<T: Drop, V, P: MutexRule<T, V>> {
+    table: Table<Option<T>, UserView<T, V>, T, SlotRule<P>, Global>,
+}
+
+impl<T: Drop, V, P: MutexRule<T, V>> Model for RuledMutex<T, V, P> {
+    ghost use Rattle.std.specs.Prelude.{◌≡◌};
+    ghost use Rattle.atomic_table.specs.Seated.{TableId};
+
+    ghost Value = { TableId };
+
+    ghost view = { λ m. m.table.shared.table_id };
+
+    ghost invariant = { λ m. (m.table.shared.table_id.words ≡ 1) × (m.table.shared.table_id.slots ≡ 1) };
+}
+
+impl<T: Drop, V, P: MutexRule<T, V>> RuledMutex<T, V, P> {
+    /// A mutex with this value at home, and its only user. No other call takes memory.
+    pub fn new(alloc: Global, value: T) -> Result<(RuledMutex<T, V, P>, User<T, V>), Fault>
+        requires { P.rule value (P.first value ∷ []) }
+        ensures user { IfOk result (λ made. made.1 ≡ first_user made.0 (P.first value)) }
+        ensures fault { IfErr result (λ error. error ≡ fault.OutOfMemory) }
+    {
+        let Ok((table, mut seat)) = Table::vacant(alloc, &[TAKEN], 1, &value) else {
+            return Err(Fault::OutOfMemory);
+        };
+        table.shared.store::<Open>(&mut seat, 0, TAKEN);
+        let mutex = RuledMutex { table };
+        let user = mutex.unlock::<Stay>(RuledGuard { value, seat });
+        Ok((mutex, user))
+    }
+
+    /// The second user has one part of the mutex, and the first one fewer.
+    pub fn split<M: Split<V>>(&self, user: User<T, V>) -> (User<T, V>, User<T, V>)
+        requires mutex { user.mutex ≡ self.now }
+        requires parts { 1 < user.parts }
+        requires rule { Splits P.rule user.view (M.left user.view) (M.right user.view) }
+        ensures first { result.0 ≡ record user { parts = user.parts - 1; view = M.left user.view } }
+        ensures second { result.1 ≡ record { mutex = self.now; parts = 1; view = M.right user.view } }
+    {
+        let mut seat = user.seat;
+        let other = self.table.shared.split_seat::<Cut<M>>(&mut seat);
+        (User { seat }, User { seat: other })
+    }
+
+    /// One user with the parts of both. The rule speaks of the other no more.
+    pub fn join<M: Join<V>>(&self, user: User<T, V>, other: User<T, V>) -> User<T, V>
+        requires mutex { (user.mutex ≡ self.now) × (other.mutex ≡ self.now) }
+        requires rule { Joins P.rule user.view other.view (M.both user.view other.view) }
+        ensures { result ≡ record user { parts = user.parts + other.parts; view = M.both user.view other.view } }
+    {
+        let mut seat = user.seat;
+        self.table
+            .shared
+            .join_seat::<Pair<M>>(&mut seat, other.seat);
+        User { seat }
+    }
+
+    /// Waits until the value is at home, and takes it. After a few tries it sleeps.
+    pub fn lock<R: Wait>(&self, rt: &R, user: User<T, V>) -> RuledGuard<T, V>
+        requires { user.mutex ≡ self.now }
+        ensures user { result.user ≡ user }
+        ensures value { result.value ≡ result.taken }
+        ensures rule { Meets P.rule result.taken user.view }
+    {
+        let mut seat = user.seat;
+        self.take(rt, &mut seat);
+        self.guard_of(seat)
+    }
+
+    /// One exchange. The user comes back where the value is not at home.
+    pub fn try_lock(&self, user: User<T, V>) -> Result<RuledGuard<T, V>, User<T, V>>
+        requires { user.mutex ≡ self.now }
+        ensures user { IfOk result (λ guard. guard.user ≡ user) }
+        ensures value { IfOk result (λ guard. guard.value ≡ guard.taken) }
+        ensures rule { IfOk result (λ guard. Meets P.rule guard.taken user.view) }
+        ensures refused { IfErr result (λ same. same ≡ user) }
+    {
+        let mut seat = user.seat;
+        if self.try_take(&mut seat) {
+            Ok(self.guard_of(seat))
+        } else {
+            Err(User { seat })
+        }
+    }
+
+    /// Gives the value back. The user's view is then what the turn says, and the rule is kept.
+    pub fn unlock<M: Turn<T, V>>(&self, guard: RuledGuard<T, V>) -> User<T, V>
+        requires mutex { guard.user.mutex ≡ self.now }
+        requires rule { Keeps P.rule guard.taken guard.user.view guard.value (M.next guard.taken guard.user.view guard.value) }
+        ensures { result ≡ record guard.user { view = M.next guard.taken guard.user.view guard.value } }
+    {
+        let RuledGuard { value, mut seat } = guard;
+        match self.table.shared.exchange(&mut seat, 0, Some(value)) {
+            None => {}
+            Some(_) => unreachable!(),
+        }
+        if self.table.shared.swap::<Give<M>>(&mut seat, 0, FREE) == AWAITED {
+            self.table.shared.wake_one(0);
+        }
+        User { seat }
+    }
+
+    /// The value, of which the rule holds with the view of its only user.
+    pub fn into_inner(self, user: User<T, V>) -> T
+        requires mutex { user.mutex ≡ self }
+        requires alone { user.parts ≡ all_parts }
+        ensures { P.rule result (user.view ∷ []) }
+    {
+        let mut closed = self.table.close_with(user.seat);
+        let slot = closed.take(0);
+        closed.free();
+        match slot {
+            Some(value) => value,
+            None => unreachable!(),
+        }
+    }
+
+    /// The value in the slot that the user has taken.
+    fn guard_of(&self, mut seat: Seat<Option<T>, UserView<T, V>>) -> RuledGuard<T, V>
+        requires mutex { seat.table_id ≡ self.now }
+        requires out { (value : T) × Carries seat.me value value }
+        requires part { 0 < seat.me.0.parts }
+        ensures user { result.user ≡ record { mutex = self.now; parts = seat.me.0.parts; view = seat.me.0.own } }
+        ensures value { (value : T) → Carries seat.me value value → (result.taken ≡ value) × (result.value ≡ value) }
+    {
+        match self.table.shared.exchange(&mut seat, 0, None) {
+            Some(value) => RuledGuard { value, seat },
+            None => unreachable!(),
+        }
+    }
+
+    /// Tries, and then sleeps between tries.
+    fn take<R: Wait>(&self, rt: &R, seat: &mut Seat<Option<T>, UserView<T, V>>)
+        requires mutex { seat.old.table_id ≡ self.now }
+        requires idle { IsIdle seat.old.me }
+        ensures seat { seat.new.table_id ≡ seat.old.table_id }
+        ensures taken { HasTaken P.rule seat.old.me seat.new.me }
+    {
+        if !self.try_take(seat) && !self.try_again(seat) {
+            self.sleep_for(rt, seat);
+        }
+    }
+
+    /// One exchange.
+    fn try_take(&self, seat: &mut Seat<Option<T>, UserView<T, V>>) -> bool
+        requires mutex { seat.old.table_id ≡ self.now }
+        requires idle { IsIdle seat.old.me }
+        ensures seat { seat.new.table_id ≡ seat.old.table_id }
+        ensures taken { result ≡ true → HasTaken P.rule seat.old.me seat.new.me }
+        ensures refused { result ≡ false → seat.new.me ≡ seat.old.me }
+    {
+        self.table
+            .shared
+            .compare_exchange::<Take<P>>(seat, 0, FREE, TAKEN)
+            == FREE
+    }
+
+    /// Tries a few times, longer and longer apart.
+    fn try_again(&self, seat: &mut Seat<Option<T>, UserView<T, V>>) -> bool
+        requires mutex { seat.old.table_id ≡ self.now }
+        requires idle { IsIdle seat.old.me }
+        ensures seat { seat.new.table_id ≡ seat.old.table_id }
+        ensures taken { result ≡ true → HasTaken P.rule seat.old.me seat.new.me }
+        ensures refused { result ≡ false → seat.new.me ≡ seat.old.me }
+    {
+        let backoff = Backoff::new();
+        for _ in 0..TRIES {
+            backoff.snooze();
+            if self.try_take(seat) {
+                return true;
+            }
+        }
+        false
+    }
+
+    /// Says that it sleeps, by an exchange that takes the value too where it is at home, and sleeps until a wake.
+    fn sleep_for<R: Wait>(&self, rt: &R, seat: &mut Seat<Option<T>, UserView<T, V>>)
+        requires mutex { seat.old.table_id ≡ self.now }
+        requires idle { IsIdle seat.old.me }
+        ensures seat { seat.new.table_id ≡ seat.old.table_id }
+        ensures taken { HasTaken P.rule seat.old.me seat.new.me }
+    {
+        for _ in rt.forever() {
+            if self.table.shared.swap::<Take<P>>(seat, 0, AWAITED) == FREE {
+                return;
+            }
+            self.table.shared.park(rt, 0, AWAITED as u32);
+        }
+        unreachable!()
+    }
+}

@@ -1,0 +1,61 @@
+//! The kinds of step on the word, and what each tells the user that makes it.
+ghost use Rattle.lock_ruled.specs.Plays.{Takes, Gives, Begins};
+ghost use Rattle.lock_ruled.specs.Slots.{one_fewer, one_part, both_of, spent};
+
+use crate::rule::{MutexRule, Turn, UserView};
+use atomic_table::{Join, Play, Split};
+use std::marker::PhantomData;
+
+/// A step that is to take the value.
+pub(crate) struct Take<P> {
+    rule: PhantomData<P>,
+}
+
+impl<T, V, P: MutexRule<T, V>> Play<Option<T>, UserView<T, V>> for Take<P> {
+    ghost then = { λ s. Takes P.rule };
+}
+
+/// The step that gives the value back.
+pub(crate) struct Give<M> {
+    turn: PhantomData<M>,
+}
+
+impl<T, V, M: Turn<T, V>> Play<Option<T>, UserView<T, V>> for Give<M> {
+    ghost then = { λ s. Gives M.next };
+}
+
+/// The step that takes the empty slot of a mutex that is being made.
+pub(crate) struct Open;
+
+impl<T, V> Play<Option<T>, UserView<T, V>> for Open {
+    ghost then = { λ s. Begins };
+}
+
+/// The view stays.
+pub(crate) struct Stay;
+
+impl<T, V> Turn<T, V> for Stay {
+    ghost next = { λ taken view value. view };
+}
+
+/// A user is split: the second has one part.
+pub(crate) struct Cut<M> {
+    split: PhantomData<M>,
+}
+
+impl<T, V, M: Split<V>> Split<UserView<T, V>> for Cut<M> {
+    ghost left = { one_fewer M.left };
+
+    ghost right = { one_part M.right };
+}
+
+/// Two users become one, with the parts of both.
+pub(crate) struct Pair<M> {
+    join: PhantomData<M>,
+}
+
+impl<T, V, M: Join<V>> Join<UserView<T, V>> for Pair<M> {
+    ghost both = { both_of M.both };
+
+    ghost spent = { spent M.spent };
+}

@@ -1,0 +1,12 @@
+//! Programs whose answer is known although threads share a value: a counter, a bank and a queue.
+#![tactic(auto)]
+
+mod bank;
+mod counter;
+mod queue;
+#[cfg(test)]
+mod tests;
+
+pub use bank::{Accounts, SumStays, Way, shuffle};
+pub use counter::{AddedUp, AddsOne, Counter, Sums, count, try_add};
+pub use queue::{InOrder, Log, Role, relay};

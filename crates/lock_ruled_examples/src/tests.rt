@@ -1,0 +1,76 @@
+//! The programs run, and give what their contracts say.
+use crate::counter::{AddsOne, Counter, Sums, try_add};
+use crate::{Accounts, count, relay, shuffle};
+use lock_api::Fault;
+use std::test::Fail;
+
+#[test]
+fn two_and_four_threads_count(rt: HostRuntime) -> Result<(), Fail> {
+    assert!(rt; count(&rt, rt.alloc(), 2, 3_000)? == 6_000);
+    assert!(rt; count(&rt, rt.alloc(), 4, 3_000)? == 12_000);
+    Ok(())
+}
+
+#[test]
+fn money_stays(rt: HostRuntime) -> Result<(), Fail> {
+    let accounts = Accounts {
+        left: 70,
+        right: 30,
+    };
+    let after = shuffle(
+        &rt,
+        rt.alloc(),
+        accounts,
+        &[50, 7, 90, 1],
+        &[20, 40, 3, 100],
+    )?;
+    assert!(rt; after.left <= 100 && after.right == 100 - after.left);
+    Ok(())
+}
+
+#[test]
+fn items_come_in_order(rt: HostRuntime) -> Result<(), Fail> {
+    let mut items = Vec::new(rt.alloc());
+    for item in 0..500u32 {
+        items.push(item * 3)?;
+    }
+    let copy = relay(&rt, rt.alloc(), items.as_slice())?;
+    assert!(rt; copy.as_slice() == items.as_slice());
+    Ok(())
+}
+
+#[test]
+fn try_adds_nothing_while_value_is_out(rt: HostRuntime) -> Result<(), Fail> {
+    let (counter, user) = Counter::new(rt.alloc(), 7)?;
+    let (first, second) = counter.split::<Sums>(user);
+    let mut value = counter.lock(&rt, first);
+    let second = match try_add(&counter, second) {
+        Ok(_) => panic!(rt; "the value was out"),
+        Err(second) => second,
+    };
+    *value = value.wrapping_add(1);
+    let first = counter.unlock::<AddsOne>(value);
+    let second = match try_add(&counter, second) {
+        Ok(second) => second,
+        Err(_) => panic!(rt; "the value was at home"),
+    };
+    let user = counter.join::<Sums>(second, first);
+    assert!(rt; counter.into_inner(user) == 9);
+    Ok(())
+}
+
+#[test]
+fn refused_memory_count(rt: HostRuntime) -> Result<(), Fail> {
+    let counted = count(&rt, rt.alloc(), 2, 3);
+    assert!(rt; matches!(counted, Ok(6) | Err(Fault::OutOfMemory)));
+    Ok(())
+}
+
+#[test]
+fn refused_memory_relay(rt: HostRuntime) -> Result<(), Fail> {
+    match relay(&rt, rt.alloc(), &[3, 1, 2]) {
+        Ok(copy) => assert!(rt; copy.as_slice() == [3, 1, 2].as_slice()),
+        Err(fault) => assert!(rt; fault == Fault::OutOfMemory),
+    }
+    Ok(())
+}
