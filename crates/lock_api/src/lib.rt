@@ -174,7 +174,7 @@ pub use lock_word::exchanges_are_of_bags;
 pub use lock_word::has_bar;
 pub use lock_word::has_exclusive;
 pub use lock_word::has_tokens;
-pub use lock_word::lets_on;
 pub use lock_word::subtractions_are_of_bags;
+pub use lock_word::unblocks;
 pub use lock_word::with_bar;
 pub use lock_word::words_are_of_one_bag;

@@ -12,9 +12,6 @@ pub fn write_and_read<R: RawRwLock>(lock: &RwLock<R, u64>, value: u64) -> u64
 {
     let mut guard = lock.write();
     *guard = value;
-    if lock.is_locked() {
-        return *guard;
-    }
     *guard
 }
 

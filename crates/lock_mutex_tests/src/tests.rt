@@ -2,25 +2,65 @@
 mod arc;
 mod condition_loop;
 mod condvar;
-mod mapped;
-mod mutex;
+mod makers;
 mod order;
 mod raw_calls;
-mod then;
+mod texts;
+mod threads;
 
-use lock_guard::raw::RawMutex;
-use lock_mutex::Mutex;
-use lock_test_support::raw_lock::{AskedRaw, Calls, RawCall};
+use crate::tests::condvar::asked::AskedCondvar;
+use lock_guard::raw::{RawMutex, RawMutexFair};
+use lock_mutex::{Condvar, Mutex};
+use lock_raws::TokenRaw;
+use lock_test_support::raw_lock::{AskedRaw, Watch};
 use std::alloc::Global;
+use std::sync::{Arc, Wait};
 use std::test::Fail;
 
-/// A mutex over a raw lock that is watched, and the calls that this gets.
-fn watched_mutex<R: RawMutex + Drop, T: Drop>(
+/// An honest raw lock.
+type Honest = TokenRaw<HostRuntime>;
+
+/// Answers of a mutex on one thread, and of guards that keep it alive.
+fn answers<R: RawMutex + Drop>(alloc: Global, waiters: [R::Waiter; 4]) -> Result<(), Fail> {
+    let [first, second, third, last] = waiters;
+    makers::check::<R>(alloc, first, second)?;
+    let mutex: Mutex<R, u64> = Mutex::new(alloc, third, 5)?;
+    texts::check(alloc, &mutex)?;
+    order::check(&mutex)?;
+    let mutex: Mutex<R, i64> = Mutex::new(alloc, last, 0)?;
+    arc::check(&Arc::new(alloc, mutex)?)
+}
+
+#[test]
+fn answers_on_one_thread(rt: HostRuntime) -> Result<(), Fail> {
+    answers::<Honest>(rt.alloc(), [rt; 4])
+}
+
+/// What the raw lock is asked, where guards borrow a mutex, where they keep one alive, and where they wait.
+fn calls<R: RawMutexFair + Drop, W: Wait + Drop>(
     alloc: Global,
-    waiter: R::Waiter,
-    value: T,
-) -> Result<(Mutex<AskedRaw<R>, T>, Calls<RawCall>), Fail> {
-    let raw: AskedRaw<R> = RawMutex::new(alloc, waiter)?;
-    let calls = raw.calls()?;
-    Ok((Mutex::from_raw(raw, value)?, calls))
+    waiters: [R::Waiter; 3],
+    watchers: [W; 3],
+) -> Result<(), Fail> {
+    let [first, second, third] = waiters;
+    let [first_watcher, second_watcher, third_watcher] = watchers;
+    let raw: AskedRaw<R> = RawMutex::new(alloc, first)?;
+    let mut watch = Watch::new(first_watcher, raw.calls()?);
+    raw_calls::all_calls(&Mutex::from_raw(raw, (0, 0))?, &mut watch);
+    watch.verdict()?;
+    let raw: AskedRaw<R> = RawMutex::new(alloc, second)?;
+    let mut watch = Watch::new(second_watcher, raw.calls()?);
+    let mutex = Arc::new(alloc, Mutex::from_raw(raw, 0)?)?;
+    raw_calls::all_calls_by_an_arc(&mutex, &mut watch)?;
+    watch.verdict()?;
+    let raw: AskedRaw<R> = RawMutex::new(alloc, third)?;
+    let mut watch = Watch::new(third_watcher, raw.calls()?);
+    let condvar: Condvar<AskedCondvar<AskedRaw<R>>> = Condvar::new(alloc)?;
+    condvar::check_calls(&condvar, &Mutex::from_raw(raw, 0)?, &mut watch)?;
+    watch.verdict()
+}
+
+#[test]
+fn each_call_is_the_raw_calls_that_are_wanted(rt: HostRuntime) -> Result<(), Fail> {
+    calls::<Honest, HostRuntime>(rt.alloc(), [rt; 3], [rt; 3])
 }

@@ -9,7 +9,7 @@ use Rattle.lock_base.specs.Modes.{AreCompatible, tokens, admits, may_become}
 use Rattle.lock_base.proofs.ModeLemmas.{exclusive_admitted}
 use Rattle.lock_word.specs.declared.want.ExWant.TheVariants.{Exclusive, Upgrade}
 use Rattle.lock_word.specs.Holds.{MayStand, is_barred}
-use Rattle.lock_word.specs.Word.{word_of, word_admits, word_lets_on, want_of_mode, barred_bag_of_word}
+use Rattle.lock_word.specs.Word.{word_of, word_admits, word_unblocks, want_of_mode, barred_bag_of_word}
 use Rattle.lock_word.proofs.Words.{alone_or_none, bag_of_word_of, word_admits_mode, permits_of_word, word_of_permits}
 use Rattle.lock_raws.specs.Unblocking.{may_upgrade, unblocks, whom_to_wake}
 use Rattle.lock_raws_word.specs.Waking.{WakesAreOfBags, with_bar}
@@ -93,9 +93,9 @@ either : {a b c d a' b' c' d' : Bool} → a ≡ a' → b ≡ b' → c ≡ c' →
 either {a} {b} {c} {d} {a'} {b'} {c'} {d'} p q r s =
     ap (λ x. x || (b || (c || d))) p ∙ (ap (λ x. a' || (x || (c || d))) q ∙ (ap (λ x. a' || (b' || (x || d))) r ∙ ap (λ x. a' || (b' || (c' || x))) s))
 
-lets_on : (limit : ℕ) (bar : Bool) (before after : Bag) → limit < 2 ^ 32 → AreCompatible limit before → AreCompatible limit after
-    → word_lets_on limit (word_of (with_bar bar before)) (word_of (with_bar bar after)) ≡ unblocks limit bar before after
-lets_on limit bar before after fits legal legal' =
+words_unblock : (limit : ℕ) (bar : Bool) (before after : Bag) → limit < 2 ^ 32 → AreCompatible limit before → AreCompatible limit after
+    → word_unblocks limit (word_of (with_bar bar before)) (word_of (with_bar bar after)) ≡ unblocks limit bar before after
+words_unblock limit bar before after fits legal legal' =
     either
     (newly (mode_of_word limit bar before fits legal mode.Shared) (mode_of_word limit bar after fits legal' mode.Shared) ∙ under_bar bar _ _)
     (newly (exclusive_of_word limit bar before fits legal) (exclusive_of_word limit bar after fits legal'))
@@ -109,6 +109,6 @@ bar_of_word limit bar b fits legal =
 
 pub word_wakes_as_bags : WakesAreOfBags
 word_wakes_as_bags limit bar before after range legal legal' =
-    ap (λ x. whom_to_wake limit x (word_lets_on limit (word_of (with_bar bar before)) (word_of (with_bar bar after))))
+    ap (λ x. whom_to_wake limit x (word_unblocks limit (word_of (with_bar bar before)) (word_of (with_bar bar after))))
     (bar_of_word limit bar after range.1 legal')
-    ∙ ap (λ x. whom_to_wake limit bar x) (lets_on limit bar before after range.1 legal legal')
+    ∙ ap (λ x. whom_to_wake limit bar x) (words_unblock limit bar before after range.1 legal legal')

@@ -6,7 +6,7 @@ ghost use Rattle.lock_raws_word.specs.Waking.{word_wakes};
 use crate::sleepers::Sleepers;
 use crossbeam_utils::Backoff;
 use lock_raws::Wake;
-use lock_word::{Down, ExWant, has_bar, has_exclusive, has_tokens, lets_on};
+use lock_word::{Down, ExWant, has_bar, has_exclusive, has_tokens, unblocks};
 use std::sync::Wait;
 use std::sync::atomic::{AtomicU64, Ordering};
 
@@ -177,5 +177,5 @@ impl WordLock {
 fn whom(readers: u64, before: u64, after: u64) -> Wake
     ensures { result ≡ word_wakes readers before after }
 {
-    Wake::whom(readers, has_bar(after), lets_on(readers, before, after))
+    Wake::whom(readers, has_bar(after), unblocks(readers, before, after))
 }

@@ -92,8 +92,8 @@ word_newly_admits announced limit before after want =
 
 -- whether someone who waits may get on at the word after, and could not at the one before. Under a bar one that waits for
 -- an exclusive token has announced itself
-abbrev pub word_lets_on : ℕ → ℕ → ℕ → Bool
-word_lets_on limit before after =
+abbrev pub word_unblocks : ℕ → ℕ → ℕ → Bool
+word_unblocks limit before after =
     word_newly_admits false limit before after Shared
     || (word_newly_admits true limit before after Exclusive
     || (word_newly_admits false limit before after Upgradable

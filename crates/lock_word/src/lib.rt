@@ -17,6 +17,6 @@ pub use laws::{
 };
 pub use party::PartyState;
 pub use step::{AtomicStep, Outcome};
-pub use want::{ExWant, lets_on};
+pub use want::{ExWant, unblocks};
 pub use word::{has_bar, has_exclusive, has_tokens, with_bar};
 pub use word_step::WordStep;

@@ -1,6 +1,6 @@
 //! What exchanges of the word win.
 ghost use Rattle.std.specs.Prelude.{◌≡◌, false};
-ghost use Rattle.lock_word.specs.Word.{word_lets_on, word_newly_admits};
+ghost use Rattle.lock_word.specs.Word.{word_unblocks, word_newly_admits};
 
 use crate::word::{BAR, EXCLUSIVE, UPGRADABLE};
 use crate::word_step::WordStep;
@@ -82,8 +82,8 @@ impl ExWant {
 
 /// Whether someone who waits may get on at the word after a step, and could not at the word before it. Under a bar one
 /// that waits for an exclusive token has announced itself.
-pub fn lets_on(readers: u64, before: u64, after: u64) -> bool
-    ensures { result ≡ word_lets_on readers before after }
+pub fn unblocks(readers: u64, before: u64, after: u64) -> bool
+    ensures { result ≡ word_unblocks readers before after }
 {
     ExWant::Shared.newly_admitted(false, readers, before, after)
         || ExWant::Exclusive.newly_admitted(true, readers, before, after)

@@ -2,9 +2,7 @@
 use lock_base::raw::Fault;
 use lock_guard::raw::RawMutex;
 use lock_mutex::{ArcMutexGuard, Mutex};
-use lock_raws::TokenRaw;
 use lock_test_support::answer::{equal, gives_none};
-use std::alloc::Global;
 use std::sync::Arc;
 use std::test::Fail;
 
@@ -22,14 +20,8 @@ fn write_and_read<R: RawMutex + Drop>(mutex: &Arc<Mutex<R, i64>>) -> Result<i64,
     Ok(ArcMutexGuard::with(&guard, |value| *value))
 }
 
-fn arc_guards<R: RawMutex + Drop>(alloc: Global, waiter: R::Waiter) -> Result<(), Fail> {
-    let mutex: Mutex<R, i64> = Mutex::new(alloc, waiter, 0)?;
-    let mutex = Arc::new(alloc, mutex)?;
-    let seen = (is_same(&mutex)?, write_and_read(&mutex)?);
+/// The answers of guards of a mutex that is free before and after.
+pub fn check<R: RawMutex + Drop>(mutex: &Arc<Mutex<R, i64>>) -> Result<(), Fail> {
+    let seen = (is_same(mutex)?, write_and_read(mutex)?);
     equal((seen, mutex.is_locked()), ((true, 5), false))
-}
-
-#[test]
-fn an_arc_guard_is_of_its_mutex(rt: HostRuntime) -> Result<(), Fail> {
-    arc_guards::<TokenRaw<HostRuntime>>(rt.alloc(), rt)
 }

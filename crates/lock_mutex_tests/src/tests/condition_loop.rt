@@ -1,5 +1,5 @@
 //! The condition loop over scripts.
-use lock_mutex::{LoopEnd, Script, Waits, run_loop};
+use lock_mutex::{LoopEnd, Script, run_loop};
 use std::sync::Wait;
 use std::test::Fail;
 
@@ -25,24 +25,5 @@ fn scripts_end_as_written(rt: HostRuntime) -> Result<(), Fail> {
     let nothing_left = vec![in rt.alloc(); (true, false)]?;
     assert_eq!(rt; ended(&rt, nothing_left), Some((LoopEnd::RanOut, 1)));
     assert_eq!(rt; ended(&rt, Vec::new(rt.alloc())), None);
-    Ok(())
-}
-
-#[test]
-fn the_last_check_leaves_the_value(rt: HostRuntime) -> Result<(), Fail> {
-    let entries = vec![in rt.alloc(); (3u64, false), (5, false), (8, false)]?;
-    let Some(mut script) = Script::new(entries) else {
-        return Ok(());
-    };
-    let end = run_loop(&rt, &mut script, |value: &mut u64| {
-        let is_small = *value < 5;
-        *value = 1;
-        is_small
-    });
-    assert_eq!(rt; end, LoopEnd::False);
-    assert_eq!(rt; *script.value(), 1);
-    assert_eq!(rt; script.wait(), Some(false));
-    assert_eq!(rt; *script.value(), 8);
-    assert_eq!(rt; script.wait(), None);
     Ok(())
 }

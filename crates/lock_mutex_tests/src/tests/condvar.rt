@@ -1,25 +1,21 @@
 //! The condition variable, over raw ones that wake at once.
-mod asked;
+pub mod asked;
 
-use super::watched_mutex;
+use super::Honest;
 use asked::CondvarCall::{self, NotifyAll, NotifyOne, Wait, WaitUntil};
 use asked::{AskedCondvar, ENDLESS, LATE};
 use lock_base::machine::Mode::Exclusive;
 use lock_guard::raw::{RawCondvar, RawCondvarTimed, RawMutex, RawMutexTimed};
 use lock_mutex::{Condvar, Mutex, MutexGuard};
-use lock_raws::{SpuriousCondvar, TokenRaw};
+use lock_raws::SpuriousCondvar;
 use lock_test_support::answer::{debug_is, equal};
 use lock_test_support::raw_lock::RawCall::{self, Lock, Unlock};
-use lock_test_support::raw_lock::{AskedRaw, Watch};
+use lock_test_support::raw_lock::Watch;
 use std::alloc::Global;
 use std::sync;
 use std::test::Fail;
 
-type Raw = TokenRaw<HostRuntime>;
-
-type Spurious = SpuriousCondvar<Raw>;
-
-type Asked<R> = Condvar<AskedCondvar<AskedRaw<R>>>;
+type Spurious = SpuriousCondvar<Honest>;
 
 /// How many checks were made.
 type Checks<R> = Mutex<R, usize>;
@@ -49,29 +45,6 @@ where
     (end.timed_out(), *guard)
 }
 
-fn waits_until_false<C: RawCondvarTimed>(
-    alloc: Global,
-    waiter: <C::RawMutex as RawMutex>::Waiter,
-) -> Result<(), Fail>
-where
-    C: Drop,
-    C::RawMutex: RawMutexTimed<Duration = (), Instant = ()> + Drop,
-{
-    let condvar: Condvar<C> = Condvar::new(alloc)?;
-    let checks: Checks<C::RawMutex> = Mutex::new(alloc, waiter, 0)?;
-    let seen = [
-        wait_until_false(&condvar, &checks, 1, ()),
-        wait_until_false(&condvar, &checks, 2, ()),
-        wait_until_false(&condvar, &checks, 0, ()),
-    ];
-    equal(seen, [(false, 2), (true, 2), (false, 1)])
-}
-
-#[test]
-fn a_wait_times_out_where_its_last_check_is_true(rt: HostRuntime) -> Result<(), Fail> {
-    waits_until_false::<Spurious>(rt.alloc(), rt)
-}
-
 /// How many checks a wait while three answer true makes, how many are made after a plain wait more, and whether the mutex
 /// is held then.
 fn wait_without_end<C: RawCondvar>(
@@ -79,27 +52,11 @@ fn wait_without_end<C: RawCondvar>(
     checks: &Checks<C::RawMutex>,
 ) -> (usize, usize, bool) {
     let mut guard = checks.lock();
+    *guard = 0;
     condvar.wait_while(&mut guard, |checks| check(3, checks));
     let made = *guard;
     condvar.wait(&mut guard);
     (made, *guard, checks.is_locked())
-}
-
-fn waits_without_end<C: RawCondvar + Drop>(
-    alloc: Global,
-    waiter: <C::RawMutex as RawMutex>::Waiter,
-) -> Result<(), Fail>
-where
-    C::RawMutex: Drop,
-{
-    let condvar: Condvar<C> = Condvar::default(alloc)?;
-    let checks: Checks<C::RawMutex> = Mutex::new(alloc, waiter, 0)?;
-    equal(wait_without_end(&condvar, &checks), (4, 4, true))
-}
-
-#[test]
-fn a_wait_without_an_end_goes_on_while_true(rt: HostRuntime) -> Result<(), Fail> {
-    waits_without_end::<Spurious>(rt.alloc(), rt)
 }
 
 /// Whether each wait with an end timed out.
@@ -108,31 +65,41 @@ where
     C::RawMutex: RawMutexTimed<Duration = (), Instant = ()>,
 {
     let mut guard = checks.lock();
+    *guard = 0;
     let ends = condvar.wait_for(&mut guard, ());
     let until = condvar.wait_until(&mut guard, ());
     let while_for = condvar.wait_while_for(&mut guard, |checks| check(2, checks), ());
     [ends.timed_out(), until.timed_out(), while_for.timed_out()]
 }
 
-fn waits_with_an_end<C: RawCondvarTimed + Drop>(
+/// The waits, notifications and text of a condition variable over a raw one that wakes at once.
+fn check_at_once<C: RawCondvarTimed>(
     alloc: Global,
-    waiter: <C::RawMutex as RawMutex>::Waiter,
+    condvar: &Condvar<C>,
+    checks: &Checks<C::RawMutex>,
 ) -> Result<(), Fail>
 where
-    C::RawMutex: RawMutexTimed<Duration = (), Instant = ()> + Drop,
+    C::RawMutex: RawMutexTimed<Duration = (), Instant = ()>,
 {
-    let condvar: Condvar<C> = Condvar::new(alloc)?;
-    let checks: Checks<C::RawMutex> = Mutex::new(alloc, waiter, 0)?;
+    let seen = [
+        wait_until_false(condvar, checks, 1, ()),
+        wait_until_false(condvar, checks, 2, ()),
+        wait_until_false(condvar, checks, 0, ()),
+    ];
+    equal(seen, [(false, 2), (true, 2), (false, 1)])?;
+    equal(wait_without_end(condvar, checks), (4, 4, true))?;
+    equal(timed_waits(condvar, checks), [true; 3])?;
     let notified = (condvar.notify_one(), condvar.notify_all());
-    equal(
-        (timed_waits(&condvar, &checks), notified),
-        ([true; 3], (false, 0)),
-    )
+    let is_shown = debug_is(alloc, condvar, "Condvar { .. }");
+    equal((notified, is_shown), ((false, 0), true))
 }
 
 #[test]
-fn timed_waits_that_wake_at_once_time_out(rt: HostRuntime) -> Result<(), Fail> {
-    waits_with_an_end::<Spurious>(rt.alloc(), rt)
+fn waits_over_a_raw_condvar_that_wakes_at_once(rt: HostRuntime) -> Result<(), Fail> {
+    let condvar: Condvar<Spurious> = Condvar::default(rt.alloc())?;
+    let _raw: &Spurious = condvar.raw();
+    let checks: Checks<Honest> = Mutex::new(rt.alloc(), rt, 0)?;
+    check_at_once(rt.alloc(), &condvar, &checks)
 }
 
 /// Whether the raw condition variable was asked just this by a wait for so long, and whether that timed out.
@@ -176,24 +143,6 @@ fn waits<W: sync::Wait + Drop, R: RawMutexTimed<Duration = u64, Instant = u64>>(
     [plain, in_time, late, endless]
 }
 
-fn watched_waits<R: RawMutex + Drop, W: sync::Wait + Drop>(
-    alloc: Global,
-    waiter: R::Waiter,
-    watcher: W,
-) -> Result<(), Fail> {
-    let condvar: Asked<R> = Condvar::new(alloc)?;
-    let (checks, calls) = watched_mutex::<R, usize>(alloc, waiter, 0)?;
-    let mut watch = Watch::new(watcher, calls);
-    let wanted = [(true, false), (true, false), (true, true), (true, false)];
-    equal(waits(&condvar, &checks, &mut watch), wanted)?;
-    watch.verdict()
-}
-
-#[test]
-fn each_wait_is_one_call_and_unlocks_once(rt: HostRuntime) -> Result<(), Fail> {
-    watched_waits::<Raw, HostRuntime>(rt.alloc(), rt, rt)
-}
-
 /// Whether a wait while a first check is true asked the raw condition variable just this, and whether it timed out.
 fn wait_while_for<R: RawMutexTimed<Duration = u64, Instant = u64>>(
     condvar: &Condvar<AskedCondvar<R>>,
@@ -219,42 +168,15 @@ fn waits_while<R: RawMutexTimed<Duration = u64, Instant = u64>>(
     [plain, condvar.raw().got(&[WaitUntil(5)])]
 }
 
-fn watched_conditional_waits<R: RawMutex + Drop, W: sync::Wait + Drop>(
-    alloc: Global,
-    waiter: R::Waiter,
-    watcher: W,
-) -> Result<(), Fail> {
-    let condvar: Asked<R> = Condvar::new(alloc)?;
-    let (checks, calls) = watched_mutex::<R, usize>(alloc, waiter, 0)?;
-    let mut watch = Watch::new(watcher, calls);
-    equal(waits_while(&condvar, &checks), [true; 2])?;
-    watch.saw(&[
-        Lock(Exclusive),
-        Unlock(Exclusive),
-        Lock(Exclusive),
-        Unlock(Exclusive),
-        Lock(Exclusive),
-        Unlock(Exclusive),
-    ]);
-    let in_time = wait_while_for(&condvar, &checks, 3, WaitUntil(4));
-    let endless = wait_while_for(&condvar, &checks, ENDLESS, Wait);
-    equal((in_time, endless), ((true, false), (true, false)))?;
-    watch.saw(&[
-        Lock(Exclusive),
-        Unlock(Exclusive),
-        Lock(Exclusive),
-        Unlock(Exclusive),
-        Lock(Exclusive),
-        Unlock(Exclusive),
-        Lock(Exclusive),
-        Unlock(Exclusive),
-    ]);
-    watch.verdict()
-}
-
-#[test]
-fn each_conditional_wait_waits_as_told(rt: HostRuntime) -> Result<(), Fail> {
-    watched_conditional_waits::<Raw, HostRuntime>(rt.alloc(), rt, rt)
+/// What is told of the waits that have a condition.
+fn conditional_waits<R: RawMutexTimed<Duration = u64, Instant = u64>>(
+    condvar: &Condvar<AskedCondvar<R>>,
+    checks: &Checks<R>,
+) -> ([bool; 2], [(bool, bool); 2]) {
+    let plain = waits_while(condvar, checks);
+    let in_time = wait_while_for(condvar, checks, 3, WaitUntil(4));
+    let endless = wait_while_for(condvar, checks, ENDLESS, Wait);
+    (plain, [in_time, endless])
 }
 
 /// Whether one was woken, how many were, and whether the raw condition variable was asked once for each.
@@ -265,22 +187,36 @@ fn notify<R: RawMutex>(condvar: &Condvar<AskedCondvar<R>>, woken: usize) -> (boo
     (one, all, condvar.raw().got(&[NotifyOne, NotifyAll]))
 }
 
-fn notifications<R: RawMutex>(alloc: Global) -> Result<(), Fail> {
-    let condvar: Condvar<AskedCondvar<R>> = Condvar::new(alloc)?;
-    let seen = (notify(&condvar, 0), notify(&condvar, 3));
+/// Each wait is one call of the raw one and unlocks once, and each notification is one call.
+pub fn check_calls<W: sync::Wait + Drop, R: RawMutexTimed<Duration = u64, Instant = u64>>(
+    condvar: &Condvar<AskedCondvar<R>>,
+    checks: &Checks<R>,
+    watch: &mut Watch<W, RawCall>,
+) -> Result<(), Fail> {
+    let wanted = [(true, false), (true, false), (true, true), (true, false)];
+    equal(waits(condvar, checks, watch), wanted)?;
+    watch.saw(&[Unlock(Exclusive)]);
+    let wanted = ([true; 2], [(true, false); 2]);
+    equal(conditional_waits(condvar, checks), wanted)?;
+    watch.saw(&CONDITIONAL_WAITS);
+    let seen = (notify(condvar, 0), notify(condvar, 3));
     equal(seen, ((false, 0, true), (true, 3, true)))
 }
 
-#[test]
-fn a_notification_is_one_call(rt: HostRuntime) -> Result<(), Fail> {
-    notifications::<Raw>(rt.alloc())
-}
-
-#[test]
-fn text_of_a_condvar(rt: HostRuntime) -> Result<(), Fail> {
-    let alloc: Global = rt.alloc();
-    let condvar: Condvar<Spurious> = Condvar::new(alloc)?;
-    assert!(rt; debug_is(alloc, &condvar, "Condvar { .. }"));
-    let _raw: &Spurious = condvar.raw();
-    Ok(())
-}
+/// Three guards of the mutex, with two waits under the first and one under each other.
+const CONDITIONAL_WAITS: [RawCall; 14] = [
+    Lock(Exclusive),
+    Unlock(Exclusive),
+    Lock(Exclusive),
+    Unlock(Exclusive),
+    Lock(Exclusive),
+    Unlock(Exclusive),
+    Lock(Exclusive),
+    Unlock(Exclusive),
+    Lock(Exclusive),
+    Unlock(Exclusive),
+    Lock(Exclusive),
+    Unlock(Exclusive),
+    Lock(Exclusive),
+    Unlock(Exclusive),
+];

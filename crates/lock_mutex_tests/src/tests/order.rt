@@ -1,9 +1,11 @@
 //! The order in which a mutex takes and gives back its raw lock and the lock of its value.
 mod patient;
 
+use super::Honest;
 use lock_guard::raw::RawMutex;
 use lock_mutex::{Condvar, Mutex, MutexGuard};
-use lock_raws::{SpuriousCondvar, TokenRaw};
+use lock_raws::SpuriousCondvar;
+use lock_test_support::answer::equal;
 use lock_test_support::raw_lock::{Calls, Liar, RawCall};
 use patient::Patient;
 use std::sync::Wait;
@@ -37,17 +39,14 @@ fn lock_while_unlocked<R: RawMutex>(mutex: &Mutex<R, u64>) -> u64 {
     let mut guard = mutex.lock();
     MutexGuard::unlocked(&mut guard, || {
         let mut other = mutex.lock();
-        *other = 5;
+        *other = 6;
     });
     *guard
 }
 
 /// It ends only where nothing is held while the closure runs.
-#[test]
-fn a_mutex_is_locked_while_a_guard_is_unlocked(rt: HostRuntime) -> Result<(), Fail> {
-    let mutex: Mutex<TokenRaw<HostRuntime>, u64> = Mutex::new(rt.alloc(), rt, 0)?;
-    assert_eq!(rt; lock_while_unlocked(&mutex), 5);
-    Ok(())
+pub fn check<R: RawMutex>(mutex: &Mutex<R, u64>) -> Result<(), Fail> {
+    equal(lock_while_unlocked(mutex), 6)
 }
 
 /// Holds the value until the raw lock was asked once more, and then writes it.
@@ -135,8 +134,8 @@ fn come_and_wait<R: RawMutex>(mutex: &Mutex<R, u64>, condvar: &Condvar<SpuriousC
 /// It ends only where a wait holds nothing.
 #[test]
 fn two_threads_wait_for_each_other(rt: HostRuntime) -> Result<(), Fail> {
-    let mutex: Mutex<TokenRaw<HostRuntime>, u64> = Mutex::new(rt.alloc(), rt, 0)?;
-    let condvar: Condvar<SpuriousCondvar<TokenRaw<HostRuntime>>> = Condvar::new(rt.alloc())?;
+    let mutex: Mutex<Honest, u64> = Mutex::new(rt.alloc(), rt, 0)?;
+    let condvar: Condvar<SpuriousCondvar<Honest>> = Condvar::new(rt.alloc())?;
     thread::join(
         &rt,
         || come_and_wait(&mutex, &condvar),

@@ -1,16 +1,13 @@
 //! What the raw lock is asked, call by call.
-use super::watched_mutex;
 use lock_base::machine::Mode::Exclusive;
 use lock_base::raw::Fault;
 use lock_guard::raw::{RawMutex, RawMutexFair, RawMutexTimed};
 use lock_mutex::{ArcMutexGuard, MappedMutexGuard, Mutex, MutexGuard};
-use lock_raws::TokenRaw;
 use lock_test_support::project::{Item0, Nth};
 use lock_test_support::raw_lock::RawCall::{
     self, Bump, IsLocked, Lock, TryLock, TryLockFor, TryLockUntil, Unlock, UnlockFair,
 };
 use lock_test_support::raw_lock::{Liar, Watch};
-use std::alloc::Global;
 use std::sync::{Arc, Wait};
 use std::test::Fail;
 
@@ -53,28 +50,18 @@ fn calls_of_mapped_guards<W: Wait + Drop, R: RawMutexFair>(
     watch.saw(&[Lock(Exclusive), Unlock(Exclusive)]);
     MappedMutexGuard::unlock_fair(MutexGuard::map(mutex.lock(), Item0));
     watch.saw(&[Lock(Exclusive), UnlockFair(Exclusive)]);
-    drop(MutexGuard::try_map(mutex.lock(), Nth(2)));
-    watch.saw(&[Lock(Exclusive), Unlock(Exclusive)]);
     drop(MutexGuard::try_map_or_err(mutex.lock(), Nth(2)));
     watch.saw(&[Lock(Exclusive), Unlock(Exclusive)]);
 }
 
-fn all_calls<R: RawMutexFair + Drop, W: Wait + Drop>(
-    alloc: Global,
-    waiter: R::Waiter,
-    watcher: W,
-) -> Result<(), Fail> {
-    let (mutex, calls) = watched_mutex::<R, (u64, u64)>(alloc, waiter, (0, 0))?;
-    let mut watch = Watch::new(watcher, calls);
-    acquisitions(&mutex, &mut watch);
-    calls_of_a_guard(&mutex, &mut watch);
-    calls_of_mapped_guards(&mutex, &mut watch);
-    watch.verdict()
-}
-
-#[test]
-fn raw_calls_of_a_mutex(rt: HostRuntime) -> Result<(), Fail> {
-    all_calls::<TokenRaw<HostRuntime>, HostRuntime>(rt.alloc(), rt, rt)
+/// All of these, on a mutex that is free before and after each.
+pub fn all_calls<W: Wait + Drop, R: RawMutexFair + RawMutexTimed<Duration = u64, Instant = u64>>(
+    mutex: &Mutex<R, (u64, u64)>,
+    watch: &mut Watch<W, RawCall>,
+) {
+    acquisitions(mutex, watch);
+    calls_of_a_guard(mutex, watch);
+    calls_of_mapped_guards(mutex, watch);
 }
 
 fn acquisitions_by_an_arc<W: Wait + Drop, R: RawMutexTimed<Duration = u64, Instant = u64> + Drop>(
@@ -118,23 +105,14 @@ fn ends_of_arc_guards<W: Wait + Drop, R: RawMutexFair + Drop>(
     Ok(())
 }
 
-fn all_calls_by_an_arc<R: RawMutexFair + Drop, W: Wait + Drop>(
-    alloc: Global,
-    waiter: R::Waiter,
-    watcher: W,
-) -> Result<(), Fail> {
-    let (mutex, calls) = watched_mutex::<R, u64>(alloc, waiter, 0)?;
-    let mut watch = Watch::new(watcher, calls);
-    let mutex = Arc::new(alloc, mutex)?;
-    acquisitions_by_an_arc(&mutex, &mut watch);
-    calls_of_an_arc_guard(Mutex::lock_arc(&mutex)?, &mut watch);
-    ends_of_arc_guards(&mutex, &mut watch)?;
-    watch.verdict()
-}
-
-#[test]
-fn raw_calls_by_an_arc_of_a_mutex(rt: HostRuntime) -> Result<(), Fail> {
-    all_calls_by_an_arc::<TokenRaw<HostRuntime>, HostRuntime>(rt.alloc(), rt, rt)
+/// All of these, on a mutex that is free before and after each.
+pub fn all_calls_by_an_arc<
+    W: Wait + Drop,
+    R: RawMutexFair + RawMutexTimed<Duration = u64, Instant = u64> + Drop,
+>(mutex: &Arc<Mutex<R, u64>>, watch: &mut Watch<W, RawCall>) -> Result<(), Fault> {
+    acquisitions_by_an_arc(mutex, watch);
+    calls_of_an_arc_guard(Mutex::lock_arc(mutex)?, watch);
+    ends_of_arc_guards(mutex, watch)
 }
 
 #[test]

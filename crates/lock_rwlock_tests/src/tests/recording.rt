@@ -1,15 +1,21 @@
 //! A recording lock behind guards.
 use lock_base::machine::{Mode, ModeStep};
+use lock_base::raw::Fault;
+use lock_guard::raw::RawRwLockDowngrade;
 use lock_raws::RecordingRaw;
 use lock_rwlock::{RwLock, RwLockWriteGuard};
 use std::test::Fail;
 
+/// The raw lock, after a writer that becomes a reader and ends.
+fn written<R: RawRwLockDowngrade + Drop>(raw: R) -> Result<R, Fault> {
+    let lock = RwLock::from_raw(raw, 5_u64)?;
+    drop(RwLockWriteGuard::downgrade(lock.write()));
+    Ok(lock.into_inner_with_raw().0)
+}
+
 #[test]
 fn guards_are_steps_of_a_journal(rt: HostRuntime) -> Result<(), Fail> {
-    let raw = RecordingRaw::with_room(rt.alloc(), rt, 2, 4)?;
-    let lock = RwLock::from_raw(raw, 5u64)?;
-    drop(RwLockWriteGuard::downgrade(lock.write()));
-    let (raw, _) = lock.into_inner_with_raw();
+    let raw = written(RecordingRaw::with_room(rt.alloc(), rt, 2, 4)?)?;
     let wanted = [
         ModeStep::Acquire(Mode::Exclusive),
         ModeStep::Change(Mode::Exclusive, Mode::Shared),

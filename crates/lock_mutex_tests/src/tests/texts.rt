@@ -1,0 +1,26 @@
+//! How a mutex and its guards print, and whether it is held.
+use lock_guard::raw::RawMutex;
+use lock_mutex::{Mutex, MutexGuard};
+use lock_test_support::answer::{debug_is, equal, texts_are};
+use std::alloc::Global;
+use std::test::Fail;
+
+/// Whether a guard's mutex is held, and refused to another.
+fn is_held<R: RawMutex>(mutex: &Mutex<R, u64>) -> bool {
+    let guard = mutex.lock();
+    MutexGuard::mutex(&guard).is_locked() && mutex.try_lock().is_none()
+}
+
+/// Whether a free mutex, a held one and its guard print as they are told to.
+fn are_shown<R: RawMutex>(alloc: Global, mutex: &Mutex<R, u64>) -> [bool; 3] {
+    let free = debug_is(alloc, mutex, "Mutex { data: 5 }");
+    let guard = mutex.lock();
+    let held = debug_is(alloc, mutex, "Mutex { data: <locked> }");
+    [free, held, texts_are(alloc, &guard, "5")]
+}
+
+/// The texts of a mutex that holds 5, which is free before and after.
+pub fn check<R: RawMutex>(alloc: Global, mutex: &Mutex<R, u64>) -> Result<(), Fail> {
+    equal((is_held(mutex), mutex.is_locked()), (true, false))?;
+    equal(are_shown(alloc, mutex), [true; 3])
+}

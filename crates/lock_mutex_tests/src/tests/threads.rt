@@ -1,0 +1,36 @@
+//! Threads that count behind a mutex, over a raw lock that is honest and over one that lies.
+use super::Honest;
+use lock_guard::raw::RawMutex;
+use lock_mutex::Mutex;
+use lock_test_support::raw_lock::Liar;
+use lock_test_support::{Count, add_in_four_threads};
+use std::test::Fail;
+
+/// A mutex that threads count behind.
+#[derive(Drop)]
+struct Counted<'a, R>(&'a Mutex<R, u64>);
+
+impl<R: RawMutex> Count for Counted<'_, R> {
+    type Waiter = R::Waiter;
+
+    fn add_one(&self) {
+        let mut count = self.0.lock();
+        *count = count.wrapping_add(1);
+    }
+}
+
+#[test]
+fn four_threads_count_over_an_honest_raw_lock(rt: HostRuntime) -> Result<(), Fail> {
+    let counter: Mutex<Honest, u64> = Mutex::new(rt.alloc(), rt, 0)?;
+    add_in_four_threads(&rt, &Counted(&counter));
+    assert_eq!(rt; counter.into_inner(), 4_000);
+    Ok(())
+}
+
+#[test]
+fn four_threads_count_over_a_lying_raw_lock(rt: HostRuntime) -> Result<(), Fail> {
+    let counter: Mutex<Liar<HostRuntime>, u64> = Mutex::new(rt.alloc(), rt, 0)?;
+    add_in_four_threads(&rt, &Counted(&counter));
+    assert_eq!(rt; counter.into_inner(), 4_000);
+    Ok(())
+}
