@@ -28,7 +28,8 @@ module _ {T V : Type 0} (rule : T → List V → Type 0) where
 
   -- from the rule before, for whatever the other views are, the rule after follows
   abbrev pub Keeps : T → V → T → V → Type 0
-  Keeps value view value' view' = (before after : List V) → rule value (before ++ view ∷ after) → rule value' (before ++ view' ∷ after)
+  Keeps value view value' view' = (before after : List V) → rule value (before ++ view ∷ after)
+      → rule value' (before ++ view' ∷ after)
 
   -- the rule stays where a view is cut in two
   abbrev pub Splits : V → V → V → Type 0

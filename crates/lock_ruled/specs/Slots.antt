@@ -1,4 +1,4 @@
--- The rule of a table with one word and one slot, made of the rule of a mutex. The word is 0 where the value is at home.
+-- The rule of a table with one word and one slot, made of that of a mutex. The word is 0 where the value is at home.
 use Rattle.std.specs.Prelude.{◌≡◌, ◌≢◌, ℕ, zero, suc, ◌+◌, ◌-◌, ◌<◌, List, [], ◌∷◌, ◌++◌, length, slice_index, Some, None}
 use Rattle.std.specs.Prelude as std
 use mathlib.Core.Option.{Option, some, none}

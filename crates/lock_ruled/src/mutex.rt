@@ -27,8 +27,8 @@ const AWAITED: u64 = 2;
 /// How often a call that waits tries again before it sleeps.
 const TRIES: u32 = 10;
 
-/// A mutex under a rule. One word and one slot: to lock is an exchange that takes the value out of the slot, to unlock one
-/// that gives it back.
+/// A mutex under a rule. One word and one slot: to lock is an exchange that takes the value out of the slot, to unlock
+/// one that gives it back.
 #[derive(Drop)]
 pub struct RuledMutex<T: Drop, V, P: MutexRule<T, V>> {
     table: Table<Option<T>, UserView<T, V>, T, SlotRule<P>, Global>,
@@ -118,7 +118,8 @@ impl<T: Drop, V, P: MutexRule<T, V>> RuledMutex<T, V, P> {
     /// Gives the value back. The user's view is then what the turn says, and the rule is kept.
     pub fn unlock<M: Turn<T, V>>(&self, guard: RuledGuard<T, V>) -> User<T, V>
         requires mutex { guard.user.mutex ≡ self.now }
-        requires rule { Keeps P.rule guard.taken guard.user.view guard.value (M.next guard.taken guard.user.view guard.value) }
+        requires rule { Keeps P.rule guard.taken guard.user.view guard.value
+            (M.next guard.taken guard.user.view guard.value) }
         ensures { result ≡ record guard.user { view = M.next guard.taken guard.user.view guard.value } }
     {
         let RuledGuard { value, mut seat } = guard;

@@ -4,8 +4,8 @@ ghost use Rattle.std.specs.Prelude.{List};
 use atomic_table::TableRule;
 use std::marker::PhantomData;
 
-/// What holds of the value and of the views of all users whenever the value is at home. While a guard is out, it holds of
-/// the value as it was taken.
+/// What holds of the value and of the views of all users whenever the value is at home. While a guard is out, it holds
+/// of the value as it was taken.
 pub trait MutexRule<T, V> {
     ghost rule: { T → List V → Type 0 };
 

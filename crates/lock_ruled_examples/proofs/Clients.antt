@@ -1,7 +1,6 @@
 -- What the users of a queue do keeps its rule.
-use Rattle.std.proofs.Common.{◌≡◌, ℕ, ◌+◌, List, [], ◌∷◌, ◌++◌, length, take, drop, remove, ◌<◌, sym, ap, subst, refl, ◌∙◌, append_assoc, append-nil, length-append, arith}
+use Rattle.std.proofs.Common.{◌≡◌, ℕ, List, [], ◌∷◌, ◌++◌, length, take, drop, remove, ◌<◌, sym, ap, subst, refl, ◌∙◌, append_assoc, append-nil, length-append, arith}
 use Rattle.lock_api.specs.Ruled.{Splits, Joins}
-use Rattle.lock_ruled_examples.specs.declared.queue.Role.{Role}
 use Rattle.lock_ruled_examples.specs.declared.queue.Role.TheVariants.{Both, Produces, Consumes}
 use Rattle.lock_ruled_examples.specs.declared.queue.Log.{Log}
 use Rattle.lock_ruled_examples.specs.Logs.{alone, producer, consumer, IsInOrder}

@@ -1,5 +1,5 @@
 -- What the users of a bank do keeps its rule.
-use Rattle.std.proofs.Common.{◌≡◌, ℕ, ◌+◌, List, [], ◌∷◌, ◌++◌, subst, sym, ◌∙◌}
+use Rattle.std.proofs.Common.{◌≡◌, ℕ, ◌+◌, List, [], ◌∷◌, ◌++◌, subst, sym}
 use Rattle.lock_api.specs.Ruled.{Meets, Keeps, Splits, Joins}
 use Rattle.lock_ruled_examples.specs.declared.bank.Accounts.{Accounts}
 use Rattle.lock_ruled_examples.specs.Sums.{AllAre}

@@ -12,7 +12,8 @@ producer put = record { role = Produces; put = put; taken = [] }
 abbrev pub consumer : List ℕ → Log
 consumer taken = record { role = Consumes; put = []; taken = taken }
 
--- there is one user, or a producer and a consumer. What was taken out, followed by what is in the queue, is what was put in
+-- there is one user, or a producer and a consumer
+-- what was taken out, followed by what is in the queue, is what was put in
 abbrev pub IsInOrder : List ℕ → List Log → Type 0
 IsInOrder items [] = ⊥
 IsInOrder items (u ∷ []) = (u.role ≡ Both) × (u.put ≡ u.taken ++ items)

@@ -107,7 +107,8 @@ fn try_put<R: Wait>(rt: &R, queue: &Queue, client: Client, item: u32) -> Result<
 fn try_take<R: Wait>(rt: &R, queue: &Queue, client: Client) -> (Client, Option<u32>)
     requires queue { client.mutex ≡ queue.now }
     requires role { client.view ≡ consumer client.view.taken }
-    ensures some { IfSome result.1 (λ item. result.0 ≡ record client { view = consumer (client.view.taken ++ item ∷ []) }) }
+    ensures some { IfSome result.1 (λ item.
+        result.0 ≡ record client { view = consumer (client.view.taken ++ item ∷ []) }) }
     ensures none { IfNone result.1 (result.0 ≡ client) }
 {
     let mut items = queue.lock(rt, client);
@@ -194,7 +195,8 @@ pub fn relay<R: Threads + Wait + Sync>(
             ensures { result ≡ record put { view = producer all.entry.now } }
         { put_all(rt, queue, put, all) },
         move || -> (Client, Vec<u32>)
-            requires { IsSync R.row × (taken.mutex ≡ queue.now) × (taken.view ≡ consumer []) × (into.items ≡ []) × (vec_len into ≡ 0) × (vec_capacity into ≡ count) }
+            requires user { IsSync R.row × (taken.mutex ≡ queue.now) × (taken.view ≡ consumer []) }
+            requires room { (into.items ≡ []) × (vec_len into ≡ 0) × (vec_capacity into ≡ count) }
             ensures { (result.0 ≡ record taken { view = consumer result.1.items }) × (vec_len result.1 ≡ count) }
         { take_all(rt, queue, taken, into, count) },
     );

@@ -1,4 +1,4 @@
-use Rattle.std.proofs.Common.{◌+◌, ◌*◌, ◌-◌}
+use Rattle.std.proofs.Common.{◌*◌, ◌-◌}
 use Rattle.lock_ruled_examples.proofs.counter.+fn-work-join+arg2+work.Given as goal
 
 abbrev pub decreases-work : goal.decreases-work

@@ -1,4 +1,4 @@
-use Rattle.std.proofs.Common.{rules, ap, ◌∙◌, ℕ, Vec, Global}
+use Rattle.std.proofs.Common.{rules, ap, ℕ, Vec, Global}
 use Rattle.lock_api.specs.Ruled.{Knower}
 use Rattle.lock_ruled_examples.specs.declared.queue.Log.{Log}
 use Rattle.lock_ruled_examples.proofs.Clients.{cuts_as, joins_as}
