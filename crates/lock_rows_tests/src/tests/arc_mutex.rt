@@ -4,7 +4,6 @@ use lock_base::machine::{Call, Form, PartyId, Reply, Want, Way};
 use lock_base::raw::Fault;
 use lock_guard::raw::{RawMutexFair, RawMutexTimed};
 use lock_mutex::{ArcMutexGuard, Mutex};
-use lock_raws::TokenRaw;
 use lock_test_support::two_parties;
 use std::alloc::Global;
 use std::process::Abort;
@@ -41,7 +40,7 @@ fn owned_guards<R: RawMutexFair + RawMutexTimed<Duration = (), Instant = ()> + D
     Ok(())
 }
 
-fn row<R: RawMutexFair + RawMutexTimed<Duration = (), Instant = ()> + Drop>(
+pub fn row<R: RawMutexFair + RawMutexTimed<Duration = (), Instant = ()> + Drop>(
     rt: &impl Abort,
     alloc: Global,
     waiter: R::Waiter,
@@ -52,9 +51,4 @@ fn row<R: RawMutexFair + RawMutexTimed<Duration = (), Instant = ()> + Drop>(
     let mut desk = BesideDesk::new(Table::mutex(alloc, 4, 0)?);
     owned_guards(rt, &mut desk, &mutex, one, two)?;
     desk.verdict()
-}
-
-#[test]
-fn an_arc_guard_of_a_mutex_is_as_on_a_desk(rt: HostRuntime) -> Result<(), Fail> {
-    row::<TokenRaw<HostRuntime>>(&rt, rt.alloc(), rt)
 }

@@ -3,7 +3,6 @@ use super::beside_desk::{BesideDesk, Table};
 use lock_base::machine::{Call, Form, PartyId, Reply, Want, Way};
 use lock_base::raw::Fault;
 use lock_guard::raw::{RawRwLockFair, RawRwLockUpgradeDowngrade, RawRwLockUpgradeTimed};
-use lock_raws::TokenRaw;
 use lock_rwlock::RwLock;
 use lock_rwlock_arc::{
     ArcRwLockReadGuard, ArcRwLockUpgradableReadGuard, ArcRwLockWriteGuard, RwLockArc,
@@ -59,7 +58,7 @@ fn up_and_down<
     Ok(())
 }
 
-fn row<
+pub fn row<
     R: RawRwLockFair
         + RawRwLockUpgradeTimed<Duration = (), Instant = ()>
         + RawRwLockUpgradeDowngrade
@@ -71,9 +70,4 @@ fn row<
     let mut desk = BesideDesk::new(Table::rwlock(alloc, 4, 8, 0)?);
     up_and_down(rt, &mut desk, &lock, one)?;
     desk.verdict()
-}
-
-#[test]
-fn an_arc_guard_goes_up_and_down_as_on_a_desk(rt: HostRuntime) -> Result<(), Fail> {
-    row::<TokenRaw<HostRuntime>>(&rt, rt.alloc(), rt)
 }

@@ -3,7 +3,6 @@ use super::beside_desk::{BesideDesk, Put, Table, given};
 use lock_base::machine::{Call, Form, PartyId, Reply, Want, Way};
 use lock_guard::raw::{RawMutexFair, RawMutexTimed};
 use lock_mutex::{MappedMutexGuard, Mutex, MutexGuard};
-use lock_raws::TokenRaw;
 use lock_test_support::project::Item0;
 use lock_test_support::two_parties;
 use std::alloc::Global;
@@ -101,11 +100,6 @@ pub fn parked_row<R: RawMutexFair + Drop>(alloc: Global, waiter: R::Waiter) -> R
     desk.verdict()
 }
 
-#[test]
-fn a_parked_guard_is_as_on_a_desk(rt: HostRuntime) -> Result<(), Fail> {
-    parked_row::<TokenRaw<HostRuntime>>(rt.alloc(), rt)
-}
-
 pub fn timed_row<R: RawMutexTimed<Duration = (), Instant = ()> + Drop>(
     rt: &impl Abort,
     alloc: Global,
@@ -118,20 +112,10 @@ pub fn timed_row<R: RawMutexTimed<Duration = (), Instant = ()> + Drop>(
     desk.verdict()
 }
 
-#[test]
-fn timed_tries_are_as_on_a_desk(rt: HostRuntime) -> Result<(), Fail> {
-    timed_row::<TokenRaw<HostRuntime>>(&rt, rt.alloc(), rt)
-}
-
 pub fn changed_row<R: RawMutexFair + Drop>(alloc: Global, waiter: R::Waiter) -> Result<(), Fail> {
     let (one, two) = two_parties()?;
     let mutex: Mutex<R, i64> = Mutex::new(alloc, waiter, 2)?;
     let mut desk = BesideDesk::new(Table::mutex(alloc, 2, 2)?);
     changes(&mut desk, &mutex, one, two);
     desk.verdict()
-}
-
-#[test]
-fn a_change_is_as_on_a_desk(rt: HostRuntime) -> Result<(), Fail> {
-    changed_row::<TokenRaw<HostRuntime>>(rt.alloc(), rt)
 }

@@ -3,7 +3,6 @@ use super::beside_desk::{BesideDesk, Put, Table, given};
 use lock_base::machine::{Call, Form, PartyId, Reply, Want, Way};
 use lock_base::raw::Fault;
 use lock_guard::raw::{RawMutex, RawMutexFair};
-use lock_raws::TokenRaw;
 use lock_remutex::{ReentrantMutex, ReentrantMutexGuard};
 use lock_test_support::answer::gives;
 use lock_test_support::{party, two_parties};
@@ -109,11 +108,6 @@ where
     desk.verdict()
 }
 
-#[test]
-fn levels_are_as_on_a_desk(rt: HostRuntime) -> Result<(), Fail> {
-    levels_row::<TokenRaw<HostRuntime>>(&rt, rt.alloc(), rt)
-}
-
 fn owners_row<R: RawMutexFair + Drop>(
     rt: &impl Abort,
     alloc: Global,
@@ -130,7 +124,15 @@ where
     desk.verdict()
 }
 
-#[test]
-fn owners_are_as_on_a_desk(rt: HostRuntime) -> Result<(), Fail> {
-    owners_row::<TokenRaw<HostRuntime>>(&rt, rt.alloc(), rt)
+pub fn rows<R: RawMutexFair + Drop>(
+    rt: &impl Abort,
+    alloc: Global,
+    waiters: [R::Waiter; 2],
+) -> Result<(), Fail>
+where
+    R::Guard: Send + Drop,
+{
+    let [first, last] = waiters;
+    levels_row::<R>(rt, alloc, first)?;
+    owners_row::<R>(rt, alloc, last)
 }

@@ -5,7 +5,6 @@ use lock_guard::guard::AcquireFair;
 use lock_guard::raw::{
     RawRwLock, RawRwLockUpgradeDowngrade, RawRwLockUpgradeFair, RawRwLockUpgradeTimed,
 };
-use lock_raws::TokenRaw;
 use lock_rwlock::{
     RwLock, RwLockGuard, RwLockReadGuard, RwLockUpgradableReadGuard, RwLockWriteGuard,
 };
@@ -267,11 +266,6 @@ pub fn upgrades_row<
     desk.verdict()
 }
 
-#[test]
-fn an_upgrade_waits_for_readers(rt: HostRuntime) -> Result<(), Fail> {
-    upgrades_row::<TokenRaw<HostRuntime>>(&rt, rt.alloc(), rt)
-}
-
 pub fn guards_row<
     R: RawRwLockUpgradeFair + RawRwLockUpgradeTimed<Duration = (), Instant = ()> + Drop,
 >(rt: &impl Abort, alloc: Global, waiter: R::Waiter) -> Result<(), Fail> {
@@ -280,11 +274,6 @@ pub fn guards_row<
     let mut desk = BesideDesk::new(Table::rwlock(alloc, 4, 1, 0)?);
     guards(rt, &mut desk, &lock, one);
     desk.verdict()
-}
-
-#[test]
-fn each_guard_is_given_up_and_taken_again(rt: HostRuntime) -> Result<(), Fail> {
-    guards_row::<TokenRaw<HostRuntime>>(&rt, rt.alloc(), rt)
 }
 
 pub fn transitions_row<
@@ -300,11 +289,6 @@ pub fn transitions_row<
     desk.verdict()
 }
 
-#[test]
-fn a_guard_goes_up_and_down_in_place(rt: HostRuntime) -> Result<(), Fail> {
-    transitions_row::<TokenRaw<HostRuntime>>(&rt, rt.alloc(), rt)
-}
-
 pub fn readers_row<R: RawRwLockUpgradeDowngrade + Drop>(
     alloc: Global,
     waiter: R::Waiter,
@@ -314,9 +298,4 @@ pub fn readers_row<R: RawRwLockUpgradeDowngrade + Drop>(
     let mut desk = BesideDesk::new(Table::rwlock(alloc, 4, 1, 0)?);
     readers(&mut desk, &lock, one, two);
     desk.verdict()
-}
-
-#[test]
-fn readers_stop_at_their_limit(rt: HostRuntime) -> Result<(), Fail> {
-    readers_row::<TokenRaw<HostRuntime>>(rt.alloc(), rt)
 }
