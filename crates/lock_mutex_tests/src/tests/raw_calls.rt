@@ -5,6 +5,7 @@ use lock_base::raw::Fault;
 use lock_guard::raw::{RawMutex, RawMutexFair, RawMutexTimed};
 use lock_mutex::{ArcMutexGuard, MappedMutexGuard, Mutex, MutexGuard};
 use lock_raws::TokenRaw;
+use lock_raws_word::WordRaw;
 use lock_test_support::project::{Item0, Nth};
 use lock_test_support::raw_lock::RawCall::{
     self, Bump, IsLocked, Lock, TryLock, TryLockFor, TryLockUntil, Unlock, UnlockFair,
@@ -74,7 +75,8 @@ fn all_calls<R: RawMutexFair + Drop, W: Wait + Drop>(
 
 #[test]
 fn raw_calls_of_a_mutex(rt: HostRuntime) -> Result<(), Fail> {
-    all_calls::<TokenRaw<HostRuntime>, HostRuntime>(rt.alloc(), rt, rt)
+    all_calls::<TokenRaw<HostRuntime>, HostRuntime>(rt.alloc(), rt, rt)?;
+    all_calls::<WordRaw<HostRuntime>, HostRuntime>(rt.alloc(), rt, rt)
 }
 
 fn acquisitions_by_an_arc<W: Wait + Drop, R: RawMutexTimed<Duration = u64, Instant = u64> + Drop>(
@@ -134,7 +136,8 @@ fn all_calls_by_an_arc<R: RawMutexFair + Drop, W: Wait + Drop>(
 
 #[test]
 fn raw_calls_by_an_arc_of_a_mutex(rt: HostRuntime) -> Result<(), Fail> {
-    all_calls_by_an_arc::<TokenRaw<HostRuntime>, HostRuntime>(rt.alloc(), rt, rt)
+    all_calls_by_an_arc::<TokenRaw<HostRuntime>, HostRuntime>(rt.alloc(), rt, rt)?;
+    all_calls_by_an_arc::<WordRaw<HostRuntime>, HostRuntime>(rt.alloc(), rt, rt)
 }
 
 #[test]
@@ -148,5 +151,21 @@ fn a_bump_by_default_is_a_fair_unlock_and_a_lock(rt: HostRuntime) -> Result<(), 
         Lock(Exclusive),
         Unlock(Exclusive),
     ]);
+    watch.verdict()
+}
+
+fn is_refused<R: RawMutex>(mutex: &Mutex<R, u64>) -> bool {
+    mutex.try_lock().is_none()
+}
+
+#[test]
+fn a_refused_try_gives_nothing_back(rt: HostRuntime) -> Result<(), Fail> {
+    let raw: Liar<HostRuntime> = RawMutex::new(rt.alloc(), rt)?;
+    let raw = raw.refusing();
+    let mut watch = Watch::new(rt, raw.calls()?);
+    let mutex = Mutex::from_raw(raw, 5)?;
+    assert!(rt; is_refused(&mutex));
+    watch.saw(&[TryLock(Exclusive)]);
+    assert_eq!(rt; mutex.into_inner(), 5);
     watch.verdict()
 }

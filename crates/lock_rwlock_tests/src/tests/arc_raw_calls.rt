@@ -7,6 +7,7 @@ use lock_guard::raw::{
     RawRwLockUpgradeTimed,
 };
 use lock_raws::TokenRaw;
+use lock_raws_word::WordRaw;
 use lock_rwlock::{FairMode, RwLock};
 use lock_rwlock_arc::{
     ArcRwLockGuard, ArcRwLockUpgradableReadGuard, ArcRwLockWriteGuard, RwLockArc, RwLockArcTimed,
@@ -131,21 +132,30 @@ fn timed_upgrades<W: Wait + Drop, R: RawRwLockUpgradeTimed<Duration = u64, Insta
     let guard = RwLock::upgradable_read_arc(lock)?;
     drop(ArcRwLockUpgradableReadGuard::try_upgrade_until(guard, 4));
     watch.saw(&[Lock(Upgradable), TryUpgradeUntil(4), Unlock(Exclusive)]);
+    Ok(())
+}
+
+/// Upgrades that are refused beside a reader.
+fn refused_upgrades<W: Wait + Drop, R: RawRwLockUpgradeTimed<Duration = u64, Instant = u64> + Drop>(
+    lock: &Shareable<R>,
+    watch: &mut Watch<W, RawCall>,
+) -> Result<(), Fault> {
     let reader = RwLock::read_arc(lock)?;
+    watch.saw(&[Lock(Shared)]);
+    drop(ArcRwLockUpgradableReadGuard::try_upgrade(RwLock::upgradable_read_arc(lock)?));
+    watch.saw(&[Lock(Upgradable), TryUpgrade, Unlock(Upgradable)]);
     let guard = RwLock::upgradable_read_arc(lock)?;
-    drop(ArcRwLockUpgradableReadGuard::try_upgrade(guard));
-    watch.saw(&[
-        Lock(Shared),
-        Lock(Upgradable),
-        TryUpgrade,
-        Unlock(Upgradable),
-    ]);
+    drop(ArcRwLockUpgradableReadGuard::try_upgrade_for(guard, 3));
+    watch.saw(&[Lock(Upgradable), TryUpgradeFor(3), Unlock(Upgradable)]);
+    let guard = RwLock::upgradable_read_arc(lock)?;
+    drop(ArcRwLockUpgradableReadGuard::try_upgrade_until(guard, 4));
+    watch.saw(&[Lock(Upgradable), TryUpgradeUntil(4), Unlock(Upgradable)]);
     drop(reader);
     watch.saw(&[Unlock(Shared)]);
     Ok(())
 }
 
-/// Calls under an upgraded guard, whose closure looks at the raw lock, and one that is not made beside a reader.
+/// Calls under an upgraded guard, and those that are not made beside a reader. The closure looks at the raw lock.
 fn calls_under_an_upgrade<
     W: Wait + Drop,
     R: RawRwLockUpgradeTimed<Duration = u64, Instant = u64> + RawRwLockUpgradeDowngrade + Drop,
@@ -161,7 +171,14 @@ fn calls_under_an_upgrade<
     watch.saw(&[TryUpgradeUntil(4), IsLocked, DowngradeToUpgradable]);
     let reader = RwLock::read_arc(lock)?;
     guard.try_with_upgraded(|_| lock.is_locked());
-    watch.saw(&[Lock(Shared), TryUpgrade]);
+    guard.try_with_upgraded_for(3, |_| lock.is_locked());
+    guard.try_with_upgraded_until(4, |_| lock.is_locked());
+    watch.saw(&[
+        Lock(Shared),
+        TryUpgrade,
+        TryUpgradeFor(3),
+        TryUpgradeUntil(4),
+    ]);
     drop(reader);
     watch.saw(&[Unlock(Shared)]);
     Ok(())
@@ -180,11 +197,13 @@ fn all_calls<R: RawRwLockUpgradeFair + RawRwLockUpgradeDowngrade + Drop, W: Wait
     calls_of_guards(&lock, &mut watch)?;
     transitions(&lock, &mut watch)?;
     timed_upgrades(&lock, &mut watch)?;
+    refused_upgrades(&lock, &mut watch)?;
     calls_under_an_upgrade(&lock, &mut watch)?;
     watch.verdict()
 }
 
 #[test]
 fn raw_calls_by_an_arc_of_a_rwlock(rt: HostRuntime) -> Result<(), Fail> {
-    all_calls::<TokenRaw<HostRuntime>, HostRuntime>(rt.alloc(), rt, rt)
+    all_calls::<TokenRaw<HostRuntime>, HostRuntime>(rt.alloc(), rt, rt)?;
+    all_calls::<WordRaw<HostRuntime>, HostRuntime>(rt.alloc(), rt, rt)
 }

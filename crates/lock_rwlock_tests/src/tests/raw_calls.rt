@@ -7,6 +7,7 @@ use lock_guard::raw::{
     RawRwLockUpgradeFair, RawRwLockUpgradeTimed,
 };
 use lock_raws::TokenRaw;
+use lock_raws_word::WordRaw;
 use lock_rwlock::{
     MappedRwLockReadGuard, MappedRwLockWriteGuard, RwLock, RwLockGuard, RwLockReadGuard,
     RwLockUpgradableReadGuard, RwLockWriteGuard,
@@ -195,7 +196,8 @@ fn calls_of_acquisitions_and_guards<R: WholeRaw, W: Wait + Drop>(
 
 #[test]
 fn raw_calls_of_acquisitions_and_guards(rt: HostRuntime) -> Result<(), Fail> {
-    calls_of_acquisitions_and_guards::<TokenRaw<HostRuntime>, HostRuntime>(rt.alloc(), rt, rt)
+    calls_of_acquisitions_and_guards::<TokenRaw<HostRuntime>, HostRuntime>(rt.alloc(), rt, rt)?;
+    calls_of_acquisitions_and_guards::<WordRaw<HostRuntime>, HostRuntime>(rt.alloc(), rt, rt)
 }
 
 fn calls_of_transitions<R: WholeRaw, W: Wait + Drop>(
@@ -214,7 +216,8 @@ fn calls_of_transitions<R: WholeRaw, W: Wait + Drop>(
 
 #[test]
 fn raw_calls_of_transitions(rt: HostRuntime) -> Result<(), Fail> {
-    calls_of_transitions::<TokenRaw<HostRuntime>, HostRuntime>(rt.alloc(), rt, rt)
+    calls_of_transitions::<TokenRaw<HostRuntime>, HostRuntime>(rt.alloc(), rt, rt)?;
+    calls_of_transitions::<WordRaw<HostRuntime>, HostRuntime>(rt.alloc(), rt, rt)
 }
 
 fn bumps_by_default<R: RawRwLockUpgradeFair>(raw: &R) {
@@ -242,5 +245,34 @@ fn a_bump_by_default_is_a_fair_unlock_and_a_lock(rt: HostRuntime) -> Result<(), 
         Lock(Upgradable),
         Unlock(Upgradable),
     ]);
+    watch.verdict()
+}
+
+/// Which tries are refused, that to upgrade among them.
+fn refused<R: RawRwLockUpgrade>(lock: &RwLock<R, u64>) -> [bool; 4] {
+    [
+        lock.try_read().is_none(),
+        lock.try_write().is_none(),
+        lock.try_upgradable_read().is_none(),
+        RwLockUpgradableReadGuard::try_upgrade(lock.upgradable_read()).is_err(),
+    ]
+}
+
+#[test]
+fn a_refused_try_gives_nothing_back(rt: HostRuntime) -> Result<(), Fail> {
+    let raw: Liar<HostRuntime> = RawRwLock::new(rt.alloc(), rt, 1)?;
+    let raw = raw.refusing();
+    let mut watch = Watch::new(rt, raw.calls()?);
+    let lock = RwLock::from_raw(raw, 5)?;
+    assert_eq!(rt; refused(&lock), [true; 4]);
+    watch.saw(&[
+        TryLock(Shared),
+        TryLock(Exclusive),
+        TryLock(Upgradable),
+        Lock(Upgradable),
+        TryUpgrade,
+        Unlock(Upgradable),
+    ]);
+    assert_eq!(rt; lock.into_inner(), 5);
     watch.verdict()
 }
