@@ -98,6 +98,7 @@ pub use lock_raws::TokenArbiter;
 pub use lock_raws::TokenRaw;
 pub use lock_raws::Unchanged;
 pub use lock_raws::UpgradableToken;
+pub use lock_raws::Wake;
 pub use lock_raws_timed::RealTime;
 pub use lock_raws_timed::TimedCondvar;
 pub use lock_raws_timed::TimedRaw;

@@ -2,8 +2,8 @@
 use lock_api::{
     AtomicStep, Attempt, Down, ExWant, Hold, NoTime, Outcome, PackedToken, PackedWord, Party,
     PartyState, PartyView, Place, Places, RealTime, SeatedLock, Sleepers, SleepingCondvar,
-    TimedCondvar, TimedRaw, Timing, WordCore, WordLock, WordRaw, WordRule, WordStep, WordToken,
-    World,
+    TimedCondvar, TimedRaw, Timing, Wake, WordCore, WordLock, WordRaw, WordRule, WordStep,
+    WordToken, World,
 };
 use std::clone::Clone;
 use std::sync::Wait;
@@ -16,6 +16,7 @@ pub fn word_raws<W: Wait + Clone + Drop + Clock, T: Timing<W>>(
     _core: &WordCore<W, T>,
     _lock: &WordLock,
     _token: &WordToken,
+    _wake: &Wake,
     _times: (&NoTime, &RealTime),
     _condvars: (&SleepingCondvar<WordRaw<W>>, &TimedCondvar<W>, &Sleepers),
 ) {}

@@ -62,16 +62,16 @@ impl WordLock {
 
     /// Waits until the word admits it.
     pub fn wait_for<W: Wait>(&self, waiter: &W, want: ExWant) {
-        if !self.try_for(want) && !self.try_again(want) {
-            self.sleep_for(waiter, want);
+        if !self.try_for(want) {
+            self.wait_on(waiter, want);
         }
     }
 
     /// Waits until the word admits an exclusive token. Who has to sleep announces itself, where no bar stands, and keeps
     /// out all that come later. Its bar ends as it gets in.
     pub fn wait_announced<W: Wait>(&self, waiter: &W) {
-        if !self.try_for(ExWant::Exclusive) && !self.try_again(ExWant::Exclusive) {
-            self.sleep_announced(waiter);
+        if !self.try_for(ExWant::Exclusive) {
+            self.wait_on_announced(waiter);
         }
     }
 
@@ -143,9 +143,12 @@ impl WordLock {
         self.insist(waiter, true, ExWant::Exclusive)
     }
 
-    /// Sleeps between tries.
+    /// Tries again, and then sleeps between tries. Not inlined, so that an acquisition that need not wait is short.
     #[inline(never)]
-    fn sleep_for<W: Wait>(&self, waiter: &W, want: ExWant) {
+    fn wait_on<W: Wait>(&self, waiter: &W, want: ExWant) {
+        if self.try_again(want) {
+            return;
+        }
         for _ in waiter.forever() {
             let announced = self.freed.announce();
             if self.insist_on(waiter, want) {
@@ -157,9 +160,12 @@ impl WordLock {
         unreachable!()
     }
 
-    /// Sleeps between tries for an exclusive token, under a bar of its own or another's.
+    /// `wait_on` an exclusive token, where it sleeps under a bar of its own or another's.
     #[inline(never)]
-    fn sleep_announced<W: Wait>(&self, waiter: &W) {
+    fn wait_on_announced<W: Wait>(&self, waiter: &W) {
+        if self.try_again(ExWant::Exclusive) {
+            return;
+        }
         let mut is_barring = false;
         for _ in waiter.forever() {
             let announced = self.freed.announce();

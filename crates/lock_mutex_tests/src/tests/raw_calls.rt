@@ -128,3 +128,19 @@ fn a_bump_by_default_is_a_fair_unlock_and_a_lock(rt: HostRuntime) -> Result<(), 
     ]);
     watch.verdict()
 }
+
+fn is_refused<R: RawMutex>(mutex: &Mutex<R, u64>) -> bool {
+    mutex.try_lock().is_none()
+}
+
+#[test]
+fn a_refused_try_gives_nothing_back(rt: HostRuntime) -> Result<(), Fail> {
+    let raw: Liar<HostRuntime> = RawMutex::new(rt.alloc(), rt)?;
+    let raw = raw.refusing();
+    let mut watch = Watch::new(rt, raw.calls()?);
+    let mutex = Mutex::from_raw(raw, 5)?;
+    assert!(rt; is_refused(&mutex));
+    watch.saw(&[TryLock(Exclusive)]);
+    assert_eq!(rt; mutex.into_inner(), 5);
+    watch.verdict()
+}

@@ -78,6 +78,10 @@ fn upgrade_and_downgrade<R: Abort, C: LockCore<Duration = (), Instant = ()>>(
     let shared = raw.downgrade(exclusive);
     let other = raw.try_lock_shared().expect(rt, "room for another");
     assert!(rt; raw.try_lock_exclusive().is_none());
+    assert!(rt; raw.try_lock_exclusive_for(()).is_none());
+    assert!(rt; raw.try_lock_exclusive_until(()).is_none());
+    raw.unlock_shared(other);
+    let other = raw.try_lock_shared().expect(rt, "no bar is left");
     raw.unlock_shared(other);
     let shared = raw.bump_shared(shared);
     raw.unlock_shared_fair(shared);

@@ -4,6 +4,7 @@ use lock_base::machine::PartyId;
 use lock_base::raw::Fault;
 use lock_guard::raw::{RawMutex, RawMutexFair, RawMutexTimed};
 use lock_raws::TokenRaw;
+use lock_raws_word::WordRaw;
 use lock_remutex::{
     ArcReentrantMutexGuard, MappedReentrantMutexGuard, ReentrantMutex, ReentrantMutexGuard,
 };
@@ -161,7 +162,8 @@ where
 
 #[test]
 fn raw_calls_of_a_remutex(rt: HostRuntime) -> Result<(), Fail> {
-    all_calls::<TokenRaw<HostRuntime>, HostRuntime>(rt.alloc(), rt, rt)
+    all_calls::<TokenRaw<HostRuntime>, HostRuntime>(rt.alloc(), rt, rt)?;
+    all_calls::<WordRaw<HostRuntime>, HostRuntime>(rt.alloc(), rt, rt)
 }
 
 fn acquisitions_by_an_arc<W: Wait + Drop, R: RawMutexTimed<Duration = u64, Instant = u64> + Drop>(
@@ -237,7 +239,8 @@ where
 
 #[test]
 fn raw_calls_by_an_arc_of_a_remutex(rt: HostRuntime) -> Result<(), Fail> {
-    all_calls_by_an_arc::<TokenRaw<HostRuntime>, HostRuntime>(rt.alloc(), rt, rt)
+    all_calls_by_an_arc::<TokenRaw<HostRuntime>, HostRuntime>(rt.alloc(), rt, rt)?;
+    all_calls_by_an_arc::<WordRaw<HostRuntime>, HostRuntime>(rt.alloc(), rt, rt)
 }
 
 /// A try of a party while another owns the lock.
@@ -267,5 +270,24 @@ fn a_token_that_came_too_early_is_given_back(rt: HostRuntime) -> Result<(), Fail
         Unlock(Exclusive),
         Unlock(Exclusive),
     ]);
+    watch.verdict()
+}
+
+fn is_refused<R: RawMutex>(lock: &ReentrantMutex<R, u8>, party: PartyId) -> Result<bool, Fault>
+where
+    R::Guard: Drop,
+{
+    let is_none = lock.try_lock(party)?.is_none();
+    Ok(is_none && !lock.is_owned_by_current_thread(party))
+}
+
+#[test]
+fn a_refused_try_gives_nothing_back(rt: HostRuntime) -> Result<(), Fail> {
+    let raw: Liar<HostRuntime> = RawMutex::new(rt.alloc(), rt)?;
+    let raw = raw.refusing();
+    let mut watch = Watch::new(rt, raw.calls()?);
+    let lock = ReentrantMutex::from_raw(raw, 5)?;
+    assert!(rt; is_refused(&lock, party(1)?)?);
+    watch.saw(&[TryLock(Exclusive)]);
     watch.verdict()
 }

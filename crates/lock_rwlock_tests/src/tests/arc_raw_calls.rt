@@ -2,13 +2,13 @@
 use lock_base::machine::Mode::{self, Exclusive, Shared, Upgradable};
 use lock_base::raw::Fault;
 use lock_guard::raw::{
-    RawRwLock, RawRwLockTimed, RawRwLockUpgrade, RawRwLockUpgradeDowngrade, RawRwLockUpgradeFair,
+    RawRwLock, RawRwLockTimed, RawRwLockUpgradeDowngrade, RawRwLockUpgradeFair,
     RawRwLockUpgradeTimed,
 };
 use lock_rwlock::{FairMode, RwLock};
 use lock_rwlock_arc::{
-    ArcRwLockGuard, ArcRwLockReadGuard, ArcRwLockUpgradableReadGuard, ArcRwLockWriteGuard,
-    RwLockArc, RwLockArcTimed, RwLockArcUpgrade, RwLockArcUpgradeTimed,
+    ArcRwLockGuard, ArcRwLockUpgradableReadGuard, ArcRwLockWriteGuard, RwLockArc, RwLockArcTimed,
+    RwLockArcUpgrade, RwLockArcUpgradeTimed,
 };
 use lock_test_support::raw_lock::RawCall::{
     self, Bump, Downgrade, DowngradeToUpgradable, DowngradeUpgradable, IsLocked, Lock, TryLock,
@@ -128,23 +128,27 @@ fn timed_upgrades<W: Wait + Drop, R: RawRwLockUpgradeTimed<Duration = u64, Insta
     Ok(())
 }
 
-/// An upgrade that is refused beside a reader, which was just acquired.
-fn refused_upgrade<W: Wait + Drop, R: RawRwLockUpgrade + Drop>(
-    reader: ArcRwLockReadGuard<R, u64>,
+/// Upgrades that are refused beside a reader.
+fn refused_upgrades<W: Wait + Drop, R: RawRwLockUpgradeTimed<Duration = u64, Instant = u64> + Drop>(
+    lock: &Shareable<R>,
     watch: &mut Watch<W, RawCall>,
 ) -> Result<(), Fault> {
-    let guard = RwLock::upgradable_read_arc(ArcRwLockGuard::rwlock(&reader))?;
-    drop(ArcRwLockUpgradableReadGuard::try_upgrade(guard));
-    watch.saw(&[
-        Lock(Shared),
-        Lock(Upgradable),
-        TryUpgrade,
-        Unlock(Upgradable),
-    ]);
+    let reader = RwLock::read_arc(lock)?;
+    watch.saw(&[Lock(Shared)]);
+    drop(ArcRwLockUpgradableReadGuard::try_upgrade(RwLock::upgradable_read_arc(lock)?));
+    watch.saw(&[Lock(Upgradable), TryUpgrade, Unlock(Upgradable)]);
+    let guard = RwLock::upgradable_read_arc(lock)?;
+    drop(ArcRwLockUpgradableReadGuard::try_upgrade_for(guard, 3));
+    watch.saw(&[Lock(Upgradable), TryUpgradeFor(3), Unlock(Upgradable)]);
+    let guard = RwLock::upgradable_read_arc(lock)?;
+    drop(ArcRwLockUpgradableReadGuard::try_upgrade_until(guard, 4));
+    watch.saw(&[Lock(Upgradable), TryUpgradeUntil(4), Unlock(Upgradable)]);
+    drop(reader);
+    watch.saw(&[Unlock(Shared)]);
     Ok(())
 }
 
-/// Calls under an upgraded guard, whose closure looks at the raw lock, and one that is not made beside a reader.
+/// Calls under an upgraded guard, and those that are not made beside a reader. The closure looks at the raw lock.
 fn calls_under_an_upgrade<
     W: Wait + Drop,
     R: RawRwLockUpgradeTimed<Duration = u64, Instant = u64> + RawRwLockUpgradeDowngrade + Drop,
@@ -160,7 +164,14 @@ fn calls_under_an_upgrade<
     watch.saw(&[TryUpgradeUntil(4), IsLocked, DowngradeToUpgradable]);
     let reader = RwLock::read_arc(lock)?;
     guard.try_with_upgraded(|_| lock.is_locked());
-    watch.saw(&[Lock(Shared), TryUpgrade]);
+    guard.try_with_upgraded_for(3, |_| lock.is_locked());
+    guard.try_with_upgraded_until(4, |_| lock.is_locked());
+    watch.saw(&[
+        Lock(Shared),
+        TryUpgrade,
+        TryUpgradeFor(3),
+        TryUpgradeUntil(4),
+    ]);
     drop(reader);
     watch.saw(&[Unlock(Shared)]);
     Ok(())
@@ -179,7 +190,6 @@ pub fn all_calls<
     calls_of_guards(lock, watch)?;
     transitions(lock, watch)?;
     timed_upgrades(lock, watch)?;
-    refused_upgrade(RwLock::read_arc(lock)?, watch)?;
-    watch.saw(&[Unlock(Shared)]);
+    refused_upgrades(lock, watch)?;
     calls_under_an_upgrade(lock, watch)
 }

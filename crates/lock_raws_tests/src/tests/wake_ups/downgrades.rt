@@ -1,5 +1,5 @@
 //! A downgrade lets in who sleeps, while its token is still out.
-use super::raws::raw_rwlock;
+use crate::tests::raws::raw_rwlock;
 use lock_guard::raw::{RawRwLock, RawRwLockDowngrade};
 use lock_raws::{LockCore, RawLock, TokenRaw};
 use lock_raws_word::WordRaw;

@@ -1,5 +1,5 @@
 //! Loops that hang where a wake-up is lost.
-use super::raws::raw_rwlock;
+use crate::tests::raws::raw_rwlock;
 use lock_guard::raw::{RawRwLock, RawRwLockDowngrade, RawRwLockUpgrade, RawRwLockUpgradeDowngrade};
 use lock_raws::{LockCore, RawLock, TokenRaw};
 use lock_raws_word::WordRaw;
