@@ -12,7 +12,6 @@ use crate::tests::condvar::asked::AskedCondvar;
 use lock_guard::raw::{RawMutex, RawMutexFair};
 use lock_mutex::{Condvar, Mutex};
 use lock_raws::TokenRaw;
-use lock_raws_word::WordRaw;
 use lock_test_support::raw_lock::{AskedRaw, Watch};
 use std::alloc::Global;
 use std::sync::{Arc, Wait};
@@ -63,6 +62,5 @@ fn calls<R: RawMutexFair + Drop, W: Wait + Drop>(
 
 #[test]
 fn each_call_is_the_raw_calls_that_are_wanted(rt: HostRuntime) -> Result<(), Fail> {
-    calls::<Honest, HostRuntime>(rt.alloc(), [rt; 3], [rt; 3])?;
-    calls::<WordRaw<HostRuntime>, HostRuntime>(rt.alloc(), [rt; 3], [rt; 3])
+    calls::<Honest, HostRuntime>(rt.alloc(), [rt; 3], [rt; 3])
 }

@@ -4,7 +4,6 @@ use lock_base::machine::PartyId;
 use lock_base::raw::Fault;
 use lock_guard::raw::{RawMutex, RawMutexFair, RawMutexTimed};
 use lock_raws::TokenRaw;
-use lock_raws_word::WordRaw;
 use lock_remutex::{
     ArcReentrantMutexGuard, MappedReentrantMutexGuard, ReentrantMutex, ReentrantMutexGuard,
 };
@@ -162,8 +161,7 @@ where
 
 #[test]
 fn raw_calls_of_a_remutex(rt: HostRuntime) -> Result<(), Fail> {
-    all_calls::<TokenRaw<HostRuntime>, HostRuntime>(rt.alloc(), rt, rt)?;
-    all_calls::<WordRaw<HostRuntime>, HostRuntime>(rt.alloc(), rt, rt)
+    all_calls::<TokenRaw<HostRuntime>, HostRuntime>(rt.alloc(), rt, rt)
 }
 
 fn acquisitions_by_an_arc<W: Wait + Drop, R: RawMutexTimed<Duration = u64, Instant = u64> + Drop>(
@@ -239,8 +237,7 @@ where
 
 #[test]
 fn raw_calls_by_an_arc_of_a_remutex(rt: HostRuntime) -> Result<(), Fail> {
-    all_calls_by_an_arc::<TokenRaw<HostRuntime>, HostRuntime>(rt.alloc(), rt, rt)?;
-    all_calls_by_an_arc::<WordRaw<HostRuntime>, HostRuntime>(rt.alloc(), rt, rt)
+    all_calls_by_an_arc::<TokenRaw<HostRuntime>, HostRuntime>(rt.alloc(), rt, rt)
 }
 
 /// A try of a party while another owns the lock.
