@@ -1,11 +1,12 @@
 //! A writer that waits keeps later readers out.
 use super::raws::raw_rwlock;
+use lock_base::raw::Fault;
 use lock_guard::raw::RawRwLock;
-use lock_raws::{LockCore, RawLock, TokenRaw};
-use lock_raws_word::WordRaw;
+use lock_raws::{LockCore, RawLock};
+use std::alloc::Global;
+use std::process::Abort;
 use std::sync::Wait;
 use std::sync::atomic::{AtomicBool, AtomicU64, Ordering};
-use std::test::Fail;
 use std::thread::{self, Threads};
 
 /// A lock, and what its threads tell one another.
@@ -110,20 +111,6 @@ fn write_beside_a_reader<R: Threads, L: ReadAndWrite + Sync>(rt: &R, lock: &L) -
     (is_refused, lock.lets_a_reader_in())
 }
 
-#[test]
-fn a_writer_bars_readers_of_a_table(rt: HostRuntime) -> Result<(), Fail> {
-    let raw: TokenRaw<HostRuntime> = raw_rwlock(rt.alloc(), rt, 4)?;
-    assert_eq!(rt; write_beside_a_reader(&rt, &Shared::new(raw)), (true, true));
-    Ok(())
-}
-
-#[test]
-fn a_writer_bars_readers_of_a_word(rt: HostRuntime) -> Result<(), Fail> {
-    let raw: WordRaw<HostRuntime> = raw_rwlock(rt.alloc(), rt, 4)?;
-    assert_eq!(rt; write_beside_a_reader(&rt, &Shared::new(raw)), (true, true));
-    Ok(())
-}
-
 fn read_twice<R: Threads, L: ReadAndWrite + Sync>(rt: &R, lock: &L) {
     thread::join(
         rt,
@@ -145,20 +132,18 @@ fn write_among_readers<R: Threads + Sync, L: ReadAndWrite + Sync>(rt: &R, lock: 
     );
 }
 
-#[test]
-fn readers_of_a_table_let_a_writer_in(rt: HostRuntime) -> Result<(), Fail> {
-    for readers in [4, 1] {
-        let raw: TokenRaw<HostRuntime> = raw_rwlock(rt.alloc(), rt, readers)?;
-        write_among_readers(&rt, &Shared::new(raw));
-    }
-    Ok(())
-}
-
-#[test]
-fn readers_of_a_word_let_a_writer_in(rt: HostRuntime) -> Result<(), Fail> {
-    for readers in [4, 1] {
-        let raw: WordRaw<HostRuntime> = raw_rwlock(rt.alloc(), rt, readers)?;
-        write_among_readers(&rt, &Shared::new(raw));
-    }
+/// All of these, with four readers, and the last with one, too.
+pub fn check<R: Threads + Abort + Sync, C: LockCore + Sync>(
+    rt: &R,
+    alloc: Global,
+    waiters: [C::Waiter; 3],
+) -> Result<(), Fault> {
+    let [first, second, last] = waiters;
+    let lock: Shared<C> = Shared::new(raw_rwlock(alloc, first, 4)?);
+    assert_eq!(rt; write_beside_a_reader(rt, &lock), (true, true));
+    let lock: Shared<C> = Shared::new(raw_rwlock(alloc, second, 4)?);
+    write_among_readers(rt, &lock);
+    let lock: Shared<C> = Shared::new(raw_rwlock(alloc, last, 1)?);
+    write_among_readers(rt, &lock);
     Ok(())
 }

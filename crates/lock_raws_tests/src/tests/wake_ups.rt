@@ -1,4 +1,4 @@
 //! Who waits for a raw lock is let on. Each test ends only where all are.
-mod downgrades;
-mod runs;
+pub mod downgrades;
+pub mod runs;
 mod steps;
