@@ -11,6 +11,7 @@ use std::clone::Clone;
 use std::sync::Wait;
 
 /// A raw lock as `TokenRaw`, which keeps a journal of its steps. The raw traits make it with `DEFAULT_ENTRIES`.
+/// A writer that waits keeps nobody out.
 pub type RecordingRaw<W> = RawLock<Monitor<RecordingArbiter<TableArbiter>, W>>;
 
 impl<A: Arbiter, W: Wait + Clone + Drop> RawLock<Monitor<RecordingArbiter<A>, W>> {
