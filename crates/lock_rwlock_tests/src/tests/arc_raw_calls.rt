@@ -2,13 +2,13 @@
 use lock_base::machine::Mode::{self, Exclusive, Shared, Upgradable};
 use lock_base::raw::Fault;
 use lock_guard::raw::{
-    RawRwLock, RawRwLockTimed, RawRwLockUpgradeDowngrade, RawRwLockUpgradeFair,
+    RawRwLock, RawRwLockTimed, RawRwLockUpgrade, RawRwLockUpgradeDowngrade, RawRwLockUpgradeFair,
     RawRwLockUpgradeTimed,
 };
 use lock_rwlock::{FairMode, RwLock};
 use lock_rwlock_arc::{
-    ArcRwLockGuard, ArcRwLockUpgradableReadGuard, ArcRwLockWriteGuard, RwLockArc, RwLockArcTimed,
-    RwLockArcUpgrade, RwLockArcUpgradeTimed,
+    ArcRwLockGuard, ArcRwLockReadGuard, ArcRwLockUpgradableReadGuard, ArcRwLockWriteGuard,
+    RwLockArc, RwLockArcTimed, RwLockArcUpgrade, RwLockArcUpgradeTimed,
 };
 use lock_test_support::raw_lock::RawCall::{
     self, Bump, Downgrade, DowngradeToUpgradable, DowngradeUpgradable, IsLocked, Lock, TryLock,
@@ -128,27 +128,23 @@ fn timed_upgrades<W: Wait + Drop, R: RawRwLockUpgradeTimed<Duration = u64, Insta
     Ok(())
 }
 
-/// Upgrades that are refused beside a reader.
-fn refused_upgrades<W: Wait + Drop, R: RawRwLockUpgradeTimed<Duration = u64, Instant = u64> + Drop>(
-    lock: &Shareable<R>,
+/// An upgrade that is refused beside a reader, which was just acquired.
+fn refused_upgrade<W: Wait + Drop, R: RawRwLockUpgrade + Drop>(
+    reader: ArcRwLockReadGuard<R, u64>,
     watch: &mut Watch<W, RawCall>,
 ) -> Result<(), Fault> {
-    let reader = RwLock::read_arc(lock)?;
-    watch.saw(&[Lock(Shared)]);
-    drop(ArcRwLockUpgradableReadGuard::try_upgrade(RwLock::upgradable_read_arc(lock)?));
-    watch.saw(&[Lock(Upgradable), TryUpgrade, Unlock(Upgradable)]);
-    let guard = RwLock::upgradable_read_arc(lock)?;
-    drop(ArcRwLockUpgradableReadGuard::try_upgrade_for(guard, 3));
-    watch.saw(&[Lock(Upgradable), TryUpgradeFor(3), Unlock(Upgradable)]);
-    let guard = RwLock::upgradable_read_arc(lock)?;
-    drop(ArcRwLockUpgradableReadGuard::try_upgrade_until(guard, 4));
-    watch.saw(&[Lock(Upgradable), TryUpgradeUntil(4), Unlock(Upgradable)]);
-    drop(reader);
-    watch.saw(&[Unlock(Shared)]);
+    let guard = RwLock::upgradable_read_arc(ArcRwLockGuard::rwlock(&reader))?;
+    drop(ArcRwLockUpgradableReadGuard::try_upgrade(guard));
+    watch.saw(&[
+        Lock(Shared),
+        Lock(Upgradable),
+        TryUpgrade,
+        Unlock(Upgradable),
+    ]);
     Ok(())
 }
 
-/// Calls under an upgraded guard, and those that are not made beside a reader. The closure looks at the raw lock.
+/// Calls under an upgraded guard, whose closure looks at the raw lock, and one that is not made beside a reader.
 fn calls_under_an_upgrade<
     W: Wait + Drop,
     R: RawRwLockUpgradeTimed<Duration = u64, Instant = u64> + RawRwLockUpgradeDowngrade + Drop,
@@ -164,14 +160,7 @@ fn calls_under_an_upgrade<
     watch.saw(&[TryUpgradeUntil(4), IsLocked, DowngradeToUpgradable]);
     let reader = RwLock::read_arc(lock)?;
     guard.try_with_upgraded(|_| lock.is_locked());
-    guard.try_with_upgraded_for(3, |_| lock.is_locked());
-    guard.try_with_upgraded_until(4, |_| lock.is_locked());
-    watch.saw(&[
-        Lock(Shared),
-        TryUpgrade,
-        TryUpgradeFor(3),
-        TryUpgradeUntil(4),
-    ]);
+    watch.saw(&[Lock(Shared), TryUpgrade]);
     drop(reader);
     watch.saw(&[Unlock(Shared)]);
     Ok(())
@@ -190,6 +179,7 @@ pub fn all_calls<
     calls_of_guards(lock, watch)?;
     transitions(lock, watch)?;
     timed_upgrades(lock, watch)?;
-    refused_upgrades(lock, watch)?;
+    refused_upgrade(RwLock::read_arc(lock)?, watch)?;
+    watch.saw(&[Unlock(Shared)]);
     calls_under_an_upgrade(lock, watch)
 }

@@ -2,14 +2,10 @@
 use lock_base::machine::Mode::{self, Exclusive, Shared, Upgradable};
 use lock_guard::guard::AcquireFair;
 use lock_guard::raw::{
-    RawRwLock, RawRwLockFair, RawRwLockTimed, RawRwLockUpgrade, RawRwLockUpgradeDowngrade,
-    RawRwLockUpgradeFair, RawRwLockUpgradeTimed,
+    RawRwLock, RawRwLockTimed, RawRwLockUpgrade, RawRwLockUpgradeDowngrade, RawRwLockUpgradeFair,
+    RawRwLockUpgradeTimed,
 };
-use lock_rwlock::{
-    MappedRwLockReadGuard, MappedRwLockWriteGuard, RwLock, RwLockGuard, RwLockReadGuard,
-    RwLockUpgradableReadGuard, RwLockWriteGuard,
-};
-use lock_test_support::project::{Item0, Nth};
+use lock_rwlock::{RwLock, RwLockGuard, RwLockUpgradableReadGuard, RwLockWriteGuard};
 use lock_test_support::raw_lock::RawCall::{
     self, Bump, Downgrade, DowngradeToUpgradable, DowngradeUpgradable, IsLocked, IsLockedExclusive,
     Lock, TryLock, TryLockFor, TryLockUntil, TryUpgrade, TryUpgradeFor, TryUpgradeUntil, Unlock,
@@ -151,24 +147,6 @@ fn calls_under_an_upgrade<
     watch.saw(&[Unlock(Shared)]);
 }
 
-fn calls_of_mapped_guards<W: Wait + Drop, R: RawRwLockFair>(
-    lock: &Paired<R>,
-    watch: &mut Watch<W, RawCall>,
-) {
-    drop(RwLockReadGuard::map(lock.read(), Item0));
-    watch.saw(&[Lock(Shared), Unlock(Shared)]);
-    MappedRwLockReadGuard::unlock_fair(RwLockReadGuard::map(lock.read(), Item0));
-    watch.saw(&[Lock(Shared), UnlockFair(Shared)]);
-    drop(RwLockReadGuard::try_map(lock.read(), Nth(2)));
-    watch.saw(&[Lock(Shared), Unlock(Shared)]);
-    drop(RwLockWriteGuard::map(lock.write(), Item0));
-    watch.saw(&[Lock(Exclusive), Unlock(Exclusive)]);
-    MappedRwLockWriteGuard::unlock_fair(RwLockWriteGuard::map(lock.write(), Item0));
-    watch.saw(&[Lock(Exclusive), UnlockFair(Exclusive)]);
-    drop(RwLockWriteGuard::try_map_or_err(lock.write(), Nth(2)));
-    watch.saw(&[Lock(Exclusive), Unlock(Exclusive)]);
-}
-
 /// All of these, on a lock that is free before and after each.
 pub fn all_calls<
     W: Wait + Drop,
@@ -181,7 +159,6 @@ pub fn all_calls<
     calls_of_a_guard(lock, lock.read(), Shared, watch);
     calls_of_a_guard(lock, lock.write(), Exclusive, watch);
     calls_of_a_guard(lock, lock.upgradable_read(), Upgradable, watch);
-    calls_of_mapped_guards(lock, watch);
     transitions(lock, watch);
     timed_upgrades(lock, watch);
     refused_upgrades(lock, watch);
@@ -213,34 +190,5 @@ fn a_bump_by_default_is_a_fair_unlock_and_a_lock(rt: HostRuntime) -> Result<(), 
         Lock(Upgradable),
         Unlock(Upgradable),
     ]);
-    watch.verdict()
-}
-
-/// Which tries are refused, that to upgrade among them.
-fn refused<R: RawRwLockUpgrade>(lock: &RwLock<R, u64>) -> [bool; 4] {
-    [
-        lock.try_read().is_none(),
-        lock.try_write().is_none(),
-        lock.try_upgradable_read().is_none(),
-        RwLockUpgradableReadGuard::try_upgrade(lock.upgradable_read()).is_err(),
-    ]
-}
-
-#[test]
-fn a_refused_try_gives_nothing_back(rt: HostRuntime) -> Result<(), Fail> {
-    let raw: Liar<HostRuntime> = RawRwLock::new(rt.alloc(), rt, 1)?;
-    let raw = raw.refusing();
-    let mut watch = Watch::new(rt, raw.calls()?);
-    let lock = RwLock::from_raw(raw, 5)?;
-    assert_eq!(rt; refused(&lock), [true; 4]);
-    watch.saw(&[
-        TryLock(Shared),
-        TryLock(Exclusive),
-        TryLock(Upgradable),
-        Lock(Upgradable),
-        TryUpgrade,
-        Unlock(Upgradable),
-    ]);
-    assert_eq!(rt; lock.into_inner(), 5);
     watch.verdict()
 }
