@@ -1,11 +1,11 @@
 //! A downgrade lets in who sleeps, while its token is still out.
-use crate::tests::raws::raw_rwlock;
-use lock_base::raw::Fault;
+use super::raws::raw_rwlock;
 use lock_guard::raw::{RawRwLock, RawRwLockDowngrade};
-use lock_raws::{LockCore, RawLock};
-use std::alloc::Global;
+use lock_raws::{LockCore, RawLock, TokenRaw};
+use lock_raws_word::WordRaw;
 use std::sync::Wait;
 use std::sync::atomic::{AtomicU64, Ordering};
+use std::test::Fail;
 use std::thread::{self, Threads};
 use std::time::{Clock, Duration};
 
@@ -56,14 +56,18 @@ fn downgrade_before_a_reader<R: Threads + Clock + Sync, L: LetsIn + Sync>(rt: &R
     thread::join(rt, || lock.hold(rt), || lock.read(rt));
 }
 
-/// A reader that comes before a downgrade.
-pub fn check<R: Threads + Clock + Sync, C: LockCore + Sync>(
-    rt: &R,
-    alloc: Global,
-    waiter: C::Waiter,
-) -> Result<(), Fault> {
-    let raw: RawLock<C> = raw_rwlock(alloc, waiter, 2)?;
+#[test]
+fn a_downgrade_of_a_table_wakes_a_reader(rt: HostRuntime) -> Result<(), Fail> {
+    let raw: TokenRaw<HostRuntime> = raw_rwlock(rt.alloc(), rt, 2)?;
     let has_read = AtomicU64::new(0);
-    downgrade_before_a_reader(rt, &Shared { raw, has_read });
+    downgrade_before_a_reader(&rt, &Shared { raw, has_read });
+    Ok(())
+}
+
+#[test]
+fn a_downgrade_of_a_word_wakes_a_reader(rt: HostRuntime) -> Result<(), Fail> {
+    let raw: WordRaw<HostRuntime> = raw_rwlock(rt.alloc(), rt, 2)?;
+    let has_read = AtomicU64::new(0);
+    downgrade_before_a_reader(&rt, &Shared { raw, has_read });
     Ok(())
 }

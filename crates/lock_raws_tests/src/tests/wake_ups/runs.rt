@@ -1,11 +1,10 @@
 //! Loops that hang where a wake-up is lost.
-use crate::tests::raws::raw_rwlock;
-use lock_base::raw::Fault;
+use super::raws::raw_rwlock;
 use lock_guard::raw::{RawRwLock, RawRwLockDowngrade, RawRwLockUpgrade, RawRwLockUpgradeDowngrade};
-use lock_raws::{LockCore, RawLock};
-use std::alloc::Global;
-use std::process::Abort;
+use lock_raws::{LockCore, RawLock, TokenRaw};
+use lock_raws_word::WordRaw;
 use std::sync::Wait;
+use std::test::Fail;
 use std::thread::{self, Threads};
 
 /// What threads do with a lock that they share.
@@ -65,19 +64,28 @@ fn in_episodes<R: Threads + Sync, C: Contend + Sync>(rt: &R, lock: &C, episodes:
     }
 }
 
-/// So many episodes over a lock of one reader, and as many over one of four.
-pub fn check<R: Threads + Abort + Sync, C: LockCore + Sync>(
-    rt: &R,
-    alloc: Global,
-    waiters: [C::Waiter; 2],
-    episodes: u32,
-) -> Result<(), Fault> {
-    let [first, last] = waiters;
-    let raw: RawLock<C> = raw_rwlock(alloc, first, 1)?;
-    in_episodes(rt, &raw, episodes);
+#[test]
+fn threads_wake_one_another_over_a_table(rt: HostRuntime) -> Result<(), Fail> {
+    for readers in [1, 4] {
+        let raw: TokenRaw<HostRuntime> = raw_rwlock(rt.alloc(), rt, readers)?;
+        in_episodes(&rt, &raw, 500);
+        assert!(rt; !RawRwLock::is_locked(&raw));
+    }
+    Ok(())
+}
+
+#[test]
+fn threads_wake_one_another_over_a_word_of_one_reader(rt: HostRuntime) -> Result<(), Fail> {
+    let raw: WordRaw<HostRuntime> = raw_rwlock(rt.alloc(), rt, 1)?;
+    in_episodes(&rt, &raw, 5_000);
     assert!(rt; !RawRwLock::is_locked(&raw));
-    let raw: RawLock<C> = raw_rwlock(alloc, last, 4)?;
-    in_episodes(rt, &raw, episodes);
+    Ok(())
+}
+
+#[test]
+fn threads_wake_one_another_over_a_word_of_four_readers(rt: HostRuntime) -> Result<(), Fail> {
+    let raw: WordRaw<HostRuntime> = raw_rwlock(rt.alloc(), rt, 4)?;
+    in_episodes(&rt, &raw, 5_000);
     assert!(rt; !RawRwLock::is_locked(&raw));
     Ok(())
 }

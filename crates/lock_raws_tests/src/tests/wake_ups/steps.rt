@@ -1,5 +1,5 @@
-//! What each kind of step lets on.
-use crate::tests::raws::raw_rwlock;
+//! Who waits for a raw lock is let on when there is room. Each test ends only where all are.
+use super::raws::raw_rwlock;
 use lock_guard::raw::{RawRwLock, RawRwLockDowngrade, RawRwLockUpgrade};
 use lock_raws::TokenRaw;
 use std::sync::Wait;
