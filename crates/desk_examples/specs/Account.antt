@@ -17,7 +17,7 @@ after (Withdraw cents) balance = balance - cents
 abbrev pub entry_of : Entry → Operation ℕ ℕ
 entry_of entry = record {
   fits = fits entry;
-  asked = λ balance. balance;
-  applied = after entry;
+  read_answer = λ balance. balance;
+  change_answer = after entry;
   after = after entry;
 }

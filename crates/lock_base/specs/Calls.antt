@@ -141,7 +141,7 @@ module _ {T A : Type 0} where
   -- the operation is asked
   abbrev pub ask : Machine T → ℕ → ℕ → Operation T A → Turn A T
   ask m party guard op = on_guard m held_guard party guard (λ e.
-      if op.fits m.value then give (op.asked m.value) m else refuse m NoFocus)
+      if op.fits m.value then give (op.read_answer m.value) m else refuse m NoFocus)
 
   -- the machine with the value that the operation leaves
   abbrev pub after_operation : Machine T → Operation T A → Machine T
@@ -150,13 +150,13 @@ module _ {T A : Type 0} where
   -- the operation is applied
   abbrev pub change : Machine T → ℕ → ℕ → Operation T A → Turn A T
   change m party guard op = on_guard m writing_guard party guard (λ e.
-      if op.fits m.value then give (op.applied m.value) (after_operation m op) else refuse m NoFocus)
+      if op.fits m.value then give (op.change_answer m.value) (after_operation m op) else refuse m NoFocus)
 
   -- the operation is applied by an upgradable guard that is exclusive for that time, where it is the only one held
   abbrev pub with_upgraded : Machine T → ℕ → ℕ → Operation T A → Turn (Option A) T
   with_upgraded m party guard op = on_guard m upgradable_guard party guard (λ e.
       if op.fits m.value
       then (if may_become (held_bag m.entries) Exclusive
-      then give (Some (op.applied m.value)) (after_operation m op)
+      then give (Some (op.change_answer m.value)) (after_operation m op)
       else give None m)
       else refuse m NoFocus)

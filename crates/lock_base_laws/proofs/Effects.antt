@@ -256,8 +256,8 @@ module _ {O T A : Type 0} (meaning : O → Operation T A) (m : Machine T) where
       of_both (λ turn. HasEffect O T A m call (response_in_form form Reply.Answer turn)) ((meaning op).fits m.value) _ _
       (λ fits. of_both (λ turn. HasEffect O T A m call (response_in_form form Reply.Answer turn))
       (may_become (held_bag m.entries) Exclusive) _ _
-      (λ sole. some_given O T A m call form Reply.Answer ((meaning op).applied m.value) (after_operation m (meaning op))
-      (written_upgraded guard e ((meaning op).applied m.value) ((meaning op).after m.value)
+      (λ sole. some_given O T A m call form Reply.Answer ((meaning op).change_answer m.value) (after_operation m (meaning op))
+      (written_upgraded guard e ((meaning op).change_answer m.value) ((meaning op).after m.value)
       (out_of m.register upgradable_guard (id_of party) guard e meets)
       (rwlock_is m.kind meets.on_kind) (upgradable_is e.mode meets.in_mode) sole))
       (λ beside. none_kept O T A m call form Reply.Answer))
@@ -274,7 +274,7 @@ module _ {O T A : Type 0} (meaning : O → Operation T A) (m : Machine T) where
   of_change party guard op =
       of_response O T A m (Call.Change party guard op) Reply.Answer writing_guard (id_of party) guard _
       (λ e meets. of_both (λ turn. HasEffect O T A m (Call.Change party guard op) (response_of Reply.Answer turn)) ((meaning op).fits m.value) _ _
-      (λ fits. written guard e ((meaning op).applied m.value) ((meaning op).after m.value)
+      (λ fits. written guard e ((meaning op).change_answer m.value) ((meaning op).after m.value)
       (out_of m.register writing_guard (id_of party) guard e meets)
       (not-true (is_reentrant m.kind) meets.on_kind) (exclusive_is e.mode meets.in_mode))
       (λ unfit. kept refl))

@@ -41,7 +41,7 @@ fits (Add k n) pair = is_item k && is_signed (item k pair +ℤ n)
 abbrev pub meaning : PairOp → Operation Pair ℤ
 meaning op = record {
   fits = fits op;
-  asked = item (item_of op);
-  applied = new_item op;
+  read_answer = item (item_of op);
+  change_answer = new_item op;
   after = λ pair. with_item (item_of op) (new_item op pair) pair;
 }

@@ -13,8 +13,8 @@ impl Op<u64> for Add {
 
     ghost meaning = { λ add. record {
       fits = λ value. nat_le value (2 ^ 64 - 1 - add.0);
-      asked = λ value. value;
-      applied = λ value. value + add.0;
+      read_answer = λ value. value;
+      change_answer = λ value. value + add.0;
       after = λ value. value + add.0;
     } };
 

@@ -10,7 +10,12 @@ pub struct Put(pub i64);
 impl Op<i64> for Put {
     type Answer = i64;
 
-    ghost meaning = { λ put. record { fits = λ _. true; asked = λ value. value; applied = λ _. put.0; after = λ _. put.0 } };
+    ghost meaning = { λ put. record {
+      fits = λ _. true;
+      read_answer = λ value. value;
+      change_answer = λ _. put.0;
+      after = λ _. put.0;
+    } };
 
     fn fits(&self, _value: &i64) -> bool {
         true
