@@ -7,7 +7,7 @@ use Rattle.lock_base.specs.Limits.{IsLimit}
 use Rattle.lock_word.specs.declared.party.PartyState.{PartyState}
 use Rattle.lock_word.specs.declared.step.Outcome.{Outcome}
 use Rattle.lock_word.specs.Holders.{holder_at}
-use Rattle.lock_word.specs.Worlds.{WorldState, new_world, stepped}
+use Rattle.lock_word.specs.Worlds.{WorldState, new_world, after_step}
 use Rattle.lock_script.specs.declared.answer.Answer.{Answer}
 use Rattle.lock_script.specs.declared.world_call.WorldCall.{WorldCall}
 use Rattle.lock_script.specs.declared.world_maker.WorldMaker.{WorldMaker}
@@ -45,7 +45,7 @@ party_announced (Some party) = truth_answer (Ok party.held.announced)
 
 -- what a line is answered
 abbrev pub call_answer : WorldState → WorldCall → Answer
-call_answer world (WorldCall.Step step) = step_answer (stepped world step).outcome
+call_answer world (WorldCall.Step step) = step_answer (after_step world step).outcome
 call_answer world WorldCall.Word = Answer.Reply (Reply.Count world.word)
 call_answer world (WorldCall.Wins party) = party_count (λ me. me.wins) (holder_at world.parties party)
 call_answer world (WorldCall.Fails party) = party_count (λ me. me.fails) (holder_at world.parties party)
@@ -53,7 +53,7 @@ call_answer world (WorldCall.Announced party) = party_announced (holder_at world
 
 -- the world that it leaves
 abbrev pub world_after_call : WorldState → WorldCall → WorldState
-world_after_call world (WorldCall.Step step) = (stepped world step).world
+world_after_call world (WorldCall.Step step) = (after_step world step).world
 world_after_call world WorldCall.Word = world
 world_after_call world (WorldCall.Wins party) = world
 world_after_call world (WorldCall.Fails party) = world

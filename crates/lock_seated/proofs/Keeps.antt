@@ -23,8 +23,8 @@ use Rattle.lock_word.proofs.Bars.{announced_shows, bar_of_rule}
 use Rattle.lock_word.proofs.Guards.{GainsNoneOrUnbarred, guards_of_exchange, guards_of_take}
 use Rattle.lock_word.proofs.Rules.{keeps_load, keeps_lost, keeps_exchange, keeps_take, keeps_newcomer, amount_within, part_of_parties, shows, fails_bounded}
 use Rattle.lock_seated.specs.declared.rule.PartyView.{PartyView}
-use Rattle.lock_seated.specs.Seats.{beside, parties_of, GuardsOnlyEnd, IsKept, EveryStateKeepsRule}
-use Rattle.lock_seated.specs.Plays.{Self, view_loaded, view_won, view_lost, Loads, Exchanges, Takes}
+use Rattle.lock_seated.specs.Seats.{newcomer_beside, parties_of, GuardsOnlyEnd, IsKept, EveryStateKeepsRule}
+use Rattle.lock_seated.specs.Plays.{Self, view_after_load, view_after_win, view_after_fail, Loads, Exchanges, Takes}
 
 -- the view of a seat, in the words of std
 seat_at : {A : Type 0} (xs : List A) (k : ℕ) (x : A) → get_elem? xs k ≡ some x → slice_get xs k ≡ Some x
@@ -75,10 +75,10 @@ loads limit slots id me s kept same at small =
     let word = slice_index s.words 0 in
     let there = party_at s.views id me.0 at in
     let readers = kept.known id me.0 at in (
-      (view_loaded me word).0,
+      (view_after_load me word).0,
       keeps,
       tt,
-      left limit id word s (view_loaded me word).0 kept readers
+      left limit id word s (view_after_load me word).0 kept readers
           (keeps_load limit word (parties_of s.views) id me.0.state kept.rule there) (inl (omega arith))
           (λ announced. omega arith),
       (
@@ -100,7 +100,7 @@ exchanges limit slots id me want old new is_open is_last holds admits is s kept 
     (λ n. (w : PartyView) × (a : Act (Unit {0})) × Valid s.homes me.1 a × IsKept limit (stepped s 0 n id me.1 w a)
     × Exchanges want (step slots 0 old new none) me word (w, carried_after me.1 a))
     (λ hit.
-    let v = (view_won me (step_of_want want)).0 in
+    let v = (view_after_win me (step_of_want want)).0 in
     let here : IsTrue (word_admits me.0.state.held.announced limit word want)
     = subst (λ n. IsTrue (word_admits me.0.state.held.announced limit n want)) (sym hit) admits in
     let rule = keeps_exchange limit word parties id me.0.state want kept.range kept.rule there holds here in
@@ -115,7 +115,7 @@ exchanges limit slots id me want old new is_open is_last holds admits is s kept 
       ((λ h. refl), (λ miss. absurd (miss hit))),
     ))
     (λ miss.
-    let v = (view_lost me).0 in
+    let v = (view_after_fail me).0 in
     let rule = keeps_lost limit word parties id old me.0.state kept.rule there is_open miss in (
       v,
       keeps,
@@ -155,7 +155,7 @@ takes limit slots id me down k holds is s kept same at small =
     let parties = parties_of s.views in
     let there = party_at s.views id me.0 at in
     let readers = kept.known id me.0 at in
-    let v = (view_won me (step_of_down down)).0 in
+    let v = (view_after_win me (step_of_down down)).0 in
     let within = amount_within limit word parties id me.0.state down kept.rule there holds in
     let next : word - amount down ≡ (word + (2 ^ 64 - k)) % 2 ^ 64
     = ap (λ (j : ℕ). word - j) (sym is) ∙ subtracted word k (omega arith) small in
@@ -171,7 +171,7 @@ takes limit slots id me down k holds is s kept same at small =
       (refl, few_held limit word parties id me.0.state kept.range kept.rule there),
     )
 
-pub parts : (limit id : ℕ) (v : PartyView) → Splits (IsKept limit) id v v (beside v)
+pub parts : (limit id : ℕ) (v : PartyView) → Splits (IsKept limit) id v v (newcomer_beside v)
 parts limit id v s kept at =
     let again : set s.views id v ≡ s.views = set_again s.views id v at in
     let word = slice_index s.words 0 in
@@ -181,13 +181,13 @@ parts limit id v s kept at =
       one_word = kept.one_word;
       range = kept.range;
       known = λ k w h.
-          elim (at_snoc s.views (beside v) w k h) [
+          elim (at_snoc s.views (newcomer_beside v) w k h) [
             | inl e ↦ kept.known k w e
             | inr e ↦ sym (ap (λ (x : PartyView). x.readers) e) ∙ readers
           ];
-      rule = rw (map-append (λ (x : PartyView). x.state) s.views (beside v ∷ [])) longer;
+      rule = rw (map-append (λ (x : PartyView). x.state) s.views (newcomer_beside v ∷ [])) longer;
       guarded = λ k w h.
-          elim (at_snoc s.views (beside v) w k h) [
+          elim (at_snoc s.views (newcomer_beside v) w k h) [
             | inl e ↦ kept.guarded k w e
             | inr e ↦ subst (λ (x : PartyView). GuardsOnlyEnd x word) e (λ announced. absurd (false≢true announced))
           ];

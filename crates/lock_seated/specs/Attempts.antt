@@ -6,19 +6,19 @@ use Rattle.lock_word.specs.Word.{word_admits, step_of_want}
 use Rattle.lock_word.specs.Rule.{Shows}
 use Rattle.lock_seated.specs.declared.attempt.Attempt.{Attempt}
 use Rattle.lock_seated.specs.declared.attempt.Attempt.TheVariants.{Done, NotAdmitted, Changed}
-use Rattle.lock_seated.specs.Standing.{Standing, loaded, won_by, lost_by}
+use Rattle.lock_seated.specs.Standing.{Standing, after_load, after_own_step, after_lost_exchange}
 
 -- the word was loaded, and does not admit what was wanted
 pub record IsNotAdmitted (want : ExWant) (before : Standing) (word : ℕ) (after : Standing) : Type 0 where
-  pub party : after ≡ loaded before word
+  pub party : after ≡ after_load before word
   pub refuses : word_admits before.state.held.announced before.lock.readers word want ≡ false
   pub shows : Shows before.lock.readers word before.state.held
 
 -- an attempt loads once, and then exchanges at most once
 abbrev pub Attempted : ExWant → Standing → Attempt → Standing → Type 0
-Attempted want before Done after = after ≡ won_by (loaded before after.last) (step_of_want want)
+Attempted want before Done after = after ≡ after_own_step (after_load before after.last) (step_of_want want)
 Attempted want before (NotAdmitted word) after = IsNotAdmitted want before word after
-Attempted want before Changed after = after ≡ lost_by (loaded before after.last)
+Attempted want before Changed after = after ≡ after_lost_exchange (after_load before after.last)
 
 -- attempts that did not succeed, as many as there were
 pub record Tried (before after : Standing) : Type 0 where

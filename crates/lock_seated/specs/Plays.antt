@@ -6,7 +6,7 @@ use Rattle.lock_word.specs.declared.want.ExWant.{ExWant}
 use Rattle.lock_word.specs.declared.down.Down.{Down}
 use Rattle.lock_word.specs.declared.word_step.WordStep.{WordStep}
 use Rattle.lock_word.specs.Word.{step_of_want, step_of_down}
-use Rattle.lock_word.specs.Turns.{with_load, won, lost}
+use Rattle.lock_word.specs.Turns.{with_load, after_win, after_fail}
 use Rattle.lock_word.specs.Rule.{Shows}
 use Rattle.lock_seated.specs.declared.rule.PartyView.{PartyView}
 use Rattle.lock_seated.specs.Seats.{GuardsOnlyEnd}
@@ -15,24 +15,24 @@ use Rattle.lock_seated.specs.Seats.{GuardsOnlyEnd}
 abbrev pub Self : Type 0
 Self = Me (Unit {0}) PartyView
 
-abbrev pub view_loaded : Self → ℕ → Self
-view_loaded me word = (record me.0 { state = with_load me.0.state word; last = word; loads = me.0.loads + 1 }, me.1)
+abbrev pub view_after_load : Self → ℕ → Self
+view_after_load me word = (record me.0 { state = with_load me.0.state word; last = word; loads = me.0.loads + 1 }, me.1)
 
-abbrev pub view_won : Self → WordStep → Self
-view_won me step = (record me.0 { state = won me.0.state step }, me.1)
+abbrev pub view_after_win : Self → WordStep → Self
+view_after_win me step = (record me.0 { state = after_win me.0.state step }, me.1)
 
-abbrev pub view_lost : Self → Self
-view_lost me = (record me.0 { state = lost me.0.state }, me.1)
+abbrev pub view_after_fail : Self → Self
+view_after_fail me = (record me.0 { state = after_fail me.0.state }, me.1)
 
 -- a load tells its party the word, and what that says of all that is held
 abbrev pub Loads : Step (Unit {0}) → Self → ℕ → Self → Type 0
 Loads s me found after =
-    (after ≡ view_loaded me found) × Shows me.0.readers found me.0.state.held × GuardsOnlyEnd me.0 found
+    (after ≡ view_after_load me found) × Shows me.0.readers found me.0.state.held × GuardsOnlyEnd me.0 found
 
 abbrev pub Exchanges : ExWant → Step (Unit {0}) → Self → ℕ → Self → Type 0
 Exchanges want s me found after =
-    (found ≡ s.first → after ≡ view_won me (step_of_want want)) × (found ≢ s.first → after ≡ view_lost me)
+    (found ≡ s.first → after ≡ view_after_win me (step_of_want want)) × (found ≢ s.first → after ≡ view_after_fail me)
 
 -- what is held is little, so a count of it may rise by one
 abbrev pub Takes : Down → Step (Unit {0}) → Self → ℕ → Self → Type 0
-Takes down s me found after = (after ≡ view_won me (step_of_down down)) × (tokens me.0.state.held.bag < 2 ^ 63)
+Takes down s me found after = (after ≡ view_after_win me (step_of_down down)) × (tokens me.0.state.held.bag < 2 ^ 63)

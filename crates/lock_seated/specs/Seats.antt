@@ -16,8 +16,8 @@ abbrev pub newcomer : ℕ → PartyView
 newcomer readers = record { state = idle; last = 0; loads = 0; readers = readers }
 
 -- what a split gives to the second
-abbrev pub beside : PartyView → PartyView
-beside v = newcomer v.readers
+abbrev pub newcomer_beside : PartyView → PartyView
+newcomer_beside v = newcomer v.readers
 
 abbrev pub parties_of : List PartyView → List PartyState
 parties_of views = map (λ (v : PartyView). v.state) views

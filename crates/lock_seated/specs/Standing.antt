@@ -3,7 +3,7 @@ use Rattle.std.specs.Prelude.{ℕ, ◌+◌}
 use Rattle.atomic_table.specs.Seated.{TableId}
 use Rattle.lock_word.specs.declared.word_step.WordStep.{WordStep}
 use Rattle.lock_word.specs.declared.party.PartyState.{PartyState}
-use Rattle.lock_word.specs.Turns.{idle, with_load, won, lost}
+use Rattle.lock_word.specs.Turns.{idle, with_load, after_win, after_fail}
 
 -- a lock: which one it is, and how many may read
 pub record Lock : Type 0 where
@@ -23,13 +23,13 @@ abbrev pub new_party : Lock → ℕ → Standing
 new_party lock number = record { lock = lock; number = number; state = idle; last = 0; loads = 0 }
 
 -- the party once it has loaded this word
-abbrev pub loaded : Standing → ℕ → Standing
-loaded party word = record party { state = with_load party.state word; last = word; loads = party.loads + 1 }
+abbrev pub after_load : Standing → ℕ → Standing
+after_load party word = record party { state = with_load party.state word; last = word; loads = party.loads + 1 }
 
 -- the party once a step of its own has changed its modes
-abbrev pub won_by : Standing → WordStep → Standing
-won_by party step = record party { state = won party.state step }
+abbrev pub after_own_step : Standing → WordStep → Standing
+after_own_step party step = record party { state = after_win party.state step }
 
 -- the party once its exchange found another word
-abbrev pub lost_by : Standing → Standing
-lost_by party = record party { state = lost party.state }
+abbrev pub after_lost_exchange : Standing → Standing
+after_lost_exchange party = record party { state = after_fail party.state }

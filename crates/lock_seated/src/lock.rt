@@ -5,8 +5,8 @@ ghost use Rattle.lock_base.specs.Modes.{count_of, tokens};
 ghost use Rattle.lock_word.specs.Holds.{hold_has};
 ghost use Rattle.lock_word.specs.Word.{guards_of_word, word_admits, word_after, step_of_want, step_of_down, down_of_mode};
 ghost use Rattle.lock_word.specs.Rule.{Shows};
-ghost use Rattle.lock_seated.specs.Plays.{view_won, view_lost};
-ghost use Rattle.lock_seated.specs.Standing.{new_party, loaded, won_by};
+ghost use Rattle.lock_seated.specs.Plays.{view_after_win, view_after_fail};
+ghost use Rattle.lock_seated.specs.Standing.{new_party, after_load, after_own_step};
 ghost use Rattle.lock_seated.specs.Attempts.{Attempted, Acquired};
 
 use crate::attempt::Attempt;
@@ -40,7 +40,7 @@ pub struct SeatedLock {
 impl Model for SeatedLock {
     ghost use Rattle.std.specs.Prelude.{◌≡◌};
     ghost use Rattle.lock_base.specs.Limits.{IsLimit};
-    ghost use Rattle.lock_seated.specs.Plays.{view_won, view_lost};
+    ghost use Rattle.lock_seated.specs.Plays.{view_after_win, view_after_fail};
     ghost use Rattle.lock_seated.specs.Standing.{Lock};
 
     ghost Value = { Lock };
@@ -89,7 +89,7 @@ impl SeatedLock {
     /// among it, and of the bar of the one that has announced itself.
     pub fn load(&self, party: &mut Party) -> u64
         requires { party.old.lock ≡ self.now }
-        ensures party { party.new ≡ loaded party.old result }
+        ensures party { party.new ≡ after_load party.old result }
         ensures shows { Shows self.now.readers result party.old.state.held }
         // While the party is announced, guards only end.
         ensures guards { party.old.state.held.announced ≡ true → guards_of_word result ≤ guards_of_word party.old.last }
@@ -139,7 +139,7 @@ impl SeatedLock {
     pub fn release(&self, party: &mut Party, mode: Mode)
         requires lock { party.old.lock ≡ self.now }
         requires holds { 0 < count_of party.old.state.held.bag mode }
-        ensures { party.new ≡ won_by party.old (step_of_down (down_of_mode mode)) }
+        ensures { party.new ≡ after_own_step party.old (step_of_down (down_of_mode mode)) }
     {
         self.take(party, Down::of_mode(mode));
     }
@@ -148,7 +148,7 @@ impl SeatedLock {
     pub fn downgrade(&self, party: &mut Party)
         requires lock { party.old.lock ≡ self.now }
         requires holds { 0 < party.old.state.held.bag.exclusive }
-        ensures { party.new ≡ won_by party.old (step_of_down Down.ToShared) }
+        ensures { party.new ≡ after_own_step party.old (step_of_down Down.ToShared) }
     {
         self.take(party, Down::ToShared);
     }
@@ -157,7 +157,7 @@ impl SeatedLock {
     pub fn downgrade_to_upgradable(&self, party: &mut Party)
         requires lock { party.old.lock ≡ self.now }
         requires holds { 0 < party.old.state.held.bag.exclusive }
-        ensures { party.new ≡ won_by party.old (step_of_down Down.ToUpgradable) }
+        ensures { party.new ≡ after_own_step party.old (step_of_down Down.ToUpgradable) }
     {
         self.take(party, Down::ToUpgradable);
     }
@@ -166,7 +166,7 @@ impl SeatedLock {
     pub fn downgrade_upgradable(&self, party: &mut Party)
         requires lock { party.old.lock ≡ self.now }
         requires holds { 0 < party.old.state.held.bag.upgradable }
-        ensures { party.new ≡ won_by party.old (step_of_down Down.UpgradableToShared) }
+        ensures { party.new ≡ after_own_step party.old (step_of_down Down.UpgradableToShared) }
     {
         self.take(party, Down::UpgradableToShared);
     }
@@ -175,7 +175,7 @@ impl SeatedLock {
     pub fn withdraw(&self, party: &mut Party)
         requires lock { party.old.lock ≡ self.now }
         requires announced { party.old.state.held.announced ≡ true }
-        ensures { party.new ≡ won_by party.old (step_of_down Down.Withdraw) }
+        ensures { party.new ≡ after_own_step party.old (step_of_down Down.Withdraw) }
     {
         self.take(party, Down::Withdraw);
     }
@@ -183,7 +183,7 @@ impl SeatedLock {
     fn take(&self, party: &mut Party, down: Down)
         requires lock { party.old.lock ≡ self.now }
         requires holds { IsTrue (hold_has party.old.state.held (step_of_down down)) }
-        ensures { party.new ≡ won_by party.old (step_of_down down) }
+        ensures { party.new ≡ after_own_step party.old (step_of_down down) }
     {
         self.subtract(&mut party.seat, down);
         party.held = party.held.after(down.step());
@@ -197,8 +197,8 @@ impl SeatedLock {
         requires admitted { IsTrue (word_admits seat.old.me.0.state.held.announced self.now.readers word want) }
         requires next { next ≡ word_after word want }
         ensures seat { (seat.new.table_id ≡ seat.old.table_id) × (seat.new.id ≡ seat.old.id) }
-        ensures done { result ≡ word → seat.new.me ≡ view_won seat.old.me (step_of_want want) }
-        ensures changed { result ≢ word → seat.new.me ≡ view_lost seat.old.me }
+        ensures done { result ≡ word → seat.new.me ≡ view_after_win seat.old.me (step_of_want want) }
+        ensures changed { result ≢ word → seat.new.me ≡ view_after_fail seat.old.me }
     {
         let shared = &self.table.shared;
         match want {
@@ -215,7 +215,7 @@ impl SeatedLock {
         requires lock { seat.old.table_id ≡ self.now.id }
         requires holds { IsTrue (hold_has seat.old.me.0.state.held (step_of_down down)) }
         ensures seat { (seat.new.table_id ≡ seat.old.table_id) × (seat.new.id ≡ seat.old.id) }
-        ensures done { seat.new.me ≡ view_won seat.old.me (step_of_down down) }
+        ensures done { seat.new.me ≡ view_after_win seat.old.me (step_of_down down) }
         ensures room { tokens seat.old.me.0.state.held.bag < 2 ^ 63 }
     {
         let shared = &self.table.shared;

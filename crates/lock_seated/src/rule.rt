@@ -1,5 +1,5 @@
 //! The rule of the word and of all views.
-ghost use Rattle.lock_seated.specs.Seats.{IsKept, newcomer, beside};
+ghost use Rattle.lock_seated.specs.Seats.{IsKept, newcomer, newcomer_beside};
 
 use atomic_table::{Split, TableRule};
 use lock_word::PartyState;
@@ -31,5 +31,5 @@ pub(crate) struct Apart;
 impl Split<PartyView> for Apart {
     ghost left = { λ v. v };
 
-    ghost right = { beside };
+    ghost right = { newcomer_beside };
 }

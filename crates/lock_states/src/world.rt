@@ -5,7 +5,7 @@ ghost use Rattle.lock_base.specs.Limits.{IsLimit, IsMakerFault};
 ghost use Rattle.lock_word.specs.Holders.{holder_at};
 ghost use Rattle.lock_word.specs.Word.{word_of};
 ghost use Rattle.lock_word.specs.Rule.{held_by_all, others_wins};
-ghost use Rattle.lock_word.specs.Worlds.{IsOfParty, IsUnknownIn, stepped, new_world, world_after, outcomes, IsReachable};
+ghost use Rattle.lock_word.specs.Worlds.{IsOfParty, IsUnknownIn, after_step, new_world, world_after, outcomes, IsReachable};
 ghost use Rattle.lock_word.specs.Claims.{Leaves, BarIsOfOne, FailsAreBounded, changes_from, IsRunByParties, IsRunOnAll};
 
 use lock_base::machine::Mode;
@@ -127,8 +127,8 @@ impl World {
     /// One step. Refused is first a step after 2^64 - 1 that were done, then one of a party that there is not, then an
     /// exchange or subtraction that gives up what the party does not hold, then an exchange without an open load.
     pub fn step(&mut self, step: AtomicStep) -> Outcome
-        ensures outcome { result ≡ (stepped self.old step).outcome }
-        ensures after { self.new ≡ (stepped self.old step).world }
+        ensures outcome { result ≡ (after_step self.old step).outcome }
+        ensures after { self.new ≡ (after_step self.old step).world }
         ensures leaves { Leaves result self.old self.new }
         ensures reached { IsReachable self.new }
     {

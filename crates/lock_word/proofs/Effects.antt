@@ -12,7 +12,7 @@ use Rattle.lock_word.specs.declared.step.AtomicStep.{AtomicStep}
 use Rattle.lock_word.specs.declared.step.AtomicStep.TheVariants.{Load, Exchange, Take}
 use Rattle.lock_word.specs.declared.step.Outcome.TheVariants.{Done, NotAdmitted, Changed}
 use Rattle.lock_word.specs.Word.{word_admits, word_after, amount, step_of_want, step_of_down}
-use Rattle.lock_word.specs.Turns.{Turn, refused_turn, won, lost, unloaded, loaded_turn, load_turn, turn}
+use Rattle.lock_word.specs.Turns.{Turn, refused_turn, after_win, after_fail, without_load, loaded_turn, load_turn, turn}
 use Rattle.lock_word.specs.Rule.{KeepsRule}
 use Rattle.lock_word.proofs.Rules.{slice_set_same, keeps_load, keeps_unloaded, keeps_lost, keeps_exchange, keeps_take}
 
@@ -22,17 +22,17 @@ pub data Effect (limit word : ℕ) (me : PartyState) (s : AtomicStep) (t : Turn)
   is_load : (p : ℕ) → s ≡ Load p → t ≡ load_turn word me → Effect limit word me s t
   is_not_admitted : (p : ℕ) (want : ExWant) (loaded : ℕ) → s ≡ Exchange p want → me.loaded ≡ Some loaded
       → word_admits me.held.announced limit loaded want ≡ false
-      → t ≡ record { word = word; party = unloaded me; outcome = NotAdmitted }
+      → t ≡ record { word = word; party = without_load me; outcome = NotAdmitted }
       → Effect limit word me s t
   is_changed : (p : ℕ) (want : ExWant) (loaded : ℕ) → s ≡ Exchange p want → me.loaded ≡ Some loaded → word ≢ loaded
-      → t ≡ record { word = word; party = lost me; outcome = Changed }
+      → t ≡ record { word = word; party = after_fail me; outcome = Changed }
       → Effect limit word me s t
   is_exchange : (p : ℕ) (want : ExWant) → s ≡ Exchange p want → IsTrue (hold_has me.held (step_of_want want))
       → me.loaded ≡ Some word → IsTrue (word_admits me.held.announced limit word want)
-      → t ≡ record { word = word_after word want; party = won me (step_of_want want); outcome = Done }
+      → t ≡ record { word = word_after word want; party = after_win me (step_of_want want); outcome = Done }
       → Effect limit word me s t
   is_take : (p : ℕ) (d : Down) → s ≡ Take p d → IsTrue (hold_has me.held (step_of_down d))
-      → t ≡ record { word = word - amount d; party = won me (step_of_down d); outcome = Done }
+      → t ≡ record { word = word - amount d; party = after_win me (step_of_down d); outcome = Done }
       → Effect limit word me s t
 
 -- a fact of what a test picks, from a fact of each
@@ -51,7 +51,7 @@ effect_loaded limit word me p want (Some loaded) was own =
     (λ same.
     let e : word ≡ loaded = eqb-true word loaded same in
     is_exchange p want refl own (was ∙ ap Some (sym e)) (ap (λ w. word_admits me.held.announced limit w want) e ∙ admits)
-    (ap (λ w. let t : Turn = record { word = word_after w want; party = won me (step_of_want want); outcome = Done } in t)
+    (ap (λ w. let t : Turn = record { word = word_after w want; party = after_win me (step_of_want want); outcome = Done } in t)
     (sym e)))
     (λ other. is_changed p want loaded refl was (λ e. eqb-false word loaded other e) refl))
     (λ refuses. is_not_admitted p want loaded refl was refuses refl)

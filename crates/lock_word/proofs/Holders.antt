@@ -14,7 +14,7 @@ use Rattle.lock_base.proofs.TokenBags.{same_counts}
 use Rattle.lock_word.specs.declared.hold.Hold.{Hold}
 use Rattle.lock_word.specs.declared.word_step.WordStep.{WordStep}
 use Rattle.lock_word.specs.declared.word_step.WordStep.TheVariants.{Modes, Announce, Withdraw}
-use Rattle.lock_word.specs.Holds.{BarredBag, bars_of, unbarred, ends_bar, PermitsTo, barred_after, no_hold, hold_has, hold_after}
+use Rattle.lock_word.specs.Holds.{BarredBag, bars_of, without_bars, ends_bar, PermitsTo, barred_after, no_hold, hold_has, hold_after}
 use Rattle.lock_word.specs.Holders.{all_of, IsPart, holder_at, HolderStep, IsHolderStep, IsHolderRun, modes_of, steps_of}
 
 -- what the step gives up is out
@@ -189,9 +189,9 @@ sum_of_zeros f (suc n) x h =
     let e = sum_by-cons f x (replicate n x) in
     omega arith
 
-pub all_of_none : (n : ℕ) → all_of (replicate n no_hold) ≡ unbarred empty_bag
+pub all_of_none : (n : ℕ) → all_of (replicate n no_hold) ≡ without_bars empty_bag
 all_of_none n =
-    same_barred (all_of (replicate n no_hold)) (unbarred empty_bag)
+    same_barred (all_of (replicate n no_hold)) (without_bars empty_bag)
     (same_counts (all_of (replicate n no_hold)).bag empty_bag
     (sum_of_zeros (λ (b : Hold). b.bag.shared) n no_hold refl)
     (sum_of_zeros (λ (b : Hold). b.bag.exclusive) n no_hold refl)

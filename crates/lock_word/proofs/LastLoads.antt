@@ -14,7 +14,7 @@ use Rattle.lock_word.specs.Holders.{holder_at}
 use Rattle.lock_word.specs.Word.{word_admits, step_of_want}
 use Rattle.lock_word.specs.Turns.{Turn, idle, party_of, steps_after}
 use Rattle.lock_word.specs.Rule.{all_wins, others_wins, held_by_all}
-use Rattle.lock_word.specs.Worlds.{WorldState, Stepped, turned, stepped, new_world, world_after}
+use Rattle.lock_word.specs.Worlds.{WorldState, Stepped, after_turn, after_step, new_world, world_after}
 use Rattle.lock_word.specs.Claims.{NoLoadBy, IsLastLoad, LastLoadRefuses, LastLoadOutrun}
 use Rattle.lock_word.proofs.Words.{word_of_permits}
 use Rattle.lock_word.proofs.Rules.{changed_or_not, all_wins_set, wins_within}
@@ -163,7 +163,7 @@ wins_of w s me t e =
 -- a turn of another party
 since_other : (w : WorldState) (k j : ℕ) (me q : PartyState) (t : Turn) → slice_get w.parties k ≡ Some me
     → slice_get w.parties j ≡ Some q → j ≢ k → slice_get (slice_set w.parties k t.party) j ≡ Some q → Wins w me t
-    → Since w (turned w k t).world (suc j)
+    → Since w (after_turn w k t).world (suc j)
 since_other w k j me q t at_k at_j other there e =
     let total = all_wins_set w.parties k me t.party at_k in
     let own = wins_within w.parties j q at_j in
@@ -177,7 +177,7 @@ since_other w k j me q t at_k at_j other there e =
 -- a turn of the party after which it has an open load
 since_own : (w : WorldState) (k loaded : ℕ) (me : PartyState) (t : Turn) → slice_get w.parties k ≡ Some me
     → slice_get (slice_set w.parties k t.party) k ≡ Some t.party → t.party.loaded ≡ Some loaded → Wins w me t
-    → Since w (turned w k t).world (suc k)
+    → Since w (after_turn w k t).world (suc k)
 since_own w k loaded me t at there is_open e =
     let total = all_wins_set w.parties k me t.party at in
     elim e [
@@ -202,7 +202,7 @@ since_step w s (suc j) loaded r e o =
             | inl h ↦
                 (let mine : slice_get (slice_set w.parties k t.party) k ≡ Some t.party
                 = subst (λ n. slice_get (slice_set w.parties k t.party) n ≡ Some t.party) h.0 (found ∙ ap Some h.1) in
-                subst (λ n. Since w (turned w k t).world (suc n)) (sym h.0)
+                subst (λ n. Since w (after_turn w k t).world (suc n)) (sym h.0)
                 (since_own w k loaded me t there mine (sym (ap (λ (x : PartyState). x.loaded) h.1) ∙ o.open_load) won))
             | inr h ↦ since_other w k j me o.me t there h.1 h.0 found won
           ]))
@@ -228,8 +228,8 @@ steps_step w s r e =
 steps_run : (w : WorldState) (ss : List AtomicStep) → w.steps ≤ (world_after w ss).steps
 steps_run w [] = omega arith
 steps_run w (s ∷ ss) =
-    let one = steps_step w s (stepped w s) (step_effect w s) in
-    let rest = steps_run (stepped w s).world ss in
+    let one = steps_step w s (after_step w s) (step_effect w s) in
+    let rest = steps_run (after_step w s).world ss in
     omega arith
 
 -- the load was open at the start, and none was made since; or one of the steps is the last load
@@ -242,15 +242,15 @@ unfolding Before Origin
 origin w [] p loaded more o = inl (o, tt, since_same w w p o.me refl o.at)
 origin w (s ∷ ss) p loaded more o =
     let made = step_effect w s in
-    let one = steps_run (stepped w s).world ss in
-    let first = steps_step w s (stepped w s) made in
+    let one = steps_run (after_step w s).world ss in
+    let first = steps_step w s (after_step w s) made in
     let fewer : w.steps < 2 ^ 64 - 1 = omega arith in
-    elim (origin (stepped w s).world ss p loaded more o) [
+    elim (origin (after_step w s).world ss p loaded more o) [
       | inl h ↦
           (let since
-          = since_then w (stepped w s).world (world_after (stepped w s).world ss) p
-          (since_step w s p loaded (stepped w s) made h.0) h.2 in
-          elim (open_before w s p loaded (stepped w s) fewer made h.0) [
+          = since_then w (after_step w s).world (world_after (after_step w s).world ss) p
+          (since_step w s p loaded (after_step w s) made h.0) h.2 in
+          elim (open_before w s p loaded (after_step w s) fewer made h.0) [
             | inl here ↦ inr record {
               before = [];
               after = ss;
@@ -376,12 +376,12 @@ admitted_there announced count limit ss loaded want range found permitted =
 
 -- a NotAdmitted comes only where what was out at the party's last load did not permit it the exchange
 pub refused_at_last_load : (count limit : ℕ) (ss : List AtomicStep) (p : ℕ) (want : ExWant) → IsLimit limit
-    → (stepped (world_after (new_world count limit) ss) (Exchange p want)).outcome ≡ NotAdmitted
+    → (after_step (world_after (new_world count limit) ss) (Exchange p want)).outcome ≡ NotAdmitted
     → LastLoadRefuses (new_world count limit) ss p want
 refused_at_last_load count limit ss p want range h =
     let start = new_world count limit in
     let w = world_after start ss in
-    let missed = refused_says w p want (stepped w (Exchange p want)) (step_effect w (Exchange p want)) h in
+    let missed = refused_says w p want (after_step w (Exchange p want)) (step_effect w (Exchange p want)) h in
     let l = last_load count limit ss p missed.loaded range missed.more missed.is_open in
     let since = l.since in
     let me = missed.is_open.me in
@@ -404,11 +404,11 @@ refused_at_last_load count limit ss p want range h =
 
 -- a Changed comes only where others have won since the party's last load
 pub outrun_since_last_load : (count limit : ℕ) (ss : List AtomicStep) (p : ℕ) (want : ExWant) → IsLimit limit
-    → (stepped (world_after (new_world count limit) ss) (Exchange p want)).outcome ≡ Changed
+    → (after_step (world_after (new_world count limit) ss) (Exchange p want)).outcome ≡ Changed
     → LastLoadOutrun (new_world count limit) ss p
 outrun_since_last_load count limit ss p want range h =
     let w = world_after (new_world count limit) ss in
-    let missed = changed_says w p want (stepped w (Exchange p want)) (step_effect w (Exchange p want)) h in
+    let missed = changed_says w p want (after_step w (Exchange p want)) (step_effect w (Exchange p want)) h in
     let l = last_load count limit ss p missed.loaded range missed.more missed.is_open in
     record {
       before = l.before;

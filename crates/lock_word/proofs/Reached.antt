@@ -13,12 +13,12 @@ use Rattle.lock_word.specs.declared.step.Outcome.{Outcome}
 use Rattle.lock_word.specs.declared.step.Outcome.TheVariants.{Loaded, Done, NotAdmitted, Changed, Refused}
 use Rattle.lock_word.specs.declared.hold.Hold.{Hold}
 use Rattle.lock_word.specs.declared.word_step.WordStep.{WordStep}
-use Rattle.lock_word.specs.Holds.{MayStand, unbarred, PermitsTo, no_hold, hold_has, hold_after}
+use Rattle.lock_word.specs.Holds.{MayStand, without_bars, PermitsTo, no_hold, hold_has, hold_after}
 use Rattle.lock_word.specs.Holders.{holder_at, all_of, HolderStep, IsHolderRun}
 use Rattle.lock_word.specs.Word.{word_of, step_of_want, step_of_down}
-use Rattle.lock_word.specs.Turns.{Turn, idle, with_load, won, lost, unloaded, turn, party_of, steps_after, CanStep}
+use Rattle.lock_word.specs.Turns.{Turn, idle, with_load, after_win, after_fail, without_load, turn, party_of, steps_after, CanStep}
 use Rattle.lock_word.specs.Rule.{holds, held_by_all, others_wins, IsBehind, KeepsRule}
-use Rattle.lock_word.specs.Worlds.{WorldState, Stepped, turned, stepped, stepped_by, new_world, world_after, holder_step, IsReachable}
+use Rattle.lock_word.specs.Worlds.{WorldState, Stepped, after_turn, after_step, after_step_of, new_world, world_after, holder_step, IsReachable}
 use Rattle.lock_word.specs.Claims.{Leaves, changes_from}
 use Rattle.lock_word.proofs.Holders.{all_of_none}
 use Rattle.lock_word.proofs.Words.{permits_down, parts_of_word}
@@ -31,21 +31,21 @@ pub data StepEffect (w : WorldState) (s : AtomicStep) (r : Stepped) : Type 0 whe
       → r ≡ record { world = w; outcome = Refused f }
       → StepEffect w s r
   one_made : (k : ℕ) (me : PartyState) (t : Turn) → party_of s ≡ suc k → slice_get w.parties k ≡ Some me
-      → w.steps ≢ 2 ^ 64 - 1 → Effect w.readers w.word me s t → r ≡ turned w k t
+      → w.steps ≢ 2 ^ 64 - 1 → Effect w.readers w.word me s t → r ≡ after_turn w k t
       → StepEffect w s r
 
 effect_at : (w : WorldState) (s : AtomicStep) (p : ℕ) (o : Option PartyState) → party_of s ≡ p
     → holder_at w.parties p ≡ o → w.steps ≢ 2 ^ 64 - 1
-    → StepEffect w s (stepped_by w s o)
+    → StepEffect w s (after_step_of w s o)
 effect_at w s p None is at more = none_made fault.UnknownParty (λ h. ap (λ n. holder_at w.parties n) is ∙ at) refl
 effect_at w s zero (Some me) is at more = cc
 effect_at w s (suc k) (Some me) is at more =
     let index : party_of s - 1 ≡ k = omega arith in
     one_made k me (turn w.readers w.word me s) is at more (effect w.readers w.word me s)
-    (ap (λ n. turned w n (turn w.readers w.word me s)) index)
+    (ap (λ n. after_turn w n (turn w.readers w.word me s)) index)
 
-pub step_effect : (w : WorldState) (s : AtomicStep) → StepEffect w s (stepped w s)
-unfolding stepped
+pub step_effect : (w : WorldState) (s : AtomicStep) → StepEffect w s (after_step w s)
+unfolding after_step
 step_effect w s =
     of_both (StepEffect w s) (w.steps == 2 ^ 64 - 1) _ _
     (λ h. let e = eqb-true w.steps (2 ^ 64 - 1) h in none_made fault.NumbersSpent (λ less. absurd (omega arith)) refl)
@@ -64,20 +64,20 @@ can_step w k me h at more =
     record { part = omega arith; small = omega arith; wins = omega arith; fails = omega arith }
 
 pub stepped_spent : (w : WorldState) (s : AtomicStep) → w.steps ≡ 2 ^ 64 - 1
-    → stepped w s ≡ record { world = w; outcome = Refused fault.NumbersSpent }
-unfolding stepped
+    → after_step w s ≡ record { world = w; outcome = Refused fault.NumbersSpent }
+unfolding after_step
 stepped_spent w s h = rw (eq-eqb w.steps (2 ^ 64 - 1) h)
 
 pub stepped_unknown : (w : WorldState) (s : AtomicStep) → w.steps < 2 ^ 64 - 1
     → holder_at w.parties (party_of s) ≡ None
-    → stepped w s ≡ record { world = w; outcome = Refused fault.UnknownParty }
-unfolding stepped
+    → after_step w s ≡ record { world = w; outcome = Refused fault.UnknownParty }
+unfolding after_step
 stepped_unknown w s h none = rw (ne_eqb w.steps (2 ^ 64 - 1) (λ e. omega arith), none)
 
 pub stepped_at : (w : WorldState) (s : AtomicStep) (k : ℕ) (me : PartyState) → w.steps < 2 ^ 64 - 1
     → party_of s ≡ k + 1 → slice_get w.parties k ≡ Some me
-    → stepped w s ≡ turned w k (turn w.readers w.word me s)
-unfolding stepped
+    → after_step w s ≡ after_turn w k (turn w.readers w.word me s)
+unfolding after_step
 stepped_at w s k me h is at =
     let there : holder_at w.parties (party_of s) ≡ Some me = (let e : party_of s ≡ suc k = omega arith in rw e at) in
     let index : party_of s - 1 ≡ k = omega arith in
@@ -88,7 +88,7 @@ pub stepped_is : (w : WorldState) (s : AtomicStep) (k : ℕ) (me : PartyState) (
     → party_of s ≡ k + 1 → slice_get w.parties k ≡ Some me
     → t.word ≡ (turn w.readers w.word me s).word → t.party ≡ (turn w.readers w.word me s).party
     → t.outcome ≡ (turn w.readers w.word me s).outcome → steps ≡ steps_after w.steps t.outcome
-    → stepped w s ≡ record {
+    → after_step w s ≡ record {
       world = record { word = t.word; readers = w.readers; steps = steps; parties = slice_set w.parties k t.party };
       outcome = t.outcome;
     }
@@ -141,7 +141,7 @@ reachable_step w s r h e =
 
 pub reachable_after : (w : WorldState) (ss : List AtomicStep) → IsReachable w → IsReachable (world_after w ss)
 reachable_after w [] h = h
-reachable_after w (s ∷ ss) h = reachable_after (stepped w s).world ss (reachable_step w s (stepped w s) h (step_effect w s))
+reachable_after w (s ∷ ss) h = reachable_after (after_step w s).world ss (reachable_step w s (after_step w s) h (step_effect w s))
 
 -- the limit of a world stays
 readers_step : (w : WorldState) (s : AtomicStep) (r : Stepped) → StepEffect w s r → r.world.readers ≡ w.readers
@@ -153,7 +153,7 @@ readers_step w s r e =
 
 pub readers_after : (w : WorldState) (ss : List AtomicStep) → (world_after w ss).readers ≡ w.readers
 readers_after w [] = refl
-readers_after w (s ∷ ss) = readers_after (stepped w s).world ss ∙ readers_step w s (stepped w s) (step_effect w s)
+readers_after w (s ∷ ss) = readers_after (after_step w s).world ss ∙ readers_step w s (after_step w s) (step_effect w s)
 
 -- a new world is reached, by no step
 
@@ -166,7 +166,7 @@ holds_of_idle : (n : ℕ) → holds (replicate n idle) ≡ replicate n no_hold
 holds_of_idle zero = refl
 holds_of_idle (suc n) = ap (λ held. no_hold ∷ held) (holds_of_idle n)
 
-pub held_by_idle : (n : ℕ) → held_by_all (replicate n idle) ≡ unbarred empty_bag
+pub held_by_idle : (n : ℕ) → held_by_all (replicate n idle) ≡ without_bars empty_bag
 held_by_idle n = ap all_of (holds_of_idle n) ∙ all_of_none n
 
 pub reachable_new : (count limit : ℕ) → IsLimit limit → IsReachable (new_world count limit)
@@ -195,16 +195,16 @@ reachable_new count limit range =
 -- one change of modes by the party at k
 one_step : (limit : ℕ) (ps : List PartyState) (k p : ℕ) (me : PartyState) (s : WordStep) → p ≡ suc k
     → slice_get ps k ≡ Some me → IsTrue (hold_has me.held s) → PermitsTo me.held.announced limit (held_by_all ps) s
-    → IsHolderRun limit (holds ps) (record { holder = p; step = s } ∷ []) (holds (slice_set ps k (won me s)))
+    → IsHolderRun limit (holds ps) (record { holder = p; step = s } ∷ []) (holds (slice_set ps k (after_win me s)))
 one_step limit ps k p me s is at own permitted =
     let index : p - 1 ≡ k = omega arith in (
-      holds (slice_set ps k (won me s)),
+      holds (slice_set ps k (after_win me s)),
       record {
         own = me.held;
         is_own = rw is (holds_at ps k me at);
         had = own;
         permitted = permitted;
-        changed = holds_set ps k (won me s) ∙ ap (λ n. slice_set (holds ps) n (hold_after me.held s)) (sym index);
+        changed = holds_set ps k (after_win me s) ∙ ap (λ n. slice_set (holds ps) n (hold_after me.held s)) (sym index);
       },
       refl,
     )
@@ -235,8 +235,8 @@ run_of_turn limit word k ps me s t range rule is at e =
           (no_step limit s f (holds ps) (holds (slice_set ps k me)) (sym (holds_same ps k me me at refl)))
       | is_load p a q ↦ along limit k ps a q (sym (holds_same ps k me (with_load me word) at refl))
       | is_not_admitted p want loaded a was refuses q ↦
-          along limit k ps a q (sym (holds_same ps k me (unloaded me) at refl))
-      | is_changed p want loaded a was other q ↦ along limit k ps a q (sym (holds_same ps k me (lost me) at refl))
+          along limit k ps a q (sym (holds_same ps k me (without_load me) at refl))
+      | is_changed p want loaded a was other q ↦ along limit k ps a q (sym (holds_same ps k me (after_fail me) at refl))
       | is_exchange p want a own was admits q ↦
           along limit k ps a q
           (one_step limit ps k p me (step_of_want want) (sym (ap party_of a) ∙ is) at own
@@ -267,27 +267,27 @@ pub run_of_steps : (w : WorldState) (ss : List AtomicStep) → IsReachable w
     → IsHolderRun w.readers (holds w.parties) (changes_from w ss) (holds (world_after w ss).parties)
 run_of_steps w [] h = refl
 run_of_steps w (s ∷ ss) h =
-    let v = (stepped w s).world in
+    let v = (after_step w s).world in
     let last = holds (world_after v ss).parties in
     let made = step_effect w s in
-    let rest = run_of_steps v ss (reachable_step w s (stepped w s) h made) in
-    joined_runs w.readers (holder_step s (stepped w s).outcome) (changes_from v ss) (holds w.parties) (holds v.parties) last
-    (run_of_step w s (stepped w s) h made)
-    (subst (λ n. IsHolderRun n (holds v.parties) (changes_from v ss) last) (readers_step w s (stepped w s) made) rest)
+    let rest = run_of_steps v ss (reachable_step w s (after_step w s) h made) in
+    joined_runs w.readers (holder_step s (after_step w s).outcome) (changes_from v ss) (holds w.parties) (holds v.parties) last
+    (run_of_step w s (after_step w s) h made)
+    (subst (λ n. IsHolderRun n (holds v.parties) (changes_from v ss) last) (readers_step w s (after_step w s) made) rest)
 
 -- what a step leaves
 
 leaves_turn : (w : WorldState) (s : AtomicStep) (k : ℕ) (me : PartyState) (t : Turn) → slice_get w.parties k ≡ Some me
-    → Effect w.readers w.word me s t → Leaves t.outcome w (turned w k t).world
+    → Effect w.readers w.word me s t → Leaves t.outcome w (after_turn w k t).world
 leaves_turn w s k me t at e =
-    let Left : Turn → Type 0 = λ u. Leaves u.outcome w (turned w k u).world in
+    let Left : Turn → Type 0 = λ u. Leaves u.outcome w (after_turn w k u).world in
     let By : List PartyState → WorldState = λ ps. record { word = w.word; readers = w.readers; steps = w.steps; parties = ps } in
     elim e [
       | is_refused f x p ↦ subst Left (sym p) (ap By (slice_set_same w.parties k me at))
       | is_load n a p ↦ subst Left (sym p) (refl, (refl, holds_same w.parties k me (with_load me w.word) at refl))
       | is_not_admitted n want loaded a was refuses p ↦
-          subst Left (sym p) (refl, holds_same w.parties k me (unloaded me) at refl)
-      | is_changed n want loaded a was other p ↦ subst Left (sym p) (refl, holds_same w.parties k me (lost me) at refl)
+          subst Left (sym p) (refl, holds_same w.parties k me (without_load me) at refl)
+      | is_changed n want loaded a was other p ↦ subst Left (sym p) (refl, holds_same w.parties k me (after_fail me) at refl)
       | is_exchange n want a own was admits p ↦ subst Left (sym p) tt
       | is_take n d a own p ↦ subst Left (sym p) tt
     ]

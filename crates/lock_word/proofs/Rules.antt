@@ -13,7 +13,7 @@ use Rattle.lock_word.specs.declared.down.Down.{Down}
 use Rattle.lock_word.specs.declared.party.PartyState.{PartyState}
 use Rattle.lock_word.specs.Holders.{all_of, IsPart}
 use Rattle.lock_word.specs.Word.{word_of, word_admits, word_after, amount, step_of_want, step_of_down}
-use Rattle.lock_word.specs.Turns.{idle, with_load, unloaded, won, lost}
+use Rattle.lock_word.specs.Turns.{idle, with_load, without_load, after_win, after_fail}
 use Rattle.lock_word.specs.Rule.{holds, held_by_all, all_wins, others_wins, IsBehind, KeepsRule, Shows}
 use Rattle.lock_word.specs.Claims.{FailsAreBounded}
 use Rattle.lock_word.proofs.Holders.{Has, has_of_part, part_of_all, sum_by-slice_set, le-sum_by, same_barred, all_of-after}
@@ -104,24 +104,24 @@ keeps_load limit word ps k me rule at =
 
 -- an exchange was not admitted
 pub keeps_unloaded : (limit word : ℕ) (ps : List PartyState) (k : ℕ) (me : PartyState) → KeepsRule limit word ps
-    → slice_get ps k ≡ Some me → KeepsRule limit word (slice_set ps k (unloaded me))
+    → slice_get ps k ≡ Some me → KeepsRule limit word (slice_set ps k (without_load me))
 keeps_unloaded limit word ps k me rule at =
-    keeps_quiet limit word ps k me (unloaded me) rule at refl refl refl (λ loaded e. cc)
+    keeps_quiet limit word ps k me (without_load me) rule at refl refl refl (λ loaded e. cc)
 
 -- an exchange found another word than the one that the party loaded
 pub keeps_lost : (limit word : ℕ) (ps : List PartyState) (k loaded : ℕ) (me : PartyState) → KeepsRule limit word ps
     → slice_get ps k ≡ Some me → me.loaded ≡ Some loaded → word ≢ loaded
-    → KeepsRule limit word (slice_set ps k (lost me))
+    → KeepsRule limit word (slice_set ps k (after_fail me))
 keeps_lost limit word ps k loaded me rule at was differs =
-    let same = holds_same ps k me (lost me) at refl in
-    let total = all_wins_set ps k me (lost me) at in
+    let same = holds_same ps k me (after_fail me) at refl in
+    let total = all_wins_set ps k me (after_fail me) at in
     let mine = rule.behind k me at in
     let fewer = mine.open_load loaded was differs in
     record {
       coded = rw same rule.coded;
       legal = rw same rule.legal;
       behind =
-          each_after (λ q. IsBehind (others_wins (slice_set ps k (lost me)) q) word q) ps k (lost me)
+          each_after (λ q. IsBehind (others_wins (slice_set ps k (after_fail me)) q) word q) ps k (after_fail me)
           (record { bounded = omega arith; open_load = λ w e d. cc })
           (λ j q n h.
           let other = rule.behind j q h in
@@ -134,11 +134,11 @@ keeps_won : (limit word new : ℕ) (ps : List PartyState) (k : ℕ) (me : PartyS
     → KeepsRule limit word ps → slice_get ps k ≡ Some me → IsTrue (hold_has me.held s)
     → PermitsTo me.held.announced limit (held_by_all ps) s
     → new ≡ word_of (barred_after me.held.announced (held_by_all ps) s)
-    → KeepsRule limit new (slice_set ps k (won me s))
+    → KeepsRule limit new (slice_set ps k (after_win me s))
 keeps_won limit word new ps k me s positive rule at has permitted coded =
-    let all : held_by_all (slice_set ps k (won me s)) ≡ barred_after me.held.announced (held_by_all ps) s
-    = ap all_of (holds_set ps k (won me s)) ∙ all_of-after limit (holds ps) k me.held s (holds_at ps k me at) has permitted in
-    let total = all_wins_set ps k me (won me s) at in
+    let all : held_by_all (slice_set ps k (after_win me s)) ≡ barred_after me.held.announced (held_by_all ps) s
+    = ap all_of (holds_set ps k (after_win me s)) ∙ all_of-after limit (holds ps) k me.held s (holds_at ps k me at) has permitted in
+    let total = all_wins_set ps k me (after_win me s) at in
     let mine = rule.behind k me at in
     let bounded = mine.bounded in
     record {
@@ -147,7 +147,7 @@ keeps_won limit word new ps k me s positive rule at has permitted coded =
           subst (MayStand limit) (sym all)
           (stands_after me.held.announced limit (held_by_all ps) s positive rule.legal permitted);
       behind =
-          each_after (λ q. IsBehind (others_wins (slice_set ps k (won me s)) q) new q) ps k (won me s)
+          each_after (λ q. IsBehind (others_wins (slice_set ps k (after_win me s)) q) new q) ps k (after_win me s)
           (record { bounded = omega arith; open_load = λ w e d. cc })
           (λ j q n h.
           let other = rule.behind j q h in
@@ -169,7 +169,7 @@ permits_of_rule limit word ps k me want range rule at admits =
 pub keeps_exchange : (limit word : ℕ) (ps : List PartyState) (k : ℕ) (me : PartyState) (want : ExWant) → IsLimit limit
     → KeepsRule limit word ps → slice_get ps k ≡ Some me → IsTrue (hold_has me.held (step_of_want want))
     → IsTrue (word_admits me.held.announced limit word want)
-    → KeepsRule limit (word_after word want) (slice_set ps k (won me (step_of_want want)))
+    → KeepsRule limit (word_after word want) (slice_set ps k (after_win me (step_of_want want)))
 keeps_exchange limit word ps k me want range rule at has admits =
     let permitted = permits_of_rule limit word ps k me want range rule at admits in
     keeps_won limit word (word_after word want) ps k me (step_of_want want) range.0 rule at has permitted
@@ -191,7 +191,7 @@ amount_within limit word ps k me d rule at has =
 -- a subtraction was done
 pub keeps_take : (limit word : ℕ) (ps : List PartyState) (k : ℕ) (me : PartyState) (d : Down) → IsLimit limit
     → KeepsRule limit word ps → slice_get ps k ≡ Some me → IsTrue (hold_has me.held (step_of_down d))
-    → KeepsRule limit (word - amount d) (slice_set ps k (won me (step_of_down d)))
+    → KeepsRule limit (word - amount d) (slice_set ps k (after_win me (step_of_down d)))
 keeps_take limit word ps k me d range rule at has =
     let all = has_of_all ps k me (step_of_down d) at has in
     let coded = rule.coded in

@@ -6,7 +6,7 @@ use Rattle.lock_word.specs.declared.step.AtomicStep.{AtomicStep}
 use Rattle.lock_word.specs.Holders.{steps_of}
 use Rattle.lock_word.specs.Holds.{BarredBag}
 use Rattle.lock_word.specs.Rule.{holds, held_by_all}
-use Rattle.lock_word.specs.Worlds.{WorldState, stepped, new_world, world_after, IsReachable}
+use Rattle.lock_word.specs.Worlds.{WorldState, after_step, new_world, world_after, IsReachable}
 use Rattle.lock_word.specs.Claims.{changes_from, EveryInterleaving}
 use Rattle.lock_word.proofs.Holders.{run_of_all}
 use Rattle.lock_word.proofs.Rules.{fails_bounded}
@@ -37,7 +37,7 @@ every_interleaving count limit ss range =
           (held_by_idle count)
           (run_on_all start ss new);
       bounded = fails_bounded last.readers last.word last.parties reached.rule;
-      leaves = λ s. leaves_step last s (stepped last s) (step_effect last s);
+      leaves = λ s. leaves_step last s (after_step last s) (step_effect last s);
       refuses = λ p want h. refused_at_last_load count limit ss p want range h;
       changes = λ p want h. outrun_since_last_load count limit ss p want range h;
     }

@@ -13,7 +13,7 @@ use Rattle.lock_word.specs.declared.step.Outcome.TheVariants.{Loaded, Done, NotA
 use Rattle.lock_word.specs.Holders.{holder_at, HolderStep, IsHolderRun, steps_of}
 use Rattle.lock_word.specs.Word.{word_of, step_of_want}
 use Rattle.lock_word.specs.Rule.{holds, held_by_all, others_wins}
-use Rattle.lock_word.specs.Worlds.{WorldState, stepped, new_world, world_after, outcomes, done_steps}
+use Rattle.lock_word.specs.Worlds.{WorldState, after_step, new_world, world_after, outcomes, done_steps}
 
 -- the word and what each party holds are as they were
 abbrev pub KeepsWord : WorldState → WorldState → Type 0
@@ -98,10 +98,10 @@ pub record IsSound (start : WorldState) (steps : List AtomicStep) (last : WorldS
   -- and a run of the modes, from nothing to all that is held
   pub run : IsModeRun start.readers empty_bag (steps_of (changes_from start steps)) (held_by_all last.parties).bag
   pub bounded : FailsAreBounded last.parties
-  pub leaves : (next : AtomicStep) → Leaves (stepped last next).outcome last (stepped last next).world
-  pub refuses : (p : ℕ) (want : ExWant) → (stepped last (Exchange p want)).outcome ≡ NotAdmitted
+  pub leaves : (next : AtomicStep) → Leaves (after_step last next).outcome last (after_step last next).world
+  pub refuses : (p : ℕ) (want : ExWant) → (after_step last (Exchange p want)).outcome ≡ NotAdmitted
       → LastLoadRefuses start steps p want
-  pub changes : (p : ℕ) (want : ExWant) → (stepped last (Exchange p want)).outcome ≡ Changed
+  pub changes : (p : ℕ) (want : ExWant) → (after_step last (Exchange p want)).outcome ≡ Changed
       → LastLoadOutrun start steps p
 
 -- every list of steps, by any parties, is sound from a new world on

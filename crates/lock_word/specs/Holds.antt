@@ -16,8 +16,8 @@ pub record BarredBag : Type 0 where
   pub bars : ℕ
 
 -- the tokens, and no bar
-abbrev pub unbarred : Bag → BarredBag
-unbarred b = record { bag = b; bars = 0 }
+abbrev pub without_bars : Bag → BarredBag
+without_bars b = record { bag = b; bars = 0 }
 
 abbrev pub bars_of : Bool → ℕ
 bars_of announced = if announced then 1 else 0

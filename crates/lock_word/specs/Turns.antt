@@ -35,16 +35,16 @@ abbrev pub with_load : PartyState → ℕ → PartyState
 with_load me word = record me { loaded = Some word }
 
 -- the party has given its open load up
-abbrev pub unloaded : PartyState → PartyState
-unloaded me = record me { loaded = None }
+abbrev pub without_load : PartyState → PartyState
+without_load me = record me { loaded = None }
 
 -- the party has made this step, and its open load is spent
-abbrev pub won : PartyState → WordStep → PartyState
-won me step = record me { held = hold_after me.held step; loaded = None; wins = me.wins + 1 }
+abbrev pub after_win : PartyState → WordStep → PartyState
+after_win me step = record me { held = hold_after me.held step; loaded = None; wins = me.wins + 1 }
 
 -- the party's exchange found another word
-abbrev pub lost : PartyState → PartyState
-lost me = record me { loaded = None; fails = me.fails + 1 }
+abbrev pub after_fail : PartyState → PartyState
+after_fail me = record me { loaded = None; fails = me.fails + 1 }
 
 abbrev pub refused_turn : ℕ → PartyState → Fault → Turn
 refused_turn word me fault = record { word = word; party = me; outcome = Refused fault }
@@ -55,15 +55,15 @@ load_turn word me = record { word = word; party = with_load me word; outcome = L
 abbrev pub admitted_turn : ℕ → PartyState → ExWant → ℕ → Turn
 admitted_turn word me want loaded =
     if word == loaded
-    then record { word = word_after loaded want; party = won me (step_of_want want); outcome = Done }
-    else record { word = word; party = lost me; outcome = Changed }
+    then record { word = word_after loaded want; party = after_win me (step_of_want want); outcome = Done }
+    else record { word = word; party = after_fail me; outcome = Changed }
 
 abbrev pub loaded_turn : ℕ → ℕ → PartyState → ExWant → Option ℕ → Turn
 loaded_turn limit word me want None = refused_turn word me fault.NoLoad
 loaded_turn limit word me want (Some loaded) =
     if word_admits me.held.announced limit loaded want
     then admitted_turn word me want loaded
-    else record { word = word; party = unloaded me; outcome = NotAdmitted }
+    else record { word = word; party = without_load me; outcome = NotAdmitted }
 
 abbrev pub exchange_turn : ℕ → ℕ → PartyState → ExWant → Turn
 exchange_turn limit word me want =
@@ -74,7 +74,7 @@ exchange_turn limit word me want =
 abbrev pub take_turn : ℕ → PartyState → Down → Turn
 take_turn word me down =
     if hold_has me.held (step_of_down down)
-    then record { word = word - amount down; party = won me (step_of_down down); outcome = Done }
+    then record { word = word - amount down; party = after_win me (step_of_down down); outcome = Done }
     else refused_turn word me fault.WrongMode
 
 abbrev pub turn : ℕ → ℕ → PartyState → AtomicStep → Turn

@@ -37,8 +37,8 @@ pub record Stepped : Type 0 where
   pub outcome : Outcome
 
 -- the party at this place of the list has made its turn
-abbrev pub turned : WorldState → ℕ → Turn → Stepped
-turned w k t =
+abbrev pub after_turn : WorldState → ℕ → Turn → Stepped
+after_turn w k t =
     record {
       world =
           record {
@@ -50,23 +50,23 @@ turned w k t =
       outcome = t.outcome;
     }
 
-abbrev pub stepped_by : WorldState → AtomicStep → Option PartyState → Stepped
-stepped_by w s None = record { world = w; outcome = Refused fault.UnknownParty }
-stepped_by w s (Some me) = turned w (party_of s - 1) (turn w.readers w.word me s)
+abbrev pub after_step_of : WorldState → AtomicStep → Option PartyState → Stepped
+after_step_of w s None = record { world = w; outcome = Refused fault.UnknownParty }
+after_step_of w s (Some me) = after_turn w (party_of s - 1) (turn w.readers w.word me s)
 
-unfoldable pub stepped : WorldState → AtomicStep → Stepped
-stepped w s =
+unfoldable pub after_step : WorldState → AtomicStep → Stepped
+after_step w s =
     if w.steps == 2 ^ 64 - 1
     then record { world = w; outcome = Refused fault.NumbersSpent }
-    else stepped_by w s (holder_at w.parties (party_of s))
+    else after_step_of w s (holder_at w.parties (party_of s))
 
 abbrev pub world_after : WorldState → List AtomicStep → WorldState
 world_after w [] = w
-world_after w (s ∷ ss) = world_after (stepped w s).world ss
+world_after w (s ∷ ss) = world_after (after_step w s).world ss
 
 abbrev pub outcomes : WorldState → List AtomicStep → List Outcome
 outcomes w [] = []
-outcomes w (s ∷ ss) = (stepped w s).outcome ∷ outcomes (stepped w s).world ss
+outcomes w (s ∷ ss) = (after_step w s).outcome ∷ outcomes (after_step w s).world ss
 
 -- the change of modes of a step that was done
 abbrev pub holder_step : AtomicStep → Outcome → List HolderStep

@@ -24,7 +24,7 @@ impl PartyState {
     ghost use Rattle.lock_base.specs.Modes.{tokens};
     ghost use Rattle.lock_word.specs.Holds.{hold_has};
     ghost use Rattle.lock_word.specs.Word.{word_of};
-    ghost use Rattle.lock_word.specs.Turns.{idle, won, load_turn, exchange_turn, take_turn, turn, CanStep};
+    ghost use Rattle.lock_word.specs.Turns.{idle, after_win, load_turn, exchange_turn, take_turn, turn, CanStep};
 
     /// A party that has done nothing yet.
     pub fn idle() -> PartyState
@@ -104,7 +104,7 @@ impl PartyState {
         requires had { IsTrue (hold_has self.old.held step) }
         requires room { tokens self.old.held.bag < 2 ^ 64 - 1 }
         requires counts { self.old.wins < 2 ^ 64 - 1 }
-        ensures { self.new ≡ won self.old step }
+        ensures { self.new ≡ after_win self.old step }
     {
         self.held = self.held.after(step);
         self.loaded = None;

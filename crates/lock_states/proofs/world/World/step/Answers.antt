@@ -4,7 +4,7 @@ use Rattle.std.proofs.lemmas.Option.{slice_get-get_or}
 use Rattle.lock_base.specs.declared.raw.fault.Fault.TheVariants.{UnknownParty}
 use Rattle.lock_word.specs.declared.step.Outcome.TheVariants.{Refused}
 use Rattle.lock_word.specs.Holders.{holder_at}
-use Rattle.lock_word.specs.Worlds.{WorldState, Stepped, stepped, IsReachable}
+use Rattle.lock_word.specs.Worlds.{WorldState, Stepped, after_step, IsReachable}
 use Rattle.lock_word.specs.Claims.{Leaves}
 use Rattle.lock_word.proofs.Reached.{can_step, stepped_spent, stepped_unknown, stepped_is, leaves_step, reachable_step, step_effect}
 use Rattle.lock_states.specs.declared.world.World.TheInside.{Inside}
@@ -29,7 +29,7 @@ returns-then-self-clause-after c =
     rw (← c.self.view_is) (sym (ap (λ (r : Stepped). r.world) e))
 
 none_there : (c : goal.In_default)
-    → stepped (world_of c.self.inside) c.args.step ≡ record { world = world_of c.self.inside; outcome = Refused UnknownParty }
+    → after_step (world_of c.self.inside) c.args.step ≡ record { world = world_of c.self.inside; outcome = Refused UnknownParty }
 none_there c =
     stepped_unknown (world_of c.self.inside) c.args.step
     (more c.self.inside.steps c.self.invariant.steps_fit c.if-self.false)
@@ -55,7 +55,7 @@ make-outcome-requires c =
 
 -- the step, as it was computed
 next : (c : goal.After-self-2-1)
-    → stepped (world_of c.self.inside) c.args.step ≡ record {
+    → after_step (world_of c.self.inside) c.args.step ≡ record {
       world =
           record {
             word = c.make-outcome.new.word;
@@ -82,7 +82,7 @@ pub invariant_of-self : goal.invariant_of-self
 invariant_of-self c =
     let w = world_of c.self.inside in
     subst IsReachable (ap (λ (r : Stepped). r.world) (next c))
-    (reachable_step w c.args.step (stepped w c.args.step) c.self.invariant (step_effect w c.args.step))
+    (reachable_step w c.args.step (after_step w c.args.step) c.self.invariant (step_effect w c.args.step))
 
 pub returns-clause-outcome : goal.returns-clause-outcome
 returns-clause-outcome c = rw (← c.self.view_is) (sym (ap (λ (r : Stepped). r.outcome) (next c)))
@@ -95,10 +95,10 @@ returns-clause-leaves c =
     let w = world_of c.self.inside in
     rw (← c.self.view_is)
     (subst (λ (r : Stepped). Leaves r.outcome w r.world) (next c)
-    (leaves_step w c.args.step (stepped w c.args.step) (step_effect w c.args.step)))
+    (leaves_step w c.args.step (after_step w c.args.step) (step_effect w c.args.step)))
 
 pub returns-clause-reached : goal.returns-clause-reached
 returns-clause-reached c =
     let w = world_of c.self.inside in
     subst IsReachable (ap (λ (r : Stepped). r.world) (next c))
-    (reachable_step w c.args.step (stepped w c.args.step) c.self.invariant (step_effect w c.args.step))
+    (reachable_step w c.args.step (after_step w c.args.step) c.self.invariant (step_effect w c.args.step))
