@@ -20,12 +20,12 @@ module _ {K : Type 0} where
   IsLawful l = IsLimit l.limit × IfSome l.owner (λ o. (0 < o.count) × (o.count ≤ l.limit))
 
   -- nobody owns the lock
-  abbrev pub unowned : ℕ → Levels K
-  unowned limit = record { limit = limit; owner = None }
+  abbrev pub free_levels : ℕ → Levels K
+  free_levels limit = record { limit = limit; owner = None }
 
   -- the party owns the lock, at level 1
-  abbrev pub owned_by : Levels K → ℕ → K → Levels K
-  owned_by l party token = record l { owner = Some (record { party = party; count = 1; token = token }) }
+  abbrev pub with_owner : Levels K → ℕ → K → Levels K
+  with_owner l party token = record l { owner = Some (record { party = party; count = 1; token = token }) }
 
   -- the same owner, at another number of levels
   abbrev pub at_level : Levels K → ℕ → Levels K
@@ -53,4 +53,4 @@ pub record LosesLevel {K : Type 0} (old new : Levels K) (party : ℕ) : Type 0 w
 pub record GivesTokenBack {K : Type 0} (old new : Levels K) (party : ℕ) (token : K) : Type 0 where
   pub sole : level_of old party ≡ 1
   pub held : token_of old ≡ Some token
-  pub after : new ≡ unowned old.limit
+  pub after : new ≡ free_levels old.limit

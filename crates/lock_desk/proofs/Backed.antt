@@ -7,7 +7,7 @@ use Rattle.lock_roll.specs.Items as items
 use Rattle.lock_base.specs.declared.machine.kind.Kind.{Kind}
 use Rattle.lock_base.specs.declared.machine.mode.Mode.{Mode}
 use Rattle.lock_base.specs.declared.machine.mode.Mode.TheVariants.{Exclusive}
-use Rattle.lock_base.specs.Levels.{Owner, level_of, unowned}
+use Rattle.lock_base.specs.Levels.{Owner, level_of, free_levels}
 use Rattle.lock_base.specs.Kind.{is_reentrant}
 use Rattle.lock_base.specs.Party.{id_of}
 use Rattle.lock_base.specs.Modes.{AreCompatible, empty_bag, bag_of, one_more, is_move, admits, may_become}
@@ -23,7 +23,7 @@ use Rattle.lock_base.proofs.Admissions.{fits_in_again}
 use Rattle.lock_desk.specs.declared.slot.Hold.{Hold}
 use Rattle.lock_desk.specs.declared.slot.Hold.TheVariants.{Parked, Token, Level}
 use Rattle.lock_desk.specs.declared.slot.Slot.{Slot}
-use Rattle.lock_desk.specs.Slots.{entries_of, shown, tokens_in, token_in, is_held, is_level, is_token, NoHold}
+use Rattle.lock_desk.specs.Slots.{entries_of, slot_entry, tokens_in, token_in, is_held, is_level, is_token, NoHold}
 use Rattle.lock_desk.specs.Owners.{OwnsLevels, token_of_owner, one_level_less, may_enter, HasEntered}
 use Rattle.lock_desk.specs.Backing.{Backing, register_of, KeepsLimits, bumps, held_of, Differs, AreHeldBy, AreBacked, Serves, HasRoom, IsHeldIn, Releases, TellsToken, HasChangeable, HasExchanged}
 use Rattle.lock_desk.proofs.Entries.{entry_found}
@@ -53,7 +53,7 @@ module _ {K : Type 0} where
   still_positive old new k p = subst (λ n. 0 < n) (sym k.limit) p
 
   -- nothing is backed where no token is out
-  pub nothing_backed : (kind : Kind) (limit places : ℕ) → 0 < limit → AreBacked {K = K} [] (record { kind = kind; capacity = places; tokens = []; levels = unowned limit; bar = None })
+  pub nothing_backed : (kind : Kind) (limit places : ℕ) → 0 < limit → AreBacked {K = K} [] (record { kind = kind; capacity = places; tokens = []; levels = free_levels limit; bar = None })
   nothing_backed kind limit places l = record {
     bag = record { counts = λ test. refl };
     holders = elim (is_reentrant kind) as (λ b. AreHeldBy {K = K} b [] None) [ true ↦ (tt, refl) | false ↦ (tt, refl) ];
@@ -379,10 +379,10 @@ module _ {K : Type 0} where
       let same : items.put n u ss ≡ ss = ap (λ (w : Slot K). items.put n w ss) kept.0 ∙ same_put n ss s e in
       subst (λ xs. AreBacked xs new) (sym same) (subst (λ t. AreBacked ss t) (sym kept.1) b)
 
-  pub shown_after_change : (r : Bool) (ts us : List (K × Mode)) (s t : Slot K) (mode : Mode) → OnTrue r (HasExchanged ts us s t mode) → is_held s.hold ≡ true → OnTrue r (shown t ≡ in_mode mode (shown s))
+  pub shown_after_change : (r : Bool) (ts us : List (K × Mode)) (s t : Slot K) (mode : Mode) → OnTrue r (HasExchanged ts us s t mode) → is_held s.hold ≡ true → OnTrue r (slot_entry t ≡ in_mode mode (slot_entry s))
   shown_after_change true ts us s t mode (k, l, h, is, replaced) held =
       let entry : Bool → Entry = λ b. record { party = id_of s.party; mode = mode; held = b } in
-      ap shown is ∙ ap entry (sym held)
+      ap slot_entry is ∙ ap entry (sym held)
   shown_after_change false ts us s t mode done held = tt
 
   -- What is admitted again
@@ -422,9 +422,9 @@ module _ {K : Type 0} where
   fits_in_after_park n places last ss s t e held may b =
       let levels : is_reentrant t.kind ≡ true → level_of t.levels (id_of s.party) ≡ length (held_of ss) = λ nested. held_levels s ss _ t nested (differs_found n ss s e) held b in
       let one : is_reentrant t.kind ≡ true → length (held_of ss) ≡ 1 = λ nested. sym (levels nested) ∙ eqb-true (level_of t.levels (id_of s.party)) 1 (rw nested at may) in
-      let place = splice n (shown s) (entries_of ss) (entry_found n ss s e) in
-      fits_in_again (with_change (register_of t places last ss) n parked_entry) (id_of s.party) (shown s) (entries_of ss)
-      (more_than_parked n (shown s) (entries_of ss) place held) (λ nested. refl) (held_legally ss t one b)
+      let place = splice n (slot_entry s) (entries_of ss) (entry_found n ss s e) in
+      fits_in_again (with_change (register_of t places last ss) n parked_entry) (id_of s.party) (slot_entry s) (entries_of ss)
+      (more_than_parked n (slot_entry s) (entries_of ss) place held) (λ nested. refl) (held_legally ss t one b)
 
   pub bumps_backed : (n places last : ℕ) (ss : List (ℕ × Slot K)) (s : Slot K) (t : Backing K) → items.find n ss ≡ Some s → is_held s.hold ≡ true → AreBacked ss t
       → bumps t (id_of s.party) ≡ bumps_token (register_of t places last ss)

@@ -39,10 +39,10 @@ impl<K> Model for Levels<K> {
 
 impl<K> Default for Levels<K> {
     ghost use Rattle.std.specs.Prelude.{◌≡◌};
-    ghost use Rattle.lock_base.specs.Levels.{unowned};
+    ghost use Rattle.lock_base.specs.Levels.{free_levels};
     ghost use Rattle.lock_base.specs.declared.raw.levels.TheConstants.{DEFAULT_LEVELS};
 
-    ghost is_default = { λ levels. levels ≡ unowned DEFAULT_LEVELS };
+    ghost is_default = { λ levels. levels ≡ free_levels DEFAULT_LEVELS };
 
     fn default() -> Self {
         Levels {
@@ -57,12 +57,12 @@ impl<K: Drop> Levels<K> {
     ghost use Rattle.std.specs.Bool.{MatchBool};
     ghost use Rattle.lock_base.specs.Limits.{IsLimit};
     ghost use Rattle.lock_base.specs.Party.{id_of};
-    ghost use Rattle.lock_base.specs.Levels.{IsLawful, GainsLevel, LosesLevel, GivesTokenBack, unowned, owned_by, at_level, level_of, token_of};
+    ghost use Rattle.lock_base.specs.Levels.{IsLawful, GainsLevel, LosesLevel, GivesTokenBack, free_levels, with_owner, at_level, level_of, token_of};
 
     /// No owner yet. Refused where the number of levels is out of its range.
     pub fn new(levels: u64) -> Result<Self, Fault>
         ensures range { IsOk result ↔ IsLimit levels }
-        ensures made { IfOk result (λ made. made ≡ unowned levels) }
+        ensures made { IfOk result (λ made. made ≡ free_levels levels) }
         ensures fault { IfErr result (λ fault. fault ≡ Fault.BadLimits) }
     {
         if !is_limit(levels) {
@@ -122,7 +122,7 @@ impl<K: Drop> Levels<K> {
     /// Level 1 of the party where there is no owner, and else the token back.
     pub fn first(&mut self, party: PartyId, token: K) -> Option<K>
         ensures taken { IfNone result
-            (IsNone self.old.owner × (self.new ≡ owned_by self.old (id_of party) token)) }
+            (IsNone self.old.owner × (self.new ≡ with_owner self.old (id_of party) token)) }
         ensures back { IfSome result (λ back. IsSome self.old.owner × (back ≡ token) × (self.new ≡ self.old)) }
     {
         if self.is_owned() {
@@ -183,7 +183,7 @@ impl<K: Drop> Levels<K> {
     /// Takes the owner away, and answers the token that it held.
     fn free(&mut self) -> Option<K>
         ensures token { result ≡ token_of self.old }
-        ensures after { self.new ≡ unowned self.old.limit }
+        ensures after { self.new ≡ free_levels self.old.limit }
     {
         self.owner.take().map(|owner| owner.token)
     }
