@@ -9,7 +9,7 @@ use Rattle.lock_base.specs.Modes.{empty_bag}
 use Rattle.lock_base.specs.ModeRuns.{Permits, bag_after, IsModeRun}
 use Rattle.lock_base.specs.Tokens.{bag_of_tokens}
 use Rattle.lock_base.specs.Limits.{IsLimit}
-use Rattle.lock_raws.specs.Journal.{Journal, empty_journal, written, IsJournalOf}
+use Rattle.lock_raws.specs.Journal.{Journal, empty_journal, journal_after, IsJournalOf}
 use Rattle.lock_raws.specs.Recording.{IsRecording}
 use Rattle.lock_base.proofs.ModeLemmas.{IsModeRun-push}
 use Rattle.lock_base.proofs.TokenSteps.{MakesStep}
@@ -49,8 +49,8 @@ written_step limit bag journal step kept permitted false is = record {
 }
 
 -- a step that is permitted keeps the journal, written or not
-pub IsJournalOf-written : (limit : ℕ) (bag : Bag) (journal : Journal) (step : ModeStep) → IsJournalOf limit bag journal → Permits limit bag step → IsJournalOf limit (bag_after bag step) (written journal step)
-IsJournalOf-written limit bag journal step kept permitted = written_step limit bag journal step kept permitted (nat_lt (length journal.steps) journal.room) refl
+pub IsJournalOf-journal_after : (limit : ℕ) (bag : Bag) (journal : Journal) (step : ModeStep) → IsJournalOf limit bag journal → Permits limit bag step → IsJournalOf limit (bag_after bag step) (journal_after journal step)
+IsJournalOf-journal_after limit bag journal step kept permitted = written_step limit bag journal step kept permitted (nat_lt (length journal.steps) journal.room) refl
 
 journal_along : {limit limit' : ℕ} {bag bag' : Bag} {journal journal' : Journal} → limit' ≡ limit → bag' ≡ bag → journal' ≡ journal → IsJournalOf limit bag journal → IsJournalOf limit' bag' journal'
 journal_along {limit} {limit'} {bag} {bag'} {journal} {journal'} same_limit same_bag same_journal kept =
@@ -62,11 +62,11 @@ module _ {K : Type 0} where
   -- after a call that made a step
   pub recording_stepped : {old new : List (K × Mode)} {limit limit' : ℕ} {journal journal' : Journal} (step : ModeStep)
       → IsRecording old limit journal → MakesStep limit old new step
-      → limit' ≡ limit → journal' ≡ written journal step
+      → limit' ≡ limit → journal' ≡ journal_after journal step
       → IsRecording new limit' journal'
   recording_stepped {old} {new} {limit} {limit'} {journal} step recording made same_limit same_journal = record {
     lawful = subst IsLimit (sym same_limit) recording.lawful;
-    kept = journal_along same_limit made.after same_journal (IsJournalOf-written limit (bag_of_tokens old) journal step recording.kept made.permitted);
+    kept = journal_along same_limit made.after same_journal (IsJournalOf-journal_after limit (bag_of_tokens old) journal step recording.kept made.permitted);
   }
 
   -- after a call that made none

@@ -16,8 +16,8 @@ abbrev pub empty_journal : ℕ → Journal
 empty_journal room = record { steps = []; room = room; stopped = false }
 
 -- the journal after a step: the step is written where there is room, and else the journal has stopped
-abbrev pub written : Journal → ModeStep → Journal
-written journal step =
+abbrev pub journal_after : Journal → ModeStep → Journal
+journal_after journal step =
     if nat_lt (length journal.steps) journal.room
     then record journal { steps = journal.steps ++ step ∷ [] }
     else record journal { stopped = true }

@@ -4,7 +4,7 @@ use Rattle.lock_base.specs.declared.machine.mode.Mode.{Mode}
 use Rattle.lock_base.specs.declared.machine.mode_step.ModeStep.{ModeStep}
 use Rattle.lock_base.specs.Tokens.{bag_of_tokens}
 use Rattle.lock_base.specs.Limits.{IsLimit}
-use Rattle.lock_raws.specs.Journal.{Journal, written, IsJournalOf}
+use Rattle.lock_raws.specs.Journal.{Journal, journal_after, IsJournalOf}
 
 pub record Recording (K : Type 0) : Type 0 where
   pub tokens_out : List (K × Mode)
@@ -20,4 +20,4 @@ pub record IsRecording {K : Type 0} (tokens : List (K × Mode)) (readers : ℕ) 
 -- the journal before and after a call that made this step, or none
 abbrev pub Records : Journal → Journal → Option ModeStep → Type 0
 Records old new None = new ≡ old
-Records old new (Some step) = new ≡ written old step
+Records old new (Some step) = new ≡ journal_after old step

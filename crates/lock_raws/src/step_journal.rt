@@ -25,7 +25,7 @@ impl Model for StepJournal {
 
 impl StepJournal {
     ghost use Rattle.std.specs.Prelude.{◌≡◌, IfOk, IfErr};
-    ghost use Rattle.lock_raws.specs.Journal.{empty_journal, written};
+    ghost use Rattle.lock_raws.specs.Journal.{empty_journal, journal_after};
 
     /// An empty journal, which takes all its memory here.
     pub(crate) fn new(alloc: Global, room: usize) -> Result<StepJournal, Fault>
@@ -44,7 +44,7 @@ impl StepJournal {
 
     /// Writes the step where there is room, and else stops.
     pub(crate) fn write(&mut self, step: ModeStep)
-        ensures { self.new ≡ written self.old step }
+        ensures { self.new ≡ journal_after self.old step }
     {
         if self.steps.len() < self.room {
             self.steps.push_reserved(step);

@@ -5,7 +5,7 @@ use Rattle.lock_roll.specs.declared.row.Row.{Row}
 use Rattle.lock_roll.specs.Items.{find}
 use Rattle.lock_roll.specs.Rows.{items_of, AreRising, IsRow, with_item}
 use Rattle.lock_roll.specs.Rolls.{IsRoll, Rolled}
-use Rattle.lock_roll.proofs.Rising.{rising_push, items_of-push, rising_set, numbered_or, find_row, without_row, put_row, length-without, length-put}
+use Rattle.lock_roll.proofs.Rising.{rising_push, items_of-push, rising_set, number_at_or, find_row, without_row, put_row, length-without, length-put}
 
 module _ {X : Type 0} where
   pub pushed : (rows fresh : List (Row X)) (items capacity last room : ℕ) (item : X) → IsRoll rows items capacity last room → items < capacity → fresh ≡ rows ++ record { number = last + 1; item = Some item } ∷ [] → IsRoll fresh (items + 1) capacity (last + 1) room
@@ -27,7 +27,7 @@ module _ {X : Type 0} where
       let is_there : is_some (find n (items_of rows)) ≡ true = ap is_some found in
       let fewer = length-without n (items_of rows) is_there in
       let rest = ap length (without_row 0 last rows h.rising n i r item at here gone none) in
-      let number = numbered_or rows i r at.inside ∙ sym (ap (λ (w : Row X). w.number) e) ∙ sym same in
+      let number = number_at_or rows i r at.inside ∙ sym (ap (λ (w : Row X). w.number) e) ∙ sym same in
       record {
         rising = rising_set 0 last rows i gone h.rising number;
         counted = omega (arith, fewer, rest, h.counted);
@@ -38,7 +38,7 @@ module _ {X : Type 0} where
 
   pub written : (rows : List (Row X)) (items capacity last room i n : ℕ) (r : Row X) (item new : X) → IsRoll rows items capacity last room → IsRow n rows i → r ≡ get_or rows i r → r.item ≡ Some item → IsRoll (set rows i (with_item r new)) items capacity last room
   written rows items capacity last room i n r item new h at e some =
-      let number = numbered_or rows i r at.inside ∙ sym (ap (λ (w : Row X). w.number) e) in
+      let number = number_at_or rows i r at.inside ∙ sym (ap (λ (w : Row X). w.number) e) in
       record {
         rising = rising_set 0 last rows i (with_item r new) h.rising number;
         counted = h.counted ∙ sym (ap length (put_row 0 last rows h.rising n i r item new at e some) ∙ length-put n new (items_of rows));

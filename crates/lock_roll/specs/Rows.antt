@@ -18,19 +18,19 @@ module _ {X : Type 0} where
   AreRising low (r ∷ rs) high = (low < r.number) × AreRising r.number rs high
 
   -- the number of the row at an index
-  abbrev pub numbered : List (Row X) → ℕ → ℕ
-  numbered [] i = 0
-  numbered (r ∷ rs) zero = r.number
-  numbered (r ∷ rs) (suc i) = numbered rs i
+  abbrev pub number_at : List (Row X) → ℕ → ℕ
+  number_at [] i = 0
+  number_at (r ∷ rs) zero = r.number
+  number_at (r ∷ rs) (suc i) = number_at rs i
 
   -- no row has the number
   abbrev pub NoRow : ℕ → List (Row X) → Type 0
-  NoRow number rows = (i : ℕ) → i < length rows → numbered rows i ≢ number
+  NoRow number rows = (i : ℕ) → i < length rows → number_at rows i ≢ number
 
   -- the row at this index has the number
   pub record IsRow (number : ℕ) (rows : List (Row X)) (i : ℕ) : Type 0 where
     pub inside : i < length rows
-    pub number_is : numbered rows i ≡ number
+    pub number_is : number_at rows i ≡ number
 
   -- the row with another item
   abbrev pub with_item : Row X → X → Row X

@@ -15,7 +15,7 @@ use Rattle.lock_ruled.specs.declared.rule.UserStage.TheVariants.{Free, Opens, Ho
 use Rattle.lock_ruled.specs.declared.rule.UserView.{UserView}
 use Rattle.lock_ruled.specs.Ruled.{all_parts, Meets, Keeps}
 use Rattle.lock_ruled.specs.Ruled as asked
-use Rattle.lock_ruled.specs.Slots.{Fits, IsAway, IsHolding, IsOut, IsRuled, taken_at, known_if, known, opener, one_fewer, one_part, both_of, spent}
+use Rattle.lock_ruled.specs.Slots.{Fits, IsAway, IsHolding, IsOut, IsRuled, taken_value, known_if, known_views, opener, one_fewer, one_part, both_of, spent_view}
 use Rattle.lock_ruled.specs.Plays.{Self, HasTaken, Carries, IsIdle, Takes, Gives, Begins}
 use Rattle.lock_ruled.proofs.Views.{known_of, known_one, known_append, parts_append, around, both_around, two_parts, alone, set_at}
 
@@ -43,7 +43,7 @@ module _ {T : Type 0} where
   slot_in xs other = other
 
 module _ {T : Type 0} where
-  pub holds_taken : (st : UserStage T) (other : T) → IsHolding st → st ≡ Holds (taken_at st other)
+  pub holds_taken : (st : UserStage T) (other : T) → IsHolding st → st ≡ Holds (taken_value st other)
   holds_taken Free other h = absurd h
   holds_taken (Opens x) other h = absurd h
   holds_taken (Holds x) other h = refl
@@ -63,7 +63,7 @@ module _ {T V : Type 0} (rule : T → List V → Type 0) (me after : Self T V) w
 
 -- a guard's value, put into its slot
 pub refilled : {T V : Type 0} (me now : Self T V) (value : T) → now ≡ (me.0, (0, Some value) ∷ rest me.1) → me.1 ≡ (0, None) ∷ [] → IsHolding me.0.stage
-    → Carries now (taken_at me.0.stage value) value
+    → Carries now (taken_value me.0.stage value) value
 refilled me now value is out holds =
     (ap (λ m. m.0.stage) is ∙ holds_taken me.0.stage value holds, ap (λ m. m.1) is ∙ ap (λ l. (0, Some value) ∷ rest l) out)
 
@@ -74,7 +74,7 @@ one_or_more n = exchanged n 0 1 (λ m. m ≢ 0) (λ hit e. suc-ne-zero 0 e) (λ 
 module _ {T V : Type 0} (rule : T → List V → Type 0) where
   -- the state that a step of one user leaves
   left : (s : State (std.Option T) (UserView T V)) (r : IsRuled rule s) (id n holder : ℕ) (homes : Homes T) (u w : UserView T V) (y : T) → get_elem? s.views id ≡ some u
-      → w.parts ≡ u.parts → rule y (known (set s.views id w)) → (n ≡ 0 → homes ≡ some (Some y) ∷ [])
+      → w.parts ≡ u.parts → rule y (known_views (set s.views id w)) → (n ≡ 0 → homes ≡ some (Some y) ∷ [])
       → (n ≢ 0 → IsOut (set s.views id w) holder) → Fits n homes y holder id w.stage
       → ((k : ℕ) (x : UserView T V) → k ≢ id → get_elem? s.views k ≡ some x → Fits n homes y holder k x.stage)
       → IsRuled rule record { words = set s.words 0 n; homes = homes; views = set s.views id w }
@@ -112,8 +112,8 @@ module _ {T V : Type 0} (rule : T → List V → Type 0) where
       let home = r.at_home hit in
       let there : get_elem? s.homes 0 ≡ some (some (Some y)) = ap (λ (h : Homes T). get_elem? h 0) home in
       let homes : set s.homes 0 none ≡ none ∷ [] = ap (λ (h : Homes T). set h 0 none) home in
-      let known_same : known (set s.views id w) ≡ known s.views = about.becomes w ∙ sym about.was in
-      let mine : known s.views ≡ about.before ++ me.0.own ∷ about.after
+      let known_same : known_views (set s.views id w) ≡ known_views s.views = about.becomes w ∙ sym about.was in
+      let mine : known_views s.views ≡ about.before ++ me.0.own ∷ about.after
       = about.was ∙ ap (λ (l : List V). about.before ++ (l ++ about.after)) (known_one me.0.parts me.0.own some_part) in (
         w,
         takes 0 (Some y),
@@ -129,7 +129,7 @@ module _ {T V : Type 0} (rule : T → List V → Type 0) where
         me.0,
         keeps,
         tt,
-        left s r id (f word) r.holder s.homes me.0 me.0 r.value at refl (subst (λ (us : List (UserView T V)). rule r.value (known us)) (sym again) r.kept)
+        left s r id (f word) r.holder s.homes me.0 me.0 r.value at refl (subst (λ (us : List (UserView T V)). rule r.value (known_views us)) (sym again) r.kept)
             (λ none. absurd (away word none)) (λ _. subst (λ (us : List (UserView T V)). IsOut us r.holder) (sym again) (r.is_out miss))
             (still_fits me.0.stage word (f word) r.holder id s.homes r.value (away word) (r.each id me.0 at))
             (λ k x apart e. still_fits x.stage word (f word) r.holder k s.homes r.value (away word) (r.each k x e)),
@@ -148,9 +148,9 @@ module _ {T V : Type 0} (rule : T → List V → Type 0) where
       let own = next taken me.0.own value in
       let w : UserView T V = record me.0 { own = own; stage = Free } in
       let one = λ (v : V). known_one me.0.parts v some_part in
-      let was : known s.views ≡ about.before ++ me.0.own ∷ about.after
+      let was : known_views s.views ≡ about.before ++ me.0.own ∷ about.after
       = about.was ∙ ap (λ (l : List V). about.before ++ (l ++ about.after)) (one me.0.own) in
-      let becomes : known (set s.views id w) ≡ about.before ++ own ∷ about.after
+      let becomes : known_views (set s.views id w) ≡ about.before ++ own ∷ about.after
       = about.becomes w ∙ ap (λ (l : List V). about.before ++ (l ++ about.after)) (one own) in
       let before : rule taken (about.before ++ me.0.own ∷ about.after)
       = subst (λ (z : T × List V). rule z.0 z.1) (λ i. (sym fits.2 i, was i)) r.kept in
@@ -165,7 +165,7 @@ module _ {T V : Type 0} (rule : T → List V → Type 0) where
         (λ x y out'.
             let held = out'.0 in
             let in_hand = out'.1 in
-            let same_x : taken ≡ x = ap (λ (st : UserStage T). taken_at st taken) (sym holds ∙ held) in
+            let same_x : taken ≡ x = ap (λ (st : UserStage T). taken_value st taken) (sym holds ∙ held) in
             let same_y : value ≡ y = ap (λ (c : List (ℕ × std.Option T)). slot_in c value) (sym carries ∙ in_hand) in
             λ i. (record me.0 { own = next (same_x i) me.0.own (same_y i); stage = Free }, rest (carries i))),
       )
@@ -178,7 +178,7 @@ module _ {T V : Type 0} (rule : T → List V → Type 0) where
       let fits : Fits word s.homes r.value r.holder id (Opens first)
       = subst (λ (st : UserStage T). Fits word s.homes r.value r.holder id st) opens (r.each id me.0 at) in
       let w : UserView T V = record me.0 { stage = Holds first } in
-      let known_same : known (set s.views id w) ≡ known s.views = about.becomes w ∙ sym about.was in
+      let known_same : known_views (set s.views id w) ≡ known_views s.views = about.becomes w ∙ sym about.was in
       let away : 1 ≢ 0 = λ e. suc-ne-zero 0 e in (
         w,
         takes 0 None,
@@ -187,7 +187,7 @@ module _ {T V : Type 0} (rule : T → List V → Type 0) where
             (λ _. (w, set_at s.views id me.0 w at, some_part, tt))
             (refl, away, fits.2, ap (λ (h : Homes T). set h 0 none) fits.3)
             (λ k x apart e. is_free x.stage word r.holder k 1 id s.homes (set s.homes 0 none) r.value r.value (λ mine _. apart (sym mine ∙ fits.0)) (r.each k x e)),
-        (λ x opened i. (record me.0 { stage = Holds (ap (λ (st : UserStage T). taken_at st first) (sym opens ∙ opened) i) }, (0, None) ∷ me.1)),
+        (λ x opened i. (record me.0 { stage = Holds (ap (λ (st : UserStage T). taken_value st first) (sym opens ∙ opened) i) }, (0, None) ∷ me.1)),
       )
 
   maker_fits : (value : T) (view : V) (k : ℕ) (x : UserView T V) → get_elem? (opener value view ∷ []) k ≡ some x → Fits 1 (some None ∷ []) value 0 k x.stage
@@ -225,11 +225,11 @@ module _ {T V : Type 0} (rule : T → List V → Type 0) where
       let about = around s.views id u at in
       let us = set s.views id l in
       let n = slice_index s.words 0 in
-      let was : known s.views ≡ about.before ++ u.own ∷ about.after
+      let was : known_views s.views ≡ about.before ++ u.own ∷ about.after
       = about.was ∙ ap (λ (vs : List V). about.before ++ (vs ++ about.after)) (known_one u.parts u.own (omega arith)) in
-      let becomes : known us ≡ about.before ++ l.own ∷ about.after
+      let becomes : known_views us ≡ about.before ++ l.own ∷ about.after
       = about.becomes l ∙ ap (λ (vs : List V). about.before ++ (vs ++ about.after)) (known_one l.parts l.own (omega arith)) in
-      let all : known (us ++ k ∷ []) ≡ about.before ++ l.own ∷ (about.after ++ k.own ∷ [])
+      let all : known_views (us ++ k ∷ []) ≡ about.before ++ l.own ∷ (about.after ++ k.own ∷ [])
       = known_append us (k ∷ []) ∙ (ap (λ (vs : List V). vs ++ k.own ∷ []) becomes ∙ append_assoc about.before (l.own ∷ about.after) (k.own ∷ [])) in
       let sum = about.parts l in
       let more = parts_append us (k ∷ []) in
@@ -251,7 +251,7 @@ module _ {T V : Type 0} (rule : T → List V → Type 0) where
 
   -- the views of two users, whichever comes first, where the one takes the other in
   joined : (us : List (UserView T V)) (id other : ℕ) (u w both gone : UserView T V) (y : T) → asked.Joins rule u.own w.own both.own → 0 < u.parts → 0 < w.parts → 0 < both.parts
-      → gone.parts ≡ 0 → other ≢ id → get_elem? us id ≡ some u → get_elem? us other ≡ some w → rule y (known us) → rule y (known (set (set us id both) other gone))
+      → gone.parts ≡ 0 → other ≢ id → get_elem? us id ≡ some u → get_elem? us other ≡ some w → rule y (known_views us) → rule y (known_views (set (set us id both) other gone))
   joined us id other u w both gone y law some_u some_w some_both no_part apart at at' kept =
       let one_u = known_one u.parts u.own some_u in
       let one_w = known_one w.parts w.own some_w in
@@ -260,24 +260,24 @@ module _ {T V : Type 0} (rule : T → List V → Type 0) where
       dite (dec_lt id other)
       (λ less.
       let a = both_around us id other u w less at at' in
-      let was : known us ≡ a.before ++ u.own ∷ (a.between ++ w.own ∷ a.after)
+      let was : known_views us ≡ a.before ++ u.own ∷ (a.between ++ w.own ∷ a.after)
       = a.was ∙ (λ i. a.before ++ (one_u i ++ (a.between ++ (one_w i ++ a.after)))) in
-      let becomes : known (set (set us id both) other gone) ≡ a.before ++ both.own ∷ (a.between ++ a.after)
+      let becomes : known_views (set (set us id both) other gone) ≡ a.before ++ both.own ∷ (a.between ++ a.after)
       = a.becomes both gone ∙ (λ i. a.before ++ (one i ++ (a.between ++ (nothing i ++ a.after)))) in
       subst (rule y) (sym becomes) (law.earlier y a.before a.between a.after (subst (rule y) was kept)))
       (λ not.
       let a = both_around us other id w u (omega arith) at' at in
-      let was : known us ≡ a.before ++ w.own ∷ (a.between ++ u.own ∷ a.after)
+      let was : known_views us ≡ a.before ++ w.own ∷ (a.between ++ u.own ∷ a.after)
       = a.was ∙ (λ i. a.before ++ (one_w i ++ (a.between ++ (one_u i ++ a.after)))) in
-      let becomes : known (set (set us id both) other gone) ≡ a.before ++ (a.between ++ both.own ∷ a.after)
+      let becomes : known_views (set (set us id both) other gone) ≡ a.before ++ (a.between ++ both.own ∷ a.after)
       = a.turned gone both ∙ (λ i. a.before ++ (nothing i ++ (a.between ++ (one i ++ a.after)))) in
       subst (rule y) (sym becomes) (law.later y a.before a.between a.after (subst (rule y) was kept)))
 
   pub joins : (id other : ℕ) (u w : UserView T V) (both : V → V → V) (gone : V) → u.stage ≡ Free → w.stage ≡ Free → 0 < u.parts → 0 < w.parts
-      → asked.Joins rule u.own w.own (both u.own w.own) → Joins (IsRuled rule) id u other w (both_of both u w) (spent gone)
+      → asked.Joins rule u.own w.own (both u.own w.own) → Joins (IsRuled rule) id u other w (both_of both u w) (spent_view gone)
   joins id other u w both gone free free' some_u some_w law s r at apart at' =
       let one : UserView T V = both_of both u w in
-      let left_over : UserView T V = spent gone in
+      let left_over : UserView T V = spent_view gone in
       let us = set s.views id one in
       let n = slice_index s.words 0 in
       let there : get_elem? s.views other ≡ some w = sym (set_else s.views id other one apart) ∙ at' in

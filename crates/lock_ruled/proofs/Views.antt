@@ -3,7 +3,7 @@ use Rattle.std.proofs.Common.{◌≡◌, ◌≢◌, ℕ, zero, suc, ◌+◌, ◌
 use mathlib.Core.Option.{some, some-injective, some-ne-none}
 use lib.ListN.{get_elem?}
 use Rattle.lock_ruled.specs.declared.rule.UserView.{UserView}
-use Rattle.lock_ruled.specs.Slots.{known_if, known, parts_of}
+use Rattle.lock_ruled.specs.Slots.{known_if, known_views, parts_of}
 
 pub known_one : {V : Type 0} (n : ℕ) (v : V) → 0 < n → known_if n v ≡ v ∷ []
 known_one zero v some_part = absurd (omega arith)
@@ -13,9 +13,9 @@ module _ {T V : Type 0} where
   abbrev pub known_of : UserView T V → List V
   known_of u = known_if u.parts u.own
 
-  pub known_append : (us ws : List (UserView T V)) → known (us ++ ws) ≡ known us ++ known ws
+  pub known_append : (us ws : List (UserView T V)) → known_views (us ++ ws) ≡ known_views us ++ known_views ws
   known_append [] ws = refl
-  known_append (u ∷ us) ws = ap (λ (l : List V). known_of u ++ l) (known_append us ws) ∙ sym (append_assoc (known_of u) (known us) (known ws))
+  known_append (u ∷ us) ws = ap (λ (l : List V). known_of u ++ l) (known_append us ws) ∙ sym (append_assoc (known_of u) (known_views us) (known_views ws))
 
   pub parts_append : (us ws : List (UserView T V)) → parts_of (us ++ ws) ≡ parts_of us + parts_of ws
   parts_append [] ws = omega arith
@@ -25,8 +25,8 @@ module _ {T V : Type 0} where
   pub record Around (us : List (UserView T V)) (id : ℕ) (u : UserView T V) : Type 0 where
     pub before : List V
     pub after : List V
-    pub was : known us ≡ before ++ (known_of u ++ after)
-    pub becomes : (w : UserView T V) → known (set us id w) ≡ before ++ (known_of w ++ after)
+    pub was : known_views us ≡ before ++ (known_of u ++ after)
+    pub becomes : (w : UserView T V) → known_views (set us id w) ≡ before ++ (known_of w ++ after)
     pub parts : (w : UserView T V) → parts_of (set us id w) + u.parts ≡ parts_of us + w.parts
 
   pub around : (us : List (UserView T V)) (id : ℕ) (u : UserView T V) → get_elem? us id ≡ some u → Around us id u
@@ -35,8 +35,8 @@ module _ {T V : Type 0} where
       let is = some-injective x u at in
       record {
         before = [];
-        after = known xs;
-        was = ap (λ (y : UserView T V). known_of y ++ known xs) is;
+        after = known_views xs;
+        was = ap (λ (y : UserView T V). known_of y ++ known_views xs) is;
         becomes = λ w. refl;
         parts = λ w. (let same = ap (λ (y : UserView T V). y.parts) is in omega arith);
       }
@@ -56,9 +56,9 @@ module _ {T V : Type 0} where
     pub before : List V
     pub between : List V
     pub after : List V
-    pub was : known us ≡ before ++ (known_of u ++ (between ++ (known_of w ++ after)))
-    pub becomes : (x y : UserView T V) → known (set (set us i x) j y) ≡ before ++ (known_of x ++ (between ++ (known_of y ++ after)))
-    pub turned : (x y : UserView T V) → known (set (set us j y) i x) ≡ before ++ (known_of x ++ (between ++ (known_of y ++ after)))
+    pub was : known_views us ≡ before ++ (known_of u ++ (between ++ (known_of w ++ after)))
+    pub becomes : (x y : UserView T V) → known_views (set (set us i x) j y) ≡ before ++ (known_of x ++ (between ++ (known_of y ++ after)))
+    pub turned : (x y : UserView T V) → known_views (set (set us j y) i x) ≡ before ++ (known_of x ++ (between ++ (known_of y ++ after)))
 
   pub both_around : (us : List (UserView T V)) (i j : ℕ) (u w : UserView T V) → i < j → get_elem? us i ≡ some u → get_elem? us j ≡ some w → Both us i j u w
   both_around [] i j u w less at at' = absurd (some-ne-none u (sym at))
@@ -71,7 +71,7 @@ module _ {T V : Type 0} where
         before = [];
         between = r.before;
         after = r.after;
-        was = ap (λ (y : UserView T V). known_of y ++ known xs) is ∙ ap (λ (l : List V). known_of u ++ l) r.was;
+        was = ap (λ (y : UserView T V). known_of y ++ known_views xs) is ∙ ap (λ (l : List V). known_of u ++ l) r.was;
         becomes = λ a b. ap (λ (l : List V). known_of a ++ l) (r.becomes b);
         turned = λ a b. ap (λ (l : List V). known_of a ++ l) (r.becomes b);
       }
@@ -104,26 +104,26 @@ module _ {T V : Type 0} where
   two_parts (x ∷ xs) (suc i) (suc j) u w apart at at' =
       let less = two_parts xs i j u w (λ e. apart (ap suc e)) at at' in omega arith
 
-  none_known : (us : List (UserView T V)) → parts_of us ≡ 0 → known us ≡ []
+  none_known : (us : List (UserView T V)) → parts_of us ≡ 0 → known_views us ≡ []
   none_known [] none = refl
   none_known (x ∷ xs) none =
       let here : x.parts ≡ 0 = omega arith in
-      ap (λ (n : ℕ). known_if n x.own ++ known xs) here ∙ none_known xs (omega arith)
+      ap (λ (n : ℕ). known_if n x.own ++ known_views xs) here ∙ none_known xs (omega arith)
 
   -- who has all parts is the only one that the rule speaks of
-  pub alone : (us : List (UserView T V)) (id : ℕ) (u : UserView T V) → get_elem? us id ≡ some u → parts_of us ≡ u.parts → 0 < u.parts → known us ≡ u.own ∷ []
+  pub alone : (us : List (UserView T V)) (id : ℕ) (u : UserView T V) → get_elem? us id ≡ some u → parts_of us ≡ u.parts → 0 < u.parts → known_views us ≡ u.own ∷ []
   alone [] id u at all some_part = absurd (some-ne-none u (sym at))
   alone (x ∷ xs) zero u at all some_part =
       let is = some-injective x u at in
       let same = ap (λ (y : UserView T V). y.parts) is in
       let none : parts_of xs ≡ 0 = omega arith in
-      ap (λ (y : UserView T V). known_of y ++ known xs) is
-      ∙ (ap (λ (l : List V). l ++ known xs) (known_one u.parts u.own some_part)
+      ap (λ (y : UserView T V). known_of y ++ known_views xs) is
+      ∙ (ap (λ (l : List V). l ++ known_views xs) (known_one u.parts u.own some_part)
       ∙ ap (λ (l : List V). u.own ∷ l) (none_known xs none))
   alone (x ∷ xs) (suc id) u at all some_part =
       let less = parts_at xs id u at in
       let here : x.parts ≡ 0 = omega arith in
-      ap (λ (n : ℕ). known_if n x.own ++ known xs) here ∙ alone xs id u at (omega arith) some_part
+      ap (λ (n : ℕ). known_if n x.own ++ known_views xs) here ∙ alone xs id u at (omega arith) some_part
 
 pub set_at : {A : Type 0} (xs : List A) (i : ℕ) (a b : A) → get_elem? xs i ≡ some a → get_elem? (set xs i b) i ≡ some b
 set_at [] i a b at = absurd (some-ne-none a (sym at))

@@ -12,12 +12,12 @@ Self T V = Me (std.Option T) (UserView T V)
 
 module _ {T V : Type 0} where
   -- the user has taken the value
-  abbrev pub holding : Self T V → T → Self T V
-  holding me value = (record me.0 { stage = Holds value }, (0, Some value) ∷ me.1)
+  abbrev pub after_taking : Self T V → T → Self T V
+  after_taking me value = (record me.0 { stage = Holds value }, (0, Some value) ∷ me.1)
 
   -- the user has taken some value, of which the rule holds beside its own view
   abbrev pub HasTaken : (T → List V → Type 0) → Self T V → Self T V → Type 0
-  HasTaken rule me after = (value : T) × (after ≡ holding me value) × Meets rule value me.0.own
+  HasTaken rule me after = (value : T) × (after ≡ after_taking me value) × Meets rule value me.0.own
 
   -- a step that finds the value at home takes it, and else does nothing
   abbrev pub Takes : (T → List V → Type 0) → Self T V → ℕ → Self T V → Type 0
@@ -33,12 +33,12 @@ module _ {T V : Type 0} where
   IsIdle me = (me.1 ≡ []) × (me.0.stage ≡ Free) × (0 < me.0.parts)
 
   -- the user has given this value back, and knows what the turn says
-  abbrev pub given : (T → V → T → V) → Self T V → T → T → Self T V
-  given next me taken value = (record me.0 { own = next taken me.0.own value; stage = Free }, [])
+  abbrev pub after_giving : (T → V → T → V) → Self T V → T → T → Self T V
+  after_giving next me taken value = (record me.0 { own = next taken me.0.own value; stage = Free }, [])
 
   abbrev pub Gives : (T → V → T → V) → Self T V → ℕ → Self T V → Type 0
   Gives next me found after =
-      (taken value : T) → Carries me taken value → after ≡ given next me taken value
+      (taken value : T) → Carries me taken value → after ≡ after_giving next me taken value
 
   -- who makes the mutex has the empty slot, and stands as if it had taken the first value from it
   abbrev pub Begins : Self T V → ℕ → Self T V → Type 0

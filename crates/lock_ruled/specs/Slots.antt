@@ -11,10 +11,10 @@ use Rattle.lock_ruled.specs.Ruled.{all_parts}
 
 module _ {T : Type 0} where
   -- the value that was taken, or else the other one
-  abbrev pub taken_at : UserStage T → T → T
-  taken_at Free other = other
-  taken_at (Opens value) other = value
-  taken_at (Holds value) other = value
+  abbrev pub taken_value : UserStage T → T → T
+  taken_value Free other = other
+  taken_value (Opens value) other = value
+  taken_value (Holds value) other = value
 
   abbrev pub IsAway : UserStage T → Type 0
   IsAway Free = ⊥
@@ -50,17 +50,17 @@ module _ {T V : Type 0} where
   abbrev pub both_of : (V → V → V) → UserView T V → UserView T V → UserView T V
   both_of both u w = record { parts = u.parts + w.parts; own = both u.own w.own; stage = Free }
 
-  abbrev pub spent : V → UserView T V
-  spent v = record { parts = 0; own = v; stage = Free }
+  abbrev pub spent_view : V → UserView T V
+  spent_view v = record { parts = 0; own = v; stage = Free }
 
   abbrev pub parts_of : List (UserView T V) → ℕ
   parts_of [] = 0
   parts_of (u ∷ us) = u.parts + parts_of us
 
   -- the views that the rule speaks of: those of users that have a part
-  abbrev pub known : List (UserView T V) → List V
-  known [] = []
-  known (u ∷ us) = known_if u.parts u.own ++ known us
+  abbrev pub known_views : List (UserView T V) → List V
+  known_views [] = []
+  known_views (u ∷ us) = known_if u.parts u.own ++ known_views us
 
   -- a user that has a part has the value out
   abbrev pub IsOut : List (UserView T V) → ℕ → Type 0
@@ -72,7 +72,7 @@ module _ {T V : Type 0} where
     pub one_word : length s.words ≡ 1
     pub parts : parts_of s.views ≡ all_parts
     -- the rule of the mutex holds of the value, or of the value as it was taken
-    pub kept : rule value (known s.views)
+    pub kept : rule value (known_views s.views)
     pub at_home : slice_index s.words 0 ≡ 0 → s.homes ≡ some (Some value) ∷ []
     pub is_out : slice_index s.words 0 ≢ 0 → IsOut s.views holder
     pub each : (number : ℕ) (u : UserView T V) → get_elem? s.views number ≡ some u

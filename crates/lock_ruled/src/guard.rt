@@ -15,14 +15,14 @@ pub struct RuledGuard<T, V> {
 impl<T, V> Model for RuledGuard<T, V> {
     ghost use Rattle.std.specs.Prelude.{◌≡◌, ◌<◌, [], ◌∷◌, None};
     ghost use Rattle.lock_ruled.specs.Ruled.{Taken};
-    ghost use Rattle.lock_ruled.specs.Slots.{taken_at, IsHolding};
+    ghost use Rattle.lock_ruled.specs.Slots.{taken_value, IsHolding};
 
     ghost Value = { Taken T V };
 
     ghost view = { λ g.
         record {
           user = record { mutex = g.seat.table_id; parts = g.seat.me.0.parts; view = g.seat.me.0.own };
-          taken = taken_at g.seat.me.0.stage g.value;
+          taken = taken_value g.seat.me.0.stage g.value;
           value = g.value;
         } };
 

@@ -1,6 +1,6 @@
 //! The kinds of step on the word, and what each tells the user that makes it.
 ghost use Rattle.lock_ruled.specs.Plays.{Takes, Gives, Begins};
-ghost use Rattle.lock_ruled.specs.Slots.{one_fewer, one_part, both_of, spent};
+ghost use Rattle.lock_ruled.specs.Slots.{one_fewer, one_part, both_of, spent_view};
 
 use crate::rule::{MutexRule, Turn, UserView};
 use atomic_table::{Join, Play, Split};
@@ -57,5 +57,5 @@ pub(crate) struct Pair<M> {
 impl<T, V, M: Join<V>> Join<UserView<T, V>> for Pair<M> {
     ghost both = { both_of M.both };
 
-    ghost spent = { spent M.spent };
+    ghost spent = { spent_view M.spent };
 }

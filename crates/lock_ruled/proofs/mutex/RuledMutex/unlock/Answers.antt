@@ -2,7 +2,7 @@ use Rattle.std.proofs.Common.{rules, ap, sym, subst, ◌∙◌, ◌<◌}
 use Rattle.lock_ruled.specs.declared.rule.UserView.{UserView}
 use Rattle.lock_ruled.specs.Ruled.{Taken, Keeps}
 use Rattle.lock_ruled.specs.Plays.{Self}
-use Rattle.lock_ruled.specs.Slots.{taken_at}
+use Rattle.lock_ruled.specs.Slots.{taken_value}
 use Rattle.lock_ruled.proofs.Keeps.{gives_value, refilled}
 use Rattle.lock_ruled.proofs.mutex.RuledMutex.unlock.Goals as goal
 
@@ -11,7 +11,7 @@ swap-requires g c =
     let rule = g.P.MutexRule.rule in
     let next = g.M.Turn.next in
     let value = c.guard.inside.value in
-    let taken = taken_at c.guard.inside.seat.me.0.stage value in
+    let taken = taken_value c.guard.inside.seat.me.0.stage value in
     let is = ap (λ (m : Self g.row.T.Denot g.row.V.Denot). m.0) c.exchange.ensures.3 in
     let out = refilled _ _ value c.exchange.ensures.3 c.guard.invariant.0 c.guard.invariant.1 in
     let turn = subst (λ (t : Taken g.row.T.Denot g.row.V.Denot). Keeps rule t.taken t.user.view t.value (next t.taken t.user.view t.value)) (sym c.guard.view_is) c.requires.rule in (
@@ -24,7 +24,7 @@ swap-requires g c =
 pub invariant_of-result : goal.invariant_of-result
 invariant_of-result g c =
     let value = c.guard.inside.value in
-    let taken = taken_at c.guard.inside.seat.me.0.stage value in
+    let taken = taken_value c.guard.inside.seat.me.0.stage value in
     let out = refilled _ _ value c.exchange.ensures.3 c.guard.invariant.0 c.guard.invariant.1 in
     let after = c.swap.ensures.2 taken value out in (
       ap (λ (m : Self g.row.T.Denot g.row.V.Denot). m.1) after,
@@ -36,7 +36,7 @@ pub returns : goal.returns
 returns g c =
     let next = g.M.Turn.next in
     let value = c.guard.inside.value in
-    let taken = taken_at c.guard.inside.seat.me.0.stage value in
+    let taken = taken_value c.guard.inside.seat.me.0.stage value in
     let is = ap (λ (m : Self g.row.T.Denot g.row.V.Denot). m.0) c.exchange.ensures.3 in
     let out = refilled _ _ value c.exchange.ensures.3 c.guard.invariant.0 c.guard.invariant.1 in
     let after = c.swap.ensures.2 taken value out in
