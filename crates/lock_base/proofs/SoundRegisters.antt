@@ -33,7 +33,12 @@ no_bar Reentrant = refl
 
 pub empty_sound : (kind : Kind) (places limit : ℕ) → IsLimitOf kind limit → IsSound (empty_register kind places limit)
 empty_sound kind places limit lawful =
-    record { legal = record { held = start_legal kind limit; numbered = omega arith; room = omega arith }; limit = lawful; modes = tt; bar = no_bar kind }
+    record {
+      legal = record { held = start_legal kind limit; numbered = omega arith; room = omega arith };
+      limit = lawful;
+      modes = tt;
+      bar = no_bar kind;
+    }
 
 -- the modes of the kind
 
@@ -233,7 +238,13 @@ rwlock_bar RwLock bar h = tt
 rwlock_bar Reentrant bar h = cc
 
 pub with_bar_sound : (r : Register) (bar : Option ℕ) → IsBarOf r.kind bar → IsSound r → IsSound (with_bar r bar)
-with_bar_sound r bar of_kind sound = record { legal = record { held = sound.legal.held; numbered = sound.legal.numbered; room = sound.legal.room }; limit = sound.limit; modes = sound.modes; bar = of_kind }
+with_bar_sound r bar of_kind sound =
+    record {
+      legal = record { held = sound.legal.held; numbered = sound.legal.numbered; room = sound.legal.room };
+      limit = sound.limit;
+      modes = sound.modes;
+      bar = of_kind;
+    }
 
 pub admitted_sound : (r : Register) (mode : Mode) → IsSound r → IsSound (after_admission r mode)
 admitted_sound r mode sound = with_bar_sound r (bar_after r.bar mode) (by_mode (is_exclusive mode)) sound

@@ -37,7 +37,8 @@ module _ {K : Type 0} where
       }
 
   pub changes : {old new : List (K × Mode)} {token next : K} (limit : ℕ) (from to : Mode) → IsTrue (is_move from to)
-      → IsTrue (may_become (bag_of_tokens old) to) → IsOutAs old token from → Replaces old new token next to → MakesStep limit old new (Change from to)
+      → IsTrue (may_become (bag_of_tokens old) to) → IsOutAs old token from → Replaces old new token next to
+      → MakesStep limit old new (Change from to)
   changes {old} {new} {token} {next} limit from to move allowed out replaced =
       let others = out.0 in
       let before : bag_of_tokens old ≡ one_more (bag_of_tokens others) from = bag_of_same old ((token, from) ∷ others) out.1 in

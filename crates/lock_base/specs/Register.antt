@@ -24,7 +24,8 @@ pub record Register : Type 0 where
 
 -- a register with no guard and no bar
 abbrev pub empty_register : Kind → ℕ → ℕ → Register
-empty_register kind places limit = record { kind = kind; limit = limit; places = places; last = 0; entries = []; bar = None }
+empty_register kind places limit =
+    record { kind = kind; limit = limit; places = places; last = 0; entries = []; bar = None }
 
 -- whether a guard of the party and the mode fits in beside those that are held.
 -- A reentrant lock asks that all are the party's, and fewer than its levels

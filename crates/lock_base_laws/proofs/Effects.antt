@@ -166,7 +166,11 @@ module _ {O T A : Type 0} (meaning : O → Operation T A) (m : Machine T) where
       of_both (λ turn. HasEffect O T A m call (response_in_form form Reply.Guard turn))
       (lets_in m.register (id_of party) (mode_of want)) _ _
       (λ ok. some_given O T A m call form Reply.Guard _ _ (acquired party (mode_of want)
-      (record { mode_of_kind = want_of_kind m.kind want (not-false (has_want m.kind want) all.first); room = eqb-false _ _ all.second; let_in = ok })))
+      (record {
+        mode_of_kind = want_of_kind m.kind want (not-false (has_want m.kind want) all.first);
+        room = eqb-false _ _ all.second;
+        let_in = ok;
+      })))
       (λ no. none_kept O T A m call form Reply.Guard))
 
   of_unlock : (party : PartyId) (guard : ℕ) (way : Way)

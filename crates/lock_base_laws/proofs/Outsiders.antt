@@ -43,7 +43,8 @@ module _ {T : Type 0} (m : Machine T) where
       resume_refused party guard =
           of_guard (λ turn. IsErr turn.answer) m parked_guard party guard _ (λ f. refl)
           (λ e meets. of_both (λ turn. IsErr turn.answer) (is_full_count m.register party) _ _ (λ full. refl)
-          (λ room. subst (λ (b : Bool). IsErr (if b then give tt (with_register m (after_admission (with_change m.register guard resumed_entry) e.mode))
+          (λ room. subst (λ (b : Bool). IsErr
+          (if b then give tt (with_register m (after_admission (with_change m.register guard resumed_entry) e.mode))
           else refuse m fault.WouldWait).answer) (sym (nobody party e.mode)) refl))
 
   beside_exclusive : (guard : ℕ) (holder : IsHeld m.register guard) → is_reentrant m.kind ≡ false

@@ -32,7 +32,8 @@ module _ {O T A : Type 0} (m : Machine T) (sound : IsSound m.register) where
   effect_sound (Effect.parks guard e out) = parked_sound m.register sound guard e (at_guard m.register guard e _ out) out.held
   effect_sound (Effect.resumes party guard e out own ok) =
       admitted_sound (with_change m.register guard resumed_entry) e.mode
-      (resumed_sound m.register sound guard e (at_guard m.register guard e _ out) (id_of party) out.held own (fitted_in m.register (id_of party) e.mode ok))
+      (resumed_sound m.register sound guard e (at_guard m.register guard e _ out) (id_of party) out.held own
+      (fitted_in m.register (id_of party) e.mode ok))
   effect_sound (Effect.abandoned guard e out) = abandoned_sound m.register sound guard e (at_guard m.register guard e _ out) out.held
   effect_sound (Effect.bumped party guard e out) = sound
   effect_sound (Effect.moves guard e to out kind move sole) =

@@ -32,7 +32,8 @@ use Rattle.lock_desk.proofs.Slots.{differs_found, differs_put, parked_held, park
 
 module _ {K : Type 0} where
   -- the tokens of all slots and the owner, by count
-  bag_count : (test : K × Mode → Bool) (ss : List (ℕ × Slot K)) (t : Backing K) → AreBacked ss t → count test t.tokens ≡ count test (tokens_in ss) + count test (token_of_owner t.levels.owner)
+  bag_count : (test : K × Mode → Bool) (ss : List (ℕ × Slot K)) (t : Backing K) → AreBacked ss t
+      → count test t.tokens ≡ count test (tokens_in ss) + count test (token_of_owner t.levels.owner)
   bag_count test ss t b = b.bag.counts test ∙ count-append test (tokens_in ss) (token_of_owner t.levels.owner)
 
   -- one kind's holders
@@ -53,7 +54,14 @@ module _ {K : Type 0} where
   still_positive old new k p = subst (λ n. 0 < n) (sym k.limit) p
 
   -- nothing is backed where no token is out
-  pub nothing_backed : (kind : Kind) (limit places : ℕ) → 0 < limit → AreBacked {K = K} [] (record { kind = kind; capacity = places; tokens = []; levels = free_levels limit; bar = None })
+  pub nothing_backed : (kind : Kind) (limit places : ℕ) → 0 < limit
+      → AreBacked {K = K} [] (record {
+        kind = kind;
+        capacity = places;
+        tokens = [];
+        levels = free_levels limit;
+        bar = None;
+      })
   nothing_backed kind limit places l = record {
     bag = record { counts = λ test. refl };
     holders = elim (is_reentrant kind) as (λ b. AreHeldBy {K = K} b [] None) [ true ↦ (tt, refl) | false ↦ (tt, refl) ];
@@ -67,12 +75,21 @@ module _ {K : Type 0} where
 
   -- Parked slots
 
-  parked_count : (test : K × Mode → Bool) (s : Slot K) (ss others : List (ℕ × Slot K)) → Differs s ss others → s.hold ≡ Parked → count test (tokens_in ss) ≡ count test (tokens_in others)
+  parked_count : (test : K × Mode → Bool) (s : Slot K) (ss others : List (ℕ × Slot K)) → Differs s ss others
+      → s.hold ≡ Parked → count test (tokens_in ss) ≡ count test (tokens_in others)
   parked_count test s ss others d e = omega (arith, d.tokens test, ap (λ h. count test (token_in h s.mode)) e)
 
-  pub drop_parked : (s : Slot K) (ss others : List (ℕ × Slot K)) (t : Backing K) → Differs s ss others → s.hold ≡ Parked → AreBacked ss t → AreBacked others t
+  pub drop_parked : (s : Slot K) (ss others : List (ℕ × Slot K)) (t : Backing K) → Differs s ss others
+      → s.hold ≡ Parked → AreBacked ss t → AreBacked others t
   drop_parked s ss others t d e b = record {
-    bag = record { counts = λ test. omega (arith, bag_count test ss t b, parked_count test s ss others d e, count-append test (tokens_in others) (token_of_owner t.levels.owner)) };
+    bag = record {
+      counts = λ test. omega (
+        arith,
+        bag_count test ss t b,
+        parked_count test s ss others d e,
+        count-append test (tokens_in others) (token_of_owner t.levels.owner),
+      );
+    };
     holders = holders_by (is_reentrant t.kind) b.holders;
     compatible = b.compatible;
     positive = b.positive;
@@ -82,16 +99,28 @@ module _ {K : Type 0} where
       holders_by true h = ((d.less is_token h.0).1, owns_same t.levels.owner _ _ h.1 (parked_held s ss others d e) (parked_party s ss others d e))
       holders_by false h = ((d.less is_level h.0).1, h.1)
 
-  pub add_parked : (s : Slot K) (ss others : List (ℕ × Slot K)) (t : Backing K) → Differs s ss others → s.hold ≡ Parked → AreBacked others t → AreBacked ss t
+  pub add_parked : (s : Slot K) (ss others : List (ℕ × Slot K)) (t : Backing K) → Differs s ss others → s.hold ≡ Parked
+      → AreBacked others t → AreBacked ss t
   add_parked s ss others t d e b = record {
-    bag = record { counts = λ test. omega (arith, bag_count test others t b, parked_count test s ss others d e, count-append test (tokens_in ss) (token_of_owner t.levels.owner)) };
+    bag = record {
+      counts = λ test. omega (
+        arith,
+        bag_count test others t b,
+        parked_count test s ss others d e,
+        count-append test (tokens_in ss) (token_of_owner t.levels.owner),
+      );
+    };
     holders = holders_by (is_reentrant t.kind) b.holders;
     compatible = b.compatible;
     positive = b.positive;
   }
     where
       holders_by : (n : Bool) → AreHeldBy n others t.levels.owner → AreHeldBy n ss t.levels.owner
-      holders_by true h = (d.more is_token (ap is_token e) h.0, owns_same t.levels.owner _ _ h.1 (sym (parked_held s ss others d e)) (λ p. sym (parked_party s ss others d e p)))
+      holders_by true h = (
+        d.more is_token (ap is_token e) h.0,
+        owns_same t.levels.owner _ _ h.1 (sym (parked_held s ss others d e))
+            (λ p. sym (parked_party s ss others d e p)),
+      )
       holders_by false h = (d.more is_level (ap is_level e) h.0, h.1)
 
   pub releases_parked : (hold : Hold K) (old new : Backing K) → hold ≡ Parked → new ≡ old → Releases hold old new
@@ -100,25 +129,40 @@ module _ {K : Type 0} where
   -- Slots with a token of their own
 
   -- the bag beside the token of one slot
-  bag_beside : (s : Slot K) (ss others : List (ℕ × Slot K)) (k : K) (t : Backing K) → Differs s ss others → s.hold ≡ Token k → AreBacked ss t → SameBag t.tokens ((k, s.mode) ∷ (tokens_in others ++ token_of_owner t.levels.owner))
+  bag_beside : (s : Slot K) (ss others : List (ℕ × Slot K)) (k : K) (t : Backing K) → Differs s ss others
+      → s.hold ≡ Token k → AreBacked ss t
+      → SameBag t.tokens ((k, s.mode) ∷ (tokens_in others ++ token_of_owner t.levels.owner))
   bag_beside s ss others k t d e b = record {
-    counts = λ test. omega (arith, bag_count test ss t b, d.tokens test, ap (λ h. count test (token_in h s.mode)) e, count-append test (tokens_in others) (token_of_owner t.levels.owner));
+    counts = λ test. omega (
+      arith,
+      bag_count test ss t b,
+      d.tokens test,
+      ap (λ h. count test (token_in h s.mode)) e,
+      count-append test (tokens_in others) (token_of_owner t.levels.owner),
+    );
   }
 
   pub held_token : (k : K) (party : ℕ) (t : Backing K) (hold : Hold K) → hold ≡ Token k → IsHeldIn party hold t → IsOut t.tokens k
-  held_token k party t hold is (s, ss, others, d, e, q, b) = (s.mode, (tokens_in others ++ token_of_owner t.levels.owner, bag_beside s ss others k t d (e ∙ is) b))
+  held_token k party t hold is (s, ss, others, d, e, q, b) =
+      (s.mode, (tokens_in others ++ token_of_owner t.levels.owner, bag_beside s ss others k t d (e ∙ is) b))
 
-  releases_own : (hold : Hold K) (k : K) (old new : Backing K) → hold ≡ Token k → KeepsLimits old new → new.levels.owner ≡ old.levels.owner → Removes old.tokens new.tokens k → Releases hold old new
+  releases_own : (hold : Hold K) (k : K) (old new : Backing K) → hold ≡ Token k → KeepsLimits old new
+      → new.levels.owner ≡ old.levels.owner → Removes old.tokens new.tokens k → Releases hold old new
   releases_own hold k old new is keeps owner removed s ss others d e b =
       let rest : List (K × Mode) = tokens_in others ++ token_of_owner old.levels.owner in
       let beside : SameBag old.tokens ((k, s.mode) ∷ rest) = bag_beside s ss others k old d (e ∙ is) b in
       let left : SameBag new.tokens rest = removed s.mode rest beside in
       let readers = token_limit old.kind old.levels.limit in
-      let before : AreCompatible readers (bag_of_tokens ((k, s.mode) ∷ rest)) = subst (λ g. AreCompatible readers g) (bag_of_same old.tokens ((k, s.mode) ∷ rest) beside) b.compatible in
+      let before : AreCompatible readers (bag_of_tokens ((k, s.mode) ∷ rest))
+      = subst (λ g. AreCompatible readers g) (bag_of_same old.tokens ((k, s.mode) ∷ rest) beside) b.compatible in
       record {
         bag = subst (λ o. SameBag new.tokens (tokens_in others ++ token_of_owner o)) (sym owner) left;
-        holders = subst (λ o. AreHeldBy (is_reentrant new.kind) others o) (sym owner) (subst (λ n. AreHeldBy n others old.levels.owner) (sym (same_nesting old new keeps)) (holders_by (is_reentrant old.kind) b.holders));
-        compatible = subst (λ n. AreCompatible n (bag_of_tokens new.tokens)) (sym (same_behind old new keeps)) (subst (λ g. AreCompatible readers g) (sym (bag_of_same new.tokens rest left)) (compatible_released readers (bag_of_tokens rest) s.mode before));
+        holders = subst (λ o. AreHeldBy (is_reentrant new.kind) others o) (sym owner)
+            (subst (λ n. AreHeldBy n others old.levels.owner) (sym (same_nesting old new keeps))
+            (holders_by (is_reentrant old.kind) b.holders));
+        compatible = subst (λ n. AreCompatible n (bag_of_tokens new.tokens)) (sym (same_behind old new keeps))
+            (subst (λ g. AreCompatible readers g) (sym (bag_of_same new.tokens rest left))
+            (compatible_released readers (bag_of_tokens rest) s.mode before));
         positive = still_positive old new keeps b.positive;
       }
     where
@@ -126,17 +170,31 @@ module _ {K : Type 0} where
       holders_by true h = let t = (d.less is_token h.0).0 in let u = ap is_token (e ∙ is) in cc
       holders_by false h = ((d.less is_level h.0).1, h.1)
 
-  serves_own : (party : ℕ) (mode : Mode) (k : K) (old new : Backing K) → is_reentrant old.kind ≡ false → KeepsLimits old new → new.levels.owner ≡ old.levels.owner → IsTrue (admits (token_limit old.kind old.levels.limit) (bag_of_tokens old.tokens) mode) → Adds old.tokens new.tokens k mode → Serves party mode (Token k) old new
+  serves_own : (party : ℕ) (mode : Mode) (k : K) (old new : Backing K) → is_reentrant old.kind ≡ false
+      → KeepsLimits old new → new.levels.owner ≡ old.levels.owner
+      → IsTrue (admits (token_limit old.kind old.levels.limit) (bag_of_tokens old.tokens) mode)
+      → Adds old.tokens new.tokens k mode → Serves party mode (Token k) old new
   serves_own party mode k old new n keeps owner admits added s ss others d e q m b =
       let held = of_others others old n b in
       let readers = token_limit old.kind old.levels.limit in
       record {
         bag = subst (λ o. SameBag new.tokens (tokens_in ss ++ token_of_owner o)) (sym owner)
-            (record { counts = λ test. omega (arith, added.counts test, bag_count test others old b, d.tokens test, ap (λ h. count test (token_in h s.mode)) e, ap (λ w. count test (token_in (Token k) w)) m, count-append test (tokens_in ss) (token_of_owner old.levels.owner)) });
+            (record {
+              counts = λ test. omega (
+                arith,
+                added.counts test,
+                bag_count test others old b,
+                d.tokens test,
+                ap (λ h. count test (token_in h s.mode)) e,
+                ap (λ w. count test (token_in (Token k) w)) m,
+                count-append test (tokens_in ss) (token_of_owner old.levels.owner),
+              );
+            });
         holders = subst (λ o. AreHeldBy (is_reentrant new.kind) ss o) (sym owner)
             (subst (λ w. AreHeldBy w ss old.levels.owner) (sym (same_nesting old new keeps ∙ n)) (d.more is_level (ap is_level e) held.0, held.1));
         compatible = subst (λ w. AreCompatible w (bag_of_tokens new.tokens)) (sym (same_behind old new keeps))
-            (subst (λ g. AreCompatible readers g) (sym (bag_of_same new.tokens ((k, mode) ∷ old.tokens) added)) (compatible_acquired readers (bag_of_tokens old.tokens) mode b.compatible admits));
+            (subst (λ g. AreCompatible readers g) (sym (bag_of_same new.tokens ((k, mode) ∷ old.tokens) added))
+            (compatible_acquired readers (bag_of_tokens old.tokens) mode b.compatible admits));
         positive = still_positive old new keeps b.positive;
       }
 
@@ -146,7 +204,8 @@ module _ {K : Type 0} where
   bag_of_owner ss t none b = rw (no_tokens ss none) at b.bag
 
   -- an owner's one token may be out
-  owner_compatible : (owner : Option (Owner K)) (tokens : List (K × Mode)) → SameBag tokens (token_of_owner owner) → AreCompatible 1 (bag_of_tokens tokens)
+  owner_compatible : (owner : Option (Owner K)) (tokens : List (K × Mode)) → SameBag tokens (token_of_owner owner)
+      → AreCompatible 1 (bag_of_tokens tokens)
   owner_compatible owner tokens p = subst (λ g. AreCompatible 1 g) (sym (bag_of_same tokens (token_of_owner owner) p)) (one_token owner)
     where
       one_token : (owner : Option (Owner K)) → AreCompatible 1 (bag_of_tokens (token_of_owner owner))
@@ -154,7 +213,9 @@ module _ {K : Type 0} where
       one_token (Some o) = compatible_acquired 1 _ Exclusive (compatible_empty 1) refl
 
   -- an owner's levels are backed by its token
-  owner_backs : (ss : List (ℕ × Slot K)) (t : Backing K) → is_reentrant t.kind ≡ true → 0 < t.levels.limit → NoHold is_token ss → OwnsLevels t.levels.owner (held_of ss) → SameBag t.tokens (token_of_owner t.levels.owner) → AreBacked ss t
+  owner_backs : (ss : List (ℕ × Slot K)) (t : Backing K) → is_reentrant t.kind ≡ true → 0 < t.levels.limit
+      → NoHold is_token ss → OwnsLevels t.levels.owner (held_of ss) → SameBag t.tokens (token_of_owner t.levels.owner)
+      → AreBacked ss t
   owner_backs ss t n positive none owns p = record {
     bag = rw (no_tokens ss none) p;
     holders = subst (λ w. AreHeldBy w ss t.levels.owner) (sym n) (none, owns);
@@ -166,41 +227,57 @@ module _ {K : Type 0} where
       behind kind n = rw n refl
 
   -- a level stands only on a reentrant lock
-  reentrant_of_level : (s : Slot K) (ss others : List (ℕ × Slot K)) (t : Backing K) → Differs s ss others → s.hold ≡ Level → AreBacked ss t → is_reentrant t.kind ≡ true
+  reentrant_of_level : (s : Slot K) (ss others : List (ℕ × Slot K)) (t : Backing K) → Differs s ss others
+      → s.hold ≡ Level → AreBacked ss t → is_reentrant t.kind ≡ true
   reentrant_of_level s ss others t d e b = by_nesting (is_reentrant t.kind) b.holders
     where
       by_nesting : (n : Bool) → AreHeldBy n ss t.levels.owner → n ≡ true
       by_nesting true h = refl
       by_nesting false h = let f = (d.less is_level h.0).0 in let u = ap is_level e in cc
 
-  pub held_level : (party : ℕ) (t : Backing K) (hold : Hold K) → hold ≡ Level → IsHeldIn party hold t → (0 < level_of t.levels party) × SameBag t.tokens (token_of_owner t.levels.owner)
+  pub held_level : (party : ℕ) (t : Backing K) (hold : Hold K) → hold ≡ Level → IsHeldIn party hold t
+      → (0 < level_of t.levels party) × SameBag t.tokens (token_of_owner t.levels.owner)
   held_level party t hold is (s, ss, others, d, e, q, b) =
       let held = of_reentrant ss t (reentrant_of_level s ss others t d (e ∙ is) b) b in
       let some : 0 < length (held_of ss) = omega (arith, level_held s ss others d (e ∙ is)) in
-      let count : level_of t.levels (id_of s.party) ≡ length (held_of ss) = holder_owns t.levels.owner (id_of s.party) (held_of ss) (held_of others) held.1 some (level_party s ss others d (e ∙ is)) in
+      let count : level_of t.levels (id_of s.party) ≡ length (held_of ss)
+      = holder_owns t.levels.owner (id_of s.party) (held_of ss) (held_of others) held.1 some
+      (level_party s ss others d (e ∙ is)) in
       (subst (λ p. 0 < level_of t.levels p) q (omega (arith, count, some)), bag_of_owner ss t held.0 b)
 
-  pub releases_level : (hold : Hold K) (old new : Backing K) → hold ≡ Level → KeepsLimits old new → new.levels.owner ≡ one_level_less old.levels.owner → SameBag new.tokens (token_of_owner new.levels.owner) → Releases hold old new
+  pub releases_level : (hold : Hold K) (old new : Backing K) → hold ≡ Level → KeepsLimits old new
+      → new.levels.owner ≡ one_level_less old.levels.owner → SameBag new.tokens (token_of_owner new.levels.owner)
+      → Releases hold old new
   releases_level hold old new is keeps left p s ss others d e b =
       let n = reentrant_of_level s ss others old d (e ∙ is) b in
       let held = of_reentrant ss old n b in
       owner_backs others new (same_nesting old new keeps ∙ n) (still_positive old new keeps b.positive) (d.less is_token held.0).1
-      (subst (λ w. OwnsLevels w (held_of others)) (sym left) (owns_less old.levels.owner (id_of s.party) _ _ held.1 (level_held s ss others d (e ∙ is)) (level_party s ss others d (e ∙ is)))) p
+      (subst (λ w. OwnsLevels w (held_of others)) (sym left)
+      (owns_less old.levels.owner (id_of s.party) _ _ held.1 (level_held s ss others d (e ∙ is))
+      (level_party s ss others d (e ∙ is)))) p
 
-  pub serves_level : (party : ℕ) (mode : Mode) (old new : Backing K) → is_reentrant old.kind ≡ true → KeepsLimits old new → may_enter old.levels.limit party old.levels.owner ≡ true → HasEntered party old.levels.owner new.levels.owner → SameBag new.tokens (token_of_owner new.levels.owner) → Serves party mode Level old new
+  pub serves_level : (party : ℕ) (mode : Mode) (old new : Backing K) → is_reentrant old.kind ≡ true
+      → KeepsLimits old new → may_enter old.levels.limit party old.levels.owner ≡ true
+      → HasEntered party old.levels.owner new.levels.owner → SameBag new.tokens (token_of_owner new.levels.owner)
+      → Serves party mode Level old new
   serves_level party mode old new n keeps may entered p s ss others d e q m b =
       let held = of_reentrant others old n b in
-      let of_party : (r : ℕ) → all_of_party r (held_of ss) ≡ nat_eq party r && all_of_party r (held_of others) = λ r. level_party s ss others d e r ∙ ap (λ w. nat_eq w r && all_of_party r (held_of others)) q in
+      let of_party : (r : ℕ) → all_of_party r (held_of ss) ≡ nat_eq party r && all_of_party r (held_of others)
+      = λ r. level_party s ss others d e r ∙ ap (λ w. nat_eq w r && all_of_party r (held_of others)) q in
       owner_backs ss new (same_nesting old new keeps ∙ n) (still_positive old new keeps b.positive) (d.more is_token (ap is_token e) held.0)
       (owns_more old.levels.limit party old.levels.owner new.levels.owner _ _ held.1 may entered (level_held s ss others d e) of_party) p
 
   -- What is admitted
 
   bag_of_slots : (ss : List (ℕ × Slot K)) (t : Backing K) → is_reentrant t.kind ≡ false → AreBacked ss t → SameBag t.tokens (tokens_in ss)
-  bag_of_slots ss t n b = record { counts = λ test. omega (arith, bag_count test ss t b, ap (λ o. count test (token_of_owner o)) (of_others ss t n b).1) }
+  bag_of_slots ss t n b = record {
+    counts =
+        λ test. omega (arith, bag_count test ss t b, ap (λ o. count test (token_of_owner o)) (of_others ss t n b).1);
+  }
 
   -- where guards are no levels, the bag of the tokens is that of the held entries
-  pub bag_of_held : (ss : List (ℕ × Slot K)) (t : Backing K) → is_reentrant t.kind ≡ false → AreBacked ss t → bag_of_tokens t.tokens ≡ held_bag (entries_of ss)
+  pub bag_of_held : (ss : List (ℕ × Slot K)) (t : Backing K) → is_reentrant t.kind ≡ false → AreBacked ss t
+      → bag_of_tokens t.tokens ≡ held_bag (entries_of ss)
   bag_of_held ss t n b =
       bag_of_same t.tokens (tokens_in ss) (bag_of_slots ss t n b) ∙ ap bag_of (modes_of-tokens_in ss (of_others ss t n b).0)
 
@@ -229,16 +306,24 @@ module _ {K : Type 0} where
       → r ≡ admits (token_limit t.kind t.levels.limit) (bag_of_tokens t.tokens) mode → AreBacked ss t
       → r ≡ fits_in (register_of t places last ss) party mode
   admitted_own r party mode places last ss t n e b =
-      let held : r ≡ admits (token_limit t.kind t.levels.limit) (held_bag (entries_of ss)) mode = e ∙ ap (λ g. admits (token_limit t.kind t.levels.limit) g mode) (bag_of_held ss t n b) in
+      let held : r ≡ admits (token_limit t.kind t.levels.limit) (held_bag (entries_of ss)) mode
+      = e ∙ ap (λ g. admits (token_limit t.kind t.levels.limit) g mode) (bag_of_held ss t n b) in
       rw n (rw n at held)
 
   -- The same of a backing as its fields show it
 
-  pub releases_token : (hold : Hold K) (k : K) (seen old new : Backing K) → seen ≡ old → hold ≡ Token k → KeepsLimits seen new → new.levels.owner ≡ seen.levels.owner → Removes seen.tokens new.tokens k → Releases hold old new
-  releases_token hold k seen old new same is keeps owner removed = subst (λ t. Releases hold t new) same (releases_own hold k seen new is keeps owner removed)
+  pub releases_token : (hold : Hold K) (k : K) (seen old new : Backing K) → seen ≡ old → hold ≡ Token k
+      → KeepsLimits seen new → new.levels.owner ≡ seen.levels.owner → Removes seen.tokens new.tokens k
+      → Releases hold old new
+  releases_token hold k seen old new same is keeps owner removed =
+      subst (λ t. Releases hold t new) same (releases_own hold k seen new is keeps owner removed)
 
-  pub serves_token : (party : ℕ) (mode : Mode) (k : K) (seen old new : Backing K) → seen ≡ old → is_reentrant seen.kind ≡ false → KeepsLimits seen new → new.levels.owner ≡ seen.levels.owner → IsTrue (admits (token_limit seen.kind seen.levels.limit) (bag_of_tokens seen.tokens) mode) → Adds seen.tokens new.tokens k mode → Serves party mode (Token k) old new
-  serves_token party mode k seen old new same n keeps owner admits added = subst (λ t. Serves party mode (Token k) t new) same (serves_own party mode k seen new n keeps owner admits added)
+  pub serves_token : (party : ℕ) (mode : Mode) (k : K) (seen old new : Backing K) → seen ≡ old
+      → is_reentrant seen.kind ≡ false → KeepsLimits seen new → new.levels.owner ≡ seen.levels.owner
+      → IsTrue (admits (token_limit seen.kind seen.levels.limit) (bag_of_tokens seen.tokens) mode)
+      → Adds seen.tokens new.tokens k mode → Serves party mode (Token k) old new
+  serves_token party mode k seen old new same n keeps owner admits added =
+      subst (λ t. Serves party mode (Token k) t new) same (serves_own party mode k seen new n keeps owner admits added)
 
   pub admitted_token : (r : Bool) (party : ℕ) (mode : Mode) (places last : ℕ) (ss : List (ℕ × Slot K)) (seen t : Backing K) → seen ≡ t
       → is_reentrant seen.kind ≡ false → r ≡ admits (token_limit seen.kind seen.levels.limit) (bag_of_tokens seen.tokens) mode → AreBacked ss t
@@ -271,7 +356,8 @@ module _ {K : Type 0} where
   -- Whether a token goes back
 
   -- what is told of a hold, as its entry and the guards that are left show it
-  pub told_of : (back held shown : Bool) (old new : Backing K) (places last : ℕ) (others left : List (ℕ × Slot K)) → back ≡ (held && moves_token (register_of old places last others)) → held ≡ shown → new.kind ≡ old.kind
+  pub told_of : (back held shown : Bool) (old new : Backing K) (places last : ℕ) (others left : List (ℕ × Slot K))
+      → back ≡ (held && moves_token (register_of old places last others)) → held ≡ shown → new.kind ≡ old.kind
       → length (held_of others) ≡ length (held_of left) → back ≡ (shown && moves_token (register_of new places last left))
   told_of back held shown old new places last others left e f k l =
       e ∙ ap (λ h. h && moves_token (register_of old places last others)) f
@@ -288,11 +374,14 @@ module _ {K : Type 0} where
       by_nesting true h = let t = (d.less is_token h.0).0 in let u = ap is_token (e ∙ is) in cc
       by_nesting false h = refl
 
-  pub tells_level : (back : Bool) (hold : Hold K) (old new : Backing K) → hold ≡ Level → KeepsLimits old new → new.levels.owner ≡ one_level_less old.levels.owner → SameBag new.tokens (token_of_owner new.levels.owner) → back ≡ is_none new.levels.owner → TellsToken back hold old
+  pub tells_level : (back : Bool) (hold : Hold K) (old new : Backing K) → hold ≡ Level → KeepsLimits old new
+      → new.levels.owner ≡ one_level_less old.levels.owner → SameBag new.tokens (token_of_owner new.levels.owner)
+      → back ≡ is_none new.levels.owner → TellsToken back hold old
   tells_level back hold old new is keeps left p none places last s ss others d e b =
       let nested : is_reentrant old.kind ≡ true = reentrant_of_level s ss others old d (e ∙ is) b in
       let backed = releases_level hold old new is keeps left p s ss others d e b in
-      none ∙ none_held new.levels.owner (held_of others) (of_reentrant others new (same_nesting old new keeps ∙ nested) backed).1 ∙ sym (rw (is, nested) refl)
+      none ∙ none_held new.levels.owner (held_of others)
+      (of_reentrant others new (same_nesting old new keeps ∙ nested) backed).1 ∙ sym (rw (is, nested) refl)
 
   -- What the tokens and the levels show
 
@@ -317,26 +406,33 @@ module _ {K : Type 0} where
           let held = of_reentrant ss t n b in
           ap (λ k. nat_eq k 0) (same_length (bag_of_owner ss t held.0 b)) ∙ by_owner t.levels.owner (held_of ss) held.1
       by_nesting false n =
-          ap (λ k. nat_eq k 0) (same_length (bag_of_slots ss t n b) ∙ sym (length-modes_of (tokens_in ss)) ∙ ap length (modes_of-tokens_in ss (of_others ss t n b).0) ∙ length-modes_of_entries (held_of ss))
+          ap (λ k. nat_eq k 0) (same_length (bag_of_slots ss t n b) ∙ sym (length-modes_of (tokens_in ss))
+          ∙ ap length (modes_of-tokens_in ss (of_others ss t n b).0) ∙ length-modes_of_entries (held_of ss))
 
-  pub any_held : (r : Bool) (ss : List (ℕ × Slot K)) (t : Backing K) → AreBacked ss t → r ≡ not (nat_eq (length t.tokens) 0) → r ≡ not (nat_eq (length (held_of ss)) 0)
+  pub any_held : (r : Bool) (ss : List (ℕ × Slot K)) (t : Backing K) → AreBacked ss t
+      → r ≡ not (nat_eq (length t.tokens) 0) → r ≡ not (nat_eq (length (held_of ss)) 0)
   any_held r ss t b e = e ∙ ap not (some_token ss t b)
 
-  pub owner_holds : (party : ℕ) (ss : List (ℕ × Slot K)) (t : Backing K) → is_reentrant t.kind ≡ true → AreBacked ss t → not (nat_eq (level_of t.levels party) 0) ≡ some_of_party party (held_of ss)
+  pub owner_holds : (party : ℕ) (ss : List (ℕ × Slot K)) (t : Backing K) → is_reentrant t.kind ≡ true → AreBacked ss t
+      → not (nat_eq (level_of t.levels party) 0) ≡ some_of_party party (held_of ss)
   owner_holds party ss t n b = levels_of_held party t.levels.owner (held_of ss) (of_reentrant ss t n b).1
 
   -- a party has as many levels as there may be exactly where as many are held
-  pub full_owner : (party places last : ℕ) (ss : List (ℕ × Slot K)) (t : Backing K) → AreBacked ss t → nat_eq (level_of t.levels party) t.levels.limit ≡ is_full_count (register_of t places last ss) party
+  pub full_owner : (party places last : ℕ) (ss : List (ℕ × Slot K)) (t : Backing K) → AreBacked ss t
+      → nat_eq (level_of t.levels party) t.levels.limit ≡ is_full_count (register_of t places last ss) party
   full_owner party places last ss t b = by_nesting (is_reentrant t.kind) b.holders
     where
-      by_nesting : (n : Bool) → AreHeldBy n ss t.levels.owner → nat_eq (level_of t.levels party) t.levels.limit ≡ (n && (some_of_party party (held_of ss) && nat_eq (length (held_of ss)) t.levels.limit))
+      by_nesting : (n : Bool) → AreHeldBy n ss t.levels.owner
+          → nat_eq (level_of t.levels party) t.levels.limit
+          ≡ (n && (some_of_party party (held_of ss) && nat_eq (length (held_of ss)) t.levels.limit))
       by_nesting true h = full_of_held t.levels.limit party t.levels.owner (held_of ss) b.positive h.1
       by_nesting false h = rw (h.1) (ne_eqb 0 t.levels.limit (λ f. let l = b.positive in absurd (omega arith)))
 
   -- A changed mode
 
   -- a held slot of a lock that is not reentrant has a token
-  shows_token : (s : Slot K) (ss others : List (ℕ × Slot K)) (t : Backing K) → Differs s ss others → is_held s.hold ≡ true → is_reentrant t.kind ≡ false → AreBacked ss t → (k : K) × (s.hold ≡ Token k)
+  shows_token : (s : Slot K) (ss others : List (ℕ × Slot K)) (t : Backing K) → Differs s ss others
+      → is_held s.hold ≡ true → is_reentrant t.kind ≡ false → AreBacked ss t → (k : K) × (s.hold ≡ Token k)
   shows_token s ss others t d e n b = by_hold s.hold refl e (d.less is_level (of_others ss t n b).0).0
     where
       by_hold : (h : Hold K) → s.hold ≡ h → is_held h ≡ true → is_level s.hold ≡ false → (k : K) × (s.hold ≡ Token k)
@@ -344,12 +440,17 @@ module _ {K : Type 0} where
       by_hold (Token k) i e l = (k, i)
       by_hold Level i e l = let u = ap is_level i in cc
 
-  pub changeable : (s : Slot K) (ss others : List (ℕ × Slot K)) (t : Backing K) (mode : Mode) → Differs s ss others → is_held s.hold ≡ true → is_reentrant t.kind ≡ false → is_move s.mode mode ≡ true → AreBacked ss t → HasChangeable t.tokens s mode
+  pub changeable : (s : Slot K) (ss others : List (ℕ × Slot K)) (t : Backing K) (mode : Mode) → Differs s ss others
+      → is_held s.hold ≡ true → is_reentrant t.kind ≡ false → is_move s.mode mode ≡ true → AreBacked ss t
+      → HasChangeable t.tokens s mode
   changeable s ss others t mode d e n m b =
       let k = shows_token s ss others t d e n b in
       (k.0, k.1, (s.mode, (m, (tokens_in others ++ token_of_owner t.levels.owner, bag_beside s ss others k.0 t d k.1 b))))
 
-  exchanged : (s u : Slot K) (ss us others : List (ℕ × Slot K)) (old new : Backing K) (mode : Mode) → is_reentrant old.kind ≡ false → KeepsLimits old new → new.levels.owner ≡ old.levels.owner → IsTrue (is_move s.mode mode) → IsTrue (may_become (bag_of_tokens old.tokens) mode) → Differs s ss others → Differs u us others → HasExchanged old.tokens new.tokens s u mode → AreBacked ss old → AreBacked us new
+  exchanged : (s u : Slot K) (ss us others : List (ℕ × Slot K)) (old new : Backing K) (mode : Mode)
+      → is_reentrant old.kind ≡ false → KeepsLimits old new → new.levels.owner ≡ old.levels.owner
+      → IsTrue (is_move s.mode mode) → IsTrue (may_become (bag_of_tokens old.tokens) mode) → Differs s ss others
+      → Differs u us others → HasExchanged old.tokens new.tokens s u mode → AreBacked ss old → AreBacked us new
   exchanged s u ss us others old new mode n keeps owner moves may d f (k, l, h, is, replaced) b =
       let hold : u.hold ≡ Token l = ap (λ (w : Slot K). w.hold) is in
       let to : u.mode ≡ mode = ap (λ (w : Slot K). w.mode) is in
@@ -359,27 +460,49 @@ module _ {K : Type 0} where
       let was : bag_of_tokens old.tokens ≡ bag_of_tokens ((k, s.mode) ∷ rest) = bag_of_same old.tokens ((k, s.mode) ∷ rest) beside in
       let held = of_others ss old n b in
       let behind : token_limit old.kind old.levels.limit ≡ old.levels.limit = rw n refl in
-      let before : AreCompatible old.levels.limit (bag_of_tokens ((k, s.mode) ∷ rest)) = subst (λ w. AreCompatible w (bag_of_tokens ((k, s.mode) ∷ rest))) behind (subst (λ g. AreCompatible (token_limit old.kind old.levels.limit) g) was b.compatible) in
-      let after : AreCompatible old.levels.limit (bag_of_tokens ((l, mode) ∷ rest)) = compatible_changed old.levels.limit (bag_of_tokens rest) s.mode mode b.positive moves (subst (λ g. IsTrue (may_become g mode)) was may) before in
+      let before : AreCompatible old.levels.limit (bag_of_tokens ((k, s.mode) ∷ rest))
+      = subst (λ w. AreCompatible w (bag_of_tokens ((k, s.mode) ∷ rest))) behind
+      (subst (λ g. AreCompatible (token_limit old.kind old.levels.limit) g) was b.compatible) in
+      let after : AreCompatible old.levels.limit (bag_of_tokens ((l, mode) ∷ rest))
+      = compatible_changed old.levels.limit (bag_of_tokens rest) s.mode mode b.positive moves
+      (subst (λ g. IsTrue (may_become g mode)) was may) before in
       record {
         bag = subst (λ o. SameBag new.tokens (tokens_in us ++ token_of_owner o)) (sym owner)
-            (record { counts = λ test. omega (arith, now.counts test, f.tokens test, ap (λ w. count test (token_in w u.mode)) hold, ap (λ w. count test (token_in (Token l) w)) to, count-append test (tokens_in us) (token_of_owner old.levels.owner), count-append test (tokens_in others) (token_of_owner old.levels.owner)) });
+            (record {
+              counts = λ test. omega (
+                arith,
+                now.counts test,
+                f.tokens test,
+                ap (λ w. count test (token_in w u.mode)) hold,
+                ap (λ w. count test (token_in (Token l) w)) to,
+                count-append test (tokens_in us) (token_of_owner old.levels.owner),
+                count-append test (tokens_in others) (token_of_owner old.levels.owner),
+              );
+            });
         holders = subst (λ o. AreHeldBy (is_reentrant new.kind) us o) (sym owner)
-            (subst (λ w. AreHeldBy w us old.levels.owner) (sym (same_nesting old new keeps ∙ n)) (f.more is_level (ap is_level hold) (d.less is_level held.0).1, held.1));
+            (subst (λ w. AreHeldBy w us old.levels.owner) (sym (same_nesting old new keeps ∙ n))
+            (f.more is_level (ap is_level hold) (d.less is_level held.0).1, held.1));
         compatible = subst (λ w. AreCompatible w (bag_of_tokens new.tokens)) (sym (same_behind old new keeps ∙ behind))
             (subst (λ g. AreCompatible old.levels.limit g) (sym (bag_of_same new.tokens ((l, mode) ∷ rest) now)) after);
         positive = still_positive old new keeps b.positive;
       }
 
-  pub backed_after_change : (r : Bool) (n : ℕ) (ss : List (ℕ × Slot K)) (s u : Slot K) (old new : Backing K) (mode : Mode) → items.find n ss ≡ Some s → is_reentrant old.kind ≡ false → KeepsLimits old new → new.levels.owner ≡ old.levels.owner → IsTrue (is_move s.mode mode) → r ≡ may_become (bag_of_tokens old.tokens) mode
-      → OnTrue r (HasExchanged old.tokens new.tokens s u mode) → OnFalse r ((u ≡ s) × (new ≡ old)) → AreBacked ss old → AreBacked (items.put n u ss) new
+  pub backed_after_change : (r : Bool) (n : ℕ) (ss : List (ℕ × Slot K)) (s u : Slot K) (old new : Backing K)
+      (mode : Mode) → items.find n ss ≡ Some s → is_reentrant old.kind ≡ false → KeepsLimits old new
+      → new.levels.owner ≡ old.levels.owner → IsTrue (is_move s.mode mode)
+      → r ≡ may_become (bag_of_tokens old.tokens) mode
+      → OnTrue r (HasExchanged old.tokens new.tokens s u mode) → OnFalse r ((u ≡ s) × (new ≡ old)) → AreBacked ss old
+      → AreBacked (items.put n u ss) new
   backed_after_change true n ss s u old new mode e alone keeps owner moves may done kept b =
-      exchanged s u ss (items.put n u ss) (items.without n ss) old new mode alone keeps owner moves (sym may) (differs_found n ss s e) (differs_put n ss s u e) done b
+      exchanged s u ss (items.put n u ss) (items.without n ss) old new mode alone keeps owner moves (sym may)
+      (differs_found n ss s e) (differs_put n ss s u e) done b
   backed_after_change false n ss s u old new mode e alone keeps owner moves may done kept b =
       let same : items.put n u ss ≡ ss = ap (λ (w : Slot K). items.put n w ss) kept.0 ∙ same_put n ss s e in
       subst (λ xs. AreBacked xs new) (sym same) (subst (λ t. AreBacked ss t) (sym kept.1) b)
 
-  pub shown_after_change : (r : Bool) (ts us : List (K × Mode)) (s t : Slot K) (mode : Mode) → OnTrue r (HasExchanged ts us s t mode) → is_held s.hold ≡ true → OnTrue r (slot_entry t ≡ in_mode mode (slot_entry s))
+  pub shown_after_change : (r : Bool) (ts us : List (K × Mode)) (s t : Slot K) (mode : Mode)
+      → OnTrue r (HasExchanged ts us s t mode) → is_held s.hold ≡ true
+      → OnTrue r (slot_entry t ≡ in_mode mode (slot_entry s))
   shown_after_change true ts us s t mode (k, l, h, is, replaced) held =
       let entry : Bool → Entry = λ b. record { party = id_of s.party; mode = mode; held = b } in
       ap slot_entry is ∙ ap entry (sym held)
@@ -387,16 +510,23 @@ module _ {K : Type 0} where
 
   -- What is admitted again
 
-  held_slot : (s : Slot K) (ss others : List (ℕ × Slot K)) → Differs s ss others → is_held s.hold ≡ true → length (held_of ss) ≡ 1 + length (held_of others)
+  held_slot : (s : Slot K) (ss others : List (ℕ × Slot K)) → Differs s ss others → is_held s.hold ≡ true
+      → length (held_of ss) ≡ 1 + length (held_of others)
   held_slot s ss others d e = omega (arith, d.held, ap {B = ℕ} (λ h. cond h 1 0) e)
 
-  held_party : (s : Slot K) (ss others : List (ℕ × Slot K)) → Differs s ss others → is_held s.hold ≡ true → (p : ℕ) → all_of_party p (held_of ss) ≡ nat_eq (id_of s.party) p && all_of_party p (held_of others)
-  held_party s ss others d e p = d.party p ∙ ap (λ h. cond h (nat_eq (id_of s.party) p && all_of_party p (held_of others)) (all_of_party p (held_of others))) e
+  held_party : (s : Slot K) (ss others : List (ℕ × Slot K)) → Differs s ss others → is_held s.hold ≡ true → (p : ℕ)
+      → all_of_party p (held_of ss) ≡ nat_eq (id_of s.party) p && all_of_party p (held_of others)
+  held_party s ss others d e p =
+      d.party p ∙ ap (λ h. cond h (nat_eq (id_of s.party) p && all_of_party p (held_of others))
+      (all_of_party p (held_of others))) e
 
   -- the party of a held slot has the levels of all that are held
-  held_levels : (s : Slot K) (ss others : List (ℕ × Slot K)) (t : Backing K) → is_reentrant t.kind ≡ true → Differs s ss others → is_held s.hold ≡ true → AreBacked ss t → level_of t.levels (id_of s.party) ≡ length (held_of ss)
+  held_levels : (s : Slot K) (ss others : List (ℕ × Slot K)) (t : Backing K) → is_reentrant t.kind ≡ true
+      → Differs s ss others → is_held s.hold ≡ true → AreBacked ss t
+      → level_of t.levels (id_of s.party) ≡ length (held_of ss)
   held_levels s ss others t n d e b =
-      holder_owns t.levels.owner (id_of s.party) (held_of ss) (held_of others) (of_reentrant ss t n b).1 (omega (arith, held_slot s ss others d e)) (held_party s ss others d e)
+      holder_owns t.levels.owner (id_of s.party) (held_of ss) (held_of others) (of_reentrant ss t n b).1
+      (omega (arith, held_slot s ss others d e)) (held_party s ss others d e)
 
   -- what is held is legal where it is no level, or the only one
   held_legally : (ss : List (ℕ × Slot K)) (t : Backing K) → (is_reentrant t.kind ≡ true → length (held_of ss) ≡ 1) → AreBacked ss t
@@ -420,13 +550,16 @@ module _ {K : Type 0} where
       → is_held s.hold ≡ true → bumps t (id_of s.party) ≡ true → AreBacked ss t
       → fits_in (with_change (register_of t places last ss) n parked_entry) (id_of s.party) s.mode ≡ true
   fits_in_after_park n places last ss s t e held may b =
-      let levels : is_reentrant t.kind ≡ true → level_of t.levels (id_of s.party) ≡ length (held_of ss) = λ nested. held_levels s ss _ t nested (differs_found n ss s e) held b in
-      let one : is_reentrant t.kind ≡ true → length (held_of ss) ≡ 1 = λ nested. sym (levels nested) ∙ eqb-true (level_of t.levels (id_of s.party)) 1 (rw nested at may) in
+      let levels : is_reentrant t.kind ≡ true → level_of t.levels (id_of s.party) ≡ length (held_of ss)
+      = λ nested. held_levels s ss _ t nested (differs_found n ss s e) held b in
+      let one : is_reentrant t.kind ≡ true → length (held_of ss) ≡ 1
+      = λ nested. sym (levels nested) ∙ eqb-true (level_of t.levels (id_of s.party)) 1 (rw nested at may) in
       let place = splice n (slot_entry s) (entries_of ss) (entry_found n ss s e) in
       fits_in_again (with_change (register_of t places last ss) n parked_entry) (id_of s.party) (slot_entry s) (entries_of ss)
       (more_than_parked n (slot_entry s) (entries_of ss) place held) (λ nested. refl) (held_legally ss t one b)
 
-  pub bumps_backed : (n places last : ℕ) (ss : List (ℕ × Slot K)) (s : Slot K) (t : Backing K) → items.find n ss ≡ Some s → is_held s.hold ≡ true → AreBacked ss t
+  pub bumps_backed : (n places last : ℕ) (ss : List (ℕ × Slot K)) (s : Slot K) (t : Backing K)
+      → items.find n ss ≡ Some s → is_held s.hold ≡ true → AreBacked ss t
       → bumps t (id_of s.party) ≡ bumps_token (register_of t places last ss)
   bumps_backed n places last ss s t e held b = by_nesting (is_reentrant t.kind) refl
     where

@@ -60,19 +60,28 @@ module _ {K : Type 0} where
 
   -- What the levels show of the held entries
 
-  pub owns_same : (owner : Option (Owner K)) (xs ys : List Entry) → OwnsLevels owner xs → length xs ≡ length ys → ((p : ℕ) → all_of_party p xs ≡ all_of_party p ys) → OwnsLevels owner ys
+  pub owns_same : (owner : Option (Owner K)) (xs ys : List Entry) → OwnsLevels owner xs → length xs ≡ length ys
+      → ((p : ℕ) → all_of_party p xs ≡ all_of_party p ys) → OwnsLevels owner ys
   owns_same None xs ys h l a = no_length ys (sym l ∙ ap length h)
   owns_same (Some o) xs ys h l a = (h.0, sym l ∙ h.1, sym (a o.party) ∙ h.2)
 
-  pub owns_less : (owner : Option (Owner K)) (q : ℕ) (xs ys : List Entry) → OwnsLevels owner xs → length xs ≡ 1 + length ys → ((p : ℕ) → all_of_party p xs ≡ nat_eq q p && all_of_party p ys) → OwnsLevels (one_level_less owner) ys
+  pub owns_less : (owner : Option (Owner K)) (q : ℕ) (xs ys : List Entry) → OwnsLevels owner xs
+      → length xs ≡ 1 + length ys → ((p : ℕ) → all_of_party p xs ≡ nat_eq q p && all_of_party p ys)
+      → OwnsLevels (one_level_less owner) ys
   owns_less None q xs ys h l a = absurd (omega (arith, ap length h))
   owns_less (Some o) q xs ys h l a = less_by (nat_eq o.count 1) refl
     where
       less_by : (b : Bool) → nat_eq o.count 1 ≡ b → OwnsLevels (cond b None (Some (record o { count = o.count - 1 }))) ys
       less_by true e = let one = eqb-true o.count 1 e in no_length ys (omega (arith, h.1))
-      less_by false e = let more = eqb-false o.count 1 e in (omega (arith, h.0), omega (arith, h.1, h.0), and_right (nat_eq q o.party) (all_of_party o.party ys) (sym (a o.party) ∙ h.2))
+      less_by false e = let more = eqb-false o.count 1 e in (
+        omega (arith, h.0),
+        omega (arith, h.1, h.0),
+        and_right (nat_eq q o.party) (all_of_party o.party ys) (sym (a o.party) ∙ h.2),
+      )
 
-  pub owns_more : (limit party : ℕ) (owner new : Option (Owner K)) (xs ys : List Entry) → OwnsLevels owner xs → may_enter limit party owner ≡ true → HasEntered party owner new → length ys ≡ 1 + length xs → ((p : ℕ) → all_of_party p ys ≡ nat_eq party p && all_of_party p xs) → OwnsLevels new ys
+  pub owns_more : (limit party : ℕ) (owner new : Option (Owner K)) (xs ys : List Entry) → OwnsLevels owner xs
+      → may_enter limit party owner ≡ true → HasEntered party owner new → length ys ≡ 1 + length xs
+      → ((p : ℕ) → all_of_party p ys ≡ nat_eq party p && all_of_party p xs) → OwnsLevels new ys
   owns_more limit party None new xs ys h m e l a =
       let first : OwnsLevels (Some (record { party = party; count = 1; token = e.0 })) ys =
       (omega arith, omega (arith, ap length h), a party ∙ rw (eq-eqb party party refl, h) refl) in
@@ -84,27 +93,32 @@ module _ {K : Type 0} where
       subst (λ w. OwnsLevels w ys) (sym e) next
 
   -- the party of a held entry has levels
-  pub holder_owns : (owner : Option (Owner K)) (q : ℕ) (xs ys : List Entry) → OwnsLevels owner xs → 0 < length xs → ((p : ℕ) → all_of_party p xs ≡ nat_eq q p && all_of_party p ys) → count_for q owner ≡ length xs
+  pub holder_owns : (owner : Option (Owner K)) (q : ℕ) (xs ys : List Entry) → OwnsLevels owner xs → 0 < length xs
+      → ((p : ℕ) → all_of_party p xs ≡ nat_eq q p && all_of_party p ys) → count_for q owner ≡ length xs
   holder_owns None q xs ys h l a = absurd (omega (arith, ap length h))
   holder_owns (Some o) q xs ys h l a =
       let same : q ≡ o.party = eqb-true q o.party (and_left (nat_eq q o.party) _ (sym (a o.party) ∙ h.2)) in
       rw (eq-eqb o.party q (sym same)) (sym h.1)
 
   -- the owner admits whom the held entries admit
-  pub may_enter-held : (limit party : ℕ) (owner : Option (Owner K)) (xs : List Entry) → 0 < limit → OwnsLevels owner xs → may_enter limit party owner ≡ (all_of_party party xs && nat_lt (length xs) limit)
+  pub may_enter-held : (limit party : ℕ) (owner : Option (Owner K)) (xs : List Entry) → 0 < limit → OwnsLevels owner xs
+      → may_enter limit party owner ≡ (all_of_party party xs && nat_lt (length xs) limit)
   may_enter-held limit party None xs l h = sym (rw h (lt-ltb 0 limit l))
   may_enter-held limit party (Some o) xs l h =
       sym (rw (party_of_all o.party party xs (omega (arith, h.0, h.1)) h.2, h.1) refl)
 
-  pub levels_of_held : (party : ℕ) (owner : Option (Owner K)) (xs : List Entry) → OwnsLevels owner xs → not (nat_eq (count_for party owner) 0) ≡ some_of_party party xs
+  pub levels_of_held : (party : ℕ) (owner : Option (Owner K)) (xs : List Entry) → OwnsLevels owner xs
+      → not (nat_eq (count_for party owner) 0) ≡ some_of_party party xs
   levels_of_held party None xs h = sym (ap (λ w. some_of_party party w) h)
   levels_of_held party (Some o) xs h = by_party (nat_eq o.party party) refl
     where
       by_party : (b : Bool) → nat_eq o.party party ≡ b → not (nat_eq (cond b o.count 0) 0) ≡ some_of_party party xs
-      by_party true e = ap not (ne_eqb o.count 0 (λ f. absurd (omega (arith, h.0)))) ∙ sym (some_of_all o.party party xs (omega (arith, h.0, h.1)) h.2 ∙ e)
+      by_party true e = ap not (ne_eqb o.count 0 (λ f. absurd (omega (arith, h.0))))
+          ∙ sym (some_of_all o.party party xs (omega (arith, h.0, h.1)) h.2 ∙ e)
       by_party false e = sym (some_of_all o.party party xs (omega (arith, h.0, h.1)) h.2 ∙ e)
 
-  pub full_of_held : (limit party : ℕ) (owner : Option (Owner K)) (xs : List Entry) → 0 < limit → OwnsLevels owner xs → nat_eq (count_for party owner) limit ≡ (some_of_party party xs && nat_eq (length xs) limit)
+  pub full_of_held : (limit party : ℕ) (owner : Option (Owner K)) (xs : List Entry) → 0 < limit → OwnsLevels owner xs
+      → nat_eq (count_for party owner) limit ≡ (some_of_party party xs && nat_eq (length xs) limit)
   full_of_held limit party None xs l h = ne_eqb 0 limit (λ f. absurd (omega arith)) ∙ sym (rw h refl)
   full_of_held limit party (Some o) xs l h = by_party (nat_eq o.party party) refl
     where
@@ -145,13 +159,16 @@ module _ {K : Type 0} where
       last_test true b e = rw e refl
       last_test false b e = refl
 
-      by_answer : (r : Result Bool Fault) → IsErr r ↔ (level_of l p ≡ l.limit) → IfOk r (λ more. MatchBool more (GainsLevel l m p) ((level_of l p ≡ 0) × (m ≡ l)))
+      by_answer : (r : Result Bool Fault) → IsErr r ↔ (level_of l p ≡ l.limit)
+          → IfOk r (λ more. MatchBool more (GainsLevel l m p) ((level_of l p ≡ 0) × (m ≡ l)))
           → result_unwrap_or r false ≡ (not (nat_eq (level_of l p) 0) && not (nat_eq (level_of l p) l.limit))
       by_answer (Ok true) full more =
           let below : level_of l p ≢ l.limit = λ e. let t = full.1 e in cc in
           sym (rw (ne_eqb (level_of l p) 0 (λ e. let h = more.owned in absurd (omega arith)), ne_eqb (level_of l p) l.limit below) refl)
       by_answer (Ok false) full more = sym (rw (more.0) refl)
-      by_answer (Err f) full more = sym (last_test (not (nat_eq (level_of l p) 0)) (nat_eq (level_of l p) l.limit) (eq-eqb (level_of l p) l.limit (full.0 refl)))
+      by_answer (Err f) full more =
+          sym (last_test (not (nat_eq (level_of l p) 0)) (nat_eq (level_of l p) l.limit)
+          (eq-eqb (level_of l p) l.limit (full.0 refl)))
 
 -- what is not something is nothing
 pub not_some : {X : Type 0} (o : Option X) → (IsSome o → false ≡ true) → o ≡ None

@@ -14,7 +14,8 @@ use Rattle.lock_mutex.specs.ConditionLoop.{ConditionLoop}
 use Rattle.lock_mutex.specs.ValueLoop.{ValueLoop}
 use Rattle.lock_mutex.proofs.Values.{value_loop}
 
-module _ {L S V K W X F : Type 0} {g : _} (value_of : V → X) (with_value : V → X → V) (law : (shown : V) (value : X) → value_of (with_value shown value) ≡ value)
+module _ {L S V K W X F : Type 0} {g : _} (value_of : V → X) (with_value : V → X → V)
+    (law : (shown : V) (value : X) → value_of (with_value shown value) ≡ value)
     (calls : Mut F (MutBor X × Unit {0}) (Bool × (MutBor X × Unit {0}))) (may_answer : Bool → Type 0) where
   -- there is always one more wait
   abbrev wait_gives : Waiting L S V K W X g → Option Bool → Waiting L S V K W X g → Type 0
@@ -30,14 +31,18 @@ module _ {L S V K W X F : Type 0} {g : _} (value_of : V → X) (with_value : V �
   ends RanOut loop in_time out = absurd loop.ends.2
 
   -- the loop from the value that the part showed before to the value that it shows after
-  pub waits_while : {condition : F} {before after : Waiting L S V K W X g} {end : LoopEnd} {timed_out : Bool} {old new : Inner K V} → Loop condition before end after
+  pub waits_while : {condition : F} {before after : Waiting L S V K W X g} {end : LoopEnd} {timed_out : Bool} {old new
+      : Inner K V} → Loop condition before end after
       → before.held.inner ≡ old → new ≡ after.held.inner → (end ≡ False → timed_out ≡ false) → (end ≡ TimedOut → timed_out ≡ true)
       → WaitsWhile calls condition (inner_value value_of old) timed_out (inner_value value_of new)
   waits_while {condition} {before} {after} {end} {timed_out} loop from to in_time out = (
     waiting_value value_of before,
     waiting_value value_of after,
-    subst (λ (inner : Inner K V). inner_value value_of inner ≡ Some (waiting_value value_of before)) from (inner_value-filled value_of before.held.inner before.held.filled),
-    subst (λ (inner : Inner K V). inner_value value_of inner ≡ Some (waiting_value value_of after)) (sym to) (inner_value-filled value_of after.held.inner after.held.filled),
+    subst (λ (inner : Inner K V). inner_value value_of inner ≡ Some (waiting_value value_of before)) from
+        (inner_value-filled value_of before.held.inner before.held.filled),
+    subst (λ (inner : Inner K V). inner_value value_of inner ≡ Some (waiting_value value_of after)) (sym to)
+        (inner_value-filled value_of after.held.inner after.held.filled),
     subst (λ (e : LoopEnd). ValueLoop calls condition (waiting_value value_of before) e (waiting_value value_of after)) (ends end loop in_time out)
-        (value_loop calls (waiting_value value_of) (waiting_with_value with_value) wait_gives (waiting_value-with value_of with_value law) (λ w v none. none) loop),
+        (value_loop calls (waiting_value value_of) (waiting_with_value with_value) wait_gives
+        (waiting_value-with value_of with_value law) (λ w v none. none) loop),
   )

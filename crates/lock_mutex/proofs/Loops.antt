@@ -8,14 +8,16 @@ use Rattle.lock_mutex.specs.declared.condition_loop.loop_end.LoopEnd.{LoopEnd}
 use Rattle.lock_mutex.specs.declared.condition_loop.loop_end.LoopEnd.TheVariants.{False, TimedOut, RanOut}
 use Rattle.lock_mutex.specs.ConditionLoop.{Check, InTurn, last_of, EndsBy, ConditionLoop}
 
-module _ {F W X : Type 0} (calls : Mut F (MutBor X × Unit {0}) (Bool × (MutBor X × Unit {0}))) (current : W → X) (with_current : W → X → W) (wait_gives : W → Option Bool → W → Type 0) where
+module _ {F W X : Type 0} (calls : Mut F (MutBor X × Unit {0}) (Bool × (MutBor X × Unit {0}))) (current : W → X)
+    (with_current : W → X → W) (wait_gives : W → Option Bool → W → Type 0) where
   abbrev AnyCheck : Type 0
   AnyCheck = Check calls current with_current wait_gives
 
   abbrev Loop : Bool → F → W → LoopEnd → W → Type 0
   Loop = ConditionLoop calls current with_current wait_gives
 
-  abbrev check_at : (timed_out : Bool) (waits : W) {f f' : F} {answer : Bool} {shown left : MutBor X} → shown.now ≡ current waits → Called calls f (shown, tt) (answer, (left, tt)) f' → AnyCheck
+  abbrev check_at : (timed_out : Bool) (waits : W) {f f' : F} {answer : Bool} {shown left : MutBor X}
+      → shown.now ≡ current waits → Called calls f (shown, tt) (answer, (left, tt)) f' → AnyCheck
   check_at timed_out waits {f} {f'} {answer} {shown} {left} shows called = record {
     timed_out = timed_out;
     condition = f;
@@ -27,7 +29,8 @@ module _ {F W X : Type 0} (calls : Mut F (MutBor X × Unit {0}) (Bool × (MutBor
   }
 
   -- the loop with one check more in front
-  pub one_more : {timed_out next : Bool} {f f' : F} {w w' after : W} {end : LoopEnd} {shown left : MutBor X} → timed_out ≡ false → shown.now ≡ current w → Called calls f (shown, tt) (true, (left, tt)) f'
+  pub one_more : {timed_out next : Bool} {f f' : F} {w w' after : W} {end : LoopEnd} {shown left : MutBor X}
+      → timed_out ≡ false → shown.now ≡ current w → Called calls f (shown, tt) (true, (left, tt)) f'
       → wait_gives (with_current w left.now) (Some next) w' → Loop next f' w' end after → Loop timed_out f w end after
   one_more {timed_out} {next} {w = w} {left = left} in_time shows called waits loop = record {
     first = check_at timed_out w shows called;
@@ -39,7 +42,8 @@ module _ {F W X : Type 0} (calls : Mut F (MutBor X × Unit {0}) (Bool × (MutBor
       record {
         holds = refl;
         in_time = in_time;
-        waits = subst (λ b. wait_gives (with_current w left.now) (Some b) loop.first.waits) (sym loop.starts_timed_out) (subst (λ v. wait_gives (with_current w left.now) (Some next) v) (sym loop.starts_on) waits);
+        waits = subst (λ b. wait_gives (with_current w left.now) (Some b) loop.first.waits) (sym loop.starts_timed_out)
+            (subst (λ v. wait_gives (with_current w left.now) (Some next) v) (sym loop.starts_on) waits);
         condition = loop.starts_with;
       },
       loop.in_turn,
@@ -62,7 +66,8 @@ module _ {F W X : Type 0} (calls : Mut F (MutBor X × Unit {0}) (Bool × (MutBor
       value = current_with w left.now;
     }
 
-    pub was_timed_out : timed_out ≡ true → shown.now ≡ current w → Called calls f (shown, tt) (true, (left, tt)) f' → Loop timed_out f w TimedOut (with_current w left.now)
+    pub was_timed_out : timed_out ≡ true → shown.now ≡ current w → Called calls f (shown, tt) (true, (left, tt)) f'
+        → Loop timed_out f w TimedOut (with_current w left.now)
     was_timed_out has_timed_out shows called = record {
       first = check_at timed_out w shows called;
       rest = [];
@@ -88,7 +93,8 @@ module _ {F W X : Type 0} (calls : Mut F (MutBor X × Unit {0}) (Bool × (MutBor
     }
 
   -- where no wait times out, the wait before the last check did not time out
-  last_in_time : ((w v : W) (timed_out : Bool) → wait_gives w (Some timed_out) v → timed_out ≡ false) → (first : AnyCheck) (rest : List AnyCheck) → first.timed_out ≡ false
+  last_in_time : ((w v : W) (timed_out : Bool) → wait_gives w (Some timed_out) v → timed_out ≡ false)
+      → (first : AnyCheck) (rest : List AnyCheck) → first.timed_out ≡ false
       → InTurn calls current with_current wait_gives first rest → (last_of calls current with_current wait_gives first rest).timed_out ≡ false
   last_in_time never first [] in_time turn = in_time
   last_in_time never first (next ∷ rest) in_time turn = last_in_time never next rest (never _ _ _ turn.0.waits) turn.1

@@ -8,7 +8,8 @@ use Rattle.lock_mutex.specs.declared.condition_loop.loop_end.LoopEnd.TheVariants
 use Rattle.lock_mutex.specs.ConditionLoop.{Check, InTurn, last_of, EndsBy, ConditionLoop}
 use Rattle.lock_mutex.specs.ValueLoop.{LeavesAny, ValueLoop}
 
-module _ {F W X : Type 0} (calls : Mut F (MutBor X × Unit {0}) (Bool × (MutBor X × Unit {0}))) (current : W → X) (with_current : W → X → W) (wait_gives : W → Option Bool → W → Type 0)
+module _ {F W X : Type 0} (calls : Mut F (MutBor X × Unit {0}) (Bool × (MutBor X × Unit {0}))) (current : W → X)
+    (with_current : W → X → W) (wait_gives : W → Option Bool → W → Type 0)
     (current_with : (w : W) (x : X) → current (with_current w x) ≡ x) (more : (w v : W) → wait_gives w None v → ⊥) where
   abbrev ValueCheck : Type 0
   ValueCheck = Check calls (λ x. x) (λ x left. left) LeavesAny
@@ -41,7 +42,8 @@ module _ {F W X : Type 0} (calls : Mut F (MutBor X × Unit {0}) (Bool × (MutBor
   )
 
   last_seen : (check : AnyCheck) (rest : List AnyCheck)
-      → last_of calls (λ x. x) (λ x left. left) LeavesAny (value_check check) (map value_check rest) ≡ value_check (last_of calls current with_current wait_gives check rest)
+      → last_of calls (λ x. x) (λ x left. left) LeavesAny (value_check check) (map value_check rest)
+      ≡ value_check (last_of calls current with_current wait_gives check rest)
   last_seen check [] = refl
   last_seen check (next ∷ rest) = last_seen next rest
 
@@ -63,6 +65,7 @@ module _ {F W X : Type 0} (calls : Mut F (MutBor X × Unit {0}) (Bool × (MutBor
         starts_with = loop.starts_with;
         starts_on = ap current loop.starts_on;
         in_turn = in_turn loop.first loop.rest loop.in_turn;
-        ends = subst (λ (check : ValueCheck). EndsBy calls (λ x. x) (λ x left. left) LeavesAny check end (current after)) (sym (last_seen loop.first loop.rest)) (ends_seen last end after loop.ends loop.value);
+        ends = subst (λ (check : ValueCheck). EndsBy calls (λ x. x) (λ x left. left) LeavesAny check end
+            (current after)) (sym (last_seen loop.first loop.rest)) (ends_seen last end after loop.ends loop.value);
         value = subst (λ (check : ValueCheck). current after ≡ check.left) (sym (last_seen loop.first loop.rest)) loop.value;
       }

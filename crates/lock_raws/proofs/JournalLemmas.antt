@@ -23,18 +23,21 @@ empty_is_journal limit room = record {
 }
 
 -- a journal with room has not stopped
-has_not_stopped : {limit : ℕ} {bag : Bag} (journal : Journal) → IsJournalOf limit bag journal → length journal.steps < journal.room → (stopped : Bool) → journal.stopped ≡ stopped → stopped ≡ false
+has_not_stopped : {limit : ℕ} {bag : Bag} (journal : Journal) → IsJournalOf limit bag journal
+    → length journal.steps < journal.room → (stopped : Bool) → journal.stopped ≡ stopped → stopped ≡ false
 has_not_stopped journal kept room false is = refl
 has_not_stopped journal kept room true is = absurd (let full = kept.full is in omega arith)
 
 written_step : (limit : ℕ) (bag : Bag) (journal : Journal) (step : ModeStep) → IsJournalOf limit bag journal → Permits limit bag step
     → (room : Bool)
     → nat_lt (length journal.steps) journal.room ≡ room
-    → IsJournalOf limit (bag_after bag step) (if room then record journal { steps = journal.steps ++ step ∷ [] } else record journal { stopped = true })
+    → IsJournalOf limit (bag_after bag step)
+    (if room then record journal { steps = journal.steps ++ step ∷ [] } else record journal { stopped = true })
 written_step limit bag journal step kept permitted true is =
     let room = ltb-true (length journal.steps) journal.room is in
     let going : journal.stopped ≡ false = has_not_stopped journal kept room journal.stopped refl in
-    let run : IsModeRun limit empty_bag (journal.steps ++ step ∷ []) (bag_after bag step) = IsModeRun-push limit empty_bag bag journal.steps step (kept.to_bag going) permitted in
+    let run : IsModeRun limit empty_bag (journal.steps ++ step ∷ []) (bag_after bag step)
+    = IsModeRun-push limit empty_bag bag journal.steps step (kept.to_bag going) permitted in
     record {
       replays = (bag_after bag step, run);
       to_bag = λ still. run;
@@ -49,10 +52,14 @@ written_step limit bag journal step kept permitted false is = record {
 }
 
 -- a step that is permitted keeps the journal, written or not
-pub IsJournalOf-journal_after : (limit : ℕ) (bag : Bag) (journal : Journal) (step : ModeStep) → IsJournalOf limit bag journal → Permits limit bag step → IsJournalOf limit (bag_after bag step) (journal_after journal step)
-IsJournalOf-journal_after limit bag journal step kept permitted = written_step limit bag journal step kept permitted (nat_lt (length journal.steps) journal.room) refl
+pub IsJournalOf-journal_after : (limit : ℕ) (bag : Bag) (journal : Journal) (step : ModeStep)
+    → IsJournalOf limit bag journal → Permits limit bag step
+    → IsJournalOf limit (bag_after bag step) (journal_after journal step)
+IsJournalOf-journal_after limit bag journal step kept permitted =
+    written_step limit bag journal step kept permitted (nat_lt (length journal.steps) journal.room) refl
 
-journal_along : {limit limit' : ℕ} {bag bag' : Bag} {journal journal' : Journal} → limit' ≡ limit → bag' ≡ bag → journal' ≡ journal → IsJournalOf limit bag journal → IsJournalOf limit' bag' journal'
+journal_along : {limit limit' : ℕ} {bag bag' : Bag} {journal journal' : Journal} → limit' ≡ limit → bag' ≡ bag
+    → journal' ≡ journal → IsJournalOf limit bag journal → IsJournalOf limit' bag' journal'
 journal_along {limit} {limit'} {bag} {bag'} {journal} {journal'} same_limit same_bag same_journal kept =
     subst (λ l. IsJournalOf l bag' journal') (sym same_limit)
     (subst (λ b. IsJournalOf limit b journal') (sym same_bag)
@@ -66,7 +73,8 @@ module _ {K : Type 0} where
       → IsRecording new limit' journal'
   recording_stepped {old} {new} {limit} {limit'} {journal} step recording made same_limit same_journal = record {
     lawful = subst IsLimit (sym same_limit) recording.lawful;
-    kept = journal_along same_limit made.after same_journal (IsJournalOf-journal_after limit (bag_of_tokens old) journal step recording.kept made.permitted);
+    kept = journal_along same_limit made.after same_journal
+        (IsJournalOf-journal_after limit (bag_of_tokens old) journal step recording.kept made.permitted);
   }
 
   -- after a call that made none

@@ -15,7 +15,8 @@ pub(crate) fn admit_or_announce<A: Arbiter>(
 ) -> Option<A::Token>
     ensures admitted { is_some result ≡ ((announced.old || not (A.bar arbiter.old))
         && admits (A.reader_limit arbiter.old) (bag_of_tokens (A.tokens_out arbiter.old)) Exclusive) }
-    ensures bar { A.bar arbiter.new ≡ (not (is_some result) && (A.has_bars || (not announced.old && A.bar arbiter.old))) }
+    ensures bar { A.bar arbiter.new
+        ≡ (not (is_some result) && (A.has_bars || (not announced.old && A.bar arbiter.old))) }
     ensures announced { announced.new
         ≡ (announced.old || (not (is_some result) && (A.has_bars && not (A.bar arbiter.old)))) }
 {

@@ -1,4 +1,5 @@
-//! Raw locks: one that carries all raw traits over what acquires, tries, releases and changes, and a lock of std's round an arbiter for that.
+//! Raw locks: one that carries all raw traits over what acquires, tries, releases and changes, and a lock of std's round
+//! an arbiter for that.
 #![tactic(auto)]
 
 mod announcing;

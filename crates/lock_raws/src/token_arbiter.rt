@@ -22,7 +22,8 @@ impl<S: ObservableState> Model for TokenArbiter<S> {
       readers = S.reader_limit arbiter.state;
     } };
 
-    ghost invariant = { λ arbiter. IsLegalState (S.tokens arbiter.state) (S.capacity arbiter.state) (S.reader_limit arbiter.state) };
+    ghost invariant = { λ arbiter.
+        IsLegalState (S.tokens arbiter.state) (S.capacity arbiter.state) (S.reader_limit arbiter.state) };
 }
 
 impl<S: ObservableState> Arbiter for TokenArbiter<S> {

@@ -62,7 +62,8 @@ module _ {T V : Type 0} (rule : T → List V → Type 0) (me after : Self T V) w
   has_met took taken view same is = subst (λ (z : T × V). Meets rule z.0 z.1) (λ i. (sym same i, is i)) took.2
 
 -- a guard's value, put into its slot
-pub refilled : {T V : Type 0} (me now : Self T V) (value : T) → now ≡ (me.0, (0, Some value) ∷ rest me.1) → me.1 ≡ (0, None) ∷ [] → IsHolding me.0.stage
+pub refilled : {T V : Type 0} (me now : Self T V) (value : T) → now ≡ (me.0, (0, Some value) ∷ rest me.1)
+    → me.1 ≡ (0, None) ∷ [] → IsHolding me.0.stage
     → Carries now (taken_value me.0.stage value) value
 refilled me now value is out holds =
     (ap (λ m. m.0.stage) is ∙ holds_taken me.0.stage value holds, ap (λ m. m.1) is ∙ ap (λ l. (0, Some value) ∷ rest l) out)
@@ -73,7 +74,8 @@ one_or_more n = exchanged n 0 1 (λ m. m ≢ 0) (λ hit e. suc-ne-zero 0 e) (λ 
 
 module _ {T V : Type 0} (rule : T → List V → Type 0) where
   -- the state that a step of one user leaves
-  left : (s : State (std.Option T) (UserView T V)) (r : IsRuled rule s) (id n holder : ℕ) (homes : Homes T) (u w : UserView T V) (y : T) → get_elem? s.views id ≡ some u
+  left : (s : State (std.Option T) (UserView T V)) (r : IsRuled rule s) (id n holder : ℕ) (homes : Homes T)
+      (u w : UserView T V) (y : T) → get_elem? s.views id ≡ some u
       → w.parts ≡ u.parts → rule y (known_views (set s.views id w)) → (n ≡ 0 → homes ≡ some (Some y) ∷ [])
       → (n ≢ 0 → IsOut (set s.views id w) holder) → Fits n homes y holder id w.stage
       → ((k : ℕ) (x : UserView T V) → k ≢ id → get_elem? s.views k ≡ some x → Fits n homes y holder k x.stage)
@@ -92,7 +94,8 @@ module _ {T V : Type 0} (rule : T → List V → Type 0) where
         at_home = λ free. home (sym is ∙ free);
         is_out = λ away. out (λ none. away (is ∙ none));
         each = λ k x e. subst (λ (m : ℕ). Fits m homes y holder k x.stage) (sym is)
-            (⊎_elim (λ (here : (k ≡ id) × (w ≡ x)). subst (λ (z : ℕ × UserView T V). Fits n homes y holder z.0 z.1.stage) (λ i. (sym here.0 i, here.1 i)) mine)
+            (⊎_elim (λ (here : (k ≡ id) × (w ≡ x)). subst
+            (λ (z : ℕ × UserView T V). Fits n homes y holder z.0 z.1.stage) (λ i. (sym here.0 i, here.1 i)) mine)
             (λ (there : (k ≢ id) × (get_elem? s.views k ≡ some x)). others k x there.0 there.1) (at_set s.views id k w x e));
       }
 
@@ -129,14 +132,16 @@ module _ {T V : Type 0} (rule : T → List V → Type 0) where
         me.0,
         keeps,
         tt,
-        left s r id (f word) r.holder s.homes me.0 me.0 r.value at refl (subst (λ (us : List (UserView T V)). rule r.value (known_views us)) (sym again) r.kept)
+        left s r id (f word) r.holder s.homes me.0 me.0 r.value at refl
+            (subst (λ (us : List (UserView T V)). rule r.value (known_views us)) (sym again) r.kept)
             (λ none. absurd (away word none)) (λ _. subst (λ (us : List (UserView T V)). IsOut us r.holder) (sym again) (r.is_out miss))
             (still_fits me.0.stage word (f word) r.holder id s.homes r.value (away word) (r.each id me.0 at))
             (λ k x apart e. still_fits x.stage word (f word) r.holder k s.homes r.value (away word) (r.each k x e)),
         ((λ hit. absurd (miss hit)), (λ _. refl)),
       ))
 
-  pub gives_value : (slots id : ℕ) (me : Self T V) (next : T → V → T → V) (taken value : T) → Carries me taken value → 0 < me.0.parts → Keeps rule taken me.0.own value (next taken me.0.own value)
+  pub gives_value : (slots id : ℕ) (me : Self T V) (next : T → V → T → V) (taken value : T) → Carries me taken value
+      → 0 < me.0.parts → Keeps rule taken me.0.own value (next taken me.0.own value)
       → Allows (IsRuled rule) slots id me 0 (λ n. 0) (Gives next me)
   gives_value slots id me next taken value out some_part turn s r same at small =
       let holds = out.0 in
@@ -186,13 +191,16 @@ module _ {T V : Type 0} (rule : T → List V → Type 0) where
         left s r id 1 id (set s.homes 0 none) me.0 w r.value at refl (subst (rule r.value) (sym known_same) r.kept) (λ none. absurd (away none))
             (λ _. (w, set_at s.views id me.0 w at, some_part, tt))
             (refl, away, fits.2, ap (λ (h : Homes T). set h 0 none) fits.3)
-            (λ k x apart e. is_free x.stage word r.holder k 1 id s.homes (set s.homes 0 none) r.value r.value (λ mine _. apart (sym mine ∙ fits.0)) (r.each k x e)),
+            (λ k x apart e. is_free x.stage word r.holder k 1 id s.homes (set s.homes 0 none) r.value r.value
+            (λ mine _. apart (sym mine ∙ fits.0)) (r.each k x e)),
         (λ x opened i. (record me.0 { stage = Holds (ap (λ (st : UserStage T). taken_value st first) (sym opens ∙ opened) i) }, (0, None) ∷ me.1)),
       )
 
-  maker_fits : (value : T) (view : V) (k : ℕ) (x : UserView T V) → get_elem? (opener value view ∷ []) k ≡ some x → Fits 1 (some None ∷ []) value 0 k x.stage
+  maker_fits : (value : T) (view : V) (k : ℕ) (x : UserView T V) → get_elem? (opener value view ∷ []) k ≡ some x
+      → Fits 1 (some None ∷ []) value 0 k x.stage
   maker_fits value view zero x at =
-      subst (λ (u : UserView T V). Fits 1 (some None ∷ []) value 0 0 u.stage) (some-injective (opener value view) x at) (refl, (λ e. suc-ne-zero 0 e), refl, refl)
+      subst (λ (u : UserView T V). Fits 1 (some None ∷ []) value 0 0 u.stage) (some-injective (opener value view) x at)
+      (refl, (λ e. suc-ne-zero 0 e), refl, refl)
   maker_fits value view (suc k) x at = absurd (some-ne-none x (sym at))
 
   pub starts : (value : T) (view : V) → rule value (view ∷ []) → IsRuled rule (opening (1 ∷ []) (replicate 1 None) (opener value view))
@@ -214,10 +222,13 @@ module _ {T V : Type 0} (rule : T → List V → Type 0) where
       → u.stage ≡ Free → IsOut s.views r.holder → IsOut (set s.views id w) r.holder
   others_out s r id u w at free out =
       dite (ℕ_discrete r.holder id)
-      (λ same. absurd (not_away out.0.stage (ap (λ (x : UserView T V). x.stage) (some-injective out.0 u (sym out.1 ∙ ap (λ (k : ℕ). get_elem? s.views k) same ∙ at)) ∙ free) out.3))
+      (λ same. absurd (not_away out.0.stage
+      (ap (λ (x : UserView T V). x.stage)
+      (some-injective out.0 u (sym out.1 ∙ ap (λ (k : ℕ). get_elem? s.views k) same ∙ at)) ∙ free) out.3))
       (λ apart. (out.0, set_else s.views id r.holder w apart ∙ out.1, out.2, out.3))
 
-  pub splits : (id : ℕ) (u : UserView T V) (left_of right_of : V → V) → u.stage ≡ Free → 1 < u.parts → asked.Splits rule u.own (left_of u.own) (right_of u.own)
+  pub splits : (id : ℕ) (u : UserView T V) (left_of right_of : V → V) → u.stage ≡ Free → 1 < u.parts
+      → asked.Splits rule u.own (left_of u.own) (right_of u.own)
       → Splits (IsRuled rule) id u (one_fewer left_of u) (one_part right_of u)
   splits id u left_of right_of free enough law s r at =
       let l : UserView T V = one_fewer left_of u in
@@ -241,7 +252,8 @@ module _ {T V : Type 0} (rule : T → List V → Type 0) where
         parts = omega arith;
         kept = subst (rule r.value) (sym all) (law r.value about.before about.after (subst (rule r.value) was r.kept));
         at_home = r.at_home;
-        is_out = λ away. (let out = others_out s r id u l at free (r.is_out away) in (out.0, at_longer us (k ∷ []) r.holder out.0 out.1, out.2, out.3));
+        is_out = λ away. (let out = others_out s r id u l at free (r.is_out away) in
+            (out.0, at_longer us (k ∷ []) r.holder out.0 out.1, out.2, out.3));
         each = λ j x e. ⊎_elim
             (λ (old : get_elem? us j ≡ some x). ⊎_elim
             (λ (here : (j ≡ id) × (l ≡ x)). subst (λ (y : UserView T V). Fits n s.homes r.value r.holder j y.stage) here.1 tt)
@@ -250,8 +262,10 @@ module _ {T V : Type 0} (rule : T → List V → Type 0) where
       }
 
   -- the views of two users, whichever comes first, where the one takes the other in
-  joined : (us : List (UserView T V)) (id other : ℕ) (u w both gone : UserView T V) (y : T) → asked.Joins rule u.own w.own both.own → 0 < u.parts → 0 < w.parts → 0 < both.parts
-      → gone.parts ≡ 0 → other ≢ id → get_elem? us id ≡ some u → get_elem? us other ≡ some w → rule y (known_views us) → rule y (known_views (set (set us id both) other gone))
+  joined : (us : List (UserView T V)) (id other : ℕ) (u w both gone : UserView T V) (y : T)
+      → asked.Joins rule u.own w.own both.own → 0 < u.parts → 0 < w.parts → 0 < both.parts
+      → gone.parts ≡ 0 → other ≢ id → get_elem? us id ≡ some u → get_elem? us other ≡ some w → rule y (known_views us)
+      → rule y (known_views (set (set us id both) other gone))
   joined us id other u w both gone y law some_u some_w some_both no_part apart at at' kept =
       let one_u = known_one u.parts u.own some_u in
       let one_w = known_one w.parts w.own some_w in
@@ -294,7 +308,9 @@ module _ {T V : Type 0} (rule : T → List V → Type 0) where
         is_out = λ away.
             (let out = others_out s r id u one at free (r.is_out away) in
             dite (ℕ_discrete r.holder other)
-            (λ same. absurd (not_away out.0.stage (ap (λ (x : UserView T V). x.stage) (some-injective out.0 w (sym out.1 ∙ ap (λ (k : ℕ). get_elem? us k) same ∙ at')) ∙ free') out.3))
+            (λ same. absurd (not_away out.0.stage
+            (ap (λ (x : UserView T V). x.stage)
+            (some-injective out.0 w (sym out.1 ∙ ap (λ (k : ℕ). get_elem? us k) same ∙ at')) ∙ free') out.3))
             (λ differs. (out.0, set_else us other r.holder left_over differs ∙ out.1, out.2, out.3)));
         each = λ j x e. ⊎_elim
             (λ (here : (j ≡ other) × (left_over ≡ x)). subst (λ (y : UserView T V). Fits n s.homes r.value r.holder j y.stage) here.1 tt)
@@ -318,7 +334,9 @@ module _ {T V : Type 0} (rule : T → List V → Type 0) where
       (λ away.
       let out = r.is_out away in
       dite (ℕ_discrete r.holder id)
-      (λ same. absurd (not_away out.0.stage (ap (λ (x : UserView T V). x.stage) (some-injective out.0 u (sym out.1 ∙ ap (λ (k : ℕ). get_elem? s.views k) same ∙ at)) ∙ free) out.3))
+      (λ same. absurd (not_away out.0.stage
+      (ap (λ (x : UserView T V). x.stage)
+      (some-injective out.0 u (sym out.1 ∙ ap (λ (k : ℕ). get_elem? s.views k) same ∙ at)) ∙ free) out.3))
       (λ apart. (let sum = two_parts s.views r.holder id out.0 u apart out.1 at in let part = out.2 in absurd (omega arith)))) in
       let there : get_elem? s.homes 0 ≡ some (some (Some r.value)) = ap (λ (h : Homes T). get_elem? h 0) (r.at_home home) in
       let is : slot ≡ Some r.value = some-injective slot (Some r.value) (sym lies ∙ last.4 0 (Some r.value) there) in

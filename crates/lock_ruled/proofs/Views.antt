@@ -15,7 +15,9 @@ module _ {T V : Type 0} where
 
   pub known_append : (us ws : List (UserView T V)) → known_views (us ++ ws) ≡ known_views us ++ known_views ws
   known_append [] ws = refl
-  known_append (u ∷ us) ws = ap (λ (l : List V). known_of u ++ l) (known_append us ws) ∙ sym (append_assoc (known_of u) (known_views us) (known_views ws))
+  known_append (u ∷ us) ws =
+      ap (λ (l : List V). known_of u ++ l) (known_append us ws)
+      ∙ sym (append_assoc (known_of u) (known_views us) (known_views ws))
 
   pub parts_append : (us ws : List (UserView T V)) → parts_of (us ++ ws) ≡ parts_of us + parts_of ws
   parts_append [] ws = omega arith
@@ -60,7 +62,8 @@ module _ {T V : Type 0} where
     pub becomes : (x y : UserView T V) → known_views (set (set us i x) j y) ≡ before ++ (known_of x ++ (between ++ (known_of y ++ after)))
     pub turned : (x y : UserView T V) → known_views (set (set us j y) i x) ≡ before ++ (known_of x ++ (between ++ (known_of y ++ after)))
 
-  pub both_around : (us : List (UserView T V)) (i j : ℕ) (u w : UserView T V) → i < j → get_elem? us i ≡ some u → get_elem? us j ≡ some w → Both us i j u w
+  pub both_around : (us : List (UserView T V)) (i j : ℕ) (u w : UserView T V) → i < j → get_elem? us i ≡ some u
+      → get_elem? us j ≡ some w → Both us i j u w
   both_around [] i j u w less at at' = absurd (some-ne-none u (sym at))
   both_around (x ∷ xs) zero zero u w less at at' = absurd (omega arith)
   both_around (x ∷ xs) (suc i) zero u w less at at' = absurd (omega arith)
@@ -92,7 +95,8 @@ module _ {T V : Type 0} where
   parts_at (x ∷ xs) zero u at = let same = ap (λ (y : UserView T V). y.parts) (some-injective x u at) in omega arith
   parts_at (x ∷ xs) (suc id) u at = let less = parts_at xs id u at in omega arith
 
-  pub two_parts : (us : List (UserView T V)) (i j : ℕ) (u w : UserView T V) → i ≢ j → get_elem? us i ≡ some u → get_elem? us j ≡ some w → u.parts + w.parts ≤ parts_of us
+  pub two_parts : (us : List (UserView T V)) (i j : ℕ) (u w : UserView T V) → i ≢ j → get_elem? us i ≡ some u
+      → get_elem? us j ≡ some w → u.parts + w.parts ≤ parts_of us
   two_parts [] i j u w apart at at' = absurd (some-ne-none u (sym at))
   two_parts (x ∷ xs) zero zero u w apart at at' = absurd (apart refl)
   two_parts (x ∷ xs) zero (suc j) u w apart at at' =
@@ -111,7 +115,8 @@ module _ {T V : Type 0} where
       ap (λ (n : ℕ). known_if n x.own ++ known_views xs) here ∙ none_known xs (omega arith)
 
   -- who has all parts is the only one that the rule speaks of
-  pub alone : (us : List (UserView T V)) (id : ℕ) (u : UserView T V) → get_elem? us id ≡ some u → parts_of us ≡ u.parts → 0 < u.parts → known_views us ≡ u.own ∷ []
+  pub alone : (us : List (UserView T V)) (id : ℕ) (u : UserView T V) → get_elem? us id ≡ some u → parts_of us ≡ u.parts
+      → 0 < u.parts → known_views us ≡ u.own ∷ []
   alone [] id u at all some_part = absurd (some-ne-none u (sym at))
   alone (x ∷ xs) zero u at all some_part =
       let is = some-injective x u at in

@@ -37,7 +37,8 @@ cuts items put taken (p ∷ q ∷ []) after h = absurd h
 cuts items put taken (p ∷ q ∷ r ∷ rs) after h = absurd h
 
 pub unites : (items put taken : List ℕ) (before between after : List Log)
-    → IsInOrder items (before ++ producer put ∷ (between ++ consumer taken ∷ after)) → IsInOrder items (before ++ sole_user put taken ∷ (between ++ after))
+    → IsInOrder items (before ++ producer put ∷ (between ++ consumer taken ∷ after))
+    → IsInOrder items (before ++ sole_user put taken ∷ (between ++ after))
 unites items put taken [] [] [] h = (refl, h.2)
 unites items put taken [] [] (d ∷ ds) h = absurd h
 unites items put taken [] (b ∷ []) after h = absurd h
@@ -68,23 +69,28 @@ last_of (y ∷ ys) x = last_of ys x
 pub puts_as : (items now : List ℕ) (log : Log) (put : List ℕ) (x : ℕ) → log ≡ producer put → now ≡ items ++ x ∷ []
     → Moves items log now (record log { put = log.put ++ drop (length items) now })
 puts_as items now log put x who is =
-    let here = subst (λ (l : List ℕ). Moves items (producer put) (items ++ x ∷ []) (producer (put ++ l))) (sym (last_of items x)) (puts items put x) in
+    let here = subst (λ (l : List ℕ). Moves items (producer put) (items ++ x ∷ []) (producer (put ++ l)))
+    (sym (last_of items x)) (puts items put x) in
     subst (λ (z : Log × List ℕ). Moves items z.0 z.1 (record z.0 { put = z.0.put ++ drop (length items) z.1 })) (λ i. (sym who i, sym is i)) here
 
 pub takes_as : (items now : List ℕ) (log : Log) (taken : List ℕ) → log ≡ consumer taken → 0 < length items → now ≡ remove items 0
     → Moves items log now (record log { taken = log.taken ++ take 1 items })
 takes_as [] now log taken who some_item is = absurd (omega arith)
 takes_as (x ∷ rest) now log taken who some_item is =
-    subst (λ (z : Log × List ℕ). Moves (x ∷ rest) z.0 z.1 (record z.0 { taken = z.0.taken ++ x ∷ [] })) (λ i. (sym who i, sym is i)) (takes rest taken x)
+    subst (λ (z : Log × List ℕ). Moves (x ∷ rest) z.0 z.1 (record z.0 { taken = z.0.taken ++ x ∷ [] }))
+    (λ i. (sym who i, sym is i)) (takes rest taken x)
 
 module _ {T : Type 0} (items_of : T → List ℕ) where
   abbrev Rule : T → List Log → Type 0
   Rule queue logs = IsInOrder (items_of queue) logs
 
   pub cuts_as : (log : Log) (put taken : List ℕ) → log ≡ sole_user put taken → Splits Rule log (producer log.put) (consumer log.taken)
-  cuts_as log put taken who = subst (λ (l : Log). Splits Rule l (producer l.put) (consumer l.taken)) (sym who) (λ queue. cuts (items_of queue) put taken)
+  cuts_as log put taken who =
+      subst (λ (l : Log). Splits Rule l (producer l.put) (consumer l.taken)) (sym who)
+      (λ queue. cuts (items_of queue) put taken)
 
-  pub joins_as : (log other : Log) (put taken : List ℕ) → log ≡ producer put → other ≡ consumer taken → Joins Rule log other (sole_user log.put other.taken)
+  pub joins_as : (log other : Log) (put taken : List ℕ) → log ≡ producer put → other ≡ consumer taken
+      → Joins Rule log other (sole_user log.put other.taken)
   joins_as log other put taken who who' =
       let here : Joins Rule (producer put) (consumer taken) (sole_user put taken)
       = record {

@@ -14,7 +14,8 @@ abbrev SplitsAtSpace : List ℕ → Option (Bor (List ℕ) × Bor (List ℕ)) �
 SplitsAtSpace line r = MatchOption r (position_or_len is_space line ≡ length line)
     (λ x. (x.0.now ≡ before_first is_space line) × (x.1.now ≡ after_first is_space line) × (position_or_len is_space line < length line))
 
-pub fields_of-more : (line : List ℕ) (r : Option (Bor (List ℕ) × Bor (List ℕ))) → SplitsAtSpace line r → IfSome r (λ parts. fields_of line ≡ parts.0.now ∷ fields_of parts.1.now)
+pub fields_of-more : (line : List ℕ) (r : Option (Bor (List ℕ) × Bor (List ℕ))) → SplitsAtSpace line r
+    → IfSome r (λ parts. fields_of line ≡ parts.0.now ∷ fields_of parts.1.now)
 fields_of-more line None split = tt
 fields_of-more line (Some parts) split = rw (split.0, split.1) (slice_split_first is_space line 0 split.2)
 

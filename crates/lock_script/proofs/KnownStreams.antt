@@ -11,7 +11,8 @@ Consumes-kept (Some xs) (Some ys) None bytes taken kept = absurd kept
 Consumes-kept (Some xs) (Some ys) (Some zs) bytes taken kept = rw kept taken
 
 -- what two reads take
-pub Consumes-more : (ahead mid left : Option (List ℕ)) (bytes more : List ℕ) → Consumes ahead mid bytes → Consumes mid left more → Consumes ahead left (bytes ++ more)
+pub Consumes-more : (ahead mid left : Option (List ℕ)) (bytes more : List ℕ) → Consumes ahead mid bytes
+    → Consumes mid left more → Consumes ahead left (bytes ++ more)
 Consumes-more None mid left bytes more taken then_taken = tt
 Consumes-more (Some xs) None left bytes more taken then_taken = absurd taken
 Consumes-more (Some xs) (Some ys) None bytes more taken then_taken = absurd then_taken
@@ -24,4 +25,5 @@ Appends-take None mid new text written count added more = tt
 Appends-take (Some xs) None new text written count added more = absurd added
 Appends-take (Some xs) (Some ys) None text written count added more = absurd more
 Appends-take (Some xs) (Some ys) (Some zs) text written count added more =
-    rw take-add (more ∙ ap (λ front. front ++ take count (drop written text)) added ∙ append_assoc xs (take written text) (take count (drop written text)))
+    rw take-add (more ∙ ap (λ front. front ++ take count (drop written text)) added
+    ∙ append_assoc xs (take written text) (take count (drop written text)))

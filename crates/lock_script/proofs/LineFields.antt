@@ -24,7 +24,8 @@ one_or_more : (line : List ℕ) → IsOneOrMore line
 one_or_more line = one_or_more_of line (fields_of line) refl
 
 -- the word and the number of a line of five fields
-pub number_of_call : (word id guard item number : List ℕ) → IsCall (word ∷ id ∷ guard ∷ item ∷ fields_of number) → IsOneOf number_words word × IsSigned number
+pub number_of_call : (word id guard item number : List ℕ) → IsCall (word ∷ id ∷ guard ∷ item ∷ fields_of number)
+    → IsOneOf number_words word × IsSigned number
 number_of_call word id guard item number call =
     elim (one_or_more number) [
       | inl one ↦ let found = rw one at call in (found.0, found.1.1.1.1)

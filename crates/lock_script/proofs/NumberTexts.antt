@@ -35,7 +35,8 @@ decimal-read {E = E} bs (Ok n) read form =
     subst (λ k. decimal k ≡ bs) (sym h.1) (decimal-digits_value own bs h.0.0 h.0.1 front.2 h.0.2)
 
 -- it is read as a number exactly where it is one
-pub IsUnsigned-read : {E : Type 0} (bs : List ℕ) (r : Result ℕ E) → ParsesUnsigned 64 10 bs r → HasForm bs → (IsSome (result_ok r) → IsUnsigned bs) × (IsUnsigned bs → IsSome (result_ok r))
+pub IsUnsigned-read : {E : Type 0} (bs : List ℕ) (r : Result ℕ E) → ParsesUnsigned 64 10 bs r → HasForm bs
+    → (IsSome (result_ok r) → IsUnsigned bs) × (IsUnsigned bs → IsSome (result_ok r))
 IsUnsigned-read bs (Err e) read form = (
   λ some. cc,
   λ found.
@@ -62,7 +63,8 @@ above_0 zero bs text above =
 above_0 (suc n) bs text above = omega arith
 
 -- the same of a signed number
-pub signed_decimal-read : {E : Type 0} (bs : List ℕ) (r : Result ℤ E) → ParsesSigned w64 10 bs r → HasSignedForm bs → IfSome (result_ok r) (λ z. signed_decimal z ≡ bs)
+pub signed_decimal-read : {E : Type 0} (bs : List ℕ) (r : Result ℤ E) → ParsesSigned w64 10 bs r → HasSignedForm bs
+    → IfSome (result_ok r) (λ z. signed_decimal z ≡ bs)
 signed_decimal-read bs (Err e) read form = tt
 signed_decimal-read [] (Ok z) read form = absurd form
 signed_decimal-read {E = E} (b ∷ bs) (Ok z) read (inl form) =
@@ -82,13 +84,17 @@ signed_decimal-read {E = E} (b ∷ bs) (Ok z) read (inr form) =
     rw same (signed_decimal-neg (digits_value 10 bs) (above_0 (digits_value 10 bs) bs text form.1) ∙ rw form.0 (ap (λ cs. 45 ∷ cs) text))
 
 -- and it is read as a number exactly where it is one
-pub IsSigned-read : {E : Type 0} (bs : List ℕ) (r : Result ℤ E) → ParsesSigned w64 10 bs r → HasSignedForm bs → (IsSome (result_ok r) → IsSigned bs) × (IsSigned bs → IsSome (result_ok r))
+pub IsSigned-read : {E : Type 0} (bs : List ℕ) (r : Result ℤ E) → ParsesSigned w64 10 bs r → HasSignedForm bs
+    → (IsSome (result_ok r) → IsSigned bs) × (IsSigned bs → IsSome (result_ok r))
 IsSigned-read bs (Err e) read form = (
   λ some. cc,
   λ found.
       let same : Err e ≡ Ok found.0 = parse-signed_decimal w64 found.0 bs (Err e) found.1.0 found.1.0.sfits (sym found.1.1) read in cc,
 )
-IsSigned-read {E = E} bs (Ok z) read form = (λ some. (z, (subst (FitsSigned w64) (sym read.1) read.0.1, signed_decimal-read {E = E} bs (Ok z) read form)), λ found. refl)
+IsSigned-read {E = E} bs (Ok z) read form = (
+  λ some. (z, (subst (FitsSigned w64) (sym read.1) read.0.1, signed_decimal-read {E = E} bs (Ok z) read form)),
+  λ found. refl,
+)
 
 begins_above_0 : (ds : List ℕ) → AllDigits 10 ds → 48 < get_or ds 0 0 → BeginsAbove0 ds
 begins_above_0 [] digits above = absurd (omega arith)

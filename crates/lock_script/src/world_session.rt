@@ -50,7 +50,8 @@ fn answers_to(alloc: Global, script: &WorldScript) -> Result<String, AllocError>
 
 /// Appends what a world answers.
 fn write_calls(text: &mut String, mut world: World, calls: &[WorldCall]) -> Result<(), AllocError>
-    ensures { OnOk result (string_bytes text.new ≡ string_bytes text.old ++ answer_lines (all_answers world calls.now)) }
+    ensures { OnOk result
+        (string_bytes text.new ≡ string_bytes text.old ++ answer_lines (all_answers world calls.now)) }
 {
     for call in calls {
         let answer = ask(&mut world, *call);

@@ -89,7 +89,8 @@ loads limit slots id me s kept same at small =
     )
 
 pub exchanges : (limit slots id : ℕ) (me : Self) (want : ExWant) (old new : ℕ) → me.0.state.loaded ≡ Some old
-    → me.0.last ≡ old → IsTrue (hold_has me.0.state.held (step_of_want want)) → IsTrue (word_admits me.0.state.held.announced limit old want) → new ≡ word_after old want
+    → me.0.last ≡ old → IsTrue (hold_has me.0.state.held (step_of_want want))
+    → IsTrue (word_admits me.0.state.held.announced limit old want) → new ≡ word_after old want
     → Allows (IsKept limit) slots id me 0 (λ n. either (eqb n old) new n) (Exchanges want (step slots 0 old new none) me)
 exchanges limit slots id me want old new is_open is_last holds admits is s kept same at small =
     let word = slice_index s.words 0 in

@@ -82,7 +82,8 @@ bag_of_tokens_in b =
     let all : bag_of_tokens (tokens_in b) ≡ plus (plus (plus empty_bag Upgradable b.upgradable) Exclusive b.exclusive) Shared b.shared
     = bag_of_block b.shared Shared writers ∙ ap (λ (x : Bag). plus x Shared b.shared) middle in
     all
-    ∙ same_counts (plus (plus (plus empty_bag Upgradable b.upgradable) Exclusive b.exclusive) Shared b.shared) b (omega arith) (omega arith) (omega arith)
+    ∙ same_counts (plus (plus (plus empty_bag Upgradable b.upgradable) Exclusive b.exclusive) Shared b.shared) b
+    (omega arith) (omega arith) (omega arith)
 
 pub length_of_tokens_in : (b : Bag) → length (tokens_in b) ≡ tokens b
 length_of_tokens_in b = sym (tokens-bag_of_tokens (tokens_in b)) ∙ ap tokens (bag_of_tokens_in b)
@@ -122,7 +123,8 @@ none_strange b =
       none_pass is_strange b.upgradable (token_of Upgradable) refl,
     )
 
-token_is : (b : Bag) (held mode : Mode) (others : List (PackedToken × Mode)) → IsOutIn (tokens_in b) (record { mode = held }) mode others → held ≡ mode
+token_is : (b : Bag) (held mode : Mode) (others : List (PackedToken × Mode))
+    → IsOutIn (tokens_in b) (record { mode = held }) mode others → held ≡ mode
 token_is b Shared Shared others out = refl
 token_is b Exclusive Exclusive others out = refl
 token_is b Upgradable Upgradable others out = refl

@@ -66,7 +66,8 @@ impl PackedWord {
         requires out { 0 < count_of self.old.bag from }
         requires moves { IsTrue (is_move from to) }
         ensures allowed { result ≡ may_become self.old.bag to }
-        ensures after { self.new ≡ if result then record self.old { bag = one_more (one_less self.old.bag from) to } else self.old }
+        ensures after { self.new
+            ≡ if result then record self.old { bag = one_more (one_less self.old.bag from) to } else self.old }
     {
         match (from, to) {
             (Mode::Upgradable, Mode::Exclusive) => {

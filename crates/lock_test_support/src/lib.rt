@@ -1,4 +1,5 @@
-//! What the tests of the locks share: raw locks that write down what they are asked, or lie, projections of pairs, and questions on answers.
+//! What the tests of the locks share: raw locks that write down what they are asked, or lie, projections of pairs, and
+//! questions on answers.
 #![tactic(auto)]
 
 pub mod answer;

@@ -47,7 +47,8 @@ pub record IsHolderStep (limit : ℕ) (before : List Hold) (s : HolderStep) (aft
 -- these steps, each of which may be made where it is, lead from the one to the other
 abbrev pub IsHolderRun : ℕ → List Hold → List HolderStep → List Hold → Type 0
 IsHolderRun limit before [] after = before ≡ after
-IsHolderRun limit before (s ∷ ss) after = (mid : List Hold) × IsHolderStep limit before s mid × IsHolderRun limit mid ss after
+IsHolderRun limit before (s ∷ ss) after =
+    (mid : List Hold) × IsHolderStep limit before s mid × IsHolderRun limit mid ss after
 
 -- the change of the modes, which no announcement and no withdrawal makes
 abbrev pub modes_of : WordStep → List ModeStep

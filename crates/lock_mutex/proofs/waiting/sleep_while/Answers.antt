@@ -6,7 +6,8 @@ use Rattle.lock_mutex.proofs.waiting.sleep_while.Goals as goal
 
 pub returns-clause-in_time : goal.returns-clause-in_time
 returns-clause-in_time g c never =
-    let ended : c.run_loop-end.result ≡ False = only_false _ _ _ _ (λ w v timed_out may. never timed_out may) (λ w v none. none) c.run_loop-end.ensures in
+    let ended : c.run_loop-end.result ≡ False
+    = only_false _ _ _ _ (λ w v timed_out may. never timed_out may) (λ w v none. none) c.run_loop-end.ensures in
     rw ended at c.eq.ensures
 
 pub returns-clause-checks : goal.returns-clause-checks

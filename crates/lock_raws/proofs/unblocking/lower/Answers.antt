@@ -20,5 +20,6 @@ pub returns-in-Ok : goal.returns-in-Ok
 returns-in-Ok g c =
     let change = c.in-Ok.ensures in
     woken_by (Change c.args.from c.args.to)
-    (changes (g.A.Arbiter.reader_limit c.args.arbiter.now) c.args.from c.args.to c.requires (sym (change.admitted change.was_out)) change.was_out change.replaced)
+    (changes (g.A.Arbiter.reader_limit c.args.arbiter.now) c.args.from c.args.to c.requires
+    (sym (change.admitted change.was_out)) change.was_out change.replaced)
     c.bag-before.ensures.bag c.after-after.ensures change.limit_kept change.bar_kept c.whom.ensures

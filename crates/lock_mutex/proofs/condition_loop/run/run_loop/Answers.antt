@@ -13,12 +13,15 @@ returns-then-timed_out g c =
 
 pub returns-in-None-wait : goal.returns-in-None-wait
 returns-in-None-wait g c =
-    c.loop.invariant.3 _ _ (ran_out _ _ _ _ g.met.W.Waits.current_with c.if-timed_out.false c.value.ensures.value c.if-not-condition.ensures c.in-None-wait.ensures.wait_gives c.in-None-wait.ensures.stays)
+    c.loop.invariant.3 _ _ (ran_out _ _ _ _ g.met.W.Waits.current_with c.if-timed_out.false c.value.ensures.value
+    c.if-not-condition.ensures c.in-None-wait.ensures.wait_gives c.in-None-wait.ensures.stays)
 
 pub loop-preserved : goal.loop-preserved
 loop-preserved g c = (
   tt,
   tt,
   (λ h. mut_next g.F.FnMut _ _ _ _ _ c.if-not-condition.ensures refl (c.loop.invariant.2 h)),
-  λ end after loop. c.loop.invariant.3 _ _ (one_more _ _ _ _ c.if-timed_out.false c.value.ensures.value c.if-not-condition.ensures c.in-Some-wait.ensures.wait_gives loop),
+  λ end after loop. c.loop.invariant.3 _ _
+      (one_more _ _ _ _ c.if-timed_out.false c.value.ensures.value c.if-not-condition.ensures
+      c.in-Some-wait.ensures.wait_gives loop),
 )

@@ -8,5 +8,7 @@ use Rattle.lock_raws.proofs.recording_arbiter.RecordingArbiterArbiter.admit.Goal
 pub invariant_of-self-2 : goal.invariant_of-self-2
 invariant_of-self-2 g c =
     let e = c.in_ok-token.ensures in
-    recording_stepped (Acquire c.args.mode) c.self.invariant (acquires (g.A.Arbiter.reader_limit c.self.inside.arbiter) c.args.mode (and_parts _ _ (sym e.admitted)).1 e.added)
+    recording_stepped (Acquire c.args.mode) c.self.invariant
+    (acquires (g.A.Arbiter.reader_limit c.self.inside.arbiter) c.args.mode
+    (and_parts _ _ (sym e.admitted)).1 e.added)
     e.limit_kept c.write.ensures

@@ -11,4 +11,6 @@ returns-then-not-room-clause-admitted g c =
     (full_admits_none c.args.mode c.self.invariant c.room.ensures c.if-not-room.true _)
 
 pub invariant_of-self : goal.invariant_of-self
-invariant_of-self g c = let e = c.admit.ensures in admitted_legal _ c.args.mode c.admit.result c.self.invariant e.admitted e.added e.refused e.capacity_kept e.limit_kept
+invariant_of-self g c = let e = c.admit.ensures in
+    admitted_legal _ c.args.mode c.admit.result c.self.invariant e.admitted e.added e.refused e.capacity_kept
+    e.limit_kept

@@ -13,11 +13,13 @@ marked_row-row-requires g c =
 pub unreachable-requires : goal.unreachable-requires
 unreachable-requires g c =
     let items = ap (λ r. r.items) c.self.view_is in
-    let found = found_at _ c.self.inside.rows.items _ c.args.bookmark.number c.marked_row-row.result c.index.result.now c.as_slice.ensures.value items (c.marked_row-row.ensures.found _) c.index.ensures in
+    let found = found_at _ c.self.inside.rows.items _ c.args.bookmark.number c.marked_row-row.result c.index.result.now
+    c.as_slice.ensures.value items (c.marked_row-row.ensures.found _) c.index.ensures in
     no_none _ c.requires (found ∙ c.in_default.is)
 
 pub returns : goal.returns
 returns g c =
     let items = ap (λ r. r.items) c.self.view_is in
-    let found = found_at _ c.self.inside.rows.items _ c.args.bookmark.number c.marked_row-row.result c.index.result.now c.as_slice.ensures.value items (c.marked_row-row.ensures.found _) c.index.ensures in
+    let found = found_at _ c.self.inside.rows.items _ c.args.bookmark.number c.marked_row-row.result c.index.result.now
+    c.as_slice.ensures.value items (c.marked_row-row.ensures.found _) c.index.ensures in
     found ∙ c.in-Some.is

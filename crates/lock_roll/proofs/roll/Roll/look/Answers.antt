@@ -22,4 +22,6 @@ pub returns-else-has_item : goal.returns-else-has_item
 returns-else-has_item g c =
     let at = subst (λ (w : List (Row g.row.X.Denot)). IsRow c.args.number w c.in_ok-row.row) c.as_slice.ensures.value c.in_ok-row.ensures in
     let found = find_row _ _ c.self.inside.rows.items c.self.invariant.rising _ _ c.index.result.now at in
-    ap (λ r. find c.args.number r.items) (sym c.self.view_is) ∙ found ∙ ap (λ (r : Row g.row.X.Denot). r.item) (sym c.index.ensures) ∙ none_by _ (sym c.has_item.ensures ∙ c.if-has_item.false)
+    ap (λ r. find c.args.number r.items) (sym c.self.view_is) ∙ found
+    ∙ ap (λ (r : Row g.row.X.Denot). r.item) (sym c.index.ensures)
+    ∙ none_by _ (sym c.has_item.ensures ∙ c.if-has_item.false)

@@ -33,7 +33,8 @@ before g c =
         counted = refl;
         last = refl;
       })
-      | else-is_crowded w ↦ subst (λ s. IsSame c.self.inside s) (sym w.self-inside-is) (record { roll = c.self.invariant; items = refl; capacity = refl; counted = refl; last = refl })
+      | else-is_crowded w ↦ subst (λ s. IsSame c.self.inside s) (sym w.self-inside-is)
+          (record { roll = c.self.invariant; items = refl; capacity = refl; counted = refl; last = refl })
     ]
 
 pub invariant_of-self : goal.invariant_of-self
@@ -41,12 +42,24 @@ invariant_of-self g c =
     let same = before g c in
     let capacity = ap (λ r. r.capacity) c.self.view_is in
     let items = ap (λ r. length r.items) c.self.view_is in
-    let fresh = pushed _ c.push_reserved.new.self.items _ _ _ _ c.args.item same.roll (omega (arith, same.capacity, same.counted, capacity, items, c.requires.room, c.self.invariant.counted)) c.push_reserved.ensures.items in
+    let fresh = pushed _ c.push_reserved.new.self.items _ _ _ _ c.args.item same.roll
+    (omega (
+      arith,
+      same.capacity,
+      same.counted,
+      capacity,
+      items,
+      c.requires.room,
+      c.self.invariant.counted,
+    )) c.push_reserved.ensures.items in
     rw c.push_reserved.ensures.capacity fresh
 
 pub returns-clause-added : goal.returns-clause-added
 returns-clause-added g c =
     let same = before g c in
-    let items = ap items_of c.push_reserved.ensures.items ∙ items_of-push c.if-is_crowded.self-inside.rows.items (c.if-is_crowded.self-inside.last + 1) c.args.item ∙ ap (λ w. w ++ (c.if-is_crowded.self-inside.last + 1, c.args.item) ∷ []) same.items in
-    let with_push : Rolled g.row.X.Denot → Rolled g.row.X.Denot = λ r. record r { items = r.items ++ (r.last + 1, c.args.item) ∷ []; last = r.last + 1 } in
+    let items = ap items_of c.push_reserved.ensures.items
+    ∙ items_of-push c.if-is_crowded.self-inside.rows.items (c.if-is_crowded.self-inside.last + 1) c.args.item
+    ∙ ap (λ w. w ++ (c.if-is_crowded.self-inside.last + 1, c.args.item) ∷ []) same.items in
+    let with_push : Rolled g.row.X.Denot → Rolled g.row.X.Denot
+    = λ r. record r { items = r.items ++ (r.last + 1, c.args.item) ∷ []; last = r.last + 1 } in
     pushed_view _ _ _ _ _ _ c.args.item items same.last same.capacity ∙ ap with_push c.self.view_is

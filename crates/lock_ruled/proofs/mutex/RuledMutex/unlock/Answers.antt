@@ -14,7 +14,8 @@ swap-requires g c =
     let taken = taken_value c.guard.inside.seat.me.0.stage value in
     let is = ap (λ (m : Self g.row.T.Denot g.row.V.Denot). m.0) c.exchange.ensures.3 in
     let out = refilled _ _ value c.exchange.ensures.3 c.guard.invariant.0 c.guard.invariant.1 in
-    let turn = subst (λ (t : Taken g.row.T.Denot g.row.V.Denot). Keeps rule t.taken t.user.view t.value (next t.taken t.user.view t.value)) (sym c.guard.view_is) c.requires.rule in (
+    let turn = subst (λ (t : Taken g.row.T.Denot g.row.V.Denot). Keeps rule t.taken t.user.view t.value
+    (next t.taken t.user.view t.value)) (sym c.guard.view_is) c.requires.rule in (
       search rules,
       search rules,
       gives_value rule _ _ _ next taken value out (search rules)
@@ -44,6 +45,7 @@ returns g c =
     let mutex = c.swap.ensures.0 ∙ c.exchange.ensures.0 ∙ ap (λ (t : Taken g.row.T.Denot g.row.V.Denot). t.user.mutex) seen in
     let parts = ap (λ (m : Self g.row.T.Denot g.row.V.Denot). m.0.parts) after ∙ ap (λ (u : UserView g.row.T.Denot g.row.V.Denot). u.parts) is
     ∙ ap (λ (t : Taken g.row.T.Denot g.row.V.Denot). t.user.parts) seen in
-    let view = ap (λ (m : Self g.row.T.Denot g.row.V.Denot). m.0.own) after ∙ ap (λ (u : UserView g.row.T.Denot g.row.V.Denot). next taken u.own value) is
+    let view = ap (λ (m : Self g.row.T.Denot g.row.V.Denot). m.0.own) after
+    ∙ ap (λ (u : UserView g.row.T.Denot g.row.V.Denot). next taken u.own value) is
     ∙ ap (λ (t : Taken g.row.T.Denot g.row.V.Denot). next t.taken t.user.view t.value) seen in
     λ i. record { mutex = mutex i; parts = parts i; view = view i }

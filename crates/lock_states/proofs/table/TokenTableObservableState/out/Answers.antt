@@ -16,6 +16,10 @@ returns-clause-out c =
     let places = ap (λ t. t.places) c.self.view_is in
     let found = sym (found_at c.self.inside.places.places _ c.args.token.now.place c.read.result places c.read.ensures.value) in
     elim c.match-read.branch [
-      | in-Taken w ↦ tells_out c.args.self.now.places c.args.token.now c.args.mode (mode_in c.read.result) c.match-read.result found (found_in c.args.mode (ap mode_in w.in-Taken.is) (w.result-is ∙ w.eq.ensures))
-      | in-Free w ↦ tells_out c.args.self.now.places c.args.token.now c.args.mode (mode_in c.read.result) c.match-read.result found (w.result-is ∙ found_free c.args.mode (ap mode_in w.in-Free.is))
+      | in-Taken w ↦ tells_out c.args.self.now.places c.args.token.now c.args.mode
+          (mode_in c.read.result) c.match-read.result found
+          (found_in c.args.mode (ap mode_in w.in-Taken.is) (w.result-is ∙ w.eq.ensures))
+      | in-Free w ↦ tells_out c.args.self.now.places c.args.token.now c.args.mode
+          (mode_in c.read.result) c.match-read.result found
+          (w.result-is ∙ found_free c.args.mode (ap mode_in w.in-Free.is))
     ]
