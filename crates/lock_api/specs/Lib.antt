@@ -39,6 +39,7 @@ pub use Rattle.lock_word.specs.Holds
 pub use Rattle.lock_word.specs.Holders
 pub use Rattle.lock_word.specs.Word
 pub use Rattle.lock_word.specs.WordLaws
+pub use Rattle.lock_word.specs.BarLaws
 pub use Rattle.lock_word.specs.Turns
 pub use Rattle.lock_word.specs.Rule
 pub use Rattle.lock_word.specs.Worlds

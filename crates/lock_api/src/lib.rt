@@ -170,6 +170,7 @@ pub use lock_word::Hold;
 pub use lock_word::Outcome;
 pub use lock_word::PartyState;
 pub use lock_word::WordStep;
+pub use lock_word::bars_are_alike;
 pub use lock_word::every_interleaving;
 pub use lock_word::exchanges_are_of_bags;
 pub use lock_word::has_bar;

@@ -7,3 +7,4 @@ pub mod Effects
 pub mod Reached
 pub mod LastLoads
 pub mod Sound
+pub mod AlikeBars

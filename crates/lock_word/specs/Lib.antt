@@ -2,6 +2,7 @@ pub mod Holds
 pub mod Holders
 pub mod Word
 pub mod WordLaws
+pub mod BarLaws
 pub mod Turns
 pub mod Rule
 pub mod Worlds

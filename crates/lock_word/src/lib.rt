@@ -13,7 +13,8 @@ mod word_step;
 pub use down::Down;
 pub use hold::Hold;
 pub use laws::{
-    every_interleaving, exchanges_are_of_bags, subtractions_are_of_bags, words_are_of_one_bag,
+    bars_are_alike, every_interleaving, exchanges_are_of_bags, subtractions_are_of_bags,
+    words_are_of_one_bag,
 };
 pub use party::PartyState;
 pub use step::{AtomicStep, Outcome};

@@ -1,0 +1,23 @@
+-- The bar of a register, which knows parties, in the words of a word, which does not.
+use Rattle.std.specs.Prelude.{◌≡◌, ℕ, ◌↔◌, Option, is_some, IsTrue}
+use Rattle.lock_base.specs.declared.machine.mode.Mode.{Mode}
+use Rattle.lock_base.specs.declared.machine.mode_step.ModeStep.TheVariants.{Acquire}
+use Rattle.lock_base.specs.declared.machine.bag.Bag.{Bag}
+use Rattle.lock_base.specs.Bar.{passes, has_announced, bar_after}
+use Rattle.lock_word.specs.declared.word_step.WordStep.TheVariants.{Modes}
+use Rattle.lock_word.specs.Holds.{BarredBag, bars_of, Passes, barred_after}
+
+-- beside a bag, the bar of a party or none, as a number of bars
+abbrev pub barred_by : Option ℕ → Bag → BarredBag
+barred_by bar bag = record { bag = bag; bars = bars_of (is_some bar) }
+
+-- a guard of the party and the mode passes either bar or neither, and what is left of both is alike
+pub record IsBarAlike (bar : Option ℕ) (party : ℕ) (mode : Mode) (bag : Bag) : Type 0 where
+  pub lets_pass :
+      IsTrue (passes bar party mode) ↔ Passes (has_announced bar party) (bars_of (is_some bar)) (Acquire mode)
+  pub leaves : IsTrue (passes bar party mode)
+      → (barred_after (has_announced bar party) (barred_by bar bag) (Modes (Acquire mode))).bars
+      ≡ bars_of (is_some (bar_after bar mode))
+
+abbrev pub BarsAreAlike : Type 0
+BarsAreAlike = (bar : Option ℕ) (party : ℕ) (mode : Mode) (bag : Bag) → IsBarAlike bar party mode bag
