@@ -1,5 +1,5 @@
 -- A bar keeps others out, and stands until its party is let in or withdraws.
-use Rattle.std.proofs.Common.{◌≡◌, ℕ, false, ◌==◌, List, Option, Some, IsTrue, sym, ◌∙◌, subst, eqb-true}
+use Rattle.std.proofs.Common.{◌≡◌, ℕ, Bool, true, false, not, ◌&&◌, ◌==◌, List, Option, Some, IsTrue, refl, ap, sym, ◌∙◌, subst, eqb-true}
 use Rattle.std.proofs.lemmas.Bool.{and_parts, eqb-false}
 use Rattle.lock_base.specs.declared.machine.mode.Mode.{Mode}
 use Rattle.lock_base.specs.declared.machine.mode_step.ModeStep.{ModeStep}
@@ -12,9 +12,12 @@ use Rattle.lock_base.specs.Modes.{is_exclusive}
 use Rattle.lock_base.specs.Bar.{passes, has_announced, bar_after}
 use Rattle.lock_base.specs.Register.{lets_in}
 use Rattle.lock_base.specs.Machine.{Machine}
+use Rattle.lock_base.specs.Steps.{step}
 use Rattle.lock_base.proofs.Admissions.{passed_bar}
+use Rattle.lock_base_laws.specs.Kept.{is_refusal}
 use Rattle.lock_base_laws.specs.Barring.{may_end_bar, BarsStand, BarsKeepOthersOut}
 use Rattle.lock_base_laws.proofs.Effects.{Effect, effect, exclusive_is}
+use Rattle.lock_base_laws.proofs.Refusals.{refusals_keep}
 
 pub keep_others_out : BarsKeepOthersOut
 keep_others_out r announced party mode stands ok =
@@ -42,4 +45,11 @@ module _ {O T A : Type 0} (m : Machine T) (party : ℕ) (stands : m.bar ≡ Some
   stays any other = stands
 
 pub bars_stand : {O T A : Type 0} (meaning : O → Operation T A) → BarsStand meaning
-bars_stand meaning m call party stands other = stays m party stands (effect meaning m call) other
+bars_stand {O} {T} {A} meaning m call party stands other = by_reply (is_refusal (step meaning m call).reply) refl
+  where
+    by_reply : (refused : Bool) → is_refusal (step meaning m call).reply ≡ refused
+        → (step meaning m call).machine.bar ≡ Some party
+    by_reply true is = ap (λ (after : Machine T). after.bar) (refusals_keep meaning m call is) ∙ stands
+    by_reply false is =
+        stays m party stands (effect meaning m call)
+        (subst (λ (refused : Bool). (not refused && may_end_bar party call) ≡ false) is other)

@@ -1,5 +1,5 @@
 -- What a bar keeps out, and what ends it.
-use Rattle.std.specs.Prelude.{◌≡◌, ℕ, Bool, false, ◌==◌, Some, IsTrue}
+use Rattle.std.specs.Prelude.{◌≡◌, ℕ, Bool, false, not, ◌&&◌, ◌==◌, Some, IsTrue}
 use Rattle.lock_base.specs.declared.machine.mode.Mode.{Mode}
 use Rattle.lock_base.specs.declared.machine.mode.Mode.TheVariants.{Exclusive}
 use Rattle.lock_base.specs.declared.machine.call.Call.{Call}
@@ -8,6 +8,7 @@ use Rattle.lock_base.specs.Party.{id_of}
 use Rattle.lock_base.specs.Register.{Register, lets_in}
 use Rattle.lock_base.specs.Machine.{Machine}
 use Rattle.lock_base.specs.Steps.{step}
+use Rattle.lock_base_laws.specs.Kept.{is_refusal}
 
 -- the calls that may end the bar of a party: its own, that let it in or take its announcement back
 abbrev pub may_end_bar : {O : Type 0} → ℕ → Call O → Bool
@@ -16,10 +17,11 @@ may_end_bar party (Call.Resume caller guard) = id_of caller == party
 may_end_bar party (Call.Withdraw caller) = id_of caller == party
 may_end_bar party _ = false
 
--- a bar stands, whatever is called, until its party is let in or withdraws
+-- a bar stands, whatever is called, until its party is let in or withdraws: by a call of its own that is not refused
 abbrev pub BarsStand : {O T A : Type 0} → (O → Operation T A) → Type 0
 BarsStand {O} {T} meaning =
-    (m : Machine T) (call : Call O) (party : ℕ) → m.bar ≡ Some party → may_end_bar party call ≡ false
+    (m : Machine T) (call : Call O) (party : ℕ) → m.bar ≡ Some party
+    → (not (is_refusal (step meaning m call).reply) && may_end_bar party call) ≡ false
     → (step meaning m call).machine.bar ≡ Some party
 
 -- under a bar its party alone is let in, and only to write
