@@ -35,9 +35,12 @@ seat_at (y ∷ xs) (suc k) x h = seat_at xs k x h
 party_at : (views : List PartyView) (k : ℕ) (v : PartyView) → get_elem? views k ≡ some v → slice_get (parties_of views) k ≡ Some v.state
 party_at views k v h = rw (slice_get-map (λ (x : PartyView). x.state) views k, seat_at views k v h)
 
+abbrev Guarded : PartyView → ℕ → Type 0
+Guarded v word = GuardsOnlyEnd v.state.held.announced v.last word
+
 -- the guards of an announced party's last load are no fewer than those of the word before, so than those of the word now
 still_guarded : (limit n word : ℕ) (views : List PartyView) (k : ℕ) (v : PartyView) → KeepsRule limit n (parties_of views)
-    → get_elem? views k ≡ some v → GainsNoneOrUnbarred word n → GuardsOnlyEnd v word → GuardsOnlyEnd v n
+    → get_elem? views k ≡ some v → GainsNoneOrUnbarred word n → Guarded v word → Guarded v n
 still_guarded limit n word views k v rule at gains before announced =
     let least = before announced in
     let high = announced_shows limit n (parties_of views) (suc k) rule (v.state, party_at views k v at, announced) in
@@ -46,7 +49,7 @@ still_guarded limit n word views k v rule at gains before announced =
 -- a step of the seat at id that leaves the word n and the view v
 left : (limit id n : ℕ) (s : State (Unit {0}) PartyView) (v : PartyView) → IsKept limit s → v.readers ≡ limit
     → KeepsRule limit n (slice_set (parties_of s.views) id v.state)
-    → GainsNoneOrUnbarred (slice_index s.words 0) n → GuardsOnlyEnd v (slice_index s.words 0)
+    → GainsNoneOrUnbarred (slice_index s.words 0) n → Guarded v (slice_index s.words 0)
     → IsKept limit record { words = slice_set s.words 0 n; homes = s.homes; views = slice_set s.views id v }
 left limit id n s v kept readers rule gains own =
     let one = kept.one_word in
@@ -64,7 +67,7 @@ left limit id n s v kept readers rule gains own =
       guarded = λ k w h.
           rw is (still_guarded limit n (slice_index s.words 0) (slice_set s.views id v) k w (rw again rule) h gains
           (elim (at_set s.views id k v w h) [
-            | inl e ↦ subst (λ (x : PartyView). GuardsOnlyEnd x (slice_index s.words 0)) e.1 own
+            | inl e ↦ subst (λ (x : PartyView). Guarded x (slice_index s.words 0)) e.1 own
             | inr e ↦ kept.guarded k w e.1
           ]));
     }
@@ -190,7 +193,7 @@ parts limit id v s kept at =
       guarded = λ k w h.
           elim (at_snoc s.views (newcomer_beside v) w k h) [
             | inl e ↦ kept.guarded k w e
-            | inr e ↦ subst (λ (x : PartyView). GuardsOnlyEnd x word) e (λ announced. absurd (false≢true announced))
+            | inr e ↦ subst (λ (x : PartyView). Guarded x word) e (λ announced. absurd (false≢true announced))
           ];
     }
 

@@ -6,6 +6,7 @@ use Rattle.lock_word.specs.Word.{word_admits, step_of_want}
 use Rattle.lock_word.specs.Rule.{Shows}
 use Rattle.lock_seated.specs.declared.attempt.Attempt.{Attempt}
 use Rattle.lock_seated.specs.declared.attempt.Attempt.TheVariants.{Done, NotAdmitted, Changed}
+use Rattle.lock_seated.specs.Seats.{GuardsOnlyEnd}
 use Rattle.lock_seated.specs.Standing.{Standing, after_load, after_own_step, after_lost_exchange}
 
 -- the word was loaded, and does not admit what was wanted
@@ -13,6 +14,7 @@ pub record IsNotAdmitted (want : ExWant) (before : Standing) (word : ℕ) (after
   pub party : after ≡ after_load before word
   pub refuses : word_admits before.state.held.announced before.lock.readers word want ≡ false
   pub shows : Shows before.lock.readers word before.state.held
+  pub guards : GuardsOnlyEnd before.state.held.announced before.last word
 
 -- an attempt loads once, and then exchanges at most once
 abbrev pub Attempted : ExWant → Standing → Attempt → Standing → Type 0

@@ -27,7 +27,7 @@ view_after_fail me = (record me.0 { state = after_fail me.0.state }, me.1)
 -- a load tells its party the word, and what that says of all that is held
 abbrev pub Loads : Step (Unit {0}) → Self → ℕ → Self → Type 0
 Loads s me found after =
-    (after ≡ view_after_load me found) × Shows me.0.readers found me.0.state.held × GuardsOnlyEnd me.0 found
+    (after ≡ view_after_load me found) × Shows me.0.readers found me.0.state.held × GuardsOnlyEnd me.0.state.held.announced me.0.last found
 
 abbrev pub Exchanges : ExWant → Step (Unit {0}) → Self → ℕ → Self → Type 0
 Exchanges want s me found after =

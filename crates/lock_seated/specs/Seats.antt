@@ -1,5 +1,5 @@
 -- The rule of a word, said of a table with one word and of the views of its seats.
-use Rattle.std.specs.Prelude.{◌≡◌, ◌≤◌, ℕ, true, List, map, length, slice_index}
+use Rattle.std.specs.Prelude.{◌≡◌, ◌≤◌, ℕ, Bool, true, List, map, length, slice_index}
 use mathlib.Core.Option.{some}
 use lib.ListN.{get_elem?}
 use Rattle.atomic_table.specs.Table.{State}
@@ -22,9 +22,9 @@ newcomer_beside v = newcomer v.readers
 abbrev pub parties_of : List PartyView → List PartyState
 parties_of views = map (λ (v : PartyView). v.state) views
 
--- where the party has announced itself, the word shows at most the guards of the word that it loaded last
-abbrev pub GuardsOnlyEnd : PartyView → ℕ → Type 0
-GuardsOnlyEnd v word = v.state.held.announced ≡ true → guards_of_word word ≤ guards_of_word v.last
+-- to one who has announced itself the word shows at most the guards of the word that it loaded last
+abbrev pub GuardsOnlyEnd : Bool → ℕ → ℕ → Type 0
+GuardsOnlyEnd announced last word = announced ≡ true → guards_of_word word ≤ guards_of_word last
 
 -- the rule of the table: that of its one word and of all who step on it, at the limit that each knows
 pub record IsKept (limit : ℕ) (s : State (Unit {0}) PartyView) : Type 0 where
@@ -32,7 +32,8 @@ pub record IsKept (limit : ℕ) (s : State (Unit {0}) PartyView) : Type 0 where
   pub range : IsLimit limit
   pub known : (k : ℕ) (v : PartyView) → get_elem? s.views k ≡ some v → v.readers ≡ limit
   pub rule : KeepsRule limit (slice_index s.words 0) (parties_of s.views)
-  pub guarded : (k : ℕ) (v : PartyView) → get_elem? s.views k ≡ some v → GuardsOnlyEnd v (slice_index s.words 0)
+  pub guarded : (k : ℕ) (v : PartyView) → get_elem? s.views k ≡ some v
+      → GuardsOnlyEnd v.state.held.announced v.last (slice_index s.words 0)
 
 -- what a state of the table keeps
 pub record IsRuled (limit : ℕ) (s : State (Unit {0}) PartyView) : Type 0 where
@@ -43,7 +44,8 @@ pub record IsRuled (limit : ℕ) (s : State (Unit {0}) PartyView) : Type 0 where
   -- at most one party has announced itself, and the word has its bar
   pub bar : BarIsOfOne (slice_index s.words 0) (parties_of s.views)
   -- while it has, the guards only end
-  pub guarded : (k : ℕ) (v : PartyView) → get_elem? s.views k ≡ some v → GuardsOnlyEnd v (slice_index s.words 0)
+  pub guarded : (k : ℕ) (v : PartyView) → get_elem? s.views k ≡ some v
+      → GuardsOnlyEnd v.state.held.announced v.last (slice_index s.words 0)
 
 -- every state that a table under this rule has between two steps
 abbrev pub EveryStateKeepsRule : (ℕ → State (Unit {0}) PartyView → Type 0) → Type 0

@@ -1,12 +1,13 @@
 //! The lock itself.
-ghost use Rattle.std.specs.Prelude.{◌≡◌, ◌≢◌, ◌↔◌, ◌+◌, ◌<◌, ◌≤◌, ◌^◌, true, Some, IfOk, IfErr, OnOk, IsTrue};
+ghost use Rattle.std.specs.Prelude.{◌≡◌, ◌≢◌, ◌↔◌, ◌+◌, ◌<◌, ◌^◌, true, Some, IfOk, IfErr, OnOk, IsTrue};
 ghost use Rattle.lock_base.specs.Limits.{IsLimit, IsMakerFault};
 ghost use Rattle.lock_base.specs.Modes.{count_of, tokens};
 ghost use Rattle.lock_word.specs.Holds.{hold_has};
-ghost use Rattle.lock_word.specs.Word.{guards_of_word, word_admits, word_after, step_of_want, step_of_down, down_of_mode};
+ghost use Rattle.lock_word.specs.Word.{word_admits, word_after, step_of_want, step_of_down, down_of_mode};
 ghost use Rattle.lock_word.specs.Rule.{Shows};
 ghost use Rattle.lock_seated.specs.Plays.{view_after_win, view_after_fail};
 ghost use Rattle.lock_seated.specs.Standing.{new_party, after_load, after_own_step};
+ghost use Rattle.lock_seated.specs.Seats.{GuardsOnlyEnd};
 ghost use Rattle.lock_seated.specs.Attempts.{Attempted, Acquired};
 
 use crate::attempt::Attempt;
@@ -92,7 +93,7 @@ impl SeatedLock {
         ensures party { party.new ≡ after_load party.old result }
         ensures shows { Shows self.now.readers result party.old.state.held }
         // While the party is announced, guards only end.
-        ensures guards { party.old.state.held.announced ≡ true → guards_of_word result ≤ guards_of_word party.old.last }
+        ensures guards { GuardsOnlyEnd party.old.state.held.announced party.old.last result }
     {
         self.table.shared.load::<Look>(&mut party.seat, 0)
     }
