@@ -10,6 +10,7 @@ use Rattle.lock_base.proofs.TokenBags.{count-append, turned, joined, with_one, w
 use Rattle.lock_base.proofs.ModeLemmas.{one_more-one_less, count-one_more}
 use Rattle.lock_states.specs.declared.word.PackedToken.{PackedToken}
 use Rattle.lock_states.specs.Packed.{token_of, tokens_in}
+use Rattle.lock_states.proofs.SameModes.{same_mode, same_mode-true}
 
 -- how many of the tokens pass a test, mode by mode
 counted : (test : PackedToken × Mode → Bool) (b : Bag)
@@ -90,17 +91,6 @@ length_of_tokens_in b = sym (tokens-bag_of_tokens (tokens_in b)) ∙ ap tokens (
 
 -- a token that is out
 
-abbrev same_mode : Mode → Mode → Bool
-same_mode Shared Shared = true
-same_mode Exclusive Exclusive = true
-same_mode Upgradable Upgradable = true
-same_mode Shared Exclusive = false
-same_mode Shared Upgradable = false
-same_mode Exclusive Shared = false
-same_mode Exclusive Upgradable = false
-same_mode Upgradable Shared = false
-same_mode Upgradable Exclusive = false
-
 -- the token is not that of its mode
 abbrev is_strange : PackedToken × Mode → Bool
 is_strange t = not (same_mode t.0.mode t.1)
@@ -125,15 +115,14 @@ none_strange b =
 
 token_is : (b : Bag) (held mode : Mode) (others : List (PackedToken × Mode))
     → IsOutIn (tokens_in b) (record { mode = held }) mode others → held ≡ mode
-token_is b Shared Shared others out = refl
-token_is b Exclusive Exclusive others out = refl
-token_is b Upgradable Upgradable others out = refl
-token_is b Shared Exclusive others out = absurd (omega (arith, none_strange b, out.counts is_strange))
-token_is b Shared Upgradable others out = absurd (omega (arith, none_strange b, out.counts is_strange))
-token_is b Exclusive Shared others out = absurd (omega (arith, none_strange b, out.counts is_strange))
-token_is b Exclusive Upgradable others out = absurd (omega (arith, none_strange b, out.counts is_strange))
-token_is b Upgradable Shared others out = absurd (omega (arith, none_strange b, out.counts is_strange))
-token_is b Upgradable Exclusive others out = absurd (omega (arith, none_strange b, out.counts is_strange))
+token_is b held mode others out = by_test (same_mode held mode) refl
+  where
+    by_test : (same : Bool) → same_mode held mode ≡ same → held ≡ mode
+    by_test true is = same_mode-true held mode is
+    by_test false is =
+        let strange : ◌≡◌ {A = ℕ} (if not (same_mode held mode) then 1 else 0) 1
+        = ap (λ (same : Bool). if not same then 1 else 0) is in
+        absurd (omega (arith, none_strange b, out.counts is_strange, strange))
 
 -- the token is out in its own mode, and beside it the others are
 pub record Stands (b : Bag) (token : PackedToken) (mode : Mode) (others : List (PackedToken × Mode)) : Type 0 where
