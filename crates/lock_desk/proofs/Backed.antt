@@ -73,6 +73,24 @@ module _ {K : Type 0} where
   pub barred_backed : (ss : List (ℕ × Slot K)) (t : Backing K) (bar : Option ℕ) → AreBacked ss t → AreBacked ss (record t { bar = bar })
   barred_backed ss t bar b = record { bag = b.bag; holders = b.holders; compatible = b.compatible; positive = b.positive }
 
+  -- slots with the same tokens are backed where they are held by the same
+  alike_backed : (ss us : List (ℕ × Slot K)) (t : Backing K)
+      → ((test : K × Mode → Bool) → count test (tokens_in us) ≡ count test (tokens_in ss))
+      → ((n : Bool) → AreHeldBy n ss t.levels.owner → AreHeldBy n us t.levels.owner) → AreBacked ss t → AreBacked us t
+  alike_backed ss us t same holders_by b = record {
+    bag = record {
+      counts = λ test. omega (
+        arith,
+        bag_count test ss t b,
+        same test,
+        count-append test (tokens_in us) (token_of_owner t.levels.owner),
+      );
+    };
+    holders = holders_by (is_reentrant t.kind) b.holders;
+    compatible = b.compatible;
+    positive = b.positive;
+  }
+
   -- Parked slots
 
   parked_count : (test : K × Mode → Bool) (s : Slot K) (ss others : List (ℕ × Slot K)) → Differs s ss others
@@ -81,19 +99,8 @@ module _ {K : Type 0} where
 
   pub drop_parked : (s : Slot K) (ss others : List (ℕ × Slot K)) (t : Backing K) → Differs s ss others
       → s.hold ≡ Parked → AreBacked ss t → AreBacked others t
-  drop_parked s ss others t d e b = record {
-    bag = record {
-      counts = λ test. omega (
-        arith,
-        bag_count test ss t b,
-        parked_count test s ss others d e,
-        count-append test (tokens_in others) (token_of_owner t.levels.owner),
-      );
-    };
-    holders = holders_by (is_reentrant t.kind) b.holders;
-    compatible = b.compatible;
-    positive = b.positive;
-  }
+  drop_parked s ss others t d e b =
+      alike_backed ss others t (λ test. sym (parked_count test s ss others d e)) holders_by b
     where
       holders_by : (n : Bool) → AreHeldBy n ss t.levels.owner → AreHeldBy n others t.levels.owner
       holders_by true h = ((d.less is_token h.0).1, owns_same t.levels.owner _ _ h.1 (parked_held s ss others d e) (parked_party s ss others d e))
@@ -101,19 +108,7 @@ module _ {K : Type 0} where
 
   pub add_parked : (s : Slot K) (ss others : List (ℕ × Slot K)) (t : Backing K) → Differs s ss others → s.hold ≡ Parked
       → AreBacked others t → AreBacked ss t
-  add_parked s ss others t d e b = record {
-    bag = record {
-      counts = λ test. omega (
-        arith,
-        bag_count test others t b,
-        parked_count test s ss others d e,
-        count-append test (tokens_in ss) (token_of_owner t.levels.owner),
-      );
-    };
-    holders = holders_by (is_reentrant t.kind) b.holders;
-    compatible = b.compatible;
-    positive = b.positive;
-  }
+  add_parked s ss others t d e b = alike_backed others ss t (λ test. parked_count test s ss others d e) holders_by b
     where
       holders_by : (n : Bool) → AreHeldBy n others t.levels.owner → AreHeldBy n ss t.levels.owner
       holders_by true h = (
