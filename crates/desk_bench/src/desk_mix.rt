@@ -1,50 +1,63 @@
 //! A mix of calls on a Desk, by guards at random among those that are out.
 use crate::bench::{Bench, after, below};
 use lock_base::machine::{PartyId, Way};
+use lock_base::raw::RawState;
 use lock_desk::Desk;
 use lock_states::table::TokenTable;
 use std::io;
 use std::time::Instant;
-
-type TableDesk = Desk<TokenTable, u64>;
 
 pub fn run(rt: &HostRuntime, bench: Bench) -> io::Result<()> {
     let Some(party) = PartyId::new(1) else {
         return Ok(());
     };
     for guards in [4, 1_000, 100_000] {
-        let Ok(mut desk) = TableDesk::rwlock(rt.alloc(), guards, guards, 7) else {
-            println!(rt; "a call, {guards} guards out: no memory")?;
-            continue;
-        };
-        let mut numbers: Vec<u64> = Vec::new(rt.alloc());
-        for _ in 0..guards {
-            if let Ok(number) = desk.read(party) {
-                numbers.push(number)?;
-            }
-        }
-        let start = Instant::now(rt)?;
-        let done = mix(&mut desk, party, numbers.as_mut_slice(), bench.turns());
-        let what = format!(in rt.alloc(); "a call of a Desk, {guards} guards out")?;
-        bench.tell(rt, what.as_str(), done, start)?;
+        time::<TokenTable>(rt, bench, party, guards)?;
     }
     if bench.is_timed {
-        make_largest(rt)?;
+        make_largest::<TokenTable>(rt)?;
     }
     Ok(())
 }
 
-/// A desk of as many places as there may be, for which there is hardly memory.
-fn make_largest(rt: &HostRuntime) -> io::Result<()> {
+/// Times calls of a desk with so many guards out.
+fn time<R: RawState>(
+    rt: &HostRuntime,
+    bench: Bench,
+    party: PartyId,
+    guards: u64,
+) -> io::Result<()> {
+    let Ok(mut desk) = Desk::<R, u64>::rwlock(rt.alloc(), guards, guards, 7) else {
+        return println!(rt; "a call, {guards} guards out: no memory");
+    };
+    let mut numbers: Vec<u64> = Vec::new(rt.alloc());
+    for _ in 0..guards {
+        if let Ok(number) = desk.read(party) {
+            numbers.push(number)?;
+        }
+    }
     let start = Instant::now(rt)?;
-    let is_made = TableDesk::rwlock(rt.alloc(), 4_294_967_295, 1, 7).is_ok();
+    let done = mix(&mut desk, party, numbers.as_mut_slice(), bench.turns());
+    let what = format!(in rt.alloc(); "a call of a Desk, {guards} guards out")?;
+    bench.tell(rt, what.as_str(), done, start)
+}
+
+/// A desk of as many places as there may be, for which there is hardly memory.
+fn make_largest<R: RawState>(rt: &HostRuntime) -> io::Result<()> {
+    let start = Instant::now(rt)?;
+    let is_made = Desk::<R, u64>::rwlock(rt.alloc(), 4_294_967_295, 1, 7).is_ok();
     let took = start.elapsed(rt)?.as_micros();
     println!(rt; "a Desk of 4294967295 places, made: {is_made}, after {took} microseconds")
 }
 
 /// Six calls a turn: the value is read, the guard is parked and held again, the lock is asked, and a guard ends and another
 /// comes. How many were done.
-fn mix(desk: &mut TableDesk, party: PartyId, numbers: &mut [u64], turns: u64) -> u64 {
+fn mix<R: RawState>(
+    desk: &mut Desk<R, u64>,
+    party: PartyId,
+    numbers: &mut [u64],
+    turns: u64,
+) -> u64 {
     let mut seed = 1;
     let mut done = 0_u64;
     for _ in 0..turns {

@@ -27,10 +27,8 @@ pub fn print<R: Print + Clock + Wait + Threads + Sync + Copy>(
     over::<R, Monitor<RecordingArbiter<TableArbiter>, R>>(rt, alloc, "RecordingRaw", rounds)?;
     over::<R, WordCore<R, NoTime>>(rt, alloc, "WordRaw", rounds)?;
     over::<R, WordCore<R, RealTime>>(rt, alloc, "TimedRaw", rounds)?;
-    let turns = Turns::<TokenRaw<R>>::new(alloc, *rt);
-    trips(rt, "TokenRaw", turns, rounds / 100)?;
-    let turns = Turns::<WordRaw<R>>::new(alloc, *rt);
-    trips(rt, "WordRaw", turns, rounds / 100)
+    trips::<R, Turns<TokenRaw<R>>>(rt, alloc, "TokenRaw", rounds / 100)?;
+    trips::<R, Turns<WordRaw<R>>>(rt, alloc, "WordRaw", rounds / 100)
 }
 
 /// The lines of one raw lock.
@@ -188,26 +186,27 @@ struct Turns<R: RawMutex> {
     changed: Condvar<SleepingCondvar<R>>,
 }
 
-impl<R: RawMutex + Drop> Turns<R> {
+/// What two threads take turns with.
+trait TakeTurns: Sized {
+    /// Where a thread waits.
+    type Waiter: Wait;
+
+    /// Before the first turn.
+    fn new(alloc: Global, waiter: Self::Waiter) -> Result<Self, Fault>;
+
+    /// Waits for each turn that is `first` or every second after it, and ends it.
+    fn take_turns(&self, first: u64, rounds: u64);
+}
+
+impl<R: RawMutex + Drop> TakeTurns for Turns<R> {
+    type Waiter = R::Waiter;
+
     fn new(alloc: Global, waiter: R::Waiter) -> Result<Turns<R>, Fault> {
         Ok(Turns {
             turn: Mutex::new(alloc, waiter, 0)?,
             changed: Condvar::new(alloc)?,
         })
     }
-}
-
-/// What two threads take turns with.
-trait TakeTurns {
-    /// Where a thread waits.
-    type Waiter: Wait;
-
-    /// Waits for each turn that is `first` or every second after it, and ends it.
-    fn take_turns(&self, first: u64, rounds: u64);
-}
-
-impl<R: RawMutex> TakeTurns for Turns<R> {
-    type Waiter = R::Waiter;
 
     fn take_turns(&self, first: u64, rounds: u64) {
         for _ in 0..rounds {
@@ -230,13 +229,13 @@ fn in_two_threads<R: Threads, T: TakeTurns + Sync>(rt: &R, turns: &T, rounds: u6
 }
 
 /// The line of a condition variable.
-fn trips<R: Print + Clock + Threads + Sync, T: TakeTurns + Sync + Drop>(
+fn trips<R: Print + Clock + Wait + Threads + Sync + Copy, T: TakeTurns<Waiter = R> + Sync + Drop>(
     rt: &R,
+    alloc: Global,
     name: &str,
-    turns: Result<T, Fault>,
     rounds: u64,
 ) -> io::Result<()> {
-    let Ok(turns) = turns else {
+    let Ok(turns) = T::new(alloc, *rt) else {
         return println!(rt; "{name}: out of memory");
     };
     let start = Instant::now(rt)?;

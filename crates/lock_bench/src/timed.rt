@@ -1,8 +1,8 @@
 //! What timed calls answer, and after how long.
+use lock_guard::raw::{RawCondvarTimed, RawMutexTimed};
 use lock_mutex::{Condvar, Mutex};
 use lock_raws_timed::{TimedCondvar, TimedRaw};
 use std::alloc::Global;
-use std::clone::Clone;
 use std::io;
 use std::sync::Wait;
 use std::thread::{self, Threads};
@@ -20,8 +20,8 @@ trait Held {
     fn is_got_in<K: Clock>(&self, clock: &K, millis: u64) -> bool;
 }
 
-impl<W: Wait + Clock + Clone + Drop> Held for Mutex<TimedRaw<W>, u64> {
-    type Waiter = W;
+impl<R: RawMutexTimed<Duration = Duration>> Held for Mutex<R, u64> {
+    type Waiter = R::Waiter;
 
     fn hold<K: Clock>(&self, clock: &K, millis: u64) {
         let mut count = self.lock();
@@ -70,6 +70,36 @@ fn elapsed<K: Clock>(clock: &K, start: Instant) -> u128 {
     }
 }
 
+/// The lines of tries beside a thread that holds the lock.
+fn tries<R: Print + Threads + Sync + Clock, H: Held + Sync>(rt: &R, lock: &H) -> io::Result<()> {
+    for (held, millis) in [(0, 30), (200, 30), (60, 500)] {
+        let (is_got, after) = hold_and_try(rt, lock, held, millis);
+        println!(rt;
+            "held {held} ms, tried after 10 ms for {millis} ms: got {is_got}, {after} ms from the start"
+        )?;
+    }
+    Ok(())
+}
+
+/// The line of a wait that nobody ends.
+fn wait_in_vain<R: Print + Clock, C: RawCondvarTimed>(
+    rt: &R,
+    lock: &Mutex<C::RawMutex, u64>,
+    condvar: &Condvar<C>,
+) -> io::Result<()>
+where
+    C::RawMutex: RawMutexTimed<Duration = Duration>,
+{
+    let mut guard = lock.lock();
+    let start = Instant::now(rt)?;
+    let ended = condvar.wait_while_for(&mut guard, |_| true, Duration::from_millis(40));
+    let after = elapsed(rt, start);
+    println!(rt;
+        "wait_while_for 40 ms, nobody notifies: timed out {}, {after} ms from the start",
+        ended.timed_out()
+    )
+}
+
 /// A line for each call.
 pub fn print<R: Print + Clock + Wait + Threads + Sync + Copy>(
     rt: &R,
@@ -81,18 +111,6 @@ pub fn print<R: Print + Clock + Wait + Threads + Sync + Copy>(
     ) else {
         return println!(rt; "out of memory");
     };
-    for (held, millis) in [(0, 30), (200, 30), (60, 500)] {
-        let (is_got, after) = hold_and_try(rt, &lock, held, millis);
-        println!(rt;
-            "held {held} ms, tried after 10 ms for {millis} ms: got {is_got}, {after} ms from the start"
-        )?;
-    }
-    let mut guard = lock.lock();
-    let start = Instant::now(rt)?;
-    let ended = condvar.wait_while_for(&mut guard, |_| true, Duration::from_millis(40));
-    let after = elapsed(rt, start);
-    println!(rt;
-        "wait_while_for 40 ms, nobody notifies: timed out {}, {after} ms from the start",
-        ended.timed_out()
-    )
+    tries(rt, &lock)?;
+    wait_in_vain(rt, &lock, &condvar)
 }

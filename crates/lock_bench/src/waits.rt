@@ -18,19 +18,13 @@ struct Flag<R: RawMutex> {
     raised: Condvar<SleepingCondvar<R>>,
 }
 
-impl<R: RawMutex + Drop> Flag<R> {
-    fn new(alloc: Global, waiter: R::Waiter) -> Result<Flag<R>, Fault> {
-        Ok(Flag {
-            is_up: Mutex::new(alloc, waiter, false)?,
-            raised: Condvar::new(alloc)?,
-        })
-    }
-}
-
 /// What one thread holds for a while, and another waits for.
-trait Held {
+trait Held: Sized {
     /// Where a thread waits.
     type Waiter: Wait;
+
+    /// With the flag down.
+    fn new(alloc: Global, waiter: Self::Waiter) -> Result<Self, Fault>;
 
     /// Holds the lock so long.
     fn hold<K: Clock>(&self, clock: &K, millis: u64);
@@ -45,8 +39,15 @@ trait Held {
     fn wait_for_flag(&self);
 }
 
-impl<R: RawMutex> Held for Flag<R> {
+impl<R: RawMutex + Drop> Held for Flag<R> {
     type Waiter = R::Waiter;
+
+    fn new(alloc: Global, waiter: R::Waiter) -> Result<Flag<R>, Fault> {
+        Ok(Flag {
+            is_up: Mutex::new(alloc, waiter, false)?,
+            raised: Condvar::new(alloc)?,
+        })
+    }
 
     fn hold<K: Clock>(&self, clock: &K, millis: u64) {
         let mut is_up = self.is_up.lock();
@@ -116,14 +117,12 @@ fn raise_and_wait<R: Threads + Sync + Clock + CpuClock, H: Held + Sync>(
     thread::join(rt, || cost_of_flag(rt, held), || held.raise(rt, millis)).0
 }
 
-/// The lines of one raw lock.
-fn over<R: Print + Threads + Sync + Clock + CpuClock, H: Held + Sync + Drop>(
-    rt: &R,
-    name: &str,
-    flag: Result<H, Fault>,
-    millis: u64,
-) -> io::Result<()> {
-    let Ok(flag) = flag else {
+/// The line of one raw lock.
+fn over<
+    R: Print + Wait + Threads + Sync + Clock + CpuClock + Copy,
+    H: Held<Waiter = R> + Sync + Drop,
+>(rt: &R, alloc: Global, name: &str, millis: u64) -> io::Result<()> {
+    let Ok(flag) = H::new(alloc, *rt) else {
         return println!(rt; "{name}: out of memory");
     };
     let lock = hold_and_wait(rt, &flag, millis);
@@ -139,13 +138,8 @@ pub fn print<R: Print + Clock + CpuClock + Wait + Threads + Sync + Copy>(
     alloc: Global,
     millis: u64,
 ) -> io::Result<()> {
-    over(rt, "TokenRaw", Flag::<TokenRaw<R>>::new(alloc, *rt), millis)?;
-    over(
-        rt,
-        "RecordingRaw",
-        Flag::<RecordingRaw<R>>::new(alloc, *rt),
-        millis,
-    )?;
-    over(rt, "WordRaw", Flag::<WordRaw<R>>::new(alloc, *rt), millis)?;
-    over(rt, "TimedRaw", Flag::<TimedRaw<R>>::new(alloc, *rt), millis)
+    over::<R, Flag<TokenRaw<R>>>(rt, alloc, "TokenRaw", millis)?;
+    over::<R, Flag<RecordingRaw<R>>>(rt, alloc, "RecordingRaw", millis)?;
+    over::<R, Flag<WordRaw<R>>>(rt, alloc, "WordRaw", millis)?;
+    over::<R, Flag<TimedRaw<R>>>(rt, alloc, "TimedRaw", millis)
 }

@@ -1,50 +1,78 @@
 //! A pool that lends, and takes back.
 use crate::Pool;
-use lock_api::{ArcMutexGuard, RawMutex, WordRaw};
+use crate::tests::in_threads::{Counts, twice};
+use lock_api::{ArcMutexGuard, Fault, RawMutex, WordRaw};
+use std::alloc::Global;
 use std::test::Fail;
-use std::thread;
 
 type Raw = WordRaw<HostRuntime>;
 
-#[test]
-fn each_object_is_lent_to_one(rt: HostRuntime) -> Result<(), Fail> {
-    let mut pool: Pool<Raw, u64> = Pool::new(rt.alloc());
-    pool.add(rt.alloc(), rt, 10)?;
-    pool.add(rt.alloc(), rt, 20)?;
-    let mut first = pool.lend()?.expect(&rt, "a free object");
-    let second = pool.lend()?.expect(&rt, "a free object");
-    assert!(rt; pool.lend()?.is_none());
-    assert_eq!(rt; pool.with_free(|object| *object)?, None);
+/// A pool of two objects.
+fn pool_of<R: RawMutex + Drop>(
+    alloc: Global,
+    waiters: [R::Waiter; 2],
+    objects: [u64; 2],
+) -> Result<Pool<R, u64>, Fault> {
+    let [first, second] = waiters;
+    let mut pool = Pool::new(alloc);
+    pool.add(alloc, first, objects[0])?;
+    pool.add(alloc, second, objects[1])?;
+    Ok(pool)
+}
+
+/// Whether none is free while both are lent, what is free once the first came back as 11, and what the second is after the
+/// pool's end.
+fn lend_both<R: RawMutex + Drop>(
+    pool: Pool<R, u64>,
+) -> Result<Option<(bool, [Option<u64>; 2], u64)>, Fault> {
+    let (Some(mut first), Some(second)) = (pool.lend()?, pool.lend()?) else {
+        return Ok(None);
+    };
+    let is_none_left = pool.lend()?.is_none();
+    let while_lent = pool.with_free(|object| *object)?;
     ArcMutexGuard::with_mut(&mut first, |object| *object = 11);
     drop(first);
-    assert_eq!(rt; pool.with_free(|object| *object)?, Some(11));
+    let given_back = pool.with_free(|object| *object)?;
     drop(pool);
-    assert_eq!(rt; ArcMutexGuard::with(&second, |object| *object), 20);
+    let outlived = ArcMutexGuard::with(&second, |object| *object);
+    Ok(Some((is_none_left, [while_lent, given_back], outlived)))
+}
+
+#[test]
+fn each_object_is_lent_to_one(rt: HostRuntime) -> Result<(), Fail> {
+    let pool: Pool<Raw, u64> = pool_of(rt.alloc(), [rt, rt], [10, 20])?;
+    assert_eq!(rt; lend_both(pool)?, Some((true, [None, Some(11)], 20)));
     Ok(())
 }
 
-/// How often an object was free.
-fn count<R: RawMutex + Drop>(pool: &Pool<R, u64>) -> u64 {
-    let mut found: u64 = 0;
-    for _ in 0..500 {
-        if let Ok(Some(())) = pool.with_free(|object| *object = object.wrapping_add(1)) {
-            found = found.wrapping_add(1);
+impl<R: RawMutex + Drop> Counts for Pool<R, u64> {
+    type Waiter = R::Waiter;
+
+    /// How often an object was free, each time counted in it.
+    fn count(&self) -> u64 {
+        let mut found: u64 = 0;
+        for _ in 0..500 {
+            if let Ok(Some(())) = self.with_free(|object| *object = object.wrapping_add(1)) {
+                found = found.wrapping_add(1);
+            }
         }
+        found
     }
-    found
+}
+
+/// What both objects are in sum.
+fn sum<R: RawMutex + Drop>(pool: &Pool<R, u64>) -> Result<Option<u64>, Fault> {
+    let Some(one) = pool.lend()? else {
+        return Ok(None);
+    };
+    let counted = ArcMutexGuard::with(&one, |object| *object);
+    pool.with_free(|object| object.wrapping_add(counted))
 }
 
 #[test]
 fn two_threads_share_the_objects(rt: HostRuntime) -> Result<(), Fail> {
-    let mut pool: Pool<Raw, u64> = Pool::new(rt.alloc());
-    pool.add(rt.alloc(), rt, 0)?;
-    pool.add(rt.alloc(), rt, 0)?;
-    let (first, second) = thread::join(&rt, || count(&pool), || count(&pool));
-    let one = pool.lend()?.expect(&rt, "a free object");
-    let counted = ArcMutexGuard::with(&one, |object| *object);
-    let rest = pool
-        .with_free(|object| *object)?
-        .expect(&rt, "a free object");
-    assert_eq!(rt; counted.wrapping_add(rest), first.wrapping_add(second));
+    let pool: Pool<Raw, u64> = pool_of(rt.alloc(), [rt, rt], [0, 0])?;
+    let (first, second) = twice(&rt, &pool);
+    assert_eq!(rt; sum(&pool)?, Some(first.wrapping_add(second)));
     Ok(())
 }

@@ -1,8 +1,7 @@
 //! Producers and consumers on threads.
 use crate::Queue;
-use lock_api::{RawMutex, SleepingCondvar, SpuriousCondvar, TokenRaw, WordRaw};
+use lock_api::{RawCondvar, RawMutex, SleepingCondvar, SpuriousCondvar, TokenRaw, WordRaw};
 use std::alloc::{AllocError, Global};
-use std::clone::Clone;
 use std::sync::Wait;
 use std::test::Fail;
 use std::thread::{self, Threads};
@@ -10,51 +9,73 @@ use std::thread::{self, Threads};
 /// How many items each producer pushes, and each consumer pops.
 const EACH: u64 = 500;
 
-/// A queue over this raw lock, whose waits sleep.
-type Sleeping<R> = Queue<SleepingCondvar<R>, u64>;
+/// What threads share to hand items on.
+trait Belt {
+    /// Where a thread waits.
+    type Waiter: Wait;
 
-fn produce<R: RawMutex>(queue: &Sleeping<R>, first: u64) {
-    for item in first..first.saturating_add(EACH) {
-        queue.push(item);
-    }
+    /// Pushes items from this one on.
+    fn produce(&self, first: u64);
+
+    /// The items that were popped.
+    fn consume(&self, alloc: Global) -> Result<Vec<u64>, AllocError>;
 }
 
-/// The items that were popped.
-fn consume<R: RawMutex>(queue: &Sleeping<R>, alloc: Global) -> Result<Vec<u64>, AllocError> {
-    let mut items = Vec::new(alloc);
-    for _ in 0..EACH {
-        items.push(queue.pop())?;
+impl<C: RawCondvar> Belt for Queue<C, u64> {
+    type Waiter = <C::RawMutex as RawMutex>::Waiter;
+
+    fn produce(&self, first: u64) {
+        for item in first..first.saturating_add(EACH) {
+            self.push(item);
+        }
     }
-    Ok(items)
+
+    fn consume(&self, alloc: Global) -> Result<Vec<u64>, AllocError> {
+        let mut items = Vec::new(alloc);
+        for _ in 0..EACH {
+            items.push(self.pop())?;
+        }
+        Ok(items)
+    }
 }
 
 /// What two consumers popped, in order.
-fn consume_twice<T: Threads, W: Wait + Clone + Drop + Sync>(
+fn consume_twice<T: Threads, B: Belt + Sync>(
     rt: &T,
-    queue: &Sleeping<WordRaw<W>>,
+    belt: &B,
     alloc: Global,
 ) -> Result<Vec<u64>, AllocError> {
-    let (first, second) = thread::join(rt, || consume(queue, alloc), || consume(queue, alloc));
+    let (first, second) = thread::join(rt, || belt.consume(alloc), || belt.consume(alloc));
     let mut all = first?;
     all.extend_from_slice(&second?)?;
     all.sort()?;
     Ok(all)
 }
 
+/// What two consumers popped, in order, of what two producers pushed.
+fn hand_on<T: Threads + Sync, B: Belt + Sync>(
+    rt: &T,
+    belt: &B,
+    alloc: Global,
+) -> Result<Vec<u64>, AllocError> {
+    let (_, popped) = thread::join(
+        rt,
+        || thread::join(rt, || belt.produce(0), || belt.produce(EACH)),
+        || consume_twice(rt, belt, alloc),
+    );
+    popped
+}
+
 #[test]
 fn each_item_arrives_once(rt: HostRuntime) -> Result<(), Fail> {
     let alloc: Global = rt.alloc();
-    let queue: Sleeping<WordRaw<HostRuntime>> = Queue::new(alloc, rt, 7)?;
-    let (_, popped) = thread::join(
-        &rt,
-        || thread::join(&rt, || produce(&queue, 0), || produce(&queue, EACH)),
-        || consume_twice(&rt, &queue, alloc),
-    );
+    let queue: Queue<SleepingCondvar<WordRaw<HostRuntime>>, u64> = Queue::new(alloc, rt, 7)?;
+    let popped = hand_on(&rt, &queue, alloc)?;
     let mut pushed = Vec::new(alloc);
     for item in 0..2 * EACH {
         pushed.push(item)?;
     }
-    assert!(rt; popped? == pushed);
+    assert!(rt; popped == pushed);
     assert_eq!(rt; queue.try_pop(), None);
     Ok(())
 }

@@ -1,44 +1,65 @@
 //! A registry that two threads fill.
 use crate::Registry;
 use crate::registry::read_twice;
-use lock_api::{MappedRwLockReadGuard, RawRwLockUpgrade, WordRaw};
+use crate::tests::in_threads::{Counts, twice};
+use lock_api::{MappedRwLockReadGuard, RawRwLock, RawRwLockUpgrade, WordRaw};
+use std::alloc::AllocFailed;
 use std::test::Fail;
-use std::thread;
 
 type Raw = WordRaw<HostRuntime>;
+
+/// Which of three entries are added, the last under a key that has one.
+fn add_three<R: RawRwLockUpgrade>(
+    registry: &Registry<R, u64>,
+) -> Result<[bool; 3], AllocFailed<(u64, u64)>> {
+    Ok([
+        registry.add(1, 10)?,
+        registry.add(2, 20)?,
+        registry.add(1, 30)?,
+    ])
+}
+
+/// What the entry under 1 is, read twice and once more; and while it is held, whether there is one under 2, and which key
+/// a look under 3 misses.
+type Seen = ((Option<u64>, Option<u64>), Option<u64>, bool, Option<u64>);
+
+fn look_at_three<R: RawRwLock>(registry: &Registry<R, u64>) -> Result<Seen, u64> {
+    let one = registry.look(1)?;
+    let first_read = read_twice(&one);
+    let two = registry.look(2);
+    let missed = registry.look(3).err();
+    let last_read = MappedRwLockReadGuard::get(&one).copied();
+    Ok((first_read, last_read, two.is_ok(), missed))
+}
 
 #[test]
 fn entries_are_read_side_by_side(rt: HostRuntime) -> Result<(), Fail> {
     let registry: Registry<Raw, u64> = Registry::new(rt.alloc(), rt)?;
-    assert!(rt; registry.add(1, 10)?);
-    assert!(rt; registry.add(2, 20)?);
-    assert!(rt; !registry.add(1, 30)?);
-    let Ok(one) = registry.look(1) else {
-        return Err("there is an entry".into());
-    };
-    assert_eq!(rt; read_twice(&one), (Some(10), Some(10)));
-    let two = registry.look(2).ok();
-    assert!(rt; two.is_some());
-    assert_eq!(rt; registry.look(3).err(), Some(3));
-    assert_eq!(rt; MappedRwLockReadGuard::get(&one), Some(&10));
+    assert_eq!(rt; add_three(&registry)?, [true, true, false]);
+    let wanted = ((Some(10), Some(10)), Some(10), true, Some(3));
+    assert_eq!(rt; look_at_three(&registry), Ok(wanted));
     Ok(())
 }
 
-/// How many of the keys below 50 this call added.
-fn add_all<R: RawRwLockUpgrade>(registry: &Registry<R, u64>) -> u64 {
-    let mut added: u64 = 0;
-    for key in 0..50 {
-        if let Ok(true) = registry.add(key, key) {
-            added = added.wrapping_add(1);
+impl<R: RawRwLockUpgrade> Counts for Registry<R, u64> {
+    type Waiter = R::Waiter;
+
+    /// How many of the keys below 50 this call added.
+    fn count(&self) -> u64 {
+        let mut added: u64 = 0;
+        for key in 0..50 {
+            if let Ok(true) = self.add(key, key) {
+                added = added.wrapping_add(1);
+            }
         }
+        added
     }
-    added
 }
 
 #[test]
 fn each_key_is_added_once(rt: HostRuntime) -> Result<(), Fail> {
     let registry: Registry<Raw, u64> = Registry::new(rt.alloc(), rt)?;
-    let (first, second) = thread::join(&rt, || add_all(&registry), || add_all(&registry));
+    let (first, second) = twice(&rt, &registry);
     assert_eq!(rt; first.wrapping_add(second), 50);
     assert_eq!(rt; registry.len(), 50);
     Ok(())

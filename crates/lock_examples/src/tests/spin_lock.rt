@@ -1,40 +1,51 @@
 //! The raw lock that spins, under both locks.
 use crate::SpinLock;
-use lock_api::{Mutex, RawMutex, RwLock};
+use crate::tests::in_threads::{Counts, twice};
+use lock_api::{Mutex, RawMutex, RawRwLock, RwLock};
 use std::test::Fail;
-use std::thread;
 
 type Spin = SpinLock<HostRuntime>;
 
-fn add_a_thousand<R: RawMutex>(count: &Mutex<R, u64>) {
-    for _ in 0..1_000 {
-        let mut count = count.lock();
-        *count = count.wrapping_add(1);
+impl<R: RawMutex> Counts for Mutex<R, u64> {
+    type Waiter = R::Waiter;
+
+    fn count(&self) -> u64 {
+        for _ in 0..1_000 {
+            let mut count = self.lock();
+            *count = count.wrapping_add(1);
+        }
+        1_000
     }
 }
 
 #[test]
 fn two_threads_count_under_a_mutex(rt: HostRuntime) -> Result<(), Fail> {
     let count: Mutex<Spin, u64> = Mutex::new(rt.alloc(), rt, 0)?;
-    thread::join(&rt, || add_a_thousand(&count), || add_a_thousand(&count));
+    assert_eq!(rt; twice(&rt, &count), (1_000, 1_000));
     assert!(rt; !count.is_locked());
     assert_eq!(rt; count.into_inner(), 2_000);
     Ok(())
 }
 
+/// What two readers read side by side, and whether a third and a writer are kept out meanwhile.
+fn read_together<R: RawRwLock>(lock: &RwLock<R, u64>) -> ((u64, u64), [bool; 2]) {
+    let readers = (lock.read(), lock.read());
+    let kept_out = [lock.try_read().is_none(), lock.try_write().is_none()];
+    ((*readers.0, *readers.1), kept_out)
+}
+
+/// Writes 8. Whether the lock is held exclusively meanwhile, and a reader is kept out.
+fn write_alone<R: RawRwLock>(lock: &RwLock<R, u64>) -> [bool; 2] {
+    let mut writer = lock.write();
+    *writer = 8;
+    [lock.is_locked_exclusive(), lock.try_read().is_none()]
+}
+
 #[test]
 fn readers_share_and_a_writer_is_alone(rt: HostRuntime) -> Result<(), Fail> {
     let lock: RwLock<Spin, u64> = RwLock::with_readers(rt.alloc(), rt, 2, 7)?;
-    let readers = (lock.read(), lock.read());
-    assert_eq!(rt; (*readers.0, *readers.1), (7, 7));
-    assert!(rt; lock.try_read().is_none());
-    assert!(rt; lock.try_write().is_none());
-    drop(readers);
-    let mut writer = lock.write();
-    *writer = 8;
-    assert!(rt; lock.is_locked_exclusive());
-    assert!(rt; lock.try_read().is_none());
-    drop(writer);
+    assert_eq!(rt; read_together(&lock), ((7, 7), [true; 2]));
+    assert_eq!(rt; write_alone(&lock), [true; 2]);
     assert_eq!(rt; lock.into_inner(), 8);
     Ok(())
 }

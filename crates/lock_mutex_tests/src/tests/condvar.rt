@@ -15,8 +15,6 @@ use std::alloc::Global;
 use std::sync;
 use std::test::Fail;
 
-type Spurious = SpuriousCondvar<Honest>;
-
 /// How many checks were made.
 type Checks<R> = Mutex<R, usize>;
 
@@ -73,33 +71,32 @@ where
 }
 
 /// The waits, notifications and text of a condition variable over a raw one that wakes at once.
-fn check_at_once<C: RawCondvarTimed>(
+fn check_at_once<C: RawCondvarTimed + Drop>(
     alloc: Global,
-    condvar: &Condvar<C>,
-    checks: &Checks<C::RawMutex>,
+    waiter: <C::RawMutex as RawMutex>::Waiter,
 ) -> Result<(), Fail>
 where
-    C::RawMutex: RawMutexTimed<Duration = (), Instant = ()>,
+    C::RawMutex: RawMutexTimed<Duration = (), Instant = ()> + Drop,
 {
+    let condvar: Condvar<C> = Condvar::default(alloc)?;
+    let _raw: &C = condvar.raw();
+    let checks: Checks<C::RawMutex> = Mutex::new(alloc, waiter, 0)?;
     let seen = [
-        wait_until_false(condvar, checks, 1, ()),
-        wait_until_false(condvar, checks, 2, ()),
-        wait_until_false(condvar, checks, 0, ()),
+        wait_until_false(&condvar, &checks, 1, ()),
+        wait_until_false(&condvar, &checks, 2, ()),
+        wait_until_false(&condvar, &checks, 0, ()),
     ];
     equal(seen, [(false, 2), (true, 2), (false, 1)])?;
-    equal(wait_without_end(condvar, checks), (4, 4, true))?;
-    equal(timed_waits(condvar, checks), [true; 3])?;
+    equal(wait_without_end(&condvar, &checks), (4, 4, true))?;
+    equal(timed_waits(&condvar, &checks), [true; 3])?;
     let notified = (condvar.notify_one(), condvar.notify_all());
-    let is_shown = debug_is(alloc, condvar, "Condvar { .. }");
+    let is_shown = debug_is(alloc, &condvar, "Condvar { .. }");
     equal((notified, is_shown), ((false, 0), true))
 }
 
 #[test]
 fn waits_over_a_raw_condvar_that_wakes_at_once(rt: HostRuntime) -> Result<(), Fail> {
-    let condvar: Condvar<Spurious> = Condvar::default(rt.alloc())?;
-    let _raw: &Spurious = condvar.raw();
-    let checks: Checks<Honest> = Mutex::new(rt.alloc(), rt, 0)?;
-    check_at_once(rt.alloc(), &condvar, &checks)
+    check_at_once::<SpuriousCondvar<Honest>>(rt.alloc(), rt)
 }
 
 /// Whether the raw condition variable was asked just this by a wait for so long, and whether that timed out.

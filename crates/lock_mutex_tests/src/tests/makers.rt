@@ -24,10 +24,17 @@ fn holds_or_lacks<R: RawMutex + Drop>(made: Result<Mutex<R, u64>, Fault>, value:
     holds_or_lacks_memory(made.map(|mutex| mutex.into_inner()), value)
 }
 
+/// Whether each maker gave a mutex of the value that it is to hold, or told that memory was refused.
+fn hold_or_lack<R: RawMutex + Drop>(alloc: Global, waiters: [R::Waiter; 3]) -> [bool; 3] {
+    let [first, second, third] = waiters;
+    [
+        holds_or_lacks::<R>(Mutex::new(alloc, first, 5), 5),
+        holds_or_lacks::<R>(Mutex::from(alloc, second, 6), 6),
+        holds_or_lacks::<R>(Mutex::default(alloc, third), 0),
+    ]
+}
+
 #[test]
 fn refused_memory_in_makers_of_a_mutex(rt: HostRuntime) {
-    let alloc = rt.alloc();
-    assert!(rt; holds_or_lacks::<Honest>(Mutex::new(alloc, rt, 5), 5));
-    assert!(rt; holds_or_lacks::<Honest>(Mutex::from(alloc, rt, 6), 6));
-    assert!(rt; holds_or_lacks::<Honest>(Mutex::default(alloc, rt), 0));
+    assert!(rt; hold_or_lack::<Honest>(rt.alloc(), [rt; 3]) == [true; 3]);
 }

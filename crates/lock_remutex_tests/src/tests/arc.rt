@@ -2,7 +2,6 @@
 use lock_base::machine::PartyId;
 use lock_base::raw::Fault;
 use lock_guard::raw::RawMutex;
-use lock_raws::TokenRaw;
 use lock_remutex::{ArcReentrantMutexGuard, ReentrantMutex};
 use lock_test_support::answer::{equal, gives_none};
 use lock_test_support::two_parties;
@@ -31,7 +30,8 @@ where
     Ok((read, refused, is_same))
 }
 
-fn arc_guards<R: RawMutex + Drop>(alloc: Global, waiter: R::Waiter) -> Result<(), Fail>
+/// Guards of a lock with one level.
+pub fn check<R: RawMutex + Drop>(alloc: Global, waiter: R::Waiter) -> Result<(), Fail>
 where
     R::Guard: Send + Drop,
 {
@@ -40,9 +40,4 @@ where
     let lock = Arc::new(alloc, lock)?;
     equal(seen(&lock, one, two)?, (5, Some(Fault::FullCount), true))?;
     equal(lock.is_locked(), false)
-}
-
-#[test]
-fn an_arc_guard_is_of_its_remutex(rt: HostRuntime) -> Result<(), Fail> {
-    arc_guards::<TokenRaw<HostRuntime>>(rt.alloc(), rt)
 }

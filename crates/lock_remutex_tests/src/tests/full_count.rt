@@ -1,18 +1,43 @@
 //! A bump on whose way back the party has all its levels.
 mod pausing;
 
+use super::by_two::{ByTwo, in_threads};
 use lock_base::machine::PartyId;
 use lock_base::raw::Fault;
+use lock_guard::raw::{RawMutex, RawMutexFair};
 use lock_remutex::{ReentrantMutex, ReentrantMutexGuard};
 use lock_test_support::party;
 use pausing::Pausing;
+use std::alloc::Global;
 use std::sync::Wait;
 use std::sync::atomic::{AtomicBool, Ordering};
 use std::test::Fail;
 use std::thread;
 
-/// A lock whose raw lock pauses in a bump until it is asked whether it is held.
-type Paused<W> = ReentrantMutex<Pausing<W>, u8>;
+/// A lock of one level, which a party bumps on one thread and takes on another.
+#[derive(Drop)]
+struct Bumped<R: RawMutex, W> {
+    lock: ReentrantMutex<R, u8>,
+    party: PartyId,
+    waiter: W,
+    is_held: AtomicBool,
+    is_over: AtomicBool,
+}
+
+impl<R: RawMutex + Drop, W: Wait + Drop> Bumped<R, W>
+where
+    R::Guard: Send + Drop,
+{
+    fn new(alloc: Global, waiter: R::Waiter, watcher: W) -> Result<Bumped<R, W>, Fail> {
+        Ok(Bumped {
+            lock: ReentrantMutex::with_levels(alloc, waiter, 1, 0)?,
+            party: party(1)?,
+            waiter: watcher,
+            is_held: AtomicBool::new(false),
+            is_over: AtomicBool::new(false),
+        })
+    }
+}
 
 /// Waits until the flag is up.
 fn wait_for<W: Wait>(waiter: &W, flag: &AtomicBool) {
@@ -25,56 +50,45 @@ fn wait_for<W: Wait>(waiter: &W, flag: &AtomicBool) {
     unreachable!()
 }
 
-/// Bumps a guard. Whether the party owns the lock once the level that was taken meanwhile is gone.
-fn bump<W: Wait + Clone + Drop>(
-    lock: &Paused<W>,
-    waiter: &W,
-    flags: (&AtomicBool, &AtomicBool),
-    party: PartyId,
-) -> Result<bool, Fault> {
-    let (is_held, is_over) = flags;
-    let mut guard = lock.lock(party)?;
-    is_held.store(true, Ordering::SeqCst);
-    ReentrantMutexGuard::bump(&mut guard);
-    wait_for(waiter, is_over);
-    Ok(lock.is_owned_by_current_thread(party))
-}
+impl<R: RawMutexFair, W: Wait> ByTwo for Bumped<R, W>
+where
+    R::Guard: Drop,
+{
+    type Waiter = R::Waiter;
 
-/// Takes the only level while the bump has given it up, and keeps it while the bump tries to get it back.
-fn take_meanwhile<W: Wait + Clone + Drop>(
-    lock: &Paused<W>,
-    waiter: &W,
-    flags: (&AtomicBool, &AtomicBool),
-    party: PartyId,
-) -> Result<(), Fault> {
-    let (is_held, is_over) = flags;
-    wait_for(waiter, is_held);
-    for _ in waiter.forever() {
-        if !lock.is_owned_by_current_thread(party) {
-            break;
+    /// Bumps a guard. Whether the party owns the lock once the level that was taken meanwhile is gone.
+    fn first(&self) -> Result<bool, Fault> {
+        let mut guard = self.lock.lock(self.party)?;
+        self.is_held.store(true, Ordering::SeqCst);
+        ReentrantMutexGuard::bump(&mut guard);
+        wait_for(&self.waiter, &self.is_over);
+        Ok(self.lock.is_owned_by_current_thread(self.party))
+    }
+
+    /// Takes the only level while the bump has given it up, and keeps it while the bump tries to get it back.
+    fn second(&self) -> Result<bool, Fault> {
+        wait_for(&self.waiter, &self.is_held);
+        for _ in self.waiter.forever() {
+            if !self.lock.is_owned_by_current_thread(self.party) {
+                break;
+            }
+            thread::yield_now();
         }
-        thread::yield_now();
+        let guard = self.lock.lock(self.party)?;
+        self.lock.is_locked();
+        for _ in 0..10_000u32 {
+            thread::yield_now();
+        }
+        drop(guard);
+        self.is_over.store(true, Ordering::SeqCst);
+        Ok(true)
     }
-    let guard = lock.lock(party)?;
-    lock.is_locked();
-    for _ in 0..10_000u32 {
-        thread::yield_now();
-    }
-    drop(guard);
-    is_over.store(true, Ordering::SeqCst);
-    Ok(())
 }
 
+/// The raw lock pauses in a bump until it is asked whether it is held.
 #[test]
 fn a_bump_waits_for_a_level(rt: HostRuntime) -> Result<(), Fail> {
-    let one = party(1)?;
-    let (is_held, is_over) = (AtomicBool::new(false), AtomicBool::new(false));
-    let lock: Paused<HostRuntime> = ReentrantMutex::with_levels(rt.alloc(), rt, 1, 0)?;
-    let both = thread::join(
-        &rt,
-        || bump(&lock, &rt, (&is_held, &is_over), one),
-        || take_meanwhile(&lock, &rt, (&is_held, &is_over), one),
-    );
-    assert_eq!(rt; both, (Ok(true), Ok(())));
+    let bumped: Bumped<Pausing<HostRuntime>, HostRuntime> = Bumped::new(rt.alloc(), rt, rt)?;
+    assert_eq!(rt; in_threads(&rt, &bumped), [Ok(true); 2]);
     Ok(())
 }

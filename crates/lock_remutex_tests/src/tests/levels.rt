@@ -2,7 +2,6 @@
 use lock_base::machine::PartyId;
 use lock_base::raw::Fault;
 use lock_guard::raw::RawMutex;
-use lock_raws::TokenRaw;
 use lock_remutex::{ReentrantMutex, ReentrantMutexGuard};
 use lock_test_support::answer::equal;
 use lock_test_support::party;
@@ -24,7 +23,8 @@ where
     Some((fault, *taken, lock.is_locked()))
 }
 
-fn full_meanwhile<R: RawMutex + Drop>(alloc: Global, waiter: R::Waiter) -> Result<(), Fail>
+/// A lock with one level, which is taken while it is given up.
+pub fn check<R: RawMutex + Drop>(alloc: Global, waiter: R::Waiter) -> Result<(), Fail>
 where
     R::Guard: Send + Drop,
 {
@@ -35,9 +35,4 @@ where
         (seen, lock.is_locked()),
         (Some((Fault::FullCount, 7, true)), false),
     )
-}
-
-#[test]
-fn a_level_that_is_taken_meanwhile_is_given_up(rt: HostRuntime) -> Result<(), Fail> {
-    full_meanwhile::<TokenRaw<HostRuntime>>(rt.alloc(), rt)
 }

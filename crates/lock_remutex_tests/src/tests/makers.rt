@@ -22,11 +22,6 @@ where
     equal((raw.is_locked(), value), (false, 4))
 }
 
-#[test]
-fn the_value_and_the_raw_lock_come_back(rt: HostRuntime) -> Result<(), Fail> {
-    put_in_and_out::<TokenRaw<HostRuntime>>(rt.alloc(), [rt, rt, rt])
-}
-
 /// Whether so many levels are taken by `Levels`, and by a lock over them.
 fn makers_take<R: RawMutex + Drop>(alloc: Global, waiter: R::Waiter, levels: u64) -> (bool, bool)
 where
@@ -38,18 +33,31 @@ where
     (Levels::<u8>::new(levels).is_ok(), made.is_ok())
 }
 
-#[test]
-fn limits_of_levels(rt: HostRuntime) -> Result<(), Fail> {
-    for (levels, is_taken) in [
-        (0, false),
-        (1, true),
-        (DEFAULT_LEVELS, true),
-        (DEFAULT_LEVELS + 1, false),
-    ] {
-        let taken = makers_take::<TokenRaw<HostRuntime>>(rt.alloc(), rt, levels);
-        equal(taken, (is_taken, is_taken))?;
-    }
-    Ok(())
+fn limits_of_levels<R: RawMutex + Drop>(alloc: Global, waiters: [R::Waiter; 4]) -> Result<(), Fail>
+where
+    R::Guard: Send + Drop,
+{
+    let [zero, one, most, past] = waiters;
+    let taken = [
+        makers_take::<R>(alloc, zero, 0),
+        makers_take::<R>(alloc, one, 1),
+        makers_take::<R>(alloc, most, DEFAULT_LEVELS),
+        makers_take::<R>(alloc, past, DEFAULT_LEVELS + 1),
+    ];
+    let (is, is_not) = ((true, true), (false, false));
+    equal(taken, [is_not, is, is, is_not])
+}
+
+/// The value and the raw lock come back, and the limits of levels.
+pub fn check<R: RawMutex + Drop>(
+    alloc: Global,
+    waiters: ([R::Waiter; 3], [R::Waiter; 4]),
+) -> Result<(), Fail>
+where
+    R::Guard: Send + Drop,
+{
+    put_in_and_out::<R>(alloc, waiters.0)?;
+    limits_of_levels::<R>(alloc, waiters.1)
 }
 
 /// What each maker is refused with.

@@ -2,7 +2,6 @@
 use lock_base::machine::PartyId;
 use lock_base::raw::Fault;
 use lock_guard::raw::{RawMutex, RawMutexFair};
-use lock_raws::TokenRaw;
 use lock_remutex::{MappedReentrantMutexGuard, ReentrantMutex, ReentrantMutexGuard};
 use lock_test_support::answer::{equal, texts_are};
 use lock_test_support::party;
@@ -46,7 +45,8 @@ where
     Ok(texts_are(alloc, &part, "5"))
 }
 
-fn parts<R: RawMutexFair + Drop>(
+/// A part is missed, read and printed.
+pub fn check<R: RawMutexFair + Drop>(
     rt: &impl Abort,
     alloc: Global,
     waiter: R::Waiter,
@@ -59,9 +59,4 @@ where
     equal(is_shown(alloc, &lock, one)?, true)?;
     equal(miss_and_read(rt, &lock, one)?, (5, Some(2), 5, true))?;
     equal(lock.is_locked(), false)
-}
-
-#[test]
-fn a_part_is_missed_read_and_printed(rt: HostRuntime) -> Result<(), Fail> {
-    parts::<TokenRaw<HostRuntime>>(&rt, rt.alloc(), rt)
 }

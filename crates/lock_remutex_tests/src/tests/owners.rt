@@ -2,7 +2,6 @@
 use lock_base::machine::PartyId;
 use lock_base::raw::Fault;
 use lock_guard::raw::{RawMutex, RawMutexFair, RawMutexTimed};
-use lock_raws::TokenRaw;
 use lock_remutex::{RawReentrantMutex, ReentrantMutex, ReentrantMutexGuard};
 use lock_test_support::answer::equal;
 use lock_test_support::raw_lock::Liar;
@@ -74,11 +73,6 @@ where
     )
 }
 
-#[test]
-fn others_are_refused_while_a_party_owns(rt: HostRuntime) -> Result<(), Fail> {
-    others_beside_an_owner::<TokenRaw<HostRuntime>>(rt.alloc(), rt)
-}
-
 /// What a third level by `lock` is refused with, how tries of the owner and of another end beside two levels, and how
 /// those of the owner end beside one.
 fn beside_two_levels<R: RawMutexTimed<Duration = (), Instant = ()>>(
@@ -108,11 +102,6 @@ where
     let lock: ReentrantMutex<R, u8> = ReentrantMutex::with_levels(alloc, waiter, 2, 0)?;
     let seen = beside_two_levels(&lock, first, second)?;
     equal(seen, (Some(Fault::FullCount), [FULL, NOT_GIVEN, GIVEN]))
-}
-
-#[test]
-fn a_full_count_is_refused(rt: HostRuntime) -> Result<(), Fail> {
-    full_count::<TokenRaw<HostRuntime>>(rt.alloc(), rt)
 }
 
 /// What the calls that only the owner may make answer the party.
@@ -160,9 +149,18 @@ where
     equal(lefts, wanted)
 }
 
-#[test]
-fn a_raw_reentrant_lock_is_left_by_its_owner_alone(rt: HostRuntime) -> Result<(), Fail> {
-    left_by_its_owner::<TokenRaw<HostRuntime>>(rt.alloc(), rt)
+/// Others are refused while a party owns, a full count is refused, and the owner alone leaves.
+pub fn check<R: RawMutexFair + RawMutexTimed<Duration = (), Instant = ()> + Drop>(
+    alloc: Global,
+    waiters: [R::Waiter; 3],
+) -> Result<(), Fail>
+where
+    R::Guard: Send + Drop,
+{
+    let [first, second, third] = waiters;
+    others_beside_an_owner::<R>(alloc, first)?;
+    full_count::<R>(alloc, second)?;
+    left_by_its_owner::<R>(alloc, third)
 }
 
 /// Whether another gets the lock of the owner, and whether that owns it afterwards and after a bump.

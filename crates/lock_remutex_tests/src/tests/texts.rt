@@ -1,7 +1,6 @@
 //! Texts of the lock and of its guard.
 use lock_base::machine::PartyId;
 use lock_guard::raw::RawMutex;
-use lock_raws::TokenRaw;
 use lock_remutex::ReentrantMutex;
 use lock_test_support::answer::equal;
 use lock_test_support::party;
@@ -18,7 +17,8 @@ where
     format!(in alloc; "{free} {lock:?} {guard:?} {guard}").ok()
 }
 
-fn shown<R: RawMutex + Drop>(alloc: Global, waiter: R::Waiter) -> Result<(), Fail>
+/// The texts of a lock that holds 5.
+pub fn check<R: RawMutex + Drop>(alloc: Global, waiter: R::Waiter) -> Result<(), Fail>
 where
     R::Guard: Send + Drop,
 {
@@ -27,9 +27,4 @@ where
     let shown = texts(alloc, &lock, one).ok_or("no memory")?;
     let wanted = "ReentrantMutex { data: 5 } ReentrantMutex { data: <locked> } 5 5";
     equal(shown.as_str() == wanted, true)
-}
-
-#[test]
-fn texts_of_the_lock_and_its_guard(rt: HostRuntime) -> Result<(), Fail> {
-    shown::<TokenRaw<HostRuntime>>(rt.alloc(), rt)
 }

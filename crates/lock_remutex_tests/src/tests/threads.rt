@@ -1,4 +1,5 @@
 //! Parties that are threads.
+use super::by_two::{ByTwo, in_threads};
 use lock_base::machine::PartyId;
 use lock_base::raw::Fault;
 use lock_guard::raw::RawMutex;
@@ -6,92 +7,134 @@ use lock_raws::TokenRaw;
 use lock_remutex::ReentrantMutex;
 use lock_test_support::raw_lock::{Calls, Liar, RawCall};
 use lock_test_support::two_parties;
+use std::alloc::Global;
 use std::sync::Wait;
 use std::sync::atomic::{AtomicBool, AtomicU64, Ordering};
 use std::test::Fail;
 use std::thread;
 
-/// Counts up a thousand times, by a read and a write apart.
-fn count_up<W: Wait + Clone + Drop>(
-    lock: &ReentrantMutex<TokenRaw<W>, AtomicU64>,
-    party: PartyId,
-) -> Result<(), Fault> {
-    for _ in 0..1_000 {
-        let outer = lock.lock(party)?;
-        let inner = lock.lock(party)?;
-        drop(outer);
-        let count = inner.load(Ordering::SeqCst);
-        inner.store(count.wrapping_add(1), Ordering::SeqCst);
+/// A count that two parties share.
+#[derive(Drop)]
+struct Shared<R: RawMutex> {
+    count: ReentrantMutex<R, AtomicU64>,
+    parties: (PartyId, PartyId),
+}
+
+impl<R: RawMutex + Drop> Shared<R>
+where
+    R::Guard: Send + Drop,
+{
+    fn new(alloc: Global, waiter: R::Waiter) -> Result<Shared<R>, Fail> {
+        Ok(Shared {
+            count: ReentrantMutex::new(alloc, waiter, AtomicU64::new(0))?,
+            parties: two_parties()?,
+        })
     }
-    Ok(())
+}
+
+impl<R: RawMutex> Shared<R>
+where
+    R::Guard: Drop,
+{
+    /// Counts up a thousand times, by a read and a write apart.
+    fn count_up(&self, party: PartyId) -> Result<(), Fault> {
+        for _ in 0..1_000 {
+            let outer = self.count.lock(party)?;
+            let inner = self.count.lock(party)?;
+            drop(outer);
+            let count = inner.load(Ordering::SeqCst);
+            inner.store(count.wrapping_add(1), Ordering::SeqCst);
+        }
+        Ok(())
+    }
+}
+
+impl<R: RawMutex> ByTwo for Shared<R>
+where
+    R::Guard: Drop,
+{
+    type Waiter = R::Waiter;
+
+    fn first(&self) -> Result<bool, Fault> {
+        self.count_up(self.parties.0)?;
+        Ok(true)
+    }
+
+    fn second(&self) -> Result<bool, Fault> {
+        self.count_up(self.parties.1)?;
+        Ok(true)
+    }
 }
 
 #[test]
 fn two_parties_take_turns(rt: HostRuntime) -> Result<(), Fail> {
-    let (first, second) = two_parties()?;
-    let lock: ReentrantMutex<TokenRaw<HostRuntime>, AtomicU64> = ReentrantMutex::new(
-        rt.alloc(),
-        rt,
-        AtomicU64::new(0),
-    )?;
-    let both = thread::join(&rt, || count_up(&lock, first), || count_up(&lock, second));
-    assert_eq!(rt; both, (Ok(()), Ok(())));
-    assert_eq!(rt; lock.into_inner().load(Ordering::SeqCst), 2_000);
+    let shared: Shared<TokenRaw<HostRuntime>> = Shared::new(rt.alloc(), rt)?;
+    assert_eq!(rt; in_threads(&rt, &shared), [Ok(true); 2]);
+    assert_eq!(rt; shared.count.into_inner().load(Ordering::SeqCst), 2_000);
     Ok(())
 }
 
-type Lying<W> = ReentrantMutex<Liar<W>, u64>;
-
-/// Owns the lock, and tells so, until the raw lock was asked three times more.
-fn own_for_a_while<W: Wait + Clone + Drop>(
-    lock: &Lying<W>,
-    waiter: &W,
-    calls: &Calls<RawCall>,
-    is_owned: &AtomicBool,
-    party: PartyId,
-) -> Result<(), Fault> {
-    let _guard = lock.lock(party)?;
-    is_owned.store(true, Ordering::SeqCst);
-    for _ in waiter.forever() {
-        // one acquisition of the owner's, and of the other's three, each with the release of the token that came too early
-        if calls.count(waiter) >= 6 {
-            return Ok(());
-        }
-        thread::yield_now();
-    }
-    unreachable!()
+/// A lock that one party owns for a while, and that its raw lock gives another meanwhile.
+#[derive(Drop)]
+struct Owned<R: RawMutex, W> {
+    lock: ReentrantMutex<R, u64>,
+    parties: (PartyId, PartyId),
+    calls: Calls<RawCall>,
+    waiter: W,
+    is_owned: AtomicBool,
 }
 
-/// Takes the lock once another owns it. Whether the party owns it then.
-fn take_from_owner<W: Wait + Clone + Drop>(
-    lock: &Lying<W>,
-    waiter: &W,
-    is_owned: &AtomicBool,
-    party: PartyId,
-) -> Result<bool, Fault> {
-    for _ in waiter.forever() {
-        if is_owned.load(Ordering::SeqCst) {
-            break;
-        }
-        thread::yield_now();
+impl<W: Wait + Clone + Drop> Owned<Liar<W>, W> {
+    fn new(alloc: Global, waiter: W, watcher: W) -> Result<Owned<Liar<W>, W>, Fail> {
+        let raw: Liar<W> = RawMutex::new(alloc, waiter)?;
+        let calls = raw.calls()?;
+        Ok(Owned {
+            lock: ReentrantMutex::from_raw(raw, 0)?,
+            parties: two_parties()?,
+            calls,
+            waiter: watcher,
+            is_owned: AtomicBool::new(false),
+        })
     }
-    let _guard = lock.lock(party)?;
-    Ok(lock.is_owned_by_current_thread(party))
+}
+
+impl<R: RawMutex, W: Wait> ByTwo for Owned<R, W>
+where
+    R::Guard: Drop,
+{
+    type Waiter = R::Waiter;
+
+    /// Owns the lock, and tells so, until the raw lock was asked three times more.
+    fn first(&self) -> Result<bool, Fault> {
+        let _guard = self.lock.lock(self.parties.0)?;
+        self.is_owned.store(true, Ordering::SeqCst);
+        for _ in self.waiter.forever() {
+            // one acquisition of the owner's, and of the other's three, each with the release of the token that came too early
+            if self.calls.count(&self.waiter) >= 6 {
+                return Ok(true);
+            }
+            thread::yield_now();
+        }
+        unreachable!()
+    }
+
+    /// Takes the lock once another owns it. Whether the party owns it then.
+    fn second(&self) -> Result<bool, Fault> {
+        for _ in self.waiter.forever() {
+            if self.is_owned.load(Ordering::SeqCst) {
+                break;
+            }
+            thread::yield_now();
+        }
+        let _guard = self.lock.lock(self.parties.1)?;
+        Ok(self.lock.is_owned_by_current_thread(self.parties.1))
+    }
 }
 
 /// It ends only where `lock` asks a raw lock that lies again and again, and in the end gets in.
 #[test]
 fn lock_asks_again_while_another_owns(rt: HostRuntime) -> Result<(), Fail> {
-    let (first, second) = two_parties()?;
-    let raw: Liar<HostRuntime> = RawMutex::new(rt.alloc(), rt)?;
-    let calls = raw.calls()?;
-    let is_owned = AtomicBool::new(false);
-    let lock = Lying::from_raw(raw, 0)?;
-    let both = thread::join(
-        &rt,
-        || own_for_a_while(&lock, &rt, &calls, &is_owned, first),
-        || take_from_owner(&lock, &rt, &is_owned, second),
-    );
-    assert_eq!(rt; both, (Ok(()), Ok(true)));
+    let owned = Owned::new(rt.alloc(), rt, rt)?;
+    assert_eq!(rt; in_threads(&rt, &owned), [Ok(true); 2]);
     Ok(())
 }
