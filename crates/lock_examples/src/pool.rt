@@ -13,7 +13,7 @@ pub struct Pool<R: RawMutex + Drop, T: Drop> {
 }
 
 impl<R: RawMutex + Drop, T: Drop> Pool<R, T> {
-    ghost use Rattle.std.specs.Prelude.{◌≡◌, [], Any, IfOk, IfSome, IsOkUnless, OnErr};
+    ghost use Rattle.std.specs.Prelude.{◌≡◌, [], ◌∷◌, ◌++◌, Any, IfOk, IfSome, IsOkUnless, OnErr};
     ghost use Rattle.lock_api.specs.ArcMutexGuard.{IsArcGuardOf};
     ghost use Rattle.lock_api.specs.Closure.{AnswersSomeValue};
     ghost use Rattle.lock_examples.specs.Pool.{objects_of};
@@ -30,6 +30,7 @@ impl<R: RawMutex + Drop, T: Drop> Pool<R, T> {
     /// Adds an object. Where there is no memory for it, it is dropped, and the pool is as it was.
     pub fn add(&mut self, alloc: Global, waiter: R::Waiter, object: T) -> Result<(), Fault>
         ensures fault { IsOkUnless result Fault.OutOfMemory }
+        ensures added { IfOk result (λ _. (added : _) × (objects_of self.new ≡ objects_of self.old ++ added ∷ [])) }
         ensures kept { OnErr result (objects_of self.new ≡ objects_of self.old) }
     {
         let mutex = Mutex::new(alloc, waiter, object)?;

@@ -49,3 +49,21 @@ fn readers_share_and_a_writer_is_alone(rt: HostRuntime) -> Result<(), Fail> {
     assert_eq!(rt; lock.into_inner(), 8);
     Ok(())
 }
+
+/// No value is here, so nothing but the word keeps a second token in.
+#[test]
+fn no_token_is_given_beside_one_that_writes(rt: HostRuntime) -> Result<(), Fail> {
+    let raw: Spin = RawRwLock::new(rt.alloc(), rt, 2)?;
+    let one = raw.try_lock_shared().expect(&rt, "nobody writes");
+    let other = raw.try_lock_shared().expect(&rt, "nobody writes");
+    assert!(rt; raw.try_lock_shared().is_none());
+    raw.unlock_shared(one);
+    assert!(rt; raw.try_lock_exclusive().is_none());
+    raw.unlock_shared(other);
+    let writer = raw.try_lock_exclusive().expect(&rt, "nobody reads");
+    assert!(rt; raw.try_lock_exclusive().is_none());
+    assert!(rt; raw.try_lock_shared().is_none());
+    raw.unlock_exclusive(writer);
+    assert!(rt; !RawMutex::is_locked(&raw));
+    Ok(())
+}
