@@ -4,6 +4,7 @@ mod markers;
 mod queue;
 mod raws;
 mod recording;
+mod recording_threads;
 mod threads;
 mod wake_ups;
 mod wakes;
