@@ -1,5 +1,5 @@
 //! What no clause says of the raw locks.
-mod downgrades;
+mod counts;
 mod markers;
 mod queue;
 mod raws;
@@ -7,4 +7,3 @@ mod recording;
 mod recording_threads;
 mod threads;
 mod wake_ups;
-mod wakes;
