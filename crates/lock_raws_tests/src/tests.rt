@@ -1,4 +1,5 @@
 //! What no clause says of the raw locks.
+mod announcing;
 mod counts;
 mod markers;
 mod queue;
