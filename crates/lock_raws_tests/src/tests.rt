@@ -1,9 +1,10 @@
 //! What no clause says of the raw locks.
-mod downgrades;
+mod announcing;
+mod counts;
 mod markers;
 mod queue;
 mod raws;
 mod recording;
+mod recording_threads;
 mod threads;
 mod wake_ups;
-mod wakes;

@@ -5,8 +5,8 @@ use lock_guard::raw::{
     RawRwLockTimed, RawRwLockUpgrade, RawRwLockUpgradeDowngrade, RawRwLockUpgradeFair,
     RawRwLockUpgradeTimed,
 };
-use lock_raws::{LockCore, RawLock, TokenRaw};
-use lock_raws_word::WordRaw;
+use lock_raws::{LockCore, Monitor, RawLock, TableArbiter, TokenRaw};
+use lock_raws_word::{NoTime, WordCore, WordRaw};
 use std::alloc::Global;
 use std::process::Abort;
 use std::test::Fail;
@@ -38,20 +38,6 @@ fn lock_and_unlock<R: Abort, C: LockCore<Duration = (), Instant = ()>>(rt: &R, r
     raw.unlock_fair(token);
 }
 
-#[test]
-fn a_table_locks_and_unlocks(rt: HostRuntime) -> Result<(), Fail> {
-    let raw: TokenRaw<HostRuntime> = raw_mutex(rt.alloc(), rt)?;
-    lock_and_unlock(&rt, &raw);
-    Ok(())
-}
-
-#[test]
-fn a_word_locks_and_unlocks(rt: HostRuntime) -> Result<(), Fail> {
-    let raw: WordRaw<HostRuntime> = raw_mutex(rt.alloc(), rt)?;
-    lock_and_unlock(&rt, &raw);
-    Ok(())
-}
-
 /// Each move of a free lock of two readers.
 fn upgrade_and_downgrade<R: Abort, C: LockCore<Duration = (), Instant = ()>>(
     rt: &R,
@@ -78,6 +64,10 @@ fn upgrade_and_downgrade<R: Abort, C: LockCore<Duration = (), Instant = ()>>(
     let shared = raw.downgrade(exclusive);
     let other = raw.try_lock_shared().expect(rt, "room for another");
     assert!(rt; raw.try_lock_exclusive().is_none());
+    assert!(rt; raw.try_lock_exclusive_for(()).is_none());
+    assert!(rt; raw.try_lock_exclusive_until(()).is_none());
+    raw.unlock_shared(other);
+    let other = raw.try_lock_shared().expect(rt, "no bar is left");
     raw.unlock_shared(other);
     let shared = raw.bump_shared(shared);
     raw.unlock_shared_fair(shared);
@@ -85,20 +75,6 @@ fn upgrade_and_downgrade<R: Abort, C: LockCore<Duration = (), Instant = ()>>(
     let shared = raw.downgrade_upgradable(upgradable);
     raw.unlock_shared(shared);
     assert!(rt; !RawRwLock::is_locked(raw));
-}
-
-#[test]
-fn readers_of_a_table_upgrade_and_downgrade(rt: HostRuntime) -> Result<(), Fail> {
-    let raw: TokenRaw<HostRuntime> = raw_rwlock(rt.alloc(), rt, 2)?;
-    upgrade_and_downgrade(&rt, &raw);
-    Ok(())
-}
-
-#[test]
-fn readers_of_a_word_upgrade_and_downgrade(rt: HostRuntime) -> Result<(), Fail> {
-    let raw: WordRaw<HostRuntime> = raw_rwlock(rt.alloc(), rt, 2)?;
-    upgrade_and_downgrade(&rt, &raw);
-    Ok(())
 }
 
 /// The timed tries of a free lock of one reader.
@@ -131,17 +107,31 @@ fn try_for_no_time<R: Abort, C: LockCore<Duration = (), Instant = ()>>(rt: &R, r
     raw.unlock_upgradable(upgradable);
 }
 
-#[test]
-fn timed_tries_of_a_table_are_tries(rt: HostRuntime) -> Result<(), Fail> {
-    let raw: TokenRaw<HostRuntime> = raw_rwlock(rt.alloc(), rt, 1)?;
-    try_for_no_time(&rt, &raw);
+/// All of these.
+fn answer<R: Abort, C: LockCore<Duration = (), Instant = ()>>(
+    rt: &R,
+    alloc: Global,
+    waiters: [C::Waiter; 3],
+) -> Result<(), Fault> {
+    let [first, second, last] = waiters;
+    let raw: RawLock<C> = raw_mutex(alloc, first)?;
+    lock_and_unlock(rt, &raw);
+    let raw: RawLock<C> = raw_rwlock(alloc, second, 2)?;
+    upgrade_and_downgrade(rt, &raw);
+    let raw: RawLock<C> = raw_rwlock(alloc, last, 1)?;
+    try_for_no_time(rt, &raw);
     Ok(())
 }
 
 #[test]
-fn timed_tries_of_a_word_are_tries(rt: HostRuntime) -> Result<(), Fail> {
-    let raw: WordRaw<HostRuntime> = raw_rwlock(rt.alloc(), rt, 1)?;
-    try_for_no_time(&rt, &raw);
+fn a_table_answers(rt: HostRuntime) -> Result<(), Fail> {
+    answer::<HostRuntime, Monitor<TableArbiter, HostRuntime>>(&rt, rt.alloc(), [rt; 3])?;
+    Ok(())
+}
+
+#[test]
+fn a_word_answers(rt: HostRuntime) -> Result<(), Fail> {
+    answer::<HostRuntime, WordCore<HostRuntime, NoTime>>(&rt, rt.alloc(), [rt; 3])?;
     Ok(())
 }
 

@@ -1,0 +1,179 @@
+//! A writer that waits keeps later readers out.
+use super::counts::wait_for;
+use super::raws::raw_rwlock;
+use lock_guard::raw::RawRwLock;
+use lock_raws::{LockCore, RawLock, TokenRaw};
+use lock_raws_word::WordRaw;
+use std::process::Abort;
+use std::sync::Wait;
+use std::sync::atomic::{AtomicBool, AtomicU64, Ordering};
+use std::test::Fail;
+use std::thread::{self, Threads};
+
+/// What threads tell one another.
+#[derive(Drop)]
+struct News {
+    /// How many threads have read.
+    have_read: AtomicU64,
+    /// How many reads there were.
+    reads: AtomicU64,
+    has_written: AtomicBool,
+}
+
+impl News {
+    fn new() -> News {
+        News {
+            have_read: AtomicU64::new(0),
+            reads: AtomicU64::new(0),
+            has_written: AtomicBool::new(false),
+        }
+    }
+
+    /// Reads until somebody else does, so that the lock is never free where later readers get in, or for some turns.
+    fn let_another_read(&self) {
+        let before = self.reads.fetch_add(1, Ordering::SeqCst).wrapping_add(1);
+        for _ in 0..1_000u32 {
+            if self.reads.load(Ordering::SeqCst) != before {
+                return;
+            }
+            thread::yield_now();
+        }
+    }
+}
+
+/// What threads do with a lock that they share.
+trait ReadAndWrite {
+    /// Where a thread waits.
+    type Waiter: Wait;
+
+    /// Reads until another try to read is refused. Whether one was.
+    fn read_until_refused(&self, news: &News) -> bool;
+
+    /// Reads again and again until somebody has written.
+    fn read_until_written(&self, news: &News);
+
+    /// Writes once so many have read.
+    fn write_after(&self, news: &News, readers: u64);
+
+    /// Whether a reader is let in.
+    fn lets_a_reader_in(&self) -> bool;
+}
+
+impl<C: LockCore> ReadAndWrite for RawLock<C> {
+    type Waiter = C::Waiter;
+
+    fn read_until_refused(&self, news: &News) -> bool {
+        let own = self.lock_shared();
+        news.have_read.fetch_add(1, Ordering::SeqCst);
+        let mut is_refused = false;
+        for _ in 0..100_000_000u32 {
+            match self.try_lock_shared() {
+                Some(other) => self.unlock_shared(other),
+                None => {
+                    is_refused = true;
+                    break;
+                }
+            }
+        }
+        self.unlock_shared(own);
+        is_refused
+    }
+
+    fn read_until_written(&self, news: &News) {
+        let mut has_read = false;
+        for _ in RawRwLock::waiter(self).forever() {
+            let shared = self.lock_shared();
+            let is_over = news.has_written.load(Ordering::SeqCst);
+            news.let_another_read();
+            self.unlock_shared(shared);
+            if is_over {
+                return;
+            }
+            if !has_read {
+                has_read = true;
+                news.have_read.fetch_add(1, Ordering::SeqCst);
+            }
+        }
+    }
+
+    fn write_after(&self, news: &News, readers: u64) {
+        wait_for(RawRwLock::waiter(self), &news.have_read, readers);
+        let exclusive = self.lock_exclusive();
+        news.has_written.store(true, Ordering::SeqCst);
+        self.unlock_exclusive(exclusive);
+    }
+
+    fn lets_a_reader_in(&self) -> bool {
+        match self.try_lock_shared() {
+            Some(shared) => {
+                self.unlock_shared(shared);
+                true
+            }
+            None => false,
+        }
+    }
+}
+
+/// Whether a reader was refused beside one that read, while a writer waited, and whether one is let in afterwards.
+fn write_beside_a_reader<R: Threads, L: ReadAndWrite + Sync>(rt: &R, lock: &L) -> (bool, bool) {
+    let news = News::new();
+    let (is_refused, ()) = thread::join(
+        rt,
+        || lock.read_until_refused(&news),
+        || lock.write_after(&news, 1),
+    );
+    (is_refused, lock.lets_a_reader_in())
+}
+
+fn read_twice<R: Threads, L: ReadAndWrite + Sync>(rt: &R, lock: &L, news: &News) {
+    thread::join(
+        rt,
+        || lock.read_until_written(news),
+        || lock.read_until_written(news),
+    );
+}
+
+fn read_in_four_threads<R: Threads + Sync, L: ReadAndWrite + Sync>(rt: &R, lock: &L, news: &News) {
+    thread::join(
+        rt,
+        || read_twice(rt, lock, news),
+        || read_twice(rt, lock, news),
+    );
+}
+
+/// Four threads read without end, one beside another where they may, until a fifth has written.
+fn write_among_readers<R: Threads + Sync, L: ReadAndWrite + Sync>(rt: &R, lock: &L) {
+    let news = News::new();
+    thread::join(
+        rt,
+        || read_in_four_threads(rt, lock, &news),
+        || lock.write_after(&news, 4),
+    );
+}
+
+/// A writer beside readers of a lock of four, and of a lock of one.
+fn wait_among_readers<R, L>(rt: &R, four: &L, one: &L)
+where
+    R: Threads + Abort + Sync,
+    L: ReadAndWrite + Sync,
+{
+    assert_eq!(rt; write_beside_a_reader(rt, four), (true, true));
+    write_among_readers(rt, four);
+    write_among_readers(rt, one);
+}
+
+#[test]
+fn a_writer_that_waits_bars_readers_of_a_table(rt: HostRuntime) -> Result<(), Fail> {
+    let four: TokenRaw<HostRuntime> = raw_rwlock(rt.alloc(), rt, 4)?;
+    let one: TokenRaw<HostRuntime> = raw_rwlock(rt.alloc(), rt, 1)?;
+    wait_among_readers(&rt, &four, &one);
+    Ok(())
+}
+
+#[test]
+fn a_writer_that_waits_bars_readers_of_a_word(rt: HostRuntime) -> Result<(), Fail> {
+    let four: WordRaw<HostRuntime> = raw_rwlock(rt.alloc(), rt, 4)?;
+    let one: WordRaw<HostRuntime> = raw_rwlock(rt.alloc(), rt, 1)?;
+    wait_among_readers(&rt, &four, &one);
+    Ok(())
+}
