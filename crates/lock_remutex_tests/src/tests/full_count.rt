@@ -40,6 +40,28 @@ fn bump<W: Wait + Clone + Drop>(
     Ok(lock.is_owned_by_current_thread(party))
 }
 
+/// Waits until the party has given its level up.
+fn wait_until_given_up<W: Wait + Clone + Drop>(lock: &Paused<W>, waiter: &W, party: PartyId) {
+    for _ in waiter.forever() {
+        if !lock.is_owned_by_current_thread(party) {
+            return;
+        }
+        thread::yield_now();
+    }
+    unreachable!()
+}
+
+/// Lets the bump of the raw lock end, and waits until its token came back, since the level that it stood for is taken.
+fn wait_until_refused<W: Wait + Clone + Drop>(lock: &Paused<W>, waiter: &W) {
+    for _ in waiter.forever() {
+        if lock.is_locked() {
+            return;
+        }
+        thread::yield_now();
+    }
+    unreachable!()
+}
+
 /// Takes the only level while the bump has given it up, and keeps it while the bump tries to get it back.
 fn take_meanwhile<W: Wait + Clone + Drop>(
     lock: &Paused<W>,
@@ -49,14 +71,9 @@ fn take_meanwhile<W: Wait + Clone + Drop>(
 ) -> Result<(), Fault> {
     let (is_held, is_over) = flags;
     wait_for(waiter, is_held);
-    for _ in waiter.forever() {
-        if !lock.is_owned_by_current_thread(party) {
-            break;
-        }
-        thread::yield_now();
-    }
+    wait_until_given_up(lock, waiter, party);
     let guard = lock.lock(party)?;
-    lock.is_locked();
+    wait_until_refused(lock, waiter);
     for _ in 0..10_000u32 {
         thread::yield_now();
     }

@@ -1,11 +1,47 @@
 //! What the makers refuse, and what comes back of a lock.
+use lock_base::machine::PartyId;
 use lock_base::raw::{DEFAULT_LEVELS, Fault, Levels};
 use lock_guard::raw::RawMutex;
 use lock_raws::TokenRaw;
 use lock_remutex::{RawReentrantMutex, ReentrantMutex};
 use lock_test_support::answer::equal;
+use lock_test_support::party;
 use std::alloc::Global;
+use std::mem;
 use std::test::Fail;
+
+/// Whether the party gets a hundred levels, which stay taken.
+fn gives_many_levels<R: RawMutex>(lock: &ReentrantMutex<R, u8>, party: PartyId) -> bool
+where
+    R::Guard: Drop,
+{
+    for _ in 0..100 {
+        match lock.lock(party) {
+            Ok(guard) => mem::forget(guard),
+            Err(_) => return false,
+        }
+    }
+    true
+}
+
+/// A lock of each maker that is told no number of levels.
+fn makers_of_many_levels<R: RawMutex + Drop>(
+    alloc: Global,
+    waiters: [R::Waiter; 4],
+) -> Result<(), Fail>
+where
+    R::Guard: Send + Drop,
+{
+    let one = party(1)?;
+    let [first, second, third, last] = waiters;
+    let given = [
+        gives_many_levels(&ReentrantMutex::<R, u8>::new(alloc, first, 1)?, one),
+        gives_many_levels(&ReentrantMutex::<R, u8>::from(alloc, second, 1)?, one),
+        gives_many_levels(&ReentrantMutex::<R, u8>::default(alloc, third)?, one),
+        gives_many_levels(&ReentrantMutex::from_raw(R::new(alloc, last)?, 1)?, one),
+    ];
+    equal(given, [true; 4])
+}
 
 fn put_in_and_out<R: RawMutex + Drop>(alloc: Global, waiters: [R::Waiter; 3]) -> Result<(), Fail>
 where
@@ -23,7 +59,10 @@ where
 }
 
 #[test]
-fn the_value_and_the_raw_lock_come_back(rt: HostRuntime) -> Result<(), Fail> {
+fn makers_keep_the_value_and_the_raw_lock_and_have_many_levels(
+    rt: HostRuntime,
+) -> Result<(), Fail> {
+    makers_of_many_levels::<TokenRaw<HostRuntime>>(rt.alloc(), [rt, rt, rt, rt])?;
     put_in_and_out::<TokenRaw<HostRuntime>>(rt.alloc(), [rt, rt, rt])
 }
 
