@@ -21,7 +21,7 @@ use std::test::Fail;
 type Honest = TokenRaw<HostRuntime>;
 
 /// Answers of a mutex on one thread, and of guards that keep it alive.
-fn answers<R: RawMutex + Drop>(alloc: Global, waiters: [R::Waiter; 4]) -> Result<(), Fail> {
+fn answers<R: RawMutexFair + Drop>(alloc: Global, waiters: [R::Waiter; 4]) -> Result<(), Fail> {
     let [first, second, third, last] = waiters;
     makers::check::<R>(alloc, first, second)?;
     let mutex: Mutex<R, u64> = Mutex::new(alloc, third, 5)?;

@@ -125,7 +125,7 @@ fn waits<W: sync::Wait + Drop, R: RawMutexTimed<Duration = u64, Instant = u64>>(
     condvar: &Condvar<AskedCondvar<R>>,
     checks: &Checks<R>,
     watch: &mut Watch<W, RawCall>,
-) -> [(bool, bool); 4] {
+) -> [(bool, bool); 5] {
     let mut guard = checks.lock();
     watch.saw(&[Lock(Exclusive)]);
     condvar.wait(&mut guard);
@@ -133,11 +133,13 @@ fn waits<W: sync::Wait + Drop, R: RawMutexTimed<Duration = u64, Instant = u64>>(
     let plain = (condvar.raw().got(&[Wait]), false);
     let in_time = wait_for(condvar, &mut guard, 3, WaitUntil(4));
     watch.saw(&[Unlock(Exclusive), Lock(Exclusive)]);
+    let early = wait_until(condvar, &mut guard, 5);
+    watch.saw(&[Unlock(Exclusive), Lock(Exclusive)]);
     let late = wait_until(condvar, &mut guard, LATE);
     watch.saw(&[Unlock(Exclusive), Lock(Exclusive)]);
     let endless = wait_for(condvar, &mut guard, ENDLESS, Wait);
     watch.saw(&[Unlock(Exclusive), Lock(Exclusive)]);
-    [plain, in_time, late, endless]
+    [plain, in_time, early, late, endless]
 }
 
 /// Whether a wait while a first check is true asked the raw condition variable just this, and whether it timed out.
@@ -190,7 +192,13 @@ pub fn check_calls<W: sync::Wait + Drop, R: RawMutexTimed<Duration = u64, Instan
     checks: &Checks<R>,
     watch: &mut Watch<W, RawCall>,
 ) -> Result<(), Fail> {
-    let wanted = [(true, false), (true, false), (true, true), (true, false)];
+    let wanted = [
+        (true, false),
+        (true, false),
+        (true, false),
+        (true, true),
+        (true, false),
+    ];
     equal(waits(condvar, checks, watch), wanted)?;
     watch.saw(&[Unlock(Exclusive)]);
     let wanted = ([true; 2], [(true, false); 2]);

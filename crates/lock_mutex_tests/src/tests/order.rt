@@ -2,7 +2,7 @@
 mod patient;
 
 use super::Honest;
-use lock_guard::raw::RawMutex;
+use lock_guard::raw::{RawMutex, RawMutexFair};
 use lock_mutex::{Condvar, Mutex, MutexGuard};
 use lock_raws::SpuriousCondvar;
 use lock_test_support::answer::equal;
@@ -35,31 +35,39 @@ fn wait_for_calls<W: Wait>(waiter: &W, calls: &Calls<RawCall>, count: usize) {
     unreachable!()
 }
 
-fn lock_while_unlocked<R: RawMutex>(mutex: &Mutex<R, u64>) -> u64 {
+/// Adds 1 to the value.
+fn count_up<R: RawMutex>(mutex: &Mutex<R, u64>) {
     let mut guard = mutex.lock();
-    MutexGuard::unlocked(&mut guard, || {
-        let mut other = mutex.lock();
-        *other = 6;
-    });
+    *guard = guard.wrapping_add(1);
+}
+
+/// Counts up while a guard has given the mutex up, plainly and fairly, and then reads.
+fn count_while_unlocked<R: RawMutexFair>(mutex: &Mutex<R, u64>) -> u64 {
+    let mut guard = mutex.lock();
+    *guard = 6;
+    MutexGuard::unlocked(&mut guard, || count_up(mutex));
+    MutexGuard::unlocked_fair(&mut guard, || count_up(mutex));
     *guard
 }
 
-/// It ends only where nothing is held while the closure runs.
-pub fn check<R: RawMutex>(mutex: &Mutex<R, u64>) -> Result<(), Fail> {
-    equal(lock_while_unlocked(mutex), 6)
+/// It ends only where nothing is held while the closures run.
+pub fn check<R: RawMutexFair>(mutex: &Mutex<R, u64>) -> Result<(), Fail> {
+    equal(count_while_unlocked(mutex), 8)
 }
 
-/// Holds the value until the raw lock was asked once more, and then writes it.
+/// Once the raw lock was asked so often, holds the value until it was asked twice more, and then adds 5.
 fn write_once_another_asked<W: Wait, R: RawMutex>(
     mutex: &Mutex<R, u64>,
     waiter: &W,
     calls: &Calls<RawCall>,
     is_held: &AtomicBool,
+    before: usize,
 ) {
+    wait_for_calls(waiter, calls, before);
     let mut guard = mutex.lock();
     is_held.store(true, Ordering::SeqCst);
-    wait_for_calls(waiter, calls, 2);
-    *guard = 5;
+    wait_for_calls(waiter, calls, before.wrapping_add(2));
+    *guard = guard.wrapping_add(5);
 }
 
 /// What another reads, which asks once the value is held.
@@ -72,27 +80,64 @@ fn read_once_held<W: Wait, R: RawMutex>(
     *mutex.lock()
 }
 
-/// It ends only where a thread asks the raw lock before it takes the lock of the value.
+/// What another reads, which had given the mutex up and asks again once the value is held.
+fn read_again_once_held<W: Wait, R: RawMutex>(
+    mutex: &Mutex<R, u64>,
+    waiter: &W,
+    is_held: &AtomicBool,
+) -> u64 {
+    let mut guard = mutex.lock();
+    MutexGuard::unlocked(&mut guard, || wait_for(waiter, is_held));
+    *guard
+}
+
+/// It ends only where a thread asks the raw lock before it takes the lock of the value, also where it comes back from
+/// `unlocked`.
 #[test]
 fn the_raw_lock_is_asked_before_the_value_is_taken(rt: HostRuntime) -> Result<(), Fail> {
     let raw: Liar<HostRuntime> = RawMutex::new(rt.alloc(), rt)?;
     let calls = raw.calls()?;
-    let is_held = AtomicBool::new(false);
     let mutex = Mutex::from_raw(raw, 0)?;
+    let is_held = AtomicBool::new(false);
     let ((), read) = thread::join(
         &rt,
-        || write_once_another_asked(&mutex, &rt, &calls, &is_held),
+        || write_once_another_asked(&mutex, &rt, &calls, &is_held, 0),
         || read_once_held(&mutex, &rt, &is_held),
     );
     assert_eq!(rt; read, 5);
+    // two guards made four calls, and the reader has yet to make two before it gives the mutex up
+    let is_held = AtomicBool::new(false);
+    let ((), read) = thread::join(
+        &rt,
+        || write_once_another_asked(&mutex, &rt, &calls, &is_held, 6),
+        || read_again_once_held(&mutex, &rt, &is_held),
+    );
+    assert_eq!(rt; read, 10);
     Ok(())
 }
 
+/// How a guard gives its mutex up.
+#[derive(Clone, Copy)]
+enum End {
+    Plain,
+    Fair,
+    Bump,
+}
+
 /// Writes the value, and gives the mutex up.
-fn write_and_end<W: Wait + Clone + Drop>(mutex: &Mutex<Patient<W>, u64>, is_held: &AtomicBool) {
+fn write_and_end<W: Wait + Clone + Drop>(
+    mutex: &Mutex<Patient<W>, u64>,
+    is_held: &AtomicBool,
+    end: End,
+) {
     let mut guard = mutex.lock();
     is_held.store(true, Ordering::SeqCst);
     *guard = 5;
+    match end {
+        End::Plain => drop(guard),
+        End::Fair => MutexGuard::unlock_fair(guard),
+        End::Bump => MutexGuard::bump(&mut guard),
+    }
 }
 
 /// What another reads before the release of the raw lock ends.
@@ -108,19 +153,21 @@ fn read_before_release<W: Wait + Clone + Drop>(
     *guard
 }
 
-/// It ends only where a guard's end gives the value back before the raw lock.
+/// It ends only where a guard's end, and a bump, give the value back before the raw lock.
 #[test]
 fn the_value_is_given_back_before_the_raw_lock(rt: HostRuntime) -> Result<(), Fail> {
-    let raw: Patient<HostRuntime> = RawMutex::new(rt.alloc(), rt)?;
-    let is_read = raw.may_release()?;
-    let is_held = AtomicBool::new(false);
-    let mutex = Mutex::from_raw(raw, 0)?;
-    let ((), read) = thread::join(
-        &rt,
-        || write_and_end(&mutex, &is_held),
-        || read_before_release(&mutex, &rt, &is_held, &is_read),
-    );
-    assert_eq!(rt; read, 5);
+    for end in [End::Plain, End::Fair, End::Bump] {
+        let raw: Patient<HostRuntime> = RawMutex::new(rt.alloc(), rt)?;
+        let is_read = raw.may_release()?;
+        let is_held = AtomicBool::new(false);
+        let mutex = Mutex::from_raw(raw, 0)?;
+        let ((), read) = thread::join(
+            &rt,
+            || write_and_end(&mutex, &is_held, end),
+            || read_before_release(&mutex, &rt, &is_held, &is_read),
+        );
+        assert_eq!(rt; read, 5);
+    }
     Ok(())
 }
 

@@ -50,6 +50,33 @@ fn wait_for<W: Wait>(waiter: &W, flag: &AtomicBool) {
     unreachable!()
 }
 
+impl<R: RawMutexFair, W: Wait> Bumped<R, W>
+where
+    R::Guard: Drop,
+{
+    /// Waits until the party has given its level up.
+    fn wait_until_given_up(&self) {
+        for _ in self.waiter.forever() {
+            if !self.lock.is_owned_by_current_thread(self.party) {
+                return;
+            }
+            thread::yield_now();
+        }
+        unreachable!()
+    }
+
+    /// Lets the bump of the raw lock end, and waits until its token came back, since the level that it stood for is taken.
+    fn wait_until_refused(&self) {
+        for _ in self.waiter.forever() {
+            if self.lock.is_locked() {
+                return;
+            }
+            thread::yield_now();
+        }
+        unreachable!()
+    }
+}
+
 impl<R: RawMutexFair, W: Wait> ByTwo for Bumped<R, W>
 where
     R::Guard: Drop,
@@ -68,14 +95,9 @@ where
     /// Takes the only level while the bump has given it up, and keeps it while the bump tries to get it back.
     fn second(&self) -> Result<bool, Fault> {
         wait_for(&self.waiter, &self.is_held);
-        for _ in self.waiter.forever() {
-            if !self.lock.is_owned_by_current_thread(self.party) {
-                break;
-            }
-            thread::yield_now();
-        }
+        self.wait_until_given_up();
         let guard = self.lock.lock(self.party)?;
-        self.lock.is_locked();
+        self.wait_until_refused();
         for _ in 0..10_000u32 {
             thread::yield_now();
         }

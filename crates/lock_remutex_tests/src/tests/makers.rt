@@ -1,11 +1,47 @@
 //! What the makers refuse, and what comes back of a lock.
+use lock_base::machine::PartyId;
 use lock_base::raw::{DEFAULT_LEVELS, Fault, Levels};
 use lock_guard::raw::RawMutex;
 use lock_raws::TokenRaw;
 use lock_remutex::{RawReentrantMutex, ReentrantMutex};
 use lock_test_support::answer::equal;
+use lock_test_support::party;
 use std::alloc::Global;
+use std::mem;
 use std::test::Fail;
+
+/// Whether the party gets a hundred levels, which stay taken.
+fn gives_many_levels<R: RawMutex>(lock: &ReentrantMutex<R, u8>, party: PartyId) -> bool
+where
+    R::Guard: Drop,
+{
+    for _ in 0..100 {
+        match lock.lock(party) {
+            Ok(guard) => mem::forget(guard),
+            Err(_) => return false,
+        }
+    }
+    true
+}
+
+/// A lock of each maker that is told no number of levels.
+fn makers_give_many_levels<R: RawMutex + Drop>(
+    alloc: Global,
+    waiters: [R::Waiter; 4],
+) -> Result<(), Fail>
+where
+    R::Guard: Send + Drop,
+{
+    let one = party(1)?;
+    let [first, second, third, last] = waiters;
+    let given = [
+        gives_many_levels(&ReentrantMutex::<R, u8>::new(alloc, first, 1)?, one),
+        gives_many_levels(&ReentrantMutex::<R, u8>::from(alloc, second, 1)?, one),
+        gives_many_levels(&ReentrantMutex::<R, u8>::default(alloc, third)?, one),
+        gives_many_levels(&ReentrantMutex::from_raw(R::new(alloc, last)?, 1)?, one),
+    ];
+    equal(given, [true; 4])
+}
 
 fn put_in_and_out<R: RawMutex + Drop>(alloc: Global, waiters: [R::Waiter; 3]) -> Result<(), Fail>
 where
@@ -48,16 +84,18 @@ where
     equal(taken, [is_not, is, is, is_not])
 }
 
-/// The value and the raw lock come back, and the limits of levels.
+/// The value and the raw lock come back, the limits of levels, and how many there are where none was told.
 pub fn check<R: RawMutex + Drop>(
     alloc: Global,
-    waiters: ([R::Waiter; 3], [R::Waiter; 4]),
+    waiters: ([R::Waiter; 3], [R::Waiter; 4], [R::Waiter; 4]),
 ) -> Result<(), Fail>
 where
     R::Guard: Send + Drop,
 {
-    put_in_and_out::<R>(alloc, waiters.0)?;
-    limits_of_levels::<R>(alloc, waiters.1)
+    let (values, limits, levels) = waiters;
+    put_in_and_out::<R>(alloc, values)?;
+    limits_of_levels::<R>(alloc, limits)?;
+    makers_give_many_levels::<R>(alloc, levels)
 }
 
 /// What each maker is refused with.

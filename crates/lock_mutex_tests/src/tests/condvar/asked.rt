@@ -77,7 +77,12 @@ impl<R: RawMutex> RawCondvar for AskedCondvar<R> {
 }
 
 impl<R: RawMutexTimed<Duration = u64, Instant = u64>> RawCondvarTimed for AskedCondvar<R> {
-    fn checked_duration_to_instant(timeout: &u64) -> Option<u64> {
+    /// It has no clock: the mutex has.
+    fn checked_duration_to_instant(_timeout: &u64) -> Option<u64> {
+        None
+    }
+
+    fn instant_after(_mutex: &R, timeout: &u64) -> Option<u64> {
         timeout.checked_add(1)
     }
 

@@ -2,7 +2,7 @@
 ghost use Rattle.std.specs.Prelude.{IsOkUnless};
 
 use lock_base::raw::Fault;
-use lock_guard::raw::{GuardSend, RawMutex};
+use lock_guard::raw::{GuardSend, RawMutex, RawMutexFair};
 use std::alloc::Global;
 use std::clone::Clone;
 use std::sync::atomic::{AtomicBool, Ordering};
@@ -23,6 +23,17 @@ impl<W: Wait + Clone + Drop> Patient<W> {
             Ok(flag) => Ok(flag),
             Err(_) => Err(Fault::OutOfMemory),
         }
+    }
+
+    /// Waits until releases may end.
+    fn wait(&self) {
+        for _ in self.waiter.forever() {
+            if self.may_release.load(Ordering::SeqCst) {
+                return;
+            }
+            thread::yield_now();
+        }
+        unreachable!()
     }
 }
 
@@ -54,16 +65,17 @@ impl<W: Wait + Clone + Drop> RawMutex for Patient<W> {
     }
 
     fn unlock(&self, _token: GuardSend) {
-        for _ in self.waiter.forever() {
-            if self.may_release.load(Ordering::SeqCst) {
-                return;
-            }
-            thread::yield_now();
-        }
-        unreachable!()
+        self.wait();
     }
 
     fn is_locked(&self) -> bool {
         false
+    }
+}
+
+/// A bump is by default such a release, and another acquisition.
+impl<W: Wait + Clone + Drop> RawMutexFair for Patient<W> {
+    fn unlock_fair(&self, _token: GuardSend) {
+        self.wait();
     }
 }

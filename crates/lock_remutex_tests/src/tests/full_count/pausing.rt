@@ -7,11 +7,13 @@ use std::sync::Wait;
 use std::sync::atomic::{AtomicBool, Ordering};
 use std::thread;
 
-/// A raw lock that admits everything. A bump ends once the lock was asked whether it is held.
+/// A raw lock that admits everything. A bump ends once the lock was asked whether it is held, which it answers to be so once
+/// a token was given back.
 #[derive(Drop)]
 pub struct Pausing<W: Wait + Clone + Drop> {
     waiter: W,
     was_asked: AtomicBool,
+    was_unlocked: AtomicBool,
 }
 
 impl<W: Wait + Clone + Drop> RawMutex for Pausing<W> {
@@ -20,8 +22,11 @@ impl<W: Wait + Clone + Drop> RawMutex for Pausing<W> {
     type Waiter = W;
 
     fn new(_alloc: Global, waiter: W) -> Result<Pausing<W>, Fault> {
-        let was_asked = AtomicBool::new(false);
-        Ok(Pausing { waiter, was_asked })
+        Ok(Pausing {
+            waiter,
+            was_asked: AtomicBool::new(false),
+            was_unlocked: AtomicBool::new(false),
+        })
     }
 
     fn waiter(&self) -> &W {
@@ -36,11 +41,13 @@ impl<W: Wait + Clone + Drop> RawMutex for Pausing<W> {
         Some(GuardSend::new())
     }
 
-    fn unlock(&self, _token: GuardSend) {}
+    fn unlock(&self, _token: GuardSend) {
+        self.was_unlocked.store(true, Ordering::SeqCst);
+    }
 
     fn is_locked(&self) -> bool {
         self.was_asked.store(true, Ordering::SeqCst);
-        false
+        self.was_unlocked.load(Ordering::SeqCst)
     }
 }
 
