@@ -1,5 +1,5 @@
 //! An arbiter behind a lock of std's.
-ghost use Rattle.std.specs.Prelude.{◌≡◌, IsTrue, IfErr};
+ghost use Rattle.std.specs.Prelude.{◌≡◌, IsTrue, IfErr, MatchResult, if◌then◌else◌};
 ghost use Rattle.lock_base.specs.Modes.{is_move};
 
 use crate::announcing::admit_or_announce;
@@ -164,7 +164,9 @@ impl<A: Arbiter, W: Wait + Clone + Drop> LockCore for Monitor<A, W> {
 
 /// What an upgrade gives: a token that is not out is as good as upgraded.
 fn upgraded<T>(changed: Result<T, Unchanged<T>>) -> Result<T, T>
-    ensures { (token : T) → IfErr changed (λ same. same.token ≡ token) → IfErr result (λ back. back ≡ token) }
+    ensures answer { MatchResult changed (λ next. result ≡ Ok next)
+        (λ same. result ≡ if same.is_out then Err same.token else Ok same.token) }
+    ensures back { (token : T) → IfErr changed (λ same. same.token ≡ token) → IfErr result (λ back. back ≡ token) }
 {
     match changed {
         Ok(next) => Ok(next),

@@ -2,5 +2,7 @@
 #![tactic(auto)]
 
 mod real_time;
+#[cfg(test)]
+mod tests;
 
 pub use real_time::{RealTime, TimedCondvar, TimedRaw};

@@ -1,4 +1,6 @@
 //! Threads that sleep until a notification.
+ghost use Rattle.std.specs.Prelude.{◌≡◌, ◌%◌, ◌^◌};
+
 use std::sync::Wait;
 use std::sync::atomic::{AtomicU64, Ordering};
 use std::time::{Clock, Duration};
@@ -69,6 +71,8 @@ impl Sleepers {
 }
 
 /// What a parked thread compares.
-fn low_half(number: u64) -> u32 {
-    (number & 0xffff_ffff) as u32
+fn low_half(number: u64) -> u32
+    ensures { result ≡ number % 2 ^ 32 }
+{
+    (number % 0x1_0000_0000) as u32
 }

@@ -1,4 +1,8 @@
 //! What the timed calls of a lock on a word measure.
+ghost use Rattle.std.specs.Prelude.{◌<◌, ◌≤◌, IfSome, IsSome};
+ghost use Rattle.std.specs.Duration.{as_nanos};
+ghost use Rattle.std.specs.Time.{instant_nanos};
+
 use crate::word_lock::WordLock;
 use lock_word::ExWant;
 use std::sync::Wait;
@@ -28,7 +32,9 @@ impl<W: Wait> Timing<W> for NoTime {
 
     type Instant = ();
 
-    fn instant_after(_waiter: &W, _timeout: ()) -> Option<()> {
+    fn instant_after(_waiter: &W, _timeout: ()) -> Option<()>
+        ensures { IsSome result }
+    {
         Some(())
     }
 
@@ -38,7 +44,9 @@ impl<W: Wait> Timing<W> for NoTime {
 }
 
 /// The time until then. None once it has come, and where the clock cannot be read.
-pub fn time_left<W: Clock>(clock: &W, deadline: Instant) -> Option<Duration> {
+pub fn time_left<W: Clock>(clock: &W, deadline: Instant) -> Option<Duration>
+    ensures { IfSome result (λ left. (0 < as_nanos left) × (as_nanos left ≤ instant_nanos deadline)) }
+{
     let now = Instant::now(clock).ok()?;
     let left = deadline.checked_duration_since(now)?;
     if left.is_zero() { None } else { Some(left) }

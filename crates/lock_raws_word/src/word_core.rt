@@ -1,5 +1,6 @@
 //! A raw lock over one word.
-ghost use Rattle.std.specs.Prelude.{◌≡◌, IfErr};
+ghost use Rattle.std.specs.Prelude.{◌≡◌, ◌↔◌, IfOk, IfErr, IsOk, is_some, is_ok};
+ghost use Rattle.lock_base.specs.Limits.{IsLimit};
 
 use crate::timing::{NoTime, Timing};
 use crate::word_lock::WordLock;
@@ -43,7 +44,12 @@ impl<W: Wait + Clone + Drop, T: Timing<W>> LockCore for WordCore<W, T> {
 
     type Instant = T::Instant;
 
-    fn new(_alloc: Global, waiter: W, readers: u64) -> Result<WordCore<W, T>, Fault> {
+    /// It takes no memory, so it is never refused for want of it.
+    fn new(_alloc: Global, waiter: W, readers: u64) -> Result<WordCore<W, T>, Fault>
+        ensures range { IsOk result ↔ IsLimit readers }
+        ensures fault { IfErr result (λ fault. fault ≡ Fault.BadLimits) }
+        ensures limit { IfOk result (λ core. core.lock.readers ≡ readers) }
+    {
         if !is_limit(readers) {
             return Err(Fault::BadLimits);
         }
@@ -128,7 +134,9 @@ impl<W: Wait + Clone + Drop, T: Timing<W>> LockCore for WordCore<W, T> {
     }
 }
 
-fn token_if(is_admitted: bool) -> Option<WordToken> {
+fn token_if(is_admitted: bool) -> Option<WordToken>
+    ensures { is_some result ≡ is_admitted }
+{
     if is_admitted {
         Some(WordToken { made: () })
     } else {
@@ -137,7 +145,8 @@ fn token_if(is_admitted: bool) -> Option<WordToken> {
 }
 
 fn upgraded_if(is_admitted: bool, token: WordToken) -> Result<WordToken, WordToken>
-    ensures { IfErr result (λ back. back ≡ token) }
+    ensures admitted { is_ok result ≡ is_admitted }
+    ensures back { IfErr result (λ back. back ≡ token) }
 {
     if is_admitted { Ok(token) } else { Err(token) }
 }

@@ -28,6 +28,7 @@ impl WordLock {
     /// No token is out, and at most so many may read.
     pub fn new(readers: u64) -> WordLock
         requires { IsLimit readers }
+        ensures { result.readers ≡ readers }
     {
         WordLock {
             word: AtomicU64::new(0),

@@ -1,6 +1,7 @@
 //! A raw state in one number.
-ghost use Rattle.std.specs.Prelude.{◌≡◌, ◌<◌, ◌&&◌, not, IsTrue, if◌then◌else◌};
-ghost use Rattle.lock_base.specs.Modes.{count_of, one_more, one_less, admits, may_become, is_move};
+ghost use Rattle.std.specs.Prelude.{◌≡◌, ◌↔◌, ◌<◌, ◌&&◌, false, not, IfOk, IfErr, IsOk, IsTrue, if◌then◌else◌};
+ghost use Rattle.lock_base.specs.Limits.{IsLimit};
+ghost use Rattle.lock_base.specs.Modes.{empty_bag, count_of, one_more, one_less, admits, may_become, is_move};
 
 use lock_base::machine::Mode;
 use lock_base::raw::{Fault, RawState, is_limit};
@@ -97,7 +98,13 @@ impl RawState for PackedWord {
 
     ghost bar = { λ w. w.bar };
 
-    fn new(_alloc: Global, places: u64, readers: u64) -> Result<PackedWord, Fault> {
+    /// It takes no memory, so it is never refused for want of it.
+    fn new(_alloc: Global, places: u64, readers: u64) -> Result<PackedWord, Fault>
+        ensures range { IsOk result ↔ (IsLimit places × IsLimit readers) }
+        ensures fault { IfErr result (λ fault. fault ≡ Fault.BadLimits) }
+        ensures made { IfOk result (λ made.
+            made ≡ record { bag = empty_bag; places = places; readers = readers; bar = false }) }
+    {
         if !is_limit(places) || !is_limit(readers) {
             return Err(Fault::BadLimits);
         }
