@@ -15,7 +15,7 @@ use std::thread::{self, Threads};
 use std::time::{Clock, Instant};
 
 /// How many readers the reader-writer locks have.
-const READERS: u64 = 64;
+pub const READERS: u64 = 64;
 
 /// A line for each lock and raw lock: its names, and nanoseconds a round.
 pub fn print<R: Print + Clock + Wait + Threads + Sync + Copy>(
@@ -91,7 +91,7 @@ where
 }
 
 /// The names, and nanoseconds a round with a tenth.
-fn line<R: Print + Clock>(
+pub fn line<R: Print + Clock>(
     rt: &R,
     name: &str,
     what: &str,

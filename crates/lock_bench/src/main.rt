@@ -1,10 +1,12 @@
 //! Times the locks over each raw lock, and shows what waiting costs. With no word it does nothing.
 //!
 //! `locks ROUNDS`: nanoseconds of a round of each lock on one thread, and of a condition variable's round trip between
-//! two. `waits MILLIS`: the processor time of a wait so long. `timed`: what timed calls answer, and after how long.
+//! two. `seated ROUNDS`: of an attempt and a release of a seated lock. `waits MILLIS`: the processor time of a wait so long.
+//! `timed`: what timed calls answer, and after how long.
 #![tactic(auto)]
 
 mod locks;
+mod seated;
 mod timed;
 mod waits;
 
@@ -30,9 +32,10 @@ fn run<R: Print + Clock + CpuClock + Wait + Threads + Sync + Copy>(
     };
     match word.as_str() {
         "locks" => locks::print(rt, alloc, number(words, 1_000_000)),
+        "seated" => seated::print(rt, alloc, number(words, 1_000_000)),
         "waits" => waits::print(rt, alloc, number(words, 100)),
         "timed" => timed::print(rt, alloc),
-        _ => println!(rt; "usage: lock_bench locks ROUNDS | waits MILLIS | timed"),
+        _ => println!(rt; "usage: lock_bench locks ROUNDS | seated ROUNDS | waits MILLIS | timed"),
     }
 }
 

@@ -104,7 +104,8 @@ impl<R: RawRwLock, T> RwLock<R, T> {
         self.raw.is_locked_exclusive()
     }
 
-    /// Waits until the raw lock admits one more to read.
+    /// Waits until the raw lock admits one more to read. A thread that reads already may wait for ever: where the raw lock keeps
+    /// readers out while a writer waits, that writer waits for this thread.
     pub fn read(&self) -> RwLockReadGuard<'_, R, T>
         ensures { IsGuardOf self.entry result }
     {
