@@ -91,9 +91,7 @@ under_bar false x y = refl
 
 either : {a b c d a' b' c' d' : Bool} → a ≡ a' → b ≡ b' → c ≡ c' → d ≡ d' → (a || (b || (c || d))) ≡ (a' || (b' || (c' || d')))
 either {a} {b} {c} {d} {a'} {b'} {c'} {d'} p q r s =
-    ap (λ x. x || (b || (c || d))) p
-    ∙ (ap (λ x. a' || (x || (c || d))) q
-    ∙ (ap (λ x. a' || (b' || (x || d))) r ∙ ap (λ x. a' || (b' || (c' || x))) s))
+    ap (λ x. x || (b || (c || d))) p ∙ (ap (λ x. a' || (x || (c || d))) q ∙ (ap (λ x. a' || (b' || (x || d))) r ∙ ap (λ x. a' || (b' || (c' || x))) s))
 
 words_unblock : (limit : ℕ) (bar : Bool) (before after : Bag) → limit < 2 ^ 32 → AreCompatible limit before → AreCompatible limit after
     → word_unblocks limit (word_of (with_bar bar before)) (word_of (with_bar bar after)) ≡ unblocks limit bar before after

@@ -20,6 +20,5 @@ with_bar bar b = record { bag = b; bars = bars_of bar }
 -- a step on the word of compatible bags, which leaves the bar, wakes whom the same step of the bags wakes
 abbrev pub WakesAreOfBags : Type 0
 WakesAreOfBags =
-    (limit : ℕ) (bar : Bool) (before after : Bag) → IsLimit limit → AreCompatible limit before
-    → AreCompatible limit after
+    (limit : ℕ) (bar : Bool) (before after : Bag) → IsLimit limit → AreCompatible limit before → AreCompatible limit after
     → word_wakes limit (word_of (with_bar bar before)) (word_of (with_bar bar after)) ≡ wakes limit bar before after

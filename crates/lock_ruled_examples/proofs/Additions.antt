@@ -24,20 +24,8 @@ joins view other =
     record {
       earlier = λ value before between after is.
           (let both : ℕ = view + other in
-          omega (
-            arith,
-            around before view (between ++ other ∷ after),
-            around between other after,
-            around before both (between ++ after),
-            append between after,
-          ));
+          omega (arith, around before view (between ++ other ∷ after), around between other after, around before both (between ++ after), append between after));
       later = λ value before between after is.
           (let both : ℕ = view + other in
-          omega (
-            arith,
-            around before other (between ++ view ∷ after),
-            around between view after,
-            append before (between ++ both ∷ after),
-            around between both after,
-          ));
+          omega (arith, around before other (between ++ view ∷ after), around between view after, append before (between ++ both ∷ after), around between both after));
     }

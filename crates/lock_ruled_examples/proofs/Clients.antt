@@ -3,7 +3,7 @@ use Rattle.std.proofs.Common.{◌≡◌, ℕ, List, [], ◌∷◌, ◌++◌, len
 use Rattle.lock_api.specs.Ruled.{Splits, Joins}
 use Rattle.lock_ruled_examples.specs.declared.queue.Role.TheVariants.{Both, Produces, Consumes}
 use Rattle.lock_ruled_examples.specs.declared.queue.Log.{Log}
-use Rattle.lock_ruled_examples.specs.Logs.{sole_user, producer, consumer, IsInOrder}
+use Rattle.lock_ruled_examples.specs.Logs.{alone, producer, consumer, IsInOrder}
 
 abbrev Moves : List ℕ → Log → List ℕ → Log → Type 0
 Moves items log items' log' = (before after : List Log) → IsInOrder items (before ++ log ∷ after) → IsInOrder items' (before ++ log' ∷ after)
@@ -26,7 +26,7 @@ takes rest taken x (p ∷ []) (d ∷ ds) h = h
 takes rest taken x (p ∷ q ∷ []) after h = h
 takes rest taken x (p ∷ q ∷ r ∷ rs) after h = h
 
-pub cuts : (items put taken : List ℕ) (before after : List Log) → IsInOrder items (before ++ sole_user put taken ∷ after)
+pub cuts : (items put taken : List ℕ) (before after : List Log) → IsInOrder items (before ++ alone put taken ∷ after)
     → IsInOrder items (before ++ producer put ∷ (after ++ consumer taken ∷ []))
 cuts items put taken [] [] h = (refl, refl, h.1)
 cuts items put taken [] (c ∷ []) h = (let e : Both ≡ Produces = h.0 in cc)
@@ -37,8 +37,7 @@ cuts items put taken (p ∷ q ∷ []) after h = absurd h
 cuts items put taken (p ∷ q ∷ r ∷ rs) after h = absurd h
 
 pub unites : (items put taken : List ℕ) (before between after : List Log)
-    → IsInOrder items (before ++ producer put ∷ (between ++ consumer taken ∷ after))
-    → IsInOrder items (before ++ sole_user put taken ∷ (between ++ after))
+    → IsInOrder items (before ++ producer put ∷ (between ++ consumer taken ∷ after)) → IsInOrder items (before ++ alone put taken ∷ (between ++ after))
 unites items put taken [] [] [] h = (refl, h.2)
 unites items put taken [] [] (d ∷ ds) h = absurd h
 unites items put taken [] (b ∷ []) after h = absurd h
@@ -69,35 +68,30 @@ last_of (y ∷ ys) x = last_of ys x
 pub puts_as : (items now : List ℕ) (log : Log) (put : List ℕ) (x : ℕ) → log ≡ producer put → now ≡ items ++ x ∷ []
     → Moves items log now (record log { put = log.put ++ drop (length items) now })
 puts_as items now log put x who is =
-    let here = subst (λ (l : List ℕ). Moves items (producer put) (items ++ x ∷ []) (producer (put ++ l)))
-    (sym (last_of items x)) (puts items put x) in
+    let here = subst (λ (l : List ℕ). Moves items (producer put) (items ++ x ∷ []) (producer (put ++ l))) (sym (last_of items x)) (puts items put x) in
     subst (λ (z : Log × List ℕ). Moves items z.0 z.1 (record z.0 { put = z.0.put ++ drop (length items) z.1 })) (λ i. (sym who i, sym is i)) here
 
 pub takes_as : (items now : List ℕ) (log : Log) (taken : List ℕ) → log ≡ consumer taken → 0 < length items → now ≡ remove items 0
     → Moves items log now (record log { taken = log.taken ++ take 1 items })
 takes_as [] now log taken who some_item is = absurd (omega arith)
 takes_as (x ∷ rest) now log taken who some_item is =
-    subst (λ (z : Log × List ℕ). Moves (x ∷ rest) z.0 z.1 (record z.0 { taken = z.0.taken ++ x ∷ [] }))
-    (λ i. (sym who i, sym is i)) (takes rest taken x)
+    subst (λ (z : Log × List ℕ). Moves (x ∷ rest) z.0 z.1 (record z.0 { taken = z.0.taken ++ x ∷ [] })) (λ i. (sym who i, sym is i)) (takes rest taken x)
 
 module _ {T : Type 0} (items_of : T → List ℕ) where
   abbrev Rule : T → List Log → Type 0
   Rule queue logs = IsInOrder (items_of queue) logs
 
-  pub cuts_as : (log : Log) (put taken : List ℕ) → log ≡ sole_user put taken → Splits Rule log (producer log.put) (consumer log.taken)
-  cuts_as log put taken who =
-      subst (λ (l : Log). Splits Rule l (producer l.put) (consumer l.taken)) (sym who)
-      (λ queue. cuts (items_of queue) put taken)
+  pub cuts_as : (log : Log) (put taken : List ℕ) → log ≡ alone put taken → Splits Rule log (producer log.put) (consumer log.taken)
+  cuts_as log put taken who = subst (λ (l : Log). Splits Rule l (producer l.put) (consumer l.taken)) (sym who) (λ queue. cuts (items_of queue) put taken)
 
-  pub joins_as : (log other : Log) (put taken : List ℕ) → log ≡ producer put → other ≡ consumer taken
-      → Joins Rule log other (sole_user log.put other.taken)
+  pub joins_as : (log other : Log) (put taken : List ℕ) → log ≡ producer put → other ≡ consumer taken → Joins Rule log other (alone log.put other.taken)
   joins_as log other put taken who who' =
-      let here : Joins Rule (producer put) (consumer taken) (sole_user put taken)
+      let here : Joins Rule (producer put) (consumer taken) (alone put taken)
       = record {
         earlier = λ queue. unites (items_of queue) put taken;
         later = λ queue before between after h. absurd (never (items_of queue) put taken before between after h);
       } in
-      subst (λ (z : Log × Log). Joins Rule z.0 z.1 (sole_user z.0.put z.1.taken)) (λ i. (sym who i, sym who' i)) here
+      subst (λ (z : Log × Log). Joins Rule z.0 z.1 (alone z.0.put z.1.taken)) (λ i. (sym who i, sym who' i)) here
 
 -- as many were taken out as were put in
 pub all_taken : (put taken rest : List ℕ) → put ≡ taken ++ rest → length taken ≡ length put → taken ≡ put

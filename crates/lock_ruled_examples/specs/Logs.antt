@@ -3,8 +3,8 @@ use Rattle.std.specs.Prelude.{◌≡◌, ℕ, List, [], ◌∷◌, ◌++◌}
 use Rattle.lock_ruled_examples.specs.declared.queue.Role.TheVariants.{Both, Produces, Consumes}
 use Rattle.lock_ruled_examples.specs.declared.queue.Log.{Log}
 
-abbrev pub sole_user : List ℕ → List ℕ → Log
-sole_user put taken = record { role = Both; put = put; taken = taken }
+abbrev pub alone : List ℕ → List ℕ → Log
+alone put taken = record { role = Both; put = put; taken = taken }
 
 abbrev pub producer : List ℕ → Log
 producer put = record { role = Produces; put = put; taken = [] }

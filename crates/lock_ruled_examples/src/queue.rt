@@ -31,11 +31,11 @@ pub struct Log {
 pub struct InOrder;
 
 impl MutexRule<Vec<u32>, Log> for InOrder {
-    ghost use Rattle.lock_ruled_examples.specs.Logs.{IsInOrder, sole_user};
+    ghost use Rattle.lock_ruled_examples.specs.Logs.{IsInOrder, alone};
 
     ghost rule = { λ queue logs. IsInOrder queue.items logs };
 
-    ghost first = { λ queue. sole_user queue.items [] };
+    ghost first = { λ queue. alone queue.items [] };
 }
 
 /// The last of the items was put in.
@@ -77,11 +77,11 @@ impl Split<Log> for Roles {
 
 impl Join<Log> for Roles {
     ghost use Rattle.std.specs.Prelude.{[]};
-    ghost use Rattle.lock_ruled_examples.specs.Logs.{sole_user};
+    ghost use Rattle.lock_ruled_examples.specs.Logs.{alone};
 
-    ghost both = { λ log other. sole_user log.put other.taken };
+    ghost both = { λ log other. alone log.put other.taken };
 
-    ghost spent = { sole_user [] [] };
+    ghost spent = { alone [] [] };
 }
 
 type Queue = RuledMutex<Vec<u32>, Log, InOrder>;

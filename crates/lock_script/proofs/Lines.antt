@@ -9,21 +9,16 @@ use Rattle.lock_script.specs.Lines.{lines_of}
 
 -- one more byte in front, where t says whether it is a line feed
 lines_of-step : (t : Bool) (x : ℕ) (rest : List ℕ) (m : ℕ) → lines_of rest ≡ take m rest ∷ lines_of (drop (suc m) rest)
-    → cond t ([] ∷ lines_of rest) (onto_first x (lines_of rest))
-    ≡ take (cond (not t) (1 + m) 0) (x ∷ rest) ∷ lines_of (drop (suc (cond (not t) (1 + m) 0)) (x ∷ rest))
+    → cond t ([] ∷ lines_of rest) (onto_first x (lines_of rest)) ≡ take (cond (not t) (1 + m) 0) (x ∷ rest) ∷ lines_of (drop (suc (cond (not t) (1 + m) 0)) (x ∷ rest))
 lines_of-step true x rest m h = refl
 lines_of-step false x rest m h = rw one-add (ap (onto_first x) h)
 
-lines_of-one : (t : Bool) (x : ℕ)
-    → cond t ([] ∷ []) ((x ∷ []) ∷ [])
-    ≡ take (cond (not t) (1 + 0) 0) (x ∷ []) ∷ lines_of (drop (suc (cond (not t) (1 + 0) 0)) (x ∷ []))
+lines_of-one : (t : Bool) (x : ℕ) → cond t ([] ∷ []) ((x ∷ []) ∷ []) ≡ take (cond (not t) (1 + 0) 0) (x ∷ []) ∷ lines_of (drop (suc (cond (not t) (1 + 0) 0)) (x ∷ []))
 lines_of-one true x = refl
 lines_of-one false x = refl
 
 -- the first line is what stands before the first line feed, or all where there is none
-pub lines_of-first : (xs : List ℕ) → 0 < length xs
-    → lines_of xs ≡ take (position_or_len (λ b. b == 10) xs) xs
-    ∷ lines_of (drop (suc (position_or_len (λ b. b == 10) xs)) xs)
+pub lines_of-first : (xs : List ℕ) → 0 < length xs → lines_of xs ≡ take (position_or_len (λ b. b == 10) xs) xs ∷ lines_of (drop (suc (position_or_len (λ b. b == 10) xs)) xs)
 lines_of-first [] h = absurd (omega arith)
 lines_of-first (x ∷ []) h = lines_of-one (x == 10) x
 lines_of-first (x ∷ y ∷ ys) h = lines_of-step (x == 10) x (y ∷ ys) _ (lines_of-first (y ∷ ys) (omega arith))
@@ -33,12 +28,10 @@ some_of-choice true n at h = cc
 some_of-choice false n at h = cc
 
 -- the same by the place that a search for the first line feed found
-pub lines_of-at : (xs : List ℕ) (at : ℕ) → 0 < length xs → position (λ b. b == 10) xs ≡ Some at
-    → lines_of xs ≡ take at xs ∷ lines_of (take (length xs - (at + 1)) (drop (at + 1) xs))
+pub lines_of-at : (xs : List ℕ) (at : ℕ) → 0 < length xs → position (λ b. b == 10) xs ≡ Some at → lines_of xs ≡ take at xs ∷ lines_of (take (length xs - (at + 1)) (drop (at + 1) xs))
 lines_of-at xs at h found =
     let n = position_or_len (λ b. b == 10) xs in
     let same : n ≡ at = some_of-choice (nat_lt n (length xs)) n at found in
-    let first : lines_of xs ≡ take at xs ∷ lines_of (drop (suc at) xs)
-    = subst (λ k. lines_of xs ≡ take k xs ∷ lines_of (drop (suc k) xs)) same (lines_of-first xs h) in
+    let first : lines_of xs ≡ take at xs ∷ lines_of (drop (suc at) xs) = subst (λ k. lines_of xs ≡ take k xs ∷ lines_of (drop (suc k) xs)) same (lines_of-first xs h) in
     let whole : take (length xs - (at + 1)) (drop (at + 1) xs) ≡ drop (suc at) xs = rw add-one (take_all _ _ (rw length-drop (le_refl _))) in
     rw whole first
