@@ -7,4 +7,5 @@ mod raws;
 mod recording;
 mod recording_threads;
 mod threads;
+mod transitions;
 mod wake_ups;

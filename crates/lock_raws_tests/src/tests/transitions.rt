@@ -1,0 +1,106 @@
+//! A writer that waits does not get in while a token becomes one of another mode.
+use super::raws::raw_rwlock;
+use lock_guard::raw::{RawRwLock, RawRwLockDowngrade, RawRwLockUpgrade, RawRwLockUpgradeDowngrade};
+use lock_raws::{LockCore, RawLock, TokenRaw};
+use lock_raws_word::WordRaw;
+use lock_test_support::answer::equal;
+use std::sync::Wait;
+use std::sync::atomic::{AtomicBool, Ordering};
+use std::test::Fail;
+use std::thread::{self, Threads};
+
+/// Waits until the flag is up.
+fn wait_for<W: Wait>(waiter: &W, flag: &AtomicBool) {
+    for _ in waiter.forever() {
+        if flag.load(Ordering::SeqCst) {
+            return;
+        }
+        thread::yield_now();
+    }
+    unreachable!()
+}
+
+/// Waits until a writer that waits keeps readers out.
+fn wait_for_bar<R: RawRwLock>(raw: &R) {
+    for _ in raw.waiter().forever() {
+        match raw.try_lock_shared() {
+            Some(shared) => raw.unlock_shared(shared),
+            None => return,
+        }
+        thread::yield_now();
+    }
+    unreachable!()
+}
+
+/// What threads do with a lock that they share.
+trait Walk {
+    /// Where a thread waits.
+    type Waiter: Wait;
+
+    /// Changes a token's mode again and again while a writer waits. Whether that has written before the token's end.
+    fn change_modes(&self, is_held: &AtomicBool, has_written: &AtomicBool, by_steps: bool) -> bool;
+
+    /// Writes, once the other has its token.
+    fn write_once_held(&self, is_held: &AtomicBool, has_written: &AtomicBool);
+}
+
+impl<C: LockCore> Walk for RawLock<C> {
+    type Waiter = C::Waiter;
+
+    fn change_modes(&self, is_held: &AtomicBool, has_written: &AtomicBool, by_steps: bool) -> bool {
+        let upgradable = self.lock_upgradable();
+        is_held.store(true, Ordering::SeqCst);
+        wait_for_bar(self);
+        let upgradable = self.downgrade_to_upgradable(self.upgrade(upgradable));
+        let exclusive = match self.try_upgrade(upgradable) {
+            Ok(exclusive) => exclusive,
+            Err(upgradable) => self.upgrade(upgradable),
+        };
+        let shared = if by_steps {
+            self.downgrade_upgradable(self.downgrade_to_upgradable(exclusive))
+        } else {
+            self.downgrade(exclusive)
+        };
+        let answer = has_written.load(Ordering::SeqCst);
+        self.unlock_shared(shared);
+        answer
+    }
+
+    fn write_once_held(&self, is_held: &AtomicBool, has_written: &AtomicBool) {
+        wait_for(RawRwLock::waiter(self), is_held);
+        let exclusive = self.lock_exclusive();
+        has_written.store(true, Ordering::SeqCst);
+        self.unlock_exclusive(exclusive);
+    }
+}
+
+/// Whether the writer got in between.
+fn gets_in_between<R: Threads, L: Walk + Sync>(rt: &R, lock: &L, by_steps: bool) -> bool {
+    let (is_held, has_written) = (AtomicBool::new(false), AtomicBool::new(false));
+    let (answer, ()) = thread::join(
+        rt,
+        || lock.change_modes(&is_held, &has_written, by_steps),
+        || lock.write_once_held(&is_held, &has_written),
+    );
+    answer
+}
+
+#[test]
+fn no_writer_gets_in_between_over_a_table(rt: HostRuntime) -> Result<(), Fail> {
+    let raw: TokenRaw<HostRuntime> = raw_rwlock(rt.alloc(), rt, 2)?;
+    let between = [
+        gets_in_between(&rt, &raw, false),
+        gets_in_between(&rt, &raw, true),
+    ];
+    equal(between, [false; 2])
+}
+
+#[test]
+fn no_writer_gets_in_between_over_a_word(rt: HostRuntime) -> Result<(), Fail> {
+    let raw: WordRaw<HostRuntime> = raw_rwlock(rt.alloc(), rt, 2)?;
+    let between = [
+        gets_in_between(&rt, &raw, false),
+        gets_in_between(&rt, &raw, true),
+    ];
+    equal(between, [false; 2])
+}
