@@ -1,10 +1,8 @@
 //! What guards of a part ask the raw lock, whatever the lock. Each guard was just acquired in the mode.
-use crate::project::{Item1, Nth};
 use crate::raw_lock::raw_call::RawCall::{self, Lock, UnlockFair};
 use crate::raw_lock::watch::Watch;
 use lock_base::machine::Mode;
 use lock_base::project::{Project, TryProject, TryView};
-use lock_base::raw::Fault;
 use lock_guard::guard::{LockGuard, LockGuardFair, LockGuardMut, Mapped};
 use std::sync::Wait;
 
@@ -32,21 +30,36 @@ pub fn watch_write<W: Wait + Drop, G: LockGuardMut, P: Project<G::Value, Part = 
     watch.saw_hold(part, mode);
 }
 
-/// It is mapped once more, by a part that is there and by one that is not.
-pub fn watch_maps<
+/// It is mapped once more.
+pub fn watch_map<W: Wait + Drop, G: LockGuard, P: TryProject<G::Value>, Q: Project<P::Part>>(
+    part: Mapped<G, P>,
+    projection: Q,
+    mode: Mode,
+    watch: &mut Watch<W, RawCall>,
+) {
+    watch.saw_hold(Mapped::map(part, projection), mode);
+}
+
+/// It is mapped once more, where it has that part.
+pub fn watch_try_map<W: Wait + Drop, G: LockGuard, P: TryProject<G::Value>, Q: TryProject<P::Part>>(
+    part: Mapped<G, P>,
+    projection: Q,
+    mode: Mode,
+    watch: &mut Watch<W, RawCall>,
+) {
+    watch.saw_hold(Mapped::try_map(part, projection), mode);
+}
+
+/// It is mapped once more, where it has that part, or what is missed is told.
+pub fn watch_try_map_or_err<
     W: Wait + Drop,
     G: LockGuard,
-    P: TryProject<G::Value, Part = (u64, u64)>,
-    F: Fn() -> Result<Mapped<G, P>, Fault>,
->(acquire: F, mode: Mode, watch: &mut Watch<W, RawCall>) -> Result<(), Fault>
+    P: TryProject<G::Value>,
+    Q: TryProject<P::Part>,
+>(part: Mapped<G, P>, projection: Q, mode: Mode, watch: &mut Watch<W, RawCall>)
 where
     P::Miss: Drop,
-    requires { F.IsAlwaysCallable acquire }
+    Q::Miss: Drop,
 {
-    watch.saw_hold(Mapped::map(acquire()?, Item1), mode);
-    watch.saw_hold(Mapped::try_map(acquire()?, Nth(1)), mode);
-    watch.saw_hold(Mapped::try_map(acquire()?, Nth(2)), mode);
-    watch.saw_hold(Mapped::try_map_or_err(acquire()?, Nth(1)), mode);
-    watch.saw_hold(Mapped::try_map_or_err(acquire()?, Nth(2)), mode);
-    Ok(())
+    watch.saw_hold(Mapped::try_map_or_err(part, projection), mode);
 }
