@@ -54,11 +54,17 @@ fn calls<R: RawRwLockUpgradeFair + RawRwLockUpgradeDowngrade + Drop, W: Wait + D
     let [first_watcher, second_watcher] = watchers;
     let raw: AskedRaw<R> = RawRwLock::new(alloc, first, 8)?;
     let mut watch = Watch::new(first_watcher, raw.calls()?);
-    raw_calls::all_calls(&RwLock::from_raw(raw, (0, 0))?, &mut watch);
+    let mut lock = RwLock::from_raw(raw, ((0, 0), 0))?;
+    raw_calls::all_calls(&lock, &mut watch);
+    *lock.get_mut() = ((5, 2), 0);
+    drop(lock.into_inner_with_raw());
+    watch.saw(&[]);
     watch.verdict()?;
     let raw: AskedRaw<R> = RawRwLock::new(alloc, second, 8)?;
     let mut watch = Watch::new(second_watcher, raw.calls()?);
-    let lock = Arc::new(alloc, RwLock::from_raw(raw, 0)?)?;
+    let lock = Arc::new(alloc, RwLock::from_raw(raw, 5)?)?;
+    texts::check(alloc, &lock)?;
+    watch.saw(&texts::RAW_CALLS);
     arc_raw_calls::all_calls(&lock, &mut watch)?;
     watch.verdict()
 }

@@ -1,14 +1,16 @@
 //! What the raw lock is asked, call by call, where guards keep the lock alive.
+mod refused;
+
 use lock_base::machine::Mode::{self, Exclusive, Shared, Upgradable};
 use lock_base::raw::Fault;
 use lock_guard::raw::{
-    RawRwLock, RawRwLockTimed, RawRwLockUpgrade, RawRwLockUpgradeDowngrade, RawRwLockUpgradeFair,
+    RawRwLock, RawRwLockTimed, RawRwLockUpgradeDowngrade, RawRwLockUpgradeFair,
     RawRwLockUpgradeTimed,
 };
-use lock_rwlock::{FairMode, RwLock};
+use lock_rwlock::{FairMode, LockMode, RwLock};
 use lock_rwlock_arc::{
-    ArcRwLockGuard, ArcRwLockReadGuard, ArcRwLockUpgradableReadGuard, ArcRwLockWriteGuard,
-    RwLockArc, RwLockArcTimed, RwLockArcUpgrade, RwLockArcUpgradeTimed,
+    ArcRwLockGuard, ArcRwLockUpgradableReadGuard, ArcRwLockWriteGuard, RwLockArc, RwLockArcTimed,
+    RwLockArcUpgrade, RwLockArcUpgradeTimed,
 };
 use lock_test_support::raw_lock::RawCall::{
     self, Bump, Downgrade, DowngradeToUpgradable, DowngradeUpgradable, IsLocked, Lock, TryLock,
@@ -70,19 +72,30 @@ fn calls_of_a_guard<W: Wait + Drop, M: FairMode<R>, R: RawRwLock + Drop>(
     ArcRwLockGuard::unlocked_fair(&mut guard, || ());
     watch.saw(&[UnlockFair(mode), Lock(mode)]);
     ArcRwLockGuard::with(&guard, |value| *value);
+    ArcRwLockGuard::rwlock(&guard);
     let lock = ArcRwLockGuard::into_arc_fair(guard);
     watch.saw(&[UnlockFair(mode)]);
     lock
 }
 
-/// The end of a guard that was just acquired, by `into_arc`.
-fn end_guard<W: Wait + Drop, M: FairMode<R>, R: RawRwLock + Drop>(
+/// The end of a guard of the mode, which was just acquired, by `into_arc`.
+fn end_guard<W: Wait + Drop, M: LockMode<R>, R: RawRwLock + Drop>(
     guard: ArcRwLockGuard<M, R, u64>,
     mode: Mode,
     watch: &mut Watch<W, RawCall>,
 ) {
     drop(ArcRwLockGuard::into_arc(guard));
     watch.saw(&[Lock(mode), Unlock(mode)]);
+}
+
+/// The end of a guard of the mode, which was just acquired, by a fair release.
+fn end_guard_fair<W: Wait + Drop, M: FairMode<R>, R: RawRwLock + Drop>(
+    guard: ArcRwLockGuard<M, R, u64>,
+    mode: Mode,
+    watch: &mut Watch<W, RawCall>,
+) {
+    ArcRwLockGuard::unlock_fair(guard);
+    watch.saw(&[Lock(mode), UnlockFair(mode)]);
 }
 
 fn calls_of_guards<R: RawRwLockUpgradeFair + Drop, W: Wait + Drop>(
@@ -92,10 +105,22 @@ fn calls_of_guards<R: RawRwLockUpgradeFair + Drop, W: Wait + Drop>(
     drop(calls_of_a_guard(RwLock::read_arc(lock)?, Shared, watch));
     drop(calls_of_a_guard(RwLock::write_arc(lock)?, Exclusive, watch));
     drop(calls_of_a_guard(RwLock::upgradable_read_arc(lock)?, Upgradable, watch));
+    let mut writer = RwLock::write_arc(lock)?;
+    ArcRwLockWriteGuard::with_mut(&mut writer, |value| *value = 5);
+    watch.saw_hold(writer, Exclusive);
+    Ok(())
+}
+
+fn ends_of_guards<R: RawRwLockUpgradeFair + Drop, W: Wait + Drop>(
+    lock: &Shareable<R>,
+    watch: &mut Watch<W, RawCall>,
+) -> Result<(), Fault> {
     end_guard(RwLock::read_arc(lock)?, Shared, watch);
     end_guard(RwLock::write_arc(lock)?, Exclusive, watch);
-    ArcRwLockGuard::unlock_fair(RwLock::upgradable_read_arc(lock)?);
-    watch.saw(&[Lock(Upgradable), UnlockFair(Upgradable)]);
+    end_guard(RwLock::upgradable_read_arc(lock)?, Upgradable, watch);
+    end_guard_fair(RwLock::read_arc(lock)?, Shared, watch);
+    end_guard_fair(RwLock::write_arc(lock)?, Exclusive, watch);
+    end_guard_fair(RwLock::upgradable_read_arc(lock)?, Upgradable, watch);
     Ok(())
 }
 
@@ -112,39 +137,25 @@ fn transitions<W: Wait + Drop, R: RawRwLockUpgradeDowngrade + Drop>(
     watch.saw(&[DowngradeUpgradable, Unlock(Shared)]);
     drop(ArcRwLockUpgradableReadGuard::upgrade(RwLock::upgradable_read_arc(lock)?));
     watch.saw(&[Lock(Upgradable), Upgrade, Unlock(Exclusive)]);
-    drop(ArcRwLockUpgradableReadGuard::try_upgrade(RwLock::upgradable_read_arc(lock)?));
-    watch.saw(&[Lock(Upgradable), TryUpgrade, Unlock(Exclusive)]);
     Ok(())
 }
 
-fn timed_upgrades<W: Wait + Drop, R: RawRwLockUpgradeTimed<Duration = u64, Instant = u64> + Drop>(
+/// Upgrades that may be refused, of guards that end in that mode.
+fn tried_upgrades<W: Wait + Drop, R: RawRwLockUpgradeTimed<Duration = u64, Instant = u64> + Drop>(
     lock: &Shareable<R>,
+    last: Mode,
     watch: &mut Watch<W, RawCall>,
 ) -> Result<(), Fault> {
+    drop(ArcRwLockUpgradableReadGuard::try_upgrade(RwLock::upgradable_read_arc(lock)?));
+    watch.saw(&[Lock(Upgradable), TryUpgrade, Unlock(last)]);
     drop(ArcRwLockUpgradableReadGuard::try_upgrade_for(RwLock::upgradable_read_arc(lock)?, 3));
-    watch.saw(&[Lock(Upgradable), TryUpgradeFor(3), Unlock(Exclusive)]);
+    watch.saw(&[Lock(Upgradable), TryUpgradeFor(3), Unlock(last)]);
     drop(ArcRwLockUpgradableReadGuard::try_upgrade_until(RwLock::upgradable_read_arc(lock)?, 4));
-    watch.saw(&[Lock(Upgradable), TryUpgradeUntil(4), Unlock(Exclusive)]);
+    watch.saw(&[Lock(Upgradable), TryUpgradeUntil(4), Unlock(last)]);
     Ok(())
 }
 
-/// An upgrade that is refused beside a reader, which was just acquired.
-fn refused_upgrade<W: Wait + Drop, R: RawRwLockUpgrade + Drop>(
-    reader: ArcRwLockReadGuard<R, u64>,
-    watch: &mut Watch<W, RawCall>,
-) -> Result<(), Fault> {
-    let guard = RwLock::upgradable_read_arc(ArcRwLockGuard::rwlock(&reader))?;
-    drop(ArcRwLockUpgradableReadGuard::try_upgrade(guard));
-    watch.saw(&[
-        Lock(Shared),
-        Lock(Upgradable),
-        TryUpgrade,
-        Unlock(Upgradable),
-    ]);
-    Ok(())
-}
-
-/// Calls under an upgraded guard, whose closure looks at the raw lock, and one that is not made beside a reader.
+/// Calls under an upgraded guard, whose closure looks at the raw lock.
 fn calls_under_an_upgrade<
     W: Wait + Drop,
     R: RawRwLockUpgradeTimed<Duration = u64, Instant = u64> + RawRwLockUpgradeDowngrade + Drop,
@@ -158,11 +169,8 @@ fn calls_under_an_upgrade<
     watch.saw(&[TryUpgradeFor(3), IsLocked, DowngradeToUpgradable]);
     guard.try_with_upgraded_until(4, |_| lock.is_locked());
     watch.saw(&[TryUpgradeUntil(4), IsLocked, DowngradeToUpgradable]);
-    let reader = RwLock::read_arc(lock)?;
-    guard.try_with_upgraded(|_| lock.is_locked());
-    watch.saw(&[Lock(Shared), TryUpgrade]);
-    drop(reader);
-    watch.saw(&[Unlock(Shared)]);
+    drop(guard);
+    watch.saw(&[Unlock(Upgradable)]);
     Ok(())
 }
 
@@ -177,9 +185,10 @@ pub fn all_calls<
     acquisitions(lock, watch);
     upgradable_acquisitions(lock, watch);
     calls_of_guards(lock, watch)?;
+    ends_of_guards(lock, watch)?;
     transitions(lock, watch)?;
-    timed_upgrades(lock, watch)?;
-    refused_upgrade(RwLock::read_arc(lock)?, watch)?;
-    watch.saw(&[Unlock(Shared)]);
-    calls_under_an_upgrade(lock, watch)
+    tried_upgrades(lock, Exclusive, watch)?;
+    calls_under_an_upgrade(lock, watch)?;
+    refused::upgrades(lock, watch)?;
+    refused::tries(lock, watch)
 }

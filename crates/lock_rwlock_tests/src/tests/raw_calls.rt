@@ -1,11 +1,17 @@
 //! What the raw lock is asked, call by call, where guards borrow the lock.
+mod mapped;
+mod refused;
+
 use lock_base::machine::Mode::{self, Exclusive, Shared, Upgradable};
 use lock_guard::guard::AcquireFair;
 use lock_guard::raw::{
     RawRwLock, RawRwLockTimed, RawRwLockUpgrade, RawRwLockUpgradeDowngrade, RawRwLockUpgradeFair,
     RawRwLockUpgradeTimed,
 };
-use lock_rwlock::{RwLock, RwLockGuard, RwLockUpgradableReadGuard, RwLockWriteGuard};
+use lock_rwlock::{
+    RwLock, RwLockGuard, RwLockReadGuard, RwLockUpgradableReadGuard, RwLockWriteGuard,
+};
+use lock_test_support::project::Nested;
 use lock_test_support::raw_lock::RawCall::{
     self, Bump, Downgrade, DowngradeToUpgradable, DowngradeUpgradable, IsLocked, IsLockedExclusive,
     Lock, TryLock, TryLockFor, TryLockUntil, TryUpgrade, TryUpgradeFor, TryUpgradeUntil, Unlock,
@@ -15,8 +21,8 @@ use lock_test_support::raw_lock::{Liar, Watch};
 use std::sync::Wait;
 use std::test::Fail;
 
-/// A pair of numbers behind a lock.
-type Paired<R> = RwLock<R, (u64, u64)>;
+/// A pair in a pair behind a lock.
+type Paired<R> = RwLock<R, Nested>;
 
 fn acquisitions<W: Wait + Drop, R: RawRwLockTimed<Duration = u64, Instant = u64>>(
     lock: &Paired<R>,
@@ -75,6 +81,25 @@ fn calls_of_a_guard<W: Wait + Drop, R: RawRwLock, L: AcquireFair>(
     watch.saw(&[UnlockFair(mode)]);
 }
 
+/// What reads and writes the value, or tells the lock, asks nothing.
+fn uses_of_guards<W: Wait + Drop, R: RawRwLockUpgrade>(
+    lock: &Paired<R>,
+    watch: &mut Watch<W, RawCall>,
+) {
+    let reader = lock.read();
+    let value = *reader;
+    RwLockReadGuard::rwlock(&reader);
+    watch.saw_hold(reader, Shared);
+    let mut writer = lock.write();
+    *writer = value;
+    RwLockWriteGuard::rwlock(&writer);
+    watch.saw_hold(writer, Exclusive);
+    let guard = lock.upgradable_read();
+    let _value = *guard;
+    RwLockUpgradableReadGuard::rwlock(&guard);
+    watch.saw_hold(guard, Upgradable);
+}
+
 /// Up, and down to each lower mode.
 fn transitions<W: Wait + Drop, R: RawRwLockUpgradeDowngrade>(
     lock: &Paired<R>,
@@ -102,23 +127,6 @@ fn timed_upgrades<W: Wait + Drop, R: RawRwLockUpgradeTimed<Duration = u64, Insta
     watch.saw(&[Lock(Upgradable), TryUpgradeUntil(4), Unlock(Exclusive)]);
 }
 
-/// Upgrades that are refused beside a reader.
-fn refused_upgrades<W: Wait + Drop, R: RawRwLockUpgradeTimed<Duration = u64, Instant = u64>>(
-    lock: &Paired<R>,
-    watch: &mut Watch<W, RawCall>,
-) {
-    let reader = lock.read();
-    watch.saw(&[Lock(Shared)]);
-    drop(RwLockUpgradableReadGuard::try_upgrade(lock.upgradable_read()));
-    watch.saw(&[Lock(Upgradable), TryUpgrade, Unlock(Upgradable)]);
-    drop(RwLockUpgradableReadGuard::try_upgrade_for(lock.upgradable_read(), 3));
-    watch.saw(&[Lock(Upgradable), TryUpgradeFor(3), Unlock(Upgradable)]);
-    drop(RwLockUpgradableReadGuard::try_upgrade_until(lock.upgradable_read(), 4));
-    watch.saw(&[Lock(Upgradable), TryUpgradeUntil(4), Unlock(Upgradable)]);
-    drop(reader);
-    watch.saw(&[Unlock(Shared)]);
-}
-
 /// Calls under an upgraded guard, and those that are not made beside a reader. The closure looks at the raw lock.
 fn calls_under_an_upgrade<
     W: Wait + Drop,
@@ -144,7 +152,8 @@ fn calls_under_an_upgrade<
         TryUpgradeUntil(4),
     ]);
     drop(reader);
-    watch.saw(&[Unlock(Shared)]);
+    drop(guard);
+    watch.saw(&[Unlock(Shared), Unlock(Upgradable)]);
 }
 
 /// All of these, on a lock that is free before and after each.
@@ -159,10 +168,16 @@ pub fn all_calls<
     calls_of_a_guard(lock, lock.read(), Shared, watch);
     calls_of_a_guard(lock, lock.write(), Exclusive, watch);
     calls_of_a_guard(lock, lock.upgradable_read(), Upgradable, watch);
+    uses_of_guards(lock, watch);
+    mapped::maps_of_readers(lock, watch);
+    mapped::maps_of_writers(lock, watch);
+    mapped::uses_of_parts(lock, watch);
     transitions(lock, watch);
     timed_upgrades(lock, watch);
-    refused_upgrades(lock, watch);
     calls_under_an_upgrade(lock, watch);
+    refused::tries(lock, watch);
+    refused::upgradable_tries(lock, watch);
+    refused::upgrades(lock, watch);
 }
 
 fn bumps_by_default<R: RawRwLockUpgradeFair>(raw: &R) {

@@ -1,7 +1,9 @@
 //! How a lock and its guards print.
+use lock_base::machine::Mode::{Exclusive, Shared};
 use lock_guard::raw::RawRwLock;
 use lock_rwlock::RwLock;
 use lock_test_support::answer::{debug_is, equal, texts_are};
+use lock_test_support::raw_lock::RawCall::{self, Lock, TryLock, Unlock};
 use std::alloc::Global;
 use std::test::Fail;
 
@@ -19,3 +21,14 @@ fn are_shown<R: RawRwLock>(alloc: Global, lock: &RwLock<R, u64>) -> [bool; 3] {
 pub fn check<R: RawRwLock>(alloc: Global, lock: &RwLock<R, u64>) -> Result<(), Fail> {
     equal(are_shown(alloc, lock), [true; 3])
 }
+
+/// What `check` asks the raw lock: each text of the lock tries to read, and the writer's asks nothing.
+pub const RAW_CALLS: [RawCall; 7] = [
+    Lock(Shared),
+    TryLock(Shared),
+    Unlock(Shared),
+    Unlock(Shared),
+    Lock(Exclusive),
+    TryLock(Shared),
+    Unlock(Exclusive),
+];

@@ -1,5 +1,7 @@
 //! A look at the calls that came, one after another.
 use crate::raw_lock::calls::Calls;
+use crate::raw_lock::raw_call::RawCall;
+use lock_base::machine::Mode;
 use std::fmt::Debug;
 use std::sync::Wait;
 use std::test::Fail;
@@ -45,5 +47,14 @@ impl<W: Wait + Drop, C: Copy + PartialEq + Debug> Watch<W, C> {
             Some(wrong) => Err(Fail::from(wrong)),
             None => Ok(()),
         }
+    }
+}
+
+impl<W: Wait + Drop> Watch<W, RawCall> {
+    /// What was just acquired in the mode, by a guard or by what came of one, is held until it is dropped.
+    pub fn saw_hold<G: Drop>(&mut self, held: G, mode: Mode) {
+        self.saw(&[RawCall::Lock(mode)]);
+        drop(held);
+        self.saw(&[RawCall::Unlock(mode)]);
     }
 }

@@ -1,0 +1,102 @@
+//! What the raw lock is asked by what it refuses.
+use super::Paired;
+use lock_base::machine::Mode::{Exclusive, Shared, Upgradable};
+use lock_guard::raw::{RawRwLock, RawRwLockTimed, RawRwLockUpgrade, RawRwLockUpgradeTimed};
+use lock_rwlock::{RwLock, RwLockUpgradableReadGuard};
+use lock_test_support::raw_lock::RawCall::{
+    self, Lock, TryLock, TryLockFor, TryLockUntil, TryUpgrade, TryUpgradeFor, TryUpgradeUntil,
+    Unlock,
+};
+use lock_test_support::raw_lock::{Liar, Watch};
+use std::sync::Wait;
+use std::test::Fail;
+
+/// Tries beside a writer.
+pub fn tries<W: Wait + Drop, R: RawRwLockTimed<Duration = u64, Instant = u64>>(
+    lock: &Paired<R>,
+    watch: &mut Watch<W, RawCall>,
+) {
+    let writer = lock.write();
+    drop(lock.try_read());
+    drop(lock.try_read_for(3));
+    drop(lock.try_read_until(4));
+    drop(lock.try_write());
+    drop(lock.try_write_for(3));
+    drop(lock.try_write_until(4));
+    watch.saw(&[
+        Lock(Exclusive),
+        TryLock(Shared),
+        TryLockFor(Shared, 3),
+        TryLockUntil(Shared, 4),
+        TryLock(Exclusive),
+        TryLockFor(Exclusive, 3),
+        TryLockUntil(Exclusive, 4),
+    ]);
+    drop(writer);
+    watch.saw(&[Unlock(Exclusive)]);
+}
+
+/// Tries for an upgradable guard beside a writer.
+pub fn upgradable_tries<W: Wait + Drop, R: RawRwLockUpgradeTimed<Duration = u64, Instant = u64>>(
+    lock: &Paired<R>,
+    watch: &mut Watch<W, RawCall>,
+) {
+    let writer = lock.write();
+    drop(lock.try_upgradable_read());
+    drop(lock.try_upgradable_read_for(3));
+    drop(lock.try_upgradable_read_until(4));
+    watch.saw(&[
+        Lock(Exclusive),
+        TryLock(Upgradable),
+        TryLockFor(Upgradable, 3),
+        TryLockUntil(Upgradable, 4),
+    ]);
+    drop(writer);
+    watch.saw(&[Unlock(Exclusive)]);
+}
+
+/// Upgrades beside a reader.
+pub fn upgrades<W: Wait + Drop, R: RawRwLockUpgradeTimed<Duration = u64, Instant = u64>>(
+    lock: &Paired<R>,
+    watch: &mut Watch<W, RawCall>,
+) {
+    let reader = lock.read();
+    watch.saw(&[Lock(Shared)]);
+    drop(RwLockUpgradableReadGuard::try_upgrade(lock.upgradable_read()));
+    watch.saw(&[Lock(Upgradable), TryUpgrade, Unlock(Upgradable)]);
+    drop(RwLockUpgradableReadGuard::try_upgrade_for(lock.upgradable_read(), 3));
+    watch.saw(&[Lock(Upgradable), TryUpgradeFor(3), Unlock(Upgradable)]);
+    drop(RwLockUpgradableReadGuard::try_upgrade_until(lock.upgradable_read(), 4));
+    watch.saw(&[Lock(Upgradable), TryUpgradeUntil(4), Unlock(Upgradable)]);
+    drop(reader);
+    watch.saw(&[Unlock(Shared)]);
+}
+
+/// Which tries are refused, that to upgrade among them.
+fn refused<R: RawRwLockUpgrade>(lock: &RwLock<R, u64>) -> [bool; 4] {
+    [
+        lock.try_read().is_none(),
+        lock.try_write().is_none(),
+        lock.try_upgradable_read().is_none(),
+        RwLockUpgradableReadGuard::try_upgrade(lock.upgradable_read()).is_err(),
+    ]
+}
+
+#[test]
+fn a_refused_try_gives_nothing_back(rt: HostRuntime) -> Result<(), Fail> {
+    let raw: Liar<HostRuntime> = RawRwLock::new(rt.alloc(), rt, 1)?;
+    let raw = raw.refusing();
+    let mut watch = Watch::new(rt, raw.calls()?);
+    let lock = RwLock::from_raw(raw, 5)?;
+    assert_eq!(rt; refused(&lock), [true; 4]);
+    watch.saw(&[
+        TryLock(Shared),
+        TryLock(Exclusive),
+        TryLock(Upgradable),
+        Lock(Upgradable),
+        TryUpgrade,
+        Unlock(Upgradable),
+    ]);
+    assert_eq!(rt; lock.into_inner(), 5);
+    watch.verdict()
+}

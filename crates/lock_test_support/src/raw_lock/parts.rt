@@ -1,0 +1,65 @@
+//! What guards of a part ask the raw lock, whatever the lock. Each guard was just acquired in the mode.
+use crate::raw_lock::raw_call::RawCall::{self, Lock, UnlockFair};
+use crate::raw_lock::watch::Watch;
+use lock_base::machine::Mode;
+use lock_base::project::{Project, TryProject, TryView};
+use lock_guard::guard::{LockGuard, LockGuardFair, LockGuardMut, Mapped};
+use std::sync::Wait;
+
+/// It is read, and ends by a fair release.
+pub fn watch_fair_end<W: Wait + Drop, G: LockGuardFair, P: TryView<G::Value>>(
+    part: Mapped<G, P>,
+    mode: Mode,
+    watch: &mut Watch<W, RawCall>,
+) {
+    Mapped::get(&part);
+    watch.saw(&[Lock(mode)]);
+    Mapped::unlock_fair(part);
+    watch.saw(&[UnlockFair(mode)]);
+}
+
+/// It is written.
+pub fn watch_write<W: Wait + Drop, G: LockGuardMut, P: Project<G::Value, Part = (u64, u64)> + Copy>(
+    part: Mapped<G, P>,
+    mode: Mode,
+    watch: &mut Watch<W, RawCall>,
+) {
+    let mut part = part;
+    *part = (5, 2);
+    Mapped::get_mut(&mut part);
+    watch.saw_hold(part, mode);
+}
+
+/// It is mapped once more.
+pub fn watch_map<W: Wait + Drop, G: LockGuard, P: TryProject<G::Value>, Q: Project<P::Part>>(
+    part: Mapped<G, P>,
+    projection: Q,
+    mode: Mode,
+    watch: &mut Watch<W, RawCall>,
+) {
+    watch.saw_hold(Mapped::map(part, projection), mode);
+}
+
+/// It is mapped once more, where it has that part.
+pub fn watch_try_map<W: Wait + Drop, G: LockGuard, P: TryProject<G::Value>, Q: TryProject<P::Part>>(
+    part: Mapped<G, P>,
+    projection: Q,
+    mode: Mode,
+    watch: &mut Watch<W, RawCall>,
+) {
+    watch.saw_hold(Mapped::try_map(part, projection), mode);
+}
+
+/// It is mapped once more, where it has that part, or what is missed is told.
+pub fn watch_try_map_or_err<
+    W: Wait + Drop,
+    G: LockGuard,
+    P: TryProject<G::Value>,
+    Q: TryProject<P::Part>,
+>(part: Mapped<G, P>, projection: Q, mode: Mode, watch: &mut Watch<W, RawCall>)
+where
+    P::Miss: Drop,
+    Q::Miss: Drop,
+{
+    watch.saw_hold(Mapped::try_map_or_err(part, projection), mode);
+}
