@@ -22,17 +22,16 @@ fn answers<R: RawMutexFair + RawMutexTimed<Duration = (), Instant = ()> + Drop>(
     alloc: Global,
     waiters: (
         [R::Waiter; 3],
-        [R::Waiter; 3],
-        [R::Waiter; 4],
+        ([R::Waiter; 3], [R::Waiter; 4], [R::Waiter; 4]),
         [R::Waiter; 4],
     ),
 ) -> Result<(), Fail>
 where
     R::Guard: Send + Drop,
 {
-    let (owners, makers, limits, [arc, levels, mapped, texts]) = waiters;
+    let (owners, makers, [arc, levels, mapped, texts]) = waiters;
     owners::check::<R>(alloc, owners)?;
-    makers::check::<R>(alloc, (makers, limits))?;
+    makers::check::<R>(alloc, makers)?;
     arc::check::<R>(alloc, arc)?;
     levels::check::<R>(alloc, levels)?;
     mapped::check::<R>(rt, alloc, mapped)?;
@@ -41,6 +40,6 @@ where
 
 #[test]
 fn answers_on_one_thread(rt: HostRuntime) -> Result<(), Fail> {
-    let waiters = ([rt; 3], [rt; 3], [rt; 4], [rt; 4]);
+    let waiters = ([rt; 3], ([rt; 3], [rt; 4], [rt; 4]), [rt; 4]);
     answers::<TokenRaw<HostRuntime>>(&rt, rt.alloc(), waiters)
 }
