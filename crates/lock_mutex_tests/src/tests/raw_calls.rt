@@ -1,18 +1,24 @@
 //! What the raw lock is asked, call by call.
+mod arc;
+mod mapped;
+
+pub use arc::all_calls_by_an_arc;
 use lock_base::machine::Mode::Exclusive;
-use lock_base::raw::Fault;
 use lock_guard::raw::{RawMutex, RawMutexFair, RawMutexTimed};
-use lock_mutex::{ArcMutexGuard, MappedMutexGuard, Mutex, MutexGuard};
-use lock_test_support::project::{Item0, Nth};
+use lock_mutex::{Mutex, MutexGuard};
+use lock_test_support::project::Nested;
 use lock_test_support::raw_lock::RawCall::{
     self, Bump, IsLocked, Lock, TryLock, TryLockFor, TryLockUntil, Unlock, UnlockFair,
 };
 use lock_test_support::raw_lock::{Liar, Watch};
-use std::sync::{Arc, Wait};
+use std::sync::Wait;
 use std::test::Fail;
 
+/// A pair in a pair behind a mutex.
+type Paired<R> = Mutex<R, Nested>;
+
 fn acquisitions<W: Wait + Drop, R: RawMutexTimed<Duration = u64, Instant = u64>>(
-    mutex: &Mutex<R, (u64, u64)>,
+    mutex: &Paired<R>,
     watch: &mut Watch<W, RawCall>,
 ) {
     drop(mutex.lock());
@@ -28,10 +34,12 @@ fn acquisitions<W: Wait + Drop, R: RawMutexTimed<Duration = u64, Instant = u64>>
 }
 
 fn calls_of_a_guard<W: Wait + Drop, R: RawMutexFair>(
-    mutex: &Mutex<R, (u64, u64)>,
+    mutex: &Paired<R>,
     watch: &mut Watch<W, RawCall>,
 ) {
     let mut guard = mutex.lock();
+    guard.1 = guard.0.0;
+    MutexGuard::mutex(&guard);
     MutexGuard::bump(&mut guard);
     watch.saw(&[Lock(Exclusive), Bump(Exclusive)]);
     MutexGuard::unlocked(&mut guard, || mutex.is_locked());
@@ -42,77 +50,35 @@ fn calls_of_a_guard<W: Wait + Drop, R: RawMutexFair>(
     watch.saw(&[UnlockFair(Exclusive)]);
 }
 
-fn calls_of_mapped_guards<W: Wait + Drop, R: RawMutexFair>(
-    mutex: &Mutex<R, (u64, u64)>,
+/// Tries beside a guard.
+fn refused_tries<W: Wait + Drop, R: RawMutexTimed<Duration = u64, Instant = u64>>(
+    mutex: &Paired<R>,
     watch: &mut Watch<W, RawCall>,
 ) {
-    drop(MutexGuard::map(mutex.lock(), Item0));
-    watch.saw(&[Lock(Exclusive), Unlock(Exclusive)]);
-    MappedMutexGuard::unlock_fair(MutexGuard::map(mutex.lock(), Item0));
-    watch.saw(&[Lock(Exclusive), UnlockFair(Exclusive)]);
-    drop(MutexGuard::try_map_or_err(mutex.lock(), Nth(2)));
-    watch.saw(&[Lock(Exclusive), Unlock(Exclusive)]);
+    let guard = mutex.lock();
+    drop(mutex.try_lock());
+    drop(mutex.try_lock_for(3));
+    drop(mutex.try_lock_until(4));
+    watch.saw(&[
+        Lock(Exclusive),
+        TryLock(Exclusive),
+        TryLockFor(Exclusive, 3),
+        TryLockUntil(Exclusive, 4),
+    ]);
+    drop(guard);
+    watch.saw(&[Unlock(Exclusive)]);
 }
 
 /// All of these, on a mutex that is free before and after each.
 pub fn all_calls<W: Wait + Drop, R: RawMutexFair + RawMutexTimed<Duration = u64, Instant = u64>>(
-    mutex: &Mutex<R, (u64, u64)>,
+    mutex: &Paired<R>,
     watch: &mut Watch<W, RawCall>,
 ) {
     acquisitions(mutex, watch);
     calls_of_a_guard(mutex, watch);
-    calls_of_mapped_guards(mutex, watch);
-}
-
-fn acquisitions_by_an_arc<W: Wait + Drop, R: RawMutexTimed<Duration = u64, Instant = u64> + Drop>(
-    mutex: &Arc<Mutex<R, u64>>,
-    watch: &mut Watch<W, RawCall>,
-) {
-    drop(Mutex::lock_arc(mutex));
-    watch.saw(&[Lock(Exclusive), Unlock(Exclusive)]);
-    drop(Mutex::try_lock_arc(mutex));
-    watch.saw(&[TryLock(Exclusive), Unlock(Exclusive)]);
-    drop(Mutex::try_lock_arc_for(mutex, 3));
-    watch.saw(&[TryLockFor(Exclusive, 3), Unlock(Exclusive)]);
-    drop(Mutex::try_lock_arc_until(mutex, 4));
-    watch.saw(&[TryLockUntil(Exclusive, 4), Unlock(Exclusive)]);
-}
-
-fn calls_of_an_arc_guard<W: Wait + Drop, R: RawMutexFair + Drop>(
-    guard: ArcMutexGuard<R, u64>,
-    watch: &mut Watch<W, RawCall>,
-) {
-    let mut guard = guard;
-    ArcMutexGuard::bump(&mut guard);
-    watch.saw(&[Lock(Exclusive), Bump(Exclusive)]);
-    ArcMutexGuard::with_mut(&mut guard, |value| *value = 7);
-    ArcMutexGuard::unlocked(&mut guard, || ());
-    watch.saw(&[Unlock(Exclusive), Lock(Exclusive)]);
-    ArcMutexGuard::unlocked_fair(&mut guard, || ());
-    watch.saw(&[UnlockFair(Exclusive), Lock(Exclusive)]);
-    ArcMutexGuard::unlock_fair(guard);
-    watch.saw(&[UnlockFair(Exclusive)]);
-}
-
-fn ends_of_arc_guards<W: Wait + Drop, R: RawMutexFair + Drop>(
-    mutex: &Arc<Mutex<R, u64>>,
-    watch: &mut Watch<W, RawCall>,
-) -> Result<(), Fault> {
-    drop(ArcMutexGuard::into_arc(Mutex::lock_arc(mutex)?));
-    watch.saw(&[Lock(Exclusive), Unlock(Exclusive)]);
-    drop(ArcMutexGuard::into_arc_fair(Mutex::lock_arc(mutex)?));
-    watch.saw(&[Lock(Exclusive), UnlockFair(Exclusive)]);
-    Ok(())
-}
-
-/// All of these, on a mutex that is free before and after each.
-pub fn all_calls_by_an_arc<
-    W: Wait + Drop,
-    R: RawMutexFair + RawMutexTimed<Duration = u64, Instant = u64> + Drop,
->(mutex: &Arc<Mutex<R, u64>>, watch: &mut Watch<W, RawCall>) -> Result<(), Fault> {
-    acquisitions_by_an_arc(mutex, watch);
-    calls_of_an_arc_guard(Mutex::lock_arc(mutex)?, watch);
-    ends_of_arc_guards(mutex, watch)
+    refused_tries(mutex, watch);
+    mapped::maps(mutex, watch);
+    mapped::uses_of_parts(mutex, watch);
 }
 
 #[test]

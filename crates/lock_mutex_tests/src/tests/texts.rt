@@ -1,7 +1,9 @@
 //! How a mutex and its guards print, and whether it is held.
+use lock_base::machine::Mode::Exclusive;
 use lock_guard::raw::RawMutex;
 use lock_mutex::{Mutex, MutexGuard};
 use lock_test_support::answer::{debug_is, equal, texts_are};
+use lock_test_support::raw_lock::RawCall::{self, IsLocked, Lock, TryLock, Unlock};
 use std::alloc::Global;
 use std::test::Fail;
 
@@ -24,3 +26,17 @@ pub fn check<R: RawMutex>(alloc: Global, mutex: &Mutex<R, u64>) -> Result<(), Fa
     equal((is_held(mutex), mutex.is_locked()), (true, false))?;
     equal(are_shown(alloc, mutex), [true; 3])
 }
+
+/// What `check` asks the raw lock: each text of the mutex tries to lock it, and the guard's asks nothing.
+pub const RAW_CALLS: [RawCall; 10] = [
+    Lock(Exclusive),
+    IsLocked,
+    TryLock(Exclusive),
+    Unlock(Exclusive),
+    IsLocked,
+    TryLock(Exclusive),
+    Unlock(Exclusive),
+    Lock(Exclusive),
+    TryLock(Exclusive),
+    Unlock(Exclusive),
+];

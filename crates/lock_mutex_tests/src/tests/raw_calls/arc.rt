@@ -1,0 +1,84 @@
+//! What the raw lock is asked where guards keep a mutex alive.
+use lock_base::machine::Mode::Exclusive;
+use lock_base::raw::Fault;
+use lock_guard::raw::{RawMutexFair, RawMutexTimed};
+use lock_mutex::{ArcMutexGuard, Mutex};
+use lock_test_support::raw_lock::RawCall::{
+    self, Bump, Lock, TryLock, TryLockFor, TryLockUntil, Unlock, UnlockFair,
+};
+use lock_test_support::raw_lock::Watch;
+use std::sync::{Arc, Wait};
+
+fn acquisitions_by_an_arc<W: Wait + Drop, R: RawMutexTimed<Duration = u64, Instant = u64> + Drop>(
+    mutex: &Arc<Mutex<R, u64>>,
+    watch: &mut Watch<W, RawCall>,
+) {
+    drop(Mutex::lock_arc(mutex));
+    watch.saw(&[Lock(Exclusive), Unlock(Exclusive)]);
+    drop(Mutex::try_lock_arc(mutex));
+    watch.saw(&[TryLock(Exclusive), Unlock(Exclusive)]);
+    drop(Mutex::try_lock_arc_for(mutex, 3));
+    watch.saw(&[TryLockFor(Exclusive, 3), Unlock(Exclusive)]);
+    drop(Mutex::try_lock_arc_until(mutex, 4));
+    watch.saw(&[TryLockUntil(Exclusive, 4), Unlock(Exclusive)]);
+}
+
+fn calls_of_an_arc_guard<W: Wait + Drop, R: RawMutexFair + Drop>(
+    guard: ArcMutexGuard<R, u64>,
+    watch: &mut Watch<W, RawCall>,
+) {
+    let mut guard = guard;
+    ArcMutexGuard::bump(&mut guard);
+    watch.saw(&[Lock(Exclusive), Bump(Exclusive)]);
+    ArcMutexGuard::with_mut(&mut guard, |value| *value = 7);
+    ArcMutexGuard::with(&guard, |value| *value);
+    ArcMutexGuard::mutex(&guard);
+    ArcMutexGuard::unlocked(&mut guard, || ());
+    watch.saw(&[Unlock(Exclusive), Lock(Exclusive)]);
+    ArcMutexGuard::unlocked_fair(&mut guard, || ());
+    watch.saw(&[UnlockFair(Exclusive), Lock(Exclusive)]);
+    ArcMutexGuard::unlock_fair(guard);
+    watch.saw(&[UnlockFair(Exclusive)]);
+}
+
+fn ends_of_arc_guards<W: Wait + Drop, R: RawMutexFair + Drop>(
+    mutex: &Arc<Mutex<R, u64>>,
+    watch: &mut Watch<W, RawCall>,
+) -> Result<(), Fault> {
+    drop(ArcMutexGuard::into_arc(Mutex::lock_arc(mutex)?));
+    watch.saw(&[Lock(Exclusive), Unlock(Exclusive)]);
+    drop(ArcMutexGuard::into_arc_fair(Mutex::lock_arc(mutex)?));
+    watch.saw(&[Lock(Exclusive), UnlockFair(Exclusive)]);
+    Ok(())
+}
+
+/// Tries beside a guard.
+fn refused_tries<W: Wait + Drop, R: RawMutexTimed<Duration = u64, Instant = u64> + Drop>(
+    mutex: &Arc<Mutex<R, u64>>,
+    watch: &mut Watch<W, RawCall>,
+) -> Result<(), Fault> {
+    let guard = Mutex::lock_arc(mutex)?;
+    drop(Mutex::try_lock_arc(mutex));
+    drop(Mutex::try_lock_arc_for(mutex, 3));
+    drop(Mutex::try_lock_arc_until(mutex, 4));
+    watch.saw(&[
+        Lock(Exclusive),
+        TryLock(Exclusive),
+        TryLockFor(Exclusive, 3),
+        TryLockUntil(Exclusive, 4),
+    ]);
+    drop(guard);
+    watch.saw(&[Unlock(Exclusive)]);
+    Ok(())
+}
+
+/// All of these, on a mutex that is free before and after each.
+pub fn all_calls_by_an_arc<
+    W: Wait + Drop,
+    R: RawMutexFair + RawMutexTimed<Duration = u64, Instant = u64> + Drop,
+>(mutex: &Arc<Mutex<R, u64>>, watch: &mut Watch<W, RawCall>) -> Result<(), Fault> {
+    acquisitions_by_an_arc(mutex, watch);
+    calls_of_an_arc_guard(Mutex::lock_arc(mutex)?, watch);
+    refused_tries(mutex, watch)?;
+    ends_of_arc_guards(mutex, watch)
+}
