@@ -1,4 +1,6 @@
 //! The programs run, and give what their contracts say.
+mod sleeper;
+
 use crate::counter::{AddsOne, Counter, Sums, try_add};
 use crate::{Accounts, count, relay, shuffle};
 use lock_api::Fault;
