@@ -1,7 +1,7 @@
 //! Rounds of locks on one thread.
 use lock_base::machine::PartyId;
 use lock_base::raw::Fault;
-use lock_guard::raw::RawMutex;
+use lock_guard::raw::{RawMutex, RawRwLock, RawRwLockUpgradeDowngrade};
 use lock_mutex::{Condvar, Mutex};
 use lock_raws::{LockCore, Monitor, RawLock, RecordingArbiter, TableArbiter, TokenRaw};
 use lock_raws_timed::RealTime;
@@ -41,35 +41,55 @@ fn over<R: Print + Clock + Wait + Copy, C: LockCore<Waiter = R>>(
 where
     C::Token: Send,
 {
-    let Ok(mutex) = Mutex::<RawLock<C>, u64>::new(alloc, *rt, 0) else {
-        return println!(rt; "{name}: out of memory");
-    };
-    let start = Instant::now(rt)?;
-    lock_mutex(&mutex, rounds);
-    line(rt, name, "Mutex", start, rounds)?;
-    let (raw, _) = mutex.into_inner_with_raw();
-    let start = Instant::now(rt)?;
-    lock_raw(&raw, rounds);
-    line(rt, name, "the raw lock alone", start, rounds)?;
-    let Ok(lock) = RwLock::<RawLock<C>, u64>::with_readers(alloc, *rt, READERS, 0) else {
-        return println!(rt; "{name}: out of memory");
-    };
-    let start = Instant::now(rt)?;
-    let _ = read(&lock, rounds);
-    line(rt, name, "RwLock read", start, rounds)?;
-    let start = Instant::now(rt)?;
-    write(&lock, rounds);
-    line(rt, name, "RwLock write", start, rounds)?;
-    let start = Instant::now(rt)?;
-    let _ = walk(&lock, rounds);
-    line(rt, name, "RwLock upgrade and downgrade", start, rounds)?;
-    levels::<R, C>(rt, alloc, name, rounds)
+    let mutex = Mutex::<RawLock<C>, u64>::new(alloc, *rt, 0);
+    print_of(rt, name, mutex, |mutex| {
+        time(rt, name, "Mutex", rounds, || lock_mutex(mutex, rounds))
+    })?;
+    let raw = <RawLock<C> as RawMutex>::new(alloc, *rt);
+    print_of(rt, name, raw, |raw| {
+        time(
+            rt,
+            name,
+            "the raw lock alone",
+            rounds,
+            || lock_raw(raw, rounds),
+        )
+    })?;
+    let lock = RwLock::<RawLock<C>, u64>::with_readers(alloc, *rt, READERS, 0);
+    print_of(rt, name, lock, |lock| print_rwlock(rt, lock, name, rounds))?;
+    let lock = ReentrantMutex::<RawLock<C>, u64>::new(alloc, *rt, 1);
+    print_of(rt, name, lock, |lock| print_levels(rt, lock, name, rounds))
 }
 
-/// The lines of a reentrant lock.
-fn levels<R: Print + Clock + Wait + Copy, C: LockCore<Waiter = R>>(
+/// The lines of a lock that was made, or one that memory was refused.
+fn print_of<R: Print, T: Drop, F: FnOnce(&T) -> io::Result<()>>(
     rt: &R,
-    alloc: Global,
+    name: &str,
+    made: Result<T, Fault>,
+    print: F,
+) -> io::Result<()> {
+    match made {
+        Ok(lock) => print(&lock),
+        Err(_) => println!(rt; "{name}: out of memory"),
+    }
+}
+
+fn print_rwlock<R: Print + Clock, L: RawRwLockUpgradeDowngrade>(
+    rt: &R,
+    lock: &RwLock<L, u64>,
+    name: &str,
+    rounds: u64,
+) -> io::Result<()> {
+    time(rt, name, "RwLock read", rounds, || read(lock, rounds))?;
+    time(rt, name, "RwLock write", rounds, || write(lock, rounds))?;
+    time(rt, name, "RwLock upgrade and downgrade", rounds, || {
+        walk(lock, rounds)
+    })
+}
+
+fn print_levels<R: Print + Clock, C: LockCore>(
+    rt: &R,
+    lock: &ReentrantMutex<RawLock<C>, u64>,
     name: &str,
     rounds: u64,
 ) -> io::Result<()>
@@ -79,15 +99,25 @@ where
     let Some(party) = PartyId::new(1) else {
         return Ok(());
     };
-    let Ok(lock) = ReentrantMutex::<RawLock<C>, u64>::new(alloc, *rt, 1) else {
-        return println!(rt; "{name}: out of memory");
-    };
+    time(rt, name, "ReentrantMutex, one level", rounds, || {
+        one_level(lock, party, rounds)
+    })?;
+    time(rt, name, "ReentrantMutex, two levels", rounds, || {
+        two_levels(lock, party, rounds)
+    })
+}
+
+/// A line of the rounds that the work is.
+fn time<R: Print + Clock, T: Drop, F: FnOnce() -> T>(
+    rt: &R,
+    name: &str,
+    what: &str,
+    rounds: u64,
+    work: F,
+) -> io::Result<()> {
     let start = Instant::now(rt)?;
-    let _ = one_level(&lock, party, rounds);
-    line(rt, name, "ReentrantMutex, one level", start, rounds)?;
-    let start = Instant::now(rt)?;
-    let _ = two_levels(&lock, party, rounds);
-    line(rt, name, "ReentrantMutex, two levels", start, rounds)
+    drop(work());
+    line(rt, name, what, start, rounds)
 }
 
 /// The names, and nanoseconds a round with a tenth.
@@ -115,7 +145,7 @@ fn lock_raw<R: RawMutex>(raw: &R, rounds: u64) {
     }
 }
 
-fn read<C: LockCore>(lock: &RwLock<RawLock<C>, u64>, rounds: u64) -> u64 {
+fn read<R: RawRwLock>(lock: &RwLock<R, u64>, rounds: u64) -> u64 {
     let mut sum: u64 = 0;
     for _ in 0..rounds {
         sum = sum.wrapping_add(*lock.read());
@@ -123,14 +153,14 @@ fn read<C: LockCore>(lock: &RwLock<RawLock<C>, u64>, rounds: u64) -> u64 {
     sum
 }
 
-fn write<C: LockCore>(lock: &RwLock<RawLock<C>, u64>, rounds: u64) {
+fn write<R: RawRwLock>(lock: &RwLock<R, u64>, rounds: u64) {
     for _ in 0..rounds {
         let mut count = lock.write();
         *count = count.wrapping_add(1);
     }
 }
 
-fn walk<C: LockCore>(lock: &RwLock<RawLock<C>, u64>, rounds: u64) -> u64 {
+fn walk<R: RawRwLockUpgradeDowngrade>(lock: &RwLock<R, u64>, rounds: u64) -> u64 {
     let mut sum: u64 = 0;
     for _ in 0..rounds {
         let mut writer = RwLockUpgradableReadGuard::upgrade(lock.upgradable_read());
@@ -235,10 +265,9 @@ fn trips<R: Print + Clock + Wait + Threads + Sync + Copy, T: TakeTurns<Waiter = 
     name: &str,
     rounds: u64,
 ) -> io::Result<()> {
-    let Ok(turns) = T::new(alloc, *rt) else {
-        return println!(rt; "{name}: out of memory");
-    };
-    let start = Instant::now(rt)?;
-    in_two_threads(rt, &turns, rounds);
-    line(rt, name, "a round trip over SleepingCondvar", start, rounds)
+    print_of(rt, name, T::new(alloc, *rt), |turns| {
+        time(rt, name, "a round trip over SleepingCondvar", rounds, || {
+            in_two_threads(rt, turns, rounds)
+        })
+    })
 }

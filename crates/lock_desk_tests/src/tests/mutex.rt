@@ -7,7 +7,7 @@ use lock_base::raw::{Fault, RawState};
 use lock_states::table::TokenTable;
 use lock_states::word::PackedWord;
 use lock_test_support::answer::equal;
-use lock_test_support::{party, two_parties};
+use lock_test_support::party;
 use std::alloc::Global;
 use std::test::Fail;
 
@@ -31,58 +31,17 @@ fn spent_is_give_backs(rt: HostRuntime) -> Result<(), Fail> {
         (Call::Acquire(Want::Lock, Form::For, one), Reply::Guard(2)),
         (Call::Unlock(one, 2, Way::Plain), Reply::Done),
         (Call::Acquire(Want::Lock, Form::Until, one), Reply::Guard(3)),
-        (Call::Unlock(one, 3, Way::Fair), Reply::Done),
-        (Call::Spent, Reply::Count(6)),
+        (Call::Unlock(one, 3, Way::IntoArc), Reply::Done),
+        (Call::Acquire(Want::Lock, Form::Try, one), Reply::Guard(4)),
+        (Call::Unlock(one, 4, Way::IntoArcFair), Reply::Done),
+        (Call::Spent, Reply::Count(7)),
+        (Call::Acquire(Want::Lock, Form::Block, one), Reply::Guard(5)),
+        (Call::Park(one, 5), Reply::Done),
+        (Call::Abandon(one, 5), Reply::Done),
+        (Call::Spent, Reply::Count(8)),
         (Call::IsLocked, Reply::Bool(false)),
     ];
     check(rt.alloc(), Maker::Mutex(4, 1), &session)?;
-    Ok(())
-}
-
-#[test]
-fn into_arc_spends_one_token(rt: HostRuntime) -> Result<(), Fail> {
-    let one = party(1)?;
-    let session = [
-        (Call::Acquire(Want::Lock, Form::For, one), Reply::Guard(1)),
-        (Call::Park(one, 1), Reply::Done),
-        (Call::Resume(one, 1), Reply::Done),
-        (Call::Bump(one, 1), Reply::Done),
-        (Call::Unlock(one, 1, Way::IntoArcFair), Reply::Done),
-        (Call::Acquire(Want::Lock, Form::Block, one), Reply::Guard(2)),
-        (Call::Unlock(one, 2, Way::Plain), Reply::Done),
-        (Call::Spent, Reply::Count(4)),
-    ];
-    check::<Add>(rt.alloc(), Maker::Mutex(4, 0), &session)?;
-    Ok(())
-}
-
-#[test]
-fn parked_and_abandoned(rt: HostRuntime) -> Result<(), Fail> {
-    let (one, two) = two_parties()?;
-    let session = [
-        (Call::Acquire(Want::Lock, Form::Block, one), Reply::Guard(1)),
-        (Call::Park(one, 1), Reply::Done),
-        (Call::Acquire(Want::Lock, Form::Block, two), Reply::Guard(2)),
-        (Call::Resume(one, 1), Reply::Refused(Fault::WouldWait)),
-        (
-            Call::Unlock(one, 1, Way::Plain),
-            Reply::Refused(Fault::Parked),
-        ),
-        (
-            Call::Unlock(one, 1, Way::IntoArc),
-            Reply::Refused(Fault::Parked),
-        ),
-        (Call::Abandon(two, 2), Reply::Refused(Fault::NotParked)),
-        (Call::Abandon(one, 1), Reply::Done),
-        (Call::Abandon(one, 1), Reply::Refused(Fault::UnknownGuard)),
-        (Call::Unlock(two, 2, Way::IntoArcFair), Reply::Done),
-        (Call::Acquire(Want::Lock, Form::Try, one), Reply::Guard(3)),
-        (Call::Acquire(Want::Lock, Form::For, two), Reply::NoGuard),
-        (Call::ParkFair(one, 3), Reply::Done),
-        (Call::Acquire(Want::Lock, Form::Until, two), Reply::Guard(4)),
-        (Call::Bump(two, 4), Reply::Done),
-    ];
-    check::<Add>(rt.alloc(), Maker::Mutex(4, 0), &session)?;
     Ok(())
 }
 

@@ -126,31 +126,6 @@ fn spent_is_give_backs(rt: HostRuntime) -> Result<(), Fail> {
 }
 
 #[test]
-fn transitions_spend_nothing(rt: HostRuntime) -> Result<(), Fail> {
-    let one = party(1)?;
-    let session = [
-        (
-            Call::Acquire(Want::UpgradableRead, Form::Block, one),
-            Reply::Guard(1),
-        ),
-        (Call::Acquire(Want::Read, Form::Block, one), Reply::Guard(2)),
-        (Call::Upgrade(Form::Try, one, 1), Reply::NoGuard),
-        (Call::Unlock(one, 2, Way::Plain), Reply::Done),
-        (Call::Upgrade(Form::Until, one, 1), Reply::Done),
-        (Call::DowngradeToUpgradable(one, 1), Reply::Done),
-        (Call::Upgrade(Form::For, one, 1), Reply::Done),
-        (Call::Bump(one, 1), Reply::Done),
-        (Call::DowngradeToUpgradable(one, 1), Reply::Done),
-        (Call::Downgrade(one, 1), Reply::Done),
-        (Call::Unlock(one, 1, Way::IntoArc), Reply::Done),
-        (Call::Spent, Reply::Count(3)),
-        (Call::IsLocked, Reply::Bool(false)),
-    ];
-    check::<Add>(rt.alloc(), Maker::RwLock(4, 8, 0), &session)?;
-    Ok(())
-}
-
-#[test]
 fn readers_up_to_the_limit(rt: HostRuntime) -> Result<(), Fail> {
     let (one, two) = two_parties()?;
     let session = [

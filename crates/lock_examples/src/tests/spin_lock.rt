@@ -50,20 +50,36 @@ fn readers_share_and_a_writer_is_alone(rt: HostRuntime) -> Result<(), Fail> {
     Ok(())
 }
 
+/// Which tries give a token: of two readers, a third and a writer beside them, and of one beside a writer.
+fn try_beside_others<R: RawRwLock>(raw: &R) -> [bool; 4]
+where
+    R::SharedGuard: Drop,
+    R::ExclusiveGuard: Drop,
+{
+    let (one, other) = (raw.lock_shared(), raw.lock_shared());
+    let third = raw.try_lock_shared().is_some();
+    raw.unlock_shared(one);
+    let beside_a_reader = raw.try_lock_exclusive().is_some();
+    raw.unlock_shared(other);
+    let writer = raw.lock_exclusive();
+    let beside_a_writer = [
+        raw.try_lock_exclusive().is_some(),
+        raw.try_lock_shared().is_some(),
+    ];
+    raw.unlock_exclusive(writer);
+    [
+        third,
+        beside_a_reader,
+        beside_a_writer[0],
+        beside_a_writer[1],
+    ]
+}
+
 /// No value is here, so nothing but the word keeps a second token in.
 #[test]
 fn no_token_is_given_beside_one_that_writes(rt: HostRuntime) -> Result<(), Fail> {
     let raw: Spin = RawRwLock::new(rt.alloc(), rt, 2)?;
-    let one = raw.try_lock_shared().expect(&rt, "nobody writes");
-    let other = raw.try_lock_shared().expect(&rt, "nobody writes");
-    assert!(rt; raw.try_lock_shared().is_none());
-    raw.unlock_shared(one);
-    assert!(rt; raw.try_lock_exclusive().is_none());
-    raw.unlock_shared(other);
-    let writer = raw.try_lock_exclusive().expect(&rt, "nobody reads");
-    assert!(rt; raw.try_lock_exclusive().is_none());
-    assert!(rt; raw.try_lock_shared().is_none());
-    raw.unlock_exclusive(writer);
+    assert_eq!(rt; try_beside_others(&raw), [false; 4]);
     assert!(rt; !RawMutex::is_locked(&raw));
     Ok(())
 }

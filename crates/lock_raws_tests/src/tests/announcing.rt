@@ -1,10 +1,10 @@
 //! A writer that waits keeps later readers out.
 use super::counts::wait_for;
-use super::raws::raw_rwlock;
+use super::raws::over_two;
 use lock_guard::raw::RawRwLock;
 use lock_raws::{LockCore, RawLock, TokenRaw};
 use lock_raws_word::WordRaw;
-use std::process::Abort;
+use lock_test_support::answer::equal;
 use std::sync::Wait;
 use std::sync::atomic::{AtomicBool, AtomicU64, Ordering};
 use std::test::Fail;
@@ -152,28 +152,33 @@ fn write_among_readers<R: Threads + Sync, L: ReadAndWrite + Sync>(rt: &R, lock: 
 }
 
 /// A writer beside readers of a lock of four, and of a lock of one.
-fn wait_among_readers<R, L>(rt: &R, four: &L, one: &L)
+fn wait_among_readers<R, L>(rt: &R, four: &L, one: &L) -> Result<(), Fail>
 where
-    R: Threads + Abort + Sync,
+    R: Threads + Sync,
     L: ReadAndWrite + Sync,
 {
-    assert_eq!(rt; write_beside_a_reader(rt, four), (true, true));
+    equal(write_beside_a_reader(rt, four), (true, true))?;
     write_among_readers(rt, four);
     write_among_readers(rt, one);
+    Ok(())
 }
 
 #[test]
 fn a_writer_that_waits_bars_readers_of_a_table(rt: HostRuntime) -> Result<(), Fail> {
-    let four: TokenRaw<HostRuntime> = raw_rwlock(rt.alloc(), rt, 4)?;
-    let one: TokenRaw<HostRuntime> = raw_rwlock(rt.alloc(), rt, 1)?;
-    wait_among_readers(&rt, &four, &one);
-    Ok(())
+    over_two(
+        rt.alloc(),
+        [rt; 2],
+        [4, 1],
+        |four: &TokenRaw<HostRuntime>, one| { wait_among_readers(&rt, four, one) },
+    )
 }
 
 #[test]
 fn a_writer_that_waits_bars_readers_of_a_word(rt: HostRuntime) -> Result<(), Fail> {
-    let four: WordRaw<HostRuntime> = raw_rwlock(rt.alloc(), rt, 4)?;
-    let one: WordRaw<HostRuntime> = raw_rwlock(rt.alloc(), rt, 1)?;
-    wait_among_readers(&rt, &four, &one);
-    Ok(())
+    over_two(
+        rt.alloc(),
+        [rt; 2],
+        [4, 1],
+        |four: &WordRaw<HostRuntime>, one| { wait_among_readers(&rt, four, one) },
+    )
 }

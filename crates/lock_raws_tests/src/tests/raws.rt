@@ -6,7 +6,8 @@ use lock_guard::raw::{
     RawRwLockUpgradeTimed,
 };
 use lock_raws::{LockCore, Monitor, RawLock, TableArbiter, TokenRaw};
-use lock_raws_word::{NoTime, WordCore, WordRaw};
+use lock_raws_word::{NoTime, WordCore};
+use lock_test_support::answer::equal;
 use std::alloc::Global;
 use std::process::Abort;
 use std::test::Fail;
@@ -23,6 +24,19 @@ pub fn raw_rwlock<R: RawRwLock>(
     readers: u64,
 ) -> Result<R, Fault> {
     RawRwLock::new(alloc, waiter, readers)
+}
+
+/// Makes two locks of so many readers, and checks them.
+pub fn over_two<R: RawRwLock + Drop, F: FnOnce(&R, &R) -> Result<(), Fail>>(
+    alloc: Global,
+    waiters: [R::Waiter; 2],
+    readers: [u64; 2],
+    check: F,
+) -> Result<(), Fail> {
+    let [first, second] = waiters;
+    let one: R = raw_rwlock(alloc, first, readers[0])?;
+    let other: R = raw_rwlock(alloc, second, readers[1])?;
+    check(&one, &other)
 }
 
 /// The calls of a raw mutex that is free.
@@ -135,41 +149,37 @@ fn a_word_answers(rt: HostRuntime) -> Result<(), Fail> {
     Ok(())
 }
 
-#[test]
-fn foreign_tokens_are_ignored(rt: HostRuntime) {
-    let (Ok(one), Ok(other)) = (
-        raw_rwlock::<TokenRaw<HostRuntime>>(rt.alloc(), rt, 1),
-        raw_rwlock::<TokenRaw<HostRuntime>>(rt.alloc(), rt, 1),
-    ) else {
-        return;
-    };
+/// Whether each is held where a token of the one was given back to the other, a reader's own token being out.
+fn unlock_the_other<R: RawRwLock>(one: &R, other: &R) -> (bool, bool) {
     let shared = other.lock_shared();
     other.unlock_exclusive(one.lock_exclusive());
-    assert!(rt; RawRwLock::is_locked(&other));
+    let is_locked = other.is_locked();
     other.unlock_shared(shared);
-    assert!(rt; RawRwLock::is_locked_exclusive(&one));
+    (one.is_locked_exclusive(), is_locked)
 }
 
-#[test]
-fn a_foreign_token_changes_its_mode_alone(rt: HostRuntime) {
-    let (Ok(one), Ok(other)) = (
-        raw_rwlock::<TokenRaw<HostRuntime>>(rt.alloc(), rt, 1),
-        raw_rwlock::<TokenRaw<HostRuntime>>(rt.alloc(), rt, 1),
-    ) else {
-        return;
-    };
+/// Whether the other is held where a token of the one became a reader's there, and where that was given back.
+fn downgrade_at_the_other<R: RawRwLockDowngrade>(one: &R, other: &R) -> (bool, bool) {
     let shared = other.downgrade(one.lock_exclusive());
-    assert!(rt; !RawRwLock::is_locked(&other));
+    let is_locked = other.is_locked();
     other.unlock_shared(shared);
-    assert!(rt; !RawRwLock::is_locked(&other));
+    (is_locked, other.is_locked())
 }
 
 #[test]
-fn limits_out_of_range(rt: HostRuntime) {
-    for readers in [0, 4_294_967_296] {
-        let refused = raw_rwlock::<TokenRaw<HostRuntime>>(rt.alloc(), rt, readers).err();
-        assert_eq!(rt; refused, Some(Fault::BadLimits));
-        let refused = raw_rwlock::<WordRaw<HostRuntime>>(rt.alloc(), rt, readers).err();
-        assert_eq!(rt; refused, Some(Fault::BadLimits));
-    }
+fn foreign_tokens_are_ignored(rt: HostRuntime) -> Result<(), Fail> {
+    over_two(
+        rt.alloc(),
+        [rt; 2],
+        [1; 2],
+        |one: &TokenRaw<HostRuntime>, other| { equal(unlock_the_other(one, other), (true, true)) },
+    )?;
+    over_two(
+        rt.alloc(),
+        [rt; 2],
+        [1; 2],
+        |one: &TokenRaw<HostRuntime>, other| {
+            equal(downgrade_at_the_other(one, other), (false, false))
+        },
+    )
 }

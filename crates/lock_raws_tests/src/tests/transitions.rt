@@ -85,22 +85,23 @@ fn gets_in_between<R: Threads, L: Walk + Sync>(rt: &R, lock: &L, by_steps: bool)
     answer
 }
 
-#[test]
-fn no_writer_gets_in_between_over_a_table(rt: HostRuntime) -> Result<(), Fail> {
-    let raw: TokenRaw<HostRuntime> = raw_rwlock(rt.alloc(), rt, 2)?;
+/// By a single downgrade, and by steps.
+fn nobody_gets_in_between<R: Threads, L: Walk + Sync>(rt: &R, lock: &L) -> Result<(), Fail> {
     let between = [
-        gets_in_between(&rt, &raw, false),
-        gets_in_between(&rt, &raw, true),
+        gets_in_between(rt, lock, false),
+        gets_in_between(rt, lock, true),
     ];
     equal(between, [false; 2])
 }
 
 #[test]
+fn no_writer_gets_in_between_over_a_table(rt: HostRuntime) -> Result<(), Fail> {
+    let raw: TokenRaw<HostRuntime> = raw_rwlock(rt.alloc(), rt, 2)?;
+    nobody_gets_in_between(&rt, &raw)
+}
+
+#[test]
 fn no_writer_gets_in_between_over_a_word(rt: HostRuntime) -> Result<(), Fail> {
     let raw: WordRaw<HostRuntime> = raw_rwlock(rt.alloc(), rt, 2)?;
-    let between = [
-        gets_in_between(&rt, &raw, false),
-        gets_in_between(&rt, &raw, true),
-    ];
-    equal(between, [false; 2])
+    nobody_gets_in_between(&rt, &raw)
 }
