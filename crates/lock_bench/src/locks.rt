@@ -3,9 +3,9 @@ use lock_base::machine::PartyId;
 use lock_base::raw::Fault;
 use lock_guard::raw::{RawMutex, RawRwLock, RawRwLockUpgradeDowngrade};
 use lock_mutex::{Condvar, Mutex};
-use lock_raws::{LockCore, Monitor, RawLock, RecordingArbiter, TableArbiter, TokenRaw};
+use lock_raws::{LockCore, Monitor, RawLock, RecordingArbiter, TableArbiter};
 use lock_raws_timed::RealTime;
-use lock_raws_word::{NoTime, SleepingCondvar, WordCore, WordRaw};
+use lock_raws_word::{NoTime, SleepingCondvar, WordCore};
 use lock_remutex::ReentrantMutex;
 use lock_rwlock::{RwLock, RwLockUpgradableReadGuard, RwLockWriteGuard};
 use std::alloc::Global;
@@ -27,8 +27,8 @@ pub fn print<R: Print + Clock + Wait + Threads + Sync + Copy>(
     over::<R, Monitor<RecordingArbiter<TableArbiter>, R>>(rt, alloc, "RecordingRaw", rounds)?;
     over::<R, WordCore<R, NoTime>>(rt, alloc, "WordRaw", rounds)?;
     over::<R, WordCore<R, RealTime>>(rt, alloc, "TimedRaw", rounds)?;
-    trips::<R, Turns<TokenRaw<R>>>(rt, alloc, "TokenRaw", rounds / 100)?;
-    trips::<R, Turns<WordRaw<R>>>(rt, alloc, "WordRaw", rounds / 100)
+    trips::<R, Monitor<TableArbiter, R>>(rt, alloc, "TokenRaw", rounds / 100)?;
+    trips::<R, WordCore<R, NoTime>>(rt, alloc, "WordRaw", rounds / 100)
 }
 
 /// The lines of one raw lock.
@@ -67,7 +67,9 @@ fn print_of<R: Print, T: Drop, F: FnOnce(&T) -> io::Result<()>>(
     name: &str,
     made: Result<T, Fault>,
     print: F,
-) -> io::Result<()> {
+) -> io::Result<()>
+    requires { F.IsAlwaysCallable print }
+{
     match made {
         Ok(lock) => print(&lock),
         Err(_) => println!(rt; "{name}: out of memory"),
@@ -114,7 +116,9 @@ fn time<R: Print + Clock, T: Drop, F: FnOnce() -> T>(
     what: &str,
     rounds: u64,
     work: F,
-) -> io::Result<()> {
+) -> io::Result<()>
+    requires { F.IsAlwaysCallable work }
+{
     let start = Instant::now(rt)?;
     drop(work());
     line(rt, name, what, start, rounds)
@@ -259,13 +263,16 @@ fn in_two_threads<R: Threads, T: TakeTurns + Sync>(rt: &R, turns: &T, rounds: u6
 }
 
 /// The line of a condition variable.
-fn trips<R: Print + Clock + Wait + Threads + Sync + Copy, T: TakeTurns<Waiter = R> + Sync + Drop>(
+fn trips<R: Print + Clock + Wait + Threads + Sync + Copy, C: LockCore<Waiter = R>>(
     rt: &R,
     alloc: Global,
     name: &str,
     rounds: u64,
-) -> io::Result<()> {
-    print_of(rt, name, T::new(alloc, *rt), |turns| {
+) -> io::Result<()>
+where
+    Turns<RawLock<C>>: Sync,
+{
+    print_of(rt, name, Turns::<RawLock<C>>::new(alloc, *rt), |turns| {
         time(rt, name, "a round trip over SleepingCondvar", rounds, || {
             in_two_threads(rt, turns, rounds)
         })

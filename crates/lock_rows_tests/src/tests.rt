@@ -10,8 +10,8 @@ use lock_guard::raw::{
     RawMutexFair, RawMutexTimed, RawRwLockUpgradeDowngrade, RawRwLockUpgradeFair,
     RawRwLockUpgradeTimed,
 };
-use lock_raws::TokenRaw;
-use lock_raws_word::WordRaw;
+use lock_raws::{LockCore, Monitor, RawLock, TableArbiter};
+use lock_raws_word::{NoTime, WordCore};
 use std::alloc::Global;
 use std::process::Abort;
 use std::test::Fail;
@@ -28,16 +28,6 @@ fn mutex_rows<R: RawMutexFair + RawMutexTimed<Duration = (), Instant = ()> + Dro
     arc_mutex::row::<R>(rt, alloc, last)
 }
 
-#[test]
-fn a_mutex_over_a_table_is_as_on_a_desk(rt: HostRuntime) -> Result<(), Fail> {
-    mutex_rows::<TokenRaw<HostRuntime>>(&rt, rt.alloc(), [rt; 4])
-}
-
-#[test]
-fn a_mutex_over_a_word_is_as_on_a_desk(rt: HostRuntime) -> Result<(), Fail> {
-    mutex_rows::<WordRaw<HostRuntime>>(&rt, rt.alloc(), [rt; 4])
-}
-
 fn rwlock_rows<
     R: RawRwLockUpgradeFair
         + RawRwLockUpgradeTimed<Duration = (), Instant = ()>
@@ -52,17 +42,28 @@ fn rwlock_rows<
     arc_rwlock::row::<R>(rt, alloc, last)
 }
 
-#[test]
-fn a_rwlock_over_a_table_is_as_on_a_desk(rt: HostRuntime) -> Result<(), Fail> {
-    rwlock_rows::<TokenRaw<HostRuntime>>(&rt, rt.alloc(), [rt; 5])
+/// All rows over locks with that core.
+fn rows<C: LockCore<Duration = (), Instant = ()>>(
+    rt: &impl Abort,
+    alloc: Global,
+    mutexes: [C::Waiter; 4],
+    rwlocks: [C::Waiter; 5],
+    remutexes: [C::Waiter; 2],
+) -> Result<(), Fail>
+where
+    C::Token: Send,
+{
+    mutex_rows::<RawLock<C>>(rt, alloc, mutexes)?;
+    rwlock_rows::<RawLock<C>>(rt, alloc, rwlocks)?;
+    remutex::rows::<RawLock<C>>(rt, alloc, remutexes)
 }
 
 #[test]
-fn a_rwlock_over_a_word_is_as_on_a_desk(rt: HostRuntime) -> Result<(), Fail> {
-    rwlock_rows::<WordRaw<HostRuntime>>(&rt, rt.alloc(), [rt; 5])
+fn locks_over_a_table_are_as_on_a_desk(rt: HostRuntime) -> Result<(), Fail> {
+    rows::<Monitor<TableArbiter, HostRuntime>>(&rt, rt.alloc(), [rt; 4], [rt; 5], [rt; 2])
 }
 
 #[test]
-fn a_reentrant_lock_is_as_on_a_desk(rt: HostRuntime) -> Result<(), Fail> {
-    remutex::rows::<TokenRaw<HostRuntime>>(&rt, rt.alloc(), [rt; 2])
+fn locks_over_a_word_are_as_on_a_desk(rt: HostRuntime) -> Result<(), Fail> {
+    rows::<WordCore<HostRuntime, NoTime>>(&rt, rt.alloc(), [rt; 4], [rt; 5], [rt; 2])
 }

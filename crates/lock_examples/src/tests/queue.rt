@@ -1,9 +1,6 @@
 //! Producers and consumers on threads.
 use crate::Queue;
-use lock_api::{
-    RawCondvar, RawCondvarTimed, RawMutex, RawMutexTimed, SleepingCondvar, SpuriousCondvar,
-    TokenRaw, WordRaw,
-};
+use lock_api::{RawCondvar, RawMutex, SleepingCondvar, SpuriousCondvar, TokenRaw, WordRaw};
 use std::alloc::{AllocError, Global};
 use std::sync::Wait;
 use std::test::Fail;
@@ -69,56 +66,31 @@ fn hand_on<T: Threads + Sync, B: Belt + Sync>(
     popped
 }
 
-/// Whether the items that come are those that go, and none is left.
-fn arrive_once<T: Threads + Sync, C: RawCondvar + Sync>(
-    rt: &T,
-    queue: &Queue<C, u64>,
-    alloc: Global,
-) -> Result<(bool, Option<u64>), AllocError>
-where
-    C::RawMutex: Sync,
-{
-    let popped = hand_on(rt, queue, alloc)?;
+#[test]
+fn each_item_arrives_once(rt: HostRuntime) -> Result<(), Fail> {
+    let alloc: Global = rt.alloc();
+    let queue: Queue<SleepingCondvar<WordRaw<HostRuntime>>, u64> = Queue::new(alloc, rt, 7)?;
+    let popped = hand_on(&rt, &queue, alloc)?;
     let mut pushed = Vec::new(alloc);
     for item in 0..2 * EACH {
         pushed.push(item)?;
     }
-    Ok((popped == pushed, queue.try_pop()))
-}
-
-#[test]
-fn each_item_arrives_once(rt: HostRuntime) -> Result<(), Fail> {
-    let queue: Queue<SleepingCondvar<WordRaw<HostRuntime>>, u64> = Queue::new(rt.alloc(), rt, 7)?;
-    assert_eq!(rt; arrive_once(&rt, &queue, rt.alloc())?, (true, None));
+    assert!(rt; popped == pushed);
+    assert_eq!(rt; queue.try_pop(), None);
     Ok(())
-}
-
-/// What a queue of two answers as it is filled, and as it is emptied.
-fn fill_and_empty<C: RawCondvarTimed>(
-    queue: &Queue<C, u64>,
-) -> ([Result<(), u64>; 4], u64, [Option<u64>; 3])
-where
-    C::RawMutex: RawMutexTimed<Duration = (), Instant = ()>,
-{
-    queue.push(1);
-    let [second, third] = [queue.try_push(2), queue.try_push(3)];
-    let fourth = queue.push_for(4, ());
-    let popped = queue.pop();
-    let pushed = [second, third, fourth, queue.push_for(5, ())];
-    (
-        pushed,
-        popped,
-        [queue.try_pop(), queue.try_pop(), queue.try_pop()],
-    )
 }
 
 #[test]
 fn a_full_queue_gives_the_item_back(rt: HostRuntime) -> Result<(), Fail> {
     let queue: Queue<SpuriousCondvar<TokenRaw<HostRuntime>>, u64> = Queue::new(rt.alloc(), rt, 2)?;
-    let pushed = [Ok(()), Err(3), Err(4), Ok(())];
-    assert_eq!(rt;
-        fill_and_empty(&queue),
-        (pushed, 1, [Some(2), Some(5), None])
-    );
+    queue.push(1);
+    assert_eq!(rt; queue.try_push(2), Ok(()));
+    assert_eq!(rt; queue.try_push(3), Err(3));
+    assert_eq!(rt; queue.push_for(4, ()), Err(4));
+    assert_eq!(rt; queue.pop(), 1);
+    assert_eq!(rt; queue.push_for(5, ()), Ok(()));
+    assert_eq!(rt; queue.try_pop(), Some(2));
+    assert_eq!(rt; queue.try_pop(), Some(5));
+    assert_eq!(rt; queue.try_pop(), None);
     Ok(())
 }

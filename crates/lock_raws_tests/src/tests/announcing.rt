@@ -1,10 +1,11 @@
 //! A writer that waits keeps later readers out.
 use super::counts::wait_for;
-use super::raws::over_two;
+use super::raws::{TableCore, raw_rwlock};
 use lock_guard::raw::RawRwLock;
-use lock_raws::{LockCore, RawLock, TokenRaw};
-use lock_raws_word::WordRaw;
+use lock_raws::{LockCore, RawLock};
+use lock_raws_word::{NoTime, WordCore};
 use lock_test_support::answer::equal;
+use std::alloc::Global;
 use std::sync::Wait;
 use std::sync::atomic::{AtomicBool, AtomicU64, Ordering};
 use std::test::Fail;
@@ -163,22 +164,27 @@ where
     Ok(())
 }
 
+/// Over locks with that core.
+fn bar_readers<R: Threads + Sync, C: LockCore>(
+    rt: &R,
+    alloc: Global,
+    waiters: [C::Waiter; 2],
+) -> Result<(), Fail>
+where
+    RawLock<C>: Sync,
+{
+    let [first, last] = waiters;
+    let four: RawLock<C> = raw_rwlock(alloc, first, 4)?;
+    let one: RawLock<C> = raw_rwlock(alloc, last, 1)?;
+    wait_among_readers(rt, &four, &one)
+}
+
 #[test]
 fn a_writer_that_waits_bars_readers_of_a_table(rt: HostRuntime) -> Result<(), Fail> {
-    over_two(
-        rt.alloc(),
-        [rt; 2],
-        [4, 1],
-        |four: &TokenRaw<HostRuntime>, one| { wait_among_readers(&rt, four, one) },
-    )
+    bar_readers::<HostRuntime, TableCore<HostRuntime>>(&rt, rt.alloc(), [rt; 2])
 }
 
 #[test]
 fn a_writer_that_waits_bars_readers_of_a_word(rt: HostRuntime) -> Result<(), Fail> {
-    over_two(
-        rt.alloc(),
-        [rt; 2],
-        [4, 1],
-        |four: &WordRaw<HostRuntime>, one| { wait_among_readers(&rt, four, one) },
-    )
+    bar_readers::<HostRuntime, WordCore<HostRuntime, NoTime>>(&rt, rt.alloc(), [rt; 2])
 }

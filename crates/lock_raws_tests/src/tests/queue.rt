@@ -96,11 +96,14 @@ fn sum_of_all<T: Threads + Sync, C: Room + Sync>(rt: &T, room: &C) -> u64 {
 }
 
 /// Each item is taken once where the slot is one of that raw lock.
-fn arrive_once<T: Threads + Sync, R: RawMutex + Sync + Drop>(
+fn arrive_once<T: Threads + Sync, R: RawMutex + Drop>(
     rt: &T,
     alloc: Global,
     waiter: R::Waiter,
-) -> Result<(), Fail> {
+) -> Result<(), Fail>
+where
+    Slot<R>: Sync,
+{
     let slot: Slot<R> = Slot::new(alloc, waiter)?;
     equal(sum_of_all(rt, &slot), 200_010_000)
 }

@@ -12,6 +12,9 @@ use std::alloc::Global;
 use std::process::Abort;
 use std::test::Fail;
 
+/// The core of a lock round a table.
+pub type TableCore<W> = Monitor<TableArbiter, W>;
+
 /// A raw mutex of the waiter, through the trait.
 pub fn raw_mutex<R: RawMutex>(alloc: Global, waiter: R::Waiter) -> Result<R, Fault> {
     RawMutex::new(alloc, waiter)
@@ -24,19 +27,6 @@ pub fn raw_rwlock<R: RawRwLock>(
     readers: u64,
 ) -> Result<R, Fault> {
     RawRwLock::new(alloc, waiter, readers)
-}
-
-/// Makes two locks of so many readers, and checks them.
-pub fn over_two<R: RawRwLock + Drop, F: FnOnce(&R, &R) -> Result<(), Fail>>(
-    alloc: Global,
-    waiters: [R::Waiter; 2],
-    readers: [u64; 2],
-    check: F,
-) -> Result<(), Fail> {
-    let [first, second] = waiters;
-    let one: R = raw_rwlock(alloc, first, readers[0])?;
-    let other: R = raw_rwlock(alloc, second, readers[1])?;
-    check(&one, &other)
 }
 
 /// The calls of a raw mutex that is free.
@@ -139,7 +129,7 @@ fn answer<R: Abort, C: LockCore<Duration = (), Instant = ()>>(
 
 #[test]
 fn a_table_answers(rt: HostRuntime) -> Result<(), Fail> {
-    answer::<HostRuntime, Monitor<TableArbiter, HostRuntime>>(&rt, rt.alloc(), [rt; 3])?;
+    answer::<HostRuntime, TableCore<HostRuntime>>(&rt, rt.alloc(), [rt; 3])?;
     Ok(())
 }
 
@@ -166,20 +156,20 @@ fn downgrade_at_the_other<R: RawRwLockDowngrade>(one: &R, other: &R) -> (bool, b
     (is_locked, other.is_locked())
 }
 
+fn ignore_foreign_tokens<R: RawRwLockDowngrade + Drop>(
+    alloc: Global,
+    waiters: [R::Waiter; 4],
+) -> Result<(), Fail> {
+    let [first, second, third, last] = waiters;
+    let one: R = raw_rwlock(alloc, first, 1)?;
+    let other: R = raw_rwlock(alloc, second, 1)?;
+    equal(unlock_the_other(&one, &other), (true, true))?;
+    let one: R = raw_rwlock(alloc, third, 1)?;
+    let other: R = raw_rwlock(alloc, last, 1)?;
+    equal(downgrade_at_the_other(&one, &other), (false, false))
+}
+
 #[test]
 fn foreign_tokens_are_ignored(rt: HostRuntime) -> Result<(), Fail> {
-    over_two(
-        rt.alloc(),
-        [rt; 2],
-        [1; 2],
-        |one: &TokenRaw<HostRuntime>, other| { equal(unlock_the_other(one, other), (true, true)) },
-    )?;
-    over_two(
-        rt.alloc(),
-        [rt; 2],
-        [1; 2],
-        |one: &TokenRaw<HostRuntime>, other| {
-            equal(downgrade_at_the_other(one, other), (false, false))
-        },
-    )
+    ignore_foreign_tokens::<TokenRaw<HostRuntime>>(rt.alloc(), [rt; 4])
 }

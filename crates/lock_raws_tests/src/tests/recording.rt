@@ -15,12 +15,29 @@ use std::sync::Wait;
 use std::test::Fail;
 
 /// A lock that writes its steps down.
-trait Written {
+trait Journaled: RawMutexFair + RawRwLockFair + RawRwLockUpgradeDowngrade + Drop {
+    /// A free lock of so many readers, with room for so many steps.
+    fn with_room(
+        alloc: Global,
+        waiter: <Self as RawRwLock>::Waiter,
+        readers: u64,
+        room: usize,
+    ) -> Result<Self, Fault>;
+
     /// Compares what it has written, and whether it has stopped.
     fn has_written(&self, alloc: Global, wanted: &[ModeStep], stopped: bool) -> Result<(), Fail>;
 }
 
-impl<W: Wait + Clone + Drop> Written for RecordingRaw<W> {
+impl<W: Wait + Clone + Drop> Journaled for RecordingRaw<W> {
+    fn with_room(
+        alloc: Global,
+        waiter: W,
+        readers: u64,
+        room: usize,
+    ) -> Result<RecordingRaw<W>, Fault> {
+        RecordingRaw::with_room(alloc, waiter, readers, room)
+    }
+
     fn has_written(&self, alloc: Global, wanted: &[ModeStep], stopped: bool) -> Result<(), Fail> {
         let steps = self.journal(alloc)?;
         equal(
@@ -30,26 +47,30 @@ impl<W: Wait + Clone + Drop> Written for RecordingRaw<W> {
     }
 }
 
-fn a_step_past_the_room_is_made<R: RawRwLockDowngrade + Written>(
-    raw: &R,
-    alloc: Global,
-) -> Result<(), Fail>
-where
-    R::SharedGuard: Drop,
-{
+fn lets_a_reader_in<R: RawRwLock>(raw: &R) -> bool {
+    match raw.try_lock_shared() {
+        Some(shared) => {
+            raw.unlock_shared(shared);
+            true
+        }
+        None => false,
+    }
+}
+
+fn a_step_past_the_room_is_made<R: Journaled>(raw: &R, alloc: Global) -> Result<(), Fail> {
     let exclusive = raw.lock_exclusive();
-    let is_refused = raw.try_lock_shared().is_none();
+    let is_let_in = lets_a_reader_in(raw);
     let shared = raw.downgrade(exclusive);
     let wanted = [Acquire(Exclusive), Change(Exclusive, Shared)];
     let with_room = raw.has_written(alloc, &wanted, false);
     raw.unlock_shared(shared);
     with_room?;
     raw.has_written(alloc, &wanted, true)?;
-    equal((is_refused, raw.is_locked()), (true, false))
+    equal((is_let_in, RawRwLock::is_locked(raw)), (false, false))
 }
 
 /// The fourth step upgrades, whatever the room. Then these are written.
-fn the_fourth_step_upgrades<R: RawRwLockUpgrade + Written>(
+fn the_fourth_step_upgrades<R: Journaled>(
     raw: &R,
     alloc: Global,
     wanted: &[ModeStep],
@@ -68,7 +89,7 @@ fn the_fourth_step_upgrades<R: RawRwLockUpgrade + Written>(
     equal(is_upgraded, true)
 }
 
-fn the_first_step_stops_a_journal_with_no_room<R: RawMutex + Written>(
+fn the_first_step_stops_a_journal_with_no_room<R: Journaled>(
     raw: &R,
     alloc: Global,
 ) -> Result<(), Fail> {
@@ -77,7 +98,7 @@ fn the_first_step_stops_a_journal_with_no_room<R: RawMutex + Written>(
     raw.has_written(alloc, &[], true)
 }
 
-fn a_bump_is_a_release_and_an_acquisition<R: RawRwLockFair + Written>(
+fn a_bump_is_a_release_and_an_acquisition<R: Journaled>(
     raw: &R,
     alloc: Global,
 ) -> Result<(), Fail> {
@@ -92,10 +113,7 @@ fn a_bump_is_a_release_and_an_acquisition<R: RawRwLockFair + Written>(
 }
 
 /// Up and down by each transition, from an upgradable token and back to none.
-fn each_transition_is_one_step<R: RawRwLockUpgradeDowngrade + Written>(
-    raw: &R,
-    alloc: Global,
-) -> Result<(), Fail> {
+fn each_transition_is_one_step<R: Journaled>(raw: &R, alloc: Global) -> Result<(), Fail> {
     let exclusive = raw.upgrade(raw.lock_upgradable());
     let upgradable = raw.downgrade_to_upgradable(exclusive);
     raw.unlock_shared(raw.downgrade_upgradable(upgradable));
@@ -113,110 +131,82 @@ fn each_transition_is_one_step<R: RawRwLockUpgradeDowngrade + Written>(
     raw.has_written(alloc, &wanted, false)
 }
 
-fn two_read_and_a_third_is_refused<R: RawRwLock>(raw: &R) -> Result<(), Fail>
-where
-    R::SharedGuard: Drop,
-{
+fn two_read_and_a_third_is_refused<R: Journaled>(raw: &R) -> Result<(), Fail> {
     let (first, second) = (raw.lock_shared(), raw.lock_shared());
-    let is_refused = raw.try_lock_shared().is_none();
+    let is_let_in = lets_a_reader_in(raw);
     raw.unlock_shared(first);
     raw.unlock_shared(second);
-    equal(is_refused, true)
+    equal(is_let_in, false)
 }
 
-fn an_ignored_token_writes_nothing<R: RawRwLockDowngrade + Written>(
+fn an_ignored_token_writes_nothing<R: Journaled>(
     one: &R,
     other: &R,
     alloc: Global,
 ) -> Result<(), Fail> {
     other.unlock_shared(other.downgrade(one.lock_exclusive()));
     other.has_written(alloc, &[], false)?;
-    equal(other.is_locked(), false)
+    equal(RawRwLock::is_locked(other), false)
 }
 
-/// Makes a lock of so many readers with that room, and checks it.
-fn over<W: Wait + Clone + Drop, F: FnOnce(&RecordingRaw<W>) -> Result<(), Fail>>(
+/// Locks with too little room, and one with just enough.
+fn writes_as_much_as_it_has_room<R: Journaled>(
     alloc: Global,
-    waiter: W,
-    readers: u64,
-    room: usize,
-    check: F,
-) -> Result<(), Fail> {
-    let raw = RecordingRaw::with_room(alloc, waiter, readers, room)?;
-    check(&raw)
-}
-
-/// A lock with too little room, and one with just enough.
-fn writes_as_much_as_it_has_room<W: Wait + Clone + Drop>(
-    alloc: Global,
-    waiters: [W; 4],
+    waiters: [<R as RawRwLock>::Waiter; 4],
 ) -> Result<(), Fail> {
     let [first, second, third, last] = waiters;
+    let none = R::with_room(alloc, first, 1, 0)?;
+    the_first_step_stops_a_journal_with_no_room(&none, alloc)?;
+    let two = R::with_room(alloc, second, 2, 2)?;
+    a_step_past_the_room_is_made(&two, alloc)?;
     let steps = [
         Acquire(Shared),
         Acquire(Upgradable),
         Release(Shared),
         Change(Upgradable, Exclusive),
     ];
-    over(alloc, first, 1, 0, |raw| {
-        the_first_step_stops_a_journal_with_no_room(raw, alloc)
-    })?;
-    over(alloc, second, 2, 2, |raw| {
-        a_step_past_the_room_is_made(raw, alloc)
-    })?;
-    over(alloc, third, 4, 3, |raw| {
-        the_fourth_step_upgrades(raw, alloc, &steps[..3], true)
-    })?;
-    over(alloc, last, 4, 4, |raw| {
-        the_fourth_step_upgrades(raw, alloc, &steps, false)
-    })
+    let three = R::with_room(alloc, third, 4, 3)?;
+    the_fourth_step_upgrades(&three, alloc, &steps[..3], true)?;
+    let four = R::with_room(alloc, last, 4, 4)?;
+    the_fourth_step_upgrades(&four, alloc, &steps, false)
 }
 
-fn writes_each_step<W: Wait + Clone + Drop>(alloc: Global, waiters: [W; 5]) -> Result<(), Fail> {
+fn writes_each_step<R: Journaled>(
+    alloc: Global,
+    waiters: [<R as RawRwLock>::Waiter; 5],
+) -> Result<(), Fail> {
     let [first, second, third, fourth, last] = waiters;
-    over(alloc, first, 2, 4, |raw| {
-        a_bump_is_a_release_and_an_acquisition(raw, alloc)
-    })?;
-    over(alloc, second, 2, 8, |raw| {
-        each_transition_is_one_step(raw, alloc)
-    })?;
-    over(alloc, third, 2, 8, |raw| {
-        two_read_and_a_third_is_refused(raw)
-    })?;
-    over(alloc, fourth, 1, 4, |one| {
-        over(alloc, last, 1, 4, |other| {
-            an_ignored_token_writes_nothing(one, other, alloc)
-        })
-    })
+    let bumped = R::with_room(alloc, first, 2, 4)?;
+    a_bump_is_a_release_and_an_acquisition(&bumped, alloc)?;
+    let changed = R::with_room(alloc, second, 2, 8)?;
+    each_transition_is_one_step(&changed, alloc)?;
+    let read = R::with_room(alloc, third, 2, 8)?;
+    two_read_and_a_third_is_refused(&read)?;
+    let one = R::with_room(alloc, fourth, 1, 4)?;
+    let other = R::with_room(alloc, last, 1, 4)?;
+    an_ignored_token_writes_nothing(&one, &other, alloc)
+}
+
+fn lock_and_unlock<R: RawMutexFair>(raw: &R, rounds: u32) {
+    for _ in 0..rounds {
+        raw.unlock_fair(raw.lock());
+    }
 }
 
 #[test]
 fn a_recording_lock_writes_its_steps(rt: HostRuntime) -> Result<(), Fail> {
-    writes_as_much_as_it_has_room(rt.alloc(), [rt; 4])?;
-    writes_each_step(rt.alloc(), [rt; 5])
-}
-
-fn lock_and_unlock<R: RawMutexFair>(raw: &R) {
-    raw.unlock_fair(raw.lock());
-}
-
-fn has_1024_entries<W: Wait + Clone + Drop>(
-    raw: &RecordingRaw<W>,
-    alloc: Global,
-) -> Result<(), Fail> {
-    for _ in 0..512u32 {
-        lock_and_unlock(raw);
-    }
-    let has_stopped = raw.stopped();
-    lock_and_unlock(raw);
-    let seen = (has_stopped, raw.stopped(), raw.journal(alloc)?.len());
-    equal(seen, (false, true, 1024))
+    writes_as_much_as_it_has_room::<RecordingRaw<HostRuntime>>(rt.alloc(), [rt; 4])?;
+    writes_each_step::<RecordingRaw<HostRuntime>>(rt.alloc(), [rt; 5])
 }
 
 #[test]
 fn a_lock_of_the_raw_traits_has_1024_entries(rt: HostRuntime) -> Result<(), Fail> {
     let raw: RecordingRaw<HostRuntime> = raw_mutex(rt.alloc(), rt)?;
-    has_1024_entries(&raw, rt.alloc())
+    lock_and_unlock(&raw, 512);
+    let has_stopped = raw.stopped();
+    lock_and_unlock(&raw, 1);
+    let seen = (has_stopped, raw.stopped(), raw.journal(rt.alloc())?.len());
+    equal(seen, (false, true, 1024))
 }
 
 fn arbiter_writes<A: Arbiter + Drop>(arbiter: RecordingArbiter<A>) -> Result<(), Fail>

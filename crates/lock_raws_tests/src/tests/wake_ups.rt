@@ -2,12 +2,13 @@
 mod ends;
 mod runs;
 
-use super::raws::over_two;
+use super::raws::{TableCore, raw_rwlock};
 use ends::Ends;
-use lock_raws::TokenRaw;
-use lock_raws_word::WordRaw;
+use lock_raws::{LockCore, RawLock};
+use lock_raws_word::{NoTime, WordCore};
 use lock_test_support::answer::equal;
 use runs::Contend;
+use std::alloc::Global;
 use std::test::Fail;
 use std::thread::Threads;
 use std::time::Clock;
@@ -26,22 +27,27 @@ where
     equal(are_held, [false; 2])
 }
 
+/// Over locks with that core.
+fn let_on<R: Threads + Clock + Sync, C: LockCore>(
+    rt: &R,
+    alloc: Global,
+    waiters: [C::Waiter; 2],
+) -> Result<(), Fail>
+where
+    RawLock<C>: Sync,
+{
+    let [first, last] = waiters;
+    let four: RawLock<C> = raw_rwlock(alloc, first, 4)?;
+    let one: RawLock<C> = raw_rwlock(alloc, last, 1)?;
+    let_all_on(rt, &four, &one)
+}
+
 #[test]
 fn a_table_lets_on_who_waits(rt: HostRuntime) -> Result<(), Fail> {
-    over_two(
-        rt.alloc(),
-        [rt; 2],
-        [4, 1],
-        |four: &TokenRaw<HostRuntime>, one| { let_all_on(&rt, four, one) },
-    )
+    let_on::<HostRuntime, TableCore<HostRuntime>>(&rt, rt.alloc(), [rt; 2])
 }
 
 #[test]
 fn a_word_lets_on_who_waits(rt: HostRuntime) -> Result<(), Fail> {
-    over_two(
-        rt.alloc(),
-        [rt; 2],
-        [4, 1],
-        |four: &WordRaw<HostRuntime>, one| { let_all_on(&rt, four, one) },
-    )
+    let_on::<HostRuntime, WordCore<HostRuntime, NoTime>>(&rt, rt.alloc(), [rt; 2])
 }
