@@ -3,9 +3,9 @@ use lock_base::machine::PartyId;
 use lock_base::raw::Fault;
 use lock_guard::raw::{RawMutex, RawRwLock, RawRwLockUpgradeDowngrade};
 use lock_mutex::{Condvar, Mutex};
-use lock_raws::{LockCore, Monitor, RawLock, RecordingArbiter, TableArbiter};
+use lock_raws::{LockCore, Monitor, RawLock, RecordingArbiter, TableArbiter, TokenRaw};
 use lock_raws_timed::RealTime;
-use lock_raws_word::{NoTime, SleepingCondvar, WordCore};
+use lock_raws_word::{NoTime, SleepingCondvar, WordCore, WordRaw};
 use lock_remutex::ReentrantMutex;
 use lock_rwlock::{RwLock, RwLockUpgradableReadGuard, RwLockWriteGuard};
 use std::alloc::Global;
@@ -27,8 +27,8 @@ pub fn print<R: Print + Clock + Wait + Threads + Sync + Copy>(
     over::<R, Monitor<RecordingArbiter<TableArbiter>, R>>(rt, alloc, "RecordingRaw", rounds)?;
     over::<R, WordCore<R, NoTime>>(rt, alloc, "WordRaw", rounds)?;
     over::<R, WordCore<R, RealTime>>(rt, alloc, "TimedRaw", rounds)?;
-    trips::<R, Monitor<TableArbiter, R>>(rt, alloc, "TokenRaw", rounds / 100)?;
-    trips::<R, WordCore<R, NoTime>>(rt, alloc, "WordRaw", rounds / 100)
+    trips::<R, Turns<TokenRaw<R>>>(rt, alloc, "TokenRaw", rounds / 100)?;
+    trips::<R, Turns<WordRaw<R>>>(rt, alloc, "WordRaw", rounds / 100)
 }
 
 /// The lines of one raw lock.
@@ -41,39 +41,42 @@ fn over<R: Print + Clock + Wait + Copy, C: LockCore<Waiter = R>>(
 where
     C::Token: Send,
 {
-    let mutex = Mutex::<RawLock<C>, u64>::new(alloc, *rt, 0);
-    print_of(rt, name, mutex, |mutex| {
-        time(rt, name, "Mutex", rounds, || lock_mutex(mutex, rounds))
-    })?;
-    let raw = <RawLock<C> as RawMutex>::new(alloc, *rt);
-    print_of(rt, name, raw, |raw| {
-        time(
-            rt,
-            name,
-            "the raw lock alone",
-            rounds,
-            || lock_raw(raw, rounds),
-        )
-    })?;
-    let lock = RwLock::<RawLock<C>, u64>::with_readers(alloc, *rt, READERS, 0);
-    print_of(rt, name, lock, |lock| print_rwlock(rt, lock, name, rounds))?;
-    let lock = ReentrantMutex::<RawLock<C>, u64>::new(alloc, *rt, 1);
-    print_of(rt, name, lock, |lock| print_levels(rt, lock, name, rounds))
+    let Ok(mutex) = Mutex::<RawLock<C>, u64>::new(alloc, *rt, 0) else {
+        return println!(rt; "{name}: out of memory");
+    };
+    print_mutex(rt, &mutex, name, rounds)?;
+    let (raw, _) = mutex.into_inner_with_raw();
+    print_raw(rt, &raw, name, rounds)?;
+    let Ok(lock) = RwLock::<RawLock<C>, u64>::with_readers(alloc, *rt, READERS, 0) else {
+        return println!(rt; "{name}: out of memory");
+    };
+    print_rwlock(rt, &lock, name, rounds)?;
+    let Ok(lock) = ReentrantMutex::<RawLock<C>, u64>::new(alloc, *rt, 1) else {
+        return println!(rt; "{name}: out of memory");
+    };
+    print_levels(rt, &lock, name, rounds)
 }
 
-/// The lines of a lock that was made, or one that memory was refused.
-fn print_of<R: Print, T: Drop, F: FnOnce(&T) -> io::Result<()>>(
+fn print_mutex<R: Print + Clock, L: RawMutex>(
     rt: &R,
+    mutex: &Mutex<L, u64>,
     name: &str,
-    made: Result<T, Fault>,
-    print: F,
-) -> io::Result<()>
-    requires { F.IsAlwaysCallable print }
-{
-    match made {
-        Ok(lock) => print(&lock),
-        Err(_) => println!(rt; "{name}: out of memory"),
-    }
+    rounds: u64,
+) -> io::Result<()> {
+    let start = Instant::now(rt)?;
+    lock_mutex(mutex, rounds);
+    line(rt, name, "Mutex", start, rounds)
+}
+
+fn print_raw<R: Print + Clock, L: RawMutex>(
+    rt: &R,
+    raw: &L,
+    name: &str,
+    rounds: u64,
+) -> io::Result<()> {
+    let start = Instant::now(rt)?;
+    lock_raw(raw, rounds);
+    line(rt, name, "the raw lock alone", start, rounds)
 }
 
 fn print_rwlock<R: Print + Clock, L: RawRwLockUpgradeDowngrade>(
@@ -82,11 +85,15 @@ fn print_rwlock<R: Print + Clock, L: RawRwLockUpgradeDowngrade>(
     name: &str,
     rounds: u64,
 ) -> io::Result<()> {
-    time(rt, name, "RwLock read", rounds, || read(lock, rounds))?;
-    time(rt, name, "RwLock write", rounds, || write(lock, rounds))?;
-    time(rt, name, "RwLock upgrade and downgrade", rounds, || {
-        walk(lock, rounds)
-    })
+    let start = Instant::now(rt)?;
+    let _ = read(lock, rounds);
+    line(rt, name, "RwLock read", start, rounds)?;
+    let start = Instant::now(rt)?;
+    write(lock, rounds);
+    line(rt, name, "RwLock write", start, rounds)?;
+    let start = Instant::now(rt)?;
+    let _ = walk(lock, rounds);
+    line(rt, name, "RwLock upgrade and downgrade", start, rounds)
 }
 
 fn print_levels<R: Print + Clock, C: LockCore>(
@@ -101,27 +108,12 @@ where
     let Some(party) = PartyId::new(1) else {
         return Ok(());
     };
-    time(rt, name, "ReentrantMutex, one level", rounds, || {
-        one_level(lock, party, rounds)
-    })?;
-    time(rt, name, "ReentrantMutex, two levels", rounds, || {
-        two_levels(lock, party, rounds)
-    })
-}
-
-/// A line of the rounds that the work is.
-fn time<R: Print + Clock, T: Drop, F: FnOnce() -> T>(
-    rt: &R,
-    name: &str,
-    what: &str,
-    rounds: u64,
-    work: F,
-) -> io::Result<()>
-    requires { F.IsAlwaysCallable work }
-{
     let start = Instant::now(rt)?;
-    drop(work());
-    line(rt, name, what, start, rounds)
+    let _ = one_level(lock, party, rounds);
+    line(rt, name, "ReentrantMutex, one level", start, rounds)?;
+    let start = Instant::now(rt)?;
+    let _ = two_levels(lock, party, rounds);
+    line(rt, name, "ReentrantMutex, two levels", start, rounds)
 }
 
 /// The names, and nanoseconds a round with a tenth.
@@ -263,18 +255,16 @@ fn in_two_threads<R: Threads, T: TakeTurns + Sync>(rt: &R, turns: &T, rounds: u6
 }
 
 /// The line of a condition variable.
-fn trips<R: Print + Clock + Wait + Threads + Sync + Copy, C: LockCore<Waiter = R>>(
+fn trips<R: Print + Clock + Wait + Threads + Sync + Copy, T: TakeTurns<Waiter = R> + Sync + Drop>(
     rt: &R,
     alloc: Global,
     name: &str,
     rounds: u64,
-) -> io::Result<()>
-where
-    Turns<RawLock<C>>: Sync,
-{
-    print_of(rt, name, Turns::<RawLock<C>>::new(alloc, *rt), |turns| {
-        time(rt, name, "a round trip over SleepingCondvar", rounds, || {
-            in_two_threads(rt, turns, rounds)
-        })
-    })
+) -> io::Result<()> {
+    let Ok(turns) = T::new(alloc, *rt) else {
+        return println!(rt; "{name}: out of memory");
+    };
+    let start = Instant::now(rt)?;
+    in_two_threads(rt, &turns, rounds);
+    line(rt, name, "a round trip over SleepingCondvar", start, rounds)
 }

@@ -2,9 +2,9 @@
 use lock_base::raw::Fault;
 use lock_guard::raw::RawMutex;
 use lock_mutex::{Condvar, Mutex};
-use lock_raws::{LockCore, Monitor, RawLock, RecordingArbiter, TableArbiter};
-use lock_raws_timed::RealTime;
-use lock_raws_word::{NoTime, SleepingCondvar, WordCore};
+use lock_raws::{RecordingRaw, TokenRaw};
+use lock_raws_timed::TimedRaw;
+use lock_raws_word::{SleepingCondvar, WordRaw};
 use std::alloc::Global;
 use std::io;
 use std::sync::Wait;
@@ -118,16 +118,11 @@ fn raise_and_wait<R: Threads + Sync + Clock + CpuClock, H: Held + Sync>(
 }
 
 /// The line of one raw lock.
-fn over<R: Print + Wait + Threads + Sync + Clock + CpuClock + Copy, C: LockCore<Waiter = R>>(
-    rt: &R,
-    alloc: Global,
-    name: &str,
-    millis: u64,
-) -> io::Result<()>
-where
-    Flag<RawLock<C>>: Sync,
-{
-    let Ok(flag) = Flag::<RawLock<C>>::new(alloc, *rt) else {
+fn over<
+    R: Print + Wait + Threads + Sync + Clock + CpuClock + Copy,
+    H: Held<Waiter = R> + Sync + Drop,
+>(rt: &R, alloc: Global, name: &str, millis: u64) -> io::Result<()> {
+    let Ok(flag) = H::new(alloc, *rt) else {
         return println!(rt; "{name}: out of memory");
     };
     let lock = hold_and_wait(rt, &flag, millis);
@@ -143,8 +138,8 @@ pub fn print<R: Print + Clock + CpuClock + Wait + Threads + Sync + Copy>(
     alloc: Global,
     millis: u64,
 ) -> io::Result<()> {
-    over::<R, Monitor<TableArbiter, R>>(rt, alloc, "TokenRaw", millis)?;
-    over::<R, Monitor<RecordingArbiter<TableArbiter>, R>>(rt, alloc, "RecordingRaw", millis)?;
-    over::<R, WordCore<R, NoTime>>(rt, alloc, "WordRaw", millis)?;
-    over::<R, WordCore<R, RealTime>>(rt, alloc, "TimedRaw", millis)
+    over::<R, Flag<TokenRaw<R>>>(rt, alloc, "TokenRaw", millis)?;
+    over::<R, Flag<RecordingRaw<R>>>(rt, alloc, "RecordingRaw", millis)?;
+    over::<R, Flag<WordRaw<R>>>(rt, alloc, "WordRaw", millis)?;
+    over::<R, Flag<TimedRaw<R>>>(rt, alloc, "TimedRaw", millis)
 }

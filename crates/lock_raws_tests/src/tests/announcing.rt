@@ -1,11 +1,10 @@
 //! A writer that waits keeps later readers out.
 use super::counts::wait_for;
-use super::raws::{TableCore, raw_rwlock};
+use super::raws::raw_rwlock;
 use lock_guard::raw::RawRwLock;
-use lock_raws::{LockCore, RawLock};
-use lock_raws_word::{NoTime, WordCore};
-use lock_test_support::answer::equal;
-use std::alloc::Global;
+use lock_raws::{LockCore, RawLock, TokenRaw};
+use lock_raws_word::WordRaw;
+use std::process::Abort;
 use std::sync::Wait;
 use std::sync::atomic::{AtomicBool, AtomicU64, Ordering};
 use std::test::Fail;
@@ -153,38 +152,28 @@ fn write_among_readers<R: Threads + Sync, L: ReadAndWrite + Sync>(rt: &R, lock: 
 }
 
 /// A writer beside readers of a lock of four, and of a lock of one.
-fn wait_among_readers<R, L>(rt: &R, four: &L, one: &L) -> Result<(), Fail>
+fn wait_among_readers<R, L>(rt: &R, four: &L, one: &L)
 where
-    R: Threads + Sync,
+    R: Threads + Abort + Sync,
     L: ReadAndWrite + Sync,
 {
-    equal(write_beside_a_reader(rt, four), (true, true))?;
+    assert_eq!(rt; write_beside_a_reader(rt, four), (true, true));
     write_among_readers(rt, four);
     write_among_readers(rt, one);
-    Ok(())
-}
-
-/// Over locks with that core.
-fn bar_readers<R: Threads + Sync, C: LockCore>(
-    rt: &R,
-    alloc: Global,
-    waiters: [C::Waiter; 2],
-) -> Result<(), Fail>
-where
-    RawLock<C>: Sync,
-{
-    let [first, last] = waiters;
-    let four: RawLock<C> = raw_rwlock(alloc, first, 4)?;
-    let one: RawLock<C> = raw_rwlock(alloc, last, 1)?;
-    wait_among_readers(rt, &four, &one)
 }
 
 #[test]
 fn a_writer_that_waits_bars_readers_of_a_table(rt: HostRuntime) -> Result<(), Fail> {
-    bar_readers::<HostRuntime, TableCore<HostRuntime>>(&rt, rt.alloc(), [rt; 2])
+    let four: TokenRaw<HostRuntime> = raw_rwlock(rt.alloc(), rt, 4)?;
+    let one: TokenRaw<HostRuntime> = raw_rwlock(rt.alloc(), rt, 1)?;
+    wait_among_readers(&rt, &four, &one);
+    Ok(())
 }
 
 #[test]
 fn a_writer_that_waits_bars_readers_of_a_word(rt: HostRuntime) -> Result<(), Fail> {
-    bar_readers::<HostRuntime, WordCore<HostRuntime, NoTime>>(&rt, rt.alloc(), [rt; 2])
+    let four: WordRaw<HostRuntime> = raw_rwlock(rt.alloc(), rt, 4)?;
+    let one: WordRaw<HostRuntime> = raw_rwlock(rt.alloc(), rt, 1)?;
+    wait_among_readers(&rt, &four, &one);
+    Ok(())
 }

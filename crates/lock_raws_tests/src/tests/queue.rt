@@ -4,7 +4,6 @@ use lock_guard::raw::RawMutex;
 use lock_mutex::{Condvar, Mutex};
 use lock_raws::TokenRaw;
 use lock_raws_word::{SleepingCondvar, WordRaw};
-use lock_test_support::answer::equal;
 use std::alloc::Global;
 use std::sync::Wait;
 use std::test::Fail;
@@ -95,21 +94,11 @@ fn sum_of_all<T: Threads + Sync, C: Room + Sync>(rt: &T, room: &C) -> u64 {
     sum
 }
 
-/// Each item is taken once where the slot is one of that raw lock.
-fn arrive_once<T: Threads + Sync, R: RawMutex + Drop>(
-    rt: &T,
-    alloc: Global,
-    waiter: R::Waiter,
-) -> Result<(), Fail>
-where
-    Slot<R>: Sync,
-{
-    let slot: Slot<R> = Slot::new(alloc, waiter)?;
-    equal(sum_of_all(rt, &slot), 200_010_000)
-}
-
 #[test]
 fn each_item_arrives_once(rt: HostRuntime) -> Result<(), Fail> {
-    arrive_once::<HostRuntime, WordRaw<HostRuntime>>(&rt, rt.alloc(), rt)?;
-    arrive_once::<HostRuntime, TokenRaw<HostRuntime>>(&rt, rt.alloc(), rt)
+    let words: Slot<WordRaw<HostRuntime>> = Slot::new(rt.alloc(), rt)?;
+    assert_eq!(rt; sum_of_all(&rt, &words), 200_010_000);
+    let tables: Slot<TokenRaw<HostRuntime>> = Slot::new(rt.alloc(), rt)?;
+    assert_eq!(rt; sum_of_all(&rt, &tables), 200_010_000);
+    Ok(())
 }

@@ -12,9 +12,6 @@ use std::alloc::Global;
 use std::process::Abort;
 use std::test::Fail;
 
-/// The core of a lock round a table.
-pub type TableCore<W> = Monitor<TableArbiter, W>;
-
 /// A raw mutex of the waiter, through the trait.
 pub fn raw_mutex<R: RawMutex>(alloc: Global, waiter: R::Waiter) -> Result<R, Fault> {
     RawMutex::new(alloc, waiter)
@@ -129,7 +126,7 @@ fn answer<R: Abort, C: LockCore<Duration = (), Instant = ()>>(
 
 #[test]
 fn a_table_answers(rt: HostRuntime) -> Result<(), Fail> {
-    answer::<HostRuntime, TableCore<HostRuntime>>(&rt, rt.alloc(), [rt; 3])?;
+    answer::<HostRuntime, Monitor<TableArbiter, HostRuntime>>(&rt, rt.alloc(), [rt; 3])?;
     Ok(())
 }
 

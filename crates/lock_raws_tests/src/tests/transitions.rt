@@ -1,10 +1,9 @@
 //! A writer that waits does not get in while a token becomes one of another mode.
-use super::raws::{TableCore, raw_rwlock};
+use super::raws::raw_rwlock;
 use lock_guard::raw::{RawRwLock, RawRwLockDowngrade, RawRwLockUpgrade, RawRwLockUpgradeDowngrade};
-use lock_raws::{LockCore, RawLock};
-use lock_raws_word::{NoTime, WordCore};
+use lock_raws::{LockCore, RawLock, TokenRaw};
+use lock_raws_word::WordRaw;
 use lock_test_support::answer::equal;
-use std::alloc::Global;
 use std::sync::Wait;
 use std::sync::atomic::{AtomicBool, Ordering};
 use std::test::Fail;
@@ -95,25 +94,14 @@ fn nobody_gets_in_between<R: Threads, L: Walk + Sync>(rt: &R, lock: &L) -> Resul
     equal(between, [false; 2])
 }
 
-/// Over a lock with that core.
-fn nobody_gets_in_between_over<R: Threads, C: LockCore>(
-    rt: &R,
-    alloc: Global,
-    waiter: C::Waiter,
-) -> Result<(), Fail>
-where
-    RawLock<C>: Sync,
-{
-    let raw: RawLock<C> = raw_rwlock(alloc, waiter, 2)?;
-    nobody_gets_in_between(rt, &raw)
-}
-
 #[test]
 fn no_writer_gets_in_between_over_a_table(rt: HostRuntime) -> Result<(), Fail> {
-    nobody_gets_in_between_over::<HostRuntime, TableCore<HostRuntime>>(&rt, rt.alloc(), rt)
+    let raw: TokenRaw<HostRuntime> = raw_rwlock(rt.alloc(), rt, 2)?;
+    nobody_gets_in_between(&rt, &raw)
 }
 
 #[test]
 fn no_writer_gets_in_between_over_a_word(rt: HostRuntime) -> Result<(), Fail> {
-    nobody_gets_in_between_over::<HostRuntime, WordCore<HostRuntime, NoTime>>(&rt, rt.alloc(), rt)
+    let raw: WordRaw<HostRuntime> = raw_rwlock(rt.alloc(), rt, 2)?;
+    nobody_gets_in_between(&rt, &raw)
 }

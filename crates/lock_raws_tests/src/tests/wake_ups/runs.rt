@@ -2,6 +2,7 @@
 use crate::tests::counts::wait_for;
 use lock_guard::raw::{RawRwLock, RawRwLockDowngrade, RawRwLockUpgrade, RawRwLockUpgradeDowngrade};
 use lock_raws::{LockCore, RawLock};
+use std::process::Abort;
 use std::sync::Wait;
 use std::sync::atomic::{AtomicU64, Ordering};
 use std::thread::{self, Threads};
@@ -83,10 +84,10 @@ where
     );
 }
 
-/// Such runs of four threads. Whether the lock is held afterwards.
-pub fn in_four_threads<R, L>(rt: &R, lock: &L) -> bool
+/// Such runs of four threads.
+pub fn in_four_threads<R, L>(rt: &R, lock: &L)
 where
-    R: Threads + Sync,
+    R: Threads + Abort + Sync,
     L: Contend + Sync,
 {
     let ended = AtomicU64::new(0);
@@ -95,5 +96,5 @@ where
         || in_two_threads(rt, lock, &ended),
         || in_two_threads(rt, lock, &ended),
     );
-    lock.is_held()
+    assert!(rt; !lock.is_held());
 }
