@@ -28,8 +28,7 @@ impl<'a, R: RawMutex, T> Acquire for BorrowedMutex<'a, R, T> {
     }
 
     fn show(&self) -> sync::MutexGuard<'a, T> {
-        let mutex = self.mutex;
-        mutex.value.lock(mutex.raw.waiter())
+        self.mutex.value_guard()
     }
 }
 

@@ -102,7 +102,7 @@ impl<R: RawMutex, T> Mutex<R, T> {
         requires { F.IsAlwaysCallable f }
         ensures { ReadsSomeValue F.FnOnce f result }
     {
-        let value = self.value.lock(self.raw.waiter());
+        let value = self.value_guard();
         f(&value)
     }
 
@@ -111,8 +111,17 @@ impl<R: RawMutex, T> Mutex<R, T> {
         requires { F.IsAlwaysCallable f }
         ensures { AnswersSomeValue F.FnOnce f result }
     {
-        let mut value = self.value.lock(self.raw.waiter());
+        let mut value = self.value_guard();
         f(&mut value)
+    }
+
+    /// The value, whose own lock is held. A raw lock that admits one at a time has left it free, and a try is shorter than a
+    /// wait.
+    pub(crate) fn value_guard(&self) -> sync::MutexGuard<'_, T> {
+        match self.value.try_lock() {
+            Some(value) => value,
+            None => self.value.lock(self.raw.waiter()),
+        }
     }
 }
 

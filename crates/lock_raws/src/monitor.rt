@@ -11,7 +11,8 @@ use lock_base::machine::Mode;
 use lock_base::raw::Fault;
 use std::alloc::Global;
 use std::clone::Clone;
-use std::sync::{Condvar, Mutex, Wait};
+use std::sync::atomic::{AtomicU64, Ordering};
+use std::sync::{Condvar, Mutex, MutexGuard, Wait};
 
 /// A std `Mutex` round an arbiter, and a std `Condvar` to wait on.
 ///
@@ -25,6 +26,8 @@ pub struct Monitor<A: Arbiter, W: Wait + Clone + Drop> {
     pub(crate) waiter: W,
     pub(crate) arbiter: Mutex<A>,
     changed: Condvar,
+    /// How many wait. It is changed under the Mutex alone, so whoever had that after a change knows who waits for it.
+    waiting: AtomicU64,
 }
 
 impl<A: Arbiter, W: Wait + Clone + Drop> Monitor<A, W> {
@@ -34,21 +37,42 @@ impl<A: Arbiter, W: Wait + Clone + Drop> Monitor<A, W> {
             waiter,
             arbiter: Mutex::new(arbiter),
             changed: Condvar::new(),
+            waiting: AtomicU64::new(0),
         }
+    }
+
+    /// The arbiter, whose lock is held. A call holds it for a moment, so it is mostly free, and a try is shorter than a wait.
+    pub(crate) fn arbiter(&self) -> MutexGuard<'_, A> {
+        match self.arbiter.try_lock() {
+            Some(arbiter) => arbiter,
+            None => self.arbiter.lock(&self.waiter),
+        }
+    }
+
+    /// Gives the arbiter up until something was changed. It may end with no change.
+    fn wait<'a>(&self, arbiter: MutexGuard<'a, A>) -> MutexGuard<'a, A> {
+        self.waiting.fetch_add(1, Ordering::SeqCst);
+        let arbiter = self.changed.wait(&self.waiter, arbiter);
+        self.waiting.fetch_sub(1, Ordering::SeqCst);
+        arbiter
     }
 
     /// The token in a lower mode.
     fn lower(&self, token: A::Token, from: Mode, to: Mode) -> A::Token
         requires { IsTrue (is_move from to) }
     {
-        let mut arbiter = self.arbiter.lock(&self.waiter);
+        let mut arbiter = self.arbiter();
         let (token, woken) = unblocking::lower(&mut *arbiter, token, from, to);
         drop(arbiter);
         self.wake(woken);
         token
     }
 
+    /// One load where nobody waits.
     fn wake(&self, woken: Wake) {
+        if self.waiting.load(Ordering::SeqCst) == 0 {
+            return;
+        }
         match woken {
             Wake::Nobody => {}
             Wake::One => self.changed.notify_one(),
@@ -76,38 +100,38 @@ impl<A: Arbiter, W: Wait + Clone + Drop> LockCore for Monitor<A, W> {
     }
 
     fn is_locked(&self) -> bool {
-        self.arbiter.lock(&self.waiter).bag().tokens() != 0
+        self.arbiter().bag().tokens() != 0
     }
 
     fn is_locked_exclusive(&self) -> bool {
-        self.arbiter.lock(&self.waiter).bag().exclusive != 0
+        self.arbiter().bag().exclusive != 0
     }
 
     fn acquire(&self, mode: Mode) -> A::Token {
-        let mut arbiter = self.arbiter.lock(&self.waiter);
+        let mut arbiter = self.arbiter();
         for _ in self.waiter.forever() {
             if let Some(token) = arbiter.admit(mode) {
                 return token;
             }
-            arbiter = self.changed.wait(&self.waiter, arbiter);
+            arbiter = self.wait(arbiter);
         }
         unreachable!()
     }
 
     fn acquire_announced(&self) -> A::Token {
         let mut announced = false;
-        let mut arbiter = self.arbiter.lock(&self.waiter);
+        let mut arbiter = self.arbiter();
         for _ in self.waiter.forever() {
             if let Some(token) = admit_or_announce(&mut *arbiter, &mut announced) {
                 return token;
             }
-            arbiter = self.changed.wait(&self.waiter, arbiter);
+            arbiter = self.wait(arbiter);
         }
         unreachable!()
     }
 
     fn try_acquire(&self, mode: Mode) -> Option<A::Token> {
-        self.arbiter.lock(&self.waiter).admit(mode)
+        self.arbiter().admit(mode)
     }
 
     /// A timed try is a try: it does not wait.
@@ -116,7 +140,7 @@ impl<A: Arbiter, W: Wait + Clone + Drop> LockCore for Monitor<A, W> {
     }
 
     fn release(&self, token: A::Token, mode: Mode) {
-        let mut arbiter = self.arbiter.lock(&self.waiter);
+        let mut arbiter = self.arbiter();
         let woken = unblocking::give_back(&mut *arbiter, token, mode);
         drop(arbiter);
         self.wake(woken);
@@ -124,19 +148,19 @@ impl<A: Arbiter, W: Wait + Clone + Drop> LockCore for Monitor<A, W> {
 
     fn upgrade(&self, token: A::Token) -> A::Token {
         let mut token = token;
-        let mut arbiter = self.arbiter.lock(&self.waiter);
+        let mut arbiter = self.arbiter();
         for _ in self.waiter.forever() {
             match upgraded(arbiter.change(token, Mode::Upgradable, Mode::Exclusive)) {
                 Ok(next) => return next,
                 Err(same) => token = same,
             }
-            arbiter = self.changed.wait(&self.waiter, arbiter);
+            arbiter = self.wait(arbiter);
         }
         unreachable!()
     }
 
     fn try_upgrade(&self, token: A::Token) -> Result<A::Token, A::Token> {
-        let mut arbiter = self.arbiter.lock(&self.waiter);
+        let mut arbiter = self.arbiter();
         upgraded(arbiter.change(token, Mode::Upgradable, Mode::Exclusive))
     }
 

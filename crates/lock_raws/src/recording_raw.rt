@@ -42,7 +42,7 @@ impl<A: Arbiter, W: Wait + Clone + Drop> RawLock<Monitor<RecordingArbiter<A>, W>
         ensures replays { IfOk result (λ steps. Replays MAX_LIMIT steps.items) }
         ensures fault { IsOkUnless result Fault.OutOfMemory }
     {
-        let arbiter = self.core.arbiter.lock(&self.core.waiter);
+        let arbiter = self.core.arbiter();
         let Ok(steps) = Vec::from_slice(alloc, arbiter.journal()) else {
             return Err(Fault::OutOfMemory);
         };
@@ -51,6 +51,6 @@ impl<A: Arbiter, W: Wait + Clone + Drop> RawLock<Monitor<RecordingArbiter<A>, W>
 
     /// Whether a step found the journal full, which may be old at once where it is false.
     pub fn stopped(&self) -> bool {
-        self.core.arbiter.lock(&self.core.waiter).stopped()
+        self.core.arbiter().stopped()
     }
 }

@@ -132,6 +132,23 @@ impl<R: RawRwLock, T> RwLock<R, T> {
     {
         Some(RwLockWriteGuard::new(self, self.raw.try_lock_exclusive()?))
     }
+
+    /// The value, whose own lock is held to read. A raw lock that does not lie has left it free of who writes, and a try is
+    /// shorter than a wait.
+    pub(crate) fn value_to_read(&self) -> sync::RwLockReadGuard<'_, T> {
+        match self.value.try_read() {
+            Some(value) => value,
+            None => self.value.read(self.raw.waiter()),
+        }
+    }
+
+    /// The value, whose own lock is held to write. A try is shorter than a wait, as in `value_to_read`.
+    pub(crate) fn value_to_write(&self) -> sync::RwLockWriteGuard<'_, T> {
+        match self.value.try_write() {
+            Some(value) => value,
+            None => self.value.write(self.raw.waiter()),
+        }
+    }
 }
 
 impl<R: RawRwLockTimed, T> RwLock<R, T> {

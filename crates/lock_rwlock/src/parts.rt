@@ -23,7 +23,7 @@ pub fn read_with<R: RawRwLock, T, U, F: FnOnce(&T) -> U>(rwlock: &RwLock<R, T>, 
     requires { F.IsAlwaysCallable f }
     ensures { ReadsSomeValue F.FnOnce f result }
 {
-    let value = rwlock.value.read(rwlock.raw.waiter());
+    let value = rwlock.value_to_read();
     f(&value)
 }
 
@@ -32,6 +32,6 @@ pub fn write_with<R: RawRwLock, T, U, F: FnOnce(&mut T) -> U>(rwlock: &RwLock<R,
     requires { F.IsAlwaysCallable f }
     ensures { AnswersSomeValue F.FnOnce f result }
 {
-    let mut value = rwlock.value.write(rwlock.raw.waiter());
+    let mut value = rwlock.value_to_write();
     f(&mut value)
 }

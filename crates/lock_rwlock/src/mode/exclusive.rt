@@ -34,6 +34,6 @@ impl<'a, R: RawRwLock, T: 'a> ShowMode<'a, R, T> for Exclusive {
     type Shown = sync::RwLockWriteGuard<'a, T>;
 
     fn show(rwlock: &'a RwLock<R, T>) -> sync::RwLockWriteGuard<'a, T> {
-        rwlock.value.write(rwlock.raw.waiter())
+        rwlock.value_to_write()
     }
 }

@@ -34,6 +34,6 @@ impl<'a, R: RawRwLockUpgrade, T: 'a> ShowMode<'a, R, T> for Upgradable {
     type Shown = sync::RwLockReadGuard<'a, T>;
 
     fn show(rwlock: &'a RwLock<R, T>) -> sync::RwLockReadGuard<'a, T> {
-        rwlock.value.read(rwlock.raw.waiter())
+        rwlock.value_to_read()
     }
 }
