@@ -1,34 +1,60 @@
 -- The first field of a line, by the place of the first space.
-use Rattle.std.proofs.Common.{◌≡◌, ◌==◌, ℕ, ◌<◌, ◌+◌, List, [], ◌∷◌, length, Bool, true, false, cond, not, Option, Some, None, IfSome, Bor, refl, ap, arith}
-use Rattle.std.specs.Prelude.{IfNone}
-use Rattle.std.specs.Option.{MatchOption}
-use Rattle.std.specs.List.{after_first, before_first, onto_first, position_or_len}
+use Rattle.std.proofs.Common.{◌≡◌, ◌==◌, ℕ, ◌<◌, ◌≤◌, ◌+◌, List, [], ◌∷◌, length, take, drop, Bool, true, false, cond, not, Option, Some, None, refl, ap, arith, get_or, subst}
+use Rattle.std.specs.Prelude.{position, nat_lt}
+use Rattle.std.specs.List.{onto_first, position_or_len}
+use Rattle.std.specs.Str.{IsUtf8, IsCharBoundary}
+use Rattle.std.proofs.lemmas.Bool.Decides.{nat_tests}
+use Rattle.std.proofs.lemmas.List.Quantifiers.{position-Some}
 use Rattle.std.proofs.lemmas.List.Splits.{slice_split_first}
+use Rattle.std.proofs.lemmas.Str.{IsCharBoundary-before_ascii, IsCharBoundary-after_ascii}
 use Rattle.lock_script.specs.Lines.{fields_of}
 
 abbrev is_space : ℕ → Bool
 is_space byte = byte == 32
 
--- what `split_once` says of a line
-abbrev SplitsAtSpace : List ℕ → Option (Bor (List ℕ) × Bor (List ℕ)) → Type 0
-SplitsAtSpace line r = MatchOption r (position_or_len is_space line ≡ length line)
-    (λ x. (x.0.now ≡ before_first is_space line) × (x.1.now ≡ after_first is_space line) × (position_or_len is_space line < length line))
+-- a text may be cut before the space that a search found
+pub before_space : (line : List ℕ) (at : ℕ) → position is_space line ≡ Some at → IsCharBoundary line at
+before_space line at found =
+    let there = position-Some is_space line at 0 found in
+    let space : get_or line at 0 ≡ 32 = let passes = there.1 in grind (arith, nat_tests) in
+    IsCharBoundary-before_ascii line at there.0 (omega arith)
 
-pub fields_of-more : (line : List ℕ) (r : Option (Bor (List ℕ) × Bor (List ℕ))) → SplitsAtSpace line r
-    → IfSome r (λ parts. fields_of line ≡ parts.0.now ∷ fields_of parts.1.now)
-fields_of-more line None split = tt
-fields_of-more line (Some parts) split = rw (split.0, split.1) (slice_split_first is_space line 0 split.2)
+-- and after it
+pub after_space : (line : List ℕ) (at : ℕ) → IsUtf8 line → position is_space line ≡ Some at → IsCharBoundary line (at + 1)
+after_space line at text found =
+    let there = position-Some is_space line at 0 found in
+    let space : get_or line at 0 ≡ 32 = let passes = there.1 in grind (arith, nat_tests) in
+    IsCharBoundary-after_ascii line at text there.0 (omega arith)
+
+some_of-choice : (t : Bool) (n at : ℕ) → cond t (Some n) None ≡ Some at → n ≡ at
+some_of-choice true n at found = cc
+some_of-choice false n at found = cc
+
+-- the field before it, and those after it
+pub fields_of-at : (line : List ℕ) (at : ℕ) → position is_space line ≡ Some at → fields_of line ≡ take at line ∷ fields_of (drop (at + 1) line)
+fields_of-at line at found =
+    let n = position_or_len is_space line in
+    let same : n ≡ at = some_of-choice (nat_lt n (length line)) n at found in
+    let within : at < length line = (position-Some is_space line at 0 found).0 in
+    subst (λ k. fields_of line ≡ take k line ∷ fields_of (drop (k + 1) line)) same (slice_split_first is_space line 0 (omega (arith, same, within)))
 
 -- one more byte in front, where t says whether it is a space
-one_field-more : (t : Bool) (byte place : ℕ) (bytes : List ℕ) → cond (not t) (1 + place) 0 ≡ length (byte ∷ bytes)
-    → (place ≡ length bytes → fields_of bytes ≡ bytes ∷ []) → cond t ([] ∷ fields_of bytes) (onto_first byte (fields_of bytes)) ≡ (byte ∷ bytes) ∷ []
+one_field-more : (t : Bool) (byte place : ℕ) (bytes : List ℕ) → length (byte ∷ bytes) ≤ cond (not t) (1 + place) 0
+    → (length bytes ≤ place → fields_of bytes ≡ bytes ∷ []) → cond t ([] ∷ fields_of bytes) (onto_first byte (fields_of bytes)) ≡ (byte ∷ bytes) ∷ []
 one_field-more true byte place bytes none others = absurd (omega arith)
 one_field-more false byte place bytes none others = ap (onto_first byte) (others (omega arith))
 
-one_field : (line : List ℕ) → position_or_len is_space line ≡ length line → fields_of line ≡ line ∷ []
+one_field : (line : List ℕ) → length line ≤ position_or_len is_space line → fields_of line ≡ line ∷ []
 one_field [] none = refl
 one_field (byte ∷ bytes) none = one_field-more (is_space byte) byte (position_or_len is_space bytes) bytes none (one_field bytes)
 
-pub fields_of-one : (line : List ℕ) (r : Option (Bor (List ℕ) × Bor (List ℕ))) → SplitsAtSpace line r → IfNone r (fields_of line ≡ line ∷ [])
-fields_of-one line None split = one_field line split
-fields_of-one line (Some parts) split = tt
+none_of-choice : (t : Bool) (n : ℕ) → cond t (Some n) None ≡ None → t ≡ false
+none_of-choice true n none = cc
+none_of-choice false n none = refl
+
+-- a line with no space is one field
+pub fields_of-none : (line : List ℕ) → position is_space line ≡ None → fields_of line ≡ line ∷ []
+fields_of-none line none =
+    let n = position_or_len is_space line in
+    let past : nat_lt n (length line) ≡ false = none_of-choice (nat_lt n (length line)) n none in
+    one_field line (grind (arith, nat_tests))

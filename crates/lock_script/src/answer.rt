@@ -1,10 +1,10 @@
 //! The answers as text.
-ghost use Rattle.std.specs.Prelude.{◌≡◌, ◌++◌, OnOk, Some, string_bytes};
-ghost use Rattle.lock_script.specs.Answers.{answer_line, answer_text, reply_lines};
+ghost use Rattle.std.specs.Prelude.{◌≡◌, ◌++◌, OnOk, codes, string_bytes};
+ghost use Rattle.lock_script.specs.Answers.{answer_line, reply_lines};
 
+use itoa::{Buffer, Integer};
 use lock_base::machine::Reply;
 use std::alloc::AllocError;
-use std::fmt::{self, Display, Write};
 
 /// What a line of a script is answered: a reply, or what an atomic step came to.
 #[derive(Clone, Copy)]
@@ -16,33 +16,34 @@ pub enum Answer {
     Changed,
 }
 
-impl Display for Answer {
-    ghost output = { λ answer. Some (answer_text answer) };
-
-    fn fmt<W: fmt::Write>(&self, f: &mut fmt::Formatter<W>) -> fmt::Result {
-        match *self {
-            Answer::Reply(Reply::Guard(number)) => write!(f, "guard {number}"),
-            Answer::Reply(Reply::NoGuard) => f.write_str("none"),
-            Answer::Reply(Reply::Done) => f.write_str("ok"),
-            Answer::Reply(Reply::Answer(item)) => write!(f, "value {item}"),
-            Answer::Reply(Reply::Bool(true)) => f.write_str("yes"),
-            Answer::Reply(Reply::Bool(false)) => f.write_str("no"),
-            Answer::Reply(Reply::Count(number)) => write!(f, "count {number}"),
-            Answer::Reply(Reply::Refused(fault)) => write!(f, "refused {}", fault.number()),
-            Answer::Loaded(word) => write!(f, "loaded {word}"),
-            Answer::Made => f.write_str("done"),
-            Answer::NotAdmitted => f.write_str("not admitted"),
-            Answer::Changed => f.write_str("changed"),
-        }
-    }
-}
-
 /// Appends an answer's line.
 pub fn write_answer(text: &mut String, answer: Answer) -> Result<(), AllocError>
     ensures { OnOk result (string_bytes text.new ≡ string_bytes text.old ++ answer_line answer) }
 {
-    writeln!(text, "{answer}")?;
-    Ok(())
+    match answer {
+        Answer::Reply(Reply::Guard(number)) => write_number(text, "guard ", number),
+        Answer::Reply(Reply::NoGuard) => text.push_str("none\n"),
+        Answer::Reply(Reply::Done) => text.push_str("ok\n"),
+        Answer::Reply(Reply::Answer(item)) => write_number(text, "value ", item),
+        Answer::Reply(Reply::Bool(true)) => text.push_str("yes\n"),
+        Answer::Reply(Reply::Bool(false)) => text.push_str("no\n"),
+        Answer::Reply(Reply::Count(number)) => write_number(text, "count ", number),
+        Answer::Reply(Reply::Refused(fault)) => write_number(text, "refused ", fault.number()),
+        Answer::Loaded(word) => write_number(text, "loaded ", word),
+        Answer::Made => text.push_str("done\n"),
+        Answer::NotAdmitted => text.push_str("not admitted\n"),
+        Answer::Changed => text.push_str("changed\n"),
+    }
+}
+
+/// Appends a line of these words and a number.
+fn write_number<N: Integer>(text: &mut String, words: &str, number: N) -> Result<(), AllocError>
+    ensures { OnOk result (string_bytes text.new
+        ≡ string_bytes text.old ++ words.now ++ N.text number ++ codes "\n") }
+{
+    text.push_str(words)?;
+    text.push_str(Buffer::new().format(number))?;
+    text.push('\n')
 }
 
 /// Appends the lines of replies.

@@ -1,5 +1,5 @@
 //! Lines of scripts, and the fields that they fall into.
-ghost use Rattle.std.specs.Prelude.{◌≡◌, ◌↔◌, ◌∷◌, [], ℕ, List, IfNone, IfSome, IsSome};
+ghost use Rattle.std.specs.Prelude.{◌≡◌, ◌==◌, ◌<◌, ◌↔◌, ◌∷◌, [], ℕ, List, length, position, IfNone, IfSome, IsSome};
 ghost use Rattle.lock_script.specs.Lines.{IsLine, fields_of};
 
 /// What a line of one kind of scripts asks for.
@@ -29,5 +29,15 @@ pub fn first_field(line: &str) -> Option<(&str, &str)>
     ensures more { IfSome result (λ parts. fields_of line.now ≡ parts.0.now ∷ fields_of parts.1.now) }
     ensures one { IfNone result (fields_of line.now ≡ line.now ∷ []) }
 {
-    line.split_once(' ')
+    let at = space(line)?;
+    Some((&line[..at], &line[at + 1..]))
+}
+
+/// Where the first space is. Not inlined, so that the search is a short loop.
+#[inline(never)]
+fn space(line: &str) -> Option<usize>
+    ensures place { result ≡ position (λ b. b == 32) line.now }
+    ensures within { IfSome result (λ at. at < length line.now) }
+{
+    line.as_bytes().iter().position(|byte| *byte == b' ')
 }

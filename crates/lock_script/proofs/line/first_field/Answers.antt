@@ -1,11 +1,20 @@
-use Rattle.std.proofs.Common.{lit<}
-use Rattle.lock_script.proofs.FirstFields.{fields_of-more, fields_of-one}
+use Rattle.std.proofs.Common.{sym, ◌∙◌, arith}
+use Rattle.std.proofs.lemmas.Grind.{common_steps}
+use Rattle.lock_script.proofs.FirstFields.{after_space, before_space, fields_of-at, fields_of-none}
 use Rattle.lock_script.proofs.line.first_field.Goals as goal
+
+pub returns-in_err-at-clause-one : goal.returns-in_err-at-clause-one
+returns-in_err-at-clause-one c =
+    rw c.from_residual.ensures (fields_of-none c.args.line.now (sym c.space.ensures.place ∙ c.in_err-at.was))
+
+pub range-requires-clause-end_boundary : goal.range-requires-clause-end_boundary
+range-requires-clause-end_boundary c = before_space c.args.line.now c.in_ok-at.at (sym c.space.ensures.place ∙ c.in_ok-at.was)
+
+pub range_from-requires : goal.range_from-requires
+range_from-requires c =
+    λ positive. after_space c.args.line.now c.in_ok-at.at c.utf8.line (sym c.space.ensures.place ∙ c.in_ok-at.was)
 
 pub returns-clause-more : goal.returns-clause-more
 returns-clause-more c =
-    fields_of-more c.args.line.now c.split_once.result (c.split_once.ensures.byte (lit< tt) (λ text found finds. finds))
-
-pub returns-clause-one : goal.returns-clause-one
-returns-clause-one c =
-    fields_of-one c.args.line.now c.split_once.result (c.split_once.ensures.byte (lit< tt) (λ text found finds. finds))
+    let fields = fields_of-at c.args.line.now c.in_ok-at.at (sym c.space.ensures.place ∙ c.in_ok-at.was) in
+    grind (arith, common_steps, fields, c.range.ensures.value, c.range_from.ensures.value)
