@@ -1,6 +1,6 @@
 //! The answers as text.
 ghost use Rattle.std.specs.Prelude.{◌≡◌, ◌++◌, OnOk, codes, string_bytes};
-ghost use Rattle.lock_script.specs.Answers.{answer_line, reply_lines};
+ghost use Rattle.lock_script.specs.Answers.{answer_line};
 
 use itoa::{Buffer, Integer};
 use lock_base::machine::Reply;
@@ -44,14 +44,4 @@ fn write_number<N: Integer>(text: &mut String, words: &str, number: N) -> Result
     text.push_str(words)?;
     text.push_str(Buffer::new().format(number))?;
     text.push('\n')
-}
-
-/// Appends the lines of replies.
-pub fn write_replies(text: &mut String, replies: &[Reply<i64>]) -> Result<(), AllocError>
-    ensures { OnOk result (string_bytes text.new ≡ string_bytes text.old ++ reply_lines replies.now) }
-{
-    for reply in replies {
-        write_answer(text, Answer::Reply(*reply))?;
-    }
-    Ok(())
 }

@@ -1,11 +1,14 @@
 //! The answers to a script, by a desk.
-ghost use Rattle.std.specs.Prelude.{◌≡◌, ◌↔◌, Err, IfErr, IfOk, string_bytes};
+ghost use Rattle.std.specs.Prelude.{◌≡◌, ◌++◌, ◌↔◌, Err, IfErr, IfOk, OnOk, string_bytes};
+ghost use Rattle.lock_base.specs.Steps.{replies};
+ghost use Rattle.lock_script.specs.Answers.{reply_lines};
 ghost use Rattle.lock_script.specs.Faults.{IsParsingFault};
 ghost use Rattle.lock_script.specs.Lines.{lines_of};
-ghost use Rattle.lock_script.specs.Session.{Answers, HasLimits, IsDeskAnswer, machine_of, replies_to};
+ghost use Rattle.lock_script.specs.Pair.{meaning};
+ghost use Rattle.lock_script.specs.Session.{Answers, HasLimits, IsDeskAnswer, machine_of};
 ghost use Rattle.lock_script.specs.Words.{IsCall, IsMaker};
 
-use crate::answer::write_replies;
+use crate::answer::{Answer, write_answer};
 use crate::fault::ReplayFault;
 use crate::maker::Maker;
 use crate::pair::{Pair, PairOp};
@@ -33,23 +36,32 @@ fn answers_to<R: RawState>(alloc: Global, script: &DeskScript) -> Result<String,
     ensures { IfOk result (λ text. Answers script.now.maker script.now.calls.items (string_bytes text)) }
 {
     let mut text = String::new(alloc);
-    match play::<R>(alloc, script) {
-        Ok(replies) => {
-            write_replies(&mut text, &[Reply::Done])?;
-            write_replies(&mut text, replies.as_slice())?;
+    match make::<R>(alloc, script.maker) {
+        Ok(desk) => {
+            write_answer(&mut text, Answer::Reply(Reply::Done))?;
+            write_calls(&mut text, desk, script.calls.as_slice())?;
         }
-        Err(Fault::BadLimits) => write_replies(&mut text, &[Reply::Refused(Fault::BadLimits)])?,
+        Err(Fault::BadLimits) => {
+            write_answer(&mut text, Answer::Reply(Reply::Refused(Fault::BadLimits)))?;
+        }
         Err(_) => return Err(AllocError),
     }
     Ok(text)
 }
 
-/// The replies to the calls of a script, on the desk that its maker makes.
-fn play<R: RawState>(alloc: Global, script: &DeskScript) -> Result<Vec<Reply<i64>>, Fault>
-    ensures limits { (result ≡ Err Fault.BadLimits) ↔ (HasLimits script.now.maker → ⊥) }
-    ensures replies { IfOk result (λ replies. replies.items ≡ replies_to script.now.maker script.now.calls.items) }
+/// Appends what a desk replies. Each reply is written as it is given, so no list of them is kept.
+fn write_calls<R: RawState>(
+    text: &mut String,
+    mut desk: Desk<R, Pair>,
+    calls: &[Call<PairOp>],
+) -> Result<(), AllocError>
+    ensures { OnOk result
+        (string_bytes text.new ≡ string_bytes text.old ++ reply_lines (replies meaning desk calls.now)) }
 {
-    make::<R>(alloc, script.maker)?.run(alloc, script.calls.as_slice())
+    for call in calls {
+        write_answer(text, Answer::Reply(desk.apply(call)))?;
+    }
+    Ok(())
 }
 
 /// The desk of a maker.
