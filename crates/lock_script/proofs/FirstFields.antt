@@ -1,5 +1,5 @@
 -- The first field of a line, by the place of the first space.
-use Rattle.std.proofs.Common.{◌≡◌, ◌==◌, ℕ, ◌<◌, ◌≤◌, ◌+◌, List, [], ◌∷◌, length, take, drop, Bool, true, false, cond, not, Option, Some, None, refl, ap, arith, get_or, subst}
+use Rattle.std.proofs.Common.{◌≡◌, ◌==◌, ℕ, ◌<◌, ◌≤◌, ◌+◌, List, [], ◌∷◌, length, take, drop, Bool, true, false, cond, not, Some, None, refl, ap, arith, get_or, subst}
 use Rattle.std.specs.Prelude.{position, nat_lt}
 use Rattle.std.specs.List.{onto_first, position_or_len}
 use Rattle.std.specs.Str.{IsUtf8, IsCharBoundary}
