@@ -26,7 +26,7 @@ pub struct Monitor<A: Arbiter, W: Wait + Clone + Drop> {
     pub(crate) waiter: W,
     pub(crate) arbiter: Mutex<A>,
     changed: Condvar,
-    /// How many wait. It is changed under the Mutex alone, so whoever had that after a change knows who waits for it.
+    /// How many wait. It is changed under the Mutex alone, so a call that has had the Mutex knows of all that wait for it.
     waiting: AtomicU64,
 }
 
