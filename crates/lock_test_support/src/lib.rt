@@ -1,12 +1,14 @@
-//! What the tests of the locks share: raw locks that write down what they are asked, or lie, projections of pairs, and
-//! questions on answers.
+//! What the tests of the locks share: raw locks that write down what they are asked, or lie, projections of pairs, flags
+//! between threads, and questions on answers.
 #![tactic(auto)]
 
 pub mod answer;
+mod flags;
 mod four_threads;
 mod parties;
 pub mod project;
 pub mod raw_lock;
 
+pub use flags::wait_for_flag;
 pub use four_threads::{Count, add_in_four_threads};
 pub use parties::{party, two_parties};

@@ -7,22 +7,12 @@ use lock_mutex::{Condvar, Mutex, MutexGuard};
 use lock_raws::SpuriousCondvar;
 use lock_test_support::answer::equal;
 use lock_test_support::raw_lock::{Calls, Liar, RawCall};
+use lock_test_support::wait_for_flag;
 use patient::Patient;
 use std::sync::Wait;
 use std::sync::atomic::{AtomicBool, Ordering};
 use std::test::Fail;
 use std::thread;
-
-/// Waits until the flag is up.
-fn wait_for<W: Wait>(waiter: &W, flag: &AtomicBool) {
-    for _ in waiter.forever() {
-        if flag.load(Ordering::SeqCst) {
-            return;
-        }
-        thread::yield_now();
-    }
-    unreachable!()
-}
 
 /// Waits until the raw lock was asked so often.
 fn wait_for_calls<W: Wait>(waiter: &W, calls: &Calls<RawCall>, count: usize) {
@@ -76,7 +66,7 @@ fn read_once_held<W: Wait, R: RawMutex>(
     waiter: &W,
     is_held: &AtomicBool,
 ) -> u64 {
-    wait_for(waiter, is_held);
+    wait_for_flag(waiter, is_held);
     *mutex.lock()
 }
 
@@ -87,7 +77,7 @@ fn read_again_once_held<W: Wait, R: RawMutex>(
     is_held: &AtomicBool,
 ) -> u64 {
     let mut guard = mutex.lock();
-    MutexGuard::unlocked(&mut guard, || wait_for(waiter, is_held));
+    MutexGuard::unlocked(&mut guard, || wait_for_flag(waiter, is_held));
     *guard
 }
 
@@ -147,7 +137,7 @@ fn read_before_release<W: Wait + Clone + Drop>(
     is_held: &AtomicBool,
     is_read: &AtomicBool,
 ) -> u64 {
-    wait_for(waiter, is_held);
+    wait_for_flag(waiter, is_held);
     let guard = mutex.lock();
     is_read.store(true, Ordering::SeqCst);
     *guard

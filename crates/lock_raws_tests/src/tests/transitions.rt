@@ -4,21 +4,11 @@ use lock_guard::raw::{RawRwLock, RawRwLockDowngrade, RawRwLockUpgrade, RawRwLock
 use lock_raws::{LockCore, RawLock, TokenRaw};
 use lock_raws_word::WordRaw;
 use lock_test_support::answer::equal;
+use lock_test_support::wait_for_flag;
 use std::sync::Wait;
 use std::sync::atomic::{AtomicBool, Ordering};
 use std::test::Fail;
 use std::thread::{self, Threads};
-
-/// Waits until the flag is up.
-fn wait_for<W: Wait>(waiter: &W, flag: &AtomicBool) {
-    for _ in waiter.forever() {
-        if flag.load(Ordering::SeqCst) {
-            return;
-        }
-        thread::yield_now();
-    }
-    unreachable!()
-}
 
 /// Waits until a writer that waits keeps readers out.
 fn wait_for_bar<R: RawRwLock>(raw: &R) {
@@ -67,7 +57,7 @@ impl<C: LockCore> Walk for RawLock<C> {
     }
 
     fn write_once_held(&self, is_held: &AtomicBool, has_written: &AtomicBool) {
-        wait_for(RawRwLock::waiter(self), is_held);
+        wait_for_flag(RawRwLock::waiter(self), is_held);
         let exclusive = self.lock_exclusive();
         has_written.store(true, Ordering::SeqCst);
         self.unlock_exclusive(exclusive);

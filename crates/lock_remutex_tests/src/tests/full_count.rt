@@ -6,7 +6,7 @@ use lock_base::machine::PartyId;
 use lock_base::raw::Fault;
 use lock_guard::raw::{RawMutex, RawMutexFair};
 use lock_remutex::{ReentrantMutex, ReentrantMutexGuard};
-use lock_test_support::party;
+use lock_test_support::{party, wait_for_flag};
 use pausing::Pausing;
 use std::alloc::Global;
 use std::sync::Wait;
@@ -37,17 +37,6 @@ where
             is_over: AtomicBool::new(false),
         })
     }
-}
-
-/// Waits until the flag is up.
-fn wait_for<W: Wait>(waiter: &W, flag: &AtomicBool) {
-    for _ in waiter.forever() {
-        if flag.load(Ordering::SeqCst) {
-            return;
-        }
-        thread::yield_now();
-    }
-    unreachable!()
 }
 
 impl<R: RawMutexFair, W: Wait> Bumped<R, W>
@@ -88,13 +77,13 @@ where
         let mut guard = self.lock.lock(self.party)?;
         self.is_held.store(true, Ordering::SeqCst);
         ReentrantMutexGuard::bump(&mut guard);
-        wait_for(&self.waiter, &self.is_over);
+        wait_for_flag(&self.waiter, &self.is_over);
         Ok(self.lock.is_owned_by_current_thread(self.party))
     }
 
     /// Takes the only level while the bump has given it up, and keeps it while the bump tries to get it back.
     fn second(&self) -> Result<bool, Fault> {
-        wait_for(&self.waiter, &self.is_held);
+        wait_for_flag(&self.waiter, &self.is_held);
         self.wait_until_given_up();
         let guard = self.lock.lock(self.party)?;
         self.wait_until_refused();

@@ -6,7 +6,7 @@ use lock_guard::raw::RawMutex;
 use lock_raws::TokenRaw;
 use lock_remutex::ReentrantMutex;
 use lock_test_support::raw_lock::{Calls, Liar, RawCall};
-use lock_test_support::two_parties;
+use lock_test_support::{two_parties, wait_for_flag};
 use std::alloc::Global;
 use std::sync::Wait;
 use std::sync::atomic::{AtomicBool, AtomicU64, Ordering};
@@ -120,12 +120,7 @@ where
 
     /// Takes the lock once another owns it. Whether the party owns it then.
     fn second(&self) -> Result<bool, Fault> {
-        for _ in self.waiter.forever() {
-            if self.is_owned.load(Ordering::SeqCst) {
-                break;
-            }
-            thread::yield_now();
-        }
+        wait_for_flag(&self.waiter, &self.is_owned);
         let _guard = self.lock.lock(self.parties.1)?;
         Ok(self.lock.is_owned_by_current_thread(self.parties.1))
     }

@@ -4,6 +4,7 @@ use lock_guard::raw::{RawRwLock, RawRwLockUpgrade};
 use lock_rwlock::{RwLock, RwLockGuard};
 use lock_test_support::answer::equal;
 use lock_test_support::raw_lock::{Calls, Liar, RawCall};
+use lock_test_support::wait_for_flag;
 use std::sync::Wait;
 use std::sync::atomic::{AtomicBool, Ordering};
 use std::test::Fail;
@@ -55,12 +56,7 @@ fn find_once_held<W: Wait, R: RawRwLock>(
     waiter: &W,
     is_held: &AtomicBool,
 ) -> u64 {
-    for _ in waiter.forever() {
-        if is_held.load(Ordering::SeqCst) {
-            break;
-        }
-        thread::yield_now();
-    }
+    wait_for_flag(waiter, is_held);
     *lock.write()
 }
 

@@ -3,11 +3,11 @@ ghost use Rattle.std.specs.Prelude.{IsOkUnless};
 
 use lock_base::raw::Fault;
 use lock_guard::raw::{GuardSend, RawMutex, RawMutexFair};
+use lock_test_support::wait_for_flag;
 use std::alloc::Global;
 use std::clone::Clone;
-use std::sync::atomic::{AtomicBool, Ordering};
+use std::sync::atomic::AtomicBool;
 use std::sync::{Arc, Wait};
-use std::thread;
 
 /// A raw lock that admits everything, and whose releases wait until they may end.
 #[derive(Drop)]
@@ -27,13 +27,7 @@ impl<W: Wait + Clone + Drop> Patient<W> {
 
     /// Waits until releases may end.
     fn wait(&self) {
-        for _ in self.waiter.forever() {
-            if self.may_release.load(Ordering::SeqCst) {
-                return;
-            }
-            thread::yield_now();
-        }
-        unreachable!()
+        wait_for_flag(&self.waiter, &self.may_release);
     }
 }
 

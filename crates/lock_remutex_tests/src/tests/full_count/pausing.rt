@@ -1,11 +1,11 @@
 //! A raw lock that pauses in a bump.
 use lock_base::raw::Fault;
 use lock_guard::raw::{GuardSend, RawMutex, RawMutexFair};
+use lock_test_support::wait_for_flag;
 use std::alloc::Global;
 use std::clone::Clone;
 use std::sync::Wait;
 use std::sync::atomic::{AtomicBool, Ordering};
-use std::thread;
 
 /// A raw lock that admits everything. A bump ends once the lock was asked whether it is held, which it answers to be so once
 /// a token was given back.
@@ -55,12 +55,7 @@ impl<W: Wait + Clone + Drop> RawMutexFair for Pausing<W> {
     fn unlock_fair(&self, _token: GuardSend) {}
 
     fn bump(&self, token: GuardSend) -> GuardSend {
-        for _ in self.waiter.forever() {
-            if self.was_asked.load(Ordering::SeqCst) {
-                return token;
-            }
-            thread::yield_now();
-        }
-        unreachable!()
+        wait_for_flag(&self.waiter, &self.was_asked);
+        token
     }
 }
