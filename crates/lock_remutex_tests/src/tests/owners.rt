@@ -7,6 +7,8 @@ use lock_test_support::answer::equal;
 use lock_test_support::raw_lock::Liar;
 use lock_test_support::two_parties;
 use std::alloc::Global;
+use std::clone::Clone;
+use std::sync::Wait;
 use std::test::Fail;
 
 /// How each try of the party ends: whether with a guard, which ends at once.
@@ -193,19 +195,12 @@ where
     Ok((other_is_given, lock.is_owned_by_current_thread(owner)))
 }
 
-fn one_owner<R: RawMutexFair + Drop>(alloc: Global, waiters: [R::Waiter; 2]) -> Result<(), Fail>
-where
-    R::Guard: Send + Drop,
-{
+/// Over a raw lock that lies.
+pub fn one_owner<W: Wait + Clone + Drop>(alloc: Global, waiters: [W; 2]) -> Result<(), Fail> {
     let [first_waiter, second_waiter] = waiters;
     let (first, second) = two_parties()?;
-    let raw: RawReentrantMutex<R> = RawReentrantMutex::new(alloc, first_waiter)?;
+    let raw: RawReentrantMutex<Liar<W>> = RawReentrantMutex::new(alloc, first_waiter)?;
     equal(owned(&raw, first, second)?, (false, true, true))?;
-    let lock: ReentrantMutex<R, u8> = ReentrantMutex::new(alloc, second_waiter, 7)?;
+    let lock: ReentrantMutex<Liar<W>, u8> = ReentrantMutex::new(alloc, second_waiter, 7)?;
     equal(guarded(&lock, first, second)?, (false, true))
-}
-
-#[test]
-fn a_raw_lock_that_lies_makes_no_second_owner(rt: HostRuntime) -> Result<(), Fail> {
-    one_owner::<Liar<HostRuntime>>(rt.alloc(), [rt, rt])
 }

@@ -1,147 +1,71 @@
 //! What the raw lock is asked, call by call.
-use lock_base::machine::Mode::Exclusive;
+mod arc;
+mod borrowed;
+mod levels;
+pub mod lies;
+mod mapped;
+
+use super::texts;
 use lock_base::machine::PartyId;
 use lock_base::raw::Fault;
 use lock_guard::raw::{RawMutex, RawMutexFair, RawMutexTimed};
-use lock_raws::TokenRaw;
-use lock_remutex::{
-    ArcReentrantMutexGuard, MappedReentrantMutexGuard, ReentrantMutex, ReentrantMutexGuard,
-};
-use lock_test_support::project::Item0;
-use lock_test_support::raw_lock::RawCall::{
-    self, Bump, IsLocked, Lock, TryLock, TryLockFor, TryLockUntil, Unlock, UnlockFair,
-};
-use lock_test_support::raw_lock::{AskedRaw, Calls, Liar, Watch};
+use lock_remutex::ReentrantMutex;
+use lock_test_support::project::Nested;
+use lock_test_support::raw_lock::{AskedRaw, RawCall, Watch};
 use lock_test_support::{party, two_parties};
 use std::alloc::Global;
 use std::sync::{Arc, Wait};
 use std::test::Fail;
 
-/// A pair of numbers behind a lock.
-type Paired<R> = ReentrantMutex<R, (u64, u64)>;
+/// A pair in a pair behind a lock.
+type Paired<R> = ReentrantMutex<R, Nested>;
 
-/// A lock over a raw lock that is watched, and the calls that this gets.
-fn watched_remutex<R: RawMutex + Drop>(
+/// What guards ask that borrow the lock, which is free before and after each matter.
+fn calls_by_a_borrow<
+    W: Wait + Drop,
+    R: RawMutexFair + RawMutexTimed<Duration = u64, Instant = u64>,
+>(lock: &Paired<R>, watch: &mut Watch<W, RawCall>, one: PartyId, two: PartyId) -> Result<(), Fault>
+where
+    R::Guard: Drop,
+{
+    borrowed::acquisitions(lock, watch, one);
+    borrowed::calls_of_a_guard(lock, watch, one)?;
+    borrowed::tries_of_another(lock, watch, one, two)?;
+    levels::acquisitions(lock, watch, one)?;
+    levels::calls_of_a_guard(lock, watch, one)?;
+    levels::ends(lock, watch, one)?;
+    mapped::maps(lock, watch, one)?;
+    mapped::misses(lock, watch, one)?;
+    mapped::uses_of_parts(lock, watch, one)
+}
+
+/// What guards ask that keep the lock alive, and texts of it.
+fn calls_by_an_arc<
+    W: Wait + Drop,
+    R: RawMutexFair + RawMutexTimed<Duration = u64, Instant = u64> + Drop,
+>(
     alloc: Global,
-    waiter: R::Waiter,
-) -> Result<(Paired<AskedRaw<R>>, Calls<RawCall>), Fail>
-where
-    R::Guard: Send + Drop,
-{
-    let raw: AskedRaw<R> = RawMutex::new(alloc, waiter)?;
-    let calls = raw.calls()?;
-    Ok((ReentrantMutex::from_raw(raw, (0, 0))?, calls))
-}
-
-/// Acquisitions of a free lock, and of one that the party owns, which ask the raw lock nothing.
-fn acquisitions<W: Wait + Drop, R: RawMutexTimed<Duration = u64, Instant = u64>>(
-    lock: &Paired<R>,
+    lock: &Arc<ReentrantMutex<R, u64>>,
     watch: &mut Watch<W, RawCall>,
-    party: PartyId,
-) -> Result<(), Fault>
+    parties: (PartyId, PartyId),
+) -> Result<(), Fail>
 where
     R::Guard: Drop,
 {
-    drop(lock.try_lock(party));
-    watch.saw(&[TryLock(Exclusive), Unlock(Exclusive)]);
-    drop(lock.try_lock_for(party, 3));
-    watch.saw(&[TryLockFor(Exclusive, 3), Unlock(Exclusive)]);
-    drop(lock.try_lock_until(party, 4));
-    watch.saw(&[TryLockUntil(Exclusive, 4), Unlock(Exclusive)]);
-    let outer = lock.lock(party)?;
-    watch.saw(&[Lock(Exclusive)]);
-    drop(lock.lock(party));
-    drop(lock.try_lock(party));
-    drop(lock.try_lock_for(party, 3));
-    drop(lock.try_lock_until(party, 4));
-    lock.is_owned_by_current_thread(party);
-    watch.saw(&[]);
-    lock.is_locked();
-    watch.saw(&[IsLocked]);
-    drop(outer);
-    watch.saw(&[Unlock(Exclusive)]);
+    let (one, two) = parties;
+    texts::check(alloc, lock, one)?;
+    watch.saw(&texts::RAW_CALLS);
+    arc::acquisitions(lock, watch, one);
+    arc::calls_of_a_guard(lock, watch, one)?;
+    arc::ends_of_guards(lock, watch, one)?;
+    arc::acquisitions_of_the_owner(lock, watch, one)?;
+    arc::calls_of_an_inner_guard(lock, watch, one)?;
+    arc::tries_of_another(lock, watch, one, two)?;
     Ok(())
 }
 
-/// Tries of another party than the owner, each of which asks the raw lock once.
-fn tries_of_another<W: Wait + Drop, R: RawMutexTimed<Duration = u64, Instant = u64>>(
-    lock: &Paired<R>,
-    watch: &mut Watch<W, RawCall>,
-    owner: PartyId,
-    other: PartyId,
-) -> Result<(), Fault>
-where
-    R::Guard: Drop,
-{
-    let guard = lock.lock(owner)?;
-    drop(lock.try_lock(other));
-    drop(lock.try_lock_for(other, 3));
-    drop(lock.try_lock_until(other, 4));
-    watch.saw(&[
-        Lock(Exclusive),
-        TryLock(Exclusive),
-        TryLockFor(Exclusive, 3),
-        TryLockUntil(Exclusive, 4),
-    ]);
-    drop(guard);
-    watch.saw(&[Unlock(Exclusive)]);
-    Ok(())
-}
-
-/// What a guard can do, beside another level and alone.
-fn calls_of_a_guard<W: Wait + Drop, R: RawMutexFair>(
-    lock: &Paired<R>,
-    watch: &mut Watch<W, RawCall>,
-    party: PartyId,
-) -> Result<(), Fault>
-where
-    R::Guard: Drop,
-{
-    let outer = lock.lock(party)?;
-    let mut inner = lock.lock(party)?;
-    ReentrantMutexGuard::bump(&mut inner);
-    drop(ReentrantMutexGuard::unlocked(inner, || lock.is_owned_by_current_thread(party)));
-    ReentrantMutexGuard::unlock_fair(lock.lock(party)?);
-    watch.saw(&[Lock(Exclusive)]);
-    let mut guard = outer;
-    ReentrantMutexGuard::bump(&mut guard);
-    watch.saw(&[Bump(Exclusive)]);
-    drop(ReentrantMutexGuard::unlocked(guard, || lock.is_locked()));
-    watch.saw(&[
-        Unlock(Exclusive),
-        IsLocked,
-        Lock(Exclusive),
-        Unlock(Exclusive),
-    ]);
-    drop(ReentrantMutexGuard::unlocked_fair(lock.lock(party)?, || lock.is_locked()));
-    watch.saw(&[
-        Lock(Exclusive),
-        UnlockFair(Exclusive),
-        IsLocked,
-        Lock(Exclusive),
-        Unlock(Exclusive),
-    ]);
-    ReentrantMutexGuard::unlock_fair(lock.lock(party)?);
-    watch.saw(&[Lock(Exclusive), UnlockFair(Exclusive)]);
-    Ok(())
-}
-
-fn calls_of_mapped_guards<W: Wait + Drop, R: RawMutexFair>(
-    lock: &Paired<R>,
-    watch: &mut Watch<W, RawCall>,
-    party: PartyId,
-) -> Result<(), Fault>
-where
-    R::Guard: Drop,
-{
-    drop(ReentrantMutexGuard::map(lock.lock(party)?, Item0));
-    watch.saw(&[Lock(Exclusive), Unlock(Exclusive)]);
-    MappedReentrantMutexGuard::unlock_fair(ReentrantMutexGuard::map(lock.lock(party)?, Item0));
-    watch.saw(&[Lock(Exclusive), UnlockFair(Exclusive)]);
-    Ok(())
-}
-
-fn all_calls<R: RawMutexFair + Drop, W: Wait + Drop>(
+/// What guards ask that borrow a lock, and what the calls ask that end one.
+fn all_calls_by_a_borrow<R: RawMutexFair + Drop, W: Wait + Drop>(
     alloc: Global,
     waiter: R::Waiter,
     watcher: W,
@@ -150,74 +74,18 @@ where
     R::Guard: Send + Drop,
 {
     let (one, two) = two_parties()?;
-    let (lock, calls) = watched_remutex::<R>(alloc, waiter)?;
-    let mut watch = Watch::new(watcher, calls);
-    acquisitions(&lock, &mut watch, one)?;
-    tries_of_another(&lock, &mut watch, one, two)?;
-    calls_of_a_guard(&lock, &mut watch, one)?;
-    calls_of_mapped_guards(&lock, &mut watch, one)?;
+    let raw: AskedRaw<R> = RawMutex::new(alloc, waiter)?;
+    let mut watch = Watch::new(watcher, raw.calls()?);
+    let mut lock = ReentrantMutex::from_raw(raw, ((0, 0), 0))?;
+    calls_by_a_borrow(&lock, &mut watch, one, two)?;
+    *lock.get_mut() = ((5, 2), 0);
+    let (raw, value) = lock.into_inner_with_raw();
+    ReentrantMutex::from_raw(raw, value)?.into_inner();
+    watch.saw(&[]);
     watch.verdict()
 }
 
-#[test]
-fn raw_calls_of_a_remutex(rt: HostRuntime) -> Result<(), Fail> {
-    all_calls::<TokenRaw<HostRuntime>, HostRuntime>(rt.alloc(), rt, rt)
-}
-
-fn acquisitions_by_an_arc<W: Wait + Drop, R: RawMutexTimed<Duration = u64, Instant = u64> + Drop>(
-    lock: &Arc<Paired<R>>,
-    watch: &mut Watch<W, RawCall>,
-    party: PartyId,
-)
-where
-    R::Guard: Drop,
-{
-    drop(ReentrantMutex::lock_arc(lock, party));
-    watch.saw(&[Lock(Exclusive), Unlock(Exclusive)]);
-    drop(ReentrantMutex::try_lock_arc(lock, party));
-    watch.saw(&[TryLock(Exclusive), Unlock(Exclusive)]);
-    drop(ReentrantMutex::try_lock_arc_for(lock, party, 3));
-    watch.saw(&[TryLockFor(Exclusive, 3), Unlock(Exclusive)]);
-    drop(ReentrantMutex::try_lock_arc_until(lock, party, 4));
-    watch.saw(&[TryLockUntil(Exclusive, 4), Unlock(Exclusive)]);
-}
-
-fn calls_of_an_arc_guard<W: Wait + Drop, R: RawMutexFair + Drop>(
-    lock: &Arc<Paired<R>>,
-    watch: &mut Watch<W, RawCall>,
-    party: PartyId,
-) -> Result<(), Fault>
-where
-    R::Guard: Drop,
-{
-    let mut guard = ReentrantMutex::lock_arc(lock, party)?;
-    ArcReentrantMutexGuard::bump(&mut guard);
-    watch.saw(&[Lock(Exclusive), Bump(Exclusive)]);
-    drop(ArcReentrantMutexGuard::unlocked(guard, || lock.is_locked()));
-    watch.saw(&[
-        Unlock(Exclusive),
-        IsLocked,
-        Lock(Exclusive),
-        Unlock(Exclusive),
-    ]);
-    let guard = ReentrantMutex::lock_arc(lock, party)?;
-    drop(ArcReentrantMutexGuard::unlocked_fair(guard, || lock.is_locked()));
-    watch.saw(&[
-        Lock(Exclusive),
-        UnlockFair(Exclusive),
-        IsLocked,
-        Lock(Exclusive),
-        Unlock(Exclusive),
-    ]);
-    drop(ArcReentrantMutexGuard::into_arc(ReentrantMutex::lock_arc(lock, party)?));
-    watch.saw(&[Lock(Exclusive), Unlock(Exclusive)]);
-    drop(ArcReentrantMutexGuard::into_arc_fair(ReentrantMutex::lock_arc(lock, party)?));
-    watch.saw(&[Lock(Exclusive), UnlockFair(Exclusive)]);
-    ArcReentrantMutexGuard::unlock_fair(ReentrantMutex::lock_arc(lock, party)?);
-    watch.saw(&[Lock(Exclusive), UnlockFair(Exclusive)]);
-    Ok(())
-}
-
+/// What guards ask that keep a lock alive.
 fn all_calls_by_an_arc<R: RawMutexFair + Drop, W: Wait + Drop>(
     alloc: Global,
     waiter: R::Waiter,
@@ -226,65 +94,42 @@ fn all_calls_by_an_arc<R: RawMutexFair + Drop, W: Wait + Drop>(
 where
     R::Guard: Send + Drop,
 {
-    let one = party(1)?;
-    let (lock, calls) = watched_remutex::<R>(alloc, waiter)?;
-    let mut watch = Watch::new(watcher, calls);
-    let lock = Arc::new(alloc, lock)?;
-    acquisitions_by_an_arc(&lock, &mut watch, one);
-    calls_of_an_arc_guard(&lock, &mut watch, one)?;
+    let raw: AskedRaw<R> = RawMutex::new(alloc, waiter)?;
+    let mut watch = Watch::new(watcher, raw.calls()?);
+    let lock = Arc::new(alloc, ReentrantMutex::from_raw(raw, 5)?)?;
+    calls_by_an_arc(alloc, &lock, &mut watch, two_parties()?)?;
     watch.verdict()
 }
 
-#[test]
-fn raw_calls_by_an_arc_of_a_remutex(rt: HostRuntime) -> Result<(), Fail> {
-    all_calls_by_an_arc::<TokenRaw<HostRuntime>, HostRuntime>(rt.alloc(), rt, rt)
-}
-
-/// A try of a party while another owns the lock.
-fn try_beside_an_owner<R: RawMutex>(
-    lock: &Paired<R>,
-    owner: PartyId,
-    other: PartyId,
-) -> Result<(), Fault>
+/// What a lock of one level asks, whose second is refused.
+fn all_calls_at_a_full_count<R: RawMutexFair + Drop, W: Wait + Drop>(
+    alloc: Global,
+    waiter: R::Waiter,
+    watcher: W,
+) -> Result<(), Fail>
 where
-    R::Guard: Drop,
+    R::Guard: Send + Drop,
 {
-    let _guard = lock.lock(owner)?;
-    drop(lock.try_lock(other));
-    Ok(())
-}
-
-/// The raw lock lies, and admits both.
-#[test]
-fn a_token_that_came_too_early_is_given_back(rt: HostRuntime) -> Result<(), Fail> {
-    let (one, two) = two_parties()?;
-    let (lock, calls) = watched_remutex::<Liar<HostRuntime>>(rt.alloc(), rt)?;
-    try_beside_an_owner(&lock, one, two)?;
-    let mut watch = Watch::new(rt, calls);
-    watch.saw(&[
-        Lock(Exclusive),
-        TryLock(Exclusive),
-        Unlock(Exclusive),
-        Unlock(Exclusive),
-    ]);
+    let lock: Paired<AskedRaw<R>> = ReentrantMutex::with_levels(alloc, waiter, 1, ((0, 0), 0))?;
+    levels::refused(&lock, party(1)?)?;
+    let (raw, _) = lock.into_inner_with_raw();
+    let mut watch = Watch::new(watcher, raw.calls()?);
+    watch.saw(&levels::CALLS_OF_REFUSED);
     watch.verdict()
 }
 
-fn is_refused<R: RawMutex>(lock: &ReentrantMutex<R, u8>, party: PartyId) -> Result<bool, Fault>
+/// What the raw lock is asked by guards that borrow a lock, by those that keep one alive, and at a full count.
+pub fn check<R: RawMutexFair + Drop, W: Wait + Drop>(
+    alloc: Global,
+    waiters: [R::Waiter; 3],
+    watchers: [W; 3],
+) -> Result<(), Fail>
 where
-    R::Guard: Drop,
+    R::Guard: Send + Drop,
 {
-    let is_none = lock.try_lock(party)?.is_none();
-    Ok(is_none && !lock.is_owned_by_current_thread(party))
-}
-
-#[test]
-fn a_refused_try_gives_nothing_back(rt: HostRuntime) -> Result<(), Fail> {
-    let raw: Liar<HostRuntime> = RawMutex::new(rt.alloc(), rt)?;
-    let raw = raw.refusing();
-    let mut watch = Watch::new(rt, raw.calls()?);
-    let lock = ReentrantMutex::from_raw(raw, 5)?;
-    assert!(rt; is_refused(&lock, party(1)?)?);
-    watch.saw(&[TryLock(Exclusive)]);
-    watch.verdict()
+    let [first, second, third] = waiters;
+    let [first_watcher, second_watcher, third_watcher] = watchers;
+    all_calls_by_a_borrow::<R, W>(alloc, first, first_watcher)?;
+    all_calls_by_an_arc::<R, W>(alloc, second, second_watcher)?;
+    all_calls_at_a_full_count::<R, W>(alloc, third, third_watcher)
 }

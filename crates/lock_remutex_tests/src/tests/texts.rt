@@ -1,30 +1,40 @@
 //! Texts of the lock and of its guard.
+use lock_base::machine::Mode::Exclusive;
 use lock_base::machine::PartyId;
+use lock_base::raw::Fault;
 use lock_guard::raw::RawMutex;
 use lock_remutex::ReentrantMutex;
-use lock_test_support::answer::equal;
-use lock_test_support::party;
+use lock_test_support::answer::{debug_is, equal, texts_are};
+use lock_test_support::raw_lock::RawCall::{self, Lock, Unlock};
 use std::alloc::Global;
 use std::test::Fail;
 
-/// The text of the lock while it is free; and, while the party has a guard, the texts of both.
-fn texts<R: RawMutex>(alloc: Global, lock: &ReentrantMutex<R, u8>, party: PartyId) -> Option<String>
+/// Whether the lock prints as it is told to while it is free; and, while the party has a guard, it and the guard.
+fn are_shown<R: RawMutex>(
+    alloc: Global,
+    lock: &ReentrantMutex<R, u64>,
+    party: PartyId,
+) -> Result<[bool; 3], Fault>
 where
     R::Guard: Drop,
 {
-    let free = format!(in alloc; "{lock:?}").ok()?;
-    let guard = lock.lock(party).ok()?;
-    format!(in alloc; "{free} {lock:?} {guard:?} {guard}").ok()
+    let free = debug_is(alloc, lock, "ReentrantMutex { data: 5 }");
+    let guard = lock.lock(party)?;
+    let held = debug_is(alloc, lock, "ReentrantMutex { data: <locked> }");
+    Ok([free, held, texts_are(alloc, &guard, "5")])
 }
 
-/// The texts of a lock that holds 5.
-pub fn check<R: RawMutex + Drop>(alloc: Global, waiter: R::Waiter) -> Result<(), Fail>
+/// The texts of a lock that holds 5, which is free before and after.
+pub fn check<R: RawMutex>(
+    alloc: Global,
+    lock: &ReentrantMutex<R, u64>,
+    party: PartyId,
+) -> Result<(), Fail>
 where
-    R::Guard: Send + Drop,
+    R::Guard: Drop,
 {
-    let one = party(1)?;
-    let lock: ReentrantMutex<R, u8> = ReentrantMutex::new(alloc, waiter, 5)?;
-    let shown = texts(alloc, &lock, one).ok_or("no memory")?;
-    let wanted = "ReentrantMutex { data: 5 } ReentrantMutex { data: <locked> } 5 5";
-    equal(shown.as_str() == wanted, true)
+    equal(are_shown(alloc, lock, party)?, [true; 3])
 }
+
+/// What `check` asks the raw lock: no text asks anything.
+pub const RAW_CALLS: [RawCall; 2] = [Lock(Exclusive), Unlock(Exclusive)];

@@ -1,0 +1,157 @@
+//! What the raw lock is asked where guards keep the lock alive.
+use lock_base::machine::Mode::Exclusive;
+use lock_base::machine::PartyId;
+use lock_base::raw::Fault;
+use lock_guard::raw::{RawMutex, RawMutexFair, RawMutexTimed};
+use lock_remutex::{ArcReentrantMutexGuard, ReentrantMutex};
+use lock_test_support::raw_lock::RawCall::{
+    self, Bump, IsLocked, Lock, TryLock, TryLockFor, TryLockUntil, Unlock, UnlockFair,
+};
+use lock_test_support::raw_lock::Watch;
+use std::sync::{Arc, Wait};
+
+type Shareable<R> = Arc<ReentrantMutex<R, u64>>;
+
+/// Acquisitions of a free lock.
+pub fn acquisitions<W: Wait + Drop, R: RawMutexTimed<Duration = u64, Instant = u64> + Drop>(
+    lock: &Shareable<R>,
+    watch: &mut Watch<W, RawCall>,
+    party: PartyId,
+)
+where
+    R::Guard: Drop,
+{
+    drop(ReentrantMutex::lock_arc(lock, party));
+    drop(ReentrantMutex::try_lock_arc(lock, party));
+    drop(ReentrantMutex::try_lock_arc_for(lock, party, 3));
+    drop(ReentrantMutex::try_lock_arc_until(lock, party, 4));
+    watch.saw(&[
+        Lock(Exclusive),
+        Unlock(Exclusive),
+        TryLock(Exclusive),
+        Unlock(Exclusive),
+        TryLockFor(Exclusive, 3),
+        Unlock(Exclusive),
+        TryLockUntil(Exclusive, 4),
+        Unlock(Exclusive),
+    ]);
+}
+
+/// Acquisitions of the owner, which ask nothing.
+pub fn acquisitions_of_the_owner<
+    W: Wait + Drop,
+    R: RawMutexTimed<Duration = u64, Instant = u64> + Drop,
+>(lock: &Shareable<R>, watch: &mut Watch<W, RawCall>, owner: PartyId) -> Result<(), Fault>
+where
+    R::Guard: Drop,
+{
+    let outer = ReentrantMutex::lock_arc(lock, owner)?;
+    drop(ReentrantMutex::lock_arc(lock, owner));
+    drop(ReentrantMutex::try_lock_arc(lock, owner));
+    drop(ReentrantMutex::try_lock_arc_for(lock, owner, 3));
+    drop(ReentrantMutex::try_lock_arc_until(lock, owner, 4));
+    watch.saw_hold(outer, Exclusive);
+    Ok(())
+}
+
+/// Tries of another party than the owner, each of which asks the raw lock once.
+pub fn tries_of_another<W: Wait + Drop, R: RawMutexTimed<Duration = u64, Instant = u64> + Drop>(
+    lock: &Shareable<R>,
+    watch: &mut Watch<W, RawCall>,
+    owner: PartyId,
+    other: PartyId,
+) -> Result<(), Fault>
+where
+    R::Guard: Drop,
+{
+    let guard = ReentrantMutex::lock_arc(lock, owner)?;
+    drop(ReentrantMutex::try_lock_arc(lock, other));
+    drop(ReentrantMutex::try_lock_arc_for(lock, other, 3));
+    drop(ReentrantMutex::try_lock_arc_until(lock, other, 4));
+    drop(guard);
+    watch.saw(&[
+        Lock(Exclusive),
+        TryLock(Exclusive),
+        TryLockFor(Exclusive, 3),
+        TryLockUntil(Exclusive, 4),
+        Unlock(Exclusive),
+    ]);
+    Ok(())
+}
+
+/// What the guard of a party's one level can do. Each closure looks at the raw lock.
+pub fn calls_of_a_guard<W: Wait + Drop, R: RawMutexFair + Drop>(
+    lock: &Shareable<R>,
+    watch: &mut Watch<W, RawCall>,
+    party: PartyId,
+) -> Result<(), Fault>
+where
+    R::Guard: Drop,
+{
+    let mut guard = ReentrantMutex::lock_arc(lock, party)?;
+    ArcReentrantMutexGuard::remutex(&guard);
+    ArcReentrantMutexGuard::bump(&mut guard);
+    drop(ArcReentrantMutexGuard::unlocked(guard, || lock.is_locked()));
+    let guard = ReentrantMutex::lock_arc(lock, party)?;
+    drop(ArcReentrantMutexGuard::unlocked_fair(guard, || lock.is_locked()));
+    watch.saw(&[
+        Lock(Exclusive),
+        Bump(Exclusive),
+        Unlock(Exclusive),
+        IsLocked,
+        Lock(Exclusive),
+        Unlock(Exclusive),
+        Lock(Exclusive),
+        UnlockFair(Exclusive),
+        IsLocked,
+        Lock(Exclusive),
+        Unlock(Exclusive),
+    ]);
+    Ok(())
+}
+
+/// Ends that answer the lock, and a fair one.
+pub fn ends_of_guards<W: Wait + Drop, R: RawMutexFair + Drop>(
+    lock: &Shareable<R>,
+    watch: &mut Watch<W, RawCall>,
+    party: PartyId,
+) -> Result<(), Fault>
+where
+    R::Guard: Drop,
+{
+    drop(ArcReentrantMutexGuard::into_arc(ReentrantMutex::lock_arc(lock, party)?));
+    drop(ArcReentrantMutexGuard::into_arc_fair(ReentrantMutex::lock_arc(lock, party)?));
+    ArcReentrantMutexGuard::unlock_fair(ReentrantMutex::lock_arc(lock, party)?);
+    watch.saw(&[
+        Lock(Exclusive),
+        Unlock(Exclusive),
+        Lock(Exclusive),
+        UnlockFair(Exclusive),
+        Lock(Exclusive),
+        UnlockFair(Exclusive),
+    ]);
+    Ok(())
+}
+
+/// What a guard can do beside another, which asks nothing. Each closure looks at the raw lock.
+pub fn calls_of_an_inner_guard<W: Wait + Drop, R: RawMutexFair + Drop>(
+    lock: &Shareable<R>,
+    watch: &mut Watch<W, RawCall>,
+    owner: PartyId,
+) -> Result<(), Fault>
+where
+    R::Guard: Drop,
+{
+    let outer = ReentrantMutex::lock_arc(lock, owner)?;
+    let mut inner = ReentrantMutex::lock_arc(lock, owner)?;
+    ArcReentrantMutexGuard::bump(&mut inner);
+    drop(ArcReentrantMutexGuard::unlocked(inner, || lock.is_locked()));
+    let inner = ReentrantMutex::lock_arc(lock, owner)?;
+    drop(ArcReentrantMutexGuard::unlocked_fair(inner, || lock.is_locked()));
+    drop(ArcReentrantMutexGuard::into_arc(ReentrantMutex::lock_arc(lock, owner)?));
+    drop(ArcReentrantMutexGuard::into_arc_fair(ReentrantMutex::lock_arc(lock, owner)?));
+    watch.saw(&[Lock(Exclusive), IsLocked, IsLocked]);
+    drop(outer);
+    watch.saw(&[Unlock(Exclusive)]);
+    Ok(())
+}

@@ -1,0 +1,102 @@
+//! What the raw lock is asked where a party takes levels beside its first, and gives them up: nothing.
+use super::Paired;
+use lock_base::machine::Mode::Exclusive;
+use lock_base::machine::PartyId;
+use lock_base::raw::Fault;
+use lock_guard::raw::{RawMutexFair, RawMutexTimed};
+use lock_remutex::ReentrantMutexGuard;
+use lock_test_support::project::Item0;
+use lock_test_support::raw_lock::RawCall::{self, IsLocked, Lock, Unlock, UnlockFair};
+use lock_test_support::raw_lock::Watch;
+use std::sync::Wait;
+
+/// The owner's acquisitions.
+pub fn acquisitions<W: Wait + Drop, R: RawMutexTimed<Duration = u64, Instant = u64>>(
+    lock: &Paired<R>,
+    watch: &mut Watch<W, RawCall>,
+    owner: PartyId,
+) -> Result<(), Fault>
+where
+    R::Guard: Drop,
+{
+    let outer = lock.lock(owner)?;
+    drop(lock.lock(owner));
+    drop(lock.try_lock(owner));
+    drop(lock.try_lock_for(owner, 3));
+    drop(lock.try_lock_until(owner, 4));
+    lock.is_owned_by_current_thread(owner);
+    watch.saw_hold(outer, Exclusive);
+    Ok(())
+}
+
+/// What a guard can do beside another. Each closure looks at the raw lock.
+pub fn calls_of_a_guard<W: Wait + Drop, R: RawMutexFair>(
+    lock: &Paired<R>,
+    watch: &mut Watch<W, RawCall>,
+    owner: PartyId,
+) -> Result<(), Fault>
+where
+    R::Guard: Drop,
+{
+    let outer = lock.lock(owner)?;
+    let mut inner = lock.lock(owner)?;
+    ReentrantMutexGuard::bump(&mut inner);
+    drop(ReentrantMutexGuard::unlocked(inner, || lock.is_locked()));
+    drop(ReentrantMutexGuard::unlocked_fair(lock.lock(owner)?, || lock.is_locked()));
+    ReentrantMutexGuard::unlock_fair(lock.lock(owner)?);
+    drop(ReentrantMutexGuard::map(lock.lock(owner)?, Item0));
+    watch.saw(&[Lock(Exclusive), IsLocked, IsLocked]);
+    drop(outer);
+    watch.saw(&[Unlock(Exclusive)]);
+    Ok(())
+}
+
+/// Whichever guard ends last gives the raw lock up.
+pub fn ends<W: Wait + Drop, R: RawMutexFair>(
+    lock: &Paired<R>,
+    watch: &mut Watch<W, RawCall>,
+    owner: PartyId,
+) -> Result<(), Fault>
+where
+    R::Guard: Drop,
+{
+    let outer = lock.lock(owner)?;
+    let inner = lock.lock(owner)?;
+    drop(outer);
+    watch.saw_hold(inner, Exclusive);
+    let outer = lock.lock(owner)?;
+    let inner = lock.lock(owner)?;
+    ReentrantMutexGuard::unlock_fair(outer);
+    lock.is_locked();
+    ReentrantMutexGuard::unlock_fair(inner);
+    watch.saw(&[Lock(Exclusive), IsLocked, UnlockFair(Exclusive)]);
+    Ok(())
+}
+
+/// What the party is refused beside its one level, and `unlocked` where the closure takes that, which the guard that it
+/// answers ends.
+pub fn refused<R: RawMutexTimed<Duration = u64, Instant = u64>>(
+    lock: &Paired<R>,
+    owner: PartyId,
+) -> Result<(), Fault>
+where
+    R::Guard: Drop,
+{
+    let guard = lock.lock(owner)?;
+    drop(lock.lock(owner));
+    drop(lock.try_lock(owner));
+    drop(lock.try_lock_for(owner, 3));
+    drop(lock.try_lock_until(owner, 4));
+    lock.is_locked();
+    drop(ReentrantMutexGuard::unlocked(guard, || lock.lock(owner)));
+    Ok(())
+}
+
+/// What `refused` asks the raw lock.
+pub const CALLS_OF_REFUSED: [RawCall; 5] = [
+    Lock(Exclusive),
+    IsLocked,
+    Unlock(Exclusive),
+    Lock(Exclusive),
+    Unlock(Exclusive),
+];

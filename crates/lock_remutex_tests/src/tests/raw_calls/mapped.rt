@@ -1,0 +1,130 @@
+//! What the raw lock is asked where a guard is mapped.
+use super::Paired;
+use lock_base::machine::Mode::Exclusive;
+use lock_base::machine::PartyId;
+use lock_base::project::{TryView, View};
+use lock_base::raw::Fault;
+use lock_guard::raw::{RawMutex, RawMutexFair};
+use lock_remutex::ReentrantMutexGuard;
+use lock_test_support::project::{Item0, Item1, Nested, Nth, inner_item};
+use lock_test_support::raw_lock::{
+    RawCall, Watch, watch_fair_end, watch_map, watch_try_map, watch_try_map_or_err,
+};
+use std::sync::Wait;
+
+/// The guard of a pair in a pair, which was just acquired.
+type Guard<'a, R> = ReentrantMutexGuard<'a, R, Nested>;
+
+fn map<W: Wait + Drop, R: RawMutex, P: View<Nested>>(
+    guard: Guard<'_, R>,
+    projection: P,
+    watch: &mut Watch<W, RawCall>,
+)
+where
+    R::Guard: Drop,
+{
+    watch.saw_hold(ReentrantMutexGuard::map(guard, projection), Exclusive);
+}
+
+fn map_and_unlock_fair<W: Wait + Drop, R: RawMutexFair, P: View<Nested>>(
+    guard: Guard<'_, R>,
+    projection: P,
+    watch: &mut Watch<W, RawCall>,
+)
+where
+    R::Guard: Drop,
+{
+    watch_fair_end(
+        ReentrantMutexGuard::map(guard, projection),
+        Exclusive,
+        watch,
+    );
+}
+
+fn try_map<W: Wait + Drop, R: RawMutex, P: TryView<Nested>>(
+    guard: Guard<'_, R>,
+    projection: P,
+    watch: &mut Watch<W, RawCall>,
+)
+where
+    R::Guard: Drop,
+{
+    watch.saw_hold(ReentrantMutexGuard::try_map(guard, projection), Exclusive);
+}
+
+fn try_map_or_err<W: Wait + Drop, R: RawMutex, P: TryView<Nested>>(
+    guard: Guard<'_, R>,
+    projection: P,
+    watch: &mut Watch<W, RawCall>,
+)
+where
+    R::Guard: Drop,
+    P::Miss: Drop,
+{
+    watch.saw_hold(
+        ReentrantMutexGuard::try_map_or_err(guard, projection),
+        Exclusive,
+    );
+}
+
+/// By a part that is there.
+pub fn maps<W: Wait + Drop, R: RawMutexFair>(
+    lock: &Paired<R>,
+    watch: &mut Watch<W, RawCall>,
+    party: PartyId,
+) -> Result<(), Fault>
+where
+    R::Guard: Drop,
+{
+    map(lock.lock(party)?, Item0, watch);
+    map_and_unlock_fair(lock.lock(party)?, Item0, watch);
+    try_map(lock.lock(party)?, inner_item(1), watch);
+    try_map_or_err(lock.lock(party)?, inner_item(1), watch);
+    Ok(())
+}
+
+/// By a part that is not there.
+pub fn misses<W: Wait + Drop, R: RawMutex>(
+    lock: &Paired<R>,
+    watch: &mut Watch<W, RawCall>,
+    party: PartyId,
+) -> Result<(), Fault>
+where
+    R::Guard: Drop,
+{
+    try_map(lock.lock(party)?, inner_item(2), watch);
+    try_map_or_err(lock.lock(party)?, inner_item(2), watch);
+    Ok(())
+}
+
+/// The guard of a part is mapped, by a part of that which is there and by one that is not.
+pub fn uses_of_parts<W: Wait + Drop, R: RawMutex>(
+    lock: &Paired<R>,
+    watch: &mut Watch<W, RawCall>,
+    party: PartyId,
+) -> Result<(), Fault>
+where
+    R::Guard: Drop,
+{
+    watch_map(
+        ReentrantMutexGuard::map(lock.lock(party)?, Item0),
+        Item1,
+        Exclusive,
+        watch,
+    );
+    for index in [1, 2] {
+        watch_try_map(
+            ReentrantMutexGuard::map(lock.lock(party)?, Item0),
+            Nth(index),
+            Exclusive,
+            watch,
+        );
+        watch_try_map_or_err(
+            ReentrantMutexGuard::map(lock.lock(party)?, Item0),
+            Nth(index),
+            Exclusive,
+            watch,
+        );
+    }
+    Ok(())
+}
