@@ -10,21 +10,29 @@ mod raw_calls;
 mod texts;
 mod threads;
 
-use lock_guard::raw::{RawMutexFair, RawMutexTimed};
+use lock_guard::raw::{RawMutex, RawMutexFair, RawMutexTimed};
 use lock_raws::TokenRaw;
 use std::alloc::Global;
 use std::process::Abort;
+use std::sync::Wait;
 use std::test::Fail;
+
+/// What permits waiting, for owners, for makers and for the rest of what is answered.
+type Waiters<R> = (
+    [<R as RawMutex>::Waiter; 3],
+    (
+        [<R as RawMutex>::Waiter; 3],
+        [<R as RawMutex>::Waiter; 4],
+        [<R as RawMutex>::Waiter; 4],
+    ),
+    [<R as RawMutex>::Waiter; 3],
+);
 
 /// Answers of a reentrant lock on one thread, of its guards, and of guards that keep it alive.
 fn answers<R: RawMutexFair + RawMutexTimed<Duration = (), Instant = ()> + Drop>(
     rt: &impl Abort,
     alloc: Global,
-    waiters: (
-        [R::Waiter; 3],
-        ([R::Waiter; 3], [R::Waiter; 4], [R::Waiter; 4]),
-        [R::Waiter; 3],
-    ),
+    waiters: Waiters<R>,
 ) -> Result<(), Fail>
 where
     R::Guard: Send + Drop,
@@ -37,15 +45,30 @@ where
     mapped::check::<R>(rt, alloc, mapped)
 }
 
-#[test]
-fn answers_on_one_thread(rt: HostRuntime) -> Result<(), Fail> {
-    let waiters = ([rt; 3], ([rt; 3], [rt; 4], [rt; 4]), [rt; 3]);
-    answers::<TokenRaw<HostRuntime>>(&rt, rt.alloc(), waiters)
+/// Answers, and what the raw lock is asked.
+fn answers_and_calls<
+    R: RawMutexFair + RawMutexTimed<Duration = (), Instant = ()> + Drop,
+    T: Abort + Wait + Drop,
+>(
+    rt: &T,
+    alloc: Global,
+    waiters: (Waiters<R>, [R::Waiter; 3]),
+    watchers: [T; 3],
+) -> Result<(), Fail>
+where
+    R::Guard: Send + Drop,
+{
+    let (of_answers, of_calls) = waiters;
+    answers::<R>(rt, alloc, of_answers)?;
+    raw_calls::check::<R, T>(alloc, of_calls, watchers)
 }
 
+/// One test, since each that names the raw lock has to prove anew what that is.
 #[test]
-fn each_call_is_the_raw_calls_that_are_wanted(rt: HostRuntime) -> Result<(), Fail> {
-    raw_calls::check::<TokenRaw<HostRuntime>, HostRuntime>(rt.alloc(), [rt; 3], [rt; 3])
+fn answers_and_calls_on_one_thread(rt: HostRuntime) -> Result<(), Fail> {
+    let of_answers = ([rt; 3], ([rt; 3], [rt; 4], [rt; 4]), [rt; 3]);
+    let waiters = (of_answers, [rt; 3]);
+    answers_and_calls::<TokenRaw<HostRuntime>, HostRuntime>(&rt, rt.alloc(), waiters, [rt; 3])
 }
 
 #[test]

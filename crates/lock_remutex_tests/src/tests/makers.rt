@@ -98,26 +98,29 @@ where
     makers_give_many_levels::<R>(alloc, levels)
 }
 
-/// What each maker is refused with.
-fn refusals<R: RawMutex + Drop>(alloc: Global, waiters: [R::Waiter; 6]) -> [Option<Fault>; 6]
+/// Whether a maker was refused for want of memory, if at all.
+fn is_told(refusal: Option<Fault>) -> bool {
+    refusal.is_none() || refusal == Some(Fault::OutOfMemory)
+}
+
+/// Whether each maker told what it is to tell.
+fn are_told<R: RawMutex + Drop>(alloc: Global, waiters: [R::Waiter; 6]) -> [bool; 6]
 where
     R::Guard: Send + Drop,
 {
     let [first, second, third, fourth, fifth, sixth] = waiters;
     [
-        ReentrantMutex::<R, u8>::new(alloc, first, 1).err(),
-        ReentrantMutex::<R, u8>::from(alloc, second, 1).err(),
-        ReentrantMutex::<R, u8>::default(alloc, third).err(),
-        ReentrantMutex::<R, u8>::with_levels(alloc, fourth, 3, 1).err(),
-        RawReentrantMutex::<R>::new(alloc, fifth).err(),
-        RawReentrantMutex::<R>::with_levels(alloc, sixth, 3).err(),
+        is_told(ReentrantMutex::<R, u8>::new(alloc, first, 1).err()),
+        is_told(ReentrantMutex::<R, u8>::from(alloc, second, 1).err()),
+        is_told(ReentrantMutex::<R, u8>::default(alloc, third).err()),
+        is_told(ReentrantMutex::<R, u8>::with_levels(alloc, fourth, 3, 1).err()),
+        is_told(RawReentrantMutex::<R>::new(alloc, fifth).err()),
+        is_told(RawReentrantMutex::<R>::with_levels(alloc, sixth, 3).err()),
     ]
 }
 
 /// Passes too where an allocation is refused, as it is told then.
 #[test]
 fn refused_memory_is_told_by_the_makers(rt: HostRuntime) {
-    for refusal in refusals::<TokenRaw<HostRuntime>>(rt.alloc(), [rt, rt, rt, rt, rt, rt]) {
-        assert!(rt; refusal.is_none() || refusal == Some(Fault::OutOfMemory));
-    }
+    assert!(rt; are_told::<TokenRaw<HostRuntime>>(rt.alloc(), [rt; 6]) == [true; 6]);
 }
