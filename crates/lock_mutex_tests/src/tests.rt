@@ -9,7 +9,7 @@ mod texts;
 mod threads;
 
 use crate::tests::condvar::asked::AskedCondvar;
-use lock_guard::raw::{RawMutex, RawMutexFair};
+use lock_guard::raw::{RawMutex, RawMutexFair, RawMutexTimed};
 use lock_mutex::{Condvar, Mutex};
 use lock_raws::TokenRaw;
 use lock_test_support::raw_lock::{AskedRaw, Watch};
@@ -20,20 +20,19 @@ use std::test::Fail;
 /// An honest raw lock.
 type Honest = TokenRaw<HostRuntime>;
 
-/// Answers of a mutex on one thread, and of guards that keep it alive.
-fn answers<R: RawMutexFair + Drop>(alloc: Global, waiters: [R::Waiter; 4]) -> Result<(), Fail> {
-    let [first, second, third, last] = waiters;
+/// Answers of a mutex on one thread, of guards that keep it alive, and of waits.
+fn answers<R: RawMutexFair + RawMutexTimed<Duration = (), Instant = ()> + Drop>(
+    alloc: Global,
+    waiters: [R::Waiter; 5],
+) -> Result<(), Fail> {
+    let [first, second, third, fourth, last] = waiters;
+    condvar::check_at_once::<R>(alloc, fourth)?;
     makers::check::<R>(alloc, first, second)?;
     let mutex: Mutex<R, u64> = Mutex::new(alloc, third, 5)?;
     texts::check(alloc, &mutex)?;
     order::check(&mutex)?;
     let mutex: Mutex<R, i64> = Mutex::new(alloc, last, 0)?;
     arc::check(&Arc::new(alloc, mutex)?)
-}
-
-#[test]
-fn answers_on_one_thread(rt: HostRuntime) -> Result<(), Fail> {
-    answers::<Honest>(rt.alloc(), [rt; 4])
 }
 
 /// What the raw lock is asked, where guards borrow a mutex, where they keep one alive, and where they wait.
@@ -66,7 +65,18 @@ fn calls<R: RawMutexFair + Drop, W: Wait + Drop>(
     watch.verdict()
 }
 
+/// Answers, and what the raw lock is asked.
+fn answers_and_calls<
+    R: RawMutexFair + RawMutexTimed<Duration = (), Instant = ()> + Drop,
+    W: Wait + Drop,
+>(alloc: Global, waiters: ([R::Waiter; 5], [R::Waiter; 3]), watchers: [W; 3]) -> Result<(), Fail> {
+    let (of_answers, of_calls) = waiters;
+    answers::<R>(alloc, of_answers)?;
+    calls::<R, W>(alloc, of_calls, watchers)
+}
+
+/// One test, since each that names the raw lock has to prove anew what that is.
 #[test]
-fn each_call_is_the_raw_calls_that_are_wanted(rt: HostRuntime) -> Result<(), Fail> {
-    calls::<Honest, HostRuntime>(rt.alloc(), [rt; 3], [rt; 3])
+fn answers_and_calls_on_one_thread(rt: HostRuntime) -> Result<(), Fail> {
+    answers_and_calls::<Honest, HostRuntime>(rt.alloc(), ([rt; 5], [rt; 3]), [rt; 3])
 }

@@ -1,7 +1,6 @@
 //! The condition variable, over raw ones that wake at once.
 pub mod asked;
 
-use super::Honest;
 use asked::CondvarCall::{self, NotifyAll, NotifyOne, Wait, WaitUntil};
 use asked::{AskedCondvar, ENDLESS, LATE};
 use lock_base::machine::Mode::Exclusive;
@@ -71,16 +70,13 @@ where
 }
 
 /// The waits, notifications and text of a condition variable over a raw one that wakes at once.
-fn check_at_once<C: RawCondvarTimed + Drop>(
+pub fn check_at_once<R: RawMutexTimed<Duration = (), Instant = ()> + Drop>(
     alloc: Global,
-    waiter: <C::RawMutex as RawMutex>::Waiter,
-) -> Result<(), Fail>
-where
-    C::RawMutex: RawMutexTimed<Duration = (), Instant = ()> + Drop,
-{
-    let condvar: Condvar<C> = Condvar::default(alloc)?;
-    let _raw: &C = condvar.raw();
-    let checks: Checks<C::RawMutex> = Mutex::new(alloc, waiter, 0)?;
+    waiter: R::Waiter,
+) -> Result<(), Fail> {
+    let condvar: Condvar<SpuriousCondvar<R>> = Condvar::default(alloc)?;
+    let _raw: &SpuriousCondvar<R> = condvar.raw();
+    let checks: Checks<R> = Mutex::new(alloc, waiter, 0)?;
     let seen = [
         wait_until_false(&condvar, &checks, 1, ()),
         wait_until_false(&condvar, &checks, 2, ()),
@@ -92,11 +88,6 @@ where
     let notified = (condvar.notify_one(), condvar.notify_all());
     let is_shown = debug_is(alloc, &condvar, "Condvar { .. }");
     equal((notified, is_shown), ((false, 0), true))
-}
-
-#[test]
-fn waits_over_a_raw_condvar_that_wakes_at_once(rt: HostRuntime) -> Result<(), Fail> {
-    check_at_once::<SpuriousCondvar<Honest>>(rt.alloc(), rt)
 }
 
 /// Whether the raw condition variable was asked just this by a wait for so long, and whether that timed out.
@@ -121,24 +112,17 @@ fn wait_until<R: RawMutexTimed<Duration = u64, Instant = u64>>(
 }
 
 /// Each plain wait and each with an end.
-fn waits<W: sync::Wait + Drop, R: RawMutexTimed<Duration = u64, Instant = u64>>(
+fn waits<R: RawMutexTimed<Duration = u64, Instant = u64>>(
     condvar: &Condvar<AskedCondvar<R>>,
     checks: &Checks<R>,
-    watch: &mut Watch<W, RawCall>,
 ) -> [(bool, bool); 5] {
     let mut guard = checks.lock();
-    watch.saw(&[Lock(Exclusive)]);
     condvar.wait(&mut guard);
-    watch.saw(&[Unlock(Exclusive), Lock(Exclusive)]);
     let plain = (condvar.raw().got(&[Wait]), false);
     let in_time = wait_for(condvar, &mut guard, 3, WaitUntil(4));
-    watch.saw(&[Unlock(Exclusive), Lock(Exclusive)]);
     let early = wait_until(condvar, &mut guard, 5);
-    watch.saw(&[Unlock(Exclusive), Lock(Exclusive)]);
     let late = wait_until(condvar, &mut guard, LATE);
-    watch.saw(&[Unlock(Exclusive), Lock(Exclusive)]);
     let endless = wait_for(condvar, &mut guard, ENDLESS, Wait);
-    watch.saw(&[Unlock(Exclusive), Lock(Exclusive)]);
     [plain, in_time, early, late, endless]
 }
 
@@ -199,14 +183,30 @@ pub fn check_calls<W: sync::Wait + Drop, R: RawMutexTimed<Duration = u64, Instan
         (true, true),
         (true, false),
     ];
-    equal(waits(condvar, checks, watch), wanted)?;
-    watch.saw(&[Unlock(Exclusive)]);
+    equal(waits(condvar, checks), wanted)?;
+    watch.saw(&WAITS);
     let wanted = ([true; 2], [(true, false); 2]);
     equal(conditional_waits(condvar, checks), wanted)?;
     watch.saw(&CONDITIONAL_WAITS);
     let seen = (notify(condvar, 0), notify(condvar, 3));
     equal(seen, ((false, 0, true), (true, 3, true)))
 }
+
+/// A guard of the mutex, with five waits under it.
+const WAITS: [RawCall; 12] = [
+    Lock(Exclusive),
+    Unlock(Exclusive),
+    Lock(Exclusive),
+    Unlock(Exclusive),
+    Lock(Exclusive),
+    Unlock(Exclusive),
+    Lock(Exclusive),
+    Unlock(Exclusive),
+    Lock(Exclusive),
+    Unlock(Exclusive),
+    Lock(Exclusive),
+    Unlock(Exclusive),
+];
 
 /// Three guards of the mutex, with two waits under the first and one under each other.
 const CONDITIONAL_WAITS: [RawCall; 14] = [

@@ -1,7 +1,6 @@
 //! The order in which a mutex takes and gives back its raw lock and the lock of its value.
 mod patient;
 
-use super::Honest;
 use lock_guard::raw::{RawMutex, RawMutexFair};
 use lock_mutex::{Condvar, Mutex, MutexGuard};
 use lock_raws::SpuriousCondvar;
@@ -161,23 +160,13 @@ fn the_value_is_given_back_before_the_raw_lock(rt: HostRuntime) -> Result<(), Fa
     Ok(())
 }
 
-/// Waits until two have come.
-fn come_and_wait<R: RawMutex>(mutex: &Mutex<R, u64>, condvar: &Condvar<SpuriousCondvar<R>>) {
+/// Waits until all have come. Of two that wait for each other none ends unless a wait holds nothing.
+pub fn come_and_wait<R: RawMutex>(
+    mutex: &Mutex<R, u64>,
+    condvar: &Condvar<SpuriousCondvar<R>>,
+    all: u64,
+) {
     let mut guard = mutex.lock();
     *guard = guard.wrapping_add(1);
-    condvar.wait_while(&mut guard, |come| *come < 2);
-}
-
-/// It ends only where a wait holds nothing.
-#[test]
-fn two_threads_wait_for_each_other(rt: HostRuntime) -> Result<(), Fail> {
-    let mutex: Mutex<Honest, u64> = Mutex::new(rt.alloc(), rt, 0)?;
-    let condvar: Condvar<SpuriousCondvar<Honest>> = Condvar::new(rt.alloc())?;
-    thread::join(
-        &rt,
-        || come_and_wait(&mutex, &condvar),
-        || come_and_wait(&mutex, &condvar),
-    );
-    assert_eq!(rt; mutex.into_inner(), 2);
-    Ok(())
+    condvar.wait_while(&mut guard, |come| *come < all);
 }

@@ -22,15 +22,21 @@ fn acquisitions<W: Wait + Drop, R: RawMutexTimed<Duration = u64, Instant = u64>>
     watch: &mut Watch<W, RawCall>,
 ) {
     drop(mutex.lock());
-    watch.saw(&[Lock(Exclusive), Unlock(Exclusive)]);
     drop(mutex.try_lock());
-    watch.saw(&[TryLock(Exclusive), Unlock(Exclusive)]);
     drop(mutex.try_lock_for(3));
-    watch.saw(&[TryLockFor(Exclusive, 3), Unlock(Exclusive)]);
     drop(mutex.try_lock_until(4));
-    watch.saw(&[TryLockUntil(Exclusive, 4), Unlock(Exclusive)]);
     mutex.is_locked();
-    watch.saw(&[IsLocked]);
+    watch.saw(&[
+        Lock(Exclusive),
+        Unlock(Exclusive),
+        TryLock(Exclusive),
+        Unlock(Exclusive),
+        TryLockFor(Exclusive, 3),
+        Unlock(Exclusive),
+        TryLockUntil(Exclusive, 4),
+        Unlock(Exclusive),
+        IsLocked,
+    ]);
 }
 
 fn calls_of_a_guard<W: Wait + Drop, R: RawMutexFair>(
@@ -41,13 +47,20 @@ fn calls_of_a_guard<W: Wait + Drop, R: RawMutexFair>(
     guard.1 = guard.0.0;
     MutexGuard::mutex(&guard);
     MutexGuard::bump(&mut guard);
-    watch.saw(&[Lock(Exclusive), Bump(Exclusive)]);
     MutexGuard::unlocked(&mut guard, || mutex.is_locked());
-    watch.saw(&[Unlock(Exclusive), IsLocked, Lock(Exclusive)]);
     MutexGuard::unlocked_fair(&mut guard, || mutex.is_locked());
-    watch.saw(&[UnlockFair(Exclusive), IsLocked, Lock(Exclusive)]);
     MutexGuard::unlock_fair(guard);
-    watch.saw(&[UnlockFair(Exclusive)]);
+    watch.saw(&[
+        Lock(Exclusive),
+        Bump(Exclusive),
+        Unlock(Exclusive),
+        IsLocked,
+        Lock(Exclusive),
+        UnlockFair(Exclusive),
+        IsLocked,
+        Lock(Exclusive),
+        UnlockFair(Exclusive),
+    ]);
 }
 
 /// Tries beside a guard.
@@ -59,14 +72,14 @@ fn refused_tries<W: Wait + Drop, R: RawMutexTimed<Duration = u64, Instant = u64>
     drop(mutex.try_lock());
     drop(mutex.try_lock_for(3));
     drop(mutex.try_lock_until(4));
+    drop(guard);
     watch.saw(&[
         Lock(Exclusive),
         TryLock(Exclusive),
         TryLockFor(Exclusive, 3),
         TryLockUntil(Exclusive, 4),
+        Unlock(Exclusive),
     ]);
-    drop(guard);
-    watch.saw(&[Unlock(Exclusive)]);
 }
 
 /// All of these, on a mutex that is free before and after each.

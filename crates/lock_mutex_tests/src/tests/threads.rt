@@ -1,10 +1,13 @@
-//! Threads that count behind a mutex, over a raw lock that is honest and over one that lies.
+//! Threads that count behind a mutex, over a raw lock that is honest and over one that lies, and that wait for each other.
 use super::Honest;
+use super::order::come_and_wait;
 use lock_guard::raw::RawMutex;
-use lock_mutex::Mutex;
+use lock_mutex::{Condvar, Mutex};
+use lock_raws::SpuriousCondvar;
 use lock_test_support::raw_lock::Liar;
 use lock_test_support::{Count, add_in_four_threads};
 use std::test::Fail;
+use std::thread;
 
 /// A mutex that threads count behind.
 #[derive(Drop)]
@@ -19,11 +22,18 @@ impl<R: RawMutex> Count for Counted<'_, R> {
     }
 }
 
+/// Both stand in one test, since that threads may share the mutex is dear to prove.
 #[test]
-fn four_threads_count_over_an_honest_raw_lock(rt: HostRuntime) -> Result<(), Fail> {
+fn four_threads_count_and_two_wait_for_each_other(rt: HostRuntime) -> Result<(), Fail> {
     let counter: Mutex<Honest, u64> = Mutex::new(rt.alloc(), rt, 0)?;
     add_in_four_threads(&rt, &Counted(&counter));
-    assert_eq!(rt; counter.into_inner(), 4_000);
+    let condvar: Condvar<SpuriousCondvar<Honest>> = Condvar::new(rt.alloc())?;
+    thread::join(
+        &rt,
+        || come_and_wait(&counter, &condvar, 4_002),
+        || come_and_wait(&counter, &condvar, 4_002),
+    );
+    assert_eq!(rt; counter.into_inner(), 4_002);
     Ok(())
 }
 

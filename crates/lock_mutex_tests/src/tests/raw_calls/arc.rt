@@ -14,13 +14,19 @@ fn acquisitions_by_an_arc<W: Wait + Drop, R: RawMutexTimed<Duration = u64, Insta
     watch: &mut Watch<W, RawCall>,
 ) {
     drop(Mutex::lock_arc(mutex));
-    watch.saw(&[Lock(Exclusive), Unlock(Exclusive)]);
     drop(Mutex::try_lock_arc(mutex));
-    watch.saw(&[TryLock(Exclusive), Unlock(Exclusive)]);
     drop(Mutex::try_lock_arc_for(mutex, 3));
-    watch.saw(&[TryLockFor(Exclusive, 3), Unlock(Exclusive)]);
     drop(Mutex::try_lock_arc_until(mutex, 4));
-    watch.saw(&[TryLockUntil(Exclusive, 4), Unlock(Exclusive)]);
+    watch.saw(&[
+        Lock(Exclusive),
+        Unlock(Exclusive),
+        TryLock(Exclusive),
+        Unlock(Exclusive),
+        TryLockFor(Exclusive, 3),
+        Unlock(Exclusive),
+        TryLockUntil(Exclusive, 4),
+        Unlock(Exclusive),
+    ]);
 }
 
 fn calls_of_an_arc_guard<W: Wait + Drop, R: RawMutexFair + Drop>(
@@ -29,16 +35,21 @@ fn calls_of_an_arc_guard<W: Wait + Drop, R: RawMutexFair + Drop>(
 ) {
     let mut guard = guard;
     ArcMutexGuard::bump(&mut guard);
-    watch.saw(&[Lock(Exclusive), Bump(Exclusive)]);
     ArcMutexGuard::with_mut(&mut guard, |value| *value = 7);
     ArcMutexGuard::with(&guard, |value| *value);
     ArcMutexGuard::mutex(&guard);
     ArcMutexGuard::unlocked(&mut guard, || ());
-    watch.saw(&[Unlock(Exclusive), Lock(Exclusive)]);
     ArcMutexGuard::unlocked_fair(&mut guard, || ());
-    watch.saw(&[UnlockFair(Exclusive), Lock(Exclusive)]);
     ArcMutexGuard::unlock_fair(guard);
-    watch.saw(&[UnlockFair(Exclusive)]);
+    watch.saw(&[
+        Lock(Exclusive),
+        Bump(Exclusive),
+        Unlock(Exclusive),
+        Lock(Exclusive),
+        UnlockFair(Exclusive),
+        Lock(Exclusive),
+        UnlockFair(Exclusive),
+    ]);
 }
 
 fn ends_of_arc_guards<W: Wait + Drop, R: RawMutexFair + Drop>(
@@ -46,9 +57,13 @@ fn ends_of_arc_guards<W: Wait + Drop, R: RawMutexFair + Drop>(
     watch: &mut Watch<W, RawCall>,
 ) -> Result<(), Fault> {
     drop(ArcMutexGuard::into_arc(Mutex::lock_arc(mutex)?));
-    watch.saw(&[Lock(Exclusive), Unlock(Exclusive)]);
     drop(ArcMutexGuard::into_arc_fair(Mutex::lock_arc(mutex)?));
-    watch.saw(&[Lock(Exclusive), UnlockFair(Exclusive)]);
+    watch.saw(&[
+        Lock(Exclusive),
+        Unlock(Exclusive),
+        Lock(Exclusive),
+        UnlockFair(Exclusive),
+    ]);
     Ok(())
 }
 
@@ -61,14 +76,14 @@ fn refused_tries<W: Wait + Drop, R: RawMutexTimed<Duration = u64, Instant = u64>
     drop(Mutex::try_lock_arc(mutex));
     drop(Mutex::try_lock_arc_for(mutex, 3));
     drop(Mutex::try_lock_arc_until(mutex, 4));
+    drop(guard);
     watch.saw(&[
         Lock(Exclusive),
         TryLock(Exclusive),
         TryLockFor(Exclusive, 3),
         TryLockUntil(Exclusive, 4),
+        Unlock(Exclusive),
     ]);
-    drop(guard);
-    watch.saw(&[Unlock(Exclusive)]);
     Ok(())
 }
 
