@@ -47,11 +47,18 @@ fn holds_or_lacks<R: RawRwLock + Drop>(made: Result<RwLock<R, u64>, Fault>, valu
     holds_or_lacks_memory(made.map(|lock| lock.into_inner()), value)
 }
 
+/// Whether each maker gave a lock of the value that it is to hold, or told that memory was refused.
+fn hold_or_lack<R: RawRwLock + Drop>(alloc: Global, waiters: [R::Waiter; 4]) -> [bool; 4] {
+    let [first, second, third, last] = waiters;
+    [
+        holds_or_lacks::<R>(RwLock::new(alloc, first, 5), 5),
+        holds_or_lacks::<R>(RwLock::from(alloc, second, 6), 6),
+        holds_or_lacks::<R>(RwLock::default(alloc, third), 0),
+        holds_or_lacks::<R>(RwLock::with_readers(alloc, last, 1, 7), 7),
+    ]
+}
+
 #[test]
 fn refused_memory_rwlock_makers(rt: HostRuntime) {
-    let alloc = rt.alloc();
-    assert!(rt; holds_or_lacks::<Honest>(RwLock::new(alloc, rt, 5), 5));
-    assert!(rt; holds_or_lacks::<Honest>(RwLock::from(alloc, rt, 6), 6));
-    assert!(rt; holds_or_lacks::<Honest>(RwLock::default(alloc, rt), 0));
-    assert!(rt; holds_or_lacks::<Honest>(RwLock::with_readers(alloc, rt, 1, 7), 7));
+    assert!(rt; hold_or_lack::<Honest>(rt.alloc(), [rt; 4]) == [true; 4]);
 }

@@ -29,24 +29,35 @@ fn acquisitions<W: Wait + Drop, R: RawRwLockTimed<Duration = u64, Instant = u64>
     watch: &mut Watch<W, RawCall>,
 ) {
     drop(lock.read());
-    watch.saw(&[Lock(Shared), Unlock(Shared)]);
     drop(lock.try_read());
-    watch.saw(&[TryLock(Shared), Unlock(Shared)]);
     drop(lock.try_read_for(3));
-    watch.saw(&[TryLockFor(Shared, 3), Unlock(Shared)]);
     drop(lock.try_read_until(4));
-    watch.saw(&[TryLockUntil(Shared, 4), Unlock(Shared)]);
     drop(lock.write());
-    watch.saw(&[Lock(Exclusive), Unlock(Exclusive)]);
     drop(lock.try_write());
-    watch.saw(&[TryLock(Exclusive), Unlock(Exclusive)]);
     drop(lock.try_write_for(3));
-    watch.saw(&[TryLockFor(Exclusive, 3), Unlock(Exclusive)]);
     drop(lock.try_write_until(4));
-    watch.saw(&[TryLockUntil(Exclusive, 4), Unlock(Exclusive)]);
     lock.is_locked();
     lock.is_locked_exclusive();
-    watch.saw(&[IsLocked, IsLockedExclusive]);
+    watch.saw(&[
+        Lock(Shared),
+        Unlock(Shared),
+        TryLock(Shared),
+        Unlock(Shared),
+        TryLockFor(Shared, 3),
+        Unlock(Shared),
+        TryLockUntil(Shared, 4),
+        Unlock(Shared),
+        Lock(Exclusive),
+        Unlock(Exclusive),
+        TryLock(Exclusive),
+        Unlock(Exclusive),
+        TryLockFor(Exclusive, 3),
+        Unlock(Exclusive),
+        TryLockUntil(Exclusive, 4),
+        Unlock(Exclusive),
+        IsLocked,
+        IsLockedExclusive,
+    ]);
 }
 
 fn upgradable_acquisitions<W: Wait + Drop, R: RawRwLockUpgradeTimed<Duration = u64, Instant = u64>>(
@@ -54,13 +65,19 @@ fn upgradable_acquisitions<W: Wait + Drop, R: RawRwLockUpgradeTimed<Duration = u
     watch: &mut Watch<W, RawCall>,
 ) {
     drop(lock.upgradable_read());
-    watch.saw(&[Lock(Upgradable), Unlock(Upgradable)]);
     drop(lock.try_upgradable_read());
-    watch.saw(&[TryLock(Upgradable), Unlock(Upgradable)]);
     drop(lock.try_upgradable_read_for(3));
-    watch.saw(&[TryLockFor(Upgradable, 3), Unlock(Upgradable)]);
     drop(lock.try_upgradable_read_until(4));
-    watch.saw(&[TryLockUntil(Upgradable, 4), Unlock(Upgradable)]);
+    watch.saw(&[
+        Lock(Upgradable),
+        Unlock(Upgradable),
+        TryLock(Upgradable),
+        Unlock(Upgradable),
+        TryLockFor(Upgradable, 3),
+        Unlock(Upgradable),
+        TryLockUntil(Upgradable, 4),
+        Unlock(Upgradable),
+    ]);
 }
 
 /// What a guard of the mode, which was just acquired, can do whatever its mode.
@@ -72,13 +89,20 @@ fn calls_of_a_guard<W: Wait + Drop, R: RawRwLock, L: AcquireFair>(
 ) {
     let mut guard = guard;
     RwLockGuard::bump(&mut guard);
-    watch.saw(&[Lock(mode), Bump(mode)]);
     RwLockGuard::unlocked(&mut guard, || lock.is_locked());
-    watch.saw(&[Unlock(mode), IsLocked, Lock(mode)]);
     RwLockGuard::unlocked_fair(&mut guard, || lock.is_locked());
-    watch.saw(&[UnlockFair(mode), IsLocked, Lock(mode)]);
     RwLockGuard::unlock_fair(guard);
-    watch.saw(&[UnlockFair(mode)]);
+    watch.saw(&[
+        Lock(mode),
+        Bump(mode),
+        Unlock(mode),
+        IsLocked,
+        Lock(mode),
+        UnlockFair(mode),
+        IsLocked,
+        Lock(mode),
+        UnlockFair(mode),
+    ]);
 }
 
 /// What reads and writes the value, or tells the lock, asks nothing.
@@ -106,15 +130,25 @@ fn transitions<W: Wait + Drop, R: RawRwLockUpgradeDowngrade>(
     watch: &mut Watch<W, RawCall>,
 ) {
     drop(RwLockWriteGuard::downgrade(lock.write()));
-    watch.saw(&[Lock(Exclusive), Downgrade, Unlock(Shared)]);
     let guard = RwLockWriteGuard::downgrade_to_upgradable(lock.write());
-    watch.saw(&[Lock(Exclusive), DowngradeToUpgradable]);
     drop(RwLockUpgradableReadGuard::downgrade(guard));
-    watch.saw(&[DowngradeUpgradable, Unlock(Shared)]);
     drop(RwLockUpgradableReadGuard::upgrade(lock.upgradable_read()));
-    watch.saw(&[Lock(Upgradable), Upgrade, Unlock(Exclusive)]);
     drop(RwLockUpgradableReadGuard::try_upgrade(lock.upgradable_read()));
-    watch.saw(&[Lock(Upgradable), TryUpgrade, Unlock(Exclusive)]);
+    watch.saw(&[
+        Lock(Exclusive),
+        Downgrade,
+        Unlock(Shared),
+        Lock(Exclusive),
+        DowngradeToUpgradable,
+        DowngradeUpgradable,
+        Unlock(Shared),
+        Lock(Upgradable),
+        Upgrade,
+        Unlock(Exclusive),
+        Lock(Upgradable),
+        TryUpgrade,
+        Unlock(Exclusive),
+    ]);
 }
 
 fn timed_upgrades<W: Wait + Drop, R: RawRwLockUpgradeTimed<Duration = u64, Instant = u64>>(
@@ -122,38 +156,44 @@ fn timed_upgrades<W: Wait + Drop, R: RawRwLockUpgradeTimed<Duration = u64, Insta
     watch: &mut Watch<W, RawCall>,
 ) {
     drop(RwLockUpgradableReadGuard::try_upgrade_for(lock.upgradable_read(), 3));
-    watch.saw(&[Lock(Upgradable), TryUpgradeFor(3), Unlock(Exclusive)]);
     drop(RwLockUpgradableReadGuard::try_upgrade_until(lock.upgradable_read(), 4));
-    watch.saw(&[Lock(Upgradable), TryUpgradeUntil(4), Unlock(Exclusive)]);
+    watch.saw(&[
+        Lock(Upgradable),
+        TryUpgradeFor(3),
+        Unlock(Exclusive),
+        Lock(Upgradable),
+        TryUpgradeUntil(4),
+        Unlock(Exclusive),
+    ]);
 }
 
-/// Calls under an upgraded guard, and those that are not made beside a reader. The closure looks at the raw lock.
+/// Calls under an upgraded guard. Each closure looks at the raw lock.
 fn calls_under_an_upgrade<
     W: Wait + Drop,
     R: RawRwLockUpgradeTimed<Duration = u64, Instant = u64> + RawRwLockUpgradeDowngrade,
 >(lock: &Paired<R>, watch: &mut Watch<W, RawCall>) {
     let mut guard = lock.upgradable_read();
     guard.with_upgraded(|_| lock.is_locked());
-    watch.saw(&[Lock(Upgradable), Upgrade, IsLocked, DowngradeToUpgradable]);
-    guard.try_with_upgraded(|_| lock.is_locked());
-    watch.saw(&[TryUpgrade, IsLocked, DowngradeToUpgradable]);
-    guard.try_with_upgraded_for(3, |_| lock.is_locked());
-    watch.saw(&[TryUpgradeFor(3), IsLocked, DowngradeToUpgradable]);
-    guard.try_with_upgraded_until(4, |_| lock.is_locked());
-    watch.saw(&[TryUpgradeUntil(4), IsLocked, DowngradeToUpgradable]);
-    let reader = lock.read();
     guard.try_with_upgraded(|_| lock.is_locked());
     guard.try_with_upgraded_for(3, |_| lock.is_locked());
     guard.try_with_upgraded_until(4, |_| lock.is_locked());
-    watch.saw(&[
-        Lock(Shared),
-        TryUpgrade,
-        TryUpgradeFor(3),
-        TryUpgradeUntil(4),
-    ]);
-    drop(reader);
     drop(guard);
-    watch.saw(&[Unlock(Shared), Unlock(Upgradable)]);
+    watch.saw(&[
+        Lock(Upgradable),
+        Upgrade,
+        IsLocked,
+        DowngradeToUpgradable,
+        TryUpgrade,
+        IsLocked,
+        DowngradeToUpgradable,
+        TryUpgradeFor(3),
+        IsLocked,
+        DowngradeToUpgradable,
+        TryUpgradeUntil(4),
+        IsLocked,
+        DowngradeToUpgradable,
+        Unlock(Upgradable),
+    ]);
 }
 
 /// All of these, on a lock that is free before and after each.
@@ -178,6 +218,7 @@ pub fn all_calls<
     refused::tries(lock, watch);
     refused::upgradable_tries(lock, watch);
     refused::upgrades(lock, watch);
+    refused::calls_under_an_upgrade(lock, watch);
 }
 
 fn bumps_by_default<R: RawRwLockUpgradeFair>(raw: &R) {

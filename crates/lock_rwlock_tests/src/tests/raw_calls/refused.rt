@@ -1,7 +1,9 @@
 //! What the raw lock is asked by what it refuses.
 use super::Paired;
 use lock_base::machine::Mode::{Exclusive, Shared, Upgradable};
-use lock_guard::raw::{RawRwLock, RawRwLockTimed, RawRwLockUpgrade, RawRwLockUpgradeTimed};
+use lock_guard::raw::{
+    RawRwLock, RawRwLockTimed, RawRwLockUpgrade, RawRwLockUpgradeDowngrade, RawRwLockUpgradeTimed,
+};
 use lock_rwlock::{RwLock, RwLockUpgradableReadGuard};
 use lock_test_support::raw_lock::RawCall::{
     self, Lock, TryLock, TryLockFor, TryLockUntil, TryUpgrade, TryUpgradeFor, TryUpgradeUntil,
@@ -23,6 +25,7 @@ pub fn tries<W: Wait + Drop, R: RawRwLockTimed<Duration = u64, Instant = u64>>(
     drop(lock.try_write());
     drop(lock.try_write_for(3));
     drop(lock.try_write_until(4));
+    drop(writer);
     watch.saw(&[
         Lock(Exclusive),
         TryLock(Shared),
@@ -31,9 +34,8 @@ pub fn tries<W: Wait + Drop, R: RawRwLockTimed<Duration = u64, Instant = u64>>(
         TryLock(Exclusive),
         TryLockFor(Exclusive, 3),
         TryLockUntil(Exclusive, 4),
+        Unlock(Exclusive),
     ]);
-    drop(writer);
-    watch.saw(&[Unlock(Exclusive)]);
 }
 
 /// Tries for an upgradable guard beside a writer.
@@ -45,14 +47,14 @@ pub fn upgradable_tries<W: Wait + Drop, R: RawRwLockUpgradeTimed<Duration = u64,
     drop(lock.try_upgradable_read());
     drop(lock.try_upgradable_read_for(3));
     drop(lock.try_upgradable_read_until(4));
+    drop(writer);
     watch.saw(&[
         Lock(Exclusive),
         TryLock(Upgradable),
         TryLockFor(Upgradable, 3),
         TryLockUntil(Upgradable, 4),
+        Unlock(Exclusive),
     ]);
-    drop(writer);
-    watch.saw(&[Unlock(Exclusive)]);
 }
 
 /// Upgrades beside a reader.
@@ -61,15 +63,46 @@ pub fn upgrades<W: Wait + Drop, R: RawRwLockUpgradeTimed<Duration = u64, Instant
     watch: &mut Watch<W, RawCall>,
 ) {
     let reader = lock.read();
-    watch.saw(&[Lock(Shared)]);
     drop(RwLockUpgradableReadGuard::try_upgrade(lock.upgradable_read()));
-    watch.saw(&[Lock(Upgradable), TryUpgrade, Unlock(Upgradable)]);
     drop(RwLockUpgradableReadGuard::try_upgrade_for(lock.upgradable_read(), 3));
-    watch.saw(&[Lock(Upgradable), TryUpgradeFor(3), Unlock(Upgradable)]);
     drop(RwLockUpgradableReadGuard::try_upgrade_until(lock.upgradable_read(), 4));
-    watch.saw(&[Lock(Upgradable), TryUpgradeUntil(4), Unlock(Upgradable)]);
     drop(reader);
-    watch.saw(&[Unlock(Shared)]);
+    watch.saw(&[
+        Lock(Shared),
+        Lock(Upgradable),
+        TryUpgrade,
+        Unlock(Upgradable),
+        Lock(Upgradable),
+        TryUpgradeFor(3),
+        Unlock(Upgradable),
+        Lock(Upgradable),
+        TryUpgradeUntil(4),
+        Unlock(Upgradable),
+        Unlock(Shared),
+    ]);
+}
+
+/// Calls under an upgrade that is refused beside a reader, and so are not made.
+pub fn calls_under_an_upgrade<
+    W: Wait + Drop,
+    R: RawRwLockUpgradeTimed<Duration = u64, Instant = u64> + RawRwLockUpgradeDowngrade,
+>(lock: &Paired<R>, watch: &mut Watch<W, RawCall>) {
+    let reader = lock.read();
+    let mut guard = lock.upgradable_read();
+    guard.try_with_upgraded(|_| lock.is_locked());
+    guard.try_with_upgraded_for(3, |_| lock.is_locked());
+    guard.try_with_upgraded_until(4, |_| lock.is_locked());
+    drop(guard);
+    drop(reader);
+    watch.saw(&[
+        Lock(Shared),
+        Lock(Upgradable),
+        TryUpgrade,
+        TryUpgradeFor(3),
+        TryUpgradeUntil(4),
+        Unlock(Upgradable),
+        Unlock(Shared),
+    ]);
 }
 
 /// Which tries are refused, that to upgrade among them.
