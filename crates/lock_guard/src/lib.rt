@@ -3,3 +3,6 @@
 
 pub mod guard;
 pub mod raw;
+mod std_lock;
+
+pub use std_lock::lock_std;

@@ -5,6 +5,7 @@ ghost use Rattle.lock_guard.specs.Closure.{ReadsSomeValue, AnswersSomeValue};
 use crate::{Guard, MutexGuard};
 use lock_base::raw::Fault;
 use lock_guard::guard::{Locked, fmt_lock};
+use lock_guard::lock_std;
 use lock_guard::raw::{RawMutex, RawMutexTimed};
 use std::alloc::Global;
 use std::fmt::{Debug, Formatter};
@@ -115,13 +116,9 @@ impl<R: RawMutex, T> Mutex<R, T> {
         f(&mut value)
     }
 
-    /// The value, whose own lock is held. A raw lock that admits one at a time has left it free, and a try is shorter than a
-    /// wait.
+    /// The value, whose own lock is held.
     pub(crate) fn value_guard(&self) -> sync::MutexGuard<'_, T> {
-        match self.value.try_lock() {
-            Some(value) => value,
-            None => self.value.lock(self.raw.waiter()),
-        }
+        lock_std(&self.value, self.raw.waiter())
     }
 }
 

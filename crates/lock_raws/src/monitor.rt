@@ -9,6 +9,7 @@ use crate::unblocking;
 use crate::wake::Wake;
 use lock_base::machine::Mode;
 use lock_base::raw::Fault;
+use lock_guard::lock_std;
 use std::alloc::Global;
 use std::clone::Clone;
 use std::sync::atomic::{AtomicU64, Ordering};
@@ -41,12 +42,9 @@ impl<A: Arbiter, W: Wait + Clone + Drop> Monitor<A, W> {
         }
     }
 
-    /// The arbiter, whose lock is held. A call holds it for a moment, so it is mostly free, and a try is shorter than a wait.
+    /// The arbiter, whose lock is held. A call holds it for a moment.
     pub(crate) fn arbiter(&self) -> MutexGuard<'_, A> {
-        match self.arbiter.try_lock() {
-            Some(arbiter) => arbiter,
-            None => self.arbiter.lock(&self.waiter),
-        }
+        lock_std(&self.arbiter, &self.waiter)
     }
 
     /// Gives the arbiter up until something was changed. It may end with no change.

@@ -3,9 +3,10 @@ ghost use Rattle.lock_base.specs.Limits.{IsLimit, IsMakerFault};
 
 use lock_base::machine::PartyId;
 use lock_base::raw::{Fault, Levels};
+use lock_guard::lock_std;
 use lock_guard::raw::{RawMutex, RawMutexFair, RawMutexTimed};
 use std::alloc::Global;
-use std::sync::{Mutex, Wait};
+use std::sync::{Mutex, MutexGuard, Wait};
 
 /// A raw lock that the party that owns it may take again, up to a number of levels.
 ///
@@ -97,12 +98,17 @@ where
 
     /// Whether the party owns the lock, which may be old at once where others act for the party.
     pub fn is_owned_by_current_thread(&self, party: PartyId) -> bool {
-        self.levels.lock(self.raw.waiter()).level(party) > 0
+        self.levels().level(party) > 0
+    }
+
+    /// The levels, whose lock is held. A call holds it for a moment.
+    fn levels(&self) -> MutexGuard<'_, Levels<R::Guard>> {
+        lock_std(&self.levels, self.raw.waiter())
     }
 
     /// Whether any party owns the lock, which may be old at once.
     pub(crate) fn is_owned(&self) -> bool {
-        self.levels.lock(self.raw.waiter()).is_owned()
+        self.levels().is_owned()
     }
 
     /// One level more for the owner, and for others the first where the raw lock gives a token.
@@ -127,13 +133,13 @@ where
     fn again(&self, party: PartyId) -> Result<bool, Fault>
         ensures { IfErr result (λ fault. fault ≡ Fault.FullCount) }
     {
-        self.levels.lock(self.raw.waiter()).again(party)
+        self.levels().again(party)
     }
 
     /// The first level of the party, by this token. False where there is an owner, as only a raw lock that lies lets
     /// come about: the token is unlocked then.
     fn first(&self, party: PartyId, token: R::Guard) -> bool {
-        let back = self.levels.lock(self.raw.waiter()).first(party, token);
+        let back = self.levels().first(party, token);
         match back {
             Some(token) => {
                 self.raw.unlock(token);
@@ -147,7 +153,7 @@ where
     fn leave(&self, party: PartyId) -> Result<Option<R::Guard>, Fault>
         ensures { IfErr result (λ fault. fault ≡ Fault.Foreign) }
     {
-        self.levels.lock(self.raw.waiter()).leave(party)
+        self.levels().leave(party)
     }
 }
 
@@ -183,7 +189,7 @@ where
     fn leave_sole(&self, party: PartyId) -> Result<Option<R::Guard>, Fault>
         ensures { IfErr result (λ fault. fault ≡ Fault.Foreign) }
     {
-        self.levels.lock(self.raw.waiter()).leave_sole(party)
+        self.levels().leave_sole(party)
     }
 
     /// As `lock`, and tries again also where the party has all levels.
