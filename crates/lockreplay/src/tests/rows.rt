@@ -4,7 +4,7 @@ use lock_script::Which;
 use std::test::Fail;
 
 /// Scripts of calls of a lock.
-const DESK_ROWS: [(&str, &str); 39] = [
+const DESK_ROWS: [(&str, &str); 40] = [
     (
         "mutex 4 10 0 / lock 1 / try_lock 2 / lock 2",
         "ok / guard 1 / none / refused 1",
@@ -24,6 +24,10 @@ const DESK_ROWS: [(&str, &str); 39] = [
     (
         "mutex 4 0 0 / lock 1 / park 1 1 / lock 2 / resume 1 1 / unlock 1 1 / abandon 1 1 / abandon 1 1",
         "ok / guard 1 / ok / guard 2 / refused 1 / refused 3 / ok / refused 2",
+    ),
+    (
+        "mutex 4 0 0 / lock 1 / park 1 1 / lock 2 / into_arc 1 1 / abandon 2 2 / abandon 1 1 / into_arc_fair 2 2 / try_lock 1 / try_lock_for 2 / park_fair 1 3 / try_lock_until 2 / bump 2 4",
+        "ok / guard 1 / ok / guard 2 / refused 3 / refused 4 / ok / ok / guard 3 / none / ok / guard 4 / ok",
     ),
     (
         "mutex 1 0 0 / lock 1 / park 1 1 / try_lock 2",
