@@ -196,10 +196,9 @@ where
     let mut sum: u64 = 0;
     for _ in 0..rounds {
         if let Ok(outer) = lock.lock(party) {
-            if let Ok(inner) = lock.lock(party) {
-                sum = sum.wrapping_add(*inner);
-            }
-            sum = sum.wrapping_add(*outer);
+            sum = sum
+                .wrapping_add(one_level(lock, party, 1))
+                .wrapping_add(*outer);
         }
     }
     sum
@@ -207,34 +206,14 @@ where
 
 /// Whose turn it is, and where the other waits for it.
 #[derive(Drop)]
-struct Turns<R: RawMutex> {
+struct Turns<R> {
     turn: Mutex<R, u64>,
     changed: Condvar<SleepingCondvar<R>>,
 }
 
-/// What two threads take turns with.
-trait TakeTurns: Sized {
-    /// Where a thread waits.
-    type Waiter: Wait;
-
-    /// Before the first turn.
-    fn new(alloc: Global, waiter: Self::Waiter) -> Result<Self, Fault>;
-
+impl<R: RawMutex> Turns<R> {
     /// Waits for each turn that is `first` or every second after it, and ends it.
-    fn take_turns(&self, first: u64, rounds: u64);
-}
-
-impl<R: RawMutex + Drop> TakeTurns for Turns<R> {
-    type Waiter = R::Waiter;
-
-    fn new(alloc: Global, waiter: R::Waiter) -> Result<Turns<R>, Fault> {
-        Ok(Turns {
-            turn: Mutex::new(alloc, waiter, 0)?,
-            changed: Condvar::new(alloc)?,
-        })
-    }
-
-    fn take_turns(&self, first: u64, rounds: u64) {
+    fn take_from(&self, first: u64, rounds: u64) {
         for _ in 0..rounds {
             let mut turn = self.turn.lock();
             self.changed
@@ -246,16 +225,49 @@ impl<R: RawMutex + Drop> TakeTurns for Turns<R> {
     }
 }
 
-fn in_two_threads<R: Threads, T: TakeTurns + Sync>(rt: &R, turns: &T, rounds: u64) {
+/// Turns over a raw lock that only their maker names.
+trait TakeTurns: Sized {
+    /// Where a thread waits.
+    type Waiter: Wait;
+
+    /// Before the first turn.
+    fn new(alloc: Global, waiter: Self::Waiter) -> Result<Self, Fault>;
+
+    /// Takes every second turn from this one on.
+    fn take_turns(&self, first: u64, rounds: u64);
+
+    /// Drops it: a bound `Drop` would have all of the raw lock proved twice.
+    fn end(self);
+}
+
+impl<C: LockCore> TakeTurns for Turns<RawLock<C>> {
+    type Waiter = C::Waiter;
+
+    fn new(alloc: Global, waiter: C::Waiter) -> Result<Turns<RawLock<C>>, Fault> {
+        Ok(Turns {
+            turn: Mutex::new(alloc, waiter, 0)?,
+            changed: Condvar::new(alloc)?,
+        })
+    }
+
+    fn take_turns(&self, first: u64, rounds: u64) {
+        self.take_from(first, rounds);
+    }
+
+    fn end(self) {}
+}
+
+fn in_two_threads<R: Threads, T: TakeTurns + Sync>(rt: &R, turns: T, rounds: u64) {
     thread::join(
         rt,
         || turns.take_turns(0, rounds),
         || turns.take_turns(1, rounds),
     );
+    turns.end();
 }
 
 /// The line of a condition variable.
-fn trips<R: Print + Clock + Wait + Threads + Sync + Copy, T: TakeTurns<Waiter = R> + Sync + Drop>(
+fn trips<R: Print + Clock + Wait + Threads + Sync + Copy, T: TakeTurns<Waiter = R> + Sync>(
     rt: &R,
     alloc: Global,
     name: &str,
@@ -264,7 +276,13 @@ fn trips<R: Print + Clock + Wait + Threads + Sync + Copy, T: TakeTurns<Waiter = 
     let Ok(turns) = T::new(alloc, *rt) else {
         return println!(rt; "{name}: out of memory");
     };
-    let start = Instant::now(rt)?;
-    in_two_threads(rt, &turns, rounds);
-    line(rt, name, "a round trip over SleepingCondvar", start, rounds)
+    let start = Instant::now(rt);
+    in_two_threads(rt, turns, rounds);
+    line(
+        rt,
+        name,
+        "a round trip over SleepingCondvar",
+        start?,
+        rounds,
+    )
 }

@@ -2,7 +2,7 @@
 use lock_base::raw::Fault;
 use lock_guard::raw::RawMutex;
 use lock_mutex::{Condvar, Mutex};
-use lock_raws::{RecordingRaw, TokenRaw};
+use lock_raws::{LockCore, RawLock, RecordingRaw, TokenRaw};
 use lock_raws_timed::TimedRaw;
 use lock_raws_word::{SleepingCondvar, WordRaw};
 use std::alloc::Global;
@@ -13,42 +13,13 @@ use std::time::{Clock, CpuClock, Duration};
 
 /// A flag that is put up under a mutex after a while, and where others wait for it.
 #[derive(Drop)]
-struct Flag<R: RawMutex> {
+struct Flag<R> {
     is_up: Mutex<R, bool>,
     raised: Condvar<SleepingCondvar<R>>,
 }
 
-/// What one thread holds for a while, and another waits for.
-trait Held: Sized {
-    /// Where a thread waits.
-    type Waiter: Wait;
-
-    /// With the flag down.
-    fn new(alloc: Global, waiter: Self::Waiter) -> Result<Self, Fault>;
-
+impl<R: RawMutex> Flag<R> {
     /// Holds the lock so long.
-    fn hold<K: Clock>(&self, clock: &K, millis: u64);
-
-    /// Waits for the lock.
-    fn wait_for_lock(&self);
-
-    /// Raises the flag after so long.
-    fn raise<K: Clock>(&self, clock: &K, millis: u64);
-
-    /// Waits for the flag.
-    fn wait_for_flag(&self);
-}
-
-impl<R: RawMutex + Drop> Held for Flag<R> {
-    type Waiter = R::Waiter;
-
-    fn new(alloc: Global, waiter: R::Waiter) -> Result<Flag<R>, Fault> {
-        Ok(Flag {
-            is_up: Mutex::new(alloc, waiter, false)?,
-            raised: Condvar::new(alloc)?,
-        })
-    }
-
     fn hold<K: Clock>(&self, clock: &K, millis: u64) {
         let mut is_up = self.is_up.lock();
         clock.sleep(Duration::from_millis(millis));
@@ -60,6 +31,7 @@ impl<R: RawMutex + Drop> Held for Flag<R> {
         *is_up = false;
     }
 
+    /// Raises the flag after so long.
     fn raise<K: Clock>(&self, clock: &K, millis: u64) {
         clock.sleep(Duration::from_millis(millis));
         let mut is_up = self.is_up.lock();
@@ -74,18 +46,57 @@ impl<R: RawMutex + Drop> Held for Flag<R> {
     }
 }
 
-/// The processor microseconds of a wait for the lock, which the other thread has by then.
-fn cost_of_lock<K: Clock + CpuClock, H: Held>(clock: &K, held: &H, millis: u64) -> u128 {
-    clock.sleep(Duration::from_millis(millis / 10));
-    let before = clock.thread_cpu_time();
-    held.wait_for_lock();
-    used(before.ok(), clock.thread_cpu_time().ok())
+/// What a thread does with a flag.
+#[derive(Drop)]
+enum Act {
+    Hold,
+    WaitForLock,
+    Raise,
+    WaitForFlag,
 }
 
-/// The processor microseconds of a wait for the flag.
-fn cost_of_flag<K: CpuClock, H: Held>(clock: &K, held: &H) -> u128 {
+/// A flag over a raw lock that only its maker names.
+trait Held: Sized {
+    /// Where a thread waits.
+    type Waiter: Wait;
+
+    /// With the flag down.
+    fn new(alloc: Global, waiter: Self::Waiter) -> Result<Self, Fault>;
+
+    /// Holds the lock or keeps the flag down for so long, or waits for it.
+    fn act<K: Clock>(&self, clock: &K, act: Act, millis: u64);
+
+    /// Drops it: a bound `Drop` would have all of the raw lock proved twice.
+    fn end(self);
+}
+
+impl<C: LockCore> Held for Flag<RawLock<C>> {
+    type Waiter = C::Waiter;
+
+    fn new(alloc: Global, waiter: C::Waiter) -> Result<Flag<RawLock<C>>, Fault> {
+        Ok(Flag {
+            is_up: Mutex::new(alloc, waiter, false)?,
+            raised: Condvar::new(alloc)?,
+        })
+    }
+
+    fn act<K: Clock>(&self, clock: &K, act: Act, millis: u64) {
+        match act {
+            Act::Hold => self.hold(clock, millis),
+            Act::WaitForLock => self.wait_for_lock(),
+            Act::Raise => self.raise(clock, millis),
+            Act::WaitForFlag => self.wait_for_flag(),
+        }
+    }
+
+    fn end(self) {}
+}
+
+/// The processor microseconds of a wait that begins once the other thread has begun.
+fn cost<K: Clock + CpuClock, H: Held>(clock: &K, held: &H, wait: Act, millis: u64) -> u128 {
+    clock.sleep(Duration::from_millis(millis / 10));
     let before = clock.thread_cpu_time();
-    held.wait_for_flag();
+    held.act(clock, wait, millis);
     used(before.ok(), clock.thread_cpu_time().ok())
 }
 
@@ -96,37 +107,35 @@ fn used(before: Option<Duration>, after: Option<Duration>) -> u128 {
     }
 }
 
-fn hold_and_wait<R: Threads + Sync + Clock + CpuClock, H: Held + Sync>(
+/// The cost of a wait, while another thread does what ends it.
+fn cost_beside<R: Threads + Sync + Clock + CpuClock, H: Held + Sync>(
     rt: &R,
     held: &H,
+    wait: Act,
+    other: Act,
     millis: u64,
 ) -> u128 {
     thread::join(
         rt,
-        || cost_of_lock(rt, held, millis),
-        || held.hold(rt, millis),
+        || cost(rt, held, wait, millis),
+        || held.act(rt, other, millis),
     )
     .0
 }
 
-fn raise_and_wait<R: Threads + Sync + Clock + CpuClock, H: Held + Sync>(
-    rt: &R,
-    held: &H,
-    millis: u64,
-) -> u128 {
-    thread::join(rt, || cost_of_flag(rt, held), || held.raise(rt, millis)).0
-}
-
 /// The line of one raw lock.
-fn over<
-    R: Print + Wait + Threads + Sync + Clock + CpuClock + Copy,
-    H: Held<Waiter = R> + Sync + Drop,
->(rt: &R, alloc: Global, name: &str, millis: u64) -> io::Result<()> {
+fn over<R: Print + Wait + Threads + Sync + Clock + CpuClock + Copy, H: Held<Waiter = R> + Sync>(
+    rt: &R,
+    alloc: Global,
+    name: &str,
+    millis: u64,
+) -> io::Result<()> {
     let Ok(flag) = H::new(alloc, *rt) else {
         return println!(rt; "{name}: out of memory");
     };
-    let lock = hold_and_wait(rt, &flag, millis);
-    let condvar = raise_and_wait(rt, &flag, millis);
+    let lock = cost_beside(rt, &flag, Act::WaitForLock, Act::Hold, millis);
+    let condvar = cost_beside(rt, &flag, Act::WaitForFlag, Act::Raise, millis);
+    flag.end();
     println!(rt;
         "{name}, a wait of about {millis} ms: {lock} us of processor for the lock, {condvar} over SleepingCondvar"
     )
