@@ -1,4 +1,4 @@
-//! Rounds of locks on one thread.
+//! Rounds of locks on one thread. Loops that a Rust program has too are not inlined, so that each is compiled by itself.
 use lock_base::machine::PartyId;
 use lock_base::raw::Fault;
 use lock_guard::raw::{RawMutex, RawRwLock, RawRwLockUpgradeDowngrade};
@@ -128,6 +128,7 @@ pub fn line<R: Print + Clock>(
     println!(rt; "{name}, {what}: {}.{} ns", tenths / 10, tenths % 10)
 }
 
+#[inline(never)]
 fn lock_mutex<R: RawMutex>(mutex: &Mutex<R, u64>, rounds: u64) {
     for _ in 0..rounds {
         let mut count = mutex.lock();
@@ -135,12 +136,14 @@ fn lock_mutex<R: RawMutex>(mutex: &Mutex<R, u64>, rounds: u64) {
     }
 }
 
+#[inline(never)]
 fn lock_raw<R: RawMutex>(raw: &R, rounds: u64) {
     for _ in 0..rounds {
         raw.unlock(raw.lock());
     }
 }
 
+#[inline(never)]
 fn read<R: RawRwLock>(lock: &RwLock<R, u64>, rounds: u64) -> u64 {
     let mut sum: u64 = 0;
     for _ in 0..rounds {
@@ -149,6 +152,7 @@ fn read<R: RawRwLock>(lock: &RwLock<R, u64>, rounds: u64) -> u64 {
     sum
 }
 
+#[inline(never)]
 fn write<R: RawRwLock>(lock: &RwLock<R, u64>, rounds: u64) {
     for _ in 0..rounds {
         let mut count = lock.write();
@@ -156,6 +160,7 @@ fn write<R: RawRwLock>(lock: &RwLock<R, u64>, rounds: u64) {
     }
 }
 
+#[inline(never)]
 fn walk<R: RawRwLockUpgradeDowngrade>(lock: &RwLock<R, u64>, rounds: u64) -> u64 {
     let mut sum: u64 = 0;
     for _ in 0..rounds {

@@ -5,6 +5,12 @@ use std::sync::{Mutex, MutexGuard, Wait};
 pub fn lock_std<'a, W: Wait, T>(lock: &'a Mutex<T>, waiter: &W) -> MutexGuard<'a, T> {
     match lock.try_lock() {
         Some(value) => value,
-        None => lock.lock(waiter),
+        None => wait_for_std(lock, waiter),
     }
+}
+
+/// Not inlined, so that who need not wait makes no call.
+#[inline(never)]
+fn wait_for_std<'a, W: Wait, T>(lock: &'a Mutex<T>, waiter: &W) -> MutexGuard<'a, T> {
+    lock.lock(waiter)
 }

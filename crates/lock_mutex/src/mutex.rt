@@ -80,6 +80,7 @@ impl<R: RawMutex, T> Mutex<R, T> {
     }
 
     /// Waits until the raw lock admits.
+    #[inline(always)]
     pub fn lock(&self) -> MutexGuard<'_, R, T>
         ensures { IsGuardOf self.entry result }
     {

@@ -138,7 +138,7 @@ impl<R: RawRwLock, T> RwLock<R, T> {
     pub(crate) fn value_to_read(&self) -> sync::RwLockReadGuard<'_, T> {
         match self.value.try_read() {
             Some(value) => value,
-            None => self.value.read(self.raw.waiter()),
+            None => self.wait_to_read(),
         }
     }
 
@@ -146,8 +146,20 @@ impl<R: RawRwLock, T> RwLock<R, T> {
     pub(crate) fn value_to_write(&self) -> sync::RwLockWriteGuard<'_, T> {
         match self.value.try_write() {
             Some(value) => value,
-            None => self.value.write(self.raw.waiter()),
+            None => self.wait_to_write(),
         }
+    }
+
+    /// Not inlined, so that who need not wait makes no call.
+    #[inline(never)]
+    fn wait_to_read(&self) -> sync::RwLockReadGuard<'_, T> {
+        self.value.read(self.raw.waiter())
+    }
+
+    /// The same, of one who writes.
+    #[inline(never)]
+    fn wait_to_write(&self) -> sync::RwLockWriteGuard<'_, T> {
+        self.value.write(self.raw.waiter())
     }
 }
 
