@@ -1,13 +1,12 @@
 //! A recording lock behind guards.
 use lock_base::machine::{Mode, ModeStep};
 use lock_base::raw::Fault;
-use lock_guard::raw::RawRwLockDowngrade;
-use lock_raws::RecordingRaw;
+use lock_raws::{LockCore, RawLock, RecordingRaw};
 use lock_rwlock::{RwLock, RwLockWriteGuard};
 use std::test::Fail;
 
 /// The raw lock, after a writer that becomes a reader and ends.
-fn written<R: RawRwLockDowngrade + Drop>(raw: R) -> Result<R, Fault> {
+fn written<C: LockCore>(raw: RawLock<C>) -> Result<RawLock<C>, Fault> {
     let lock = RwLock::from_raw(raw, 5_u64)?;
     drop(RwLockWriteGuard::downgrade(lock.write()));
     Ok(lock.into_inner_with_raw().0)
