@@ -281,6 +281,7 @@ fn trips<R: Print + Clock + Wait + Threads + Sync + Copy, T: TakeTurns<Waiter = 
     let Ok(turns) = T::new(alloc, *rt) else {
         return println!(rt; "{name}: out of memory");
     };
+    // its fault is told once the turns are ended, since nothing else drops them
     let start = Instant::now(rt);
     in_two_threads(rt, turns, rounds);
     line(

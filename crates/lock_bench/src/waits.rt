@@ -63,7 +63,7 @@ trait Held: Sized {
     /// With the flag down.
     fn new(alloc: Global, waiter: Self::Waiter) -> Result<Self, Fault>;
 
-    /// Holds the lock or keeps the flag down for so long, or waits for it.
+    /// Holds the lock for so long, raises the flag after so long, or waits for either.
     fn act<K: Clock>(&self, clock: &K, act: Act, millis: u64);
 
     /// Drops it: a bound `Drop` would have all of the raw lock proved twice.
