@@ -10,6 +10,3 @@ pub use account::Entry;
 pub use calls::{deposit_under_lock, run_new};
 pub use journal::{audit, audit_lock};
 pub use scenario::{Answers, two_ask};
-
-#[cfg(test)]
-mod tests;

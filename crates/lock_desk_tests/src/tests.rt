@@ -1,6 +1,7 @@
 //! Sessions over a table of tokens and over a packed word.
 mod by_name;
 mod counted_state;
+mod laws;
 mod maker;
 mod mutex;
 mod operations;

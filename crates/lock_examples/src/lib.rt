@@ -10,9 +10,6 @@ mod spin_lock;
 
 pub use pool::{Lease, Pool};
 pub use queue::Queue;
-pub use registry::{Entry, EntryGuard, Registry};
+pub use registry::{Entry, EntryGuard, Registry, read_twice};
 pub use ring::Ring;
 pub use spin_lock::{SpinLock, SpinReader, SpinWriter};
-
-#[cfg(test)]
-mod tests;

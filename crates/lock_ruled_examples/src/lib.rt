@@ -4,8 +4,6 @@
 mod bank;
 mod counter;
 mod queue;
-#[cfg(test)]
-mod tests;
 
 pub use bank::{Accounts, SumStays, Way, shuffle};
 pub use counter::{AddedUp, AddsOne, Counter, Sums, count, try_add};

@@ -1,4 +1,5 @@
 mod refused_memory;
 mod seated;
+mod table;
 mod threads;
 mod world;

@@ -150,6 +150,7 @@ where
     drop(ArcReentrantMutexGuard::unlocked_fair(inner, || lock.is_locked()));
     drop(ArcReentrantMutexGuard::into_arc(ReentrantMutex::lock_arc(lock, owner)?));
     drop(ArcReentrantMutexGuard::into_arc_fair(ReentrantMutex::lock_arc(lock, owner)?));
+    ArcReentrantMutexGuard::unlock_fair(ReentrantMutex::lock_arc(lock, owner)?);
     watch.saw(&[Lock(Exclusive), IsLocked, IsLocked]);
     drop(outer);
     watch.saw(&[Unlock(Exclusive)]);

@@ -1,9 +1,7 @@
-//! The programs run, and give what their contracts say.
-mod sleeper;
+//! The programs under a rule run, and give what their contracts say.
 
-use crate::counter::{AddsOne, Counter, Sums, try_add};
-use crate::{Accounts, count, relay, shuffle};
 use lock_api::Fault;
+use lock_ruled_examples::{Accounts, AddsOne, Counter, Sums, count, relay, shuffle, try_add};
 use std::test::Fail;
 
 #[test]

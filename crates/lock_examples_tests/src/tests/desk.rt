@@ -1,6 +1,8 @@
-//! What no clause says: that the calls succeed with ample memory.
-use super::*;
-use lock_api::{Bag, Mode, ModeStep, Mutex, PackedWord, PartyId, RecordingRaw, Reply, TokenTable};
+//! The examples of a `Desk` and of a journal: that the calls succeed with ample memory.
+use desk_examples::{audit, audit_lock, deposit_under_lock, two_ask};
+use lock_api::{
+    Bag, Mode, ModeStep, Mutex, PackedWord, PartyId, RawMutex, RecordingRaw, Reply, TokenTable,
+};
 use std::test::Fail;
 
 fn party(id: u64) -> Result<PartyId, Fail> {
@@ -21,11 +23,16 @@ fn a_deposit_is_replied_to(rt: HostRuntime) -> Result<(), Fail> {
     Ok(())
 }
 
+/// What is left of a mutex under which 5 was written.
+fn written<R: RawMutex>(mutex: Mutex<R, u64>) -> (R, u64) {
+    *mutex.lock() = 5;
+    mutex.into_inner_with_raw()
+}
+
 #[test]
 fn a_journal_is_audited(rt: HostRuntime) -> Result<(), Fail> {
     let mutex: Mutex<RecordingRaw<HostRuntime>, u64> = Mutex::new(rt.alloc(), rt, 0)?;
-    *mutex.lock() = 5;
-    let (raw, value) = mutex.into_inner_with_raw();
+    let (raw, value) = written(mutex);
     assert_eq!(rt; value, 5);
     assert_eq!(rt; audit_lock(rt.alloc(), &raw)?, Ok(Bag::empty()));
     let twice = [

@@ -1,7 +1,7 @@
 //! The raw lock that spins, under both locks.
-use crate::SpinLock;
 use crate::tests::in_threads::{Counts, twice};
 use lock_api::{Mutex, RawMutex, RawRwLock, RwLock};
+use lock_examples::SpinLock;
 use std::test::Fail;
 
 type Spin = SpinLock<HostRuntime>;

@@ -1,7 +1,7 @@
 //! A pool that lends, and takes back.
-use crate::Pool;
 use crate::tests::in_threads::{Counts, twice};
 use lock_api::{ArcMutexGuard, Fault, RawMutex, WordRaw};
+use lock_examples::Pool;
 use std::alloc::Global;
 use std::test::Fail;
 

@@ -1,7 +1,9 @@
-//! What no clause says: what the types answer when threads use them.
+mod desk;
 mod first_lock;
 mod in_threads;
 mod pool;
 mod queue;
 mod registry;
+mod ruled;
+mod sleeper;
 mod spin_lock;

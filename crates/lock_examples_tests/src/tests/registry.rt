@@ -1,8 +1,7 @@
 //! A registry that two threads fill.
-use crate::Registry;
-use crate::registry::read_twice;
 use crate::tests::in_threads::{Counts, twice};
 use lock_api::{MappedRwLockReadGuard, RawRwLock, RawRwLockUpgrade, WordRaw};
+use lock_examples::{Registry, read_twice};
 use std::alloc::AllocFailed;
 use std::test::Fail;
 
