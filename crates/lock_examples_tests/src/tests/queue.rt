@@ -1,8 +1,5 @@
 //! Producers and consumers on threads.
-use lock_api::{
-    RawCondvar, RawCondvarTimed, RawMutex, RawMutexTimed, SleepingCondvar, SpuriousCondvar,
-    TokenRaw, WordRaw,
-};
+use lock_api::{RawCondvar, RawMutex, SleepingCondvar, SpuriousCondvar, TokenRaw, WordRaw};
 use lock_examples::Queue;
 use std::alloc::{AllocError, Global};
 use std::sync::Wait;
@@ -83,30 +80,17 @@ fn each_item_arrives_once(rt: HostRuntime) -> Result<(), Fail> {
     Ok(())
 }
 
-/// What pushes answer beside one item on two places, two that try and a timed one, and one more once an item was popped; that
-/// item; and those that are left, with None behind them.
-type Answers = ([Result<(), u64>; 4], u64, [Option<u64>; 3]);
-
-fn fill_and_empty<C: RawCondvarTimed>(queue: &Queue<C, u64>) -> Answers
-where
-    C::RawMutex: RawMutexTimed<Duration = ()>,
-{
-    queue.push(1);
-    let pushed = [queue.try_push(2), queue.try_push(3), queue.push_for(4, ())];
-    let first = queue.pop();
-    let last_pushed = queue.push_for(5, ());
-    let left = [queue.try_pop(), queue.try_pop(), queue.try_pop()];
-    ([pushed[0], pushed[1], pushed[2], last_pushed], first, left)
-}
-
 #[test]
 fn a_full_queue_gives_the_item_back(rt: HostRuntime) -> Result<(), Fail> {
     let queue: Queue<SpuriousCondvar<TokenRaw<HostRuntime>>, u64> = Queue::new(rt.alloc(), rt, 2)?;
-    let wanted = (
-        [Ok(()), Err(3), Err(4), Ok(())],
-        1,
-        [Some(2), Some(5), None],
-    );
-    assert_eq!(rt; fill_and_empty(&queue), wanted);
+    queue.push(1);
+    assert_eq!(rt; queue.try_push(2), Ok(()));
+    assert_eq!(rt; queue.try_push(3), Err(3));
+    assert_eq!(rt; queue.push_for(4, ()), Err(4));
+    assert_eq!(rt; queue.pop(), 1);
+    assert_eq!(rt; queue.push_for(5, ()), Ok(()));
+    assert_eq!(rt; queue.try_pop(), Some(2));
+    assert_eq!(rt; queue.try_pop(), Some(5));
+    assert_eq!(rt; queue.try_pop(), None);
     Ok(())
 }
