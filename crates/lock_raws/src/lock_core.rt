@@ -38,10 +38,10 @@ pub trait LockCore: Sized + Drop {
     /// Whether an exclusive token is out, which may be old at once.
     fn is_locked_exclusive(&self) -> bool;
 
-    /// Waits until the mode is admitted.
+    /// Waits until the mode is admitted. A raw lock tries first.
     fn acquire(&self, mode: Mode) -> Self::Token;
 
-    /// Waits until an exclusive token is admitted. While it waits it may keep out all that come later.
+    /// Waits until an exclusive token is admitted. While it waits it may keep out all that come later. A raw lock tries first.
     fn acquire_announced(&self) -> Self::Token {
         self.acquire(Mode::Exclusive)
     }
@@ -54,7 +54,7 @@ pub trait LockCore: Sized + Drop {
 
     fn release(&self, token: Self::Token, mode: Mode);
 
-    /// The exclusive token for the upgradable one. It waits until no other is out.
+    /// The exclusive token for the upgradable one. It waits until no other is out. A raw lock tries first.
     fn upgrade(&self, token: Self::Token) -> Self::Token;
 
     /// The same token back where `upgrade` would wait.

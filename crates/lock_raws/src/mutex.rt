@@ -22,9 +22,11 @@ impl<C: LockCore> RawMutex for RawLock<C> {
     }
 
     fn lock(&self) -> ExclusiveToken<C::Token> {
-        ExclusiveToken {
-            token: self.core.acquire(Mode::Exclusive),
-        }
+        let token = match self.core.try_acquire(Mode::Exclusive) {
+            Some(token) => token,
+            None => self.core.acquire(Mode::Exclusive),
+        };
+        ExclusiveToken { token }
     }
 
     fn try_lock(&self) -> Option<ExclusiveToken<C::Token>> {

@@ -29,9 +29,11 @@ impl<C: LockCore> RawRwLock for RawLock<C> {
     }
 
     fn lock_shared(&self) -> SharedToken<C::Token> {
-        SharedToken {
-            token: self.core.acquire(Mode::Shared),
-        }
+        let token = match self.core.try_acquire(Mode::Shared) {
+            Some(token) => token,
+            None => self.core.acquire(Mode::Shared),
+        };
+        SharedToken { token }
     }
 
     fn try_lock_shared(&self) -> Option<SharedToken<C::Token>> {
@@ -45,9 +47,11 @@ impl<C: LockCore> RawRwLock for RawLock<C> {
 
     /// While it waits it may keep out all that come later.
     fn lock_exclusive(&self) -> ExclusiveToken<C::Token> {
-        ExclusiveToken {
-            token: self.core.acquire_announced(),
-        }
+        let token = match self.core.try_acquire(Mode::Exclusive) {
+            Some(token) => token,
+            None => self.core.acquire_announced(),
+        };
+        ExclusiveToken { token }
     }
 
     fn try_lock_exclusive(&self) -> Option<ExclusiveToken<C::Token>> {
@@ -117,9 +121,11 @@ impl<C: LockCore> RawRwLockUpgrade for RawLock<C> {
     type UpgradableGuard = UpgradableToken<C::Token>;
 
     fn lock_upgradable(&self) -> UpgradableToken<C::Token> {
-        UpgradableToken {
-            token: self.core.acquire(Mode::Upgradable),
-        }
+        let token = match self.core.try_acquire(Mode::Upgradable) {
+            Some(token) => token,
+            None => self.core.acquire(Mode::Upgradable),
+        };
+        UpgradableToken { token }
     }
 
     fn try_lock_upgradable(&self) -> Option<UpgradableToken<C::Token>> {
@@ -132,9 +138,11 @@ impl<C: LockCore> RawRwLockUpgrade for RawLock<C> {
     }
 
     fn upgrade(&self, token: UpgradableToken<C::Token>) -> ExclusiveToken<C::Token> {
-        ExclusiveToken {
-            token: self.core.upgrade(token.token),
-        }
+        let token = match self.core.try_upgrade(token.token) {
+            Ok(token) => token,
+            Err(token) => self.core.upgrade(token),
+        };
+        ExclusiveToken { token }
     }
 
     fn try_upgrade(

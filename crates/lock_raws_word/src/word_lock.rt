@@ -61,21 +61,6 @@ impl WordLock {
         }
     }
 
-    /// Waits until the word admits it.
-    pub fn wait_for<W: Wait>(&self, waiter: &W, want: ExWant) {
-        if !self.try_for(want) {
-            self.wait_on(waiter, want);
-        }
-    }
-
-    /// Waits until the word admits an exclusive token. Who has to sleep announces itself, where no bar stands, and keeps
-    /// out all that come later. Its bar ends as it gets in.
-    pub fn wait_announced<W: Wait>(&self, waiter: &W) {
-        if !self.try_for(ExWant::Exclusive) {
-            self.wait_on_announced(waiter);
-        }
-    }
-
     /// Tries a few times, longer and longer apart.
     pub fn try_again(&self, want: ExWant) -> bool {
         let backoff = Backoff::new();
@@ -99,13 +84,14 @@ impl WordLock {
         let less = down.amount();
         let before = self.word.fetch_sub(less, Ordering::SeqCst);
         if self.freed.any() {
-            self.wake(before, before.wrapping_sub(less));
+            self.wake(before, less);
         }
     }
 
+    #[cold]
     #[inline(never)]
-    fn wake(&self, before: u64, after: u64) {
-        match whom(self.readers, before, after) {
+    fn wake(&self, before: u64, less: u64) {
+        match whom(self.readers, before, before.wrapping_sub(less)) {
             Wake::Nobody => {}
             Wake::One => self.freed.notify_one(),
             Wake::All => self.freed.notify_all(),
@@ -144,9 +130,11 @@ impl WordLock {
         self.insist(waiter, true, ExWant::Exclusive)
     }
 
-    /// Tries again, and then sleeps between tries. Not inlined, so that an acquisition that need not wait is short.
+    /// Waits until the word admits it: tries again, and then sleeps between tries. Apart from the way of
+    /// those that need not wait.
+    #[cold]
     #[inline(never)]
-    fn wait_on<W: Wait>(&self, waiter: &W, want: ExWant) {
+    pub fn wait_for<W: Wait>(&self, waiter: &W, want: ExWant) {
         if self.try_again(want) {
             return;
         }
@@ -161,9 +149,11 @@ impl WordLock {
         unreachable!()
     }
 
-    /// `wait_on` an exclusive token, where it sleeps under a bar of its own or another's.
+    /// Waits until the word admits an exclusive token. Who has to sleep announces itself, where no bar stands, and keeps
+    /// out all that come later. Its bar ends as it gets in.
+    #[cold]
     #[inline(never)]
-    fn wait_on_announced<W: Wait>(&self, waiter: &W) {
+    pub fn wait_announced<W: Wait>(&self, waiter: &W) {
         if self.try_again(ExWant::Exclusive) {
             return;
         }
