@@ -27,8 +27,15 @@ impl<'a, R: RawMutex, T> Acquire for BorrowedMutex<'a, R, T> {
         self.mutex.raw.lock()
     }
 
+    fn try_show(&self) -> Option<sync::MutexGuard<'a, T>> {
+        self.mutex.value.try_lock()
+    }
+
+    /// Apart from the way of those that need not wait.
+    #[cold]
+    #[inline(never)]
     fn show(&self) -> sync::MutexGuard<'a, T> {
-        self.mutex.value_guard()
+        self.mutex.value.lock(self.mutex.raw.waiter())
     }
 }
 

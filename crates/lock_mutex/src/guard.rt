@@ -24,14 +24,6 @@ pub type MutexGuard<'a, R, T> = Guard<BorrowedMutex<'a, R, T>>;
 impl<'a, R: RawMutex, T> Guard<BorrowedMutex<'a, R, T>> {
     ghost use Rattle.lock_mutex.specs.MutexGuard.{IsGuardOf};
 
-    pub(crate) fn new(mutex: &'a Mutex<R, T>, token: R::Guard) -> MutexGuard<'a, R, T>
-        ensures { IsGuardOf mutex.entry result }
-    {
-        Guard {
-            held: Held::new(BorrowedMutex { mutex }, token),
-        }
-    }
-
     /// The mutex that the guard was made of.
     pub fn mutex(guard: &MutexGuard<'a, R, T>) -> &'a Mutex<R, T>
         ensures { IsGuardOf result guard.now }

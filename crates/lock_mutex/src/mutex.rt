@@ -2,11 +2,12 @@
 ghost use Rattle.std.specs.Prelude.{◌≡◌, IfSome, IsOkAnd, IsOkUnless};
 ghost use Rattle.lock_guard.specs.Closure.{ReadsSomeValue, AnswersSomeValue};
 
+use crate::borrowed::BorrowedMutex;
 use crate::{Guard, MutexGuard};
 use lock_base::raw::Fault;
 use lock_guard::guard::{Locked, fmt_lock};
-use lock_guard::lock_std;
 use lock_guard::raw::{RawMutex, RawMutexTimed};
+use lock_guard::{held, lock_std};
 use std::alloc::Global;
 use std::fmt::{Debug, Formatter};
 use std::{fmt, sync};
@@ -84,14 +85,18 @@ impl<R: RawMutex, T> Mutex<R, T> {
     pub fn lock(&self) -> MutexGuard<'_, R, T>
         ensures { IsGuardOf self.entry result }
     {
-        Guard::new(self, self.raw.lock())
+        Guard {
+            held: held!(BorrowedMutex { mutex: self }, self.raw.lock()),
+        }
     }
 
     /// None where the raw lock refuses.
     pub fn try_lock(&self) -> Option<MutexGuard<'_, R, T>>
         ensures { IfSome result (IsGuardOf self.entry) }
     {
-        Some(Guard::new(self, self.raw.try_lock()?))
+        Some(Guard {
+            held: held!(BorrowedMutex { mutex: self }, self.raw.try_lock()?),
+        })
     }
 
     /// What the raw lock answers, which may be old at once.
@@ -130,14 +135,24 @@ impl<R: RawMutexTimed, T> Mutex<R, T> {
     pub fn try_lock_for(&self, timeout: R::Duration) -> Option<MutexGuard<'_, R, T>>
         ensures { IfSome result (IsGuardOf self.entry) }
     {
-        Some(Guard::new(self, self.raw.try_lock_for(timeout)?))
+        Some(Guard {
+            held: held!(
+                BorrowedMutex { mutex: self },
+                self.raw.try_lock_for(timeout)?
+            ),
+        })
     }
 
     /// None where the raw lock refuses until then.
     pub fn try_lock_until(&self, deadline: R::Instant) -> Option<MutexGuard<'_, R, T>>
         ensures { IfSome result (IsGuardOf self.entry) }
     {
-        Some(Guard::new(self, self.raw.try_lock_until(deadline)?))
+        Some(Guard {
+            held: held!(
+                BorrowedMutex { mutex: self },
+                self.raw.try_lock_until(deadline)?
+            ),
+        })
     }
 }
 

@@ -28,6 +28,10 @@ impl<R: RawMutex + Drop, T: Drop> Acquire for OwnedMutex<R, T> {
         self.mutex.raw.lock()
     }
 
+    fn try_show(&self) -> Option<()> {
+        Some(())
+    }
+
     fn show(&self) {}
 }
 

@@ -2,9 +2,11 @@
 ghost use Rattle.std.specs.Prelude.{◌≡◌, ◌↔◌, IfSome, IfOk, IfErr, IsOkAnd, IsOkUnless};
 ghost use Rattle.lock_base.specs.Limits.{IsLimit, IsMakerFault};
 
-use crate::guard::{RwLockReadGuard, RwLockUpgradableReadGuard, RwLockWriteGuard};
+use crate::guard::{RwLockGuard, RwLockReadGuard, RwLockUpgradableReadGuard, RwLockWriteGuard};
+use crate::mode::InMode;
 use lock_base::raw::{DEFAULT_READERS, Fault};
 use lock_guard::guard::{Locked, fmt_lock};
+use lock_guard::held;
 use lock_guard::raw::{RawRwLock, RawRwLockTimed, RawRwLockUpgrade, RawRwLockUpgradeTimed};
 use std::alloc::Global;
 use std::{fmt, sync};
@@ -109,57 +111,36 @@ impl<R: RawRwLock, T> RwLock<R, T> {
     pub fn read(&self) -> RwLockReadGuard<'_, R, T>
         ensures { IsGuardOf self.entry result }
     {
-        RwLockReadGuard::new(self, self.raw.lock_shared())
+        RwLockGuard {
+            held: held!(InMode::new(self), self.raw.lock_shared()),
+        }
     }
 
     /// None where the raw lock refuses.
     pub fn try_read(&self) -> Option<RwLockReadGuard<'_, R, T>>
         ensures { IfSome result (IsGuardOf self.entry) }
     {
-        Some(RwLockReadGuard::new(self, self.raw.try_lock_shared()?))
+        Some(RwLockGuard {
+            held: held!(InMode::new(self), self.raw.try_lock_shared()?),
+        })
     }
 
     /// Waits until the raw lock admits one to write.
     pub fn write(&self) -> RwLockWriteGuard<'_, R, T>
         ensures { IsGuardOf self.entry result }
     {
-        RwLockWriteGuard::new(self, self.raw.lock_exclusive())
+        RwLockGuard {
+            held: held!(InMode::new(self), self.raw.lock_exclusive()),
+        }
     }
 
     /// None where the raw lock refuses.
     pub fn try_write(&self) -> Option<RwLockWriteGuard<'_, R, T>>
         ensures { IfSome result (IsGuardOf self.entry) }
     {
-        Some(RwLockWriteGuard::new(self, self.raw.try_lock_exclusive()?))
-    }
-
-    /// The value, whose own lock is held to read. A raw lock that does not lie has left it free of who writes, and a try is
-    /// shorter than a wait.
-    pub(crate) fn value_to_read(&self) -> sync::RwLockReadGuard<'_, T> {
-        match self.value.try_read() {
-            Some(value) => value,
-            None => self.wait_to_read(),
-        }
-    }
-
-    /// The value, whose own lock is held to write. A try is shorter than a wait, as in `value_to_read`.
-    pub(crate) fn value_to_write(&self) -> sync::RwLockWriteGuard<'_, T> {
-        match self.value.try_write() {
-            Some(value) => value,
-            None => self.wait_to_write(),
-        }
-    }
-
-    /// Not inlined, so that who need not wait makes no call.
-    #[inline(never)]
-    fn wait_to_read(&self) -> sync::RwLockReadGuard<'_, T> {
-        self.value.read(self.raw.waiter())
-    }
-
-    /// The same, of one who writes.
-    #[inline(never)]
-    fn wait_to_write(&self) -> sync::RwLockWriteGuard<'_, T> {
-        self.value.write(self.raw.waiter())
+        Some(RwLockGuard {
+            held: held!(InMode::new(self), self.raw.try_lock_exclusive()?),
+        })
     }
 }
 
@@ -171,7 +152,9 @@ impl<R: RawRwLockTimed, T> RwLock<R, T> {
         ensures { IfSome result (IsGuardOf self.entry) }
     {
         let token = self.raw.try_lock_shared_for(timeout)?;
-        Some(RwLockReadGuard::new(self, token))
+        Some(RwLockGuard {
+            held: held!(InMode::new(self), token),
+        })
     }
 
     /// None where the raw lock refuses until then.
@@ -179,7 +162,9 @@ impl<R: RawRwLockTimed, T> RwLock<R, T> {
         ensures { IfSome result (IsGuardOf self.entry) }
     {
         let token = self.raw.try_lock_shared_until(deadline)?;
-        Some(RwLockReadGuard::new(self, token))
+        Some(RwLockGuard {
+            held: held!(InMode::new(self), token),
+        })
     }
 
     /// None where the raw lock refuses for that long.
@@ -187,7 +172,9 @@ impl<R: RawRwLockTimed, T> RwLock<R, T> {
         ensures { IfSome result (IsGuardOf self.entry) }
     {
         let token = self.raw.try_lock_exclusive_for(timeout)?;
-        Some(RwLockWriteGuard::new(self, token))
+        Some(RwLockGuard {
+            held: held!(InMode::new(self), token),
+        })
     }
 
     /// None where the raw lock refuses until then.
@@ -195,7 +182,9 @@ impl<R: RawRwLockTimed, T> RwLock<R, T> {
         ensures { IfSome result (IsGuardOf self.entry) }
     {
         let token = self.raw.try_lock_exclusive_until(deadline)?;
-        Some(RwLockWriteGuard::new(self, token))
+        Some(RwLockGuard {
+            held: held!(InMode::new(self), token),
+        })
     }
 }
 
@@ -206,7 +195,9 @@ impl<R: RawRwLockUpgrade, T> RwLock<R, T> {
     pub fn upgradable_read(&self) -> RwLockUpgradableReadGuard<'_, R, T>
         ensures { IsGuardOf self.entry result }
     {
-        RwLockUpgradableReadGuard::new(self, self.raw.lock_upgradable())
+        RwLockGuard {
+            held: held!(InMode::new(self), self.raw.lock_upgradable()),
+        }
     }
 
     /// None where the raw lock refuses.
@@ -214,7 +205,9 @@ impl<R: RawRwLockUpgrade, T> RwLock<R, T> {
         ensures { IfSome result (IsGuardOf self.entry) }
     {
         let token = self.raw.try_lock_upgradable()?;
-        Some(RwLockUpgradableReadGuard::new(self, token))
+        Some(RwLockGuard {
+            held: held!(InMode::new(self), token),
+        })
     }
 }
 
@@ -229,7 +222,9 @@ impl<R: RawRwLockUpgradeTimed, T> RwLock<R, T> {
         ensures { IfSome result (IsGuardOf self.entry) }
     {
         let token = self.raw.try_lock_upgradable_for(timeout)?;
-        Some(RwLockUpgradableReadGuard::new(self, token))
+        Some(RwLockGuard {
+            held: held!(InMode::new(self), token),
+        })
     }
 
     /// None where the raw lock refuses until then.
@@ -240,7 +235,9 @@ impl<R: RawRwLockUpgradeTimed, T> RwLock<R, T> {
         ensures { IfSome result (IsGuardOf self.entry) }
     {
         let token = self.raw.try_lock_upgradable_until(deadline)?;
-        Some(RwLockUpgradableReadGuard::new(self, token))
+        Some(RwLockGuard {
+            held: held!(InMode::new(self), token),
+        })
     }
 }
 

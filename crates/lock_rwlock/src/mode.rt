@@ -36,6 +36,10 @@ pub trait FairMode<R: RawRwLock>: LockMode<R> {
 pub trait ShowMode<'a, R: RawRwLock, T>: LockMode<R> {
     type Shown: ValueGuard;
 
+    /// None where std's lock is not free.
+    fn try_show(rwlock: &'a RwLock<R, T>) -> Option<Self::Shown>;
+
+    /// Waits for std's lock.
     fn show(rwlock: &'a RwLock<R, T>) -> Self::Shown;
 }
 
@@ -72,6 +76,10 @@ impl<'a, M: ShowMode<'a, R, T>, R: RawRwLock, T> Acquire for InMode<'a, M, R, T>
 
     fn acquire(&self) -> M::Token {
         M::acquire(&self.rwlock.raw)
+    }
+
+    fn try_show(&self) -> Option<M::Shown> {
+        M::try_show(self.rwlock)
     }
 
     fn show(&self) -> M::Shown {

@@ -23,7 +23,7 @@ pub fn read_with<R: RawRwLock, T, U, F: FnOnce(&T) -> U>(rwlock: &RwLock<R, T>, 
     requires { F.IsAlwaysCallable f }
     ensures { ReadsSomeValue F.FnOnce f result }
 {
-    let value = rwlock.value_to_read();
+    let value = rwlock.value.read(rwlock.raw.waiter());
     f(&value)
 }
 
@@ -32,6 +32,6 @@ pub fn write_with<R: RawRwLock, T, U, F: FnOnce(&mut T) -> U>(rwlock: &RwLock<R,
     requires { F.IsAlwaysCallable f }
     ensures { AnswersSomeValue F.FnOnce f result }
 {
-    let mut value = rwlock.value_to_write();
+    let mut value = rwlock.value.write(rwlock.raw.waiter());
     f(&mut value)
 }

@@ -44,6 +44,10 @@ impl<M: LockMode<R>, R: RawRwLock + Drop, T: Drop> Acquire for OwnedInMode<M, R,
         M::acquire(raw(&self.rwlock))
     }
 
+    fn try_show(&self) -> Option<()> {
+        Some(())
+    }
+
     fn show(&self) {}
 }
 

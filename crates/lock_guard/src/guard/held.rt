@@ -1,9 +1,23 @@
 //! A lock that is held.
-ghost use Rattle.std.specs.Prelude.{◌≡◌, true};
+ghost use Rattle.std.specs.Prelude.{◌≡◌, MatchResult, true};
 ghost use Rattle.lock_guard.specs.declared.guard.inner.Inner.TheVariants.{Filled};
 ghost use Rattle.lock_guard.specs.Inner.{is_filled};
 
 use crate::guard::{Acquire, AcquireFair, Inner};
+
+/// The lock held by that token of its own: the std lock is tried, and waited for where it is not free.
+///
+/// It is a macro and no function, so that who need not wait makes no call that may: after each such call the compiled code
+/// looks at a flag.
+#[macro_export]
+macro_rules! held {
+    ($lock:expr, $token:expr) => {
+        match $crate::guard::Held::try_new($lock, $token) {
+            Ok(held) => held,
+            Err((lock, token)) => $crate::guard::Held::new(lock, token),
+        }
+    };
+}
 
 /// A lock with the token of one acquisition and the value that it shows. The end gives the value back, and then the
 /// token.
@@ -16,7 +30,7 @@ pub struct Held<L: Acquire> {
 }
 
 impl<L: Acquire> Held<L> {
-    /// The lock held by that token of its own.
+    /// The lock held by that token of its own. It waits for the std lock: `held` tries it first.
     pub fn new(lock: L, token: L::Token) -> Held<L>
         ensures { result.lock ≡ lock }
     {
@@ -24,6 +38,19 @@ impl<L: Acquire> Held<L> {
         Held {
             lock,
             inner: Inner::Filled(token, shown),
+        }
+    }
+
+    /// `new` where the std lock is free, or the lock and the token again.
+    pub fn try_new(lock: L, token: L::Token) -> Result<Held<L>, (L, L::Token)>
+        ensures { MatchResult result (λ held. held.lock ≡ lock) (λ back. back.0 ≡ lock) }
+    {
+        match lock.try_show() {
+            Some(shown) => Ok(Held {
+                lock,
+                inner: Inner::Filled(token, shown),
+            }),
+            None => Err((lock, token)),
         }
     }
 

@@ -4,7 +4,6 @@ ghost use Rattle.std.specs.Prelude.{◌≡◌};
 use super::RwLockGuard;
 use crate::lock::RwLock;
 use crate::mode::{InMode, Shared};
-use lock_guard::guard::Held;
 use lock_guard::raw::RawRwLock;
 
 /// The right to read the value of a lock, beside others that read.
@@ -12,15 +11,6 @@ pub type RwLockReadGuard<'a, R, T> = RwLockGuard<InMode<'a, Shared, R, T>>;
 
 impl<'a, R: RawRwLock, T> RwLockGuard<InMode<'a, Shared, R, T>> {
     ghost use Rattle.lock_rwlock.specs.RwLockGuard.{IsGuardOf};
-
-    /// The guard of a token that the raw lock gave out.
-    pub(crate) fn new(rwlock: &'a RwLock<R, T>, token: R::SharedGuard) -> RwLockReadGuard<'a, R, T>
-        ensures { IsGuardOf rwlock.entry result }
-    {
-        RwLockGuard {
-            held: Held::new(InMode::new(rwlock), token),
-        }
-    }
 
     /// The lock that the guard was made of.
     pub fn rwlock(guard: &RwLockReadGuard<'a, R, T>) -> &'a RwLock<R, T>

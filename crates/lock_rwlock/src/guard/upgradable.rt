@@ -7,6 +7,7 @@ use crate::lock::RwLock;
 use crate::mode::{InMode, Upgradable};
 use crate::parts;
 use lock_guard::guard::{Acquire, Held, Inner};
+use lock_guard::held;
 use lock_guard::raw::{RawRwLockUpgrade, RawRwLockUpgradeDowngrade, RawRwLockUpgradeTimed};
 use std::sync;
 
@@ -16,18 +17,6 @@ pub type RwLockUpgradableReadGuard<'a, R, T> = RwLockGuard<InMode<'a, Upgradable
 impl<'a, R: RawRwLockUpgrade, T> RwLockGuard<InMode<'a, Upgradable, R, T>> {
     ghost use Rattle.lock_guard.specs.declared.guard.inner.Inner.TheVariants.{Filled};
     ghost use Rattle.lock_rwlock.specs.RwLockGuard.{IsGuardOf, SameLock, held_of};
-
-    /// The guard of a token that the raw lock gave out.
-    pub(crate) fn new(
-        rwlock: &'a RwLock<R, T>,
-        token: R::UpgradableGuard,
-    ) -> RwLockUpgradableReadGuard<'a, R, T>
-        ensures { IsGuardOf rwlock.entry result }
-    {
-        RwLockGuard {
-            held: Held::new(InMode::new(rwlock), token),
-        }
-    }
 
     /// The lock that the guard was made of.
     pub fn rwlock(guard: &RwLockUpgradableReadGuard<'a, R, T>) -> &'a RwLock<R, T>
@@ -41,7 +30,9 @@ impl<'a, R: RawRwLockUpgrade, T> RwLockGuard<InMode<'a, Upgradable, R, T>> {
         ensures { SameLock guard.entry result }
     {
         let (lock, token) = guard.into_token();
-        RwLockWriteGuard::new(lock.rwlock, lock.rwlock.raw.upgrade(token))
+        RwLockGuard {
+            held: held!(InMode::new(lock.rwlock), lock.rwlock.raw.upgrade(token)),
+        }
     }
 
     /// The right to write in place of this one, or this one again where the raw lock refuses.
@@ -69,7 +60,9 @@ impl<'a, R: RawRwLockUpgrade, T> RwLockGuard<InMode<'a, Upgradable, R, T>> {
         match answer {
             Ok(token) => {
                 drop(shown);
-                Ok(RwLockWriteGuard::new(lock.rwlock, token))
+                Ok(RwLockGuard {
+                    held: held!(InMode::new(lock.rwlock), token),
+                })
             }
             Err(token) => {
                 let inner = Inner::Filled(token, shown);
@@ -117,7 +110,12 @@ impl<'a, R: RawRwLockUpgradeDowngrade, T> RwLockGuard<InMode<'a, Upgradable, R, 
         ensures { SameLock guard.entry result }
     {
         let (lock, token) = guard.into_token();
-        RwLockReadGuard::new(lock.rwlock, lock.rwlock.raw.downgrade_upgradable(token))
+        RwLockGuard {
+            held: held!(
+                InMode::new(lock.rwlock),
+                lock.rwlock.raw.downgrade_upgradable(token)
+            ),
+        }
     }
 
     /// Calls the closure on the value while this is the one that writes, once no other guard is left.

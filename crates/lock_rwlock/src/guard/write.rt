@@ -4,7 +4,7 @@ ghost use Rattle.std.specs.Prelude.{◌≡◌};
 use super::{RwLockGuard, RwLockReadGuard, RwLockUpgradableReadGuard};
 use crate::lock::RwLock;
 use crate::mode::{Exclusive, InMode};
-use lock_guard::guard::Held;
+use lock_guard::held;
 use lock_guard::raw::{RawRwLock, RawRwLockDowngrade, RawRwLockUpgradeDowngrade};
 
 /// The right to read and write the value of a lock.
@@ -12,18 +12,6 @@ pub type RwLockWriteGuard<'a, R, T> = RwLockGuard<InMode<'a, Exclusive, R, T>>;
 
 impl<'a, R: RawRwLock, T> RwLockGuard<InMode<'a, Exclusive, R, T>> {
     ghost use Rattle.lock_rwlock.specs.RwLockGuard.{IsGuardOf};
-
-    /// The guard of a token that the raw lock gave out.
-    pub(crate) fn new(
-        rwlock: &'a RwLock<R, T>,
-        token: R::ExclusiveGuard,
-    ) -> RwLockWriteGuard<'a, R, T>
-        ensures { IsGuardOf rwlock.entry result }
-    {
-        RwLockGuard {
-            held: Held::new(InMode::new(rwlock), token),
-        }
-    }
 
     /// The lock that the guard was made of.
     pub fn rwlock(guard: &RwLockWriteGuard<'a, R, T>) -> &'a RwLock<R, T>
@@ -41,7 +29,9 @@ impl<'a, R: RawRwLockDowngrade, T> RwLockGuard<InMode<'a, Exclusive, R, T>> {
         ensures { SameLock guard.entry result }
     {
         let (lock, token) = guard.into_token();
-        RwLockReadGuard::new(lock.rwlock, lock.rwlock.raw.downgrade(token))
+        RwLockGuard {
+            held: held!(InMode::new(lock.rwlock), lock.rwlock.raw.downgrade(token)),
+        }
     }
 }
 
@@ -56,6 +46,8 @@ impl<'a, R: RawRwLockUpgradeDowngrade, T> RwLockGuard<InMode<'a, Exclusive, R, T
     {
         let (lock, token) = guard.into_token();
         let token = lock.rwlock.raw.downgrade_to_upgradable(token);
-        RwLockUpgradableReadGuard::new(lock.rwlock, token)
+        RwLockGuard {
+            held: held!(InMode::new(lock.rwlock), token),
+        }
     }
 }

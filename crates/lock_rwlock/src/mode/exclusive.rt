@@ -33,7 +33,14 @@ impl<R: RawRwLockFair> FairMode<R> for Exclusive {
 impl<'a, R: RawRwLock, T: 'a> ShowMode<'a, R, T> for Exclusive {
     type Shown = sync::RwLockWriteGuard<'a, T>;
 
+    fn try_show(rwlock: &'a RwLock<R, T>) -> Option<sync::RwLockWriteGuard<'a, T>> {
+        rwlock.value.try_write()
+    }
+
+    /// Apart from the way of those that need not wait.
+    #[cold]
+    #[inline(never)]
     fn show(rwlock: &'a RwLock<R, T>) -> sync::RwLockWriteGuard<'a, T> {
-        rwlock.value_to_write()
+        rwlock.value.write(rwlock.raw.waiter())
     }
 }

@@ -33,7 +33,14 @@ impl<R: RawRwLockFair> FairMode<R> for Shared {
 impl<'a, R: RawRwLock, T: 'a> ShowMode<'a, R, T> for Shared {
     type Shown = sync::RwLockReadGuard<'a, T>;
 
+    fn try_show(rwlock: &'a RwLock<R, T>) -> Option<sync::RwLockReadGuard<'a, T>> {
+        rwlock.value.try_read()
+    }
+
+    /// Apart from the way of those that need not wait.
+    #[cold]
+    #[inline(never)]
     fn show(rwlock: &'a RwLock<R, T>) -> sync::RwLockReadGuard<'a, T> {
-        rwlock.value_to_read()
+        rwlock.value.read(rwlock.raw.waiter())
     }
 }
