@@ -1,5 +1,5 @@
 //! A lock that is held.
-ghost use Rattle.std.specs.Prelude.{◌≡◌, MatchResult, true};
+ghost use Rattle.std.specs.Prelude.{◌≡◌, IfErr, IfOk, true};
 ghost use Rattle.lock_guard.specs.declared.guard.inner.Inner.TheVariants.{Filled};
 ghost use Rattle.lock_guard.specs.Inner.{is_filled};
 
@@ -43,7 +43,8 @@ impl<L: Acquire> Held<L> {
 
     /// `new` where the std lock is free, or the lock and the token again.
     pub fn try_new(lock: L, token: L::Token) -> Result<Held<L>, (L, L::Token)>
-        ensures { MatchResult result (λ held. held.lock ≡ lock) (λ back. back.0 ≡ lock) }
+        ensures held { IfOk result (λ held. held.lock ≡ lock) }
+        ensures back { IfErr result (λ back. (back.0 ≡ lock) × (back.1 ≡ token)) }
     {
         match lock.try_show() {
             Some(shown) => Ok(Held {
