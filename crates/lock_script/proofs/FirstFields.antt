@@ -1,30 +1,14 @@
 -- The first field of a line, by the place of the first space.
-use Rattle.std.proofs.Common.{◌≡◌, ◌==◌, ℕ, ◌<◌, ◌≤◌, ◌+◌, List, [], ◌∷◌, length, take, drop, Bool, true, false, cond, not, Some, None, refl, ap, arith, get_or, subst}
+use Rattle.std.proofs.Common.{◌≡◌, ◌==◌, ℕ, ◌<◌, ◌≤◌, ◌+◌, List, [], ◌∷◌, length, take, drop, Bool, true, false, cond, not, Some, None, refl, ap, arith, subst}
 use Rattle.std.specs.Prelude.{position, nat_lt}
 use Rattle.std.specs.List.{onto_first, position_or_len}
-use Rattle.std.specs.Str.{IsUtf8, IsCharBoundary}
 use Rattle.std.proofs.lemmas.Bool.Decides.{nat_tests}
 use Rattle.std.proofs.lemmas.List.Quantifiers.{position-Some}
 use Rattle.std.proofs.lemmas.List.Splits.{slice_split_first}
-use Rattle.std.proofs.lemmas.Str.{IsCharBoundary-before_ascii, IsCharBoundary-after_ascii}
 use Rattle.lock_script.specs.Lines.{fields_of}
 
 abbrev is_space : ℕ → Bool
 is_space byte = byte == 32
-
--- a text may be cut before the space that a search found
-pub before_space : (line : List ℕ) (at : ℕ) → position is_space line ≡ Some at → IsCharBoundary line at
-before_space line at found =
-    let there = position-Some is_space line at 0 found in
-    let space : get_or line at 0 ≡ 32 = let passes = there.1 in grind (arith, nat_tests) in
-    IsCharBoundary-before_ascii line at there.0 (omega arith)
-
--- and after it
-pub after_space : (line : List ℕ) (at : ℕ) → IsUtf8 line → position is_space line ≡ Some at → IsCharBoundary line (at + 1)
-after_space line at text found =
-    let there = position-Some is_space line at 0 found in
-    let space : get_or line at 0 ≡ 32 = let passes = there.1 in grind (arith, nat_tests) in
-    IsCharBoundary-after_ascii line at text there.0 (omega arith)
 
 some_of-choice : (t : Bool) (n at : ℕ) → cond t (Some n) None ≡ Some at → n ≡ at
 some_of-choice true n at found = cc

@@ -3,6 +3,7 @@ use Rattle.std.proofs.Common.{◌≡◌, ◌==◌, ℕ, suc, ◌+◌, ◌<◌, B
 use Rattle.std.specs.Prelude.{position, nat_lt}
 use Rattle.std.proofs.Common.{add-one, take_all, length-drop, le_refl}
 use Rattle.std.proofs.Math.Numerals.{one-add}
+use Rattle.std.proofs.lemmas.List.Quantifiers.{position-Some}
 use Rattle.std.specs.List.{position_or_len}
 use Rattle.std.specs.List.{onto_first}
 use Rattle.lock_script.specs.Lines.{lines_of}
@@ -28,10 +29,15 @@ some_of-choice true n at h = cc
 some_of-choice false n at h = cc
 
 -- the same by the place that a search for the first line feed found
-pub lines_of-at : (xs : List ℕ) (at : ℕ) → 0 < length xs → position (λ b. b == 10) xs ≡ Some at → lines_of xs ≡ take at xs ∷ lines_of (take (length xs - (at + 1)) (drop (at + 1) xs))
-lines_of-at xs at h found =
+pub lines_of-at : (xs : List ℕ) (at : ℕ) → position (λ b. b == 10) xs ≡ Some at → lines_of xs ≡ take at xs ∷ lines_of (drop (at + 1) xs)
+lines_of-at xs at found =
+    let within : at < length xs = (position-Some (λ b. b == 10) xs at 0 found).0 in
     let n = position_or_len (λ b. b == 10) xs in
     let same : n ≡ at = some_of-choice (nat_lt n (length xs)) n at found in
-    let first : lines_of xs ≡ take at xs ∷ lines_of (drop (suc at) xs) = subst (λ k. lines_of xs ≡ take k xs ∷ lines_of (drop (suc k) xs)) same (lines_of-first xs h) in
-    let whole : take (length xs - (at + 1)) (drop (at + 1) xs) ≡ drop (suc at) xs = rw add-one (take_all _ _ (rw length-drop (le_refl _))) in
-    rw whole first
+    rw add-one (subst (λ k. lines_of xs ≡ take k xs ∷ lines_of (drop (suc k) xs)) same (lines_of-first xs (omega arith)))
+
+-- where what stands after it is taken to the end
+pub lines_of-rest : (xs : List ℕ) (at : ℕ) → position (λ b. b == 10) xs ≡ Some at → lines_of xs ≡ take at xs ∷ lines_of (take (length xs - (at + 1)) (drop (at + 1) xs))
+lines_of-rest xs at found =
+    let whole : take (length xs - (at + 1)) (drop (at + 1) xs) ≡ drop (at + 1) xs = take_all _ _ (rw length-drop (le_refl _)) in
+    rw whole (lines_of-at xs at found)

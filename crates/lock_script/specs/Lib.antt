@@ -3,6 +3,7 @@ pub mod Faults
 pub mod Lines
 pub mod Numbers
 pub mod Pair
+pub mod Parts
 pub mod Replays
 pub mod Script
 pub mod Session

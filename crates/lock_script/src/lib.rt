@@ -10,6 +10,7 @@ mod line;
 mod maker;
 mod number;
 mod pair;
+mod part;
 mod reading;
 mod script;
 mod session;

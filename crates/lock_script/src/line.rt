@@ -1,6 +1,9 @@
 //! Lines of scripts, and the fields that they fall into.
 ghost use Rattle.std.specs.Prelude.{◌≡◌, ◌==◌, ◌<◌, ◌↔◌, ◌∷◌, [], ℕ, List, length, position, IfNone, IfSome, IsSome};
 ghost use Rattle.lock_script.specs.Lines.{IsLine, fields_of};
+ghost use Rattle.lock_script.specs.Parts.{bytes_of};
+
+use crate::part::Part;
 
 /// What a line of one kind of scripts asks for.
 pub trait Line: Sized {
@@ -17,11 +20,11 @@ pub trait Line: Sized {
 }
 
 /// What a line asks for. None: it is bad, as one is that is no text.
-pub fn read_line<L: Line>(line: &[u8]) -> Option<L>
-    ensures fields { IfSome result (λ asked. L.fields asked ≡ fields_of line.now) }
-    ensures some { IsSome result ↔ IsLine L.makes line.now }
+pub fn read_line<L: Line>(line: Part) -> Option<L>
+    ensures fields { IfSome result (λ asked. L.fields asked ≡ fields_of (bytes_of line.entry)) }
+    ensures some { IsSome result ↔ IsLine L.makes (bytes_of line.entry) }
 {
-    L::read(str::from_utf8(line).ok()?)
+    L::read(line.text()?)
 }
 
 /// The first field of a line, and what stands after its space. None: the line is one field.
