@@ -12,6 +12,7 @@ mod number;
 mod pair;
 mod part;
 mod reading;
+mod room;
 mod script;
 mod session;
 mod streams;

@@ -11,7 +11,7 @@ use std::io::{ErrorKind, Read};
 pub const SCRIPT_LIMIT: usize = 1_048_576;
 
 /// The most bytes of one read.
-const CHUNK: usize = 8_192;
+const CHUNK: usize = 65_536;
 
 /// Reads to the end, or to the first byte past the limit.
 pub fn read_script<R: Read>(alloc: Global, reader: &mut R) -> Result<Vec<u8>, ReplayFault>

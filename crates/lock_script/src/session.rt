@@ -1,5 +1,5 @@
 //! The answers to a script, by a desk.
-ghost use Rattle.std.specs.Prelude.{◌≡◌, ◌++◌, ◌↔◌, Err, IfErr, IfOk, OnOk, string_bytes};
+ghost use Rattle.std.specs.Prelude.{◌≡◌, [], ◌++◌, ◌↔◌, Err, IfErr, IfOk, OnOk, string_bytes};
 ghost use Rattle.lock_base.specs.Steps.{replies};
 ghost use Rattle.lock_script.specs.Answers.{reply_lines};
 ghost use Rattle.lock_script.specs.Faults.{IsParsingFault};
@@ -12,6 +12,7 @@ use crate::answer::{Answer, write_answer};
 use crate::fault::ReplayFault;
 use crate::maker::Maker;
 use crate::pair::{Pair, PairOp};
+use crate::room::emptied;
 use crate::script::{Script, parse};
 use lock_base::machine::{Call, Reply};
 use lock_base::raw::{Fault, RawState};
@@ -22,20 +23,25 @@ use std::alloc::{AllocError, Global};
 type DeskScript = Script<Maker, Call<PairOp>>;
 
 /// The answers to a script of calls, on a desk over this raw state.
-pub fn desk_answers<R: RawState>(alloc: Global, script: &[u8]) -> Result<String, ReplayFault>
-    ensures answers { IfOk result (λ text. IsDeskAnswer script.now (string_bytes text)) }
-    ensures fault { IfErr result (IsParsingFault IsMaker IsCall (lines_of script.now)) }
+pub fn desk_answers<R: RawState>(alloc: Global, script: Vec<u8>) -> Result<String, ReplayFault>
+    ensures answers { IfOk result (λ text. IsDeskAnswer script.items (string_bytes text)) }
+    ensures fault { IfErr result (IsParsingFault IsMaker IsCall (lines_of script.items)) }
 {
-    let script: DeskScript = parse(alloc, script)?;
-    let text = answers_to::<R>(alloc, &script)?;
+    let parsed: DeskScript = parse(alloc, script.as_slice())?;
+    let text = answers_to::<R>(alloc, &parsed, emptied(script))?;
     Ok(text)
 }
 
 /// The answers to a maker and calls, a line each. Where the maker is refused, that is the one answer.
-fn answers_to<R: RawState>(alloc: Global, script: &DeskScript) -> Result<String, AllocError>
+/// They are written into an empty text.
+fn answers_to<R: RawState>(
+    alloc: Global,
+    script: &DeskScript,
+    mut text: String,
+) -> Result<String, AllocError>
+    requires { string_bytes text ≡ [] }
     ensures { IfOk result (λ text. Answers script.now.maker script.now.calls.items (string_bytes text)) }
 {
-    let mut text = String::new(alloc);
     match make::<R>(alloc, script.maker) {
         Ok(desk) => {
             write_answer(&mut text, Answer::Reply(Reply::Done))?;

@@ -34,14 +34,15 @@ pub fn replay<R: Read, W: Write>(
         IsBeforeWriting fault → Keeps (W.contents writer.old) (W.contents writer.new)) }
 {
     let script = read_script(alloc, reader)?;
-    let text = answers(alloc, which, script.as_slice())?;
+    let text = answers(alloc, which, script)?;
     put(text.as_str(), writer)
 }
 
-/// The text of all answers to a script, or its first bad line. Nothing else is told but want of memory.
-pub fn answers(alloc: Global, which: Which, script: &[u8]) -> Result<String, ReplayFault>
-    ensures answers { IfOk result (λ text. IsAnswer which script.now (string_bytes text)) }
-    ensures fault { IfErr result (IsParsingFault (IsFirst which) (IsFurther which) (lines_of script.now)) }
+/// The text of all answers to a script, or its first bad line. Nothing else is told but want of memory. The text has the
+/// memory that the script had.
+pub fn answers(alloc: Global, which: Which, script: Vec<u8>) -> Result<String, ReplayFault>
+    ensures answers { IfOk result (λ text. IsAnswer which script.items (string_bytes text)) }
+    ensures fault { IfErr result (IsParsingFault (IsFirst which) (IsFurther which) (lines_of script.items)) }
 {
     match which {
         Which::Table => desk_answers::<TokenTable>(alloc, script),

@@ -1,5 +1,5 @@
 //! The answers to a script of steps, by a world.
-ghost use Rattle.std.specs.Prelude.{◌≡◌, ◌++◌, IfErr, IfOk, OnOk, string_bytes};
+ghost use Rattle.std.specs.Prelude.{◌≡◌, [], ◌++◌, IfErr, IfOk, OnOk, string_bytes};
 ghost use Rattle.lock_script.specs.Faults.{IsParsingFault};
 ghost use Rattle.lock_script.specs.Answers.{answer_lines};
 ghost use Rattle.lock_script.specs.Lines.{lines_of};
@@ -8,6 +8,7 @@ ghost use Rattle.lock_script.specs.WorldSession.{IsWorldAnswer, WorldAnswers, al
 
 use crate::answer::{Answer, write_answer};
 use crate::fault::ReplayFault;
+use crate::room::emptied;
 use crate::script::{Script, parse};
 use crate::world_call::WorldCall;
 use crate::world_maker::WorldMaker;
@@ -21,20 +22,21 @@ use std::alloc::{AllocError, Global};
 type WorldScript = Script<WorldMaker, WorldCall>;
 
 /// The answers to a script of steps.
-pub fn world_answers(alloc: Global, script: &[u8]) -> Result<String, ReplayFault>
-    ensures answers { IfOk result (λ text. IsWorldAnswer script.now (string_bytes text)) }
-    ensures fault { IfErr result (IsParsingFault IsWorldMaker IsWorldCall (lines_of script.now)) }
+pub fn world_answers(alloc: Global, script: Vec<u8>) -> Result<String, ReplayFault>
+    ensures answers { IfOk result (λ text. IsWorldAnswer script.items (string_bytes text)) }
+    ensures fault { IfErr result (IsParsingFault IsWorldMaker IsWorldCall (lines_of script.items)) }
 {
-    let script: WorldScript = parse(alloc, script)?;
-    let text = answers_to(alloc, &script)?;
+    let parsed: WorldScript = parse(alloc, script.as_slice())?;
+    let text = answers_to(alloc, &parsed, emptied(script))?;
     Ok(text)
 }
 
 /// The answers to a maker and calls, a line each. Where the maker is refused, that is the one answer.
-fn answers_to(alloc: Global, script: &WorldScript) -> Result<String, AllocError>
+/// They are written into an empty text.
+fn answers_to(alloc: Global, script: &WorldScript, mut text: String) -> Result<String, AllocError>
+    requires { string_bytes text ≡ [] }
     ensures { IfOk result (λ text. WorldAnswers script.now.maker script.now.calls.items (string_bytes text)) }
 {
-    let mut text = String::new(alloc);
     match World::new(alloc, script.maker.parties, script.maker.readers) {
         Ok(world) => {
             write_answer(&mut text, Answer::Reply(Reply::Done))?;

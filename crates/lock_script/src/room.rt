@@ -1,0 +1,13 @@
+//! Memory that is used again.
+ghost use Rattle.std.specs.Prelude.{◌≡◌, [], string_bytes};
+
+/// A text with no byte, in the memory of these bytes.
+pub fn emptied(mut bytes: Vec<u8>) -> String
+    ensures { string_bytes result ≡ [] }
+{
+    bytes.clear();
+    let Ok(text) = String::from_utf8(bytes) else {
+        unreachable!()
+    };
+    text
+}
