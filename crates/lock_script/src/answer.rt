@@ -36,8 +36,7 @@ pub fn write_answer(text: &mut String, answer: Answer) -> Result<(), AllocError>
     }
 }
 
-/// Appends a line of these words and a number. Inlined, so that the words are known where they are copied.
-#[inline(always)]
+/// Appends a line of these words and a number.
 fn write_number<N: Integer>(text: &mut String, words: &str, number: N) -> Result<(), AllocError>
     ensures { OnOk result (string_bytes text.new
         ≡ string_bytes text.old ++ words.now ++ N.text number ++ codes "\n") }

@@ -22,6 +22,9 @@ use std::alloc::{AllocError, Global};
 /// The script of calls of a lock.
 type DeskScript = Script<Maker, Call<PairOp>>;
 
+/// The most calls that are made before their replies are written.
+const BLOCK: usize = 256;
+
 /// The answers to a script of calls, on a desk over this raw state.
 pub fn desk_answers<R: RawState>(alloc: Global, script: Vec<u8>) -> Result<String, ReplayFault>
     ensures answers { IfOk result (λ text. IsDeskAnswer script.items (string_bytes text)) }
@@ -45,7 +48,7 @@ fn answers_to<R: RawState>(
     match make::<R>(alloc, script.maker) {
         Ok(desk) => {
             write_answer(&mut text, Answer::Reply(Reply::Done))?;
-            write_calls(&mut text, desk, script.calls.as_slice())?;
+            write_calls(alloc, &mut text, desk, script.calls.as_slice())?;
         }
         Err(Fault::BadLimits) => {
             write_answer(&mut text, Answer::Reply(Reply::Refused(Fault::BadLimits)))?;
@@ -55,8 +58,10 @@ fn answers_to<R: RawState>(
     Ok(text)
 }
 
-/// Appends what a desk replies. Each reply is written as it is given, so no list of them is kept.
+/// Appends what a desk replies, block by block. In a block a call does not wait until the reply before it is written, so the
+/// processor can look for the guards of several calls at a time.
 fn write_calls<R: RawState>(
+    alloc: Global,
     text: &mut String,
     mut desk: Desk<R, Pair>,
     calls: &[Call<PairOp>],
@@ -64,8 +69,24 @@ fn write_calls<R: RawState>(
     ensures { OnOk result
         (string_bytes text.new ≡ string_bytes text.old ++ reply_lines (replies meaning desk calls.now)) }
 {
-    for call in calls {
-        write_answer(text, Answer::Reply(desk.apply(call)))?;
+    let mut rest = calls;
+    while !rest.is_empty() {
+        let (block, after) = rest.split_at(rest.len().min(BLOCK));
+        let Ok(replies) = desk.run(alloc, block) else {
+            return Err(AllocError);
+        };
+        write_replies(text, replies.as_slice())?;
+        rest = after;
+    }
+    Ok(())
+}
+
+/// Appends replies, a line each.
+fn write_replies(text: &mut String, replies: &[Reply<i64>]) -> Result<(), AllocError>
+    ensures { OnOk result (string_bytes text.new ≡ string_bytes text.old ++ reply_lines replies.now) }
+{
+    for reply in replies {
+        write_answer(text, Answer::Reply(*reply))?;
     }
     Ok(())
 }
