@@ -34,7 +34,7 @@ impl<'a, R: RawMutex, T> Acquire for BorrowedMutex<'a, R, T> {
     /// Apart from the way of those that need not wait.
     #[cold]
     #[inline(never)]
-    fn show(&self) -> sync::MutexGuard<'a, T> {
+    fn wait_to_show(&self) -> sync::MutexGuard<'a, T> {
         self.mutex.value.lock(self.mutex.raw.waiter())
     }
 }

@@ -32,7 +32,7 @@ impl<R: RawMutex + Drop, T: Drop> Acquire for OwnedMutex<R, T> {
         Some(())
     }
 
-    fn show(&self) {}
+    fn wait_to_show(&self) {}
 }
 
 impl<R: RawMutexFair + Drop, T: Drop> AcquireFair for OwnedMutex<R, T> {

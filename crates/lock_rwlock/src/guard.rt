@@ -26,6 +26,17 @@ pub struct RwLockGuard<L: Acquire> {
     pub(crate) held: Held<L>,
 }
 
+/// The guard of a lock that is held by that token: `held!`, as a guard of one mode.
+macro_rules! guard {
+    ($rwlock:expr, $token:expr) => {
+        $crate::guard::RwLockGuard {
+            held: lock_guard::held!($crate::mode::InMode::new($rwlock), $token),
+        }
+    };
+}
+
+pub(crate) use guard;
+
 impl<L: Acquire> RwLockGuard<L> {
     ghost use Rattle.lock_rwlock.specs.RwLockGuard.{held_of};
 

@@ -2,11 +2,9 @@
 ghost use Rattle.std.specs.Prelude.{◌≡◌, ◌↔◌, IfSome, IfOk, IfErr, IsOkAnd, IsOkUnless};
 ghost use Rattle.lock_base.specs.Limits.{IsLimit, IsMakerFault};
 
-use crate::guard::{RwLockGuard, RwLockReadGuard, RwLockUpgradableReadGuard, RwLockWriteGuard};
-use crate::mode::InMode;
+use crate::guard::{RwLockReadGuard, RwLockUpgradableReadGuard, RwLockWriteGuard, guard};
 use lock_base::raw::{DEFAULT_READERS, Fault};
 use lock_guard::guard::{Locked, fmt_lock};
-use lock_guard::held;
 use lock_guard::raw::{RawRwLock, RawRwLockTimed, RawRwLockUpgrade, RawRwLockUpgradeTimed};
 use std::alloc::Global;
 use std::{fmt, sync};
@@ -111,36 +109,28 @@ impl<R: RawRwLock, T> RwLock<R, T> {
     pub fn read(&self) -> RwLockReadGuard<'_, R, T>
         ensures { IsGuardOf self.entry result }
     {
-        RwLockGuard {
-            held: held!(InMode::new(self), self.raw.lock_shared()),
-        }
+        guard!(self, self.raw.lock_shared())
     }
 
     /// None where the raw lock refuses.
     pub fn try_read(&self) -> Option<RwLockReadGuard<'_, R, T>>
         ensures { IfSome result (IsGuardOf self.entry) }
     {
-        Some(RwLockGuard {
-            held: held!(InMode::new(self), self.raw.try_lock_shared()?),
-        })
+        Some(guard!(self, self.raw.try_lock_shared()?))
     }
 
     /// Waits until the raw lock admits one to write.
     pub fn write(&self) -> RwLockWriteGuard<'_, R, T>
         ensures { IsGuardOf self.entry result }
     {
-        RwLockGuard {
-            held: held!(InMode::new(self), self.raw.lock_exclusive()),
-        }
+        guard!(self, self.raw.lock_exclusive())
     }
 
     /// None where the raw lock refuses.
     pub fn try_write(&self) -> Option<RwLockWriteGuard<'_, R, T>>
         ensures { IfSome result (IsGuardOf self.entry) }
     {
-        Some(RwLockGuard {
-            held: held!(InMode::new(self), self.raw.try_lock_exclusive()?),
-        })
+        Some(guard!(self, self.raw.try_lock_exclusive()?))
     }
 }
 
@@ -151,40 +141,28 @@ impl<R: RawRwLockTimed, T> RwLock<R, T> {
     pub fn try_read_for(&self, timeout: R::Duration) -> Option<RwLockReadGuard<'_, R, T>>
         ensures { IfSome result (IsGuardOf self.entry) }
     {
-        let token = self.raw.try_lock_shared_for(timeout)?;
-        Some(RwLockGuard {
-            held: held!(InMode::new(self), token),
-        })
+        Some(guard!(self, self.raw.try_lock_shared_for(timeout)?))
     }
 
     /// None where the raw lock refuses until then.
     pub fn try_read_until(&self, deadline: R::Instant) -> Option<RwLockReadGuard<'_, R, T>>
         ensures { IfSome result (IsGuardOf self.entry) }
     {
-        let token = self.raw.try_lock_shared_until(deadline)?;
-        Some(RwLockGuard {
-            held: held!(InMode::new(self), token),
-        })
+        Some(guard!(self, self.raw.try_lock_shared_until(deadline)?))
     }
 
     /// None where the raw lock refuses for that long.
     pub fn try_write_for(&self, timeout: R::Duration) -> Option<RwLockWriteGuard<'_, R, T>>
         ensures { IfSome result (IsGuardOf self.entry) }
     {
-        let token = self.raw.try_lock_exclusive_for(timeout)?;
-        Some(RwLockGuard {
-            held: held!(InMode::new(self), token),
-        })
+        Some(guard!(self, self.raw.try_lock_exclusive_for(timeout)?))
     }
 
     /// None where the raw lock refuses until then.
     pub fn try_write_until(&self, deadline: R::Instant) -> Option<RwLockWriteGuard<'_, R, T>>
         ensures { IfSome result (IsGuardOf self.entry) }
     {
-        let token = self.raw.try_lock_exclusive_until(deadline)?;
-        Some(RwLockGuard {
-            held: held!(InMode::new(self), token),
-        })
+        Some(guard!(self, self.raw.try_lock_exclusive_until(deadline)?))
     }
 }
 
@@ -195,19 +173,14 @@ impl<R: RawRwLockUpgrade, T> RwLock<R, T> {
     pub fn upgradable_read(&self) -> RwLockUpgradableReadGuard<'_, R, T>
         ensures { IsGuardOf self.entry result }
     {
-        RwLockGuard {
-            held: held!(InMode::new(self), self.raw.lock_upgradable()),
-        }
+        guard!(self, self.raw.lock_upgradable())
     }
 
     /// None where the raw lock refuses.
     pub fn try_upgradable_read(&self) -> Option<RwLockUpgradableReadGuard<'_, R, T>>
         ensures { IfSome result (IsGuardOf self.entry) }
     {
-        let token = self.raw.try_lock_upgradable()?;
-        Some(RwLockGuard {
-            held: held!(InMode::new(self), token),
-        })
+        Some(guard!(self, self.raw.try_lock_upgradable()?))
     }
 }
 
@@ -221,10 +194,7 @@ impl<R: RawRwLockUpgradeTimed, T> RwLock<R, T> {
     ) -> Option<RwLockUpgradableReadGuard<'_, R, T>>
         ensures { IfSome result (IsGuardOf self.entry) }
     {
-        let token = self.raw.try_lock_upgradable_for(timeout)?;
-        Some(RwLockGuard {
-            held: held!(InMode::new(self), token),
-        })
+        Some(guard!(self, self.raw.try_lock_upgradable_for(timeout)?))
     }
 
     /// None where the raw lock refuses until then.
@@ -234,10 +204,7 @@ impl<R: RawRwLockUpgradeTimed, T> RwLock<R, T> {
     ) -> Option<RwLockUpgradableReadGuard<'_, R, T>>
         ensures { IfSome result (IsGuardOf self.entry) }
     {
-        let token = self.raw.try_lock_upgradable_until(deadline)?;
-        Some(RwLockGuard {
-            held: held!(InMode::new(self), token),
-        })
+        Some(guard!(self, self.raw.try_lock_upgradable_until(deadline)?))
     }
 }
 

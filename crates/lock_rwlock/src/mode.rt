@@ -40,7 +40,7 @@ pub trait ShowMode<'a, R: RawRwLock, T>: LockMode<R> {
     fn try_show(rwlock: &'a RwLock<R, T>) -> Option<Self::Shown>;
 
     /// Waits for std's lock.
-    fn show(rwlock: &'a RwLock<R, T>) -> Self::Shown;
+    fn wait_to_show(rwlock: &'a RwLock<R, T>) -> Self::Shown;
 }
 
 /// A lock, to be held in the mode M: `Shared`, `Exclusive` or `Upgradable`.
@@ -82,8 +82,8 @@ impl<'a, M: ShowMode<'a, R, T>, R: RawRwLock, T> Acquire for InMode<'a, M, R, T>
         M::try_show(self.rwlock)
     }
 
-    fn show(&self) -> M::Shown {
-        M::show(self.rwlock)
+    fn wait_to_show(&self) -> M::Shown {
+        M::wait_to_show(self.rwlock)
     }
 }
 

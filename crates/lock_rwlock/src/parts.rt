@@ -6,6 +6,8 @@ ghost use Rattle.lock_guard.specs.Closure.{ReadsSomeValue, AnswersSomeValue};
 ghost use Rattle.lock_rwlock.specs.RwLock.{raw_of};
 
 use crate::lock::RwLock;
+use crate::mode::{Exclusive, InMode, Shared};
+use lock_guard::guard::Acquire;
 use lock_guard::raw::RawRwLock;
 pub use upgraded::{
     try_with_upgraded, try_with_upgraded_for, try_with_upgraded_until, with_upgraded,
@@ -23,7 +25,7 @@ pub fn read_with<R: RawRwLock, T, U, F: FnOnce(&T) -> U>(rwlock: &RwLock<R, T>, 
     requires { F.IsAlwaysCallable f }
     ensures { ReadsSomeValue F.FnOnce f result }
 {
-    let value = rwlock.value.read(rwlock.raw.waiter());
+    let value = InMode::<Shared, R, T>::new(rwlock).show();
     f(&value)
 }
 
@@ -32,6 +34,6 @@ pub fn write_with<R: RawRwLock, T, U, F: FnOnce(&mut T) -> U>(rwlock: &RwLock<R,
     requires { F.IsAlwaysCallable f }
     ensures { AnswersSomeValue F.FnOnce f result }
 {
-    let mut value = rwlock.value.write(rwlock.raw.waiter());
+    let mut value = InMode::<Exclusive, R, T>::new(rwlock).show();
     f(&mut value)
 }

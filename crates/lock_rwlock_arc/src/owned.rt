@@ -48,7 +48,7 @@ impl<M: LockMode<R>, R: RawRwLock + Drop, T: Drop> Acquire for OwnedInMode<M, R,
         Some(())
     }
 
-    fn show(&self) {}
+    fn wait_to_show(&self) {}
 }
 
 impl<M: FairMode<R>, R: RawRwLock + Drop, T: Drop> AcquireFair for OwnedInMode<M, R, T> {

@@ -30,11 +30,11 @@ pub struct Held<L: Acquire> {
 }
 
 impl<L: Acquire> Held<L> {
-    /// The lock held by that token of its own. It waits for the std lock: `held` tries it first.
+    /// The lock held by that token of its own. It waits for the std lock: `held!` tries it first.
     pub fn new(lock: L, token: L::Token) -> Held<L>
         ensures { result.lock ≡ lock }
     {
-        let shown = lock.show();
+        let shown = lock.wait_to_show();
         Held {
             lock,
             inner: Inner::Filled(token, shown),

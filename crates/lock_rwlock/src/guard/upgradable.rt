@@ -2,12 +2,11 @@
 ghost use Rattle.std.specs.Prelude.{◌≡◌, IfSome, IfErr, MatchResult, is_ok};
 ghost use Rattle.lock_guard.specs.Closure.{AnswersSomeValue};
 
-use super::{RwLockGuard, RwLockReadGuard, RwLockWriteGuard};
+use super::{RwLockGuard, RwLockReadGuard, RwLockWriteGuard, guard};
 use crate::lock::RwLock;
 use crate::mode::{InMode, Upgradable};
 use crate::parts;
 use lock_guard::guard::{Acquire, Held, Inner};
-use lock_guard::held;
 use lock_guard::raw::{RawRwLockUpgrade, RawRwLockUpgradeDowngrade, RawRwLockUpgradeTimed};
 use std::sync;
 
@@ -30,9 +29,7 @@ impl<'a, R: RawRwLockUpgrade, T> RwLockGuard<InMode<'a, Upgradable, R, T>> {
         ensures { SameLock guard.entry result }
     {
         let (lock, token) = guard.into_token();
-        RwLockGuard {
-            held: held!(InMode::new(lock.rwlock), lock.rwlock.raw.upgrade(token)),
-        }
+        guard!(lock.rwlock, lock.rwlock.raw.upgrade(token))
     }
 
     /// The right to write in place of this one, or this one again where the raw lock refuses.
@@ -60,9 +57,7 @@ impl<'a, R: RawRwLockUpgrade, T> RwLockGuard<InMode<'a, Upgradable, R, T>> {
         match answer {
             Ok(token) => {
                 drop(shown);
-                Ok(RwLockGuard {
-                    held: held!(InMode::new(lock.rwlock), token),
-                })
+                Ok(guard!(lock.rwlock, token))
             }
             Err(token) => {
                 let inner = Inner::Filled(token, shown);
@@ -110,12 +105,7 @@ impl<'a, R: RawRwLockUpgradeDowngrade, T> RwLockGuard<InMode<'a, Upgradable, R, 
         ensures { SameLock guard.entry result }
     {
         let (lock, token) = guard.into_token();
-        RwLockGuard {
-            held: held!(
-                InMode::new(lock.rwlock),
-                lock.rwlock.raw.downgrade_upgradable(token)
-            ),
-        }
+        guard!(lock.rwlock, lock.rwlock.raw.downgrade_upgradable(token))
     }
 
     /// Calls the closure on the value while this is the one that writes, once no other guard is left.

@@ -1,10 +1,9 @@
 //! The guard of an exclusive lock.
 ghost use Rattle.std.specs.Prelude.{◌≡◌};
 
-use super::{RwLockGuard, RwLockReadGuard, RwLockUpgradableReadGuard};
+use super::{RwLockGuard, RwLockReadGuard, RwLockUpgradableReadGuard, guard};
 use crate::lock::RwLock;
 use crate::mode::{Exclusive, InMode};
-use lock_guard::held;
 use lock_guard::raw::{RawRwLock, RawRwLockDowngrade, RawRwLockUpgradeDowngrade};
 
 /// The right to read and write the value of a lock.
@@ -29,9 +28,7 @@ impl<'a, R: RawRwLockDowngrade, T> RwLockGuard<InMode<'a, Exclusive, R, T>> {
         ensures { SameLock guard.entry result }
     {
         let (lock, token) = guard.into_token();
-        RwLockGuard {
-            held: held!(InMode::new(lock.rwlock), lock.rwlock.raw.downgrade(token)),
-        }
+        guard!(lock.rwlock, lock.rwlock.raw.downgrade(token))
     }
 }
 
@@ -46,8 +43,6 @@ impl<'a, R: RawRwLockUpgradeDowngrade, T> RwLockGuard<InMode<'a, Exclusive, R, T
     {
         let (lock, token) = guard.into_token();
         let token = lock.rwlock.raw.downgrade_to_upgradable(token);
-        RwLockGuard {
-            held: held!(InMode::new(lock.rwlock), token),
-        }
+        guard!(lock.rwlock, token)
     }
 }

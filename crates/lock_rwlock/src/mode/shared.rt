@@ -40,7 +40,7 @@ impl<'a, R: RawRwLock, T: 'a> ShowMode<'a, R, T> for Shared {
     /// Apart from the way of those that need not wait.
     #[cold]
     #[inline(never)]
-    fn show(rwlock: &'a RwLock<R, T>) -> sync::RwLockReadGuard<'a, T> {
+    fn wait_to_show(rwlock: &'a RwLock<R, T>) -> sync::RwLockReadGuard<'a, T> {
         rwlock.value.read(rwlock.raw.waiter())
     }
 }
