@@ -1,5 +1,6 @@
 ghost use Rattle.std.specs.Prelude.{◌≡◌, ◌↔◌, IfOk, IfErr, IsOkUnless};
 ghost use Rattle.lock_base.specs.Limits.{IsLimit, IsMakerFault};
+ghost use Rattle.lock_remutex.specs.Guards.{raw_under};
 
 use lock_base::machine::PartyId;
 use lock_base::raw::{Fault, Levels};
@@ -40,9 +41,9 @@ where
         Ok(RawReentrantMutex { raw, levels })
     }
 
-    /// A lock of `DEFAULT_LEVELS` round this raw lock.
-    pub(crate) fn from_raw(raw: R) -> Self
-        ensures { result.raw ≡ raw }
+    /// A lock of `DEFAULT_LEVELS` over a raw lock that was made apart.
+    pub fn from_raw(raw: R) -> Self
+        ensures { raw_under result ≡ raw }
     {
         let levels = Mutex::new(Levels::default());
         RawReentrantMutex { raw, levels }
@@ -55,7 +56,7 @@ where
 {
     /// The raw lock. A token that is left is dropped.
     pub(crate) fn into_raw(self) -> R
-        ensures { result ≡ self.raw }
+        ensures { result ≡ raw_under self }
     {
         let RawReentrantMutex { raw, levels: _ } = self;
         raw

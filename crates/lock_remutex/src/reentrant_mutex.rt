@@ -22,7 +22,7 @@ where
 {
     ghost use Rattle.std.specs.Prelude.{◌≡◌, ◌↔◌, IsOk, IfOk, IfErr, IsOkUnless};
     ghost use Rattle.lock_base.specs.Limits.{IsLimit, IsMakerFault};
-    ghost use Rattle.lock_remutex.specs.Guards.{value_of};
+    ghost use Rattle.lock_remutex.specs.Guards.{raw_of, value_of};
 
     /// A free lock of `DEFAULT_LEVELS` over a new raw lock. Where that is refused, the value is dropped.
     pub fn new(alloc: Global, waiter: R::Waiter, value: T) -> Result<Self, Fault>
@@ -76,6 +76,7 @@ where
     /// A lock of `DEFAULT_LEVELS` over a raw lock that was made apart. It takes no memory, so it is never refused.
     pub fn from_raw(raw: R, value: T) -> Result<Self, Fault>
         ensures made { IsOk result }
+        ensures raw { IfOk result (λ lock. raw_of lock ≡ raw) }
         ensures value { IfOk result (λ lock. value_of lock ≡ value) }
     {
         let raw = RawReentrantMutex::from_raw(raw);
@@ -90,7 +91,7 @@ where
     ghost use Rattle.std.specs.Prelude.{◌≡◌, ◌↔◌, IsTrue, IsSome, IfOk, IfErr, IfSome};
     ghost use Rattle.std.specs.Borrow.{Lends, sem};
     ghost use Rattle.lock_base.specs.Party.{id_of};
-    ghost use Rattle.lock_remutex.specs.Guards.{value_of, with_value, IsGuardOf};
+    ghost use Rattle.lock_remutex.specs.Guards.{raw_of, value_of, with_value, IsGuardOf};
     ghost use Rattle.lock_remutex.specs.contracts.reentrant_mutex.ReentrantMutex.{the_row};
 
     pub fn into_inner(self) -> T
@@ -103,7 +104,8 @@ where
 
     /// The raw lock with the value. A token that is left in the lock is dropped.
     pub fn into_inner_with_raw(self) -> (R, T)
-        ensures { result.1 ≡ value_of self }
+        ensures raw { result.0 ≡ raw_of self }
+        ensures value { result.1 ≡ value_of self }
     {
         let ReentrantMutex { raw, value } = self;
         (raw.into_raw(), value)
