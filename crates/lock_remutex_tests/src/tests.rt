@@ -52,14 +52,15 @@ fn answers_and_calls<
 >(
     rt: &T,
     alloc: Global,
-    waiters: (Waiters<R>, [R::Waiter; 3]),
+    waiters: (Waiters<R>, [R::Waiter; 4], [R::Waiter; 3]),
     watchers: [T; 3],
 ) -> Result<(), Fail>
 where
     R::Guard: Send + Drop,
 {
-    let (of_answers, of_calls) = waiters;
+    let (of_answers, of_makers, of_calls) = waiters;
     answers::<R>(rt, alloc, of_answers)?;
+    makers::check_calls::<R, T>(alloc, of_makers, rt)?;
     raw_calls::check::<R, T>(alloc, of_calls, watchers)
 }
 
@@ -67,7 +68,7 @@ where
 #[test]
 fn answers_and_calls_on_one_thread(rt: HostRuntime) -> Result<(), Fail> {
     let of_answers = ([rt; 3], ([rt; 3], [rt; 4], [rt; 4]), [rt; 3]);
-    let waiters = (of_answers, [rt; 3]);
+    let waiters = (of_answers, [rt; 4], [rt; 3]);
     answers_and_calls::<TokenRaw<HostRuntime>, HostRuntime>(&rt, rt.alloc(), waiters, [rt; 3])
 }
 

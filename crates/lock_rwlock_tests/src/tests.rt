@@ -36,32 +36,54 @@ where
     upgrades::check(&lock)?;
     order::check(&lock)?;
     let lock: RwLock<R, i64> = RwLock::new(alloc, last, 5)?;
-    arc::check(alloc, &Arc::new(alloc, lock)?)
+    arc::check(&Arc::new(alloc, lock)?)
 }
 
-/// What the raw lock is asked, where guards borrow a lock and where they keep one alive.
-fn calls<R: RawRwLockUpgradeFair + RawRwLockUpgradeDowngrade + Drop, W: Wait + Drop>(
+/// What the raw lock is asked where guards borrow a lock, and at the end of one.
+fn calls_by_a_borrow<R: RawRwLockUpgradeFair + RawRwLockUpgradeDowngrade + Drop, W: Wait + Drop>(
     alloc: Global,
-    waiters: [R::Waiter; 2],
-    watchers: [W; 2],
+    waiter: R::Waiter,
+    watcher: W,
 ) -> Result<(), Fail> {
-    let [first, second] = waiters;
-    let [first_watcher, second_watcher] = watchers;
-    let raw: AskedRaw<R> = RawRwLock::new(alloc, first, 8)?;
-    let mut watch = Watch::new(first_watcher, raw.calls()?);
+    let raw: AskedRaw<R> = RawRwLock::new(alloc, waiter, 8)?;
+    let mut watch = Watch::new(watcher, raw.calls()?);
     let mut lock = RwLock::from_raw(raw, ((0, 0), 0))?;
-    raw_calls::all_calls(&lock, &mut watch);
+    raw_calls::all_calls(alloc, &lock, &mut watch)?;
     *lock.get_mut() = ((5, 2), 0);
-    drop(lock.into_inner_with_raw());
+    let (raw, value) = lock.into_inner_with_raw();
+    RwLock::from_raw(raw, value)?.into_inner();
     watch.saw(&[]);
-    watch.verdict()?;
-    let raw: AskedRaw<R> = RawRwLock::new(alloc, second, 8)?;
-    let mut watch = Watch::new(second_watcher, raw.calls()?);
+    watch.verdict()
+}
+
+/// What the raw lock is asked where guards keep a lock alive, and where the last owner goes.
+fn calls_by_an_arc<R: RawRwLockUpgradeFair + RawRwLockUpgradeDowngrade + Drop, W: Wait + Drop>(
+    alloc: Global,
+    waiter: R::Waiter,
+    watcher: W,
+) -> Result<(), Fail> {
+    let raw: AskedRaw<R> = RawRwLock::new(alloc, waiter, 8)?;
+    let mut watch = Watch::new(watcher, raw.calls()?);
     let lock = Arc::new(alloc, RwLock::from_raw(raw, 5)?)?;
     texts::check(alloc, &lock)?;
     watch.saw(&texts::RAW_CALLS);
-    arc_raw_calls::all_calls(&lock, &mut watch)?;
+    arc_raw_calls::all_calls(alloc, &lock, &mut watch)?;
+    drop(lock);
+    watch.saw(&[]);
     watch.verdict()
+}
+
+/// What the raw lock is asked.
+fn calls<R: RawRwLockUpgradeFair + RawRwLockUpgradeDowngrade + Drop, W: Wait + Drop>(
+    alloc: Global,
+    waiters: ([R::Waiter; 2], [R::Waiter; 4]),
+    watchers: [W; 2],
+) -> Result<(), Fail> {
+    let ([first, second], of_makers) = waiters;
+    let [first_watcher, second_watcher] = watchers;
+    makers::check_calls::<R, W>(alloc, of_makers, &first_watcher)?;
+    calls_by_a_borrow::<R, W>(alloc, first, first_watcher)?;
+    calls_by_an_arc::<R, W>(alloc, second, second_watcher)
 }
 
 /// Answers, and what the raw lock is asked.
@@ -71,7 +93,11 @@ fn answers_and_calls<
         + RawRwLockUpgradeDowngrade
         + Drop,
     W: Wait + Drop,
->(alloc: Global, waiters: ([R::Waiter; 6], [R::Waiter; 2]), watchers: [W; 2]) -> Result<(), Fail>
+>(
+    alloc: Global,
+    waiters: ([R::Waiter; 6], ([R::Waiter; 2], [R::Waiter; 4])),
+    watchers: [W; 2],
+) -> Result<(), Fail>
 where
     R::SharedGuard: Drop,
 {
@@ -83,5 +109,5 @@ where
 /// One test, since each that names the raw lock has to prove anew what that is.
 #[test]
 fn answers_and_calls_on_one_thread(rt: HostRuntime) -> Result<(), Fail> {
-    answers_and_calls::<Honest, HostRuntime>(rt.alloc(), ([rt; 6], [rt; 2]), [rt; 2])
+    answers_and_calls::<Honest, HostRuntime>(rt.alloc(), ([rt; 6], ([rt; 2], [rt; 4])), [rt; 2])
 }

@@ -170,7 +170,8 @@ fn notify<R: RawMutex>(condvar: &Condvar<AskedCondvar<R>>, woken: usize) -> (boo
     (one, all, condvar.raw().got(&[NotifyOne, NotifyAll]))
 }
 
-/// Each wait is one call of the raw one and unlocks once, and each notification is one call.
+/// Each wait is one call of the raw one and unlocks once, and each notification is one call and asks the
+/// mutex nothing.
 pub fn check_calls<W: sync::Wait + Drop, R: RawMutexTimed<Duration = u64, Instant = u64>>(
     condvar: &Condvar<AskedCondvar<R>>,
     checks: &Checks<R>,
@@ -189,6 +190,7 @@ pub fn check_calls<W: sync::Wait + Drop, R: RawMutexTimed<Duration = u64, Instan
     equal(conditional_waits(condvar, checks), wanted)?;
     watch.saw(&CONDITIONAL_WAITS);
     let seen = (notify(condvar, 0), notify(condvar, 3));
+    watch.saw(&[]);
     equal(seen, ((false, 0, true), (true, 3, true)))
 }
 

@@ -4,7 +4,9 @@ use lock_base::raw::Fault;
 use lock_guard::raw::RawMutex;
 use lock_mutex::Mutex;
 use lock_test_support::answer::{equal, holds_or_lacks_memory};
+use lock_test_support::raw_lock::AskedRaw;
 use std::alloc::Global;
+use std::sync::Wait;
 use std::test::Fail;
 
 pub fn check<R: RawMutex + Drop>(
@@ -18,6 +20,30 @@ pub fn check<R: RawMutex + Drop>(
     let is_free = !raw.is_locked();
     let from: Mutex<R, u64> = Mutex::from(alloc, again, 5)?;
     equal((value, is_free, from.into_inner()), (6, true, 5))
+}
+
+/// How many calls the raw lock of a mutex got that was just made.
+fn asked<R: RawMutex + Drop, W: Wait>(
+    made: Result<Mutex<AskedRaw<R>, u64>, Fault>,
+    watcher: &W,
+) -> Result<usize, Fault> {
+    let (raw, _) = made?.into_inner_with_raw();
+    Ok(raw.calls()?.count(watcher))
+}
+
+/// No maker asks its raw lock anything.
+pub fn check_calls<R: RawMutex + Drop, W: Wait>(
+    alloc: Global,
+    waiters: [R::Waiter; 3],
+    watcher: &W,
+) -> Result<(), Fail> {
+    let [first, second, third] = waiters;
+    let asked = [
+        asked::<R, W>(Mutex::new(alloc, first, 5), watcher)?,
+        asked::<R, W>(Mutex::from(alloc, second, 5), watcher)?,
+        asked::<R, W>(Mutex::default(alloc, third), watcher)?,
+    ];
+    equal(asked, [0; 3])
 }
 
 fn holds_or_lacks<R: RawMutex + Drop>(made: Result<Mutex<R, u64>, Fault>, value: u64) -> bool {

@@ -11,6 +11,7 @@ use lock_test_support::raw_lock::RawCall::{
     self, Bump, IsLocked, Lock, TryLock, TryLockFor, TryLockUntil, Unlock, UnlockFair,
 };
 use lock_test_support::raw_lock::{Liar, Watch};
+use std::alloc::Global;
 use std::sync::Wait;
 use std::test::Fail;
 
@@ -84,14 +85,17 @@ fn refused_tries<W: Wait + Drop, R: RawMutexTimed<Duration = u64, Instant = u64>
 
 /// All of these, on a mutex that is free before and after each.
 pub fn all_calls<W: Wait + Drop, R: RawMutexFair + RawMutexTimed<Duration = u64, Instant = u64>>(
+    alloc: Global,
     mutex: &Paired<R>,
     watch: &mut Watch<W, RawCall>,
-) {
+) -> Result<(), Fail> {
     acquisitions(mutex, watch);
     calls_of_a_guard(mutex, watch);
     refused_tries(mutex, watch);
     mapped::maps(mutex, watch);
+    mapped::texts(alloc, mutex, watch)?;
     mapped::uses_of_parts(mutex, watch);
+    Ok(())
 }
 
 #[test]

@@ -6,8 +6,10 @@ use lock_raws::TokenRaw;
 use lock_remutex::{RawReentrantMutex, ReentrantMutex};
 use lock_test_support::answer::equal;
 use lock_test_support::party;
+use lock_test_support::raw_lock::AskedRaw;
 use std::alloc::Global;
 use std::mem;
+use std::sync::Wait;
 use std::test::Fail;
 
 /// Whether the party gets a hundred levels, which stay taken.
@@ -96,6 +98,37 @@ where
     put_in_and_out::<R>(alloc, values)?;
     limits_of_levels::<R>(alloc, limits)?;
     makers_give_many_levels::<R>(alloc, levels)
+}
+
+/// How many calls the raw lock of a lock got that was just made.
+fn asked<R: RawMutex + Drop, W: Wait>(
+    made: Result<ReentrantMutex<AskedRaw<R>, u8>, Fault>,
+    watcher: &W,
+) -> Result<usize, Fault>
+where
+    R::Guard: Drop,
+{
+    let (raw, _) = made?.into_inner_with_raw();
+    Ok(raw.calls()?.count(watcher))
+}
+
+/// No maker asks its raw lock anything.
+pub fn check_calls<R: RawMutex + Drop, W: Wait>(
+    alloc: Global,
+    waiters: [R::Waiter; 4],
+    watcher: &W,
+) -> Result<(), Fail>
+where
+    R::Guard: Send + Drop,
+{
+    let [first, second, third, last] = waiters;
+    let asked = [
+        asked::<R, W>(ReentrantMutex::new(alloc, first, 5), watcher)?,
+        asked::<R, W>(ReentrantMutex::from(alloc, second, 5), watcher)?,
+        asked::<R, W>(ReentrantMutex::default(alloc, third), watcher)?,
+        asked::<R, W>(ReentrantMutex::with_levels(alloc, last, 1, 5), watcher)?,
+    ];
+    equal(asked, [0; 4])
 }
 
 /// Whether a maker was refused for want of memory, if at all.

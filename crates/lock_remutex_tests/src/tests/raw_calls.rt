@@ -4,6 +4,7 @@ mod borrowed;
 mod levels;
 pub mod lies;
 mod mapped;
+mod raw;
 
 use super::texts;
 use lock_base::machine::PartyId;
@@ -24,10 +25,16 @@ type Paired<R> = ReentrantMutex<R, Nested>;
 fn calls_by_a_borrow<
     W: Wait + Drop,
     R: RawMutexFair + RawMutexTimed<Duration = u64, Instant = u64>,
->(lock: &Paired<R>, watch: &mut Watch<W, RawCall>, one: PartyId, two: PartyId) -> Result<(), Fault>
+>(
+    alloc: Global,
+    lock: &Paired<R>,
+    watch: &mut Watch<W, RawCall>,
+    parties: (PartyId, PartyId),
+) -> Result<(), Fail>
 where
     R::Guard: Drop,
 {
+    let (one, two) = parties;
     borrowed::acquisitions(lock, watch, one);
     borrowed::calls_of_a_guard(lock, watch, one)?;
     borrowed::tries_of_another(lock, watch, one, two)?;
@@ -36,7 +43,9 @@ where
     levels::ends(lock, watch, one)?;
     mapped::maps(lock, watch, one)?;
     mapped::misses(lock, watch, one)?;
-    mapped::uses_of_parts(lock, watch, one)
+    mapped::texts(alloc, lock, watch, one)?;
+    mapped::uses_of_parts(lock, watch, one)?;
+    Ok(())
 }
 
 /// What guards ask that keep the lock alive, and texts of it.
@@ -64,7 +73,7 @@ where
     Ok(())
 }
 
-/// What guards ask that borrow a lock, and what the calls ask that end one.
+/// What guards ask that borrow a lock, what the calls ask that end one, and what its raw lock's levels ask alone.
 fn all_calls_by_a_borrow<R: RawMutexFair + Drop, W: Wait + Drop>(
     alloc: Global,
     waiter: R::Waiter,
@@ -77,15 +86,16 @@ where
     let raw: AskedRaw<R> = RawMutex::new(alloc, waiter)?;
     let mut watch = Watch::new(watcher, raw.calls()?);
     let mut lock = ReentrantMutex::from_raw(raw, ((0, 0), 0))?;
-    calls_by_a_borrow(&lock, &mut watch, one, two)?;
+    calls_by_a_borrow(alloc, &lock, &mut watch, (one, two))?;
     *lock.get_mut() = ((5, 2), 0);
     let (raw, value) = lock.into_inner_with_raw();
-    ReentrantMutex::from_raw(raw, value)?.into_inner();
+    let lock = ReentrantMutex::from_raw(raw, value)?;
     watch.saw(&[]);
+    raw::all_calls(lock.into_inner_with_raw().0, &mut watch, one, two)?;
     watch.verdict()
 }
 
-/// What guards ask that keep a lock alive.
+/// What guards ask that keep a lock alive, and where the last owner goes.
 fn all_calls_by_an_arc<R: RawMutexFair + Drop, W: Wait + Drop>(
     alloc: Global,
     waiter: R::Waiter,
@@ -98,10 +108,12 @@ where
     let mut watch = Watch::new(watcher, raw.calls()?);
     let lock = Arc::new(alloc, ReentrantMutex::from_raw(raw, 5)?)?;
     calls_by_an_arc(alloc, &lock, &mut watch, two_parties()?)?;
+    drop(lock);
+    watch.saw(&[]);
     watch.verdict()
 }
 
-/// What a lock of one level asks, whose second is refused.
+/// What a lock of one level asks, whose second is refused, and its end.
 fn all_calls_at_a_full_count<R: RawMutexFair + Drop, W: Wait + Drop>(
     alloc: Global,
     waiter: R::Waiter,
@@ -112,8 +124,9 @@ where
 {
     let lock: Paired<AskedRaw<R>> = ReentrantMutex::with_levels(alloc, waiter, 1, ((0, 0), 0))?;
     levels::refused(&lock, party(1)?)?;
-    let (raw, _) = lock.into_inner_with_raw();
+    let (raw, value) = lock.into_inner_with_raw();
     let mut watch = Watch::new(watcher, raw.calls()?);
+    ReentrantMutex::from_raw(raw, value)?.into_inner();
     watch.saw(&levels::CALLS_OF_REFUSED);
     watch.verdict()
 }

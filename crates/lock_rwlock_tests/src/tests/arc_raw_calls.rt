@@ -9,16 +9,19 @@ use lock_guard::raw::{
 };
 use lock_rwlock::{FairMode, LockMode, RwLock};
 use lock_rwlock_arc::{
-    ArcRwLockGuard, ArcRwLockUpgradableReadGuard, ArcRwLockWriteGuard, RwLockArc, RwLockArcTimed,
-    RwLockArcUpgrade, RwLockArcUpgradeTimed,
+    ArcRwLockGuard, ArcRwLockReadGuard, ArcRwLockUpgradableReadGuard, ArcRwLockWriteGuard,
+    RwLockArc, RwLockArcTimed, RwLockArcUpgrade, RwLockArcUpgradeTimed,
 };
+use lock_test_support::answer::{equal, texts_are};
 use lock_test_support::raw_lock::RawCall::{
     self, Bump, Downgrade, DowngradeToUpgradable, DowngradeUpgradable, IsLocked, Lock, TryLock,
     TryLockFor, TryLockUntil, TryUpgrade, TryUpgradeFor, TryUpgradeUntil, Unlock, UnlockFair,
     Upgrade,
 };
 use lock_test_support::raw_lock::Watch;
+use std::alloc::Global;
 use std::sync::{Arc, Wait};
+use std::test::Fail;
 
 type Shareable<R> = Arc<RwLock<R, u64>>;
 
@@ -111,6 +114,18 @@ fn calls_of_guards<R: RawRwLockUpgradeFair + Drop, W: Wait + Drop>(
     Ok(())
 }
 
+/// The texts of a guard of a lock that holds 5.
+fn texts_of_guards<W: Wait + Drop, R: RawRwLock + Drop>(
+    alloc: Global,
+    lock: &Shareable<R>,
+    watch: &mut Watch<W, RawCall>,
+) -> Result<(), Fail> {
+    let reader: ArcRwLockReadGuard<R, u64> = RwLock::read_arc(lock)?;
+    equal(texts_are(alloc, &reader, "5"), true)?;
+    watch.saw_hold(reader, Shared);
+    Ok(())
+}
+
 fn ends_of_guards<R: RawRwLockUpgradeFair + Drop, W: Wait + Drop>(
     lock: &Shareable<R>,
     watch: &mut Watch<W, RawCall>,
@@ -181,7 +196,8 @@ pub fn all_calls<
         + RawRwLockUpgradeFair
         + RawRwLockUpgradeDowngrade
         + Drop,
->(lock: &Shareable<R>, watch: &mut Watch<W, RawCall>) -> Result<(), Fault> {
+>(alloc: Global, lock: &Shareable<R>, watch: &mut Watch<W, RawCall>) -> Result<(), Fail> {
+    texts_of_guards(alloc, lock, watch)?;
     acquisitions(lock, watch);
     upgradable_acquisitions(lock, watch);
     calls_of_guards(lock, watch)?;
@@ -190,5 +206,6 @@ pub fn all_calls<
     tried_upgrades(lock, Exclusive, watch)?;
     calls_under_an_upgrade(lock, watch)?;
     refused::upgrades(lock, watch)?;
-    refused::tries(lock, watch)
+    refused::tries(lock, watch)?;
+    Ok(())
 }

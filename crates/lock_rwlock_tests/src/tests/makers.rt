@@ -4,7 +4,9 @@ use lock_base::raw::Fault;
 use lock_guard::raw::RawRwLock;
 use lock_rwlock::RwLock;
 use lock_test_support::answer::{equal, holds_or_lacks_memory};
+use lock_test_support::raw_lock::AskedRaw;
 use std::alloc::Global;
+use std::sync::Wait;
 use std::test::Fail;
 
 /// How many of 66 tries give a token to read, none of which goes back.
@@ -41,6 +43,31 @@ where
         (from.into_inner(), is_held, again.into_inner()),
         (6, false, 5),
     )
+}
+
+/// How many calls the raw lock of a lock got that was just made.
+fn asked<R: RawRwLock + Drop, W: Wait>(
+    made: Result<RwLock<AskedRaw<R>, u64>, Fault>,
+    watcher: &W,
+) -> Result<usize, Fault> {
+    let (raw, _) = made?.into_inner_with_raw();
+    Ok(raw.calls()?.count(watcher))
+}
+
+/// No maker asks its raw lock anything.
+pub fn check_calls<R: RawRwLock + Drop, W: Wait>(
+    alloc: Global,
+    waiters: [R::Waiter; 4],
+    watcher: &W,
+) -> Result<(), Fail> {
+    let [first, second, third, last] = waiters;
+    let asked = [
+        asked::<R, W>(RwLock::new(alloc, first, 5), watcher)?,
+        asked::<R, W>(RwLock::from(alloc, second, 5), watcher)?,
+        asked::<R, W>(RwLock::default(alloc, third), watcher)?,
+        asked::<R, W>(RwLock::with_readers(alloc, last, 1, 5), watcher)?,
+    ];
+    equal(asked, [0; 4])
 }
 
 fn holds_or_lacks<R: RawRwLock + Drop>(made: Result<RwLock<R, u64>, Fault>, value: u64) -> bool {

@@ -18,6 +18,7 @@ use lock_test_support::raw_lock::RawCall::{
     UnlockFair, Upgrade,
 };
 use lock_test_support::raw_lock::{Liar, Watch};
+use std::alloc::Global;
 use std::sync::Wait;
 use std::test::Fail;
 
@@ -202,7 +203,7 @@ pub fn all_calls<
     R: RawRwLockUpgradeTimed<Duration = u64, Instant = u64>
         + RawRwLockUpgradeFair
         + RawRwLockUpgradeDowngrade,
->(lock: &Paired<R>, watch: &mut Watch<W, RawCall>) {
+>(alloc: Global, lock: &Paired<R>, watch: &mut Watch<W, RawCall>) -> Result<(), Fail> {
     acquisitions(lock, watch);
     upgradable_acquisitions(lock, watch);
     calls_of_a_guard(lock, lock.read(), Shared, watch);
@@ -211,7 +212,9 @@ pub fn all_calls<
     uses_of_guards(lock, watch);
     mapped::maps_of_readers(lock, watch);
     mapped::maps_of_writers(lock, watch);
+    mapped::texts(alloc, lock, watch)?;
     mapped::uses_of_parts(lock, watch);
+    mapped::uses_of_read_parts(lock, watch);
     transitions(lock, watch);
     timed_upgrades(lock, watch);
     calls_under_an_upgrade(lock, watch);
@@ -219,6 +222,7 @@ pub fn all_calls<
     refused::upgradable_tries(lock, watch);
     refused::upgrades(lock, watch);
     refused::calls_under_an_upgrade(lock, watch);
+    Ok(())
 }
 
 fn bumps_by_default<R: RawRwLockUpgradeFair>(raw: &R) {

@@ -1,10 +1,30 @@
 //! What guards of a part ask the raw lock, whatever the lock. Each guard was just acquired in the mode.
+use crate::answer::{equal, texts_are};
 use crate::raw_lock::raw_call::RawCall::{self, Lock, UnlockFair};
 use crate::raw_lock::watch::Watch;
 use lock_base::machine::Mode;
-use lock_base::project::{Project, TryProject, TryView};
+use lock_base::project::{Project, TryProject, TryView, View};
 use lock_guard::guard::{LockGuard, LockGuardFair, LockGuardMut, Mapped};
+use std::alloc::Global;
+use std::fmt::{Debug, Display};
 use std::sync::Wait;
+use std::test::Fail;
+
+/// Both its texts are this one.
+pub fn watch_texts<W: Wait + Drop, G: LockGuard, P: View<G::Value>>(
+    alloc: Global,
+    part: Mapped<G, P>,
+    wanted: &str,
+    mode: Mode,
+    watch: &mut Watch<W, RawCall>,
+) -> Result<(), Fail>
+where
+    P::Part: Debug + Display,
+{
+    equal(texts_are(alloc, &part, wanted), true)?;
+    watch.saw_hold(part, mode);
+    Ok(())
+}
 
 /// It is read, and ends by a fair release.
 pub fn watch_fair_end<W: Wait + Drop, G: LockGuardFair, P: TryView<G::Value>>(

@@ -7,9 +7,12 @@ use lock_guard::raw::{RawMutex, RawMutexFair};
 use lock_mutex::{Guard, MutexGuard};
 use lock_test_support::project::{Item0, Item1, Nth, inner_item};
 use lock_test_support::raw_lock::{
-    RawCall, Watch, watch_fair_end, watch_map, watch_try_map, watch_try_map_or_err, watch_write,
+    RawCall, Watch, watch_fair_end, watch_map, watch_texts, watch_try_map, watch_try_map_or_err,
+    watch_write,
 };
+use std::alloc::Global;
 use std::sync::Wait;
+use std::test::Fail;
 
 fn map<W: Wait + Drop, L: Acquire, P: View<<L::Shown as ValueGuard>::Value>>(
     guard: Guard<L>,
@@ -56,7 +59,7 @@ pub fn maps<W: Wait + Drop, R: RawMutexFair>(mutex: &Paired<R>, watch: &mut Watc
     try_map_or_err(mutex.lock(), inner_item(2), watch);
 }
 
-/// The guard of a part is written and mapped.
+/// The guard of a part is written, and mapped by a part that is there and by one that is not.
 pub fn uses_of_parts<W: Wait + Drop, R: RawMutex>(
     mutex: &Paired<R>,
     watch: &mut Watch<W, RawCall>,
@@ -68,16 +71,33 @@ pub fn uses_of_parts<W: Wait + Drop, R: RawMutex>(
         Exclusive,
         watch,
     );
-    watch_try_map(
-        MutexGuard::map(mutex.lock(), Item0),
-        Nth(2),
+    for index in [1, 2] {
+        watch_try_map(
+            MutexGuard::map(mutex.lock(), Item0),
+            Nth(index),
+            Exclusive,
+            watch,
+        );
+        watch_try_map_or_err(
+            MutexGuard::map(mutex.lock(), Item0),
+            Nth(index),
+            Exclusive,
+            watch,
+        );
+    }
+}
+
+/// The texts of a part, which is 0.
+pub fn texts<W: Wait + Drop, R: RawMutex>(
+    alloc: Global,
+    mutex: &Paired<R>,
+    watch: &mut Watch<W, RawCall>,
+) -> Result<(), Fail> {
+    watch_texts(
+        alloc,
+        MutexGuard::map(mutex.lock(), Item1),
+        "0",
         Exclusive,
         watch,
-    );
-    watch_try_map_or_err(
-        MutexGuard::map(mutex.lock(), Item0),
-        Nth(2),
-        Exclusive,
-        watch,
-    );
+    )
 }

@@ -89,6 +89,7 @@ where
     R::Guard: Drop,
 {
     let mut guard = ReentrantMutex::lock_arc(lock, party)?;
+    let _value = *guard;
     ArcReentrantMutexGuard::remutex(&guard);
     ArcReentrantMutexGuard::bump(&mut guard);
     drop(ArcReentrantMutexGuard::unlocked(guard, || lock.is_locked()));

@@ -8,9 +8,11 @@ use lock_guard::raw::{RawMutex, RawMutexFair};
 use lock_remutex::ReentrantMutexGuard;
 use lock_test_support::project::{Item0, Item1, Nested, Nth, inner_item};
 use lock_test_support::raw_lock::{
-    RawCall, Watch, watch_fair_end, watch_map, watch_try_map, watch_try_map_or_err,
+    RawCall, Watch, watch_fair_end, watch_map, watch_texts, watch_try_map, watch_try_map_or_err,
 };
+use std::alloc::Global;
 use std::sync::Wait;
+use std::test::Fail;
 
 /// The guard of a pair in a pair, which was just acquired.
 type Guard<'a, R> = ReentrantMutexGuard<'a, R, Nested>;
@@ -127,4 +129,18 @@ where
         );
     }
     Ok(())
+}
+
+/// The texts of a part, which is 0.
+pub fn texts<W: Wait + Drop, R: RawMutex>(
+    alloc: Global,
+    lock: &Paired<R>,
+    watch: &mut Watch<W, RawCall>,
+    party: PartyId,
+) -> Result<(), Fail>
+where
+    R::Guard: Drop,
+{
+    let part = ReentrantMutexGuard::map(lock.lock(party)?, Item1);
+    watch_texts(alloc, part, "0", Exclusive, watch)
 }

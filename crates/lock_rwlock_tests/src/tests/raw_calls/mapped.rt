@@ -7,9 +7,12 @@ use lock_guard::raw::{RawRwLock, RawRwLockFair};
 use lock_rwlock::{Mappable, RwLockGuard};
 use lock_test_support::project::{Item0, Item1, Nth, inner_item};
 use lock_test_support::raw_lock::{
-    RawCall, Watch, watch_fair_end, watch_map, watch_try_map, watch_try_map_or_err, watch_write,
+    RawCall, Watch, watch_fair_end, watch_map, watch_texts, watch_try_map, watch_try_map_or_err,
+    watch_write,
 };
+use std::alloc::Global;
 use std::sync::Wait;
+use std::test::Fail;
 
 fn map<W: Wait + Drop, L: Mappable, P: View<<L::Shown as ValueGuard>::Value>>(
     guard: RwLockGuard<L>,
@@ -75,7 +78,7 @@ pub fn maps_of_writers<W: Wait + Drop, R: RawRwLockFair>(
     try_map_or_err(lock.write(), inner_item(2), Exclusive, watch);
 }
 
-/// The guard of a part is written and mapped.
+/// The guard of a part is written, and mapped by a part that is there and by one that is not.
 pub fn uses_of_parts<W: Wait + Drop, R: RawRwLock>(
     lock: &Paired<R>,
     watch: &mut Watch<W, RawCall>,
@@ -87,16 +90,62 @@ pub fn uses_of_parts<W: Wait + Drop, R: RawRwLock>(
         Exclusive,
         watch,
     );
-    watch_try_map(
-        RwLockGuard::map(lock.write(), Item0),
-        Nth(2),
+    for index in [1, 2] {
+        watch_try_map(
+            RwLockGuard::map(lock.write(), Item0),
+            Nth(index),
+            Exclusive,
+            watch,
+        );
+        watch_try_map_or_err(
+            RwLockGuard::map(lock.write(), Item0),
+            Nth(index),
+            Exclusive,
+            watch,
+        );
+    }
+}
+
+/// The guard of a part that is read is mapped by a part that is there and by one that is not.
+pub fn uses_of_read_parts<W: Wait + Drop, R: RawRwLock>(
+    lock: &Paired<R>,
+    watch: &mut Watch<W, RawCall>,
+) {
+    watch_map(RwLockGuard::map(lock.read(), Item0), Item1, Shared, watch);
+    for index in [1, 2] {
+        watch_try_map(
+            RwLockGuard::map(lock.read(), Item0),
+            Nth(index),
+            Shared,
+            watch,
+        );
+        watch_try_map_or_err(
+            RwLockGuard::map(lock.read(), Item0),
+            Nth(index),
+            Shared,
+            watch,
+        );
+    }
+}
+
+/// The texts of a part, which is 0.
+pub fn texts<W: Wait + Drop, R: RawRwLock>(
+    alloc: Global,
+    lock: &Paired<R>,
+    watch: &mut Watch<W, RawCall>,
+) -> Result<(), Fail> {
+    watch_texts(
+        alloc,
+        RwLockGuard::map(lock.read(), Item1),
+        "0",
+        Shared,
+        watch,
+    )?;
+    watch_texts(
+        alloc,
+        RwLockGuard::map(lock.write(), Item1),
+        "0",
         Exclusive,
         watch,
-    );
-    watch_try_map_or_err(
-        RwLockGuard::map(lock.write(), Item0),
-        Nth(2),
-        Exclusive,
-        watch,
-    );
+    )
 }
