@@ -14,7 +14,7 @@ use lock_mutex::{Condvar, Mutex};
 use lock_raws::TokenRaw;
 use lock_test_support::raw_lock::{AskedRaw, Watch};
 use std::alloc::Global;
-use std::sync::{Arc, Wait};
+use std::sync::Arc;
 use std::test::Fail;
 
 /// An honest raw lock.
@@ -36,13 +36,9 @@ fn answers<R: RawMutexFair + RawMutexTimed<Duration = (), Instant = ()> + Drop>(
 }
 
 /// What the raw lock is asked where guards borrow a mutex, and at the end of one.
-fn calls_by_a_borrow<R: RawMutexFair + Drop, W: Wait + Drop>(
-    alloc: Global,
-    waiter: R::Waiter,
-    watcher: W,
-) -> Result<(), Fail> {
+fn calls_by_a_borrow<R: RawMutexFair + Drop>(alloc: Global, waiter: R::Waiter) -> Result<(), Fail> {
     let raw: AskedRaw<R> = RawMutex::new(alloc, waiter)?;
-    let mut watch = Watch::new(watcher, raw.calls()?);
+    let mut watch = Watch::new(raw.calls()?);
     let mut mutex = Mutex::from_raw(raw, ((0, 0), 0))?;
     raw_calls::all_calls(alloc, &mutex, &mut watch)?;
     *mutex.get_mut() = ((5, 2), 0);
@@ -53,13 +49,9 @@ fn calls_by_a_borrow<R: RawMutexFair + Drop, W: Wait + Drop>(
 }
 
 /// What the raw lock is asked where guards keep a mutex alive, and where the last owner goes.
-fn calls_by_an_arc<R: RawMutexFair + Drop, W: Wait + Drop>(
-    alloc: Global,
-    waiter: R::Waiter,
-    watcher: W,
-) -> Result<(), Fail> {
+fn calls_by_an_arc<R: RawMutexFair + Drop>(alloc: Global, waiter: R::Waiter) -> Result<(), Fail> {
     let raw: AskedRaw<R> = RawMutex::new(alloc, waiter)?;
-    let mut watch = Watch::new(watcher, raw.calls()?);
+    let mut watch = Watch::new(raw.calls()?);
     let mutex = Arc::new(alloc, Mutex::from_raw(raw, 5)?)?;
     texts::check(alloc, &mutex)?;
     watch.saw(&texts::RAW_CALLS);
@@ -70,48 +62,41 @@ fn calls_by_an_arc<R: RawMutexFair + Drop, W: Wait + Drop>(
 }
 
 /// What the raw lock is asked where a party waits and is notified.
-fn calls_by_a_condvar<R: RawMutexFair + Drop, W: Wait + Drop>(
+fn calls_by_a_condvar<R: RawMutexFair + Drop>(
     alloc: Global,
     waiter: R::Waiter,
-    watcher: W,
 ) -> Result<(), Fail> {
     let raw: AskedRaw<R> = RawMutex::new(alloc, waiter)?;
-    let mut watch = Watch::new(watcher, raw.calls()?);
+    let mut watch = Watch::new(raw.calls()?);
     let condvar: Condvar<AskedCondvar<AskedRaw<R>>> = Condvar::new(alloc)?;
     condvar::check_calls(&condvar, &Mutex::from_raw(raw, 0)?, &mut watch)?;
     watch.verdict()
 }
 
 /// What the raw lock is asked.
-fn calls<R: RawMutexFair + Drop, W: Wait + Drop>(
+fn calls<R: RawMutexFair + Drop>(
     alloc: Global,
     waiters: ([R::Waiter; 3], [R::Waiter; 3]),
-    watchers: [W; 3],
 ) -> Result<(), Fail> {
     let ([first, second, third], of_makers) = waiters;
-    let [first_watcher, second_watcher, third_watcher] = watchers;
-    makers::check_calls::<R, W>(alloc, of_makers, &first_watcher)?;
-    calls_by_a_borrow::<R, W>(alloc, first, first_watcher)?;
-    calls_by_an_arc::<R, W>(alloc, second, second_watcher)?;
-    calls_by_a_condvar::<R, W>(alloc, third, third_watcher)
+    makers::check_calls::<R>(alloc, of_makers)?;
+    calls_by_a_borrow::<R>(alloc, first)?;
+    calls_by_an_arc::<R>(alloc, second)?;
+    calls_by_a_condvar::<R>(alloc, third)
 }
 
 /// Answers, and what the raw lock is asked.
-fn answers_and_calls<
-    R: RawMutexFair + RawMutexTimed<Duration = (), Instant = ()> + Drop,
-    W: Wait + Drop,
->(
+fn answers_and_calls<R: RawMutexFair + RawMutexTimed<Duration = (), Instant = ()> + Drop>(
     alloc: Global,
     waiters: ([R::Waiter; 5], ([R::Waiter; 3], [R::Waiter; 3])),
-    watchers: [W; 3],
 ) -> Result<(), Fail> {
     let (of_answers, of_calls) = waiters;
     answers::<R>(alloc, of_answers)?;
-    calls::<R, W>(alloc, of_calls, watchers)
+    calls::<R>(alloc, of_calls)
 }
 
 /// One test, since each that names the raw lock has to prove anew what that is.
 #[test]
 fn answers_and_calls_on_one_thread(rt: HostRuntime) -> Result<(), Fail> {
-    answers_and_calls::<Honest, HostRuntime>(rt.alloc(), ([rt; 5], ([rt; 3], [rt; 3])), [rt; 3])
+    answers_and_calls::<Honest>(rt.alloc(), ([rt; 5], ([rt; 3], [rt; 3])))
 }

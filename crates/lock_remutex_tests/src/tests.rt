@@ -14,7 +14,6 @@ use lock_guard::raw::{RawMutex, RawMutexFair, RawMutexTimed};
 use lock_raws::TokenRaw;
 use std::alloc::Global;
 use std::process::Abort;
-use std::sync::Wait;
 use std::test::Fail;
 
 /// What permits waiting, for owners, for makers and for the rest of what is answered.
@@ -46,22 +45,18 @@ where
 }
 
 /// Answers, and what the raw lock is asked.
-fn answers_and_calls<
-    R: RawMutexFair + RawMutexTimed<Duration = (), Instant = ()> + Drop,
-    T: Abort + Wait + Drop,
->(
-    rt: &T,
+fn answers_and_calls<R: RawMutexFair + RawMutexTimed<Duration = (), Instant = ()> + Drop>(
+    rt: &impl Abort,
     alloc: Global,
     waiters: (Waiters<R>, [R::Waiter; 4], [R::Waiter; 3]),
-    watchers: [T; 3],
 ) -> Result<(), Fail>
 where
     R::Guard: Send + Drop,
 {
     let (of_answers, of_makers, of_calls) = waiters;
     answers::<R>(rt, alloc, of_answers)?;
-    makers::check_calls::<R, T>(alloc, of_makers, rt)?;
-    raw_calls::check::<R, T>(alloc, of_calls, watchers)
+    makers::check_calls::<R>(alloc, of_makers)?;
+    raw_calls::check::<R>(alloc, of_calls)
 }
 
 /// One test, since each that names the raw lock has to prove anew what that is.
@@ -69,11 +64,11 @@ where
 fn answers_and_calls_on_one_thread(rt: HostRuntime) -> Result<(), Fail> {
     let of_answers = ([rt; 3], ([rt; 3], [rt; 4], [rt; 4]), [rt; 3]);
     let waiters = (of_answers, [rt; 4], [rt; 3]);
-    answers_and_calls::<TokenRaw<HostRuntime>, HostRuntime>(&rt, rt.alloc(), waiters, [rt; 3])
+    answers_and_calls::<TokenRaw<HostRuntime>>(&rt, rt.alloc(), waiters)
 }
 
 #[test]
 fn a_raw_lock_that_lies_makes_no_second_owner(rt: HostRuntime) -> Result<(), Fail> {
     owners::one_owner(rt.alloc(), [rt; 2])?;
-    raw_calls::lies::check(rt.alloc(), [rt; 4])
+    raw_calls::lies::check(rt.alloc(), [rt; 2])
 }

@@ -16,7 +16,7 @@ use lock_raws::TokenRaw;
 use lock_rwlock::RwLock;
 use lock_test_support::raw_lock::{AskedRaw, Watch};
 use std::alloc::Global;
-use std::sync::{Arc, Wait};
+use std::sync::Arc;
 use std::test::Fail;
 
 /// An honest raw lock.
@@ -40,13 +40,12 @@ where
 }
 
 /// What the raw lock is asked where guards borrow a lock, and at the end of one.
-fn calls_by_a_borrow<R: RawRwLockUpgradeFair + RawRwLockUpgradeDowngrade + Drop, W: Wait + Drop>(
+fn calls_by_a_borrow<R: RawRwLockUpgradeFair + RawRwLockUpgradeDowngrade + Drop>(
     alloc: Global,
     waiter: R::Waiter,
-    watcher: W,
 ) -> Result<(), Fail> {
     let raw: AskedRaw<R> = RawRwLock::new(alloc, waiter, 8)?;
-    let mut watch = Watch::new(watcher, raw.calls()?);
+    let mut watch = Watch::new(raw.calls()?);
     let mut lock = RwLock::from_raw(raw, ((0, 0), 0))?;
     raw_calls::all_calls(alloc, &lock, &mut watch)?;
     *lock.get_mut() = ((5, 2), 0);
@@ -57,13 +56,12 @@ fn calls_by_a_borrow<R: RawRwLockUpgradeFair + RawRwLockUpgradeDowngrade + Drop,
 }
 
 /// What the raw lock is asked where guards keep a lock alive, and where the last owner goes.
-fn calls_by_an_arc<R: RawRwLockUpgradeFair + RawRwLockUpgradeDowngrade + Drop, W: Wait + Drop>(
+fn calls_by_an_arc<R: RawRwLockUpgradeFair + RawRwLockUpgradeDowngrade + Drop>(
     alloc: Global,
     waiter: R::Waiter,
-    watcher: W,
 ) -> Result<(), Fail> {
     let raw: AskedRaw<R> = RawRwLock::new(alloc, waiter, 8)?;
-    let mut watch = Watch::new(watcher, raw.calls()?);
+    let mut watch = Watch::new(raw.calls()?);
     let lock = Arc::new(alloc, RwLock::from_raw(raw, 5)?)?;
     texts::check(alloc, &lock)?;
     watch.saw(&texts::RAW_CALLS);
@@ -74,16 +72,14 @@ fn calls_by_an_arc<R: RawRwLockUpgradeFair + RawRwLockUpgradeDowngrade + Drop, W
 }
 
 /// What the raw lock is asked.
-fn calls<R: RawRwLockUpgradeFair + RawRwLockUpgradeDowngrade + Drop, W: Wait + Drop>(
+fn calls<R: RawRwLockUpgradeFair + RawRwLockUpgradeDowngrade + Drop>(
     alloc: Global,
     waiters: ([R::Waiter; 2], [R::Waiter; 4]),
-    watchers: [W; 2],
 ) -> Result<(), Fail> {
     let ([first, second], of_makers) = waiters;
-    let [first_watcher, second_watcher] = watchers;
-    makers::check_calls::<R, W>(alloc, of_makers, &first_watcher)?;
-    calls_by_a_borrow::<R, W>(alloc, first, first_watcher)?;
-    calls_by_an_arc::<R, W>(alloc, second, second_watcher)
+    makers::check_calls::<R>(alloc, of_makers)?;
+    calls_by_a_borrow::<R>(alloc, first)?;
+    calls_by_an_arc::<R>(alloc, second)
 }
 
 /// Answers, and what the raw lock is asked.
@@ -92,22 +88,17 @@ fn answers_and_calls<
         + RawRwLockUpgradeFair
         + RawRwLockUpgradeDowngrade
         + Drop,
-    W: Wait + Drop,
->(
-    alloc: Global,
-    waiters: ([R::Waiter; 6], ([R::Waiter; 2], [R::Waiter; 4])),
-    watchers: [W; 2],
-) -> Result<(), Fail>
+>(alloc: Global, waiters: ([R::Waiter; 6], ([R::Waiter; 2], [R::Waiter; 4]))) -> Result<(), Fail>
 where
     R::SharedGuard: Drop,
 {
     let (of_answers, of_calls) = waiters;
     answers::<R>(alloc, of_answers)?;
-    calls::<R, W>(alloc, of_calls, watchers)
+    calls::<R>(alloc, of_calls)
 }
 
 /// One test, since each that names the raw lock has to prove anew what that is.
 #[test]
 fn answers_and_calls_on_one_thread(rt: HostRuntime) -> Result<(), Fail> {
-    answers_and_calls::<Honest, HostRuntime>(rt.alloc(), ([rt; 6], ([rt; 2], [rt; 4])), [rt; 2])
+    answers_and_calls::<Honest>(rt.alloc(), ([rt; 6], ([rt; 2], [rt; 4])))
 }

@@ -11,7 +11,6 @@ use lock_test_support::answer::{debug_is, equal};
 use lock_test_support::raw_lock::RawCall::{self, Lock, Unlock};
 use lock_test_support::raw_lock::Watch;
 use std::alloc::Global;
-use std::sync;
 use std::test::Fail;
 
 /// How many checks were made.
@@ -172,10 +171,10 @@ fn notify<R: RawMutex>(condvar: &Condvar<AskedCondvar<R>>, woken: usize) -> (boo
 
 /// Each wait is one call of the raw one and unlocks once, and each notification is one call and asks the
 /// mutex nothing.
-pub fn check_calls<W: sync::Wait + Drop, R: RawMutexTimed<Duration = u64, Instant = u64>>(
+pub fn check_calls<R: RawMutexTimed<Duration = u64, Instant = u64>>(
     condvar: &Condvar<AskedCondvar<R>>,
     checks: &Checks<R>,
-    watch: &mut Watch<W, RawCall>,
+    watch: &mut Watch,
 ) -> Result<(), Fail> {
     let wanted = [
         (true, false),

@@ -6,7 +6,6 @@ use lock_mutex::Mutex;
 use lock_test_support::answer::{equal, holds_or_lacks_memory};
 use lock_test_support::raw_lock::AskedRaw;
 use std::alloc::Global;
-use std::sync::Wait;
 use std::test::Fail;
 
 pub fn check<R: RawMutex + Drop>(
@@ -22,28 +21,23 @@ pub fn check<R: RawMutex + Drop>(
     equal((value, is_free, from.into_inner()), (6, true, 5))
 }
 
-/// How many calls the raw lock of a mutex got that was just made.
-fn asked<R: RawMutex + Drop, W: Wait>(
+/// Whether the raw lock of a mutex that was just made got no call.
+fn is_unasked<R: RawMutex + Drop>(
     made: Result<Mutex<AskedRaw<R>, u64>, Fault>,
-    watcher: &W,
-) -> Result<usize, Fault> {
+) -> Result<bool, Fault> {
     let (raw, _) = made?.into_inner_with_raw();
-    Ok(raw.calls()?.count(watcher))
+    Ok(raw.calls()?.is_empty())
 }
 
 /// No maker asks its raw lock anything.
-pub fn check_calls<R: RawMutex + Drop, W: Wait>(
-    alloc: Global,
-    waiters: [R::Waiter; 3],
-    watcher: &W,
-) -> Result<(), Fail> {
+pub fn check_calls<R: RawMutex + Drop>(alloc: Global, waiters: [R::Waiter; 3]) -> Result<(), Fail> {
     let [first, second, third] = waiters;
-    let asked = [
-        asked::<R, W>(Mutex::new(alloc, first, 5), watcher)?,
-        asked::<R, W>(Mutex::from(alloc, second, 5), watcher)?,
-        asked::<R, W>(Mutex::default(alloc, third), watcher)?,
+    let unasked = [
+        is_unasked::<R>(Mutex::new(alloc, first, 5))?,
+        is_unasked::<R>(Mutex::from(alloc, second, 5))?,
+        is_unasked::<R>(Mutex::default(alloc, third))?,
     ];
-    equal(asked, [0; 3])
+    equal(unasked, [true; 3])
 }
 
 fn holds_or_lacks<R: RawMutex + Drop>(made: Result<Mutex<R, u64>, Fault>, value: u64) -> bool {

@@ -5,7 +5,7 @@ use lock_guard::raw::{RawMutex, RawMutexFair};
 use lock_mutex::{Condvar, Mutex, MutexGuard};
 use lock_raws::SpuriousCondvar;
 use lock_test_support::answer::equal;
-use lock_test_support::raw_lock::{Calls, Liar, RawCall};
+use lock_test_support::raw_lock::{Calls, Liar};
 use lock_test_support::wait_for_flag;
 use patient::Patient;
 use std::sync::Wait;
@@ -14,7 +14,7 @@ use std::test::Fail;
 use std::thread;
 
 /// Waits until the raw lock was asked so often.
-fn wait_for_calls<W: Wait>(waiter: &W, calls: &Calls<RawCall>, count: usize) {
+fn wait_for_calls<W: Wait>(waiter: &W, calls: &Calls, count: usize) {
     for _ in waiter.forever() {
         if calls.count(waiter) >= count {
             return;
@@ -48,7 +48,7 @@ pub fn check<R: RawMutexFair>(mutex: &Mutex<R, u64>) -> Result<(), Fail> {
 fn write_once_another_asked<W: Wait, R: RawMutex>(
     mutex: &Mutex<R, u64>,
     waiter: &W,
-    calls: &Calls<RawCall>,
+    calls: &Calls,
     is_held: &AtomicBool,
     before: usize,
 ) {

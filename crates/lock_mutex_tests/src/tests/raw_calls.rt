@@ -7,43 +7,28 @@ use lock_base::machine::Mode::Exclusive;
 use lock_guard::raw::{RawMutex, RawMutexFair, RawMutexTimed};
 use lock_mutex::{Mutex, MutexGuard};
 use lock_test_support::project::Nested;
-use lock_test_support::raw_lock::RawCall::{
-    self, Bump, IsLocked, Lock, TryLock, TryLockFor, TryLockUntil, Unlock, UnlockFair,
-};
+use lock_test_support::raw_lock::RawCall::{Bump, IsLocked, Lock, TryLock, Unlock, UnlockFair};
 use lock_test_support::raw_lock::{Liar, Watch};
 use std::alloc::Global;
-use std::sync::Wait;
 use std::test::Fail;
 
 /// A pair in a pair behind a mutex.
 type Paired<R> = Mutex<R, Nested>;
 
-fn acquisitions<W: Wait + Drop, R: RawMutexTimed<Duration = u64, Instant = u64>>(
+fn acquisitions<R: RawMutexTimed<Duration = u64, Instant = u64>>(
     mutex: &Paired<R>,
-    watch: &mut Watch<W, RawCall>,
+    watch: &mut Watch,
 ) {
     drop(mutex.lock());
     drop(mutex.try_lock());
     drop(mutex.try_lock_for(3));
     drop(mutex.try_lock_until(4));
+    watch.saw_acquisitions(Exclusive);
     mutex.is_locked();
-    watch.saw(&[
-        Lock(Exclusive),
-        Unlock(Exclusive),
-        TryLock(Exclusive),
-        Unlock(Exclusive),
-        TryLockFor(Exclusive, 3),
-        Unlock(Exclusive),
-        TryLockUntil(Exclusive, 4),
-        Unlock(Exclusive),
-        IsLocked,
-    ]);
+    watch.saw(&[IsLocked]);
 }
 
-fn calls_of_a_guard<W: Wait + Drop, R: RawMutexFair>(
-    mutex: &Paired<R>,
-    watch: &mut Watch<W, RawCall>,
-) {
+fn calls_of_a_guard<R: RawMutexFair>(mutex: &Paired<R>, watch: &mut Watch) {
     let mut guard = mutex.lock();
     guard.1 = guard.0.0;
     MutexGuard::mutex(&guard);
@@ -65,29 +50,22 @@ fn calls_of_a_guard<W: Wait + Drop, R: RawMutexFair>(
 }
 
 /// Tries beside a guard.
-fn refused_tries<W: Wait + Drop, R: RawMutexTimed<Duration = u64, Instant = u64>>(
+fn refused_tries<R: RawMutexTimed<Duration = u64, Instant = u64>>(
     mutex: &Paired<R>,
-    watch: &mut Watch<W, RawCall>,
+    watch: &mut Watch,
 ) {
     let guard = mutex.lock();
     drop(mutex.try_lock());
     drop(mutex.try_lock_for(3));
     drop(mutex.try_lock_until(4));
-    drop(guard);
-    watch.saw(&[
-        Lock(Exclusive),
-        TryLock(Exclusive),
-        TryLockFor(Exclusive, 3),
-        TryLockUntil(Exclusive, 4),
-        Unlock(Exclusive),
-    ]);
+    watch.saw_refused_tries(guard, Exclusive);
 }
 
 /// All of these, on a mutex that is free before and after each.
-pub fn all_calls<W: Wait + Drop, R: RawMutexFair + RawMutexTimed<Duration = u64, Instant = u64>>(
+pub fn all_calls<R: RawMutexFair + RawMutexTimed<Duration = u64, Instant = u64>>(
     alloc: Global,
     mutex: &Paired<R>,
-    watch: &mut Watch<W, RawCall>,
+    watch: &mut Watch,
 ) -> Result<(), Fail> {
     acquisitions(mutex, watch);
     calls_of_a_guard(mutex, watch);
@@ -101,7 +79,7 @@ pub fn all_calls<W: Wait + Drop, R: RawMutexFair + RawMutexTimed<Duration = u64,
 #[test]
 fn a_bump_by_default_is_a_fair_unlock_and_a_lock(rt: HostRuntime) -> Result<(), Fail> {
     let raw: Liar<HostRuntime> = RawMutex::new(rt.alloc(), rt)?;
-    let mut watch = Watch::new(rt, raw.calls()?);
+    let mut watch = Watch::new(raw.calls()?);
     raw.unlock(RawMutexFair::bump(&raw, RawMutex::lock(&raw)));
     watch.saw(&[
         Lock(Exclusive),
@@ -120,7 +98,7 @@ fn is_refused<R: RawMutex>(mutex: &Mutex<R, u64>) -> bool {
 fn a_refused_try_gives_nothing_back(rt: HostRuntime) -> Result<(), Fail> {
     let raw: Liar<HostRuntime> = RawMutex::new(rt.alloc(), rt)?;
     let raw = raw.refusing();
-    let mut watch = Watch::new(rt, raw.calls()?);
+    let mut watch = Watch::new(raw.calls()?);
     let mutex = Mutex::from_raw(raw, 5)?;
     assert!(rt; is_refused(&mutex));
     watch.saw(&[TryLock(Exclusive)]);

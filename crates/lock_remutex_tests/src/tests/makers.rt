@@ -9,7 +9,6 @@ use lock_test_support::party;
 use lock_test_support::raw_lock::AskedRaw;
 use std::alloc::Global;
 use std::mem;
-use std::sync::Wait;
 use std::test::Fail;
 
 /// Whether the party gets a hundred levels, which stay taken.
@@ -100,35 +99,30 @@ where
     makers_give_many_levels::<R>(alloc, levels)
 }
 
-/// How many calls the raw lock of a lock got that was just made.
-fn asked<R: RawMutex + Drop, W: Wait>(
+/// Whether the raw lock of a lock that was just made got no call.
+fn is_unasked<R: RawMutex + Drop>(
     made: Result<ReentrantMutex<AskedRaw<R>, u8>, Fault>,
-    watcher: &W,
-) -> Result<usize, Fault>
+) -> Result<bool, Fault>
 where
     R::Guard: Drop,
 {
     let (raw, _) = made?.into_inner_with_raw();
-    Ok(raw.calls()?.count(watcher))
+    Ok(raw.calls()?.is_empty())
 }
 
 /// No maker asks its raw lock anything.
-pub fn check_calls<R: RawMutex + Drop, W: Wait>(
-    alloc: Global,
-    waiters: [R::Waiter; 4],
-    watcher: &W,
-) -> Result<(), Fail>
+pub fn check_calls<R: RawMutex + Drop>(alloc: Global, waiters: [R::Waiter; 4]) -> Result<(), Fail>
 where
     R::Guard: Send + Drop,
 {
     let [first, second, third, last] = waiters;
-    let asked = [
-        asked::<R, W>(ReentrantMutex::new(alloc, first, 5), watcher)?,
-        asked::<R, W>(ReentrantMutex::from(alloc, second, 5), watcher)?,
-        asked::<R, W>(ReentrantMutex::default(alloc, third), watcher)?,
-        asked::<R, W>(ReentrantMutex::with_levels(alloc, last, 1, 5), watcher)?,
+    let unasked = [
+        is_unasked::<R>(ReentrantMutex::new(alloc, first, 5))?,
+        is_unasked::<R>(ReentrantMutex::from(alloc, second, 5))?,
+        is_unasked::<R>(ReentrantMutex::default(alloc, third))?,
+        is_unasked::<R>(ReentrantMutex::with_levels(alloc, last, 1, 5))?,
     ];
-    equal(asked, [0; 4])
+    equal(unasked, [true; 4])
 }
 
 /// Whether a maker was refused for want of memory, if at all.

@@ -8,27 +8,23 @@ mod raw;
 
 use super::texts;
 use lock_base::machine::PartyId;
-use lock_base::raw::Fault;
 use lock_guard::raw::{RawMutex, RawMutexFair, RawMutexTimed};
 use lock_remutex::ReentrantMutex;
 use lock_test_support::project::Nested;
-use lock_test_support::raw_lock::{AskedRaw, RawCall, Watch};
+use lock_test_support::raw_lock::{AskedRaw, Watch};
 use lock_test_support::{party, two_parties};
 use std::alloc::Global;
-use std::sync::{Arc, Wait};
+use std::sync::Arc;
 use std::test::Fail;
 
 /// A pair in a pair behind a lock.
 type Paired<R> = ReentrantMutex<R, Nested>;
 
 /// What guards ask that borrow the lock, which is free before and after each matter.
-fn calls_by_a_borrow<
-    W: Wait + Drop,
-    R: RawMutexFair + RawMutexTimed<Duration = u64, Instant = u64>,
->(
+fn calls_by_a_borrow<R: RawMutexFair + RawMutexTimed<Duration = u64, Instant = u64>>(
     alloc: Global,
     lock: &Paired<R>,
-    watch: &mut Watch<W, RawCall>,
+    watch: &mut Watch,
     parties: (PartyId, PartyId),
 ) -> Result<(), Fail>
 where
@@ -49,13 +45,10 @@ where
 }
 
 /// What guards ask that keep the lock alive, and texts of it.
-fn calls_by_an_arc<
-    W: Wait + Drop,
-    R: RawMutexFair + RawMutexTimed<Duration = u64, Instant = u64> + Drop,
->(
+fn calls_by_an_arc<R: RawMutexFair + RawMutexTimed<Duration = u64, Instant = u64> + Drop>(
     alloc: Global,
     lock: &Arc<ReentrantMutex<R, u64>>,
-    watch: &mut Watch<W, RawCall>,
+    watch: &mut Watch,
     parties: (PartyId, PartyId),
 ) -> Result<(), Fail>
 where
@@ -74,17 +67,16 @@ where
 }
 
 /// What guards ask that borrow a lock, what the calls ask that end one, and what its raw lock's levels ask alone.
-fn all_calls_by_a_borrow<R: RawMutexFair + Drop, W: Wait + Drop>(
+fn all_calls_by_a_borrow<R: RawMutexFair + Drop>(
     alloc: Global,
     waiter: R::Waiter,
-    watcher: W,
 ) -> Result<(), Fail>
 where
     R::Guard: Send + Drop,
 {
     let (one, two) = two_parties()?;
     let raw: AskedRaw<R> = RawMutex::new(alloc, waiter)?;
-    let mut watch = Watch::new(watcher, raw.calls()?);
+    let mut watch = Watch::new(raw.calls()?);
     let mut lock = ReentrantMutex::from_raw(raw, ((0, 0), 0))?;
     calls_by_a_borrow(alloc, &lock, &mut watch, (one, two))?;
     *lock.get_mut() = ((5, 2), 0);
@@ -96,16 +88,12 @@ where
 }
 
 /// What guards ask that keep a lock alive, and where the last owner goes.
-fn all_calls_by_an_arc<R: RawMutexFair + Drop, W: Wait + Drop>(
-    alloc: Global,
-    waiter: R::Waiter,
-    watcher: W,
-) -> Result<(), Fail>
+fn all_calls_by_an_arc<R: RawMutexFair + Drop>(alloc: Global, waiter: R::Waiter) -> Result<(), Fail>
 where
     R::Guard: Send + Drop,
 {
     let raw: AskedRaw<R> = RawMutex::new(alloc, waiter)?;
-    let mut watch = Watch::new(watcher, raw.calls()?);
+    let mut watch = Watch::new(raw.calls()?);
     let lock = Arc::new(alloc, ReentrantMutex::from_raw(raw, 5)?)?;
     calls_by_an_arc(alloc, &lock, &mut watch, two_parties()?)?;
     drop(lock);
@@ -114,10 +102,9 @@ where
 }
 
 /// What a lock of one level asks, whose second is refused, and its end.
-fn all_calls_at_a_full_count<R: RawMutexFair + Drop, W: Wait + Drop>(
+fn all_calls_at_a_full_count<R: RawMutexFair + Drop>(
     alloc: Global,
     waiter: R::Waiter,
-    watcher: W,
 ) -> Result<(), Fail>
 where
     R::Guard: Send + Drop,
@@ -125,24 +112,19 @@ where
     let lock: Paired<AskedRaw<R>> = ReentrantMutex::with_levels(alloc, waiter, 1, ((0, 0), 0))?;
     levels::refused(&lock, party(1)?)?;
     let (raw, value) = lock.into_inner_with_raw();
-    let mut watch = Watch::new(watcher, raw.calls()?);
+    let mut watch = Watch::new(raw.calls()?);
     ReentrantMutex::from_raw(raw, value)?.into_inner();
     watch.saw(&levels::CALLS_OF_REFUSED);
     watch.verdict()
 }
 
 /// What the raw lock is asked by guards that borrow a lock, by those that keep one alive, and at a full count.
-pub fn check<R: RawMutexFair + Drop, W: Wait + Drop>(
-    alloc: Global,
-    waiters: [R::Waiter; 3],
-    watchers: [W; 3],
-) -> Result<(), Fail>
+pub fn check<R: RawMutexFair + Drop>(alloc: Global, waiters: [R::Waiter; 3]) -> Result<(), Fail>
 where
     R::Guard: Send + Drop,
 {
     let [first, second, third] = waiters;
-    let [first_watcher, second_watcher, third_watcher] = watchers;
-    all_calls_by_a_borrow::<R, W>(alloc, first, first_watcher)?;
-    all_calls_by_an_arc::<R, W>(alloc, second, second_watcher)?;
-    all_calls_at_a_full_count::<R, W>(alloc, third, third_watcher)
+    all_calls_by_a_borrow::<R>(alloc, first)?;
+    all_calls_by_an_arc::<R>(alloc, second)?;
+    all_calls_at_a_full_count::<R>(alloc, third)
 }

@@ -5,7 +5,7 @@ use lock_base::raw::Fault;
 use lock_guard::raw::RawMutex;
 use lock_raws::TokenRaw;
 use lock_remutex::ReentrantMutex;
-use lock_test_support::raw_lock::{Calls, Liar, RawCall};
+use lock_test_support::raw_lock::{Calls, Liar};
 use lock_test_support::{two_parties, wait_for_flag};
 use std::alloc::Global;
 use std::sync::Wait;
@@ -79,7 +79,7 @@ fn two_parties_take_turns(rt: HostRuntime) -> Result<(), Fail> {
 struct Owned<R: RawMutex, W> {
     lock: ReentrantMutex<R, u64>,
     parties: (PartyId, PartyId),
-    calls: Calls<RawCall>,
+    calls: Calls,
     waiter: W,
     is_owned: AtomicBool,
 }

@@ -14,58 +14,48 @@ use lock_rwlock_arc::{
 };
 use lock_test_support::answer::{equal, texts_are};
 use lock_test_support::raw_lock::RawCall::{
-    self, Bump, Downgrade, DowngradeToUpgradable, DowngradeUpgradable, IsLocked, Lock, TryLock,
-    TryLockFor, TryLockUntil, TryUpgrade, TryUpgradeFor, TryUpgradeUntil, Unlock, UnlockFair,
-    Upgrade,
+    Bump, Downgrade, DowngradeToUpgradable, DowngradeUpgradable, IsLocked, Lock, TryUpgrade,
+    TryUpgradeFor, TryUpgradeUntil, Unlock, UnlockFair, Upgrade,
 };
 use lock_test_support::raw_lock::Watch;
 use std::alloc::Global;
-use std::sync::{Arc, Wait};
+use std::sync::Arc;
 use std::test::Fail;
 
 type Shareable<R> = Arc<RwLock<R, u64>>;
 
-fn acquisitions<W: Wait + Drop, R: RawRwLockTimed<Duration = u64, Instant = u64> + Drop>(
+fn acquisitions<R: RawRwLockTimed<Duration = u64, Instant = u64> + Drop>(
     lock: &Shareable<R>,
-    watch: &mut Watch<W, RawCall>,
+    watch: &mut Watch,
 ) {
     drop(RwLock::read_arc(lock));
-    watch.saw(&[Lock(Shared), Unlock(Shared)]);
     drop(RwLock::try_read_arc(lock));
-    watch.saw(&[TryLock(Shared), Unlock(Shared)]);
     drop(RwLock::try_read_arc_for(lock, 3));
-    watch.saw(&[TryLockFor(Shared, 3), Unlock(Shared)]);
     drop(RwLock::try_read_arc_until(lock, 4));
-    watch.saw(&[TryLockUntil(Shared, 4), Unlock(Shared)]);
+    watch.saw_acquisitions(Shared);
     drop(RwLock::write_arc(lock));
-    watch.saw(&[Lock(Exclusive), Unlock(Exclusive)]);
     drop(RwLock::try_write_arc(lock));
-    watch.saw(&[TryLock(Exclusive), Unlock(Exclusive)]);
     drop(RwLock::try_write_arc_for(lock, 3));
-    watch.saw(&[TryLockFor(Exclusive, 3), Unlock(Exclusive)]);
     drop(RwLock::try_write_arc_until(lock, 4));
-    watch.saw(&[TryLockUntil(Exclusive, 4), Unlock(Exclusive)]);
+    watch.saw_acquisitions(Exclusive);
 }
 
-fn upgradable_acquisitions<
-    W: Wait + Drop,
-    R: RawRwLockUpgradeTimed<Duration = u64, Instant = u64> + Drop,
->(lock: &Shareable<R>, watch: &mut Watch<W, RawCall>) {
+fn upgradable_acquisitions<R: RawRwLockUpgradeTimed<Duration = u64, Instant = u64> + Drop>(
+    lock: &Shareable<R>,
+    watch: &mut Watch,
+) {
     drop(RwLock::upgradable_read_arc(lock));
-    watch.saw(&[Lock(Upgradable), Unlock(Upgradable)]);
     drop(RwLock::try_upgradable_read_arc(lock));
-    watch.saw(&[TryLock(Upgradable), Unlock(Upgradable)]);
     drop(RwLock::try_upgradable_read_arc_for(lock, 3));
-    watch.saw(&[TryLockFor(Upgradable, 3), Unlock(Upgradable)]);
     drop(RwLock::try_upgradable_read_arc_until(lock, 4));
-    watch.saw(&[TryLockUntil(Upgradable, 4), Unlock(Upgradable)]);
+    watch.saw_acquisitions(Upgradable);
 }
 
 /// What a guard of the mode, which was just acquired, can do whatever its mode.
-fn calls_of_a_guard<W: Wait + Drop, M: FairMode<R>, R: RawRwLock + Drop>(
+fn calls_of_a_guard<M: FairMode<R>, R: RawRwLock + Drop>(
     guard: ArcRwLockGuard<M, R, u64>,
     mode: Mode,
-    watch: &mut Watch<W, RawCall>,
+    watch: &mut Watch,
 ) -> Shareable<R> {
     let mut guard = guard;
     ArcRwLockGuard::bump(&mut guard);
@@ -82,28 +72,28 @@ fn calls_of_a_guard<W: Wait + Drop, M: FairMode<R>, R: RawRwLock + Drop>(
 }
 
 /// The end of a guard of the mode, which was just acquired, by `into_arc`.
-fn end_guard<W: Wait + Drop, M: LockMode<R>, R: RawRwLock + Drop>(
+fn end_guard<M: LockMode<R>, R: RawRwLock + Drop>(
     guard: ArcRwLockGuard<M, R, u64>,
     mode: Mode,
-    watch: &mut Watch<W, RawCall>,
+    watch: &mut Watch,
 ) {
     drop(ArcRwLockGuard::into_arc(guard));
     watch.saw(&[Lock(mode), Unlock(mode)]);
 }
 
 /// The end of a guard of the mode, which was just acquired, by a fair release.
-fn end_guard_fair<W: Wait + Drop, M: FairMode<R>, R: RawRwLock + Drop>(
+fn end_guard_fair<M: FairMode<R>, R: RawRwLock + Drop>(
     guard: ArcRwLockGuard<M, R, u64>,
     mode: Mode,
-    watch: &mut Watch<W, RawCall>,
+    watch: &mut Watch,
 ) {
     ArcRwLockGuard::unlock_fair(guard);
     watch.saw(&[Lock(mode), UnlockFair(mode)]);
 }
 
-fn calls_of_guards<R: RawRwLockUpgradeFair + Drop, W: Wait + Drop>(
+fn calls_of_guards<R: RawRwLockUpgradeFair + Drop>(
     lock: &Shareable<R>,
-    watch: &mut Watch<W, RawCall>,
+    watch: &mut Watch,
 ) -> Result<(), Fault> {
     drop(calls_of_a_guard(RwLock::read_arc(lock)?, Shared, watch));
     drop(calls_of_a_guard(RwLock::write_arc(lock)?, Exclusive, watch));
@@ -115,10 +105,10 @@ fn calls_of_guards<R: RawRwLockUpgradeFair + Drop, W: Wait + Drop>(
 }
 
 /// The texts of a guard of a lock that holds 5.
-fn texts_of_guards<W: Wait + Drop, R: RawRwLock + Drop>(
+fn texts_of_guards<R: RawRwLock + Drop>(
     alloc: Global,
     lock: &Shareable<R>,
-    watch: &mut Watch<W, RawCall>,
+    watch: &mut Watch,
 ) -> Result<(), Fail> {
     let reader: ArcRwLockReadGuard<R, u64> = RwLock::read_arc(lock)?;
     equal(texts_are(alloc, &reader, "5"), true)?;
@@ -126,9 +116,9 @@ fn texts_of_guards<W: Wait + Drop, R: RawRwLock + Drop>(
     Ok(())
 }
 
-fn ends_of_guards<R: RawRwLockUpgradeFair + Drop, W: Wait + Drop>(
+fn ends_of_guards<R: RawRwLockUpgradeFair + Drop>(
     lock: &Shareable<R>,
-    watch: &mut Watch<W, RawCall>,
+    watch: &mut Watch,
 ) -> Result<(), Fault> {
     end_guard(RwLock::read_arc(lock)?, Shared, watch);
     end_guard(RwLock::write_arc(lock)?, Exclusive, watch);
@@ -140,9 +130,9 @@ fn ends_of_guards<R: RawRwLockUpgradeFair + Drop, W: Wait + Drop>(
 }
 
 /// Up, and down to each lower mode.
-fn transitions<W: Wait + Drop, R: RawRwLockUpgradeDowngrade + Drop>(
+fn transitions<R: RawRwLockUpgradeDowngrade + Drop>(
     lock: &Shareable<R>,
-    watch: &mut Watch<W, RawCall>,
+    watch: &mut Watch,
 ) -> Result<(), Fault> {
     drop(ArcRwLockWriteGuard::downgrade(RwLock::write_arc(lock)?));
     watch.saw(&[Lock(Exclusive), Downgrade, Unlock(Shared)]);
@@ -156,10 +146,10 @@ fn transitions<W: Wait + Drop, R: RawRwLockUpgradeDowngrade + Drop>(
 }
 
 /// Upgrades that may be refused, of guards that end in that mode.
-fn tried_upgrades<W: Wait + Drop, R: RawRwLockUpgradeTimed<Duration = u64, Instant = u64> + Drop>(
+fn tried_upgrades<R: RawRwLockUpgradeTimed<Duration = u64, Instant = u64> + Drop>(
     lock: &Shareable<R>,
     last: Mode,
-    watch: &mut Watch<W, RawCall>,
+    watch: &mut Watch,
 ) -> Result<(), Fault> {
     drop(ArcRwLockUpgradableReadGuard::try_upgrade(RwLock::upgradable_read_arc(lock)?));
     watch.saw(&[Lock(Upgradable), TryUpgrade, Unlock(last)]);
@@ -172,9 +162,8 @@ fn tried_upgrades<W: Wait + Drop, R: RawRwLockUpgradeTimed<Duration = u64, Insta
 
 /// Calls under an upgraded guard, whose closure looks at the raw lock.
 fn calls_under_an_upgrade<
-    W: Wait + Drop,
     R: RawRwLockUpgradeTimed<Duration = u64, Instant = u64> + RawRwLockUpgradeDowngrade + Drop,
->(lock: &Shareable<R>, watch: &mut Watch<W, RawCall>) -> Result<(), Fault> {
+>(lock: &Shareable<R>, watch: &mut Watch) -> Result<(), Fault> {
     let mut guard = RwLock::upgradable_read_arc(lock)?;
     guard.with_upgraded(|_| lock.is_locked());
     watch.saw(&[Lock(Upgradable), Upgrade, IsLocked, DowngradeToUpgradable]);
@@ -191,12 +180,11 @@ fn calls_under_an_upgrade<
 
 /// All of these, on a lock that is free before and after each.
 pub fn all_calls<
-    W: Wait + Drop,
     R: RawRwLockUpgradeTimed<Duration = u64, Instant = u64>
         + RawRwLockUpgradeFair
         + RawRwLockUpgradeDowngrade
         + Drop,
->(alloc: Global, lock: &Shareable<R>, watch: &mut Watch<W, RawCall>) -> Result<(), Fail> {
+>(alloc: Global, lock: &Shareable<R>, watch: &mut Watch) -> Result<(), Fail> {
     texts_of_guards(alloc, lock, watch)?;
     acquisitions(lock, watch);
     upgradable_acquisitions(lock, watch);

@@ -6,7 +6,6 @@ use lock_rwlock::RwLock;
 use lock_test_support::answer::{equal, holds_or_lacks_memory};
 use lock_test_support::raw_lock::AskedRaw;
 use std::alloc::Global;
-use std::sync::Wait;
 use std::test::Fail;
 
 /// How many of 66 tries give a token to read, none of which goes back.
@@ -45,29 +44,27 @@ where
     )
 }
 
-/// How many calls the raw lock of a lock got that was just made.
-fn asked<R: RawRwLock + Drop, W: Wait>(
+/// Whether the raw lock of a lock that was just made got no call.
+fn is_unasked<R: RawRwLock + Drop>(
     made: Result<RwLock<AskedRaw<R>, u64>, Fault>,
-    watcher: &W,
-) -> Result<usize, Fault> {
+) -> Result<bool, Fault> {
     let (raw, _) = made?.into_inner_with_raw();
-    Ok(raw.calls()?.count(watcher))
+    Ok(raw.calls()?.is_empty())
 }
 
 /// No maker asks its raw lock anything.
-pub fn check_calls<R: RawRwLock + Drop, W: Wait>(
+pub fn check_calls<R: RawRwLock + Drop>(
     alloc: Global,
     waiters: [R::Waiter; 4],
-    watcher: &W,
 ) -> Result<(), Fail> {
     let [first, second, third, last] = waiters;
-    let asked = [
-        asked::<R, W>(RwLock::new(alloc, first, 5), watcher)?,
-        asked::<R, W>(RwLock::from(alloc, second, 5), watcher)?,
-        asked::<R, W>(RwLock::default(alloc, third), watcher)?,
-        asked::<R, W>(RwLock::with_readers(alloc, last, 1, 5), watcher)?,
+    let unasked = [
+        is_unasked::<R>(RwLock::new(alloc, first, 5))?,
+        is_unasked::<R>(RwLock::from(alloc, second, 5))?,
+        is_unasked::<R>(RwLock::default(alloc, third))?,
+        is_unasked::<R>(RwLock::with_readers(alloc, last, 1, 5))?,
     ];
-    equal(asked, [0; 4])
+    equal(unasked, [true; 4])
 }
 
 fn holds_or_lacks<R: RawRwLock + Drop>(made: Result<RwLock<R, u64>, Fault>, value: u64) -> bool {

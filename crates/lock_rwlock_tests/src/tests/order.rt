@@ -3,7 +3,7 @@ use lock_guard::guard::Acquire;
 use lock_guard::raw::{RawRwLock, RawRwLockUpgrade};
 use lock_rwlock::{RwLock, RwLockGuard};
 use lock_test_support::answer::equal;
-use lock_test_support::raw_lock::{Calls, Liar, RawCall};
+use lock_test_support::raw_lock::{Calls, Liar};
 use lock_test_support::wait_for_flag;
 use std::sync::Wait;
 use std::sync::atomic::{AtomicBool, Ordering};
@@ -36,7 +36,7 @@ pub fn check<R: RawRwLockUpgrade>(lock: &RwLock<R, u64>) -> Result<(), Fail> {
 fn write_once_another_asked<W: Wait, R: RawRwLock>(
     lock: &RwLock<R, u64>,
     waiter: &W,
-    calls: &Calls<RawCall>,
+    calls: &Calls,
     is_held: &AtomicBool,
 ) {
     let mut guard = lock.write();

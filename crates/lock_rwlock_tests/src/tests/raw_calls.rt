@@ -13,80 +13,52 @@ use lock_rwlock::{
 };
 use lock_test_support::project::Nested;
 use lock_test_support::raw_lock::RawCall::{
-    self, Bump, Downgrade, DowngradeToUpgradable, DowngradeUpgradable, IsLocked, IsLockedExclusive,
-    Lock, TryLock, TryLockFor, TryLockUntil, TryUpgrade, TryUpgradeFor, TryUpgradeUntil, Unlock,
-    UnlockFair, Upgrade,
+    Bump, Downgrade, DowngradeToUpgradable, DowngradeUpgradable, IsLocked, IsLockedExclusive, Lock,
+    TryUpgrade, TryUpgradeFor, TryUpgradeUntil, Unlock, UnlockFair, Upgrade,
 };
 use lock_test_support::raw_lock::{Liar, Watch};
 use std::alloc::Global;
-use std::sync::Wait;
 use std::test::Fail;
 
 /// A pair in a pair behind a lock.
 type Paired<R> = RwLock<R, Nested>;
 
-fn acquisitions<W: Wait + Drop, R: RawRwLockTimed<Duration = u64, Instant = u64>>(
+fn acquisitions<R: RawRwLockTimed<Duration = u64, Instant = u64>>(
     lock: &Paired<R>,
-    watch: &mut Watch<W, RawCall>,
+    watch: &mut Watch,
 ) {
     drop(lock.read());
     drop(lock.try_read());
     drop(lock.try_read_for(3));
     drop(lock.try_read_until(4));
+    watch.saw_acquisitions(Shared);
     drop(lock.write());
     drop(lock.try_write());
     drop(lock.try_write_for(3));
     drop(lock.try_write_until(4));
+    watch.saw_acquisitions(Exclusive);
     lock.is_locked();
     lock.is_locked_exclusive();
-    watch.saw(&[
-        Lock(Shared),
-        Unlock(Shared),
-        TryLock(Shared),
-        Unlock(Shared),
-        TryLockFor(Shared, 3),
-        Unlock(Shared),
-        TryLockUntil(Shared, 4),
-        Unlock(Shared),
-        Lock(Exclusive),
-        Unlock(Exclusive),
-        TryLock(Exclusive),
-        Unlock(Exclusive),
-        TryLockFor(Exclusive, 3),
-        Unlock(Exclusive),
-        TryLockUntil(Exclusive, 4),
-        Unlock(Exclusive),
-        IsLocked,
-        IsLockedExclusive,
-    ]);
+    watch.saw(&[IsLocked, IsLockedExclusive]);
 }
 
-fn upgradable_acquisitions<W: Wait + Drop, R: RawRwLockUpgradeTimed<Duration = u64, Instant = u64>>(
+fn upgradable_acquisitions<R: RawRwLockUpgradeTimed<Duration = u64, Instant = u64>>(
     lock: &Paired<R>,
-    watch: &mut Watch<W, RawCall>,
+    watch: &mut Watch,
 ) {
     drop(lock.upgradable_read());
     drop(lock.try_upgradable_read());
     drop(lock.try_upgradable_read_for(3));
     drop(lock.try_upgradable_read_until(4));
-    watch.saw(&[
-        Lock(Upgradable),
-        Unlock(Upgradable),
-        TryLock(Upgradable),
-        Unlock(Upgradable),
-        TryLockFor(Upgradable, 3),
-        Unlock(Upgradable),
-        TryLockUntil(Upgradable, 4),
-        Unlock(Upgradable),
-    ]);
+    watch.saw_acquisitions(Upgradable);
 }
 
 /// What a guard of the mode, which was just acquired, can do whatever its mode.
-fn calls_of_a_guard<W: Wait + Drop, R: RawRwLock, L: AcquireFair>(
+fn calls_of_a_guard<R: RawRwLock, L: AcquireFair>(
     lock: &Paired<R>,
     guard: RwLockGuard<L>,
     mode: Mode,
-    watch: &mut Watch<W, RawCall>,
+    watch: &mut Watch,
 ) {
     let mut guard = guard;
     RwLockGuard::bump(&mut guard);
@@ -107,10 +79,7 @@ fn calls_of_a_guard<W: Wait + Drop, R: RawRwLock, L: AcquireFair>(
 }
 
 /// What reads and writes the value, or tells the lock, asks nothing.
-fn uses_of_guards<W: Wait + Drop, R: RawRwLockUpgrade>(
-    lock: &Paired<R>,
-    watch: &mut Watch<W, RawCall>,
-) {
+fn uses_of_guards<R: RawRwLockUpgrade>(lock: &Paired<R>, watch: &mut Watch) {
     let reader = lock.read();
     let value = *reader;
     RwLockReadGuard::rwlock(&reader);
@@ -126,10 +95,7 @@ fn uses_of_guards<W: Wait + Drop, R: RawRwLockUpgrade>(
 }
 
 /// Up, and down to each lower mode.
-fn transitions<W: Wait + Drop, R: RawRwLockUpgradeDowngrade>(
-    lock: &Paired<R>,
-    watch: &mut Watch<W, RawCall>,
-) {
+fn transitions<R: RawRwLockUpgradeDowngrade>(lock: &Paired<R>, watch: &mut Watch) {
     drop(RwLockWriteGuard::downgrade(lock.write()));
     let guard = RwLockWriteGuard::downgrade_to_upgradable(lock.write());
     drop(RwLockUpgradableReadGuard::downgrade(guard));
@@ -152,9 +118,9 @@ fn transitions<W: Wait + Drop, R: RawRwLockUpgradeDowngrade>(
     ]);
 }
 
-fn timed_upgrades<W: Wait + Drop, R: RawRwLockUpgradeTimed<Duration = u64, Instant = u64>>(
+fn timed_upgrades<R: RawRwLockUpgradeTimed<Duration = u64, Instant = u64>>(
     lock: &Paired<R>,
-    watch: &mut Watch<W, RawCall>,
+    watch: &mut Watch,
 ) {
     drop(RwLockUpgradableReadGuard::try_upgrade_for(lock.upgradable_read(), 3));
     drop(RwLockUpgradableReadGuard::try_upgrade_until(lock.upgradable_read(), 4));
@@ -170,9 +136,8 @@ fn timed_upgrades<W: Wait + Drop, R: RawRwLockUpgradeTimed<Duration = u64, Insta
 
 /// Calls under an upgraded guard. Each closure looks at the raw lock.
 fn calls_under_an_upgrade<
-    W: Wait + Drop,
     R: RawRwLockUpgradeTimed<Duration = u64, Instant = u64> + RawRwLockUpgradeDowngrade,
->(lock: &Paired<R>, watch: &mut Watch<W, RawCall>) {
+>(lock: &Paired<R>, watch: &mut Watch) {
     let mut guard = lock.upgradable_read();
     guard.with_upgraded(|_| lock.is_locked());
     guard.try_with_upgraded(|_| lock.is_locked());
@@ -199,11 +164,10 @@ fn calls_under_an_upgrade<
 
 /// All of these, on a lock that is free before and after each.
 pub fn all_calls<
-    W: Wait + Drop,
     R: RawRwLockUpgradeTimed<Duration = u64, Instant = u64>
         + RawRwLockUpgradeFair
         + RawRwLockUpgradeDowngrade,
->(alloc: Global, lock: &Paired<R>, watch: &mut Watch<W, RawCall>) -> Result<(), Fail> {
+>(alloc: Global, lock: &Paired<R>, watch: &mut Watch) -> Result<(), Fail> {
     acquisitions(lock, watch);
     upgradable_acquisitions(lock, watch);
     calls_of_a_guard(lock, lock.read(), Shared, watch);
@@ -234,7 +198,7 @@ fn bumps_by_default<R: RawRwLockUpgradeFair>(raw: &R) {
 #[test]
 fn a_bump_by_default_is_a_fair_unlock_and_a_lock(rt: HostRuntime) -> Result<(), Fail> {
     let raw: Liar<HostRuntime> = RawRwLock::new(rt.alloc(), rt, 1)?;
-    let mut watch = Watch::new(rt, raw.calls()?);
+    let mut watch = Watch::new(raw.calls()?);
     bumps_by_default(&raw);
     watch.saw(&[
         Lock(Shared),

@@ -13,7 +13,7 @@ use std::alloc::Global;
 #[derive(Drop)]
 pub struct AskedRaw<R> {
     pub(crate) raw: R,
-    pub(crate) calls: Calls<RawCall>,
+    pub(crate) calls: Calls,
 }
 
 impl<R> AskedRaw<R> {
@@ -28,7 +28,7 @@ impl<R> AskedRaw<R> {
     }
 
     /// The calls that it gets.
-    pub fn calls(&self) -> Result<Calls<RawCall>, Fault> {
+    pub fn calls(&self) -> Result<Calls, Fault> {
         self.calls.another()
     }
 }

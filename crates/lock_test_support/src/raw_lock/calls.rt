@@ -1,6 +1,7 @@
-//! The calls that a raw lock, or a raw condition variable, got.
+//! The calls that a raw lock got.
 ghost use Rattle.std.specs.Prelude.{IsOkUnless};
 
+use crate::raw_lock::raw_call::RawCall;
 use lock_base::raw::Fault;
 use std::alloc::Global;
 use std::mem;
@@ -8,13 +9,13 @@ use std::sync::{Arc, Mutex, Wait};
 
 /// A list of calls, in the order in which they came. All that `another` answers are the same list.
 #[derive(Drop)]
-pub struct Calls<C: Copy> {
-    list: Arc<Mutex<Vec<C>>>,
+pub struct Calls {
+    list: Arc<Mutex<Vec<RawCall>>>,
     alloc: Global,
 }
 
-impl<C: Copy> Calls<C> {
-    pub fn new(alloc: Global) -> Result<Calls<C>, Fault>
+impl Calls {
+    pub fn new(alloc: Global) -> Result<Calls, Fault>
         ensures { IsOkUnless result Fault.OutOfMemory }
     {
         match Arc::new(alloc, Mutex::new(Vec::new(alloc))) {
@@ -24,7 +25,7 @@ impl<C: Copy> Calls<C> {
     }
 
     /// The same list once more.
-    pub fn another(&self) -> Result<Calls<C>, Fault> {
+    pub fn another(&self) -> Result<Calls, Fault> {
         match Arc::try_clone(&self.list) {
             Ok(list) => Ok(Calls {
                 list,
@@ -35,8 +36,16 @@ impl<C: Copy> Calls<C> {
     }
 
     /// Writes the call down. Where memory is refused it is left out.
-    pub fn add<W: Wait>(&self, waiter: &W, call: C) {
+    pub fn add<W: Wait>(&self, waiter: &W, call: RawCall) {
         let _ = self.list.lock(waiter).push(call);
+    }
+
+    /// Whether no call is written down, nor is being written down.
+    pub fn is_empty(&self) -> bool {
+        match self.list.try_lock() {
+            Some(list) => list.is_empty(),
+            None => false,
+        }
     }
 
     /// How many calls are written down.
@@ -44,9 +53,9 @@ impl<C: Copy> Calls<C> {
         self.list.lock(waiter).len()
     }
 
-    /// The calls that are written down, of which none is left.
-    pub fn take<W: Wait>(&self, waiter: &W) -> Vec<C> {
-        let mut list = self.list.lock(waiter);
-        mem::replace(&mut *list, Vec::new(self.alloc))
+    /// The calls that are written down, of which none is left. None while another thread writes one down.
+    pub fn take(&self) -> Option<Vec<RawCall>> {
+        let mut list = self.list.try_lock()?;
+        Some(mem::replace(&mut *list, Vec::new(self.alloc)))
     }
 }

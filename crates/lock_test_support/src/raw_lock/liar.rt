@@ -13,7 +13,7 @@ use std::sync::Wait;
 #[derive(Drop)]
 pub struct Liar<W: Wait + Clone + Drop> {
     waiter: W,
-    calls: Calls<RawCall>,
+    calls: Calls,
     pub(crate) refuses: bool,
 }
 
@@ -27,7 +27,7 @@ impl<W: Wait + Clone + Drop> Liar<W> {
     }
 
     /// The calls that it gets.
-    pub fn calls(&self) -> Result<Calls<RawCall>, Fault> {
+    pub fn calls(&self) -> Result<Calls, Fault> {
         self.calls.another()
     }
 

@@ -1,22 +1,21 @@
 //! What guards of a part ask the raw lock, whatever the lock. Each guard was just acquired in the mode.
 use crate::answer::{equal, texts_are};
-use crate::raw_lock::raw_call::RawCall::{self, Lock, UnlockFair};
+use crate::raw_lock::raw_call::RawCall::{Lock, UnlockFair};
 use crate::raw_lock::watch::Watch;
 use lock_base::machine::Mode;
 use lock_base::project::{Project, TryProject, TryView, View};
 use lock_guard::guard::{LockGuard, LockGuardFair, LockGuardMut, Mapped};
 use std::alloc::Global;
 use std::fmt::{Debug, Display};
-use std::sync::Wait;
 use std::test::Fail;
 
 /// Both its texts are this one.
-pub fn watch_texts<W: Wait + Drop, G: LockGuard, P: View<G::Value>>(
+pub fn watch_texts<G: LockGuard, P: View<G::Value>>(
     alloc: Global,
     part: Mapped<G, P>,
     wanted: &str,
     mode: Mode,
-    watch: &mut Watch<W, RawCall>,
+    watch: &mut Watch,
 ) -> Result<(), Fail>
 where
     P::Part: Debug + Display,
@@ -27,10 +26,10 @@ where
 }
 
 /// It is read, and ends by a fair release.
-pub fn watch_fair_end<W: Wait + Drop, G: LockGuardFair, P: TryView<G::Value>>(
+pub fn watch_fair_end<G: LockGuardFair, P: TryView<G::Value>>(
     part: Mapped<G, P>,
     mode: Mode,
-    watch: &mut Watch<W, RawCall>,
+    watch: &mut Watch,
 ) {
     Mapped::get(&part);
     watch.saw(&[Lock(mode)]);
@@ -39,10 +38,10 @@ pub fn watch_fair_end<W: Wait + Drop, G: LockGuardFair, P: TryView<G::Value>>(
 }
 
 /// It is written.
-pub fn watch_write<W: Wait + Drop, G: LockGuardMut, P: Project<G::Value, Part = (u64, u64)> + Copy>(
+pub fn watch_write<G: LockGuardMut, P: Project<G::Value, Part = (u64, u64)> + Copy>(
     part: Mapped<G, P>,
     mode: Mode,
-    watch: &mut Watch<W, RawCall>,
+    watch: &mut Watch,
 ) {
     let mut part = part;
     *part = (5, 2);
@@ -51,32 +50,32 @@ pub fn watch_write<W: Wait + Drop, G: LockGuardMut, P: Project<G::Value, Part = 
 }
 
 /// It is mapped once more.
-pub fn watch_map<W: Wait + Drop, G: LockGuard, P: TryProject<G::Value>, Q: Project<P::Part>>(
+pub fn watch_map<G: LockGuard, P: TryProject<G::Value>, Q: Project<P::Part>>(
     part: Mapped<G, P>,
     projection: Q,
     mode: Mode,
-    watch: &mut Watch<W, RawCall>,
+    watch: &mut Watch,
 ) {
     watch.saw_hold(Mapped::map(part, projection), mode);
 }
 
 /// It is mapped once more, where it has that part.
-pub fn watch_try_map<W: Wait + Drop, G: LockGuard, P: TryProject<G::Value>, Q: TryProject<P::Part>>(
+pub fn watch_try_map<G: LockGuard, P: TryProject<G::Value>, Q: TryProject<P::Part>>(
     part: Mapped<G, P>,
     projection: Q,
     mode: Mode,
-    watch: &mut Watch<W, RawCall>,
+    watch: &mut Watch,
 ) {
     watch.saw_hold(Mapped::try_map(part, projection), mode);
 }
 
 /// It is mapped once more, where it has that part, or what is missed is told.
-pub fn watch_try_map_or_err<
-    W: Wait + Drop,
-    G: LockGuard,
-    P: TryProject<G::Value>,
-    Q: TryProject<P::Part>,
->(part: Mapped<G, P>, projection: Q, mode: Mode, watch: &mut Watch<W, RawCall>)
+pub fn watch_try_map_or_err<G: LockGuard, P: TryProject<G::Value>, Q: TryProject<P::Part>>(
+    part: Mapped<G, P>,
+    projection: Q,
+    mode: Mode,
+    watch: &mut Watch,
+)
 where
     P::Miss: Drop,
     Q::Miss: Drop,

@@ -2,35 +2,31 @@
 use crate::raw_lock::calls::Calls;
 use crate::raw_lock::raw_call::RawCall;
 use lock_base::machine::Mode;
-use std::fmt::Debug;
-use std::sync::Wait;
 use std::test::Fail;
 
 /// Compares the calls that came since the look before with those that are wanted, and remembers where they first
 /// differed.
 #[derive(Drop)]
-pub struct Watch<W: Drop, C: Copy> {
-    waiter: W,
-    calls: Calls<C>,
+pub struct Watch {
+    calls: Calls,
     looks: u64,
-    wrong: Option<(u64, Vec<C>)>,
+    wrong: Option<(u64, Option<Vec<RawCall>>)>,
 }
 
-impl<W: Wait + Drop, C: Copy + PartialEq + Debug> Watch<W, C> {
-    pub fn new(waiter: W, calls: Calls<C>) -> Watch<W, C> {
+impl Watch {
+    pub fn new(calls: Calls) -> Watch {
         Watch {
-            waiter,
             calls,
             looks: 0,
             wrong: None,
         }
     }
 
-    /// Just these calls came since the look before.
-    pub fn saw(&mut self, wanted: &[C]) {
+    /// Just these calls came since the look before, and none is coming.
+    pub fn saw(&mut self, wanted: &[RawCall]) {
         self.looks = self.looks.wrapping_add(1);
-        let came = self.calls.take(&self.waiter);
-        if self.wrong.is_none() && came.as_slice() != wanted {
+        let came = self.calls.take();
+        if self.wrong.is_none() && came.as_deref() != Some(wanted) {
             self.wrong = Some((self.looks, came));
         }
     }
@@ -38,7 +34,6 @@ impl<W: Wait + Drop, C: Copy + PartialEq + Debug> Watch<W, C> {
     /// Which look was the first to see other calls, and those.
     pub fn verdict(self) -> Result<(), Fail> {
         let Watch {
-            waiter: _,
             calls: _,
             looks: _,
             wrong,
@@ -48,13 +43,39 @@ impl<W: Wait + Drop, C: Copy + PartialEq + Debug> Watch<W, C> {
             None => Ok(()),
         }
     }
-}
 
-impl<W: Wait + Drop> Watch<W, RawCall> {
     /// What was just acquired in the mode, by a guard or by what came of one, is held until it is dropped.
     pub fn saw_hold<G: Drop>(&mut self, held: G, mode: Mode) {
         self.saw(&[RawCall::Lock(mode)]);
         drop(held);
         self.saw(&[RawCall::Unlock(mode)]);
+    }
+
+    /// The lock was acquired in the mode by a call that waits, by a try, by one for a time of 3, and by one until the
+    /// instant 4, and given up after each.
+    pub fn saw_acquisitions(&mut self, mode: Mode) {
+        self.saw(&[
+            RawCall::Lock(mode),
+            RawCall::Unlock(mode),
+            RawCall::TryLock(mode),
+            RawCall::Unlock(mode),
+            RawCall::TryLockFor(mode, 3),
+            RawCall::Unlock(mode),
+            RawCall::TryLockUntil(mode, 4),
+            RawCall::Unlock(mode),
+        ]);
+    }
+
+    /// Beside what was just acquired to be alone, and is dropped now, a try in the mode was refused, one for a time of 3,
+    /// and one until the instant 4.
+    pub fn saw_refused_tries<G: Drop>(&mut self, held: G, mode: Mode) {
+        self.saw(&[
+            RawCall::Lock(Mode::Exclusive),
+            RawCall::TryLock(mode),
+            RawCall::TryLockFor(mode, 3),
+            RawCall::TryLockUntil(mode, 4),
+        ]);
+        drop(held);
+        self.saw(&[RawCall::Unlock(Mode::Exclusive)]);
     }
 }

@@ -3,36 +3,22 @@ use lock_base::machine::Mode::Exclusive;
 use lock_base::raw::Fault;
 use lock_guard::raw::{RawMutexFair, RawMutexTimed};
 use lock_mutex::{ArcMutexGuard, Mutex};
-use lock_test_support::raw_lock::RawCall::{
-    self, Bump, Lock, TryLock, TryLockFor, TryLockUntil, Unlock, UnlockFair,
-};
+use lock_test_support::raw_lock::RawCall::{Bump, Lock, Unlock, UnlockFair};
 use lock_test_support::raw_lock::Watch;
-use std::sync::{Arc, Wait};
+use std::sync::Arc;
 
-fn acquisitions_by_an_arc<W: Wait + Drop, R: RawMutexTimed<Duration = u64, Instant = u64> + Drop>(
+fn acquisitions_by_an_arc<R: RawMutexTimed<Duration = u64, Instant = u64> + Drop>(
     mutex: &Arc<Mutex<R, u64>>,
-    watch: &mut Watch<W, RawCall>,
+    watch: &mut Watch,
 ) {
     drop(Mutex::lock_arc(mutex));
     drop(Mutex::try_lock_arc(mutex));
     drop(Mutex::try_lock_arc_for(mutex, 3));
     drop(Mutex::try_lock_arc_until(mutex, 4));
-    watch.saw(&[
-        Lock(Exclusive),
-        Unlock(Exclusive),
-        TryLock(Exclusive),
-        Unlock(Exclusive),
-        TryLockFor(Exclusive, 3),
-        Unlock(Exclusive),
-        TryLockUntil(Exclusive, 4),
-        Unlock(Exclusive),
-    ]);
+    watch.saw_acquisitions(Exclusive);
 }
 
-fn calls_of_an_arc_guard<W: Wait + Drop, R: RawMutexFair + Drop>(
-    guard: ArcMutexGuard<R, u64>,
-    watch: &mut Watch<W, RawCall>,
-) {
+fn calls_of_an_arc_guard<R: RawMutexFair + Drop>(guard: ArcMutexGuard<R, u64>, watch: &mut Watch) {
     let mut guard = guard;
     ArcMutexGuard::bump(&mut guard);
     ArcMutexGuard::with_mut(&mut guard, |value| *value = 7);
@@ -52,9 +38,9 @@ fn calls_of_an_arc_guard<W: Wait + Drop, R: RawMutexFair + Drop>(
     ]);
 }
 
-fn ends_of_arc_guards<W: Wait + Drop, R: RawMutexFair + Drop>(
+fn ends_of_arc_guards<R: RawMutexFair + Drop>(
     mutex: &Arc<Mutex<R, u64>>,
-    watch: &mut Watch<W, RawCall>,
+    watch: &mut Watch,
 ) -> Result<(), Fault> {
     drop(ArcMutexGuard::into_arc(Mutex::lock_arc(mutex)?));
     drop(ArcMutexGuard::into_arc_fair(Mutex::lock_arc(mutex)?));
@@ -68,30 +54,23 @@ fn ends_of_arc_guards<W: Wait + Drop, R: RawMutexFair + Drop>(
 }
 
 /// Tries beside a guard.
-fn refused_tries<W: Wait + Drop, R: RawMutexTimed<Duration = u64, Instant = u64> + Drop>(
+fn refused_tries<R: RawMutexTimed<Duration = u64, Instant = u64> + Drop>(
     mutex: &Arc<Mutex<R, u64>>,
-    watch: &mut Watch<W, RawCall>,
+    watch: &mut Watch,
 ) -> Result<(), Fault> {
     let guard = Mutex::lock_arc(mutex)?;
     drop(Mutex::try_lock_arc(mutex));
     drop(Mutex::try_lock_arc_for(mutex, 3));
     drop(Mutex::try_lock_arc_until(mutex, 4));
-    drop(guard);
-    watch.saw(&[
-        Lock(Exclusive),
-        TryLock(Exclusive),
-        TryLockFor(Exclusive, 3),
-        TryLockUntil(Exclusive, 4),
-        Unlock(Exclusive),
-    ]);
+    watch.saw_refused_tries(guard, Exclusive);
     Ok(())
 }
 
 /// All of these, on a mutex that is free before and after each.
-pub fn all_calls_by_an_arc<
-    W: Wait + Drop,
-    R: RawMutexFair + RawMutexTimed<Duration = u64, Instant = u64> + Drop,
->(mutex: &Arc<Mutex<R, u64>>, watch: &mut Watch<W, RawCall>) -> Result<(), Fault> {
+pub fn all_calls_by_an_arc<R: RawMutexFair + RawMutexTimed<Duration = u64, Instant = u64> + Drop>(
+    mutex: &Arc<Mutex<R, u64>>,
+    watch: &mut Watch,
+) -> Result<(), Fault> {
     acquisitions_by_an_arc(mutex, watch);
     calls_of_an_arc_guard(Mutex::lock_arc(mutex)?, watch);
     refused_tries(mutex, watch)?;

@@ -7,41 +7,39 @@ use lock_guard::raw::{RawMutex, RawMutexFair};
 use lock_mutex::{Guard, MutexGuard};
 use lock_test_support::project::{Item0, Item1, Nth, inner_item};
 use lock_test_support::raw_lock::{
-    RawCall, Watch, watch_fair_end, watch_map, watch_texts, watch_try_map, watch_try_map_or_err,
-    watch_write,
+    Watch, watch_fair_end, watch_map, watch_texts, watch_try_map, watch_try_map_or_err, watch_write,
 };
 use std::alloc::Global;
-use std::sync::Wait;
 use std::test::Fail;
 
-fn map<W: Wait + Drop, L: Acquire, P: View<<L::Shown as ValueGuard>::Value>>(
+fn map<L: Acquire, P: View<<L::Shown as ValueGuard>::Value>>(
     guard: Guard<L>,
     projection: P,
-    watch: &mut Watch<W, RawCall>,
+    watch: &mut Watch,
 ) {
     watch.saw_hold(Guard::map(guard, projection), Exclusive);
 }
 
-fn map_and_unlock_fair<W: Wait + Drop, L: AcquireFair, P: View<<L::Shown as ValueGuard>::Value>>(
+fn map_and_unlock_fair<L: AcquireFair, P: View<<L::Shown as ValueGuard>::Value>>(
     guard: Guard<L>,
     projection: P,
-    watch: &mut Watch<W, RawCall>,
+    watch: &mut Watch,
 ) {
     watch_fair_end(Guard::map(guard, projection), Exclusive, watch);
 }
 
-fn try_map<W: Wait + Drop, L: Acquire, P: TryView<<L::Shown as ValueGuard>::Value>>(
+fn try_map<L: Acquire, P: TryView<<L::Shown as ValueGuard>::Value>>(
     guard: Guard<L>,
     projection: P,
-    watch: &mut Watch<W, RawCall>,
+    watch: &mut Watch,
 ) {
     watch.saw_hold(Guard::try_map(guard, projection), Exclusive);
 }
 
-fn try_map_or_err<W: Wait + Drop, L: Acquire, P: TryView<<L::Shown as ValueGuard>::Value>>(
+fn try_map_or_err<L: Acquire, P: TryView<<L::Shown as ValueGuard>::Value>>(
     guard: Guard<L>,
     projection: P,
-    watch: &mut Watch<W, RawCall>,
+    watch: &mut Watch,
 )
 where
     P::Miss: Drop,
@@ -50,7 +48,7 @@ where
 }
 
 /// By a part that is there and by one that is not.
-pub fn maps<W: Wait + Drop, R: RawMutexFair>(mutex: &Paired<R>, watch: &mut Watch<W, RawCall>) {
+pub fn maps<R: RawMutexFair>(mutex: &Paired<R>, watch: &mut Watch) {
     map(mutex.lock(), Item0, watch);
     map_and_unlock_fair(mutex.lock(), Item0, watch);
     try_map(mutex.lock(), inner_item(1), watch);
@@ -60,10 +58,7 @@ pub fn maps<W: Wait + Drop, R: RawMutexFair>(mutex: &Paired<R>, watch: &mut Watc
 }
 
 /// The guard of a part is written, and mapped by a part that is there and by one that is not.
-pub fn uses_of_parts<W: Wait + Drop, R: RawMutex>(
-    mutex: &Paired<R>,
-    watch: &mut Watch<W, RawCall>,
-) {
+pub fn uses_of_parts<R: RawMutex>(mutex: &Paired<R>, watch: &mut Watch) {
     watch_write(MutexGuard::map(mutex.lock(), Item0), Exclusive, watch);
     watch_map(
         MutexGuard::map(mutex.lock(), Item0),
@@ -88,11 +83,7 @@ pub fn uses_of_parts<W: Wait + Drop, R: RawMutex>(
 }
 
 /// The texts of a part, which is 0.
-pub fn texts<W: Wait + Drop, R: RawMutex>(
-    alloc: Global,
-    mutex: &Paired<R>,
-    watch: &mut Watch<W, RawCall>,
-) -> Result<(), Fail> {
+pub fn texts<R: RawMutex>(alloc: Global, mutex: &Paired<R>, watch: &mut Watch) -> Result<(), Fail> {
     watch_texts(
         alloc,
         MutexGuard::map(mutex.lock(), Item1),

@@ -2,20 +2,18 @@
 use lock_base::machine::Mode::Exclusive;
 use lock_base::machine::PartyId;
 use lock_base::raw::Fault;
-use lock_guard::raw::{RawMutex, RawMutexFair, RawMutexTimed};
+use lock_guard::raw::{RawMutexFair, RawMutexTimed};
 use lock_remutex::{ArcReentrantMutexGuard, ReentrantMutex};
-use lock_test_support::raw_lock::RawCall::{
-    self, Bump, IsLocked, Lock, TryLock, TryLockFor, TryLockUntil, Unlock, UnlockFair,
-};
+use lock_test_support::raw_lock::RawCall::{Bump, IsLocked, Lock, Unlock, UnlockFair};
 use lock_test_support::raw_lock::Watch;
-use std::sync::{Arc, Wait};
+use std::sync::Arc;
 
 type Shareable<R> = Arc<ReentrantMutex<R, u64>>;
 
 /// Acquisitions of a free lock.
-pub fn acquisitions<W: Wait + Drop, R: RawMutexTimed<Duration = u64, Instant = u64> + Drop>(
+pub fn acquisitions<R: RawMutexTimed<Duration = u64, Instant = u64> + Drop>(
     lock: &Shareable<R>,
-    watch: &mut Watch<W, RawCall>,
+    watch: &mut Watch,
     party: PartyId,
 )
 where
@@ -25,23 +23,15 @@ where
     drop(ReentrantMutex::try_lock_arc(lock, party));
     drop(ReentrantMutex::try_lock_arc_for(lock, party, 3));
     drop(ReentrantMutex::try_lock_arc_until(lock, party, 4));
-    watch.saw(&[
-        Lock(Exclusive),
-        Unlock(Exclusive),
-        TryLock(Exclusive),
-        Unlock(Exclusive),
-        TryLockFor(Exclusive, 3),
-        Unlock(Exclusive),
-        TryLockUntil(Exclusive, 4),
-        Unlock(Exclusive),
-    ]);
+    watch.saw_acquisitions(Exclusive);
 }
 
 /// Acquisitions of the owner, which ask nothing.
-pub fn acquisitions_of_the_owner<
-    W: Wait + Drop,
-    R: RawMutexTimed<Duration = u64, Instant = u64> + Drop,
->(lock: &Shareable<R>, watch: &mut Watch<W, RawCall>, owner: PartyId) -> Result<(), Fault>
+pub fn acquisitions_of_the_owner<R: RawMutexTimed<Duration = u64, Instant = u64> + Drop>(
+    lock: &Shareable<R>,
+    watch: &mut Watch,
+    owner: PartyId,
+) -> Result<(), Fault>
 where
     R::Guard: Drop,
 {
@@ -55,9 +45,9 @@ where
 }
 
 /// Tries of another party than the owner, each of which asks the raw lock once.
-pub fn tries_of_another<W: Wait + Drop, R: RawMutexTimed<Duration = u64, Instant = u64> + Drop>(
+pub fn tries_of_another<R: RawMutexTimed<Duration = u64, Instant = u64> + Drop>(
     lock: &Shareable<R>,
-    watch: &mut Watch<W, RawCall>,
+    watch: &mut Watch,
     owner: PartyId,
     other: PartyId,
 ) -> Result<(), Fault>
@@ -68,21 +58,14 @@ where
     drop(ReentrantMutex::try_lock_arc(lock, other));
     drop(ReentrantMutex::try_lock_arc_for(lock, other, 3));
     drop(ReentrantMutex::try_lock_arc_until(lock, other, 4));
-    drop(guard);
-    watch.saw(&[
-        Lock(Exclusive),
-        TryLock(Exclusive),
-        TryLockFor(Exclusive, 3),
-        TryLockUntil(Exclusive, 4),
-        Unlock(Exclusive),
-    ]);
+    watch.saw_refused_tries(guard, Exclusive);
     Ok(())
 }
 
 /// What the guard of a party's one level can do. Each closure looks at the raw lock.
-pub fn calls_of_a_guard<W: Wait + Drop, R: RawMutexFair + Drop>(
+pub fn calls_of_a_guard<R: RawMutexFair + Drop>(
     lock: &Shareable<R>,
-    watch: &mut Watch<W, RawCall>,
+    watch: &mut Watch,
     party: PartyId,
 ) -> Result<(), Fault>
 where
@@ -112,9 +95,9 @@ where
 }
 
 /// Ends that answer the lock, and a fair one.
-pub fn ends_of_guards<W: Wait + Drop, R: RawMutexFair + Drop>(
+pub fn ends_of_guards<R: RawMutexFair + Drop>(
     lock: &Shareable<R>,
-    watch: &mut Watch<W, RawCall>,
+    watch: &mut Watch,
     party: PartyId,
 ) -> Result<(), Fault>
 where
@@ -135,9 +118,9 @@ where
 }
 
 /// What a guard can do beside another, which asks nothing. Each closure looks at the raw lock.
-pub fn calls_of_an_inner_guard<W: Wait + Drop, R: RawMutexFair + Drop>(
+pub fn calls_of_an_inner_guard<R: RawMutexFair + Drop>(
     lock: &Shareable<R>,
-    watch: &mut Watch<W, RawCall>,
+    watch: &mut Watch,
     owner: PartyId,
 ) -> Result<(), Fault>
 where

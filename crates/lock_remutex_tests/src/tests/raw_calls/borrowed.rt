@@ -5,16 +5,13 @@ use lock_base::machine::PartyId;
 use lock_base::raw::Fault;
 use lock_guard::raw::{RawMutexFair, RawMutexTimed};
 use lock_remutex::ReentrantMutexGuard;
-use lock_test_support::raw_lock::RawCall::{
-    self, Bump, IsLocked, Lock, TryLock, TryLockFor, TryLockUntil, Unlock, UnlockFair,
-};
+use lock_test_support::raw_lock::RawCall::{Bump, IsLocked, Lock, Unlock, UnlockFair};
 use lock_test_support::raw_lock::Watch;
-use std::sync::Wait;
 
 /// Acquisitions of a free lock, and questions on it.
-pub fn acquisitions<W: Wait + Drop, R: RawMutexTimed<Duration = u64, Instant = u64>>(
+pub fn acquisitions<R: RawMutexTimed<Duration = u64, Instant = u64>>(
     lock: &Paired<R>,
-    watch: &mut Watch<W, RawCall>,
+    watch: &mut Watch,
     party: PartyId,
 )
 where
@@ -24,25 +21,16 @@ where
     drop(lock.try_lock(party));
     drop(lock.try_lock_for(party, 3));
     drop(lock.try_lock_until(party, 4));
+    watch.saw_acquisitions(Exclusive);
     lock.is_owned_by_current_thread(party);
     lock.is_locked();
-    watch.saw(&[
-        Lock(Exclusive),
-        Unlock(Exclusive),
-        TryLock(Exclusive),
-        Unlock(Exclusive),
-        TryLockFor(Exclusive, 3),
-        Unlock(Exclusive),
-        TryLockUntil(Exclusive, 4),
-        Unlock(Exclusive),
-        IsLocked,
-    ]);
+    watch.saw(&[IsLocked]);
 }
 
 /// What the guard of a party's one level can do.
-pub fn calls_of_a_guard<W: Wait + Drop, R: RawMutexFair>(
+pub fn calls_of_a_guard<R: RawMutexFair>(
     lock: &Paired<R>,
-    watch: &mut Watch<W, RawCall>,
+    watch: &mut Watch,
     party: PartyId,
 ) -> Result<(), Fault>
 where
@@ -73,9 +61,9 @@ where
 }
 
 /// Tries of another party than the owner, each of which asks the raw lock once.
-pub fn tries_of_another<W: Wait + Drop, R: RawMutexTimed<Duration = u64, Instant = u64>>(
+pub fn tries_of_another<R: RawMutexTimed<Duration = u64, Instant = u64>>(
     lock: &Paired<R>,
-    watch: &mut Watch<W, RawCall>,
+    watch: &mut Watch,
     owner: PartyId,
     other: PartyId,
 ) -> Result<(), Fault>
@@ -86,13 +74,6 @@ where
     drop(lock.try_lock(other));
     drop(lock.try_lock_for(other, 3));
     drop(lock.try_lock_until(other, 4));
-    drop(guard);
-    watch.saw(&[
-        Lock(Exclusive),
-        TryLock(Exclusive),
-        TryLockFor(Exclusive, 3),
-        TryLockUntil(Exclusive, 4),
-        Unlock(Exclusive),
-    ]);
+    watch.saw_refused_tries(guard, Exclusive);
     Ok(())
 }

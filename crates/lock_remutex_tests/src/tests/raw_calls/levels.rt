@@ -8,12 +8,11 @@ use lock_remutex::ReentrantMutexGuard;
 use lock_test_support::project::Item0;
 use lock_test_support::raw_lock::RawCall::{self, IsLocked, Lock, Unlock, UnlockFair};
 use lock_test_support::raw_lock::Watch;
-use std::sync::Wait;
 
 /// The owner's acquisitions.
-pub fn acquisitions<W: Wait + Drop, R: RawMutexTimed<Duration = u64, Instant = u64>>(
+pub fn acquisitions<R: RawMutexTimed<Duration = u64, Instant = u64>>(
     lock: &Paired<R>,
-    watch: &mut Watch<W, RawCall>,
+    watch: &mut Watch,
     owner: PartyId,
 ) -> Result<(), Fault>
 where
@@ -30,9 +29,9 @@ where
 }
 
 /// What a guard can do beside another. Each closure looks at the raw lock.
-pub fn calls_of_a_guard<W: Wait + Drop, R: RawMutexFair>(
+pub fn calls_of_a_guard<R: RawMutexFair>(
     lock: &Paired<R>,
-    watch: &mut Watch<W, RawCall>,
+    watch: &mut Watch,
     owner: PartyId,
 ) -> Result<(), Fault>
 where
@@ -52,9 +51,9 @@ where
 }
 
 /// Whichever guard ends last gives the raw lock up.
-pub fn ends<W: Wait + Drop, R: RawMutexFair>(
+pub fn ends<R: RawMutexFair>(
     lock: &Paired<R>,
-    watch: &mut Watch<W, RawCall>,
+    watch: &mut Watch,
     owner: PartyId,
 ) -> Result<(), Fault>
 where

@@ -8,30 +8,25 @@ use lock_guard::raw::{RawMutex, RawMutexFair};
 use lock_remutex::ReentrantMutexGuard;
 use lock_test_support::project::{Item0, Item1, Nested, Nth, inner_item};
 use lock_test_support::raw_lock::{
-    RawCall, Watch, watch_fair_end, watch_map, watch_texts, watch_try_map, watch_try_map_or_err,
+    Watch, watch_fair_end, watch_map, watch_texts, watch_try_map, watch_try_map_or_err,
 };
 use std::alloc::Global;
-use std::sync::Wait;
 use std::test::Fail;
 
 /// The guard of a pair in a pair, which was just acquired.
 type Guard<'a, R> = ReentrantMutexGuard<'a, R, Nested>;
 
-fn map<W: Wait + Drop, R: RawMutex, P: View<Nested>>(
-    guard: Guard<'_, R>,
-    projection: P,
-    watch: &mut Watch<W, RawCall>,
-)
+fn map<R: RawMutex, P: View<Nested>>(guard: Guard<'_, R>, projection: P, watch: &mut Watch)
 where
     R::Guard: Drop,
 {
     watch.saw_hold(ReentrantMutexGuard::map(guard, projection), Exclusive);
 }
 
-fn map_and_unlock_fair<W: Wait + Drop, R: RawMutexFair, P: View<Nested>>(
+fn map_and_unlock_fair<R: RawMutexFair, P: View<Nested>>(
     guard: Guard<'_, R>,
     projection: P,
-    watch: &mut Watch<W, RawCall>,
+    watch: &mut Watch,
 )
 where
     R::Guard: Drop,
@@ -43,21 +38,17 @@ where
     );
 }
 
-fn try_map<W: Wait + Drop, R: RawMutex, P: TryView<Nested>>(
-    guard: Guard<'_, R>,
-    projection: P,
-    watch: &mut Watch<W, RawCall>,
-)
+fn try_map<R: RawMutex, P: TryView<Nested>>(guard: Guard<'_, R>, projection: P, watch: &mut Watch)
 where
     R::Guard: Drop,
 {
     watch.saw_hold(ReentrantMutexGuard::try_map(guard, projection), Exclusive);
 }
 
-fn try_map_or_err<W: Wait + Drop, R: RawMutex, P: TryView<Nested>>(
+fn try_map_or_err<R: RawMutex, P: TryView<Nested>>(
     guard: Guard<'_, R>,
     projection: P,
-    watch: &mut Watch<W, RawCall>,
+    watch: &mut Watch,
 )
 where
     R::Guard: Drop,
@@ -70,9 +61,9 @@ where
 }
 
 /// By a part that is there.
-pub fn maps<W: Wait + Drop, R: RawMutexFair>(
+pub fn maps<R: RawMutexFair>(
     lock: &Paired<R>,
-    watch: &mut Watch<W, RawCall>,
+    watch: &mut Watch,
     party: PartyId,
 ) -> Result<(), Fault>
 where
@@ -86,11 +77,7 @@ where
 }
 
 /// By a part that is not there.
-pub fn misses<W: Wait + Drop, R: RawMutex>(
-    lock: &Paired<R>,
-    watch: &mut Watch<W, RawCall>,
-    party: PartyId,
-) -> Result<(), Fault>
+pub fn misses<R: RawMutex>(lock: &Paired<R>, watch: &mut Watch, party: PartyId) -> Result<(), Fault>
 where
     R::Guard: Drop,
 {
@@ -100,9 +87,9 @@ where
 }
 
 /// The guard of a part is mapped, by a part of that which is there and by one that is not.
-pub fn uses_of_parts<W: Wait + Drop, R: RawMutex>(
+pub fn uses_of_parts<R: RawMutex>(
     lock: &Paired<R>,
-    watch: &mut Watch<W, RawCall>,
+    watch: &mut Watch,
     party: PartyId,
 ) -> Result<(), Fault>
 where
@@ -132,10 +119,10 @@ where
 }
 
 /// The texts of a part, which is 0.
-pub fn texts<W: Wait + Drop, R: RawMutex>(
+pub fn texts<R: RawMutex>(
     alloc: Global,
     lock: &Paired<R>,
-    watch: &mut Watch<W, RawCall>,
+    watch: &mut Watch,
     party: PartyId,
 ) -> Result<(), Fail>
 where

@@ -2,18 +2,17 @@
 use lock_base::machine::Mode::Exclusive;
 use lock_base::machine::PartyId;
 use lock_base::raw::Fault;
-use lock_guard::raw::{RawMutex, RawMutexFair, RawMutexTimed};
+use lock_guard::raw::{RawMutexFair, RawMutexTimed};
 use lock_remutex::RawReentrantMutex;
 use lock_test_support::raw_lock::RawCall::{
-    self, Bump, IsLocked, Lock, TryLock, TryLockFor, TryLockUntil, Unlock, UnlockFair,
+    Bump, IsLocked, Lock, TryLock, TryLockFor, TryLockUntil, Unlock, UnlockFair,
 };
 use lock_test_support::raw_lock::Watch;
-use std::sync::Wait;
 
 /// A party's only level, by each acquisition.
-fn first_levels<W: Wait + Drop, R: RawMutexFair + RawMutexTimed<Duration = u64, Instant = u64>>(
+fn first_levels<R: RawMutexFair + RawMutexTimed<Duration = u64, Instant = u64>>(
     lock: &RawReentrantMutex<R>,
-    watch: &mut Watch<W, RawCall>,
+    watch: &mut Watch,
     party: PartyId,
 ) -> Result<(), Fault>
 where
@@ -46,9 +45,9 @@ where
 }
 
 /// Levels beside the first, of which the raw lock is asked nothing.
-fn further_levels<W: Wait + Drop, R: RawMutexFair + RawMutexTimed<Duration = u64, Instant = u64>>(
+fn further_levels<R: RawMutexFair + RawMutexTimed<Duration = u64, Instant = u64>>(
     lock: &RawReentrantMutex<R>,
-    watch: &mut Watch<W, RawCall>,
+    watch: &mut Watch,
     owner: PartyId,
 ) -> Result<(), Fault>
 where
@@ -72,9 +71,9 @@ where
 }
 
 /// Calls of another party than the owner: each try asks the raw lock once, and what only the owner may do asks nothing.
-fn calls_of_another<W: Wait + Drop, R: RawMutexFair + RawMutexTimed<Duration = u64, Instant = u64>>(
+fn calls_of_another<R: RawMutexFair + RawMutexTimed<Duration = u64, Instant = u64>>(
     lock: &RawReentrantMutex<R>,
-    watch: &mut Watch<W, RawCall>,
+    watch: &mut Watch,
     owner: PartyId,
     other: PartyId,
 ) -> Result<(), Fault>
@@ -103,9 +102,9 @@ where
 }
 
 /// All of these, on a lock that is free before and after each.
-pub fn all_calls<W: Wait + Drop, R: RawMutexFair + RawMutexTimed<Duration = u64, Instant = u64>>(
+pub fn all_calls<R: RawMutexFair + RawMutexTimed<Duration = u64, Instant = u64>>(
     raw: R,
-    watch: &mut Watch<W, RawCall>,
+    watch: &mut Watch,
     one: PartyId,
     two: PartyId,
 ) -> Result<(), Fault>

@@ -8,17 +8,14 @@ use lock_rwlock_arc::{
     ArcRwLockGuard, RwLockArc, RwLockArcTimed, RwLockArcUpgrade, RwLockArcUpgradeTimed,
 };
 use lock_test_support::raw_lock::RawCall::{
-    self, Lock, TryLock, TryLockFor, TryLockUntil, TryUpgrade, TryUpgradeFor, TryUpgradeUntil,
-    Unlock,
+    Lock, TryUpgrade, TryUpgradeFor, TryUpgradeUntil, Unlock,
 };
 use lock_test_support::raw_lock::Watch;
-use std::sync::Wait;
 
 /// Calls under an upgrade that is refused, and so are not made.
 fn calls_under_no_upgrade<
-    W: Wait + Drop,
     R: RawRwLockUpgradeTimed<Duration = u64, Instant = u64> + RawRwLockUpgradeDowngrade + Drop,
->(lock: &Shareable<R>, watch: &mut Watch<W, RawCall>) -> Result<(), Fault> {
+>(lock: &Shareable<R>, watch: &mut Watch) -> Result<(), Fault> {
     let mut guard = RwLock::upgradable_read_arc(lock)?;
     guard.try_with_upgraded(|_| lock.is_locked());
     guard.try_with_upgraded_for(3, |_| lock.is_locked());
@@ -36,9 +33,8 @@ fn calls_under_no_upgrade<
 
 /// Upgrades, and calls under them, beside a reader.
 pub fn upgrades<
-    W: Wait + Drop,
     R: RawRwLockUpgradeTimed<Duration = u64, Instant = u64> + RawRwLockUpgradeDowngrade + Drop,
->(lock: &Shareable<R>, watch: &mut Watch<W, RawCall>) -> Result<(), Fault> {
+>(lock: &Shareable<R>, watch: &mut Watch) -> Result<(), Fault> {
     let reader = RwLock::read_arc(lock)?;
     watch.saw(&[Lock(Shared)]);
     tried_upgrades(lock, Upgradable, watch)?;
@@ -49,37 +45,24 @@ pub fn upgrades<
 }
 
 /// Tries beside a writer.
-pub fn tries<W: Wait + Drop, R: RawRwLockUpgradeTimed<Duration = u64, Instant = u64> + Drop>(
+pub fn tries<R: RawRwLockUpgradeTimed<Duration = u64, Instant = u64> + Drop>(
     lock: &Shareable<R>,
-    watch: &mut Watch<W, RawCall>,
+    watch: &mut Watch,
 ) -> Result<(), Fault> {
     let writer = RwLock::write_arc(lock)?;
-    watch.saw(&[Lock(Exclusive)]);
     drop(RwLock::try_read_arc(lock));
     drop(RwLock::try_read_arc_for(lock, 3));
     drop(RwLock::try_read_arc_until(lock, 4));
-    watch.saw(&[
-        TryLock(Shared),
-        TryLockFor(Shared, 3),
-        TryLockUntil(Shared, 4),
-    ]);
+    watch.saw_refused_tries(writer, Shared);
+    let writer = RwLock::write_arc(lock)?;
     drop(RwLock::try_write_arc(lock));
     drop(RwLock::try_write_arc_for(lock, 3));
     drop(RwLock::try_write_arc_until(lock, 4));
-    watch.saw(&[
-        TryLock(Exclusive),
-        TryLockFor(Exclusive, 3),
-        TryLockUntil(Exclusive, 4),
-    ]);
+    watch.saw_refused_tries(writer, Exclusive);
+    let writer = RwLock::write_arc(lock)?;
     drop(RwLock::try_upgradable_read_arc(lock));
     drop(RwLock::try_upgradable_read_arc_for(lock, 3));
     drop(RwLock::try_upgradable_read_arc_until(lock, 4));
-    watch.saw(&[
-        TryLock(Upgradable),
-        TryLockFor(Upgradable, 3),
-        TryLockUntil(Upgradable, 4),
-    ]);
-    drop(writer);
-    watch.saw(&[Unlock(Exclusive)]);
+    watch.saw_refused_tries(writer, Upgradable);
     Ok(())
 }

@@ -7,44 +7,43 @@ use lock_guard::raw::{RawRwLock, RawRwLockFair};
 use lock_rwlock::{Mappable, RwLockGuard};
 use lock_test_support::project::{Item0, Item1, Nth, inner_item};
 use lock_test_support::raw_lock::{
-    RawCall, Watch, watch_fair_end, watch_map, watch_texts, watch_try_map, watch_try_map_or_err,
-    watch_write,
+    Watch, watch_fair_end, watch_map, watch_texts, watch_try_map, watch_try_map_or_err, watch_write,
 };
 use std::alloc::Global;
-use std::sync::Wait;
 use std::test::Fail;
 
-fn map<W: Wait + Drop, L: Mappable, P: View<<L::Shown as ValueGuard>::Value>>(
+fn map<L: Mappable, P: View<<L::Shown as ValueGuard>::Value>>(
     guard: RwLockGuard<L>,
     projection: P,
     mode: Mode,
-    watch: &mut Watch<W, RawCall>,
+    watch: &mut Watch,
 ) {
     watch.saw_hold(RwLockGuard::map(guard, projection), mode);
 }
 
-fn map_and_unlock_fair<
-    W: Wait + Drop,
-    L: Mappable + AcquireFair,
-    P: View<<L::Shown as ValueGuard>::Value>,
->(guard: RwLockGuard<L>, projection: P, mode: Mode, watch: &mut Watch<W, RawCall>) {
-    watch_fair_end(RwLockGuard::map(guard, projection), mode, watch);
-}
-
-fn try_map<W: Wait + Drop, L: Mappable, P: TryView<<L::Shown as ValueGuard>::Value>>(
+fn map_and_unlock_fair<L: Mappable + AcquireFair, P: View<<L::Shown as ValueGuard>::Value>>(
     guard: RwLockGuard<L>,
     projection: P,
     mode: Mode,
-    watch: &mut Watch<W, RawCall>,
+    watch: &mut Watch,
+) {
+    watch_fair_end(RwLockGuard::map(guard, projection), mode, watch);
+}
+
+fn try_map<L: Mappable, P: TryView<<L::Shown as ValueGuard>::Value>>(
+    guard: RwLockGuard<L>,
+    projection: P,
+    mode: Mode,
+    watch: &mut Watch,
 ) {
     watch.saw_hold(RwLockGuard::try_map(guard, projection), mode);
 }
 
-fn try_map_or_err<W: Wait + Drop, L: Mappable, P: TryView<<L::Shown as ValueGuard>::Value>>(
+fn try_map_or_err<L: Mappable, P: TryView<<L::Shown as ValueGuard>::Value>>(
     guard: RwLockGuard<L>,
     projection: P,
     mode: Mode,
-    watch: &mut Watch<W, RawCall>,
+    watch: &mut Watch,
 )
 where
     P::Miss: Drop,
@@ -53,10 +52,7 @@ where
 }
 
 /// By a part that is there and by one that is not.
-pub fn maps_of_readers<W: Wait + Drop, R: RawRwLockFair>(
-    lock: &Paired<R>,
-    watch: &mut Watch<W, RawCall>,
-) {
+pub fn maps_of_readers<R: RawRwLockFair>(lock: &Paired<R>, watch: &mut Watch) {
     map(lock.read(), Item0, Shared, watch);
     map_and_unlock_fair(lock.read(), Item0, Shared, watch);
     try_map(lock.read(), inner_item(1), Shared, watch);
@@ -66,10 +62,7 @@ pub fn maps_of_readers<W: Wait + Drop, R: RawRwLockFair>(
 }
 
 /// By a part that is there and by one that is not.
-pub fn maps_of_writers<W: Wait + Drop, R: RawRwLockFair>(
-    lock: &Paired<R>,
-    watch: &mut Watch<W, RawCall>,
-) {
+pub fn maps_of_writers<R: RawRwLockFair>(lock: &Paired<R>, watch: &mut Watch) {
     map(lock.write(), Item0, Exclusive, watch);
     map_and_unlock_fair(lock.write(), Item0, Exclusive, watch);
     try_map(lock.write(), inner_item(1), Exclusive, watch);
@@ -79,10 +72,7 @@ pub fn maps_of_writers<W: Wait + Drop, R: RawRwLockFair>(
 }
 
 /// The guard of a part is written, and mapped by a part that is there and by one that is not.
-pub fn uses_of_parts<W: Wait + Drop, R: RawRwLock>(
-    lock: &Paired<R>,
-    watch: &mut Watch<W, RawCall>,
-) {
+pub fn uses_of_parts<R: RawRwLock>(lock: &Paired<R>, watch: &mut Watch) {
     watch_write(RwLockGuard::map(lock.write(), Item0), Exclusive, watch);
     watch_map(
         RwLockGuard::map(lock.write(), Item0),
@@ -107,10 +97,7 @@ pub fn uses_of_parts<W: Wait + Drop, R: RawRwLock>(
 }
 
 /// The guard of a part that is read is mapped by a part that is there and by one that is not.
-pub fn uses_of_read_parts<W: Wait + Drop, R: RawRwLock>(
-    lock: &Paired<R>,
-    watch: &mut Watch<W, RawCall>,
-) {
+pub fn uses_of_read_parts<R: RawRwLock>(lock: &Paired<R>, watch: &mut Watch) {
     watch_map(RwLockGuard::map(lock.read(), Item0), Item1, Shared, watch);
     for index in [1, 2] {
         watch_try_map(
@@ -129,11 +116,7 @@ pub fn uses_of_read_parts<W: Wait + Drop, R: RawRwLock>(
 }
 
 /// The texts of a part, which is 0.
-pub fn texts<W: Wait + Drop, R: RawRwLock>(
-    alloc: Global,
-    lock: &Paired<R>,
-    watch: &mut Watch<W, RawCall>,
-) -> Result<(), Fail> {
+pub fn texts<R: RawRwLock>(alloc: Global, lock: &Paired<R>, watch: &mut Watch) -> Result<(), Fail> {
     watch_texts(
         alloc,
         RwLockGuard::map(lock.read(), Item1),

@@ -6,61 +6,44 @@ use lock_guard::raw::{
 };
 use lock_rwlock::{RwLock, RwLockUpgradableReadGuard};
 use lock_test_support::raw_lock::RawCall::{
-    self, Lock, TryLock, TryLockFor, TryLockUntil, TryUpgrade, TryUpgradeFor, TryUpgradeUntil,
-    Unlock,
+    Lock, TryLock, TryUpgrade, TryUpgradeFor, TryUpgradeUntil, Unlock,
 };
 use lock_test_support::raw_lock::{Liar, Watch};
-use std::sync::Wait;
 use std::test::Fail;
 
 /// Tries beside a writer.
-pub fn tries<W: Wait + Drop, R: RawRwLockTimed<Duration = u64, Instant = u64>>(
+pub fn tries<R: RawRwLockTimed<Duration = u64, Instant = u64>>(
     lock: &Paired<R>,
-    watch: &mut Watch<W, RawCall>,
+    watch: &mut Watch,
 ) {
     let writer = lock.write();
     drop(lock.try_read());
     drop(lock.try_read_for(3));
     drop(lock.try_read_until(4));
+    watch.saw_refused_tries(writer, Shared);
+    let writer = lock.write();
     drop(lock.try_write());
     drop(lock.try_write_for(3));
     drop(lock.try_write_until(4));
-    drop(writer);
-    watch.saw(&[
-        Lock(Exclusive),
-        TryLock(Shared),
-        TryLockFor(Shared, 3),
-        TryLockUntil(Shared, 4),
-        TryLock(Exclusive),
-        TryLockFor(Exclusive, 3),
-        TryLockUntil(Exclusive, 4),
-        Unlock(Exclusive),
-    ]);
+    watch.saw_refused_tries(writer, Exclusive);
 }
 
 /// Tries for an upgradable guard beside a writer.
-pub fn upgradable_tries<W: Wait + Drop, R: RawRwLockUpgradeTimed<Duration = u64, Instant = u64>>(
+pub fn upgradable_tries<R: RawRwLockUpgradeTimed<Duration = u64, Instant = u64>>(
     lock: &Paired<R>,
-    watch: &mut Watch<W, RawCall>,
+    watch: &mut Watch,
 ) {
     let writer = lock.write();
     drop(lock.try_upgradable_read());
     drop(lock.try_upgradable_read_for(3));
     drop(lock.try_upgradable_read_until(4));
-    drop(writer);
-    watch.saw(&[
-        Lock(Exclusive),
-        TryLock(Upgradable),
-        TryLockFor(Upgradable, 3),
-        TryLockUntil(Upgradable, 4),
-        Unlock(Exclusive),
-    ]);
+    watch.saw_refused_tries(writer, Upgradable);
 }
 
 /// Upgrades beside a reader.
-pub fn upgrades<W: Wait + Drop, R: RawRwLockUpgradeTimed<Duration = u64, Instant = u64>>(
+pub fn upgrades<R: RawRwLockUpgradeTimed<Duration = u64, Instant = u64>>(
     lock: &Paired<R>,
-    watch: &mut Watch<W, RawCall>,
+    watch: &mut Watch,
 ) {
     let reader = lock.read();
     drop(RwLockUpgradableReadGuard::try_upgrade(lock.upgradable_read()));
@@ -84,9 +67,8 @@ pub fn upgrades<W: Wait + Drop, R: RawRwLockUpgradeTimed<Duration = u64, Instant
 
 /// Calls under an upgrade that is refused beside a reader, and so are not made.
 pub fn calls_under_an_upgrade<
-    W: Wait + Drop,
     R: RawRwLockUpgradeTimed<Duration = u64, Instant = u64> + RawRwLockUpgradeDowngrade,
->(lock: &Paired<R>, watch: &mut Watch<W, RawCall>) {
+>(lock: &Paired<R>, watch: &mut Watch) {
     let reader = lock.read();
     let mut guard = lock.upgradable_read();
     guard.try_with_upgraded(|_| lock.is_locked());
@@ -119,7 +101,7 @@ fn refused<R: RawRwLockUpgrade>(lock: &RwLock<R, u64>) -> [bool; 4] {
 fn a_refused_try_gives_nothing_back(rt: HostRuntime) -> Result<(), Fail> {
     let raw: Liar<HostRuntime> = RawRwLock::new(rt.alloc(), rt, 1)?;
     let raw = raw.refusing();
-    let mut watch = Watch::new(rt, raw.calls()?);
+    let mut watch = Watch::new(raw.calls()?);
     let lock = RwLock::from_raw(raw, 5)?;
     assert_eq!(rt; refused(&lock), [true; 4]);
     watch.saw(&[
