@@ -22,7 +22,7 @@ impl Watch {
         }
     }
 
-    /// Just these calls came since the look before, and none is coming.
+    /// Just these calls came since the look before, and none is being written down.
     pub fn saw(&mut self, wanted: &[RawCall]) {
         self.looks = self.looks.wrapping_add(1);
         let came = self.calls.take();
@@ -66,8 +66,8 @@ impl Watch {
         ]);
     }
 
-    /// Beside what was just acquired to be alone, and is dropped now, a try in the mode was refused, one for a time of 3,
-    /// and one until the instant 4.
+    /// The exclusive guard that was just acquired kept out a try in the mode, one for a time of 3, and one until the
+    /// instant 4. It is dropped.
     pub fn saw_refused_tries<G: Drop>(&mut self, held: G, mode: Mode) {
         self.saw(&[
             RawCall::Lock(Mode::Exclusive),
