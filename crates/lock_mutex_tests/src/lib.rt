@@ -1,4 +1,4 @@
-//! Tests of the mutex, its guards and the condition variable. There is nothing else here.
+//! Tests of the mutex and the reentrant lock, their guards, and the condition variable. There is nothing else here.
 #![tactic(auto)]
 
 #[cfg(test)]

@@ -5,20 +5,21 @@ mod condvar;
 mod makers;
 mod order;
 mod raw_calls;
+mod remutex;
 mod texts;
 mod threads;
 
 use crate::tests::condvar::asked::AskedCondvar;
 use lock_guard::raw::{RawMutex, RawMutexFair, RawMutexTimed};
 use lock_mutex::{Condvar, Mutex};
-use lock_raws::TokenRaw;
+use lock_raws::{LockCore, Monitor, RawLock, TableArbiter};
 use lock_test_support::raw_lock::{AskedRaw, Watch};
 use std::alloc::Global;
 use std::sync::Arc;
 use std::test::Fail;
 
-/// An honest raw lock.
-type Honest = TokenRaw<HostRuntime>;
+/// What an honest raw lock is over.
+type Core = Monitor<TableArbiter, HostRuntime>;
 
 /// Answers of a mutex on one thread, of guards that keep it alive, and of waits.
 fn answers<R: RawMutexFair + RawMutexTimed<Duration = (), Instant = ()> + Drop>(
@@ -86,17 +87,17 @@ fn calls<R: RawMutexFair + Drop>(
 }
 
 /// Answers, and what the raw lock is asked.
-fn answers_and_calls<R: RawMutexFair + RawMutexTimed<Duration = (), Instant = ()> + Drop>(
+fn answers_and_calls<C: LockCore<Duration = (), Instant = ()>>(
     alloc: Global,
-    waiters: ([R::Waiter; 5], ([R::Waiter; 3], [R::Waiter; 3])),
+    waiters: ([C::Waiter; 5], ([C::Waiter; 3], [C::Waiter; 3])),
 ) -> Result<(), Fail> {
     let (of_answers, of_calls) = waiters;
-    answers::<R>(alloc, of_answers)?;
-    calls::<R>(alloc, of_calls)
+    answers::<RawLock<C>>(alloc, of_answers)?;
+    calls::<RawLock<C>>(alloc, of_calls)
 }
 
-/// One test, since each that names the raw lock has to prove anew what that is.
+/// One test, which names what the raw lock is over, since each that names the raw lock has to prove anew what that is.
 #[test]
 fn answers_and_calls_on_one_thread(rt: HostRuntime) -> Result<(), Fail> {
-    answers_and_calls::<Honest>(rt.alloc(), ([rt; 5], ([rt; 3], [rt; 3])))
+    answers_and_calls::<Core>(rt.alloc(), ([rt; 5], ([rt; 3], [rt; 3])))
 }

@@ -1,4 +1,5 @@
-//! Tests of the raw locks by themselves. There is nothing else here.
+//! Tests of the raw locks by themselves, and the worked rows on the shared locks over them, each beside a `Desk` that answers
+//! alike. There is nothing else here.
 #![tactic(auto)]
 
 #[cfg(test)]

@@ -6,6 +6,50 @@ mod queue;
 mod raws;
 mod recording;
 mod recording_threads;
+mod rows;
 mod threads;
 mod transitions;
 mod wake_ups;
+
+use announcing::ReadAndWrite;
+use lock_raws::{Monitor, TableArbiter};
+use lock_raws_word::{NoTime, WordCore};
+use raws::raw_rwlock;
+use std::process::Abort;
+use std::test::Fail;
+use std::thread::Threads;
+use std::time::Clock;
+use transitions::Walk;
+use wake_ups::{Contend, Ends};
+
+/// What a lock round a table is over.
+type Table = Monitor<TableArbiter, HostRuntime>;
+
+/// What a lock on a word is over.
+type Word = WordCore<HostRuntime, NoTime>;
+
+/// What threads see of a lock of four readers, and of a lock of one.
+fn share<T, L>(rt: &T, four: &L, one: &L) -> Result<(), Fail>
+where
+    T: Threads + Clock + Abort + Sync,
+    L: ReadAndWrite + Walk + Ends + Contend + Sync,
+{
+    announcing::check(rt, four, one);
+    transitions::check(rt, four)?;
+    wake_ups::check(rt, four, one);
+    Ok(())
+}
+
+#[test]
+fn threads_share_a_table(rt: HostRuntime) -> Result<(), Fail> {
+    let four = raw_rwlock::<Table>(rt.alloc(), rt, 4)?;
+    let one = raw_rwlock::<Table>(rt.alloc(), rt, 1)?;
+    share(&rt, &four, &one)
+}
+
+#[test]
+fn threads_share_a_word(rt: HostRuntime) -> Result<(), Fail> {
+    let four = raw_rwlock::<Word>(rt.alloc(), rt, 4)?;
+    let one = raw_rwlock::<Word>(rt.alloc(), rt, 1)?;
+    share(&rt, &four, &one)
+}

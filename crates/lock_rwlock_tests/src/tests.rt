@@ -12,15 +12,15 @@ mod upgrades;
 use lock_guard::raw::{
     RawRwLock, RawRwLockUpgradeDowngrade, RawRwLockUpgradeFair, RawRwLockUpgradeTimed,
 };
-use lock_raws::TokenRaw;
+use lock_raws::{LockCore, Monitor, RawLock, TableArbiter};
 use lock_rwlock::RwLock;
 use lock_test_support::raw_lock::{AskedRaw, Watch};
 use std::alloc::Global;
 use std::sync::Arc;
 use std::test::Fail;
 
-/// An honest raw lock.
-type Honest = TokenRaw<HostRuntime>;
+/// What an honest raw lock is over.
+type Core = Monitor<TableArbiter, HostRuntime>;
 
 /// Answers of a lock on one thread, and of guards that keep it alive.
 fn answers<
@@ -47,7 +47,7 @@ fn calls_by_a_borrow<R: RawRwLockUpgradeFair + RawRwLockUpgradeDowngrade + Drop>
     let raw: AskedRaw<R> = RawRwLock::new(alloc, waiter, 8)?;
     let mut watch = Watch::new(raw.calls()?);
     let mut lock = RwLock::from_raw(raw, ((0, 0), 0))?;
-    raw_calls::all_calls(alloc, &lock, &mut watch)?;
+    raw_calls::all_calls(&lock, &mut watch);
     *lock.get_mut() = ((5, 2), 0);
     let (raw, value) = lock.into_inner_with_raw();
     RwLock::from_raw(raw, value)?.into_inner();
@@ -83,22 +83,17 @@ fn calls<R: RawRwLockUpgradeFair + RawRwLockUpgradeDowngrade + Drop>(
 }
 
 /// Answers, and what the raw lock is asked.
-fn answers_and_calls<
-    R: RawRwLockUpgradeTimed<Duration = (), Instant = ()>
-        + RawRwLockUpgradeFair
-        + RawRwLockUpgradeDowngrade
-        + Drop,
->(alloc: Global, waiters: ([R::Waiter; 6], ([R::Waiter; 2], [R::Waiter; 4]))) -> Result<(), Fail>
-where
-    R::SharedGuard: Drop,
-{
+fn answers_and_calls<C: LockCore<Duration = (), Instant = ()>>(
+    alloc: Global,
+    waiters: ([C::Waiter; 6], ([C::Waiter; 2], [C::Waiter; 4])),
+) -> Result<(), Fail> {
     let (of_answers, of_calls) = waiters;
-    answers::<R>(alloc, of_answers)?;
-    calls::<R>(alloc, of_calls)
+    answers::<RawLock<C>>(alloc, of_answers)?;
+    calls::<RawLock<C>>(alloc, of_calls)
 }
 
-/// One test, since each that names the raw lock has to prove anew what that is.
+/// One test, which names what the raw lock is over, since each that names the raw lock has to prove anew what that is.
 #[test]
 fn answers_and_calls_on_one_thread(rt: HostRuntime) -> Result<(), Fail> {
-    answers_and_calls::<Honest>(rt.alloc(), ([rt; 6], ([rt; 2], [rt; 4])))
+    answers_and_calls::<Core>(rt.alloc(), ([rt; 6], ([rt; 2], [rt; 4])))
 }

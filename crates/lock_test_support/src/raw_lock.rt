@@ -11,8 +11,6 @@ mod watch;
 pub use asked_raw::AskedRaw;
 pub use calls::Calls;
 pub use liar::Liar;
-pub use parts::{
-    watch_fair_end, watch_map, watch_texts, watch_try_map, watch_try_map_or_err, watch_write,
-};
+pub use parts::{watch_fair_end, watch_write};
 pub use raw_call::RawCall;
 pub use watch::Watch;

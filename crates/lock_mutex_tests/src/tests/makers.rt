@@ -1,8 +1,9 @@
 //! The makers of a mutex.
-use super::Honest;
+use super::Core;
 use lock_base::raw::Fault;
 use lock_guard::raw::RawMutex;
 use lock_mutex::Mutex;
+use lock_raws::{LockCore, RawLock};
 use lock_test_support::answer::{equal, holds_or_lacks_memory};
 use lock_test_support::raw_lock::AskedRaw;
 use std::alloc::Global;
@@ -40,21 +41,21 @@ pub fn check_calls<R: RawMutex + Drop>(alloc: Global, waiters: [R::Waiter; 3]) -
     equal(unasked, [true; 3])
 }
 
-fn holds_or_lacks<R: RawMutex + Drop>(made: Result<Mutex<R, u64>, Fault>, value: u64) -> bool {
+fn holds_or_lacks<C: LockCore>(made: Result<Mutex<RawLock<C>, u64>, Fault>, value: u64) -> bool {
     holds_or_lacks_memory(made.map(|mutex| mutex.into_inner()), value)
 }
 
 /// Whether each maker gave a mutex of the value that it is to hold, or told that memory was refused.
-fn hold_or_lack<R: RawMutex + Drop>(alloc: Global, waiters: [R::Waiter; 3]) -> [bool; 3] {
+fn hold_or_lack<C: LockCore>(alloc: Global, waiters: [C::Waiter; 3]) -> [bool; 3] {
     let [first, second, third] = waiters;
     [
-        holds_or_lacks::<R>(Mutex::new(alloc, first, 5), 5),
-        holds_or_lacks::<R>(Mutex::from(alloc, second, 6), 6),
-        holds_or_lacks::<R>(Mutex::default(alloc, third), 0),
+        holds_or_lacks::<C>(Mutex::new(alloc, first, 5), 5),
+        holds_or_lacks::<C>(Mutex::from(alloc, second, 6), 6),
+        holds_or_lacks::<C>(Mutex::default(alloc, third), 0),
     ]
 }
 
 #[test]
 fn refused_memory_in_makers_of_a_mutex(rt: HostRuntime) {
-    assert!(rt; hold_or_lack::<Honest>(rt.alloc(), [rt; 3]) == [true; 3]);
+    assert!(rt; hold_or_lack::<Core>(rt.alloc(), [rt; 3]) == [true; 3]);
 }

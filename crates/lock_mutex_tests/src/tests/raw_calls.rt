@@ -6,9 +6,12 @@ pub use arc::all_calls_by_an_arc;
 use lock_base::machine::Mode::Exclusive;
 use lock_guard::raw::{RawMutex, RawMutexFair, RawMutexTimed};
 use lock_mutex::{Mutex, MutexGuard};
+use lock_test_support::answer::equal;
 use lock_test_support::project::Nested;
-use lock_test_support::raw_lock::RawCall::{Bump, IsLocked, Lock, TryLock, Unlock, UnlockFair};
-use lock_test_support::raw_lock::{Liar, Watch};
+use lock_test_support::raw_lock::RawCall::{
+    self, Bump, IsLocked, Lock, TryLock, Unlock, UnlockFair,
+};
+use lock_test_support::raw_lock::{Calls, Liar, Watch};
 use std::alloc::Global;
 use std::test::Fail;
 
@@ -74,6 +77,40 @@ pub fn all_calls<R: RawMutexFair + RawMutexTimed<Duration = u64, Instant = u64>>
     mapped::texts(alloc, mutex, watch)?;
     mapped::uses_of_parts(mutex, watch);
     Ok(())
+}
+
+/// Whether a look at a mutex that was locked and unlocked sees these calls, and whether the look after it sees none.
+fn looks<R: RawMutex>(raw: &R, calls: Calls, wanted: &[RawCall]) -> (bool, bool) {
+    let mut watch = Watch::new(calls);
+    raw.unlock(raw.lock());
+    watch.saw(wanted);
+    let is_right = watch.is_right();
+    watch.saw(&[]);
+    (is_right, watch.is_right())
+}
+
+/// A look that saw other calls than it wanted is told, and a later one that is right does not mend it.
+#[test]
+fn a_watch_tells_of_other_calls(rt: HostRuntime) -> Result<(), Fail> {
+    let raw: Liar<HostRuntime> = RawMutex::new(rt.alloc(), rt)?;
+    let seen = [
+        looks(&raw, raw.calls()?, &[Lock(Exclusive), Unlock(Exclusive)]),
+        looks(
+            &raw,
+            raw.calls()?,
+            &[Lock(Exclusive), UnlockFair(Exclusive)],
+        ),
+        looks(&raw, raw.calls()?, &[Lock(Exclusive)]),
+        looks(&raw, raw.calls()?, &[]),
+    ];
+    equal(
+        seen,
+        [(true, true), (false, false), (false, false), (false, false)],
+    )?;
+    let calls = raw.calls()?;
+    let is_empty = calls.is_empty();
+    raw.unlock(RawMutex::lock(&raw));
+    equal((is_empty, calls.is_empty()), (true, false))
 }
 
 #[test]

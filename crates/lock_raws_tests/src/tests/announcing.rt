@@ -1,18 +1,15 @@
 //! A writer that waits keeps later readers out.
 use super::counts::wait_for;
-use super::raws::raw_rwlock;
 use lock_guard::raw::RawRwLock;
-use lock_raws::{LockCore, RawLock, TokenRaw};
-use lock_raws_word::WordRaw;
+use lock_raws::{LockCore, RawLock};
 use std::process::Abort;
 use std::sync::Wait;
 use std::sync::atomic::{AtomicBool, AtomicU64, Ordering};
-use std::test::Fail;
 use std::thread::{self, Threads};
 
 /// What threads tell one another.
 #[derive(Drop)]
-struct News {
+pub struct News {
     /// How many threads have read.
     have_read: AtomicU64,
     /// How many reads there were.
@@ -42,7 +39,7 @@ impl News {
 }
 
 /// What threads do with a lock that they share.
-trait ReadAndWrite {
+pub trait ReadAndWrite {
     /// Where a thread waits.
     type Waiter: Wait;
 
@@ -152,7 +149,7 @@ fn write_among_readers<R: Threads + Sync, L: ReadAndWrite + Sync>(rt: &R, lock: 
 }
 
 /// A writer beside readers of a lock of four, and of a lock of one.
-fn wait_among_readers<R, L>(rt: &R, four: &L, one: &L)
+pub fn check<R, L>(rt: &R, four: &L, one: &L)
 where
     R: Threads + Abort + Sync,
     L: ReadAndWrite + Sync,
@@ -160,20 +157,4 @@ where
     assert_eq!(rt; write_beside_a_reader(rt, four), (true, true));
     write_among_readers(rt, four);
     write_among_readers(rt, one);
-}
-
-#[test]
-fn a_writer_that_waits_bars_readers_of_a_table(rt: HostRuntime) -> Result<(), Fail> {
-    let four: TokenRaw<HostRuntime> = raw_rwlock(rt.alloc(), rt, 4)?;
-    let one: TokenRaw<HostRuntime> = raw_rwlock(rt.alloc(), rt, 1)?;
-    wait_among_readers(&rt, &four, &one);
-    Ok(())
-}
-
-#[test]
-fn a_writer_that_waits_bars_readers_of_a_word(rt: HostRuntime) -> Result<(), Fail> {
-    let four: WordRaw<HostRuntime> = raw_rwlock(rt.alloc(), rt, 4)?;
-    let one: WordRaw<HostRuntime> = raw_rwlock(rt.alloc(), rt, 1)?;
-    wait_among_readers(&rt, &four, &one);
-    Ok(())
 }

@@ -1,28 +1,28 @@
 //! Raw locks through the traits of raw locks: each text for the lock round a table and for the lock on a word.
+use super::{Table, Word};
 use lock_base::raw::Fault;
 use lock_guard::raw::{
     RawMutex, RawMutexFair, RawMutexTimed, RawRwLock, RawRwLockDowngrade, RawRwLockFair,
     RawRwLockTimed, RawRwLockUpgrade, RawRwLockUpgradeDowngrade, RawRwLockUpgradeFair,
     RawRwLockUpgradeTimed,
 };
-use lock_raws::{LockCore, Monitor, RawLock, TableArbiter, TokenRaw};
-use lock_raws_word::{NoTime, WordCore};
+use lock_raws::{LockCore, RawLock};
 use lock_test_support::answer::equal;
 use std::alloc::Global;
 use std::process::Abort;
 use std::test::Fail;
 
 /// A raw mutex of the waiter, through the trait.
-pub fn raw_mutex<R: RawMutex>(alloc: Global, waiter: R::Waiter) -> Result<R, Fault> {
+pub fn raw_mutex<C: LockCore>(alloc: Global, waiter: C::Waiter) -> Result<RawLock<C>, Fault> {
     RawMutex::new(alloc, waiter)
 }
 
 /// A raw reader-writer lock of the waiter, through the trait.
-pub fn raw_rwlock<R: RawRwLock>(
+pub fn raw_rwlock<C: LockCore>(
     alloc: Global,
-    waiter: R::Waiter,
+    waiter: C::Waiter,
     readers: u64,
-) -> Result<R, Fault> {
+) -> Result<RawLock<C>, Fault> {
     RawRwLock::new(alloc, waiter, readers)
 }
 
@@ -126,47 +126,44 @@ fn answer<R: Abort, C: LockCore<Duration = (), Instant = ()>>(
 
 #[test]
 fn a_table_answers(rt: HostRuntime) -> Result<(), Fail> {
-    answer::<HostRuntime, Monitor<TableArbiter, HostRuntime>>(&rt, rt.alloc(), [rt; 3])?;
+    answer::<HostRuntime, Table>(&rt, rt.alloc(), [rt; 3])?;
     Ok(())
 }
 
 #[test]
 fn a_word_answers(rt: HostRuntime) -> Result<(), Fail> {
-    answer::<HostRuntime, WordCore<HostRuntime, NoTime>>(&rt, rt.alloc(), [rt; 3])?;
+    answer::<HostRuntime, Word>(&rt, rt.alloc(), [rt; 3])?;
     Ok(())
 }
 
 /// Whether each is held where a token of the one was given back to the other, a reader's own token being out.
-fn unlock_the_other<R: RawRwLock>(one: &R, other: &R) -> (bool, bool) {
+fn unlock_the_other<C: LockCore>(one: &RawLock<C>, other: &RawLock<C>) -> (bool, bool) {
     let shared = other.lock_shared();
     other.unlock_exclusive(one.lock_exclusive());
-    let is_locked = other.is_locked();
+    let is_locked = RawRwLock::is_locked(other);
     other.unlock_shared(shared);
     (one.is_locked_exclusive(), is_locked)
 }
 
 /// Whether the other is held where a token of the one became a reader's there, and where that was given back.
-fn downgrade_at_the_other<R: RawRwLockDowngrade>(one: &R, other: &R) -> (bool, bool) {
+fn downgrade_at_the_other<C: LockCore>(one: &RawLock<C>, other: &RawLock<C>) -> (bool, bool) {
     let shared = other.downgrade(one.lock_exclusive());
-    let is_locked = other.is_locked();
+    let is_locked = RawRwLock::is_locked(other);
     other.unlock_shared(shared);
-    (is_locked, other.is_locked())
+    (is_locked, RawRwLock::is_locked(other))
 }
 
-fn ignore_foreign_tokens<R: RawRwLockDowngrade + Drop>(
-    alloc: Global,
-    waiters: [R::Waiter; 4],
-) -> Result<(), Fail> {
+fn ignore_foreign_tokens<C: LockCore>(alloc: Global, waiters: [C::Waiter; 4]) -> Result<(), Fail> {
     let [first, second, third, last] = waiters;
-    let one: R = raw_rwlock(alloc, first, 1)?;
-    let other: R = raw_rwlock(alloc, second, 1)?;
+    let one: RawLock<C> = raw_rwlock(alloc, first, 1)?;
+    let other: RawLock<C> = raw_rwlock(alloc, second, 1)?;
     equal(unlock_the_other(&one, &other), (true, true))?;
-    let one: R = raw_rwlock(alloc, third, 1)?;
-    let other: R = raw_rwlock(alloc, last, 1)?;
+    let one: RawLock<C> = raw_rwlock(alloc, third, 1)?;
+    let other: RawLock<C> = raw_rwlock(alloc, last, 1)?;
     equal(downgrade_at_the_other(&one, &other), (false, false))
 }
 
 #[test]
 fn foreign_tokens_are_ignored(rt: HostRuntime) -> Result<(), Fail> {
-    ignore_foreign_tokens::<TokenRaw<HostRuntime>>(rt.alloc(), [rt; 4])
+    ignore_foreign_tokens::<Table>(rt.alloc(), [rt; 4])
 }

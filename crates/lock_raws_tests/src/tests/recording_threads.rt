@@ -1,8 +1,9 @@
 //! What a recording lock writes of several threads.
-use lock_base::machine::{Mode, ModeStep};
+use super::recording::has_written;
+use lock_base::machine::Mode::Shared;
+use lock_base::machine::ModeStep::{Acquire, Release};
 use lock_guard::raw::RawRwLock;
-use lock_raws::RecordingRaw;
-use std::clone::Clone;
+use lock_raws::{LockCore, RawLock, RecordingRaw};
 use std::sync::Wait;
 use std::sync::atomic::{AtomicBool, Ordering};
 use std::test::Fail;
@@ -20,8 +21,8 @@ trait Steps {
     fn try_exclusive(&self) -> usize;
 }
 
-impl<W: Wait + Clone + Drop> Steps for RecordingRaw<W> {
-    type Waiter = W;
+impl<C: LockCore> Steps for RawLock<C> {
+    type Waiter = C::Waiter;
 
     fn read_until(&self, mine: &AtomicBool, other: &AtomicBool) -> bool {
         let shared = self.lock_shared();
@@ -58,21 +59,6 @@ fn read_at_once<R: Threads, S: Steps + Sync>(rt: &R, lock: &S) -> (bool, bool) {
     )
 }
 
-#[test]
-fn two_readers_at_once_are_written_before_their_ends(rt: HostRuntime) -> Result<(), Fail> {
-    let raw = RecordingRaw::with_room(rt.alloc(), rt, 2, 4)?;
-    assert_eq!(rt; read_at_once(&rt, &raw), (true, true));
-    let wanted = [
-        ModeStep::Acquire(Mode::Shared),
-        ModeStep::Acquire(Mode::Shared),
-        ModeStep::Release(Mode::Shared),
-        ModeStep::Release(Mode::Shared),
-    ];
-    let steps = raw.journal(rt.alloc())?;
-    assert!(rt; steps.as_slice() == wanted.as_slice());
-    Ok(())
-}
-
 fn try_in_two_threads<R: Threads, S: Steps + Sync>(rt: &R, lock: &S) -> usize {
     let (one, other) = thread::join(rt, || lock.try_exclusive(), || lock.try_exclusive());
     one.wrapping_add(other)
@@ -88,11 +74,19 @@ fn try_in_four_threads<R: Threads + Sync, S: Steps + Sync>(rt: &R, lock: &S) -> 
 }
 
 #[test]
-fn each_try_that_succeeds_is_two_steps(rt: HostRuntime) -> Result<(), Fail> {
+fn steps_of_several_threads_are_written(rt: HostRuntime) -> Result<(), Fail> {
+    let raw = RecordingRaw::with_room(rt.alloc(), rt, 2, 4)?;
+    assert_eq!(rt; read_at_once(&rt, &raw), (true, true));
+    let wanted = [
+        Acquire(Shared),
+        Acquire(Shared),
+        Release(Shared),
+        Release(Shared),
+    ];
+    has_written(&raw, rt.alloc(), &wanted, false)?;
     let raw = RecordingRaw::with_room(rt.alloc(), rt, 4, 2_000)?;
     let got = try_in_four_threads(&rt, &raw);
-    assert!(rt; !raw.stopped());
     let steps = raw.journal(rt.alloc())?;
-    assert_eq!(rt; steps.len(), got.wrapping_mul(2));
+    assert_eq!(rt; (steps.len(), raw.stopped()), (got.wrapping_mul(2), false));
     Ok(())
 }

@@ -1,18 +1,31 @@
 //! What threads see of a value behind a lock on a word.
-use lock_guard::raw::{RawMutex, RawRwLock};
+use super::Word;
+use lock_base::raw::Fault;
 use lock_mutex::Mutex;
-use lock_raws_word::WordRaw;
+use lock_raws::{LockCore, RawLock};
 use lock_rwlock::RwLock;
 use lock_test_support::{Count, add_in_four_threads};
+use std::alloc::Global;
 use std::sync::Wait;
 use std::test::Fail;
 use std::thread::{self, Threads};
 
 /// A count under a mutex.
-struct UnderMutex<R: RawMutex>(Mutex<R, u64>);
+struct UnderMutex<C: LockCore>(Mutex<RawLock<C>, u64>);
 
-impl<R: RawMutex> Count for UnderMutex<R> {
-    type Waiter = R::Waiter;
+impl<C: LockCore> UnderMutex<C> {
+    fn new(alloc: Global, waiter: C::Waiter) -> Result<UnderMutex<C>, Fault> {
+        Ok(UnderMutex(Mutex::new(alloc, waiter, 0)?))
+    }
+
+    fn into_count(self) -> u64 {
+        let UnderMutex(mutex) = self;
+        mutex.into_inner()
+    }
+}
+
+impl<C: LockCore> Count for UnderMutex<C> {
+    type Waiter = C::Waiter;
 
     fn add_one(&self) {
         let mut count = self.0.lock();
@@ -21,10 +34,21 @@ impl<R: RawMutex> Count for UnderMutex<R> {
 }
 
 /// A count under writers.
-struct UnderWriter<R: RawRwLock>(RwLock<R, u64>);
+struct UnderWriter<C: LockCore>(RwLock<RawLock<C>, u64>);
 
-impl<R: RawRwLock> Count for UnderWriter<R> {
-    type Waiter = R::Waiter;
+impl<C: LockCore> UnderWriter<C> {
+    fn new(alloc: Global, waiter: C::Waiter, readers: u64) -> Result<UnderWriter<C>, Fault> {
+        Ok(UnderWriter(RwLock::with_readers(alloc, waiter, readers, 0)?))
+    }
+
+    fn into_count(self) -> u64 {
+        let UnderWriter(lock) = self;
+        lock.into_inner()
+    }
+}
+
+impl<C: LockCore> Count for UnderWriter<C> {
+    type Waiter = C::Waiter;
 
     fn add_one(&self) {
         let mut count = self.0.write();
@@ -37,27 +61,6 @@ fn add_forty_thousand<R: Threads + Sync, C: Count + Sync>(rt: &R, count: &C) {
     for _ in 0..10 {
         add_in_four_threads(rt, count);
     }
-}
-
-#[test]
-fn four_threads_count_under_a_mutex(rt: HostRuntime) -> Result<(), Fail> {
-    let count = UnderMutex(Mutex::<WordRaw<HostRuntime>, u64>::new(rt.alloc(), rt, 0)?);
-    add_forty_thousand(&rt, &count);
-    let UnderMutex(mutex) = count;
-    assert_eq!(rt; mutex.into_inner(), 40_000);
-    Ok(())
-}
-
-#[test]
-fn four_threads_count_under_a_writer(rt: HostRuntime) -> Result<(), Fail> {
-    for readers in [1, 4, 4_294_967_295] {
-        let lock = RwLock::<WordRaw<HostRuntime>, u64>::with_readers(rt.alloc(), rt, readers, 0)?;
-        let count = UnderWriter(lock);
-        add_forty_thousand(&rt, &count);
-        let UnderWriter(lock) = count;
-        assert_eq!(rt; lock.into_inner(), 40_000);
-    }
-    Ok(())
 }
 
 /// Two numbers that a writer keeps equal.
@@ -79,12 +82,27 @@ trait Pairs {
     fn read_pairs(&self) -> u64;
 }
 
-impl<R: RawRwLock> Pairs for RwLock<R, Pair> {
-    type Waiter = R::Waiter;
+/// A pair under a lock.
+struct PairUnder<C: LockCore>(RwLock<RawLock<C>, Pair>);
+
+impl<C: LockCore> PairUnder<C> {
+    fn new(alloc: Global, waiter: C::Waiter, readers: u64) -> Result<PairUnder<C>, Fault> {
+        let pair = Pair { one: 0, other: 0 };
+        Ok(PairUnder(RwLock::with_readers(alloc, waiter, readers, pair)?))
+    }
+
+    fn into_pair(self) -> Pair {
+        let PairUnder(lock) = self;
+        lock.into_inner()
+    }
+}
+
+impl<C: LockCore> Pairs for PairUnder<C> {
+    type Waiter = C::Waiter;
 
     fn write_pairs(&self) {
         for _ in 0..10_000u32 {
-            let mut pair = self.write();
+            let mut pair = self.0.write();
             pair.one = pair.one.wrapping_add(1);
             pair.other = pair.other.wrapping_add(1);
         }
@@ -94,7 +112,7 @@ impl<R: RawRwLock> Pairs for RwLock<R, Pair> {
         let mut wrong: u64 = 0;
         let mut last = 0;
         for _ in 0..10_000u32 {
-            let pair = self.read();
+            let pair = self.0.read();
             if pair.one != pair.other || pair.one < last {
                 wrong = wrong.wrapping_add(1);
             }
@@ -115,17 +133,19 @@ fn read_beside_a_writer<R: Threads + Sync, C: Pairs + Sync>(rt: &R, pair: &C) ->
 }
 
 #[test]
-fn readers_see_what_the_writer_left(rt: HostRuntime) -> Result<(), Fail> {
+fn threads_share_values_behind_a_word(rt: HostRuntime) -> Result<(), Fail> {
+    let count: UnderMutex<Word> = UnderMutex::new(rt.alloc(), rt)?;
+    add_forty_thousand(&rt, &count);
+    assert_eq!(rt; count.into_count(), 40_000);
+    for readers in [1, 4, 4_294_967_295] {
+        let count: UnderWriter<Word> = UnderWriter::new(rt.alloc(), rt, readers)?;
+        add_forty_thousand(&rt, &count);
+        assert_eq!(rt; count.into_count(), 40_000);
+    }
     for readers in [1, 2, 64] {
-        let start = Pair { one: 0, other: 0 };
-        let pair = RwLock::<WordRaw<HostRuntime>, Pair>::with_readers(
-            rt.alloc(),
-            rt,
-            readers,
-            start,
-        )?;
+        let pair: PairUnder<Word> = PairUnder::new(rt.alloc(), rt, readers)?;
         assert_eq!(rt; read_beside_a_writer(&rt, &pair), 0);
-        assert_eq!(rt; pair.into_inner().one, 10_000);
+        assert_eq!(rt; pair.into_pair().one, 10_000);
     }
     Ok(())
 }

@@ -1,8 +1,6 @@
 //! A writer that waits does not get in while a token becomes one of another mode.
-use super::raws::raw_rwlock;
 use lock_guard::raw::{RawRwLock, RawRwLockDowngrade, RawRwLockUpgrade, RawRwLockUpgradeDowngrade};
-use lock_raws::{LockCore, RawLock, TokenRaw};
-use lock_raws_word::WordRaw;
+use lock_raws::{LockCore, RawLock};
 use lock_test_support::answer::equal;
 use lock_test_support::wait_for_flag;
 use std::sync::Wait;
@@ -23,7 +21,7 @@ fn wait_for_bar<R: RawRwLock>(raw: &R) {
 }
 
 /// What threads do with a lock that they share.
-trait Walk {
+pub trait Walk {
     /// Where a thread waits.
     type Waiter: Wait;
 
@@ -76,22 +74,10 @@ fn gets_in_between<R: Threads, L: Walk + Sync>(rt: &R, lock: &L, by_steps: bool)
 }
 
 /// By a single downgrade, and by steps.
-fn nobody_gets_in_between<R: Threads, L: Walk + Sync>(rt: &R, lock: &L) -> Result<(), Fail> {
+pub fn check<R: Threads, L: Walk + Sync>(rt: &R, lock: &L) -> Result<(), Fail> {
     let between = [
         gets_in_between(rt, lock, false),
         gets_in_between(rt, lock, true),
     ];
     equal(between, [false; 2])
-}
-
-#[test]
-fn no_writer_gets_in_between_over_a_table(rt: HostRuntime) -> Result<(), Fail> {
-    let raw: TokenRaw<HostRuntime> = raw_rwlock(rt.alloc(), rt, 2)?;
-    nobody_gets_in_between(&rt, &raw)
-}
-
-#[test]
-fn no_writer_gets_in_between_over_a_word(rt: HostRuntime) -> Result<(), Fail> {
-    let raw: WordRaw<HostRuntime> = raw_rwlock(rt.alloc(), rt, 2)?;
-    nobody_gets_in_between(&rt, &raw)
 }

@@ -1,7 +1,8 @@
 //! The makers of a lock.
-use super::Honest;
+use super::Core;
 use lock_base::raw::Fault;
 use lock_guard::raw::RawRwLock;
+use lock_raws::{LockCore, RawLock};
 use lock_rwlock::RwLock;
 use lock_test_support::answer::{equal, holds_or_lacks_memory};
 use lock_test_support::raw_lock::AskedRaw;
@@ -67,22 +68,22 @@ pub fn check_calls<R: RawRwLock + Drop>(
     equal(unasked, [true; 4])
 }
 
-fn holds_or_lacks<R: RawRwLock + Drop>(made: Result<RwLock<R, u64>, Fault>, value: u64) -> bool {
+fn holds_or_lacks<C: LockCore>(made: Result<RwLock<RawLock<C>, u64>, Fault>, value: u64) -> bool {
     holds_or_lacks_memory(made.map(|lock| lock.into_inner()), value)
 }
 
 /// Whether each maker gave a lock of the value that it is to hold, or told that memory was refused.
-fn hold_or_lack<R: RawRwLock + Drop>(alloc: Global, waiters: [R::Waiter; 4]) -> [bool; 4] {
+fn hold_or_lack<C: LockCore>(alloc: Global, waiters: [C::Waiter; 4]) -> [bool; 4] {
     let [first, second, third, last] = waiters;
     [
-        holds_or_lacks::<R>(RwLock::new(alloc, first, 5), 5),
-        holds_or_lacks::<R>(RwLock::from(alloc, second, 6), 6),
-        holds_or_lacks::<R>(RwLock::default(alloc, third), 0),
-        holds_or_lacks::<R>(RwLock::with_readers(alloc, last, 1, 7), 7),
+        holds_or_lacks::<C>(RwLock::new(alloc, first, 5), 5),
+        holds_or_lacks::<C>(RwLock::from(alloc, second, 6), 6),
+        holds_or_lacks::<C>(RwLock::default(alloc, third), 0),
+        holds_or_lacks::<C>(RwLock::with_readers(alloc, last, 1, 7), 7),
     ]
 }
 
 #[test]
 fn refused_memory_rwlock_makers(rt: HostRuntime) {
-    assert!(rt; hold_or_lack::<Honest>(rt.alloc(), [rt; 4]) == [true; 4]);
+    assert!(rt; hold_or_lack::<Core>(rt.alloc(), [rt; 4]) == [true; 4]);
 }

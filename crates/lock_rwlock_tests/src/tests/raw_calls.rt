@@ -17,7 +17,6 @@ use lock_test_support::raw_lock::RawCall::{
     TryUpgrade, TryUpgradeFor, TryUpgradeUntil, Unlock, UnlockFair, Upgrade,
 };
 use lock_test_support::raw_lock::{Liar, Watch};
-use std::alloc::Global;
 use std::test::Fail;
 
 /// A pair in a pair behind a lock.
@@ -167,18 +166,15 @@ pub fn all_calls<
     R: RawRwLockUpgradeTimed<Duration = u64, Instant = u64>
         + RawRwLockUpgradeFair
         + RawRwLockUpgradeDowngrade,
->(alloc: Global, lock: &Paired<R>, watch: &mut Watch) -> Result<(), Fail> {
+>(lock: &Paired<R>, watch: &mut Watch) {
     acquisitions(lock, watch);
     upgradable_acquisitions(lock, watch);
     calls_of_a_guard(lock, lock.read(), Shared, watch);
     calls_of_a_guard(lock, lock.write(), Exclusive, watch);
     calls_of_a_guard(lock, lock.upgradable_read(), Upgradable, watch);
     uses_of_guards(lock, watch);
-    mapped::maps_of_readers(lock, watch);
-    mapped::maps_of_writers(lock, watch);
-    mapped::texts(alloc, lock, watch)?;
-    mapped::uses_of_parts(lock, watch);
-    mapped::uses_of_read_parts(lock, watch);
+    mapped::maps(lock, watch);
+    mapped::write_of_a_part(lock, watch);
     transitions(lock, watch);
     timed_upgrades(lock, watch);
     calls_under_an_upgrade(lock, watch);
@@ -186,7 +182,6 @@ pub fn all_calls<
     refused::upgradable_tries(lock, watch);
     refused::upgrades(lock, watch);
     refused::calls_under_an_upgrade(lock, watch);
-    Ok(())
 }
 
 fn bumps_by_default<R: RawRwLockUpgradeFair>(raw: &R) {

@@ -1,6 +1,7 @@
 //! Threads that count behind a lock, and readers beside each other.
-use super::Honest;
+use super::Core;
 use lock_guard::raw::RawRwLock;
+use lock_raws::RawLock;
 use lock_rwlock::RwLock;
 use lock_test_support::raw_lock::Liar;
 use lock_test_support::{Count, add_in_four_threads};
@@ -44,7 +45,7 @@ fn sees_while_it_reads<R: RawRwLock>(
 
 #[test]
 fn four_threads_count_and_two_read_at_once(rt: HostRuntime) -> Result<(), Fail> {
-    let lock: RwLock<Honest, u64> = RwLock::new(rt.alloc(), rt, 0)?;
+    let lock: RwLock<RawLock<Core>, u64> = RwLock::new(rt.alloc(), rt, 0)?;
     add_in_four_threads(&rt, &Counted(&lock));
     let first = AtomicBool::new(false);
     let second = AtomicBool::new(false);

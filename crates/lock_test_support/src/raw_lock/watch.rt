@@ -1,4 +1,6 @@
 //! A look at the calls that came, one after another.
+ghost use Rattle.std.specs.Prelude.{◌≡◌, None, IsSome, MatchBool, MatchResult};
+
 use crate::raw_lock::calls::Calls;
 use crate::raw_lock::raw_call::RawCall;
 use lock_base::machine::Mode;
@@ -31,8 +33,17 @@ impl Watch {
         }
     }
 
+    /// Whether each look saw the calls that were wanted.
+    pub fn is_right(&self) -> bool
+        ensures { MatchBool result (self.now.wrong ≡ None) (IsSome self.now.wrong) }
+    {
+        self.wrong.is_none()
+    }
+
     /// Which look was the first to see other calls, and those.
-    pub fn verdict(self) -> Result<(), Fail> {
+    pub fn verdict(self) -> Result<(), Fail>
+        ensures { MatchResult result (λ _. self.wrong ≡ None) (λ _. IsSome self.wrong) }
+    {
         let Watch {
             calls: _,
             looks: _,

@@ -8,6 +8,7 @@ mod raw;
 
 use super::texts;
 use lock_base::machine::PartyId;
+use lock_base::raw::Fault;
 use lock_guard::raw::{RawMutex, RawMutexFair, RawMutexTimed};
 use lock_remutex::ReentrantMutex;
 use lock_test_support::project::Nested;
@@ -22,11 +23,10 @@ type Paired<R> = ReentrantMutex<R, Nested>;
 
 /// What guards ask that borrow the lock, which is free before and after each matter.
 fn calls_by_a_borrow<R: RawMutexFair + RawMutexTimed<Duration = u64, Instant = u64>>(
-    alloc: Global,
     lock: &Paired<R>,
     watch: &mut Watch,
     parties: (PartyId, PartyId),
-) -> Result<(), Fail>
+) -> Result<(), Fault>
 where
     R::Guard: Drop,
 {
@@ -39,8 +39,6 @@ where
     levels::ends(lock, watch, one)?;
     mapped::maps(lock, watch, one)?;
     mapped::misses(lock, watch, one)?;
-    mapped::texts(alloc, lock, watch, one)?;
-    mapped::uses_of_parts(lock, watch, one)?;
     Ok(())
 }
 
@@ -78,7 +76,7 @@ where
     let raw: AskedRaw<R> = RawMutex::new(alloc, waiter)?;
     let mut watch = Watch::new(raw.calls()?);
     let mut lock = ReentrantMutex::from_raw(raw, ((0, 0), 0))?;
-    calls_by_a_borrow(alloc, &lock, &mut watch, (one, two))?;
+    calls_by_a_borrow(&lock, &mut watch, (one, two))?;
     *lock.get_mut() = ((5, 2), 0);
     let (raw, value) = lock.into_inner_with_raw();
     let lock = ReentrantMutex::from_raw(raw, value)?;

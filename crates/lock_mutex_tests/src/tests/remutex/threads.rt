@@ -1,9 +1,10 @@
 //! Parties that are threads.
 use super::by_two::{ByTwo, in_threads};
+use crate::tests::Core;
 use lock_base::machine::PartyId;
 use lock_base::raw::Fault;
 use lock_guard::raw::RawMutex;
-use lock_raws::TokenRaw;
+use lock_raws::RawLock;
 use lock_remutex::ReentrantMutex;
 use lock_test_support::raw_lock::{Calls, Liar};
 use lock_test_support::{two_parties, wait_for_flag};
@@ -68,7 +69,7 @@ where
 
 #[test]
 fn two_parties_take_turns(rt: HostRuntime) -> Result<(), Fail> {
-    let shared: Shared<TokenRaw<HostRuntime>> = Shared::new(rt.alloc(), rt)?;
+    let shared: Shared<RawLock<Core>> = Shared::new(rt.alloc(), rt)?;
     assert_eq!(rt; in_threads(&rt, &shared), [Ok(true); 2]);
     assert_eq!(rt; shared.count.into_inner().load(Ordering::SeqCst), 2_000);
     Ok(())

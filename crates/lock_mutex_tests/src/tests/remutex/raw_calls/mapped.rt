@@ -1,4 +1,5 @@
-//! What the raw lock is asked where a guard is mapped.
+//! What the raw lock is asked where a guard is mapped. What a mapped guard asks by itself is one code for all locks, and
+//! asked of a mutex.
 use super::Paired;
 use lock_base::machine::Mode::Exclusive;
 use lock_base::machine::PartyId;
@@ -6,12 +7,8 @@ use lock_base::project::{TryView, View};
 use lock_base::raw::Fault;
 use lock_guard::raw::{RawMutex, RawMutexFair};
 use lock_remutex::ReentrantMutexGuard;
-use lock_test_support::project::{Item0, Item1, Nested, Nth, inner_item};
-use lock_test_support::raw_lock::{
-    Watch, watch_fair_end, watch_map, watch_texts, watch_try_map, watch_try_map_or_err,
-};
-use std::alloc::Global;
-use std::test::Fail;
+use lock_test_support::project::{Item0, Nested, inner_item};
+use lock_test_support::raw_lock::{Watch, watch_fair_end};
 
 /// The guard of a pair in a pair, which was just acquired.
 type Guard<'a, R> = ReentrantMutexGuard<'a, R, Nested>;
@@ -84,50 +81,4 @@ where
     try_map(lock.lock(party)?, inner_item(2), watch);
     try_map_or_err(lock.lock(party)?, inner_item(2), watch);
     Ok(())
-}
-
-/// The guard of a part is mapped, by a part of that which is there and by one that is not.
-pub fn uses_of_parts<R: RawMutex>(
-    lock: &Paired<R>,
-    watch: &mut Watch,
-    party: PartyId,
-) -> Result<(), Fault>
-where
-    R::Guard: Drop,
-{
-    watch_map(
-        ReentrantMutexGuard::map(lock.lock(party)?, Item0),
-        Item1,
-        Exclusive,
-        watch,
-    );
-    for index in [1, 2] {
-        watch_try_map(
-            ReentrantMutexGuard::map(lock.lock(party)?, Item0),
-            Nth(index),
-            Exclusive,
-            watch,
-        );
-        watch_try_map_or_err(
-            ReentrantMutexGuard::map(lock.lock(party)?, Item0),
-            Nth(index),
-            Exclusive,
-            watch,
-        );
-    }
-    Ok(())
-}
-
-/// The texts of a part, which is 0.
-pub fn texts<R: RawMutex>(
-    alloc: Global,
-    lock: &Paired<R>,
-    watch: &mut Watch,
-    party: PartyId,
-) -> Result<(), Fail>
-where
-    R::Guard: Drop,
-{
-    let part = ReentrantMutexGuard::map(lock.lock(party)?, Item1);
-    watch_texts(alloc, part, "0", Exclusive, watch)
 }

@@ -1,8 +1,9 @@
 //! What the makers refuse, and what comes back of a lock.
+use crate::tests::Core;
 use lock_base::machine::PartyId;
 use lock_base::raw::{DEFAULT_LEVELS, Fault, Levels};
 use lock_guard::raw::RawMutex;
-use lock_raws::TokenRaw;
+use lock_raws::{LockCore, RawLock};
 use lock_remutex::{RawReentrantMutex, ReentrantMutex};
 use lock_test_support::answer::equal;
 use lock_test_support::party;
@@ -131,23 +132,23 @@ fn is_told(refusal: Option<Fault>) -> bool {
 }
 
 /// Whether each maker told what it is to tell.
-fn are_told<R: RawMutex + Drop>(alloc: Global, waiters: [R::Waiter; 6]) -> [bool; 6]
+fn are_told<C: LockCore>(alloc: Global, waiters: [C::Waiter; 6]) -> [bool; 6]
 where
-    R::Guard: Send + Drop,
+    C::Token: Send,
 {
     let [first, second, third, fourth, fifth, sixth] = waiters;
     [
-        is_told(ReentrantMutex::<R, u8>::new(alloc, first, 1).err()),
-        is_told(ReentrantMutex::<R, u8>::from(alloc, second, 1).err()),
-        is_told(ReentrantMutex::<R, u8>::default(alloc, third).err()),
-        is_told(ReentrantMutex::<R, u8>::with_levels(alloc, fourth, 3, 1).err()),
-        is_told(RawReentrantMutex::<R>::new(alloc, fifth).err()),
-        is_told(RawReentrantMutex::<R>::with_levels(alloc, sixth, 3).err()),
+        is_told(ReentrantMutex::<RawLock<C>, u8>::new(alloc, first, 1).err()),
+        is_told(ReentrantMutex::<RawLock<C>, u8>::from(alloc, second, 1).err()),
+        is_told(ReentrantMutex::<RawLock<C>, u8>::default(alloc, third).err()),
+        is_told(ReentrantMutex::<RawLock<C>, u8>::with_levels(alloc, fourth, 3, 1).err()),
+        is_told(RawReentrantMutex::<RawLock<C>>::new(alloc, fifth).err()),
+        is_told(RawReentrantMutex::<RawLock<C>>::with_levels(alloc, sixth, 3).err()),
     ]
 }
 
 /// Passes too where an allocation is refused, as it is told then.
 #[test]
 fn refused_memory_is_told_by_the_makers(rt: HostRuntime) {
-    assert!(rt; are_told::<TokenRaw<HostRuntime>>(rt.alloc(), [rt; 6]) == [true; 6]);
+    assert!(rt; are_told::<Core>(rt.alloc(), [rt; 6]) == [true; 6]);
 }

@@ -10,28 +10,21 @@ mod raw_calls;
 mod texts;
 mod threads;
 
-use lock_guard::raw::{RawMutex, RawMutexFair, RawMutexTimed};
-use lock_raws::TokenRaw;
+use super::Core;
+use lock_guard::raw::{RawMutexFair, RawMutexTimed};
+use lock_raws::{LockCore, RawLock};
 use std::alloc::Global;
 use std::process::Abort;
 use std::test::Fail;
 
 /// What permits waiting, for owners, for makers and for the rest of what is answered.
-type Waiters<R> = (
-    [<R as RawMutex>::Waiter; 3],
-    (
-        [<R as RawMutex>::Waiter; 3],
-        [<R as RawMutex>::Waiter; 4],
-        [<R as RawMutex>::Waiter; 4],
-    ),
-    [<R as RawMutex>::Waiter; 3],
-);
+type Waiters<W> = ([W; 3], ([W; 3], [W; 4], [W; 4]), [W; 3]);
 
 /// Answers of a reentrant lock on one thread, of its guards, and of guards that keep it alive.
 fn answers<R: RawMutexFair + RawMutexTimed<Duration = (), Instant = ()> + Drop>(
     rt: &impl Abort,
     alloc: Global,
-    waiters: Waiters<R>,
+    waiters: Waiters<R::Waiter>,
 ) -> Result<(), Fail>
 where
     R::Guard: Send + Drop,
@@ -45,26 +38,26 @@ where
 }
 
 /// Answers, and what the raw lock is asked.
-fn answers_and_calls<R: RawMutexFair + RawMutexTimed<Duration = (), Instant = ()> + Drop>(
+fn answers_and_calls<C: LockCore<Duration = (), Instant = ()>>(
     rt: &impl Abort,
     alloc: Global,
-    waiters: (Waiters<R>, [R::Waiter; 4], [R::Waiter; 3]),
+    waiters: (Waiters<C::Waiter>, [C::Waiter; 4], [C::Waiter; 3]),
 ) -> Result<(), Fail>
 where
-    R::Guard: Send + Drop,
+    C::Token: Send,
 {
     let (of_answers, of_makers, of_calls) = waiters;
-    answers::<R>(rt, alloc, of_answers)?;
-    makers::check_calls::<R>(alloc, of_makers)?;
-    raw_calls::check::<R>(alloc, of_calls)
+    answers::<RawLock<C>>(rt, alloc, of_answers)?;
+    makers::check_calls::<RawLock<C>>(alloc, of_makers)?;
+    raw_calls::check::<RawLock<C>>(alloc, of_calls)
 }
 
-/// One test, since each that names the raw lock has to prove anew what that is.
+/// One test, which names what the raw lock is over, since each that names the raw lock has to prove anew what that is.
 #[test]
 fn answers_and_calls_on_one_thread(rt: HostRuntime) -> Result<(), Fail> {
     let of_answers = ([rt; 3], ([rt; 3], [rt; 4], [rt; 4]), [rt; 3]);
     let waiters = (of_answers, [rt; 4], [rt; 3]);
-    answers_and_calls::<TokenRaw<HostRuntime>>(&rt, rt.alloc(), waiters)
+    answers_and_calls::<Core>(&rt, rt.alloc(), waiters)
 }
 
 #[test]

@@ -6,12 +6,12 @@ mod mutex;
 mod remutex;
 mod rwlock;
 
+use super::{Table, Word};
 use lock_guard::raw::{
     RawMutexFair, RawMutexTimed, RawRwLockUpgradeDowngrade, RawRwLockUpgradeFair,
     RawRwLockUpgradeTimed,
 };
-use lock_raws::{LockCore, Monitor, RawLock, TableArbiter};
-use lock_raws_word::{NoTime, WordCore};
+use lock_raws::{LockCore, RawLock};
 use std::alloc::Global;
 use std::process::Abort;
 use std::test::Fail;
@@ -60,10 +60,10 @@ where
 
 #[test]
 fn locks_over_a_table_are_as_on_a_desk(rt: HostRuntime) -> Result<(), Fail> {
-    rows::<Monitor<TableArbiter, HostRuntime>>(&rt, rt.alloc(), [rt; 4], [rt; 5], [rt; 2])
+    rows::<Table>(&rt, rt.alloc(), [rt; 4], [rt; 5], [rt; 2])
 }
 
 #[test]
 fn locks_over_a_word_are_as_on_a_desk(rt: HostRuntime) -> Result<(), Fail> {
-    rows::<WordCore<HostRuntime, NoTime>>(&rt, rt.alloc(), [rt; 4], [rt; 5], [rt; 2])
+    rows::<Word>(&rt, rt.alloc(), [rt; 4], [rt; 5], [rt; 2])
 }
