@@ -72,7 +72,7 @@ fn refused<R: RawRwLockUpgradeDowngrade + Drop>(lock: &Owned<R>) -> Result<(u64,
     drop(reader);
     let writer = ArcRwLockUpgradableReadGuard::upgrade(guard);
     let left = ArcRwLockWriteGuard::with(&writer, |value| *value);
-    drop(ArcRwLockWriteGuard::downgrade(writer));
+    ArcRwLockWriteGuard::downgrade(writer);
     Ok((calls.get(), left))
 }
 

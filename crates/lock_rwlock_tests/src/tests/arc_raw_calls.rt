@@ -24,31 +24,50 @@ use std::test::Fail;
 
 type Shareable<R> = Arc<RwLock<R, u64>>;
 
+/// Of a free lock, and tries beside a writer. A guard that is not kept ends at once.
 fn acquisitions<R: RawRwLockTimed<Duration = u64, Instant = u64> + Drop>(
     lock: &Shareable<R>,
     watch: &mut Watch,
-) {
-    drop(RwLock::read_arc(lock));
-    drop(RwLock::try_read_arc(lock));
-    drop(RwLock::try_read_arc_for(lock, 3));
-    drop(RwLock::try_read_arc_until(lock, 4));
+) -> Result<(), Fault> {
+    let _ = RwLock::read_arc(lock);
+    let _ = RwLock::try_read_arc(lock);
+    let _ = RwLock::try_read_arc_for(lock, 3);
+    let _ = RwLock::try_read_arc_until(lock, 4);
     watch.saw_acquisitions(Shared);
-    drop(RwLock::write_arc(lock));
-    drop(RwLock::try_write_arc(lock));
-    drop(RwLock::try_write_arc_for(lock, 3));
-    drop(RwLock::try_write_arc_until(lock, 4));
+    let _ = RwLock::write_arc(lock);
+    let _ = RwLock::try_write_arc(lock);
+    let _ = RwLock::try_write_arc_for(lock, 3);
+    let _ = RwLock::try_write_arc_until(lock, 4);
     watch.saw_acquisitions(Exclusive);
+    let writer = RwLock::write_arc(lock)?;
+    let _ = RwLock::try_read_arc(lock);
+    let _ = RwLock::try_read_arc_for(lock, 3);
+    let _ = RwLock::try_read_arc_until(lock, 4);
+    watch.saw_refused_tries(writer, Shared);
+    let writer = RwLock::write_arc(lock)?;
+    let _ = RwLock::try_write_arc(lock);
+    let _ = RwLock::try_write_arc_for(lock, 3);
+    let _ = RwLock::try_write_arc_until(lock, 4);
+    watch.saw_refused_tries(writer, Exclusive);
+    Ok(())
 }
 
+/// Of a free lock, and tries beside a writer.
 fn upgradable_acquisitions<R: RawRwLockUpgradeTimed<Duration = u64, Instant = u64> + Drop>(
     lock: &Shareable<R>,
     watch: &mut Watch,
-) {
-    drop(RwLock::upgradable_read_arc(lock));
-    drop(RwLock::try_upgradable_read_arc(lock));
-    drop(RwLock::try_upgradable_read_arc_for(lock, 3));
-    drop(RwLock::try_upgradable_read_arc_until(lock, 4));
+) -> Result<(), Fault> {
+    let _ = RwLock::upgradable_read_arc(lock);
+    let _ = RwLock::try_upgradable_read_arc(lock);
+    let _ = RwLock::try_upgradable_read_arc_for(lock, 3);
+    let _ = RwLock::try_upgradable_read_arc_until(lock, 4);
     watch.saw_acquisitions(Upgradable);
+    let writer = RwLock::write_arc(lock)?;
+    let _ = RwLock::try_upgradable_read_arc(lock);
+    let _ = RwLock::try_upgradable_read_arc_for(lock, 3);
+    let _ = RwLock::try_upgradable_read_arc_until(lock, 4);
+    watch.saw_refused_tries(writer, Upgradable);
+    Ok(())
 }
 
 /// What a guard of the mode, which was just acquired, can do whatever its mode.
@@ -77,7 +96,7 @@ fn end_guard<M: LockMode<R>, R: RawRwLock + Drop>(
     mode: Mode,
     watch: &mut Watch,
 ) {
-    drop(ArcRwLockGuard::into_arc(guard));
+    ArcRwLockGuard::into_arc(guard);
     watch.saw(&[Lock(mode), Unlock(mode)]);
 }
 
@@ -95,9 +114,9 @@ fn calls_of_guards<R: RawRwLockUpgradeFair + Drop>(
     lock: &Shareable<R>,
     watch: &mut Watch,
 ) -> Result<(), Fault> {
-    drop(calls_of_a_guard(RwLock::read_arc(lock)?, Shared, watch));
-    drop(calls_of_a_guard(RwLock::write_arc(lock)?, Exclusive, watch));
-    drop(calls_of_a_guard(RwLock::upgradable_read_arc(lock)?, Upgradable, watch));
+    calls_of_a_guard(RwLock::read_arc(lock)?, Shared, watch);
+    calls_of_a_guard(RwLock::write_arc(lock)?, Exclusive, watch);
+    calls_of_a_guard(RwLock::upgradable_read_arc(lock)?, Upgradable, watch);
     let mut writer = RwLock::write_arc(lock)?;
     ArcRwLockWriteGuard::with_mut(&mut writer, |value| *value = 5);
     watch.saw_hold(writer, Exclusive);
@@ -134,13 +153,13 @@ fn transitions<R: RawRwLockUpgradeDowngrade + Drop>(
     lock: &Shareable<R>,
     watch: &mut Watch,
 ) -> Result<(), Fault> {
-    drop(ArcRwLockWriteGuard::downgrade(RwLock::write_arc(lock)?));
+    ArcRwLockWriteGuard::downgrade(RwLock::write_arc(lock)?);
     watch.saw(&[Lock(Exclusive), Downgrade, Unlock(Shared)]);
     let guard = ArcRwLockWriteGuard::downgrade_to_upgradable(RwLock::write_arc(lock)?);
     watch.saw(&[Lock(Exclusive), DowngradeToUpgradable]);
-    drop(ArcRwLockUpgradableReadGuard::downgrade(guard));
+    ArcRwLockUpgradableReadGuard::downgrade(guard);
     watch.saw(&[DowngradeUpgradable, Unlock(Shared)]);
-    drop(ArcRwLockUpgradableReadGuard::upgrade(RwLock::upgradable_read_arc(lock)?));
+    ArcRwLockUpgradableReadGuard::upgrade(RwLock::upgradable_read_arc(lock)?);
     watch.saw(&[Lock(Upgradable), Upgrade, Unlock(Exclusive)]);
     Ok(())
 }
@@ -151,11 +170,11 @@ fn tried_upgrades<R: RawRwLockUpgradeTimed<Duration = u64, Instant = u64> + Drop
     last: Mode,
     watch: &mut Watch,
 ) -> Result<(), Fault> {
-    drop(ArcRwLockUpgradableReadGuard::try_upgrade(RwLock::upgradable_read_arc(lock)?));
+    let _ = ArcRwLockUpgradableReadGuard::try_upgrade(RwLock::upgradable_read_arc(lock)?);
     watch.saw(&[Lock(Upgradable), TryUpgrade, Unlock(last)]);
-    drop(ArcRwLockUpgradableReadGuard::try_upgrade_for(RwLock::upgradable_read_arc(lock)?, 3));
+    let _ = ArcRwLockUpgradableReadGuard::try_upgrade_for(RwLock::upgradable_read_arc(lock)?, 3);
     watch.saw(&[Lock(Upgradable), TryUpgradeFor(3), Unlock(last)]);
-    drop(ArcRwLockUpgradableReadGuard::try_upgrade_until(RwLock::upgradable_read_arc(lock)?, 4));
+    let _ = ArcRwLockUpgradableReadGuard::try_upgrade_until(RwLock::upgradable_read_arc(lock)?, 4);
     watch.saw(&[Lock(Upgradable), TryUpgradeUntil(4), Unlock(last)]);
     Ok(())
 }
@@ -186,14 +205,13 @@ pub fn all_calls<
         + Drop,
 >(alloc: Global, lock: &Shareable<R>, watch: &mut Watch) -> Result<(), Fail> {
     texts_of_guards(alloc, lock, watch)?;
-    acquisitions(lock, watch);
-    upgradable_acquisitions(lock, watch);
+    acquisitions(lock, watch)?;
+    upgradable_acquisitions(lock, watch)?;
     calls_of_guards(lock, watch)?;
     ends_of_guards(lock, watch)?;
     transitions(lock, watch)?;
     tried_upgrades(lock, Exclusive, watch)?;
     calls_under_an_upgrade(lock, watch)?;
     refused::upgrades(lock, watch)?;
-    refused::tries(lock, watch)?;
     Ok(())
 }

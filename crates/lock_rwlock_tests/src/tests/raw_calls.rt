@@ -22,34 +22,51 @@ use std::test::Fail;
 /// A pair in a pair behind a lock.
 type Paired<R> = RwLock<R, Nested>;
 
+/// Of a free lock, and tries beside a writer. A guard that is not kept ends at once.
 fn acquisitions<R: RawRwLockTimed<Duration = u64, Instant = u64>>(
     lock: &Paired<R>,
     watch: &mut Watch,
 ) {
-    drop(lock.read());
-    drop(lock.try_read());
-    drop(lock.try_read_for(3));
-    drop(lock.try_read_until(4));
+    lock.read();
+    lock.try_read();
+    lock.try_read_for(3);
+    lock.try_read_until(4);
     watch.saw_acquisitions(Shared);
-    drop(lock.write());
-    drop(lock.try_write());
-    drop(lock.try_write_for(3));
-    drop(lock.try_write_until(4));
+    lock.write();
+    lock.try_write();
+    lock.try_write_for(3);
+    lock.try_write_until(4);
     watch.saw_acquisitions(Exclusive);
+    let writer = lock.write();
+    lock.try_read();
+    lock.try_read_for(3);
+    lock.try_read_until(4);
+    watch.saw_refused_tries(writer, Shared);
+    let writer = lock.write();
+    lock.try_write();
+    lock.try_write_for(3);
+    lock.try_write_until(4);
+    watch.saw_refused_tries(writer, Exclusive);
     lock.is_locked();
     lock.is_locked_exclusive();
     watch.saw(&[IsLocked, IsLockedExclusive]);
 }
 
+/// Of a free lock, and tries beside a writer.
 fn upgradable_acquisitions<R: RawRwLockUpgradeTimed<Duration = u64, Instant = u64>>(
     lock: &Paired<R>,
     watch: &mut Watch,
 ) {
-    drop(lock.upgradable_read());
-    drop(lock.try_upgradable_read());
-    drop(lock.try_upgradable_read_for(3));
-    drop(lock.try_upgradable_read_until(4));
+    lock.upgradable_read();
+    lock.try_upgradable_read();
+    lock.try_upgradable_read_for(3);
+    lock.try_upgradable_read_until(4);
     watch.saw_acquisitions(Upgradable);
+    let writer = lock.write();
+    lock.try_upgradable_read();
+    lock.try_upgradable_read_for(3);
+    lock.try_upgradable_read_until(4);
+    watch.saw_refused_tries(writer, Upgradable);
 }
 
 /// What a guard of the mode, which was just acquired, can do whatever its mode.
@@ -95,11 +112,10 @@ fn uses_of_guards<R: RawRwLockUpgrade>(lock: &Paired<R>, watch: &mut Watch) {
 
 /// Up, and down to each lower mode.
 fn transitions<R: RawRwLockUpgradeDowngrade>(lock: &Paired<R>, watch: &mut Watch) {
-    drop(RwLockWriteGuard::downgrade(lock.write()));
+    RwLockWriteGuard::downgrade(lock.write());
     let guard = RwLockWriteGuard::downgrade_to_upgradable(lock.write());
-    drop(RwLockUpgradableReadGuard::downgrade(guard));
-    drop(RwLockUpgradableReadGuard::upgrade(lock.upgradable_read()));
-    drop(RwLockUpgradableReadGuard::try_upgrade(lock.upgradable_read()));
+    RwLockUpgradableReadGuard::downgrade(guard);
+    RwLockUpgradableReadGuard::upgrade(lock.upgradable_read());
     watch.saw(&[
         Lock(Exclusive),
         Downgrade,
@@ -111,25 +127,28 @@ fn transitions<R: RawRwLockUpgradeDowngrade>(lock: &Paired<R>, watch: &mut Watch
         Lock(Upgradable),
         Upgrade,
         Unlock(Exclusive),
-        Lock(Upgradable),
-        TryUpgrade,
-        Unlock(Exclusive),
     ]);
 }
 
-fn timed_upgrades<R: RawRwLockUpgradeTimed<Duration = u64, Instant = u64>>(
+/// Upgrades that may be refused, of guards that end in that mode.
+fn tried_upgrades<R: RawRwLockUpgradeTimed<Duration = u64, Instant = u64>>(
     lock: &Paired<R>,
+    last: Mode,
     watch: &mut Watch,
 ) {
-    drop(RwLockUpgradableReadGuard::try_upgrade_for(lock.upgradable_read(), 3));
-    drop(RwLockUpgradableReadGuard::try_upgrade_until(lock.upgradable_read(), 4));
+    let _ = RwLockUpgradableReadGuard::try_upgrade(lock.upgradable_read());
+    let _ = RwLockUpgradableReadGuard::try_upgrade_for(lock.upgradable_read(), 3);
+    let _ = RwLockUpgradableReadGuard::try_upgrade_until(lock.upgradable_read(), 4);
     watch.saw(&[
         Lock(Upgradable),
+        TryUpgrade,
+        Unlock(last),
+        Lock(Upgradable),
         TryUpgradeFor(3),
-        Unlock(Exclusive),
+        Unlock(last),
         Lock(Upgradable),
         TryUpgradeUntil(4),
-        Unlock(Exclusive),
+        Unlock(last),
     ]);
 }
 
@@ -176,12 +195,9 @@ pub fn all_calls<
     mapped::maps(lock, watch);
     mapped::write_of_a_part(lock, watch);
     transitions(lock, watch);
-    timed_upgrades(lock, watch);
+    tried_upgrades(lock, Exclusive, watch);
     calls_under_an_upgrade(lock, watch);
-    refused::tries(lock, watch);
-    refused::upgradable_tries(lock, watch);
     refused::upgrades(lock, watch);
-    refused::calls_under_an_upgrade(lock, watch);
 }
 
 fn bumps_by_default<R: RawRwLockUpgradeFair>(raw: &R) {

@@ -8,7 +8,7 @@ use std::test::Fail;
 /// The raw lock, after a writer that becomes a reader and ends.
 fn written<C: LockCore>(raw: RawLock<C>) -> Result<RawLock<C>, Fault> {
     let lock = RwLock::from_raw(raw, 5_u64)?;
-    drop(RwLockWriteGuard::downgrade(lock.write()));
+    RwLockWriteGuard::downgrade(lock.write());
     Ok(lock.into_inner_with_raw().0)
 }
 
