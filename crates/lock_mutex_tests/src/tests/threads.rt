@@ -1,9 +1,9 @@
-//! Threads that count behind a mutex, over a raw lock that is honest and over one that lies, and that wait for each other.
-use super::Core;
+//! Threads that count behind a mutex and wait for each other, over a raw lock that admits everyone, so that the std lock alone
+//! keeps them apart.
 use super::order::come_and_wait;
 use lock_guard::raw::RawMutex;
 use lock_mutex::{Condvar, Mutex};
-use lock_raws::{RawLock, SpuriousCondvar};
+use lock_raws::SpuriousCondvar;
 use lock_test_support::raw_lock::Liar;
 use lock_test_support::{Count, add_in_four_threads};
 use std::test::Fail;
@@ -22,25 +22,16 @@ impl<R: RawMutex> Count for Counted<'_, R> {
     }
 }
 
-/// Both stand in one test, since that threads may share the mutex is dear to prove.
 #[test]
 fn four_threads_count_and_two_wait_for_each_other(rt: HostRuntime) -> Result<(), Fail> {
-    let counter: Mutex<RawLock<Core>, u64> = Mutex::new(rt.alloc(), rt, 0)?;
+    let counter: Mutex<Liar<HostRuntime>, u64> = Mutex::new(rt.alloc(), rt, 0)?;
     add_in_four_threads(&rt, &Counted(&counter));
-    let condvar: Condvar<SpuriousCondvar<RawLock<Core>>> = Condvar::new(rt.alloc())?;
+    let condvar: Condvar<SpuriousCondvar<Liar<HostRuntime>>> = Condvar::new(rt.alloc())?;
     thread::join(
         &rt,
         || come_and_wait(&counter, &condvar, 4_002),
         || come_and_wait(&counter, &condvar, 4_002),
     );
     assert_eq!(rt; counter.into_inner(), 4_002);
-    Ok(())
-}
-
-#[test]
-fn four_threads_count_over_a_lying_raw_lock(rt: HostRuntime) -> Result<(), Fail> {
-    let counter: Mutex<Liar<HostRuntime>, u64> = Mutex::new(rt.alloc(), rt, 0)?;
-    add_in_four_threads(&rt, &Counted(&counter));
-    assert_eq!(rt; counter.into_inner(), 4_000);
     Ok(())
 }

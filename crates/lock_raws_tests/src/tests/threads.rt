@@ -1,8 +1,9 @@
 //! What threads see of a value behind a lock on a word.
 use super::Word;
 use lock_base::raw::Fault;
+use lock_guard::raw::{RawMutex, RawRwLock};
 use lock_mutex::Mutex;
-use lock_raws::{LockCore, RawLock};
+use lock_raws::RawLock;
 use lock_rwlock::RwLock;
 use lock_test_support::{Count, add_in_four_threads};
 use std::alloc::Global;
@@ -11,10 +12,10 @@ use std::test::Fail;
 use std::thread::{self, Threads};
 
 /// A count under a mutex.
-struct UnderMutex<C: LockCore>(Mutex<RawLock<C>, u64>);
+struct UnderMutex<R: RawMutex>(Mutex<R, u64>);
 
-impl<C: LockCore> UnderMutex<C> {
-    fn new(alloc: Global, waiter: C::Waiter) -> Result<UnderMutex<C>, Fault> {
+impl<R: RawMutex + Drop> UnderMutex<R> {
+    fn new(alloc: Global, waiter: R::Waiter) -> Result<UnderMutex<R>, Fault> {
         Ok(UnderMutex(Mutex::new(alloc, waiter, 0)?))
     }
 
@@ -24,8 +25,8 @@ impl<C: LockCore> UnderMutex<C> {
     }
 }
 
-impl<C: LockCore> Count for UnderMutex<C> {
-    type Waiter = C::Waiter;
+impl<R: RawMutex> Count for UnderMutex<R> {
+    type Waiter = R::Waiter;
 
     fn add_one(&self) {
         let mut count = self.0.lock();
@@ -34,10 +35,10 @@ impl<C: LockCore> Count for UnderMutex<C> {
 }
 
 /// A count under writers.
-struct UnderWriter<C: LockCore>(RwLock<RawLock<C>, u64>);
+struct UnderWriter<R: RawRwLock>(RwLock<R, u64>);
 
-impl<C: LockCore> UnderWriter<C> {
-    fn new(alloc: Global, waiter: C::Waiter, readers: u64) -> Result<UnderWriter<C>, Fault> {
+impl<R: RawRwLock + Drop> UnderWriter<R> {
+    fn new(alloc: Global, waiter: R::Waiter, readers: u64) -> Result<UnderWriter<R>, Fault> {
         Ok(UnderWriter(RwLock::with_readers(alloc, waiter, readers, 0)?))
     }
 
@@ -47,8 +48,8 @@ impl<C: LockCore> UnderWriter<C> {
     }
 }
 
-impl<C: LockCore> Count for UnderWriter<C> {
-    type Waiter = C::Waiter;
+impl<R: RawRwLock> Count for UnderWriter<R> {
+    type Waiter = R::Waiter;
 
     fn add_one(&self) {
         let mut count = self.0.write();
@@ -83,10 +84,10 @@ trait Pairs {
 }
 
 /// A pair under a lock.
-struct PairUnder<C: LockCore>(RwLock<RawLock<C>, Pair>);
+struct PairUnder<R: RawRwLock>(RwLock<R, Pair>);
 
-impl<C: LockCore> PairUnder<C> {
-    fn new(alloc: Global, waiter: C::Waiter, readers: u64) -> Result<PairUnder<C>, Fault> {
+impl<R: RawRwLock + Drop> PairUnder<R> {
+    fn new(alloc: Global, waiter: R::Waiter, readers: u64) -> Result<PairUnder<R>, Fault> {
         let pair = Pair { one: 0, other: 0 };
         Ok(PairUnder(RwLock::with_readers(alloc, waiter, readers, pair)?))
     }
@@ -97,8 +98,8 @@ impl<C: LockCore> PairUnder<C> {
     }
 }
 
-impl<C: LockCore> Pairs for PairUnder<C> {
-    type Waiter = C::Waiter;
+impl<R: RawRwLock> Pairs for PairUnder<R> {
+    type Waiter = R::Waiter;
 
     fn write_pairs(&self) {
         for _ in 0..10_000u32 {
@@ -134,16 +135,16 @@ fn read_beside_a_writer<R: Threads + Sync, C: Pairs + Sync>(rt: &R, pair: &C) ->
 
 #[test]
 fn threads_share_values_behind_a_word(rt: HostRuntime) -> Result<(), Fail> {
-    let count: UnderMutex<Word> = UnderMutex::new(rt.alloc(), rt)?;
+    let count: UnderMutex<RawLock<Word>> = UnderMutex::new(rt.alloc(), rt)?;
     add_forty_thousand(&rt, &count);
     assert_eq!(rt; count.into_count(), 40_000);
     for readers in [1, 4, 4_294_967_295] {
-        let count: UnderWriter<Word> = UnderWriter::new(rt.alloc(), rt, readers)?;
+        let count: UnderWriter<RawLock<Word>> = UnderWriter::new(rt.alloc(), rt, readers)?;
         add_forty_thousand(&rt, &count);
         assert_eq!(rt; count.into_count(), 40_000);
     }
     for readers in [1, 2, 64] {
-        let pair: PairUnder<Word> = PairUnder::new(rt.alloc(), rt, readers)?;
+        let pair: PairUnder<RawLock<Word>> = PairUnder::new(rt.alloc(), rt, readers)?;
         assert_eq!(rt; read_beside_a_writer(&rt, &pair), 0);
         assert_eq!(rt; pair.into_pair().one, 10_000);
     }

@@ -1,5 +1,6 @@
 //! A row of calls on a reader-writer lock by guards that keep it alive.
 use super::beside_desk::{BesideDesk, Table};
+use super::rwlock::{given_back, upgraded};
 use lock_base::machine::{Call, Form, PartyId, Reply, Want, Way};
 use lock_base::raw::Fault;
 use lock_guard::raw::{RawRwLockFair, RawRwLockUpgradeDowngrade, RawRwLockUpgradeTimed};
@@ -32,18 +33,18 @@ fn up_and_down<
     );
     let reader = RwLock::read_arc(lock)?;
     desk.same(Call::Acquire(Want::Read, Form::Block, one), Reply::Guard(2));
-    let guard = ArcRwLockUpgradableReadGuard::try_upgrade(guard).err();
-    let guard = guard.expect(rt, "a reader beside it");
+    let guard = given_back(rt, ArcRwLockUpgradableReadGuard::try_upgrade(guard));
     desk.same(Call::Upgrade(Form::Try, one, 1), Reply::NoGuard);
     drop(reader);
     desk.same(Call::Unlock(one, 2, Way::Plain), Reply::Done);
-    let writer = ArcRwLockUpgradableReadGuard::try_upgrade_until(guard, ()).ok();
-    let writer = writer.expect(rt, "alone");
+    let writer = upgraded(
+        rt,
+        ArcRwLockUpgradableReadGuard::try_upgrade_until(guard, ()),
+    );
     desk.same(Call::Upgrade(Form::Until, one, 1), Reply::Done);
     let guard = ArcRwLockWriteGuard::downgrade_to_upgradable(writer);
     desk.same(Call::DowngradeToUpgradable(one, 1), Reply::Done);
-    let writer = ArcRwLockUpgradableReadGuard::try_upgrade_for(guard, ()).ok();
-    let mut writer = writer.expect(rt, "alone");
+    let mut writer = upgraded(rt, ArcRwLockUpgradableReadGuard::try_upgrade_for(guard, ()));
     desk.same(Call::Upgrade(Form::For, one, 1), Reply::Done);
     ArcRwLockWriteGuard::bump(&mut writer);
     desk.same(Call::Bump(one, 1), Reply::Done);

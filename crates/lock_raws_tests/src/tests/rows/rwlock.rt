@@ -21,6 +21,16 @@ type Paired<R> = RwLock<R, Pair>;
 
 type Upgradable<'a, R> = RwLockUpgradableReadGuard<'a, R, Pair>;
 
+/// The guard that came back from an upgrade, which a reader beside it refused.
+pub fn given_back<W: Drop, G>(rt: &impl Abort, tried: Result<W, G>) -> G {
+    tried.err().expect(rt, "a reader beside it")
+}
+
+/// The guard of a writer that an upgrade gave, nobody else holding the lock.
+pub fn upgraded<W, G: Drop>(rt: &impl Abort, tried: Result<W, G>) -> W {
+    tried.ok().expect(rt, "alone")
+}
+
 /// The reply to a try of an operation under an upgraded guard.
 fn answered(answer: Option<i64>) -> Reply<i64> {
     match answer {
@@ -60,14 +70,11 @@ fn refused_by_each_form<'a, R: RawRwLockUpgradeTimed<Duration = (), Instant = ()
     one: PartyId,
     guard: Upgradable<'a, R>,
 ) -> Upgradable<'a, R> {
-    let guard = RwLockUpgradableReadGuard::try_upgrade(guard).err();
-    let guard = guard.expect(rt, "a reader beside it");
+    let guard = given_back(rt, RwLockUpgradableReadGuard::try_upgrade(guard));
     desk.same(Call::Upgrade(Form::Try, one, 1), Reply::NoGuard);
-    let guard = RwLockUpgradableReadGuard::try_upgrade_for(guard, ()).err();
-    let guard = guard.expect(rt, "a reader beside it");
+    let guard = given_back(rt, RwLockUpgradableReadGuard::try_upgrade_for(guard, ()));
     desk.same(Call::Upgrade(Form::For, one, 1), Reply::NoGuard);
-    let guard = RwLockUpgradableReadGuard::try_upgrade_until(guard, ()).err();
-    let guard = guard.expect(rt, "a reader beside it");
+    let guard = given_back(rt, RwLockUpgradableReadGuard::try_upgrade_until(guard, ()));
     desk.same(Call::Upgrade(Form::Until, one, 1), Reply::NoGuard);
     guard
 }
@@ -95,8 +102,7 @@ fn up_and_down<
         Call::IsLockedExclusive,
         Reply::Bool(lock.is_locked_exclusive()),
     );
-    let writer = RwLockUpgradableReadGuard::try_upgrade_for(guard, ()).ok();
-    let writer = writer.expect(rt, "alone");
+    let writer = upgraded(rt, RwLockUpgradableReadGuard::try_upgrade_for(guard, ()));
     desk.same(Call::Upgrade(Form::For, one, 1), Reply::Done);
     let reader = RwLockWriteGuard::downgrade(writer);
     desk.same(Call::Downgrade(one, 1), Reply::Done);
@@ -201,8 +207,7 @@ fn transitions<
         Call::Acquire(Want::UpgradableRead, Form::Block, one),
         Reply::Guard(1),
     );
-    let writer = RwLockUpgradableReadGuard::try_upgrade_until(guard, ()).ok();
-    let mut writer = writer.expect(rt, "alone");
+    let mut writer = upgraded(rt, RwLockUpgradableReadGuard::try_upgrade_until(guard, ()));
     desk.same(Call::Upgrade(Form::Until, one, 1), Reply::Done);
     *writer = 7;
     desk.same(Call::Change(one, 1, Put(7)), Reply::Answer(*writer));

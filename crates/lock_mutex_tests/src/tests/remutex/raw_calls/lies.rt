@@ -23,7 +23,7 @@ where
     R::Guard: Drop,
 {
     let _guard = lock.lock(owner)?;
-    drop(lock.try_lock(other));
+    let _ = lock.try_lock(other);
     Ok(())
 }
 
