@@ -18,15 +18,21 @@ use std::test::Fail;
 /// A pair in a pair behind a mutex.
 type Paired<R> = Mutex<R, Nested>;
 
+/// Of a free mutex, and tries beside a guard. A guard that is not kept ends at once.
 fn acquisitions<R: RawMutexTimed<Duration = u64, Instant = u64>>(
     mutex: &Paired<R>,
     watch: &mut Watch,
 ) {
-    drop(mutex.lock());
-    drop(mutex.try_lock());
-    drop(mutex.try_lock_for(3));
-    drop(mutex.try_lock_until(4));
+    mutex.lock();
+    mutex.try_lock();
+    mutex.try_lock_for(3);
+    mutex.try_lock_until(4);
     watch.saw_acquisitions(Exclusive);
+    let guard = mutex.lock();
+    mutex.try_lock();
+    mutex.try_lock_for(3);
+    mutex.try_lock_until(4);
+    watch.saw_refused_tries(guard, Exclusive);
     mutex.is_locked();
     watch.saw(&[IsLocked]);
 }
@@ -52,18 +58,6 @@ fn calls_of_a_guard<R: RawMutexFair>(mutex: &Paired<R>, watch: &mut Watch) {
     ]);
 }
 
-/// Tries beside a guard.
-fn refused_tries<R: RawMutexTimed<Duration = u64, Instant = u64>>(
-    mutex: &Paired<R>,
-    watch: &mut Watch,
-) {
-    let guard = mutex.lock();
-    drop(mutex.try_lock());
-    drop(mutex.try_lock_for(3));
-    drop(mutex.try_lock_until(4));
-    watch.saw_refused_tries(guard, Exclusive);
-}
-
 /// All of these, on a mutex that is free before and after each.
 pub fn all_calls<R: RawMutexFair + RawMutexTimed<Duration = u64, Instant = u64>>(
     alloc: Global,
@@ -72,7 +66,6 @@ pub fn all_calls<R: RawMutexFair + RawMutexTimed<Duration = u64, Instant = u64>>
 ) -> Result<(), Fail> {
     acquisitions(mutex, watch);
     calls_of_a_guard(mutex, watch);
-    refused_tries(mutex, watch);
     mapped::maps(mutex, watch);
     mapped::texts(alloc, mutex, watch)?;
     mapped::uses_of_parts(mutex, watch);

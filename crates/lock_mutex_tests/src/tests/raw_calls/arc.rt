@@ -7,15 +7,22 @@ use lock_test_support::raw_lock::RawCall::{Bump, Lock, Unlock, UnlockFair};
 use lock_test_support::raw_lock::Watch;
 use std::sync::Arc;
 
+/// Of a free mutex, and tries beside a guard. A guard that is not kept ends at once.
 fn acquisitions_by_an_arc<R: RawMutexTimed<Duration = u64, Instant = u64> + Drop>(
     mutex: &Arc<Mutex<R, u64>>,
     watch: &mut Watch,
-) {
-    drop(Mutex::lock_arc(mutex));
-    drop(Mutex::try_lock_arc(mutex));
-    drop(Mutex::try_lock_arc_for(mutex, 3));
-    drop(Mutex::try_lock_arc_until(mutex, 4));
+) -> Result<(), Fault> {
+    let _ = Mutex::lock_arc(mutex);
+    let _ = Mutex::try_lock_arc(mutex);
+    let _ = Mutex::try_lock_arc_for(mutex, 3);
+    let _ = Mutex::try_lock_arc_until(mutex, 4);
     watch.saw_acquisitions(Exclusive);
+    let guard = Mutex::lock_arc(mutex)?;
+    let _ = Mutex::try_lock_arc(mutex);
+    let _ = Mutex::try_lock_arc_for(mutex, 3);
+    let _ = Mutex::try_lock_arc_until(mutex, 4);
+    watch.saw_refused_tries(guard, Exclusive);
+    Ok(())
 }
 
 fn calls_of_an_arc_guard<R: RawMutexFair + Drop>(guard: ArcMutexGuard<R, u64>, watch: &mut Watch) {
@@ -42,8 +49,8 @@ fn ends_of_arc_guards<R: RawMutexFair + Drop>(
     mutex: &Arc<Mutex<R, u64>>,
     watch: &mut Watch,
 ) -> Result<(), Fault> {
-    drop(ArcMutexGuard::into_arc(Mutex::lock_arc(mutex)?));
-    drop(ArcMutexGuard::into_arc_fair(Mutex::lock_arc(mutex)?));
+    ArcMutexGuard::into_arc(Mutex::lock_arc(mutex)?);
+    ArcMutexGuard::into_arc_fair(Mutex::lock_arc(mutex)?);
     watch.saw(&[
         Lock(Exclusive),
         Unlock(Exclusive),
@@ -53,26 +60,12 @@ fn ends_of_arc_guards<R: RawMutexFair + Drop>(
     Ok(())
 }
 
-/// Tries beside a guard.
-fn refused_tries<R: RawMutexTimed<Duration = u64, Instant = u64> + Drop>(
-    mutex: &Arc<Mutex<R, u64>>,
-    watch: &mut Watch,
-) -> Result<(), Fault> {
-    let guard = Mutex::lock_arc(mutex)?;
-    drop(Mutex::try_lock_arc(mutex));
-    drop(Mutex::try_lock_arc_for(mutex, 3));
-    drop(Mutex::try_lock_arc_until(mutex, 4));
-    watch.saw_refused_tries(guard, Exclusive);
-    Ok(())
-}
-
 /// All of these, on a mutex that is free before and after each.
 pub fn all_calls_by_an_arc<R: RawMutexFair + RawMutexTimed<Duration = u64, Instant = u64> + Drop>(
     mutex: &Arc<Mutex<R, u64>>,
     watch: &mut Watch,
 ) -> Result<(), Fault> {
-    acquisitions_by_an_arc(mutex, watch);
+    acquisitions_by_an_arc(mutex, watch)?;
     calls_of_an_arc_guard(Mutex::lock_arc(mutex)?, watch);
-    refused_tries(mutex, watch)?;
     ends_of_arc_guards(mutex, watch)
 }

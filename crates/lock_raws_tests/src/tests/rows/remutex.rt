@@ -1,4 +1,4 @@
-//! Rows of calls, each made on a reentrant lock over a table of tokens and on a desk, with equal answers.
+//! Rows of calls, each made on a reentrant lock and on a desk, with equal answers.
 use super::beside_desk::{BesideDesk, Put, Table, given};
 use lock_base::machine::{Call, Form, PartyId, Reply, Want, Way};
 use lock_base::raw::Fault;

@@ -19,10 +19,10 @@ pub fn acquisitions<R: RawMutexTimed<Duration = u64, Instant = u64> + Drop>(
 where
     R::Guard: Drop,
 {
-    drop(ReentrantMutex::lock_arc(lock, party));
-    drop(ReentrantMutex::try_lock_arc(lock, party));
-    drop(ReentrantMutex::try_lock_arc_for(lock, party, 3));
-    drop(ReentrantMutex::try_lock_arc_until(lock, party, 4));
+    let _ = ReentrantMutex::lock_arc(lock, party);
+    let _ = ReentrantMutex::try_lock_arc(lock, party);
+    let _ = ReentrantMutex::try_lock_arc_for(lock, party, 3);
+    let _ = ReentrantMutex::try_lock_arc_until(lock, party, 4);
     watch.saw_acquisitions(Exclusive);
 }
 
@@ -36,10 +36,10 @@ where
     R::Guard: Drop,
 {
     let outer = ReentrantMutex::lock_arc(lock, owner)?;
-    drop(ReentrantMutex::lock_arc(lock, owner));
-    drop(ReentrantMutex::try_lock_arc(lock, owner));
-    drop(ReentrantMutex::try_lock_arc_for(lock, owner, 3));
-    drop(ReentrantMutex::try_lock_arc_until(lock, owner, 4));
+    let _ = ReentrantMutex::lock_arc(lock, owner);
+    let _ = ReentrantMutex::try_lock_arc(lock, owner);
+    let _ = ReentrantMutex::try_lock_arc_for(lock, owner, 3);
+    let _ = ReentrantMutex::try_lock_arc_until(lock, owner, 4);
     watch.saw_hold(outer, Exclusive);
     Ok(())
 }
@@ -55,9 +55,9 @@ where
     R::Guard: Drop,
 {
     let guard = ReentrantMutex::lock_arc(lock, owner)?;
-    drop(ReentrantMutex::try_lock_arc(lock, other));
-    drop(ReentrantMutex::try_lock_arc_for(lock, other, 3));
-    drop(ReentrantMutex::try_lock_arc_until(lock, other, 4));
+    let _ = ReentrantMutex::try_lock_arc(lock, other);
+    let _ = ReentrantMutex::try_lock_arc_for(lock, other, 3);
+    let _ = ReentrantMutex::try_lock_arc_until(lock, other, 4);
     watch.saw_refused_tries(guard, Exclusive);
     Ok(())
 }
@@ -75,9 +75,9 @@ where
     let _value = *guard;
     ArcReentrantMutexGuard::remutex(&guard);
     ArcReentrantMutexGuard::bump(&mut guard);
-    drop(ArcReentrantMutexGuard::unlocked(guard, || lock.is_locked()));
+    let _ = ArcReentrantMutexGuard::unlocked(guard, || lock.is_locked());
     let guard = ReentrantMutex::lock_arc(lock, party)?;
-    drop(ArcReentrantMutexGuard::unlocked_fair(guard, || lock.is_locked()));
+    let _ = ArcReentrantMutexGuard::unlocked_fair(guard, || lock.is_locked());
     watch.saw(&[
         Lock(Exclusive),
         Bump(Exclusive),
@@ -103,8 +103,8 @@ pub fn ends_of_guards<R: RawMutexFair + Drop>(
 where
     R::Guard: Drop,
 {
-    drop(ArcReentrantMutexGuard::into_arc(ReentrantMutex::lock_arc(lock, party)?));
-    drop(ArcReentrantMutexGuard::into_arc_fair(ReentrantMutex::lock_arc(lock, party)?));
+    ArcReentrantMutexGuard::into_arc(ReentrantMutex::lock_arc(lock, party)?);
+    ArcReentrantMutexGuard::into_arc_fair(ReentrantMutex::lock_arc(lock, party)?);
     ArcReentrantMutexGuard::unlock_fair(ReentrantMutex::lock_arc(lock, party)?);
     watch.saw(&[
         Lock(Exclusive),
@@ -129,11 +129,11 @@ where
     let outer = ReentrantMutex::lock_arc(lock, owner)?;
     let mut inner = ReentrantMutex::lock_arc(lock, owner)?;
     ArcReentrantMutexGuard::bump(&mut inner);
-    drop(ArcReentrantMutexGuard::unlocked(inner, || lock.is_locked()));
+    let _ = ArcReentrantMutexGuard::unlocked(inner, || lock.is_locked());
     let inner = ReentrantMutex::lock_arc(lock, owner)?;
-    drop(ArcReentrantMutexGuard::unlocked_fair(inner, || lock.is_locked()));
-    drop(ArcReentrantMutexGuard::into_arc(ReentrantMutex::lock_arc(lock, owner)?));
-    drop(ArcReentrantMutexGuard::into_arc_fair(ReentrantMutex::lock_arc(lock, owner)?));
+    let _ = ArcReentrantMutexGuard::unlocked_fair(inner, || lock.is_locked());
+    ArcReentrantMutexGuard::into_arc(ReentrantMutex::lock_arc(lock, owner)?);
+    ArcReentrantMutexGuard::into_arc_fair(ReentrantMutex::lock_arc(lock, owner)?);
     ArcReentrantMutexGuard::unlock_fair(ReentrantMutex::lock_arc(lock, owner)?);
     watch.saw(&[Lock(Exclusive), IsLocked, IsLocked]);
     drop(outer);

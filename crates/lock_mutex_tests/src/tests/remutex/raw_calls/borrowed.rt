@@ -17,10 +17,10 @@ pub fn acquisitions<R: RawMutexTimed<Duration = u64, Instant = u64>>(
 where
     R::Guard: Drop,
 {
-    drop(lock.lock(party));
-    drop(lock.try_lock(party));
-    drop(lock.try_lock_for(party, 3));
-    drop(lock.try_lock_until(party, 4));
+    let _ = lock.lock(party);
+    let _ = lock.try_lock(party);
+    let _ = lock.try_lock_for(party, 3);
+    let _ = lock.try_lock_until(party, 4);
     watch.saw_acquisitions(Exclusive);
     lock.is_owned_by_current_thread(party);
     lock.is_locked();
@@ -39,8 +39,8 @@ where
     let mut guard = lock.lock(party)?;
     ReentrantMutexGuard::remutex(&guard);
     ReentrantMutexGuard::bump(&mut guard);
-    drop(ReentrantMutexGuard::unlocked(guard, || lock.is_locked()));
-    drop(ReentrantMutexGuard::unlocked_fair(lock.lock(party)?, || lock.is_locked()));
+    let _ = ReentrantMutexGuard::unlocked(guard, || lock.is_locked());
+    let _ = ReentrantMutexGuard::unlocked_fair(lock.lock(party)?, || lock.is_locked());
     ReentrantMutexGuard::unlock_fair(lock.lock(party)?);
     watch.saw(&[
         Lock(Exclusive),
@@ -71,9 +71,9 @@ where
     R::Guard: Drop,
 {
     let guard = lock.lock(owner)?;
-    drop(lock.try_lock(other));
-    drop(lock.try_lock_for(other, 3));
-    drop(lock.try_lock_until(other, 4));
+    let _ = lock.try_lock(other);
+    let _ = lock.try_lock_for(other, 3);
+    let _ = lock.try_lock_until(other, 4);
     watch.saw_refused_tries(guard, Exclusive);
     Ok(())
 }

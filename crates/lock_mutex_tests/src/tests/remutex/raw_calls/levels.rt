@@ -19,10 +19,10 @@ where
     R::Guard: Drop,
 {
     let outer = lock.lock(owner)?;
-    drop(lock.lock(owner));
-    drop(lock.try_lock(owner));
-    drop(lock.try_lock_for(owner, 3));
-    drop(lock.try_lock_until(owner, 4));
+    let _ = lock.lock(owner);
+    let _ = lock.try_lock(owner);
+    let _ = lock.try_lock_for(owner, 3);
+    let _ = lock.try_lock_until(owner, 4);
     lock.is_owned_by_current_thread(owner);
     watch.saw_hold(outer, Exclusive);
     Ok(())
@@ -40,10 +40,10 @@ where
     let outer = lock.lock(owner)?;
     let mut inner = lock.lock(owner)?;
     ReentrantMutexGuard::bump(&mut inner);
-    drop(ReentrantMutexGuard::unlocked(inner, || lock.is_locked()));
-    drop(ReentrantMutexGuard::unlocked_fair(lock.lock(owner)?, || lock.is_locked()));
+    let _ = ReentrantMutexGuard::unlocked(inner, || lock.is_locked());
+    let _ = ReentrantMutexGuard::unlocked_fair(lock.lock(owner)?, || lock.is_locked());
     ReentrantMutexGuard::unlock_fair(lock.lock(owner)?);
-    drop(ReentrantMutexGuard::map(lock.lock(owner)?, Item0));
+    ReentrantMutexGuard::map(lock.lock(owner)?, Item0);
     watch.saw(&[Lock(Exclusive), IsLocked, IsLocked]);
     drop(outer);
     watch.saw(&[Unlock(Exclusive)]);
@@ -82,12 +82,12 @@ where
     R::Guard: Drop,
 {
     let guard = lock.lock(owner)?;
-    drop(lock.lock(owner));
-    drop(lock.try_lock(owner));
-    drop(lock.try_lock_for(owner, 3));
-    drop(lock.try_lock_until(owner, 4));
+    let _ = lock.lock(owner);
+    let _ = lock.try_lock(owner);
+    let _ = lock.try_lock_for(owner, 3);
+    let _ = lock.try_lock_until(owner, 4);
     lock.is_locked();
-    drop(ReentrantMutexGuard::unlocked(guard, || lock.lock(owner)));
+    let _ = ReentrantMutexGuard::unlocked(guard, || lock.lock(owner));
     Ok(())
 }
 
