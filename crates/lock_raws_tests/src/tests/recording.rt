@@ -17,7 +17,7 @@ use std::sync::Wait;
 use std::test::Fail;
 
 /// The core of a lock that writes its steps down.
-trait Journaled: LockCore {
+pub trait Journaled: LockCore {
     /// A free lock of so many readers, with room for so many steps.
     fn with_room(
         alloc: Global,

@@ -1,15 +1,18 @@
 //! What a recording lock writes of several threads.
-use super::recording::has_written;
+use super::recording::{Journaled, has_written};
 use lock_base::machine::Mode::Shared;
-use lock_base::machine::ModeStep::{Acquire, Release};
+use lock_base::machine::ModeStep::{self, Acquire, Release};
+use lock_base::raw::Fault;
 use lock_guard::raw::RawRwLock;
-use lock_raws::{LockCore, RawLock, RecordingRaw};
+use lock_raws::{RawLock, RecordingRaw};
+use lock_test_support::answer::equal;
+use std::alloc::Global;
 use std::sync::Wait;
 use std::sync::atomic::{AtomicBool, Ordering};
 use std::test::Fail;
 use std::thread::{self, Threads};
 
-/// What threads do with a lock that they share.
+/// What threads do with a lock that they share, and what it writes of them.
 trait Steps {
     /// Where a thread waits.
     type Waiter: Wait;
@@ -19,9 +22,15 @@ trait Steps {
 
     /// How many of 250 tries give an exclusive token, which ends at once.
     fn try_exclusive(&self) -> usize;
+
+    /// Compares what is written with these steps.
+    fn has_written(&self, alloc: Global, wanted: &[ModeStep]) -> Result<(), Fail>;
+
+    /// How many steps are written, and whether the lock has stopped to write.
+    fn count_steps(&self, alloc: Global) -> Result<(usize, bool), Fault>;
 }
 
-impl<C: LockCore> Steps for RawLock<C> {
+impl<C: Journaled> Steps for RawLock<C> {
     type Waiter = C::Waiter;
 
     fn read_until(&self, mine: &AtomicBool, other: &AtomicBool) -> bool {
@@ -48,6 +57,14 @@ impl<C: LockCore> Steps for RawLock<C> {
         }
         got
     }
+
+    fn has_written(&self, alloc: Global, wanted: &[ModeStep]) -> Result<(), Fail> {
+        has_written(self, alloc, wanted, false)
+    }
+
+    fn count_steps(&self, alloc: Global) -> Result<(usize, bool), Fault> {
+        Ok((C::steps(self, alloc)?.len(), C::stopped(self)))
+    }
 }
 
 fn read_at_once<R: Threads, S: Steps + Sync>(rt: &R, lock: &S) -> (bool, bool) {
@@ -73,20 +90,28 @@ fn try_in_four_threads<R: Threads + Sync, S: Steps + Sync>(rt: &R, lock: &S) -> 
     some.wrapping_add(others)
 }
 
-#[test]
-fn steps_of_several_threads_are_written(rt: HostRuntime) -> Result<(), Fail> {
-    let raw = RecordingRaw::with_room(rt.alloc(), rt, 2, 4)?;
-    assert_eq!(rt; read_at_once(&rt, &raw), (true, true));
+/// Two threads that read a lock at once, and four that try to write to another.
+fn check<R: Threads + Sync, S: Steps + Sync>(
+    rt: &R,
+    alloc: Global,
+    read: &S,
+    tried: &S,
+) -> Result<(), Fail> {
+    equal(read_at_once(rt, read), (true, true))?;
     let wanted = [
         Acquire(Shared),
         Acquire(Shared),
         Release(Shared),
         Release(Shared),
     ];
-    has_written(&raw, rt.alloc(), &wanted, false)?;
-    let raw = RecordingRaw::with_room(rt.alloc(), rt, 4, 2_000)?;
-    let got = try_in_four_threads(&rt, &raw);
-    let steps = raw.journal(rt.alloc())?;
-    assert_eq!(rt; (steps.len(), raw.stopped()), (got.wrapping_mul(2), false));
-    Ok(())
+    read.has_written(alloc, &wanted)?;
+    let got = try_in_four_threads(rt, tried);
+    equal(tried.count_steps(alloc)?, (got.wrapping_mul(2), false))
+}
+
+#[test]
+fn steps_of_several_threads_are_written(rt: HostRuntime) -> Result<(), Fail> {
+    let read = RecordingRaw::with_room(rt.alloc(), rt, 2, 4)?;
+    let tried = RecordingRaw::with_room(rt.alloc(), rt, 4, 2_000)?;
+    check(&rt, rt.alloc(), &read, &tried)
 }
