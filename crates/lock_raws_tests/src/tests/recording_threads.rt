@@ -23,7 +23,7 @@ trait Steps {
     /// How many of 250 tries give an exclusive token, which ends at once.
     fn try_exclusive(&self) -> usize;
 
-    /// Compares what is written with these steps.
+    /// Compares what is written with these steps. The lock is not to have stopped.
     fn has_written(&self, alloc: Global, wanted: &[ModeStep]) -> Result<(), Fail>;
 
     /// How many steps are written, and whether the lock has stopped to write.
