@@ -4,8 +4,10 @@ mod condition_loop;
 mod condvar;
 mod makers;
 mod order;
+mod queue;
 mod raw_calls;
 mod remutex;
+mod rows;
 mod texts;
 mod threads;
 
@@ -13,13 +15,17 @@ use crate::tests::condvar::asked::AskedCondvar;
 use lock_guard::raw::{RawMutex, RawMutexFair, RawMutexTimed};
 use lock_mutex::{Condvar, Mutex};
 use lock_raws::{LockCore, Monitor, RawLock, TableArbiter};
+use lock_raws_word::{NoTime, WordCore};
 use lock_test_support::raw_lock::{AskedRaw, Watch};
 use std::alloc::Global;
 use std::sync::Arc;
 use std::test::Fail;
 
-/// What an honest raw lock is over.
-type Core = Monitor<TableArbiter, HostRuntime>;
+/// What a raw lock round a table is over.
+type Table = Monitor<TableArbiter, HostRuntime>;
+
+/// What a raw lock on a word is over.
+type Word = WordCore<HostRuntime, NoTime>;
 
 /// Answers of a mutex on one thread, of guards that keep it alive, and of waits.
 fn answers<R: RawMutexFair + RawMutexTimed<Duration = (), Instant = ()> + Drop>(
@@ -99,5 +105,5 @@ fn answers_and_calls<C: LockCore<Duration = (), Instant = ()>>(
 /// One test, which names what the raw lock is over, since each that names the raw lock has to prove anew what that is.
 #[test]
 fn answers_and_calls_on_one_thread(rt: HostRuntime) -> Result<(), Fail> {
-    answers_and_calls::<Core>(rt.alloc(), ([rt; 5], ([rt; 3], [rt; 3])))
+    answers_and_calls::<Table>(rt.alloc(), ([rt; 5], ([rt; 3], [rt; 3])))
 }

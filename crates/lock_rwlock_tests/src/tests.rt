@@ -4,7 +4,9 @@ mod arc_raw_calls;
 mod makers;
 mod order;
 mod raw_calls;
+mod raws;
 mod recording;
+mod rows;
 mod texts;
 mod threads;
 mod upgrades;
@@ -13,14 +15,18 @@ use lock_guard::raw::{
     RawRwLock, RawRwLockUpgradeDowngrade, RawRwLockUpgradeFair, RawRwLockUpgradeTimed,
 };
 use lock_raws::{LockCore, Monitor, RawLock, TableArbiter};
+use lock_raws_word::{NoTime, WordCore};
 use lock_rwlock::RwLock;
 use lock_test_support::raw_lock::{AskedRaw, Watch};
 use std::alloc::Global;
 use std::sync::Arc;
 use std::test::Fail;
 
-/// What an honest raw lock is over.
-type Core = Monitor<TableArbiter, HostRuntime>;
+/// What a raw lock round a table is over.
+type Table = Monitor<TableArbiter, HostRuntime>;
+
+/// What a raw lock on a word is over.
+type Word = WordCore<HostRuntime, NoTime>;
 
 /// Answers of a lock on one thread, and of guards that keep it alive.
 fn answers<
@@ -95,5 +101,5 @@ fn answers_and_calls<C: LockCore<Duration = (), Instant = ()>>(
 /// One test, which names what the raw lock is over, since each that names the raw lock has to prove anew what that is.
 #[test]
 fn answers_and_calls_on_one_thread(rt: HostRuntime) -> Result<(), Fail> {
-    answers_and_calls::<Core>(rt.alloc(), ([rt; 6], ([rt; 2], [rt; 4])))
+    answers_and_calls::<Table>(rt.alloc(), ([rt; 6], ([rt; 2], [rt; 4])))
 }

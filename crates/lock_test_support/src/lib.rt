@@ -1,8 +1,9 @@
-//! What the tests of the locks share: raw locks that write down what they are asked, or lie, projections of pairs, flags
-//! between threads, and questions on answers.
+//! What the tests of the locks share: raw locks that write down what they are asked, or lie, a desk beside a lock, projections
+//! of pairs, flags between threads, and questions on answers.
 #![tactic(auto)]
 
 pub mod answer;
+pub mod beside_desk;
 mod flags;
 mod four_threads;
 mod parties;

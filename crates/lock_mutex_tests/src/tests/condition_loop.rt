@@ -1,5 +1,7 @@
 //! The condition loop over scripts.
 use lock_mutex::{LoopEnd, Script, run_loop};
+use lock_test_support::answer::equal;
+use std::alloc::Global;
 use std::sync::Wait;
 use std::test::Fail;
 
@@ -14,16 +16,23 @@ fn ended<R: Wait>(waiter: &R, entries: Vec<(bool, bool)>) -> Option<(LoopEnd, u6
     Some((end, checks))
 }
 
+fn ends_as<R: Wait>(
+    waiter: &R,
+    alloc: Global,
+    entries: &[(bool, bool)],
+    wanted: Option<(LoopEnd, u64)>,
+) -> Result<(), Fail> {
+    equal(ended(waiter, Vec::from_slice(alloc, entries)?), wanted)
+}
+
 #[test]
 fn scripts_end_as_written(rt: HostRuntime) -> Result<(), Fail> {
-    let one_wait = vec![in rt.alloc(); (true, false), (false, true)]?;
-    assert_eq!(rt; ended(&rt, one_wait), Some((LoopEnd::False, 2)));
-    let late = vec![in rt.alloc(); (true, false), (true, true)]?;
-    assert_eq!(rt; ended(&rt, late), Some((LoopEnd::TimedOut, 2)));
-    let no_wait = vec![in rt.alloc(); (false, false)]?;
-    assert_eq!(rt; ended(&rt, no_wait), Some((LoopEnd::False, 1)));
-    let nothing_left = vec![in rt.alloc(); (true, false)]?;
-    assert_eq!(rt; ended(&rt, nothing_left), Some((LoopEnd::RanOut, 1)));
-    assert_eq!(rt; ended(&rt, Vec::new(rt.alloc())), None);
-    Ok(())
+    let alloc = rt.alloc();
+    let one_wait = [(true, false), (false, true)];
+    ends_as(&rt, alloc, &one_wait, Some((LoopEnd::False, 2)))?;
+    let late = [(true, false), (true, true)];
+    ends_as(&rt, alloc, &late, Some((LoopEnd::TimedOut, 2)))?;
+    ends_as(&rt, alloc, &[(false, false)], Some((LoopEnd::False, 1)))?;
+    ends_as(&rt, alloc, &[(true, false)], Some((LoopEnd::RanOut, 1)))?;
+    ends_as(&rt, alloc, &[], None)
 }

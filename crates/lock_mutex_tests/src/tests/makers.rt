@@ -1,5 +1,5 @@
 //! The makers of a mutex.
-use super::Core;
+use super::Table;
 use lock_base::raw::Fault;
 use lock_guard::raw::RawMutex;
 use lock_mutex::Mutex;
@@ -23,20 +23,18 @@ pub fn check<R: RawMutex + Drop>(
 }
 
 /// Whether the raw lock of a mutex that was just made got no call.
-fn is_unasked<R: RawMutex + Drop>(
-    made: Result<Mutex<AskedRaw<R>, u64>, Fault>,
-) -> Result<bool, Fault> {
-    let (raw, _) = made?.into_inner_with_raw();
-    Ok(raw.calls()?.is_empty())
+fn is_unasked<R: RawMutex + Drop>(made: Mutex<AskedRaw<R>, u64>) -> bool {
+    let (raw, _) = made.into_inner_with_raw();
+    raw.is_unasked()
 }
 
 /// No maker asks its raw lock anything.
 pub fn check_calls<R: RawMutex + Drop>(alloc: Global, waiters: [R::Waiter; 3]) -> Result<(), Fail> {
     let [first, second, third] = waiters;
     let unasked = [
-        is_unasked::<R>(Mutex::new(alloc, first, 5))?,
-        is_unasked::<R>(Mutex::from(alloc, second, 5))?,
-        is_unasked::<R>(Mutex::default(alloc, third))?,
+        is_unasked::<R>(Mutex::new(alloc, first, 5)?),
+        is_unasked::<R>(Mutex::from(alloc, second, 5)?),
+        is_unasked::<R>(Mutex::default(alloc, third)?),
     ];
     equal(unasked, [true; 3])
 }
@@ -57,5 +55,5 @@ fn hold_or_lack<C: LockCore>(alloc: Global, waiters: [C::Waiter; 3]) -> [bool; 3
 
 #[test]
 fn refused_memory_in_makers_of_a_mutex(rt: HostRuntime) {
-    assert!(rt; hold_or_lack::<Core>(rt.alloc(), [rt; 3]) == [true; 3]);
+    assert!(rt; hold_or_lack::<Table>(rt.alloc(), [rt; 3]) == [true; 3]);
 }

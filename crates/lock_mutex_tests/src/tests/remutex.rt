@@ -10,7 +10,7 @@ mod raw_calls;
 mod texts;
 mod threads;
 
-use super::Core;
+use super::Table;
 use lock_guard::raw::{RawMutexFair, RawMutexTimed};
 use lock_raws::{LockCore, RawLock};
 use std::alloc::Global;
@@ -57,7 +57,7 @@ where
 fn answers_and_calls_on_one_thread(rt: HostRuntime) -> Result<(), Fail> {
     let of_answers = ([rt; 3], ([rt; 3], [rt; 4], [rt; 4]), [rt; 3]);
     let waiters = (of_answers, [rt; 4], [rt; 3]);
-    answers_and_calls::<Core>(&rt, rt.alloc(), waiters)
+    answers_and_calls::<Table>(&rt, rt.alloc(), waiters)
 }
 
 #[test]

@@ -18,7 +18,7 @@ fn are_shown<R: RawMutex>(alloc: Global, mutex: &Mutex<R, u64>) -> [bool; 3] {
     let free = debug_is(alloc, mutex, "Mutex { data: 5 }");
     let guard = mutex.lock();
     let held = debug_is(alloc, mutex, "Mutex { data: <locked> }");
-    [free, held, texts_are(alloc, &guard, "5")]
+    [free, held, texts_are(alloc, guard, "5")]
 }
 
 /// The texts of a mutex that holds 5, which is free before and after.

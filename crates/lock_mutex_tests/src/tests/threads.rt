@@ -1,9 +1,9 @@
-//! Threads that count behind a mutex and wait for each other, over a raw lock that admits everyone, so that the std lock alone
-//! keeps them apart.
+//! Threads that count behind a mutex and wait for each other.
+use super::Word;
 use super::order::come_and_wait;
 use lock_guard::raw::RawMutex;
 use lock_mutex::{Condvar, Mutex};
-use lock_raws::SpuriousCondvar;
+use lock_raws::{RawLock, SpuriousCondvar};
 use lock_test_support::raw_lock::Liar;
 use lock_test_support::{Count, add_in_four_threads};
 use std::test::Fail;
@@ -22,6 +22,7 @@ impl<R: RawMutex> Count for Counted<'_, R> {
     }
 }
 
+/// Over a raw lock that admits everyone, so that the std lock alone keeps them apart.
 #[test]
 fn four_threads_count_and_two_wait_for_each_other(rt: HostRuntime) -> Result<(), Fail> {
     let counter: Mutex<Liar<HostRuntime>, u64> = Mutex::new(rt.alloc(), rt, 0)?;
@@ -33,5 +34,15 @@ fn four_threads_count_and_two_wait_for_each_other(rt: HostRuntime) -> Result<(),
         || come_and_wait(&counter, &condvar, 4_002),
     );
     assert_eq!(rt; counter.into_inner(), 4_002);
+    Ok(())
+}
+
+#[test]
+fn four_threads_count_behind_a_word(rt: HostRuntime) -> Result<(), Fail> {
+    let counter: Mutex<RawLock<Word>, u64> = Mutex::new(rt.alloc(), rt, 0)?;
+    for _ in 0..10 {
+        add_in_four_threads(&rt, &Counted(&counter));
+    }
+    assert_eq!(rt; counter.into_inner(), 40_000);
     Ok(())
 }

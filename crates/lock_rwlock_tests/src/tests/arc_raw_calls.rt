@@ -24,11 +24,11 @@ use std::test::Fail;
 
 type Shareable<R> = Arc<RwLock<R, u64>>;
 
-/// Of a free lock, and tries beside a writer. A guard that is not kept ends at once.
+/// Of a free lock. A guard that is not kept ends at once.
 fn acquisitions<R: RawRwLockTimed<Duration = u64, Instant = u64> + Drop>(
     lock: &Shareable<R>,
     watch: &mut Watch,
-) -> Result<(), Fault> {
+) {
     let _ = RwLock::read_arc(lock);
     let _ = RwLock::try_read_arc(lock);
     let _ = RwLock::try_read_arc_for(lock, 3);
@@ -39,6 +39,13 @@ fn acquisitions<R: RawRwLockTimed<Duration = u64, Instant = u64> + Drop>(
     let _ = RwLock::try_write_arc_for(lock, 3);
     let _ = RwLock::try_write_arc_until(lock, 4);
     watch.saw_acquisitions(Exclusive);
+}
+
+/// Tries beside a writer.
+fn refused_tries<R: RawRwLockTimed<Duration = u64, Instant = u64> + Drop>(
+    lock: &Shareable<R>,
+    watch: &mut Watch,
+) -> Result<(), Fault> {
     let writer = RwLock::write_arc(lock)?;
     let _ = RwLock::try_read_arc(lock);
     let _ = RwLock::try_read_arc_for(lock, 3);
@@ -130,8 +137,8 @@ fn texts_of_guards<R: RawRwLock + Drop>(
     watch: &mut Watch,
 ) -> Result<(), Fail> {
     let reader: ArcRwLockReadGuard<R, u64> = RwLock::read_arc(lock)?;
-    equal(texts_are(alloc, &reader, "5"), true)?;
-    watch.saw_hold(reader, Shared);
+    equal(texts_are(alloc, reader, "5"), true)?;
+    watch.saw(&[Lock(Shared), Unlock(Shared)]);
     Ok(())
 }
 
@@ -205,7 +212,8 @@ pub fn all_calls<
         + Drop,
 >(alloc: Global, lock: &Shareable<R>, watch: &mut Watch) -> Result<(), Fail> {
     texts_of_guards(alloc, lock, watch)?;
-    acquisitions(lock, watch)?;
+    acquisitions(lock, watch);
+    refused_tries(lock, watch)?;
     upgradable_acquisitions(lock, watch)?;
     calls_of_guards(lock, watch)?;
     ends_of_guards(lock, watch)?;

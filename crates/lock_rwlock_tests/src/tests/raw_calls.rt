@@ -22,7 +22,7 @@ use std::test::Fail;
 /// A pair in a pair behind a lock.
 type Paired<R> = RwLock<R, Nested>;
 
-/// Of a free lock, and tries beside a writer. A guard that is not kept ends at once.
+/// Of a free lock. A guard that is not kept ends at once.
 fn acquisitions<R: RawRwLockTimed<Duration = u64, Instant = u64>>(
     lock: &Paired<R>,
     watch: &mut Watch,
@@ -37,6 +37,16 @@ fn acquisitions<R: RawRwLockTimed<Duration = u64, Instant = u64>>(
     lock.try_write_for(3);
     lock.try_write_until(4);
     watch.saw_acquisitions(Exclusive);
+    lock.is_locked();
+    lock.is_locked_exclusive();
+    watch.saw(&[IsLocked, IsLockedExclusive]);
+}
+
+/// Tries beside a writer.
+fn refused_tries<R: RawRwLockTimed<Duration = u64, Instant = u64>>(
+    lock: &Paired<R>,
+    watch: &mut Watch,
+) {
     let writer = lock.write();
     lock.try_read();
     lock.try_read_for(3);
@@ -47,9 +57,6 @@ fn acquisitions<R: RawRwLockTimed<Duration = u64, Instant = u64>>(
     lock.try_write_for(3);
     lock.try_write_until(4);
     watch.saw_refused_tries(writer, Exclusive);
-    lock.is_locked();
-    lock.is_locked_exclusive();
-    watch.saw(&[IsLocked, IsLockedExclusive]);
 }
 
 /// Of a free lock, and tries beside a writer.
@@ -97,17 +104,14 @@ fn calls_of_a_guard<R: RawRwLock, L: AcquireFair>(
 /// What reads and writes the value, or tells the lock, asks nothing.
 fn uses_of_guards<R: RawRwLockUpgrade>(lock: &Paired<R>, watch: &mut Watch) {
     let reader = lock.read();
-    let value = *reader;
     RwLockReadGuard::rwlock(&reader);
-    watch.saw_hold(reader, Shared);
-    let mut writer = lock.write();
-    *writer = value;
+    watch.saw_read(reader, Shared);
+    let writer = lock.write();
     RwLockWriteGuard::rwlock(&writer);
-    watch.saw_hold(writer, Exclusive);
+    watch.saw_write(writer, ((1, 1), 1), Exclusive);
     let guard = lock.upgradable_read();
-    let _value = *guard;
     RwLockUpgradableReadGuard::rwlock(&guard);
-    watch.saw_hold(guard, Upgradable);
+    watch.saw_read(guard, Upgradable);
 }
 
 /// Up, and down to each lower mode.
@@ -187,6 +191,7 @@ pub fn all_calls<
         + RawRwLockUpgradeDowngrade,
 >(lock: &Paired<R>, watch: &mut Watch) {
     acquisitions(lock, watch);
+    refused_tries(lock, watch);
     upgradable_acquisitions(lock, watch);
     calls_of_a_guard(lock, lock.read(), Shared, watch);
     calls_of_a_guard(lock, lock.write(), Exclusive, watch);

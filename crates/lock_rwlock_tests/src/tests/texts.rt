@@ -14,7 +14,7 @@ fn are_shown<R: RawRwLock>(alloc: Global, lock: &RwLock<R, u64>) -> [bool; 3] {
     drop(reader);
     let writer = lock.write();
     let written = debug_is(alloc, lock, "RwLock { data: <locked> }");
-    [read, written, texts_are(alloc, &writer, "5")]
+    [read, written, texts_are(alloc, writer, "5")]
 }
 
 /// The texts of a lock that holds 5.

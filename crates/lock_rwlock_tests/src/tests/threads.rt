@@ -1,6 +1,9 @@
-//! Threads that count behind a lock, and readers beside each other, over a raw lock that admits everyone, so that the std lock
-//! alone keeps them apart.
+//! Threads that count behind a lock, and readers beside each other and beside a writer.
+mod pairs;
+
+use super::Word;
 use lock_guard::raw::RawRwLock;
+use lock_raws::RawLock;
 use lock_rwlock::RwLock;
 use lock_test_support::raw_lock::Liar;
 use lock_test_support::{Count, add_in_four_threads};
@@ -42,6 +45,7 @@ fn sees_while_it_reads<R: RawRwLock>(
     sees_the_other(mine, other)
 }
 
+/// Over a raw lock that admits everyone, so that the std lock alone keeps them apart.
 #[test]
 fn four_threads_count_and_two_read_at_once(rt: HostRuntime) -> Result<(), Fail> {
     let lock: RwLock<Liar<HostRuntime>, u64> = RwLock::new(rt.alloc(), rt, 0)?;
@@ -54,5 +58,17 @@ fn four_threads_count_and_two_read_at_once(rt: HostRuntime) -> Result<(), Fail> 
         || sees_while_it_reads(&lock, &second, &first),
     );
     assert_eq!(rt; (seen, lock.into_inner()), ((true, true), 4_000));
+    Ok(())
+}
+
+#[test]
+fn four_threads_count_behind_a_word(rt: HostRuntime) -> Result<(), Fail> {
+    for readers in [1, 4, 4_294_967_295] {
+        let lock: RwLock<RawLock<Word>, u64> = RwLock::with_readers(rt.alloc(), rt, readers, 0)?;
+        for _ in 0..10 {
+            add_in_four_threads(&rt, &Counted(&lock));
+        }
+        assert_eq!(rt; lock.into_inner(), 40_000);
+    }
     Ok(())
 }

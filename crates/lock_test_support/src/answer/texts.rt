@@ -10,10 +10,10 @@ pub fn debug_is<T: Debug>(alloc: Global, value: &T, wanted: &str) -> bool {
     }
 }
 
-/// Whether both texts of the value are this one.
-pub fn texts_are<T: Debug + Display>(alloc: Global, value: &T, wanted: &str) -> bool {
+/// Whether both texts of the value, which ends, are this one.
+pub fn texts_are<T: Debug + Display + Drop>(alloc: Global, value: T, wanted: &str) -> bool {
     match format!(in alloc; "{value}") {
-        Ok(text) => text.as_str() == wanted && debug_is(alloc, value, wanted),
+        Ok(text) => text.as_str() == wanted && debug_is(alloc, &value, wanted),
         Err(_) => false,
     }
 }

@@ -1,11 +1,11 @@
 //! What a try may answer.
 use lock_base::raw::Fault;
 
-/// Whether a try gave a guard.
-pub fn gives<G: Drop>(attempt: Result<Option<G>, Fault>) -> bool {
+/// The guard that a try gave, if any.
+pub fn guard_of<G: Drop>(attempt: Result<Option<G>, Fault>) -> Option<G> {
     match attempt {
-        Ok(guard) => guard.is_some(),
-        Err(_) => false,
+        Ok(guard) => guard,
+        Err(_) => None,
     }
 }
 

@@ -31,6 +31,11 @@ impl<R> AskedRaw<R> {
     pub fn calls(&self) -> Result<Calls, Fault> {
         self.calls.another()
     }
+
+    /// Whether it got no call yet.
+    pub fn is_unasked(&self) -> bool {
+        self.calls.is_empty()
+    }
 }
 
 impl<R: RawMutex + Drop> RawMutex for AskedRaw<R> {

@@ -7,6 +7,7 @@ use lock_guard::raw::{RawMutex, RawMutexFair};
 use lock_mutex::{Guard, MutexGuard};
 use lock_test_support::answer::{equal, texts_are};
 use lock_test_support::project::{Item0, Item1, Nth, inner_item};
+use lock_test_support::raw_lock::RawCall::{Lock, Unlock};
 use lock_test_support::raw_lock::{Watch, watch_fair_end, watch_write};
 use std::alloc::Global;
 use std::test::Fail;
@@ -101,7 +102,7 @@ pub fn uses_of_parts<R: RawMutex>(mutex: &Paired<R>, watch: &mut Watch) {
 /// The texts of a part, which is 0.
 pub fn texts<R: RawMutex>(alloc: Global, mutex: &Paired<R>, watch: &mut Watch) -> Result<(), Fail> {
     let part = MutexGuard::map(mutex.lock(), Item1);
-    equal(texts_are(alloc, &part, "0"), true)?;
-    watch.saw_hold(part, Exclusive);
+    equal(texts_are(alloc, part, "0"), true)?;
+    watch.saw(&[Lock(Exclusive), Unlock(Exclusive)]);
     Ok(())
 }

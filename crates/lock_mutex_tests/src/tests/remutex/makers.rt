@@ -1,5 +1,5 @@
 //! What the makers refuse, and what comes back of a lock.
-use crate::tests::Core;
+use crate::tests::Table;
 use lock_base::machine::PartyId;
 use lock_base::raw::{DEFAULT_LEVELS, Fault, Levels};
 use lock_guard::raw::RawMutex;
@@ -101,14 +101,12 @@ where
 }
 
 /// Whether the raw lock of a lock that was just made got no call.
-fn is_unasked<R: RawMutex + Drop>(
-    made: Result<ReentrantMutex<AskedRaw<R>, u8>, Fault>,
-) -> Result<bool, Fault>
+fn is_unasked<R: RawMutex + Drop>(made: ReentrantMutex<AskedRaw<R>, u8>) -> bool
 where
     R::Guard: Drop,
 {
-    let (raw, _) = made?.into_inner_with_raw();
-    Ok(raw.calls()?.is_empty())
+    let (raw, _) = made.into_inner_with_raw();
+    raw.is_unasked()
 }
 
 /// No maker asks its raw lock anything.
@@ -118,10 +116,10 @@ where
 {
     let [first, second, third, last] = waiters;
     let unasked = [
-        is_unasked::<R>(ReentrantMutex::new(alloc, first, 5))?,
-        is_unasked::<R>(ReentrantMutex::from(alloc, second, 5))?,
-        is_unasked::<R>(ReentrantMutex::default(alloc, third))?,
-        is_unasked::<R>(ReentrantMutex::with_levels(alloc, last, 1, 5))?,
+        is_unasked::<R>(ReentrantMutex::new(alloc, first, 5)?),
+        is_unasked::<R>(ReentrantMutex::from(alloc, second, 5)?),
+        is_unasked::<R>(ReentrantMutex::default(alloc, third)?),
+        is_unasked::<R>(ReentrantMutex::with_levels(alloc, last, 1, 5)?),
     ];
     equal(unasked, [true; 4])
 }
@@ -150,5 +148,5 @@ where
 /// Passes too where an allocation is refused, as it is told then.
 #[test]
 fn refused_memory_is_told_by_the_makers(rt: HostRuntime) {
-    assert!(rt; are_told::<Core>(rt.alloc(), [rt; 6]) == [true; 6]);
+    assert!(rt; are_told::<Table>(rt.alloc(), [rt; 6]) == [true; 6]);
 }

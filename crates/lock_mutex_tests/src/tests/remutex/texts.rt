@@ -21,7 +21,7 @@ where
     let free = debug_is(alloc, lock, "ReentrantMutex { data: 5 }");
     let guard = lock.lock(party)?;
     let held = debug_is(alloc, lock, "ReentrantMutex { data: <locked> }");
-    Ok([free, held, texts_are(alloc, &guard, "5")])
+    Ok([free, held, texts_are(alloc, guard, "5")])
 }
 
 /// The texts of a lock that holds 5, which is free before and after.

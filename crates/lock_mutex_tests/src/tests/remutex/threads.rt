@@ -1,6 +1,6 @@
 //! Parties that are threads.
 use super::by_two::{ByTwo, in_threads};
-use crate::tests::Core;
+use crate::tests::Table;
 use lock_base::machine::PartyId;
 use lock_base::raw::Fault;
 use lock_guard::raw::RawMutex;
@@ -69,7 +69,7 @@ where
 
 #[test]
 fn two_parties_take_turns(rt: HostRuntime) -> Result<(), Fail> {
-    let shared: Shared<RawLock<Core>> = Shared::new(rt.alloc(), rt)?;
+    let shared: Shared<RawLock<Table>> = Shared::new(rt.alloc(), rt)?;
     assert_eq!(rt; in_threads(&rt, &shared), [Ok(true); 2]);
     assert_eq!(rt; shared.count.into_inner().load(Ordering::SeqCst), 2_000);
     Ok(())

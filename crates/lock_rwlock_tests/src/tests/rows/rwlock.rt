@@ -1,13 +1,14 @@
 //! Rows of calls, each made on a reader-writer lock and on a desk, with equal answers.
-use super::beside_desk::{BesideDesk, Put, Table, given};
 use lock_base::machine::{Call, Form, PartyId, Reply, Want, Way};
 use lock_guard::guard::AcquireFair;
 use lock_guard::raw::{
-    RawRwLock, RawRwLockUpgradeDowngrade, RawRwLockUpgradeFair, RawRwLockUpgradeTimed,
+    RawRwLock, RawRwLockFair, RawRwLockUpgradeDowngrade, RawRwLockUpgradeFair,
+    RawRwLockUpgradeTimed,
 };
 use lock_rwlock::{
     RwLock, RwLockGuard, RwLockReadGuard, RwLockUpgradableReadGuard, RwLockWriteGuard,
 };
+use lock_test_support::beside_desk::{BesideDesk, Put, Table};
 use lock_test_support::project::Item0;
 use lock_test_support::{party, two_parties};
 use std::alloc::Global;
@@ -109,14 +110,17 @@ fn up_and_down<
     reader
 }
 
-/// An upgradable guard beside a reader, and then alone.
-fn upgrades<R: RawRwLockUpgradeTimed<Duration = (), Instant = ()> + RawRwLockUpgradeDowngrade>(
+/// An upgradable guard, after what a reader beside it refuses.
+fn upgradable_beside_a_reader<
+    'a,
+    R: RawRwLockUpgradeTimed<Duration = (), Instant = ()> + RawRwLockUpgradeDowngrade,
+>(
     rt: &impl Abort,
     desk: &mut BesideDesk,
-    lock: &Paired<R>,
+    lock: &'a Paired<R>,
     one: PartyId,
     two: PartyId,
-) {
+) -> Upgradable<'a, R> {
     let guard = lock.upgradable_read();
     desk.same(
         Call::Acquire(Want::UpgradableRead, Form::Block, one),
@@ -127,22 +131,33 @@ fn upgrades<R: RawRwLockUpgradeTimed<Duration = (), Instant = ()> + RawRwLockUpg
     let mut guard = refused_by_each_form(rt, desk, one, guard);
     put_by_each_form(desk, one, &mut guard);
     desk.same(Call::Get(one, 1, Put(0)), Reply::Answer(guard.0));
-    let is_given = lock.try_upgradable_read().is_some();
-    desk.same(
+    desk.same_try(
         Call::Acquire(Want::UpgradableRead, Form::Try, two),
-        given(is_given, 3),
+        3,
+        lock.try_upgradable_read(),
     );
-    let is_given = lock.try_write_for(()).is_some();
-    desk.same(
+    desk.same_try(
         Call::Acquire(Want::Write, Form::For, two),
-        given(is_given, 3),
+        3,
+        lock.try_write_for(()),
     );
     drop(reader);
     desk.same(Call::Unlock(two, 2, Way::Plain), Reply::Done);
+    guard
+}
+
+/// An upgradable guard beside a reader, and then alone.
+fn upgrades<R: RawRwLockUpgradeTimed<Duration = (), Instant = ()> + RawRwLockUpgradeDowngrade>(
+    rt: &impl Abort,
+    desk: &mut BesideDesk,
+    lock: &Paired<R>,
+    one: PartyId,
+    two: PartyId,
+) {
+    let mut guard = upgradable_beside_a_reader(rt, desk, lock, one, two);
     put_by_each_form(desk, one, &mut guard);
-    let part = RwLockReadGuard::map(up_and_down(rt, desk, one, lock, guard), Item0);
-    desk.same(Call::Get(one, 1, Put(0)), Reply::Answer(*part));
-    drop(part);
+    let reader = up_and_down(rt, desk, one, lock, guard);
+    drop(desk.same_read(one, 1, RwLockReadGuard::map(reader, Item0)));
     desk.same(Call::Unlock(one, 1, Way::Plain), Reply::Done);
     desk.same(Call::IsLocked, Reply::Bool(lock.is_locked()));
 }
@@ -174,62 +189,66 @@ fn gives_up_and_takes_again<R: RawRwLock, L: AcquireFair>(
 
 /// A guard of each mode in turn.
 fn guards<R: RawRwLockUpgradeFair + RawRwLockUpgradeTimed<Duration = (), Instant = ()>>(
-    rt: &impl Abort,
     desk: &mut BesideDesk,
     lock: &RwLock<R, i64>,
     one: PartyId,
 ) {
-    let reader = lock.try_read_for(()).expect(rt, "a free lock");
-    desk.same(Call::Acquire(Want::Read, Form::For, one), Reply::Guard(1));
-    gives_up_and_takes_again(desk, one, 1, lock, reader);
-    let writer = lock.try_write_until(()).expect(rt, "a free lock");
-    desk.same(
-        Call::Acquire(Want::Write, Form::Until, one),
-        Reply::Guard(2),
-    );
-    gives_up_and_takes_again(desk, one, 2, lock, writer);
-    let guard = lock.try_upgradable_read_for(()).expect(rt, "a free lock");
-    desk.same(
-        Call::Acquire(Want::UpgradableRead, Form::For, one),
-        Reply::Guard(3),
-    );
-    gives_up_and_takes_again(desk, one, 3, lock, guard);
+    let tried = lock.try_read_for(());
+    if let Some(guard) = desk.same_try(Call::Acquire(Want::Read, Form::For, one), 1, tried) {
+        gives_up_and_takes_again(desk, one, 1, lock, guard);
+    }
+    let tried = lock.try_write_until(());
+    if let Some(guard) = desk.same_try(Call::Acquire(Want::Write, Form::Until, one), 2, tried) {
+        gives_up_and_takes_again(desk, one, 2, lock, guard);
+    }
+    let tried = lock.try_upgradable_read_for(());
+    let call = Call::Acquire(Want::UpgradableRead, Form::For, one);
+    if let Some(guard) = desk.same_try(call, 3, tried) {
+        gives_up_and_takes_again(desk, one, 3, lock, guard);
+    }
 }
 
-/// Up by a try, down to upgradable, a change under an upgrade, and down to a reader.
-fn transitions<
-    R: RawRwLockUpgradeFair
-        + RawRwLockUpgradeTimed<Duration = (), Instant = ()>
-        + RawRwLockUpgradeDowngrade,
->(rt: &impl Abort, desk: &mut BesideDesk, lock: &RwLock<R, i64>, one: PartyId) {
-    let guard = lock.upgradable_read();
-    desk.same(
-        Call::Acquire(Want::UpgradableRead, Form::Block, one),
-        Reply::Guard(1),
-    );
-    let mut writer = upgraded(rt, RwLockUpgradableReadGuard::try_upgrade_until(guard, ()));
-    desk.same(Call::Upgrade(Form::Until, one, 1), Reply::Done);
-    *writer = 7;
-    desk.same(Call::Change(one, 1, Put(7)), Reply::Answer(*writer));
-    RwLockWriteGuard::bump(&mut writer);
-    desk.same(Call::Bump(one, 1), Reply::Done);
-    let mut guard = RwLockWriteGuard::downgrade_to_upgradable(writer);
-    desk.same(Call::DowngradeToUpgradable(one, 1), Reply::Done);
-    desk.same(Call::Get(one, 1, Put(0)), Reply::Answer(*guard));
-    let put = |value: &mut i64| {
+/// A change under an upgrade of a guard, which then becomes a reader and ends.
+fn change_and_downgrade<R: RawRwLockFair + RawRwLockUpgradeDowngrade>(
+    desk: &mut BesideDesk,
+    guard: RwLockUpgradableReadGuard<'_, R, i64>,
+    one: PartyId,
+) {
+    let mut guard = guard;
+    let answer = guard.with_upgraded(|value: &mut i64| {
         *value = 8;
         *value
-    };
-    let answer = guard.with_upgraded(put);
+    });
     desk.same(
         Call::WithUpgraded(Form::Block, one, 1, Put(8)),
         Reply::Answer(answer),
     );
     let reader = RwLockUpgradableReadGuard::downgrade(guard);
     desk.same(Call::Downgrade(one, 1), Reply::Done);
-    desk.same(Call::Get(one, 1, Put(0)), Reply::Answer(*reader));
-    RwLockReadGuard::unlock_fair(reader);
+    RwLockReadGuard::unlock_fair(desk.same_read(one, 1, reader));
     desk.same(Call::Unlock(one, 1, Way::Fair), Reply::Done);
+}
+
+/// Up, a write, down to upgradable, a change under an upgrade, and down to a reader.
+fn transitions<R: RawRwLockUpgradeFair + RawRwLockUpgradeDowngrade>(
+    desk: &mut BesideDesk,
+    lock: &RwLock<R, i64>,
+    one: PartyId,
+) {
+    let guard = lock.upgradable_read();
+    desk.same(
+        Call::Acquire(Want::UpgradableRead, Form::Block, one),
+        Reply::Guard(1),
+    );
+    let writer = RwLockUpgradableReadGuard::upgrade(guard);
+    desk.same(Call::Upgrade(Form::Block, one, 1), Reply::Done);
+    let mut writer = desk.same_write(one, 1, writer, 7);
+    RwLockWriteGuard::bump(&mut writer);
+    desk.same(Call::Bump(one, 1), Reply::Done);
+    let guard = RwLockWriteGuard::downgrade_to_upgradable(writer);
+    desk.same(Call::DowngradeToUpgradable(one, 1), Reply::Done);
+    let guard = desk.same_read(one, 1, guard);
+    change_and_downgrade(desk, guard, one);
     desk.same(Call::IsLocked, Reply::Bool(lock.is_locked()));
 }
 
@@ -247,17 +266,17 @@ fn readers<R: RawRwLockUpgradeDowngrade>(
     );
     let reader = RwLockUpgradableReadGuard::downgrade(guard);
     desk.same(Call::Downgrade(one, 1), Reply::Done);
-    let is_given = lock.try_read().is_some();
-    desk.same(
+    desk.same_try(
         Call::Acquire(Want::Read, Form::Try, two),
-        given(is_given, 2),
+        2,
+        lock.try_read(),
     );
     drop(reader);
     desk.same(Call::Unlock(one, 1, Way::Plain), Reply::Done);
-    let is_given = lock.try_read().is_some();
-    desk.same(
+    desk.same_try(
         Call::Acquire(Want::Read, Form::Try, two),
-        given(is_given, 2),
+        2,
+        lock.try_read(),
     );
 }
 
@@ -273,24 +292,22 @@ pub fn upgrades_row<
 
 pub fn guards_row<
     R: RawRwLockUpgradeFair + RawRwLockUpgradeTimed<Duration = (), Instant = ()> + Drop,
->(rt: &impl Abort, alloc: Global, waiter: R::Waiter) -> Result<(), Fail> {
+>(alloc: Global, waiter: R::Waiter) -> Result<(), Fail> {
     let one = party(1)?;
     let lock: RwLock<R, i64> = RwLock::with_readers(alloc, waiter, 1, 0)?;
     let mut desk = BesideDesk::new(Table::rwlock(alloc, 4, 1, 0)?);
-    guards(rt, &mut desk, &lock, one);
+    guards(&mut desk, &lock, one);
     desk.verdict()
 }
 
-pub fn transitions_row<
-    R: RawRwLockUpgradeFair
-        + RawRwLockUpgradeTimed<Duration = (), Instant = ()>
-        + RawRwLockUpgradeDowngrade
-        + Drop,
->(rt: &impl Abort, alloc: Global, waiter: R::Waiter) -> Result<(), Fail> {
+pub fn transitions_row<R: RawRwLockUpgradeFair + RawRwLockUpgradeDowngrade + Drop>(
+    alloc: Global,
+    waiter: R::Waiter,
+) -> Result<(), Fail> {
     let one = party(1)?;
     let lock: RwLock<R, i64> = RwLock::with_readers(alloc, waiter, 8, 0)?;
     let mut desk = BesideDesk::new(Table::rwlock(alloc, 4, 8, 0)?);
-    transitions(rt, &mut desk, &lock, one);
+    transitions(&mut desk, &lock, one);
     desk.verdict()
 }
 

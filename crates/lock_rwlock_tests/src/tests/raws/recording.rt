@@ -1,5 +1,5 @@
 //! What a recording lock writes.
-use super::raws::raw_mutex;
+use super::answers::raw_mutex;
 use lock_base::machine::Mode::{Exclusive, Shared, Upgradable};
 use lock_base::machine::ModeStep::{self, Acquire, Change, Release};
 use lock_base::raw::Fault;

@@ -1,5 +1,4 @@
 //! A row of calls on a reader-writer lock by guards that keep it alive.
-use super::beside_desk::{BesideDesk, Table};
 use super::rwlock::{given_back, upgraded};
 use lock_base::machine::{Call, Form, PartyId, Reply, Want, Way};
 use lock_base::raw::Fault;
@@ -9,6 +8,7 @@ use lock_rwlock_arc::{
     ArcRwLockReadGuard, ArcRwLockUpgradableReadGuard, ArcRwLockWriteGuard, RwLockArc,
     RwLockArcUpgrade,
 };
+use lock_test_support::beside_desk::{BesideDesk, Table};
 use lock_test_support::party;
 use std::alloc::Global;
 use std::process::Abort;

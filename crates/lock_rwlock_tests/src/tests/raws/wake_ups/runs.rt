@@ -1,5 +1,5 @@
 //! Loops that hang where a wake-up is lost.
-use crate::tests::counts::wait_for;
+use crate::tests::raws::counts::wait_for;
 use lock_guard::raw::{RawRwLock, RawRwLockDowngrade, RawRwLockUpgrade, RawRwLockUpgradeDowngrade};
 use lock_raws::{LockCore, RawLock};
 use std::process::Abort;

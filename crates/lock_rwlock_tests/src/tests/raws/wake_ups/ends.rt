@@ -1,5 +1,5 @@
 //! Whom the end of a writer, and of the last reader, lets on.
-use crate::tests::counts::wait_for;
+use crate::tests::raws::counts::wait_for;
 use lock_guard::raw::{RawRwLock, RawRwLockDowngrade, RawRwLockUpgrade};
 use lock_raws::{LockCore, RawLock};
 use std::sync::Wait;

@@ -1,32 +1,22 @@
 //! What no clause says of the raw locks.
 mod announcing;
+mod answers;
 mod counts;
 mod markers;
-mod queue;
-mod raws;
 mod recording;
 mod recording_threads;
-mod rows;
-mod threads;
 mod transitions;
 mod wake_ups;
 
+use crate::tests::{Table, Word};
 use announcing::ReadAndWrite;
-use lock_raws::{Monitor, TableArbiter};
-use lock_raws_word::{NoTime, WordCore};
-use raws::raw_rwlock;
+use answers::raw_rwlock;
 use std::process::Abort;
 use std::test::Fail;
 use std::thread::Threads;
 use std::time::Clock;
 use transitions::Walk;
 use wake_ups::{Contend, Ends};
-
-/// What a lock round a table is over.
-type Table = Monitor<TableArbiter, HostRuntime>;
-
-/// What a lock on a word is over.
-type Word = WordCore<HostRuntime, NoTime>;
 
 /// What threads see of a lock of four readers, and of a lock of one.
 fn share<T, L>(rt: &T, four: &L, one: &L) -> Result<(), Fail>

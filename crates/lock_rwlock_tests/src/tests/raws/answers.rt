@@ -1,5 +1,5 @@
 //! Raw locks through the traits of raw locks: each text for the lock round a table and for the lock on a word.
-use super::{Table, Word};
+use crate::tests::{Table, Word};
 use lock_base::raw::Fault;
 use lock_guard::raw::{
     RawMutex, RawMutexFair, RawMutexTimed, RawRwLock, RawRwLockDowngrade, RawRwLockFair,

@@ -1,8 +1,9 @@
 //! Producers and consumers that sleep on condition variables.
 use super::{Table, Word};
 use lock_base::raw::Fault;
+use lock_guard::raw::RawMutex;
 use lock_mutex::{Condvar, Mutex};
-use lock_raws::{LockCore, RawLock};
+use lock_raws::RawLock;
 use lock_raws_word::SleepingCondvar;
 use std::alloc::Global;
 use std::sync::Wait;
@@ -14,14 +15,14 @@ const EACH: u64 = 10_000;
 
 /// Room for one item.
 #[derive(Drop)]
-struct Slot<C: LockCore> {
-    item: Mutex<RawLock<C>, Option<u64>>,
-    filled: Condvar<SleepingCondvar<RawLock<C>>>,
-    emptied: Condvar<SleepingCondvar<RawLock<C>>>,
+struct Slot<R: RawMutex> {
+    item: Mutex<R, Option<u64>>,
+    filled: Condvar<SleepingCondvar<R>>,
+    emptied: Condvar<SleepingCondvar<R>>,
 }
 
-impl<C: LockCore> Slot<C> {
-    fn new(alloc: Global, waiter: C::Waiter) -> Result<Slot<C>, Fault> {
+impl<R: RawMutex + Drop> Slot<R> {
+    fn new(alloc: Global, waiter: R::Waiter) -> Result<Slot<R>, Fault> {
         Ok(Slot {
             item: Mutex::new(alloc, waiter, None)?,
             filled: Condvar::new(alloc)?,
@@ -42,8 +43,8 @@ trait Room {
     fn take(&self) -> u64;
 }
 
-impl<C: LockCore> Room for Slot<C> {
-    type Waiter = C::Waiter;
+impl<R: RawMutex> Room for Slot<R> {
+    type Waiter = R::Waiter;
 
     fn put(&self, item: u64) {
         let mut slot = self.item.lock();
@@ -96,9 +97,9 @@ fn sum_of_all<T: Threads + Sync, C: Room + Sync>(rt: &T, room: &C) -> u64 {
 
 #[test]
 fn each_item_arrives_once(rt: HostRuntime) -> Result<(), Fail> {
-    let words: Slot<Word> = Slot::new(rt.alloc(), rt)?;
+    let words: Slot<RawLock<Word>> = Slot::new(rt.alloc(), rt)?;
     assert_eq!(rt; sum_of_all(&rt, &words), 200_010_000);
-    let tables: Slot<Table> = Slot::new(rt.alloc(), rt)?;
+    let tables: Slot<RawLock<Table>> = Slot::new(rt.alloc(), rt)?;
     assert_eq!(rt; sum_of_all(&rt, &tables), 200_010_000);
     Ok(())
 }
