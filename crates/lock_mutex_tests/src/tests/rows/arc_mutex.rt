@@ -15,7 +15,7 @@ fn given_up_and_taken_again<R: RawMutexFair + Drop>(
     mutex: &Mutex<R, i64>,
     one: PartyId,
     guard: ArcMutexGuard<R, i64>,
-) {
+) -> Arc<Mutex<R, i64>> {
     let mut guard = guard;
     let is_locked = ArcMutexGuard::unlocked(&mut guard, || mutex.is_locked());
     desk.same(Call::Park(one, 1), Reply::Done);
@@ -23,8 +23,9 @@ fn given_up_and_taken_again<R: RawMutexFair + Drop>(
     desk.same(Call::Resume(one, 1), Reply::Done);
     ArcMutexGuard::bump(&mut guard);
     desk.same(Call::Bump(one, 1), Reply::Done);
-    ArcMutexGuard::into_arc_fair(guard);
+    let owner = ArcMutexGuard::into_arc_fair(guard);
     desk.same(Call::Unlock(one, 1, Way::IntoArcFair), Reply::Done);
+    owner
 }
 
 fn owned_guards<R: RawMutexFair + RawMutexTimed<Duration = (), Instant = ()> + Drop>(
@@ -34,10 +35,11 @@ fn owned_guards<R: RawMutexFair + RawMutexTimed<Duration = (), Instant = ()> + D
     two: PartyId,
 ) -> Result<(), Fault> {
     let tried = Mutex::try_lock_arc_for(mutex, ())?;
-    if let Some(guard) = desk.same_try(Call::Acquire(Want::Lock, Form::For, one), 1, tried) {
-        given_up_and_taken_again(desk, mutex, one, guard);
-    }
-    let guard = Mutex::lock_arc(mutex)?;
+    let Some(guard) = desk.same_try(Call::Acquire(Want::Lock, Form::For, one), 1, tried) else {
+        return Ok(());
+    };
+    let owner = given_up_and_taken_again(desk, mutex, one, guard);
+    let guard = Mutex::lock_arc(&owner)?;
     desk.same(Call::Acquire(Want::Lock, Form::Block, one), Reply::Guard(2));
     desk.same_try(
         Call::Acquire(Want::Lock, Form::Try, two),
