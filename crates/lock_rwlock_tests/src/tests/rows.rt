@@ -18,7 +18,7 @@ fn rows<
     let [first, second, third, fourth, last] = waiters;
     rwlock::upgrades_row::<R>(rt, alloc, first)?;
     rwlock::guards_row::<R>(alloc, second)?;
-    rwlock::transitions_row::<R>(alloc, third)?;
+    rwlock::transitions_row::<R>(rt, alloc, third)?;
     rwlock::readers_row::<R>(alloc, fourth)?;
     arc_rwlock::row::<R>(rt, alloc, last)
 }

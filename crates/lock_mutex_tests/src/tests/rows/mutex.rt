@@ -47,6 +47,11 @@ fn timed_tries<R: RawMutexFair + RawMutexTimed<Duration = (), Instant = ()>>(
     let tried = mutex.try_lock_for(());
     let guard = desk.same_try(Call::Acquire(Want::Lock, Form::For, one), 1, tried);
     desk.same_try(
+        Call::Acquire(Want::Lock, Form::For, two),
+        2,
+        mutex.try_lock_for(()),
+    );
+    desk.same_try(
         Call::Acquire(Want::Lock, Form::Until, two),
         2,
         mutex.try_lock_until(()),

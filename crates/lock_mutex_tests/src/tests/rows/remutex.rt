@@ -53,7 +53,7 @@ where
     Ok(())
 }
 
-/// Two levels of one party, of which one ends, and what another may do beside that which is left.
+/// Two levels of one party, and what another may do beside them.
 fn beside_an_owner<R: RawMutexFair>(
     desk: &mut BesideDesk,
     remutex: &ReentrantMutex<R, i64>,
@@ -65,12 +65,11 @@ where
 {
     let mut outer = remutex.lock(one)?;
     desk.same(Call::Acquire(Want::Lock, Form::Block, one), Reply::Guard(1));
-    desk.same_try(
+    let inner = desk.same_try(
         Call::Acquire(Want::Lock, Form::Try, one),
         2,
         guard_of(remutex.try_lock(one)),
     );
-    desk.same(Call::Unlock(one, 2, Way::Plain), Reply::Done);
     ReentrantMutexGuard::bump(&mut outer);
     desk.same(Call::Bump(one, 1), Reply::Done);
     desk.same_try(
@@ -82,6 +81,8 @@ where
     desk.same(Call::IsOwnedBy(one), Reply::Bool(is_owner));
     let is_owner = remutex.is_owned_by_current_thread(two);
     desk.same(Call::IsOwnedBy(two), Reply::Bool(is_owner));
+    drop(inner);
+    desk.same(Call::Unlock(one, 2, Way::Plain), Reply::Done);
     drop(outer);
     desk.same(Call::Unlock(one, 1, Way::Plain), Reply::Done);
     Ok(())

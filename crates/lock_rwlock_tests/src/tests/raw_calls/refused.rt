@@ -34,12 +34,14 @@ pub fn upgrades<
     ]);
 }
 
-/// Tries that the raw lock refuses, that to upgrade among them. A guard that one gave would end at once.
-fn tries<R: RawRwLockUpgrade>(lock: &RwLock<R, u64>) {
-    lock.try_read();
-    lock.try_write();
-    lock.try_upgradable_read();
-    let _ = RwLockUpgradableReadGuard::try_upgrade(lock.upgradable_read());
+/// Which tries are refused, that to upgrade among them.
+fn refused<R: RawRwLockUpgrade>(lock: &RwLock<R, u64>) -> [bool; 4] {
+    [
+        lock.try_read().is_none(),
+        lock.try_write().is_none(),
+        lock.try_upgradable_read().is_none(),
+        RwLockUpgradableReadGuard::try_upgrade(lock.upgradable_read()).is_err(),
+    ]
 }
 
 #[test]
@@ -48,7 +50,7 @@ fn a_refused_try_gives_nothing_back(rt: HostRuntime) -> Result<(), Fail> {
     let raw = raw.refusing();
     let mut watch = Watch::new(raw.calls()?);
     let lock = RwLock::from_raw(raw, 5)?;
-    tries(&lock);
+    assert_eq!(rt; refused(&lock), [true; 4]);
     watch.saw(&[
         TryLock(Shared),
         TryLock(Exclusive),

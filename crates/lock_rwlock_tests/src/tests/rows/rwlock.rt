@@ -229,19 +229,19 @@ fn change_and_downgrade<R: RawRwLockFair + RawRwLockUpgradeDowngrade>(
     desk.same(Call::Unlock(one, 1, Way::Fair), Reply::Done);
 }
 
-/// Up, a write, down to upgradable, a change under an upgrade, and down to a reader.
-fn transitions<R: RawRwLockUpgradeFair + RawRwLockUpgradeDowngrade>(
-    desk: &mut BesideDesk,
-    lock: &RwLock<R, i64>,
-    one: PartyId,
-) {
+/// Up by a try, a write, down to upgradable, a change under an upgrade, and down to a reader.
+fn transitions<
+    R: RawRwLockUpgradeFair
+        + RawRwLockUpgradeTimed<Duration = (), Instant = ()>
+        + RawRwLockUpgradeDowngrade,
+>(rt: &impl Abort, desk: &mut BesideDesk, lock: &RwLock<R, i64>, one: PartyId) {
     let guard = lock.upgradable_read();
     desk.same(
         Call::Acquire(Want::UpgradableRead, Form::Block, one),
         Reply::Guard(1),
     );
-    let writer = RwLockUpgradableReadGuard::upgrade(guard);
-    desk.same(Call::Upgrade(Form::Block, one, 1), Reply::Done);
+    let writer = upgraded(rt, RwLockUpgradableReadGuard::try_upgrade_until(guard, ()));
+    desk.same(Call::Upgrade(Form::Until, one, 1), Reply::Done);
     let mut writer = desk.same_write(one, 1, writer, 7);
     RwLockWriteGuard::bump(&mut writer);
     desk.same(Call::Bump(one, 1), Reply::Done);
@@ -300,14 +300,16 @@ pub fn guards_row<
     desk.verdict()
 }
 
-pub fn transitions_row<R: RawRwLockUpgradeFair + RawRwLockUpgradeDowngrade + Drop>(
-    alloc: Global,
-    waiter: R::Waiter,
-) -> Result<(), Fail> {
+pub fn transitions_row<
+    R: RawRwLockUpgradeFair
+        + RawRwLockUpgradeTimed<Duration = (), Instant = ()>
+        + RawRwLockUpgradeDowngrade
+        + Drop,
+>(rt: &impl Abort, alloc: Global, waiter: R::Waiter) -> Result<(), Fail> {
     let one = party(1)?;
     let lock: RwLock<R, i64> = RwLock::with_readers(alloc, waiter, 8, 0)?;
     let mut desk = BesideDesk::new(Table::rwlock(alloc, 4, 8, 0)?);
-    transitions(&mut desk, &lock, one);
+    transitions(rt, &mut desk, &lock, one);
     desk.verdict()
 }
 
