@@ -1,5 +1,5 @@
 -- A parked guard is resumed at once.
-use Rattle.std.proofs.Common.{◌≡◌, ℕ, Bool, true, false, ◌&&◌, if◌then◌else◌, Option, None, refl, ap, sym, ◌∙◌, subst}
+use Rattle.std.proofs.Common.{◌≡◌, ℕ, Bool, true, false, ◌&&◌, if◌then◌else◌, Option, None, IsTrue, refl, ap, sym, ◌∙◌, subst}
 use Rattle.lock_base.specs.declared.machine.mode.Mode.{Mode}
 use Rattle.lock_base.specs.declared.machine.call.Call.{Call}
 use Rattle.lock_base.specs.declared.machine.reply.Reply.{Reply}
@@ -7,6 +7,7 @@ use Rattle.lock_base.specs.declared.raw.fault.Fault.TheVariants as fault
 use Rattle.lock_base.specs.Operation.{Operation}
 use Rattle.lock_base.specs.Party.{id_of}
 use Rattle.lock_base.specs.Modes.{is_exclusive}
+use Rattle.lock_base.specs.Kind.{is_reentrant}
 use Rattle.lock_base.specs.Entries.{Entry, parked_entry, resumed_entry}
 use Rattle.lock_base.specs.Bar.{passes, bar_after}
 use Rattle.lock_base.specs.Register.{Register, fits_in, lets_in, is_full_count, with_change, after_admission}
@@ -21,7 +22,8 @@ use Rattle.lock_base.specs.Sound.{IsSound}
 use Rattle.lock_base_laws.specs.Parking.{ParkedIsResumed}
 use Rattle.lock_base_laws.proofs.Turns.{Meets, of_guard, on_guard-met}
 
-module _ {T : Type 0} (m : Machine T) (party guard : ℕ) (sound : IsSound m.register) (unbarred : m.bar ≡ None) where
+module _ {T : Type 0} (m : Machine T) (parker resumer guard : ℕ) (sound : IsSound m.register) (unbarred : m.bar ≡ None)
+    (same_owner : IsTrue (is_reentrant m.kind) → resumer ≡ parker) where
   -- the register with the guard parked
   abbrev left : Register
   left = with_change m.register guard parked_entry
@@ -29,12 +31,12 @@ module _ {T : Type 0} (m : Machine T) (party guard : ℕ) (sound : IsSound m.reg
   -- a turn that parked the guard
   record HasParked (turn : Turn (Unit {0}) T) : Type 0 where
     entry : Entry
-    meets : Meets m.register held_guard party guard entry
+    meets : Meets m.register held_guard parker guard entry
     machine_is : turn.machine ≡ after_release m left
 
-  parked_turn : {A : Type 0} → reply_of (done_reply {A = A}) (park m party guard).answer ≡ Reply.Done → HasParked (park m party guard)
+  parked_turn : {A : Type 0} → reply_of (done_reply {A = A}) (park m parker guard).answer ≡ Reply.Done → HasParked (park m parker guard)
   parked_turn {A} answered =
-      of_guard (λ turn. reply_of (done_reply {A = A}) turn.answer ≡ Reply.Done → HasParked turn) m held_guard party guard
+      of_guard (λ turn. reply_of (done_reply {A = A}) turn.answer ≡ Reply.Done → HasParked turn) m held_guard parker guard
       (λ e. give tt (after_release m left))
       (λ f refused. cc) (λ e meets _. record { entry = e; meets = meets; machine_is = refl }) answered
 
@@ -46,31 +48,32 @@ module _ {T : Type 0} (m : Machine T) (party guard : ℕ) (sound : IsSound m.reg
       by_mode true = refl
       by_mode false = refl
 
-  resumed_turn : (e : Entry) → Meets m.register held_guard party guard e
-      → resume (after_release m left) party guard ≡ give tt (record m { spent = (after_release m left).spent })
+  resumed_turn : (e : Entry) → Meets m.register held_guard parker guard e
+      → resume (after_release m left) resumer guard ≡ give tt (record m { spent = (after_release m left).spent })
   resumed_turn e meets =
       let next : Machine T = after_release m left in
       let one = more_than_parked guard e m.entries (splice guard e m.entries meets.found) meets.held in
-      let meets_parked : Meets left parked_guard party guard (parked_entry e) = record {
+      let own : IsTrue (is_reentrant m.kind) → e.party ≡ resumer = λ nested. meets.own nested ∙ sym (same_owner nested) in
+      let meets_parked : Meets left parked_guard resumer guard (parked_entry e) = record {
         found = find-update guard parked_entry e m.entries meets.found;
         on_kind = refl;
-        own = meets.own;
+        own = own;
         held = refl;
         in_mode = refl;
       } in
       let held_again : Turn (Unit {0}) T = give tt (with_register next (after_admission (with_change left guard resumed_entry) e.mode)) in
-      let if_let_in : Turn (Unit {0}) T = (if lets_in left party e.mode then held_again else refuse next fault.WouldWait) in
-      on_guard-met next parked_guard party guard
-      (λ x. if is_full_count left party then refuse next fault.FullCount
-      else (if lets_in left party x.mode
+      let if_let_in : Turn (Unit {0}) T = (if lets_in left resumer e.mode then held_again else refuse next fault.WouldWait) in
+      on_guard-met next parked_guard resumer guard
+      (λ x. if is_full_count left resumer then refuse next fault.FullCount
+      else (if lets_in left resumer x.mode
       then give tt (with_register next (after_admission (with_change left guard resumed_entry) x.mode))
       else refuse next fault.WouldWait))
       (parked_entry e) meets_parked
       ∙ ap (λ (b : Bool). if b then refuse next fault.FullCount else if_let_in)
-      (is_full_count-fewer left party e m.entries one meets.own sound.legal.held)
+      (is_full_count-fewer left resumer e m.entries one own sound.legal.held)
       ∙ ap (λ (b : Bool). if b then held_again else refuse next fault.WouldWait)
-      (ap (λ (bar : Option ℕ). passes bar party e.mode && fits_in left party e.mode) unbarred
-      ∙ fits_in_again left party e m.entries one meets.own sound.legal.held)
+      (ap (λ (bar : Option ℕ). passes bar resumer e.mode && fits_in left resumer e.mode) unbarred
+      ∙ fits_in_again left resumer e m.entries one own sound.legal.held)
       ∙ ap (λ (bar : Option ℕ). give tt (with_register next (record (with_change left guard resumed_entry) { bar = bar }))) (still_unbarred e.mode)
       ∙ ap (λ (es : EntryMap). give tt (with_register next (record left { entries = es })))
       (update-back guard parked_entry resumed_entry e m.entries meets.found (resumed_entry-parked_entry e meets.held))
@@ -78,12 +81,12 @@ module _ {T : Type 0} (m : Machine T) (party guard : ℕ) (sound : IsSound m.reg
 module _ {O T A : Type 0} (meaning : O → Operation T A) where
   -- whichever call parked it
   pub parked_is_resumed : ParkedIsResumed meaning Call.Park
-  parked_is_resumed m party guard sound unbarred answered =
-      let p = parked_turn m (id_of party) guard sound unbarred {A = A} answered in
-      subst (λ (next : Machine T). response_of (done_reply {A = A}) (resume next (id_of party) guard)
+  parked_is_resumed m parker resumer guard sound unbarred same_owner answered =
+      let p = parked_turn m (id_of parker) (id_of resumer) guard sound unbarred same_owner {A = A} answered in
+      subst (λ (next : Machine T). response_of (done_reply {A = A}) (resume next (id_of resumer) guard)
       ≡ record { reply = Reply.Done; machine = record m { spent = next.spent } }) (sym p.machine_is)
       (ap (λ (turn : Turn (Unit {0}) T). response_of (done_reply {A = A}) turn)
-      (resumed_turn m (id_of party) guard sound unbarred p.entry p.meets))
+      (resumed_turn m (id_of parker) (id_of resumer) guard sound unbarred same_owner p.entry p.meets))
 
   pub fairly_parked_is_resumed : ParkedIsResumed meaning Call.ParkFair
   fairly_parked_is_resumed = parked_is_resumed

@@ -1,19 +1,25 @@
 -- Parking and resuming.
-use Rattle.std.specs.Prelude.{◌≡◌, ℕ, None}
+use Rattle.std.specs.Prelude.{◌≡◌, ℕ, None, IsTrue}
 use Rattle.lock_base.specs.declared.machine.call.Call.{Call}
 use Rattle.lock_base.specs.declared.machine.party.PartyId.{PartyId}
 use Rattle.lock_base.specs.declared.machine.reply.Reply.{Reply}
 use Rattle.lock_base.specs.Operation.{Operation}
+use Rattle.lock_base.specs.Party.{id_of}
+use Rattle.lock_base.specs.Kind.{is_reentrant}
 use Rattle.lock_base.specs.Machine.{Machine}
 use Rattle.lock_base.specs.Steps.{step}
 use Rattle.lock_base.specs.Sound.{IsSound}
 
+-- only the party that parked a level of a reentrant machine resumes it; any party resumes a guard of another machine
+abbrev pub MayResume : {T : Type 0} → Machine T → PartyId → PartyId → Type 0
+MayResume m parker resumer = IsTrue (is_reentrant m.kind) → id_of resumer ≡ id_of parker
+
 module _ {O T A : Type 0} (meaning : O → Operation T A) where
-  -- where no bar stands, a guard that one of the calls that park has parked is resumed at once, and only what was spent
-  -- has changed
+  -- where no bar stands, a guard that a party has parked by this call is resumed at once by any party that may, and
+  -- only what was spent has changed
   abbrev pub ParkedIsResumed : (PartyId → ℕ → Call O) → Type 0
   ParkedIsResumed park =
-      (m : Machine T) (party : PartyId) (guard : ℕ) → IsSound m.register → m.bar ≡ None
-      → (step meaning m (park party guard)).reply ≡ Reply.Done
-      → step meaning (step meaning m (park party guard)).machine (Call.Resume party guard)
-      ≡ record { reply = Reply.Done; machine = record m { spent = (step meaning m (park party guard)).machine.spent } }
+      (m : Machine T) (parker resumer : PartyId) (guard : ℕ) → IsSound m.register → m.bar ≡ None
+      → MayResume m parker resumer → (step meaning m (park parker guard)).reply ≡ Reply.Done
+      → step meaning (step meaning m (park parker guard)).machine (Call.Resume resumer guard)
+      ≡ record { reply = Reply.Done; machine = record m { spent = (step meaning m (park parker guard)).machine.spent } }
