@@ -6,7 +6,7 @@ ghost use Rattle.lock_word.specs.Holders.{holder_at};
 ghost use Rattle.lock_word.specs.Word.{word_of};
 ghost use Rattle.lock_word.specs.Rule.{held_by_all, others_wins};
 ghost use Rattle.lock_word.specs.Worlds.{IsOfParty, IsUnknownIn, after_step, new_world, world_after, outcomes, IsReachable};
-ghost use Rattle.lock_word.specs.Claims.{Leaves, BarIsOfOne, FailsAreBounded, changes_from, IsRunByParties, IsRunOnAll};
+ghost use Rattle.lock_word.specs.Claims.{Leaves, BarIsOfOne, FailsAreBounded, IsRefusedByLoad, AreRefusedByLoads, changes_from, IsRunByParties, IsRunOnAll};
 
 use lock_base::machine::Mode;
 use lock_base::raw::{Fault, is_limit};
@@ -130,6 +130,7 @@ impl World {
         ensures outcome { result ≡ (after_step self.old step).outcome }
         ensures after { self.new ≡ (after_step self.old step).world }
         ensures leaves { Leaves result self.old self.new }
+        ensures refuses { IsRefusedByLoad self.old step result }
         ensures reached { IsReachable self.new }
     {
         if self.steps == u64::MAX {
@@ -152,6 +153,7 @@ impl World {
         // together.
         ensures by_parties { OnOk result (IsRunByParties self.old (changes_from self.old steps.now) self.new) }
         ensures run { OnOk result (IsRunOnAll self.old (changes_from self.old steps.now) self.new) }
+        ensures refuses { OnOk result (AreRefusedByLoads self.old steps.now) }
 
         ensures coded { self.new.word ≡ word_of (held_by_all self.new.parties) }
         ensures legal { AreCompatible self.new.readers (held_by_all self.new.parties).bag }

@@ -1,5 +1,5 @@
 -- The bar of a register and a number of bars let the same pass.
-use Rattle.std.proofs.Common.{◌≡◌, ℕ, ◌-◌, Bool, true, false, ◌&&◌, ◌==◌, Option, Some, None, IsTrue, refl, arith}
+use Rattle.std.proofs.Common.{◌≡◌, ℕ, ◌-◌, Bool, true, false, ◌&&◌, ◌==◌, Some, None, IsTrue, refl}
 use Rattle.std.specs.Prelude.{◌↔◌, is_some}
 use Rattle.lock_base.specs.declared.machine.mode.Mode.{Mode}
 use Rattle.lock_base.specs.declared.machine.mode.Mode.TheVariants.{Shared, Exclusive, Upgradable}

@@ -11,15 +11,15 @@ use Rattle.lock_word.specs.declared.step.AtomicStep.{AtomicStep}
 use Rattle.lock_word.specs.declared.step.AtomicStep.TheVariants.{Load, Exchange, Take}
 use Rattle.lock_word.specs.declared.step.Outcome.TheVariants.{Done, NotAdmitted, Changed, Refused}
 use Rattle.lock_word.specs.Holders.{holder_at}
-use Rattle.lock_word.specs.Word.{word_admits, step_of_want}
+use Rattle.lock_word.specs.Word.{word_admits, step_of_want, barred_bag_of_word}
 use Rattle.lock_word.specs.Turns.{Turn, idle, party_of, steps_after}
 use Rattle.lock_word.specs.Rule.{all_wins, others_wins, held_by_all}
-use Rattle.lock_word.specs.Worlds.{WorldState, Stepped, after_turn, after_step, new_world, world_after}
-use Rattle.lock_word.specs.Claims.{NoLoadBy, IsLastLoad, LastLoadRefuses, LastLoadOutrun}
+use Rattle.lock_word.specs.Worlds.{WorldState, Stepped, after_turn, after_step, new_world, world_after, IsReachable}
+use Rattle.lock_word.specs.Claims.{NoLoadBy, IsLastLoad, LastLoadRefuses, LastLoadOutrun, OpenLoadRefuses, IsRefusedByLoad, AreRefusedByLoads}
 use Rattle.lock_word.proofs.Words.{word_of_permits}
 use Rattle.lock_word.proofs.Rules.{changed_or_not, all_wins_set, wins_within}
 use Rattle.lock_word.proofs.Effects.{Effect, is_refused, is_load, is_not_admitted, is_changed, is_exchange, is_take}
-use Rattle.lock_word.proofs.Reached.{StepEffect, none_made, one_made, step_effect, steps_grow, reachable_after, readers_after, reachable_new, get_of_replicate}
+use Rattle.lock_word.proofs.Reached.{StepEffect, none_made, one_made, step_effect, steps_grow, reachable_step, reachable_after, readers_after, reachable_new, get_of_replicate}
 
 -- the party has this word open
 pub record IsOpen (w : WorldState) (p loaded : ℕ) : Type 0 where
@@ -358,6 +358,40 @@ changed_says w p want r e h =
       | one_made k me t is at more made same ↦
           changed_turn_says w p k want me t is at more made (sym (ap (λ u. u.outcome) same) ∙ h)
     ]
+
+-- what a refused exchange says of the open load
+
+open_load_refuses : (w : WorldState) (p : ℕ) (want : ExWant) → IsReachable w
+    → Missed w p (λ announced loaded. word_admits announced w.readers loaded want ≡ false) → OpenLoadRefuses w p want
+open_load_refuses w (suc k) want h missed =
+    let me = missed.is_open.me in
+    let packed = h.loads k me missed.is_open.at missed.loaded missed.is_open.open_load in
+    let all = barred_bag_of_word missed.loaded in
+    record {
+      me = me;
+      is = missed.is_open.at;
+      all = all;
+      open_load = missed.is_open.open_load ∙ ap Some packed.coded;
+      stood = packed.legal;
+      refuses = λ permitted.
+          true≢false
+          (sym (word_of_permits me.held.announced w.readers all want h.limit.1 packed.legal permitted)
+          ∙ ap (λ n. word_admits me.held.announced w.readers n want) (sym packed.coded)
+          ∙ missed.why);
+    }
+open_load_refuses w zero want h missed = let at = missed.is_open.at in cc
+
+pub is_refused_by_load : (w : WorldState) (s : AtomicStep) → IsReachable w → IsRefusedByLoad w s (after_step w s).outcome
+is_refused_by_load w s h p want is refused =
+    let made : StepEffect w (Exchange p want) (after_step w s) = subst (λ x. StepEffect w x (after_step w s)) is (step_effect w s) in
+    open_load_refuses w p want h (refused_says w p want (after_step w s) made refused)
+
+pub are_refused_by_loads : (w : WorldState) (ss : List AtomicStep) → IsReachable w → AreRefusedByLoads w ss
+are_refused_by_loads w [] h = tt
+are_refused_by_loads w (s ∷ ss) h = (
+  is_refused_by_load w s h,
+  are_refused_by_loads (after_step w s).world ss (reachable_step w s (after_step w s) h (step_effect w s)),
+)
 
 -- the two claims
 

@@ -1,6 +1,7 @@
 -- A world that steps have reached: each step keeps it one, and the steps that were done are a run of the modes.
 use Rattle.std.proofs.Common.{◌≡◌, ◌≢◌, ℕ, zero, suc, ◌+◌, ◌-◌, ◌^◌, ◌<◌, ◌≤◌, List, [], ◌∷◌, ◌++◌, replicate, slice_get, slice_set, Option, Some, None, IsTrue, refl, sym, ap, subst, ◌∙◌, arith, eqb-true, eq-eqb, ne_eqb, lit<, ◌==◌}
 use Rattle.std.proofs.lemmas.Bool.{eqb-false}
+use Rattle.std.proofs.lemmas.Option.{same_Some}
 use Rattle.lock_base.specs.declared.raw.fault.Fault.{Fault}
 use Rattle.lock_base.specs.declared.raw.fault.Fault.TheVariants as fault
 use Rattle.lock_base.specs.Limits.{IsLimit}
@@ -15,13 +16,13 @@ use Rattle.lock_word.specs.declared.hold.Hold.{Hold}
 use Rattle.lock_word.specs.declared.word_step.WordStep.{WordStep}
 use Rattle.lock_word.specs.Holds.{MayStand, without_bars, PermitsTo, no_hold, hold_has, hold_after}
 use Rattle.lock_word.specs.Holders.{holder_at, all_of, HolderStep, IsHolderRun}
-use Rattle.lock_word.specs.Word.{word_of, step_of_want, step_of_down}
+use Rattle.lock_word.specs.Word.{word_of, step_of_want, step_of_down, barred_bag_of_word, IsPacked}
 use Rattle.lock_word.specs.Turns.{Turn, idle, with_load, after_win, after_fail, without_load, turn, party_of, steps_after, CanStep}
 use Rattle.lock_word.specs.Rule.{holds, held_by_all, others_wins, IsBehind, KeepsRule}
-use Rattle.lock_word.specs.Worlds.{WorldState, Stepped, after_turn, after_step, after_step_of, new_world, world_after, holder_step, IsReachable}
+use Rattle.lock_word.specs.Worlds.{WorldState, Stepped, after_turn, after_step, after_step_of, new_world, world_after, holder_step, HasPackedLoad, IsReachable}
 use Rattle.lock_word.specs.Claims.{Leaves, changes_from}
 use Rattle.lock_word.proofs.Holders.{all_of_none}
-use Rattle.lock_word.proofs.Words.{permits_down, parts_of_word}
+use Rattle.lock_word.proofs.Words.{permits_down, parts_of_word, bag_of_word_of}
 use Rattle.lock_word.proofs.Rules.{slice_set_same, holds_at, holds_set, holds_same, each_after, part_of_parties, has_of_all, permits_of_rule}
 use Rattle.lock_word.proofs.Effects.{Effect, is_refused, is_load, is_not_admitted, is_changed, is_exchange, is_take, of_both, effect, keeps_turn}
 
@@ -119,6 +120,29 @@ counted_turn limit word n me s t h e =
       | is_take p d a own q ↦ subst Within (sym q) (omega arith)
     ]
 
+-- the word of all that is held is packed
+packed_word : (limit word : ℕ) (ps : List PartyState) → IsLimit limit → KeepsRule limit word ps → IsPacked limit word
+packed_word limit word ps range rule =
+    let all = held_by_all ps in
+    let same : barred_bag_of_word word ≡ all
+    = ap barred_bag_of_word rule.coded ∙ bag_of_word_of limit all range.1 rule.legal in
+    record { coded = rule.coded ∙ ap word_of (sym same); legal = subst (MayStand limit) (sym same) rule.legal }
+
+-- a load that is open after a turn is the word, or was open before
+load_turn_packed : (limit word : ℕ) (me : PartyState) (s : AtomicStep) (t : Turn) → IsPacked limit word
+    → HasPackedLoad limit me → Effect limit word me s t → HasPackedLoad limit t.party
+load_turn_packed limit word me s t packed before e =
+    let Packed : Turn → Type 0 = λ u. HasPackedLoad limit u.party in
+    elim e [
+      | is_refused f x q ↦ subst Packed (sym q) before
+      | is_load p a q ↦
+          subst Packed (sym q) (λ loaded is. subst (IsPacked limit) (same_Some word loaded is) packed)
+      | is_not_admitted p want loaded a was refuses q ↦ subst Packed (sym q) (λ loaded is. cc)
+      | is_changed p want loaded a was other q ↦ subst Packed (sym q) (λ loaded is. cc)
+      | is_exchange p want a own was admits q ↦ subst Packed (sym q) (λ loaded is. cc)
+      | is_take p d a own q ↦ subst Packed (sym q) (λ loaded is. cc)
+    ]
+
 pub reachable_step : (w : WorldState) (s : AtomicStep) (r : Stepped) → IsReachable w → StepEffect w s r
     → IsReachable r.world
 reachable_step w s r h e =
@@ -136,6 +160,11 @@ reachable_step w s r h e =
                 each_after (λ (x : PartyState). x.wins + x.fails ≤ steps_after w.steps t.outcome) w.parties k t.party
                 (counted_turn w.readers w.word w.steps me s t (h.counted k me at) made)
                 (λ j x n at_j. let before = h.counted j x at_j in omega arith);
+            loads =
+                each_after (HasPackedLoad w.readers) w.parties k t.party
+                (load_turn_packed w.readers w.word me s t (packed_word w.readers w.word w.parties h.limit h.rule)
+                (h.loads k me at) made)
+                (λ j x n at_j. h.loads j x at_j);
           })
     ]
 
@@ -188,6 +217,8 @@ reachable_new count limit range =
           };
       counted = λ k me at.
           subst (λ (q : PartyState). q.wins + q.fails ≤ 0) (sym (get_of_replicate count k idle me at)) (omega arith);
+      loads = λ k me at.
+          subst (HasPackedLoad limit) (sym (get_of_replicate count k idle me at)) (λ loaded is. cc);
     }
 
 -- the steps that were done are a run of the modes

@@ -2,7 +2,7 @@
 use Rattle.std.specs.Prelude.{◌≡◌, ◌≢◌, ◌↔◌, ℕ, ◌^◌, ◌<◌, ◌≤◌, true, List, [], ◌∷◌, ◌++◌, Some, ⊤}
 use Rattle.lock_base.specs.Limits.{IsLimit}
 use Rattle.lock_base.specs.Modes.{AreCompatible, empty_bag}
-use Rattle.lock_word.specs.Holds.{PermitsTo}
+use Rattle.lock_word.specs.Holds.{BarredBag, MayStand, PermitsTo}
 use Rattle.lock_base.specs.ModeRuns.{IsModeRun}
 use Rattle.lock_word.specs.declared.want.ExWant.{ExWant}
 use Rattle.lock_word.specs.declared.party.PartyState.{PartyState}
@@ -62,6 +62,26 @@ pub record LastLoadRefuses (start : WorldState) (steps : List AtomicStep) (p : �
   pub was : holder_at (world_after start before).parties p ≡ Some past
   pub refuses :
       ¬ PermitsTo past.held.announced start.readers (held_by_all (world_after start before).parties) (step_of_want want)
+
+-- the party's open load is the word of what was out when it made that load, and that did not permit it the exchange
+pub record OpenLoadRefuses (w : WorldState) (p : ℕ) (want : ExWant) : Type 0 where
+  pub me : PartyState
+  pub is : holder_at w.parties p ≡ Some me
+  pub all : BarredBag
+  pub open_load : me.loaded ≡ Some (word_of all)
+  pub stood : MayStand w.readers all
+  pub refuses : ¬ PermitsTo me.held.announced w.readers all (step_of_want want)
+
+-- the step with this outcome was no exchange that was not admitted, or the party's open load refused it
+abbrev pub IsRefusedByLoad : WorldState → AtomicStep → Outcome → Type 0
+IsRefusedByLoad w s outcome =
+    (p : ℕ) (want : ExWant) → s ≡ Exchange p want → outcome ≡ NotAdmitted → OpenLoadRefuses w p want
+
+-- the same of each of these steps
+abbrev pub AreRefusedByLoads : WorldState → List AtomicStep → Type 0
+AreRefusedByLoads w [] = ⊤
+AreRefusedByLoads w (s ∷ ss) =
+    IsRefusedByLoad w s (after_step w s).outcome × AreRefusedByLoads (after_step w s).world ss
 
 -- the others have won since the party's last load
 pub record LastLoadOutrun (start : WorldState) (steps : List AtomicStep) (p : ℕ) : Type 0 where

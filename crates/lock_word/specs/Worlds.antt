@@ -9,7 +9,7 @@ use Rattle.lock_word.specs.declared.step.AtomicStep.TheVariants.{Exchange, Take}
 use Rattle.lock_word.specs.declared.step.Outcome.{Outcome}
 use Rattle.lock_word.specs.declared.step.Outcome.TheVariants.{Done, Refused}
 use Rattle.lock_word.specs.Holders.{holder_at, HolderStep}
-use Rattle.lock_word.specs.Word.{step_of_want, step_of_down}
+use Rattle.lock_word.specs.Word.{step_of_want, step_of_down, IsPacked}
 use Rattle.lock_word.specs.Turns.{Turn, idle, turn, party_of, steps_after}
 use Rattle.lock_word.specs.Rule.{KeepsRule}
 
@@ -80,9 +80,14 @@ done_steps [] outcomes = []
 done_steps (s ∷ ss) [] = []
 done_steps (s ∷ ss) (outcome ∷ outcomes) = holder_step s outcome ++ done_steps ss outcomes
 
+-- the party's open load, if it has one, is the word of a bag and a bar that may stand
+abbrev pub HasPackedLoad : ℕ → PartyState → Type 0
+HasPackedLoad limit me = (loaded : ℕ) → me.loaded ≡ Some loaded → IsPacked limit loaded
+
 -- a world as steps from a new one can leave it
 pub record IsReachable (w : WorldState) : Type 0 where
   pub limit : IsLimit w.readers
   pub steps_fit : w.steps < 2 ^ 64
   pub rule : KeepsRule w.readers w.word w.parties
   pub counted : (k : ℕ) (me : PartyState) → slice_get w.parties k ≡ Some me → me.wins + me.fails ≤ w.steps
+  pub loads : (k : ℕ) (me : PartyState) → slice_get w.parties k ≡ Some me → HasPackedLoad w.readers me

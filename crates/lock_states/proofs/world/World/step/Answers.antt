@@ -5,8 +5,9 @@ use Rattle.lock_base.specs.declared.raw.fault.Fault.TheVariants.{UnknownParty}
 use Rattle.lock_word.specs.declared.step.Outcome.TheVariants.{Refused}
 use Rattle.lock_word.specs.Holders.{holder_at}
 use Rattle.lock_word.specs.Worlds.{WorldState, Stepped, after_step, IsReachable}
-use Rattle.lock_word.specs.Claims.{Leaves}
+use Rattle.lock_word.specs.Claims.{Leaves, IsRefusedByLoad}
 use Rattle.lock_word.proofs.Reached.{can_step, stepped_spent, stepped_unknown, stepped_is, leaves_step, reachable_step, step_effect}
+use Rattle.lock_word.proofs.LastLoads.{is_refused_by_load}
 use Rattle.lock_states.specs.declared.world.World.TheInside.{Inside}
 use Rattle.lock_states.proofs.world.World.step.Goals as goal
 
@@ -96,6 +97,13 @@ returns-clause-leaves c =
     rw (← c.self.view_is)
     (subst (λ (r : Stepped). Leaves r.outcome w r.world) (next c)
     (leaves_step w c.args.step (after_step w c.args.step) (step_effect w c.args.step)))
+
+pub returns-clause-refuses : goal.returns-clause-refuses
+returns-clause-refuses c =
+    let w = world_of c.self.inside in
+    rw (← c.self.view_is)
+    (subst (λ (r : Stepped). IsRefusedByLoad w c.args.step r.outcome) (next c)
+    (is_refused_by_load w c.args.step c.self.invariant))
 
 pub returns-clause-reached : goal.returns-clause-reached
 returns-clause-reached c =
