@@ -158,7 +158,9 @@ impl RawState for TokenTable {
         self.tally().exclusive != 0
     }
 
-    fn set_bar(&mut self, barred: bool) {
+    fn set_bar(&mut self, barred: bool)
+        ensures { self.new ≡ record self.old { bar = barred } }
+    {
         self.bar = barred;
     }
 
