@@ -89,6 +89,7 @@ pub use lock_raws::ExclusiveToken;
 pub use lock_raws::LockCore;
 pub use lock_raws::Monitor;
 pub use lock_raws::RawLock;
+pub use lock_raws::Recorded;
 pub use lock_raws::RecordingArbiter;
 pub use lock_raws::RecordingRaw;
 pub use lock_raws::SharedToken;

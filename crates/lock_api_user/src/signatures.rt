@@ -9,7 +9,7 @@ use lock_api::{
     ModeStep, Monitor, Mutex, MutexGuard, ObservableState, Op, PartyId, Project, RawCondvar,
     RawCondvarTimed, RawLock, RawMutex, RawMutexFair, RawMutexTimed, RawReentrantMutex, RawRwLock,
     RawRwLockDowngrade, RawRwLockFair, RawRwLockTimed, RawRwLockUpgrade, RawRwLockUpgradeDowngrade,
-    RawRwLockUpgradeFair, RawRwLockUpgradeTimed, RawState, RecordingArbiter, RecordingRaw,
+    RawRwLockUpgradeFair, RawRwLockUpgradeTimed, RawState, Recorded, RecordingArbiter, RecordingRaw,
     ReentrantMutex, ReentrantMutexGuard, Reply, RwLock, RwLockArc, RwLockArcTimed,
     RwLockArcUpgrade, RwLockArcUpgradeTimed, RwLockGuard, RwLockReadGuard,
     RwLockUpgradableReadGuard, RwLockWriteGuard, Script, Shared, SharedToken, SpuriousCondvar,
@@ -33,6 +33,7 @@ pub fn machine<R: RawState, T, O: Op<T>>(
 pub fn raws<W: Wait + Clone + Drop, C: LockCore, A: Arbiter, S: ObservableState>(
     _token_raw: &TokenRaw<W>,
     _recording_raw: &RecordingRaw<W>,
+    _recorded: &Recorded,
     _raw_lock: &RawLock<C>,
     _monitor: &Monitor<A, W>,
     _arbiters: (&TokenArbiter<S>, &RecordingArbiter<A>, &TableArbiter),

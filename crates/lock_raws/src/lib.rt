@@ -25,7 +25,7 @@ pub use lock_core::LockCore;
 pub use monitor::Monitor;
 pub use raw_lock::RawLock;
 pub use recording_arbiter::{DEFAULT_ENTRIES, RecordingArbiter};
-pub use recording_raw::RecordingRaw;
+pub use recording_raw::{Recorded, RecordingRaw};
 pub use spurious_condvar::SpuriousCondvar;
 pub use token_arbiter::TokenArbiter;
 pub use token_raw::{TableArbiter, TokenRaw};

@@ -10,9 +10,12 @@ use std::alloc::Global;
 use std::clone::Clone;
 use std::sync::Wait;
 
+/// An arbiter over a table of places, with a journal: the state behind a `RecordingRaw`.
+pub type Recorded = RecordingArbiter<TableArbiter>;
+
 /// A raw lock as `TokenRaw`, which keeps a journal of its steps. The raw traits make it with `DEFAULT_ENTRIES`.
 /// A writer that waits keeps nobody out.
-pub type RecordingRaw<W> = RawLock<Monitor<RecordingArbiter<TableArbiter>, W>>;
+pub type RecordingRaw<W> = RawLock<Monitor<Recorded, W>>;
 
 impl<A: Arbiter, W: Wait + Clone + Drop> RawLock<Monitor<RecordingArbiter<A>, W>> {
     ghost use Rattle.std.specs.Prelude.{◌≡◌, ◌↔◌, IfOk, IfErr, IsOkUnless};
