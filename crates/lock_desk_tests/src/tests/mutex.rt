@@ -1,14 +1,10 @@
 //! A desk that is a mutex.
+use crate::tests::check;
 use crate::tests::maker::Maker;
 use crate::tests::operations::Add;
-use crate::tests::{CountedDesk, check};
-use lock_base::machine::{Call, Form, PartyId, Reply, Want, Way};
-use lock_base::raw::{Fault, RawState};
-use lock_states::table::TokenTable;
-use lock_states::word::PackedWord;
-use lock_test_support::answer::equal;
+use lock_base::machine::{Call, Form, Reply, Want, Way};
+use lock_base::raw::Fault;
 use lock_test_support::party;
-use std::alloc::Global;
 use std::test::Fail;
 
 #[test]
@@ -43,38 +39,4 @@ fn spent_is_give_backs(rt: HostRuntime) -> Result<(), Fail> {
     ];
     check(rt.alloc(), Maker::Mutex(4, 1), &session)?;
     Ok(())
-}
-
-/// What is refused on the way to the last number, and past it.
-fn refusals<R: RawState>(desk: &mut CountedDesk<R>, one: PartyId) -> [Option<Fault>; 7] {
-    [
-        desk.skip_to(u64::MAX).err(),
-        desk.lock(one).err(),
-        desk.skip_to(5).err(),
-        desk.lock(one).err(),
-        desk.unlock(one, u64::MAX, Way::Plain).err(),
-        desk.try_lock(one).err(),
-        desk.skip_to(u64::MAX).err(),
-    ]
-}
-
-fn numbers_end<R: RawState>(alloc: Global, one: PartyId) -> Result<(), Fail> {
-    let mut desk: CountedDesk<R> = Maker::Mutex(1, 0).desk(alloc)?;
-    let wanted = [
-        None,
-        None,
-        Some(Fault::GuardsOut),
-        Some(Fault::NoPlace),
-        None,
-        Some(Fault::NumbersSpent),
-        Some(Fault::BadLimits),
-    ];
-    equal(refusals(&mut desk, one), wanted)
-}
-
-#[test]
-fn numbers_up_to_the_last(rt: HostRuntime) -> Result<(), Fail> {
-    let one = party(1)?;
-    numbers_end::<TokenTable>(rt.alloc(), one)?;
-    numbers_end::<PackedWord>(rt.alloc(), one)
 }

@@ -12,6 +12,8 @@ fn spent_is_give_backs(rt: HostRuntime) -> Result<(), Fail> {
     let session = [
         (Call::Acquire(Want::Lock, Form::Block, one), Reply::Guard(1)),
         (Call::Acquire(Want::Lock, Form::Block, one), Reply::Guard(2)),
+        (Call::Bump(one, 1), Reply::Done),
+        (Call::Spent, Reply::Count(0)),
         (Call::Unlock(one, 1, Way::Plain), Reply::Done),
         (Call::Spent, Reply::Count(0)),
         (Call::Bump(one, 2), Reply::Done),

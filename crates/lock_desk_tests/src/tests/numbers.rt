@@ -1,0 +1,71 @@
+//! The last guard number, over a table and over a packed word.
+use crate::tests::CountedDesk;
+use crate::tests::maker::Maker;
+use lock_base::machine::{PartyId, Way};
+use lock_base::raw::{Fault, RawState};
+use lock_states::table::TokenTable;
+use lock_states::word::PackedWord;
+use lock_test_support::answer::equal;
+use lock_test_support::party;
+use std::alloc::Global;
+use std::test::Fail;
+
+/// A call of one party.
+#[derive(Clone, Copy, PartialEq, Debug)]
+enum Step {
+    SkipTo(u64),
+    Lock,
+    TryLock,
+    Unlock(u64),
+}
+
+/// The number of a new guard, if any, or the refusal.
+type Answer = Result<Option<u64>, Fault>;
+
+impl Step {
+    fn make<R: RawState>(self, desk: &mut CountedDesk<R>, party: PartyId) -> Answer {
+        match self {
+            Step::SkipTo(next) => desk.skip_to(next).map(|()| None),
+            Step::Lock => desk.lock(party).map(Some),
+            Step::TryLock => desk.try_lock(party),
+            Step::Unlock(guard) => desk.unlock(party, guard, Way::Plain).map(|()| None),
+        }
+    }
+}
+
+/// Makes the steps at a mutex with so many places, and compares each answer.
+fn check<R: RawState>(alloc: Global, places: u64, rows: &[(Step, Answer)]) -> Result<(), Fail> {
+    let one = party(1)?;
+    let mut desk: CountedDesk<R> = Maker::Mutex(places, 0).desk(alloc)?;
+    for (step, wanted) in rows {
+        equal((*step, step.make(&mut desk, one)), (*step, *wanted))?;
+    }
+    Ok(())
+}
+
+/// A guard has the last number, and none has a number after it.
+fn numbers_end<R: RawState>(alloc: Global) -> Result<(), Fail> {
+    let with_a_free_place = [
+        (Step::SkipTo(u64::MAX), Ok(None)),
+        (Step::Lock, Ok(Some(u64::MAX))),
+        (Step::Unlock(u64::MAX), Ok(None)),
+        (Step::Lock, Err(Fault::NumbersSpent)),
+    ];
+    check::<R>(alloc, 2, &with_a_free_place)?;
+    let with_one_place = [
+        (Step::SkipTo(u64::MAX), Ok(None)),
+        (Step::Lock, Ok(Some(u64::MAX))),
+        (Step::SkipTo(5), Err(Fault::GuardsOut)),
+        (Step::Lock, Err(Fault::NoPlace)),
+        (Step::Unlock(u64::MAX), Ok(None)),
+        (Step::TryLock, Err(Fault::NumbersSpent)),
+        (Step::SkipTo(u64::MAX), Err(Fault::BadLimits)),
+    ];
+    check::<R>(alloc, 1, &with_one_place)
+}
+
+#[test]
+fn numbers_up_to_the_last(rt: HostRuntime) -> Result<(), Fail> {
+    numbers_end::<TokenTable>(rt.alloc())?;
+    numbers_end::<PackedWord>(rt.alloc())
+}
