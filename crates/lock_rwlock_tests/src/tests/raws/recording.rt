@@ -98,11 +98,15 @@ fn the_fourth_step_upgrades<C: Journaled>(
     wanted: &[ModeStep],
     stopped: bool,
 ) -> Result<(), Fail> {
-    let (shared, upgradable) = (raw.lock_shared(), raw.lock_upgradable());
+    let Some(shared) = raw.try_lock_shared() else {
+        return Err(Fail::from("try_lock_shared of a free lock"));
+    };
+    let Some(upgradable) = raw.try_lock_upgradable() else {
+        return Err(Fail::from("try_lock_upgradable beside a reader"));
+    };
     raw.unlock_shared(shared);
-    let exclusive = match raw.try_upgrade(upgradable) {
-        Ok(exclusive) => exclusive,
-        Err(upgradable) => raw.upgrade(upgradable),
+    let Ok(exclusive) = raw.try_upgrade(upgradable) else {
+        return Err(Fail::from("try_upgrade of the sole token"));
     };
     let written = has_written(raw, alloc, wanted, stopped);
     let is_upgraded = raw.is_locked_exclusive();

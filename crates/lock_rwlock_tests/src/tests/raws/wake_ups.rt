@@ -15,6 +15,6 @@ where
     L: Ends + Contend + Sync,
 {
     ends::let_each_on(rt, four);
-    runs::in_four_threads(rt, four);
-    runs::in_four_threads(rt, one);
+    runs::in_four_threads(rt, four, true);
+    runs::in_four_threads(rt, one, false);
 }

@@ -1,6 +1,6 @@
-//! Whom the end of a writer, and of the last reader, lets on.
+//! Whom the end of a writer and of the last reader let on, and whom a token that is downgraded and kept.
 use crate::tests::raws::counts::wait_for;
-use lock_guard::raw::{RawRwLock, RawRwLockDowngrade, RawRwLockUpgrade};
+use lock_guard::raw::{RawRwLock, RawRwLockDowngrade, RawRwLockUpgrade, RawRwLockUpgradeDowngrade};
 use lock_raws::{LockCore, RawLock};
 use std::sync::Wait;
 use std::sync::atomic::{AtomicU64, Ordering};
@@ -25,6 +25,14 @@ impl Progress {
     }
 }
 
+/// What a writer does once others sleep. A token that it keeps is out until three others read.
+#[derive(Clone, Copy)]
+pub enum WriterEnd {
+    Unlock,
+    Downgrade,
+    DowngradeToUpgradable,
+}
+
 /// What threads do with a lock that they share.
 pub trait Ends {
     /// Where a thread waits.
@@ -39,11 +47,14 @@ pub trait Ends {
     /// Waits to upgrade while another reads.
     fn upgrade_and_write(&self, progress: &Progress);
 
-    /// Writes until others sleep, and ends.
-    fn end_a_writer<K: Clock>(&self, clock: &K, progress: &Progress);
+    /// Waits for an upgradable token while another holds one.
+    fn read_upgradable(&self, progress: &Progress);
 
-    /// Writes until others sleep, and reads with the three.
-    fn downgrade_a_writer<K: Clock>(&self, clock: &K, progress: &Progress);
+    /// Writes until others sleep, and ends.
+    fn end_a_writer<K: Clock>(&self, clock: &K, progress: &Progress, end: WriterEnd);
+
+    /// Holds an upgradable token until others sleep, and a shared one until one of them has read.
+    fn downgrade_upgradable_and_read<K: Clock>(&self, clock: &K, progress: &Progress);
 
     /// Reads twice until others sleep, and ends the two readers one after the other.
     fn end_two_readers<K: Clock>(&self, clock: &K, progress: &Progress);
@@ -70,19 +81,38 @@ impl<C: LockCore> Ends for RawLock<C> {
         self.unlock_exclusive(self.upgrade(self.lock_upgradable()));
     }
 
-    fn end_a_writer<K: Clock>(&self, clock: &K, progress: &Progress) {
-        let exclusive = self.lock_exclusive();
-        progress.holding.store(1, Ordering::SeqCst);
-        let_others_sleep(clock);
-        self.unlock_exclusive(exclusive);
+    fn read_upgradable(&self, progress: &Progress) {
+        wait_for(RawRwLock::waiter(self), &progress.holding, 1);
+        let upgradable = self.lock_upgradable();
+        progress.reading.fetch_add(1, Ordering::SeqCst);
+        self.unlock_upgradable(upgradable);
     }
 
-    fn downgrade_a_writer<K: Clock>(&self, clock: &K, progress: &Progress) {
+    fn end_a_writer<K: Clock>(&self, clock: &K, progress: &Progress, end: WriterEnd) {
         let exclusive = self.lock_exclusive();
         progress.holding.store(1, Ordering::SeqCst);
         let_others_sleep(clock);
-        let shared = self.downgrade(exclusive);
-        wait_for(RawRwLock::waiter(self), &progress.reading, 3);
+        match end {
+            WriterEnd::Unlock => self.unlock_exclusive(exclusive),
+            WriterEnd::Downgrade => {
+                let shared = self.downgrade(exclusive);
+                wait_for(RawRwLock::waiter(self), &progress.reading, 3);
+                self.unlock_shared(shared);
+            }
+            WriterEnd::DowngradeToUpgradable => {
+                let upgradable = self.downgrade_to_upgradable(exclusive);
+                wait_for(RawRwLock::waiter(self), &progress.reading, 3);
+                self.unlock_upgradable(upgradable);
+            }
+        }
+    }
+
+    fn downgrade_upgradable_and_read<K: Clock>(&self, clock: &K, progress: &Progress) {
+        let upgradable = self.lock_upgradable();
+        progress.holding.store(1, Ordering::SeqCst);
+        let_others_sleep(clock);
+        let shared = self.downgrade_upgradable(upgradable);
+        wait_for(RawRwLock::waiter(self), &progress.reading, 1);
         self.unlock_shared(shared);
     }
 
@@ -115,19 +145,29 @@ fn read_in_three_threads<R: Threads + Sync, L: Ends + Sync>(rt: &R, lock: &L, pr
     );
 }
 
-/// A writer's end, and a downgrade while its token is still out, let three readers on.
+/// Each end of a writer lets three readers on.
 fn let_readers_on<R: Threads + Clock + Sync, L: Ends + Sync>(rt: &R, lock: &L) {
+    for end in [
+        WriterEnd::Unlock,
+        WriterEnd::Downgrade,
+        WriterEnd::DowngradeToUpgradable,
+    ] {
+        let progress = Progress::new();
+        thread::join(
+            rt,
+            || read_in_three_threads(rt, lock, &progress),
+            || lock.end_a_writer(rt, &progress, end),
+        );
+    }
+}
+
+/// An upgradable token that becomes shared lets another on.
+fn let_upgradable_on<R: Threads + Clock + Sync, L: Ends + Sync>(rt: &R, lock: &L) {
     let progress = Progress::new();
     thread::join(
         rt,
-        || read_in_three_threads(rt, lock, &progress),
-        || lock.end_a_writer(rt, &progress),
-    );
-    let progress = Progress::new();
-    thread::join(
-        rt,
-        || read_in_three_threads(rt, lock, &progress),
-        || lock.downgrade_a_writer(rt, &progress),
+        || lock.read_upgradable(&progress),
+        || lock.downgrade_upgradable_and_read(rt, &progress),
     );
 }
 
@@ -150,5 +190,6 @@ fn let_writers_on<R: Threads + Clock + Sync, L: Ends + Sync>(rt: &R, lock: &L) {
 /// All of these, over a lock of four readers.
 pub fn let_each_on<R: Threads + Clock + Sync, L: Ends + Sync>(rt: &R, lock: &L) {
     let_readers_on(rt, lock);
+    let_upgradable_on(rt, lock);
     let_writers_on(rt, lock);
 }

@@ -18,8 +18,12 @@ pub trait Contend {
     /// So many rounds, each of which waits for the lock in another mode.
     fn contend(&self, rounds: u32);
 
-    /// Waits until the count is that large.
-    fn wait_for(&self, count: &AtomicU64, least: u64);
+    /// Ends a run beside three others, with a token that is out until the count is that large. Where another thread writes
+    /// at first, or is upgradable, this one waits until it has downgraded.
+    fn read_beside_others(&self, run: u64, count: &AtomicU64, least: u64);
+
+    /// Counts this thread, and waits until the count is that large.
+    fn count_and_wait(&self, count: &AtomicU64, least: u64);
 
     /// Whether a token is out.
     fn is_held(&self) -> bool;
@@ -52,7 +56,35 @@ impl<C: LockCore> Contend for RawLock<C> {
         }
     }
 
-    fn wait_for(&self, count: &AtomicU64, least: u64) {
+    fn read_beside_others(&self, run: u64, count: &AtomicU64, least: u64) {
+        if run % 3 == 0 {
+            let upgradable = self.lock_upgradable();
+            thread::yield_now();
+            let shared = self.downgrade_upgradable(upgradable);
+            self.count_and_wait(count, least);
+            self.unlock_shared(shared);
+            return;
+        }
+        let Some(exclusive) = self.try_lock_exclusive() else {
+            let shared = self.lock_shared();
+            self.count_and_wait(count, least);
+            self.unlock_shared(shared);
+            return;
+        };
+        thread::yield_now();
+        if run % 3 == 1 {
+            let upgradable = self.downgrade_to_upgradable(exclusive);
+            self.count_and_wait(count, least);
+            self.unlock_upgradable(upgradable);
+        } else {
+            let shared = self.downgrade(exclusive);
+            self.count_and_wait(count, least);
+            self.unlock_shared(shared);
+        }
+    }
+
+    fn count_and_wait(&self, count: &AtomicU64, least: u64) {
+        count.fetch_add(1, Ordering::SeqCst);
         wait_for(RawRwLock::waiter(self), count, least);
     }
 
@@ -62,30 +94,35 @@ impl<C: LockCore> Contend for RawLock<C> {
 }
 
 /// A long run, and many short ones, each of which ends once all four threads have: near the end of a run nobody comes
-/// who would wake the forgotten.
-fn contend_in_episodes<L: Contend>(lock: &L, ended: &AtomicU64) {
+/// who would wake the forgotten. Where four may read, each run ends with four tokens out.
+fn contend_in_episodes<L: Contend>(lock: &L, four_read: bool, ended: &AtomicU64) {
     lock.contend(5_000);
+    let mut all: u64 = 0;
     for episode in 0..EPISODES {
         lock.contend(10);
-        ended.fetch_add(1, Ordering::SeqCst);
-        lock.wait_for(ended, episode.wrapping_add(1).wrapping_mul(4));
+        all = all.wrapping_add(4);
+        lock.count_and_wait(ended, all);
+        if four_read {
+            all = all.wrapping_add(4);
+            lock.read_beside_others(episode, ended, all);
+        }
     }
 }
 
-fn in_two_threads<R, L>(rt: &R, lock: &L, ended: &AtomicU64)
+fn in_two_threads<R, L>(rt: &R, lock: &L, four_read: bool, ended: &AtomicU64)
 where
     R: Threads,
     L: Contend + Sync,
 {
     thread::join(
         rt,
-        || contend_in_episodes(lock, ended),
-        || contend_in_episodes(lock, ended),
+        || contend_in_episodes(lock, four_read, ended),
+        || contend_in_episodes(lock, four_read, ended),
     );
 }
 
 /// Such runs of four threads.
-pub fn in_four_threads<R, L>(rt: &R, lock: &L)
+pub fn in_four_threads<R, L>(rt: &R, lock: &L, four_read: bool)
 where
     R: Threads + Abort + Sync,
     L: Contend + Sync,
@@ -93,8 +130,8 @@ where
     let ended = AtomicU64::new(0);
     thread::join(
         rt,
-        || in_two_threads(rt, lock, &ended),
-        || in_two_threads(rt, lock, &ended),
+        || in_two_threads(rt, lock, four_read, &ended),
+        || in_two_threads(rt, lock, four_read, &ended),
     );
     assert!(rt; !lock.is_held());
 }
