@@ -1,17 +1,16 @@
 //! What timed calls answer, and that none is refused before its time.
 mod gate;
+mod late_mutex;
+mod timed_calls;
 
 use crate::{TimedCondvar, TimedRaw};
 use gate::{Gate, Passes};
+use late_mutex::{ComesLate, LateMutex};
 use lock_base::raw::Fault;
-use lock_guard::raw::{
-    RawCondvar, RawCondvarTimed, RawMutex, RawMutexTimed, RawRwLock, RawRwLockTimed,
-    RawRwLockUpgrade, RawRwLockUpgradeTimed,
-};
-use lock_raws::{LockCore, RawLock};
+use lock_guard::raw::{RawCondvar, RawCondvarTimed, RawMutexTimed, RawRwLock};
 use std::alloc::Global;
-use std::process::Abort;
 use std::sync::Wait;
+use std::sync::atomic::{AtomicBool, Ordering};
 use std::test::Fail;
 use std::thread::{self, Threads};
 use std::time::{Clock, Duration, Instant};
@@ -36,37 +35,15 @@ fn is_over<K: Clock>(clock: &K, start: Instant) -> bool {
     matches!(start.elapsed(clock), Ok(time) if time >= short())
 }
 
-/// The timed calls of a free lock, where others are out beside them and where none is.
-fn try_in_time<R: Abort + Clock, C: LockCore<Duration = Duration, Instant = Instant>>(
-    rt: &R,
-    raw: &RawLock<C>,
-) -> Result<(), Fail> {
-    let shared = raw.try_lock_shared_for(short()).expect(rt, "a free lock");
-    let upgradable = raw.lock_upgradable();
-    let start = Instant::now(rt)?;
-    assert!(rt; raw.try_lock_exclusive_for(short()).is_none());
-    assert!(rt; is_over(rt, start));
-    let start = Instant::now(rt)?;
-    let deadline = start.checked_add(short()).expect(rt, "an instant");
-    assert!(rt; raw.try_lock_upgradable_until(deadline).is_none());
-    assert!(rt; is_over(rt, start));
-    let start = Instant::now(rt)?;
-    let upgraded = raw.try_upgrade_for(upgradable, short());
-    assert!(rt; is_over(rt, start));
-    let upgradable = upgraded.err().expect(rt, "a reader is out");
-    raw.unlock_shared(shared);
-    let upgraded = raw.try_upgrade_for(upgradable, Duration::MAX);
-    let exclusive = upgraded.ok().expect(rt, "the sole token");
-    assert!(rt; raw.try_lock_shared_until(deadline).is_none());
-    raw.unlock_exclusive(exclusive);
-    assert!(rt; raw.try_lock_for(Duration::MAX).is_some());
-    Ok(())
-}
-
-#[test]
-fn timed_tries_end_in_time(rt: HostRuntime) -> Result<(), Fail> {
-    let raw: TimedRaw<HostRuntime> = raw_rwlock(rt.alloc(), rt)?;
-    try_in_time(&rt, &raw)
+/// Waits until the flag is up.
+fn wait_for_flag<W: Wait>(waiter: &W, flag: &AtomicBool) {
+    for _ in waiter.forever() {
+        if flag.load(Ordering::SeqCst) {
+            return;
+        }
+        thread::yield_now();
+    }
+    unreachable!()
 }
 
 /// Waits until the condition variable says that the time is up, for nobody notifies. Whether `short` was over then.
@@ -112,4 +89,26 @@ fn one_notification_of_all_ends_each_wait(rt: HostRuntime) -> Result<(), Fail> {
     let gate = Gate::of(raw, rt.alloc())?;
     assert_eq!(rt; come_through(&rt, &gate), 2);
     Ok(())
+}
+
+/// Whether the wait of one thread, which another notifies at once, ends in time, though it acquires the mutex late.
+fn wait_beside<R: Threads + Clock + Sync, L: ComesLate + Sync>(rt: &R, late: &L) -> Option<bool> {
+    let (in_time, ()) = thread::join(
+        rt,
+        || late.is_notified_in_time(),
+        || late.notify_and_hold(rt),
+    );
+    in_time
+}
+
+/// A wait on a machine that is busy may time out, but not each of five.
+#[test]
+fn a_wait_that_is_notified_in_time_has_not_timed_out(rt: HostRuntime) -> Result<(), Fail> {
+    for _ in 0..5u32 {
+        let raw: TimedRaw<HostRuntime> = raw_rwlock(rt.alloc(), rt)?;
+        if wait_beside(&rt, &LateMutex::of(raw, rt.alloc())?) == Some(true) {
+            return Ok(());
+        }
+    }
+    Err(Fail::from("each of five waits timed out"))
 }

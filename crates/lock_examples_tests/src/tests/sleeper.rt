@@ -1,4 +1,4 @@
-//! Who sleeps for the value is woken by the unlock.
+//! Each user that sleeps for the value is woken.
 ghost use Rattle.std.specs.Prelude.{◌≡◌};
 ghost use Rattle.std.specs.Thread.{IsSync};
 
@@ -20,7 +20,7 @@ fn add_slowly<R: Wait + Clock>(rt: &R, counter: &Counter, user: User<u64, u64>)
     drop(counter.unlock::<AddsOne>(value));
 }
 
-/// It ends only where the one who comes while the value is out is woken.
+/// Two users add, each on a thread.
 fn add_at_once<R: Threads + Wait + Clock + Sync>(
     rt: &R,
     counter: &Counter,
@@ -41,10 +41,35 @@ fn add_at_once<R: Threads + Wait + Clock + Sync>(
     );
 }
 
+/// A third user beside two. It ends only where an unlock wakes one of the two that sleep, and the unlock of that one the
+/// other.
+fn add_beside_two<R: Threads + Wait + Clock + Sync>(
+    rt: &R,
+    counter: &Counter,
+    two: (User<u64, u64>, User<u64, u64>),
+    third: User<u64, u64>,
+)
+    requires first { two.0.mutex ≡ counter.now }
+    requires second { two.1.mutex ≡ counter.now }
+    requires third { third.mutex ≡ counter.now }
+{
+    let (first, second) = two;
+    join(
+        rt,
+        move || -> ()
+            requires { IsSync R.row × (first.mutex ≡ counter.now) × (second.mutex ≡ counter.now) }
+        { add_at_once(rt, counter, first, second) },
+        move || -> ()
+            requires { IsSync R.row × (third.mutex ≡ counter.now) }
+        { add_slowly(rt, counter, third) },
+    );
+}
+
 #[test]
-fn who_sleeps_is_woken(rt: HostRuntime) -> Result<(), Fail> {
+fn each_that_sleeps_is_woken(rt: HostRuntime) -> Result<(), Fail> {
     let (counter, user) = Counter::new(rt.alloc(), 0)?;
     let (first, second) = counter.split::<Sums>(user);
-    add_at_once(&rt, &counter, first, second);
+    let (first, third) = counter.split::<Sums>(first);
+    add_beside_two(&rt, &counter, (first, second), third);
     Ok(())
 }

@@ -1,5 +1,5 @@
 //! A gate that one thread opens for others.
-use super::{long, short};
+use super::{long, short, wait_for_flag};
 use lock_base::raw::Fault;
 use lock_guard::raw::{RawCondvar, RawMutex, RawMutexTimed};
 use lock_raws::{LockCore, RawLock};
@@ -50,12 +50,7 @@ impl<C: LockCore<Duration = Duration, Instant = Instant>> Passes for Gate<C> {
 
     fn passes(&self) -> bool {
         let waiter = RawMutex::waiter(&self.raw);
-        for _ in waiter.forever() {
-            if self.is_held.load(Ordering::SeqCst) {
-                break;
-            }
-            thread::yield_now();
-        }
+        wait_for_flag(waiter, &self.is_held);
         let Some(token) = self.raw.try_lock_for(long()) else {
             return false;
         };

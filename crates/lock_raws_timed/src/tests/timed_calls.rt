@@ -1,0 +1,286 @@
+//! Every timed call: it is refused no sooner than its time, and acquires after a release before it.
+use super::{is_over, long, raw_rwlock, short, wait_for_flag};
+use crate::TimedRaw;
+use lock_guard::raw::{
+    RawMutex, RawMutexTimed, RawRwLock, RawRwLockTimed, RawRwLockUpgrade, RawRwLockUpgradeTimed,
+};
+use lock_raws::{LockCore, RawLock};
+use std::sync::Wait;
+use std::sync::atomic::{AtomicBool, Ordering};
+use std::test::Fail;
+use std::thread::{self, Threads};
+use std::time::{Clock, Duration, Instant};
+
+/// What a timed call acquires.
+#[derive(Clone, Copy, PartialEq, Debug)]
+enum Want {
+    Lock,
+    Shared,
+    Exclusive,
+    Upgradable,
+    /// An exclusive token for an upgradable one.
+    Upgrade,
+}
+
+/// Whether a timed call is told how long it may wait, or until when.
+#[derive(Clone, Copy, PartialEq, Debug)]
+enum Form {
+    For,
+    Until,
+}
+
+const CALLS: [(Want, Form); 10] = [
+    (Want::Lock, Form::For),
+    (Want::Lock, Form::Until),
+    (Want::Shared, Form::For),
+    (Want::Shared, Form::Until),
+    (Want::Exclusive, Form::For),
+    (Want::Exclusive, Form::Until),
+    (Want::Upgradable, Form::For),
+    (Want::Upgradable, Form::Until),
+    (Want::Upgrade, Form::For),
+    (Want::Upgrade, Form::Until),
+];
+
+/// The end of a timed call.
+#[derive(Clone, Copy)]
+enum End {
+    For(Duration),
+    Until(Instant),
+}
+
+impl Form {
+    /// The end that is so long from now.
+    fn end<K: Clock>(self, clock: &K, time: Duration) -> Result<End, Fail> {
+        if self == Form::For {
+            return Ok(End::For(time));
+        }
+        let deadline = Instant::now(clock)?.checked_add(time);
+        Ok(End::Until(deadline.ok_or("there is such an instant")?))
+    }
+}
+
+/// Whether the call acquires the lock, which it then releases.
+fn acquires_lock<R: RawMutexTimed<Duration = Duration, Instant = Instant>>(
+    raw: &R,
+    end: End,
+) -> bool {
+    let acquired = match end {
+        End::For(time) => raw.try_lock_for(time),
+        End::Until(deadline) => raw.try_lock_until(deadline),
+    };
+    match acquired {
+        Some(token) => {
+            raw.unlock(token);
+            true
+        }
+        None => false,
+    }
+}
+
+/// `acquires_lock`, of a shared token.
+fn acquires_shared<R: RawRwLockTimed<Duration = Duration, Instant = Instant>>(
+    raw: &R,
+    end: End,
+) -> bool {
+    let acquired = match end {
+        End::For(time) => raw.try_lock_shared_for(time),
+        End::Until(deadline) => raw.try_lock_shared_until(deadline),
+    };
+    match acquired {
+        Some(token) => {
+            raw.unlock_shared(token);
+            true
+        }
+        None => false,
+    }
+}
+
+/// `acquires_lock`, of an exclusive token.
+fn acquires_exclusive<R: RawRwLockTimed<Duration = Duration, Instant = Instant>>(
+    raw: &R,
+    end: End,
+) -> bool {
+    let acquired = match end {
+        End::For(time) => raw.try_lock_exclusive_for(time),
+        End::Until(deadline) => raw.try_lock_exclusive_until(deadline),
+    };
+    match acquired {
+        Some(token) => {
+            raw.unlock_exclusive(token);
+            true
+        }
+        None => false,
+    }
+}
+
+/// `acquires_lock`, of an upgradable token.
+fn acquires_upgradable<R: RawRwLockUpgradeTimed<Duration = Duration, Instant = Instant>>(
+    raw: &R,
+    end: End,
+) -> bool {
+    let acquired = match end {
+        End::For(time) => raw.try_lock_upgradable_for(time),
+        End::Until(deadline) => raw.try_lock_upgradable_until(deadline),
+    };
+    match acquired {
+        Some(token) => {
+            raw.unlock_upgradable(token);
+            true
+        }
+        None => false,
+    }
+}
+
+/// `acquires_lock`, of an exclusive token for an upgradable one.
+fn upgrades<R: RawRwLockUpgradeTimed<Duration = Duration, Instant = Instant>>(
+    raw: &R,
+    end: End,
+) -> bool {
+    let upgradable = raw.lock_upgradable();
+    let upgraded = match end {
+        End::For(time) => raw.try_upgrade_for(upgradable, time),
+        End::Until(deadline) => raw.try_upgrade_until(upgradable, deadline),
+    };
+    match upgraded {
+        Ok(token) => {
+            raw.unlock_exclusive(token);
+            true
+        }
+        Err(token) => {
+            raw.unlock_upgradable(token);
+            false
+        }
+    }
+}
+
+/// What threads do with a lock that they share.
+trait Acquires {
+    /// Where a thread waits.
+    type Waiter: Wait;
+
+    /// Whether the call acquires, which is then released.
+    fn acquires(&self, want: Want, end: End) -> bool;
+
+    /// Whether the call acquires beside a token that keeps it out for longer than `short`, and whether `short` was over.
+    fn acquires_beside<K: Clock>(
+        &self,
+        clock: &K,
+        want: Want,
+        form: Form,
+    ) -> Result<(bool, bool), Fail>;
+
+    /// Holds a token that keeps the call out for `short`, and releases it.
+    fn release_later<K: Clock>(&self, clock: &K, want: Want, is_held: &AtomicBool);
+
+    /// Whether the call acquires that is made while another holds such a token.
+    fn acquires_once_held(&self, want: Want, end: End, is_held: &AtomicBool) -> bool;
+}
+
+/// Whether the call acquires within `short`, and whether `short` was over then.
+fn acquires_in_time<K: Clock, L: Acquires>(
+    clock: &K,
+    lock: &L,
+    want: Want,
+    form: Form,
+) -> Result<(bool, bool), Fail> {
+    let start = Instant::now(clock)?;
+    let end = form.end(clock, short())?;
+    let is_acquired = lock.acquires(want, end);
+    Ok((is_acquired, is_over(clock, start)))
+}
+
+/// Waits until others may see that a token is out, and for `short`.
+fn show_for_short<K: Clock>(clock: &K, is_held: &AtomicBool) {
+    is_held.store(true, Ordering::SeqCst);
+    clock.sleep(short());
+}
+
+impl<C: LockCore<Duration = Duration, Instant = Instant>> Acquires for RawLock<C> {
+    type Waiter = C::Waiter;
+
+    fn acquires(&self, want: Want, end: End) -> bool {
+        match want {
+            Want::Lock => acquires_lock(self, end),
+            Want::Shared => acquires_shared(self, end),
+            Want::Exclusive => acquires_exclusive(self, end),
+            Want::Upgradable => acquires_upgradable(self, end),
+            Want::Upgrade => upgrades(self, end),
+        }
+    }
+
+    fn acquires_beside<K: Clock>(
+        &self,
+        clock: &K,
+        want: Want,
+        form: Form,
+    ) -> Result<(bool, bool), Fail> {
+        if want == Want::Upgrade {
+            let shared = self.lock_shared();
+            let seen = acquires_in_time(clock, self, want, form);
+            self.unlock_shared(shared);
+            return seen;
+        }
+        let exclusive = self.lock_exclusive();
+        let seen = acquires_in_time(clock, self, want, form);
+        self.unlock_exclusive(exclusive);
+        seen
+    }
+
+    fn release_later<K: Clock>(&self, clock: &K, want: Want, is_held: &AtomicBool) {
+        if want == Want::Upgrade {
+            let shared = self.lock_shared();
+            show_for_short(clock, is_held);
+            self.unlock_shared(shared);
+            return;
+        }
+        let exclusive = self.lock_exclusive();
+        show_for_short(clock, is_held);
+        self.unlock_exclusive(exclusive);
+    }
+
+    fn acquires_once_held(&self, want: Want, end: End, is_held: &AtomicBool) -> bool {
+        wait_for_flag(RawMutex::waiter(self), is_held);
+        self.acquires(want, end)
+    }
+}
+
+/// Whether the call acquires that is made before a release.
+fn acquires_after_release<R: Threads + Clock + Sync, L: Acquires + Sync>(
+    rt: &R,
+    lock: &L,
+    want: Want,
+    end: End,
+) -> bool {
+    let is_held = AtomicBool::new(false);
+    let (is_acquired, ()) = thread::join(
+        rt,
+        || lock.acquires_once_held(want, end, &is_held),
+        || lock.release_later(rt, want, &is_held),
+    );
+    is_acquired
+}
+
+/// Every call, refused and not; with no instant so far away it waits without end.
+fn check<R: Threads + Clock + Sync, L: Acquires + Sync>(rt: &R, lock: &L) -> Result<(), Fail> {
+    for (want, form) in CALLS {
+        let seen = lock.acquires_beside(rt, want, form)?;
+        if seen != (false, true) {
+            return Err(Fail::from((want, form, "refused before its time", seen)));
+        }
+        let end = form.end(rt, long())?;
+        if !acquires_after_release(rt, lock, want, end) {
+            return Err(Fail::from((want, form, "refused after a release")));
+        }
+        if !acquires_after_release(rt, lock, want, End::For(Duration::MAX)) {
+            return Err(Fail::from((want, "refused with no instant so far away")));
+        }
+    }
+    Ok(())
+}
+
+#[test]
+fn timed_calls_wait_for_their_time(rt: HostRuntime) -> Result<(), Fail> {
+    let raw: TimedRaw<HostRuntime> = raw_rwlock(rt.alloc(), rt)?;
+    check(&rt, &raw)
+}
