@@ -1,7 +1,7 @@
 //! What timed calls answer, and after how long.
 use lock_guard::raw::{RawCondvarTimed, RawMutexTimed};
 use lock_mutex::{Condvar, Mutex};
-use lock_raws_timed::{TimedCondvar, TimedRaw};
+use lock_raws_word::{TimedCondvar, TimedRaw};
 use std::alloc::Global;
 use std::io;
 use std::sync::Wait;

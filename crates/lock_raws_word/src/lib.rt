@@ -2,6 +2,7 @@
 #![tactic(auto)]
 
 mod laws;
+mod real_time;
 mod sleepers;
 mod sleeping_condvar;
 mod timing;
@@ -9,6 +10,7 @@ mod word_core;
 mod word_lock;
 
 pub use laws::wakes_are_of_bags;
+pub use real_time::{RealTime, TimedCondvar, TimedRaw};
 pub use sleepers::Sleepers;
 pub use sleeping_condvar::SleepingCondvar;
 pub use timing::{NoTime, Timing, time_left};

@@ -3,6 +3,7 @@ mod announcing;
 mod answers;
 mod counts;
 mod markers;
+mod real_time;
 mod recording;
 mod recording_threads;
 mod transitions;

@@ -3,11 +3,11 @@ mod gate;
 mod late_mutex;
 mod timed_calls;
 
-use crate::{TimedCondvar, TimedRaw};
 use gate::{Gate, Passes};
 use late_mutex::{ComesLate, LateMutex};
 use lock_base::raw::Fault;
 use lock_guard::raw::{RawCondvar, RawCondvarTimed, RawMutexTimed, RawRwLock};
+use lock_raws_word::{TimedCondvar, TimedRaw};
 use std::alloc::Global;
 use std::sync::Wait;
 use std::sync::atomic::{AtomicBool, Ordering};

@@ -1,10 +1,10 @@
 //! Every timed call: it is refused no sooner than its time, and acquires after a release before it.
 use super::{is_over, long, raw_rwlock, short, wait_for_flag};
-use crate::TimedRaw;
 use lock_guard::raw::{
     RawMutex, RawMutexTimed, RawRwLock, RawRwLockTimed, RawRwLockUpgrade, RawRwLockUpgradeTimed,
 };
 use lock_raws::{LockCore, RawLock};
+use lock_raws_word::TimedRaw;
 use std::sync::Wait;
 use std::sync::atomic::{AtomicBool, Ordering};
 use std::test::Fail;

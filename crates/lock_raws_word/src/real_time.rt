@@ -1,6 +1,9 @@
 //! Real time, by the waiter's clock.
+use crate::sleeping_condvar::SleepingCondvar;
+use crate::timing::{Timing, time_left};
+use crate::word_core::WordCore;
+use crate::word_lock::WordLock;
 use lock_raws::RawLock;
-use lock_raws_word::{SleepingCondvar, Timing, WordCore, WordLock, time_left};
 use lock_word::ExWant;
 use std::sync::Wait;
 use std::time::{Clock, Duration, Instant};
