@@ -1,15 +1,19 @@
-//! Times the locks over each raw lock, and shows what waiting costs. With no word it does nothing.
+//! Times the locks over each raw lock and the calls of a `Desk`, and shows what waiting costs.
 //!
+//! With no word it makes a few calls of a `Desk`, of a lock and of scripts, and prints how many were done.
+//! `desk`: it makes many of these calls, and prints how long each took.
 //! `locks ROUNDS`: nanoseconds of a round of each lock on one thread, and of a condition variable's round trip between
 //! two. `seated ROUNDS`: of an attempt and a release of a seated lock. `waits MILLIS`: the processor time of a wait so long.
 //! `timed`: what timed calls answer, and after how long.
 #![tactic(auto)]
 
+mod desk;
 mod locks;
 mod seated;
 mod timed;
 mod waits;
 
+use crate::desk::Bench;
 use std::alloc::Global;
 use std::rt::Env;
 use std::sync::Wait;
@@ -19,23 +23,29 @@ use std::{env, io};
 
 fn main(rt: HostRuntime) -> io::Result<()> {
     let words = words(&rt)?;
-    run(&rt, rt.alloc(), words.as_slice())
+    let Some(word) = words.first() else {
+        return desk::print(&rt, Bench { is_timed: false });
+    };
+    match word.as_str() {
+        "desk" => desk::print(&rt, Bench { is_timed: true }),
+        word => run(&rt, rt.alloc(), word, number(words.get(1))),
+    }
 }
 
 fn run<R: Print + Clock + CpuClock + Wait + Threads + Sync + Copy>(
     rt: &R,
     alloc: Global,
-    words: &[String],
+    word: &str,
+    number: Option<u64>,
 ) -> io::Result<()> {
-    let Some(word) = words.first() else {
-        return Ok(());
-    };
-    match word.as_str() {
-        "locks" => locks::print(rt, alloc, number(words, 1_000_000)),
-        "seated" => seated::print(rt, alloc, number(words, 1_000_000)),
-        "waits" => waits::print(rt, alloc, number(words, 100)),
+    match word {
+        "locks" => locks::print(rt, alloc, number.unwrap_or(1_000_000)),
+        "seated" => seated::print(rt, alloc, number.unwrap_or(1_000_000)),
+        "waits" => waits::print(rt, alloc, number.unwrap_or(100)),
         "timed" => timed::print(rt, alloc),
-        _ => println!(rt; "usage: lock_bench locks ROUNDS | seated ROUNDS | waits MILLIS | timed"),
+        _ => println!(rt;
+            "usage: lock_bench desk | locks ROUNDS | seated ROUNDS | waits MILLIS | timed"
+        ),
     }
 }
 
@@ -45,10 +55,7 @@ fn words<R: Env + AllocGlobal>(rt: &R) -> io::Result<Vec<String>> {
     Ok(words)
 }
 
-/// The second word, or this where it is no number.
-fn number(words: &[String], other: u64) -> u64 {
-    match words.get(1) {
-        Some(word) => word.parse().unwrap_or(other),
-        None => other,
-    }
+/// The number that the word is, if it is one.
+fn number(word: Option<&String>) -> Option<u64> {
+    word?.parse().ok()
 }

@@ -1,5 +1,5 @@
 //! A mix of calls on a Desk, by guards at random among those that are out.
-use crate::bench::{Bench, after, below};
+use crate::desk::{Bench, after, below};
 use lock_base::machine::{PartyId, Way};
 use lock_base::raw::RawState;
 use lock_desk::Desk;

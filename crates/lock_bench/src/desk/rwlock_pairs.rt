@@ -1,5 +1,5 @@
 //! Guards of a reader-writer lock over a table of tokens, that nobody else wants.
-use crate::bench::Bench;
+use crate::desk::Bench;
 use lock_guard::raw::RawRwLock;
 use lock_raws::TokenRaw;
 use lock_rwlock::RwLock;

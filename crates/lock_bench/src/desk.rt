@@ -1,4 +1,8 @@
-//! How much is measured, and how it is told.
+//! Calls of a `Desk`, of a lock over a table, and of scripts, with few and with many guards out.
+mod mix;
+mod rwlock_pairs;
+mod scripts;
+
 use std::io;
 use std::time::Instant;
 
@@ -23,6 +27,13 @@ impl Bench {
             println!(rt; "{what}: {done} done")
         }
     }
+}
+
+/// Makes the calls of each, and prints a line for each of them.
+pub fn print(rt: &HostRuntime, bench: Bench) -> io::Result<()> {
+    mix::run(rt, bench)?;
+    rwlock_pairs::run(rt, rt, bench)?;
+    scripts::run(rt, bench)
 }
 
 /// The number after this one of a sequence that looks random.

@@ -1,5 +1,5 @@
 //! Scripts of one MiB, from their bytes to those of their answers.
-use crate::bench::{Bench, after, below};
+use crate::desk::{Bench, after, below};
 use lock_script::{replay, which};
 use std::fmt::Write;
 use std::io;
