@@ -1,2 +1,6 @@
+pub mod Account
 pub mod Line
+pub mod Logs
 pub mod Pool
+pub mod Sums
+pub mod Words

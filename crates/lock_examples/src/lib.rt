@@ -1,13 +1,17 @@
-//! What a crate can build that names `lock_api` alone, and what it can prove: a bounded queue, a registry that grows, a
-//! pool that lends, and a raw lock of its own. Each reads by itself.
+//! What a crate that names `lock_api` alone can build and prove. Each module reads by itself.
 #![tactic(auto)]
 
+mod callers;
+pub mod desk;
 mod pool;
 mod queue;
 mod registry;
 mod ring;
+pub mod ruled;
+mod signatures;
 mod spin_lock;
 
+pub use callers::{Limit, Settings};
 pub use pool::{Lease, Pool};
 pub use queue::Queue;
 pub use registry::{Entry, EntryGuard, Registry, read_twice};

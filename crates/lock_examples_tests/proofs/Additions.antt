@@ -1,2 +1,2 @@
 -- What the users of a counter do keeps its rule.
-pub use Rattle.lock_ruled_examples.proofs.Additions.{adds_one}
+pub use Rattle.lock_examples.proofs.Additions.{adds_one}

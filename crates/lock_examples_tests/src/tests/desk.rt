@@ -1,8 +1,8 @@
 //! The examples of a `Desk` and of a journal: that the calls succeed with ample memory.
-use desk_examples::{audit, audit_lock, deposit_under_lock, two_ask};
 use lock_api::{
     Bag, Mode, ModeStep, Mutex, PackedWord, PartyId, RawMutex, RecordingRaw, Reply, TokenTable,
 };
+use lock_examples::desk::{audit, audit_lock, deposit_under_lock, two_ask};
 use std::test::Fail;
 
 fn party(id: u64) -> Result<PartyId, Fail> {

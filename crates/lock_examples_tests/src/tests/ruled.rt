@@ -1,7 +1,7 @@
 //! The programs under a rule run, and give what their contracts say.
 
 use lock_api::Fault;
-use lock_ruled_examples::{Accounts, AddsOne, Counter, Sums, count, relay, shuffle, try_add};
+use lock_examples::ruled::{Accounts, AddsOne, Counter, Sums, count, relay, shuffle, try_add};
 use std::test::Fail;
 
 #[test]

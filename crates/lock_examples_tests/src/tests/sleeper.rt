@@ -3,7 +3,7 @@ ghost use Rattle.std.specs.Prelude.{◌≡◌};
 ghost use Rattle.std.specs.Thread.{IsSync};
 
 use lock_api::User;
-use lock_ruled_examples::{AddsOne, Counter, Sums};
+use lock_examples::ruled::{AddsOne, Counter, Sums};
 use std::sync::Wait;
 use std::test::Fail;
 use std::thread::{Threads, join};

@@ -1,0 +1,10 @@
+//! A `Desk` on which a scenario's answers are proved, lists of calls, and an audit of a journal.
+mod account;
+mod calls;
+mod journal;
+mod scenario;
+
+pub use account::Entry;
+pub use calls::{deposit_under_lock, run_new};
+pub use journal::{audit, audit_lock};
+pub use scenario::{Answers, two_ask};

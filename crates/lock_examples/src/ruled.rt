@@ -1,0 +1,8 @@
+//! Programs with a proved answer although threads share a value: a counter, a bank and a queue.
+mod bank;
+mod counter;
+mod queue;
+
+pub use bank::{Accounts, SumStays, Way, shuffle};
+pub use counter::{AddedUp, AddsOne, Counter, Sums, count, try_add};
+pub use queue::{InOrder, Log, Role, relay};

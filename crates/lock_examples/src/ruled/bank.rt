@@ -1,0 +1,124 @@
+//! A bank of two accounts, between which threads move money.
+ghost use Rattle.std.specs.Prelude.{◌≡◌, ◌+◌, ◌^◌, ◌<◌, IfOk};
+ghost use Rattle.std.specs.Thread.{IsSync};
+
+use lock_api::{Fault, Join, MutexRule, RuledMutex, Split, Turn, User};
+use std::alloc::Global;
+use std::sync::Wait;
+use std::thread::{Threads, join};
+
+/// Two accounts.
+#[derive(Clone, Copy, PartialEq, Eq, Debug, Drop)]
+pub struct Accounts {
+    pub left: u64,
+    pub right: u64,
+}
+
+/// Which way money moves.
+#[derive(Clone, Copy, PartialEq, Eq, Debug)]
+pub enum Way {
+    ToLeft,
+    ToRight,
+}
+
+impl Accounts {
+    /// The accounts once the amount has moved, or as they are where it is not there.
+    pub fn transfer(self, way: Way, amount: u64) -> Accounts
+        requires { self.left + self.right < 2 ^ 64 }
+        ensures { result.left + result.right ≡ self.left + self.right }
+    {
+        let Accounts { left, right } = self;
+        match way {
+            Way::ToRight if amount <= left => Accounts {
+                left: left - amount,
+                right: right + amount,
+            },
+            Way::ToLeft if amount <= right => Accounts {
+                left: left + amount,
+                right: right - amount,
+            },
+            _ => self,
+        }
+    }
+}
+
+/// The sum of the two accounts stays. A user's view is that sum.
+pub struct SumStays;
+
+impl MutexRule<Accounts, u64> for SumStays {
+    ghost use Rattle.std.specs.Prelude.{◌+◌};
+    ghost use Rattle.lock_examples.specs.Sums.{AllAre};
+
+    ghost rule = { λ accounts sums. AllAre (accounts.left + accounts.right) sums };
+
+    ghost first = { λ accounts. accounts.left + accounts.right };
+}
+
+/// A user goes on to know what it knew.
+struct SameSum;
+
+impl Turn<Accounts, u64> for SameSum {
+    ghost next = { λ taken sum accounts. sum };
+}
+
+impl Split<u64> for SameSum {
+    ghost left = { λ sum. sum };
+
+    ghost right = { λ sum. sum };
+}
+
+impl Join<u64> for SameSum {
+    ghost both = { λ sum other. sum };
+
+    ghost spent = { 0 };
+}
+
+type Bank = RuledMutex<Accounts, u64, SumStays>;
+
+type Teller = User<Accounts, u64>;
+
+/// Moves each amount that is there, one after the other.
+#[tactic(auto, using(crate::proofs::Tellers::sum_known, crate::proofs::Tellers::sum_stays))]
+fn transfer_all<R: Wait>(rt: &R, bank: &Bank, teller: Teller, way: Way, amounts: &[u64]) -> Teller
+    requires bank { teller.mutex ≡ bank.now }
+    requires range { teller.view < 2 ^ 64 }
+    ensures { result ≡ teller }
+{
+    let mut teller = teller;
+    for amount in amounts {
+        let mut accounts = bank.lock(rt, teller);
+        *accounts = accounts.transfer(way, *amount);
+        teller = bank.unlock::<SameSum>(accounts);
+    }
+    teller
+}
+
+/// The accounts once two threads have moved the amounts: one to the right, and one to the left.
+#[tactic(auto, using(crate::proofs::Tellers::splits, crate::proofs::Tellers::joins))]
+pub fn shuffle<R: Threads + Wait + Sync>(
+    rt: &R,
+    alloc: Global,
+    accounts: Accounts,
+    to_right: &[u64],
+    to_left: &[u64],
+) -> Result<Accounts, Fault>
+    requires { accounts.left + accounts.right < 2 ^ 64 }
+    ensures { IfOk result (λ after. after.left + after.right ≡ accounts.left + accounts.right) }
+{
+    let (bank, teller) = Bank::new(alloc, accounts)?;
+    let shared = &bank;
+    let (teller, other) = bank.split::<SameSum>(teller);
+    let (teller, other) = join(
+        rt,
+        move || -> Teller
+            requires { IsSync R.row × (teller.mutex ≡ shared.now) × (teller.view < 2 ^ 64) }
+            ensures { result ≡ teller }
+        { transfer_all(rt, shared, teller, Way::ToRight, to_right) },
+        move || -> Teller
+            requires { IsSync R.row × (other.mutex ≡ shared.now) × (other.view < 2 ^ 64) }
+            ensures { result ≡ other }
+        { transfer_all(rt, shared, other, Way::ToLeft, to_left) },
+    );
+    let teller = bank.join::<SameSum>(teller, other);
+    Ok(bank.into_inner(teller))
+}
