@@ -1,14 +1,14 @@
-//! A lock that is held.
+//! A held lock.
 ghost use Rattle.std.specs.Prelude.{◌≡◌, IfErr, IfOk, true};
 ghost use Rattle.lock_guard.specs.declared.guard.inner.Inner.TheVariants.{Filled};
 ghost use Rattle.lock_guard.specs.Inner.{is_filled};
 
 use crate::guard::{Acquire, AcquireFair, Inner};
 
-/// The lock held by that token of its own: the std lock is tried, and waited for where it is not free.
+/// Makes the `Held` of a lock and its token: tries the value's lock, and blocks where another thread holds it.
 ///
-/// It is a macro and no function, so that who need not wait makes no call that may: after each such call the compiled code
-/// looks at a flag.
+/// A macro, not a function: after a call that may block, compiled code tests a flag, and the uncontended path has no
+/// such call.
 #[macro_export]
 macro_rules! held {
     ($lock:expr, $token:expr) => {
@@ -19,10 +19,10 @@ macro_rules! held {
     };
 }
 
-/// A lock with the token of one acquisition and the value that it shows. The end gives the value back, and then the
-/// token.
+/// A lock with the token of one acquisition and access to the value. Its drop releases the value's lock, then the raw
+/// lock.
 ///
-/// What it borrows lies in its type parameter, so that a proof follows what is written through it.
+/// The borrow lies in the type parameter, so that a proof can follow writes through it.
 pub struct Held<L: Acquire> {
     pub lock: L,
     pub inner: Inner<L::Token, L::Shown>,
@@ -30,7 +30,7 @@ pub struct Held<L: Acquire> {
 }
 
 impl<L: Acquire> Held<L> {
-    /// The lock held by that token of its own. It waits for the std lock: `held!` tries it first.
+    /// Makes the `Held` of a lock and its token, blocking until the value's lock is free. `held!` tries it first.
     pub fn new(lock: L, token: L::Token) -> Held<L>
         ensures { result.lock ≡ lock }
     {
@@ -41,7 +41,7 @@ impl<L: Acquire> Held<L> {
         }
     }
 
-    /// `new` where the std lock is free, or the lock and the token again.
+    /// Makes the `Held` if the value's lock is free. Otherwise returns the lock and the token.
     pub fn try_new(lock: L, token: L::Token) -> Result<Held<L>, (L, L::Token)>
         ensures held { IfOk result (λ held. held.lock ≡ lock) }
         ensures back { IfErr result (λ back. (back.0 ≡ lock) × (back.1 ≡ token)) }
@@ -55,7 +55,7 @@ impl<L: Acquire> Held<L> {
         }
     }
 
-    /// Gives the value back, and hands out the lock with its token.
+    /// Releases the value's lock, and returns the lock with its token.
     pub fn into_token(self) -> (L, L::Token)
         ensures { result.0 ≡ self.lock }
     {
@@ -63,7 +63,8 @@ impl<L: Acquire> Held<L> {
         (lock, inner.into_token())
     }
 
-    /// The lock with its token and what shows the value. Whoever takes them gives the value back, and then the token.
+    /// Returns the lock, its token and the guard of the value. The caller releases the value's lock first, and the
+    /// token after.
     pub fn into_parts(self) -> (L, L::Token, L::Shown)
         ensures lock { result.0 ≡ self.lock }
         ensures inner { Filled result.1 result.2 ≡ self.inner }
@@ -75,7 +76,7 @@ impl<L: Acquire> Held<L> {
         }
     }
 
-    /// The inner part, still held. Whoever takes it gives the token back to the lock.
+    /// Returns the inner part, still filled. The caller releases the token.
     pub fn into_inner(self) -> Inner<L::Token, L::Shown>
         ensures { result ≡ self.inner }
     {
@@ -83,7 +84,7 @@ impl<L: Acquire> Held<L> {
         inner
     }
 
-    /// Gives the lock up for the length of the closure.
+    /// Releases the lock, runs `f`, and reacquires the lock, blocking until it is available.
     pub fn unlocked<U, F: FnOnce() -> U>(&mut self, f: F) -> U
         requires { F.IsAlwaysCallable f }
         ensures answer { F.post f result }
@@ -97,7 +98,7 @@ impl<L: Acquire> Held<L> {
 }
 
 impl<L: AcquireFair> Held<L> {
-    /// Ends the guard, by a fair release.
+    /// Releases the lock by a fair release.
     pub fn unlock_fair(self) {
         let (lock, token) = self.into_token();
         lock.release_fair(token);
@@ -115,7 +116,7 @@ impl<L: AcquireFair> Held<L> {
         answer
     }
 
-    /// Gives the lock up by a fair release, and acquires it again.
+    /// Releases the lock by a fair release, and reacquires it, blocking until it is available.
     pub fn bump(&mut self)
         ensures { self.new.lock ≡ self.old.lock }
     {

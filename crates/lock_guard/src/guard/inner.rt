@@ -7,14 +7,14 @@ ghost use Rattle.lock_guard.specs.contracts.guard.inner.Inner.{the_row};
 use crate::guard::{Acquire, ValueGuard, ValueGuardMut};
 use std::mem;
 
-/// A token with what shows the value, or neither. It cannot be dropped: whoever empties it gives the token back.
+/// A token with the guard of the value, or neither. It cannot be dropped: whoever empties it releases the token.
 pub enum Inner<K, V> {
     Filled(K, V),
     Empty,
 }
 
 impl<K, V> Inner<K, V> {
-    /// Fills an empty part.
+    /// Fills an empty inner part.
     pub fn fill(&mut self, token: K, shown: V)
         requires { is_filled self.old ≡ false }
         ensures { is_filled self.new ≡ true }
@@ -22,7 +22,7 @@ impl<K, V> Inner<K, V> {
         self.put(Inner::Filled(token, shown));
     }
 
-    /// Puts a part where an empty one is.
+    /// Puts an inner part in the place of an empty one.
     pub fn put(&mut self, inner: Inner<K, V>)
         requires { is_filled self.old ≡ false }
         ensures { self.new ≡ inner }
@@ -35,7 +35,7 @@ impl<K, V> Inner<K, V> {
 }
 
 impl<K, V: Drop> Inner<K, V> {
-    /// Gives the value back, and hands the token out.
+    /// Releases the value's lock, empties the part, and returns the token.
     pub fn empty(&mut self) -> K
         requires { is_filled self.old ≡ true }
         ensures { is_filled self.new ≡ false }
@@ -43,7 +43,7 @@ impl<K, V: Drop> Inner<K, V> {
         mem::replace(self, Inner::Empty).into_token()
     }
 
-    /// Gives the value back, and hands the token out.
+    /// Releases the value's lock, and returns the token.
     pub fn into_token(self) -> K
         requires { is_filled self ≡ true }
     {
@@ -58,7 +58,7 @@ impl<K, V: Drop> Inner<K, V> {
 }
 
 impl<K, V: ValueGuard> Inner<K, V> {
-    /// Waits for a token of the lock, and fills an empty part with it.
+    /// Acquires the lock, blocking until it is available, and fills an empty inner part.
     pub fn refill<L: Acquire<Token = K, Shown = V>>(&mut self, lock: &L)
         requires { is_filled self.old ≡ false }
         ensures { is_filled self.new ≡ true }

@@ -1,24 +1,24 @@
-//! Guards of locks, seen as the value behind them.
+//! Guards of locks, seen as the value that they protect.
 ghost use Rattle.std.specs.Prelude.{◌≡◌, Option, Some};
 ghost use Rattle.std.specs.Borrow.{Lends, sem};
 ghost use Rattle.lock_guard.specs.Held.{held_value, held_with_value, held_with_same, held_value_with};
 
 use crate::guard::{Acquire, AcquireFair, Held, ValueGuard, ValueGuardMut};
 
-/// What shows the value of a lock to those who hold it. Its end gives the lock up.
+/// A guard of a lock, with read access to the value. Its drop releases the lock.
 pub trait LockGuard: Drop {
     type Value;
 
-    /// The value, which is there outside `unlocked`.
+    /// The value. There is none while `unlocked` runs its closure.
     ghost value_of: { Self → Option Self.Value };
 
     fn value(&self) -> &Self::Value
         ensures { value_of self.now ≡ Some result.now };
 }
 
-/// What lends the value of a lock.
+/// A guard with write access to the value.
 pub trait LockGuardMut: LockGuard {
-    /// The guard with another value behind it.
+    /// The guard with another value.
     ghost with_value: { Self → Self.Value → Self };
 
     fn value_mut(&mut self) -> &mut Self::Value
@@ -26,18 +26,18 @@ pub trait LockGuardMut: LockGuard {
             (with_value self.old)) }
         ensures value { Self.value_of self.old ≡ Some result.now };
 
-    /// Writing back what is shown changes nothing.
+    /// Writing back the value that is there changes nothing.
     ghost with_same: { (guard : Self) (value : Self.Value) →
         Self.value_of guard ≡ Some value → with_value guard value ≡ guard };
 
-    /// What was written is shown.
+    /// A read after a write gives what was written.
     ghost value_with: { (guard : Self) (old new : Self.Value) →
         Self.value_of guard ≡ Some old → Self.value_of (with_value guard new) ≡ Some new };
 }
 
-/// What can hand its lock on in the order of those that wait.
+/// A guard with a fair release.
 pub trait LockGuardFair: LockGuard {
-    /// Ends the guard, by a fair release.
+    /// Releases the lock by a fair release.
     fn unlock_fair(self);
 }
 

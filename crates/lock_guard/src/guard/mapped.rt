@@ -10,7 +10,7 @@ use std::fmt;
 use std::fmt::{Debug, Display, Formatter};
 use std::ops::{Deref, DerefMut};
 
-/// The right to a part of the value that a guard of type `G` shows. It keeps no fact of its part.
+/// A guard of a part of the value that a guard of type `G` protects. It carries no fact about the part.
 #[derive(Drop)]
 pub struct Mapped<G, P> {
     guard: G,
@@ -21,7 +21,7 @@ impl<G: LockGuard, P: TryView<G::Value>> Mapped<G, P> {
     ghost use Rattle.lock_guard.specs.GuardPart.{guard_miss};
     ghost use Rattle.lock_guard.specs.Mapped.{IsMapOf, IsMappedOr, mapped_part};
 
-    /// The guard of the part by a projection that always has one.
+    /// Makes the guard of a part, by a projection that always has one.
     pub fn of(guard: G, projection: P) -> Self
     where
         P: View<G::Value>,
@@ -30,7 +30,7 @@ impl<G: LockGuard, P: TryView<G::Value>> Mapped<G, P> {
         Mapped { guard, projection }
     }
 
-    /// The guard of the part, or the same guard where there is none.
+    /// Makes the guard of a part, or returns the guard unchanged if the value has no such part.
     pub fn try_of(guard: G, projection: P) -> Result<Self, G>
         ensures { IsMappedOr (guard_part G.value_of (P.part projection) guard) guard projection
             (λ back. back ≡ guard) result }
@@ -42,7 +42,8 @@ impl<G: LockGuard, P: TryView<G::Value>> Mapped<G, P> {
         Err(mapped.into_guard())
     }
 
-    /// The guard of the part, or the same guard with what the projection tells of a value without one.
+    /// Makes the guard of a part. If the value has no such part, returns the guard unchanged with the projection's
+    /// miss.
     pub fn try_of_or_err(guard: G, projection: P) -> Result<Self, (G, P::Miss)>
         ensures { IsMappedOr (guard_part G.value_of (P.part projection) guard) guard projection
             (λ back. (back.0 ≡ guard)
@@ -56,14 +57,14 @@ impl<G: LockGuard, P: TryView<G::Value>> Mapped<G, P> {
         Err((mapped.into_guard(), miss))
     }
 
-    /// The part, where the value has one.
+    /// Returns the part, if the value has it.
     pub fn get(guard: &Self) -> Option<&P::Part>
         ensures { option_copied result ≡ mapped_part G.value_of P.part guard.now }
     {
         guard.projection.get(guard.guard.value())
     }
 
-    /// Ends the guard, by a fair release.
+    /// Releases the lock by a fair release.
     pub fn unlock_fair(guard: Self)
     where
         G: LockGuardFair,
@@ -79,7 +80,7 @@ impl<G: LockGuard, P: TryView<G::Value>> Mapped<G, P> {
         Mapped::get(self).is_some()
     }
 
-    /// What the projection tells of a value without a part.
+    /// Returns the projection's miss, of a value without the part.
     fn miss(&self) -> P::Miss
         ensures { mapped_part G.value_of P.part self.now ≡ None →
             guard_miss G.value_of (P.missed self.now.projection) self.now.guard ≡ Some result }
@@ -103,14 +104,14 @@ impl<G: LockGuard, P: TryProject<G::Value>> Mapped<G, P> {
     ghost use Rattle.lock_base.specs.Then.{then};
     ghost use Rattle.lock_guard.specs.Mapped.{IsMapOf, IsMappedOr, mapped_part};
 
-    /// The guard of the part of the part, by a projection that always has one.
+    /// Makes the guard of a part of the part, by a projection that always has one.
     pub fn map<Q: Project<P::Part>>(guard: Self, projection: Q) -> Mapped<G, Then<P, Q>>
         ensures { IsMapOf guard.guard (then guard.projection projection) result }
     {
         guard.then(projection)
     }
 
-    /// The guard of the part of the part, or the same guard where there is none.
+    /// Makes the guard of a part of the part, or returns the guard unchanged if there is no such part.
     pub fn try_map<Q: TryProject<P::Part>>(
         guard: Self,
         projection: Q,
@@ -127,7 +128,7 @@ impl<G: LockGuard, P: TryProject<G::Value>> Mapped<G, P> {
         Err(both.into_first())
     }
 
-    /// The guard of the part of the part, or the same guard with what was missed.
+    /// Makes the guard of a part of the part. If there is no such part, returns the guard unchanged with the miss.
     pub fn try_map_or_err<Q: TryProject<P::Part>>(
         guard: Self,
         projection: Q,
@@ -165,7 +166,7 @@ impl<G: LockGuard, P: TryProject<G::Value>> Mapped<G, P> {
 impl<G, P, Q: Drop> Mapped<G, Then<P, Q>> {
     ghost use Rattle.lock_guard.specs.Mapped.{IsMapOf};
 
-    /// The guard by the first projection alone.
+    /// Returns the guard of the part by the first projection alone.
     fn into_first(self) -> Mapped<G, P>
         ensures { IsMapOf self.guard self.projection.first result }
     {
@@ -184,10 +185,10 @@ impl<G: LockGuardMut, P: TryProject<G::Value> + Copy> Mapped<G, P> {
     ghost use Rattle.lock_guard.specs.contracts.guard.mapped.Mapped.{the_row};
     ghost use Rattle.lock_guard.specs.Mapped.{mapped_part, mapped_with_part};
 
-    /// The part, where the value has one. What is written through it is put into the value.
+    /// Returns the part for writing, if the value has it.
     ///
-    /// The projection is copied, since a proof follows no field that is lent beside the guard. One that is not `Copy` is
-    /// lent: a reference to a projection is a projection.
+    /// The projection is copied, since a proof cannot follow a field that is lent next to the guard. For a projection
+    /// that is not `Copy`, use a reference to it: that is a projection too.
     pub fn get_mut(guard: &mut Self) -> Option<&mut P::Part>
         ensures* writes_back { sem 𝓛 (LendsIf (the_row G.row P.row) P.Part.row guard.entry result
             (mapped_with_part G.value_of G.with_value P.lens guard.old) guard.old) }
@@ -245,7 +246,7 @@ where
     }
 }
 
-/// The part of the value that a guard lends.
+/// Lends the part of a guard's value.
 fn part_mut<'a, G: LockGuardMut, P: TryProject<G::Value>>(
     guard: &'a mut G,
     projection: &P,
@@ -260,7 +261,7 @@ where
     P::get_mut(guard.value_mut(), projection)
 }
 
-/// The part of the value that a guard lends, by a projection that always has one.
+/// Lends the part of a guard's value, by a projection that always has one.
 fn total_part_mut<'a, G: LockGuardMut, P: Project<G::Value>>(
     guard: &'a mut G,
     projection: &P,

@@ -1,47 +1,50 @@
-//! The raw condition variables behind a condition variable.
+//! Raw condition variables.
 ghost use Rattle.std.specs.Prelude.{IsOkUnless};
 
 use crate::raw::{RawMutex, RawMutexTimed};
 use lock_base::raw::Fault;
 use std::alloc::Global;
 
-/// A condition variable over raw locks. A wait takes the token of a raw lock, and gives another of the same lock.
+/// A raw condition variable over raw locks of one type. A wait consumes a token of a raw lock, and returns another
+/// token of that lock.
 ///
-/// It is a safe trait: one that lies can make a call wait, and nothing worse. A wait may end with no notification.
+/// The trait is safe to implement. A wrong implementation can make calls block; it can never cause a data race. A wait
+/// may end spuriously.
 pub trait RawCondvar {
     type RawMutex: RawMutex;
 
+    /// Makes a raw condition variable without waiters.
     fn new(alloc: Global) -> Result<Self, Fault>
     where
         Self: Sized,
         ensures { IsOkUnless result Fault.OutOfMemory };
 
-    /// Unlocks the raw lock, waits for a notification, and locks again.
+    /// Releases the raw lock, blocks until a notification, and reacquires the raw lock.
     fn wait(
         &self,
         mutex: &Self::RawMutex,
         token: <Self::RawMutex as RawMutex>::Guard,
     ) -> <Self::RawMutex as RawMutex>::Guard;
 
-    /// Wakes one that waits. Whether one was woken; false where it may wake spuriously.
+    /// Wakes one waiter, and returns whether one was woken. An implementation with spurious wake-ups returns false.
     fn notify_one(&self) -> bool;
 
-    /// Wakes all that wait. How many were woken; 0 where it may wake spuriously.
+    /// Wakes all waiters, and returns how many were woken. An implementation with spurious wake-ups returns 0.
     fn notify_all(&self) -> usize;
 }
 
-/// A raw condition variable whose waits may end at a time.
+/// A raw condition variable whose waits have timeouts.
 pub trait RawCondvarTimed: RawCondvar
 where
     Self::RawMutex: RawMutexTimed,
 {
-    /// The instant that is so long from now. None where there is no such instant.
+    /// Returns the instant that is `timeout` from now, or `None` if it cannot be represented.
     fn checked_duration_to_instant(
         timeout: &<Self::RawMutex as RawMutexTimed>::Duration,
     ) -> Option<<Self::RawMutex as RawMutexTimed>::Instant>;
 
-    /// The instant that is so long from now, where the raw mutex is at hand, whose waiter may have a clock. None where
-    /// there is no such instant.
+    /// Returns the instant that is `timeout` from now, or `None` if it cannot be represented. The mutex's waiter may
+    /// provide the clock.
     fn instant_after(
         _mutex: &Self::RawMutex,
         timeout: &<Self::RawMutex as RawMutexTimed>::Duration,
@@ -49,7 +52,7 @@ where
         Self::checked_duration_to_instant(timeout)
     }
 
-    /// `wait`, which the instant ends too. Whether it did.
+    /// `wait`, with a deadline. The second answer is whether the deadline passed.
     fn wait_until(
         &self,
         mutex: &Self::RawMutex,
@@ -57,7 +60,7 @@ where
         deadline: &<Self::RawMutex as RawMutexTimed>::Instant,
     ) -> (<Self::RawMutex as RawMutex>::Guard, bool);
 
-    /// `wait_until` that long from now. Where there is no such instant it is `wait`, and did not time out.
+    /// `wait`, with a timeout. If the deadline cannot be represented, it waits without one and answers false.
     fn wait_for(
         &self,
         mutex: &Self::RawMutex,

@@ -1,4 +1,4 @@
-//! The raw locks behind a mutex.
+//! Raw mutexes.
 ghost use Rattle.std.specs.Prelude.{IsOkUnless};
 
 use lock_base::raw::Fault;
@@ -6,56 +6,60 @@ use std::alloc::Global;
 use std::clone::Clone;
 use std::sync::Wait;
 
-/// A lock with no value of its own. Each acquisition gives a token, which the release takes back.
+/// A mutex without a value. Each acquisition returns a token, and the release consumes it.
 ///
-/// It is a safe trait: a raw lock that lies can make a call wait, and nothing worse.
+/// The trait is safe to implement. A raw lock that admits too many threads can make calls block; it can never cause a
+/// data race.
 pub trait RawMutex {
-    /// What an acquisition gives.
+    /// The token of one acquisition.
     type Guard;
 
-    /// What permits the lock, and the guards over it, to wait.
+    /// The permission to block, for the raw lock and the guards over it.
     type Waiter: Wait + Clone + Drop;
 
-    /// A free lock, which keeps the value that permits waiting.
+    /// Makes an unlocked raw lock, which keeps `waiter`.
     fn new(alloc: Global, waiter: Self::Waiter) -> Result<Self, Fault>
     where
         Self: Sized,
         ensures { IsOkUnless result Fault.OutOfMemory };
 
+    /// Returns the permission to block that the lock was made with.
     fn waiter(&self) -> &Self::Waiter;
 
-    /// Waits until the lock is free.
+    /// Acquires the lock, blocking until it is available.
     fn lock(&self) -> Self::Guard;
 
-    /// None where the lock is held.
+    /// Acquires the lock without blocking, or returns `None` if it is held.
     fn try_lock(&self) -> Option<Self::Guard>;
 
+    /// Releases the lock.
     fn unlock(&self, token: Self::Guard);
 
-    /// Whether the lock is held, which may be old at once.
+    /// Returns whether the lock is held. The answer may be stale at once.
     fn is_locked(&self) -> bool;
 }
 
-/// A raw mutex that can hand itself on in the order of those that wait.
+/// A raw mutex with a fair release.
 pub trait RawMutexFair: RawMutex {
+    /// Releases the lock, preferring threads that wait for it.
     fn unlock_fair(&self, token: Self::Guard);
 
-    /// Lets those that wait go first, and locks again.
+    /// Releases the lock by a fair release, and reacquires it, so that a waiter can go first.
     fn bump(&self, token: Self::Guard) -> Self::Guard {
         self.unlock_fair(token);
         self.lock()
     }
 }
 
-/// A raw mutex whose tries may wait for a time.
+/// A raw mutex whose tries have timeouts.
 pub trait RawMutexTimed: RawMutex {
     type Duration: Drop;
 
     type Instant: Drop;
 
-    /// None where the lock was held for that long.
+    /// Tries to acquire the lock for at most `timeout`.
     fn try_lock_for(&self, timeout: Self::Duration) -> Option<Self::Guard>;
 
-    /// None where the lock was held until then.
+    /// Tries to acquire the lock until `deadline`.
     fn try_lock_until(&self, deadline: Self::Instant) -> Option<Self::Guard>;
 }

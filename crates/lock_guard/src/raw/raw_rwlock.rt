@@ -1,4 +1,4 @@
-//! The raw locks behind a reader-writer lock.
+//! Raw reader-writer locks.
 ghost use Rattle.std.specs.Prelude.{◌≡◌, ◌↔◌, IfErr, IfOk};
 ghost use Rattle.lock_base.specs.Limits.{IsLimit, IsMakerFault};
 
@@ -7,21 +7,21 @@ use std::alloc::Global;
 use std::clone::Clone;
 use std::sync::Wait;
 
-/// A reader-writer lock with no value of its own. Each acquisition gives a token, which the release takes back.
+/// A reader-writer lock without a value. Each acquisition returns a token, and the release consumes it.
 ///
-/// It is a safe trait: a raw lock that lies can make a call wait, and nothing worse.
+/// The trait is safe to implement. A raw lock that admits too many threads can make calls block; it can never cause a
+/// data race.
 pub trait RawRwLock {
-    /// What a shared acquisition gives.
+    /// The token of a shared acquisition.
     type SharedGuard;
 
-    /// What an exclusive acquisition gives.
+    /// The token of an exclusive acquisition.
     type ExclusiveGuard;
 
-    /// What permits the lock, and the guards over it, to wait.
+    /// The permission to block, for the raw lock and the guards over it.
     type Waiter: Wait + Clone + Drop;
 
-    /// A free lock, which keeps the value that permits waiting. At most `readers` tokens are shared or upgradable at a
-    /// time.
+    /// Makes an unlocked raw lock, which keeps `waiter`. At most `readers` tokens are shared or upgradable at a time.
     fn new(alloc: Global, waiter: Self::Waiter, readers: u64) -> Result<Self, Fault>
     where
         Self: Sized,
@@ -29,87 +29,99 @@ pub trait RawRwLock {
         ensures in_range { IfOk result (λ _. IsLimit readers) }
         ensures fault { IfErr result IsMakerFault };
 
+    /// Returns the permission to block that the lock was made with.
     fn waiter(&self) -> &Self::Waiter;
 
-    /// Waits until no exclusive token is out and there are fewer readers than there may be.
+    /// Acquires the lock shared, blocking while it is held exclusively or the readers' limit is reached.
     fn lock_shared(&self) -> Self::SharedGuard;
 
-    /// None where `lock_shared` would wait.
+    /// Acquires the lock shared without blocking, or returns `None` where `lock_shared` would block.
     fn try_lock_shared(&self) -> Option<Self::SharedGuard>;
 
+    /// Releases a shared token.
     fn unlock_shared(&self, token: Self::SharedGuard);
 
-    /// Waits until no token is out.
+    /// Acquires the lock exclusively, blocking while it is held in any mode.
     fn lock_exclusive(&self) -> Self::ExclusiveGuard;
 
-    /// None where `lock_exclusive` would wait.
+    /// Acquires the lock exclusively without blocking, or returns `None` where `lock_exclusive` would block.
     fn try_lock_exclusive(&self) -> Option<Self::ExclusiveGuard>;
 
+    /// Releases an exclusive token.
     fn unlock_exclusive(&self, token: Self::ExclusiveGuard);
 
-    /// Whether a token is out, which may be old at once.
+    /// Returns whether the lock is held in any mode. The answer may be stale at once.
     fn is_locked(&self) -> bool;
 
-    /// Whether an exclusive token is out, which may be old at once.
+    /// Returns whether the lock is held exclusively. The answer may be stale at once.
     fn is_locked_exclusive(&self) -> bool;
 }
 
-/// A raw lock that can hand itself on in the order of those that wait.
+/// A raw reader-writer lock with fair releases.
 pub trait RawRwLockFair: RawRwLock {
+    /// Releases a shared token, preferring threads that wait.
     fn unlock_shared_fair(&self, token: Self::SharedGuard);
 
+    /// Releases an exclusive token, preferring threads that wait.
     fn unlock_exclusive_fair(&self, token: Self::ExclusiveGuard);
 
-    /// Lets those that wait go first, and locks again.
+    /// Releases the lock by a fair release, and reacquires it shared, so that a waiter can go first.
     fn bump_shared(&self, token: Self::SharedGuard) -> Self::SharedGuard {
         self.unlock_shared_fair(token);
         self.lock_shared()
     }
 
-    /// Lets those that wait go first, and locks again.
+    /// Releases the lock by a fair release, and reacquires it exclusively, so that a waiter can go first.
     fn bump_exclusive(&self, token: Self::ExclusiveGuard) -> Self::ExclusiveGuard {
         self.unlock_exclusive_fair(token);
         self.lock_exclusive()
     }
 }
 
-/// A raw lock whose exclusive token can become a shared one, with no other exclusive one between.
+/// A raw lock that downgrades an exclusive token to a shared one, without releasing it in between.
 pub trait RawRwLockDowngrade: RawRwLock {
+    /// Makes an exclusive token shared. It never blocks.
     fn downgrade(&self, token: Self::ExclusiveGuard) -> Self::SharedGuard;
 }
 
-/// A raw lock whose tries may wait for a time.
+/// A raw reader-writer lock whose tries have timeouts.
 pub trait RawRwLockTimed: RawRwLock {
     type Duration: Drop;
 
     type Instant: Drop;
 
+    /// Tries to acquire the lock shared for at most `timeout`.
     fn try_lock_shared_for(&self, timeout: Self::Duration) -> Option<Self::SharedGuard>;
 
+    /// Tries to acquire the lock shared until `deadline`.
     fn try_lock_shared_until(&self, deadline: Self::Instant) -> Option<Self::SharedGuard>;
 
+    /// Tries to acquire the lock exclusively for at most `timeout`.
     fn try_lock_exclusive_for(&self, timeout: Self::Duration) -> Option<Self::ExclusiveGuard>;
 
+    /// Tries to acquire the lock exclusively until `deadline`.
     fn try_lock_exclusive_until(&self, deadline: Self::Instant) -> Option<Self::ExclusiveGuard>;
 }
 
-/// A raw lock with a token that reads beside shared ones and can become exclusive. One is out at a time.
+/// A raw lock with upgradable tokens. One may be held at a time, next to shared ones, and it can become exclusive.
 pub trait RawRwLockUpgrade: RawRwLock {
-    /// What an upgradable acquisition gives.
+    /// The token of an upgradable acquisition.
     type UpgradableGuard;
 
-    /// Waits until neither an exclusive nor an upgradable token is out and there are fewer readers than there may be.
+    /// Acquires the lock upgradable, blocking while it is held exclusively or upgradable, or the readers' limit is
+    /// reached.
     fn lock_upgradable(&self) -> Self::UpgradableGuard;
 
-    /// None where `lock_upgradable` would wait.
+    /// Acquires the lock upgradable without blocking, or returns `None` where `lock_upgradable` would block.
     fn try_lock_upgradable(&self) -> Option<Self::UpgradableGuard>;
 
+    /// Releases an upgradable token.
     fn unlock_upgradable(&self, token: Self::UpgradableGuard);
 
-    /// Waits until no other token is out.
+    /// Makes the token exclusive, blocking while any other token is held.
     fn upgrade(&self, token: Self::UpgradableGuard) -> Self::ExclusiveGuard;
 
-    /// The same token back where `upgrade` would wait.
+    /// Makes the token exclusive without blocking, or returns it unchanged where `upgrade` would block.
     fn try_upgrade(
         &self,
         token: Self::UpgradableGuard,
@@ -117,31 +129,36 @@ pub trait RawRwLockUpgrade: RawRwLock {
         ensures { IfErr result (λ back. back ≡ token) };
 }
 
-/// A raw lock with upgradable tokens that can hand itself on in the order of those that wait.
+/// A raw lock with fair releases of upgradable tokens.
 pub trait RawRwLockUpgradeFair: RawRwLockUpgrade + RawRwLockFair {
+    /// Releases an upgradable token, preferring threads that wait.
     fn unlock_upgradable_fair(&self, token: Self::UpgradableGuard);
 
-    /// Lets those that wait go first, and locks again.
+    /// Releases the lock by a fair release, and reacquires it upgradable, so that a waiter can go first.
     fn bump_upgradable(&self, token: Self::UpgradableGuard) -> Self::UpgradableGuard {
         self.unlock_upgradable_fair(token);
         self.lock_upgradable()
     }
 }
 
-/// A raw lock whose tokens can go down to and from the upgradable one.
+/// A raw lock with downgrades to and from the upgradable mode.
 pub trait RawRwLockUpgradeDowngrade: RawRwLockUpgrade + RawRwLockDowngrade {
+    /// Makes an upgradable token shared. It never blocks.
     fn downgrade_upgradable(&self, token: Self::UpgradableGuard) -> Self::SharedGuard;
 
+    /// Makes an exclusive token upgradable. It never blocks.
     fn downgrade_to_upgradable(&self, token: Self::ExclusiveGuard) -> Self::UpgradableGuard;
 }
 
-/// A raw lock with upgradable tokens whose tries may wait for a time.
+/// A raw lock with upgradable tokens whose tries have timeouts.
 pub trait RawRwLockUpgradeTimed: RawRwLockUpgrade + RawRwLockTimed {
+    /// Tries to acquire the lock upgradable for at most `timeout`.
     fn try_lock_upgradable_for(&self, timeout: Self::Duration) -> Option<Self::UpgradableGuard>;
 
+    /// Tries to acquire the lock upgradable until `deadline`.
     fn try_lock_upgradable_until(&self, deadline: Self::Instant) -> Option<Self::UpgradableGuard>;
 
-    /// The same token back where another token was out for that long.
+    /// Tries to make the token exclusive for at most `timeout`, or returns it unchanged.
     fn try_upgrade_for(
         &self,
         token: Self::UpgradableGuard,
@@ -149,7 +166,7 @@ pub trait RawRwLockUpgradeTimed: RawRwLockUpgrade + RawRwLockTimed {
     ) -> Result<Self::ExclusiveGuard, Self::UpgradableGuard>
         ensures { IfErr result (λ back. back ≡ token) };
 
-    /// The same token back where another token was out until then.
+    /// Tries to make the token exclusive until `deadline`, or returns it unchanged.
     fn try_upgrade_until(
         &self,
         token: Self::UpgradableGuard,
