@@ -1,4 +1,4 @@
-//! The acquisitions of a mutex by guards that keep it alive.
+//! Acquisitions of a mutex by guards that own a reference to it.
 ghost use Rattle.std.specs.Prelude.{IfOk, IfSome, IsOkUnless};
 ghost use Rattle.lock_mutex.specs.ArcMutexGuard.{IsArcGuardOf};
 
@@ -9,7 +9,11 @@ use lock_guard::raw::{RawMutex, RawMutexTimed};
 use std::sync::Arc;
 
 impl<R: RawMutex + Drop, T: Drop> Mutex<R, T> {
-    /// `lock`, by a guard that keeps the mutex alive. Where there is no memory for that, nothing is locked.
+    /// Acquires the mutex, blocking until it is available. The guard owns a clone of the `Arc`.
+    ///
+    /// # Errors
+    ///
+    /// `OutOfMemory` if the `Arc` cannot be cloned. The clone comes first, so nothing is locked then.
     pub fn lock_arc(this: &Arc<Mutex<R, T>>) -> Result<ArcMutexGuard<R, T>, Fault>
         ensures fault { IsOkUnless result Fault.OutOfMemory }
         ensures lock { IfOk result (IsArcGuardOf this.now) }
@@ -19,7 +23,11 @@ impl<R: RawMutex + Drop, T: Drop> Mutex<R, T> {
         Ok(ArcMutexGuard::new(mutex, token))
     }
 
-    /// `try_lock`, by a guard that keeps the mutex alive. Where there is no memory for that, nothing is locked.
+    /// Acquires the mutex without blocking. The guard owns a clone of the `Arc`.
+    ///
+    /// # Errors
+    ///
+    /// `OutOfMemory` if the `Arc` cannot be cloned. The clone comes first, so nothing is locked then.
     pub fn try_lock_arc(this: &Arc<Mutex<R, T>>) -> Result<Option<ArcMutexGuard<R, T>>, Fault>
         ensures fault { IsOkUnless result Fault.OutOfMemory }
         ensures lock { IfOk result (λ got. IfSome got (IsArcGuardOf this.now)) }
@@ -31,7 +39,7 @@ impl<R: RawMutex + Drop, T: Drop> Mutex<R, T> {
 }
 
 impl<R: RawMutexTimed + Drop, T: Drop> Mutex<R, T> {
-    /// `try_lock_arc`, where the raw lock may wait that long.
+    /// `try_lock_arc`, where the raw lock may block for at most `timeout`.
     pub fn try_lock_arc_for(
         this: &Arc<Mutex<R, T>>,
         timeout: R::Duration,
@@ -44,7 +52,7 @@ impl<R: RawMutexTimed + Drop, T: Drop> Mutex<R, T> {
         Ok(ArcMutexGuard::of_token(mutex, token))
     }
 
-    /// `try_lock_arc`, where the raw lock may wait until then.
+    /// `try_lock_arc`, where the raw lock may block until `deadline`.
     pub fn try_lock_arc_until(
         this: &Arc<Mutex<R, T>>,
         deadline: R::Instant,

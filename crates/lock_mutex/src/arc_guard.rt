@@ -1,4 +1,4 @@
-//! The guard that keeps its mutex alive.
+//! The mutex guard that owns a reference to its mutex.
 ghost use Rattle.std.specs.Prelude.{◌≡◌, IfSome, is_some};
 ghost use Rattle.lock_guard.specs.Closure.{ReadsSomeValue, AnswersSomeValue};
 ghost use Rattle.lock_mutex.specs.ArcMutexGuard.{arc_of};
@@ -9,8 +9,9 @@ use lock_guard::guard::{AcquireFair, Held, Release};
 use lock_guard::raw::{RawMutex, RawMutexFair};
 use std::sync::Arc;
 
-/// The right to the value of a mutex, which it keeps alive. Its end gives the mutex up. The value is lent for the length
-/// of a closure.
+/// A guard that owns a reference to its mutex, so it may outlive every borrow of it. It releases the mutex on drop.
+///
+/// It lends the value to closures, and locks the value's lock for the length of each call.
 #[derive(Drop)]
 pub struct ArcMutexGuard<R: RawMutex + Drop, T: Drop> {
     held: Held<OwnedMutex<R, T>>,
@@ -25,7 +26,7 @@ impl<R: RawMutex + Drop, T: Drop> ArcMutexGuard<R, T> {
         }
     }
 
-    /// The guard of the token, where the raw lock gave one.
+    /// Makes the guard of the token, if the raw lock gave one.
     pub(crate) fn of_token(
         mutex: Arc<Mutex<R, T>>,
         token: Option<R::Guard>,
@@ -36,14 +37,14 @@ impl<R: RawMutex + Drop, T: Drop> ArcMutexGuard<R, T> {
         Some(ArcMutexGuard::new(mutex, token?))
     }
 
-    /// The mutex that the guard was made of.
+    /// Returns the mutex of the guard.
     pub fn mutex(guard: &ArcMutexGuard<R, T>) -> &Arc<Mutex<R, T>>
         ensures { result.now ≡ arc_of guard.now }
     {
         &guard.held.lock.mutex
     }
 
-    /// Ends the guard, and answers its mutex.
+    /// Releases the mutex, and returns the guard's reference to it.
     pub fn into_arc(guard: ArcMutexGuard<R, T>) -> Arc<Mutex<R, T>>
         ensures { result ≡ arc_of guard }
     {
@@ -52,7 +53,7 @@ impl<R: RawMutex + Drop, T: Drop> ArcMutexGuard<R, T> {
         lock.mutex
     }
 
-    /// Calls the closure on the value, whose own lock is held for the length of the call.
+    /// Runs `f` on the value, holding the value's lock for the length of the call.
     pub fn with<U, F: FnOnce(&T) -> U>(guard: &ArcMutexGuard<R, T>, f: F) -> U
         requires { F.IsAlwaysCallable f }
         ensures { ReadsSomeValue F.FnOnce f result }
@@ -60,7 +61,7 @@ impl<R: RawMutex + Drop, T: Drop> ArcMutexGuard<R, T> {
         guard.held.lock.mutex.with_value(f)
     }
 
-    /// `with`, by a closure that may change the value.
+    /// Runs `f` on the value, which it may change, holding the value's lock for the length of the call.
     pub fn with_mut<U, F: FnOnce(&mut T) -> U>(guard: &mut ArcMutexGuard<R, T>, f: F) -> U
         requires { F.IsAlwaysCallable f }
         ensures answer { AnswersSomeValue F.FnOnce f result }
@@ -69,7 +70,7 @@ impl<R: RawMutex + Drop, T: Drop> ArcMutexGuard<R, T> {
         guard.held.lock.mutex.with_value_mut(f)
     }
 
-    /// Gives the mutex up for the length of the closure, and waits for it again.
+    /// Releases the mutex, runs `f`, and reacquires the mutex, blocking until it is available.
     pub fn unlocked<U, F: FnOnce() -> U>(guard: &mut ArcMutexGuard<R, T>, f: F) -> U
         requires { F.IsAlwaysCallable f }
         ensures answer { F.post f result }
@@ -80,7 +81,7 @@ impl<R: RawMutex + Drop, T: Drop> ArcMutexGuard<R, T> {
 }
 
 impl<R: RawMutexFair + Drop, T: Drop> ArcMutexGuard<R, T> {
-    /// Ends the guard, by a fair release.
+    /// Releases the mutex by a fair release.
     pub fn unlock_fair(guard: ArcMutexGuard<R, T>) {
         guard.held.unlock_fair();
     }
@@ -103,7 +104,7 @@ impl<R: RawMutexFair + Drop, T: Drop> ArcMutexGuard<R, T> {
         guard.held.unlocked_fair(f)
     }
 
-    /// Gives the mutex up by a fair release, and waits for it again.
+    /// Releases the mutex by a fair release, and reacquires it, blocking until it is available.
     pub fn bump(guard: &mut ArcMutexGuard<R, T>)
         ensures { arc_of guard.new ≡ arc_of guard.old }
     {

@@ -1,4 +1,4 @@
-//! A mutex that is borrowed.
+//! A borrowed mutex.
 use crate::Mutex;
 use lock_guard::guard::{Acquire, AcquireFair, Release};
 use lock_guard::raw::{RawMutex, RawMutexFair};
@@ -31,7 +31,7 @@ impl<'a, R: RawMutex, T> Acquire for BorrowedMutex<'a, R, T> {
         self.mutex.value.try_lock()
     }
 
-    /// Apart from the way of those that need not wait.
+    /// Kept off the uncontended path.
     #[cold]
     #[inline(never)]
     fn wait_to_show(&self) -> sync::MutexGuard<'a, T> {

@@ -11,7 +11,7 @@ use std::alloc::Global;
 use std::fmt;
 use std::fmt::{Debug, Formatter};
 
-/// A condition variable, which waits with the guard of a mutex. A wait may end with no notification.
+/// A condition variable, to wait on with the guard of a mutex. A wait may end spuriously.
 #[derive(Drop)]
 pub struct Condvar<C> {
     raw: C,
@@ -22,6 +22,7 @@ impl<C: RawCondvar> Condvar<C> {
     ghost use Rattle.lock_mutex.specs.Condvar.{raw_condvar_of};
     ghost use Rattle.lock_mutex.specs.MutexGuard.{held_of};
 
+    /// Makes a condition variable over a new raw one.
     pub fn new(alloc: Global) -> Result<Condvar<C>, Fault>
         ensures { IsOkUnless result Fault.OutOfMemory }
     {
@@ -37,31 +38,31 @@ impl<C: RawCondvar> Condvar<C> {
         Condvar::new(alloc)
     }
 
-    /// The raw condition variable that it was made of.
+    /// Returns the raw condition variable.
     pub fn raw(&self) -> &C
         ensures { result.now ≡ raw_condvar_of self.now }
     {
         &self.raw
     }
 
-    /// Whether one that waits was woken, as the raw condition variable answers.
+    /// Wakes one waiter, and returns what the raw condition variable says: whether one was woken.
     pub fn notify_one(&self) -> bool {
         self.raw.notify_one()
     }
 
-    /// How many that wait were woken, as the raw condition variable answers.
+    /// Wakes all waiters, and returns what the raw condition variable says: how many were woken.
     pub fn notify_all(&self) -> usize {
         self.raw.notify_all()
     }
 
-    /// Gives the mutex up, waits, and takes it again.
+    /// Releases the mutex, blocks until a notification, and reacquires the mutex.
     pub fn wait<T>(&self, guard: &mut MutexGuard<'_, C::RawMutex, T>)
         ensures { (held_of guard.new).lock ≡ (held_of guard.old).lock }
     {
         UntilNotified { raw: &self.raw }.sleep(&mut guard.held);
     }
 
-    /// Waits while the condition is true. It is checked first: where it is false, nothing is waited for.
+    /// Waits while `condition` is true. It checks first, so a false condition never blocks.
     pub fn wait_while<T, F: FnMut(&mut T) -> bool>(
         &self,
         guard: &mut MutexGuard<'_, C::RawMutex, T>,
@@ -86,7 +87,7 @@ where
     ghost use Rattle.lock_guard.specs.Held.{held_value};
     ghost use Rattle.lock_mutex.specs.MutexGuard.{held_of};
 
-    /// `wait`, until that instant.
+    /// `wait`, until `deadline`.
     pub fn wait_until<T>(
         &self,
         guard: &mut MutexGuard<'_, C::RawMutex, T>,
@@ -102,7 +103,8 @@ where
         WaitTimeoutResult { timed_out }
     }
 
-    /// `wait`, for that long. Where there is no such instant, it waits on and does not time out.
+    /// `wait`, for at most `timeout`. If the deadline cannot be represented, it waits without one and does not time
+    /// out.
     pub fn wait_for<T>(
         &self,
         guard: &mut MutexGuard<'_, C::RawMutex, T>,
@@ -117,7 +119,7 @@ where
         WaitTimeoutResult { timed_out }
     }
 
-    /// `wait_while`, until that instant. Where the time came, the condition is checked once more.
+    /// `wait_while`, until `deadline`. After a timeout it checks the condition once more.
     pub fn wait_while_until<T, F: FnMut(&mut T) -> bool>(
         &self,
         guard: &mut MutexGuard<'_, C::RawMutex, T>,
@@ -139,7 +141,8 @@ where
         WaitTimeoutResult { timed_out }
     }
 
-    /// `wait_while`, for that long. Where there is no such instant, it waits on and does not time out.
+    /// `wait_while`, for at most `timeout`. If the deadline cannot be represented, it waits without one and does not
+    /// time out.
     pub fn wait_while_for<T, F: FnMut(&mut T) -> bool>(
         &self,
         guard: &mut MutexGuard<'_, C::RawMutex, T>,

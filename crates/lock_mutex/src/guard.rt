@@ -12,19 +12,19 @@ use std::fmt;
 use std::fmt::{Debug, Display, Formatter};
 use std::ops::{Deref, DerefMut};
 
-/// The right to the value of a mutex, `L` being what borrows it. Its end gives the mutex up.
+/// A guard of a mutex, where `L` is the borrow of the mutex. It releases the mutex on drop.
 #[derive(Drop)]
 pub struct Guard<L: Acquire> {
     pub(crate) held: Held<L>,
 }
 
-/// The right to the value of a mutex. Its end gives the mutex up.
+/// The guard of a mutex: it gives access to the value, and releases the mutex on drop.
 pub type MutexGuard<'a, R, T> = Guard<BorrowedMutex<'a, R, T>>;
 
 impl<'a, R: RawMutex, T> Guard<BorrowedMutex<'a, R, T>> {
     ghost use Rattle.lock_mutex.specs.MutexGuard.{IsGuardOf};
 
-    /// The mutex that the guard was made of.
+    /// Returns the mutex of the guard.
     pub fn mutex(guard: &MutexGuard<'a, R, T>) -> &'a Mutex<R, T>
         ensures { IsGuardOf result guard.now }
     {
@@ -35,7 +35,7 @@ impl<'a, R: RawMutex, T> Guard<BorrowedMutex<'a, R, T>> {
 impl<L: Acquire> Guard<L> {
     ghost use Rattle.lock_mutex.specs.MutexGuard.{held_of};
 
-    /// Gives the mutex up for the length of the closure, and waits for it again.
+    /// Releases the mutex, runs `f`, and reacquires the mutex, blocking until it is available.
     pub fn unlocked<U, F: FnOnce() -> U>(guard: &mut Self, f: F) -> U
         requires { F.IsAlwaysCallable f }
         ensures answer { F.post f result }
@@ -48,7 +48,7 @@ impl<L: Acquire> Guard<L> {
 impl<L: AcquireFair> Guard<L> {
     ghost use Rattle.lock_mutex.specs.MutexGuard.{held_of};
 
-    /// Ends the guard, by a fair release.
+    /// Releases the mutex by a fair release.
     pub fn unlock_fair(guard: Self) {
         guard.held.unlock_fair();
     }
@@ -62,7 +62,7 @@ impl<L: AcquireFair> Guard<L> {
         guard.held.unlocked_fair(f)
     }
 
-    /// Gives the mutex up by a fair release, and waits for it again.
+    /// Releases the mutex by a fair release, and reacquires it, blocking until it is available.
     pub fn bump(guard: &mut Self)
         ensures { (held_of guard.new).lock ≡ (held_of guard.old).lock }
     {

@@ -1,4 +1,4 @@
-//! A mutex over any raw lock, its guard, and the condition variable to wait on with it.
+//! A mutex over any raw lock, its guards, and the condition variable that waits with them.
 #![tactic(auto)]
 
 mod arc;

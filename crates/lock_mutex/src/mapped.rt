@@ -9,13 +9,13 @@ use crate::borrowed::BorrowedMutex;
 use lock_base::project::{TryView, View};
 use lock_guard::guard::{Acquire, Held, Mapped, ValueGuard};
 
-/// The right to a part of the value of a mutex. Its end gives the mutex up.
+/// A guard of a part of the value of a mutex. It releases the mutex on drop.
 pub type MappedMutexGuard<'a, R, T, P> = Mapped<Held<BorrowedMutex<'a, R, T>>, P>;
 
 impl<L: Acquire> Guard<L> {
     ghost use Rattle.lock_mutex.specs.MutexGuard.{held_of};
 
-    /// The guard of a part, by a projection that always has one.
+    /// Makes the guard of a part, by a projection that always has one. The mutex stays locked.
     pub fn map<P: View<<L::Shown as ValueGuard>::Value>>(
         guard: Self,
         projection: P,
@@ -25,7 +25,7 @@ impl<L: Acquire> Guard<L> {
         Mapped::of(guard.held, projection)
     }
 
-    /// The guard of a part, or the same guard where there is none.
+    /// Makes the guard of a part, or returns the same guard, still locked, if the value has no such part.
     pub fn try_map<P: TryView<<L::Shown as ValueGuard>::Value>>(
         guard: Self,
         projection: P,
@@ -40,7 +40,7 @@ impl<L: Acquire> Guard<L> {
         }
     }
 
-    /// The guard of a part, or the same guard with what the projection tells of a value without one.
+    /// Makes the guard of a part. If the value has no such part, returns the same guard, still locked, with the miss.
     pub fn try_map_or_err<P: TryView<<L::Shown as ValueGuard>::Value>>(
         guard: Self,
         projection: P,

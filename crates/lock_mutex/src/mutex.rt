@@ -12,8 +12,10 @@ use std::alloc::Global;
 use std::fmt::{Debug, Formatter};
 use std::{fmt, sync};
 
-/// A value behind a raw lock. It lies in a std lock, which is taken after the raw lock admits and given back before
-/// the raw lock is. So a raw lock that lies can make a call wait, and nothing worse.
+/// A value behind a raw lock.
+///
+/// The value lies in a std lock, which is acquired after the raw lock admits and released before the raw lock. So a raw
+/// lock that admits too many threads can make calls block; it can never cause a data race.
 #[derive(Drop)]
 pub struct Mutex<R, T> {
     pub(crate) raw: R,
@@ -24,7 +26,7 @@ impl<R: RawMutex, T> Mutex<R, T> {
     ghost use Rattle.lock_mutex.specs.Mutex.{raw_of};
     ghost use Rattle.lock_mutex.specs.MutexGuard.{IsGuardOf};
 
-    /// A free mutex over a new raw lock. Where that is refused, the value is dropped.
+    /// Makes an unlocked mutex over a new raw lock. The value is dropped if there is no memory.
     pub fn new(alloc: Global, waiter: R::Waiter, value: T) -> Result<Mutex<R, T>, Fault>
     where
         T: Drop,
@@ -42,7 +44,7 @@ impl<R: RawMutex, T> Mutex<R, T> {
         Mutex::new(alloc, waiter, value)
     }
 
-    /// `new`, over the default value.
+    /// `new`, of the default value.
     pub fn default(alloc: Global, waiter: R::Waiter) -> Result<Mutex<R, T>, Fault>
     where
         T: Default + Drop,
@@ -51,7 +53,7 @@ impl<R: RawMutex, T> Mutex<R, T> {
         Mutex::new(alloc, waiter, T::default())
     }
 
-    /// A mutex over a raw lock that was made apart. It takes no memory, so it is never refused.
+    /// Makes a mutex over a given raw lock. It allocates nothing, so it never fails.
     pub fn from_raw(raw: R, value: T) -> Result<Mutex<R, T>, Fault>
         ensures { IsOkAnd result (λ mutex. raw_of mutex ≡ raw) }
     {
@@ -61,6 +63,7 @@ impl<R: RawMutex, T> Mutex<R, T> {
         })
     }
 
+    /// Consumes the mutex, and returns the value.
     pub fn into_inner(self) -> T
     where
         R: Drop,
@@ -68,7 +71,7 @@ impl<R: RawMutex, T> Mutex<R, T> {
         self.into_inner_with_raw().1
     }
 
-    /// The raw lock, and the value.
+    /// Consumes the mutex, and returns the raw lock and the value.
     pub fn into_inner_with_raw(self) -> (R, T)
         ensures { result.0 ≡ raw_of self }
     {
@@ -76,11 +79,12 @@ impl<R: RawMutex, T> Mutex<R, T> {
         (raw, value.into_inner())
     }
 
+    /// Returns the value. No locking is needed, since the mutex is borrowed exclusively.
     pub fn get_mut(&mut self) -> &mut T {
         self.value.get_mut()
     }
 
-    /// Waits until the raw lock admits.
+    /// Acquires the mutex, blocking until it is available.
     #[inline(always)]
     pub fn lock(&self) -> MutexGuard<'_, R, T>
         ensures { IsGuardOf self.entry result }
@@ -90,7 +94,7 @@ impl<R: RawMutex, T> Mutex<R, T> {
         }
     }
 
-    /// None where the raw lock refuses.
+    /// Acquires the mutex without blocking, or returns `None` if the raw lock refuses.
     pub fn try_lock(&self) -> Option<MutexGuard<'_, R, T>>
         ensures { IfSome result (IsGuardOf self.entry) }
     {
@@ -99,12 +103,12 @@ impl<R: RawMutex, T> Mutex<R, T> {
         })
     }
 
-    /// What the raw lock answers, which may be old at once.
+    /// Returns what the raw lock says: whether it is held. The answer may be stale at once.
     pub fn is_locked(&self) -> bool {
         self.raw.is_locked()
     }
 
-    /// Calls the closure on the value, whose own lock is held for the length of the call.
+    /// Runs `f` on the value, holding the value's lock for the length of the call.
     pub(crate) fn with_value<U, F: FnOnce(&T) -> U>(&self, f: F) -> U
         requires { F.IsAlwaysCallable f }
         ensures { ReadsSomeValue F.FnOnce f result }
@@ -113,7 +117,7 @@ impl<R: RawMutex, T> Mutex<R, T> {
         f(&value)
     }
 
-    /// `with_value`, by a closure that may change the value.
+    /// Runs `f` on the value, which it may change, holding the value's lock for the length of the call.
     pub(crate) fn with_value_mut<U, F: FnOnce(&mut T) -> U>(&self, f: F) -> U
         requires { F.IsAlwaysCallable f }
         ensures { AnswersSomeValue F.FnOnce f result }
@@ -122,7 +126,7 @@ impl<R: RawMutex, T> Mutex<R, T> {
         f(&mut value)
     }
 
-    /// The value, whose own lock is held.
+    /// Locks the value's lock.
     pub(crate) fn value_guard(&self) -> sync::MutexGuard<'_, T> {
         lock_std(&self.value, self.raw.waiter())
     }
@@ -131,7 +135,7 @@ impl<R: RawMutex, T> Mutex<R, T> {
 impl<R: RawMutexTimed, T> Mutex<R, T> {
     ghost use Rattle.lock_mutex.specs.MutexGuard.{IsGuardOf};
 
-    /// None where the raw lock refuses for that long.
+    /// Tries to acquire the mutex for at most `timeout`.
     pub fn try_lock_for(&self, timeout: R::Duration) -> Option<MutexGuard<'_, R, T>>
         ensures { IfSome result (IsGuardOf self.entry) }
     {
@@ -143,7 +147,7 @@ impl<R: RawMutexTimed, T> Mutex<R, T> {
         })
     }
 
-    /// None where the raw lock refuses until then.
+    /// Tries to acquire the mutex until `deadline`.
     pub fn try_lock_until(&self, deadline: R::Instant) -> Option<MutexGuard<'_, R, T>>
         ensures { IfSome result (IsGuardOf self.entry) }
     {

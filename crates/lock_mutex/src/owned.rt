@@ -1,10 +1,10 @@
-//! A mutex that is kept alive.
+//! A mutex that a guard owns a reference to.
 use crate::Mutex;
 use lock_guard::guard::{Acquire, AcquireFair, Release};
 use lock_guard::raw::{RawMutex, RawMutexFair};
 use std::sync::Arc;
 
-/// One owner of a mutex, as its guard sees it.
+/// One `Arc` of a mutex, as its guard sees it.
 #[derive(Drop)]
 pub struct OwnedMutex<R: RawMutex + Drop, T: Drop> {
     pub(crate) mutex: Arc<Mutex<R, T>>,
@@ -20,7 +20,7 @@ impl<R: RawMutex + Drop, T: Drop> Release for OwnedMutex<R, T> {
     }
 }
 
-/// It shows nothing: std's guard of the value would borrow from the mutex that is owned beside it.
+/// It keeps no guard of the value: std's guard would borrow from the mutex next to it in the same struct.
 impl<R: RawMutex + Drop, T: Drop> Acquire for OwnedMutex<R, T> {
     type Shown = ();
 

@@ -1,22 +1,22 @@
-//! The waits in which a lock that is held is given up and taken again.
+//! Waits that release a held lock and reacquire it.
 ghost use Rattle.std.specs.Prelude.{◌≡◌, false, Bool, ⊤};
 
 use crate::borrowed::BorrowedMutex;
 use lock_guard::guard::{Acquire, Held};
 use lock_guard::raw::{RawCondvar, RawCondvarTimed, RawMutex, RawMutexTimed};
 
-/// A wait with a lock that is held.
+/// A wait with a held lock.
 pub trait Sleep<L: Acquire>: Drop {
     /// Whether a wait may give this answer.
     ghost may_answer: { Bool → Type 0 };
 
-    /// Gives the lock up, waits, and takes it again. Whether the wait timed out.
+    /// Releases the lock, waits, and reacquires the lock. Returns whether the wait timed out.
     fn sleep(&self, held: &mut Held<L>) -> bool
         ensures lock { held.new.lock ≡ held.old.lock }
         ensures answer { may_answer result };
 }
 
-/// Gives the value back, lets the wait trade the token for the next one, and takes the value again.
+/// Releases the value's lock, lets `wait` consume the token for another one, and locks the value's lock again.
 pub fn trade<L: Acquire, U, F: FnOnce(L::Token) -> (L::Token, U)>(held: &mut Held<L>, wait: F) -> U
     requires { F.IsAlwaysCallable wait }
     ensures { held.new.lock ≡ held.old.lock }
@@ -26,7 +26,7 @@ pub fn trade<L: Acquire, U, F: FnOnce(L::Token) -> (L::Token, U)>(held: &mut Hel
     answer
 }
 
-/// A sleep until a notification.
+/// A wait for a notification.
 pub struct UntilNotified<'c, C> {
     pub raw: &'c C,
 }
@@ -47,7 +47,7 @@ impl<'a, C: RawCondvar, T> Sleep<BorrowedMutex<'a, C::RawMutex, T>> for UntilNot
     }
 }
 
-/// A sleep until a notification or an instant.
+/// A wait for a notification or an instant.
 pub struct UntilInstant<'c, C, I> {
     pub raw: &'c C,
     pub deadline: I,

@@ -1,6 +1,6 @@
 ghost use Rattle.std.specs.Prelude.{◌≡◌};
 
-/// Whether a wait ended because its time came.
+/// Whether a wait ended by a timeout.
 #[derive(Clone, Copy, PartialEq, Eq, Debug)]
 pub struct WaitTimeoutResult {
     pub(crate) timed_out: bool,
@@ -9,6 +9,7 @@ pub struct WaitTimeoutResult {
 impl WaitTimeoutResult {
     ghost use Rattle.lock_mutex.specs.WaitsWhile.{has_timed_out};
 
+    /// Returns whether the wait ended by a timeout.
     pub fn timed_out(self) -> bool
         ensures { result ≡ has_timed_out self }
     {

@@ -9,7 +9,7 @@ use lock_guard::guard::{Acquire, Held, Inner, LockGuardMut, ValueGuard, ValueGua
 use std::mem;
 use std::sync::Wait;
 
-/// A held lock, and the sleep between two checks.
+/// A held lock, and the wait between two checks.
 pub struct Waiting<L: Acquire, S> {
     pub held: Held<L>,
     pub sleep: S,
@@ -40,8 +40,8 @@ where
     ghost current_with = { waiting_value-with L.Shown.value_of L.Shown.with_value L.Shown.value_with };
 }
 
-/// Sleeps while the condition is true, until a sleep timed out. Whether the last check, which left the value that is
-/// held, answered true.
+/// Waits while the condition is true, until a wait times out. Returns what the last check answered. That check left the
+/// value that is held now.
 pub fn sleep_while<
     W: Wait,
     L: Acquire + Copy,

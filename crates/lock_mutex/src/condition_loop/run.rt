@@ -5,8 +5,12 @@ ghost use Rattle.lock_mutex.specs.ConditionLoop.{ConditionLoop};
 use crate::condition_loop::{LoopEnd, Waits};
 use std::sync::Wait;
 
-/// Checks the condition, and waits and checks again while it is true, until a wait timed out before the check or
-/// nothing is left to wait for. It may never return.
+/// Checks the condition, and while it is true waits and checks again. Ends when a check answers false, when one answers
+/// true after a timeout, or when no wait is left.
+///
+/// # Blocking
+///
+/// It may never return.
 pub fn run_loop<R: Wait, W: Waits, F: FnMut(&mut W::Value) -> bool>(
     waiter: &R,
     waits: &mut W,

@@ -1,11 +1,12 @@
-//! Waits that are written down beforehand.
+//! Waits that are known beforehand.
 ghost use Rattle.std.specs.Prelude.{◌≡◌, Bool, [], ◌∷◌, IfSome, IsNone, ◌↔◌, refl};
 ghost use Rattle.lock_mutex.specs.Script.{present_value, waits_to_come, with_present_value, WaitGives};
 
 use crate::condition_loop::Waits;
 use std::vec::IntoIter;
 
-/// A value, and for each wait to come what it leaves and whether it times out.
+/// A value, and for each wait to come the value that it leaves and whether it times out. For tests and proofs of
+/// conditions.
 #[derive(Drop)]
 pub struct Script<T> {
     value: T,
@@ -13,8 +14,8 @@ pub struct Script<T> {
 }
 
 impl<T: Drop> Script<T> {
-    /// The first entry has the present value, and its flag says nothing. Each wait goes to the next entry. None where
-    /// there is no entry.
+    /// Makes a script of its entries, or `None` of no entry. The first entry is the present value, and its flag is
+    /// ignored. Each wait goes to the next entry.
     pub fn new(entries: Vec<(T, bool)>) -> Option<Script<T>>
         ensures none { IsNone result ↔ (entries.items ≡ []) }
         ensures some { IfSome result (λ script.
