@@ -1,4 +1,4 @@
-//! The guard of a lock that is held.
+//! The guard of a held lock.
 mod mapped;
 mod read;
 mod upgradable;
@@ -17,16 +17,16 @@ use std::ops::{Deref, DerefMut};
 pub use upgradable::RwLockUpgradableReadGuard;
 pub use write::RwLockWriteGuard;
 
-/// The right to the value of a lock, in one mode. Its end gives the value back, and then the token.
+/// A guard of a lock in one mode. On drop it releases the value's lock, then the raw lock.
 ///
-/// Where a guard becomes one of another mode, the raw lock exchanges its token. That nobody else writes between is the
-/// raw lock's word.
+/// An upgrade or a downgrade exchanges the raw lock's token and gives a guard of the new mode. The raw lock promises
+/// that nobody wrote in between; no contract states it.
 #[derive(Drop)]
 pub struct RwLockGuard<L: Acquire> {
     pub(crate) held: Held<L>,
 }
 
-/// The guard of a lock that is held by that token: `held!`, as a guard of one mode.
+/// Makes the guard of a lock and its token, as `held!`.
 macro_rules! guard {
     ($rwlock:expr, $token:expr) => {
         $crate::guard::RwLockGuard {
@@ -40,7 +40,7 @@ pub(crate) use guard;
 impl<L: Acquire> RwLockGuard<L> {
     ghost use Rattle.lock_rwlock.specs.RwLockGuard.{held_of};
 
-    /// Gives the lock up for the length of the closure, and waits for it again.
+    /// Releases the lock, runs `f`, and reacquires the lock in the same mode, blocking until it is available.
     pub fn unlocked<U, F: FnOnce() -> U>(guard: &mut Self, f: F) -> U
         requires { F.IsAlwaysCallable f }
         ensures answer { F.post f result }
@@ -49,7 +49,7 @@ impl<L: Acquire> RwLockGuard<L> {
         guard.held.unlocked(f)
     }
 
-    /// Gives the value back, and hands the lock and the token on.
+    /// Releases the value's lock, and returns the lock with its token.
     pub(crate) fn into_token(self) -> (L, L::Token)
         ensures { result.0 ≡ (held_of self).lock }
     {
@@ -60,7 +60,7 @@ impl<L: Acquire> RwLockGuard<L> {
 impl<L: AcquireFair> RwLockGuard<L> {
     ghost use Rattle.lock_rwlock.specs.RwLockGuard.{held_of};
 
-    /// Ends the guard, by a fair release.
+    /// Releases the lock by a fair release.
     pub fn unlock_fair(guard: Self) {
         guard.held.unlock_fair();
     }
@@ -74,7 +74,7 @@ impl<L: AcquireFair> RwLockGuard<L> {
         guard.held.unlocked_fair(f)
     }
 
-    /// Gives the lock up by a fair release, and waits for it again.
+    /// Releases the lock by a fair release, and reacquires it, blocking until it is available.
     pub fn bump(guard: &mut Self)
         ensures { (held_of guard.new).lock ≡ (held_of guard.old).lock }
     {

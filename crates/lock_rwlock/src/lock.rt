@@ -9,8 +9,10 @@ use lock_guard::raw::{RawRwLock, RawRwLockTimed, RawRwLockUpgrade, RawRwLockUpgr
 use std::alloc::Global;
 use std::{fmt, sync};
 
-/// A value that many may read or one may write. It lies in a std lock, which is taken after the raw lock admits and
-/// given back before the raw lock is. So a raw lock that lies can make a call wait, and nothing worse.
+/// A value that many threads may read, or one thread may write.
+///
+/// The value lies in a std lock, which is acquired after the raw lock admits and released before the raw lock. So a raw
+/// lock that admits too many threads can make calls block; it can never cause a data race.
 #[derive(Drop)]
 pub struct RwLock<R, T> {
     pub(crate) raw: R,
@@ -21,7 +23,7 @@ impl<R: RawRwLock, T> RwLock<R, T> {
     ghost use Rattle.lock_rwlock.specs.RwLock.{raw_of};
     ghost use Rattle.lock_rwlock.specs.RwLockGuard.{IsGuardOf};
 
-    /// A free lock over a new raw lock with `DEFAULT_READERS`. The value is dropped where it is refused.
+    /// Makes an unlocked lock over a new raw lock with `DEFAULT_READERS`. The value is dropped if there is no memory.
     pub fn new(alloc: Global, waiter: R::Waiter, value: T) -> Result<RwLock<R, T>, Fault>
     where
         T: Drop,
@@ -39,7 +41,7 @@ impl<R: RawRwLock, T> RwLock<R, T> {
         RwLock::new(alloc, waiter, value)
     }
 
-    /// `new`, over the default value.
+    /// `new`, of the default value.
     pub fn default(alloc: Global, waiter: R::Waiter) -> Result<RwLock<R, T>, Fault>
     where
         T: Default + Drop,
@@ -48,7 +50,8 @@ impl<R: RawRwLock, T> RwLock<R, T> {
         RwLock::new(alloc, waiter, T::default())
     }
 
-    /// A free lock that at most so many hold shared or upgradable at a time. The value is dropped where it is refused.
+    /// Makes an unlocked lock that at most `readers` hold shared or upgradable at a time. The value is dropped on an
+    /// error.
     pub fn with_readers(
         alloc: Global,
         waiter: R::Waiter,
@@ -65,7 +68,7 @@ impl<R: RawRwLock, T> RwLock<R, T> {
         RwLock::from_raw(raw, value)
     }
 
-    /// A lock over a raw lock that was made apart. It takes no memory, so it is never refused.
+    /// Makes a lock over a given raw lock. It allocates nothing, so it never fails.
     pub fn from_raw(raw: R, value: T) -> Result<RwLock<R, T>, Fault>
         ensures { IsOkAnd result (λ lock. raw_of lock ≡ raw) }
     {
@@ -75,6 +78,7 @@ impl<R: RawRwLock, T> RwLock<R, T> {
         })
     }
 
+    /// Consumes the lock, and returns the value.
     pub fn into_inner(self) -> T
     where
         R: Drop,
@@ -82,7 +86,7 @@ impl<R: RawRwLock, T> RwLock<R, T> {
         self.into_inner_with_raw().1
     }
 
-    /// The raw lock, and the value.
+    /// Consumes the lock, and returns the raw lock and the value.
     pub fn into_inner_with_raw(self) -> (R, T)
         ensures { result.0 ≡ raw_of self }
     {
@@ -90,43 +94,48 @@ impl<R: RawRwLock, T> RwLock<R, T> {
         (raw, value.into_inner())
     }
 
+    /// Returns the value. No locking is needed, since the lock is borrowed exclusively.
     pub fn get_mut(&mut self) -> &mut T {
         self.value.get_mut()
     }
 
-    /// What the raw lock answers, which may be old at once.
+    /// Returns what the raw lock says: whether it is held in any mode. The answer may be stale at once.
     pub fn is_locked(&self) -> bool {
         self.raw.is_locked()
     }
 
-    /// What the raw lock answers, which may be old at once.
+    /// Returns what the raw lock says: whether it is held exclusively. The answer may be stale at once.
     pub fn is_locked_exclusive(&self) -> bool {
         self.raw.is_locked_exclusive()
     }
 
-    /// Waits until the raw lock admits one more to read. A thread that reads already may wait for ever: where the raw lock keeps
-    /// readers out while a writer waits, that writer waits for this thread.
+    /// Acquires the lock shared, blocking until it is available.
+    ///
+    /// # Blocking
+    ///
+    /// A thread that already reads may block for ever. A raw lock may refuse readers while a writer waits, and that
+    /// writer waits for this thread.
     pub fn read(&self) -> RwLockReadGuard<'_, R, T>
         ensures { IsGuardOf self.entry result }
     {
         guard!(self, self.raw.lock_shared())
     }
 
-    /// None where the raw lock refuses.
+    /// Acquires the lock shared without blocking, or returns `None` if the raw lock refuses.
     pub fn try_read(&self) -> Option<RwLockReadGuard<'_, R, T>>
         ensures { IfSome result (IsGuardOf self.entry) }
     {
         Some(guard!(self, self.raw.try_lock_shared()?))
     }
 
-    /// Waits until the raw lock admits one to write.
+    /// Acquires the lock exclusively, blocking until it is available.
     pub fn write(&self) -> RwLockWriteGuard<'_, R, T>
         ensures { IsGuardOf self.entry result }
     {
         guard!(self, self.raw.lock_exclusive())
     }
 
-    /// None where the raw lock refuses.
+    /// Acquires the lock exclusively without blocking, or returns `None` if the raw lock refuses.
     pub fn try_write(&self) -> Option<RwLockWriteGuard<'_, R, T>>
         ensures { IfSome result (IsGuardOf self.entry) }
     {
@@ -137,28 +146,28 @@ impl<R: RawRwLock, T> RwLock<R, T> {
 impl<R: RawRwLockTimed, T> RwLock<R, T> {
     ghost use Rattle.lock_rwlock.specs.RwLockGuard.{IsGuardOf};
 
-    /// None where the raw lock refuses for that long.
+    /// Tries to acquire the lock shared for at most `timeout`.
     pub fn try_read_for(&self, timeout: R::Duration) -> Option<RwLockReadGuard<'_, R, T>>
         ensures { IfSome result (IsGuardOf self.entry) }
     {
         Some(guard!(self, self.raw.try_lock_shared_for(timeout)?))
     }
 
-    /// None where the raw lock refuses until then.
+    /// Tries to acquire the lock shared until `deadline`.
     pub fn try_read_until(&self, deadline: R::Instant) -> Option<RwLockReadGuard<'_, R, T>>
         ensures { IfSome result (IsGuardOf self.entry) }
     {
         Some(guard!(self, self.raw.try_lock_shared_until(deadline)?))
     }
 
-    /// None where the raw lock refuses for that long.
+    /// Tries to acquire the lock exclusively for at most `timeout`.
     pub fn try_write_for(&self, timeout: R::Duration) -> Option<RwLockWriteGuard<'_, R, T>>
         ensures { IfSome result (IsGuardOf self.entry) }
     {
         Some(guard!(self, self.raw.try_lock_exclusive_for(timeout)?))
     }
 
-    /// None where the raw lock refuses until then.
+    /// Tries to acquire the lock exclusively until `deadline`.
     pub fn try_write_until(&self, deadline: R::Instant) -> Option<RwLockWriteGuard<'_, R, T>>
         ensures { IfSome result (IsGuardOf self.entry) }
     {
@@ -169,14 +178,14 @@ impl<R: RawRwLockTimed, T> RwLock<R, T> {
 impl<R: RawRwLockUpgrade, T> RwLock<R, T> {
     ghost use Rattle.lock_rwlock.specs.RwLockGuard.{IsGuardOf};
 
-    /// Waits until the raw lock admits one to read and then, perhaps, to write.
+    /// Acquires the lock upgradable, blocking until it is available. The guard reads, and can become the writer.
     pub fn upgradable_read(&self) -> RwLockUpgradableReadGuard<'_, R, T>
         ensures { IsGuardOf self.entry result }
     {
         guard!(self, self.raw.lock_upgradable())
     }
 
-    /// None where the raw lock refuses.
+    /// Acquires the lock upgradable without blocking, or returns `None` if the raw lock refuses.
     pub fn try_upgradable_read(&self) -> Option<RwLockUpgradableReadGuard<'_, R, T>>
         ensures { IfSome result (IsGuardOf self.entry) }
     {
@@ -187,7 +196,7 @@ impl<R: RawRwLockUpgrade, T> RwLock<R, T> {
 impl<R: RawRwLockUpgradeTimed, T> RwLock<R, T> {
     ghost use Rattle.lock_rwlock.specs.RwLockGuard.{IsGuardOf};
 
-    /// None where the raw lock refuses for that long.
+    /// Tries to acquire the lock upgradable for at most `timeout`.
     pub fn try_upgradable_read_for(
         &self,
         timeout: R::Duration,
@@ -197,7 +206,7 @@ impl<R: RawRwLockUpgradeTimed, T> RwLock<R, T> {
         Some(guard!(self, self.raw.try_lock_upgradable_for(timeout)?))
     }
 
-    /// None where the raw lock refuses until then.
+    /// Tries to acquire the lock upgradable until `deadline`.
     pub fn try_upgradable_read_until(
         &self,
         deadline: R::Instant,

@@ -1,4 +1,4 @@
-//! The modes in which a lock is held.
+//! The modes of a lock.
 mod exclusive;
 mod shared;
 mod upgradable;
@@ -13,37 +13,37 @@ pub use shared::Shared;
 use std::marker::PhantomData;
 pub use upgradable::Upgradable;
 
-/// The calls of a raw lock for one mode. The markers of the modes have it, for whoever holds the lock.
+/// The calls of a raw lock in one mode. The marker type of the mode implements it.
 pub trait LockMode<R: RawRwLock> {
-    /// What an acquisition in this mode gives.
+    /// The raw lock's token of this mode.
     type Token;
 
-    /// Waits until the raw lock admits.
+    /// Acquires the raw lock in this mode, blocking until it is available.
     fn acquire(raw: &R) -> Self::Token;
 
     fn release(raw: &R, token: Self::Token);
 }
 
-/// The calls of a raw lock for one mode, where it can hand itself on in the order of those that wait.
+/// The fair calls of a raw lock in one mode.
 pub trait FairMode<R: RawRwLock>: LockMode<R> {
     fn release_fair(raw: &R, token: Self::Token);
 
-    /// Gives the lock up by a fair release, and acquires it again.
+    /// Releases the raw lock by a fair release, and reacquires it.
     fn bump(raw: &R, token: Self::Token) -> Self::Token;
 }
 
-/// How std's lock of the value shows it to whoever borrows the lock and holds it in one mode.
+/// How a borrowed lock, held in one mode, reaches its value through std's lock.
 pub trait ShowMode<'a, R: RawRwLock, T>: LockMode<R> {
     type Shown: ValueGuard;
 
-    /// None where std's lock is not free.
+    /// Tries the value's lock.
     fn try_show(rwlock: &'a RwLock<R, T>) -> Option<Self::Shown>;
 
-    /// Waits for std's lock.
+    /// Locks the value's lock, blocking until it is free.
     fn wait_to_show(rwlock: &'a RwLock<R, T>) -> Self::Shown;
 }
 
-/// A lock, to be held in the mode M: `Shared`, `Exclusive` or `Upgradable`.
+/// A borrowed lock in the mode `M`: `Shared`, `Exclusive` or `Upgradable`.
 #[derive_where(Clone, Copy)]
 pub struct InMode<'a, M, R, T> {
     pub(crate) rwlock: &'a RwLock<R, T>,

@@ -1,4 +1,4 @@
-//! What the crates beside this one need of a lock. The front crate hands none of it on.
+//! What other crates of the workspace need of a lock. `lock_api` does not re-export it.
 mod upgraded;
 
 ghost use Rattle.std.specs.Prelude.{◌≡◌};
@@ -13,14 +13,14 @@ pub use upgraded::{
     try_with_upgraded, try_with_upgraded_for, try_with_upgraded_until, with_upgraded,
 };
 
-/// The raw lock.
+/// Returns the raw lock.
 pub fn raw<R, T>(rwlock: &RwLock<R, T>) -> &R
     ensures { result.now ≡ raw_of rwlock.now }
 {
     &rwlock.raw
 }
 
-/// Calls the closure on the value, whose own lock is held to read for the length of the call.
+/// Runs `f` on the value, holding the value's lock for reading for the length of the call.
 pub fn read_with<R: RawRwLock, T, U, F: FnOnce(&T) -> U>(rwlock: &RwLock<R, T>, f: F) -> U
     requires { F.IsAlwaysCallable f }
     ensures { ReadsSomeValue F.FnOnce f result }
@@ -29,7 +29,7 @@ pub fn read_with<R: RawRwLock, T, U, F: FnOnce(&T) -> U>(rwlock: &RwLock<R, T>, 
     f(&value)
 }
 
-/// Calls the closure on the value, whose own lock is held to write for the length of the call.
+/// Runs `f` on the value, which it may change, holding the value's lock for writing for the length of the call.
 pub fn write_with<R: RawRwLock, T, U, F: FnOnce(&mut T) -> U>(rwlock: &RwLock<R, T>, f: F) -> U
     requires { F.IsAlwaysCallable f }
     ensures { AnswersSomeValue F.FnOnce f result }

@@ -10,13 +10,13 @@ use lock_base::project::{TryView, View};
 use lock_guard::guard::{Acquire, Held, Mapped, ValueGuard};
 use lock_guard::raw::RawRwLock;
 
-/// The right to read a part of the value of a lock, beside others that read.
+/// A read guard of a part of the value. It releases the lock on drop.
 pub type MappedRwLockReadGuard<'a, R, T, P> = Mapped<Held<InMode<'a, Shared, R, T>>, P>;
 
-/// The right to read and write a part of the value of a lock.
+/// A write guard of a part of the value. It releases the lock on drop.
 pub type MappedRwLockWriteGuard<'a, R, T, P> = Mapped<Held<InMode<'a, Exclusive, R, T>>, P>;
 
-/// A lock in a mode whose guards can be mapped. Upgradable ones cannot.
+/// A lock in a mode whose guards can be mapped: shared or exclusive.
 pub trait Mappable: Acquire {}
 
 impl<R: RawRwLock, T> Mappable for InMode<'_, Shared, R, T> {}
@@ -26,7 +26,7 @@ impl<R: RawRwLock, T> Mappable for InMode<'_, Exclusive, R, T> {}
 impl<L: Mappable> RwLockGuard<L> {
     ghost use Rattle.lock_rwlock.specs.RwLockGuard.{held_of};
 
-    /// The guard of a part, by a projection that always has one.
+    /// Makes the guard of a part, by a projection that always has one. The lock stays held.
     pub fn map<P: View<<L::Shown as ValueGuard>::Value>>(
         guard: Self,
         projection: P,
@@ -36,7 +36,7 @@ impl<L: Mappable> RwLockGuard<L> {
         Mapped::of(guard.held, projection)
     }
 
-    /// The guard of a part, or the same guard where there is none.
+    /// Makes the guard of a part, or returns the same guard, still held, if the value has no such part.
     pub fn try_map<P: TryView<<L::Shown as ValueGuard>::Value>>(
         guard: Self,
         projection: P,
@@ -51,7 +51,7 @@ impl<L: Mappable> RwLockGuard<L> {
         }
     }
 
-    /// The guard of a part, or the same guard with what the projection tells of a value without one.
+    /// Makes the guard of a part. If the value has no such part, returns the same guard, still held, with the miss.
     pub fn try_map_or_err<P: TryView<<L::Shown as ValueGuard>::Value>>(
         guard: Self,
         projection: P,

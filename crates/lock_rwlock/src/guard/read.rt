@@ -1,4 +1,4 @@
-//! The guard of a shared lock.
+//! The read guard.
 ghost use Rattle.std.specs.Prelude.{◌≡◌};
 
 use super::RwLockGuard;
@@ -6,13 +6,13 @@ use crate::lock::RwLock;
 use crate::mode::{InMode, Shared};
 use lock_guard::raw::RawRwLock;
 
-/// The right to read the value of a lock, beside others that read.
+/// A read guard: it reads the value, next to other readers, and releases the lock on drop.
 pub type RwLockReadGuard<'a, R, T> = RwLockGuard<InMode<'a, Shared, R, T>>;
 
 impl<'a, R: RawRwLock, T> RwLockGuard<InMode<'a, Shared, R, T>> {
     ghost use Rattle.lock_rwlock.specs.RwLockGuard.{IsGuardOf};
 
-    /// The lock that the guard was made of.
+    /// Returns the lock of the guard.
     pub fn rwlock(guard: &RwLockReadGuard<'a, R, T>) -> &'a RwLock<R, T>
         ensures { IsGuardOf result guard.now }
     {

@@ -1,4 +1,4 @@
-//! The guard of an upgradable lock.
+//! The upgradable read guard.
 ghost use Rattle.std.specs.Prelude.{◌≡◌, IfSome, IfErr, MatchResult, is_ok};
 ghost use Rattle.lock_guard.specs.Closure.{AnswersSomeValue};
 
@@ -10,21 +10,22 @@ use lock_guard::guard::{Acquire, Held, Inner};
 use lock_guard::raw::{RawRwLockUpgrade, RawRwLockUpgradeDowngrade, RawRwLockUpgradeTimed};
 use std::sync;
 
-/// The right to read the value of a lock, beside others that read, and to become the one that writes.
+/// An upgradable read guard: it reads the value, next to readers, and can become the writer. It releases the lock on
+/// drop.
 pub type RwLockUpgradableReadGuard<'a, R, T> = RwLockGuard<InMode<'a, Upgradable, R, T>>;
 
 impl<'a, R: RawRwLockUpgrade, T> RwLockGuard<InMode<'a, Upgradable, R, T>> {
     ghost use Rattle.lock_guard.specs.declared.guard.inner.Inner.TheVariants.{Filled};
     ghost use Rattle.lock_rwlock.specs.RwLockGuard.{IsGuardOf, SameLock, held_of};
 
-    /// The lock that the guard was made of.
+    /// Returns the lock of the guard.
     pub fn rwlock(guard: &RwLockUpgradableReadGuard<'a, R, T>) -> &'a RwLock<R, T>
         ensures { IsGuardOf result guard.now }
     {
         guard.held.lock.rwlock
     }
 
-    /// The right to write in place of this one, once no other guard is left.
+    /// Upgrades the guard to a write guard, blocking until no other guard is held.
     pub fn upgrade(guard: RwLockUpgradableReadGuard<'a, R, T>) -> RwLockWriteGuard<'a, R, T>
         ensures { SameLock guard.entry result }
     {
@@ -32,7 +33,7 @@ impl<'a, R: RawRwLockUpgrade, T> RwLockGuard<InMode<'a, Upgradable, R, T>> {
         guard!(lock.rwlock, lock.rwlock.raw.upgrade(token))
     }
 
-    /// The right to write in place of this one, or this one again where the raw lock refuses.
+    /// Upgrades the guard without blocking, or returns it unchanged if the raw lock refuses.
     pub fn try_upgrade(
         guard: RwLockUpgradableReadGuard<'a, R, T>,
     ) -> Result<RwLockWriteGuard<'a, R, T>, RwLockUpgradableReadGuard<'a, R, T>>
@@ -43,7 +44,7 @@ impl<'a, R: RawRwLockUpgrade, T> RwLockGuard<InMode<'a, Upgradable, R, T>> {
         RwLockUpgradableReadGuard::upgraded(lock, shown, answer)
     }
 
-    /// The guard of the token that the raw lock answered: an upgradable one shows what was shown.
+    /// Makes the guard of the token that the raw lock returned. An upgradable token keeps the value's lock that it had.
     fn upgraded(
         lock: InMode<'a, Upgradable, R, T>,
         shown: sync::RwLockReadGuard<'a, T>,
@@ -72,7 +73,7 @@ impl<'a, R: RawRwLockUpgrade, T> RwLockGuard<InMode<'a, Upgradable, R, T>> {
 impl<'a, R: RawRwLockUpgradeTimed, T> RwLockGuard<InMode<'a, Upgradable, R, T>> {
     ghost use Rattle.lock_rwlock.specs.RwLockGuard.{SameLock};
 
-    /// `try_upgrade`, where the raw lock may wait for that long before it refuses.
+    /// `try_upgrade`, where the raw lock may block for at most `timeout`.
     pub fn try_upgrade_for(
         guard: RwLockUpgradableReadGuard<'a, R, T>,
         timeout: R::Duration,
@@ -84,7 +85,7 @@ impl<'a, R: RawRwLockUpgradeTimed, T> RwLockGuard<InMode<'a, Upgradable, R, T>> 
         RwLockUpgradableReadGuard::upgraded(lock, shown, answer)
     }
 
-    /// `try_upgrade`, where the raw lock may wait until then before it refuses.
+    /// `try_upgrade`, where the raw lock may block until `deadline`.
     pub fn try_upgrade_until(
         guard: RwLockUpgradableReadGuard<'a, R, T>,
         deadline: R::Instant,
@@ -100,7 +101,7 @@ impl<'a, R: RawRwLockUpgradeTimed, T> RwLockGuard<InMode<'a, Upgradable, R, T>> 
 impl<'a, R: RawRwLockUpgradeDowngrade, T> RwLockGuard<InMode<'a, Upgradable, R, T>> {
     ghost use Rattle.lock_rwlock.specs.RwLockGuard.{SameLock};
 
-    /// The right to read in place of this one.
+    /// Downgrades the guard to a read guard. It never blocks on the raw lock.
     pub fn downgrade(guard: RwLockUpgradableReadGuard<'a, R, T>) -> RwLockReadGuard<'a, R, T>
         ensures { SameLock guard.entry result }
     {
@@ -108,7 +109,7 @@ impl<'a, R: RawRwLockUpgradeDowngrade, T> RwLockGuard<InMode<'a, Upgradable, R, 
         guard!(lock.rwlock, lock.rwlock.raw.downgrade_upgradable(token))
     }
 
-    /// Calls the closure on the value while this is the one that writes, once no other guard is left.
+    /// Upgrades, runs `f` on the value, and downgrades again. The upgrade blocks until no other guard is held.
     pub fn with_upgraded<U, F: FnOnce(&mut T) -> U>(&mut self, f: F) -> U
         requires { F.IsAlwaysCallable f }
         ensures answer { AnswersSomeValue F.FnOnce f result }
@@ -120,7 +121,7 @@ impl<'a, R: RawRwLockUpgradeDowngrade, T> RwLockGuard<InMode<'a, Upgradable, R, 
         answer
     }
 
-    /// `with_upgraded` where the raw lock admits it now, or None without a call of the closure.
+    /// `with_upgraded` without blocking. If the raw lock refuses, returns `None` and does not call `f`.
     pub fn try_with_upgraded<U, F: FnOnce(&mut T) -> U>(&mut self, f: F) -> Option<U>
     where
         F: Drop,
@@ -141,7 +142,7 @@ impl<'a, R: RawRwLockUpgradeTimed + RawRwLockUpgradeDowngrade, T> RwLockGuard<
 > {
     ghost use Rattle.lock_rwlock.specs.RwLockGuard.{SameLock};
 
-    /// `try_with_upgraded`, where the raw lock may wait for that long before it refuses.
+    /// `try_with_upgraded`, where the raw lock may block for at most `timeout`.
     pub fn try_with_upgraded_for<U, F: FnOnce(&mut T) -> U>(
         &mut self,
         timeout: R::Duration,
@@ -160,7 +161,7 @@ impl<'a, R: RawRwLockUpgradeTimed + RawRwLockUpgradeDowngrade, T> RwLockGuard<
         answer
     }
 
-    /// `try_with_upgraded`, where the raw lock may wait until then before it refuses.
+    /// `try_with_upgraded`, where the raw lock may block until `deadline`.
     pub fn try_with_upgraded_until<U, F: FnOnce(&mut T) -> U>(
         &mut self,
         deadline: R::Instant,

@@ -1,4 +1,4 @@
-//! The guard of an exclusive lock.
+//! The write guard.
 ghost use Rattle.std.specs.Prelude.{◌≡◌};
 
 use super::{RwLockGuard, RwLockReadGuard, RwLockUpgradableReadGuard, guard};
@@ -6,13 +6,13 @@ use crate::lock::RwLock;
 use crate::mode::{Exclusive, InMode};
 use lock_guard::raw::{RawRwLock, RawRwLockDowngrade, RawRwLockUpgradeDowngrade};
 
-/// The right to read and write the value of a lock.
+/// A write guard: it reads and writes the value, and releases the lock on drop.
 pub type RwLockWriteGuard<'a, R, T> = RwLockGuard<InMode<'a, Exclusive, R, T>>;
 
 impl<'a, R: RawRwLock, T> RwLockGuard<InMode<'a, Exclusive, R, T>> {
     ghost use Rattle.lock_rwlock.specs.RwLockGuard.{IsGuardOf};
 
-    /// The lock that the guard was made of.
+    /// Returns the lock of the guard.
     pub fn rwlock(guard: &RwLockWriteGuard<'a, R, T>) -> &'a RwLock<R, T>
         ensures { IsGuardOf result guard.now }
     {
@@ -23,7 +23,7 @@ impl<'a, R: RawRwLock, T> RwLockGuard<InMode<'a, Exclusive, R, T>> {
 impl<'a, R: RawRwLockDowngrade, T> RwLockGuard<InMode<'a, Exclusive, R, T>> {
     ghost use Rattle.lock_rwlock.specs.RwLockGuard.{SameLock};
 
-    /// The right to read in place of this one.
+    /// Downgrades the guard to a read guard.
     pub fn downgrade(guard: RwLockWriteGuard<'a, R, T>) -> RwLockReadGuard<'a, R, T>
         ensures { SameLock guard.entry result }
     {
@@ -35,7 +35,7 @@ impl<'a, R: RawRwLockDowngrade, T> RwLockGuard<InMode<'a, Exclusive, R, T>> {
 impl<'a, R: RawRwLockUpgradeDowngrade, T> RwLockGuard<InMode<'a, Exclusive, R, T>> {
     ghost use Rattle.lock_rwlock.specs.RwLockGuard.{SameLock};
 
-    /// An upgradable guard in place of this one.
+    /// Downgrades the guard to an upgradable read guard.
     pub fn downgrade_to_upgradable(
         guard: RwLockWriteGuard<'a, R, T>,
     ) -> RwLockUpgradableReadGuard<'a, R, T>

@@ -1,4 +1,4 @@
-//! One holds a lock exclusive, and reads and writes.
+//! The exclusive mode: one holder, who reads and writes.
 use super::{FairMode, LockMode, ShowMode};
 use crate::lock::RwLock;
 use lock_guard::raw::{RawRwLock, RawRwLockFair};
@@ -37,7 +37,7 @@ impl<'a, R: RawRwLock, T: 'a> ShowMode<'a, R, T> for Exclusive {
         rwlock.value.try_write()
     }
 
-    /// Apart from the way of those that need not wait.
+    /// Kept off the uncontended path.
     #[cold]
     #[inline(never)]
     fn wait_to_show(rwlock: &'a RwLock<R, T>) -> sync::RwLockWriteGuard<'a, T> {

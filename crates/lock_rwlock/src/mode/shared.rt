@@ -1,4 +1,4 @@
-//! Many may hold a lock shared, and read.
+//! The shared mode: many holders, who read.
 use super::{FairMode, LockMode, ShowMode};
 use crate::lock::RwLock;
 use lock_guard::raw::{RawRwLock, RawRwLockFair};
@@ -37,7 +37,7 @@ impl<'a, R: RawRwLock, T: 'a> ShowMode<'a, R, T> for Shared {
         rwlock.value.try_read()
     }
 
-    /// Apart from the way of those that need not wait.
+    /// Kept off the uncontended path.
     #[cold]
     #[inline(never)]
     fn wait_to_show(rwlock: &'a RwLock<R, T>) -> sync::RwLockReadGuard<'a, T> {

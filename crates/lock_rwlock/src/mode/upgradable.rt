@@ -1,10 +1,10 @@
-//! One holds a lock upgradable, and reads beside the shared ones.
+//! The upgradable mode: one holder, who reads next to the shared ones.
 use super::{FairMode, LockMode, ShowMode};
 use crate::lock::RwLock;
 use lock_guard::raw::{RawRwLockUpgrade, RawRwLockUpgradeFair};
 use std::sync;
 
-/// The mode of an upgradable guard.
+/// The mode of an upgradable read guard.
 #[derive(Clone, Copy, Debug)]
 pub struct Upgradable;
 
@@ -37,7 +37,7 @@ impl<'a, R: RawRwLockUpgrade, T: 'a> ShowMode<'a, R, T> for Upgradable {
         rwlock.value.try_read()
     }
 
-    /// Apart from the way of those that need not wait.
+    /// Kept off the uncontended path.
     #[cold]
     #[inline(never)]
     fn wait_to_show(rwlock: &'a RwLock<R, T>) -> sync::RwLockReadGuard<'a, T> {

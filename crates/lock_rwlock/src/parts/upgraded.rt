@@ -1,4 +1,4 @@
-//! A call under an upgraded token, which is upgradable again afterwards.
+//! Calls under an upgraded token, which is downgraded afterwards.
 ghost use Rattle.std.specs.Prelude.{◌≡◌, IfSome, is_ok, is_some};
 ghost use Rattle.lock_guard.specs.Closure.{AnswersSomeValue};
 
@@ -6,7 +6,8 @@ use super::write_with;
 use crate::lock::RwLock;
 use lock_guard::raw::{RawRwLockUpgradeDowngrade, RawRwLockUpgradeTimed};
 
-/// Calls the closure on the value once no other token is out.
+/// Upgrades the token, runs `f` on the value, and downgrades the token. The upgrade blocks until no other token is
+/// held.
 pub fn with_upgraded<R: RawRwLockUpgradeDowngrade, T, U, F: FnOnce(&mut T) -> U>(
     rwlock: &RwLock<R, T>,
     token: R::UpgradableGuard,
@@ -20,7 +21,7 @@ pub fn with_upgraded<R: RawRwLockUpgradeDowngrade, T, U, F: FnOnce(&mut T) -> U>
     (rwlock.raw.downgrade_to_upgradable(token), answer)
 }
 
-/// `with_upgraded` where the raw lock admits it now, or None without a call of the closure.
+/// `with_upgraded` without blocking. If the raw lock refuses, returns `None` and does not call `f`.
 pub fn try_with_upgraded<R: RawRwLockUpgradeDowngrade, T, U, F: FnOnce(&mut T) -> U>(
     rwlock: &RwLock<R, T>,
     token: R::UpgradableGuard,
@@ -34,7 +35,7 @@ where
     with_if_upgraded(rwlock, rwlock.raw.try_upgrade(token), f)
 }
 
-/// `try_with_upgraded`, where the raw lock may wait for that long before it refuses.
+/// `try_with_upgraded`, where the raw lock may block for at most `timeout`.
 pub fn try_with_upgraded_for<
     R: RawRwLockUpgradeTimed + RawRwLockUpgradeDowngrade,
     T,
@@ -54,7 +55,7 @@ where
     with_if_upgraded(rwlock, rwlock.raw.try_upgrade_for(token, timeout), f)
 }
 
-/// `try_with_upgraded`, where the raw lock may wait until then before it refuses.
+/// `try_with_upgraded`, where the raw lock may block until `deadline`.
 pub fn try_with_upgraded_until<
     R: RawRwLockUpgradeTimed + RawRwLockUpgradeDowngrade,
     T,
@@ -74,7 +75,7 @@ where
     with_if_upgraded(rwlock, rwlock.raw.try_upgrade_until(token, deadline), f)
 }
 
-/// Calls the closure on the value where the raw lock upgraded the token. The token is upgradable again afterwards.
+/// Runs `f` on the value if the token was upgraded, and downgrades the token.
 fn with_if_upgraded<R: RawRwLockUpgradeDowngrade, T, U, F: FnOnce(&mut T) -> U>(
     rwlock: &RwLock<R, T>,
     upgraded: Result<R::ExclusiveGuard, R::UpgradableGuard>,
