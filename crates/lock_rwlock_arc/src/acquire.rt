@@ -1,4 +1,4 @@
-//! The acquisitions of a lock by guards that keep it alive.
+//! Acquisitions of a lock by guards that own a reference to it.
 ghost use Rattle.std.specs.Prelude.{IfOk, IfSome, IsOkUnless};
 ghost use Rattle.lock_rwlock_arc.specs.ArcRwLockGuard.{IsArcGuardOf};
 
@@ -8,24 +8,28 @@ use lock_guard::raw::{RawRwLock, RawRwLockTimed, RawRwLockUpgrade, RawRwLockUpgr
 use lock_rwlock::RwLock;
 use std::sync::Arc;
 
-/// The calls of an `RwLock` that answer guards which keep it alive.
+/// The acquisitions of an `RwLock` by guards that own a clone of its `Arc`.
+///
+/// # Errors
+///
+/// `OutOfMemory` if the `Arc` cannot be cloned. The clone comes first, so nothing is locked then.
 pub trait RwLockArc<R: RawRwLock + Drop, T: Drop> {
-    /// `read`, by a guard that keeps the lock alive. Where there is no memory for that, nothing is locked.
+    /// Acquires the lock shared, blocking until it is available.
     fn read_arc(this: &Arc<RwLock<R, T>>) -> Result<ArcRwLockReadGuard<R, T>, Fault>
         ensures fault { IsOkUnless result Fault.OutOfMemory }
         ensures lock { IfOk result (IsArcGuardOf this.now) };
 
-    /// `try_read`, by a guard that keeps the lock alive. Where there is no memory for that, nothing is locked.
+    /// Acquires the lock shared without blocking.
     fn try_read_arc(this: &Arc<RwLock<R, T>>) -> Result<Option<ArcRwLockReadGuard<R, T>>, Fault>
         ensures fault { IsOkUnless result Fault.OutOfMemory }
         ensures lock { IfOk result (λ got. IfSome got (IsArcGuardOf this.now)) };
 
-    /// `write`, by a guard that keeps the lock alive. Where there is no memory for that, nothing is locked.
+    /// Acquires the lock exclusively, blocking until it is available.
     fn write_arc(this: &Arc<RwLock<R, T>>) -> Result<ArcRwLockWriteGuard<R, T>, Fault>
         ensures fault { IsOkUnless result Fault.OutOfMemory }
         ensures lock { IfOk result (IsArcGuardOf this.now) };
 
-    /// `try_write`, by a guard that keeps the lock alive. Where there is no memory for that, nothing is locked.
+    /// Acquires the lock exclusively without blocking.
     fn try_write_arc(this: &Arc<RwLock<R, T>>) -> Result<Option<ArcRwLockWriteGuard<R, T>>, Fault>
         ensures fault { IsOkUnless result Fault.OutOfMemory }
         ensures lock { IfOk result (λ got. IfSome got (IsArcGuardOf this.now)) };
@@ -49,9 +53,9 @@ impl<R: RawRwLock + Drop, T: Drop> RwLockArc<R, T> for RwLock<R, T> {
     }
 }
 
-/// `RwLockArc`, by tries that may wait for a time.
+/// `RwLockArc`, by tries with timeouts.
 pub trait RwLockArcTimed<R: RawRwLockTimed + Drop, T: Drop> {
-    /// `try_read_arc`, where the raw lock may wait for that long before it refuses.
+    /// `try_read_arc`, where the raw lock may block for at most `timeout`.
     fn try_read_arc_for(
         this: &Arc<RwLock<R, T>>,
         timeout: R::Duration,
@@ -59,7 +63,7 @@ pub trait RwLockArcTimed<R: RawRwLockTimed + Drop, T: Drop> {
         ensures fault { IsOkUnless result Fault.OutOfMemory }
         ensures lock { IfOk result (λ got. IfSome got (IsArcGuardOf this.now)) };
 
-    /// `try_read_arc`, where the raw lock may wait until then before it refuses.
+    /// `try_read_arc`, where the raw lock may block until `deadline`.
     fn try_read_arc_until(
         this: &Arc<RwLock<R, T>>,
         deadline: R::Instant,
@@ -67,7 +71,7 @@ pub trait RwLockArcTimed<R: RawRwLockTimed + Drop, T: Drop> {
         ensures fault { IsOkUnless result Fault.OutOfMemory }
         ensures lock { IfOk result (λ got. IfSome got (IsArcGuardOf this.now)) };
 
-    /// `try_write_arc`, where the raw lock may wait for that long before it refuses.
+    /// `try_write_arc`, where the raw lock may block for at most `timeout`.
     fn try_write_arc_for(
         this: &Arc<RwLock<R, T>>,
         timeout: R::Duration,
@@ -75,7 +79,7 @@ pub trait RwLockArcTimed<R: RawRwLockTimed + Drop, T: Drop> {
         ensures fault { IsOkUnless result Fault.OutOfMemory }
         ensures lock { IfOk result (λ got. IfSome got (IsArcGuardOf this.now)) };
 
-    /// `try_write_arc`, where the raw lock may wait until then before it refuses.
+    /// `try_write_arc`, where the raw lock may block until `deadline`.
     fn try_write_arc_until(
         this: &Arc<RwLock<R, T>>,
         deadline: R::Instant,
@@ -114,17 +118,16 @@ impl<R: RawRwLockTimed + Drop, T: Drop> RwLockArcTimed<R, T> for RwLock<R, T> {
     }
 }
 
-/// `RwLockArc`, by guards that can be upgraded.
+/// `RwLockArc`, for upgradable guards.
 pub trait RwLockArcUpgrade<R: RawRwLockUpgrade + Drop, T: Drop> {
-    /// `upgradable_read`, by a guard that keeps the lock alive. Where there is no memory for that, nothing is locked.
+    /// Acquires the lock upgradable, blocking until it is available.
     fn upgradable_read_arc(
         this: &Arc<RwLock<R, T>>,
     ) -> Result<ArcRwLockUpgradableReadGuard<R, T>, Fault>
         ensures fault { IsOkUnless result Fault.OutOfMemory }
         ensures lock { IfOk result (IsArcGuardOf this.now) };
 
-    /// `try_upgradable_read`, by a guard that keeps the lock alive. Where there is no memory for that, nothing is
-    /// locked.
+    /// Acquires the lock upgradable without blocking.
     fn try_upgradable_read_arc(
         this: &Arc<RwLock<R, T>>,
     ) -> Result<Option<ArcRwLockUpgradableReadGuard<R, T>>, Fault>
@@ -146,9 +149,9 @@ impl<R: RawRwLockUpgrade + Drop, T: Drop> RwLockArcUpgrade<R, T> for RwLock<R, T
     }
 }
 
-/// `RwLockArcUpgrade`, by tries that may wait for a time.
+/// `RwLockArcUpgrade`, by tries with timeouts.
 pub trait RwLockArcUpgradeTimed<R: RawRwLockUpgradeTimed + Drop, T: Drop> {
-    /// `try_upgradable_read_arc`, where the raw lock may wait for that long before it refuses.
+    /// `try_upgradable_read_arc`, where the raw lock may block for at most `timeout`.
     fn try_upgradable_read_arc_for(
         this: &Arc<RwLock<R, T>>,
         timeout: R::Duration,
@@ -156,7 +159,7 @@ pub trait RwLockArcUpgradeTimed<R: RawRwLockUpgradeTimed + Drop, T: Drop> {
         ensures fault { IsOkUnless result Fault.OutOfMemory }
         ensures lock { IfOk result (λ got. IfSome got (IsArcGuardOf this.now)) };
 
-    /// `try_upgradable_read_arc`, where the raw lock may wait until then before it refuses.
+    /// `try_upgradable_read_arc`, where the raw lock may block until `deadline`.
     fn try_upgradable_read_arc_until(
         this: &Arc<RwLock<R, T>>,
         deadline: R::Instant,

@@ -1,4 +1,4 @@
-//! A guard that keeps its lock alive.
+//! Guards that own a reference to their lock.
 mod upgradable;
 mod write;
 
@@ -14,27 +14,27 @@ use lock_rwlock::parts::{raw, read_with};
 use lock_rwlock::{Exclusive, FairMode, LockMode, RwLock, Shared, Upgradable};
 use std::sync::Arc;
 
-/// The right to the value of a lock in the mode M. It keeps the lock alive, and its end gives the lock up. The value is
-/// lent for the length of a closure.
+/// A guard of a lock in the mode `M` that owns a reference to the lock. It releases the lock on drop, and lends the
+/// value to closures.
 ///
-/// Where a guard becomes one of another mode, the raw lock exchanges its token. That nobody else writes between is the
-/// raw lock's word.
+/// An upgrade or a downgrade exchanges the raw lock's token and gives a guard of the new mode. The raw lock promises
+/// that nobody wrote in between; no contract states it.
 #[derive(Drop)]
 pub struct ArcRwLockGuard<M: LockMode<R>, R: RawRwLock + Drop, T: Drop> {
     held: Held<OwnedInMode<M, R, T>>,
 }
 
-/// The right to read the value of a lock that it keeps alive, beside others that read.
+/// A read guard that owns a reference to its lock.
 pub type ArcRwLockReadGuard<R, T> = ArcRwLockGuard<Shared, R, T>;
 
-/// The right to read and write the value of a lock that it keeps alive.
+/// A write guard that owns a reference to its lock.
 pub type ArcRwLockWriteGuard<R, T> = ArcRwLockGuard<Exclusive, R, T>;
 
-/// The right to read the value of a lock that it keeps alive, and to become the one that writes.
+/// An upgradable read guard that owns a reference to its lock.
 pub type ArcRwLockUpgradableReadGuard<R, T> = ArcRwLockGuard<Upgradable, R, T>;
 
 impl<M: LockMode<R>, R: RawRwLock + Drop, T: Drop> ArcRwLockGuard<M, R, T> {
-    /// The guard of a token that the raw lock gave out.
+    /// Makes the guard of a token that the raw lock gave.
     pub(crate) fn new(rwlock: Arc<RwLock<R, T>>, token: M::Token) -> Self
         ensures { arc_of result ≡ rwlock }
     {
@@ -43,7 +43,7 @@ impl<M: LockMode<R>, R: RawRwLock + Drop, T: Drop> ArcRwLockGuard<M, R, T> {
         }
     }
 
-    /// Waits until the raw lock admits, where there was memory for another owner.
+    /// Clones the `Arc`, then acquires the raw lock, blocking until it is available.
     pub(crate) fn acquire(this: &Arc<RwLock<R, T>>) -> Result<Self, Fault>
         ensures fault { IsOkUnless result Fault.OutOfMemory }
         ensures lock { IfOk result (IsArcGuardOf this.now) }
@@ -53,7 +53,7 @@ impl<M: LockMode<R>, R: RawRwLock + Drop, T: Drop> ArcRwLockGuard<M, R, T> {
         Ok(ArcRwLockGuard::new(rwlock, token))
     }
 
-    /// The guard of the token that the try gets of the raw lock, where there was memory for another owner.
+    /// Clones the `Arc`, then makes the guard of the token that `attempt` gets of the raw lock.
     pub(crate) fn acquire_by<F: FnOnce(&R) -> Option<M::Token>>(
         this: &Arc<RwLock<R, T>>,
         try_raw: F,
@@ -71,14 +71,14 @@ impl<M: LockMode<R>, R: RawRwLock + Drop, T: Drop> ArcRwLockGuard<M, R, T> {
         }
     }
 
-    /// The lock that the guard was made of.
+    /// Returns the lock of the guard.
     pub fn rwlock(guard: &Self) -> &Arc<RwLock<R, T>>
         ensures { result.now ≡ arc_of guard.now }
     {
         &guard.held.lock.rwlock
     }
 
-    /// Ends the guard, and answers its lock.
+    /// Releases the lock, and returns the guard's reference to it.
     pub fn into_arc(guard: Self) -> Arc<RwLock<R, T>>
         ensures { result ≡ arc_of guard }
     {
@@ -87,7 +87,7 @@ impl<M: LockMode<R>, R: RawRwLock + Drop, T: Drop> ArcRwLockGuard<M, R, T> {
         lock.rwlock
     }
 
-    /// Calls the closure on the value, whose own lock is held for the length of the call.
+    /// Runs `f` on the value, holding the value's lock for the length of the call.
     pub fn with<U, F: FnOnce(&T) -> U>(guard: &Self, f: F) -> U
         requires { F.IsAlwaysCallable f }
         ensures { ReadsSomeValue F.FnOnce f result }
@@ -95,7 +95,7 @@ impl<M: LockMode<R>, R: RawRwLock + Drop, T: Drop> ArcRwLockGuard<M, R, T> {
         read_with(&guard.held.lock.rwlock, f)
     }
 
-    /// Gives the lock up for the length of the closure, and waits for it again.
+    /// Releases the lock, runs `f`, and reacquires the lock in the same mode, blocking until it is available.
     pub fn unlocked<U, F: FnOnce() -> U>(guard: &mut Self, f: F) -> U
         requires { F.IsAlwaysCallable f }
         ensures answer { F.post f result }
@@ -104,7 +104,7 @@ impl<M: LockMode<R>, R: RawRwLock + Drop, T: Drop> ArcRwLockGuard<M, R, T> {
         guard.held.unlocked(f)
     }
 
-    /// The lock, with the token of this guard.
+    /// Returns the lock, with the guard's token.
     pub(crate) fn into_token(self) -> (Arc<RwLock<R, T>>, M::Token)
         ensures { result.0 ≡ arc_of self }
     {
@@ -114,7 +114,7 @@ impl<M: LockMode<R>, R: RawRwLock + Drop, T: Drop> ArcRwLockGuard<M, R, T> {
 }
 
 impl<M: FairMode<R>, R: RawRwLock + Drop, T: Drop> ArcRwLockGuard<M, R, T> {
-    /// Ends the guard, by a fair release.
+    /// Releases the lock by a fair release.
     pub fn unlock_fair(guard: Self) {
         guard.held.unlock_fair();
     }
@@ -137,7 +137,7 @@ impl<M: FairMode<R>, R: RawRwLock + Drop, T: Drop> ArcRwLockGuard<M, R, T> {
         guard.held.unlocked_fair(f)
     }
 
-    /// Gives the lock up by a fair release, and waits for it again.
+    /// Releases the lock by a fair release, and reacquires it, blocking until it is available.
     pub fn bump(guard: &mut Self)
         ensures { arc_of guard.new ≡ arc_of guard.old }
     {

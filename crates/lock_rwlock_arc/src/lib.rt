@@ -1,4 +1,4 @@
-//! The guards of a reader-writer lock that keep it alive.
+//! The guards of a reader-writer lock that own a reference to it.
 #![tactic(auto)]
 
 mod acquire;

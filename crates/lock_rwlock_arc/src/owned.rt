@@ -1,4 +1,4 @@
-//! A reader-writer lock that is kept alive.
+//! A reader-writer lock that a guard owns a reference to.
 ghost use Rattle.std.specs.Prelude.{◌≡◌};
 
 use lock_guard::guard::{Acquire, AcquireFair, Release};
@@ -8,7 +8,7 @@ use lock_rwlock::{FairMode, LockMode, RwLock};
 use std::marker::PhantomData;
 use std::sync::Arc;
 
-/// One owner of a lock, to be held in the mode M.
+/// One `Arc` of a lock, held in the mode `M`.
 #[derive(Drop)]
 pub struct OwnedInMode<M: LockMode<R>, R: RawRwLock + Drop, T: Drop> {
     pub(crate) rwlock: Arc<RwLock<R, T>>,
@@ -36,7 +36,7 @@ impl<M: LockMode<R>, R: RawRwLock + Drop, T: Drop> Release for OwnedInMode<M, R,
     }
 }
 
-/// It shows nothing: std's guard of the value would borrow from the lock that is owned beside it.
+/// It keeps no guard of the value: std's guard would borrow from the lock next to it in the same struct.
 impl<M: LockMode<R>, R: RawRwLock + Drop, T: Drop> Acquire for OwnedInMode<M, R, T> {
     type Shown = ();
 

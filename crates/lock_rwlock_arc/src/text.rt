@@ -1,4 +1,4 @@
-//! The texts of guards: that of the value, whose own lock is held for the length of the call.
+//! The `Debug` and `Display` texts of guards: those of the value, whose lock is held for the length of the call.
 use crate::guard::ArcRwLockGuard;
 use lock_guard::raw::RawRwLock;
 use lock_rwlock::LockMode;

@@ -1,4 +1,4 @@
-//! What the guard of an upgradable lock can do beside.
+//! What an upgradable guard can do besides.
 ghost use Rattle.std.specs.Prelude.{◌≡◌, IfSome, IfErr, MatchResult, is_ok};
 ghost use Rattle.lock_guard.specs.Closure.{AnswersSomeValue};
 ghost use Rattle.lock_guard.specs.declared.guard.inner.Inner.TheVariants.{Filled};
@@ -16,7 +16,7 @@ use lock_rwlock::parts::{
 use lock_rwlock::{RwLock, Upgradable};
 
 impl<R: RawRwLockUpgrade + Drop, T: Drop> ArcRwLockGuard<Upgradable, R, T> {
-    /// The right to write in place of this one, once no other guard is left.
+    /// Upgrades the guard to a write guard, blocking until no other guard is held.
     pub fn upgrade(guard: ArcRwLockUpgradableReadGuard<R, T>) -> ArcRwLockWriteGuard<R, T>
         ensures { arc_of result ≡ arc_of guard }
     {
@@ -25,7 +25,7 @@ impl<R: RawRwLockUpgrade + Drop, T: Drop> ArcRwLockGuard<Upgradable, R, T> {
         ArcRwLockGuard::new(rwlock, token)
     }
 
-    /// The right to write in place of this one, or this one again where the raw lock refuses.
+    /// Upgrades the guard without blocking, or returns it unchanged if the raw lock refuses.
     pub fn try_upgrade(
         guard: ArcRwLockUpgradableReadGuard<R, T>,
     ) -> Result<ArcRwLockWriteGuard<R, T>, ArcRwLockUpgradableReadGuard<R, T>>
@@ -37,7 +37,7 @@ impl<R: RawRwLockUpgrade + Drop, T: Drop> ArcRwLockGuard<Upgradable, R, T> {
         ArcRwLockGuard::upgraded(lock, answer)
     }
 
-    /// The guard of the token that the raw lock answered.
+    /// Makes the guard of the token that the raw lock returned.
     fn upgraded(
         lock: OwnedInMode<Upgradable, R, T>,
         answer: Result<R::ExclusiveGuard, R::UpgradableGuard>,
@@ -61,7 +61,7 @@ impl<R: RawRwLockUpgrade + Drop, T: Drop> ArcRwLockGuard<Upgradable, R, T> {
 }
 
 impl<R: RawRwLockUpgradeTimed + Drop, T: Drop> ArcRwLockGuard<Upgradable, R, T> {
-    /// `try_upgrade`, where the raw lock may wait for that long before it refuses.
+    /// `try_upgrade`, where the raw lock may block for at most `timeout`.
     pub fn try_upgrade_for(
         guard: ArcRwLockUpgradableReadGuard<R, T>,
         timeout: R::Duration,
@@ -74,7 +74,7 @@ impl<R: RawRwLockUpgradeTimed + Drop, T: Drop> ArcRwLockGuard<Upgradable, R, T> 
         ArcRwLockGuard::upgraded(lock, answer)
     }
 
-    /// `try_upgrade`, where the raw lock may wait until then before it refuses.
+    /// `try_upgrade`, where the raw lock may block until `deadline`.
     pub fn try_upgrade_until(
         guard: ArcRwLockUpgradableReadGuard<R, T>,
         deadline: R::Instant,
@@ -89,7 +89,7 @@ impl<R: RawRwLockUpgradeTimed + Drop, T: Drop> ArcRwLockGuard<Upgradable, R, T> 
 }
 
 impl<R: RawRwLockUpgradeDowngrade + Drop, T: Drop> ArcRwLockGuard<Upgradable, R, T> {
-    /// The right to read in place of this one.
+    /// Downgrades the guard to a read guard.
     pub fn downgrade(guard: ArcRwLockUpgradableReadGuard<R, T>) -> ArcRwLockReadGuard<R, T>
         ensures { arc_of result ≡ arc_of guard }
     {
@@ -98,7 +98,7 @@ impl<R: RawRwLockUpgradeDowngrade + Drop, T: Drop> ArcRwLockGuard<Upgradable, R,
         ArcRwLockGuard::new(rwlock, token)
     }
 
-    /// Calls the closure on the value while this is the one that writes, once no other guard is left.
+    /// Upgrades, runs `f` on the value, and downgrades again. The upgrade blocks until no other guard is held.
     pub fn with_upgraded<U, F: FnOnce(&mut T) -> U>(&mut self, f: F) -> U
         requires { F.IsAlwaysCallable f }
         ensures answer { AnswersSomeValue F.FnOnce f result }
@@ -111,7 +111,7 @@ impl<R: RawRwLockUpgradeDowngrade + Drop, T: Drop> ArcRwLockGuard<Upgradable, R,
         answer
     }
 
-    /// `with_upgraded` where the raw lock admits it now, or None without a call of the closure.
+    /// `with_upgraded` without blocking. If the raw lock refuses, returns `None` and does not call `f`.
     pub fn try_with_upgraded<U, F: FnOnce(&mut T) -> U>(&mut self, f: F) -> Option<U>
     where
         F: Drop,
@@ -132,7 +132,7 @@ impl<R: RawRwLockUpgradeTimed + RawRwLockUpgradeDowngrade + Drop, T: Drop> ArcRw
     R,
     T,
 > {
-    /// `try_with_upgraded`, where the raw lock may wait for that long before it refuses.
+    /// `try_with_upgraded`, where the raw lock may block for at most `timeout`.
     pub fn try_with_upgraded_for<U, F: FnOnce(&mut T) -> U>(
         &mut self,
         timeout: R::Duration,
@@ -151,7 +151,7 @@ impl<R: RawRwLockUpgradeTimed + RawRwLockUpgradeDowngrade + Drop, T: Drop> ArcRw
         answer
     }
 
-    /// `try_with_upgraded`, where the raw lock may wait until then before it refuses.
+    /// `try_with_upgraded`, where the raw lock may block until `deadline`.
     pub fn try_with_upgraded_until<U, F: FnOnce(&mut T) -> U>(
         &mut self,
         deadline: R::Instant,

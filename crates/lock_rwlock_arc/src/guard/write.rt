@@ -1,4 +1,4 @@
-//! What the guard of an exclusive lock can do beside.
+//! What a write guard can do besides.
 ghost use Rattle.std.specs.Prelude.{◌≡◌};
 ghost use Rattle.lock_guard.specs.Closure.{AnswersSomeValue};
 ghost use Rattle.lock_rwlock_arc.specs.ArcRwLockGuard.{arc_of};
@@ -11,7 +11,7 @@ use lock_rwlock::Exclusive;
 use lock_rwlock::parts::{raw, write_with};
 
 impl<R: RawRwLock + Drop, T: Drop> ArcRwLockGuard<Exclusive, R, T> {
-    /// `with`, by a closure that may change the value.
+    /// Runs `f` on the value, which it may change, holding the value's lock for the length of the call.
     pub fn with_mut<U, F: FnOnce(&mut T) -> U>(guard: &mut ArcRwLockWriteGuard<R, T>, f: F) -> U
         requires { F.IsAlwaysCallable f }
         ensures answer { AnswersSomeValue F.FnOnce f result }
@@ -22,7 +22,7 @@ impl<R: RawRwLock + Drop, T: Drop> ArcRwLockGuard<Exclusive, R, T> {
 }
 
 impl<R: RawRwLockDowngrade + Drop, T: Drop> ArcRwLockGuard<Exclusive, R, T> {
-    /// The right to read in place of this one.
+    /// Downgrades the guard to a read guard.
     pub fn downgrade(guard: ArcRwLockWriteGuard<R, T>) -> ArcRwLockReadGuard<R, T>
         ensures { arc_of result ≡ arc_of guard }
     {
@@ -33,7 +33,7 @@ impl<R: RawRwLockDowngrade + Drop, T: Drop> ArcRwLockGuard<Exclusive, R, T> {
 }
 
 impl<R: RawRwLockUpgradeDowngrade + Drop, T: Drop> ArcRwLockGuard<Exclusive, R, T> {
-    /// An upgradable guard in place of this one.
+    /// Downgrades the guard to an upgradable read guard.
     pub fn downgrade_to_upgradable(
         guard: ArcRwLockWriteGuard<R, T>,
     ) -> ArcRwLockUpgradableReadGuard<R, T>
