@@ -1,4 +1,4 @@
-//! The acquisitions of a reentrant lock by guards that keep it alive.
+//! Acquisitions of a reentrant lock by guards that own a reference to it.
 ghost use Rattle.std.specs.Prelude.{IfErr, IfOk, IfSome};
 ghost use Rattle.lock_base.specs.Party.{id_of};
 ghost use Rattle.lock_remutex.specs.ArcGuards.{IsArcFault, IsArcGuardOf};
@@ -15,7 +15,12 @@ impl<R: RawMutex + Drop, T: Drop> ReentrantMutex<R, T>
 where
     R::Guard: Drop,
 {
-    /// `lock`, by a guard that keeps the lock alive. Where there is no memory for that, nothing is locked.
+    /// `lock`, by a guard that owns a clone of the `Arc`.
+    ///
+    /// # Errors
+    ///
+    /// `OutOfMemory` if the `Arc` cannot be cloned; the clone comes first, so nothing is locked then. `FullCount` as
+    /// `lock`.
     pub fn lock_arc(
         this: &Arc<ReentrantMutex<R, T>>,
         party: PartyId,
@@ -28,7 +33,12 @@ where
         Ok(ArcReentrantMutexGuard::new(remutex, party))
     }
 
-    /// `try_lock`, by a guard that keeps the lock alive. Where there is no memory for that, nothing is locked.
+    /// `try_lock`, by a guard that owns a clone of the `Arc`.
+    ///
+    /// # Errors
+    ///
+    /// `OutOfMemory` if the `Arc` cannot be cloned; the clone comes first, so nothing is locked then. `FullCount` as
+    /// `lock`.
     pub fn try_lock_arc(
         this: &Arc<ReentrantMutex<R, T>>,
         party: PartyId,
@@ -46,7 +56,7 @@ impl<R: RawMutexTimed + Drop, T: Drop> ReentrantMutex<R, T>
 where
     R::Guard: Drop,
 {
-    /// As `try_lock_arc`, where the raw lock may wait that long.
+    /// `try_lock_arc`, where the raw lock may block for at most `timeout`.
     pub fn try_lock_arc_for(
         this: &Arc<ReentrantMutex<R, T>>,
         party: PartyId,
@@ -60,7 +70,7 @@ where
         Ok(ArcReentrantMutexGuard::if_level(remutex, party, has_level))
     }
 
-    /// As `try_lock_arc`, where the raw lock may wait until then.
+    /// `try_lock_arc`, where the raw lock may block until `deadline`.
     pub fn try_lock_arc_until(
         this: &Arc<ReentrantMutex<R, T>>,
         party: PartyId,

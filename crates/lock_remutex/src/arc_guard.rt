@@ -9,8 +9,8 @@ use lock_guard::raw::{RawMutex, RawMutexFair};
 use std::ops::Deref;
 use std::sync::Arc;
 
-/// One level of a party's, which reads the value and keeps the lock alive. Its end gives the level up, and the raw lock
-/// with the last one.
+/// One level of a party that owns a reference to its lock. It reads the value. Its drop releases the level, and with
+/// the last level the raw lock.
 pub struct ArcReentrantMutexGuard<R: RawMutex + Drop, T: Drop>
 where
     R::Guard: Drop,
@@ -23,7 +23,7 @@ impl<R: RawMutex + Drop, T: Drop> ArcReentrantMutexGuard<R, T>
 where
     R::Guard: Drop,
 {
-    /// The guard of a level that the party has.
+    /// Makes the guard of a level that the party has.
     pub(crate) fn new(remutex: Arc<ReentrantMutex<R, T>>, party: PartyId) -> Self
         ensures lock { arc_of result ≡ remutex }
         ensures party { arc_party result ≡ id_of party }
@@ -31,7 +31,7 @@ where
         ArcReentrantMutexGuard { remutex, party }
     }
 
-    /// The guard of a level that the party has just got, if it has got it.
+    /// Makes the guard of a new level, if the party got one.
     pub(crate) fn if_level(
         remutex: Arc<ReentrantMutex<R, T>>,
         party: PartyId,
@@ -47,14 +47,14 @@ where
         Some(ArcReentrantMutexGuard::new(remutex, party))
     }
 
-    /// The lock that the guard was made of.
+    /// Returns the lock of the guard.
     pub fn remutex(guard: &Self) -> &Arc<ReentrantMutex<R, T>>
         ensures { result.now ≡ arc_of guard.now }
     {
         &guard.remutex
     }
 
-    /// Gives the level up, and answers the lock.
+    /// Releases the level, and returns the guard's reference to the lock.
     pub fn into_arc(guard: Self) -> Arc<ReentrantMutex<R, T>>
         ensures { result ≡ arc_of guard }
     {
@@ -63,8 +63,11 @@ where
         remutex
     }
 
-    /// Gives one level up for the length of the closure, and takes one again as `lock` does. Where the count is full
-    /// on the way back the level stays given up.
+    /// Releases one level, runs `f`, and acquires one level again, as `lock`.
+    ///
+    /// # Errors
+    ///
+    /// `FullCount` if the party has all its levels when `f` returns. The level stays released then.
     pub fn unlocked<U, F: FnOnce() -> U>(guard: Self, f: F) -> Result<(Self, U), (Fault, U)>
         requires { F.IsAlwaysCallable f }
         ensures answer { MatchResult result (λ back. F.post f back.1) (λ refused. F.post f refused.1) }
@@ -77,7 +80,7 @@ where
         ArcReentrantMutexGuard::lock_again(remutex, party, answer)
     }
 
-    /// The guard of another level of the party, with that answer.
+    /// Acquires a further level, and returns its guard with the answer of `f`.
     fn lock_again<U>(
         remutex: Arc<ReentrantMutex<R, T>>,
         party: PartyId,
@@ -99,7 +102,7 @@ impl<R: RawMutexFair + Drop, T: Drop> ArcReentrantMutexGuard<R, T>
 where
     R::Guard: Drop,
 {
-    /// Gives the level up, and the raw lock fairly with the last one.
+    /// Releases the level. With the last level it releases the raw lock by a fair release.
     pub fn unlock_fair(guard: Self) {
         drop(ArcReentrantMutexGuard::into_arc_fair(guard));
     }
@@ -126,7 +129,8 @@ where
         ArcReentrantMutexGuard::lock_again(remutex, party, answer)
     }
 
-    /// Where the party has this level alone, gives the raw lock up by a fair release, and locks again.
+    /// At one level, releases the raw lock by a fair release, and reacquires it, blocking until it is available. At
+    /// more levels it does nothing.
     pub fn bump(guard: &mut Self)
         ensures { IsSameArcGuard guard.old guard.new }
     {

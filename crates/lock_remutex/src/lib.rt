@@ -1,4 +1,4 @@
-//! A lock that its owner may take again.
+//! A mutex that its owner may acquire again.
 #![tactic(auto)]
 
 mod arc;

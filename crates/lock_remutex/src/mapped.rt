@@ -10,7 +10,7 @@ use lock_guard::guard::{LockGuard, LockGuardFair, Mapped};
 use lock_guard::raw::{RawMutex, RawMutexFair};
 use std::ops::Deref;
 
-/// One level of a party's, which reads a part of the value. Its end gives the level up.
+/// One level of a party, which reads a part of the value. It releases the level on drop.
 pub type MappedReentrantMutexGuard<'a, R, T, P> = Mapped<ReentrantMutexGuard<'a, R, T>, P>;
 
 impl<R: RawMutex, T> LockGuard for ReentrantMutexGuard<'_, R, T>
@@ -39,14 +39,14 @@ impl<'a, R: RawMutex, T> ReentrantMutexGuard<'a, R, T>
 where
     R::Guard: Drop,
 {
-    /// The guard of a part, by a projection that always has one.
+    /// Makes the guard of a part, by a projection that always has one. The level stays held.
     pub fn map<P: View<T>>(guard: Self, projection: P) -> MappedReentrantMutexGuard<'a, R, T, P>
         ensures { IsMapOf guard.entry projection result }
     {
         Mapped::of(guard, projection)
     }
 
-    /// The guard of a part, or the same guard where there is none.
+    /// Makes the guard of a part, or returns the same guard, still held, if the value has no such part.
     pub fn try_map<P: TryView<T>>(
         guard: Self,
         projection: P,
@@ -57,7 +57,7 @@ where
         Mapped::try_of(guard, projection)
     }
 
-    /// The guard of a part, or the same guard with what the projection tells of a value without one.
+    /// Makes the guard of a part. If the value has no such part, returns the same guard, still held, with the miss.
     pub fn try_map_or_err<P: TryView<T>>(
         guard: Self,
         projection: P,

@@ -9,10 +9,10 @@ use lock_guard::raw::{RawMutex, RawMutexFair, RawMutexTimed};
 use std::alloc::Global;
 use std::sync::{Mutex, MutexGuard, Wait};
 
-/// A raw lock that the party that owns it may take again, up to a number of levels.
+/// A raw mutex that the owning party may acquire again, up to a limit of levels.
 ///
-/// The owner's token lies behind a lock of std's, so it is `Send`. Of a lock that is dropped while it is owned, the
-/// token is dropped too.
+/// The owner's token lies behind a std mutex, which makes the lock `Sync` for tokens that are `Send`. A lock that is
+/// dropped while owned drops the token.
 #[derive(Drop)]
 pub struct RawReentrantMutex<R: RawMutex> {
     raw: R,
@@ -23,14 +23,14 @@ impl<R: RawMutex> RawReentrantMutex<R>
 where
     R::Guard: Send + Drop,
 {
-    /// A free lock of `DEFAULT_LEVELS`.
+    /// Makes an unlocked lock of `DEFAULT_LEVELS`.
     pub fn new(alloc: Global, waiter: R::Waiter) -> Result<Self, Fault>
         ensures { IsOkUnless result Fault.OutOfMemory }
     {
         Ok(RawReentrantMutex::from_raw(R::new(alloc, waiter)?))
     }
 
-    /// A free lock of so many levels. Their number is tested before memory is asked for.
+    /// Makes an unlocked lock of `levels`. It checks the limit before it allocates.
     pub fn with_levels(alloc: Global, waiter: R::Waiter, levels: u64) -> Result<Self, Fault>
         ensures range { (result ≡ Err Fault.BadLimits) ↔ (¬ IsLimit levels) }
         ensures in_range { IfOk result (λ _. IsLimit levels) }
@@ -41,7 +41,7 @@ where
         Ok(RawReentrantMutex { raw, levels })
     }
 
-    /// A lock of `DEFAULT_LEVELS` over a raw lock that was made apart.
+    /// Makes a lock of `DEFAULT_LEVELS` over a given raw lock.
     pub fn from_raw(raw: R) -> Self
         ensures { raw_under result ≡ raw }
     {
@@ -54,7 +54,7 @@ impl<R: RawMutex> RawReentrantMutex<R>
 where
     R::Guard: Drop,
 {
-    /// The raw lock. A token that is left is dropped.
+    /// Consumes the lock, and returns the raw lock. A token that is left is dropped.
     pub(crate) fn into_raw(self) -> R
         ensures { result ≡ raw_under self }
     {
@@ -62,7 +62,11 @@ where
         raw
     }
 
-    /// Waits until no other party owns the lock. One level more for the party: refused where it has them all.
+    /// Acquires one level for the party, blocking until no other party owns the lock.
+    ///
+    /// # Errors
+    ///
+    /// `FullCount` if the party owns the lock at all its levels.
     pub fn lock(&self, party: PartyId) -> Result<(), Fault>
         ensures { IfErr result (λ fault. fault ≡ Fault.FullCount) }
     {
@@ -74,15 +78,22 @@ where
         unreachable!()
     }
 
-    /// As `lock`, and false where that would wait.
+    /// Acquires one level for the party without blocking, or answers false.
+    ///
+    /// # Errors
+    ///
+    /// As `lock`.
     pub fn try_lock(&self, party: PartyId) -> Result<bool, Fault>
         ensures { IfErr result (λ fault. fault ≡ Fault.FullCount) }
     {
         self.try_lock_with(party, || self.raw.try_lock())
     }
 
-    /// One level less for the party, and the raw lock's release with the last. Refused where another owns the lock,
-    /// or none.
+    /// Releases one level of the party, and with the last level the raw lock.
+    ///
+    /// # Errors
+    ///
+    /// `Foreign` if the party does not own the lock.
     pub fn unlock(&self, party: PartyId) -> Result<(), Fault>
         ensures { IfErr result (λ fault. fault ≡ Fault.Foreign) }
     {
@@ -92,27 +103,28 @@ where
         Ok(())
     }
 
-    /// Whether the raw lock is held, which may be old at once.
+    /// Returns whether the raw lock is held. The answer may be stale at once.
     pub fn is_locked(&self) -> bool {
         self.raw.is_locked()
     }
 
-    /// Whether the party owns the lock, which may be old at once where others act for the party.
+    /// Returns whether the party owns the lock. The answer may be stale at once if other threads act for the party.
     pub fn is_owned_by_current_thread(&self, party: PartyId) -> bool {
         self.levels().level(party) > 0
     }
 
-    /// The levels, whose lock is held. A call holds it for a moment.
+    /// Locks the levels. Each call holds this lock for a moment.
     fn levels(&self) -> MutexGuard<'_, Levels<R::Guard>> {
         lock_std(&self.levels, self.raw.waiter())
     }
 
-    /// Whether any party owns the lock, which may be old at once.
+    /// Returns whether any party owns the lock. The answer may be stale at once.
     pub(crate) fn is_owned(&self) -> bool {
         self.levels().is_owned()
     }
 
-    /// One level more for the owner, and for others the first where the raw lock gives a token.
+    /// Acquires a further level for the owner. For another party it acquires the first level, if `attempt` gets a
+    /// token.
     fn try_lock_with<F: FnOnce() -> Option<R::Guard> + Drop>(
         &self,
         party: PartyId,
@@ -130,15 +142,15 @@ where
         }
     }
 
-    /// One level more where the party owns the lock, and else false.
+    /// Acquires a further level if the party owns the lock, or answers false.
     fn again(&self, party: PartyId) -> Result<bool, Fault>
         ensures { IfErr result (λ fault. fault ≡ Fault.FullCount) }
     {
         self.levels().again(party)
     }
 
-    /// The first level of the party, by this token. False where there is an owner, as only a raw lock that lies lets
-    /// come about: the token is unlocked then.
+    /// Acquires the party's first level, with this token. If there is an owner it answers false and unlocks the token:
+    /// only a raw lock that admits too many threads leads there.
     fn first(&self, party: PartyId, token: R::Guard) -> bool {
         let back = self.levels().first(party, token);
         match back {
@@ -150,7 +162,7 @@ where
         }
     }
 
-    /// One level less, and the token with the last.
+    /// Releases one level, and returns the token with the last level.
     fn leave(&self, party: PartyId) -> Result<Option<R::Guard>, Fault>
         ensures { IfErr result (λ fault. fault ≡ Fault.Foreign) }
     {
@@ -162,7 +174,7 @@ impl<R: RawMutexFair> RawReentrantMutex<R>
 where
     R::Guard: Drop,
 {
-    /// As `unlock`, by a fair release.
+    /// `unlock`, by a fair release of the raw lock.
     pub fn unlock_fair(&self, party: PartyId) -> Result<(), Fault>
         ensures { IfErr result (λ fault. fault ≡ Fault.Foreign) }
     {
@@ -172,8 +184,12 @@ where
         Ok(())
     }
 
-    /// At one level, gives the raw lock up by a fair release, and takes it again. At more it does nothing.
-    /// Refused where another owns the lock, or none.
+    /// At one level, releases the raw lock by a fair release, and reacquires it, blocking until it is available. At
+    /// more levels it does nothing.
+    ///
+    /// # Errors
+    ///
+    /// `Foreign` if the party does not own the lock.
     pub fn bump(&self, party: PartyId) -> Result<(), Fault>
         ensures { IfErr result (λ fault. fault ≡ Fault.Foreign) }
     {
@@ -186,14 +202,14 @@ where
         Ok(())
     }
 
-    /// The token of a party that has one level, which it gives up.
+    /// Releases the only level of a party, and returns its token.
     fn leave_sole(&self, party: PartyId) -> Result<Option<R::Guard>, Fault>
         ensures { IfErr result (λ fault. fault ≡ Fault.Foreign) }
     {
         self.levels().leave_sole(party)
     }
 
-    /// As `lock`, and tries again also where the party has all levels.
+    /// `lock`, which tries again also where the party has all its levels.
     fn lock_in_the_end(&self, party: PartyId) {
         for _ in self.raw.waiter().forever() {
             if self.lock(party).is_ok() {
@@ -208,14 +224,14 @@ impl<R: RawMutexTimed> RawReentrantMutex<R>
 where
     R::Guard: Drop,
 {
-    /// As `try_lock`, where the raw lock may wait that long.
+    /// `try_lock`, where the raw lock may block for at most `timeout`.
     pub fn try_lock_for(&self, party: PartyId, timeout: R::Duration) -> Result<bool, Fault>
         ensures { IfErr result (λ fault. fault ≡ Fault.FullCount) }
     {
         self.try_lock_with(party, || self.raw.try_lock_for(timeout))
     }
 
-    /// As `try_lock`, where the raw lock may wait until then.
+    /// `try_lock`, where the raw lock may block until `deadline`.
     pub fn try_lock_until(&self, party: PartyId, deadline: R::Instant) -> Result<bool, Fault>
         ensures { IfErr result (λ fault. fault ≡ Fault.FullCount) }
     {

@@ -1,4 +1,4 @@
-//! A value that the owner of a lock reads.
+//! A mutex whose owner may acquire it again, with a value.
 use crate::raw_reentrant_mutex::RawReentrantMutex;
 use crate::reentrant_mutex_guard::ReentrantMutexGuard;
 use lock_base::machine::PartyId;
@@ -6,10 +6,10 @@ use lock_base::raw::Fault;
 use lock_guard::raw::{RawMutex, RawMutexTimed};
 use std::alloc::Global;
 
-/// A value behind a lock that its owner may take again.
+/// A value behind a mutex that its owner may acquire again.
 ///
-/// A party may have several guards at a time, so they only read. The value lies plainly, so it is `Sync`, and the raw
-/// lock's token behind a lock of std's, so it is `Send`.
+/// A party may hold several guards at a time, so a guard only reads. The value is stored plainly and must be `Sync`.
+/// The raw lock's token lies behind a std mutex and must be `Send`.
 #[derive(Drop)]
 pub struct ReentrantMutex<R: RawMutex, T> {
     raw: RawReentrantMutex<R>,
@@ -24,7 +24,7 @@ where
     ghost use Rattle.lock_base.specs.Limits.{IsLimit, IsMakerFault};
     ghost use Rattle.lock_remutex.specs.Guards.{raw_of, value_of};
 
-    /// A free lock of `DEFAULT_LEVELS` over a new raw lock. Where that is refused, the value is dropped.
+    /// Makes an unlocked lock of `DEFAULT_LEVELS` over a new raw lock. The value is dropped if there is no memory.
     pub fn new(alloc: Global, waiter: R::Waiter, value: T) -> Result<Self, Fault>
     where
         T: Drop,
@@ -35,7 +35,7 @@ where
         Ok(ReentrantMutex { raw, value })
     }
 
-    /// A free lock of so many levels. Their number is tested before memory is asked for.
+    /// Makes an unlocked lock of `levels`. It checks the limit before it allocates.
     pub fn with_levels(
         alloc: Global,
         waiter: R::Waiter,
@@ -63,7 +63,7 @@ where
         ReentrantMutex::new(alloc, waiter, value)
     }
 
-    /// `new`, over the default value.
+    /// `new`, of the default value.
     pub fn default(alloc: Global, waiter: R::Waiter) -> Result<Self, Fault>
     where
         T: Default + Drop,
@@ -73,7 +73,7 @@ where
         ReentrantMutex::new(alloc, waiter, T::default())
     }
 
-    /// A lock of `DEFAULT_LEVELS` over a raw lock that was made apart. It takes no memory, so it is never refused.
+    /// Makes a lock of `DEFAULT_LEVELS` over a given raw lock. It allocates nothing, so it never fails.
     pub fn from_raw(raw: R, value: T) -> Result<Self, Fault>
         ensures made { IsOk result }
         ensures raw { IfOk result (λ lock. raw_of lock ≡ raw) }
@@ -94,6 +94,7 @@ where
     ghost use Rattle.lock_remutex.specs.Guards.{raw_of, value_of, with_value, IsGuardOf};
     ghost use Rattle.lock_remutex.specs.contracts.reentrant_mutex.ReentrantMutex.{the_row};
 
+    /// Consumes the lock, and returns the value.
     pub fn into_inner(self) -> T
     where
         R: Drop,
@@ -102,7 +103,7 @@ where
         self.into_inner_with_raw().1
     }
 
-    /// The raw lock with the value. A token that is left in the lock is dropped.
+    /// Consumes the lock, and returns the raw lock and the value. A token that is left is dropped.
     pub fn into_inner_with_raw(self) -> (R, T)
         ensures raw { result.0 ≡ raw_of self }
         ensures value { result.1 ≡ value_of self }
@@ -111,6 +112,7 @@ where
         (raw.into_raw(), value)
     }
 
+    /// Returns the value. No locking is needed, since the lock is borrowed exclusively.
     pub fn get_mut(&mut self) -> &mut T
         ensures* writes_back { sem 𝓛 (Lends (the_row R.row T.row R.Guard.row R.Waiter.row) T.row
             self.entry result (with_value self.old)) }
@@ -119,17 +121,21 @@ where
         &mut self.value
     }
 
-    /// The raw lock's answer, which may be old at once.
+    /// Returns what the raw lock says: whether it is held. The answer may be stale at once.
     pub fn is_locked(&self) -> bool {
         self.raw.is_locked()
     }
 
-    /// Whether the party owns the lock, which may be old at once where others act for the party.
+    /// Returns whether the party owns the lock. The answer may be stale at once if other threads act for the party.
     pub fn is_owned_by_current_thread(&self, party: PartyId) -> bool {
         self.raw.is_owned_by_current_thread(party)
     }
 
-    /// Waits until no other party owns the lock. Refused where the party has all its levels.
+    /// Acquires one level for the party, blocking until no other party owns the lock.
+    ///
+    /// # Errors
+    ///
+    /// `FullCount` if the party owns the lock at all its levels.
     pub fn lock(&self, party: PartyId) -> Result<ReentrantMutexGuard<'_, R, T>, Fault>
         ensures guard { IfOk result (IsGuardOf self.entry (id_of party)) }
         ensures fault { IfErr result (λ fault. fault ≡ Fault.FullCount) }
@@ -138,7 +144,11 @@ where
         Ok(ReentrantMutexGuard::new(self, party))
     }
 
-    /// As `lock`, and none where that would wait.
+    /// Acquires one level for the party without blocking, or returns `None`.
+    ///
+    /// # Errors
+    ///
+    /// As `lock`.
     pub fn try_lock(&self, party: PartyId) -> Result<Option<ReentrantMutexGuard<'_, R, T>>, Fault>
         ensures guard { IfOk result (λ got. IfSome got (IsGuardOf self.entry (id_of party))) }
         ensures fault { IfErr result (λ fault. fault ≡ Fault.FullCount) }
@@ -147,7 +157,7 @@ where
         Ok(self.guard_if(has_level, party))
     }
 
-    /// The guard of a level that the party has just got, if it has got it.
+    /// Makes the guard of a new level, if the party got one.
     fn guard_if(&self, has_level: bool, party: PartyId) -> Option<ReentrantMutexGuard<'_, R, T>>
         ensures some { IsSome result ↔ IsTrue has_level }
         ensures guard { IfSome result (IsGuardOf self.entry (id_of party)) }
@@ -162,7 +172,7 @@ where
         &self.raw
     }
 
-    /// The value, for a guard of this lock or where nobody has one.
+    /// Returns the value, for a guard of this lock, or while no party holds one.
     pub(crate) fn value(&self) -> &T
         ensures { result.now ≡ value_of self.now }
     {
@@ -178,7 +188,7 @@ where
     ghost use Rattle.lock_base.specs.Party.{id_of};
     ghost use Rattle.lock_remutex.specs.Guards.{IsGuardOf};
 
-    /// As `try_lock`, where the raw lock may wait that long.
+    /// `try_lock`, where the raw lock may block for at most `timeout`.
     pub fn try_lock_for(
         &self,
         party: PartyId,
@@ -191,7 +201,7 @@ where
         Ok(self.guard_if(has_level, party))
     }
 
-    /// As `try_lock`, where the raw lock may wait until then.
+    /// `try_lock`, where the raw lock may block until `deadline`.
     pub fn try_lock_until(
         &self,
         party: PartyId,

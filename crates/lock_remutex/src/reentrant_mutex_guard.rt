@@ -4,7 +4,7 @@ use lock_base::raw::Fault;
 use lock_guard::raw::{RawMutex, RawMutexFair};
 use std::ops::Deref;
 
-/// One level of a party's, which reads the value. Its end gives the level up, and the raw lock with the last one.
+/// One level of a party, which reads the value. Its drop releases the level, and with the last level the raw lock.
 pub struct ReentrantMutexGuard<'a, R: RawMutex, T>
 where
     R::Guard: Drop,
@@ -21,22 +21,25 @@ where
     ghost use Rattle.lock_base.specs.Party.{id_of};
     ghost use Rattle.lock_remutex.specs.Guards.{guard_lock, IsGuardOf, IsSameGuard};
 
-    /// The guard of a level that the party has.
+    /// Makes the guard of a level that the party has.
     pub(crate) fn new(remutex: &'a ReentrantMutex<R, T>, party: PartyId) -> Self
         ensures { IsGuardOf remutex.entry (id_of party) result }
     {
         ReentrantMutexGuard { remutex, party }
     }
 
-    /// The lock that the guard was made of.
+    /// Returns the lock of the guard.
     pub fn remutex(guard: &Self) -> &'a ReentrantMutex<R, T>
         ensures { result.ref_ptr ≡ guard_lock guard.now }
     {
         guard.remutex
     }
 
-    /// Gives one level up for the length of the closure, and takes one again as `lock` does. Where the count is full
-    /// on the way back the level stays given up.
+    /// Releases one level, runs `f`, and acquires one level again, as `lock`.
+    ///
+    /// # Errors
+    ///
+    /// `FullCount` if the party has all its levels when `f` returns. The level stays released then.
     pub fn unlocked<U, F: FnOnce() -> U>(guard: Self, f: F) -> Result<(Self, U), (Fault, U)>
         requires { F.IsAlwaysCallable f }
         ensures answer { MatchResult result (λ back. F.post f back.1) (λ refused. F.post f refused.1) }
@@ -49,7 +52,7 @@ where
         ReentrantMutexGuard::lock_again(remutex, party, answer)
     }
 
-    /// The guard of another level of the party, with that answer.
+    /// Acquires a further level, and returns its guard with the answer of `f`.
     fn lock_again<U>(
         remutex: &'a ReentrantMutex<R, T>,
         party: PartyId,
@@ -73,7 +76,7 @@ where
     ghost use Rattle.std.specs.Prelude.{◌≡◌, IfOk, IfErr, MatchResult};
     ghost use Rattle.lock_remutex.specs.Guards.{IsSameGuard};
 
-    /// Gives the level up, and the raw lock fairly with the last one.
+    /// Releases the level. With the last level it releases the raw lock by a fair release.
     pub fn unlock_fair(guard: Self) {
         let ReentrantMutexGuard { remutex, party } = guard;
         let _ = remutex.raw().unlock_fair(party);
@@ -92,7 +95,8 @@ where
         ReentrantMutexGuard::lock_again(remutex, party, answer)
     }
 
-    /// Where the party has this level alone, gives the raw lock up by a fair release, and locks again.
+    /// At one level, releases the raw lock by a fair release, and reacquires it, blocking until it is available. At
+    /// more levels it does nothing.
     pub fn bump(guard: &mut Self)
         ensures { IsSameGuard guard.old guard.new }
     {

@@ -1,4 +1,4 @@
-//! The texts of the lock and of its guard.
+//! The `Debug` and `Display` texts of the lock and of its guard.
 use crate::reentrant_mutex::ReentrantMutex;
 use crate::reentrant_mutex_guard::ReentrantMutexGuard;
 use lock_guard::guard::{Locked, fmt_lock};
@@ -7,7 +7,7 @@ use std::fmt;
 use std::fmt::{Debug, Display, Formatter};
 use std::ops::Deref;
 
-/// The value, while no party owns the lock.
+/// Prints the value while no party owns the lock.
 impl<R: RawMutex, T: Debug> Debug for ReentrantMutex<R, T>
 where
     R::Guard: Drop,
