@@ -53,7 +53,7 @@ impl<M: LockMode<R>, R: RawRwLock + Drop, T: Drop> ArcRwLockGuard<M, R, T> {
         Ok(ArcRwLockGuard::new(rwlock, token))
     }
 
-    /// Clones the `Arc`, then makes the guard of the token that `attempt` gets of the raw lock.
+    /// Clones the `Arc`, then makes the guard of the token that `try_raw` gets.
     pub(crate) fn acquire_by<F: FnOnce(&R) -> Option<M::Token>>(
         this: &Arc<RwLock<R, T>>,
         try_raw: F,

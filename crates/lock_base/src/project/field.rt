@@ -1,26 +1,27 @@
-//! Fields of structs, and their projections.
+//! Fields of structs as projections.
 ghost use Rattle.std.specs.Prelude.{◌≡◌, refl};
 ghost use Rattle.std.specs.Borrow.{Lends, sem};
 ghost use Rattle.lock_base.specs.Lens.{IsField, field_lens, IsLawful-field_lens};
 
 use crate::project::{Project, TryProject};
 
-/// The name of a field that every value of type `T` has. `At` makes the projection of it.
+/// The name of a field of `T`. `At` makes the projection of it.
 ///
-/// Of a field of a plain struct the facts in `is_field` hold by computation, so each is `refl`.
+/// For a field of a plain struct the facts in `is_field` hold by computation, so each is `refl`.
 pub trait Field<T>: Drop + 'static {
     type Part;
 
     /// The field of a value.
     ghost part: { T → Self.Part };
 
-    /// The value with another field in its place.
+    /// The value with another field.
     ghost with_part: { T → Self.Part → T };
 
+    /// Returns the field.
     fn of(whole: &T) -> &Self::Part
         ensures { result.now ≡ part whole.now };
 
-    /// What is written through the field is put into the value.
+    /// Returns the field for writing.
     fn of_mut(whole: &mut T) -> &mut Self::Part
         ensures* writes_back { sem 𝓛 (Lends T.row Self.Part.row whole.entry result
             (with_part whole.old)) }

@@ -3,17 +3,17 @@ ghost use Rattle.std.specs.Prelude.{◌≡◌, Option, None, Some, IsSome, optio
 
 use crate::project::{Project, TryProject};
 
-/// A part that a value of type `T` may have, to be read alone. Each `TryProject` is one.
+/// A part that a value of type `T` may have, for reading alone. Each `TryProject` is one.
 pub trait TryView<T>: Drop {
     type Part;
 
-    /// What is told where there is no part.
+    /// Why a value has no such part.
     type Miss;
 
     /// The part of a value.
     ghost part: { Self → T → Option Self.Part };
 
-    /// What is told of a value that has no part.
+    /// The miss of a value without the part.
     ghost missed: { Self → T → Self.Miss };
 
     fn get<'a>(&self, whole: &'a T) -> Option<&'a Self::Part>
@@ -21,12 +21,12 @@ pub trait TryView<T>: Drop {
         Self: 'a,
         ensures { option_copied result ≡ part self.now whole.now };
 
-    /// Of a value that has a part this says nothing.
+    /// Returns the miss. Of a value that has the part it says nothing.
     fn miss(&self, whole: &T) -> Self::Miss
         ensures { part self.now whole.now ≡ None → result ≡ missed self.now whole.now };
 }
 
-/// A part that every value has, to be read alone. Each `Project` is one.
+/// A part that every value has, for reading alone. Each `Project` is one.
 pub trait View<T>: TryView<T> {
     fn of<'a>(&self, whole: &'a T) -> &'a Self::Part
     where

@@ -3,10 +3,10 @@ use crate::machine::PartyId;
 use crate::raw::{Fault, MAX_LIMIT, is_limit};
 use std::marker::Model;
 
-/// How many levels an owner may have where a maker is not told.
+/// The limit of levels of a lock that is made without one.
 pub const DEFAULT_LEVELS: u64 = MAX_LIMIT;
 
-/// Who owns a reentrant lock, at how many levels, and the token that the owner holds of the lock behind it.
+/// The owner of a reentrant lock, the number of its levels, and its token of the raw lock.
 #[derive(Drop)]
 pub struct Levels<K> {
     limit: u64,
@@ -59,7 +59,11 @@ impl<K: Drop> Levels<K> {
     ghost use Rattle.lock_base.specs.Party.{id_of};
     ghost use Rattle.lock_base.specs.Levels.{IsLawful, GainsLevel, LosesLevel, GivesTokenBack, free_levels, with_owner, at_level, level_of, token_of};
 
-    /// No owner yet. Refused where the number of levels is out of its range.
+    /// Makes the levels of a lock without an owner.
+    ///
+    /// # Errors
+    ///
+    /// `BadLimits` if `levels` is out of range.
     pub fn new(levels: u64) -> Result<Self, Fault>
         ensures range { IsOk result ↔ IsLimit levels }
         ensures made { IfOk result (λ made. made ≡ free_levels levels) }
@@ -74,7 +78,7 @@ impl<K: Drop> Levels<K> {
         })
     }
 
-    /// The levels of a party, 0 for all but the owner.
+    /// Returns the levels of a party: 0 unless it is the owner.
     pub fn level(&self, party: PartyId) -> u64
         ensures level { result ≡ level_of self.now (id_of party) }
         ensures lawful { IsLawful self.now }
@@ -85,14 +89,14 @@ impl<K: Drop> Levels<K> {
         }
     }
 
-    /// Whether the party has as many levels as there may be.
+    /// Returns whether the party has as many levels as the limit.
     pub fn is_full(&self, party: PartyId) -> bool
         ensures { result ≡ (level_of self.now (id_of party) == self.now.limit) }
     {
         self.level(party) == self.limit
     }
 
-    /// Whether any party owns a level.
+    /// Returns whether there is an owner.
     pub fn is_owned(&self) -> bool
         ensures owned { IsTrue result ↔ IsSome self.now.owner }
         ensures lawful { IsLawful self.now }
@@ -100,7 +104,7 @@ impl<K: Drop> Levels<K> {
         self.owner.is_some()
     }
 
-    /// One level more for the owner, and false for all others.
+    /// Adds a level if the party is the owner, or answers false.
     pub fn again(&mut self, party: PartyId) -> Result<bool, Fault>
         ensures full { IsErr result ↔ (level_of self.old (id_of party) ≡ self.old.limit) }
         ensures fault { IfErr result (λ fault. (fault ≡ Fault.FullCount) × (self.new ≡ self.old)) }
@@ -119,7 +123,7 @@ impl<K: Drop> Levels<K> {
         Ok(true)
     }
 
-    /// Level 1 of the party where there is no owner, and else the token back.
+    /// Makes the party the owner at level 1, or returns the token if there is an owner.
     pub fn first(&mut self, party: PartyId, token: K) -> Option<K>
         ensures taken { IfNone result
             (IsNone self.old.owner × (self.new ≡ with_owner self.old (id_of party) token)) }
@@ -136,7 +140,7 @@ impl<K: Drop> Levels<K> {
         None
     }
 
-    /// One level less for the owner, and the token with the last.
+    /// Removes one level of the owner, and returns the token with the last level.
     pub fn leave(&mut self, party: PartyId) -> Result<Option<K>, Fault>
         ensures owner { IsOk result ↔ (0 < level_of self.old (id_of party)) }
         ensures fault { IfErr result (λ fault. (fault ≡ Fault.Foreign) × (self.new ≡ self.old)) }
@@ -154,7 +158,7 @@ impl<K: Drop> Levels<K> {
         Ok(None)
     }
 
-    /// As `leave` where the party has one level. Where it has more it keeps them.
+    /// `leave` if the party has one level. With more levels it changes nothing.
     pub fn leave_sole(&mut self, party: PartyId) -> Result<Option<K>, Fault>
         ensures owner { IsOk result ↔ (0 < level_of self.old (id_of party)) }
         ensures fault { IfErr result (λ fault. (fault ≡ Fault.Foreign) × (self.new ≡ self.old)) }
@@ -180,7 +184,7 @@ impl<K: Drop> Levels<K> {
         }
     }
 
-    /// Takes the owner away, and answers the token that it held.
+    /// Removes the owner, and returns its token.
     fn free(&mut self) -> Option<K>
         ensures token { result ≡ token_of self.old }
         ensures after { self.new ≡ free_levels self.old.limit }

@@ -1,25 +1,25 @@
-//! Raw states that tell what is out of them.
+//! Raw states that can be observed.
 ghost use Rattle.std.specs.Prelude.{◌≡◌, ◌<◌, length, ◌↔◌, IsTrue};
 ghost use Rattle.lock_base.specs.Tokens.{bag_of_tokens, IsOutAs};
 
 use crate::machine::{Bag, Mode};
 use crate::raw::RawState;
 
-/// A raw state that tells which tokens are out of it. Asking changes neither the tokens nor the limits nor the bar.
+/// A raw state that says which tokens are held. Observing changes neither tokens nor limits nor the bar.
 pub trait ObservableState: RawState {
-    /// How many tokens of each mode are out.
+    /// Returns how many tokens of each mode are held.
     fn bag(&self) -> Bag
         ensures { result ≡ bag_of_tokens (Self.tokens self.now) };
 
-    /// How many tokens may be shared or upgradable.
+    /// Returns how many tokens may be shared or upgradable.
     fn readers(&self) -> u64
         ensures { result ≡ Self.reader_limit self.now };
 
-    /// Whether one more token may be out.
+    /// Returns whether one more token fits.
     fn room(&self) -> bool
         ensures { IsTrue result ↔ (length (Self.tokens self.now) < Self.capacity self.now) };
 
-    /// Whether this token is out in this mode.
+    /// Returns whether this token is held in this mode.
     fn out(&mut self, token: &Self::Token, mode: Mode) -> bool
         ensures out { IsTrue result ↔ IsOutAs (Self.tokens self.old) token.now mode }
         ensures tokens_kept { Self.tokens self.new ≡ Self.tokens self.old }

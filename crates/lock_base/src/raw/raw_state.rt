@@ -1,4 +1,4 @@
-//! The state behind a lock: the tokens that are out.
+//! Raw states: the tokens of a lock, for one thread.
 ghost use Rattle.std.specs.Prelude.{◌≡◌, ℕ, Bool, false, ◌&&◌, ◌<◌, List, [], length, ◌↔◌, ◌==◌, not, is_some, is_ok, IfOk, IfErr, IfSome, IfNone, OnErr};
 ghost use Rattle.lock_base.specs.declared.machine.mode.Mode.{Mode};
 ghost use Rattle.lock_base.specs.Modes.{admits, may_become};
@@ -9,27 +9,27 @@ use crate::machine::Mode;
 use crate::raw::Fault;
 use std::alloc::Global;
 
-/// The tokens that are out, as a bag, and two limits: how many may be out, and how many of those may read.
-/// A bar, while one is set, refuses every new token, and nothing else.
+/// The sequential counterpart of a raw lock: a bag of held tokens, with two limits. One limit is of all tokens, the
+/// other of those that read. While a bar is set, no new token is admitted.
 ///
-/// A token is out where the bag has it, with a mode. Two tokens of one mode may be equal, as where a token is only
-/// its mode: then either of them gives one back.
+/// A token is held if the bag has it, with a mode. Two tokens of one mode may be equal, for instance where a token is
+/// only its mode. Then either releases one of them.
 pub trait RawState: Sized + Drop {
     type Token: Drop;
 
-    /// The tokens that are out, each with its mode, in no order that matters.
+    /// The held tokens, each with its mode. Their order means nothing.
     ghost tokens: { Self → List (Self.Token × Mode) };
 
-    /// How many tokens may be out.
+    /// How many tokens may be held.
     ghost capacity: { Self → ℕ };
 
     /// How many tokens may be shared or upgradable.
     ghost reader_limit: { Self → ℕ };
 
-    /// Whether a bar is set.
+    /// Whether the bar is set.
     ghost bar: { Self → Bool };
 
-    /// A state with no token out and no bar. It takes all the memory that the state ever needs.
+    /// Makes a state without tokens and bar. It allocates all the memory that the state ever needs.
     fn new(alloc: Global, places: u64, readers: u64) -> Result<Self, Fault>
         ensures limits { (result ≡ Err Fault.BadLimits) ↔ ((IsLimit places × IsLimit readers) → ⊥) }
         ensures in_range { IfOk result (λ _. IsLimit places × IsLimit readers) }
@@ -39,7 +39,7 @@ pub trait RawState: Sized + Drop {
         ensures capacity_kept { IfOk result (λ state. capacity state ≡ places) }
         ensures limit_kept { IfOk result (λ state. reader_limit state ≡ readers) };
 
-    /// A new token of the mode, exactly where it is admitted and no bar is set.
+    /// Acquires a token of the mode, if the mode is admitted and no bar is set.
     fn admit(&mut self, mode: Mode) -> Option<Self::Token>
         requires { length (tokens self.old) < capacity self.old }
         ensures admitted { is_some result
@@ -50,7 +50,7 @@ pub trait RawState: Sized + Drop {
         ensures capacity_kept { capacity self.new ≡ capacity self.old }
         ensures limit_kept { reader_limit self.new ≡ reader_limit self.old };
 
-    /// Gives a token back.
+    /// Releases a token.
     fn give_back(&mut self, token: Self::Token)
         requires { IsOut (tokens self.old) token }
         ensures removed { Removes (tokens self.old) (tokens self.new) token }
@@ -58,8 +58,8 @@ pub trait RawState: Sized + Drop {
         ensures capacity_kept { capacity self.new ≡ capacity self.old }
         ensures limit_kept { reader_limit self.new ≡ reader_limit self.old };
 
-    /// A token of another mode in place of this one, by one of the four moves. An upgrade where another token is out
-    /// gives the same token back.
+    /// Exchanges a token for one of another mode, by one of the four moves. An upgrade next to another token returns
+    /// the token unchanged.
     fn change(&mut self, token: Self::Token, mode: Mode) -> Result<Self::Token, Self::Token>
         requires { CanChange (tokens self.old) token mode }
         ensures admitted { is_ok result ≡ may_become (bag_of_tokens (tokens self.old)) mode }
@@ -70,22 +70,22 @@ pub trait RawState: Sized + Drop {
         ensures capacity_kept { capacity self.new ≡ capacity self.old }
         ensures limit_kept { reader_limit self.new ≡ reader_limit self.old };
 
-    /// Whether a token is out.
+    /// Returns whether a token is held.
     fn any(&self) -> bool
         ensures { result ≡ not (length (tokens self.now) == 0) };
 
-    /// Whether an exclusive token is out.
+    /// Returns whether an exclusive token is held.
     fn exclusive(&self) -> bool
         ensures { result ≡ not ((bag_of_tokens (tokens self.now)).exclusive == 0) };
 
-    /// Sets a bar, or ends it.
+    /// Sets or clears the bar.
     fn set_bar(&mut self, barred: bool)
         ensures set { bar self.new ≡ barred }
         ensures tokens_kept { tokens self.new ≡ tokens self.old }
         ensures capacity_kept { capacity self.new ≡ capacity self.old }
         ensures limit_kept { reader_limit self.new ≡ reader_limit self.old };
 
-    /// Whether a bar is set.
+    /// Returns whether the bar is set.
     fn barred(&self) -> bool
         ensures { result ≡ bar self.now };
 }
