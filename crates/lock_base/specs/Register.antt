@@ -1,4 +1,4 @@
--- The register of a lock: its kind and its limits, the guards that are out, and the bar. It is all that admission looks at.
+-- The register of a lock: kind, limits, entries and bar. Admission looks at nothing else.
 use Rattle.std.specs.Prelude.{ℕ, ◌+◌, Bool, true, ◌&&◌, ◌==◌, nat_lt, if◌then◌else◌, List, [], ◌∷◌, ◌++◌, Option, None}
 use Rattle.lock_base.specs.declared.machine.mode.Mode.{Mode}
 use Rattle.lock_base.specs.declared.machine.mode.Mode.TheVariants.{Exclusive}
@@ -11,68 +11,67 @@ use Rattle.lock_base.specs.Entries.{Entry, without, update, held_entries, held_b
 
 pub record Register : Type 0 where
   pub kind : Kind
-  -- how many may read; how many levels a reentrant lock may have; 1 on a mutex
+  -- the limit of readers; of levels on a reentrant lock; 1 on a mutex
   pub limit : ℕ
-  -- how many guards may be out, parked ones counted
+  -- how many guards may be held or parked
   pub places : ℕ
-  -- the last number issued
+  -- the last guard number that was issued
   pub last : ℕ
-  -- the guards that are out, each under its number, by rising numbers
+  -- the guards that are held or parked, by rising numbers
   pub entries : List (ℕ × Entry)
-  -- the party that has announced itself
+  -- the party that set the bar
   pub bar : Option ℕ
 
--- a register with no guard and no bar
+-- a register without guards and bar
 abbrev pub empty_register : Kind → ℕ → ℕ → Register
 empty_register kind places limit =
     record { kind = kind; limit = limit; places = places; last = 0; entries = []; bar = None }
 
--- whether a guard of the party and the mode fits in beside those that are held.
--- A reentrant lock asks that all are the party's, and fewer than its levels
+-- whether the mode is admitted next to the held guards, whatever the bar. A reentrant lock admits its owner, below the
+-- limit of levels
 abbrev pub fits_in : Register → ℕ → Mode → Bool
 fits_in r party mode =
     if is_reentrant r.kind
     then all_of_party party (held_entries r.entries) && nat_lt (held_count r.entries) r.limit
     else admits r.limit (held_bag r.entries) mode
 
--- whether it is let in: it passes the bar, and fits in
+-- whether the party may acquire the mode: the bar lets it pass, and the mode is admitted
 abbrev pub lets_in : Register → ℕ → Mode → Bool
 lets_in r party mode = passes r.bar party mode && fits_in r party mode
 
--- the party holds a guard
+-- whether the party holds a guard
 abbrev pub owns : Register → ℕ → Bool
 owns r party = some_of_party party (held_entries r.entries)
 
--- whether the party owns a reentrant lock with as many levels as there may be
+-- whether the party owns a reentrant lock at the limit of its levels
 abbrev pub is_full_count : Register → ℕ → Bool
 is_full_count r party = is_reentrant r.kind && (owns r party && (held_count r.entries == r.limit))
 
--- the tokens that are out: those of the held guards, and on a reentrant lock one exclusive while any is held
+-- the tokens behind the held guards: one each, but on a reentrant lock one exclusive token while any guard is held
 abbrev pub tokens_of : Register → Bag
 tokens_of r =
     if is_reentrant r.kind
     then (if held_count r.entries == 0 then empty_bag else one_more empty_bag Exclusive)
     else held_bag r.entries
 
--- how many of the tokens behind a lock may read: behind a reentrant one there is one token
+-- the readers' limit of the raw state: a reentrant lock has one token
 abbrev pub token_limit : Kind → ℕ → ℕ
 token_limit kind limit = if is_reentrant kind then 1 else limit
 
--- whether a guard that comes to these, or goes and leaves these, moves a token: of the levels of a reentrant lock
--- the first and the last one do
+-- whether the first guard added to these, or the last one removed down to these, moves a token. Levels share one token
 abbrev pub moves_token : Register → Bool
 moves_token r = if is_reentrant r.kind then held_count r.entries == 0 else true
 
--- whether a bump gives a token back and takes another: of the levels of a reentrant lock only a sole one does
+-- whether a bump releases a token: on a reentrant lock only with one held guard
 abbrev pub bumps_token : Register → Bool
 bumps_token r = if is_reentrant r.kind then held_count r.entries == 1 else true
 
--- a register with another bar, and with other guards
+-- a register with another bar
 
 abbrev pub with_bar : Register → Option ℕ → Register
 with_bar r bar = record r { bar = bar }
 
--- with the bar that is left once a guard of the mode was let in
+-- the register after an admitted acquisition: an exclusive one clears the bar
 abbrev pub after_admission : Register → Mode → Register
 after_admission r mode = with_bar r (bar_after r.bar mode)
 

@@ -1,4 +1,4 @@
--- What holds of the register of every machine that a run reaches from a start.
+-- The invariant of registers: what holds after any run of calls.
 use Rattle.std.specs.Prelude.{◌≡◌, ℕ, ◌<◌, List, [], ◌∷◌, Option, None}
 use Rattle.lock_base.specs.declared.machine.mode.Mode.{Mode}
 use Rattle.lock_base.specs.declared.machine.mode.Mode.TheVariants.{Exclusive}
@@ -8,19 +8,19 @@ use Rattle.lock_base.specs.Entries.{Entry}
 use Rattle.lock_base.specs.Register.{Register}
 use Rattle.lock_base.specs.Legal.{IsLegal}
 
--- a mutex has the limit 1, and the others a positive one
+-- the limit of a mutex is 1, and every other limit is positive
 abbrev pub IsLimitOf : Kind → ℕ → Type 0
 IsLimitOf Mutex limit = limit ≡ 1
 IsLimitOf RwLock limit = 0 < limit
 IsLimitOf Reentrant limit = 0 < limit
 
--- what a lawful limit has to be besides
+-- what the kind demands of a limit in range
 abbrev pub FitsKind : Kind → ℕ → Type 0
 FitsKind Mutex limit = limit ≡ 1
 FitsKind RwLock limit = Unit {0}
 FitsKind Reentrant limit = Unit {0}
 
--- all but a reader-writer lock have exclusive guards alone
+-- only a reader-writer lock has modes other than exclusive
 abbrev pub IsModeOf : Kind → Mode → Type 0
 IsModeOf Mutex mode = mode ≡ Exclusive
 IsModeOf RwLock mode = Unit {0}
@@ -31,13 +31,13 @@ abbrev pub HaveModesOf : Kind → List (ℕ × Entry) → Type 0
 HaveModesOf kind [] = Unit {0}
 HaveModesOf kind (e ∷ es) = IsModeOf kind e.1.mode × HaveModesOf kind es
 
--- a reader-writer lock alone has a bar
+-- only a reader-writer lock has a bar
 abbrev pub IsBarOf : Kind → Option ℕ → Type 0
 IsBarOf Mutex bar = bar ≡ None
 IsBarOf RwLock bar = Unit {0}
 IsBarOf Reentrant bar = bar ≡ None
 
--- a legal register, with the limit, the modes and the bar of its kind
+-- a legal register whose limit, modes and bar fit its kind
 pub record IsSound (r : Register) : Type 0 where
   pub legal : IsLegal r
   pub limit : IsLimitOf r.kind r.limit

@@ -123,7 +123,7 @@ where
         self.levels().is_owned()
     }
 
-    /// Acquires a further level for the owner. For another party it acquires the first level, if `attempt` gets a
+    /// Acquires a further level for the owner. For another party it acquires the first level, if `try_raw` gets a
     /// token.
     fn try_lock_with<F: FnOnce() -> Option<R::Guard> + Drop>(
         &self,
