@@ -1,4 +1,4 @@
--- The bar of a register, which knows parties, in the words of a word, which does not.
+-- The bar of a register, which names its party, against the bar of a word, which does not.
 use Rattle.std.specs.Prelude.{◌≡◌, ℕ, ◌↔◌, Option, is_some, IsTrue}
 use Rattle.lock_base.specs.declared.machine.mode.Mode.{Mode}
 use Rattle.lock_base.specs.declared.machine.mode_step.ModeStep.TheVariants.{Acquire}
@@ -7,11 +7,11 @@ use Rattle.lock_base.specs.Bar.{passes, has_announced, bar_after}
 use Rattle.lock_word.specs.declared.word_step.WordStep.TheVariants.{Modes}
 use Rattle.lock_word.specs.Holds.{BarredBag, bars_of, Passes, barred_after}
 
--- beside a bag, the bar of a party or none, as a number of bars
+-- a bag with the bar of a register, as a number of bars
 abbrev pub barred_by : Option ℕ → Bag → BarredBag
 barred_by bar bag = record { bag = bag; bars = bars_of (is_some bar) }
 
--- a guard of the party and the mode passes either bar or neither, and what is left of both is alike
+-- both bars let the acquisition pass, or neither does, and both are the same afterwards
 pub record IsBarAlike (bar : Option ℕ) (party : ℕ) (mode : Mode) (bag : Bag) : Type 0 where
   pub lets_pass :
       IsTrue (passes bar party mode) ↔ Passes (has_announced bar party) (bars_of (is_some bar)) (Acquire mode)

@@ -1,4 +1,4 @@
--- Holders: what all have together, and runs of the modes by them, with the bars beside.
+-- Holders: what all hold together, and runs of the modes by them.
 use Rattle.std.specs.Prelude.{zero, suc, ◌≡◌, ◌≤◌, ℕ, ◌-◌, List, [], ◌∷◌, ◌++◌, sum_by, slice_get, slice_set, Option, Some, None, IsTrue}
 use Rattle.lock_base.specs.declared.machine.mode_step.ModeStep.{ModeStep}
 use Rattle.lock_word.specs.declared.hold.Hold.{Hold}
@@ -6,7 +6,7 @@ use Rattle.lock_word.specs.declared.word_step.WordStep.{WordStep}
 use Rattle.lock_word.specs.declared.word_step.WordStep.TheVariants.{Modes, Announce, Withdraw}
 use Rattle.lock_word.specs.Holds.{BarredBag, bars_of, PermitsTo, hold_has, hold_after}
 
--- what several holders have together
+-- the sum of several holds
 abbrev pub all_of : List Hold → BarredBag
 all_of holds =
     record {
@@ -19,7 +19,7 @@ all_of holds =
       bars = sum_by (λ (h : Hold). bars_of h.announced) holds;
     }
 
--- what one has is part of what all have
+-- a hold is part of the sum
 pub record IsPart (own : Hold) (all : BarredBag) : Type 0 where
   pub shared : own.bag.shared ≤ all.bag.shared
   pub exclusive : own.bag.exclusive ≤ all.bag.exclusive
@@ -36,7 +36,7 @@ pub record HolderStep : Type 0 where
   pub holder : ℕ
   pub step : WordStep
 
--- the holder is there and has what it gives up, and the step may be made where all that is held is out
+-- the holder exists, holds what the step releases, and the sum of all holds permits the step
 pub record IsHolderStep (limit : ℕ) (before : List Hold) (s : HolderStep) (after : List Hold) : Type 0 where
   pub own : Hold
   pub is_own : holder_at before s.holder ≡ Some own
@@ -44,19 +44,19 @@ pub record IsHolderStep (limit : ℕ) (before : List Hold) (s : HolderStep) (aft
   pub permitted : PermitsTo own.announced limit (all_of before) s.step
   pub changed : after ≡ slice_set before (s.holder - 1) (hold_after own s.step)
 
--- these steps, each of which may be made where it is, lead from the one to the other
+-- the steps lead from one list of holds to the other, and each is permitted where it is made
 abbrev pub IsHolderRun : ℕ → List Hold → List HolderStep → List Hold → Type 0
 IsHolderRun limit before [] after = before ≡ after
 IsHolderRun limit before (s ∷ ss) after =
     (mid : List Hold) × IsHolderStep limit before s mid × IsHolderRun limit mid ss after
 
--- the change of the modes, which no announcement and no withdrawal makes
+-- the step on the modes; an announcement and a withdrawal make none
 abbrev pub modes_of : WordStep → List ModeStep
 modes_of (Modes step) = step ∷ []
 modes_of Announce = []
 modes_of Withdraw = []
 
--- the changes of the modes, without their holders
+-- the steps on the modes, without their holders
 abbrev pub steps_of : List HolderStep → List ModeStep
 steps_of [] = []
 steps_of (s ∷ ss) = modes_of s.step ++ steps_of ss

@@ -1,4 +1,4 @@
--- What holds of the word and of all parties between any two atomic steps.
+-- The rule: what holds of the word and of all parties between any two atomic steps.
 use Rattle.std.specs.Prelude.{◌≡◌, ◌≢◌, ℕ, ◌+◌, ◌-◌, ◌%◌, ◌^◌, ◌<◌, ◌≤◌, List, map, sum_by, slice_get, Some, ◌⊎◌}
 use Rattle.lock_base.specs.Modes.{readers}
 use Rattle.lock_word.specs.declared.hold.Hold.{Hold}
@@ -18,29 +18,29 @@ held_by_all parties = all_of (holds parties)
 abbrev pub all_wins : List PartyState → ℕ
 all_wins parties = sum_by (λ (q : PartyState). q.wins) parties
 
--- the wins of the others: all wins less the party's own
+-- the wins of the other parties
 abbrev pub others_wins : List PartyState → PartyState → ℕ
 others_wins parties me = all_wins parties - me.wins
 
--- the party's fails are at most the others' wins, and fewer where the word is no longer the one that it loaded
+-- a party's fails are at most the others' wins, and fewer if the word is no longer its open load
 pub record IsBehind (others word : ℕ) (me : PartyState) : Type 0 where
   pub bounded : me.fails ≤ others
   pub open_load : (loaded : ℕ) → me.loaded ≡ Some loaded → word ≢ loaded → me.fails < others
 
--- the word is that of all that is held, which may stand together, and each party's fails are behind the others' wins
+-- the word encodes what all parties hold, which is legal, and each party's fails are behind the others' wins
 pub record KeepsRule (limit word : ℕ) (parties : List PartyState) : Type 0 where
   pub coded : word ≡ word_of (held_by_all parties)
   pub legal : MayStand limit (held_by_all parties)
   pub behind : (k : ℕ) (me : PartyState) → slice_get parties k ≡ Some me → IsBehind (others_wins parties me) word me
 
--- what a word says to one who holds these: it is the word of all that is held, of which these are a part
+-- what a word says to a party with this hold: it encodes a legal sum of holds, and this hold is part of the sum
 pub record Shows (limit word : ℕ) (own : Hold) : Type 0 where
   pub all : BarredBag
   pub legal : MayStand limit all
   pub part : IsPart own all
   pub coded : word ≡ word_of all
-  -- so an exclusive holder finds no one else, one who reads finds a reader and no exclusive holder, beside a bar or
-  -- none, and one who has announced itself finds a bar
+  -- so an exclusive holder is alone, a reader excludes an exclusive holder, and a party that announced itself finds the
+  -- bar
   pub exclusive : 0 < own.bag.exclusive → (word ≡ 2 ^ 33) ⊎ (word ≡ 2 ^ 34 + 2 ^ 33)
   pub reads : 0 < readers own.bag → (0 < readers_of_word word) × (word % 2 ^ 34 < 2 ^ 33)
   pub announced : 0 < bars_of own.announced → 2 ^ 34 ≤ word

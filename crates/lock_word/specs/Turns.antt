@@ -13,13 +13,13 @@ use Rattle.lock_word.specs.declared.word_step.WordStep.{WordStep}
 use Rattle.lock_word.specs.Holds.{bars_of, no_hold, hold_has, hold_after}
 use Rattle.lock_word.specs.Word.{word_of, word_admits, word_after, amount, step_of_want, step_of_down}
 
--- the word and the party that made a step, as it leaves them, and what it answered
+-- the word and the party after a step, and its outcome
 pub record Turn : Type 0 where
   pub word : ℕ
   pub party : PartyState
   pub outcome : Outcome
 
--- how many steps were done, where so many were done before: a refused step is not counted
+-- how many steps are done, of which so many came before: a refused step does not count
 abbrev pub steps_after : ℕ → Outcome → ℕ
 steps_after before (Refused fault) = before
 steps_after before (Loaded word) = before + 1
@@ -34,15 +34,15 @@ idle = record { held = no_hold; loaded = None; wins = 0; fails = 0 }
 abbrev pub with_load : PartyState → ℕ → PartyState
 with_load me word = record me { loaded = Some word }
 
--- the party has given its open load up
+-- the party without its open load
 abbrev pub without_load : PartyState → PartyState
 without_load me = record me { loaded = None }
 
--- the party has made this step, and its open load is spent
+-- the party after a step that changed the word; its open load is spent
 abbrev pub after_win : PartyState → WordStep → PartyState
 after_win me step = record me { held = hold_after me.held step; loaded = None; wins = me.wins + 1 }
 
--- the party's exchange found another word
+-- the party after an exchange that found another word
 abbrev pub after_fail : PartyState → PartyState
 after_fail me = record me { loaded = None; fails = me.fails + 1 }
 
@@ -87,7 +87,7 @@ party_of (Load p) = p
 party_of (Exchange p want) = p
 party_of (Take p down) = p
 
--- the word has what the party holds, and there is room to count one step more
+-- the word includes what the party holds, and there is room to count one step more
 pub record CanStep (word : ℕ) (me : PartyState) : Type 0 where
   pub part : word_of record { bag = me.held.bag; bars = bars_of me.held.announced } ≤ word
   pub small : word < 2 ^ 63

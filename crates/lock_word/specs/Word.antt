@@ -1,4 +1,4 @@
--- The packed word: one number for a bag and the bar beside it, what it admits, and what each step makes of it.
+-- The packed word: the encoding of holds and bar in one number, what a word admits, and the word after each step.
 use Rattle.std.specs.Prelude.{◌≡◌, ℕ, ◌+◌, ◌-◌, ◌*◌, ◌/◌, ◌%◌, ◌^◌, Bool, true, false, ◌&&◌, ◌||◌, not, ◌==◌, nat_lt, if◌then◌else◌, Option, Some, None}
 use Rattle.lock_base.specs.declared.machine.mode.Mode.{Mode}
 use Rattle.lock_base.specs.declared.machine.mode.Mode.TheVariants as mode
@@ -13,18 +13,18 @@ use Rattle.lock_word.specs.declared.word_step.WordStep.{WordStep}
 use Rattle.lock_word.specs.declared.word_step.WordStep.TheVariants as step
 use Rattle.lock_word.specs.Holds.{BarredBag, MayStand, bars_of}
 
--- the readers, plus 2^32 for an upgradable token, 2^33 for an exclusive one, and 2^34 for a bar
+-- the readers, 2^32 for an upgradable hold, 2^33 for an exclusive one, and 2^34 for the bar
 abbrev pub word_of : BarredBag → ℕ
 word_of all = readers all.bag + 2 ^ 32 * all.bag.upgradable + 2 ^ 33 * all.bag.exclusive + 2 ^ 34 * all.bars
 
 abbrev pub readers_of_word : ℕ → ℕ
 readers_of_word word = word % 2 ^ 32
 
--- the guards that a word shows: its readers, plus one where it has an exclusive token
+-- the guards in a word: its readers, and one for an exclusive hold
 abbrev pub guards_of_word : ℕ → ℕ
 guards_of_word word = readers_of_word word + (word / 2 ^ 33) % 2
 
--- whether the loaded word admits what one wants who has announced itself, or has not
+-- whether the loaded word admits what a party wants, which has announced itself or has not
 abbrev pub word_admits : Bool → ℕ → ℕ → ExWant → Bool
 word_admits announced limit word Shared = nat_lt word (2 ^ 33) && nat_lt (readers_of_word word) limit
 word_admits announced limit word Exclusive = (word == 0) || (announced && (word == 2 ^ 34))
@@ -32,7 +32,7 @@ word_admits announced limit word Upgradable = nat_lt word (2 ^ 32) && nat_lt (re
 word_admits announced limit word Upgrade = (word == 2 ^ 32 + 1) || (word == 2 ^ 34 + 2 ^ 32 + 1)
 word_admits announced limit word Announce = nat_lt word (2 ^ 34)
 
--- the word with what the exchange wants
+-- the word after the exchange
 abbrev pub word_after : ℕ → ExWant → ℕ
 word_after word Shared = word + 1
 word_after word Exclusive = 2 ^ 33
@@ -40,12 +40,12 @@ word_after word Upgradable = word + (2 ^ 32 + 1)
 word_after word Upgrade = word + (2 ^ 32 - 1)
 word_after word Announce = word + 2 ^ 34
 
--- the word that the exchange puts for the loaded one, where that admits what is wanted
+-- the word to exchange for the loaded one, if that admits what is wanted
 abbrev pub word_exchanged : Bool → ℕ → ℕ → ExWant → Option ℕ
 word_exchanged announced limit loaded want =
     if word_admits announced limit loaded want then Some (word_after loaded want) else None
 
--- what a subtraction takes from the word
+-- the number that a subtraction subtracts
 abbrev pub amount : Down → ℕ
 amount down.Shared = 1
 amount down.Exclusive = 2 ^ 33
@@ -55,7 +55,7 @@ amount down.ToUpgradable = 2 ^ 32 - 1
 amount down.UpgradableToShared = 2 ^ 32
 amount down.Withdraw = 2 ^ 34
 
--- what an exchange does to the modes and the bar
+-- the step on modes and bar of an exchange
 abbrev pub step_of_want : ExWant → WordStep
 step_of_want Shared = step.Modes (Acquire mode.Shared)
 step_of_want Exclusive = step.Modes (Acquire mode.Exclusive)
@@ -63,7 +63,7 @@ step_of_want Upgradable = step.Modes (Acquire mode.Upgradable)
 step_of_want Upgrade = step.Modes (Change mode.Upgradable mode.Exclusive)
 step_of_want Announce = step.Announce
 
--- what a subtraction does to the modes and the bar
+-- the step on modes and bar of a subtraction
 abbrev pub step_of_down : Down → WordStep
 step_of_down down.Shared = step.Modes (Release mode.Shared)
 step_of_down down.Exclusive = step.Modes (Release mode.Exclusive)
@@ -85,13 +85,13 @@ down_of_mode mode.Shared = down.Shared
 down_of_mode mode.Exclusive = down.Exclusive
 down_of_mode mode.Upgradable = down.Upgradable
 
--- whether the word after admits what is wanted, and the one before does not
+-- whether `after` admits what is wanted, and `before` does not
 abbrev pub word_newly_admits : Bool → ℕ → ℕ → ℕ → ExWant → Bool
 word_newly_admits announced limit before after want =
     not (word_admits announced limit before want) && word_admits announced limit after want
 
--- whether someone who waits may get on at the word after, and could not at the one before. Under a bar one that waits for
--- an exclusive token has announced itself
+-- whether a waiter may be admitted at the word after that was not at the word before. Under a bar a waiting writer
+-- counts as the party that set it
 abbrev pub word_unblocks : ℕ → ℕ → ℕ → Bool
 word_unblocks limit before after =
     word_newly_admits false limit before after Shared
@@ -99,7 +99,7 @@ word_unblocks limit before after =
     || (word_newly_admits false limit before after Upgradable
     || word_newly_admits false limit before after Upgrade))
 
--- the bag that a packed word stands for
+-- the bag that a packed word encodes
 abbrev pub bag_of_word : ℕ → Bag
 bag_of_word word =
     record {
@@ -108,15 +108,15 @@ bag_of_word word =
       upgradable = (word / 2 ^ 32) % 2;
     }
 
--- and the bars beside it
+-- with the bar
 abbrev pub barred_bag_of_word : ℕ → BarredBag
 barred_bag_of_word word = record { bag = bag_of_word word; bars = word / 2 ^ 34 }
 
--- the word with a bar, or with none
+-- the word with the bar, or without it
 abbrev pub word_with_bar : ℕ → Bool → ℕ
 word_with_bar word barred = word % 2 ^ 34 + 2 ^ 34 * bars_of barred
 
--- the number is the word of a bag and a bar that may stand
+-- the number encodes a legal state
 pub record IsPacked (limit word : ℕ) : Type 0 where
   pub coded : word ≡ word_of (barred_bag_of_word word)
   pub legal : MayStand limit (barred_bag_of_word word)

@@ -1,4 +1,4 @@
--- What the word of a bag and a bar says of them.
+-- What the packed word says of the holds that it encodes.
 use Rattle.std.specs.Prelude.{◌≡◌, ℕ, ◌+◌, ◌≤◌, Bool, ◌↔◌, IsTrue}
 use Rattle.lock_base.specs.Limits.{IsLimit}
 use Rattle.lock_word.specs.declared.want.ExWant.{ExWant}
@@ -8,15 +8,15 @@ use Rattle.lock_word.specs.Holds.{BarredBag, MayStand, bars_of, PermitsTo, barre
 use Rattle.lock_word.specs.Holders.{IsPart}
 use Rattle.lock_word.specs.Word.{word_of, word_admits, word_after, amount, step_of_want, step_of_down}
 
--- the word admits to one who has announced itself, or has not, what it may do where these are out, and with what was
--- wanted it is the word of what is out after the step
+-- the word admits the exchange exactly where what all hold permits the step, and then the new word encodes what all
+-- hold after it
 pub record IsExchangeOf (announced : Bool) (limit : ℕ) (all : BarredBag) (want : ExWant) : Type 0 where
   pub admits :
       IsTrue (word_admits announced limit (word_of all) want) ↔ PermitsTo announced limit all (step_of_want want)
   pub puts : PermitsTo announced limit all (step_of_want want)
       → word_after (word_of all) want ≡ word_of (barred_after announced all (step_of_want want))
 
--- where one has announced itself, its bar is among those that stand
+-- a party that announced itself has its bar among those that are set
 abbrev pub ExchangesAreOfBags : Type 0
 ExchangesAreOfBags =
     (announced : Bool) (limit : ℕ) (all : BarredBag) (want : ExWant) → IsLimit limit → MayStand limit all

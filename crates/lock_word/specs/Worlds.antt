@@ -1,4 +1,4 @@
--- Parties that step on one word, one step after another.
+-- Worlds: parties that step on one word, one step after another.
 use Rattle.std.specs.Prelude.{◌≡◌, ℕ, ◌+◌, ◌-◌, ◌^◌, ◌<◌, ◌≤◌, ◌==◌, if◌then◌else◌, List, [], ◌∷◌, ◌++◌, replicate, slice_get, slice_set, Option, Some, None, IsSomeAnd}
 use Rattle.lock_base.specs.declared.raw.fault.Fault.{Fault}
 use Rattle.lock_base.specs.declared.raw.fault.Fault.TheVariants as fault
@@ -13,7 +13,7 @@ use Rattle.lock_word.specs.Word.{step_of_want, step_of_down, IsPacked}
 use Rattle.lock_word.specs.Turns.{Turn, idle, turn, party_of, steps_after}
 use Rattle.lock_word.specs.Rule.{KeepsRule}
 
--- the word, how many may read, how many steps were done, and the parties, which are numbered from 1
+-- the word, the readers' limit, how many steps were done, and the parties, numbered from 1
 pub record WorldState : Type 0 where
   pub word : ℕ
   pub readers : ℕ
@@ -23,20 +23,20 @@ pub record WorldState : Type 0 where
 abbrev pub new_world : ℕ → ℕ → WorldState
 new_world count limit = record { word = 0; readers = limit; steps = 0; parties = replicate count idle }
 
--- the party of that number is there, and has this
+-- the party of that number exists, and this holds of it
 abbrev pub IsOfParty : WorldState → ℕ → (PartyState → Type 0) → Type 0
 IsOfParty w party fact = IsSomeAnd (holder_at w.parties party) fact
 
--- there is no party of that number, and this is the fault that says so
+-- no party has that number, and this is the fault of that
 abbrev pub IsUnknownIn : WorldState → ℕ → Fault → Type 0
 IsUnknownIn w party reply = (reply ≡ fault.UnknownParty) × (holder_at w.parties party ≡ None)
 
--- a world after a step, and what the step answered
+-- the world after a step, and the step's outcome
 pub record Stepped : Type 0 where
   pub world : WorldState
   pub outcome : Outcome
 
--- the party at this place of the list has made its turn
+-- the world after the turn of the party at this index
 abbrev pub after_turn : WorldState → ℕ → Turn → Stepped
 after_turn w k t =
     record {
@@ -68,23 +68,23 @@ abbrev pub outcomes : WorldState → List AtomicStep → List Outcome
 outcomes w [] = []
 outcomes w (s ∷ ss) = (after_step w s).outcome ∷ outcomes (after_step w s).world ss
 
--- the change of modes of a step that was done
+-- the step on modes and bar of an atomic step that was done
 abbrev pub holder_step : AtomicStep → Outcome → List HolderStep
 holder_step (Exchange p want) Done = record { holder = p; step = step_of_want want } ∷ []
 holder_step (Take p down) Done = record { holder = p; step = step_of_down down } ∷ []
 holder_step s outcome = []
 
--- the changes of modes of the steps that were done, in order
+-- those of all atomic steps that were done, in order
 abbrev pub done_steps : List AtomicStep → List Outcome → List HolderStep
 done_steps [] outcomes = []
 done_steps (s ∷ ss) [] = []
 done_steps (s ∷ ss) (outcome ∷ outcomes) = holder_step s outcome ++ done_steps ss outcomes
 
--- the party's open load, if it has one, is the word of a bag and a bar that may stand
+-- the party's open load, if any, encodes a legal bag with at most one bar
 abbrev pub HasPackedLoad : ℕ → PartyState → Type 0
 HasPackedLoad limit me = (loaded : ℕ) → me.loaded ≡ Some loaded → IsPacked limit loaded
 
--- a world as steps from a new one can leave it
+-- a world that steps from a new one can reach
 pub record IsReachable (w : WorldState) : Type 0 where
   pub limit : IsLimit w.readers
   pub steps_fit : w.steps < 2 ^ 64

@@ -1,33 +1,33 @@
-//! What subtractions from the word give up.
+//! Subtractions from the word.
 ghost use Rattle.std.specs.Prelude.{◌≡◌};
 
 use crate::word::{BAR, EXCLUSIVE, UPGRADABLE};
 use crate::word_step::WordStep;
 use lock_base::machine::{Mode, ModeStep};
 
-/// What a subtraction from the word gives up.
+/// What a subtraction from the word releases or downgrades.
 #[derive(Clone, Copy, PartialEq, Eq, Debug)]
 pub enum Down {
-    /// A shared token.
+    /// Releases a shared hold.
     Shared,
-    /// An exclusive token.
+    /// Releases an exclusive hold.
     Exclusive,
-    /// An upgradable token.
+    /// Releases an upgradable hold.
     Upgradable,
-    /// An exclusive token for a shared one.
+    /// Downgrades an exclusive hold to a shared one.
     ToShared,
-    /// An exclusive token for an upgradable one.
+    /// Downgrades an exclusive hold to an upgradable one.
     ToUpgradable,
-    /// An upgradable token for a shared one.
+    /// Downgrades an upgradable hold to a shared one.
     UpgradableToShared,
-    /// The bar of the one that has announced itself.
+    /// Clears the bar of the party that set it.
     Withdraw,
 }
 
 impl Down {
     ghost use Rattle.lock_word.specs.Word.{down_of_mode, step_of_down, amount};
 
-    /// The subtraction that releases the mode.
+    /// Returns the subtraction that releases the mode.
     pub fn of_mode(mode: Mode) -> Down
         ensures { result ≡ down_of_mode mode }
     {
@@ -38,7 +38,7 @@ impl Down {
         }
     }
 
-    /// What the subtraction does to the modes that are out and to the bar.
+    /// Returns the step on the modes and the bar.
     pub fn step(self) -> WordStep
         ensures { result ≡ step_of_down self }
     {
@@ -54,7 +54,7 @@ impl Down {
         WordStep::Modes(step)
     }
 
-    /// What the subtraction takes from the word.
+    /// Returns the number to subtract.
     pub fn amount(self) -> u64
         ensures { result ≡ amount self }
     {

@@ -1,14 +1,14 @@
-//! What one who steps on the word has.
+//! What one party holds on the word.
 ghost use Rattle.std.specs.Prelude.{◌≡◌, ◌-◌, ◌<◌, ◌^◌, IsTrue};
 
 use crate::word_step::WordStep;
 use lock_base::machine::{Bag, Mode, ModeStep};
 
-/// The tokens that one has, and whether it has announced itself.
+/// What one party holds on the word: a bag of modes, and whether it has announced itself.
 #[derive(Clone, Copy, PartialEq, Eq, Debug)]
 pub struct Hold {
     pub bag: Bag,
-    /// Nobody else is let in until it has had its turn, or withdraws.
+    /// The party set the bar: it is going to write, and no other party is admitted.
     pub announced: bool,
 }
 
@@ -16,7 +16,7 @@ impl Hold {
     ghost use Rattle.lock_base.specs.Modes.{tokens};
     ghost use Rattle.lock_word.specs.Holds.{no_hold, hold_has, hold_after};
 
-    /// No token, and not announced.
+    /// Makes the empty hold.
     pub fn none() -> Hold
         ensures { result ≡ no_hold }
     {
@@ -26,7 +26,7 @@ impl Hold {
         }
     }
 
-    /// Whether what the step gives up is there.
+    /// Returns whether the hold has what the step releases, changes or clears.
     pub fn has(&self, step: WordStep) -> bool
         ensures { result ≡ hold_has self.now step }
     {
@@ -37,7 +37,7 @@ impl Hold {
         }
     }
 
-    /// The hold after the step. An exclusive token ends the announcement.
+    /// Returns the hold after the step. Acquiring exclusively clears the announcement.
     pub fn after(self, step: WordStep) -> Hold
         requires had { IsTrue (hold_has self step) }
         requires room { tokens self.bag < 2 ^ 64 - 1 }

@@ -1,31 +1,32 @@
-//! Laws of the word and of the steps on it: functions with an empty body, whose contract is the law.
+//! Laws of the packed word and of the steps on it. Each is the contract of a function with an empty body.
 ghost use Rattle.lock_word.specs.WordLaws.{ExchangesAreOfBags, SubtractionsAreOfBags, WordsAreOfOneBag};
 ghost use Rattle.lock_word.specs.BarLaws.{BarsAreAlike};
 ghost use Rattle.lock_word.specs.Claims.{EveryInterleaving};
 
-/// The word of what is out admits just what may be done there, and the exchange puts the word of what is out after it.
+/// An exchange refines a step on the bag: the word admits it exactly where the bag and the bar permit the step, and the
+/// new word is that of the new bag.
 pub fn exchanges_are_of_bags()
     ensures { ExchangesAreOfBags }
 {}
 
-/// A subtraction by one who has what it gives up leaves the word of what is out after it.
+/// A subtraction refines a step on the bag: if the party holds what it releases, the new word is that of the new bag.
 pub fn subtractions_are_of_bags()
     ensures { SubtractionsAreOfBags }
 {}
 
-/// Two compatible bags of one word, each with a bar or none, are the same.
+/// The encoding is injective on legal states: two compatible bags with the same word, with or without a bar, are equal.
 pub fn words_are_of_one_bag()
     ensures { WordsAreOfOneBag }
 {}
 
-/// The bar of a machine, which knows parties by their numbers, and that of a word, which does not, let the same in and
-/// end alike.
+/// The bar of a register names its party, and the bar of a word does not. Both admit the same acquisitions and are
+/// cleared by the same ones.
 pub fn bars_are_alike()
     ensures { BarsAreAlike }
 {}
 
-/// Whatever steps any parties make, in whatever order, from a new world on: the steps that were done are a run of the
-/// modes, and no party's failed exchanges outnumber the others' wins.
+/// Takes any steps of any parties, in any order, from a new world. The steps that were done are a run of the modes, and
+/// no party's failed exchanges outnumber the wins of the others.
 pub fn every_interleaving()
     ensures { EveryInterleaving }
 {}

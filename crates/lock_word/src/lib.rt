@@ -1,4 +1,4 @@
-//! The packed word, one number for the modes that are out and the bar beside them, and the atomic steps of parties on it.
+//! The packed word: the modes that are held and the bar, in one number, with the atomic steps of parties on it.
 #![tactic(auto)]
 
 mod down;

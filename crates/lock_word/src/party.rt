@@ -1,4 +1,4 @@
-//! A party that steps on the word.
+//! A party of a world.
 ghost use Rattle.std.specs.Prelude.{◌≡◌, ◌-◌, ◌^◌, ◌<◌, ◌≤◌, IsTrue};
 
 use crate::down::Down;
@@ -8,15 +8,15 @@ use crate::want::ExWant;
 use crate::word_step::WordStep;
 use lock_base::raw::Fault;
 
-/// What a party holds, its open load, and how often it won and failed.
+/// The world's view of a party: what it holds, its open load, and how often it won and failed.
 #[derive(Clone, Copy, PartialEq, Eq, Debug)]
 pub struct PartyState {
     pub held: Hold,
-    /// The word at the party's last load, until an exchange or a subtraction of its own ends it.
+    /// The open load: the word that the party loaded last, until its next exchange or subtraction.
     pub loaded: Option<u64>,
-    /// Exchanges and subtractions that were done.
+    /// How many exchanges and subtractions changed the word.
     pub wins: u64,
-    /// Exchanges that found the word changed.
+    /// How many exchanges found the word changed.
     pub fails: u64,
 }
 
@@ -26,7 +26,7 @@ impl PartyState {
     ghost use Rattle.lock_word.specs.Word.{word_of};
     ghost use Rattle.lock_word.specs.Turns.{idle, after_win, load_turn, exchange_turn, take_turn, turn, CanStep};
 
-    /// A party that has done nothing yet.
+    /// Makes a party that has done nothing yet.
     pub fn idle() -> PartyState
         ensures { result ≡ idle }
     {
@@ -38,7 +38,7 @@ impl PartyState {
         }
     }
 
-    /// One step of this party on the word, which it is numbered for.
+    /// Makes one step of this party on the word. The party number in the step is not looked at.
     pub fn make(&mut self, readers: u64, word: &mut u64, step: AtomicStep) -> Outcome
         requires { CanStep word.old self.old }
         ensures word { word.new ≡ (turn readers word.old self.old step).word }

@@ -1,25 +1,25 @@
-//! The atomic steps of parties, and what they answer.
+//! Atomic steps of parties, and their outcomes.
 ghost use Rattle.std.specs.Prelude.{◌≡◌};
 
 use crate::down::Down;
 use crate::want::ExWant;
 use lock_base::raw::Fault;
 
-/// One atomic step of a party, which is numbered from 1.
+/// One atomic step of a party. Parties are numbered from 1.
 #[derive(Clone, Copy, PartialEq, Eq, Debug)]
 pub enum AtomicStep {
-    /// The party reads the word, which is then its open load.
+    /// Loads the word, which becomes the party's open load.
     Load(u64),
-    /// Where the word is still the party's open load, it becomes the word with what is wanted.
+    /// Compare-exchange: replaces the word if it is still the party's open load and admits what is wanted.
     Exchange(u64, ExWant),
-    /// The word becomes less by what is given up.
+    /// Subtracts from the word: a release, a downgrade or a withdrawal.
     Take(u64, Down),
 }
 
 impl AtomicStep {
     ghost use Rattle.lock_word.specs.Turns.{party_of};
 
-    /// The number of the party that makes the step.
+    /// Returns the number of the party that makes the step.
     pub fn party(self) -> u64
         ensures { result ≡ party_of self }
     {
@@ -30,18 +30,18 @@ impl AtomicStep {
     }
 }
 
-/// What a step answers.
+/// The outcome of a step.
 #[derive(Clone, Copy, PartialEq, Eq, Debug)]
 pub enum Outcome {
-    /// The word that was read.
+    /// The word that was loaded.
     Loaded(u64),
-    /// The exchange or subtraction was made.
+    /// The exchange or the subtraction changed the word.
     Done,
-    /// The loaded word does not admit what is wanted. Nothing was exchanged.
+    /// The open load does not admit what is wanted. Nothing was exchanged.
     NotAdmitted,
-    /// The word is not the loaded one any more. Nothing was exchanged.
+    /// The word is no longer the open load. Nothing was exchanged.
     Changed,
-    /// The step was not made, and nothing is changed.
+    /// The step was refused, and changed nothing.
     Refused(Fault),
 }
 
@@ -49,7 +49,7 @@ impl Outcome {
     ghost use Rattle.std.specs.Prelude.{◌-◌, ◌^◌, ◌<◌};
     ghost use Rattle.lock_word.specs.Turns.{steps_after};
 
-    /// How many steps were done, where so many were done before this one: a refused step is not counted.
+    /// Returns how many steps are done, of which `before` came before this one. A refused step does not count.
     pub fn steps_after(&self, before: u64) -> u64
         requires { before < 2 ^ 64 - 1 }
         ensures { result ≡ steps_after before self.now }

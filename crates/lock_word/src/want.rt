@@ -1,4 +1,4 @@
-//! What exchanges of the word win.
+//! Exchanges of the word.
 ghost use Rattle.std.specs.Prelude.{◌≡◌, false};
 ghost use Rattle.lock_word.specs.Word.{word_unblocks, word_newly_admits};
 
@@ -6,25 +6,25 @@ use crate::word::{BAR, EXCLUSIVE, UPGRADABLE};
 use crate::word_step::WordStep;
 use lock_base::machine::{Mode, ModeStep};
 
-/// What an exchange of the word is to win.
+/// What an exchange of the word acquires or sets.
 #[derive(Clone, Copy, PartialEq, Eq, Debug)]
 pub enum ExWant {
-    /// A shared token.
+    /// Acquires shared.
     Shared,
-    /// An exclusive token.
+    /// Acquires exclusively.
     Exclusive,
-    /// An upgradable token.
+    /// Acquires upgradable.
     Upgradable,
-    /// An exclusive token for the upgradable one.
+    /// Upgrades an upgradable hold to an exclusive one.
     Upgrade,
-    /// A bar, which keeps all others out.
+    /// Sets the bar, which keeps all other parties out.
     Announce,
 }
 
 impl ExWant {
     ghost use Rattle.lock_word.specs.Word.{want_of_mode, step_of_want, word_exchanged};
 
-    /// The exchange that acquires the mode.
+    /// Returns the exchange that acquires the mode.
     pub fn of_mode(mode: Mode) -> ExWant
         ensures { result ≡ want_of_mode mode }
     {
@@ -35,7 +35,7 @@ impl ExWant {
         }
     }
 
-    /// What the exchange does to the modes that are out and to the bar.
+    /// Returns the step on the modes and the bar.
     pub fn step(self) -> WordStep
         ensures { result ≡ step_of_want self }
     {
@@ -49,8 +49,8 @@ impl ExWant {
         WordStep::Modes(step)
     }
 
-    /// The word that the exchange puts for the loaded one, of which at most `readers` may read. None where the loaded
-    /// word does not admit what is wanted by one who has announced itself, or has not.
+    /// Returns the word to exchange for the loaded one, or `None` if the loaded word does not admit what is wanted. At
+    /// most `readers` may read; `announced` says whether the party set the bar.
     pub fn exchanged(self, announced: bool, readers: u64, loaded: u64) -> Option<u64>
         ensures { result ≡ word_exchanged announced readers loaded self }
     {
@@ -70,8 +70,7 @@ impl ExWant {
         }
     }
 
-    /// Whether the word after admits what is wanted by one who has announced itself, or has not, and the one before does
-    /// not.
+    /// Returns whether `after` admits what is wanted, and `before` does not.
     fn newly_admitted(self, announced: bool, readers: u64, before: u64, after: u64) -> bool
         ensures { result ≡ word_newly_admits announced readers before after self }
     {
@@ -80,8 +79,8 @@ impl ExWant {
     }
 }
 
-/// Whether someone who waits may get on at the word after a step, and could not at the word before it. Under a bar one
-/// that waits for an exclusive token has announced itself.
+/// Returns whether a waiter may be admitted at the word `after` that was not at the word `before`. Under a bar a
+/// waiting writer counts as the party that set it.
 pub fn unblocks(readers: u64, before: u64, after: u64) -> bool
     ensures { result ≡ word_unblocks readers before after }
 {

@@ -1,13 +1,13 @@
-//! What a step on the word does to the tokens and the bar.
+//! Steps on the modes and the bar.
 use lock_base::machine::ModeStep;
 
-/// One change of the tokens that are out, or of the bar beside them.
+/// One step on the modes that are held, or on the bar.
 #[derive(Clone, Copy, PartialEq, Eq, Debug)]
 pub enum WordStep {
-    /// A change of the modes. An exclusive token ends the bar of the one who gets it.
+    /// A step on the modes. Acquiring exclusively clears the bar of the party that acquires.
     Modes(ModeStep),
-    /// A bar stands from here on.
+    /// Sets the bar.
     Announce,
-    /// It does not stand any more.
+    /// Clears the bar.
     Withdraw,
 }
