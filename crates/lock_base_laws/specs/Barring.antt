@@ -1,4 +1,4 @@
--- What a bar keeps out, and what ends it.
+-- What the bar keeps out, and what clears it.
 use Rattle.std.specs.Prelude.{◌≡◌, ℕ, Bool, false, not, ◌&&◌, ◌==◌, Some, IsTrue}
 use Rattle.lock_base.specs.declared.machine.mode.Mode.{Mode}
 use Rattle.lock_base.specs.declared.machine.mode.Mode.TheVariants.{Exclusive}
@@ -10,21 +10,21 @@ use Rattle.lock_base.specs.Machine.{Machine}
 use Rattle.lock_base.specs.Steps.{step}
 use Rattle.lock_base_laws.specs.Kept.{is_refusal}
 
--- the calls that may end the bar of a party: its own, that let it in or take its announcement back
+-- the calls that may clear the party's bar: its own, that acquire or withdraw
 abbrev pub may_end_bar : {O : Type 0} → ℕ → Call O → Bool
 may_end_bar party (Call.Acquire _ _ caller) = id_of caller == party
 may_end_bar party (Call.Resume caller guard) = id_of caller == party
 may_end_bar party (Call.Withdraw caller) = id_of caller == party
 may_end_bar party _ = false
 
--- a bar stands, whatever is called, until its party is let in or withdraws: by a call of its own that is not refused
+-- the bar stays, whatever is called, until its party acquires or withdraws: by a call of its own that is not refused
 abbrev pub BarsStand : {O T A : Type 0} → (O → Operation T A) → Type 0
 BarsStand {O} {T} meaning =
     (m : Machine T) (call : Call O) (party : ℕ) → m.bar ≡ Some party
     → (not (is_refusal (step meaning m call).reply) && may_end_bar party call) ≡ false
     → (step meaning m call).machine.bar ≡ Some party
 
--- under a bar its party alone is let in, and only to write
+-- under the bar only its party is admitted, and only exclusively
 abbrev pub BarsKeepOthersOut : Type 0
 BarsKeepOthersOut =
     (r : Register) (announced party : ℕ) (mode : Mode) → r.bar ≡ Some announced → IsTrue (lets_in r party mode)

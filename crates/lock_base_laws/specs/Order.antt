@@ -1,4 +1,4 @@
--- Which refusal comes first.
+-- The order of refusals.
 use Rattle.std.specs.Prelude.{◌≡◌, ℕ, Bool, true, false, not, Some, None, IsTrue}
 use Rattle.lock_base.specs.declared.machine.kind.Kind.{Kind}
 use Rattle.lock_base.specs.declared.machine.call.Call.{Call}
@@ -41,14 +41,14 @@ module _ {O T A : Type 0} (meaning : O → Operation T A) where
       (m : Machine T) (call : Call O) → has_call m.kind call ≡ false
       → (step meaning m call).reply ≡ Reply.Refused Fault.WrongKind
 
-  -- an operation that does not fit is refused, and does not wait for the others
+  -- an operation that does not fit is refused, also where the upgrade is not admitted
   abbrev pub UnfitComesBeforeWaiting : Type 0
   UnfitComesBeforeWaiting =
       (m : Machine T) (form : Form) (party : PartyId) (guard : ℕ) (op : O)
       → guard_refusal m.register upgradable_guard (id_of party) guard ≡ None → (meaning op).fits m.value ≡ false
       → (step meaning m (Call.WithUpgraded form party guard op)).reply ≡ Reply.Refused Fault.NoFocus
 
--- a level of another party is foreign, be it held or parked
+-- a level of another party is foreign, held or parked
 abbrev pub StrangersAreForeign : Type 0
 StrangersAreForeign =
     (r : Register) (demand : Demand) (party guard : ℕ) (e : Entry) → IsTrue (is_reentrant r.kind)

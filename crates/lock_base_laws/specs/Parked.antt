@@ -7,7 +7,7 @@ use Rattle.lock_base.specs.Machine.{Machine}
 use Rattle.lock_base.specs.Calls.{with_register, upgrade, is_locked, is_locked_exclusive, is_owned_by}
 use Rattle.lock_base_laws.specs.Exclusion.{IsHeld}
 
--- of the guards that are out those that are held
+-- the held entries, with their numbers
 abbrev pub held_part : List (ℕ × Entry) → List (ℕ × Entry)
 held_part [] = []
 held_part (e ∷ es) = if e.1.held then e ∷ held_part es else held_part es
@@ -16,7 +16,7 @@ held_part (e ∷ es) = if e.1.held then e ∷ held_part es else held_part es
 abbrev pub without_parked : {T : Type 0} → Machine T → Machine T
 without_parked m = with_register m (record m.register { entries = held_part m.entries })
 
--- without its parked guards the machine lets in the same parties, and tells the same
+-- without its parked guards the machine admits the same parties, and answers the same questions
 pub record CountsNoneParked {T : Type 0} (m : Machine T) : Type 0 where
   pub let_in : (party : ℕ) (mode : Mode)
       → lets_in (without_parked m).register party mode ≡ lets_in m.register party mode

@@ -15,8 +15,8 @@ abbrev pub MayResume : {T : Type 0} → Machine T → PartyId → PartyId → Ty
 MayResume m parker resumer = IsTrue (is_reentrant m.kind) → id_of resumer ≡ id_of parker
 
 module _ {O T A : Type 0} (meaning : O → Operation T A) where
-  -- where no bar stands, a guard that a party has parked by this call is resumed at once by any party that may, and
-  -- only what was spent has changed
+  -- without a bar, a guard that a party just parked is resumed by any party that may resume it, and only the count of
+  -- spent tokens has changed
   abbrev pub ParkedIsResumed : (PartyId → ℕ → Call O) → Type 0
   ParkedIsResumed park =
       (m : Machine T) (parker resumer : PartyId) (guard : ℕ) → IsSound m.register → m.bar ≡ None

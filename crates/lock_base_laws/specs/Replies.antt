@@ -1,4 +1,4 @@
--- How many replies there are.
+-- The number of replies.
 use Rattle.std.specs.Prelude.{◌≡◌, List, length}
 use Rattle.lock_base.specs.declared.machine.call.Call.{Call}
 use Rattle.lock_base.specs.Operation.{Operation}

@@ -1,13 +1,13 @@
-//! Whom a held guard keeps out.
+//! Mutual exclusion.
 ghost use Rattle.lock_base_laws.specs.Exclusion.{ExclusiveGuardsExclude, MutexGuardsExclude, NewGuardsAreHeld};
 
-/// While an exclusive guard of a mutex or a reader-writer machine is held, nobody is let in.
+/// While an exclusive guard of a mutex or a reader-writer machine is held, no acquisition is admitted.
 pub fn exclusive_guards_exclude<T>()
     ensures exclusive { ExclusiveGuardsExclude T }
     ensures mutex { MutexGuardsExclude T }
 {}
 
-/// A guard that an acquisition gives is held under the number that it answers, in the mode that was asked for.
+/// The guard of an acquisition is held, under the number that was answered and in the mode that was acquired.
 pub fn new_guards_are_held<T>()
     ensures { NewGuardsAreHeld T }
 {}

@@ -1,10 +1,10 @@
-//! Which refusal comes first.
+//! The order of refusals.
 ghost use Rattle.lock_base_laws.specs.Order.{WrongKindsComeFirst, UnfitComesBeforeWaiting, StrangersAreForeign};
 
 use lock_base::machine::Op;
 
-/// A call that a kind of machine does not have is refused for that before all else; a stranger's level is foreign
-/// whether it is held or parked; an operation that does not fit is refused where it would have to wait.
+/// The order of refusals. A call that the kind does not have is refused for that first. A level of another party is
+/// foreign, held or parked. An operation that does not fit is refused even where the upgrade is not admitted.
 pub fn refusals_come_in_order<T, O: Op<T>>()
     ensures kinds { WrongKindsComeFirst O.meaning }
     ensures strangers { StrangersAreForeign }

@@ -1,9 +1,9 @@
-//! How many replies there are.
+//! The number of replies.
 ghost use Rattle.lock_base_laws.specs.Replies.{RepliesAreAsMany};
 
 use lock_base::machine::Op;
 
-/// There are as many replies as calls.
+/// A run has as many replies as calls.
 pub fn replies_are_as_many<T, O: Op<T>>()
     ensures { RepliesAreAsMany O.meaning }
 {}
