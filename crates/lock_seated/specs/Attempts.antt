@@ -1,4 +1,4 @@
--- What the calls that may not succeed do to the party that makes them.
+-- What calls that may not succeed do to the party that makes them.
 use Rattle.std.specs.Prelude.{◌≡◌, ℕ, ◌+◌, ◌<◌, ◌≤◌, false, None}
 use Rattle.lock_word.specs.Holds.{hold_after}
 use Rattle.lock_word.specs.declared.want.ExWant.{ExWant}
@@ -22,7 +22,7 @@ Attempted want before Done after = after ≡ after_own_step (after_load before a
 Attempted want before (NotAdmitted word) after = IsNotAdmitted want before word after
 Attempted want before Changed after = after ≡ after_lost_exchange (after_load before after.last)
 
--- attempts that did not succeed, as many as there were
+-- any number of attempts that did not succeed
 pub record Tried (before after : Standing) : Type 0 where
   pub lock : after.lock ≡ before.lock
   pub number : after.number ≡ before.number
@@ -31,7 +31,7 @@ pub record Tried (before after : Standing) : Type 0 where
   pub fails : before.state.fails ≤ after.state.fails
   pub loads : before.loads ≤ after.loads
 
--- attempts that did not succeed, and one that did
+-- any number of attempts that did not succeed, and one that did
 pub record Acquired (want : ExWant) (before after : Standing) : Type 0 where
   pub lock : after.lock ≡ before.lock
   pub number : after.number ≡ before.number

@@ -11,7 +11,7 @@ use Rattle.lock_word.specs.Rule.{Shows}
 use Rattle.lock_seated.specs.declared.rule.PartyView.{PartyView}
 use Rattle.lock_seated.specs.Seats.{GuardsOnlyEnd}
 
--- a seat's view, and the slots that it holds, of which there are none
+-- a seat's view, and the slots that it holds: none
 abbrev pub Self : Type 0
 Self = Me (Unit {0}) PartyView
 
@@ -24,7 +24,7 @@ view_after_win me step = (record me.0 { state = after_win me.0.state step }, me.
 abbrev pub view_after_fail : Self → Self
 view_after_fail me = (record me.0 { state = after_fail me.0.state }, me.1)
 
--- a load tells its party the word, and what that says of all that is held
+-- a load tells its party the word, and what the word says of all holds
 abbrev pub Loads : Step (Unit {0}) → Self → ℕ → Self → Type 0
 Loads s me found after =
     (after ≡ view_after_load me found) × Shows me.0.readers found me.0.state.held × GuardsOnlyEnd me.0.state.held.announced me.0.last found
@@ -33,6 +33,6 @@ abbrev pub Exchanges : ExWant → Step (Unit {0}) → Self → ℕ → Self → 
 Exchanges want s me found after =
     (found ≡ s.first → after ≡ view_after_win me (step_of_want want)) × (found ≢ s.first → after ≡ view_after_fail me)
 
--- what is held is little, so a count of it may rise by one
+-- a party holds few tokens, so counting one more cannot overflow
 abbrev pub Takes : Down → Step (Unit {0}) → Self → ℕ → Self → Type 0
 Takes down s me found after = (after ≡ view_after_win me (step_of_down down)) × (tokens me.0.state.held.bag < 2 ^ 63)

@@ -1,4 +1,4 @@
--- The rule of a word, said of a table with one word and of the views of its seats.
+-- The rule of the word, stated of a table with one word and of the views of its seats.
 use Rattle.std.specs.Prelude.{◌≡◌, ◌≤◌, ℕ, Bool, true, List, map, length, slice_index}
 use mathlib.Core.Option.{some}
 use lib.ListN.{get_elem?}
@@ -11,22 +11,22 @@ use Rattle.lock_word.specs.Word.{guards_of_word}
 use Rattle.lock_word.specs.Claims.{FailsAreBounded, BarIsOfOne}
 use Rattle.lock_seated.specs.declared.rule.PartyView.{PartyView}
 
--- one who has done nothing yet, where so many may read
+-- the view of a party that has done nothing yet, with this readers' limit
 abbrev pub newcomer : ℕ → PartyView
 newcomer readers = record { state = idle; last = 0; loads = 0; readers = readers }
 
--- what a split gives to the second
+-- the view of the second party of a split
 abbrev pub newcomer_beside : PartyView → PartyView
 newcomer_beside v = newcomer v.readers
 
 abbrev pub parties_of : List PartyView → List PartyState
 parties_of views = map (λ (v : PartyView). v.state) views
 
--- to one who has announced itself the word shows at most the guards of the word that it loaded last
+-- to a party that announced itself, the word shows at most the guards of the word that it loaded last
 abbrev pub GuardsOnlyEnd : Bool → ℕ → ℕ → Type 0
 GuardsOnlyEnd announced last word = announced ≡ true → guards_of_word word ≤ guards_of_word last
 
--- the rule of the table: that of its one word and of all who step on it, at the limit that each knows
+-- the rule of the table: that of its one word and of all its parties, with the readers' limit that each party knows
 pub record IsKept (limit : ℕ) (s : State (Unit {0}) PartyView) : Type 0 where
   pub one_word : length s.words ≡ 1
   pub range : IsLimit limit
@@ -35,18 +35,18 @@ pub record IsKept (limit : ℕ) (s : State (Unit {0}) PartyView) : Type 0 where
   pub guarded : (k : ℕ) (v : PartyView) → get_elem? s.views k ≡ some v
       → GuardsOnlyEnd v.state.held.announced v.last (slice_index s.words 0)
 
--- what a state of the table keeps
+-- what the rule means
 pub record IsRuled (limit : ℕ) (s : State (Unit {0}) PartyView) : Type 0 where
   pub range : IsLimit limit
   pub rule : KeepsRule limit (slice_index s.words 0) (parties_of s.views)
-  -- so no party has failed more often than the others have won
+  -- no party has failed more often than the others have won
   pub bounded : FailsAreBounded (parties_of s.views)
   -- at most one party has announced itself, and the word has its bar
   pub bar : BarIsOfOne (slice_index s.words 0) (parties_of s.views)
-  -- while it has, the guards only end
+  -- while it has, no new guard comes
   pub guarded : (k : ℕ) (v : PartyView) → get_elem? s.views k ≡ some v
       → GuardsOnlyEnd v.state.held.announced v.last (slice_index s.words 0)
 
--- every state that a table under this rule has between two steps
+-- of every state that a table under this rule has between two steps
 abbrev pub EveryStateKeepsRule : (ℕ → State (Unit {0}) PartyView → Type 0) → Type 0
 EveryStateKeepsRule holds = (limit : ℕ) (s : State (Unit {0}) PartyView) → holds limit s → IsRuled limit s

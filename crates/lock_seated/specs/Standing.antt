@@ -5,12 +5,13 @@ use Rattle.lock_word.specs.declared.word_step.WordStep.{WordStep}
 use Rattle.lock_word.specs.declared.party.PartyState.{PartyState}
 use Rattle.lock_word.specs.Turns.{idle, with_load, after_win, after_fail}
 
--- a lock: which one it is, and how many may read
+-- a lock: its identity, and the readers' limit
 pub record Lock : Type 0 where
   pub id : TableId
   pub readers : ℕ
 
--- a party: its lock, the number of its seat, its state, the word that it loaded last, and how often it loaded
+-- the caller's view of a party: its lock, its seat number, its state, the word that it loaded last, and its count of
+-- loads
 pub record Standing : Type 0 where
   pub lock : Lock
   pub number : ℕ
@@ -22,14 +23,14 @@ pub record Standing : Type 0 where
 abbrev pub new_party : Lock → ℕ → Standing
 new_party lock number = record { lock = lock; number = number; state = idle; last = 0; loads = 0 }
 
--- the party once it has loaded this word
+-- the party after it loaded this word
 abbrev pub after_load : Standing → ℕ → Standing
 after_load party word = record party { state = with_load party.state word; last = word; loads = party.loads + 1 }
 
--- the party once a step of its own has changed its modes
+-- the party after a step of its own changed the word
 abbrev pub after_own_step : Standing → WordStep → Standing
 after_own_step party step = record party { state = after_win party.state step }
 
--- the party once its exchange found another word
+-- the party after its exchange found another word
 abbrev pub after_lost_exchange : Standing → Standing
 after_lost_exchange party = record party { state = after_fail party.state }

@@ -1,5 +1,5 @@
-//! A reader-writer lock whose whole state is one atomic word. Each party has a seat at the word, and every atomic step of
-//! every party keeps the rule of the word.
+//! A reader-writer lock whose whole state is one atomic word. Each party has a seat at the word, and every atomic step
+//! of every party keeps the rule of the word.
 #![tactic(auto)]
 
 mod attempt;

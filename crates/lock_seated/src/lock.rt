@@ -1,4 +1,4 @@
-//! The lock itself.
+//! The seated lock.
 ghost use Rattle.std.specs.Prelude.{◌≡◌, ◌≢◌, ◌↔◌, ◌+◌, ◌<◌, ◌^◌, true, Some, IfOk, IfErr, OnOk, IsTrue};
 ghost use Rattle.lock_base.specs.Limits.{IsLimit, IsMakerFault};
 ghost use Rattle.lock_base.specs.Modes.{count_of, tokens};
@@ -27,11 +27,13 @@ use std::marker::Model;
 use std::sync::Wait;
 use std::thread;
 
-/// How often a call that waits spins before it yields its thread.
+/// How often a blocked call spins before it yields its thread.
 const SPINS: u32 = 64;
 
-/// A reader-writer lock of one atomic word: the readers, 2^32 for an upgradable hold, 2^33 for an exclusive one and 2^34
-/// for the bar of a party that has announced itself.
+/// A reader-writer lock in one atomic word: the readers, 2^32 for an upgradable hold, 2^33 for an exclusive one, and
+/// 2^34 for the bar of a party that announced itself.
+///
+/// It protects no value. Its contracts follow each party's view across all threads.
 #[derive(Drop)]
 pub struct SeatedLock {
     table: Table<(), PartyView, u64, WordRule, Global>,
@@ -53,7 +55,8 @@ impl Model for SeatedLock {
 }
 
 impl SeatedLock {
-    /// A free lock for at most so many readers, and the first party, which holds nothing. No other call takes memory.
+    /// Makes an unlocked lock for at most `readers` readers, and its first party, which holds nothing. No other call
+    /// allocates.
     pub fn new(alloc: Global, readers: u64) -> Result<(SeatedLock, Party), Fault>
         ensures limits { (result ≡ Err Fault.BadLimits) ↔ (IsLimit readers → ⊥) }
         ensures in_range { OnOk result (IsLimit readers) }
@@ -71,7 +74,8 @@ impl SeatedLock {
         Ok((SeatedLock { table, readers }, Party { seat, held }))
     }
 
-    /// The first keeps everything, its announcement too, and the second holds nothing and has counts of zero.
+    /// Makes a second party, for another thread. The first keeps everything, its announcement too; the second holds
+    /// nothing.
     pub fn split(&self, party: Party) -> (Party, Party)
         requires { party.lock ≡ self.now }
         ensures first { result.0 ≡ party }
@@ -86,19 +90,18 @@ impl SeatedLock {
         (Party { seat, held }, second)
     }
 
-    /// Reads the word, which is then the party's open load. It is the word of all that is held now, the party's own
-    /// among it, and of the bar of the one that has announced itself.
+    /// Loads the word, which becomes the party's open load. The word encodes what all parties hold now, and the bar.
     pub fn load(&self, party: &mut Party) -> u64
         requires { party.old.lock ≡ self.now }
         ensures party { party.new ≡ after_load party.old result }
         ensures shows { Shows self.now.readers result party.old.state.held }
-        // While the party is announced, guards only end.
+        // Under the party's own bar no new guard comes.
         ensures guards { GuardsOnlyEnd party.old.state.held.announced party.old.last result }
     {
         self.table.shared.load::<Look>(&mut party.seat, 0)
     }
 
-    /// One load, and then at most one exchange.
+    /// Loads the word, and then exchanges it at most once.
     pub fn attempt(&self, party: &mut Party, want: ExWant) -> Attempt
         requires lock { party.old.lock ≡ self.now }
         requires has { IsTrue (hold_has party.old.state.held (step_of_want want)) }
@@ -115,7 +118,7 @@ impl SeatedLock {
         Attempt::Done
     }
 
-    /// Attempts until it is done. Between two attempts it spins, and after a while it yields the thread.
+    /// Attempts until it succeeds, blocking. Between attempts it spins, and after a while it yields the thread.
     pub fn acquire<R: Wait>(&self, rt: &R, party: &mut Party, want: ExWant)
         requires lock { party.old.lock ≡ self.now }
         requires has { IsTrue (hold_has party.old.state.held (step_of_want want)) }
@@ -136,7 +139,7 @@ impl SeatedLock {
         unreachable!()
     }
 
-    /// Gives one hold back, by one subtraction.
+    /// Releases one hold of the mode, by one subtraction.
     pub fn release(&self, party: &mut Party, mode: Mode)
         requires lock { party.old.lock ≡ self.now }
         requires holds { 0 < count_of party.old.state.held.bag mode }
@@ -145,7 +148,7 @@ impl SeatedLock {
         self.take(party, Down::of_mode(mode));
     }
 
-    /// An exclusive hold becomes a shared one, by one subtraction.
+    /// Downgrades an exclusive hold to a shared one, by one subtraction.
     pub fn downgrade(&self, party: &mut Party)
         requires lock { party.old.lock ≡ self.now }
         requires holds { 0 < party.old.state.held.bag.exclusive }
@@ -154,7 +157,7 @@ impl SeatedLock {
         self.take(party, Down::ToShared);
     }
 
-    /// An exclusive hold becomes an upgradable one, by one subtraction.
+    /// Downgrades an exclusive hold to an upgradable one, by one subtraction.
     pub fn downgrade_to_upgradable(&self, party: &mut Party)
         requires lock { party.old.lock ≡ self.now }
         requires holds { 0 < party.old.state.held.bag.exclusive }
@@ -163,7 +166,7 @@ impl SeatedLock {
         self.take(party, Down::ToUpgradable);
     }
 
-    /// An upgradable hold becomes a shared one, by one subtraction.
+    /// Downgrades an upgradable hold to a shared one, by one subtraction.
     pub fn downgrade_upgradable(&self, party: &mut Party)
         requires lock { party.old.lock ≡ self.now }
         requires holds { 0 < party.old.state.held.bag.upgradable }
@@ -172,7 +175,7 @@ impl SeatedLock {
         self.take(party, Down::UpgradableToShared);
     }
 
-    /// Takes the party's announcement back, by one subtraction.
+    /// Clears the party's bar, by one subtraction.
     pub fn withdraw(&self, party: &mut Party)
         requires lock { party.old.lock ≡ self.now }
         requires announced { party.old.state.held.announced ≡ true }
@@ -190,7 +193,7 @@ impl SeatedLock {
         party.held = party.held.after(down.step());
     }
 
-    /// One exchange of the word that was loaded last.
+    /// Exchanges the word that was loaded last.
     fn exchange(&self, seat: &mut Seat<(), PartyView>, want: ExWant, word: u64, next: u64) -> u64
         requires lock { seat.old.table_id ≡ self.now.id }
         requires load { (seat.old.me.0.state.loaded ≡ Some word) × (seat.old.me.0.last ≡ word) }
@@ -211,7 +214,7 @@ impl SeatedLock {
         }
     }
 
-    /// One subtraction from the word.
+    /// Subtracts from the word.
     fn subtract(&self, seat: &mut Seat<(), PartyView>, down: Down)
         requires lock { seat.old.table_id ≡ self.now.id }
         requires holds { IsTrue (hold_has seat.old.me.0.state.held (step_of_down down)) }

@@ -1,4 +1,4 @@
-//! One of those who use a lock.
+//! A party of a seated lock.
 ghost use Rattle.std.specs.Prelude.{◌≡◌};
 ghost use Rattle.lock_base.specs.Modes.{count_of};
 
@@ -8,10 +8,10 @@ use lock_base::machine::Mode;
 use lock_word::Hold;
 use std::marker::Model;
 
-/// One of those who use a lock: a seat at its word, and what it holds. To a contract it is its lock, the number of its
-/// seat, its state, the word that it loaded last and how often it loaded.
+/// A party of a seated lock: a seat at the word, and what the party holds. Contracts see it as `CallerView`: its lock,
+/// seat number, state, last load and count of loads.
 ///
-/// A party that is dropped while it holds something never gives that back, and its bar stands for good.
+/// A party that is dropped never releases what it holds, and its bar stays set.
 #[derive(Drop)]
 pub struct Party {
     pub(crate) seat: Seat<(), PartyView>,
@@ -37,14 +37,14 @@ impl Model for Party {
 }
 
 impl Party {
-    /// How many holds of the mode the party has.
+    /// Returns how many holds of the mode the party has.
     pub fn holds(&self, mode: Mode) -> u64
         ensures { result ≡ count_of self.now.state.held.bag mode }
     {
         self.held.bag.count(mode)
     }
 
-    /// Whether the party has announced itself.
+    /// Returns whether the party has announced itself.
     pub fn announced(&self) -> bool
         ensures { result ≡ self.now.state.held.announced }
     {

@@ -6,91 +6,91 @@ ghost use Rattle.lock_seated.specs.Plays.{Loads, Exchanges, Takes};
 use crate::rule::PartyView;
 use atomic_table::Play;
 
-/// A load of the word.
+/// A load.
 pub(crate) struct Look;
 
 impl Play<(), PartyView> for Look {
     ghost then = { Loads };
 }
 
-/// An exchange that is to win a shared hold.
+/// An exchange that acquires shared.
 pub(crate) struct ToShared;
 
 impl Play<(), PartyView> for ToShared {
     ghost then = { Exchanges want.Shared };
 }
 
-/// An exchange that is to win an exclusive hold.
+/// An exchange that acquires exclusively.
 pub(crate) struct ToExclusive;
 
 impl Play<(), PartyView> for ToExclusive {
     ghost then = { Exchanges want.Exclusive };
 }
 
-/// An exchange that is to win an upgradable hold.
+/// An exchange that acquires upgradable.
 pub(crate) struct ToUpgradable;
 
 impl Play<(), PartyView> for ToUpgradable {
     ghost then = { Exchanges want.Upgradable };
 }
 
-/// An exchange that is to make an upgradable hold exclusive.
+/// An exchange that upgrades.
 pub(crate) struct Upgrade;
 
 impl Play<(), PartyView> for Upgrade {
     ghost then = { Exchanges want.Upgrade };
 }
 
-/// An exchange that is to announce its party.
+/// An exchange that sets the bar.
 pub(crate) struct Announce;
 
 impl Play<(), PartyView> for Announce {
     ghost then = { Exchanges want.Announce };
 }
 
-/// A subtraction that gives a shared hold back.
+/// A subtraction that releases a shared hold.
 pub(crate) struct OffShared;
 
 impl Play<(), PartyView> for OffShared {
     ghost then = { Takes down.Shared };
 }
 
-/// A subtraction that gives an exclusive hold back.
+/// A subtraction that releases an exclusive hold.
 pub(crate) struct OffExclusive;
 
 impl Play<(), PartyView> for OffExclusive {
     ghost then = { Takes down.Exclusive };
 }
 
-/// A subtraction that gives an upgradable hold back.
+/// A subtraction that releases an upgradable hold.
 pub(crate) struct OffUpgradable;
 
 impl Play<(), PartyView> for OffUpgradable {
     ghost then = { Takes down.Upgradable };
 }
 
-/// A subtraction that makes an exclusive hold shared.
+/// A subtraction that downgrades an exclusive hold to a shared one.
 pub(crate) struct DownToShared;
 
 impl Play<(), PartyView> for DownToShared {
     ghost then = { Takes down.ToShared };
 }
 
-/// A subtraction that makes an exclusive hold upgradable.
+/// A subtraction that downgrades an exclusive hold to an upgradable one.
 pub(crate) struct DownToUpgradable;
 
 impl Play<(), PartyView> for DownToUpgradable {
     ghost then = { Takes down.ToUpgradable };
 }
 
-/// A subtraction that makes an upgradable hold shared.
+/// A subtraction that downgrades an upgradable hold to a shared one.
 pub(crate) struct DownUpgradableToShared;
 
 impl Play<(), PartyView> for DownUpgradableToShared {
     ghost then = { Takes down.UpgradableToShared };
 }
 
-/// A subtraction that takes an announcement back.
+/// A subtraction that clears the bar.
 pub(crate) struct Withdraw;
 
 impl Play<(), PartyView> for Withdraw {

@@ -4,7 +4,7 @@ ghost use Rattle.lock_seated.specs.Seats.{IsKept, newcomer, newcomer_beside};
 use atomic_table::{Split, TableRule};
 use lock_word::PartyState;
 
-/// What the rule keeps of a party. No value of it is made.
+/// The seat's view of a party: what the rule keeps of it. It exists in contracts only.
 pub struct PartyView {
     /// What the party holds, its open load, its wins and fails.
     pub state: PartyState,
@@ -12,11 +12,11 @@ pub struct PartyView {
     pub last: u64,
     /// How often it loaded the word.
     pub loads: u64,
-    /// How many may read. A step cannot see the key of its table.
+    /// The readers' limit. A step cannot see the key of its table.
     pub readers: u64,
 }
 
-/// The rule of a word and of those who step on it. The key of the table says how many may read.
+/// The rule of a word and of the parties that step on it. The key of the table is the readers' limit.
 pub struct WordRule;
 
 impl TableRule<(), PartyView, u64> for WordRule {
@@ -25,7 +25,7 @@ impl TableRule<(), PartyView, u64> for WordRule {
     ghost first = { newcomer };
 }
 
-/// The first keeps everything, and the second is a newcomer.
+/// A split: the first keeps everything, and the second is a newcomer.
 pub(crate) struct Apart;
 
 impl Split<PartyView> for Apart {
