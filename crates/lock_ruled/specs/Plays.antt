@@ -6,33 +6,33 @@ use Rattle.lock_ruled.specs.declared.rule.UserStage.TheVariants.{Free, Opens, Ho
 use Rattle.lock_ruled.specs.declared.rule.UserView.{UserView}
 use Rattle.lock_ruled.specs.Ruled.{Meets}
 
--- a user's view, and the slots that it has taken
+-- a user's view, and the slots that it holds
 abbrev pub Self : Type 0 → Type 0 → Type 0
 Self T V = Me (std.Option T) (UserView T V)
 
 module _ {T V : Type 0} where
-  -- the user has taken the value
+  -- the user acquired the value
   abbrev pub after_taking : Self T V → T → Self T V
   after_taking me value = (record me.0 { stage = Holds value }, (0, Some value) ∷ me.1)
 
-  -- the user has taken some value, of which the rule holds beside its own view
+  -- the user acquired some value, of which the rule holds with the user's view
   abbrev pub HasTaken : (T → List V → Type 0) → Self T V → Self T V → Type 0
   HasTaken rule me after = (value : T) × (after ≡ after_taking me value) × Meets rule value me.0.own
 
-  -- a step that finds the value at home takes it, and else does nothing
+  -- a step that finds the mutex free acquires it, and otherwise does nothing
   abbrev pub Takes : (T → List V → Type 0) → Self T V → ℕ → Self T V → Type 0
   Takes rule me found after =
       (found ≡ 0 → HasTaken rule me after) × (found ≢ 0 → after ≡ me)
 
-  -- the first value was taken by the user, and the second is in the slot that it has out
+  -- the user acquired the first value, and the slot that it holds has the second
   abbrev pub Carries : Self T V → T → T → Type 0
   Carries me taken value = (me.0.stage ≡ Holds taken) × (me.1 ≡ (0, Some value) ∷ [])
 
-  -- no value is out with the user, which is a user still
+  -- the user holds no value, and has a part
   abbrev pub IsIdle : Self T V → Type 0
   IsIdle me = (me.1 ≡ []) × (me.0.stage ≡ Free) × (0 < me.0.parts)
 
-  -- the user has given this value back, and knows what the turn says
+  -- the user released this value, and its view is updated
   abbrev pub after_giving : (T → V → T → V) → Self T V → T → T → Self T V
   after_giving next me taken value = (record me.0 { own = next taken me.0.own value; stage = Free }, [])
 
@@ -40,7 +40,7 @@ module _ {T V : Type 0} where
   Gives next me found after =
       (taken value : T) → Carries me taken value → after ≡ after_giving next me taken value
 
-  -- who makes the mutex has the empty slot, and stands as if it had taken the first value from it
+  -- the maker of the mutex holds the empty slot, as if it had acquired the first value from it
   abbrev pub Begins : Self T V → ℕ → Self T V → Type 0
   Begins me found after =
       (value : T) → me.0.stage ≡ Opens value → after ≡ (record me.0 { stage = Holds value }, (0, None) ∷ me.1)

@@ -1,4 +1,5 @@
--- The rule of a table with one word and one slot, made of that of a mutex. The word is 0 where the value is at home.
+-- The rule of a table with one word and one slot, derived from that of the mutex. The word is 0 while the mutex is
+-- free.
 use Rattle.std.specs.Prelude.{◌≡◌, ◌≢◌, ℕ, zero, suc, ◌+◌, ◌-◌, ◌<◌, List, [], ◌∷◌, ◌++◌, length, slice_index, Some, None}
 use Rattle.std.specs.Prelude as std
 use mathlib.Core.Option.{Option, some, none}
@@ -10,7 +11,7 @@ use Rattle.lock_ruled.specs.declared.rule.UserView.{UserView}
 use Rattle.lock_ruled.specs.Ruled.{all_parts}
 
 module _ {T : Type 0} where
-  -- the value that was taken, or else the other one
+  -- the value that was acquired, or else the other one
   abbrev pub taken_value : UserStage T → T → T
   taken_value Free other = other
   taken_value (Opens value) other = value
@@ -26,7 +27,7 @@ module _ {T : Type 0} where
   IsHolding (Opens value) = ⊥
   IsHolding (Holds value) = Unit {0}
 
-  -- whoever has the value out is the one holder, and the slot is empty, or out
+  -- a user that has the value is the one holder, and the slot is empty or held
   abbrev pub Fits : ℕ → List (Option (std.Option T)) → T → ℕ → ℕ → UserStage T → Type 0
   Fits word homes value holder number Free = Unit {0}
   Fits word homes value holder number (Opens x) = (holder ≡ number) × (word ≢ 0) × (x ≡ value) × (homes ≡ some None ∷ [])
@@ -37,7 +38,7 @@ known_if zero v = []
 known_if (suc n) v = v ∷ []
 
 module _ {T V : Type 0} where
-  -- who makes the mutex has all its parts
+  -- the maker of the mutex has all its parts
   abbrev pub opener : T → V → UserView T V
   opener value view = record { parts = all_parts; own = view; stage = Opens value }
 
@@ -57,12 +58,12 @@ module _ {T V : Type 0} where
   parts_of [] = 0
   parts_of (u ∷ us) = u.parts + parts_of us
 
-  -- the views that the rule speaks of: those of users that have a part
+  -- the views in the rule: those of users with a part
   abbrev pub known_views : List (UserView T V) → List V
   known_views [] = []
   known_views (u ∷ us) = known_if u.parts u.own ++ known_views us
 
-  -- a user that has a part has the value out
+  -- a user with a part holds the value
   abbrev pub IsOut : List (UserView T V) → ℕ → Type 0
   IsOut views holder = (u : UserView T V) × (get_elem? views holder ≡ some u) × (0 < u.parts) × IsAway u.stage
 
@@ -71,13 +72,13 @@ module _ {T V : Type 0} where
     pub holder : ℕ
     pub one_word : length s.words ≡ 1
     pub parts : parts_of s.views ≡ all_parts
-    -- the rule of the mutex holds of the value, or of the value as it was taken
+    -- the rule of the mutex holds of the value, or of the value as it was acquired
     pub kept : rule value (known_views s.views)
     pub at_home : slice_index s.words 0 ≡ 0 → s.homes ≡ some (Some value) ∷ []
     pub is_out : slice_index s.words 0 ≢ 0 → IsOut s.views holder
     pub each : (number : ℕ) (u : UserView T V) → get_elem? s.views number ≡ some u
         → Fits (slice_index s.words 0) s.homes value holder number u.stage
 
-  -- every state that a table under this rule has between two steps
+  -- of every state that a table under this rule has between two steps
   abbrev pub EveryStateIsRuled : (T → List V → Type 0) → (T → State (std.Option T) (UserView T V) → Type 0) → Type 0
   EveryStateIsRuled rule holds = (first : T) (s : State (std.Option T) (UserView T V)) → holds first s → IsRuled rule s

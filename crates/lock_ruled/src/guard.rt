@@ -1,12 +1,12 @@
-//! The value of a mutex, taken by a user.
+//! The guard of a mutex under a rule.
 use crate::rule::UserView;
 use atomic_table::Seat;
 use std::marker::Model;
 use std::ops::{Deref, DerefMut};
 
-/// The value of a mutex, taken by a user. To a contract it is the user, the value as it was taken, and the value now.
+/// The guard of a `RuledMutex`. Contracts see the user that holds it, the value as it was acquired, and the value now.
 ///
-/// It cannot be dropped: its end is `unlock`, at the mutex that it came from.
+/// It cannot be dropped: `RuledMutex::unlock` ends it.
 pub struct RuledGuard<T, V> {
     pub(crate) value: T,
     pub(crate) seat: Seat<Option<T>, UserView<T, V>>,

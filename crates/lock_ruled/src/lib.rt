@@ -1,5 +1,5 @@
-//! A mutex whose value is known across threads. It is made with a rule, a fact over the value and what each of its
-//! users knows, which holds whenever the value is at home. Who ends a guard shows that the rule is kept.
+//! A mutex whose value is known across threads. It is made with a rule: a fact about the value and the views of all
+//! users. The rule holds whenever the mutex is free. Whoever unlocks it proves that the rule is kept.
 #![tactic(auto)]
 
 mod guard;

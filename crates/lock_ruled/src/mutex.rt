@@ -1,4 +1,4 @@
-//! The mutex itself.
+//! The mutex under a rule.
 ghost use Rattle.std.specs.Prelude.{◌≡◌, ◌-◌, ◌+◌, ◌<◌, [], ◌∷◌, ℕ, true, false, IfOk, IfErr};
 ghost use Rattle.lock_base.specs.declared.raw.fault.Fault.TheVariants as fault;
 ghost use Rattle.lock_ruled.specs.Ruled.{all_parts, first_user, Meets, Keeps, Splits, Joins};
@@ -15,20 +15,20 @@ use std::alloc::Global;
 use std::marker::Model;
 use std::sync::Wait;
 
-/// The value is at home.
+/// The mutex is free.
 const FREE: u64 = 0;
 
-/// The value is out.
+/// The mutex is held.
 const TAKEN: u64 = 1;
 
-/// The value is out, and a user may sleep until it is given back.
+/// The mutex is held, and a user may sleep until it is released.
 const AWAITED: u64 = 2;
 
-/// How often a call that waits tries again before it sleeps.
+/// How often a blocked call tries again before it sleeps.
 const TRIES: u32 = 10;
 
-/// A mutex under a rule. One word and one slot: to lock is an exchange that takes the value out of the slot, to unlock
-/// one that gives it back.
+/// A mutex under a rule: one word, and one slot for the value. `lock` exchanges the value out of the slot, and `unlock`
+/// exchanges it back in.
 #[derive(Drop)]
 pub struct RuledMutex<T: Drop, V, P: MutexRule<T, V>> {
     table: Table<Option<T>, UserView<T, V>, T, SlotRule<P>, Global>,
@@ -46,7 +46,7 @@ impl<T: Drop, V, P: MutexRule<T, V>> Model for RuledMutex<T, V, P> {
 }
 
 impl<T: Drop, V, P: MutexRule<T, V>> RuledMutex<T, V, P> {
-    /// A mutex with this value at home, and its only user. No other call takes memory.
+    /// Makes an unlocked mutex of this value, and its only user. No other call allocates.
     pub fn new(alloc: Global, value: T) -> Result<(RuledMutex<T, V, P>, User<T, V>), Fault>
         requires { P.rule value (P.first value ∷ []) }
         ensures user { IfOk result (λ made. made.1 ≡ first_user made.0 (P.first value)) }
@@ -61,7 +61,7 @@ impl<T: Drop, V, P: MutexRule<T, V>> RuledMutex<T, V, P> {
         Ok((mutex, user))
     }
 
-    /// The second user has one part of the mutex, and the first one fewer.
+    /// Makes a second user, for another thread. It gets one part of the mutex, and the first keeps the others.
     pub fn split<M: Split<V>>(&self, user: User<T, V>) -> (User<T, V>, User<T, V>)
         requires mutex { user.mutex ≡ self.now }
         requires parts { 1 < user.parts }
@@ -74,7 +74,7 @@ impl<T: Drop, V, P: MutexRule<T, V>> RuledMutex<T, V, P> {
         (User { seat }, User { seat: other })
     }
 
-    /// One user with the parts of both. The rule speaks of the other no more.
+    /// Joins two users to one with the parts of both. The rule no longer has a view of the other.
     pub fn join<M: Join<V>>(&self, user: User<T, V>, other: User<T, V>) -> User<T, V>
         requires mutex { (user.mutex ≡ self.now) × (other.mutex ≡ self.now) }
         requires rule { Joins P.rule user.view other.view (M.both user.view other.view) }
@@ -87,7 +87,7 @@ impl<T: Drop, V, P: MutexRule<T, V>> RuledMutex<T, V, P> {
         User { seat }
     }
 
-    /// Waits until the value is at home, and takes it. After a few tries it sleeps.
+    /// Acquires the mutex, blocking until it is available. After a few tries it sleeps.
     pub fn lock<R: Wait>(&self, rt: &R, user: User<T, V>) -> RuledGuard<T, V>
         requires { user.mutex ≡ self.now }
         ensures user { result.user ≡ user }
@@ -99,7 +99,7 @@ impl<T: Drop, V, P: MutexRule<T, V>> RuledMutex<T, V, P> {
         self.guard_of(seat)
     }
 
-    /// One exchange. The user comes back where the value is not at home.
+    /// Acquires the mutex by one exchange without blocking, or returns the user if the mutex is held.
     pub fn try_lock(&self, user: User<T, V>) -> Result<RuledGuard<T, V>, User<T, V>>
         requires { user.mutex ≡ self.now }
         ensures user { IfOk result (λ guard. guard.user ≡ user) }
@@ -115,7 +115,7 @@ impl<T: Drop, V, P: MutexRule<T, V>> RuledMutex<T, V, P> {
         }
     }
 
-    /// Gives the value back. The user's view is then what the turn says, and the rule is kept.
+    /// Releases the mutex. The caller proves that the rule holds of the new value and the view that `M` gives the user.
     pub fn unlock<M: Turn<T, V>>(&self, guard: RuledGuard<T, V>) -> User<T, V>
         requires mutex { guard.user.mutex ≡ self.now }
         requires rule { Keeps P.rule guard.taken guard.user.view guard.value
@@ -133,7 +133,7 @@ impl<T: Drop, V, P: MutexRule<T, V>> RuledMutex<T, V, P> {
         User { seat }
     }
 
-    /// The value, of which the rule holds with the view of its only user.
+    /// Consumes the mutex and its only user, and returns the value, of which the rule holds with that user's view.
     pub fn into_inner(self, user: User<T, V>) -> T
         requires mutex { user.mutex ≡ self }
         requires alone { user.parts ≡ all_parts }
@@ -148,7 +148,7 @@ impl<T: Drop, V, P: MutexRule<T, V>> RuledMutex<T, V, P> {
         }
     }
 
-    /// The value in the slot that the user has taken.
+    /// Takes the value out of the slot, which the user has acquired.
     fn guard_of(&self, mut seat: Seat<Option<T>, UserView<T, V>>) -> RuledGuard<T, V>
         requires mutex { seat.table_id ≡ self.now }
         requires out { (value : T) × Carries seat.me value value }
@@ -174,7 +174,7 @@ impl<T: Drop, V, P: MutexRule<T, V>> RuledMutex<T, V, P> {
         }
     }
 
-    /// One exchange.
+    /// Tries to acquire, by one exchange.
     fn try_take(&self, seat: &mut Seat<Option<T>, UserView<T, V>>) -> bool
         requires mutex { seat.old.table_id ≡ self.now }
         requires idle { IsIdle seat.old.me }
@@ -188,7 +188,7 @@ impl<T: Drop, V, P: MutexRule<T, V>> RuledMutex<T, V, P> {
             == FREE
     }
 
-    /// Tries a few times, longer and longer apart.
+    /// Tries a few times, with growing pauses.
     fn try_again(&self, seat: &mut Seat<Option<T>, UserView<T, V>>) -> bool
         requires mutex { seat.old.table_id ≡ self.now }
         requires idle { IsIdle seat.old.me }
@@ -206,7 +206,8 @@ impl<T: Drop, V, P: MutexRule<T, V>> RuledMutex<T, V, P> {
         false
     }
 
-    /// Says that it sleeps, by an exchange that takes the value too where it is at home, and sleeps until a wake.
+    /// Blocks until it acquires. Each exchange marks the mutex as awaited, and acquires it if it was free; otherwise
+    /// the user sleeps until a release.
     fn sleep_for<R: Wait>(&self, rt: &R, seat: &mut Seat<Option<T>, UserView<T, V>>)
         requires mutex { seat.old.table_id ≡ self.now }
         requires idle { IsIdle seat.old.me }

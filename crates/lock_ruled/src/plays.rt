@@ -6,7 +6,7 @@ use crate::rule::{MutexRule, Turn, UserView};
 use atomic_table::{Join, Play, Split};
 use std::marker::PhantomData;
 
-/// A step that is to take the value.
+/// A step that acquires the value if it is free.
 pub(crate) struct Take<P> {
     rule: PhantomData<P>,
 }
@@ -15,7 +15,7 @@ impl<T, V, P: MutexRule<T, V>> Play<Option<T>, UserView<T, V>> for Take<P> {
     ghost then = { λ s. Takes P.rule };
 }
 
-/// The step that gives the value back.
+/// The step that releases the value.
 pub(crate) struct Give<M> {
     turn: PhantomData<M>,
 }
@@ -24,7 +24,7 @@ impl<T, V, M: Turn<T, V>> Play<Option<T>, UserView<T, V>> for Give<M> {
     ghost then = { λ s. Gives M.next };
 }
 
-/// The step that takes the empty slot of a mutex that is being made.
+/// The step that takes the empty slot while the mutex is made.
 pub(crate) struct Open;
 
 impl<T, V> Play<Option<T>, UserView<T, V>> for Open {
@@ -38,7 +38,7 @@ impl<T, V> Turn<T, V> for Stay {
     ghost next = { λ taken view value. view };
 }
 
-/// A user is split: the second has one part.
+/// A split of a user: the second gets one part.
 pub(crate) struct Cut<M> {
     split: PhantomData<M>,
 }
@@ -49,7 +49,7 @@ impl<T, V, M: Split<V>> Split<UserView<T, V>> for Cut<M> {
     ghost right = { one_part M.right };
 }
 
-/// Two users become one, with the parts of both.
+/// A join of two users, with the parts of both.
 pub(crate) struct Pair<M> {
     join: PhantomData<M>,
 }

@@ -1,42 +1,43 @@
-//! The rule of a mutex, and how a user's view moves.
+//! The rule of a mutex, and how a user's view changes.
 ghost use Rattle.std.specs.Prelude.{List};
 
 use atomic_table::TableRule;
 use std::marker::PhantomData;
 
-/// What holds of the value and of the views of all users whenever the value is at home. While a guard is out, it holds
-/// of the value as it was taken.
+/// The rule: what holds of the value and of the views of all users whenever the mutex is free. While a guard is held,
+/// the rule holds of the value as it was acquired.
 pub trait MutexRule<T, V> {
     ghost rule: { T → List V → Type 0 };
 
-    /// The view of the first user, where this is the first value.
+    /// The view of the first user, for the first value.
     ghost first: { T → V };
 }
 
-/// What a user knows after a guard: of the value as it was taken, the user's view, and the value that is given back.
+/// What a user knows after a release: a function of the value as it was acquired, the user's view, and the value that
+/// is released.
 pub trait Turn<T, V> {
     ghost next: { T → V → T → V };
 }
 
-/// Where a user stands with the value. No value of it is made.
+/// How a user stands to the value. It exists in contracts only.
 pub enum UserStage<T> {
-    /// No guard of the user is out.
+    /// The user holds no guard.
     Free,
     /// The user is making the mutex, with this value.
     Opens(T),
-    /// A guard of the user is out, which took this value.
+    /// The user holds a guard, which acquired this value.
     Holds(T),
 }
 
-/// What the mutex keeps of a user. No value of it is made.
+/// What the mutex keeps of a user. It exists in contracts only.
 pub struct UserView<T, V> {
-    /// The user's parts of the mutex. One that has joined another has none.
+    /// The user's parts of the mutex. A user that was joined to another has none.
     pub parts: u64,
     pub own: V,
     pub stage: UserStage<T>,
 }
 
-/// The rule of the word, the slot and all views, made of the rule of the mutex.
+/// The rule of the word, the slot and all views, derived from the rule of the mutex.
 pub struct SlotRule<P> {
     rule: PhantomData<P>,
 }

@@ -1,12 +1,12 @@
-//! One of those who use a mutex.
+//! A user of a mutex under a rule.
 use crate::rule::UserView;
 use atomic_table::Seat;
 use std::marker::Model;
 
-/// One of those who use a mutex, at most one thread at a time. To a contract it is its mutex, its parts of it, and its
-/// view. It takes no memory.
+/// A user of a mutex, which one thread at a time may own. Contracts see its mutex, its parts of it, and its view of the
+/// value. It allocates nothing.
 ///
-/// The view of a user that is dropped stays with the rule for good.
+/// The view of a dropped user stays in the rule.
 #[derive(Drop)]
 pub struct User<T, V> {
     pub(crate) seat: Seat<Option<T>, UserView<T, V>>,
