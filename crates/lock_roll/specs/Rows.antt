@@ -1,4 +1,4 @@
--- Rows by rising numbers, and the items that they have.
+-- Rows by rising numbers, and their items.
 use Rattle.std.specs.Prelude.{◌≡◌, ◌≢◌, ℕ, zero, suc, ◌<◌, ◌≤◌, List, [], ◌∷◌, ◌++◌, length, Option, Some, None}
 use Rattle.lock_roll.specs.declared.row.Row.{Row}
 

@@ -1,21 +1,23 @@
-//! Guesses of the rows of numbers.
+//! Guesses of the row of a number.
 ghost use Rattle.std.specs.Prelude.{◌≤◌, ◌^◌};
 
 use std::alloc::{AllocError, Global};
 
-/// A guess of the row of each number. Where no number was left out, it is as far from the first row as the number is from
-/// the first one. Where that failed a row is noted in a table, in which numbers that differ by a multiple of its length
-/// share a place. So a guess may be wrong, and whoever takes one looks whether it is right.
+/// A guess of the row of each number.
+///
+/// Without gaps, a number is as far from the first number as its row is from the first row. Where that guess was wrong,
+/// a table notes the row. Numbers that differ by a multiple of the table's length share a place in it. So a guess may
+/// be wrong, and the caller checks it.
 #[derive(Drop)]
 pub(crate) struct Hints {
     first: u64,
-    // Empty until a row is noted, and then `len` long: most rolls never write to it.
+    // Empty until a row is noted, and then `len` long. Most instances never write to it.
     rows: Vec<u32>,
     len: usize,
 }
 
 impl Hints {
-    /// Guesses for at least so many numbers in a row, from 1 on.
+    /// Makes guesses for at least `numbers` numbers, from 1.
     pub(crate) fn new(alloc: Global, numbers: usize) -> Result<Hints, AllocError>
         requires { numbers ≤ 2 ^ 63 }
     {
@@ -34,7 +36,7 @@ impl Hints {
         }
     }
 
-    /// The number is in this row now.
+    /// Notes that the number is in this row.
     pub(crate) fn note(&mut self, number: u64, row: usize) {
         if row == 0 {
             self.first = number;
@@ -42,7 +44,7 @@ impl Hints {
         if self.guess(number) == row {
             return;
         }
-        // There is room for it, so nothing is refused.
+        // There is room for it, so it cannot fail.
         let _ = self.rows.resize(self.len, 0);
         let place = self.place(number);
         if let Some(noted) = self.rows.get_mut(place) {

@@ -1,4 +1,4 @@
-//! Items under numbers that rise, found by number in a few steps however many there are.
+//! Slots under rising numbers. A slot is found by its number in a few steps, however many slots there are.
 #![tactic(auto)]
 
 mod hints;

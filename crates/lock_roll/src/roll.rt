@@ -1,4 +1,4 @@
-//! Items under numbers, in rows by rising numbers.
+//! Items under rising numbers.
 ghost use Rattle.std.specs.Prelude.{◌≡◌, ℕ, ◌+◌, ◌-◌, ◌<◌, ◌≤◌, ◌^◌, [], ◌∷◌, ◌++◌, length, IfOk, MatchOption, None, Some, IsSome, vec_capacity, slice_index_or};
 ghost use Rattle.std.specs.Bool.{OnFalse};
 ghost use Rattle.std.specs.Borrow.{sem};
@@ -10,14 +10,14 @@ use crate::row::Row;
 use std::alloc::{AllocError, Global};
 use std::marker::Model;
 
-/// How many rows with no item may stand beside as many as have one, before they are cleared away.
+/// How many empty rows may exist on top of as many as are filled, before they are removed.
 const SLACK: usize = 16;
 
-/// Items under the numbers that they were given. Numbers rise, and none is given twice.
+/// Items under numbers. Each new item gets the next number, and no number is used twice.
 ///
-/// Each number that was given has a row, by rising numbers, and an item that was taken leaves its row. Rows with no item
-/// are cleared away once they outnumber the others by `SLACK`, or fill the room that the maker took: that is `SLACK` rows
-/// and a quarter more than items. So a call takes a few steps on the average, and no memory.
+/// Each number has a row, and an item that is taken leaves its row empty. Empty rows are removed once they outnumber
+/// the filled ones by `SLACK`, or fill the capacity. The capacity is a quarter more than the items, and `SLACK`. So a
+/// call takes amortized constant time on most inputs, and allocates nothing.
 #[derive(Drop)]
 pub struct Roll<X> {
     rows: Vec<Row<X>>,
@@ -53,14 +53,14 @@ pub struct Bookmark {
 impl<X> Roll<X> {
     ghost use Rattle.lock_roll.specs.Lends.{lends_item};
 
-    /// The number that was given last, or 0.
+    /// Returns the last number that was used, or 0.
     pub fn last(&self) -> u64
         ensures { result ≡ self.now.last }
     {
         self.last
     }
 
-    /// How many items there are.
+    /// Returns how many items there are.
     pub fn len(&self) -> usize
         ensures number { result ≡ length self.now.items }
         ensures within { result ≤ self.now.capacity }
@@ -68,14 +68,14 @@ impl<X> Roll<X> {
         self.items
     }
 
-    /// How many items there may be.
+    /// Returns how many items there may be.
     pub fn capacity(&self) -> usize
         ensures { result ≡ self.now.capacity }
     {
         self.capacity
     }
 
-    /// Where the item under a number is.
+    /// Finds the item under a number.
     pub fn look(&self, number: u64) -> Option<Bookmark>
         ensures { MatchOption result (find number self.now.items ≡ None)
             (λ b. (b.number ≡ number) × IsSome (find number self.now.items)) }
@@ -88,7 +88,7 @@ impl<X> Roll<X> {
         }
     }
 
-    /// The item at a bookmark.
+    /// Returns the item at a bookmark.
     pub fn item(&self, bookmark: Bookmark) -> &X
         requires { IsSome (find bookmark.number self.now.items) }
         ensures { find bookmark.number self.now.items ≡ Some result.now }
@@ -100,7 +100,7 @@ impl<X> Roll<X> {
         item
     }
 
-    /// The item at a bookmark, for writing.
+    /// Returns the item at a bookmark for writing.
     pub fn item_mut(&mut self, bookmark: Bookmark) -> &mut X
         requires { IsSome (find bookmark.number self.old.items) }
         ensures* writes_back { sem 𝓛 (lends_item X.row self.entry bookmark.number result) }
@@ -110,7 +110,7 @@ impl<X> Roll<X> {
         self.rows[row].item_mut()
     }
 
-    /// Numbers up to this one count as given.
+    /// Counts the numbers up to this one as used.
     pub fn skip_to(&mut self, last: u64)
         requires { self.old.last ≤ last }
         ensures { self.new ≡ record self.old { last = last } }
@@ -120,7 +120,7 @@ impl<X> Roll<X> {
 }
 
 impl<X: Drop> Roll<X> {
-    /// No item, with room for this many.
+    /// Makes an empty instance with room for `capacity` items.
     pub fn new(alloc: Global, capacity: u64) -> Result<Roll<X>, AllocError>
         requires { capacity < 2 ^ 32 }
         ensures { IfOk result (λ r. r ≡ record { items = []; capacity = capacity; last = 0 }) }
@@ -137,7 +137,7 @@ impl<X: Drop> Roll<X> {
         })
     }
 
-    /// Gives an item the next number.
+    /// Adds an item under the next number, and returns the number.
     pub fn push(&mut self, item: X) -> u64
         requires room { length self.old.items < self.old.capacity }
         requires numbers { self.old.last < 2 ^ 64 - 1 }
@@ -162,7 +162,7 @@ impl<X: Drop> Roll<X> {
         number
     }
 
-    /// Takes the item at a bookmark.
+    /// Removes and returns the item at a bookmark.
     pub fn take(&mut self, bookmark: Bookmark) -> X
         requires { IsSome (find bookmark.number self.old.items) }
         ensures item { find bookmark.number self.old.items ≡ Some result }
@@ -177,7 +177,7 @@ impl<X: Drop> Roll<X> {
     }
 }
 
-// Whether rows are to be cleared away before there is one more, where so many have an item.
+// Returns whether empty rows must be removed before a row is added.
 fn is_crowded<X>(rows: &Vec<Row<X>>, items: usize) -> bool
     requires { items < 2 ^ 32 }
     ensures { OnFalse result (length rows.now.items < vec_capacity rows.now) }
@@ -185,7 +185,7 @@ fn is_crowded<X>(rows: &Vec<Row<X>>, items: usize) -> bool
     rows.len() >= rows.capacity() || rows.len() >= 2 * items + SLACK
 }
 
-// Clears the rows away that have no item.
+// Removes the empty rows.
 fn clear_away<X: Drop>(rows: &mut Vec<Row<X>>)
     ensures items { items_of rows.new.items ≡ items_of rows.old.items }
     ensures rising { (last : ℕ) → AreRising 0 rows.old.items last → AreRising 0 rows.new.items last }
@@ -202,7 +202,7 @@ fn note_all<X>(rows: &[Row<X>], hints: &mut Hints) {
     }
 }
 
-// The row of a bookmark.
+// Returns the row of a bookmark.
 fn marked_row<X>(rows: &[Row<X>], bookmark: Bookmark) -> usize
     requires rising { (last : ℕ) × AreRising 0 rows.now last }
     requires item { IsSome (find bookmark.number (items_of rows.now)) }
@@ -215,7 +215,7 @@ fn marked_row<X>(rows: &[Row<X>], bookmark: Bookmark) -> usize
     row
 }
 
-// The row of a number, by a guess, and by halving where that is wrong.
+// Finds the row of a number, by a guess, and by binary search if the guess is wrong.
 fn row_of<X>(rows: &[Row<X>], number: u64, guess: usize) -> Option<usize>
     requires { (last : ℕ) × AreRising 0 rows.now last }
     ensures { MatchOption result (NoRow number rows.now) (IsRow number rows.now) }
@@ -227,7 +227,7 @@ fn row_of<X>(rows: &[Row<X>], number: u64, guess: usize) -> Option<usize>
     }
 }
 
-// The row of a number, by halving.
+// Finds the row of a number by binary search.
 fn halve<X>(rows: &[Row<X>], number: u64) -> Option<usize>
     requires { (last : ℕ) × AreRising 0 rows.now last }
     ensures { MatchOption result (NoRow number rows.now) (IsRow number rows.now) }
