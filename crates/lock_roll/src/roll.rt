@@ -17,7 +17,7 @@ const SLACK: usize = 16;
 ///
 /// Each number has a row, and an item that is taken leaves its row empty. Empty rows are removed once they outnumber
 /// the filled ones by `SLACK`, or fill the capacity. The capacity is a quarter more than the items, and `SLACK`. So a
-/// call takes amortized constant time on most inputs, and allocates nothing.
+/// call takes a few steps on average, and allocates nothing.
 #[derive(Drop)]
 pub struct Roll<X> {
     rows: Vec<Row<X>>,
