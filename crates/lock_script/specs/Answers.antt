@@ -1,4 +1,4 @@
--- The answers as text.
+-- Answers as text.
 use Rattle.std.specs.Prelude.{ℕ, ℤ, true, false, List, [], ◌∷◌, ◌++◌, codes, decimal}
 use Rattle.std.specs.Fmt.{signed_decimal}
 use Rattle.std.specs.List.{flat_map}

@@ -1,15 +1,15 @@
--- Which faults a step of a replay meets.
+-- Which faults each part of a replay can meet.
 use Rattle.std.specs.Prelude.{◌≡◌, ◌≤◌, ℕ, List, length, ⊤, Option}
 use Rattle.std.specs.Io.KnownBytes.{Consumes}
 use Rattle.lock_script.specs.declared.fault.ReplayFault.{ReplayFault}
 use Rattle.lock_script.specs.declared.fault.ReplayFault.TheVariants.{BadLine, TooLong, OutOfMemory, InputFailed, OutputFailed}
 use Rattle.lock_script.specs.Lines.{IsFirstBad}
 
--- a reader that had some bytes ahead, and has others now, gave bytes that pass
+-- between these two states of its input, a reader gave bytes that pass
 abbrev pub Gives : Option (List ℕ) → Option (List ℕ) → (List ℕ → Type 0) → Type 0
 Gives ahead left Passes = (bytes : List ℕ) × (Consumes ahead left bytes × Passes bytes)
 
--- a fault of reading a script, and how much was read then
+-- a fault of reading a script, and how much was read
 abbrev pub IsReadingFault : Option (List ℕ) → Option (List ℕ) → ReplayFault → Type 0
 IsReadingFault ahead left (BadLine number) = ⊥
 IsReadingFault ahead left TooLong = Gives ahead left (λ bytes. length bytes ≡ 1048577)
@@ -17,7 +17,7 @@ IsReadingFault ahead left OutOfMemory = Gives ahead left (λ bytes. length bytes
 IsReadingFault ahead left InputFailed = Gives ahead left (λ bytes. length bytes ≤ 1048576)
 IsReadingFault ahead left OutputFailed = ⊥
 
--- a fault of parsing these lines: a bad line is the first of them
+-- a fault of parsing these lines, of which a bad line is the first bad one
 abbrev pub IsParsingFault : (List (List ℕ) → Type 0) → (List (List ℕ) → Type 0) → List (List ℕ) → ReplayFault → Type 0
 IsParsingFault First Further lines (BadLine number) = IsFirstBad First Further lines number
 IsParsingFault First Further lines TooLong = ⊥

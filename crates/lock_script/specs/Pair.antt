@@ -1,4 +1,4 @@
--- What the operations on a pair mean.
+-- The meaning of the operations on a pair.
 use Rattle.std.specs.Prelude.{ℕ, ◌^◌, ℤ, pos, neg_ℤ, ◌+ℤ◌, int_le, int_lt, Bool, ◌&&◌, ◌==◌, nat_lt, if◌then◌else◌}
 use Rattle.lock_base.specs.Operation.{Operation}
 use Rattle.lock_script.specs.declared.pair.Pair.{Pair}
@@ -16,7 +16,7 @@ item k pair = if k == 0 then pair.first else pair.second
 abbrev pub with_item : ℕ → ℤ → Pair → Pair
 with_item k n pair = if k == 0 then record pair { first = n } else record pair { second = n }
 
--- whether it is a signed number of 64 bits
+-- whether the number is a signed number of 64 bits
 abbrev pub is_signed : ℤ → Bool
 is_signed n = int_le (neg_ℤ (pos (2 ^ 63))) n && int_lt n (pos (2 ^ 63))
 
@@ -25,19 +25,19 @@ item_of (Item k) = k
 item_of (Set k n) = k
 item_of (Add k n) = k
 
--- the item that an operation leaves
+-- the item after an operation
 abbrev pub new_item : PairOp → Pair → ℤ
 new_item (Item k) pair = item k pair
 new_item (Set k n) pair = n
 new_item (Add k n) pair = item k pair +ℤ n
 
--- an operation fits where the pair has its item, and a sum is a signed number
+-- an operation fits if the pair has its item, and a sum fits in 64 bits
 abbrev pub fits : PairOp → Pair → Bool
 fits (Item k) pair = is_item k
 fits (Set k n) pair = is_item k
 fits (Add k n) pair = is_item k && is_signed (item k pair +ℤ n)
 
--- it answers the item where it only reads, and the new item where it changes the pair
+-- it answers the item when it reads, and the new item when it changes the pair
 abbrev pub meaning : PairOp → Operation Pair ℤ
 meaning op = record {
   fits = fits op;

@@ -1,4 +1,4 @@
--- What a replay answers, and what its faults tell.
+-- What a replay answers, and what its faults mean.
 use Rattle.std.specs.Prelude.{◌≡◌, ◌≤◌, ℕ, List, length, Option}
 use Rattle.std.specs.Io.{StartsWith}
 use Rattle.std.specs.Io.KnownBytes.{Appends, IsAtEnd}
@@ -13,42 +13,42 @@ use Rattle.lock_script.specs.Words.{IsCall, IsMaker}
 use Rattle.lock_script.specs.WorldLines.{IsWorldCall, IsWorldMaker}
 use Rattle.lock_script.specs.WorldSession.{IsWorldAnswer}
 
--- the fields make what a script begins with
+-- the fields are those of a first line
 abbrev pub IsFirst : Which → List (List ℕ) → Type 0
 IsFirst Table fields = IsMaker fields
 IsFirst Word fields = IsMaker fields
 IsFirst Steps fields = IsWorldMaker fields
 
--- the fields make what a further line asks for
+-- the fields are those of a further line
 abbrev pub IsFurther : Which → List (List ℕ) → Type 0
 IsFurther Table fields = IsCall fields
 IsFurther Word fields = IsCall fields
 IsFurther Steps fields = IsWorldCall fields
 
--- the text answers the script of these bytes
+-- the text is the answer to the script of these bytes
 abbrev pub IsAnswer : Which → List ℕ → List ℕ → Type 0
 IsAnswer Table script text = IsDeskAnswer script text
 IsAnswer Word script text = IsDeskAnswer script text
 IsAnswer Steps script text = IsWorldAnswer script text
 
--- a reader gave a script that passes, of 1,048,576 bytes at most, and has nothing left
+-- a reader gave a script that passes, of at most 1,048,576 bytes, and has nothing left
 abbrev pub GivesScript : Option (List ℕ) → Option (List ℕ) → (List ℕ → Type 0) → Type 0
 GivesScript ahead left Passes =
     IsAtEnd left × Gives ahead left (λ script. (length script ≤ 1048576) × Passes script)
 
--- known bytes grow by what answers the script
+-- the written bytes grow by the answer to the script
 abbrev pub AppendsAnswer : Which → List ℕ → Option (List ℕ) → Option (List ℕ) → Type 0
 AppendsAnswer which script old new = (text : List ℕ) × (IsAnswer which script text × Appends old new text)
 
--- known bytes grow by a beginning of the text
+-- the written bytes grow by a beginning of the text
 abbrev pub AppendsFront : Option (List ℕ) → Option (List ℕ) → List ℕ → Type 0
 AppendsFront old new text = (front : List ℕ) × (StartsWith text front × Appends old new front)
 
--- known bytes grow by a beginning of what answers the script
+-- the written bytes grow by a beginning of the answer to the script
 abbrev pub BeginsAnswer : Which → List ℕ → Option (List ℕ) → Option (List ℕ) → Type 0
 BeginsAnswer which script old new = (text : List ℕ) × (IsAnswer which script text × AppendsFront old new text)
 
--- what a fault tells of the bytes that the reader gave, and of those that were written
+-- what a fault means for the bytes that the reader gave, and for those that were written
 abbrev pub Tells : Which → Option (List ℕ) → Option (List ℕ) → Option (List ℕ) → Option (List ℕ) → ReplayFault → Type 0
 Tells which ahead left old new (BadLine number) =
     GivesScript ahead left (λ script. IsFirstBad (IsFirst which) (IsFurther which) (lines_of script) number)

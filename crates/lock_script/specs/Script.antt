@@ -1,4 +1,4 @@
--- The lines of a script: the words of each call.
+-- The lines of calls: the words of each call.
 use Rattle.std.specs.Prelude.{ℕ, ℤ, List, [], ◌∷◌, ◌++◌, codes, decimal}
 use Rattle.std.specs.Fmt.{signed_decimal}
 use Rattle.lock_base.specs.declared.machine.call.Form.{Form}
@@ -15,7 +15,7 @@ use Rattle.lock_script.specs.declared.pair.Pair.{Pair}
 use Rattle.lock_script.specs.declared.pair.PairOp.{PairOp}
 use Rattle.lock_script.specs.declared.pair.PairOp.TheVariants.{Item, Set, Add}
 
--- the word of a call that may have to wait, by the word of its blocking form
+-- the word of a call in a form, from the word of its blocking form
 abbrev pub in_form : Form → List ℕ → List ℕ
 in_form Block word = word
 in_form Try word = codes "try_" ++ word
@@ -50,7 +50,7 @@ on_item word party guard k = word ∷ decimal (id_of party) ∷ decimal guard �
 abbrev pub with_number : List ℕ → PartyId → ℕ → ℕ → ℤ → List (List ℕ)
 with_number word party guard k n = word ∷ decimal (id_of party) ∷ decimal guard ∷ decimal k ∷ signed_decimal n ∷ []
 
--- the fields of a call's line; no field where no line makes the call
+-- the fields of a call's line; none if no line makes the call
 abbrev pub call_fields : Call PairOp → List (List ℕ)
 call_fields (Call.Acquire want form party) = by_party (in_form form (want_word want)) party
 call_fields (Call.Unlock party guard way) = on_guard (way_word way) party guard

@@ -1,4 +1,4 @@
--- What a script is answered.
+-- The answer to a script of calls.
 use Rattle.std.specs.Prelude.{◌≡◌, ℕ, ℤ, List, [], ◌∷◌, map}
 use Rattle.lock_base.specs.declared.machine.kind.Kind.{Kind}
 use Rattle.lock_base.specs.declared.machine.call.Call.{Call}
@@ -16,7 +16,7 @@ use Rattle.lock_script.specs.Pair.{meaning}
 use Rattle.lock_script.specs.Script.{call_fields, maker_fields}
 use Rattle.lock_script.specs.Words.{IsCall, IsMaker}
 
--- the limits are lawful
+-- the limits are in range
 abbrev pub HasLimits : Maker → Type 0
 HasLimits (Maker.Mutex places pair) = IsLimit places
 HasLimits (Maker.RwLock places readers pair) = IsLimit places × IsLimit readers
@@ -32,8 +32,8 @@ machine_of (Maker.Reentrant places levels pair) = start Kind.Reentrant pair plac
 abbrev pub replies_to : Maker → List (Call PairOp) → List (Reply ℤ)
 replies_to maker calls = replies meaning (machine_of maker) calls
 
--- the text answers the maker and the calls: where the limits are lawful it is done and each call has its reply, else
--- it alone is refused
+-- the text is the answer to the maker and the calls: if the limits are in range, `ok` and a reply to each call;
+-- otherwise one refusal
 pub record Answers (maker : Maker) (calls : List (Call PairOp)) (text : List ℕ) : Type 0 where
   pub made : HasLimits maker → text ≡ reply_lines (Reply.Done ∷ replies_to maker calls)
   pub refused : (HasLimits maker → ⊥) → text ≡ reply_lines (Reply.Refused BadLimits ∷ [])
@@ -42,7 +42,7 @@ pub record Answers (maker : Maker) (calls : List (Call PairOp)) (text : List ℕ
 abbrev pub IsScriptOf : List ℕ → Maker → List (Call PairOp) → Type 0
 IsScriptOf bytes maker calls = maker_fields maker ∷ map call_fields calls ≡ map fields_of (lines_of bytes)
 
--- the text answers the script of these bytes, whose lines are all good
+-- the text is the answer to the script of these bytes, whose lines are all good
 abbrev pub IsDeskAnswer : List ℕ → List ℕ → Type 0
 IsDeskAnswer bytes text =
     AreLines IsMaker IsCall (lines_of bytes)

@@ -1,4 +1,4 @@
--- The fields of lines: the words of each count of fields.
+-- The words of lines, by the number of their fields.
 use Rattle.std.specs.Prelude.{◌≡◌, ℕ, List, [], ◌∷◌, ◌++◌, codes, ◌⊎◌}
 use Rattle.lock_base.specs.declared.machine.call.Form.TheVariants.{Block, Try, For, Until}
 use Rattle.lock_script.specs.Numbers.{IsParty, IsSigned, IsUnsigned}
@@ -9,7 +9,7 @@ abbrev pub IsOneOf : List (List ℕ) → List ℕ → Type 0
 IsOneOf [] word = ⊥
 IsOneOf (w ∷ ws) word = (word ≡ w) ⊎ IsOneOf ws word
 
--- the words of a call that may have to wait, in its four forms
+-- the words of an acquisition in its four forms
 abbrev pub in_forms : List ℕ → List (List ℕ)
 in_forms word = in_form Block word ∷ in_form Try word ∷ in_form For word ∷ in_form Until word ∷ []
 
@@ -39,7 +39,7 @@ number_words = codes "set" ∷ codes "add" ∷ in_forms (codes "with_upgraded")
 abbrev pub limit_words : List (List ℕ)
 limit_words = codes "rwlock" ∷ codes "reentrant" ∷ []
 
--- the fields make a call
+-- the fields are those of a call
 abbrev pub IsCall : List (List ℕ) → Type 0
 IsCall [] = ⊥
 IsCall (word ∷ []) = IsOneOf lone_words word
@@ -63,7 +63,7 @@ abbrev pub AreLimitAndPair : List (List ℕ) → Type 0
 AreLimitAndPair [] = ⊥
 AreLimitAndPair (limit ∷ numbers) = IsUnsigned limit × ArePair numbers
 
--- the fields make a lock
+-- the fields are those of a first line
 abbrev pub IsMaker : List (List ℕ) → Type 0
 IsMaker [] = ⊥
 IsMaker (word ∷ []) = ⊥

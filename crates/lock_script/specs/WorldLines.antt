@@ -10,7 +10,7 @@ use Rattle.lock_script.specs.declared.world_maker.WorldMaker.{WorldMaker}
 use Rattle.lock_script.specs.Numbers.{IsUnsigned}
 use Rattle.lock_script.specs.Words.{IsOneOf}
 
--- what an exchange wants
+-- the word of what an exchange acquires or sets
 abbrev pub want_word : ExWant → List ℕ
 want_word want.Shared = codes "shared"
 want_word want.Exclusive = codes "exclusive"
@@ -18,7 +18,7 @@ want_word want.Upgradable = codes "upgradable"
 want_word want.Upgrade = codes "upgrade"
 want_word want.Announce = codes "announce"
 
--- what a subtraction gives up
+-- the word of what a subtraction releases or downgrades
 abbrev pub down_word : Down → List ℕ
 down_word down.Shared = codes "shared"
 down_word down.Exclusive = codes "exclusive"
@@ -55,28 +55,28 @@ down_words =
     codes "shared" ∷ codes "exclusive" ∷ codes "upgradable" ∷ codes "to_shared" ∷ codes "to_upgradable"
     ∷ codes "upgradable_to_shared" ∷ codes "withdraw" ∷ []
 
--- the words that a party alone follows
+-- the words that only a party follows
 abbrev pub party_questions : List (List ℕ)
 party_questions = codes "load" ∷ codes "wins" ∷ codes "fails" ∷ codes "announced" ∷ []
 
--- an exchange and what it wants, or a subtraction and what it gives up
+-- an exchange and what it acquires or sets, or a subtraction and what it releases or downgrades
 abbrev pub IsChange : List ℕ → List ℕ → Type 0
 IsChange word change =
     ((word ≡ codes "exchange") × IsOneOf want_words change) ⊎ ((word ≡ codes "take") × IsOneOf down_words change)
 
--- how many parties, and how many may read
+-- the number of parties, and the readers' limit
 abbrev pub AreLimits : List (List ℕ) → Type 0
 AreLimits [] = ⊥
 AreLimits (parties ∷ []) = ⊥
 AreLimits (parties ∷ readers ∷ []) = IsUnsigned parties × IsUnsigned readers
 AreLimits (parties ∷ readers ∷ more ∷ others) = ⊥
 
--- the fields make a world
+-- the fields are those of a world
 abbrev pub IsWorldMaker : List (List ℕ) → Type 0
 IsWorldMaker [] = ⊥
 IsWorldMaker (word ∷ limits) = (word ≡ codes "world") × AreLimits limits
 
--- the fields make a step or a question
+-- the fields are those of a step or a question
 abbrev pub IsWorldCall : List (List ℕ) → Type 0
 IsWorldCall [] = ⊥
 IsWorldCall (word ∷ []) = word ≡ codes "word"

@@ -1,4 +1,4 @@
-//! The answers as text.
+//! Answers as text.
 ghost use Rattle.std.specs.Prelude.{◌≡◌, ◌++◌, OnOk, codes, string_bytes};
 ghost use Rattle.lock_script.specs.Answers.{answer_line};
 
@@ -6,7 +6,7 @@ use itoa::{Buffer, Integer};
 use lock_base::machine::Reply;
 use std::alloc::AllocError;
 
-/// What a line of a script is answered: a reply, or what an atomic step came to.
+/// The answer to one line of a script: a reply, or the outcome of an atomic step.
 #[derive(Clone, Copy)]
 pub enum Answer {
     Reply(Reply<i64>),
@@ -16,7 +16,7 @@ pub enum Answer {
     Changed,
 }
 
-/// Appends an answer's line.
+/// Appends the line of an answer.
 pub fn write_answer(text: &mut String, answer: Answer) -> Result<(), AllocError>
     ensures { OnOk result (string_bytes text.new ≡ string_bytes text.old ++ answer_line answer) }
 {

@@ -3,7 +3,7 @@ ghost use Rattle.std.specs.Prelude.{◌≡◌, ◌∷◌, ◌↔◌, [], codes, 
 
 use crate::choice::Which;
 
-/// The machine that the words ask for. None: the usage line.
+/// Returns the machine that the words choose, or `None` for the usage line.
 pub fn which(words: &[String]) -> Option<Which>
     ensures table { (result ≡ Some Which.Table) ↔ (map string_bytes words.now ≡ codes "table" ∷ []) }
     ensures word { (result ≡ Some Which.Word) ↔ (map string_bytes words.now ≡ codes "word" ∷ []) }

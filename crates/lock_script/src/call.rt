@@ -1,4 +1,4 @@
-//! The call that a further line of a script makes.
+//! The lines of calls.
 ghost use Rattle.std.specs.Prelude.{◌≡◌, ◌↔◌, ◌∷◌, [], IfSome, IsSome, decimal};
 ghost use Rattle.lock_base.specs.Party.{id_of};
 ghost use Rattle.lock_script.specs.Numbers.{IsParty};
@@ -36,7 +36,7 @@ impl Line for Call<PairOp> {
     }
 }
 
-/// The party of a field.
+/// Reads a party.
 fn party(field: &str) -> Option<PartyId>
     ensures some { IsSome result ↔ IsParty field.now }
     ensures text { IfSome result (λ party. decimal (id_of party) ≡ field.now) }
@@ -45,7 +45,7 @@ fn party(field: &str) -> Option<PartyId>
     PartyId::new(id)
 }
 
-/// The call of a word alone.
+/// Reads the call of a single word.
 fn alone(word: &str) -> Option<Call<PairOp>>
     ensures fields { IfSome result (λ call. call_fields call ≡ word.now ∷ []) }
     ensures words { IsSome result ↔ IsOneOf lone_words word.now }
@@ -60,7 +60,7 @@ fn alone(word: &str) -> Option<Call<PairOp>>
     Some(call)
 }
 
-/// The call of a word and a party.
+/// Reads the call of a word and a party.
 fn of_party(word: &str, party: PartyId) -> Option<Call<PairOp>>
     ensures fields { IfSome result (λ call. call_fields call ≡ by_party word.now party) }
     ensures words { IsSome result ↔ IsOneOf party_words word.now }
@@ -90,7 +90,7 @@ fn of_party(word: &str, party: PartyId) -> Option<Call<PairOp>>
     Some(call)
 }
 
-/// The call of a word, a party and a guard.
+/// Reads the call of a word, a party and a guard.
 fn of_guard(word: &str, party: PartyId, guard: u64) -> Option<Call<PairOp>>
     ensures fields { IfSome result (λ call. call_fields call ≡ on_guard word.now party guard) }
     ensures words { IsSome result ↔ IsOneOf guard_words word.now }
@@ -116,7 +116,7 @@ fn of_guard(word: &str, party: PartyId, guard: u64) -> Option<Call<PairOp>>
     Some(call)
 }
 
-/// The call of a word, a party, a guard and an item.
+/// Reads the call of a word, a party, a guard and an item.
 fn of_item(word: &str, party: PartyId, guard: u64, item: u64) -> Option<Call<PairOp>>
     ensures fields { IfSome result (λ call. call_fields call ≡ on_item word.now party guard item) }
     ensures words { IsSome result ↔ IsOneOf item_words word.now }
@@ -128,7 +128,7 @@ fn of_item(word: &str, party: PartyId, guard: u64, item: u64) -> Option<Call<Pai
     Some(call)
 }
 
-/// The call of a word, a party, a guard, an item and a number.
+/// Reads the call of a word, a party, a guard, an item and a number.
 fn of_number(word: &str, party: PartyId, guard: u64, item: u64, number: i64) -> Option<Call<PairOp>>
     ensures fields { IfSome result (λ call. call_fields call ≡ with_number word.now party guard item number) }
     ensures words { IsSome result ↔ IsOneOf number_words word.now }

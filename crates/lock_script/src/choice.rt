@@ -1,12 +1,12 @@
-//! The machine that a script is run on.
+//! The machine that runs a script.
 
-/// The machine that a script is run on.
+/// The machine that runs a script.
 #[derive(Clone, Copy, PartialEq, Eq, Debug)]
 pub enum Which {
     /// A desk over a table of tokens.
     Table,
-    /// A desk over one packed word.
+    /// A desk over a packed word.
     Word,
-    /// Parties that make atomic steps on one packed word.
+    /// A world: parties that make atomic steps on a packed word.
     Steps,
 }

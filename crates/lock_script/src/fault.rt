@@ -5,7 +5,7 @@ use thiserror::Error;
 /// Why a replay ended before all answers were written. The texts are those of the program.
 #[derive(Clone, Copy, Debug, PartialEq, Eq, Error)]
 pub enum ReplayFault {
-    /// The first line, counted from 1, that is none of the format's.
+    /// The first line, counted from 1, that is not in the format.
     #[error("bad line {0}")]
     BadLine(u64),
     #[error("input too long")]

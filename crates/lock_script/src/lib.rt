@@ -1,4 +1,4 @@
-//! Scripts of calls of a lock: read, run, and answered.
+//! Scripts of calls: parsing, running, and writing the answers.
 #![tactic(auto)]
 
 mod answer;

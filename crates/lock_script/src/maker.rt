@@ -1,4 +1,4 @@
-//! What the first line of a script makes.
+//! The first line of a script of calls.
 ghost use Rattle.std.specs.Prelude.{◌≡◌, ◌↔◌, ◌∷◌, IfSome, IsSome, decimal};
 ghost use Rattle.lock_script.specs.Lines.{fields_of};
 ghost use Rattle.lock_script.specs.Script.{pair_fields};
@@ -8,7 +8,7 @@ use crate::line::{Line, first_field};
 use crate::number::{signed, unsigned};
 use crate::pair::Pair;
 
-/// The lock that a script works on: its places, its limit where it has one, and its first value.
+/// The lock that a script makes: its places, its limit if it has one, and its first value.
 #[derive(Clone, Copy, PartialEq, Eq, Debug)]
 pub enum Maker {
     Mutex(u64, Pair),
@@ -43,7 +43,7 @@ impl Line for Maker {
     }
 }
 
-/// The limit and the pair that three fields are.
+/// Reads a limit and a pair from three fields.
 fn limit_and_pair(fields: &str) -> Option<(u64, Pair)>
     ensures some { IsSome result ↔ AreLimitAndPair (fields_of fields.now) }
     ensures texts { IfSome result (λ found. decimal found.0 ∷ pair_fields found.1 ≡ fields_of fields.now) }
@@ -52,7 +52,7 @@ fn limit_and_pair(fields: &str) -> Option<(u64, Pair)>
     Some((unsigned(limit)?, pair(rest)?))
 }
 
-/// The pair that two fields are.
+/// Reads a pair from two fields.
 fn pair(fields: &str) -> Option<Pair>
     ensures some { IsSome result ↔ ArePair (fields_of fields.now) }
     ensures texts { IfSome result (λ pair. pair_fields pair ≡ fields_of fields.now) }

@@ -1,9 +1,9 @@
-//! Numbers as a script writes them: as the answers write them, with no leading zero and no plus.
+//! Numbers in scripts: no leading zero, and no plus.
 ghost use Rattle.std.specs.Prelude.{◌≡◌, ◌↔◌, IfSome, IsSome, IsTrue, decimal};
 ghost use Rattle.std.specs.Fmt.{signed_decimal};
 ghost use Rattle.lock_script.specs.Numbers.{BeginsAbove0, HasForm, HasSignedForm, IsSigned, IsUnsigned};
 
-/// The unsigned number of 64 bits that a field is.
+/// Reads an unsigned number of 64 bits.
 pub fn unsigned(field: &str) -> Option<u64>
     ensures text { IfSome result (λ number. decimal number ≡ field.now) }
     ensures some { IsSome result ↔ IsUnsigned field.now }
@@ -14,7 +14,7 @@ pub fn unsigned(field: &str) -> Option<u64>
     field.parse().ok()
 }
 
-/// The signed number of 64 bits that a field is.
+/// Reads a signed number of 64 bits.
 pub fn signed(field: &str) -> Option<i64>
     ensures text { IfSome result (λ number. signed_decimal number ≡ field.now) }
     ensures some { IsSome result ↔ IsSigned field.now }
@@ -25,14 +25,14 @@ pub fn signed(field: &str) -> Option<i64>
     field.parse().ok()
 }
 
-/// Whether a field is `0`, or begins with another digit.
+/// Returns whether a field is `0`, or begins with a digit from 1 to 9.
 fn has_form(field: &str) -> bool
     ensures { IsTrue result ↔ HasForm field.now }
 {
     field == "0" || begins_above_0(field.as_bytes())
 }
 
-/// The same, where a minus may stand before another digit than `0`.
+/// The same, with an optional minus before a digit from 1 to 9.
 fn has_signed_form(field: &str) -> bool
     ensures { IsTrue result ↔ HasSignedForm field.now }
 {
@@ -42,7 +42,7 @@ fn has_signed_form(field: &str) -> bool
     }
 }
 
-/// Whether the first byte is a digit from 1 to 9.
+/// Returns whether the first byte is a digit from 1 to 9.
 fn begins_above_0(bytes: &[u8]) -> bool
     ensures { IsTrue result ↔ BeginsAbove0 bytes.now }
 {

@@ -1,4 +1,4 @@
-//! The value that a script works on.
+//! The value of a script.
 use lock_base::machine::Op;
 
 /// A pair of numbers: its items 0 and 1.
@@ -12,7 +12,7 @@ impl Pair {
     ghost use Rattle.std.specs.Prelude.{◌≡◌, IsTrue};
     ghost use Rattle.lock_script.specs.Pair.{is_item, item, with_item};
 
-    /// The item of this number.
+    /// Returns an item by its number.
     fn item(&self, number: u64) -> i64
         requires { IsTrue (is_item number) }
         ensures { result ≡ item number self.now }
@@ -20,7 +20,7 @@ impl Pair {
         if number == 0 { self.first } else { self.second }
     }
 
-    /// Puts another number in the place of an item.
+    /// Replaces an item.
     fn set_item(&mut self, number: u64, item: i64)
         requires { IsTrue (is_item number) }
         ensures { self.new ≡ with_item number item self.old }
@@ -33,14 +33,14 @@ impl Pair {
     }
 }
 
-/// An operation on an item of a pair. It fits where the pair has that item.
+/// An operation on an item of a pair. It fits if the pair has that item.
 #[derive(Clone, Copy, PartialEq, Eq, Debug)]
 pub enum PairOp {
-    /// Only reads it.
+    /// Reads the item.
     Item(u64),
-    /// Puts a number in its place.
+    /// Replaces the item.
     Set(u64, i64),
-    /// Adds a number to it. Fits only where the sum is a signed number of 64 bits.
+    /// Adds to the item. It fits only if the sum is a signed number of 64 bits.
     Add(u64, i64),
 }
 
@@ -48,7 +48,7 @@ impl PairOp {
     ghost use Rattle.std.specs.Prelude.{◌≡◌};
     ghost use Rattle.lock_script.specs.Pair.{item_of};
 
-    /// The number of the item.
+    /// Returns the number of the item.
     fn number(&self) -> u64
         ensures { result ≡ item_of self.now }
     {

@@ -4,7 +4,7 @@ ghost use Rattle.std.specs.Str.{IsUtf8};
 ghost use Rattle.lock_script.specs.Lines.{lines_of};
 ghost use Rattle.lock_script.specs.Parts.{bytes_of};
 
-/// A part of a script: of one that is a text as a whole each line is known to be one, so no line is tested by itself.
+/// A part of a script. If the whole script is UTF-8, so is each of its lines, and no line is checked by itself.
 #[derive(Clone, Copy)]
 pub enum Part<'a> {
     Text(&'a str),
@@ -12,7 +12,7 @@ pub enum Part<'a> {
 }
 
 impl<'a> Part<'a> {
-    /// These bytes, as a text if they are one.
+    /// Makes a part of these bytes, as text if they are UTF-8.
     pub fn of(bytes: &'a [u8]) -> Part<'a>
         ensures { bytes_of result ≡ bytes.now }
     {
@@ -31,7 +31,7 @@ impl<'a> Part<'a> {
         }
     }
 
-    /// The text that the bytes are. None: they are none.
+    /// Returns the text, or `None` if the bytes are not UTF-8.
     pub fn text(self) -> Option<&'a str>
         ensures some { IsSome result ↔ IsUtf8 (bytes_of self.entry) }
         ensures bytes { IfSome result (λ text. text.now ≡ bytes_of self.entry) }
@@ -42,7 +42,7 @@ impl<'a> Part<'a> {
         }
     }
 
-    /// The first line, and what stands after its line feed.
+    /// Returns the first line, and the rest after its line feed.
     pub fn first_line(self) -> (Part<'a>, Part<'a>)
         requires { 0 < length (bytes_of self) }
         ensures lines { lines_of (bytes_of self.entry) ≡ bytes_of result.0 ∷ lines_of (bytes_of result.1) }
@@ -64,7 +64,7 @@ impl<'a> Part<'a> {
     }
 }
 
-/// What stands before the first line feed of a text, and after it.
+/// Cuts a text at a line feed.
 fn cut_text(text: &str, at: usize) -> (&str, &str)
     requires { position (λ b. b == 10) text.now ≡ Some at }
     ensures lines { lines_of text.now ≡ result.0.now ∷ lines_of result.1.now }
@@ -73,7 +73,7 @@ fn cut_text(text: &str, at: usize) -> (&str, &str)
     (&text[..at], &text[at + 1..])
 }
 
-/// The same of bytes that may be no text.
+/// Cuts bytes at a line feed.
 fn cut_bytes(bytes: &[u8], at: usize) -> (&[u8], &[u8])
     requires { position (λ b. b == 10) bytes.now ≡ Some at }
     ensures lines { lines_of bytes.now ≡ result.0.now ∷ lines_of result.1.now }
@@ -82,7 +82,7 @@ fn cut_bytes(bytes: &[u8], at: usize) -> (&[u8], &[u8])
     (&bytes[..at], &bytes[at + 1..])
 }
 
-/// Where the first line feed is.
+/// Finds the first line feed.
 fn line_end(bytes: &[u8]) -> Option<usize>
     ensures place { result ≡ position (λ b. b == 10) bytes.now }
     ensures within { IfSome result (λ at. at < length bytes.now) }

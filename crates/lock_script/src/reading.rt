@@ -1,4 +1,4 @@
-//! The bytes of a script, from any reader.
+//! Reading a script.
 ghost use Rattle.std.specs.Prelude.{◌≡◌, ◌≤◌, ◌<◌, ◌++◌, length, take, IfErr, IfOk, OnErr, OnOk, vec_len};
 ghost use Rattle.std.specs.Io.KnownBytes.{Consumes, IsAtEnd, Keeps};
 ghost use Rattle.lock_script.specs.Faults.{IsReadingFault};
@@ -7,10 +7,10 @@ use crate::fault::ReplayFault;
 use std::alloc::Global;
 use std::io::{ErrorKind, Read};
 
-/// The most bytes that a script may have.
+/// The largest size of a script, in bytes.
 pub const SCRIPT_LIMIT: usize = 1_048_576;
 
-/// The most bytes of one read.
+/// The largest size of one read, in bytes.
 const CHUNK: usize = 65_536;
 
 /// Reads to the end, or to the first byte past the limit.
@@ -37,7 +37,7 @@ pub fn read_script<R: Read>(alloc: Global, reader: &mut R) -> Result<Vec<u8>, Re
     Err(ReplayFault::InputFailed)
 }
 
-/// One read, tried again where a signal interrupts it. It gives nothing at the end alone.
+/// Reads once, and again after an interrupt. It reads nothing only at the end.
 fn read_once<R: Read>(reader: &mut R, chunk: &mut [u8]) -> Result<usize, ReplayFault>
     requires { 0 < length chunk.old }
     ensures bound { IfOk result (λ count. count ≤ length chunk.new) }

@@ -1,7 +1,7 @@
-//! Memory that is used again.
+//! Memory that is reused.
 ghost use Rattle.std.specs.Prelude.{◌≡◌, [], string_bytes};
 
-/// A text with no byte, in the memory of these bytes.
+/// Makes an empty text in the memory of these bytes.
 pub fn emptied(mut bytes: Vec<u8>) -> String
     ensures { string_bytes result ≡ [] }
 {

@@ -1,4 +1,4 @@
-//! A script: from its bytes to what its lines ask for.
+//! Parsing a script.
 ghost use Rattle.std.specs.Prelude.{◌≡◌, ◌∷◌, map, IfErr, IfOk, OnOk};
 ghost use Rattle.lock_script.specs.Faults.{IsParsingFault};
 ghost use Rattle.lock_script.specs.Lines.{AreLines, fields_of, lines_of};
@@ -8,14 +8,18 @@ use crate::line::{Line, read_line};
 use crate::part::Part;
 use std::alloc::Global;
 
-/// What the lines of a script ask for: the first a maker, each further one a call.
+/// A parsed script: the first line makes a lock or a world, and each further line is a call.
 #[derive(Drop)]
 pub struct Script<M, C> {
     pub maker: M,
     pub calls: Vec<C>,
 }
 
-/// The script of these bytes, or its first bad line, counted from 1.
+/// Parses a script.
+///
+/// # Errors
+///
+/// `BadLine` with the number of the first bad line, counted from 1. `OutOfMemory`.
 pub fn parse<M: Line + Drop, C: Line + Drop>(
     alloc: Global,
     bytes: &[u8],

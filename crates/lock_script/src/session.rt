@@ -1,4 +1,4 @@
-//! The answers to a script, by a desk.
+//! Running a script of calls on a desk.
 ghost use Rattle.std.specs.Prelude.{◌≡◌, [], ◌++◌, ◌↔◌, Err, IfErr, IfOk, OnOk, string_bytes};
 ghost use Rattle.lock_base.specs.Steps.{replies};
 ghost use Rattle.lock_script.specs.Answers.{reply_lines};
@@ -19,13 +19,13 @@ use lock_base::raw::{Fault, RawState};
 use lock_desk::Desk;
 use std::alloc::{AllocError, Global};
 
-/// The script of calls of a lock.
+/// A script of calls.
 type DeskScript = Script<Maker, Call<PairOp>>;
 
-/// The most calls that are made before their replies are written.
+/// How many calls are made before their replies are written.
 const BLOCK: usize = 256;
 
-/// The answers to a script of calls, on a desk over this raw state.
+/// Runs a script of calls on a desk over the raw state `R`, and returns its answers.
 pub fn desk_answers<R: RawState>(alloc: Global, script: Vec<u8>) -> Result<String, ReplayFault>
     ensures answers { IfOk result (λ text. IsDeskAnswer script.items (string_bytes text)) }
     ensures fault { IfErr result (IsParsingFault IsMaker IsCall (lines_of script.items)) }
@@ -35,8 +35,7 @@ pub fn desk_answers<R: RawState>(alloc: Global, script: Vec<u8>) -> Result<Strin
     Ok(text)
 }
 
-/// The answers to a maker and calls, a line each. Where the maker is refused, that is the one answer.
-/// They are written into an empty text.
+/// Appends the answers to a maker and its calls, a line each. If the maker is refused, that is the only answer.
 fn answers_to<R: RawState>(
     alloc: Global,
     script: &DeskScript,
@@ -58,8 +57,8 @@ fn answers_to<R: RawState>(
     Ok(text)
 }
 
-/// Appends what a desk replies, block by block. In a block a call does not wait until the reply before it is written, so the
-/// processor can look for the guards of several calls at a time.
+/// Appends the replies of a desk, block by block. Within a block no call waits for the text of the reply before it, so
+/// the processor can look up several guards at a time.
 fn write_calls<R: RawState>(
     alloc: Global,
     text: &mut String,
@@ -91,7 +90,7 @@ fn write_replies(text: &mut String, replies: &[Reply<i64>]) -> Result<(), AllocE
     Ok(())
 }
 
-/// The desk of a maker.
+/// Makes the desk.
 fn make<R: RawState>(alloc: Global, maker: Maker) -> Result<Desk<R, Pair>, Fault>
     ensures limits { (result ≡ Err Fault.BadLimits) ↔ (HasLimits maker → ⊥) }
     ensures made { IfOk result (λ desk. desk ≡ machine_of maker) }

@@ -15,11 +15,12 @@ use lock_states::word::PackedWord;
 use std::alloc::Global;
 use std::io::{ErrorKind, Read, Write};
 
-/// Reads a script to its end, makes all its answers and then writes them, a line each.
+/// Reads a script to its end, makes all its answers, and then writes them, a line each.
 ///
-/// Faults are told as they are met: of reading, of the lines from the first on, of the run, of
-/// writing. Of a reader that does not tell what it has ahead, the clauses speak of the bytes that
-/// it gave.
+/// # Errors
+///
+/// In this order: a fault of reading, the first bad line, no memory for the run, a fault of writing. If the reader does
+/// not say what it has ahead, the clauses speak only of the bytes that it gave.
 pub fn replay<R: Read, W: Write>(
     alloc: Global,
     which: Which,
@@ -38,8 +39,11 @@ pub fn replay<R: Read, W: Write>(
     put(text.as_str(), writer)
 }
 
-/// The text of all answers to a script, or its first bad line. Nothing else is told but want of memory. The text has the
-/// memory that the script had.
+/// Returns the text of all answers to a script. It reuses the script's memory.
+///
+/// # Errors
+///
+/// `BadLine` with the number of the first bad line, or `OutOfMemory`.
 pub fn answers(alloc: Global, which: Which, script: Vec<u8>) -> Result<String, ReplayFault>
     ensures answers { IfOk result (λ text. IsAnswer which script.items (string_bytes text)) }
     ensures fault { IfErr result (IsParsingFault (IsFirst which) (IsFurther which) (lines_of script.items)) }
@@ -51,7 +55,7 @@ pub fn answers(alloc: Global, which: Which, script: Vec<u8>) -> Result<String, R
     }
 }
 
-/// Writes the whole text, and then flushes.
+/// Writes the whole text, and flushes.
 fn put<W: Write>(text: &str, writer: &mut W) -> Result<(), ReplayFault>
     ensures written { OnOk result (Appends (W.contents writer.old) (W.contents writer.new) text.now) }
     ensures begun { OnErr result (AppendsFront (W.contents writer.old) (W.contents writer.new) text.now) }
@@ -68,7 +72,7 @@ fn put<W: Write>(text: &str, writer: &mut W) -> Result<(), ReplayFault>
     Err(ReplayFault::OutputFailed)
 }
 
-/// One write, tried again where a signal interrupts it.
+/// Writes once, and again after an interrupt.
 fn write_once<W: Write>(writer: &mut W, bytes: &[u8]) -> Result<usize, ReplayFault>
     ensures bound { IfOk result (λ count. (0 < count) × (count ≤ length bytes.now)) }
     ensures written { IfOk result (λ count.

@@ -1,4 +1,4 @@
-//! The steps and questions of a script on a world.
+//! The lines of a script of steps.
 ghost use Rattle.std.specs.Prelude.{◌≡◌, ◌↔◌, ◌∷◌, [], IfSome, IsSome, codes, decimal};
 ghost use Rattle.lock_script.specs.Words.{IsOneOf};
 ghost use Rattle.lock_script.specs.WorldLines.{IsChange, down_word, down_words, party_questions, want_word, want_words, world_call_fields};
@@ -7,13 +7,13 @@ use crate::line::{Line, first_field};
 use crate::number::unsigned;
 use lock_word::{AtomicStep, Down, ExWant};
 
-/// What a further line of a script of steps asks for.
+/// A step or a question of a script of steps.
 #[derive(Clone, Copy, PartialEq, Eq, Debug)]
 pub enum WorldCall {
     Step(AtomicStep),
     /// The word.
     Word,
-    /// How many exchanges and subtractions of a party were done.
+    /// How many exchanges and subtractions of a party changed the word.
     Wins(u64),
     /// How many exchanges of a party found the word changed.
     Fails(u64),
@@ -39,7 +39,7 @@ impl Line for WorldCall {
     }
 }
 
-/// The question of a word alone.
+/// Reads the question of a single word.
 fn alone(word: &str) -> Option<WorldCall>
     ensures fields { IfSome result (λ call. world_call_fields call ≡ word.now ∷ []) }
     ensures words { IsSome result ↔ (word.now ≡ codes "word") }
@@ -50,7 +50,7 @@ fn alone(word: &str) -> Option<WorldCall>
     }
 }
 
-/// The load or question of a word and a party.
+/// Reads the load or question of a word and a party.
 fn of_party(word: &str, party: u64) -> Option<WorldCall>
     ensures fields { IfSome result (λ call. world_call_fields call ≡ word.now ∷ decimal party ∷ []) }
     ensures words { IsSome result ↔ IsOneOf party_questions word.now }
@@ -65,7 +65,7 @@ fn of_party(word: &str, party: u64) -> Option<WorldCall>
     Some(call)
 }
 
-/// The exchange or subtraction of a word, a party and what it wants or gives up.
+/// Reads the exchange or subtraction of a word, a party and a change.
 fn of_change(word: &str, party: u64, change: &str) -> Option<WorldCall>
     ensures fields { IfSome result (λ call. world_call_fields call ≡ word.now ∷ decimal party ∷ change.now ∷ []) }
     ensures words { IsSome result ↔ IsChange word.now change.now }
@@ -78,7 +78,7 @@ fn of_change(word: &str, party: u64, change: &str) -> Option<WorldCall>
     Some(WorldCall::Step(step))
 }
 
-/// What an exchange wants.
+/// Reads what an exchange acquires or sets.
 fn want(word: &str) -> Option<ExWant>
     ensures text { IfSome result (λ want. want_word want ≡ word.now) }
     ensures words { IsSome result ↔ IsOneOf want_words word.now }
@@ -94,7 +94,7 @@ fn want(word: &str) -> Option<ExWant>
     Some(want)
 }
 
-/// What a subtraction gives up.
+/// Reads what a subtraction releases or downgrades.
 fn down(word: &str) -> Option<Down>
     ensures text { IfSome result (λ down. down_word down ≡ word.now) }
     ensures words { IsSome result ↔ IsOneOf down_words word.now }

@@ -1,4 +1,4 @@
-//! The world that a script of steps is run on.
+//! The first line of a script of steps.
 ghost use Rattle.std.specs.Prelude.{◌≡◌, ◌↔◌, IfSome, IsSome};
 ghost use Rattle.lock_script.specs.Lines.{fields_of};
 ghost use Rattle.lock_script.specs.WorldLines.{AreLimits, limit_fields};
@@ -6,7 +6,7 @@ ghost use Rattle.lock_script.specs.WorldLines.{AreLimits, limit_fields};
 use crate::line::{Line, first_field};
 use crate::number::unsigned;
 
-/// A world of so many parties, of which so many may read at a time.
+/// The world that a script makes: its parties, and its readers' limit.
 #[derive(Clone, Copy, PartialEq, Eq, Debug)]
 pub struct WorldMaker {
     pub parties: u64,
@@ -29,7 +29,7 @@ impl Line for WorldMaker {
     }
 }
 
-/// The world whose limits two fields are.
+/// Reads the limits of a world from two fields.
 fn limits(fields: &str) -> Option<WorldMaker>
     ensures some { IsSome result ↔ AreLimits (fields_of fields.now) }
     ensures texts { IfSome result (λ maker. limit_fields maker ≡ fields_of fields.now) }

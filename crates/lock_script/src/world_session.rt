@@ -1,4 +1,4 @@
-//! The answers to a script of steps, by a world.
+//! Running a script of steps on a world.
 ghost use Rattle.std.specs.Prelude.{◌≡◌, [], ◌++◌, IfErr, IfOk, OnOk, string_bytes};
 ghost use Rattle.lock_script.specs.Faults.{IsParsingFault};
 ghost use Rattle.lock_script.specs.Answers.{answer_lines};
@@ -18,10 +18,10 @@ use lock_states::world::World;
 use lock_word::Outcome;
 use std::alloc::{AllocError, Global};
 
-/// The script of steps and questions.
+/// A script of steps.
 type WorldScript = Script<WorldMaker, WorldCall>;
 
-/// The answers to a script of steps.
+/// Runs a script of steps, and returns its answers.
 pub fn world_answers(alloc: Global, script: Vec<u8>) -> Result<String, ReplayFault>
     ensures answers { IfOk result (λ text. IsWorldAnswer script.items (string_bytes text)) }
     ensures fault { IfErr result (IsParsingFault IsWorldMaker IsWorldCall (lines_of script.items)) }
@@ -31,8 +31,7 @@ pub fn world_answers(alloc: Global, script: Vec<u8>) -> Result<String, ReplayFau
     Ok(text)
 }
 
-/// The answers to a maker and calls, a line each. Where the maker is refused, that is the one answer.
-/// They are written into an empty text.
+/// Appends the answers to a maker and its lines, a line each. If the maker is refused, that is the only answer.
 fn answers_to(alloc: Global, script: &WorldScript, mut text: String) -> Result<String, AllocError>
     requires { string_bytes text ≡ [] }
     ensures { IfOk result (λ text. WorldAnswers script.now.maker script.now.calls.items (string_bytes text)) }
@@ -50,7 +49,7 @@ fn answers_to(alloc: Global, script: &WorldScript, mut text: String) -> Result<S
     Ok(text)
 }
 
-/// Appends what a world answers.
+/// Appends the answers of a world.
 fn write_calls(text: &mut String, mut world: World, calls: &[WorldCall]) -> Result<(), AllocError>
     ensures { OnOk result
         (string_bytes text.new ≡ string_bytes text.old ++ answer_lines (all_answers world calls.now)) }
@@ -76,7 +75,7 @@ fn ask(world: &mut World, call: WorldCall) -> Answer
     }
 }
 
-/// The answer to a step that came to this.
+/// Makes the answer of an outcome.
 fn step_answer(outcome: Outcome) -> Answer
     ensures { result ≡ step_answer outcome }
 {
@@ -89,7 +88,7 @@ fn step_answer(outcome: Outcome) -> Answer
     }
 }
 
-/// The answer that is a count, or why there is none.
+/// Makes the answer of a count, or of its refusal.
 fn count_answer(count: Result<u64, Fault>) -> Answer
     ensures { result ≡ count_answer count }
 {
@@ -99,7 +98,7 @@ fn count_answer(count: Result<u64, Fault>) -> Answer
     }
 }
 
-/// The answer that is yes or no, or why there is neither.
+/// Makes the answer of a yes or no, or of its refusal.
 fn truth_answer(answer: Result<bool, Fault>) -> Answer
     ensures { result ≡ truth_answer answer }
 {
