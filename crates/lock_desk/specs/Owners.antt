@@ -6,12 +6,12 @@ use Rattle.lock_base.specs.Entries.{Entry, all_of_party}
 use Rattle.lock_base.specs.Levels.{Owner}
 
 module _ {K : Type 0} where
-  -- the owner has a level for each of these entries, which are all its own
+  -- the owner has a level for each of these entries, which all belong to it
   abbrev pub OwnsLevels : Option (Owner K) → List Entry → Type 0
   OwnsLevels None held = held ≡ []
   OwnsLevels (Some o) held = (0 < o.count) × (length held ≡ o.count) × (all_of_party o.party held ≡ true)
 
-  -- the token that an owner holds for its levels
+  -- the token that an owner holds
   abbrev pub token_of_owner : Option (Owner K) → List (K × Mode)
   token_of_owner None = []
   token_of_owner (Some o) = (o.token, Exclusive) ∷ []
@@ -26,7 +26,7 @@ module _ {K : Type 0} where
   HasEntered party None new = (token : K) × (new ≡ Some (record { party = party; count = 1; token = token }))
   HasEntered party (Some o) new = new ≡ Some (record o { count = o.count + 1 })
 
-  -- the owner after one level was left
+  -- the owner with one level less
   abbrev pub one_level_less : Option (Owner K) → Option (Owner K)
   one_level_less None = None
   one_level_less (Some o) = if o.count == 1 then None else Some (record o { count = o.count - 1 })

@@ -8,8 +8,8 @@ use lock_base::machine::PartyId;
 use lock_base::raw::{Fault, RawState};
 
 impl<R: RawState, T> Desk<R, T> {
-    /// Announces that the party is going to write: from here on none but an exclusive guard of the party is let in, until
-    /// one is, or the party withdraws. `Barred` where a party has announced itself, be it this one.
+    /// Announces that the party is going to write. Until it acquires exclusively or withdraws, no other acquisition is
+    /// admitted. `Barred` if any party has announced itself already.
     pub fn announce(&mut self, party: PartyId) -> Result<(), Fault>
         ensures answer { result ≡ (calls.announce self.old (id_of party)).answer }
         ensures machine { self.new ≡ (calls.announce self.old (id_of party)).machine }
@@ -24,7 +24,7 @@ impl<R: RawState, T> Desk<R, T> {
         Ok(())
     }
 
-    /// Takes the party's announcement back. `NotAnnounced` where the party has not announced itself.
+    /// Withdraws the party's announcement. `NotAnnounced` if there is none.
     pub fn withdraw(&mut self, party: PartyId) -> Result<(), Fault>
         ensures answer { result ≡ (calls.withdraw self.old (id_of party)).answer }
         ensures machine { self.new ≡ (calls.withdraw self.old (id_of party)).machine }
@@ -39,7 +39,7 @@ impl<R: RawState, T> Desk<R, T> {
         Ok(())
     }
 
-    /// Whether a party has announced itself, and has neither got in nor withdrawn.
+    /// Returns whether a party has announced itself.
     pub fn is_barred(&self) -> Result<bool, Fault>
         ensures { result ≡ (calls.is_barred self.now).answer }
     {
