@@ -1,28 +1,28 @@
--- A journal of the steps that a lock made.
+-- Journals of the steps that a lock made.
 use Rattle.std.specs.Prelude.{◌≡◌, ℕ, ◌≤◌, Bool, true, false, nat_lt, if◌then◌else◌, List, [], ◌∷◌, ◌++◌, length}
 use Rattle.lock_base.specs.declared.machine.mode_step.ModeStep.{ModeStep}
 use Rattle.lock_base.specs.declared.machine.bag.Bag.{Bag}
 use Rattle.lock_base.specs.Modes.{empty_bag}
 use Rattle.lock_base.specs.ModeRuns.{IsModeRun, Replays}
 
--- the steps that were written, how many there is room for, and whether a step found no room
+-- the recorded steps, the capacity, and whether a step found no room
 pub record Journal : Type 0 where
   pub steps : List ModeStep
   pub room : ℕ
   pub stopped : Bool
 
--- nothing is written yet
+-- a journal without steps
 abbrev pub empty_journal : ℕ → Journal
 empty_journal room = record { steps = []; room = room; stopped = false }
 
--- the journal after a step: the step is written where there is room, and else the journal has stopped
+-- the journal after a step: the step is recorded if there is room, and otherwise the journal has stopped
 abbrev pub journal_after : Journal → ModeStep → Journal
 journal_after journal step =
     if nat_lt (length journal.steps) journal.room
     then record journal { steps = journal.steps ++ step ∷ [] }
     else record journal { stopped = true }
 
--- the steps that are written replay, they lead to this bag unless the journal stopped, and it stopped only when full
+-- the recorded steps replay; they lead to this bag unless the journal stopped; and it stopped only when full
 pub record IsJournalOf (limit : ℕ) (bag : Bag) (journal : Journal) : Type 0 where
   pub replays : Replays limit journal.steps
   pub to_bag : journal.stopped ≡ false → IsModeRun limit empty_bag journal.steps bag

@@ -1,4 +1,4 @@
--- The tokens that are out of a lock, with the journal of its steps.
+-- The held tokens of a lock, with the journal of its steps.
 use Rattle.std.specs.Prelude.{◌≡◌, ℕ, Bool, List, Option, Some, None}
 use Rattle.lock_base.specs.declared.machine.mode.Mode.{Mode}
 use Rattle.lock_base.specs.declared.machine.mode_step.ModeStep.{ModeStep}
@@ -12,7 +12,7 @@ pub record Recording (K : Type 0) : Type 0 where
   pub readers : ℕ
   pub journal : Journal
 
--- the journal is that of the tokens that are out now
+-- the journal is that of the tokens that are held now
 pub record IsRecording {K : Type 0} (tokens : List (K × Mode)) (readers : ℕ) (journal : Journal) : Type 0 where
   pub lawful : IsLimit readers
   pub kept : IsJournalOf readers (bag_of_tokens tokens) journal

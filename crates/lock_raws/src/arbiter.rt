@@ -1,4 +1,4 @@
-//! Who decides which tokens are out of a raw lock.
+//! The arbiter of a raw lock: it decides which tokens are held.
 ghost use Rattle.std.specs.Prelude.{◌≡◌, ℕ, Bool, false, not, ◌&&◌, ◌||◌, List, [], ◌↔◌, IsTrue, Option, if◌then◌else◌, is_some, is_ok, ◌<◌, ◌^◌, IfOk, IfErr, IfSome, IfNone, OnErr};
 ghost use Rattle.std.specs.Bool.{OnTrue, OnFalse};
 ghost use Rattle.lock_base.specs.declared.machine.mode.Mode.{Mode};
@@ -15,34 +15,35 @@ use std::alloc::Global;
 #[derive(Drop)]
 pub struct Unchanged<T> {
     pub token: T,
-    /// Whether it is out, so that it was another token that stood in the way.
+    /// Whether the token is held in its mode. Then another token refused the change.
     pub is_out: bool,
 }
 
-/// The tokens that are out of a raw lock, which always may be out together, and a bar or none. A token that is not out
-/// in its mode is ignored. A bar refuses every new token, and nothing else.
+/// The held tokens of a raw lock, which are always compatible, and the bar.
+///
+/// A call with a token that is not held in its mode is ignored. While the bar is set, no new token is admitted.
 pub trait Arbiter: Sized + Drop {
     type Token: Drop;
 
-    /// The tokens that are out, each with its mode.
+    /// The held tokens, each with its mode.
     ghost tokens_out: { Self → List (Self.Token × Mode) };
 
     /// How many tokens may be shared or upgradable.
     ghost reader_limit: { Self → ℕ };
 
-    /// Whether a bar stands.
+    /// Whether the bar is set.
     ghost bar: { Self → Bool };
 
-    /// Whether a bar can be set.
+    /// Whether this arbiter has a bar at all.
     ghost has_bars: { Bool };
 
-    /// What a new arbiter keeps beside its tokens.
+    /// What a new arbiter records.
     ghost starts: { Self → Type 0 };
 
-    /// What a call does beside the tokens, from the arbiter before it to the one after it, where it made this step or none.
+    /// What a call records, between the arbiters before and after it, if it made this step or none.
     ghost records: { Self → Self → Option ModeStep → Type 0 };
 
-    /// An arbiter with no token out and no bar. `BadLimits` where `readers` is no limit, else refused for want of memory alone.
+    /// Makes an arbiter without tokens and bar. `BadLimits` if `readers` is out of range, else `OutOfMemory`.
     fn new(alloc: Global, readers: u64) -> Result<Self, Fault>
         ensures limits { (result ≡ Err Fault.BadLimits) ↔ (IsLimit readers → ⊥) }
         ensures in_range { IfOk result (λ _. IsLimit readers) }
@@ -52,21 +53,21 @@ pub trait Arbiter: Sized + Drop {
         ensures limit_kept { IfOk result (λ made. reader_limit made ≡ readers) }
         ensures kept { IfOk result starts };
 
-    /// How many tokens of each mode are out.
+    /// Returns how many tokens of each mode are held.
     fn bag(&self) -> Bag
         ensures bag { result ≡ bag_of_tokens (tokens_out self.now) }
         ensures legal { AreCompatible (reader_limit self.now) result }
         ensures small { tokens result < 2 ^ 32 };
 
-    /// How many tokens may be shared or upgradable.
+    /// Returns how many tokens may be shared or upgradable.
     fn readers(&self) -> u64
         ensures { result ≡ reader_limit self.now };
 
-    /// Whether a bar stands.
+    /// Returns whether the bar is set.
     fn barred(&self) -> bool
         ensures { result ≡ bar self.now };
 
-    /// Sets a bar where none stands and there are bars. Whether it did.
+    /// Sets the bar if the arbiter has one and it is not set. Returns whether it did.
     fn announce(&mut self) -> bool
         ensures announced { result ≡ (has_bars && not (bar self.old)) }
         ensures bar { bar self.new ≡ (bar self.old || result) }
@@ -74,14 +75,14 @@ pub trait Arbiter: Sized + Drop {
         ensures limit_kept { reader_limit self.new ≡ reader_limit self.old }
         ensures recorded { records self.old self.new None };
 
-    /// Ends the bar.
+    /// Clears the bar.
     fn withdraw(&mut self)
         ensures bar { bar self.new ≡ false }
         ensures tokens_kept { tokens_out self.new ≡ tokens_out self.old }
         ensures limit_kept { reader_limit self.new ≡ reader_limit self.old }
         ensures recorded { records self.old self.new None };
 
-    /// A new token of the mode, exactly where it is admitted and no bar stands.
+    /// Acquires a token of the mode, if the mode is admitted and no bar is set.
     fn admit(&mut self, mode: Mode) -> Option<Self::Token>
         ensures admitted { is_some result
             ≡ (not (bar self.old) && admits (reader_limit self.old) (bag_of_tokens (tokens_out self.old)) mode) }
@@ -91,7 +92,7 @@ pub trait Arbiter: Sized + Drop {
         ensures limit_kept { reader_limit self.new ≡ reader_limit self.old }
         ensures recorded { records self.old self.new (if is_some result then Some (ModeStep.Acquire mode) else None) };
 
-    /// Gives a token back. Whether it was out in the mode.
+    /// Releases a token. Returns whether it was held in the mode.
     fn give_back(&mut self, token: Self::Token, mode: Mode) -> bool
         ensures was_out { IsTrue result ↔ IsOutAs (tokens_out self.old) token mode }
         ensures removed { OnTrue result (Removes (tokens_out self.old) (tokens_out self.new) token) }
@@ -100,8 +101,8 @@ pub trait Arbiter: Sized + Drop {
         ensures limit_kept { reader_limit self.new ≡ reader_limit self.old }
         ensures recorded { records self.old self.new (if result then Some (ModeStep.Release mode) else None) };
 
-    /// A token of another mode in place of this one, by one of the four moves. The same token back where it is not out in
-    /// its mode, and where it is to become exclusive beside another.
+    /// Exchanges a token for one of another mode, by one of the four moves. It returns the token unchanged if the token
+    /// is not held in its mode, and if an upgrade meets another token.
     fn change(
         &mut self,
         token: Self::Token,

@@ -1,5 +1,5 @@
-//! Raw locks: one that carries all raw traits over what acquires, tries, releases and changes, and a lock of std's round
-//! an arbiter for that.
+//! Raw locks: `RawLock`, which implements all raw traits over a `LockCore`, and `Monitor`, a `LockCore` that is a std
+//! `Mutex` around an arbiter.
 #![tactic(auto)]
 
 mod announcing;

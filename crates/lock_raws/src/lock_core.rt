@@ -1,4 +1,4 @@
-//! What a raw lock is made of.
+//! The core of a raw lock.
 ghost use Rattle.std.specs.Prelude.{◌≡◌, ◌↔◌, IfErr, IfOk};
 ghost use Rattle.lock_base.specs.Limits.{IsLimit, IsMakerFault};
 
@@ -8,60 +8,64 @@ use std::alloc::Global;
 use std::clone::Clone;
 use std::sync::Wait;
 
-/// What acquires tokens by mode, tries to, releases them, and changes their mode. A raw lock is that with all raw traits.
+/// Acquires, tries, releases and changes tokens by mode. `RawLock` makes it a raw lock with all raw traits.
 ///
-/// It is a safe trait: one that lies can make a call wait, and nothing worse.
+/// The trait is safe to implement. A core that admits too many threads can make calls block; it can never cause a data
+/// race.
 pub trait LockCore: Sized + Drop {
-    /// What an acquisition gives, and a release takes back.
+    /// The token of one acquisition, which a release consumes.
     type Token: Drop;
 
-    /// What permits the lock, and the guards over it, to wait.
+    /// The permission to block, for the raw lock and the guards over it.
     type Waiter: Wait + Clone + Drop;
 
-    /// How long a timed call may wait.
+    /// The type of timeouts.
     type Duration: Drop;
 
-    /// Until when a timed call may wait.
+    /// The type of deadlines.
     type Instant: Drop;
 
-    /// Nothing is acquired. At most `readers` tokens are shared or upgradable at a time.
+    /// Makes an unlocked core. At most `readers` tokens are shared or upgradable at a time.
     fn new(alloc: Global, waiter: Self::Waiter, readers: u64) -> Result<Self, Fault>
         ensures limits { (result ≡ Err Fault.BadLimits) ↔ (IsLimit readers → ⊥) }
         ensures in_range { IfOk result (λ _. IsLimit readers) }
         ensures fault { IfErr result IsMakerFault };
 
+    /// Returns the permission to block that the core was made with.
     fn waiter(&self) -> &Self::Waiter;
 
-    /// Whether a token is out, which may be old at once.
+    /// Returns whether a token is held. The answer may be stale at once.
     fn is_locked(&self) -> bool;
 
-    /// Whether an exclusive token is out, which may be old at once.
+    /// Returns whether an exclusive token is held. The answer may be stale at once.
     fn is_locked_exclusive(&self) -> bool;
 
-    /// Waits until the mode is admitted. A raw lock tries first.
+    /// Acquires the mode, blocking until it is admitted. `RawLock` calls `try_acquire` first.
     fn acquire(&self, mode: Mode) -> Self::Token;
 
-    /// Waits until an exclusive token is admitted. While it waits it may keep out all that come later. A raw lock tries first.
+    /// Acquires exclusively, blocking until it is admitted. A core may refuse later threads meanwhile. `RawLock` calls
+    /// `try_acquire` first.
     fn acquire_announced(&self) -> Self::Token {
         self.acquire(Mode::Exclusive)
     }
 
-    /// None where `acquire` would wait.
+    /// Acquires the mode without blocking, or returns `None` where `acquire` would block.
     fn try_acquire(&self, mode: Mode) -> Option<Self::Token>;
 
-    /// None where the mode was not admitted until then.
+    /// Tries to acquire the mode until `deadline`.
     fn try_acquire_until(&self, mode: Mode, deadline: Self::Instant) -> Option<Self::Token>;
 
+    /// Releases a token of the mode.
     fn release(&self, token: Self::Token, mode: Mode);
 
-    /// The exclusive token for the upgradable one. It waits until no other is out. A raw lock tries first.
+    /// Makes an upgradable token exclusive, blocking until no other token is held. `RawLock` calls `try_upgrade` first.
     fn upgrade(&self, token: Self::Token) -> Self::Token;
 
-    /// The same token back where `upgrade` would wait.
+    /// Makes an upgradable token exclusive without blocking, or returns it unchanged where `upgrade` would block.
     fn try_upgrade(&self, token: Self::Token) -> Result<Self::Token, Self::Token>
         ensures { IfErr result (λ back. back ≡ token) };
 
-    /// The same token back where another was out until then.
+    /// Tries to make an upgradable token exclusive until `deadline`, or returns it unchanged.
     fn try_upgrade_until(
         &self,
         token: Self::Token,
@@ -69,15 +73,15 @@ pub trait LockCore: Sized + Drop {
     ) -> Result<Self::Token, Self::Token>
         ensures { IfErr result (λ back. back ≡ token) };
 
-    /// A shared token for the exclusive one.
+    /// Makes an exclusive token shared.
     fn downgrade(&self, token: Self::Token) -> Self::Token;
 
-    /// An upgradable token for the exclusive one.
+    /// Makes an exclusive token upgradable.
     fn downgrade_to_upgradable(&self, token: Self::Token) -> Self::Token;
 
-    /// A shared token for the upgradable one.
+    /// Makes an upgradable token shared.
     fn downgrade_upgradable(&self, token: Self::Token) -> Self::Token;
 
-    /// The instant that is so long from now. None where there is no such instant.
+    /// Returns the instant that is `timeout` from now, or `None` if it cannot be represented.
     fn instant_after(&self, timeout: Self::Duration) -> Option<Self::Instant>;
 }

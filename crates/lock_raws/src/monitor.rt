@@ -1,4 +1,4 @@
-//! An arbiter behind a lock of std's.
+//! An arbiter behind a std mutex.
 ghost use Rattle.std.specs.Prelude.{◌≡◌, IsTrue, IfErr, MatchResult, if◌then◌else◌};
 ghost use Rattle.lock_base.specs.Modes.{is_move};
 
@@ -15,24 +15,26 @@ use std::clone::Clone;
 use std::sync::atomic::{AtomicU64, Ordering};
 use std::sync::{Condvar, Mutex, MutexGuard, Wait};
 
-/// A std `Mutex` round an arbiter, and a std `Condvar` to wait on.
+/// A `LockCore`: a std `Mutex` around an arbiter, and a std `Condvar` for waiters.
 ///
-/// A call that gives a token back or changes its mode wakes nobody where nobody new is admitted. Else it wakes one
-/// where only one token may be out at a time, and all that wait where readers may get on together or a bar stands, which
-/// may keep out the one that is woken. A writer that gets in ends its bar and wakes nobody, since nobody gets on beside
-/// it. A token that is not out in its mode is ignored: a release changes nothing, and a change of mode answers the same
-/// token.
+/// A release or a downgrade wakes no waiter if it admits none that was not admitted before. Otherwise it wakes one
+/// waiter where the readers' limit is 1, and else all. Under a bar it wakes all, since the bar may keep out a single
+/// one that is woken. A writer that acquires clears its bar and wakes no waiter, since none is admitted next to it.
+///
+/// A call with a token that is not held in its mode is ignored: a release changes nothing, and a change of mode returns
+/// the same token.
 #[derive(Drop)]
 pub struct Monitor<A: Arbiter, W: Wait + Clone + Drop> {
     pub(crate) waiter: W,
     pub(crate) arbiter: Mutex<A>,
     changed: Condvar,
-    /// How many wait. It is changed under the Mutex alone, so a call that has had the Mutex knows of all that wait for it.
+    /// How many threads wait. It changes only under the mutex, so a call that had the mutex knows of all that wait for
+    /// it.
     waiting: AtomicU64,
 }
 
 impl<A: Arbiter, W: Wait + Clone + Drop> Monitor<A, W> {
-    /// A monitor of this arbiter.
+    /// Makes a monitor of an arbiter.
     pub(crate) fn over(arbiter: A, waiter: W) -> Monitor<A, W> {
         Monitor {
             waiter,
@@ -42,12 +44,12 @@ impl<A: Arbiter, W: Wait + Clone + Drop> Monitor<A, W> {
         }
     }
 
-    /// The arbiter, whose lock is held. A call holds it for a moment.
+    /// Locks the arbiter. Each call holds this lock for a moment.
     pub(crate) fn arbiter(&self) -> MutexGuard<'_, A> {
         lock_std(&self.arbiter, &self.waiter)
     }
 
-    /// Gives the arbiter up until something was changed. It may end with no change.
+    /// Releases the arbiter's lock until a change. It may end spuriously.
     fn wait<'a>(&self, arbiter: MutexGuard<'a, A>) -> MutexGuard<'a, A> {
         self.waiting.fetch_add(1, Ordering::SeqCst);
         let arbiter = self.changed.wait(&self.waiter, arbiter);
@@ -55,7 +57,7 @@ impl<A: Arbiter, W: Wait + Clone + Drop> Monitor<A, W> {
         arbiter
     }
 
-    /// The token in a lower mode.
+    /// Downgrades a token.
     fn lower(&self, token: A::Token, from: Mode, to: Mode) -> A::Token
         requires { IsTrue (is_move from to) }
     {
@@ -66,7 +68,7 @@ impl<A: Arbiter, W: Wait + Clone + Drop> Monitor<A, W> {
         token
     }
 
-    /// One load where nobody waits.
+    /// Wakes waiters. One load if no thread waits.
     fn wake(&self, woken: Wake) {
         if self.waiting.load(Ordering::SeqCst) == 0 {
             return;
@@ -132,7 +134,7 @@ impl<A: Arbiter, W: Wait + Clone + Drop> LockCore for Monitor<A, W> {
         self.arbiter().admit(mode)
     }
 
-    /// A timed try is a try: it does not wait.
+    /// A timed try is a plain try: it does not block.
     fn try_acquire_until(&self, mode: Mode, _deadline: ()) -> Option<A::Token> {
         self.try_acquire(mode)
     }
@@ -162,7 +164,7 @@ impl<A: Arbiter, W: Wait + Clone + Drop> LockCore for Monitor<A, W> {
         upgraded(arbiter.change(token, Mode::Upgradable, Mode::Exclusive))
     }
 
-    /// A timed try is a try: it does not wait.
+    /// A timed try is a plain try: it does not block.
     fn try_upgrade_until(&self, token: A::Token, _deadline: ()) -> Result<A::Token, A::Token> {
         self.try_upgrade(token)
     }
@@ -184,7 +186,7 @@ impl<A: Arbiter, W: Wait + Clone + Drop> LockCore for Monitor<A, W> {
     }
 }
 
-/// What an upgrade gives: a token that is not out is as good as upgraded.
+/// The result of an upgrade. A token that is not held counts as upgraded.
 fn upgraded<T>(changed: Result<T, Unchanged<T>>) -> Result<T, T>
     ensures answer { MatchResult changed (λ next. result ≡ Ok next)
         (λ same. result ≡ if same.is_out then Err same.token else Ok same.token) }

@@ -1,4 +1,4 @@
-//! The raw lock as a raw mutex: of one reader.
+//! The raw lock as a raw mutex, with a readers' limit of 1.
 use crate::lock_core::LockCore;
 use crate::raw_lock::RawLock;
 use crate::tokens::ExclusiveToken;
@@ -43,7 +43,7 @@ impl<C: LockCore> RawMutex for RawLock<C> {
     }
 }
 
-/// A fair unlock is an unlock.
+/// A fair release is a plain release.
 impl<C: LockCore> RawMutexFair for RawLock<C> {
     fn unlock_fair(&self, token: ExclusiveToken<C::Token>) {
         self.unlock(token);

@@ -1,17 +1,17 @@
-//! A raw lock over what acquires, tries, releases and changes.
+//! A raw lock over any core.
 ghost use Rattle.std.specs.Prelude.{◌≡◌, IfErr};
 
 use crate::lock_core::LockCore;
 use lock_base::machine::Mode;
 
-/// All raw traits over one core. As a `RawMutex` it is made for one reader. Each token names its mode by its type.
+/// All raw traits over one core. As a `RawMutex` its readers' limit is 1. The type of a token names its mode.
 #[derive(Drop)]
 pub struct RawLock<C: LockCore> {
     pub(crate) core: C,
 }
 
 impl<C: LockCore> RawLock<C> {
-    /// None where the mode was not admitted for that long. Where no instant is so far away it waits without end.
+    /// Tries to acquire the mode for at most `timeout`. If the deadline cannot be represented, it blocks without one.
     pub(crate) fn acquire_within(&self, mode: Mode, timeout: C::Duration) -> Option<C::Token> {
         match self.core.instant_after(timeout) {
             Some(deadline) => self.core.try_acquire_until(mode, deadline),
@@ -19,7 +19,8 @@ impl<C: LockCore> RawLock<C> {
         }
     }
 
-    /// The same token back where another was out for that long. Where no instant is so far away it waits without end.
+    /// Tries to upgrade for at most `timeout`, or returns the token unchanged. If the deadline cannot be represented,
+    /// it blocks without one.
     pub(crate) fn upgrade_within(
         &self,
         token: C::Token,

@@ -1,10 +1,10 @@
-//! A condition variable that wakes at once.
+//! A condition variable whose waits end at once.
 use lock_base::raw::Fault;
 use lock_guard::raw::{RawCondvar, RawCondvarTimed, RawMutex, RawMutexTimed};
 use std::alloc::Global;
 use std::marker::PhantomData;
 
-/// A condition variable whose waits unlock and lock again, and then end. A timed wait has timed out.
+/// A condition variable whose waits release the lock, reacquire it, and end. A timed wait answers that it timed out.
 #[derive(Drop)]
 pub struct SpuriousCondvar<R> {
     mutex: PhantomData<R>,

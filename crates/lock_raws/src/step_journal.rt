@@ -1,10 +1,10 @@
-//! The steps that a lock made.
+//! The journal of a lock's steps.
 use lock_base::machine::ModeStep;
 use lock_base::raw::Fault;
 use std::alloc::Global;
 use std::marker::Model;
 
-/// The steps that were made, as far as there was room for them.
+/// The steps that were recorded, up to the capacity.
 #[derive(Drop)]
 pub(crate) struct StepJournal {
     steps: Vec<ModeStep>,
@@ -27,7 +27,7 @@ impl StepJournal {
     ghost use Rattle.std.specs.Prelude.{◌≡◌, IfOk, IfErr};
     ghost use Rattle.lock_raws.specs.Journal.{empty_journal, journal_after};
 
-    /// An empty journal, which takes all its memory here.
+    /// Makes an empty journal. It allocates all its memory.
     pub(crate) fn new(alloc: Global, room: usize) -> Result<StepJournal, Fault>
         ensures empty { IfOk result (λ journal. journal ≡ empty_journal room) }
         ensures fault { IfErr result (λ fault. fault ≡ Fault.OutOfMemory) }
@@ -42,7 +42,7 @@ impl StepJournal {
         })
     }
 
-    /// Writes the step where there is room, and else stops.
+    /// Records a step if there is room, and otherwise stops for good.
     pub(crate) fn write(&mut self, step: ModeStep)
         ensures { self.new ≡ journal_after self.old step }
     {
@@ -53,14 +53,14 @@ impl StepJournal {
         }
     }
 
-    /// The steps that were written.
+    /// Returns the recorded steps.
     pub(crate) fn steps(&self) -> &[ModeStep]
         ensures { result.now ≡ self.now.steps }
     {
         self.steps.as_slice()
     }
 
-    /// Whether a step found no room.
+    /// Returns whether a step found no room.
     pub(crate) fn stopped(&self) -> bool
         ensures { result ≡ self.now.stopped }
     {

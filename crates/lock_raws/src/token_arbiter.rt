@@ -1,11 +1,11 @@
-//! An arbiter over any raw state that tells what is out of it.
+//! An arbiter over any observable raw state.
 use crate::arbiter::{Arbiter, Unchanged};
 use lock_base::machine::{Bag, Mode};
 use lock_base::raw::{Fault, ObservableState, RawState};
 use std::alloc::Global;
 use std::marker::Model;
 
-/// A raw state of as many places as there may be readers, whose tokens may be out together.
+/// A raw state with as many places as readers, whose held tokens are compatible.
 #[derive(Drop)]
 pub struct TokenArbiter<S: ObservableState> {
     state: S,

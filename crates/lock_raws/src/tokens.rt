@@ -1,18 +1,18 @@
-//! What acquisitions of a raw lock give, by mode. Only this crate makes them.
+//! The tokens of a raw lock, by mode. Only this crate makes them.
 
-/// A shared acquisition.
+/// The token of a shared acquisition.
 #[derive(Drop)]
 pub struct SharedToken<T> {
     pub(crate) token: T,
 }
 
-/// An exclusive acquisition.
+/// The token of an exclusive acquisition.
 #[derive(Drop)]
 pub struct ExclusiveToken<T> {
     pub(crate) token: T,
 }
 
-/// An upgradable acquisition.
+/// The token of an upgradable acquisition.
 #[derive(Drop)]
 pub struct UpgradableToken<T> {
     pub(crate) token: T,
