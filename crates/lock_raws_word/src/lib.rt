@@ -1,4 +1,4 @@
-//! Raw locks over one packed atomic word, on which who waits sleeps, and a condition variable that sleeps.
+//! Raw locks over one packed atomic word whose waiters sleep, and a condition variable whose waiters sleep.
 #![tactic(auto)]
 
 mod laws;

@@ -5,18 +5,20 @@ use std::sync::Wait;
 use std::sync::atomic::{AtomicU64, Ordering};
 use std::time::{Clock, Duration};
 
-/// Threads that sleep until a notification. Who means to sleep announces it, looks again whether it must, and then sleeps
-/// or leaves: in the other order a notification between the look and the sleep is lost.
+/// Threads that sleep until a notification.
+///
+/// A thread first announces that it is going to sleep, then checks again whether it has to, and then sleeps or leaves.
+/// In the other order, a notification between the check and the sleep would be lost.
 #[derive(Drop)]
 pub struct Sleepers {
-    /// How often a notification found somebody.
+    /// How many notifications found a thread.
     notified: AtomicU64,
-    /// How many announced a sleep, and have not left.
+    /// How many threads announced a sleep and have not left.
     announced: AtomicU64,
 }
 
 impl Sleepers {
-    /// Nobody sleeps.
+    /// Makes an instance without threads.
     pub fn new() -> Sleepers {
         Sleepers {
             notified: AtomicU64::new(0),
@@ -24,36 +26,36 @@ impl Sleepers {
         }
     }
 
-    /// Whether a sleep is announced.
+    /// Returns whether a sleep is announced.
     pub fn any(&self) -> bool {
         self.announced.load(Ordering::SeqCst) != 0
     }
 
-    /// Announces a sleep. What it answers tells the sleep which notifications come after it.
+    /// Announces a sleep. The answer tells `sleep` which notifications are later.
     pub fn announce(&self) -> u64 {
         self.announced.fetch_add(1, Ordering::SeqCst);
         self.notified.load(Ordering::SeqCst)
     }
 
-    /// Takes an announcement back.
+    /// Withdraws an announcement.
     pub fn leave(&self) {
         self.announced.fetch_sub(1, Ordering::SeqCst);
     }
 
-    /// Sleeps until a notification after the announcement, and leaves. It may end with none.
+    /// Sleeps until a notification after the announcement, and leaves. It may end spuriously.
     pub fn sleep<W: Wait>(&self, waiter: &W, announced: u64) {
         self.notified.park(waiter, low_half(announced));
         self.leave();
     }
 
-    /// `sleep`, for no longer than that.
+    /// `sleep`, for at most `time`.
     pub fn sleep_for<W: Wait + Clock>(&self, waiter: &W, announced: u64, time: Duration) {
         self.notified
             .park_timeout(waiter, low_half(announced), time);
         self.leave();
     }
 
-    /// Wakes one of those that announced a sleep. One load where there is none.
+    /// Wakes one thread that announced a sleep. One load if there is none.
     pub fn notify_one(&self) {
         if self.any() {
             self.notified.fetch_add(1, Ordering::SeqCst);
@@ -61,7 +63,7 @@ impl Sleepers {
         }
     }
 
-    /// Wakes all that announced a sleep. One load where there is none.
+    /// Wakes all threads that announced a sleep. One load if there is none.
     pub fn notify_all(&self) {
         if self.any() {
             self.notified.fetch_add(1, Ordering::SeqCst);
@@ -70,7 +72,7 @@ impl Sleepers {
     }
 }
 
-/// What a parked thread compares.
+/// The half of a number that a sleeping thread compares.
 fn low_half(number: u64) -> u32
     ensures { result ≡ number % 2 ^ 32 }
 {

@@ -1,4 +1,4 @@
-//! A condition variable that sleeps.
+//! A condition variable whose waiters sleep.
 use crate::sleepers::Sleepers;
 use crate::timing::time_left;
 use lock_base::raw::Fault;
@@ -7,8 +7,8 @@ use std::alloc::Global;
 use std::marker::PhantomData;
 use std::time::{Clock, Duration, Instant};
 
-/// A condition variable over any raw mutex. Who waits gives the token up and sleeps until a notification that came after
-/// the wait began; with nobody waiting a notification is one load.
+/// A condition variable over any raw mutex. A wait releases the mutex and sleeps until a notification that came after
+/// the wait began. Without waiters a notification is one load.
 #[derive(Drop)]
 pub struct SleepingCondvar<R> {
     waiting: Sleepers,
@@ -49,7 +49,7 @@ impl<R: RawMutexTimed<Duration = Duration, Instant = Instant>> RawCondvarTimed
 where
     R::Waiter: Clock,
 {
-    /// None: there is no clock at hand.
+    /// `None`: there is no clock here.
     fn checked_duration_to_instant(_timeout: &Duration) -> Option<Instant> {
         None
     }

@@ -1,4 +1,4 @@
-//! What the timed calls of a lock on a word measure.
+//! How a lock on a word measures time.
 ghost use Rattle.std.specs.Prelude.{◌<◌, ◌≤◌, IfSome, IsSome};
 ghost use Rattle.std.specs.Duration.{as_nanos};
 ghost use Rattle.std.specs.Time.{instant_nanos};
@@ -8,22 +8,22 @@ use lock_word::ExWant;
 use std::sync::Wait;
 use std::time::{Clock, Duration, Instant};
 
-/// How long a timed call may wait, by a waiter that may have a clock.
+/// How long timed calls block. The waiter may provide a clock.
 pub trait Timing<W: Wait>: Drop {
-    /// How long a timed call may wait.
+    /// The type of timeouts.
     type Duration: Drop;
 
-    /// Until when a timed call may wait.
+    /// The type of deadlines.
     type Instant: Drop;
 
-    /// The instant that is so long from now. None where there is no such instant.
+    /// Returns the instant that is `timeout` from now, or `None` if it cannot be represented.
     fn instant_after(waiter: &W, timeout: Self::Duration) -> Option<Self::Instant>;
 
-    /// Waits until the word admits it, or until then. False where it was not admitted.
+    /// Blocks until the word admits `want`, or until `deadline`. Returns whether it was admitted.
     fn wait_until(lock: &WordLock, waiter: &W, want: ExWant, deadline: Self::Instant) -> bool;
 }
 
-/// No time is measured: a timed try is a try, and does not wait.
+/// Measures no time: a timed try is a plain try, and does not block.
 #[derive(Drop)]
 pub struct NoTime;
 
@@ -43,7 +43,7 @@ impl<W: Wait> Timing<W> for NoTime {
     }
 }
 
-/// The time until then. None once it has come, and where the clock cannot be read.
+/// Returns the time until `deadline`, or `None` if it has passed or the clock cannot be read.
 pub fn time_left<W: Clock>(clock: &W, deadline: Instant) -> Option<Duration>
     ensures { IfSome result (λ left. (0 < as_nanos left) × (as_nanos left ≤ instant_nanos deadline)) }
 {

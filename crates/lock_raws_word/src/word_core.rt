@@ -1,4 +1,4 @@
-//! A raw lock over one word.
+//! The raw lock over one word.
 ghost use Rattle.std.specs.Prelude.{◌≡◌, ◌↔◌, IfOk, IfErr, IsOk, is_some, is_ok};
 ghost use Rattle.lock_base.specs.Limits.{IsLimit};
 
@@ -13,21 +13,21 @@ use std::clone::Clone;
 use std::marker::PhantomData;
 use std::sync::Wait;
 
-/// A raw lock over one atomic word: the readers, 2^32 for an upgradable token, 2^33 for an exclusive one, and 2^34 while a
-/// writer that sleeps keeps others out.
+/// A raw lock over one atomic word: the readers, 2^32 for an upgradable hold, 2^33 for an exclusive one, and 2^34 while
+/// a waiting writer keeps others out. Pick it where speed counts.
 ///
-/// A try is one load and at most one exchange; it answers None too where the exchange was lost to another step. A release
-/// or a downgrade is one subtraction. Who waits tries a few times, and then sleeps. A token of another lock makes the
-/// word wrong, and nothing worse: calls may wait for ever, or let in whom they should not.
+/// A try is one load and at most one exchange; it also answers `None` if the exchange lost a race. A release or a
+/// downgrade is one subtraction. A blocked call tries a few times, and then sleeps. A token of another lock makes the
+/// word wrong. Then calls may block for ever, or be admitted wrongly; that can never cause a data race.
 pub type WordRaw<W> = RawLock<WordCore<W, NoTime>>;
 
-/// What an acquisition gives. Only this crate makes it.
+/// The token of one acquisition. Only this crate makes it.
 #[derive(Drop)]
 pub struct WordToken {
     made: (),
 }
 
-/// Tokens in one word, with what permits waiting, and what timed calls measure.
+/// A lock on a word, with its permission to block and its measure of time.
 #[derive(Drop)]
 pub struct WordCore<W: Wait + Clone + Drop, T: Timing<W>> {
     waiter: W,
@@ -44,7 +44,7 @@ impl<W: Wait + Clone + Drop, T: Timing<W>> LockCore for WordCore<W, T> {
 
     type Instant = T::Instant;
 
-    /// It takes no memory, so it is never refused for want of it.
+    /// It allocates nothing, so it never fails for want of memory.
     fn new(_alloc: Global, waiter: W, readers: u64) -> Result<WordCore<W, T>, Fault>
         ensures range { IsOk result ↔ IsLimit readers }
         ensures fault { IfErr result (λ fault. fault ≡ Fault.BadLimits) }
