@@ -1,4 +1,4 @@
-//! Tests of the mutex and the reentrant lock, their guards, and the condition variable. There is nothing else here.
+//! Tests of the mutex, the reentrant lock, their guards and the condition variable.
 #![tactic(auto)]
 
 #[cfg(test)]

@@ -21,13 +21,13 @@ use std::alloc::Global;
 use std::sync::Arc;
 use std::test::Fail;
 
-/// What a raw lock round a table is over.
+/// The core of the raw lock over a table.
 type Table = Monitor<TableArbiter, HostRuntime>;
 
-/// What a raw lock on a word is over.
+/// The core of the raw lock on a word.
 type Word = WordCore<HostRuntime, NoTime>;
 
-/// Answers of a mutex on one thread, of guards that keep it alive, and of waits.
+/// The answers of a mutex on one thread, of its `Arc` guards, and of waits.
 fn answers<R: RawMutexFair + RawMutexTimed<Duration = (), Instant = ()> + Drop>(
     alloc: Global,
     waiters: [R::Waiter; 5],
@@ -42,7 +42,7 @@ fn answers<R: RawMutexFair + RawMutexTimed<Duration = (), Instant = ()> + Drop>(
     arc::check(&Arc::new(alloc, mutex)?)
 }
 
-/// What the raw lock is asked where guards borrow a mutex, and at the end of one.
+/// The raw calls of borrowed guards, and of the end of a mutex.
 fn calls_by_a_borrow<R: RawMutexFair + Drop>(alloc: Global, waiter: R::Waiter) -> Result<(), Fail> {
     let raw: AskedRaw<R> = RawMutex::new(alloc, waiter)?;
     let mut watch = Watch::new(raw.calls()?);
@@ -55,7 +55,7 @@ fn calls_by_a_borrow<R: RawMutexFair + Drop>(alloc: Global, waiter: R::Waiter) -
     watch.verdict()
 }
 
-/// What the raw lock is asked where guards keep a mutex alive, and where the last owner goes.
+/// The raw calls of `Arc` guards, and of the last reference's end.
 fn calls_by_an_arc<R: RawMutexFair + Drop>(alloc: Global, waiter: R::Waiter) -> Result<(), Fail> {
     let raw: AskedRaw<R> = RawMutex::new(alloc, waiter)?;
     let mut watch = Watch::new(raw.calls()?);
@@ -68,7 +68,7 @@ fn calls_by_an_arc<R: RawMutexFair + Drop>(alloc: Global, waiter: R::Waiter) -> 
     watch.verdict()
 }
 
-/// What the raw lock is asked where a party waits and is notified.
+/// The raw calls of a party that waits and is notified.
 fn calls_by_a_condvar<R: RawMutexFair + Drop>(
     alloc: Global,
     waiter: R::Waiter,
@@ -80,7 +80,7 @@ fn calls_by_a_condvar<R: RawMutexFair + Drop>(
     watch.verdict()
 }
 
-/// What the raw lock is asked.
+/// All raw calls.
 fn calls<R: RawMutexFair + Drop>(
     alloc: Global,
     waiters: ([R::Waiter; 3], [R::Waiter; 3]),
@@ -92,7 +92,7 @@ fn calls<R: RawMutexFair + Drop>(
     calls_by_a_condvar::<R>(alloc, third)
 }
 
-/// Answers, and what the raw lock is asked.
+/// Answers and raw calls.
 fn answers_and_calls<C: LockCore<Duration = (), Instant = ()>>(
     alloc: Global,
     waiters: ([C::Waiter; 5], ([C::Waiter; 3], [C::Waiter; 3])),
@@ -102,7 +102,7 @@ fn answers_and_calls<C: LockCore<Duration = (), Instant = ()>>(
     calls::<RawLock<C>>(alloc, of_calls)
 }
 
-/// One test, which names what the raw lock is over, since each that names the raw lock has to prove anew what that is.
+/// One test: each function that names the raw lock would have to be proved anew.
 #[test]
 fn answers_and_calls_on_one_thread(rt: HostRuntime) -> Result<(), Fail> {
     answers_and_calls::<Table>(rt.alloc(), ([rt; 5], ([rt; 3], [rt; 3])))

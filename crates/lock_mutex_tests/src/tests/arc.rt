@@ -1,4 +1,4 @@
-//! The guards that keep a mutex alive.
+//! Guards that own a reference to a mutex.
 use lock_base::raw::Fault;
 use lock_guard::raw::RawMutex;
 use lock_mutex::{ArcMutexGuard, Mutex};
@@ -6,7 +6,7 @@ use lock_test_support::answer::{equal, gives_none};
 use std::sync::Arc;
 use std::test::Fail;
 
-/// Whether the mutex that a guard's end answers is the guard's: held by the one owner, it is refused to the other.
+/// Whether a guard returns its own mutex: while it is held through one reference, a try through the other is refused.
 fn is_same<R: RawMutex + Drop>(mutex: &Arc<Mutex<R, i64>>) -> Result<bool, Fault> {
     let owner = ArcMutexGuard::into_arc(Mutex::lock_arc(mutex)?);
     let guard = Mutex::lock_arc(&owner)?;

@@ -5,7 +5,7 @@ use std::alloc::Global;
 use std::sync::Wait;
 use std::test::Fail;
 
-/// How the loop over the script ends, and how many checks it makes. None where the script has no entry.
+/// How the loop over a script ends, and how many checks it makes, or `None` for an empty script.
 fn ended<R: Wait>(waiter: &R, entries: Vec<(bool, bool)>) -> Option<(LoopEnd, u64)> {
     let mut script = Script::new(entries)?;
     let mut checks = 0u64;

@@ -1,4 +1,4 @@
-//! The condition variable, over raw ones that wake at once.
+//! The condition variable, over raw ones whose waits end at once.
 pub mod asked;
 
 use asked::CondvarCall::{self, NotifyAll, NotifyOne, Wait, WaitUntil};
@@ -18,14 +18,14 @@ type Checks<R> = Mutex<R, usize>;
 
 type ChecksGuard<'a, R> = MutexGuard<'a, R, usize>;
 
-/// Makes a check, which answers true so many times, and false from then on.
+/// Makes a check, which answers true `trues` times, and false from then on.
 fn check(trues: usize, checks: &mut usize) -> bool {
     let answer = *checks < trues;
     *checks = checks.wrapping_add(1);
     answer
 }
 
-/// Whether the wait timed out, and how many checks it made, so many of which answered true.
+/// Whether the wait timed out, and how many checks it made. The first ones answered true.
 fn wait_until_false<C: RawCondvarTimed>(
     condvar: &Condvar<C>,
     checks: &Checks<C::RawMutex>,
@@ -41,8 +41,8 @@ where
     (end.timed_out(), *guard)
 }
 
-/// How many checks a wait while three answer true makes, how many are made after a plain wait more, and whether the mutex
-/// is held then.
+/// How many checks a wait makes of which three answer true, how many are made after one more plain wait, and whether
+/// the mutex is held then.
 fn wait_without_end<C: RawCondvar>(
     condvar: &Condvar<C>,
     checks: &Checks<C::RawMutex>,
@@ -55,7 +55,7 @@ fn wait_without_end<C: RawCondvar>(
     (made, *guard, checks.is_locked())
 }
 
-/// Whether each wait with an end timed out.
+/// Whether each wait with a timeout timed out.
 fn timed_waits<C: RawCondvarTimed>(condvar: &Condvar<C>, checks: &Checks<C::RawMutex>) -> [bool; 3]
 where
     C::RawMutex: RawMutexTimed<Duration = (), Instant = ()>,
@@ -68,7 +68,7 @@ where
     [ends.timed_out(), until.timed_out(), while_for.timed_out()]
 }
 
-/// The waits, notifications and text of a condition variable over a raw one that wakes at once.
+/// The waits, notifications and text of a condition variable over a raw one whose waits end at once.
 pub fn check_at_once<R: RawMutexTimed<Duration = (), Instant = ()> + Drop>(
     alloc: Global,
     waiter: R::Waiter,
@@ -89,7 +89,7 @@ pub fn check_at_once<R: RawMutexTimed<Duration = (), Instant = ()> + Drop>(
     equal((notified, is_shown), ((false, 0), true))
 }
 
-/// Whether the raw condition variable was asked just this by a wait for so long, and whether that timed out.
+/// Whether a wait with this timeout made just these raw calls, and whether it timed out.
 fn wait_for<R: RawMutexTimed<Duration = u64, Instant = u64>>(
     condvar: &Condvar<AskedCondvar<R>>,
     guard: &mut ChecksGuard<'_, R>,
@@ -100,7 +100,7 @@ fn wait_for<R: RawMutexTimed<Duration = u64, Instant = u64>>(
     (condvar.raw().got(&[wanted]), end.timed_out())
 }
 
-/// `wait_for`, until that instant.
+/// `wait_for`, with a deadline.
 fn wait_until<R: RawMutexTimed<Duration = u64, Instant = u64>>(
     condvar: &Condvar<AskedCondvar<R>>,
     guard: &mut ChecksGuard<'_, R>,
@@ -110,7 +110,7 @@ fn wait_until<R: RawMutexTimed<Duration = u64, Instant = u64>>(
     (condvar.raw().got(&[WaitUntil(deadline)]), end.timed_out())
 }
 
-/// Each plain wait and each with an end.
+/// Each plain wait, and each with a timeout.
 fn waits<R: RawMutexTimed<Duration = u64, Instant = u64>>(
     condvar: &Condvar<AskedCondvar<R>>,
     checks: &Checks<R>,
@@ -125,7 +125,7 @@ fn waits<R: RawMutexTimed<Duration = u64, Instant = u64>>(
     [plain, in_time, early, late, endless]
 }
 
-/// Whether a wait while a first check is true asked the raw condition variable just this, and whether it timed out.
+/// Whether a conditional wait, whose first check is true, made just these raw calls, and whether it timed out.
 fn wait_while_for<R: RawMutexTimed<Duration = u64, Instant = u64>>(
     condvar: &Condvar<AskedCondvar<R>>,
     checks: &Checks<R>,
@@ -138,7 +138,7 @@ fn wait_while_for<R: RawMutexTimed<Duration = u64, Instant = u64>>(
     (condvar.raw().got(&[wanted]), end.timed_out())
 }
 
-/// `wait_while_for`, with no end and with an instant.
+/// `wait_while_for`, without a timeout and with a deadline.
 fn waits_while<R: RawMutexTimed<Duration = u64, Instant = u64>>(
     condvar: &Condvar<AskedCondvar<R>>,
     checks: &Checks<R>,
@@ -150,7 +150,7 @@ fn waits_while<R: RawMutexTimed<Duration = u64, Instant = u64>>(
     [plain, condvar.raw().got(&[WaitUntil(5)])]
 }
 
-/// What is told of the waits that have a condition.
+/// The answers of the conditional waits.
 fn conditional_waits<R: RawMutexTimed<Duration = u64, Instant = u64>>(
     condvar: &Condvar<AskedCondvar<R>>,
     checks: &Checks<R>,
@@ -161,7 +161,7 @@ fn conditional_waits<R: RawMutexTimed<Duration = u64, Instant = u64>>(
     (plain, [in_time, endless])
 }
 
-/// Whether one was woken, how many were, and whether the raw condition variable was asked once for each.
+/// Whether one was woken, how many were, and whether each notification was one raw call.
 fn notify<R: RawMutex>(condvar: &Condvar<AskedCondvar<R>>, woken: usize) -> (bool, usize, bool) {
     condvar.raw().woken.set(woken);
     let one = condvar.notify_one();
@@ -169,8 +169,7 @@ fn notify<R: RawMutex>(condvar: &Condvar<AskedCondvar<R>>, woken: usize) -> (boo
     (one, all, condvar.raw().got(&[NotifyOne, NotifyAll]))
 }
 
-/// Each wait is one call of the raw one and unlocks once, and each notification is one call and asks the
-/// mutex nothing.
+/// Each wait is one raw call and releases once, and each notification is one raw call.
 pub fn check_calls<R: RawMutexTimed<Duration = u64, Instant = u64>>(
     condvar: &Condvar<AskedCondvar<R>>,
     checks: &Checks<R>,

@@ -22,13 +22,13 @@ pub fn check<R: RawMutex + Drop>(
     equal((value, is_free, from.into_inner()), (6, true, 5))
 }
 
-/// Whether the raw lock of a mutex that was just made got no call.
+/// Whether a new mutex has made no raw call.
 fn is_unasked<R: RawMutex + Drop>(made: Mutex<AskedRaw<R>, u64>) -> bool {
     let (raw, _) = made.into_inner_with_raw();
     raw.is_unasked()
 }
 
-/// No maker asks its raw lock anything.
+/// No maker makes a raw call.
 pub fn check_calls<R: RawMutex + Drop>(alloc: Global, waiters: [R::Waiter; 3]) -> Result<(), Fail> {
     let [first, second, third] = waiters;
     let unasked = [
@@ -43,7 +43,7 @@ fn holds_or_lacks<C: LockCore>(made: Result<Mutex<RawLock<C>, u64>, Fault>, valu
     holds_or_lacks_memory(made.map(|mutex| mutex.into_inner()), value)
 }
 
-/// Whether each maker gave a mutex of the value that it is to hold, or told that memory was refused.
+/// Whether each maker gave a mutex of its value, or answered that there was no memory.
 fn hold_or_lack<C: LockCore>(alloc: Global, waiters: [C::Waiter; 3]) -> [bool; 3] {
     let [first, second, third] = waiters;
     [

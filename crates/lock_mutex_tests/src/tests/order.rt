@@ -1,4 +1,4 @@
-//! The order in which a mutex takes and gives back its raw lock and the lock of its value.
+//! The order in which a mutex locks and unlocks its raw lock and the value's lock.
 mod patient;
 
 use lock_guard::raw::{RawMutex, RawMutexFair};
@@ -13,7 +13,7 @@ use std::sync::atomic::{AtomicBool, Ordering};
 use std::test::Fail;
 use std::thread;
 
-/// Waits until the raw lock was asked so often.
+/// Waits until the raw lock got this many calls.
 fn wait_for_calls<W: Wait>(waiter: &W, calls: &Calls, count: usize) {
     for _ in waiter.forever() {
         if calls.count(waiter) >= count {
@@ -30,7 +30,7 @@ fn count_up<R: RawMutex>(mutex: &Mutex<R, u64>) {
     *guard = guard.wrapping_add(1);
 }
 
-/// Counts up while a guard has given the mutex up, plainly and fairly, and then reads.
+/// Adds 1 while a guard is unlocked, plainly and fairly, and then reads.
 fn count_while_unlocked<R: RawMutexFair>(mutex: &Mutex<R, u64>) -> u64 {
     let mut guard = mutex.lock();
     *guard = 6;
@@ -39,12 +39,12 @@ fn count_while_unlocked<R: RawMutexFair>(mutex: &Mutex<R, u64>) -> u64 {
     *guard
 }
 
-/// It ends only where nothing is held while the closures run.
+/// It ends only if nothing is held while the closures run.
 pub fn check<R: RawMutexFair>(mutex: &Mutex<R, u64>) -> Result<(), Fail> {
     equal(count_while_unlocked(mutex), 8)
 }
 
-/// Once the raw lock was asked so often, holds the value until it was asked twice more, and then adds 5.
+/// Once the raw lock got this many calls, holds the value's lock until two more came, and then adds 5.
 fn write_once_another_asked<W: Wait, R: RawMutex>(
     mutex: &Mutex<R, u64>,
     waiter: &W,
@@ -59,7 +59,7 @@ fn write_once_another_asked<W: Wait, R: RawMutex>(
     *guard = guard.wrapping_add(5);
 }
 
-/// What another reads, which asks once the value is held.
+/// What another thread reads, which locks once the value's lock is held.
 fn read_once_held<W: Wait, R: RawMutex>(
     mutex: &Mutex<R, u64>,
     waiter: &W,
@@ -69,7 +69,7 @@ fn read_once_held<W: Wait, R: RawMutex>(
     *mutex.lock()
 }
 
-/// What another reads, which had given the mutex up and asks again once the value is held.
+/// What another thread reads, which was unlocked and locks again once the value's lock is held.
 fn read_again_once_held<W: Wait, R: RawMutex>(
     mutex: &Mutex<R, u64>,
     waiter: &W,
@@ -80,8 +80,7 @@ fn read_again_once_held<W: Wait, R: RawMutex>(
     *guard
 }
 
-/// It ends only where a thread asks the raw lock before it takes the lock of the value, also where it comes back from
-/// `unlocked`.
+/// It ends only if a thread calls the raw lock before it locks the value's lock, also on its way back from `unlocked`.
 #[test]
 fn the_raw_lock_is_asked_before_the_value_is_taken(rt: HostRuntime) -> Result<(), Fail> {
     let raw: Liar<HostRuntime> = RawMutex::new(rt.alloc(), rt)?;
@@ -94,7 +93,7 @@ fn the_raw_lock_is_asked_before_the_value_is_taken(rt: HostRuntime) -> Result<()
         || read_once_held(&mutex, &rt, &is_held),
     );
     assert_eq!(rt; read, 5);
-    // two guards made four calls, and the reader has yet to make two before it gives the mutex up
+    // two guards made four calls, and the reader makes two more before it releases the mutex
     let is_held = AtomicBool::new(false);
     let ((), read) = thread::join(
         &rt,
@@ -105,7 +104,7 @@ fn the_raw_lock_is_asked_before_the_value_is_taken(rt: HostRuntime) -> Result<()
     Ok(())
 }
 
-/// How a guard gives its mutex up.
+/// How a guard releases its mutex.
 #[derive(Clone, Copy)]
 enum End {
     Plain,
@@ -113,7 +112,7 @@ enum End {
     Bump,
 }
 
-/// Writes the value, and gives the mutex up.
+/// Writes the value, and releases the mutex.
 fn write_and_end<W: Wait + Clone + Drop>(
     mutex: &Mutex<Patient<W>, u64>,
     is_held: &AtomicBool,
@@ -129,7 +128,7 @@ fn write_and_end<W: Wait + Clone + Drop>(
     }
 }
 
-/// What another reads before the release of the raw lock ends.
+/// What another thread reads before the release of the raw lock ends.
 fn read_before_release<W: Wait + Clone + Drop>(
     mutex: &Mutex<Patient<W>, u64>,
     waiter: &W,
@@ -142,7 +141,7 @@ fn read_before_release<W: Wait + Clone + Drop>(
     *guard
 }
 
-/// It ends only where a guard's end, and a bump, give the value back before the raw lock.
+/// It ends only if a guard's drop, and a bump, release the value's lock before the raw lock.
 #[test]
 fn the_value_is_given_back_before_the_raw_lock(rt: HostRuntime) -> Result<(), Fail> {
     for end in [End::Plain, End::Fair, End::Bump] {
@@ -160,7 +159,7 @@ fn the_value_is_given_back_before_the_raw_lock(rt: HostRuntime) -> Result<(), Fa
     Ok(())
 }
 
-/// Waits until all have come. Of two that wait for each other none ends unless a wait holds nothing.
+/// Waits until all threads came. Of two threads that wait for each other none ends if a wait holds the mutex.
 pub fn come_and_wait<R: RawMutex>(
     mutex: &Mutex<R, u64>,
     condvar: &Condvar<SpuriousCondvar<R>>,

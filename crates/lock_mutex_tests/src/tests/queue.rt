@@ -31,9 +31,9 @@ impl<R: RawMutex + Drop> Slot<R> {
     }
 }
 
-/// Room that threads share.
+/// Room for one item, shared by threads.
 trait Room {
-    /// Where a thread waits.
+    /// The permission to block.
     type Waiter: Wait;
 
     /// Waits until there is room.
@@ -89,7 +89,7 @@ fn consume_twice<T: Threads, C: Room + Sync>(rt: &T, room: &C) -> u64 {
     one.wrapping_add(other)
 }
 
-/// The sum of 1 to 20,000, where each item is taken once.
+/// The sum of 1 to 20,000, if each item is taken once.
 fn sum_of_all<T: Threads + Sync, C: Room + Sync>(rt: &T, room: &C) -> u64 {
     let (_, sum) = thread::join(rt, || produce_twice(rt, room), || consume_twice(rt, room));
     sum

@@ -1,4 +1,5 @@
-//! What no clause says of a reentrant lock: what a run of calls on one does, over an honest raw lock and over one that lies.
+//! What no contract states of a reentrant lock: its runs of calls, over an honest raw lock and over one that admits too
+//! much.
 mod arc;
 mod by_two;
 mod full_count;
@@ -17,10 +18,10 @@ use std::alloc::Global;
 use std::process::Abort;
 use std::test::Fail;
 
-/// What permits waiting, for owners, for makers and for the rest of what is answered.
+/// The permissions to block: for owners, for makers, and for the rest.
 type Waiters<W> = ([W; 3], ([W; 3], [W; 4], [W; 4]), [W; 3]);
 
-/// Answers of a reentrant lock on one thread, of its guards, and of guards that keep it alive.
+/// The answers of a reentrant lock on one thread, of its guards, and of its `Arc` guards.
 fn answers<R: RawMutexFair + RawMutexTimed<Duration = (), Instant = ()> + Drop>(
     rt: &impl Abort,
     alloc: Global,
@@ -37,7 +38,7 @@ where
     mapped::check::<R>(rt, alloc, mapped)
 }
 
-/// Answers, and what the raw lock is asked.
+/// Answers and raw calls.
 fn answers_and_calls<C: LockCore<Duration = (), Instant = ()>>(
     rt: &impl Abort,
     alloc: Global,
@@ -52,7 +53,7 @@ where
     raw_calls::check::<RawLock<C>>(alloc, of_calls)
 }
 
-/// One test, which names what the raw lock is over, since each that names the raw lock has to prove anew what that is.
+/// One test: each function that names the raw lock would have to be proved anew.
 #[test]
 fn answers_and_calls_on_one_thread(rt: HostRuntime) -> Result<(), Fail> {
     let of_answers = ([rt; 3], ([rt; 3], [rt; 4], [rt; 4]), [rt; 3]);

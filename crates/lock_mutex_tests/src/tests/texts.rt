@@ -1,4 +1,4 @@
-//! How a mutex and its guards print, and whether it is held.
+//! The texts of a mutex and its guards, and whether it is held.
 use lock_base::machine::Mode::Exclusive;
 use lock_guard::raw::RawMutex;
 use lock_mutex::{Mutex, MutexGuard};
@@ -7,13 +7,13 @@ use lock_test_support::raw_lock::RawCall::{self, IsLocked, Lock, TryLock, Unlock
 use std::alloc::Global;
 use std::test::Fail;
 
-/// Whether a guard's mutex is held, and refused to another.
+/// Whether a guard's mutex is held, and refused to another thread.
 fn is_held<R: RawMutex>(mutex: &Mutex<R, u64>) -> bool {
     let guard = mutex.lock();
     MutexGuard::mutex(&guard).is_locked() && mutex.try_lock().is_none()
 }
 
-/// Whether a free mutex, a held one and its guard print as they are told to.
+/// Whether a free mutex, a held one and its guard print as expected.
 fn are_shown<R: RawMutex>(alloc: Global, mutex: &Mutex<R, u64>) -> [bool; 3] {
     let free = debug_is(alloc, mutex, "Mutex { data: 5 }");
     let guard = mutex.lock();
@@ -21,13 +21,13 @@ fn are_shown<R: RawMutex>(alloc: Global, mutex: &Mutex<R, u64>) -> [bool; 3] {
     [free, held, texts_are(alloc, guard, "5")]
 }
 
-/// The texts of a mutex that holds 5, which is free before and after.
+/// The texts of a mutex of 5 that is free before and after.
 pub fn check<R: RawMutex>(alloc: Global, mutex: &Mutex<R, u64>) -> Result<(), Fail> {
     equal((is_held(mutex), mutex.is_locked()), (true, false))?;
     equal(are_shown(alloc, mutex), [true; 3])
 }
 
-/// What `check` asks the raw lock: each text of the mutex tries to lock it, and the guard's asks nothing.
+/// The raw calls of `check`: each text of the mutex tries to lock it, and the guard's text makes no call.
 pub const RAW_CALLS: [RawCall; 10] = [
     Lock(Exclusive),
     IsLocked,

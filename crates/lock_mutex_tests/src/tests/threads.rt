@@ -1,4 +1,4 @@
-//! Threads that count behind a mutex and wait for each other.
+//! Threads that count behind a mutex, and wait for each other.
 use super::Word;
 use super::order::come_and_wait;
 use lock_guard::raw::RawMutex;
@@ -22,7 +22,7 @@ impl<R: RawMutex> Count for Counted<'_, R> {
     }
 }
 
-/// Over a raw lock that admits everyone, so that the std lock alone keeps them apart.
+/// Over a raw lock that admits everyone, so that only the value's lock excludes the threads.
 #[test]
 fn four_threads_count_and_two_wait_for_each_other(rt: HostRuntime) -> Result<(), Fail> {
     let counter: Mutex<Liar<HostRuntime>, u64> = Mutex::new(rt.alloc(), rt, 0)?;

@@ -1,4 +1,4 @@
-//! A raw condition variable that wakes at once, and writes down what it was asked.
+//! A raw condition variable whose waits end at once, and which records its calls.
 use lock_base::raw::Fault;
 use lock_guard::raw::{RawCondvar, RawCondvarTimed, RawMutex, RawMutexTimed};
 use std::alloc::Global;
@@ -8,10 +8,10 @@ use std::marker::PhantomData;
 /// From this instant on a wait times out.
 pub const LATE: u64 = 100;
 
-/// No instant is so long from now.
+/// A timeout whose deadline cannot be represented.
 pub const ENDLESS: u64 = u64::MAX;
 
-/// A call of a raw condition variable, with the time that a timed one was told.
+/// A call of a raw condition variable, with its time.
 #[derive(Clone, Copy, PartialEq, Debug)]
 pub enum CondvarCall {
     Wait,
@@ -25,7 +25,7 @@ pub enum CondvarCall {
 pub struct AskedCondvar<R> {
     alloc: Global,
     calls: Cell<Vec<CondvarCall>>,
-    /// How many it says that it woke.
+    /// How many waiters it says that it woke.
     pub woken: Cell<usize>,
     mutex: PhantomData<R>,
 }
@@ -41,7 +41,7 @@ impl<R> AskedCondvar<R> {
         self.calls.replace(Vec::new(self.alloc))
     }
 
-    /// Whether just these calls came since it was asked last.
+    /// Whether just these calls came since the last question.
     pub fn got(&self, wanted: &[CondvarCall]) -> bool {
         self.take().as_slice() == wanted
     }
@@ -77,7 +77,7 @@ impl<R: RawMutex> RawCondvar for AskedCondvar<R> {
 }
 
 impl<R: RawMutexTimed<Duration = u64, Instant = u64>> RawCondvarTimed for AskedCondvar<R> {
-    /// It has no clock: the mutex has.
+    /// It has no clock: the mutex has one.
     fn checked_duration_to_instant(_timeout: &u64) -> Option<u64> {
         None
     }

@@ -1,4 +1,4 @@
-//! A raw lock whose release waits.
+//! A raw lock whose releases wait.
 ghost use Rattle.std.specs.Prelude.{IsOkUnless};
 
 use lock_base::raw::Fault;

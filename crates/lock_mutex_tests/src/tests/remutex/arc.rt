@@ -1,4 +1,4 @@
-//! The guards that keep a reentrant lock alive.
+//! Guards that own a reference to a reentrant lock.
 use lock_base::machine::PartyId;
 use lock_base::raw::Fault;
 use lock_guard::raw::RawMutex;
@@ -9,8 +9,8 @@ use std::alloc::Global;
 use std::sync::Arc;
 use std::test::Fail;
 
-/// What a guard reads and a second level is refused with; and whether the lock that its end answers is its own: owned
-/// through the one owner, it is refused to another party through the other.
+/// What a guard reads, and the refusal of a second level. Then whether the guard returns its own lock: owned through
+/// one reference, it is refused to another party through the other.
 fn seen<R: RawMutex + Drop>(
     lock: &Arc<ReentrantMutex<R, i64>>,
     one: PartyId,

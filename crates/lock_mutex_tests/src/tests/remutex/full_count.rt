@@ -1,4 +1,4 @@
-//! A bump on whose way back the party has all its levels.
+//! A bump that finds the party at its limit of levels when it reacquires.
 mod pausing;
 
 use super::by_two::{ByTwo, in_threads};
@@ -14,7 +14,7 @@ use std::sync::atomic::{AtomicBool, Ordering};
 use std::test::Fail;
 use std::thread;
 
-/// A lock of one level, which a party bumps on one thread and takes on another.
+/// A lock with one level, which a party bumps on one thread and acquires on another.
 #[derive(Drop)]
 struct Bumped<R: RawMutex, W> {
     lock: ReentrantMutex<R, u8>,
@@ -43,7 +43,7 @@ impl<R: RawMutexFair, W: Wait> Bumped<R, W>
 where
     R::Guard: Drop,
 {
-    /// Waits until the party has given its level up.
+    /// Waits until the party's level is released.
     fn wait_until_given_up(&self) {
         for _ in self.waiter.forever() {
             if !self.lock.is_owned_by_current_thread(self.party) {
@@ -54,7 +54,7 @@ where
         unreachable!()
     }
 
-    /// Lets the bump of the raw lock end, and waits until its token came back, since the level that it stood for is taken.
+    /// Lets the raw bump end, and waits until its token is released again, since the party has its only level already.
     fn wait_until_refused(&self) {
         for _ in self.waiter.forever() {
             if self.lock.is_locked() {
@@ -72,7 +72,7 @@ where
 {
     type Waiter = R::Waiter;
 
-    /// Bumps a guard. Whether the party owns the lock once the level that was taken meanwhile is gone.
+    /// Bumps a guard. Returns whether the party owns the lock once the level of the other thread is released.
     fn first(&self) -> Result<bool, Fault> {
         let mut guard = self.lock.lock(self.party)?;
         self.is_held.store(true, Ordering::SeqCst);
@@ -81,7 +81,7 @@ where
         Ok(self.lock.is_owned_by_current_thread(self.party))
     }
 
-    /// Takes the only level while the bump has given it up, and keeps it while the bump tries to get it back.
+    /// Acquires the only level during the bump, and keeps it while the bump tries to reacquire it.
     fn second(&self) -> Result<bool, Fault> {
         wait_for_flag(&self.waiter, &self.is_held);
         self.wait_until_given_up();

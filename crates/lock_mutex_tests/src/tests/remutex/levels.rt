@@ -1,4 +1,4 @@
-//! A level that is taken while it is given up.
+//! A level that is acquired while another guard of the party is unlocked.
 use lock_base::machine::PartyId;
 use lock_base::raw::Fault;
 use lock_guard::raw::RawMutex;
@@ -8,8 +8,8 @@ use lock_test_support::party;
 use std::alloc::Global;
 use std::test::Fail;
 
-/// What `unlocked` is refused with where its closure takes the only level, the value that the closure's guard reads,
-/// and whether the lock is held then.
+/// The refusal of `unlocked` whose closure acquires the only level, the value that the closure's guard reads, and
+/// whether the lock is held then.
 fn taken_meanwhile<R: RawMutex>(
     lock: &ReentrantMutex<R, u8>,
     party: PartyId,
@@ -23,7 +23,7 @@ where
     Some((fault, *taken, lock.is_locked()))
 }
 
-/// A lock with one level, which is taken while it is given up.
+/// A lock with one level, which is acquired during `unlocked`.
 pub fn check<R: RawMutex + Drop>(alloc: Global, waiter: R::Waiter) -> Result<(), Fail>
 where
     R::Guard: Send + Drop,

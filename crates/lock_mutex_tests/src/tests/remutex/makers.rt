@@ -1,4 +1,4 @@
-//! What the makers refuse, and what comes back of a lock.
+//! The refusals of the makers, and what a lock returns when it is consumed.
 use crate::tests::Table;
 use lock_base::machine::PartyId;
 use lock_base::raw::{DEFAULT_LEVELS, Fault, Levels};
@@ -12,7 +12,7 @@ use std::alloc::Global;
 use std::mem;
 use std::test::Fail;
 
-/// Whether the party gets a hundred levels, which stay taken.
+/// Whether the party gets a hundred levels, which stay held.
 fn gives_many_levels<R: RawMutex>(lock: &ReentrantMutex<R, u8>, party: PartyId) -> bool
 where
     R::Guard: Drop,
@@ -26,7 +26,7 @@ where
     true
 }
 
-/// A lock of each maker that is told no number of levels.
+/// A lock of each maker without a limit of levels.
 fn makers_give_many_levels<R: RawMutex + Drop>(
     alloc: Global,
     waiters: [R::Waiter; 4],
@@ -60,7 +60,7 @@ where
     equal((raw.is_locked(), value), (false, 4))
 }
 
-/// Whether so many levels are taken by `Levels`, and by a lock over them.
+/// Whether this limit of levels is accepted by `Levels`, and by a lock over it.
 fn makers_take<R: RawMutex + Drop>(alloc: Global, waiter: R::Waiter, levels: u64) -> (bool, bool)
 where
     R::Guard: Send + Drop,
@@ -86,7 +86,7 @@ where
     equal(taken, [is_not, is, is, is_not])
 }
 
-/// The value and the raw lock come back, the limits of levels, and how many there are where none was told.
+/// The value and the raw lock that come back, the limits of levels, and the default limit.
 pub fn check<R: RawMutex + Drop>(
     alloc: Global,
     waiters: ([R::Waiter; 3], [R::Waiter; 4], [R::Waiter; 4]),
@@ -100,7 +100,7 @@ where
     makers_give_many_levels::<R>(alloc, levels)
 }
 
-/// Whether the raw lock of a lock that was just made got no call.
+/// Whether a new lock has made no raw call.
 fn is_unasked<R: RawMutex + Drop>(made: ReentrantMutex<AskedRaw<R>, u8>) -> bool
 where
     R::Guard: Drop,
@@ -109,7 +109,7 @@ where
     raw.is_unasked()
 }
 
-/// No maker asks its raw lock anything.
+/// No maker makes a raw call.
 pub fn check_calls<R: RawMutex + Drop>(alloc: Global, waiters: [R::Waiter; 4]) -> Result<(), Fail>
 where
     R::Guard: Send + Drop,
@@ -129,7 +129,7 @@ fn is_told(refusal: Option<Fault>) -> bool {
     refusal.is_none() || refusal == Some(Fault::OutOfMemory)
 }
 
-/// Whether each maker told what it is to tell.
+/// Whether each maker answered as it should.
 fn are_told<C: LockCore>(alloc: Global, waiters: [C::Waiter; 6]) -> [bool; 6]
 where
     C::Token: Send,
@@ -145,7 +145,7 @@ where
     ]
 }
 
-/// Passes too where an allocation is refused, as it is told then.
+/// It passes too if an allocation is refused, since the refusal is answered then.
 #[test]
 fn refused_memory_is_told_by_the_makers(rt: HostRuntime) {
     assert!(rt; are_told::<Table>(rt.alloc(), [rt; 6]) == [true; 6]);

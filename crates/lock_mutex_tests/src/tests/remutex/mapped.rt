@@ -12,8 +12,8 @@ use std::test::Fail;
 
 type Pair = (u64, u64);
 
-/// What the sixth item of a pair misses, and the second and the first, which two guards read at once. Whether the lock is
-/// held once one has ended.
+/// The miss of the sixth item of a pair, and the second and first item, read by two guards at a time. Then whether the
+/// lock is held once one guard was dropped.
 fn miss_and_read<R: RawMutexFair>(
     rt: &impl Abort,
     lock: &ReentrantMutex<R, Pair>,

@@ -1,4 +1,4 @@
-//! Who gets a lock while a party owns it, over an honest raw lock and over one that lies.
+//! Who acquires a lock that a party owns, over an honest raw lock and over one that admits too much.
 use lock_base::machine::PartyId;
 use lock_base::raw::Fault;
 use lock_guard::raw::{RawMutex, RawMutexFair, RawMutexTimed};
@@ -11,7 +11,7 @@ use std::clone::Clone;
 use std::sync::Wait;
 use std::test::Fail;
 
-/// How each try of the party ends: whether with a guard, which ends at once.
+/// Whether each try of the party gave a guard, which is dropped at once.
 type Tries = [Result<bool, Fault>; 3];
 
 const GIVEN: Tries = [Ok(true); 3];
@@ -38,7 +38,7 @@ where
     ]
 }
 
-/// How tries of the party end while the owner has a level, and whether the party owns the lock then.
+/// The party's tries while the owner has a level, and whether the party owns the lock then.
 fn beside_owner<R: RawMutexTimed<Duration = (), Instant = ()>>(
     lock: &ReentrantMutex<R, u8>,
     owner: PartyId,
@@ -75,8 +75,8 @@ where
     )
 }
 
-/// What a third level by `lock` is refused with, how tries of the owner and of another end beside two levels, and how
-/// those of the owner end beside one.
+/// The refusal of a third level by `lock`, the tries of the owner and of another party at two levels, and the owner's
+/// tries at one level.
 fn beside_two_levels<R: RawMutexTimed<Duration = (), Instant = ()>>(
     lock: &ReentrantMutex<R, u8>,
     owner: PartyId,
@@ -106,7 +106,7 @@ where
     equal(seen, (Some(Fault::FullCount), [FULL, NOT_GIVEN, GIVEN]))
 }
 
-/// What the calls that only the owner may make answer the party.
+/// The answers that the party gets from the calls of owners.
 fn owners_calls<R: RawMutexFair>(
     lock: &RawReentrantMutex<R>,
     party: PartyId,
@@ -121,7 +121,7 @@ where
     ]
 }
 
-/// What `unlock` answers the party, and whether it owns the lock afterwards and anyone holds it.
+/// What `unlock` answers to the party, and whether the party owns the lock afterwards, and whether the lock is held.
 fn left<R: RawMutex>(lock: &RawReentrantMutex<R>, party: PartyId) -> (Result<(), Fault>, bool, bool)
 where
     R::Guard: Drop,
@@ -151,7 +151,7 @@ where
     equal(lefts, wanted)
 }
 
-/// Others are refused while a party owns, a full count is refused, and the owner alone leaves.
+/// Other parties are refused while one owns the lock, a full count is refused, and only the owner releases.
 pub fn check<R: RawMutexFair + RawMutexTimed<Duration = (), Instant = ()> + Drop>(
     alloc: Global,
     waiters: [R::Waiter; 3],
@@ -165,7 +165,7 @@ where
     left_by_its_owner::<R>(alloc, third)
 }
 
-/// Whether another gets the lock of the owner, and whether that owns it afterwards and after a bump.
+/// Whether another party acquires the owner's lock, and whether the owner still owns it, afterwards and after a bump.
 fn owned<R: RawMutexFair>(
     lock: &RawReentrantMutex<R>,
     owner: PartyId,
@@ -181,7 +181,7 @@ where
     Ok((is_given, is_owned, lock.is_owned_by_current_thread(owner)))
 }
 
-/// Whether another gets a guard beside that of the owner, and whether that still owns the lock.
+/// Whether another party gets a guard while the owner has one, and whether the owner still owns the lock.
 fn guarded<R: RawMutex>(
     lock: &ReentrantMutex<R, u8>,
     owner: PartyId,
@@ -195,7 +195,7 @@ where
     Ok((other_is_given, lock.is_owned_by_current_thread(owner)))
 }
 
-/// Over a raw lock that lies.
+/// Over a raw lock that admits everything.
 pub fn one_owner<W: Wait + Clone + Drop>(alloc: Global, waiters: [W; 2]) -> Result<(), Fail> {
     let [first_waiter, second_waiter] = waiters;
     let (first, second) = two_parties()?;

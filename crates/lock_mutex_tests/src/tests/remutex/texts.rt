@@ -1,4 +1,4 @@
-//! Texts of the lock and of its guard.
+//! The texts of the lock and of its guard.
 use lock_base::machine::Mode::Exclusive;
 use lock_base::machine::PartyId;
 use lock_base::raw::Fault;
@@ -9,7 +9,7 @@ use lock_test_support::raw_lock::RawCall::{self, Lock, Unlock};
 use std::alloc::Global;
 use std::test::Fail;
 
-/// Whether the lock prints as it is told to while it is free; and, while the party has a guard, it and the guard.
+/// Whether the lock prints as expected while it is free, and while the party has a guard, with that guard.
 fn are_shown<R: RawMutex>(
     alloc: Global,
     lock: &ReentrantMutex<R, u64>,
@@ -24,7 +24,7 @@ where
     Ok([free, held, texts_are(alloc, guard, "5")])
 }
 
-/// The texts of a lock that holds 5, which is free before and after.
+/// The texts of a lock of 5 that is free before and after.
 pub fn check<R: RawMutex>(
     alloc: Global,
     lock: &ReentrantMutex<R, u64>,
@@ -36,5 +36,5 @@ where
     equal(are_shown(alloc, lock, party)?, [true; 3])
 }
 
-/// What `check` asks the raw lock: no text asks anything.
+/// The raw calls of `check`: no text makes one.
 pub const RAW_CALLS: [RawCall; 2] = [Lock(Exclusive), Unlock(Exclusive)];

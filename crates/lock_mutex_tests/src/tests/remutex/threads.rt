@@ -37,7 +37,7 @@ impl<R: RawMutex> Shared<R>
 where
     R::Guard: Drop,
 {
-    /// Counts up a thousand times, by a read and a write apart.
+    /// Adds 1 a thousand times, by a separate read and write.
     fn count_up(&self, party: PartyId) -> Result<(), Fault> {
         for _ in 0..1_000 {
             let outer = self.count.lock(party)?;
@@ -75,7 +75,7 @@ fn two_parties_take_turns(rt: HostRuntime) -> Result<(), Fail> {
     Ok(())
 }
 
-/// A lock that one party owns for a while, and that its raw lock gives another meanwhile.
+/// A lock that one party owns for a while, and whose raw lock admits another party meanwhile.
 #[derive(Drop)]
 struct Owned<R: RawMutex, W> {
     lock: ReentrantMutex<R, u64>,
@@ -105,12 +105,13 @@ where
 {
     type Waiter = R::Waiter;
 
-    /// Owns the lock, and tells so, until the raw lock was asked three times more.
+    /// Owns the lock, and says so, until the raw lock got three more calls.
     fn first(&self) -> Result<bool, Fault> {
         let _guard = self.lock.lock(self.parties.0)?;
         self.is_owned.store(true, Ordering::SeqCst);
         for _ in self.waiter.forever() {
-            // one acquisition of the owner's, and of the other's three, each with the release of the token that came too early
+            // one acquisition of the owner, and three of the other party, each followed by the release of the token
+            // that came too early
             if self.calls.count(&self.waiter) >= 6 {
                 return Ok(true);
             }
@@ -119,7 +120,7 @@ where
         unreachable!()
     }
 
-    /// Takes the lock once another owns it. Whether the party owns it then.
+    /// Acquires the lock once the other party owns it. Returns whether this party owns it then.
     fn second(&self) -> Result<bool, Fault> {
         wait_for_flag(&self.waiter, &self.is_owned);
         let _guard = self.lock.lock(self.parties.1)?;
@@ -127,7 +128,7 @@ where
     }
 }
 
-/// It ends only where `lock` asks a raw lock that lies again and again, and in the end gets in.
+/// It ends only if `lock` calls such a raw lock again and again, and acquires in the end.
 #[test]
 fn lock_asks_again_while_another_owns(rt: HostRuntime) -> Result<(), Fail> {
     let owned = Owned::new(rt.alloc(), rt, rt)?;

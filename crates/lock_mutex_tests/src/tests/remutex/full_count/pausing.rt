@@ -7,8 +7,8 @@ use std::clone::Clone;
 use std::sync::Wait;
 use std::sync::atomic::{AtomicBool, Ordering};
 
-/// A raw lock that admits everything. A bump ends once the lock was asked whether it is held, which it answers to be so once
-/// a token was given back.
+/// A raw lock that admits everything. A bump ends once `is_locked` was called, which answers true once a token was
+/// released.
 #[derive(Drop)]
 pub struct Pausing<W: Wait + Clone + Drop> {
     waiter: W,
