@@ -1,4 +1,4 @@
-//! Tests of the reader-writer lock and its guards. There is nothing else here.
+//! Tests of the reader-writer lock, its guards and the raw locks.
 #![tactic(auto)]
 
 #[cfg(test)]

@@ -22,13 +22,13 @@ use std::alloc::Global;
 use std::sync::Arc;
 use std::test::Fail;
 
-/// What a raw lock round a table is over.
+/// The core of the raw lock over a table.
 type Table = Monitor<TableArbiter, HostRuntime>;
 
-/// What a raw lock on a word is over.
+/// The core of the raw lock on a word.
 type Word = WordCore<HostRuntime, NoTime>;
 
-/// Answers of a lock on one thread, and of guards that keep it alive.
+/// The answers of a lock on one thread, and of its `Arc` guards.
 fn answers<
     R: RawRwLockUpgradeTimed<Duration = (), Instant = ()> + RawRwLockUpgradeDowngrade + Drop,
 >(alloc: Global, waiters: [R::Waiter; 6]) -> Result<(), Fail>
@@ -45,7 +45,7 @@ where
     arc::check(&Arc::new(alloc, lock)?)
 }
 
-/// What the raw lock is asked where guards borrow a lock, and at the end of one.
+/// The raw calls of borrowed guards, and of the end of a lock.
 fn calls_by_a_borrow<R: RawRwLockUpgradeFair + RawRwLockUpgradeDowngrade + Drop>(
     alloc: Global,
     waiter: R::Waiter,
@@ -61,7 +61,7 @@ fn calls_by_a_borrow<R: RawRwLockUpgradeFair + RawRwLockUpgradeDowngrade + Drop>
     watch.verdict()
 }
 
-/// What the raw lock is asked where guards keep a lock alive, and where the last owner goes.
+/// The raw calls of `Arc` guards, and of the last reference's end.
 fn calls_by_an_arc<R: RawRwLockUpgradeFair + RawRwLockUpgradeDowngrade + Drop>(
     alloc: Global,
     waiter: R::Waiter,
@@ -77,7 +77,7 @@ fn calls_by_an_arc<R: RawRwLockUpgradeFair + RawRwLockUpgradeDowngrade + Drop>(
     watch.verdict()
 }
 
-/// What the raw lock is asked.
+/// All raw calls.
 fn calls<R: RawRwLockUpgradeFair + RawRwLockUpgradeDowngrade + Drop>(
     alloc: Global,
     waiters: ([R::Waiter; 2], [R::Waiter; 4]),
@@ -88,7 +88,7 @@ fn calls<R: RawRwLockUpgradeFair + RawRwLockUpgradeDowngrade + Drop>(
     calls_by_an_arc::<R>(alloc, second)
 }
 
-/// Answers, and what the raw lock is asked.
+/// Answers and raw calls.
 fn answers_and_calls<C: LockCore<Duration = (), Instant = ()>>(
     alloc: Global,
     waiters: ([C::Waiter; 6], ([C::Waiter; 2], [C::Waiter; 4])),
@@ -98,7 +98,7 @@ fn answers_and_calls<C: LockCore<Duration = (), Instant = ()>>(
     calls::<RawLock<C>>(alloc, of_calls)
 }
 
-/// One test, which names what the raw lock is over, since each that names the raw lock has to prove anew what that is.
+/// One test: each function that names the raw lock would have to be proved anew.
 #[test]
 fn answers_and_calls_on_one_thread(rt: HostRuntime) -> Result<(), Fail> {
     answers_and_calls::<Table>(rt.alloc(), ([rt; 6], ([rt; 2], [rt; 4])))

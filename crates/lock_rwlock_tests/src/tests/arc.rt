@@ -1,4 +1,4 @@
-//! The guards that keep a reader-writer lock alive.
+//! Guards that own a reference to a reader-writer lock.
 use lock_base::raw::Fault;
 use lock_guard::raw::{RawRwLock, RawRwLockUpgradeDowngrade, RawRwLockUpgradeTimed};
 use lock_rwlock::RwLock;
@@ -11,17 +11,17 @@ use std::cell::Cell;
 use std::sync::Arc;
 use std::test::Fail;
 
-/// A lock with one owner more.
+/// A lock with a second reference to it.
 type Owned<R> = Arc<RwLock<R, i64>>;
 
-/// Whether the lock that a guard's end answers is the guard's: held by the one owner, it is refused to the other.
+/// Whether a guard returns its own lock: while it is held through one reference, a try through the other is refused.
 fn is_same<R: RawRwLock + Drop>(lock: &Owned<R>) -> Result<bool, Fault> {
     let owner = ArcRwLockGuard::into_arc(RwLock::read_arc(lock)?);
     let guard = RwLock::write_arc(&owner)?;
     Ok(ArcRwLockGuard::rwlock(&guard).is_locked() && gives_none(RwLock::try_read_arc(lock)))
 }
 
-/// The sum of what two guards read at once.
+/// The sum of what two guards read at a time.
 fn sum<R: RawRwLock + Drop>(
     first: &ArcRwLockReadGuard<R, i64>,
     second: &ArcRwLockReadGuard<R, i64>,
@@ -43,7 +43,7 @@ fn double(value: &mut i64) -> i64 {
     *value
 }
 
-/// What a writer reads of its own, and what four calls under an upgraded guard answer.
+/// What a writer reads of its own write, and the answers of four calls under an upgrade.
 fn written<
     R: RawRwLockUpgradeTimed<Duration = (), Instant = ()> + RawRwLockUpgradeDowngrade + Drop,
 >(lock: &Owned<R>) -> Result<(i64, [Option<i64>; 4]), Fault> {
@@ -60,7 +60,7 @@ fn written<
     Ok((read, answers))
 }
 
-/// How often the closure of an upgrade that is refused is called, and the value that is left.
+/// How often the closure of a refused upgrade is called, and the value afterwards.
 fn refused<R: RawRwLockUpgradeDowngrade + Drop>(lock: &Owned<R>) -> Result<(u64, i64), Fault> {
     let mut guard = RwLock::upgradable_read_arc(lock)?;
     let reader = RwLock::read_arc(lock)?;
@@ -76,7 +76,7 @@ fn refused<R: RawRwLockUpgradeDowngrade + Drop>(lock: &Owned<R>) -> Result<(u64,
     Ok((calls.get(), left))
 }
 
-/// The answers of guards of a lock that holds 5.
+/// The answers of guards of a lock of 5.
 pub fn check<
     R: RawRwLockUpgradeTimed<Duration = (), Instant = ()> + RawRwLockUpgradeDowngrade + Drop,
 >(lock: &Owned<R>) -> Result<(), Fail> {

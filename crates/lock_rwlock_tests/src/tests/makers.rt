@@ -9,7 +9,7 @@ use lock_test_support::raw_lock::AskedRaw;
 use std::alloc::Global;
 use std::test::Fail;
 
-/// How many of 66 tries give a token to read, none of which goes back.
+/// How many of 66 tries get a shared token, none of which is released.
 fn readers_of_66<R: RawRwLock>(raw: &R) -> u64
 where
     R::SharedGuard: Drop,
@@ -45,13 +45,13 @@ where
     )
 }
 
-/// Whether the raw lock of a lock that was just made got no call.
+/// Whether a new lock has made no raw call.
 fn is_unasked<R: RawRwLock + Drop>(made: RwLock<AskedRaw<R>, u64>) -> bool {
     let (raw, _) = made.into_inner_with_raw();
     raw.is_unasked()
 }
 
-/// No maker asks its raw lock anything.
+/// No maker makes a raw call.
 pub fn check_calls<R: RawRwLock + Drop>(
     alloc: Global,
     waiters: [R::Waiter; 4],
@@ -70,7 +70,7 @@ fn holds_or_lacks<C: LockCore>(made: Result<RwLock<RawLock<C>, u64>, Fault>, val
     holds_or_lacks_memory(made.map(|lock| lock.into_inner()), value)
 }
 
-/// Whether each maker gave a lock of the value that it is to hold, or told that memory was refused.
+/// Whether each maker gave a lock of its value, or answered that there was no memory.
 fn hold_or_lack<C: LockCore>(alloc: Global, waiters: [C::Waiter; 4]) -> [bool; 4] {
     let [first, second, third, last] = waiters;
     [

@@ -1,4 +1,4 @@
-//! The order in which a lock takes and gives back its raw lock and the lock of its value.
+//! The order in which a lock locks and unlocks its raw lock and the value's lock.
 use lock_guard::guard::Acquire;
 use lock_guard::raw::{RawRwLock, RawRwLockUpgrade};
 use lock_rwlock::{RwLock, RwLockGuard};
@@ -10,7 +10,7 @@ use std::sync::atomic::{AtomicBool, Ordering};
 use std::test::Fail;
 use std::thread;
 
-/// Adds 1 to the value while the guard is given up.
+/// Adds 1 to the value while the guard is unlocked.
 fn add_while_unlocked<R: RawRwLock, L: Acquire>(lock: &RwLock<R, u64>, guard: RwLockGuard<L>) {
     let mut guard = guard;
     RwLockGuard::unlocked(&mut guard, || {
@@ -25,14 +25,14 @@ fn add_while_each_guard_is_unlocked<R: RawRwLockUpgrade>(lock: &RwLock<R, u64>) 
     add_while_unlocked(lock, lock.upgradable_read());
 }
 
-/// It ends only where nothing is held while the closure runs.
+/// It ends only if nothing is held while the closure runs.
 pub fn check<R: RawRwLockUpgrade>(lock: &RwLock<R, u64>) -> Result<(), Fail> {
     let before = *lock.read();
     add_while_each_guard_is_unlocked(lock);
     equal(*lock.read(), before.wrapping_add(3))
 }
 
-/// Holds the value until the raw lock was asked once more, and then writes it.
+/// Holds the value's lock until the raw lock got one more call, and then writes the value.
 fn write_once_another_asked<W: Wait, R: RawRwLock>(
     lock: &RwLock<R, u64>,
     waiter: &W,
@@ -50,7 +50,7 @@ fn write_once_another_asked<W: Wait, R: RawRwLock>(
     *guard = 5;
 }
 
-/// What another, which asks to write once the value is held, finds.
+/// What another thread finds, which acquires exclusively once the value's lock is held.
 fn find_once_held<W: Wait, R: RawRwLock>(
     lock: &RwLock<R, u64>,
     waiter: &W,
@@ -60,7 +60,7 @@ fn find_once_held<W: Wait, R: RawRwLock>(
     *lock.write()
 }
 
-/// It ends only where a thread asks the raw lock before it takes the lock of the value.
+/// It ends only if a thread calls the raw lock before it locks the value's lock.
 #[test]
 fn the_raw_lock_is_asked_before_the_value_is_taken(rt: HostRuntime) -> Result<(), Fail> {
     let raw: Liar<HostRuntime> = RawRwLock::new(rt.alloc(), rt, 1)?;

@@ -5,7 +5,7 @@ use lock_raws::{LockCore, RawLock, RecordingRaw};
 use lock_rwlock::{RwLock, RwLockWriteGuard};
 use std::test::Fail;
 
-/// The raw lock, after a writer that becomes a reader and ends.
+/// The raw lock, after a writer that is downgraded and dropped.
 fn written<C: LockCore>(raw: RawLock<C>) -> Result<RawLock<C>, Fault> {
     let lock = RwLock::from_raw(raw, 5_u64)?;
     RwLockWriteGuard::downgrade(lock.write());

@@ -1,4 +1,4 @@
-//! How a lock and its guards print.
+//! The texts of a lock and its guards.
 use lock_base::machine::Mode::{Exclusive, Shared};
 use lock_guard::raw::RawRwLock;
 use lock_rwlock::RwLock;
@@ -7,7 +7,7 @@ use lock_test_support::raw_lock::RawCall::{self, Lock, TryLock, Unlock};
 use std::alloc::Global;
 use std::test::Fail;
 
-/// Whether a lock beside a reader, and one beside a writer and the writer, print as they are told to.
+/// Whether a lock with a reader, and one with a writer, and that writer, print as expected.
 fn are_shown<R: RawRwLock>(alloc: Global, lock: &RwLock<R, u64>) -> [bool; 3] {
     let reader = lock.read();
     let read = debug_is(alloc, lock, "RwLock { data: 5 }");
@@ -17,12 +17,12 @@ fn are_shown<R: RawRwLock>(alloc: Global, lock: &RwLock<R, u64>) -> [bool; 3] {
     [read, written, texts_are(alloc, writer, "5")]
 }
 
-/// The texts of a lock that holds 5.
+/// The texts of a lock of 5.
 pub fn check<R: RawRwLock>(alloc: Global, lock: &RwLock<R, u64>) -> Result<(), Fail> {
     equal(are_shown(alloc, lock), [true; 3])
 }
 
-/// What `check` asks the raw lock: each text of the lock tries to read, and the writer's asks nothing.
+/// The raw calls of `check`: each text of the lock tries to read, and the writer's text makes no call.
 pub const RAW_CALLS: [RawCall; 7] = [
     Lock(Shared),
     TryLock(Shared),

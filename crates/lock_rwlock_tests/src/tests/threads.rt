@@ -1,4 +1,4 @@
-//! Threads that count behind a lock, and readers beside each other and beside a writer.
+//! Threads that count behind a lock, readers at the same time, and readers against a writer.
 mod pairs;
 
 use super::Word;
@@ -24,7 +24,7 @@ impl<R: RawRwLock> Count for Counted<'_, R> {
     }
 }
 
-/// Raises a flag, and looks for the other's.
+/// Raises a flag, and looks for the other thread's.
 fn sees_the_other(mine: &AtomicBool, other: &AtomicBool) -> bool {
     mine.store(true, Ordering::SeqCst);
     for _ in 0..100_000_000_u32 {
@@ -45,7 +45,7 @@ fn sees_while_it_reads<R: RawRwLock>(
     sees_the_other(mine, other)
 }
 
-/// Over a raw lock that admits everyone, so that the std lock alone keeps them apart.
+/// Over a raw lock that admits everyone, so that only the value's lock excludes the threads.
 #[test]
 fn four_threads_count_and_two_read_at_once(rt: HostRuntime) -> Result<(), Fail> {
     let lock: RwLock<Liar<HostRuntime>, u64> = RwLock::new(rt.alloc(), rt, 0)?;

@@ -1,12 +1,11 @@
-//! Who holds a lock, and upgrades that are refused.
+//! Who holds a lock, and refused upgrades.
 use lock_guard::raw::{RawRwLock, RawRwLockUpgradeDowngrade};
 use lock_rwlock::{RwLock, RwLockReadGuard, RwLockUpgradableReadGuard, RwLockWriteGuard};
 use lock_test_support::answer::equal;
 use std::cell::Cell;
 use std::test::Fail;
 
-/// How often the closure of an upgrade that is refused is called, the value that is left, and whether the guard is of the
-/// lock.
+/// How often the closure of a refused upgrade is called, the value afterwards, and whether the guard is of the lock.
 fn refused<R: RawRwLockUpgradeDowngrade>(lock: &RwLock<R, u64>) -> (u64, u64, bool) {
     let mut guard = lock.upgradable_read();
     let reader = lock.read();
@@ -24,7 +23,7 @@ fn refused<R: RawRwLockUpgradeDowngrade>(lock: &RwLock<R, u64>) -> (u64, u64, bo
     )
 }
 
-/// Whether the lock is held exclusively by a reader, and by a writer.
+/// Whether the lock is held exclusively, by a reader and by a writer.
 fn is_exclusive<R: RawRwLock>(lock: &RwLock<R, u64>) -> (bool, bool) {
     let reader = lock.read();
     let by_reader = RwLockReadGuard::rwlock(&reader).is_locked_exclusive();
@@ -36,7 +35,7 @@ fn is_exclusive<R: RawRwLock>(lock: &RwLock<R, u64>) -> (bool, bool) {
     )
 }
 
-/// The answers of a lock that holds 5.
+/// The answers of a lock of 5.
 pub fn check<R: RawRwLockUpgradeDowngrade>(lock: &RwLock<R, u64>) -> Result<(), Fail> {
     equal(is_exclusive(lock), (false, true))?;
     equal(refused(lock), (0, 5, true))

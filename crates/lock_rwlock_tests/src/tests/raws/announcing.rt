@@ -1,4 +1,4 @@
-//! A writer that waits keeps later readers out.
+//! A waiting writer refuses later readers.
 use super::counts::wait_for;
 use lock_guard::raw::RawRwLock;
 use lock_raws::{LockCore, RawLock};
@@ -26,7 +26,8 @@ impl News {
         }
     }
 
-    /// Reads until somebody else does, so that the lock is never free where later readers get in, or for some turns.
+    /// Reads until another thread does, so that the lock is never free as long as later readers are admitted; or for
+    /// some turns.
     fn let_another_read(&self) {
         let before = self.reads.fetch_add(1, Ordering::SeqCst).wrapping_add(1);
         for _ in 0..1_000u32 {
@@ -38,21 +39,21 @@ impl News {
     }
 }
 
-/// What threads do with a lock that they share.
+/// What threads do with a shared lock.
 pub trait ReadAndWrite {
-    /// Where a thread waits.
+    /// The permission to block.
     type Waiter: Wait;
 
-    /// Reads until another try to read is refused. Whether one was.
+    /// Reads until another try to read is refused. Returns whether one was.
     fn read_until_refused(&self, news: &News) -> bool;
 
     /// Reads again and again until somebody has written.
     fn read_until_written(&self, news: &News);
 
-    /// Writes once so many have read.
+    /// Writes once this many threads have read.
     fn write_after(&self, news: &News, readers: u64);
 
-    /// Whether a reader is let in.
+    /// Whether a reader is admitted.
     fn lets_a_reader_in(&self) -> bool;
 }
 
@@ -111,7 +112,7 @@ impl<C: LockCore> ReadAndWrite for RawLock<C> {
     }
 }
 
-/// Whether a reader was refused beside one that read, while a writer waited, and whether one is let in afterwards.
+/// Whether a reader was refused next to another reader while a writer waited, and whether one is admitted afterwards.
 fn write_beside_a_reader<R: Threads, L: ReadAndWrite + Sync>(rt: &R, lock: &L) -> (bool, bool) {
     let news = News::new();
     let (is_refused, ()) = thread::join(
@@ -138,7 +139,7 @@ fn read_in_four_threads<R: Threads + Sync, L: ReadAndWrite + Sync>(rt: &R, lock:
     );
 }
 
-/// Four threads read without end, one beside another where they may, until a fifth has written.
+/// Four threads read without a pause, and overlap where they may, until a fifth has written.
 fn write_among_readers<R: Threads + Sync, L: ReadAndWrite + Sync>(rt: &R, lock: &L) {
     let news = News::new();
     thread::join(
@@ -148,7 +149,7 @@ fn write_among_readers<R: Threads + Sync, L: ReadAndWrite + Sync>(rt: &R, lock: 
     );
 }
 
-/// A writer beside readers of a lock of four, and of a lock of one.
+/// A writer among readers of a lock for four readers, and of a lock for one.
 pub fn check<R, L>(rt: &R, four: &L, one: &L)
 where
     R: Threads + Abort + Sync,

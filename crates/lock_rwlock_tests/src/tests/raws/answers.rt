@@ -1,4 +1,4 @@
-//! Raw locks through the traits of raw locks: each text for the lock round a table and for the lock on a word.
+//! Raw locks through the raw traits, over a table and on a word.
 use crate::tests::{Table, Word};
 use lock_base::raw::Fault;
 use lock_guard::raw::{
@@ -12,12 +12,12 @@ use std::alloc::Global;
 use std::process::Abort;
 use std::test::Fail;
 
-/// A raw mutex of the waiter, through the trait.
+/// A raw mutex, through the trait.
 pub fn raw_mutex<C: LockCore>(alloc: Global, waiter: C::Waiter) -> Result<RawLock<C>, Fault> {
     RawMutex::new(alloc, waiter)
 }
 
-/// A raw reader-writer lock of the waiter, through the trait.
+/// A raw reader-writer lock, through the trait.
 pub fn raw_rwlock<C: LockCore>(
     alloc: Global,
     waiter: C::Waiter,
@@ -26,7 +26,7 @@ pub fn raw_rwlock<C: LockCore>(
     RawRwLock::new(alloc, waiter, readers)
 }
 
-/// The calls of a raw mutex that is free.
+/// The calls of a free raw mutex.
 fn lock_and_unlock<R: Abort, C: LockCore<Duration = (), Instant = ()>>(rt: &R, raw: &RawLock<C>) {
     let token = raw.lock();
     assert!(rt; RawMutex::is_locked(raw));
@@ -39,7 +39,7 @@ fn lock_and_unlock<R: Abort, C: LockCore<Duration = (), Instant = ()>>(rt: &R, r
     raw.unlock_fair(token);
 }
 
-/// Each move of a free lock of two readers.
+/// Each change of mode of a free lock for two readers.
 fn upgrade_and_downgrade<R: Abort, C: LockCore<Duration = (), Instant = ()>>(
     rt: &R,
     raw: &RawLock<C>,
@@ -78,7 +78,7 @@ fn upgrade_and_downgrade<R: Abort, C: LockCore<Duration = (), Instant = ()>>(
     assert!(rt; !RawRwLock::is_locked(raw));
 }
 
-/// The timed tries of a free lock of one reader.
+/// The timed tries of a free lock for one reader.
 fn try_for_no_time<R: Abort, C: LockCore<Duration = (), Instant = ()>>(rt: &R, raw: &RawLock<C>) {
     let shared = raw.try_lock_shared_for(()).expect(rt, "a free lock");
     assert!(rt; raw.try_lock_shared_until(()).is_none());
@@ -136,7 +136,7 @@ fn a_word_answers(rt: HostRuntime) -> Result<(), Fail> {
     Ok(())
 }
 
-/// Whether each is held where a token of the one was given back to the other, a reader's own token being out.
+/// Whether each lock is held after a token of the one was released at the other, which has a reader of its own.
 fn unlock_the_other<C: LockCore>(one: &RawLock<C>, other: &RawLock<C>) -> (bool, bool) {
     let shared = other.lock_shared();
     other.unlock_exclusive(one.lock_exclusive());
@@ -145,7 +145,7 @@ fn unlock_the_other<C: LockCore>(one: &RawLock<C>, other: &RawLock<C>) -> (bool,
     (one.is_locked_exclusive(), is_locked)
 }
 
-/// Whether the other is held where a token of the one became a reader's there, and where that was given back.
+/// Whether the other lock is held after a token of the one was downgraded there, and after that was released.
 fn downgrade_at_the_other<C: LockCore>(one: &RawLock<C>, other: &RawLock<C>) -> (bool, bool) {
     let shared = other.downgrade(one.lock_exclusive());
     let is_locked = RawRwLock::is_locked(other);

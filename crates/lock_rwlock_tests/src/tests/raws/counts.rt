@@ -1,4 +1,4 @@
-//! A count by which threads tell one another how far they are.
+//! A count by which threads tell one another their progress.
 use std::sync::Wait;
 use std::sync::atomic::{AtomicU64, Ordering};
 use std::thread;

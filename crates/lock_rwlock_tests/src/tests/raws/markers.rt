@@ -1,14 +1,13 @@
-//! Which tokens may go to another thread. That `GuardNoSend` may not is the compiler's to say: as an argument of
-//! `hand_over` it is refused.
+//! Which tokens another thread may have. The compiler refuses `GuardNoSend` as an argument of `hand_over`.
 use lock_guard::raw::{GuardNoSend, GuardSend};
 use std::test::Fail;
 
-/// Takes what may go to another thread.
+/// Accepts what another thread may own.
 fn hand_over<T: Send + Drop>(token: T) {
     drop(token);
 }
 
-/// Takes what other threads may look at.
+/// Accepts what another thread may look at.
 fn look_at<T: Sync>(_token: &T) {}
 
 #[test]

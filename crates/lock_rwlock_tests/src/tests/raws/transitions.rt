@@ -1,4 +1,4 @@
-//! A writer that waits does not get in while a token becomes one of another mode.
+//! A waiting writer does not acquire during a change of mode.
 use lock_guard::raw::{RawRwLock, RawRwLockDowngrade, RawRwLockUpgrade, RawRwLockUpgradeDowngrade};
 use lock_raws::{LockCore, RawLock};
 use lock_test_support::answer::equal;
@@ -8,7 +8,7 @@ use std::sync::atomic::{AtomicBool, Ordering};
 use std::test::Fail;
 use std::thread::{self, Threads};
 
-/// Waits until a writer that waits keeps readers out.
+/// Waits until a waiting writer keeps readers out.
 fn wait_for_bar<R: RawRwLock>(raw: &R) {
     for _ in raw.waiter().forever() {
         match raw.try_lock_shared() {
@@ -20,15 +20,16 @@ fn wait_for_bar<R: RawRwLock>(raw: &R) {
     unreachable!()
 }
 
-/// What threads do with a lock that they share.
+/// What threads do with a shared lock.
 pub trait Walk {
-    /// Where a thread waits.
+    /// The permission to block.
     type Waiter: Wait;
 
-    /// Changes a token's mode again and again while a writer waits. Whether that has written before the token's end.
+    /// Changes a token's mode again and again while a writer waits. Returns whether that writer wrote before the
+    /// token's release.
     fn change_modes(&self, is_held: &AtomicBool, has_written: &AtomicBool, by_steps: bool) -> bool;
 
-    /// Writes, once the other has its token.
+    /// Writes, once the other thread has its token.
     fn write_once_held(&self, is_held: &AtomicBool, has_written: &AtomicBool);
 }
 
@@ -62,7 +63,7 @@ impl<C: LockCore> Walk for RawLock<C> {
     }
 }
 
-/// Whether the writer got in between.
+/// Whether the writer acquired in between.
 fn gets_in_between<R: Threads, L: Walk + Sync>(rt: &R, lock: &L, by_steps: bool) -> bool {
     let (is_held, has_written) = (AtomicBool::new(false), AtomicBool::new(false));
     let (answer, ()) = thread::join(
@@ -73,7 +74,7 @@ fn gets_in_between<R: Threads, L: Walk + Sync>(rt: &R, lock: &L, by_steps: bool)
     answer
 }
 
-/// By a single downgrade, and by steps.
+/// By a single downgrade, and in steps.
 pub fn check<R: Threads, L: Walk + Sync>(rt: &R, lock: &L) -> Result<(), Fail> {
     let between = [
         gets_in_between(rt, lock, false),

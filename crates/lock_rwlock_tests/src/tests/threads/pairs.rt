@@ -16,7 +16,7 @@ struct Pair {
 
 /// A lock of a pair.
 trait Pairs {
-    /// Where a thread waits for the lock.
+    /// The permission to block.
     type Waiter: Wait;
 
     /// Adds 1 to both numbers, 10,000 times.
