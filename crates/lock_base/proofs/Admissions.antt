@@ -1,4 +1,5 @@
--- Whom a register lets in, and that what is held stays legal then. A change of `lets_in` changes these lemmas.
+-- Which acquisitions a register admits, and that they keep the held guards legal. A change of `admits_party` changes
+-- these lemmas.
 use Rattle.std.proofs.Common.{◌≡◌, ℕ, ◌<◌, ◌≤◌, Bool, true, false, ◌&&◌, ◌==◌, nat_lt, if◌then◌else◌, List, [], ◌∷◌, ◌++◌, length, IsTrue, refl, ap, sym, ◌∙◌, subst, arith, eqb-true, eq-eqb, ltb-true, lt-ltb}
 use Rattle.std.proofs.lemmas.Bool.{and_parts, and_from, and_right, ne_eqb}
 use Rattle.lock_base.specs.declared.machine.mode.Mode.{Mode}
@@ -28,20 +29,20 @@ from_else : (b x y : Bool) → b ≡ false → IsTrue y → IsTrue (if b then x 
 from_else true x y is h = cc
 from_else false x y is h = h
 
--- one more level of the party may stand beside these
+-- one more level of the party is admitted next to these
 pub record HasNextLevel (r : Register) (party : ℕ) : Type 0 where
   pub own : IsTrue (all_of_party party (held_entries r.entries))
   pub below : held_count r.entries < r.limit
 
 module _ (r : Register) (party : ℕ) (mode : Mode) where
-  -- a guard that is let in
+  -- an admitted acquisition
   pub passed_bar : IsTrue (lets_in r party mode) → IsTrue (passes r.bar party mode)
   passed_bar ok = (and_parts (passes r.bar party mode) (fits_in r party mode) ok).0
 
   pub fitted_in : IsTrue (lets_in r party mode) → IsTrue (fits_in r party mode)
   fitted_in ok = (and_parts (passes r.bar party mode) (fits_in r party mode) ok).1
 
-  -- a level of a reentrant lock that fits in
+  -- an admitted level of a reentrant lock
   pub next_level : is_reentrant r.kind ≡ true → IsTrue (fits_in r party mode) → HasNextLevel r party
   next_level nested ok =
       let own : Bool = all_of_party party (held_entries r.entries) in
@@ -56,14 +57,14 @@ module _ (r : Register) (party : ℕ) (mode : Mode) where
       from_then (is_reentrant r.kind) (own && below) (admits r.limit (held_bag r.entries) mode) nested
       (and_from own below level.own (lt-ltb (held_count r.entries) r.limit level.below))
 
-  -- a guard of another lock that fits in
+  -- an admitted guard of another lock
   pub admitted_mode : is_reentrant r.kind ≡ false → IsTrue (fits_in r party mode) → IsTrue (admits r.limit (held_bag r.entries) mode)
   admitted_mode plain ok = in_else (is_reentrant r.kind) _ (admits r.limit (held_bag r.entries) mode) plain ok
 
   pub fits_in-mode : is_reentrant r.kind ≡ false → IsTrue (admits r.limit (held_bag r.entries) mode) → IsTrue (fits_in r party mode)
   fits_in-mode plain ok = from_else (is_reentrant r.kind) _ (admits r.limit (held_bag r.entries) mode) plain ok
 
--- and nobody beside an exclusive guard
+-- nothing is admitted next to an exclusive guard
 
 not_let_in : (let_in admitted : Bool) → (IsTrue let_in → IsTrue admitted) → admitted ≡ false → let_in ≡ false
 not_let_in true true h barred = barred
@@ -77,14 +78,14 @@ not_let_in_beside_exclusive r party mode plain out =
     (λ ok. admitted_mode r party mode plain (fitted_in r party mode ok))
     (admits-beside_exclusive r.limit (held_bag r.entries) mode out)
 
--- only what is held counts
+-- only the held guards count
 pub lets_in-same_held : (r : Register) (es : EntryMap) (party : ℕ) (mode : Mode) → held_entries es ≡ held_entries r.entries
     → lets_in (record r { entries = es }) party mode ≡ lets_in r party mode
 lets_in-same_held r es party mode same =
     ap (λ (hs : List Entry). passes r.bar party mode && (if is_reentrant r.kind then all_of_party party hs && nat_lt (length hs) r.limit
     else admits r.limit (bag_of (modes_of_entries hs)) mode)) same
 
--- the party of what is held
+-- the party of the held guards
 
 of_party_removed : (party : ℕ) (hs : List Entry) (e : Entry) (ks : List Entry) → IsTrue (all_of_party party (hs ++ e ∷ ks))
     → (e.party ≡ party) × IsTrue (all_of_party party (hs ++ ks))
@@ -103,7 +104,7 @@ of_party_added party (x ∷ hs) e ks own h =
     let two = and_parts (x.party == party) (all_of_party party (hs ++ ks)) h in
     and_from (x.party == party) (all_of_party party (hs ++ e ∷ ks)) two.0 (of_party_added party hs e ks own two.1)
 
--- what is held stays legal
+-- the held guards stay legal
 
 pub legal_same : (reentrant : Bool) (limit : ℕ) (es other : EntryMap) → held_entries other ≡ held_entries es
     → AreLegallyHeld reentrant limit es
@@ -128,7 +129,7 @@ legal_fewer false limit e more fewer one h =
 
 module _ (r : Register) (party : ℕ) (e : Entry) (more : EntryMap) (one : HasOneMore e more r.entries)
     (own : is_reentrant r.kind ≡ true → e.party ≡ party) where
-  -- a guard that fits in keeps what is held legal
+  -- an admitted guard keeps the held guards legal
   pub legal_more : IsTrue (fits_in r party e.mode) → AreLegallyHeld (is_reentrant r.kind) r.limit r.entries
       → AreLegallyHeld (is_reentrant r.kind) r.limit more
   legal_more ok h = by_kind (is_reentrant r.kind) refl h
@@ -146,7 +147,7 @@ module _ (r : Register) (party : ℕ) (e : Entry) (more : EntryMap) (one : HasOn
           subst (AreCompatible r.limit) (sym (held_bag-more e more r.entries one))
           (compatible_acquired r.limit (held_bag r.entries) e.mode h (admitted_mode r party e.mode plain ok))
 
-  -- and one that was held beside these fits in again
+  -- and a guard that was held next to these is admitted again
   pub fits_in_again : AreLegallyHeld (is_reentrant r.kind) r.limit more → IsTrue (fits_in r party e.mode)
   fits_in_again h = by_kind (is_reentrant r.kind) refl h
     where
@@ -166,7 +167,7 @@ module _ (r : Register) (party : ℕ) (e : Entry) (more : EntryMap) (one : HasOn
           fits_in-mode r party e.mode plain
           (admits-released r.limit (held_bag r.entries) e.mode (subst (AreCompatible r.limit) (held_bag-more e more r.entries one) h))
 
-  -- without a level there are fewer than there may be
+  -- without a level there are fewer than the limit
   pub is_full_count-fewer : AreLegallyHeld (is_reentrant r.kind) r.limit more → is_full_count r party ≡ false
   is_full_count-fewer h = by_kind (is_reentrant r.kind) h
     where

@@ -1,15 +1,15 @@
--- What is held: a map that has one held entry more than another, and what that makes of bags and counts.
+-- Held entries: two lists of which one has a held entry more, and what that means for bags and counts.
 use Rattle.std.proofs.Common.{◌≡◌, ℕ, ◌+◌, Bool, false, if◌then◌else◌, List, [], ◌∷◌, ◌++◌, length, IsTrue, refl, ap, sym, ◌∙◌, arith, append-nil, length-append}
 use Rattle.lock_base.specs.declared.machine.mode.Mode.{Mode}
 use Rattle.lock_base.specs.Modes.{bag_of, one_more}
 use Rattle.lock_base.specs.Entries.{Entry, without, update, parked_entry, resumed_entry, in_mode, held_entries, held_count, held_bag, modes_of_entries}
 use Rattle.lock_base.proofs.Splices.{EntryMap, Splice, held-append, bag_of-modes-middle}
 
--- an entry that is held is the same once it was parked and resumed
+-- an entry that is held is unchanged after it was parked and resumed
 pub resumed_entry-parked_entry : (e : Entry) → IsTrue e.held → resumed_entry (parked_entry e) ≡ e
 resumed_entry-parked_entry e held = ap (λ (b : Bool). record e { held = b }) (sym held)
 
--- the one map has what the other has held, and this entry
+-- the one list has the held entries of the other, and this entry
 pub record HasOneMore (e : Entry) (more fewer : EntryMap) : Type 0 where
   pub before : List Entry
   pub after : List Entry
@@ -42,7 +42,7 @@ held_past xs number e ys free =
     held-append xs ((number, e) ∷ ys) ∙ ap (λ (b : Bool). held_entries xs ++ (if b then e ∷ held_entries ys else held_entries ys)) free
 
 module _ (guard : ℕ) (e : Entry) (es : EntryMap) (s : Splice guard e es) where
-  -- of two maps that have all but this guard alike, one may have it held, and the other parked or not at all
+  -- of two lists that differ only at this guard, one may have it held, and the other parked or not at all
 
   whole_held : IsTrue e.held → held_entries es ≡ held_entries s.before ++ e ∷ held_entries s.after
   whole_held held = ap held_entries s.whole ∙ held_here s.before guard e s.after held

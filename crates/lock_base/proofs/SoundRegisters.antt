@@ -1,4 +1,4 @@
--- A sound register stays sound whichever guard comes, goes or changes.
+-- A sound register stays sound, whichever guard is added, removed or changed.
 use Rattle.std.proofs.Common.{◌≡◌, ◌≢◌, ◌<◌, ◌∙◌, Bool, ℕ, ◌+◌, ◌≤◌, true, false, [], ◌∷◌, ◌++◌, length, if◌then◌else◌, Option, Some, None, IsTrue, refl, ap, sym, subst, arith, append-nil}
 use Rattle.lock_base.specs.declared.machine.mode.Mode.{Mode}
 use Rattle.lock_base.specs.declared.machine.bag.Bag.{Bag}
@@ -19,7 +19,7 @@ use Rattle.lock_base.proofs.Splices.{EntryMap, Splice, splice, length-middle, nu
 use Rattle.lock_base.proofs.HeldEntries.{held_bag-more, more_than_rest, more_than_parked, resumed_is_more, moved_is_more, abandoned_holds_same, issued_is_more}
 use Rattle.lock_base.proofs.Admissions.{legal_same, legal_fewer, legal_more}
 
--- nothing is out of a new register
+-- a new register has no guard
 start_legal : (kind : Kind) (limit : ℕ) → AreLegallyHeld (is_reentrant kind) limit []
 start_legal Mutex limit = compatible_empty limit
 start_legal RwLock limit = compatible_empty limit
@@ -81,7 +81,7 @@ module _ (r : Register) (sound : IsSound r) where
     whole_modes : IsModeOf r.kind e.mode × HaveModesOf r.kind (s.before ++ s.after)
     whole_modes = have_modes_removed r.kind s.before (guard, e) s.after (subst (HaveModesOf r.kind) s.whole sound.modes)
 
-    -- the register without the guard, and with the guard changed, is sound where what is held is legal
+    -- the register without the guard, and with the guard changed, is sound if the held guards are legal
     without_sound : AreLegallyHeld (is_reentrant r.kind) r.limit (without guard r.entries) → IsSound (without_guard r guard)
     without_sound held =
         let whole = ap length s.whole in
@@ -161,11 +161,11 @@ module _ (r : Register) (sound : IsSound r) where
         (subst (λ (k : Kind). AreLegallyHeld (is_reentrant k) r.limit (update guard (in_mode to) r.entries)) (sym kind)
         (subst (AreCompatible r.limit) (sym after) changed))
 
--- a guard that is out has a mode of the kind
+-- a guard has a mode of the kind
 pub out_mode : (r : Register) (guard : ℕ) (e : Entry) → IsSound r → find guard r.entries ≡ Some e → IsModeOf r.kind e.mode
 out_mode r guard e sound found = (whole_modes r sound guard e (splice guard e r.entries found)).0
 
--- a guard that goes, or is parked, held or not
+-- a guard that is removed, or is parked, held or not
 
 pub removed_sound : (r : Register) (guard : ℕ) (e : Entry) → IsSound r → find guard r.entries ≡ Some e → IsSound (without_guard r guard)
 removed_sound r guard e sound found = by_held e.held refl
@@ -189,7 +189,7 @@ parked_again_sound r guard e sound found = by_held e.held refl
         place.updated parked_entry ∙ ap (λ (x : Entry). place.before ++ (guard, x) ∷ place.after) same ∙ sym place.whole in
         subst (λ (es : EntryMap). IsSound (record r { entries = es })) (sym entries) sound
 
--- what a new register and a new guard have to fit
+-- what a new register and a new guard must fit
 
 pub limit_of_kind : (kind : Kind) (limit : ℕ) → 0 < limit → FitsKind kind limit → IsLimitOf kind limit
 limit_of_kind Mutex limit positive fits = fits
@@ -212,7 +212,7 @@ rwlock_is Mutex h = cc
 rwlock_is RwLock h = refl
 rwlock_is Reentrant h = cc
 
--- to go on with a higher number keeps a register sound
+-- skipping to a higher number keeps a register sound
 
 numbered_raised : (low last higher : ℕ) (es : EntryMap) → last ≤ higher → AreNumbered low last es → AreNumbered low higher es
 numbered_raised low last higher [] above h = omega arith

@@ -1,4 +1,4 @@
--- A change of the tokens that are out is a step of the modes.
+-- A change of the held tokens is a mode step.
 use Rattle.std.proofs.Common.{◌≡◌, ℕ, ◌<◌, List, ◌∷◌, sym, ap, subst, ◌∙◌}
 use Rattle.std.specs.Prelude.{IsTrue}
 use Rattle.lock_base.specs.declared.machine.mode.Mode.{Mode}
@@ -12,7 +12,7 @@ use Rattle.lock_base.proofs.TokenBags.{bag_of_same}
 use Rattle.lock_base.proofs.ModeLemmas.{count-one_more, one_less-one_more, compatible_after}
 
 module _ {K : Type 0} where
-  -- the step may be made beside the old tokens, and leads to the new ones
+  -- the step is permitted next to the old tokens, and leads to the new ones
   pub record MakesStep (limit : ℕ) (old new : List (K × Mode)) (step : ModeStep) : Type 0 where
     pub permitted : Permits limit (bag_of_tokens old) step
     pub after : bag_of_tokens new ≡ bag_after (bag_of_tokens old) step
