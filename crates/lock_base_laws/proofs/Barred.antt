@@ -1,4 +1,4 @@
--- A bar keeps others out, and stands until its party is let in or withdraws.
+-- A bar keeps other parties out, and stays until its party acquires or withdraws.
 use Rattle.std.proofs.Common.{◌≡◌, ℕ, Bool, true, false, not, ◌&&◌, ◌==◌, List, Option, Some, IsTrue, refl, ap, sym, ◌∙◌, subst, eqb-true}
 use Rattle.std.proofs.lemmas.Bool.{and_parts, eqb-false}
 use Rattle.lock_base.specs.declared.machine.mode.Mode.{Mode}
@@ -25,7 +25,7 @@ keep_others_out r announced party mode stands ok =
     let two = and_parts (is_exclusive mode) (announced == party) passed in
     (sym (eqb-true announced party two.1), exclusive_is mode two.0)
 
--- whoever else is let in: there is none
+-- no other party is admitted
 still : {T : Type 0} (m : Machine T) (party : ℕ) → m.bar ≡ Some party → (caller : PartyId) (mode : Mode)
     → IsTrue (lets_in m.register (id_of caller) mode) → (id_of caller == party) ≡ false
     → bar_after m.bar mode ≡ Some party

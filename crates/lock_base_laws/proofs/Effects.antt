@@ -1,4 +1,4 @@
--- All that a call can do to a machine: each law goes by these cases.
+-- All that a call can do to a machine. Each law goes by these cases.
 use Rattle.std.proofs.Common.{◌≡◌, ◌≢◌, ℕ, ◌+◌, ◌-◌, ◌^◌, Bool, true, false, not, ◌==◌, if◌then◌else◌, List, [], ◌∷◌, length, Option, Some, None, is_some, IsTrue, refl, sym, subst}
 use Rattle.std.proofs.lemmas.Bool.{not-true, not-false, eqb-false}
 use Rattle.lock_base.specs.declared.machine.mode.Mode.{Mode}
@@ -33,18 +33,18 @@ use Rattle.lock_base.specs.Sound.{IsModeOf}
 use Rattle.lock_base_laws.specs.TokenSteps.{only_if, by_mode, steps_back, asked_steps, token_steps}
 use Rattle.lock_base_laws.proofs.Turns.{Meets, all_passed, both_passed, of_unless, of_guard, of_both}
 
--- what an acquisition that gives a guard was asked, and found
+-- an acquisition that gives a guard, and what it found
 pub record LetsIn (r : Register) (party : ℕ) (mode : Mode) : Type 0 where
   pub mode_of_kind : IsModeOf r.kind mode
   pub room : length r.entries ≢ r.places
   pub let_in : IsTrue (lets_in r party mode)
 
--- the guard is out, held or parked
+-- the guard is held or parked
 pub record IsOut (r : Register) (guard : ℕ) (e : Entry) (is_held : Bool) : Type 0 where
   pub found : find guard r.entries ≡ Some e
   pub held : e.held ≡ is_held
 
--- from a machine: the call, its reply, what it asks of the raw state, and the machine after it
+-- from a machine: the call, its reply, its steps on the raw state, and the machine after it
 pub data Effect {O T A : Type 0} (m : Machine T) : Call O → Reply A → List ModeStep → Machine T → Type 0 where
   kept : {call : Call O} {reply : Reply A} → numbers_of reply ≡ [] → Effect m call reply [] m
   acquired : {want : Want} {form : Form} (party : PartyId) (mode : Mode) → LetsIn m.register (id_of party) mode
@@ -110,7 +110,7 @@ module _ (O T A : Type 0) where
   HasEffect m call t = Effect m call t.reply (only_if (not (is_refusal t.reply)) (asked_steps m call)) t.machine
 
   module _ (m : Machine T) (call : Call O) where
-    -- the steps by the mode of a guard that is out
+    -- the steps by the mode of a guard
     by_found : (guard : ℕ) (e : Entry) (next : Machine T) (steps : Mode → List ModeStep) → find guard m.entries ≡ Some e
         → Effect {A = A} m call Reply.Done (steps e.mode) next
         → Effect {A = A} m call Reply.Done (by_mode (find guard m.entries) steps) next

@@ -25,7 +25,7 @@ held_entries-held_part (e ∷ es) = by_held e.1.held refl (held_entries-held_par
         ∙ ap (λ (hs : List Entry). e.1 ∷ hs) rest
     by_held false is rest = rest
 
--- a held guard is found among those that are held
+-- a held guard is found among the held ones
 find-held_part : (guard : ℕ) (e : Entry) (es : EntryMap) → find guard es ≡ Some e → IsTrue e.held → find guard (held_part es) ≡ Some e
 find-held_part guard e [] found held = cc
 find-held_part guard e (x ∷ es) found held =
@@ -48,13 +48,13 @@ find-held_part guard e (x ∷ es) found held =
     by_number false other found rest = past x.1.held other (rest found)
 
 module _ {R T : Type 0} (m n : Machine T) where
-  -- what is told of a lock of some kind, or refused
+  -- an answer about a lock of some kind, or a refusal
   same_told : (b : Bool) (x y : R) → x ≡ y
       → (if b then give x m else refuse m fault.WrongKind).answer ≡ (if b then give y n else refuse n fault.WrongKind).answer
   same_told true x y same = ap Ok same
   same_told false x y same = refl
 
--- the answer to an upgrade, by what refuses it, the entry that is found, and whether it is the only one held
+-- the answer to an upgrade, by its refusal, the entry that is found, and whether that is the only one held
 upgrade_answer : Option Fault → Option Entry → Bool → Result (Option (Unit {0})) Fault
 upgrade_answer (Some f) found sole = Err f
 upgrade_answer None None sole = Err fault.UnknownGuard

@@ -1,4 +1,4 @@
--- Nobody is let in beside a held exclusive guard.
+-- Nothing is admitted next to a held exclusive guard.
 use Rattle.std.proofs.Common.{◌≡◌, ℕ, ◌+◌, ◌<◌, Bool, true, false, if◌then◌else◌, [], ◌∷◌, ◌++◌, Option, Some, None, Ok, refl, ap, sym, ◌∙◌, subst, arith, eq-eqb}
 use Rattle.std.specs.Prelude.{IsErr, IfOk, IsNone}
 use Rattle.lock_base.specs.declared.machine.mode.Mode.{Mode}
@@ -23,7 +23,7 @@ use Rattle.lock_base_laws.proofs.GuardNumbers.{find-above}
 use Rattle.lock_base_laws.proofs.Written.{held_is_counted}
 
 module _ {T : Type 0} (m : Machine T) where
-  -- a machine whose register lets in nobody
+  -- a machine whose register admits nothing
   lets_nobody_in : ((party : ℕ) (mode : Mode) → lets_in m.register party mode ≡ false) → LetsNobodyIn m
   lets_nobody_in nobody = record {
     none_given = λ want party. asked want party (λ turn. IfOk turn.answer (λ found. IsNone found)) (λ f. tt) refl;
@@ -64,7 +64,7 @@ module _ {T : Type 0} where
       let of_kind = out_mode m.register guard holder.entry sound holder.found in
       beside_exclusive m guard holder (ap is_reentrant kind) (subst (λ (k : Kind). IsModeOf k holder.entry.mode) kind of_kind)
 
-  -- an acquisition that gives a guard has put it behind the others, whose numbers are lower
+  -- an acquisition puts its guard behind the others, whose numbers are lower
   pub new_is_held : NewGuardsAreHeld T
   new_is_held m want party number sound answered =
       let new : Entry = record { party = party; mode = mode_of want; held = true } in

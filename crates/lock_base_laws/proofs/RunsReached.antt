@@ -16,7 +16,7 @@ use Rattle.lock_base.proofs.Admissions.{fitted_in}
 use Rattle.lock_base_laws.specs.SoundRuns.{RunsAreSound, CallsKeepSound, KeepsLimits, RunsKeepLimits}
 use Rattle.lock_base_laws.proofs.Effects.{Effect, effect, IsOut}
 
--- where the guard of an effect stands
+-- where the guard of an effect is
 at_guard : (r : Register) (guard : ℕ) (e : Entry) (held : Bool) → IsOut r guard e held → Splice guard e r.entries
 at_guard r guard e held out = splice guard e r.entries out.found
 
