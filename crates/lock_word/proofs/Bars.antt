@@ -1,4 +1,4 @@
--- The bar that the word shows is that of the one party that has announced itself.
+-- The bar in the word is that of the one party that has announced itself.
 use Rattle.std.proofs.Common.{◌≡◌, ◌≢◌, ℕ, zero, suc, ◌+◌, ◌^◌, ◌<◌, ◌≤◌, Bool, true, false, List, [], ◌∷◌, slice_get, slice_set, sum_by, Some, refl, sym, ap, arith, eqb-true, ◌==◌}
 use Rattle.std.proofs.lemmas.Bool.{eqb-false}
 use Rattle.std.proofs.lemmas.List.Sums.{sum_by-cons}
@@ -16,7 +16,7 @@ use Rattle.lock_word.proofs.Rules.{holds_at, part_of_parties}
 abbrev bar_of : Hold → ℕ
 bar_of h = bars_of h.announced
 
--- an element of a list of which another was changed is where it was
+-- an element of a list of which another was changed stays where it was
 other_stays : {A : Type 0} (xs : List A) (k j : ℕ) (y z : A) → j ≢ k → slice_get xs j ≡ Some z
     → slice_get (slice_set xs k y) j ≡ Some z
 other_stays [] k j y z other h = h
@@ -25,7 +25,7 @@ other_stays (x ∷ xs) zero (suc j) y z other h = h
 other_stays (x ∷ xs) (suc k) zero y z other h = h
 other_stays (x ∷ xs) (suc k) (suc j) y z other h = other_stays xs k j y z (λ e. other (ap suc e)) h
 
--- two that have announced themselves have two bars
+-- two parties that have announced themselves have two bars
 two_bars : (hs : List Hold) (k j : ℕ) (a b : Hold) → j ≢ k → slice_get hs k ≡ Some a → slice_get hs j ≡ Some b
     → bar_of a + bar_of b ≤ sum_by bar_of hs
 two_bars hs k j a b other at_k at_j =
@@ -75,7 +75,7 @@ announced_shows limit word ps (suc k) rule a =
     let some = part.bars in
     omega arith
 
--- at most one party has announced itself, and the word has 2^34 exactly where one has
+-- at most one party has announced itself, and the word has 2^34 exactly if one has
 pub bar_of_rule : (limit word : ℕ) (ps : List PartyState) → IsLimit limit → KeepsRule limit word ps → BarIsOfOne word ps
 bar_of_rule limit word ps range rule =
     record {

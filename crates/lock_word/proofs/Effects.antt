@@ -1,4 +1,4 @@
--- What a turn can be.
+-- The effects of a turn.
 use Rattle.std.proofs.Common.{◌≡◌, ◌≢◌, ℕ, ◌-◌, Bool, true, false, if◌then◌else◌, ◌==◌, List, slice_get, slice_set, Option, Some, None, IsTrue, refl, sym, ap, subst, ◌∙◌, eqb-true}
 use Rattle.std.proofs.lemmas.Bool.{eqb-false}
 use Rattle.lock_base.specs.declared.raw.fault.Fault.{Fault}
@@ -35,7 +35,7 @@ pub data Effect (limit word : ℕ) (me : PartyState) (s : AtomicStep) (t : Turn)
       → t ≡ record { word = word - amount d; party = after_win me (step_of_down d); outcome = Done }
       → Effect limit word me s t
 
--- a fact of what a test picks, from a fact of each
+-- a fact of both branches is a fact of the branch that is taken
 pub of_both : {A : Type 0} (P : A → Type 0) (b : Bool) (x y : A) → (b ≡ true → P x) → (b ≡ false → P y)
     → P (if b then x else y)
 of_both P true x y f g = f refl

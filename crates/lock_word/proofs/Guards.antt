@@ -1,4 +1,4 @@
--- A step makes no more guards, or it leaves no bar.
+-- A step adds no guard, or it leaves no bar.
 use Rattle.std.proofs.Common.{◌≡◌, ℕ, ◌+◌, ◌-◌, ◌^◌, ◌<◌, ◌≤◌, ◌⊎◌, inl, inr, Bool, List, slice_get, Some, IsTrue, ap, ◌∙◌, arith}
 use Rattle.lock_base.specs.Limits.{IsLimit}
 use Rattle.lock_base.specs.Modes.{readers}
@@ -14,7 +14,7 @@ use Rattle.lock_word.proofs.Holders.{Has}
 use Rattle.lock_word.proofs.Words.{parts_of_word, word_after_want, word_before_down, permits_down, stands_after}
 use Rattle.lock_word.proofs.Rules.{permits_of_rule, has_of_all}
 
--- the guards of what is out
+-- the guards of a bag
 abbrev guards : BarredBag → ℕ
 guards all = readers all.bag + all.bag.exclusive
 

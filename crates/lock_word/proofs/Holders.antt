@@ -1,4 +1,4 @@
--- A step of one holder is that step of all together.
+-- A step of one holder is the same step on the sum of all holds.
 use Rattle.std.proofs.Common.{◌≡◌, ℕ, zero, suc, ◌+◌, ◌-◌, ◌<◌, ◌≤◌, Bool, true, false, ◌&&◌, not, List, [], ◌∷◌, ◌++◌, get_or, slice_get, slice_set, sum_by, replicate, Some, IsTrue, refl, sym, ap, subst, ◌∙◌, arith, ltb-true}
 use Rattle.std.specs.Prelude.{⊤}
 use Rattle.std.proofs.lemmas.List.Sums.{sum_by-set, sum_by-cons, get_or-le-sum_by}
@@ -17,13 +17,13 @@ use Rattle.lock_word.specs.declared.word_step.WordStep.TheVariants.{Modes, Annou
 use Rattle.lock_word.specs.Holds.{BarredBag, bars_of, without_bars, ends_bar, PermitsTo, barred_after, no_hold, hold_has, hold_after}
 use Rattle.lock_word.specs.Holders.{all_of, IsPart, holder_at, HolderStep, IsHolderStep, IsHolderRun, modes_of, steps_of}
 
--- what the step gives up is out
+-- the bag has what the step releases or changes
 abbrev pub HasModes : Bag → ModeStep → Type 0
 HasModes b (Acquire mode) = ⊤
 HasModes b (Release mode) = 0 < count_of b mode
 HasModes b (Change from to) = 0 < count_of b from
 
--- the same of tokens and bars
+-- the same of a bag with bars
 abbrev pub Has : BarredBag → WordStep → Type 0
 Has all (Modes step) = HasModes all.bag step
 Has all Announce = ⊤
@@ -34,7 +34,7 @@ modes_from_test b (Acquire m) h = tt
 modes_from_test b (Release m) h = ltb-true 0 (count_of b m) h
 modes_from_test b (Change from to) h = ltb-true 0 (count_of b from) h
 
--- what a part has of a mode, the whole has
+-- a part has no more of a mode than the whole
 count-part : (own : Hold) (all : BarredBag) (mode : Mode) → IsPart own all → count_of own.bag mode ≤ count_of all.bag mode
 count-part own all Shared part = part.shared
 count-part own all Exclusive part = part.exclusive
@@ -53,7 +53,7 @@ has_of_part own all Withdraw part h =
     let le = part.bars in
     omega arith
 
--- one element of a list is changed: the sum changes by as much
+-- one element of a list is changed, and the sum changes by as much
 pub sum_by-slice_set : {X : Type 0} (f : X → ℕ) (xs : List X) (k : ℕ) (x y : X) → slice_get xs k ≡ Some x
     → sum_by f (slice_set xs k y) + f x ≡ sum_by f xs + f y
 sum_by-slice_set f xs k x y h =
@@ -111,7 +111,7 @@ alike_after own all (Modes s) part h = alike_modes own all s part (modes_from_te
 alike_after own all Announce part h = record { shared = refl; exclusive = refl; upgradable = refl }
 alike_after own all Withdraw part h = record { shared = refl; exclusive = refl; upgradable = refl }
 
--- a bar is the announcement of the one whose it is
+-- a bar is the announcement of its party
 bars_left : (ends announced : Bool) (bars : ℕ) → bars_of announced ≤ bars
     → bars + bars_of (not ends && announced) ≡ (bars - bars_of (ends && announced)) + bars_of announced
 bars_left true true bars le = omega arith
@@ -132,7 +132,7 @@ alike_bars limit own all Withdraw part h some =
     let bar : bars_of own.announced ≡ 1 = ap bars_of h in
     omega arith
 
--- a step of one holder is that step of all together
+-- a step of one holder is the same step on the sum of all holds
 pub all_of-after : (limit : ℕ) (holds : List Hold) (k : ℕ) (own : Hold) (s : WordStep) → slice_get holds k ≡ Some own
     → IsTrue (hold_has own s) → PermitsTo own.announced limit (all_of holds) s
     → all_of (slice_set holds k (hold_after own s)) ≡ barred_after own.announced (all_of holds) s
@@ -172,7 +172,7 @@ modes_made limit announced all (Modes s) rest last permitted run = (permitted.0,
 modes_made limit announced all Announce rest last permitted run = run
 modes_made limit announced all Withdraw rest last permitted run = run
 
--- what holders do one after another is a run of the modes on what they have together
+-- the steps of holders are a run of the modes on the sum of their holds
 pub run_of_all : (limit : ℕ) (before after : List Hold) (ss : List HolderStep) → IsHolderRun limit before ss after
     → IsModeRun limit (all_of before).bag (steps_of ss) (all_of after).bag
 run_of_all limit before after [] run = ap (λ hs. (all_of hs).bag) run

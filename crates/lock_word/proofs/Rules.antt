@@ -1,4 +1,4 @@
--- Each kind of step of one party keeps the rule: one lemma a kind, for all who step on a word.
+-- Each kind of step of one party keeps the rule: one lemma for each kind.
 use Rattle.std.proofs.Common.{◌≡◌, ◌≢◌, ℕ, zero, suc, ◌+◌, ◌-◌, ◌<◌, ◌≤◌, ◌⊎◌, inl, inr, List, [], ◌∷◌, ◌++◌, get_or, slice_get, slice_set, Some, IsTrue, refl, sym, ap, subst, ◌∙◌, arith, eq-zero-or-pos}
 use Rattle.std.proofs.lemmas.List.{map-set, map-append, set-get_or}
 use Rattle.std.proofs.lemmas.List.Sums.{sum_by-append}
@@ -21,7 +21,7 @@ use Rattle.lock_word.proofs.Words.{alone_or_none, parts_of_word, permits_of_word
 
 -- one element of a list is changed
 
--- an element of a list of which one was changed is the new one, or is where it was
+-- an element of a list of which one was changed is the new one, or stays where it was
 pub changed_or_not : {A : Type 0} (xs : List A) (k j : ℕ) (y z : A) → slice_get (slice_set xs k y) j ≡ Some z
     → ((j ≡ k) × (z ≡ y)) ⊎ ((j ≢ k) × (slice_get xs j ≡ Some z))
 changed_or_not [] k j y z h = cc
@@ -38,7 +38,7 @@ pub each_after : {A : Type 0} (P : A → Type 0) (xs : List A) (k : ℕ) (y : A)
 each_after P xs k y new old j z h =
     elim (changed_or_not xs k j y z h) [ inl e ↦ subst P (sym e.1) new | inr e ↦ old j z e.0 e.1 ]
 
--- what is put back where it was found changes nothing
+-- putting back what was found changes nothing
 pub slice_set_same : {A : Type 0} (xs : List A) (k : ℕ) (x : A) → slice_get xs k ≡ Some x → slice_set xs k x ≡ xs
 slice_set_same xs k x h = let at : get_or xs k x ≡ x = get_or_from_slice_get xs k x x h in rw at at (set-get_or xs k x)
 
@@ -72,7 +72,7 @@ wins_within ps k me at = le-sum_by (λ (q : PartyState). q.wins) ps k me at
 
 -- the kinds of step
 
--- the party has done nothing but to load, or to give its load up
+-- the party has only loaded, or lost its open load
 keeps_quiet : (limit word : ℕ) (ps : List PartyState) (k : ℕ) (me you : PartyState) → KeepsRule limit word ps
     → slice_get ps k ≡ Some me → you.held ≡ me.held → you.wins ≡ me.wins → you.fails ≡ me.fails
     → ((loaded : ℕ) → you.loaded ≡ Some loaded → word ≡ loaded)
@@ -108,7 +108,7 @@ pub keeps_unloaded : (limit word : ℕ) (ps : List PartyState) (k : ℕ) (me : P
 keeps_unloaded limit word ps k me rule at =
     keeps_quiet limit word ps k me (without_load me) rule at refl refl refl (λ loaded e. cc)
 
--- an exchange found another word than the one that the party loaded
+-- an exchange found a word other than the open load
 pub keeps_lost : (limit word : ℕ) (ps : List PartyState) (k loaded : ℕ) (me : PartyState) → KeepsRule limit word ps
     → slice_get ps k ≡ Some me → me.loaded ≡ Some loaded → word ≢ loaded
     → KeepsRule limit word (slice_set ps k (after_fail me))
@@ -129,7 +129,7 @@ keeps_lost limit word ps k loaded me rule at was differs =
           record { bounded = omega arith; open_load = λ w e d. let before = other.open_load w e d in omega arith });
     }
 
--- the party has made a permitted step, and the word is that of what is out after it
+-- the party has made a permitted step, and the word encodes what all parties hold after it
 keeps_won : (limit word new : ℕ) (ps : List PartyState) (k : ℕ) (me : PartyState) (s : WordStep) → 0 < limit
     → KeepsRule limit word ps → slice_get ps k ≡ Some me → IsTrue (hold_has me.held s)
     → PermitsTo me.held.announced limit (held_by_all ps) s
@@ -156,7 +156,7 @@ keeps_won limit word new ps k me s positive rule at has permitted coded =
           record { bounded = omega arith; open_load = λ w e d. omega arith });
     }
 
--- what the word admits to a party is permitted to it where all that is held is out
+-- what the word admits to a party is permitted to it by what all parties hold
 pub permits_of_rule : (limit word : ℕ) (ps : List PartyState) (k : ℕ) (me : PartyState) (want : ExWant) → IsLimit limit
     → KeepsRule limit word ps → slice_get ps k ≡ Some me
     → IsTrue (word_admits me.held.announced limit word want)
@@ -175,12 +175,12 @@ keeps_exchange limit word ps k me want range rule at has admits =
     keeps_won limit word (word_after word want) ps k me (step_of_want want) range.0 rule at has permitted
     (ap (λ w. word_after w want) rule.coded ∙ word_after_want me.held.announced limit (held_by_all ps) want permitted)
 
--- what one party has, all together have
+-- the sum of all holds has what one party has
 pub has_of_all : (ps : List PartyState) (k : ℕ) (me : PartyState) (s : WordStep) → slice_get ps k ≡ Some me
     → IsTrue (hold_has me.held s) → Has (held_by_all ps) s
 has_of_all ps k me s at h = has_of_part me.held (held_by_all ps) s (part_of_parties ps k me at) h
 
--- what a party's subtraction takes is part of the word
+-- what a party subtracts is part of the word
 pub amount_within : (limit word : ℕ) (ps : List PartyState) (k : ℕ) (me : PartyState) (d : Down)
     → KeepsRule limit word ps → slice_get ps k ≡ Some me → IsTrue (hold_has me.held (step_of_down d)) → amount d ≤ word
 amount_within limit word ps k me d rule at has =
@@ -199,7 +199,7 @@ keeps_take limit word ps k me d range rule at has =
     keeps_won limit word (word - amount d) ps k me (step_of_down d) range.0 rule at has
     (permits_down me.held.announced limit (held_by_all ps) d all) (omega arith)
 
--- one more who steps on the word
+-- one party more
 
 -- an element of a longer list is one of the list, or the new one
 element_of_longer : {A : Type 0} (xs : List A) (y z : A) (j : ℕ) → slice_get (xs ++ y ∷ []) j ≡ Some z
@@ -270,7 +270,7 @@ shows limit word ps k me range rule at =
       announced = λ some. omega arith;
     }
 
--- no party's fails outnumber the others' wins
+-- no party's fails outnumber the wins of the others
 pub fails_bounded : (limit word : ℕ) (ps : List PartyState) → KeepsRule limit word ps → FailsAreBounded ps
 fails_bounded limit word ps rule zero me at = cc
 fails_bounded limit word ps rule (suc k) me at = (rule.behind k me at).bounded

@@ -14,7 +14,7 @@ use Rattle.lock_word.proofs.Reached.{step_effect, reachable_new, reachable_after
 use Rattle.lock_word.proofs.Bars.{bar_of_rule}
 use Rattle.lock_word.proofs.LastLoads.{refused_at_last_load, outrun_since_last_load}
 
--- the steps that were done from a world that was reached are a run of the modes on what all hold together
+-- the steps that were done from a reachable world are a run of the modes on what all parties hold
 pub run_on_all : (w : WorldState) (ss : List AtomicStep) → IsReachable w
     → IsModeRun w.readers (held_by_all w.parties).bag (steps_of (changes_from w ss)) (held_by_all (world_after w ss).parties).bag
 run_on_all w ss h =

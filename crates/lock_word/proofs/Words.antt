@@ -1,4 +1,4 @@
--- The word of a bag and a bar: it admits what they permit, and each step on it is the step of them.
+-- The word of a bag with a bar: it admits what they permit, and each step on it is the same step on them.
 use Rattle.std.proofs.Common.{◌≡◌, ℕ, not, ◌+◌, ◌*◌, ◌%◌, ◌/◌, ◌^◌, ◌<◌, ◌≤◌, Bool, true, false, ◌&&◌, ◌||◌, ◌==◌, ◌⊎◌, inl, inr, IsTrue, refl, sym, ap, subst, ◌∙◌, arith, eqb-true, ltb-true, lt-ltb, eq-eqb, nat_lt, eq-zero-or-pos}
 use Rattle.std.proofs.lemmas.Bool.{and_parts, and_from, false≢true}
 use Rattle.lock_base.specs.declared.machine.bag.Bag.{Bag}
@@ -40,7 +40,7 @@ parts_of_word limit all fits stands =
     let bar = stands.one_bar in
     record { low = omega arith; upgradable = omega arith; exclusive = omega arith; bars = omega arith; small = omega arith }
 
--- the word of what may stand together stands for that
+-- the word of a legal state encodes that state
 pub bag_of_word_of : (limit : ℕ) (all : BarredBag) → limit < 2 ^ 32 → MayStand limit all
     → barred_bag_of_word (word_of all) ≡ all
 bag_of_word_of limit all fits stands =
@@ -75,7 +75,7 @@ is_one_of w a b h =
     second true q e = refl
     second false q e = e
 
--- an exclusive token is admitted where nothing is out but the bar of the one who wants it
+-- an exclusive hold is admitted if nothing is held, with no bar but the party's own
 record IsFreeFor (announced : Bool) (all : BarredBag) : Type 0 where
   none : tokens all.bag ≡ 0
   own_bar : all.bars ≡ bars_of announced
@@ -168,7 +168,7 @@ word_of_permits announced limit all Announce fits stands h =
     let few = stands.compatible.within in
     lt-ltb (word_of all) (2 ^ 34) (omega arith)
 
--- the word that the exchange puts is that of what is out after it
+-- the word that the exchange puts encodes the state after the step
 pub word_after_want : (announced : Bool) (limit : ℕ) (all : BarredBag) (want : ExWant)
     → PermitsTo announced limit all (step_of_want want)
     → word_after (word_of all) want ≡ word_of (barred_after announced all (step_of_want want))
@@ -186,7 +186,7 @@ word_after_want announced limit all Announce p = omega arith
 
 -- subtractions
 
--- where what a subtraction gives up is out, it may always be made
+-- a subtraction of what is held is always permitted
 pub permits_down : (announced : Bool) (limit : ℕ) (all : BarredBag) (d : Down) → Has all (step_of_down d)
     → PermitsTo announced limit all (step_of_down d)
 permits_down announced limit all down.Shared h = (h, tt)
@@ -197,7 +197,7 @@ permits_down announced limit all down.ToUpgradable h = ((h, refl, refl), tt)
 permits_down announced limit all down.UpgradableToShared h = ((h, refl, refl), tt)
 permits_down announced limit all down.Withdraw h = h
 
--- the word is that of what is out after the subtraction, and the amount
+-- the word encodes the state after the subtraction, plus the amount
 pub word_before_down : (announced : Bool) (all : BarredBag) (d : Down) → Has all (step_of_down d)
     → word_of all ≡ word_of (barred_after announced all (step_of_down d)) + amount d
 word_before_down announced all down.Shared h = omega arith
@@ -208,7 +208,7 @@ word_before_down announced all down.ToUpgradable h = omega arith
 word_before_down announced all down.UpgradableToShared h = omega arith
 word_before_down announced all down.Withdraw h = omega arith
 
--- a permitted step leaves what may stand
+-- a permitted step leaves a legal state
 pub stands_after : (announced : Bool) (limit : ℕ) (all : BarredBag) (s : WordStep) → 0 < limit → MayStand limit all
     → PermitsTo announced limit all s → MayStand limit (barred_after announced all s)
 stands_after announced limit all (step.Modes s) positive stands permitted =
@@ -221,7 +221,7 @@ stands_after announced limit all step.Withdraw positive stands permitted =
 
 -- packed words
 
--- the word after a permitted step is packed again, and stands for what is out after the step
+-- the word after a permitted step is packed again, and encodes the state after the step
 pub record IsRepacked (limit word new : ℕ) (s : WordStep) : Type 0 where
   pub packed : IsPacked limit new
   pub all : barred_bag_of_word new ≡ barred_after false (barred_bag_of_word word) s
@@ -250,7 +250,7 @@ unbarred_from_test : (bars : ℕ) → IsTrue (not (nat_lt 0 bars)) → bars ≡ 
 unbarred_from_test bars h =
     elim (eq-zero-or-pos bars) [ inl none ↦ none | inr some ↦ absurd (false≢true (sym (ap not (lt-ltb 0 bars some)) ∙ h)) ]
 
--- to one who has not announced itself the word admits a mode where no bar stands and the bag admits it
+-- to a party that has not announced itself, the word admits a mode if no bar is set and the bag admits it
 pub word_admits_mode : (limit : ℕ) (all : BarredBag) (m : Mode) → limit < 2 ^ 32 → MayStand limit all
     → word_admits false limit (word_of all) (want_of_mode m) ≡ (not (is_barred all) && admits limit all.bag m)
 word_admits_mode limit all m fits stands =
@@ -274,7 +274,7 @@ word_admits_mode limit all m fits stands =
     mode_permits mode.Exclusive none h = (h, none)
     mode_permits mode.Upgradable none h = (h, none)
 
--- and an upgrade where the bag allows it to one who has an upgradable one, whatever bar stands
+-- and an upgrade if the bag allows it to a party with an upgradable hold, with or without a bar
 pub word_admits_upgrade : (limit : ℕ) (all : BarredBag) → limit < 2 ^ 32 → MayStand limit all → 0 < all.bag.upgradable
     → word_admits false limit (word_of all) Upgrade ≡ may_become all.bag mode.Exclusive
 word_admits_upgrade limit all fits stands some =
@@ -286,7 +286,7 @@ bar_test : (barred : Bool) (bars : ℕ) → bars ≡ bars_of barred → nat_lt 0
 bar_test true bars e = lt-ltb 0 bars (omega arith)
 bar_test false bars e = rw e refl
 
--- a packed word with a bar, or with none, is packed, and stands for the same tokens
+-- a packed word with the bar, or without it, is packed, and encodes the same holds
 pub record IsPackedBarred (limit word new : ℕ) (barred : Bool) : Type 0 where
   pub packed : IsPacked limit new
   pub bag : bag_of_word new ≡ bag_of_word word
