@@ -26,7 +26,7 @@ use Rattle.lock_seated.specs.declared.rule.PartyView.{PartyView}
 use Rattle.lock_seated.specs.Seats.{newcomer_beside, parties_of, GuardsOnlyEnd, IsKept, EveryStateKeepsRule}
 use Rattle.lock_seated.specs.Plays.{Self, view_after_load, view_after_win, view_after_fail, Loads, Exchanges, Takes}
 
--- the view of a seat, in the words of std
+-- the view of a seat, in std's words
 seat_at : {A : Type 0} (xs : List A) (k : ℕ) (x : A) → get_elem? xs k ≡ some x → slice_get xs k ≡ Some x
 seat_at [] k x h = cc
 seat_at (y ∷ xs) zero x h = cc
@@ -38,7 +38,7 @@ party_at views k v h = rw (slice_get-map (λ (x : PartyView). x.state) views k, 
 abbrev Guarded : PartyView → ℕ → Type 0
 Guarded v word = GuardsOnlyEnd v.state.held.announced v.last word
 
--- the guards of an announced party's last load are no fewer than those of the word before, so than those of the word now
+-- an announced party's last load has no fewer guards than the word before, so no fewer than the word now
 still_guarded : (limit n word : ℕ) (views : List PartyView) (k : ℕ) (v : PartyView) → KeepsRule limit n (parties_of views)
     → get_elem? views k ≡ some v → GainsNoneOrUnbarred word n → Guarded v word → Guarded v n
 still_guarded limit n word views k v rule at gains before announced =
@@ -128,11 +128,11 @@ exchanges limit slots id me want old new is_open is_last holds admits is s kept 
       ((λ hit. absurd (miss hit)), (λ h. refl)),
     ))
 
--- what a subtraction of the table comes to
+-- the result of a subtraction of the table
 subtracted : (n k : ℕ) → k ≤ n → n < 18446744073709551616 → n - k ≡ (n + (2 ^ 64 - k)) % 2 ^ 64
 subtracted n k room small = omega arith
 
--- who has announced itself after a subtraction had before it
+-- a party that is announced after a subtraction was announced before it
 announced_before : (own : Hold) (d : Down) → (hold_after own (step_of_down d)).announced ≡ true → own.announced ≡ true
 announced_before own down.Shared h = h
 announced_before own down.Exclusive h = h
@@ -142,7 +142,7 @@ announced_before own down.ToUpgradable h = h
 announced_before own down.UpgradableToShared h = h
 announced_before own down.Withdraw h = absurd (false≢true h)
 
--- what one party holds is little
+-- one party holds few tokens
 few_held : (limit word : ℕ) (ps : List PartyState) (k : ℕ) (me : PartyState) → IsLimit limit → KeepsRule limit word ps
     → slice_get ps k ≡ Some me → tokens me.held.bag < 2 ^ 63
 few_held limit word ps k me range rule at =
