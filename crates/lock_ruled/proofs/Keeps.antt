@@ -23,21 +23,21 @@ abbrev Homes : Type 0 → Type 0
 Homes T = List (Option (std.Option T))
 
 module _ {T : Type 0} where
-  -- whoever does not have the value out fits any state
+  -- a user without the value fits any state
   is_free : (st : UserStage T) (word holder number word' holder' : ℕ) (homes homes' : Homes T) (y y' : T)
       → (holder ≡ number → word ≢ 0 → ⊥) → Fits word homes y holder number st → Fits word' homes' y' holder' number st
   is_free Free word holder number word' holder' homes homes' y y' not fits = tt
   is_free (Opens x) word holder number word' holder' homes homes' y y' not fits = absurd (not fits.0 fits.1)
   is_free (Holds x) word holder number word' holder' homes homes' y y' not fits = absurd (not fits.0 fits.1)
 
-  -- the word may change where it does not become 0
+  -- the word may change if it does not become 0
   still_fits : (st : UserStage T) (word word' holder number : ℕ) (homes : Homes T) (y : T) → word' ≢ 0
       → Fits word homes y holder number st → Fits word' homes y holder number st
   still_fits Free word word' holder number homes y away fits = tt
   still_fits (Opens x) word word' holder number homes y away fits = (fits.0, away, fits.2, fits.3)
   still_fits (Holds x) word word' holder number homes y away fits = (fits.0, away, fits.2, fits.3)
 
-  -- what lies in the slot that was taken last
+  -- what lies in the slot that was acquired last
   abbrev slot_in : List (ℕ × std.Option T) → T → T
   slot_in ((k, Some x) ∷ xs) other = x
   slot_in xs other = other
@@ -52,12 +52,12 @@ pub not_away : {T : Type 0} (st : UserStage T) → st ≡ Free → IsAway st →
 not_away st free away = subst IsAway free away
 
 module _ {T V : Type 0} (rule : T → List V → Type 0) (me after : Self T V) where
-  -- who has taken a value has it out
+  -- a user that acquired a value holds it
   pub has_out : IsIdle me → (took : HasTaken rule me after) → Carries after took.0 took.0
   has_out idle took =
       (ap (λ (m : Self T V). m.0.stage) took.1, ap (λ (m : Self T V). m.1) took.1 ∙ ap (λ (c : List (ℕ × std.Option T)). (0, Some took.0) ∷ c) idle.0)
 
-  -- and the rule holds of it, beside the view that a contract sees
+  -- and the rule holds of it, with the view that contracts see
   pub has_met : (took : HasTaken rule me after) (taken : T) (view : V) → taken ≡ took.0 → me.0.own ≡ view → Meets rule taken view
   has_met took taken view same is = subst (λ (z : T × V). Meets rule z.0 z.1) (λ i. (sym same i, is i)) took.2
 
@@ -73,7 +73,7 @@ pub one_or_more : (n : ℕ) → either (eqb n 0) 1 n ≢ 0
 one_or_more n = exchanged n 0 1 (λ m. m ≢ 0) (λ hit e. suc-ne-zero 0 e) (λ miss. miss)
 
 module _ {T V : Type 0} (rule : T → List V → Type 0) where
-  -- the state that a step of one user leaves
+  -- the state after a step of one user
   left : (s : State (std.Option T) (UserView T V)) (r : IsRuled rule s) (id n holder : ℕ) (homes : Homes T)
       (u w : UserView T V) (y : T) → get_elem? s.views id ≡ some u
       → w.parts ≡ u.parts → rule y (known_views (set s.views id w)) → (n ≡ 0 → homes ≡ some (Some y) ∷ [])
@@ -217,7 +217,7 @@ module _ {T V : Type 0} (rule : T → List V → Type 0) where
         each = maker_fits value view;
       }
 
-  -- the user that has the value out is none that has not
+  -- the user that holds the value is not one that does not
   others_out : (s : State (std.Option T) (UserView T V)) (r : IsRuled rule s) (id : ℕ) (u w : UserView T V) → get_elem? s.views id ≡ some u
       → u.stage ≡ Free → IsOut s.views r.holder → IsOut (set s.views id w) r.holder
   others_out s r id u w at free out =
@@ -261,7 +261,7 @@ module _ {T V : Type 0} (rule : T → List V → Type 0) where
             (λ (new : k ≡ x). subst (λ (y : UserView T V). Fits n s.homes r.value r.holder j y.stage) new tt) (at_snoc us k x j e);
       }
 
-  -- the views of two users, whichever comes first, where the one takes the other in
+  -- the views of two users, whichever comes first, when they are joined
   joined : (us : List (UserView T V)) (id other : ℕ) (u w both gone : UserView T V) (y : T)
       → asked.Joins rule u.own w.own both.own → 0 < u.parts → 0 < w.parts → 0 < both.parts
       → gone.parts ≡ 0 → other ≢ id → get_elem? us id ≡ some u → get_elem? us other ≡ some w → rule y (known_views us)
@@ -320,7 +320,7 @@ module _ {T V : Type 0} (rule : T → List V → Type 0) where
             (at_set us other j left_over x e);
       }
 
-  -- who has all parts, and no guard, finds the value at home
+  -- a user with all parts and no guard finds the mutex free
   pub closes : (id : ℕ) (u : UserView T V) (words : List ℕ) (slots : List (std.Option T)) → u.stage ≡ Free → u.parts ≡ all_parts
       → Final (Seen (IsRuled rule) id u) words slots → (slot : std.Option T) → get_elem? slots 0 ≡ some slot
       → (slot ≡ None → ⊥) × ((value : T) → slot ≡ Some value → rule value (u.own ∷ []))

@@ -1,4 +1,4 @@
--- The views that the rule speaks of, where one or two users change theirs.
+-- The views in the rule, when one or two users change theirs.
 use Rattle.std.proofs.Common.{◌≡◌, ◌≢◌, ℕ, zero, suc, ◌+◌, ◌<◌, ◌≤◌, List, [], ◌∷◌, ◌++◌, set, sym, refl, ap, ◌∙◌, arith, append_assoc}
 use mathlib.Core.Option.{some, some-injective, some-ne-none}
 use lib.ListN.{get_elem?}
@@ -114,7 +114,7 @@ module _ {T V : Type 0} where
       let here : x.parts ≡ 0 = omega arith in
       ap (λ (n : ℕ). known_if n x.own ++ known_views xs) here ∙ none_known xs (omega arith)
 
-  -- who has all parts is the only one that the rule speaks of
+  -- a user with all parts has the only view in the rule
   pub alone : (us : List (UserView T V)) (id : ℕ) (u : UserView T V) → get_elem? us id ≡ some u → parts_of us ≡ u.parts
       → 0 < u.parts → known_views us ≡ u.own ∷ []
   alone [] id u at all some_part = absurd (some-ne-none u (sym at))
