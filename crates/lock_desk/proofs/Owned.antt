@@ -1,4 +1,4 @@
--- The owner of a reentrant lock: what its levels show of the held entries, and whom it lets in again.
+-- The owner of a reentrant lock: what its levels show of the held entries, and which party may add a level.
 use Rattle.std.proofs.Common.{◌≡◌, ◌≢◌, ℕ, ◌+◌, ◌-◌, ◌<◌, ◌≤◌, Bool, true, false, not, cond, nat_eq, List, [], ◌∷◌, length, refl, sym, ap, subst, ◌∙◌, Option, None, Some, Result, Ok, Err, is_none, arith}
 use Rattle.std.specs.Prelude.{nat_lt, ◌&&◌, ◌||◌, ◌↔◌, IsSome, IfSome, IsErr, IfOk, MatchBool}
 use Rattle.std.specs.Option.{option_map_or}
@@ -21,7 +21,7 @@ no_length : {X : Type 0} (xs : List X) → length xs ≡ 0 → xs ≡ []
 no_length [] e = refl
 no_length (x ∷ xs) e = absurd (omega arith)
 
--- entries that are all of one party are all of another where the two are one
+-- entries that all belong to one party all belong to another if the two are one
 party_of_all : (q p : ℕ) (xs : List Entry) → 0 < length xs → all_of_party q xs ≡ true → all_of_party p xs ≡ nat_eq q p
 party_of_all q p [] l a = absurd (omega arith)
 party_of_all q p (x ∷ xs) l a =
@@ -100,7 +100,7 @@ module _ {K : Type 0} where
       let same : q ≡ o.party = eqb-true q o.party (and_left (nat_eq q o.party) _ (sym (a o.party) ∙ h.2)) in
       rw (eq-eqb o.party q (sym same)) (sym h.1)
 
-  -- the owner admits whom the held entries admit
+  -- the owner admits the parties that the held entries admit
   pub may_enter-held : (limit party : ℕ) (owner : Option (Owner K)) (xs : List Entry) → 0 < limit → OwnsLevels owner xs
       → may_enter limit party owner ≡ (all_of_party party xs && nat_lt (length xs) limit)
   may_enter-held limit party None xs l h = sym (rw h (lt-ltb 0 limit l))
@@ -126,12 +126,12 @@ module _ {K : Type 0} where
       by_party true e = sym (rw (some_of_all o.party party xs (omega (arith, h.0, h.1)) h.2 ∙ e, h.1) refl)
       by_party false e = ne_eqb 0 limit (λ f. absurd (omega arith)) ∙ sym (rw (some_of_all o.party party xs (omega (arith, h.0, h.1)) h.2 ∙ e) refl)
 
-  -- without an owner nothing is held, and a token goes back with the last level
+  -- without an owner nothing is held, and the last level releases the token
   pub none_held : (owner : Option (Owner K)) (xs : List Entry) → OwnsLevels owner xs → is_none owner ≡ nat_eq (length xs) 0
   none_held None xs h = sym (rw h refl)
   none_held (Some o) xs h = sym (ne_eqb (length xs) 0 (λ f. absurd (omega (arith, h.0, h.1))))
 
-  -- Whom `again` lets in
+  -- Which party `again` admits
 
   may_by : (limit p : ℕ) (owner : Option (Owner K)) → IsSome owner → IfSome owner (λ o. (0 < o.count) × (o.count ≤ limit))
       → may_enter limit p owner ≡ (not (nat_eq (count_for p owner) 0) && not (nat_eq (count_for p owner) limit))
@@ -149,7 +149,7 @@ module _ {K : Type 0} where
       by_party true = by_count (nat_eq o.count limit) refl ∙ sym (rw (ne_eqb o.count 0 (λ f. absurd (omega (arith, h.0)))) refl)
       by_party false = refl
 
-  -- an owned lock lets those in again whom the owner admits
+  -- an owned lock gives a further level to the parties that the owner admits
   pub again_admits : (l m : Levels K) (p : ℕ) (r : Result Bool Fault) → IsSome l.owner → IsLawful l
       → IsErr r ↔ (level_of l p ≡ l.limit) → IfOk r (λ more. MatchBool more (GainsLevel l m p) ((level_of l p ≡ 0) × (m ≡ l)))
       → result_unwrap_or r false ≡ may_enter l.limit p l.owner

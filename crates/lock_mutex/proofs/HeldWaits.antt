@@ -1,4 +1,4 @@
--- What the loop of one who waits with a held lock says of the value.
+-- What the loop of a waiter with a held lock says of the value.
 use Rattle.std.specs.Prelude.{◌≡◌, Bool, true, false, Option, Some, IsSomeAnd, refl}
 use Rattle.std.specs.Borrow.{MutBor}
 use Rattle.std.specs.Fn.{Mut}

@@ -1,4 +1,4 @@
--- A journal tells the steps of a lock.
+-- A journal records the steps of a lock.
 use Rattle.std.proofs.Common.{◌≡◌, ℕ, ◌<◌, Bool, true, false, nat_lt, List, [], ◌∷◌, ◌++◌, length, length-append, refl, sym, ap, ◌∙◌, subst, arith, ltb-true}
 use Rattle.std.specs.Prelude.{if◌then◌else◌}
 use Rattle.std.proofs.lemmas.Bool.{false≢true}
@@ -51,7 +51,7 @@ written_step limit bag journal step kept permitted false is = record {
   full = λ stopped. grind (arith, kept.within, is);
 }
 
--- a step that is permitted keeps the journal, written or not
+-- a permitted step keeps the journal, recorded or not
 pub IsJournalOf-journal_after : (limit : ℕ) (bag : Bag) (journal : Journal) (step : ModeStep)
     → IsJournalOf limit bag journal → Permits limit bag step
     → IsJournalOf limit (bag_after bag step) (journal_after journal step)
@@ -86,7 +86,7 @@ module _ {K : Type 0} where
     kept = journal_along same_limit (ap bag_of_tokens same) same_journal recording.kept;
   }
 
-  -- with no token out, and nothing written
+  -- with no token held, and nothing recorded
   pub new_recording : {ts : List (K × Mode)} {limit : ℕ} {journal : Journal} (room : ℕ) → IsLimit limit → ts ≡ [] → journal ≡ empty_journal room
       → IsRecording ts limit journal
   new_recording {limit = limit} room lawful none_out none_written = record {

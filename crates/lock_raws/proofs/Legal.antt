@@ -1,4 +1,4 @@
--- Tokens that may be out together stay so by each call.
+-- Each call keeps the held tokens compatible.
 use Rattle.std.proofs.Common.{◌≡◌, ◌↔◌, ℕ, ◌<◌, ◌≤◌, Bool, true, false, ◌&&◌, List, length, refl, sym, subst, ◌∙◌, arith, Option, Some, None, Result, Ok, Err}
 use Rattle.std.proofs.lemmas.Bool.{and_parts}
 use Rattle.std.specs.Prelude.{IsTrue, not, is_some, is_ok, IfSome, IfNone, IfOk, OnErr}
@@ -13,7 +13,7 @@ use Rattle.lock_base.proofs.TokenBags.{tokens-bag_of_tokens}
 use Rattle.lock_base.proofs.ModeLemmas.{compatible_acquired, tokens-one_more}
 use Rattle.lock_base.proofs.TokenSteps.{MakesStep, acquires, releases, changes, stay_compatible}
 
--- tokens that may be out together are no more than the limit
+-- compatible tokens are no more than the limit
 pub compatible_within : (limit : ℕ) (b : Bag) → 0 < limit → AreCompatible limit b → tokens b ≤ limit
 compatible_within limit b positive c = grind (arith, c.alone, c.within)
 
@@ -22,7 +22,7 @@ not_true true refuted = absurd (refuted refl)
 not_true false refuted = refl
 
 module _ {K : Type 0} where
-  -- where there is no room nothing is admitted
+  -- without room nothing is admitted
   pub full_admits_none : {ts : List (K × Mode)} {capacity readers : ℕ} {room : Bool} (mode : Mode) → IsLegalState ts capacity readers
       → (IsTrue room ↔ (length ts < capacity)) → room ≡ false → (bar : Bool)
       → false ≡ (not bar && admits readers (bag_of_tokens ts) mode)

@@ -1,4 +1,4 @@
--- Rolls after a push, a taking and a write.
+-- Numbered slots after a push, a take and a write.
 use Rattle.std.proofs.Common.{◌≡◌, ℕ, ◌+◌, ◌-◌, ◌<◌, List, [], ◌∷◌, ◌++◌, length, set, get_or, is_some, true, refl, sym, ap, subst, ◌∙◌, Option, None, Some, arith, length-append}
 use Rattle.std.specs.Prelude.{IsSome}
 use Rattle.lock_roll.specs.declared.row.Row.{Row}

@@ -65,7 +65,7 @@ down-one_field word (inr (inr (inr (inr (inr (inl is)))))) = rw is refl
 down-one_field word (inr (inr (inr (inr (inr (inr (inl is))))))) = rw is refl
 down-one_field word (inr (inr (inr (inr (inr (inr (inr none))))))) = absurd none
 
--- what is wanted or given up is one field
+-- a change is one field
 pub fields_of-change : (word change : List ℕ) → IsChange word change → fields_of change ≡ change ∷ []
 fields_of-change word change (inl found) = want-one_field change found.1
 fields_of-change word change (inr found) = down-one_field change found.1

@@ -1,4 +1,4 @@
--- The tokens of a packed word: one more or one fewer of a mode, and what a token that is out says of the bag.
+-- The tokens of a packed word: one more or one less of a mode, and what a held token says of the bag.
 use Rattle.std.proofs.Common.{◌≡◌, ℕ, if◌then◌else◌, zero, suc, ◌+◌, ◌<◌, Bool, true, false, List, ◌∷◌, ◌++◌, length, replicate, IsTrue, refl, sym, ap, subst, ◌∙◌, arith}
 use Rattle.std.specs.Prelude.{not}
 use Rattle.lock_base.specs.declared.machine.mode.Mode.{Mode}
@@ -89,7 +89,7 @@ bag_of_tokens_in b =
 pub length_of_tokens_in : (b : Bag) → length (tokens_in b) ≡ tokens b
 length_of_tokens_in b = sym (tokens-bag_of_tokens (tokens_in b)) ∙ ap tokens (bag_of_tokens_in b)
 
--- a token that is out
+-- a held token
 
 -- the token is not that of its mode
 abbrev is_strange : PackedToken × Mode → Bool
@@ -124,7 +124,7 @@ token_is b held mode others out = by_test (same_mode held mode) refl
         = ap (λ (same : Bool). if not same then 1 else 0) is in
         absurd (omega (arith, none_strange b, out.counts is_strange, strange))
 
--- the token is out in its own mode, and beside it the others are
+-- the token is held in its own mode, and these are the others
 pub record Stands (b : Bag) (token : PackedToken) (mode : Mode) (others : List (PackedToken × Mode)) : Type 0 where
   pub own : token.mode ≡ mode
   pub some : 0 < count_of b mode

@@ -41,7 +41,7 @@ get_other (r ∷ ps) zero (suc j) p q d e = e
 get_other (r ∷ ps) (suc i) zero p q d e = e
 get_other (r ∷ ps) (suc i) (suc j) p q d e = get_other ps i j p q (λ f. d (ap suc f)) e
 
--- a start has one length of chain at most
+-- a start has at most one length of chain
 pub one_chain : (ps : List Place) (m n : ℕ) (start : Option ℕ) → IsChain ps m start → IsChain ps n start → m ≡ n
 one_chain ps zero zero start p q = refl
 one_chain ps zero (suc n) start p q = let e = q.2 in cc
@@ -201,7 +201,7 @@ chain_push ps place start e c =
     let longer : IsChain (ps ++ Free start ∷ []) (suc place) (Some place) = (place, start, refl, there, chain_before ps (Free start) place start c) in
     rw add-one longer
 
--- where no free place is left, as many tokens are out as there are places
+-- if no place is free, as many tokens are held as there are places
 pub all_taken : (ps : List Place) (bag : Bag) (start : Option ℕ) (readers : ℕ) → IsTable ps bag start readers
     → start ≡ None → length (tokens_of (modes_in ps)) ≡ length ps
 all_taken ps bag start readers t e = by_count t.free t.all t.chain

@@ -8,7 +8,7 @@ use Rattle.lock_roll.proofs.roll.Roll.push.Given as given
 use Rattle.lock_roll.proofs.roll.Roll.push.Goals as goal
 use Rattle.lock_roll.proofs.roll.Roll.push.Goals.{then-is_crowded, else-is_crowded}
 
--- a roll of the same items
+-- an instance with the same items
 record IsSame {X : Type 0} (old new : Inside X) : Type 0 where
   roll : IsRoll new.rows.items new.items new.capacity new.last (vec_capacity new.rows)
   items : items_of new.rows.items ≡ items_of old.rows.items
@@ -16,7 +16,7 @@ record IsSame {X : Type 0} (old new : Inside X) : Type 0 where
   counted : new.items ≡ old.items
   last : new.last ≡ old.last
 
--- before the push the roll is one of the same items
+-- before the push the instance has the same items
 before : (g : given.Over) (c : goal.After-self-2-1 g) → IsSame c.self.inside c.if-is_crowded.self-inside
 before g c =
     elim c.if-is_crowded.branch [
