@@ -5,7 +5,7 @@ use Rattle.lock_base.specs.declared.machine.mode.Mode.TheVariants.{Shared, Exclu
 use Rattle.lock_base.specs.declared.machine.bag.Bag.{Bag}
 use Rattle.lock_states.specs.declared.word.PackedToken.{PackedToken}
 
--- the modes that are out, the two limits, and whether a bar is set
+-- the held modes, the two limits, and whether the bar is set
 pub record Packed : Type 0 where
   pub bag : Bag
   pub places : ℕ
@@ -16,7 +16,7 @@ pub record Packed : Type 0 where
 abbrev pub token_of : Mode → PackedToken × Mode
 token_of mode = (record { mode = mode }, mode)
 
--- as many tokens of each mode as the bag has
+-- as many tokens of each mode as in the bag
 abbrev pub tokens_in : Bag → List (PackedToken × Mode)
 tokens_in b =
     replicate b.shared (token_of Shared)

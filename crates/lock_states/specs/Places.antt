@@ -1,15 +1,15 @@
--- Places, each free or taken in a mode, and the chain through those that are free.
+-- Places, free or taken in a mode, and the chain through the free ones.
 use Rattle.std.specs.Prelude.{◌≡◌, ℕ, zero, suc, ◌+◌, ◌-◌, ◌^◌, List, [], ◌∷◌, Option, Some, None, min, slice_get}
 use Rattle.lock_base.specs.declared.machine.mode.Mode.{Mode}
 use Rattle.lock_states.specs.declared.places.Place.{Place}
 use Rattle.lock_states.specs.declared.places.Place.TheVariants.{Free, Taken}
 
--- places, and how often one was read or written
+-- the places, and how often one was read or written
 pub record Places : Type 0 where
   pub places : List Place
   pub count : ℕ
 
--- a count that stays at its largest value
+-- a saturating count
 abbrev pub one_access_more : ℕ → ℕ
 one_access_more count = min (count + 1) (2 ^ 64 - 1)
 
@@ -22,7 +22,7 @@ abbrev pub modes_in : List Place → List (Option Mode)
 modes_in [] = []
 modes_in (p ∷ ps) = mode_in p ∷ modes_in ps
 
--- from the start so many free places each name the next, and the last names none
+-- a chain of this many free places from the start: each names the next, and the last names none
 abbrev pub IsChain : List Place → ℕ → Option ℕ → Type 0
 IsChain ps zero start = start ≡ None
 IsChain ps (suc n) start =

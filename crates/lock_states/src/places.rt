@@ -1,4 +1,4 @@
-//! Places, each free or taken in a mode, that are reached one at a time.
+//! The places of a table, which are read and written one at a time.
 ghost use Rattle.std.specs.Prelude.{◌≡◌, ◌-◌, ◌<◌, [], length, IfOk, IfErr, Some, slice_get, slice_set};
 ghost use Rattle.lock_states.specs.Table.{tokens_of};
 ghost use Rattle.lock_states.specs.Places.{modes_in, IsChain, one_access_more};
@@ -8,14 +8,14 @@ use lock_base::raw::Fault;
 use std::alloc::Global;
 use std::marker::Model;
 
-/// A place, which is free and names the next free one, or is taken in a mode.
+/// A place: free, with the next free place, or taken in a mode.
 #[derive(Clone, Copy, PartialEq, Eq, Debug)]
 pub enum Place {
     Free(Option<usize>),
     Taken(Mode),
 }
 
-/// Places, and how often one was read or written. That count stays at 2^64 - 1 once there.
+/// The places of a table, and a count of reads and writes. The count stays at 2^64 - 1 once there.
 #[derive(Drop)]
 pub struct Places {
     places: Vec<Place>,
@@ -31,7 +31,7 @@ impl Model for Places {
 }
 
 impl Places {
-    /// So many places, all free. The last one names the one before it, and so on down.
+    /// Makes `places` free places. Each names the one before it as the next free one.
     pub fn new(alloc: Global, places: usize) -> Result<Places, Fault>
         ensures fault { IfErr result (λ fault. fault ≡ Fault.OutOfMemory) }
         ensures number { IfOk result (λ p. length p.places ≡ places) }
@@ -53,14 +53,14 @@ impl Places {
         })
     }
 
-    /// How many places there are.
+    /// Returns how many places there are.
     pub fn len(&self) -> usize
         ensures { result ≡ length self.now.places }
     {
         self.places.len()
     }
 
-    /// What a place is.
+    /// Returns a place.
     pub fn read(&mut self, place: usize) -> Place
         requires { place < length self.old.places }
         ensures value { slice_get self.old.places place ≡ Some result }
@@ -71,7 +71,7 @@ impl Places {
         self.places[place]
     }
 
-    /// Makes a place something else.
+    /// Replaces a place.
     pub fn write(&mut self, place: usize, value: Place)
         requires { place < length self.old.places }
         ensures places { self.new.places ≡ slice_set self.old.places place value }

@@ -9,13 +9,14 @@ use lock_word::{Down, ExWant, has_bar, has_exclusive, has_tokens, with_bar};
 use std::alloc::Global;
 use std::marker::Model;
 
-/// A token of a packed word, which is its mode alone.
+/// A token of a packed word: its mode alone.
 #[derive(Drop)]
 pub struct PackedToken {
     mode: Mode,
 }
 
-/// A raw state that keeps one number, the word of the tokens that are out and of the bar. A token is its mode.
+/// A raw state in one number, the packed word of the held tokens and the bar. A token is its mode. It allocates
+/// nothing.
 #[derive(Drop)]
 pub struct PackedWord {
     word: u64,
@@ -42,7 +43,7 @@ impl Model for PackedWord {
 }
 
 impl PackedWord {
-    /// One more of the mode, exactly where it is admitted.
+    /// Acquires the mode, if it is admitted.
     fn acquire(&mut self, mode: Mode) -> bool
         ensures admitted { result ≡ (not self.old.bar && admits self.old.readers self.old.bag mode) }
         ensures after { self.new ≡ if result then record self.old { bag = one_more self.old.bag mode } else self.old }
@@ -54,7 +55,7 @@ impl PackedWord {
         true
     }
 
-    /// One fewer of the mode.
+    /// Releases the mode.
     fn release(&mut self, mode: Mode)
         requires { 0 < count_of self.old.bag mode }
         ensures { self.new ≡ record self.old { bag = one_less self.old.bag mode } }
@@ -62,7 +63,7 @@ impl PackedWord {
         self.word -= Down::of_mode(mode).amount();
     }
 
-    /// One of the mode becomes one of the other by a move. An upgrade is refused where another is out.
+    /// Changes a held mode to another by a move. An upgrade next to another token is refused.
     fn move_to(&mut self, from: Mode, to: Mode) -> bool
         requires out { 0 < count_of self.old.bag from }
         requires moves { IsTrue (is_move from to) }
@@ -98,7 +99,7 @@ impl RawState for PackedWord {
 
     ghost bar = { λ w. w.bar };
 
-    /// It takes no memory, so it is never refused for want of it.
+    /// It allocates nothing, so it never fails for want of memory.
     fn new(_alloc: Global, places: u64, readers: u64) -> Result<PackedWord, Fault>
         ensures range { IsOk result ↔ (IsLimit places × IsLimit readers) }
         ensures fault { IfErr result (λ fault. fault ≡ Fault.BadLimits) }
