@@ -1,4 +1,4 @@
-//! What callers of a seated lock can prove of the words that they are answered.
+//! What callers of a seated lock can prove of the words that they load.
 ghost use Rattle.std.specs.Prelude.{◌≡◌, ◌+◌, ◌%◌, ◌<◌, ◌≤◌, ◌^◌, ◌⊎◌, true};
 ghost use Rattle.lock_word.specs.Word.{guards_of_word, readers_of_word};
 
@@ -27,7 +27,7 @@ pub fn loaded_beside_readers(lock: &SeatedLock, party: &mut Party) -> u64
     lock.load(party)
 }
 
-/// The word that keeps a shared holder from an exclusive hold, or 0 where nothing kept it.
+/// The word that refuses an exclusive hold to a shared holder, or 0 if it was not refused.
 pub fn refused_beside_readers(lock: &SeatedLock, party: &mut Party) -> u64
     requires of_lock { party.old.lock ≡ lock.now }
     requires holds { 0 < party.old.state.held.bag.shared }
@@ -40,7 +40,7 @@ pub fn refused_beside_readers(lock: &SeatedLock, party: &mut Party) -> u64
     }
 }
 
-/// The word that an announced party loads, by which the guards have only ended since its last load.
+/// The word that an announced party loads. No guard came since its last load.
 pub fn loaded_under_own_bar(lock: &SeatedLock, party: &mut Party) -> u64
     requires of_lock { party.old.lock ≡ lock.now }
     requires announced { party.old.state.held.announced ≡ true }

@@ -1,4 +1,4 @@
-//! The packed word under a `World` and under threads: callers that prove what they are told, and tests; and tests of the
+//! The packed word in a `World` and under threads: callers that prove what they load, and tests. Also tests of the
 //! table of tokens.
 #![tactic(auto)]
 

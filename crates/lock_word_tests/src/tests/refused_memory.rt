@@ -1,4 +1,4 @@
-//! Memory may be refused to each call that takes it.
+//! Each call that allocates, with an allocation refused.
 use lock_base::raw::Fault;
 use lock_seated::{Attempt, ExWant, SeatedLock};
 use lock_states::world::World;

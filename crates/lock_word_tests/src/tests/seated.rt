@@ -1,4 +1,4 @@
-//! What the calls of a seated lock answer, one after another.
+//! The answers of a seated lock, call by call.
 use crate::callers::{
     loaded_alone, loaded_beside_readers, loaded_under_own_bar, refused_beside_readers,
 };

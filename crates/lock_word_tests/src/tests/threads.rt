@@ -1,4 +1,4 @@
-//! Parties of a seated lock on threads of their own.
+//! Parties of a seated lock, each on its thread.
 ghost use Rattle.std.specs.Prelude.{◌≡◌};
 
 use lock_base::machine::Mode;
@@ -9,7 +9,7 @@ use std::sync::atomic::{AtomicBool, Ordering};
 use std::test::Fail;
 use std::thread::{Threads, join};
 
-/// Holds shared until the other does too, for at most so many turns.
+/// Holds shared until the other party does too, for at most this many turns.
 fn meet<R: Wait>(
     rt: &R,
     lock: &SeatedLock,
@@ -54,8 +54,8 @@ fn two_readers_meet(rt: HostRuntime) -> Result<(), Fail> {
     Ok(())
 }
 
-/// One attempt at an exclusive hold. Who gets it swaps the flag from false to true and back, and gives it back. Whether
-/// it was done, and whether no swap found the other value.
+/// Attempts once to acquire exclusively. The holder swaps the flag from false to true and back, and releases. Returns
+/// whether it acquired, and whether no swap found the other value.
 fn swap_alone(lock: &SeatedLock, party: &mut Party, flag: &AtomicBool) -> (bool, bool)
     requires { party.old.lock ≡ lock.now }
     ensures { party.new.lock ≡ lock.now }
@@ -69,10 +69,10 @@ fn swap_alone(lock: &SeatedLock, party: &mut Party, flag: &AtomicBool) -> (bool,
     (true, !found && left)
 }
 
-/// Attempts 1,000 times, by the party and by one that it splits off in turn. Whether one held at all, and whether each
-/// holder was alone.
+/// Attempts 1,000 times, by the party and a second one that it splits off, in turn. Returns whether one acquired at
+/// all, and whether each holder was alone.
 ///
-/// It takes no leave to wait, so no call of it may wait.
+/// It has no permission to block, so no call of it blocks.
 fn contend(lock: &SeatedLock, party: Party, flag: &AtomicBool) -> (bool, bool)
     requires { party.lock ≡ lock.now }
 {
@@ -88,7 +88,7 @@ fn contend(lock: &SeatedLock, party: Party, flag: &AtomicBool) -> (bool, bool)
     (held, alone)
 }
 
-/// Two contend, on a thread each.
+/// Two parties contend, each on its thread.
 fn contend_both<R: Threads + Sync>(
     rt: &R,
     lock: &SeatedLock,

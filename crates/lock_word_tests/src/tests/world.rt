@@ -1,4 +1,4 @@
-//! Interleavings as one list of steps each, with the outcomes that are wanted.
+//! Interleavings, each as one list of steps with the expected outcomes.
 use lock_base::machine::Mode;
 use lock_base::raw::Fault;
 use lock_states::world::World;
@@ -8,7 +8,7 @@ use lock_word::{AtomicStep, Down, ExWant, Outcome};
 use std::alloc::Global;
 use std::test::Fail;
 
-/// The world that the steps lead to from a new one. None where they have other outcomes.
+/// Returns the world after the steps from a new one, or `None` if an outcome differs.
 fn led_to(
     alloc: Global,
     parties: u64,
