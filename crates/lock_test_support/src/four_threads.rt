@@ -4,10 +4,10 @@ use std::thread::{self, Threads};
 
 /// A count behind a lock.
 pub trait Count {
-    /// Where a thread waits for the lock.
+    /// The permission to block.
     type Waiter: Wait;
 
-    /// Adds 1 to the count, which it reads and writes apart.
+    /// Adds 1 to the count, by a separate read and write.
     fn add_one(&self);
 }
 

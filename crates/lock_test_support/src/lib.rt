@@ -1,5 +1,5 @@
-//! What the tests of the locks share: raw locks that write down what they are asked, or lie, a desk beside a lock, projections
-//! of pairs, flags between threads, and questions on answers.
+//! What the tests of the locks share: raw locks that record their calls, or admit too much; projections of pairs, flags
+//! between threads, and checks of answers.
 #![tactic(auto)]
 
 pub mod answer;

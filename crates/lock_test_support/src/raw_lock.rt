@@ -1,4 +1,4 @@
-//! Raw locks of the tests, and the calls that they get.
+//! Raw locks of the tests, and the calls that they record.
 mod asked_raw;
 mod asked_rwlock;
 mod calls;

@@ -1,4 +1,4 @@
-//! What a maker may answer.
+//! Answers of makers.
 use lock_base::raw::Fault;
 
 /// Whether a maker gave a lock of the value, or told that memory was refused.

@@ -1,4 +1,4 @@
-//! How values print.
+//! Texts of values.
 use std::alloc::Global;
 use std::fmt::{Debug, Display};
 

@@ -1,4 +1,4 @@
-//! What a try may answer.
+//! Answers of tries.
 use lock_base::raw::Fault;
 
 /// The guard that a try gave, if any.

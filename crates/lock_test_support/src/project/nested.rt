@@ -4,7 +4,7 @@ use lock_base::project::Then;
 
 pub type Nested = ((u64, u64), u64);
 
-/// The item of the inner pair at this index, where it has one.
+/// The item of the inner pair at this index, if it has one.
 pub fn inner_item(index: usize) -> Then<Item0, Nth> {
     Then {
         first: Item0,

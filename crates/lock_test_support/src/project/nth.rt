@@ -3,7 +3,7 @@ ghost use Rattle.lock_test_support.specs.Pairs.{nth_item, IsLawful-nth_item};
 
 use lock_base::project::TryProject;
 
-/// The item of a pair of numbers at this index. Of a pair that has none it tells the index.
+/// The item of a pair of numbers at this index. The miss of a pair without it is the index.
 #[derive(Clone, Copy, Debug)]
 pub struct Nth(pub usize);
 

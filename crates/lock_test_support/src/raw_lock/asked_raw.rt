@@ -1,4 +1,4 @@
-//! A raw lock that writes down what it was asked.
+//! A raw lock that records the calls made on it.
 ghost use Rattle.std.specs.Prelude.{IsOkUnless};
 
 use crate::raw_lock::calls::Calls;
@@ -8,7 +8,7 @@ use lock_base::raw::Fault;
 use lock_guard::raw::{RawMutex, RawMutexFair, RawMutexTimed};
 use std::alloc::Global;
 
-/// A raw lock, honest or not, and the calls that it got. Times are numbers that it only writes down: a timed try is a
+/// A raw lock, honest or not, with the calls made on it. Times are numbers that it only records: a timed try is a plain
 /// try.
 #[derive(Drop)]
 pub struct AskedRaw<R> {
@@ -17,7 +17,7 @@ pub struct AskedRaw<R> {
 }
 
 impl<R> AskedRaw<R> {
-    /// The raw lock, which got no call yet.
+    /// Wraps a raw lock. No call is recorded yet.
     pub(crate) fn over(alloc: Global, raw: R) -> Result<AskedRaw<R>, Fault>
     where
         R: Drop,
@@ -27,12 +27,12 @@ impl<R> AskedRaw<R> {
         Ok(AskedRaw { raw, calls })
     }
 
-    /// The calls that it gets.
+    /// Returns the recorded calls.
     pub fn calls(&self) -> Result<Calls, Fault> {
         self.calls.another()
     }
 
-    /// Whether it got no call yet.
+    /// Returns whether no call is recorded yet.
     pub fn is_unasked(&self) -> bool {
         self.calls.is_empty()
     }

@@ -1,4 +1,4 @@
-//! The raw lock that writes down what it was asked, for readers and writers.
+//! The recording raw lock, for readers and writers.
 use crate::raw_lock::asked_raw::AskedRaw;
 use crate::raw_lock::raw_call::RawCall;
 use lock_base::machine::Mode;

@@ -1,4 +1,4 @@
-//! The calls that a raw lock got.
+//! The calls of a raw lock.
 ghost use Rattle.std.specs.Prelude.{IsOkUnless};
 
 use crate::raw_lock::raw_call::RawCall;
@@ -7,7 +7,7 @@ use std::alloc::Global;
 use std::mem;
 use std::sync::{Arc, Mutex, Wait};
 
-/// A list of calls, in the order in which they came. All that `another` answers are the same list.
+/// A list of calls, in order. All that `another` returns are the same list.
 #[derive(Drop)]
 pub struct Calls {
     list: Arc<Mutex<Vec<RawCall>>>,
@@ -24,7 +24,7 @@ impl Calls {
         }
     }
 
-    /// The same list once more.
+    /// Returns the same list again.
     pub fn another(&self) -> Result<Calls, Fault> {
         match Arc::try_clone(&self.list) {
             Ok(list) => Ok(Calls {
@@ -35,12 +35,12 @@ impl Calls {
         }
     }
 
-    /// Writes the call down. Where memory is refused it is left out.
+    /// Records a call. Without memory it is left out.
     pub fn add<W: Wait>(&self, waiter: &W, call: RawCall) {
         let _ = self.list.lock(waiter).push(call);
     }
 
-    /// Whether no call is written down, nor is being written down.
+    /// Returns whether no call is recorded, or being recorded.
     pub fn is_empty(&self) -> bool {
         match self.list.try_lock() {
             Some(list) => list.is_empty(),
@@ -48,12 +48,12 @@ impl Calls {
         }
     }
 
-    /// How many calls are written down.
+    /// Returns how many calls are recorded.
     pub fn count<W: Wait>(&self, waiter: &W) -> usize {
         self.list.lock(waiter).len()
     }
 
-    /// The calls that are written down, of which none is left. None while another thread writes one down.
+    /// Takes all recorded calls, or returns `None` while another thread records one.
     pub fn take(&self) -> Option<Vec<RawCall>> {
         let mut list = self.list.try_lock()?;
         Some(mem::replace(&mut *list, Vec::new(self.alloc)))

@@ -8,8 +8,8 @@ use std::alloc::Global;
 use std::clone::Clone;
 use std::sync::Wait;
 
-/// A raw lock that lies: it gives a token to whoever asks, or none to whoever tries. It writes down what it was asked, and
-/// has the default bodies of the raw traits.
+/// A raw lock that admits everything, or refuses every try. It records its calls, and keeps the default bodies of the
+/// raw traits.
 #[derive(Drop)]
 pub struct Liar<W: Wait + Clone + Drop> {
     waiter: W,
@@ -18,7 +18,7 @@ pub struct Liar<W: Wait + Clone + Drop> {
 }
 
 impl<W: Wait + Clone + Drop> Liar<W> {
-    /// The same one, which refuses every try.
+    /// Returns the same raw lock, which now refuses every try.
     pub fn refusing(self) -> Liar<W> {
         Liar {
             refuses: true,
@@ -26,7 +26,7 @@ impl<W: Wait + Clone + Drop> Liar<W> {
         }
     }
 
-    /// The calls that it gets.
+    /// Returns the recorded calls.
     pub fn calls(&self) -> Result<Calls, Fault> {
         self.calls.another()
     }
@@ -35,7 +35,7 @@ impl<W: Wait + Clone + Drop> Liar<W> {
         self.calls.add(&self.waiter, call);
     }
 
-    /// What a try in the mode answers.
+    /// Returns what a try in the mode answers.
     pub(crate) fn tried(&self, mode: Mode) -> Option<GuardSend> {
         self.asked(RawCall::TryLock(mode));
         if self.refuses {

@@ -1,10 +1,10 @@
-//! What a raw lock can be asked.
+//! The calls that a raw lock can record.
 ghost use Rattle.std.specs.Prelude.{◌≡◌, ⊤};
 
 use lock_base::machine::Mode;
 use std::alloc::AllocError;
 
-/// A call of a raw lock, with the time that a timed one was told. The tokens of a raw mutex are exclusive.
+/// A call of a raw lock, with its time if it has one. The tokens of a raw mutex count as exclusive.
 #[derive(Copy, PartialEq, Debug)]
 pub enum RawCall {
     Lock(Mode),

@@ -1,4 +1,4 @@
-//! The raw lock that lies, for readers and writers.
+//! The raw lock that admits everything, for readers and writers.
 use crate::raw_lock::liar::Liar;
 use crate::raw_lock::raw_call::RawCall;
 use lock_base::machine::Mode;
