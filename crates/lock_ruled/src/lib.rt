@@ -1,5 +1,5 @@
 //! A mutex whose value is known across threads. It is made with a rule: a fact about the value and the views of all
-//! users. The rule holds whenever the mutex is free. Whoever unlocks it proves that the rule is kept.
+//! users. The rule holds whenever the mutex is free, and each release proves that it is kept.
 #![tactic(auto)]
 
 mod guard;

@@ -1,4 +1,4 @@
-//! Who holds a lock, and refused upgrades.
+//! Questions about the holders of a lock, and refused upgrades.
 use lock_guard::raw::{RawRwLock, RawRwLockUpgradeDowngrade};
 use lock_rwlock::{RwLock, RwLockReadGuard, RwLockUpgradableReadGuard, RwLockWriteGuard};
 use lock_test_support::answer::equal;

@@ -1,4 +1,4 @@
-//! Who acquires a lock that a party owns, over an honest raw lock and over one that admits too much.
+//! Acquisitions of a lock that a party owns, over an honest raw lock and over one that admits too much.
 use lock_base::machine::PartyId;
 use lock_base::raw::Fault;
 use lock_guard::raw::{RawMutex, RawMutexFair, RawMutexTimed};
