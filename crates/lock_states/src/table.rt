@@ -10,16 +10,16 @@ use lock_base::raw::{Fault, ObservableState, RawState, is_limit};
 use std::alloc::Global;
 use std::marker::Model;
 
-/// The place of a token that is out.
+/// A token of a table: its place.
 #[derive(Drop)]
 pub struct TableToken {
     place: usize,
 }
 
-/// A raw state that keeps places, each free or taken in a mode, with a chain through the free ones. A token is its
-/// place.
+/// A raw state with a list of places, free or taken in a mode, and a chain through the free ones. A token is its place.
+/// It checks each token.
 ///
-/// No call looks through the places: each reads and writes three of them at most.
+/// No call searches the places: each reads and writes at most three.
 #[derive(Drop)]
 pub struct TokenTable {
     places: Places,
@@ -46,7 +46,7 @@ impl Model for TokenTable {
 }
 
 impl TokenTable {
-    /// How many tokens of each mode are out.
+    /// Returns how many tokens of each mode are held.
     fn tally(&self) -> Bag
         ensures bag { result ≡ bag_of_tokens (tokens_of self.now.places) }
         ensures number { tokens result ≡ length (tokens_of self.now.places) }

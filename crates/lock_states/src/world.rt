@@ -1,4 +1,4 @@
-//! Parties that step on one packed word, in any order.
+//! Worlds: parties that step on one packed word, in any order.
 ghost use Rattle.std.specs.Prelude.{◌≡◌, ◌↔◌, ◌+◌, ◌<◌, ◌≤◌, IfOk, IfErr, IfSome, IfNone, Some, None, length, OnOk, OnErr};
 ghost use Rattle.lock_base.specs.Modes.{count_of, AreCompatible};
 ghost use Rattle.lock_base.specs.Limits.{IsLimit, IsMakerFault};
@@ -15,7 +15,8 @@ pub use lock_word::{AtomicStep, Down, ExWant, Outcome};
 use std::alloc::Global;
 use std::marker::Model;
 
-/// Parties, numbered from 1, that step on one packed word, one atomic step at a time.
+/// Parties, numbered from 1, that step on one packed word, one atomic step at a time. Any list of steps is an
+/// interleaving.
 #[derive(Drop)]
 pub struct World {
     word: u64,
@@ -36,7 +37,7 @@ impl Model for World {
         IsReachable record { word = w.word; readers = w.readers; steps = w.steps; parties = w.parties.items } };
 }
 
-/// Where the party of that number stands, if there is one.
+/// Returns the index of a party, if the party exists.
 fn place_of(parties: &[PartyState], party: u64) -> Option<usize>
     ensures unknown { IfNone result (holder_at parties.now party ≡ None) }
     ensures known { IfSome result (λ place. (party ≡ place + 1) × (place < length parties.now)) }
@@ -48,7 +49,7 @@ fn place_of(parties: &[PartyState], party: u64) -> Option<usize>
 }
 
 impl World {
-    /// So many parties that hold nothing, on a free word.
+    /// Makes a world of `parties` parties that hold nothing, with this readers' limit.
     pub fn new(alloc: Global, parties: u64, readers: u64) -> Result<World, Fault>
         ensures limits { (result ≡ Err Fault.BadLimits) ↔ ((IsLimit parties × IsLimit readers) → ⊥) }
         ensures in_range { OnOk result (IsLimit parties × IsLimit readers) }
@@ -69,8 +70,8 @@ impl World {
         })
     }
 
-    /// The word. It is that of all that is held, which may be out together, and of the bar of the one party that has
-    /// announced itself, if one has.
+    /// Returns the word. It encodes what all parties hold, which is compatible, and the bar of the one party that
+    /// announced itself.
     pub fn word(&self) -> u64
         ensures value { result ≡ self.now.word }
         ensures coded { result ≡ word_of (held_by_all self.now.parties) }
@@ -80,7 +81,7 @@ impl World {
         self.word
     }
 
-    /// How many tokens of the mode a party holds.
+    /// Returns how many holds of the mode a party has.
     pub fn holds(&self, party: u64, mode: Mode) -> Result<u64, Fault>
         ensures known { IfOk result (λ n. IsOfParty self.now party (λ me. n ≡ count_of me.held.bag mode)) }
         ensures unknown { IfErr result (IsUnknownIn self.now party) }
@@ -88,7 +89,7 @@ impl World {
         Ok(self.party(party)?.held.bag.count(mode))
     }
 
-    /// Whether a party has announced itself.
+    /// Returns whether a party has announced itself.
     pub fn announced(&self, party: u64) -> Result<bool, Fault>
         ensures known { IfOk result (λ is. IsOfParty self.now party (λ me. is ≡ me.held.announced)) }
         ensures unknown { IfErr result (IsUnknownIn self.now party) }
@@ -96,7 +97,7 @@ impl World {
         Ok(self.party(party)?.held.announced)
     }
 
-    /// How many of a party's exchanges and subtractions were done.
+    /// Returns how many exchanges and subtractions of a party changed the word.
     pub fn wins(&self, party: u64) -> Result<u64, Fault>
         ensures known { IfOk result (λ n. IsOfParty self.now party (λ me. n ≡ me.wins)) }
         ensures unknown { IfErr result (IsUnknownIn self.now party) }
@@ -104,7 +105,7 @@ impl World {
         Ok(self.party(party)?.wins)
     }
 
-    /// How many of a party's exchanges found the word changed: at most as many as the others' wins.
+    /// Returns how many exchanges of a party found the word changed. They are at most the wins of the other parties.
     pub fn fails(&self, party: u64) -> Result<u64, Fault>
         ensures known { IfOk result (λ n. IsOfParty self.now party (λ me. n ≡ me.fails)) }
         ensures bounded { IfOk result (λ n. IsOfParty self.now party (λ me. n ≤ others_wins self.now.parties me)) }
@@ -124,8 +125,10 @@ impl World {
         }
     }
 
-    /// One step. Refused is first a step after 2^64 - 1 that were done, then one of a party that there is not, then an
-    /// exchange or subtraction that gives up what the party does not hold, then an exchange without an open load.
+    /// Makes one step.
+    ///
+    /// It refuses, in this order: any step after 2^64 - 1 steps, a step of an unknown party, a step that needs a hold
+    /// that the party does not have, and an exchange without an open load.
     pub fn step(&mut self, step: AtomicStep) -> Outcome
         ensures outcome { result ≡ (after_step self.old step).outcome }
         ensures after { self.new ≡ (after_step self.old step).world }
@@ -144,13 +147,12 @@ impl World {
         outcome
     }
 
-    /// All steps in order, whatever they are. Only the room for the outcomes takes memory, and it is taken first.
+    /// Makes all steps in order. Only the list of outcomes allocates, before the first step.
     pub fn run(&mut self, alloc: Global, steps: &[AtomicStep]) -> Result<Vec<Outcome>, Fault>
         ensures outcomes { IfOk result (λ made. made.items ≡ outcomes self.old steps.now) }
         ensures after { OnOk result (self.new ≡ world_after self.old steps.now) }
 
-        // What was done is, in order, a run of the modes: by the parties, with the bar beside, and on what all hold
-        // together.
+        // The steps that were done are, in order, a run of the modes: by the parties, and on what all of them hold.
         ensures by_parties { OnOk result (IsRunByParties self.old (changes_from self.old steps.now) self.new) }
         ensures run { OnOk result (IsRunOnAll self.old (changes_from self.old steps.now) self.new) }
         ensures refuses { OnOk result (AreRefusedByLoads self.old steps.now) }
@@ -162,7 +164,7 @@ impl World {
         ensures fault { IfErr result (λ fault. fault ≡ Fault.OutOfMemory) }
         ensures refused { OnErr result (self.new ≡ self.old) }
     {
-        // A field is read here, so that the proof has what every world keeps.
+        // Reading a field gives the proof the invariant of the world.
         let _ = &self.word;
         let Ok(mut made) = Vec::with_capacity(alloc, steps.len()) else {
             return Err(Fault::OutOfMemory);
