@@ -6,13 +6,13 @@ use lock_base::raw::Fault;
 use std::alloc::Global;
 use std::marker::Model;
 
-/// How many steps a journal has room for where a maker is not told.
+/// The capacity of a journal that is made without one.
 pub const DEFAULT_ENTRIES: usize = 1_024;
 
-/// An arbiter, and a journal of the steps that were made on it.
+/// An arbiter, and the journal of its steps.
 ///
-/// A step that finds the journal full is made and not written, and nor is any step after it. It has no bars, so that its
-/// journal is read with none.
+/// A step that finds the journal full is made but not recorded, and no step after it is recorded. It has no bar, so its
+/// journal is a run without one.
 #[derive(Drop)]
 pub struct RecordingArbiter<A: Arbiter> {
     arbiter: A,
@@ -40,7 +40,7 @@ impl<A: Arbiter> RecordingArbiter<A> {
     ghost use Rattle.lock_raws.specs.Journal.{empty_journal};
     ghost use Rattle.lock_raws.specs.Recording.{IsRecording};
 
-    /// No token is out, and nothing is written. All memory that is ever needed is taken here.
+    /// Makes an arbiter without tokens, and an empty journal. It allocates all the memory that it ever needs.
     pub fn with_room(
         alloc: Global,
         readers: u64,
@@ -59,7 +59,7 @@ impl<A: Arbiter> RecordingArbiter<A> {
         Ok(RecordingArbiter { arbiter, journal })
     }
 
-    /// The steps that were written, the first one first.
+    /// Returns the recorded steps, the first one first.
     pub fn journal(&self) -> &[ModeStep]
         ensures steps { result.now ≡ self.now.journal.steps }
         ensures recording { IsRecording self.now.tokens_out self.now.readers self.now.journal }
@@ -67,7 +67,7 @@ impl<A: Arbiter> RecordingArbiter<A> {
         self.journal.steps()
     }
 
-    /// Whether a step found the journal full.
+    /// Returns whether a step found the journal full.
     pub fn stopped(&self) -> bool
         ensures stopped { result ≡ self.now.journal.stopped }
         ensures recording { IsRecording self.now.tokens_out self.now.readers self.now.journal }

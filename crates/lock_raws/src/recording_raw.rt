@@ -1,4 +1,4 @@
-//! A raw lock that keeps a journal of its steps.
+//! The raw lock with a journal.
 use crate::arbiter::Arbiter;
 use crate::monitor::Monitor;
 use crate::raw_lock::RawLock;
@@ -13,8 +13,8 @@ use std::sync::Wait;
 /// An arbiter over a table of places, with a journal: the state behind a `RecordingRaw`.
 pub type Recorded = RecordingArbiter<TableArbiter>;
 
-/// A raw lock as `TokenRaw`, which keeps a journal of its steps. The raw traits make it with `DEFAULT_ENTRIES`.
-/// A writer that waits keeps nobody out.
+/// `TokenRaw` with a journal of its steps: pick it to audit what threads did. The raw traits make it with
+/// `DEFAULT_ENTRIES`. A waiting writer refuses no reader.
 pub type RecordingRaw<W> = RawLock<Monitor<Recorded, W>>;
 
 impl<A: Arbiter, W: Wait + Clone + Drop> RawLock<Monitor<RecordingArbiter<A>, W>> {
@@ -22,7 +22,7 @@ impl<A: Arbiter, W: Wait + Clone + Drop> RawLock<Monitor<RecordingArbiter<A>, W>
     ghost use Rattle.lock_base.specs.Limits.{IsLimit, IsMakerFault};
     ghost use Rattle.lock_base.specs.ModeRuns.{Replays};
 
-    /// A free lock of as many places as readers, whose journal has room for so many steps.
+    /// Makes an unlocked lock with as many places as readers, whose journal has room for `entries` steps.
     pub fn with_room(
         alloc: Global,
         waiter: W,
@@ -39,8 +39,10 @@ impl<A: Arbiter, W: Wait + Clone + Drop> RawLock<Monitor<RecordingArbiter<A>, W>
         })
     }
 
-    /// The steps that are written now, which may be old at once. They replay under the largest limit of readers, and
-    /// under the lock's own, which no contract can name.
+    /// Returns the recorded steps. The answer may be stale at once.
+    ///
+    /// The steps replay under the largest readers' limit. They replay under the lock's own limit too, which no contract
+    /// can name.
     pub fn journal(&self, alloc: Global) -> Result<Vec<ModeStep>, Fault>
         ensures replays { IfOk result (λ steps. Replays MAX_LIMIT steps.items) }
         ensures fault { IsOkUnless result Fault.OutOfMemory }
@@ -52,7 +54,7 @@ impl<A: Arbiter, W: Wait + Clone + Drop> RawLock<Monitor<RecordingArbiter<A>, W>
         Ok(steps)
     }
 
-    /// Whether a step found the journal full, which may be old at once where it is false.
+    /// Returns whether a step found the journal full. The answer may be stale at once.
     pub fn stopped(&self) -> bool {
         self.core.arbiter().stopped()
     }
