@@ -1,6 +1,7 @@
 //! What no clause says of a reader-writer lock.
 mod arc;
 mod arc_raw_calls;
+mod guard_texts;
 mod makers;
 mod order;
 mod raw_calls;
