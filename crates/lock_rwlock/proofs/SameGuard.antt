@@ -1,9 +1,11 @@
 -- The guard that comes back where an upgrade was refused.
-use Rattle.std.proofs.Common.{◌≡◌, sym, ap, ◌∙◌, Result, Ok, Err}
-use Rattle.std.specs.Prelude.{MatchResult, IfErr}
+use Rattle.std.proofs.Common.{◌≡◌, true, refl, sym, ap, ◌∙◌, Option, Some, None, Result, Ok, Err}
+use Rattle.std.specs.Prelude.{MatchResult, IfErr, IfNone, is_some, is_ok}
+use Rattle.lock_guard.specs.declared.guard.inner.Inner.{Inner}
 use Rattle.lock_guard.specs.declared.guard.inner.Inner.TheVariants.{Filled}
 use Rattle.lock_guard.specs.declared.guard.held.Held.{Held}
 use Rattle.lock_guard.specs.Held.{same_held_at}
+use Rattle.lock_guard.specs.Inner.{is_filled}
 use Rattle.lock_rwlock.specs.declared.guard.RwLockGuard.{RwLockGuard}
 use Rattle.lock_rwlock.specs.declared.mode.InMode.{InMode}
 use Rattle.lock_rwlock.specs.RwLockGuard.{held_of, IsGuardOf, SameLock}
@@ -21,3 +23,19 @@ module _ {M M' R T V V' K K' W X : Type 0} {g g' : _} where
   upgraded_or_same guard (Err same) lock inner made again =
       let one : Held (InMode M R T) V K W X g → RwLockGuard (InMode M R T) V K W X g = λ held. record { held = held } in
       ap one (same_held_at (held_of same) (held_of guard) (made ∙ lock) (again ∙ inner))
+
+module _ {L V K W X : Type 0} {g : _} where
+  -- a guard with another inner part
+  abbrev with_inner : (guard : RwLockGuard L V K W X g) (inner : Inner K V) → is_filled inner ≡ true → RwLockGuard L V K W X g
+  with_inner guard inner filled = record { held = record { lock = (held_of guard).lock; inner = inner; filled = filled } }
+
+  -- a call that was refused with the inner part that it was handed, and put that back, left the guard
+  pub same_if_refused : {U : Type 0} (guard : RwLockGuard L V K W X g) (inner part : Inner K V) (filled : is_filled inner ≡ true)
+      (answer : Option U) (made : Result (K × U) (Inner K V)) → part ≡ (held_of guard).inner → is_some answer ≡ is_ok made
+      → IfErr made (λ same. inner ≡ same) → IfErr made (λ same. same ≡ part)
+      → IfNone answer (with_inner guard inner filled ≡ guard)
+  same_if_refused guard inner part filled None (Ok done) taken is put same = cc
+  same_if_refused guard inner part filled None (Err back) taken is put same =
+      let one : Held L V K W X g → RwLockGuard L V K W X g = λ held. record { held = held } in
+      ap one (same_held_at (held_of (with_inner guard inner filled)) (held_of guard) refl (put ∙ same ∙ taken))
+  same_if_refused guard inner part filled (Some answer) made taken is put same = tt

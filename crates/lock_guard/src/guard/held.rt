@@ -70,10 +70,8 @@ impl<L: Acquire> Held<L> {
         ensures inner { Filled result.1 result.2 ≡ self.inner }
     {
         let Held { lock, inner } = self;
-        match inner {
-            Inner::Filled(token, shown) => (lock, token, shown),
-            Inner::Empty => unreachable!(),
-        }
+        let (token, shown) = inner.into_parts();
+        (lock, token, shown)
     }
 
     /// Returns the inner part, still filled. The caller releases the token.

@@ -1,7 +1,8 @@
 //! The inner part of a guard.
-ghost use Rattle.std.specs.Prelude.{◌≡◌, true, false, Some};
+ghost use Rattle.std.specs.Prelude.{◌≡◌, true, false, Some, IfNone, IfSome, IfOk, IfErr, is_ok, is_some};
 ghost use Rattle.std.specs.Borrow.{Lends, sem};
 ghost use Rattle.lock_guard.specs.Inner.{is_filled, inner_value, inner_with_value};
+ghost use Rattle.lock_guard.specs.declared.guard.inner.Inner.TheVariants.{Filled};
 ghost use Rattle.lock_guard.specs.contracts.guard.inner.Inner.{the_row};
 
 use crate::guard::{Acquire, ValueGuard, ValueGuardMut};
@@ -30,6 +31,25 @@ impl<K, V> Inner<K, V> {
         match mem::replace(self, inner) {
             Inner::Filled(_token, _shown) => unreachable!(),
             Inner::Empty => {}
+        }
+    }
+
+    /// Takes the part out, and leaves an empty one.
+    pub fn take(&mut self) -> Inner<K, V>
+        ensures taken { result ≡ self.old }
+        ensures emptied { is_filled self.new ≡ false }
+    {
+        mem::replace(self, Inner::Empty)
+    }
+
+    /// The token with what shows the value.
+    pub fn into_parts(self) -> (K, V)
+        requires { is_filled self ≡ true }
+        ensures { Filled result.0 result.1 ≡ self }
+    {
+        match self {
+            Inner::Filled(token, shown) => (token, shown),
+            Inner::Empty => unreachable!(),
         }
     }
 }
@@ -64,6 +84,31 @@ impl<K, V: ValueGuard> Inner<K, V> {
         ensures { is_filled self.new ≡ true }
     {
         self.fill(lock.acquire(), lock.show());
+    }
+
+    /// Fills an empty part with the token of a call that was made, or puts back the part of one that was refused.
+    pub fn settle<L: Acquire<Token = K, Shown = V>, U>(
+        &mut self,
+        lock: &L,
+        made: Result<(K, U), Inner<K, V>>,
+    ) -> Option<U>
+        requires emptied { is_filled self.old ≡ false }
+        requires filled { IfErr made (λ same. is_filled same ≡ true) }
+        ensures filled { is_filled self.new ≡ true }
+        ensures made { is_some result ≡ is_ok made }
+        ensures answer { IfOk made (λ done. result ≡ Some done.1) }
+        ensures refused { IfErr made (λ same. self.new ≡ same) }
+    {
+        match made {
+            Ok((token, answer)) => {
+                self.fill(token, lock.show());
+                Some(answer)
+            }
+            Err(same) => {
+                self.put(same);
+                None
+            }
+        }
     }
 
     pub fn value(&self) -> &V::Value

@@ -1,5 +1,5 @@
 //! The upgradable read guard.
-ghost use Rattle.std.specs.Prelude.{◌≡◌, IfSome, IfErr, MatchResult, is_ok};
+ghost use Rattle.std.specs.Prelude.{◌≡◌, IfSome, IfNone, IfErr, MatchResult, is_ok};
 ghost use Rattle.lock_guard.specs.Closure.{AnswersSomeValue};
 
 use super::{RwLockGuard, RwLockReadGuard, RwLockWriteGuard, guard};
@@ -128,12 +128,12 @@ impl<'a, R: RawRwLockUpgradeDowngrade, T> RwLockGuard<InMode<'a, Upgradable, R, 
         requires { F.IsAlwaysCallable f }
         ensures answer { IfSome result (AnswersSomeValue F.FnOnce f) }
         ensures lock { SameLock self.old self.new }
+        ensures refused { IfNone result (self.new ≡ self.old) }
     {
         let held = &mut self.held;
-        let token = held.inner.empty();
-        let (token, answer) = parts::try_with_upgraded(held.lock.rwlock, token, f);
-        held.inner.fill(token, held.lock.show());
-        answer
+        let inner = held.inner.take();
+        let made = parts::try_with_upgraded(held.lock.rwlock, inner, f);
+        held.inner.settle(&held.lock, made)
     }
 }
 
@@ -153,12 +153,12 @@ impl<'a, R: RawRwLockUpgradeTimed + RawRwLockUpgradeDowngrade, T> RwLockGuard<
         requires { F.IsAlwaysCallable f }
         ensures answer { IfSome result (AnswersSomeValue F.FnOnce f) }
         ensures lock { SameLock self.old self.new }
+        ensures refused { IfNone result (self.new ≡ self.old) }
     {
         let held = &mut self.held;
-        let token = held.inner.empty();
-        let (token, answer) = parts::try_with_upgraded_for(held.lock.rwlock, token, timeout, f);
-        held.inner.fill(token, held.lock.show());
-        answer
+        let inner = held.inner.take();
+        let made = parts::try_with_upgraded_for(held.lock.rwlock, inner, timeout, f);
+        held.inner.settle(&held.lock, made)
     }
 
     /// `try_with_upgraded`, where the raw lock may block until `deadline`.
@@ -172,11 +172,11 @@ impl<'a, R: RawRwLockUpgradeTimed + RawRwLockUpgradeDowngrade, T> RwLockGuard<
         requires { F.IsAlwaysCallable f }
         ensures answer { IfSome result (AnswersSomeValue F.FnOnce f) }
         ensures lock { SameLock self.old self.new }
+        ensures refused { IfNone result (self.new ≡ self.old) }
     {
         let held = &mut self.held;
-        let token = held.inner.empty();
-        let (token, answer) = parts::try_with_upgraded_until(held.lock.rwlock, token, deadline, f);
-        held.inner.fill(token, held.lock.show());
-        answer
+        let inner = held.inner.take();
+        let made = parts::try_with_upgraded_until(held.lock.rwlock, inner, deadline, f);
+        held.inner.settle(&held.lock, made)
     }
 }

@@ -1,5 +1,5 @@
 //! What an upgradable guard can do besides.
-ghost use Rattle.std.specs.Prelude.{◌≡◌, IfSome, IfErr, MatchResult, is_ok};
+ghost use Rattle.std.specs.Prelude.{◌≡◌, IfSome, IfNone, IfErr, MatchResult, is_ok};
 ghost use Rattle.lock_guard.specs.Closure.{AnswersSomeValue};
 ghost use Rattle.lock_guard.specs.declared.guard.inner.Inner.TheVariants.{Filled};
 ghost use Rattle.lock_rwlock_arc.specs.ArcRwLockGuard.{arc_of, lock_of, inner_of};
@@ -118,12 +118,12 @@ impl<R: RawRwLockUpgradeDowngrade + Drop, T: Drop> ArcRwLockGuard<Upgradable, R,
         requires { F.IsAlwaysCallable f }
         ensures answer { IfSome result (AnswersSomeValue F.FnOnce f) }
         ensures lock { arc_of self.new ≡ arc_of self.old }
+        ensures refused { IfNone result (self.new ≡ self.old) }
     {
         let held = &mut self.held;
-        let token = held.inner.empty();
-        let (token, answer) = try_with_upgraded(&held.lock.rwlock, token, f);
-        held.inner.fill(token, ());
-        answer
+        let inner = held.inner.take();
+        let made = try_with_upgraded(&held.lock.rwlock, inner, f);
+        held.inner.settle(&held.lock, made)
     }
 }
 
@@ -143,12 +143,12 @@ impl<R: RawRwLockUpgradeTimed + RawRwLockUpgradeDowngrade + Drop, T: Drop> ArcRw
         requires { F.IsAlwaysCallable f }
         ensures answer { IfSome result (AnswersSomeValue F.FnOnce f) }
         ensures lock { arc_of self.new ≡ arc_of self.old }
+        ensures refused { IfNone result (self.new ≡ self.old) }
     {
         let held = &mut self.held;
-        let token = held.inner.empty();
-        let (token, answer) = try_with_upgraded_for(&held.lock.rwlock, token, timeout, f);
-        held.inner.fill(token, ());
-        answer
+        let inner = held.inner.take();
+        let made = try_with_upgraded_for(&held.lock.rwlock, inner, timeout, f);
+        held.inner.settle(&held.lock, made)
     }
 
     /// `try_with_upgraded`, where the raw lock may block until `deadline`.
@@ -162,11 +162,11 @@ impl<R: RawRwLockUpgradeTimed + RawRwLockUpgradeDowngrade + Drop, T: Drop> ArcRw
         requires { F.IsAlwaysCallable f }
         ensures answer { IfSome result (AnswersSomeValue F.FnOnce f) }
         ensures lock { arc_of self.new ≡ arc_of self.old }
+        ensures refused { IfNone result (self.new ≡ self.old) }
     {
         let held = &mut self.held;
-        let token = held.inner.empty();
-        let (token, answer) = try_with_upgraded_until(&held.lock.rwlock, token, deadline, f);
-        held.inner.fill(token, ());
-        answer
+        let inner = held.inner.take();
+        let made = try_with_upgraded_until(&held.lock.rwlock, inner, deadline, f);
+        held.inner.settle(&held.lock, made)
     }
 }
