@@ -2,8 +2,10 @@
 mod arc;
 mod condition_loop;
 mod condvar;
+mod guard_texts;
 mod makers;
 mod order;
+mod parts;
 mod queue;
 mod raw_calls;
 mod remutex;
