@@ -48,6 +48,7 @@ fn check<R: RawMutexFair + Drop>(alloc: Global, waiters: [R::Waiter; 3]) -> Resu
     let [first, second, third] = waiters;
     let mutex: Mutex<R, Nested> = Mutex::new(alloc, first, ((1, 2), 3))?;
     write_through_two_maps(&mutex);
+    equal(mutex.is_locked(), false)?;
     equal(mutex.into_inner(), ((1, 9), 3))?;
     let mutex: Mutex<R, (u64, u64)> = Mutex::new(alloc, second, (1, 2))?;
     equal(miss_and_read(&mutex)?, (true, 5, Some(2)))?;

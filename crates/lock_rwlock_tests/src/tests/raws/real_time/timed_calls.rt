@@ -154,13 +154,38 @@ fn upgrades<R: RawRwLockUpgradeTimed<Duration = Duration, Instant = Instant>>(
     }
 }
 
+/// Whether the call acquires, which is then released.
+fn acquires<C: LockCore<Duration = Duration, Instant = Instant>>(
+    raw: &RawLock<C>,
+    want: Want,
+    end: End,
+) -> bool {
+    match want {
+        Want::Lock => acquires_lock(raw, end),
+        Want::Shared => acquires_shared(raw, end),
+        Want::Exclusive => acquires_exclusive(raw, end),
+        Want::Upgradable => acquires_upgradable(raw, end),
+        Want::Upgrade => upgrades(raw, end),
+    }
+}
+
+/// Whether the call acquires within `short`, and whether `short` was over then.
+fn acquires_in_time<K: Clock, C: LockCore<Duration = Duration, Instant = Instant>>(
+    clock: &K,
+    raw: &RawLock<C>,
+    want: Want,
+    form: Form,
+) -> Result<(bool, bool), Fail> {
+    let start = Instant::now(clock)?;
+    let end = form.end(clock, short())?;
+    let is_acquired = acquires(raw, want, end);
+    Ok((is_acquired, is_over(clock, start)))
+}
+
 /// What threads do with a lock that they share.
 trait Acquires {
     /// Where a thread waits.
     type Waiter: Wait;
-
-    /// Whether the call acquires, which is then released.
-    fn acquires(&self, want: Want, end: End) -> bool;
 
     /// Whether the call acquires beside a token that keeps it out for longer than `short`, and whether `short` was over.
     fn acquires_beside<K: Clock>(
@@ -177,19 +202,6 @@ trait Acquires {
     fn acquires_once_held(&self, want: Want, end: End, is_held: &AtomicBool) -> bool;
 }
 
-/// Whether the call acquires within `short`, and whether `short` was over then.
-fn acquires_in_time<K: Clock, L: Acquires>(
-    clock: &K,
-    lock: &L,
-    want: Want,
-    form: Form,
-) -> Result<(bool, bool), Fail> {
-    let start = Instant::now(clock)?;
-    let end = form.end(clock, short())?;
-    let is_acquired = lock.acquires(want, end);
-    Ok((is_acquired, is_over(clock, start)))
-}
-
 /// Waits until others may see that a token is out, and for `short`.
 fn show_for_short<K: Clock>(clock: &K, is_held: &AtomicBool) {
     is_held.store(true, Ordering::SeqCst);
@@ -198,16 +210,6 @@ fn show_for_short<K: Clock>(clock: &K, is_held: &AtomicBool) {
 
 impl<C: LockCore<Duration = Duration, Instant = Instant>> Acquires for RawLock<C> {
     type Waiter = C::Waiter;
-
-    fn acquires(&self, want: Want, end: End) -> bool {
-        match want {
-            Want::Lock => acquires_lock(self, end),
-            Want::Shared => acquires_shared(self, end),
-            Want::Exclusive => acquires_exclusive(self, end),
-            Want::Upgradable => acquires_upgradable(self, end),
-            Want::Upgrade => upgrades(self, end),
-        }
-    }
 
     fn acquires_beside<K: Clock>(
         &self,
@@ -241,7 +243,7 @@ impl<C: LockCore<Duration = Duration, Instant = Instant>> Acquires for RawLock<C
 
     fn acquires_once_held(&self, want: Want, end: End, is_held: &AtomicBool) -> bool {
         wait_for_flag(RawMutex::waiter(self), is_held);
-        self.acquires(want, end)
+        acquires(self, want, end)
     }
 }
 
