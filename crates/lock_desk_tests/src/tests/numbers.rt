@@ -1,4 +1,4 @@
-//! The last guard number, over a table and over a packed word.
+//! Guard numbers end at 2^64 - 1, over a table and over a packed word.
 use crate::tests::CountedDesk;
 use crate::tests::maker::Maker;
 use lock_base::machine::{PartyId, Way};
@@ -43,7 +43,7 @@ fn check<R: RawState>(alloc: Global, places: u64, rows: &[(Step, Answer)]) -> Re
     Ok(())
 }
 
-/// A guard has the last number, and none has a number after it.
+/// One guard gets the last number, and no guard gets a number after it.
 fn numbers_end<R: RawState>(alloc: Global) -> Result<(), Fail> {
     let with_a_free_place = [
         (Step::SkipTo(u64::MAX), Ok(None)),

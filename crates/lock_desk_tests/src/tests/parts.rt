@@ -1,4 +1,4 @@
-//! The value of a `Desk`, and a part of it, lent to closures and given back, over a table and over a packed word.
+//! A `Desk` lends its value, or a part of it, to closures. Each test runs over a table and over a packed word.
 use lock_base::machine::PartyId;
 use lock_base::raw::{Fault, RawState};
 use lock_desk::Desk;
@@ -69,7 +69,7 @@ fn write_by_one<R: RawState>(desk: &mut PairDesk<R>, one: PartyId) -> [Row; 5] {
     ]
 }
 
-/// What is lent of `(9, 4)` where no guard is out.
+/// What `get_mut` lends of `(9, 4)` once the parked guard is abandoned.
 fn write_alone<R: RawState>(desk: &mut PairDesk<R>, one: PartyId) -> [Row; 2] {
     [
         ("abandon", desk.abandon(one, 1).map(|()| 0), Ok(0)),
@@ -81,7 +81,7 @@ fn write_alone<R: RawState>(desk: &mut PairDesk<R>, one: PartyId) -> [Row; 2] {
     ]
 }
 
-/// The desk, which `into_inner` refuses to take apart while a guard is parked.
+/// The desk that `into_inner` returns, since a guard is parked.
 fn refused_into_inner<R: RawState>(desk: PairDesk<R>) -> Result<PairDesk<R>, Fail> {
     match desk.into_inner() {
         Ok(pair) => Err(Fail::from(("into_inner with a guard out", pair))),

@@ -41,8 +41,7 @@ fn add_at_once<R: Threads + Wait + Clock + Sync>(
     );
 }
 
-/// A third user beside two. It ends only where an unlock wakes one of the two that sleep, and the unlock of that one the
-/// other.
+/// Three users add. This returns only where each unlock wakes the next of those that sleep.
 fn add_beside_two<R: Threads + Wait + Clock + Sync>(
     rt: &R,
     counter: &Counter,

@@ -1,4 +1,4 @@
-//! Guards of a mutex's value and of a part of it: what one writes the next reads, and what is missed.
+//! Guards of a mutex's value and of a part: one reads what another wrote, and a projection may miss its part.
 use lock_base::project::{Missed, TryProject};
 use lock_guard::raw::RawMutexFair;
 use lock_mutex::{MappedMutexGuard, Mutex, MutexGuard};
@@ -16,7 +16,8 @@ fn write_through_two_maps<R: RawMutexFair>(mutex: &Mutex<R, Nested>) {
     MappedMutexGuard::unlock_fair(second);
 }
 
-/// Whether the mutex stays locked where a third item is missed, what is told of a sixth, and the second item.
+/// Whether the mutex stays locked where `try_map` misses a third item, what `try_map_or_err` answers of a sixth, and the
+/// second item.
 fn miss_and_read<R: RawMutexFair>(
     mutex: &Mutex<R, (u64, u64)>,
 ) -> Result<(bool, usize, Option<u64>), Fail> {
@@ -34,7 +35,7 @@ fn miss_and_read<R: RawMutexFair>(
     Ok((is_locked, missed, found))
 }
 
-/// Writes -7, and by another guard adds the greatest number to it. What the other guard read, and what it left.
+/// Writes -7, and adds the greatest number to it under a second guard. What the second guard read first and last.
 fn add_greatest<R: RawMutexFair>(mutex: &Mutex<R, i64>) -> (i64, i64) {
     *mutex.lock() = -7;
     let mut guard = mutex.lock();

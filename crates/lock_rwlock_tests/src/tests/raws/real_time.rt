@@ -91,7 +91,7 @@ fn one_notification_of_all_ends_each_wait(rt: HostRuntime) -> Result<(), Fail> {
     Ok(())
 }
 
-/// Whether the wait of one thread, which another notifies at once, ends in time, though it acquires the mutex late.
+/// Whether the wait of one thread did not time out. The other thread notifies it at once, and holds the mutex.
 fn wait_beside<R: Threads + Clock + Sync, L: ComesLate + Sync>(rt: &R, late: &L) -> Option<bool> {
     let (in_time, ()) = thread::join(
         rt,
@@ -101,7 +101,7 @@ fn wait_beside<R: Threads + Clock + Sync, L: ComesLate + Sync>(rt: &R, late: &L)
     in_time
 }
 
-/// A wait on a machine that is busy may time out, but not each of five.
+/// On a busy machine a wait may time out, but not each of five.
 #[test]
 fn a_wait_that_is_notified_in_time_has_not_timed_out(rt: HostRuntime) -> Result<(), Fail> {
     for _ in 0..5u32 {

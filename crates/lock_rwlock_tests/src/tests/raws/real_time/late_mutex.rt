@@ -1,4 +1,4 @@
-//! A mutex that a notified waiter acquires late.
+//! A waiter that is notified in time, and acquires its mutex too late.
 use super::wait_for_flag;
 use lock_base::raw::Fault;
 use lock_guard::raw::{RawCondvar, RawCondvarTimed, RawMutex};
@@ -9,12 +9,12 @@ use std::sync::Wait;
 use std::sync::atomic::{AtomicBool, Ordering};
 use std::time::{Clock, Duration, Instant};
 
-/// How long the waiter waits: long enough that a notification at once comes in time on a busy machine.
+/// The waiter's timeout: long enough for a notification at once, even on a busy machine.
 fn patience() -> Duration {
     Duration::from_millis(300)
 }
 
-/// A lock, a condition variable, and whether the waiter has had the lock.
+/// A lock, a condition variable, and whether the waiter has acquired the lock.
 #[derive(Drop)]
 pub struct LateMutex<C: LockCore> {
     raw: RawLock<C>,
@@ -38,10 +38,10 @@ pub trait ComesLate {
     /// Where a thread waits.
     type Waiter: Wait;
 
-    /// Waits for a notification. Whether it came in time. None where the clock can't be read.
+    /// Waits for a notification. Whether the wait did not time out. None where the clock can't be read.
     fn is_notified_in_time(&self) -> Option<bool>;
 
-    /// Notifies at once, and holds the mutex until the waiter's time is over.
+    /// Notifies at once, and holds the mutex past the waiter's deadline.
     fn notify_and_hold<K: Clock>(&self, clock: &K);
 }
 

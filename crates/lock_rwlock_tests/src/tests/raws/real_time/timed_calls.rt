@@ -1,4 +1,4 @@
-//! Every timed call: it is refused no sooner than its time, and acquires after a release before it.
+//! Every timed call: it times out no sooner than its time, and a release before that lets it acquire.
 use super::{is_over, long, raw_rwlock, short, wait_for_flag};
 use lock_guard::raw::{
     RawMutex, RawMutexTimed, RawRwLock, RawRwLockTimed, RawRwLockUpgrade, RawRwLockUpgradeTimed,
@@ -22,7 +22,7 @@ enum Want {
     Upgrade,
 }
 
-/// Whether a timed call is told how long it may wait, or until when.
+/// Whether a timed call takes a timeout or a deadline.
 #[derive(Clone, Copy, PartialEq, Debug)]
 enum Form {
     For,
@@ -42,7 +42,7 @@ const CALLS: [(Want, Form); 10] = [
     (Want::Upgrade, Form::Until),
 ];
 
-/// The end of a timed call.
+/// A timeout or a deadline.
 #[derive(Clone, Copy)]
 enum End {
     For(Duration),
@@ -50,7 +50,7 @@ enum End {
 }
 
 impl Form {
-    /// The end that is so long from now.
+    /// The timeout, or the deadline that is so long from now.
     fn end<K: Clock>(self, clock: &K, time: Duration) -> Result<End, Fail> {
         if self == Form::For {
             return Ok(End::For(time));
@@ -60,7 +60,7 @@ impl Form {
     }
 }
 
-/// Whether the call acquires the lock, which it then releases.
+/// Whether the call acquires the lock. It releases the lock at once.
 fn acquires_lock<R: RawMutexTimed<Duration = Duration, Instant = Instant>>(
     raw: &R,
     end: End,
@@ -154,7 +154,7 @@ fn upgrades<R: RawRwLockUpgradeTimed<Duration = Duration, Instant = Instant>>(
     }
 }
 
-/// Whether the call acquires, which is then released.
+/// Whether the call acquires. It releases at once.
 fn acquires<C: LockCore<Duration = Duration, Instant = Instant>>(
     raw: &RawLock<C>,
     want: Want,
@@ -169,7 +169,7 @@ fn acquires<C: LockCore<Duration = Duration, Instant = Instant>>(
     }
 }
 
-/// Whether the call acquires within `short`, and whether `short` was over then.
+/// Whether the call acquires within `short`, and whether `short` was over when it returned.
 fn acquires_in_time<K: Clock, C: LockCore<Duration = Duration, Instant = Instant>>(
     clock: &K,
     raw: &RawLock<C>,
@@ -187,7 +187,7 @@ trait Acquires {
     /// Where a thread waits.
     type Waiter: Wait;
 
-    /// Whether the call acquires beside a token that keeps it out for longer than `short`, and whether `short` was over.
+    /// `acquires_in_time`, while another token blocks the call.
     fn acquires_beside<K: Clock>(
         &self,
         clock: &K,
@@ -195,14 +195,14 @@ trait Acquires {
         form: Form,
     ) -> Result<(bool, bool), Fail>;
 
-    /// Holds a token that keeps the call out for `short`, and releases it.
+    /// Holds a token that blocks the call for `short`, and releases it.
     fn release_later<K: Clock>(&self, clock: &K, want: Want, is_held: &AtomicBool);
 
-    /// Whether the call acquires that is made while another holds such a token.
+    /// Whether the call acquires, which begins once another thread holds a token that blocks it.
     fn acquires_once_held(&self, want: Want, end: End, is_held: &AtomicBool) -> bool;
 }
 
-/// Waits until others may see that a token is out, and for `short`.
+/// Tells the other thread that a token is held, and waits for `short`.
 fn show_for_short<K: Clock>(clock: &K, is_held: &AtomicBool) {
     is_held.store(true, Ordering::SeqCst);
     clock.sleep(short());
@@ -247,7 +247,7 @@ impl<C: LockCore<Duration = Duration, Instant = Instant>> Acquires for RawLock<C
     }
 }
 
-/// Whether the call acquires that is made before a release.
+/// Whether the call acquires, which begins before the release of the token that blocks it.
 fn acquires_after_release<R: Threads + Clock + Sync, L: Acquires + Sync>(
     rt: &R,
     lock: &L,
@@ -263,19 +263,19 @@ fn acquires_after_release<R: Threads + Clock + Sync, L: Acquires + Sync>(
     is_acquired
 }
 
-/// Every call, refused and not; with no instant so far away it waits without end.
+/// Each call, blocked and released. A timeout past the last instant never ends.
 fn check<R: Threads + Clock + Sync, L: Acquires + Sync>(rt: &R, lock: &L) -> Result<(), Fail> {
     for (want, form) in CALLS {
         let seen = lock.acquires_beside(rt, want, form)?;
         if seen != (false, true) {
-            return Err(Fail::from((want, form, "refused before its time", seen)));
+            return Err(Fail::from((want, form, "timed out before its time", seen)));
         }
         let end = form.end(rt, long())?;
         if !acquires_after_release(rt, lock, want, end) {
-            return Err(Fail::from((want, form, "refused after a release")));
+            return Err(Fail::from((want, form, "timed out after a release")));
         }
         if !acquires_after_release(rt, lock, want, End::For(Duration::MAX)) {
-            return Err(Fail::from((want, "refused with no instant so far away")));
+            return Err(Fail::from((want, "timed out though its timeout never ends")));
         }
     }
     Ok(())

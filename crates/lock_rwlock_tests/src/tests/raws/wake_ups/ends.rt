@@ -1,4 +1,4 @@
-//! Whom the end of a writer and of the last reader let on, and whom a token that is downgraded and kept.
+//! Which sleeping waiters a release wakes, and which a downgrade wakes whose token stays held.
 use crate::tests::raws::counts::wait_for;
 use lock_guard::raw::{RawRwLock, RawRwLockDowngrade, RawRwLockUpgrade, RawRwLockUpgradeDowngrade};
 use lock_raws::{LockCore, RawLock};
@@ -25,7 +25,7 @@ impl Progress {
     }
 }
 
-/// What a writer does once others sleep. A token that it keeps is out until three others read.
+/// What a writer does once others sleep. It holds a downgraded token until three others read.
 #[derive(Clone, Copy)]
 pub enum WriterEnd {
     Unlock,
@@ -47,7 +47,7 @@ pub trait Ends {
     /// Waits to upgrade while another reads.
     fn upgrade_and_write(&self, progress: &Progress);
 
-    /// Waits for an upgradable token while another holds one.
+    /// Waits for an upgradable token while another thread holds one.
     fn read_upgradable(&self, progress: &Progress);
 
     /// Writes until others sleep, and ends.
@@ -145,7 +145,7 @@ fn read_in_three_threads<R: Threads + Sync, L: Ends + Sync>(rt: &R, lock: &L, pr
     );
 }
 
-/// Each end of a writer lets three readers on.
+/// Each end of a writer wakes three readers.
 fn let_readers_on<R: Threads + Clock + Sync, L: Ends + Sync>(rt: &R, lock: &L) {
     for end in [
         WriterEnd::Unlock,
@@ -161,7 +161,7 @@ fn let_readers_on<R: Threads + Clock + Sync, L: Ends + Sync>(rt: &R, lock: &L) {
     }
 }
 
-/// An upgradable token that becomes shared lets another on.
+/// An upgradable token that becomes shared wakes a waiter for an upgradable one.
 fn let_upgradable_on<R: Threads + Clock + Sync, L: Ends + Sync>(rt: &R, lock: &L) {
     let progress = Progress::new();
     thread::join(

@@ -18,8 +18,8 @@ pub trait Contend {
     /// So many rounds, each of which waits for the lock in another mode.
     fn contend(&self, rounds: u32);
 
-    /// Ends a run beside three others, with a token that is out until the count is that large. Where another thread writes
-    /// at first, or is upgradable, this one waits until it has downgraded.
+    /// Acquires a token beside three other threads, by a downgrade where no other thread did. It holds the token until the
+    /// count is that large.
     fn read_beside_others(&self, run: u64, count: &AtomicU64, least: u64);
 
     /// Counts this thread, and waits until the count is that large.
@@ -94,7 +94,7 @@ impl<C: LockCore> Contend for RawLock<C> {
 }
 
 /// A long run, and many short ones, each of which ends once all four threads have: near the end of a run nobody comes
-/// who would wake the forgotten. Where four may read, each run ends with four tokens out.
+/// who would wake the forgotten. Where four may read, each run ends while all four threads hold tokens.
 fn contend_in_episodes<L: Contend>(lock: &L, four_read: bool, ended: &AtomicU64) {
     lock.contend(5_000);
     let mut all: u64 = 0;
