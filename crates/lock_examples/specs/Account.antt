@@ -1,4 +1,4 @@
--- What an entry means for the balance of an account.
+-- The meaning of an operation on an account.
 use Rattle.std.specs.Prelude.{ℕ, ◌+◌, ◌-◌, ◌^◌, Bool, nat_lt, nat_le}
 use Rattle.lock_api.specs.Operation.{Operation}
 use Rattle.lock_examples.specs.declared.desk.account.Entry.{Entry}

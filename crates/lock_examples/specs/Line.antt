@@ -1,10 +1,10 @@
--- Items that stand in line.
+-- Items in a line.
 use Rattle.std.specs.Prelude.{ℕ, Bool, nat_le, ◌==◌, List, length}
 
 pub record Line (T : Type 0) : Type 0 where
   -- the items, the oldest first
   pub items : List T
-  -- how many there may be
+  -- the capacity
   pub places : ℕ
 
 module _ {T : Type 0} where

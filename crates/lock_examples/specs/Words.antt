@@ -1,4 +1,4 @@
--- Words of a user's own over the types of lock_api.
+-- Definitions of a user's own over the types of lock_api.
 use Rattle.std.specs.Prelude.{◌≡◌, Option, None, Some}
 use Rattle.lock_api.specs.Held.{held_value}
 use Rattle.lock_api.specs.MutexGuard.{held_of}

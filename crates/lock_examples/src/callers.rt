@@ -1,4 +1,4 @@
-//! Small callers: the clause of each function shows what a caller knows.
+//! Small callers. The clause of each function shows what a caller knows.
 mod arcs;
 mod desk;
 mod journals;

@@ -1,4 +1,4 @@
-//! A `Desk` on which a scenario's answers are proved, lists of calls, and an audit of a journal.
+//! A `Desk` with a scenario of proved answers, lists of calls, and an audit of a journal.
 mod account;
 mod calls;
 mod journal;

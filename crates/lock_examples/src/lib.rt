@@ -1,4 +1,4 @@
-//! What a crate that names `lock_api` alone can build and prove. Each module reads by itself.
+//! What a crate that lists `lock_api` alone can build and prove. Each module reads by itself.
 #![tactic(auto)]
 
 mod callers;

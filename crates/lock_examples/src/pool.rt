@@ -1,12 +1,12 @@
-//! A pool of objects, each lent to one at a time.
+//! A pool of objects, each leased to one holder at a time.
 use lock_api::{ArcMutexGuard, Fault, Mutex, RawMutex};
 use std::alloc::Global;
 use std::sync::Arc;
 
-/// The right to an object of a pool. Its end gives the object back; it may outlive the pool.
+/// A lease of an object of a pool. It returns the object on drop, and it may outlive the pool.
 pub type Lease<R, T> = ArcMutexGuard<R, T>;
 
-/// Objects, each lent to one at a time.
+/// Objects, each leased to one holder at a time.
 #[derive(Drop)]
 pub struct Pool<R: RawMutex + Drop, T: Drop> {
     objects: Vec<Arc<Mutex<R, T>>>,
@@ -18,7 +18,7 @@ impl<R: RawMutex + Drop, T: Drop> Pool<R, T> {
     ghost use Rattle.lock_api.specs.Closure.{AnswersSomeValue};
     ghost use Rattle.lock_examples.specs.Pool.{objects_of};
 
-    /// A pool without objects.
+    /// Makes a pool without objects.
     pub fn new(alloc: Global) -> Pool<R, T>
         ensures { objects_of result ≡ [] }
     {
@@ -27,7 +27,7 @@ impl<R: RawMutex + Drop, T: Drop> Pool<R, T> {
         }
     }
 
-    /// Adds an object. Where there is no memory for it, it is dropped, and the pool is as it was.
+    /// Adds an object. Without memory the object is dropped, and the pool stays as it was.
     pub fn add(&mut self, alloc: Global, waiter: R::Waiter, object: T) -> Result<(), Fault>
         ensures fault { IsOkUnless result Fault.OutOfMemory }
         ensures added { IfOk result (λ _. (added : _) × (objects_of self.new ≡ objects_of self.old ++ added ∷ [])) }
@@ -43,7 +43,7 @@ impl<R: RawMutex + Drop, T: Drop> Pool<R, T> {
         Ok(())
     }
 
-    /// A lease of the first object that is free. None where all are lent.
+    /// Leases the first object that is free, or returns `None` if all are leased.
     pub fn lend(&self) -> Result<Option<Lease<R, T>>, Fault>
         ensures fault { IsOkUnless result Fault.OutOfMemory }
         ensures object { IfOk result (λ lent. IfSome lent (λ lease.
@@ -58,7 +58,7 @@ impl<R: RawMutex + Drop, T: Drop> Pool<R, T> {
         Ok(None)
     }
 
-    /// Calls the closure on the first object that is free. None where all are lent.
+    /// Runs `f` on the first object that is free, or returns `None` if all are leased.
     pub fn with_free<U, F: FnOnce(&mut T) -> U>(&self, use_it: F) -> Result<Option<U>, Fault>
     where
         F: Drop,

@@ -1,11 +1,11 @@
-//! A bounded queue of several producers and consumers.
+//! A bounded queue for several producers and consumers.
 ghost use Rattle.std.specs.Prelude.{◌≡◌, IfErr, IsOkUnless};
 
 use crate::ring::Ring;
 use lock_api::{Condvar, Fault, Mutex, RawCondvar, RawCondvarTimed, RawMutex, RawMutexTimed};
 use std::alloc::Global;
 
-/// A queue with so many places. A push waits while it is full, a pop while it is empty.
+/// A queue with a number of places. A push blocks while it is full, and a pop while it is empty.
 #[derive(Drop)]
 pub struct Queue<C: RawCondvar, T> {
     ring: Mutex<C::RawMutex, Ring<T>>,
@@ -17,7 +17,7 @@ impl<C: RawCondvar + Drop, T: Drop> Queue<C, T>
 where
     C::RawMutex: Drop,
 {
-    /// An empty queue. All memory that is ever needed is taken here.
+    /// Makes an empty queue. It allocates all the memory that it ever needs.
     pub fn new(
         alloc: Global,
         waiter: <C::RawMutex as RawMutex>::Waiter,
@@ -35,7 +35,7 @@ where
 }
 
 impl<C: RawCondvar, T> Queue<C, T> {
-    /// Waits while the queue is full. After the wait the ring is not full, which is what its `push` asks for.
+    /// Pushes an item, blocking while the queue is full. After the wait the ring is not full, as its `push` requires.
     pub fn push(&self, item: T) {
         let mut ring = self.ring.lock();
         self.not_full.wait_while(&mut ring, |ring| ring.is_full());
@@ -44,7 +44,7 @@ impl<C: RawCondvar, T> Queue<C, T> {
         self.not_empty.notify_one();
     }
 
-    /// The item comes back where the queue is full.
+    /// Pushes an item without blocking, or returns it if the queue is full.
     pub fn try_push(&self, item: T) -> Result<(), T>
         ensures { IfErr result (λ back. back ≡ item) }
     {
@@ -58,7 +58,7 @@ impl<C: RawCondvar, T> Queue<C, T> {
         Ok(())
     }
 
-    /// The oldest item. Waits while the queue is empty.
+    /// Pops the oldest item, blocking while the queue is empty.
     pub fn pop(&self) -> T {
         let mut ring = self.ring.lock();
         self.not_empty.wait_while(&mut ring, |ring| ring.is_empty());
@@ -68,7 +68,7 @@ impl<C: RawCondvar, T> Queue<C, T> {
         item
     }
 
-    /// None where the queue is empty.
+    /// Pops the oldest item, or returns `None` if the queue is empty.
     pub fn try_pop(&self) -> Option<T> {
         let mut ring = self.ring.lock();
         if ring.is_empty() {
@@ -85,7 +85,7 @@ impl<C: RawCondvarTimed, T> Queue<C, T>
 where
     C::RawMutex: RawMutexTimed,
 {
-    /// `push`, and the item comes back where the queue stayed full for that long.
+    /// `push` for at most a timeout, or returns the item if the queue stayed full.
     pub fn push_for(
         &self,
         item: T,

@@ -1,4 +1,4 @@
-//! A registry that many read, and that grows.
+//! A growing registry with many readers.
 ghost use Rattle.std.specs.Prelude.{◌≡◌, nat_eq};
 ghost use Rattle.std.specs.HashMap.{get};
 
@@ -9,7 +9,7 @@ use lock_api::{
 use std::alloc::{AllocFailed, Global};
 use std::collections::HashMap;
 
-/// The value under this key, to be read.
+/// The projection to the value under a key, for reading.
 #[derive(Clone, Copy)]
 pub struct Entry(pub u64);
 
@@ -34,10 +34,10 @@ impl<V> TryView<HashMap<u64, V>> for Entry {
     }
 }
 
-/// The right to read one entry of a registry. While it is held, nothing is added.
+/// A guard of one entry of a registry. While it is held, nothing is added.
 pub type EntryGuard<'a, R, V> = MappedRwLockReadGuard<'a, R, HashMap<u64, V>, Entry>;
 
-/// Values under keys. Many may read at a time.
+/// Values under keys, which many threads may read at a time.
 #[derive(Drop)]
 pub struct Registry<R, V> {
     values: RwLock<R, HashMap<u64, V>>,
@@ -46,7 +46,7 @@ pub struct Registry<R, V> {
 impl<R: RawRwLock + Drop, V: Drop> Registry<R, V> {
     ghost use Rattle.std.specs.Prelude.{IsOkUnless};
 
-    /// A registry without entries.
+    /// Makes a registry without entries.
     pub fn new(alloc: Global, waiter: R::Waiter) -> Result<Registry<R, V>, Fault>
         ensures { IsOkUnless result Fault.OutOfMemory }
     {
@@ -59,7 +59,7 @@ impl<R: RawRwLock + Drop, V: Drop> Registry<R, V> {
 impl<R: RawRwLock, V> Registry<R, V> {
     ghost use Rattle.std.specs.Prelude.{IfErr};
 
-    /// The entry under the key, or the key that has none.
+    /// Returns a guard of the entry under the key, or the key if there is none.
     pub fn look(&self, key: u64) -> Result<EntryGuard<'_, R, V>, u64>
         ensures { IfErr result (λ missed. missed ≡ key) }
     {
@@ -69,7 +69,7 @@ impl<R: RawRwLock, V> Registry<R, V> {
         }
     }
 
-    /// How many entries there are, which may be old at once.
+    /// Returns how many entries there are. The answer may be stale at once.
     pub fn len(&self) -> usize {
         self.values.read().len()
     }
@@ -78,8 +78,8 @@ impl<R: RawRwLock, V> Registry<R, V> {
 impl<R: RawRwLockUpgrade, V: Drop> Registry<R, V> {
     ghost use Rattle.std.specs.Prelude.{IfErr};
 
-    /// Adds the entry, unless the key has one. Whether it was added. Others read until there is something to add, and
-    /// want of memory gives the entry back.
+    /// Adds an entry, unless the key has one, and returns whether it was added. Other threads can read until there is
+    /// something to add. Without memory the entry is returned.
     pub fn add(&self, key: u64, value: V) -> Result<bool, AllocFailed<(u64, V)>>
         ensures { IfErr result (λ refused. refused.value ≡ (key, value)) }
     {

@@ -1,4 +1,4 @@
-//! The items of a queue. No lock is here.
+//! The items of a queue, without a lock.
 ghost use Rattle.std.specs.Prelude.{◌≡◌, ◌==◌, [], ◌∷◌, ◌++◌, false, length, IfOk};
 ghost use Rattle.lock_examples.specs.Line.{Line, is_full, is_empty};
 
@@ -6,7 +6,7 @@ use std::alloc::{AllocError, Global};
 use std::collections::VecDeque;
 use std::marker::Model;
 
-/// Items in the order in which they came, at most so many.
+/// Items in the order in which they came, up to a number of places.
 #[derive(Drop)]
 pub struct Ring<T> {
     items: VecDeque<T>,
@@ -19,7 +19,7 @@ impl<T> Model for Ring<T> {
 }
 
 impl<T> Ring<T> {
-    /// All memory that is ever needed is taken here.
+    /// Makes an empty ring. It allocates all the memory that it ever needs.
     pub fn with_places(alloc: Global, places: usize) -> Result<Ring<T>, AllocError>
         ensures { IfOk result (λ ring. ring ≡ record { items = []; places = places }) }
     {

@@ -1,4 +1,4 @@
-//! Programs with a proved answer although threads share a value: a counter, a bank and a queue.
+//! Programs whose threads share a value, with proved results: a counter, a bank and a queue.
 mod bank;
 mod counter;
 mod queue;

@@ -1,4 +1,4 @@
-//! Every public type of `lock_api` in a signature.
+//! Every public type of `lock_api`, in a signature.
 mod ruled;
 mod words;
 
@@ -12,8 +12,8 @@ use lock_api::{
     ModeStep, Monitor, Mutex, MutexGuard, ObservableState, Op, PartyId, Project, RawCondvar,
     RawCondvarTimed, RawLock, RawMutex, RawMutexFair, RawMutexTimed, RawReentrantMutex, RawRwLock,
     RawRwLockDowngrade, RawRwLockFair, RawRwLockTimed, RawRwLockUpgrade, RawRwLockUpgradeDowngrade,
-    RawRwLockUpgradeFair, RawRwLockUpgradeTimed, RawState, Recorded, RecordingArbiter, RecordingRaw,
-    ReentrantMutex, ReentrantMutexGuard, Reply, RwLock, RwLockArc, RwLockArcTimed,
+    RawRwLockUpgradeFair, RawRwLockUpgradeTimed, RawState, Recorded, RecordingArbiter,
+    RecordingRaw, ReentrantMutex, ReentrantMutexGuard, Reply, RwLock, RwLockArc, RwLockArcTimed,
     RwLockArcUpgrade, RwLockArcUpgradeTimed, RwLockGuard, RwLockReadGuard,
     RwLockUpgradableReadGuard, RwLockWriteGuard, Script, Shared, SharedToken, SpuriousCondvar,
     TableArbiter, TableToken, Then, TokenArbiter, TokenRaw, TokenTable, TryProject, TryView,
@@ -51,7 +51,7 @@ pub fn raws<W: Wait + Clone + Drop, C: LockCore, A: Arbiter, S: ObservableState>
     _condvar: &SpuriousCondvar<TokenRaw<W>>,
 ) {}
 
-/// A mutex, its guards, and what waits with them.
+/// A mutex, its guards, and its condition variables.
 pub fn mutexes<R: RawMutex + Drop, C: RawCondvar<RawMutex = R>>(
     _mutex: &Mutex<R, Settings>,
     _guard: &MutexGuard<'_, R, Settings>,
@@ -75,7 +75,7 @@ pub fn rwlocks<R: RawRwLockUpgrade + Drop>(
     _modes: (Shared, Exclusive),
 ) {}
 
-/// The guards of a reader-writer lock that keep it alive.
+/// The guards of a reader-writer lock that own a reference to it.
 pub fn rwlock_arcs<R: RawRwLockUpgrade + Drop>(
     _reader: &ArcRwLockReadGuard<R, Settings>,
     _writer: &ArcRwLockWriteGuard<R, Settings>,

@@ -1,4 +1,4 @@
-//! A raw lock of one's own, which spins.
+//! A raw lock of the user's own, which spins.
 use lock_api::{Fault, RawMutex, RawRwLock, is_limit};
 use std::alloc::Global;
 use std::clone::Clone;
@@ -6,22 +6,22 @@ use std::sync::Wait;
 use std::sync::atomic::{AtomicU64, Ordering};
 use std::thread;
 
-/// The word while one writes, more than there may be readers.
+/// The word while a writer holds the lock. There may be fewer readers than that.
 const WRITES: u64 = u64::MAX;
 
-/// A token that reads. Only this module makes one.
+/// A shared token. Only this module makes one.
 #[derive(Drop)]
 pub struct SpinReader {
     _only_here: (),
 }
 
-/// A token that writes. Only this module makes one.
+/// An exclusive token. Only this module makes one.
 #[derive(Drop)]
 pub struct SpinWriter {
     _only_here: (),
 }
 
-/// A lock in one word, which says how many read, or that one writes. Who has to wait asks again and again.
+/// A lock in one word: the number of readers, or a mark of a writer. A blocked call tries again and again.
 #[derive(Drop)]
 pub struct SpinLock<W: Wait + Clone + Drop> {
     waiter: W,
@@ -38,14 +38,14 @@ impl<W: Wait + Clone + Drop> SpinLock<W> {
         }
     }
 
-    /// Whether the word was this one, and became the other.
+    /// Replaces the word if it is still the one that was seen, and returns whether it was.
     fn exchange(&self, seen: u64, next: u64) -> bool {
         self.word
             .compare_exchange(seen, next, Ordering::SeqCst, Ordering::SeqCst)
             .is_ok()
     }
 
-    /// Asks until a token is given.
+    /// Tries until it gets a token.
     fn spin<T, F: Fn(&Self) -> Option<T> + Drop>(&self, ask: F) -> T
         requires { F.IsAlwaysCallable ask }
     {

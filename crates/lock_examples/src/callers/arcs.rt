@@ -1,4 +1,4 @@
-//! What a caller knows of guards that keep their lock alive.
+//! What a caller knows of guards that own a reference to their lock.
 ghost use Rattle.std.specs.Prelude.{◌≡◌, IfOk};
 ghost use Rattle.std.specs.Arc.{arc_value};
 ghost use Rattle.lock_api.specs.Guards.{value_of};
@@ -10,7 +10,7 @@ use lock_api::{
 };
 use std::sync::Arc;
 
-/// The closures' answers come back, and the guard's mutex is the same after all calls.
+/// The closures' answers are returned, and the guard keeps its mutex through all calls.
 pub fn same_mutex_by_an_arc<R: RawMutexFair + Drop>(
     mutex: &Arc<Mutex<R, u64>>,
     answer: u64,
@@ -28,7 +28,7 @@ pub fn same_mutex_by_an_arc<R: RawMutexFair + Drop>(
     Ok((ArcMutexGuard::into_arc(guard), written, answered))
 }
 
-/// Through all transitions the guard is of one lock, and the closure's answer comes back.
+/// The guard keeps its lock through all changes of mode, and the closure's answer is returned.
 pub fn same_rwlock_by_an_arc<R: RawRwLockUpgradeDowngrade + Drop>(
     lock: &Arc<RwLock<R, u64>>,
     answer: u64,
@@ -48,7 +48,7 @@ pub fn same_rwlock_by_an_arc<R: RawRwLockUpgradeDowngrade + Drop>(
     Ok((ArcRwLockReadGuard::into_arc(reader), written))
 }
 
-/// A guard reads the value of the lock that it was made of.
+/// A guard reads the value of its lock.
 pub fn value_by_an_arc<R: RawMutex + Drop>(
     lock: &Arc<ReentrantMutex<R, u64>>,
     party: PartyId,

@@ -1,4 +1,4 @@
-//! What a caller knows of a `Desk`, in the words of its contracts and of the laws.
+//! What a caller knows of a `Desk`, from its contracts and from the laws.
 ghost use Rattle.std.specs.Prelude.{◌≡◌, None, false, IfOk, IsOkUnless, IsTrue};
 ghost use Rattle.std.specs.Option.{ForNone};
 ghost use Rattle.std.specs.Fn.{FnOnceTakesAtMut};
@@ -15,7 +15,7 @@ use crate::callers::{Limit, Settings};
 use lock_api::{At, Call, Desk, Fault, Op, PartyId, RawState, Reply, runs_are_sound};
 use std::alloc::Global;
 
-/// Whatever the calls are, what a law says of every run holds of the machine that they lead to.
+/// A law about every run holds of the machine after these calls, whatever they are.
 pub fn run_sound<R: RawState, T, O: Op<T>>(
     alloc: Global,
     desk: &mut Desk<R, T>,
@@ -28,7 +28,7 @@ pub fn run_sound<R: RawState, T, O: Op<T>>(
     desk.run(alloc, calls)
 }
 
-/// The clause of a call with a closure, handed on.
+/// The clause of a call with a closure, passed on.
 pub fn write_by<R: RawState, U, F: FnOnce(&mut u64) -> U + Drop>(
     desk: &mut Desk<R, u64>,
     party: PartyId,
@@ -43,7 +43,7 @@ pub fn write_by<R: RawState, U, F: FnOnce(&mut u64) -> U + Drop>(
     desk.with_mut(party, guard, write)
 }
 
-/// A party that has announced itself may withdraw, and the raw state has no bar then.
+/// A party that has announced itself can withdraw, and then the raw state has no bar.
 pub fn without_bar<R: RawState, T>(desk: &mut Desk<R, T>, party: PartyId) -> bool
     requires kind { IsTrue (is_rwlock desk.old.kind) }
     requires announced { IsTrue (has_announced desk.old.bar (id_of party)) }
@@ -53,7 +53,7 @@ pub fn without_bar<R: RawState, T>(desk: &mut Desk<R, T>, party: PartyId) -> boo
     desk.raw().barred()
 }
 
-/// A part of the value behind a `Desk`.
+/// Reads a part of the value behind a `Desk`.
 pub fn read_limit<R: RawState>(
     desk: &Desk<R, Settings>,
     party: PartyId,
@@ -62,14 +62,14 @@ pub fn read_limit<R: RawState>(
     desk.read_part(party, guard, &At(Limit), |limit| *limit)
 }
 
-/// A refused allocation is the fault of that name.
+/// A refused allocation is `OutOfMemory`.
 pub fn two_places(alloc: Global) -> Result<Vec<u64>, Fault>
     ensures { IsOkUnless result Fault.OutOfMemory }
 {
     Ok(Vec::with_capacity(alloc, 2)?)
 }
 
-/// The answer of an operation, by a word of the user's own. A refusal has none, as the laws say it.
+/// The answer of an operation, by a definition of the caller's own. A refusal has none, as the laws state it.
 pub fn answered<A: Copy>(reply: &Reply<A>) -> Option<A>
     ensures value { result ≡ answer_of reply.now }
     ensures refused { IsTrue (is_refusal reply.now) → result ≡ None }

@@ -9,7 +9,7 @@ use lock_api::{
     RwLockReadGuard, RwLockWriteGuard,
 };
 
-/// What is written to a part is what it reads next.
+/// A part reads what was written to it.
 pub fn write_and_read<R: RawMutex>(mutex: &Mutex<R, Settings>, value: u64) -> u64
     ensures { result ≡ value }
 {
@@ -27,7 +27,7 @@ pub fn read_through_map<R: RawMutex>(mutex: &Mutex<R, Settings>, value: u64) -> 
     *MutexGuard::map(guard, At(Limit))
 }
 
-/// A mapped guard that is handed on holds what the guard held.
+/// A mapped guard that is passed on holds what the guard held.
 pub fn map_it<'a, R: RawMutex>(
     guard: MutexGuard<'a, R, Settings>,
     limit: At<Limit>,
@@ -37,7 +37,7 @@ pub fn map_it<'a, R: RawMutex>(
     MutexGuard::map(guard, limit)
 }
 
-/// The same of a lock that one writes.
+/// The same of a write guard.
 pub fn raise<R: RawRwLock>(lock: &RwLock<R, Settings>, value: u64) -> u64
     ensures { result ≡ value }
 {

@@ -18,7 +18,7 @@ pub fn write_and_read<R: RawMutex>(mutex: &Mutex<R, u64>) -> u64
     *guard
 }
 
-/// The same, where the mutex is free.
+/// The same, if the mutex is free.
 pub fn try_write_and_read<R: RawMutex>(mutex: &Mutex<R, u64>, value: u64) -> Option<u64>
     ensures { IfSome result (λ read. read ≡ value) }
 {
@@ -34,21 +34,21 @@ pub fn read_twice<R: RawMutex>(guard: &MutexGuard<'_, R, u64>) -> (u64, u64)
     (**guard, **guard)
 }
 
-/// What is written through a guard of the caller's is what it shows.
+/// A guard that a caller lends reads what was written through it.
 pub fn put<R: RawMutex>(guard: &mut MutexGuard<'_, R, u64>, value: u64)
     ensures { Shows mutex_guard_value value guard.new }
 {
     **guard = value;
 }
 
-/// A guard that is handed on is of the mutex that was locked.
+/// A guard that is returned is of the mutex that was locked.
 pub fn lock_it<R: RawMutex, T>(mutex: &Mutex<R, T>) -> MutexGuard<'_, R, T>
     ensures { IsGuardOf mutex.entry result }
 {
     mutex.lock()
 }
 
-/// A guard that a struct keeps.
+/// A guard in a struct.
 #[derive(Drop)]
 pub struct Session<'a, R: RawMutex> {
     guard: MutexGuard<'a, R, u64>,
@@ -56,7 +56,7 @@ pub struct Session<'a, R: RawMutex> {
 }
 
 impl<'a, R: RawMutex> Session<'a, R> {
-    /// What is written through the guard is what it reads next.
+    /// Writes through the guard, which then reads the same.
     pub fn write(&mut self, value: u64) -> u64
         ensures { result ≡ value }
     {
@@ -66,7 +66,7 @@ impl<'a, R: RawMutex> Session<'a, R> {
     }
 }
 
-/// The closure's answer comes back.
+/// The closure's answer is returned.
 pub fn answer_unlocked<R: RawMutex>(mutex: &Mutex<R, u64>, answer: u64) -> u64
     ensures { result ≡ answer }
 {
@@ -74,7 +74,7 @@ pub fn answer_unlocked<R: RawMutex>(mutex: &Mutex<R, u64>, answer: u64) -> u64
     MutexGuard::unlocked(&mut guard, || answer)
 }
 
-/// The closure's answer comes back from a fair release, and the guard is of the same mutex afterwards.
+/// The closure's answer is returned after a fair release, and the guard keeps its mutex.
 pub fn same_mutex_after_all<'a, R: RawMutexFair>(
     mutex: &'a Mutex<R, u64>,
     answer: u64,

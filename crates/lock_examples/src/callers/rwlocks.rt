@@ -15,14 +15,14 @@ pub fn write_and_read<R: RawRwLock>(lock: &RwLock<R, u64>, value: u64) -> u64
     *guard
 }
 
-/// A guard reads one value until it is given up.
+/// A read guard reads one value until it is released.
 pub fn read_twice<R: RawRwLock>(guard: &RwLockReadGuard<'_, R, u64>) -> (u64, u64)
     ensures { result.0 ≡ result.1 }
 {
     (**guard, **guard)
 }
 
-/// The closure's answer comes back.
+/// The closure's answer is returned.
 pub fn answer_unlocked<R: RawRwLock>(lock: &RwLock<R, u64>, answer: u64) -> u64
     ensures { result ≡ answer }
 {
@@ -30,7 +30,7 @@ pub fn answer_unlocked<R: RawRwLock>(lock: &RwLock<R, u64>, answer: u64) -> u64
     RwLockReadGuard::unlocked(&mut guard, || answer)
 }
 
-/// The closure's answer comes back where the guard was upgraded.
+/// The closure's answer is returned if the guard was upgraded.
 pub fn swap_in<R: RawRwLockUpgradeDowngrade>(lock: &RwLock<R, u64>, value: u64) -> Option<u64>
     ensures { IfSome result (λ answer. answer ≡ value) }
 {
@@ -41,7 +41,7 @@ pub fn swap_in<R: RawRwLockUpgradeDowngrade>(lock: &RwLock<R, u64>, value: u64) 
     })
 }
 
-/// Through all transitions the guard is of one lock.
+/// The guard keeps its lock through all changes of mode.
 pub fn same_lock_after_all<'a, R: RawRwLockUpgradeDowngrade>(
     lock: &'a RwLock<R, u64>,
 ) -> &'a RwLock<R, u64>

@@ -3,7 +3,7 @@ ghost use Rattle.std.specs.Prelude.{◌≡◌, ◌≤◌, IfSome};
 
 use lock_api::{Condvar, MutexGuard, RawCondvar};
 
-/// After a wait while the value is below 5, it is not.
+/// After a wait while the value is below 5, it is not below 5.
 pub fn wait_for_5<C: RawCondvar>(
     condvar: &Condvar<C>,
     guard: &mut MutexGuard<'_, C::RawMutex, u64>,

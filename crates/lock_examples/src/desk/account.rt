@@ -1,14 +1,14 @@
-//! Operations of one's own on the value behind a `Desk`: the entries of an account.
+//! Operations of the user's own on the value behind a `Desk`: deposits and withdrawals.
 ghost use Rattle.lock_examples.specs.Account.{entry_of};
 
 use lock_api::Op;
 
-/// An entry of an account, in cents. It answers the balance after it; where it is only asked, the balance that there is.
+/// An operation on an account, in cents. A change answers the new balance, and a read the present one.
 #[derive(Clone, Copy, PartialEq, Eq, Debug)]
 pub enum Entry {
-    /// It does not fit where the balance would be no number of 64 bits.
+    /// It does not fit if the balance would overflow 64 bits.
     Deposit(u32),
-    /// It does not fit where the balance is less.
+    /// It does not fit if the balance is smaller.
     Withdraw(u32),
 }
 

@@ -1,4 +1,4 @@
-//! Lists of calls: one whose replies are proved, and any.
+//! Lists of calls: one with proved replies, and any list.
 ghost use Rattle.std.specs.Prelude.{◌≡◌, ◌+◌, ◌<◌, ◌^◌, [], ◌∷◌, IfOk};
 ghost use Rattle.lock_api.specs.Entries.{held_bag};
 ghost use Rattle.lock_api.specs.Modes.{AreCompatible};
@@ -7,7 +7,7 @@ use crate::desk::account::Entry;
 use lock_api::{Call, Desk, Fault, Form, Op, PartyId, RawState, Reply, Want, runs_are_sound};
 use std::alloc::Global;
 
-/// Locks and deposits, and is told that more than there is cannot be withdrawn.
+/// Locks, deposits, and is refused a withdrawal of more than the balance.
 pub fn deposit_under_lock<R: RawState>(
     alloc: Global,
     party: PartyId,
@@ -24,7 +24,7 @@ pub fn deposit_under_lock<R: RawState>(
     desk.run(alloc, &calls)
 }
 
-/// Makes the calls on a new mutex. Whatever they are, what is held afterwards may be held together.
+/// Makes the calls on a new mutex. Whatever they are, the held modes are compatible afterwards.
 pub fn run_new<R: RawState, O: Op<u64>>(
     alloc: Global,
     calls: &[Call<O>],

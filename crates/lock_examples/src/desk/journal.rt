@@ -9,8 +9,8 @@ use std::alloc::Global;
 use std::clone::Clone;
 use std::sync::Wait;
 
-/// What is out after the steps, where each could be made as it came, from nothing; else the number of the first that
-/// could not.
+/// Returns the bag after the steps, if each was permitted where it was made, from the empty bag. Otherwise returns the
+/// number of the first step that was not.
 pub fn audit(limit: u64, steps: &[ModeStep]) -> Result<Bag, usize>
     ensures run { IfOk result (λ out. IsModeRun limit empty_bag steps.now out) }
     ensures told { IsOk result ↔ Replays limit steps.now }
@@ -26,7 +26,7 @@ pub fn audit(limit: u64, steps: &[ModeStep]) -> Result<Bag, usize>
     Ok(out)
 }
 
-/// Whether the step could be made where these are out.
+/// Returns whether the bag permits the step.
 fn permits(limit: u64, out: Bag, step: ModeStep) -> bool
     requires { tokens out < 2 ^ 64 }
     ensures { (result ≡ true) ↔ Permits limit out step }
@@ -38,7 +38,7 @@ fn permits(limit: u64, out: Bag, step: ModeStep) -> bool
     }
 }
 
-/// Whether a token of the one mode can become one of the other.
+/// Returns whether one mode can change to the other.
 fn is_move(from: Mode, to: Mode) -> bool
     ensures { result ≡ modes.is_move from to }
 {
@@ -49,7 +49,7 @@ fn is_move(from: Mode, to: Mode) -> bool
     }
 }
 
-/// An audit of a lock's own journal finds nothing wrong, whatever threads did under the lock.
+/// An audit of a lock's own journal finds nothing wrong, whatever threads did with the lock.
 pub fn audit_lock<W: Wait + Clone + Drop>(
     alloc: Global,
     raw: &RecordingRaw<W>,

@@ -1,10 +1,10 @@
-//! A scenario whose answers are proved: two parties ask for one lock.
+//! A scenario with proved answers: two parties and one lock.
 ghost use Rattle.std.specs.Prelude.{◌≡◌, None, IfOk, IsOkUnless};
 
 use lock_api::{Desk, Fault, PartyId, RawState, Way};
 use std::alloc::Global;
 
-/// What the parties are answered.
+/// The answers to the parties.
 #[derive(PartialEq, Eq, Debug, Drop)]
 pub struct Answers {
     pub locked: Result<u64, Fault>,
@@ -13,7 +13,8 @@ pub struct Answers {
     pub locked_again: Result<u64, Fault>,
 }
 
-/// The first party locks, the second tries and asks in vain, and gets the lock once the first has given it up.
+/// The first party locks, the second party's try and blocking call are refused, and it acquires once the first has
+/// released.
 pub fn two_ask<R: RawState>(
     alloc: Global,
     first: PartyId,

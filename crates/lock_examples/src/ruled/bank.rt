@@ -14,7 +14,7 @@ pub struct Accounts {
     pub right: u64,
 }
 
-/// Which way money moves.
+/// The direction of a transfer.
 #[derive(Clone, Copy, PartialEq, Eq, Debug)]
 pub enum Way {
     ToLeft,
@@ -22,7 +22,7 @@ pub enum Way {
 }
 
 impl Accounts {
-    /// The accounts once the amount has moved, or as they are where it is not there.
+    /// Returns the accounts after the transfer, or unchanged if the amount is not there.
     pub fn transfer(self, way: Way, amount: u64) -> Accounts
         requires { self.left + self.right < 2 ^ 64 }
         ensures { result.left + result.right ≡ self.left + self.right }
@@ -42,7 +42,7 @@ impl Accounts {
     }
 }
 
-/// The sum of the two accounts stays. A user's view is that sum.
+/// The rule: the sum of both accounts stays. A user's view is that sum.
 pub struct SumStays;
 
 impl MutexRule<Accounts, u64> for SumStays {
@@ -54,7 +54,7 @@ impl MutexRule<Accounts, u64> for SumStays {
     ghost first = { λ accounts. accounts.left + accounts.right };
 }
 
-/// A user goes on to know what it knew.
+/// The view stays.
 struct SameSum;
 
 impl Turn<Accounts, u64> for SameSum {
@@ -77,7 +77,7 @@ type Bank = RuledMutex<Accounts, u64, SumStays>;
 
 type Teller = User<Accounts, u64>;
 
-/// Moves each amount that is there, one after the other.
+/// Makes each transfer that is possible, one after another.
 #[tactic(auto, using(crate::proofs::Tellers::sum_known, crate::proofs::Tellers::sum_stays))]
 fn transfer_all<R: Wait>(rt: &R, bank: &Bank, teller: Teller, way: Way, amounts: &[u64]) -> Teller
     requires bank { teller.mutex ≡ bank.now }
@@ -93,7 +93,7 @@ fn transfer_all<R: Wait>(rt: &R, bank: &Bank, teller: Teller, way: Way, amounts:
     teller
 }
 
-/// The accounts once two threads have moved the amounts: one to the right, and one to the left.
+/// Returns the accounts after two threads have made the transfers, one to the right and one to the left.
 #[tactic(auto, using(crate::proofs::Tellers::splits, crate::proofs::Tellers::joins))]
 pub fn shuffle<R: Threads + Wait + Sync>(
     rt: &R,

@@ -7,7 +7,7 @@ use std::alloc::Global;
 use std::sync::Wait;
 use std::thread::{Threads, join};
 
-/// The value is the sum of what all have added, as a `u64` wraps. A user's view is what it has added.
+/// The rule: the value is the sum of all that the users added, modulo 2^64. A user's view is what it added.
 pub struct AddedUp;
 
 impl MutexRule<u64, u64> for AddedUp {
@@ -18,7 +18,7 @@ impl MutexRule<u64, u64> for AddedUp {
     ghost first = { λ value. value };
 }
 
-/// The user has added one more.
+/// The user added one more.
 pub struct AddsOne;
 
 impl Turn<u64, u64> for AddsOne {
@@ -27,7 +27,7 @@ impl Turn<u64, u64> for AddsOne {
     ghost next = { λ taken view value. view + 1 };
 }
 
-/// A new user has added nothing, and one that takes another in has added what both have.
+/// A new user added nothing. Of two joined users, the one has added what both did.
 pub struct Sums;
 
 impl Split<u64> for Sums {
@@ -47,7 +47,7 @@ impl Join<u64> for Sums {
 /// A counter to which threads add.
 pub type Counter = RuledMutex<u64, u64, AddedUp>;
 
-/// Adds one so many times, each time under the lock.
+/// Adds one `times` times, each time under the lock.
 #[tactic(auto, using(crate::proofs::Additions::adds_one))]
 fn add<R: Wait>(rt: &R, counter: &Counter, user: User<u64, u64>, each: u64) -> User<u64, u64>
     requires { user.mutex ≡ counter.now }
@@ -62,7 +62,7 @@ fn add<R: Wait>(rt: &R, counter: &Counter, user: User<u64, u64>, each: u64) -> U
     user
 }
 
-/// Adds one, unless the value is out.
+/// Adds one, unless the mutex is held.
 #[tactic(auto, using(crate::proofs::Additions::adds_one))]
 pub fn try_add(counter: &Counter, user: User<u64, u64>) -> Result<User<u64, u64>, User<u64, u64>>
     requires { user.mutex ≡ counter.now }
@@ -74,7 +74,7 @@ pub fn try_add(counter: &Counter, user: User<u64, u64>) -> Result<User<u64, u64>
     Ok(counter.unlock::<AddsOne>(value))
 }
 
-/// So many threads add one so many times each, the last of them as this user.
+/// Several threads add one several times each, the last of them as this user.
 #[tactic(auto, using(crate::proofs::Additions::splits, crate::proofs::Additions::joins))]
 fn work<R: Threads + Wait + Sync>(
     rt: &R,
@@ -105,7 +105,7 @@ fn work<R: Threads + Wait + Sync>(
     counter.join::<Sums>(user, other)
 }
 
-/// What so many threads make of 0, each of which adds one so many times.
+/// Returns the count of several threads that add one several times each.
 pub fn count<R: Threads + Wait + Sync>(
     rt: &R,
     alloc: Global,

@@ -10,24 +10,24 @@ use std::sync::Wait;
 use std::thread;
 use std::thread::{Threads, join};
 
-/// How many items the queue has room for.
+/// The capacity of the queue.
 const ROOM: usize = 4;
 
-/// What a user of the queue does.
+/// The role of a user of the queue.
 pub enum Role {
     Both,
     Produces,
     Consumes,
 }
 
-/// What a user of the queue has put in and taken out. No value of it is made.
+/// What a user has pushed and popped. It exists in contracts only.
 pub struct Log {
     pub role: Role,
     pub put: LinkedList<u32>,
     pub taken: LinkedList<u32>,
 }
 
-/// What was taken out, followed by what is in the queue, is what was put in.
+/// The rule: the popped items, followed by the items in the queue, are the pushed items.
 pub struct InOrder;
 
 impl MutexRule<Vec<u32>, Log> for InOrder {
@@ -38,7 +38,7 @@ impl MutexRule<Vec<u32>, Log> for InOrder {
     ghost first = { λ queue. alone queue.items [] };
 }
 
-/// The last of the items was put in.
+/// The last of the items was pushed.
 struct Puts;
 
 impl Turn<Vec<u32>, Log> for Puts {
@@ -47,7 +47,7 @@ impl Turn<Vec<u32>, Log> for Puts {
     ghost next = { λ before log after. record log { put = log.put ++ drop (length before.items) after.items } };
 }
 
-/// The first of the items was taken out.
+/// The first of the items was popped.
 struct Takes;
 
 impl Turn<Vec<u32>, Log> for Takes {
@@ -56,14 +56,14 @@ impl Turn<Vec<u32>, Log> for Takes {
     ghost next = { λ before log after. record log { taken = log.taken ++ take 1 before.items } };
 }
 
-/// A turn that leaves all as it was.
+/// The view stays.
 struct Looks;
 
 impl Turn<Vec<u32>, Log> for Looks {
     ghost next = { λ before log after. log };
 }
 
-/// One user produces and the other consumes, until they are one again.
+/// A split makes a producer and a consumer, and a join makes them one again.
 struct Roles;
 
 impl Split<Log> for Roles {
@@ -88,7 +88,7 @@ type Queue = RuledMutex<Vec<u32>, Log, InOrder>;
 
 type Client = User<Vec<u32>, Log>;
 
-/// Puts the item in, where there is room.
+/// Pushes the item, if there is room.
 fn try_put<R: Wait>(rt: &R, queue: &Queue, client: Client, item: u32) -> Result<Client, Client>
     requires queue { client.mutex ≡ queue.now }
     requires role { client.view ≡ producer client.view.put }
@@ -103,7 +103,7 @@ fn try_put<R: Wait>(rt: &R, queue: &Queue, client: Client, item: u32) -> Result<
     }
 }
 
-/// Takes the first item out, where there is one.
+/// Pops the first item, if there is one.
 fn try_take<R: Wait>(rt: &R, queue: &Queue, client: Client) -> (Client, Option<u32>)
     requires queue { client.mutex ≡ queue.now }
     requires role { client.view ≡ consumer client.view.taken }
@@ -119,7 +119,7 @@ fn try_take<R: Wait>(rt: &R, queue: &Queue, client: Client) -> (Client, Option<u
     (queue.unlock::<Takes>(items), Some(item))
 }
 
-/// Puts all items in, and lets others run where there is no room.
+/// Pushes all items, and yields while there is no room.
 fn put_all<R: Wait>(rt: &R, queue: &Queue, client: Client, all: &[u32]) -> Client
     requires queue { client.mutex ≡ queue.now }
     requires role { client.view ≡ producer [] }
@@ -145,7 +145,7 @@ fn put_all<R: Wait>(rt: &R, queue: &Queue, client: Client, all: &[u32]) -> Clien
     client
 }
 
-/// Takes so many items out, and lets others run where there is none.
+/// Pops this many items, and yields while there is none.
 fn take_all<R: Wait>(
     rt: &R,
     queue: &Queue,
@@ -175,7 +175,7 @@ fn take_all<R: Wait>(
     (client, into)
 }
 
-/// A copy of the items, which went through a queue from one thread to another.
+/// Returns a copy of the items, which went through a queue from one thread to another.
 pub fn relay<R: Threads + Wait + Sync>(
     rt: &R,
     alloc: Global,
