@@ -1,4 +1,4 @@
-//! Calls of a `Desk`, of a lock over a table, and of scripts, with few and with many guards out.
+//! Calls of a `Desk`, of a lock over a table, and of scripts, with few guards and with many.
 mod mix;
 mod rwlock_pairs;
 mod scripts;
@@ -18,7 +18,7 @@ impl Bench {
         if self.is_timed { 2_000_000 } else { 100 }
     }
 
-    /// Tells how long each call took, or how many were done.
+    /// Prints how long each call took, or how many calls were made.
     pub fn tell(self, rt: &HostRuntime, what: &str, done: u64, start: Instant) -> io::Result<()> {
         if self.is_timed {
             let each = start.elapsed(rt)?.as_nanos() / u128::from(done.max(1));
@@ -29,14 +29,14 @@ impl Bench {
     }
 }
 
-/// Makes the calls of each, and prints a line for each of them.
+/// Makes the calls of each part, and prints a line for each.
 pub fn print(rt: &HostRuntime, bench: Bench) -> io::Result<()> {
     mix::run(rt, bench)?;
     rwlock_pairs::run(rt, rt, bench)?;
     scripts::run(rt, bench)
 }
 
-/// The number after this one of a sequence that looks random.
+/// The next number of a pseudo-random sequence.
 pub fn after(seed: u64) -> u64 {
     seed.wrapping_mul(6_364_136_223_846_793_005)
         .wrapping_add(1_442_695_040_888_963_407)

@@ -208,7 +208,7 @@ where
     sum
 }
 
-/// Whose turn it is, and where the other waits for it.
+/// Whose turn it is, and where the other thread waits for it.
 #[derive(Drop)]
 struct Turns<R> {
     turn: Mutex<R, u64>,
@@ -231,7 +231,7 @@ impl<R: RawMutex> Turns<R> {
 
 /// Turns over a raw lock that only their maker names.
 trait TakeTurns: Sized {
-    /// Where a thread waits.
+    /// The permission to block.
     type Waiter: Wait;
 
     /// Before the first turn.

@@ -10,13 +10,13 @@ use std::time::{Clock, Duration, Instant};
 
 /// A lock that one thread holds for a while, and another tries.
 trait Held {
-    /// Where a thread waits.
+    /// The permission to block.
     type Waiter: Wait;
 
-    /// Holds the lock so long.
+    /// Holds the lock for this long.
     fn hold<K: Clock>(&self, clock: &K, millis: u64);
 
-    /// Whether the lock was got within so many milliseconds, 10 of them later.
+    /// Returns whether the lock was acquired within so many milliseconds, 10 of them later.
     fn is_got_in<K: Clock>(&self, clock: &K, millis: u64) -> bool;
 }
 
@@ -70,7 +70,7 @@ fn elapsed<K: Clock>(clock: &K, start: Instant) -> u128 {
     }
 }
 
-/// The lines of tries beside a thread that holds the lock.
+/// The lines of tries while another thread holds the lock.
 fn tries<R: Print + Threads + Sync + Clock, H: Held + Sync>(rt: &R, lock: &H) -> io::Result<()> {
     for (held, millis) in [(0, 30), (200, 30), (60, 500)] {
         let (is_got, after) = hold_and_try(rt, lock, held, millis);
@@ -81,7 +81,7 @@ fn tries<R: Print + Threads + Sync + Clock, H: Held + Sync>(rt: &R, lock: &H) ->
     Ok(())
 }
 
-/// The line of a wait that nobody ends.
+/// The line of a wait that no notification ends.
 fn wait_in_vain<R: Print + Clock, C: RawCondvarTimed>(
     rt: &R,
     lock: &Mutex<C::RawMutex, u64>,

@@ -1,4 +1,4 @@
-//! What a thread that waits costs.
+//! What a blocked thread costs.
 use lock_base::raw::Fault;
 use lock_guard::raw::RawMutex;
 use lock_mutex::{Condvar, Mutex};
@@ -10,7 +10,7 @@ use std::sync::Wait;
 use std::thread::{self, Threads};
 use std::time::{Clock, CpuClock, Duration};
 
-/// A flag that is put up under a mutex after a while, and where others wait for it.
+/// A flag that is raised under a mutex after a while, with a place to wait for it.
 #[derive(Drop)]
 struct Flag<R> {
     is_up: Mutex<R, bool>,
@@ -18,7 +18,7 @@ struct Flag<R> {
 }
 
 impl<R: RawMutex> Flag<R> {
-    /// Holds the lock so long.
+    /// Holds the lock for this long.
     fn hold<K: Clock>(&self, clock: &K, millis: u64) {
         let mut is_up = self.is_up.lock();
         clock.sleep(Duration::from_millis(millis));
@@ -30,7 +30,7 @@ impl<R: RawMutex> Flag<R> {
         *is_up = false;
     }
 
-    /// Raises the flag after so long.
+    /// Raises the flag after this long.
     fn raise<K: Clock>(&self, clock: &K, millis: u64) {
         clock.sleep(Duration::from_millis(millis));
         let mut is_up = self.is_up.lock();
@@ -56,7 +56,7 @@ enum Act {
 
 /// A flag over a raw lock that only its maker names.
 trait Held: Sized {
-    /// Where a thread waits.
+    /// The permission to block.
     type Waiter: Wait;
 
     /// With the flag down.

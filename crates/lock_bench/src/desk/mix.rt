@@ -1,4 +1,4 @@
-//! A mix of calls on a Desk, by guards at random among those that are out.
+//! A mix of calls on a `Desk`, on its guards at random.
 use crate::desk::{Bench, after, below};
 use lock_base::machine::{PartyId, Way};
 use lock_base::raw::RawState;
@@ -20,7 +20,7 @@ pub fn run(rt: &HostRuntime, bench: Bench) -> io::Result<()> {
     Ok(())
 }
 
-/// Times calls of a desk with so many guards out.
+/// Times the calls of a desk with this many guards.
 fn time<R: RawState>(
     rt: &HostRuntime,
     bench: Bench,
@@ -42,7 +42,7 @@ fn time<R: RawState>(
     bench.tell(rt, what.as_str(), done, start)
 }
 
-/// A desk of as many places as there may be, for which there is hardly memory.
+/// A desk with as many places as there may be, for which there is hardly memory.
 fn make_largest<R: RawState>(rt: &HostRuntime) -> io::Result<()> {
     let start = Instant::now(rt)?;
     let is_made = Desk::<R, u64>::rwlock(rt.alloc(), 4_294_967_295, 1, 7).is_ok();
@@ -50,8 +50,8 @@ fn make_largest<R: RawState>(rt: &HostRuntime) -> io::Result<()> {
     println!(rt; "a Desk of 4294967295 places, made: {is_made}, after {took} microseconds")
 }
 
-/// Six calls a turn: the value is read, the guard is parked and held again, the lock is asked, and a guard ends and another
-/// comes. How many were done.
+/// Six calls a turn: reads the value, parks and resumes a guard, asks whether the lock is held, and replaces a guard.
+/// Returns how many calls were made.
 fn mix<R: RawState>(
     desk: &mut Desk<R, u64>,
     party: PartyId,

@@ -1,4 +1,4 @@
-//! Guards of a reader-writer lock over a table of tokens, that nobody else wants.
+//! Uncontended guards of a reader-writer lock over a table.
 use crate::desk::Bench;
 use lock_guard::raw::RawRwLock;
 use lock_raws::TokenRaw;
@@ -14,7 +14,7 @@ pub fn run<W: Wait + Clone + Drop>(rt: &HostRuntime, waiter: &W, bench: Bench) -
     Ok(())
 }
 
-/// Times guards of a lock for so many readers.
+/// Times guards of a lock with this readers' limit.
 fn time<R: RawRwLock + Drop>(
     rt: &HostRuntime,
     waiter: R::Waiter,
@@ -30,7 +30,7 @@ fn time<R: RawRwLock + Drop>(
     bench.tell(rt, what.as_str(), done, start)
 }
 
-/// A read and a write in turn. How many guards there were.
+/// Reads and writes in turn, and returns how many guards there were.
 fn pairs<R: RawRwLock>(lock: &RwLock<R, u64>, turns: u64) -> u64 {
     let mut done = 0_u64;
     for _ in 0..turns {
