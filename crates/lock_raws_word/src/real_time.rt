@@ -8,13 +8,13 @@ use lock_word::ExWant;
 use std::sync::Wait;
 use std::time::{Clock, Duration, Instant};
 
-/// A raw lock as `WordRaw`, whose waiter has a clock, and whose timed calls wait as long as they are told.
+/// `WordRaw` with timed calls that block for as long as they are told, by the waiter's clock.
 pub type TimedRaw<W> = RawLock<WordCore<W, RealTime>>;
 
-/// A condition variable over it, whose timed waits sleep as long as they are told.
+/// A condition variable over it, whose timed waits sleep for as long as they are told.
 pub type TimedCondvar<W> = SleepingCondvar<TimedRaw<W>>;
 
-/// Real time, by the waiter's clock. Where the clock cannot be read no time is left.
+/// Real time, by the waiter's clock. If the clock cannot be read, no time is left.
 #[derive(Drop)]
 pub struct RealTime;
 
@@ -27,7 +27,8 @@ impl<W: Wait + Clock> Timing<W> for RealTime {
         Instant::now(waiter).ok()?.checked_add(timeout)
     }
 
-    /// It tries after each sleep before it looks at the clock, so that a notification is not lost on one whose time is up.
+    /// It tries after each sleep before it looks at the clock, so that a notification to a thread whose time is up is
+    /// not lost.
     fn wait_until(lock: &WordLock, waiter: &W, want: ExWant, deadline: Instant) -> bool {
         if lock.try_for(want) || lock.try_again(want) {
             return true;
