@@ -183,7 +183,7 @@ fn acquires_in_time<K: Clock, C: LockCore<Duration = Duration, Instant = Instant
 }
 
 /// What threads do with a lock that they share.
-trait Acquires {
+trait TimedLock {
     /// Where a thread waits.
     type Waiter: Wait;
 
@@ -208,7 +208,7 @@ fn show_for_short<K: Clock>(clock: &K, is_held: &AtomicBool) {
     clock.sleep(short());
 }
 
-impl<C: LockCore<Duration = Duration, Instant = Instant>> Acquires for RawLock<C> {
+impl<C: LockCore<Duration = Duration, Instant = Instant>> TimedLock for RawLock<C> {
     type Waiter = C::Waiter;
 
     fn acquires_beside<K: Clock>(
@@ -248,7 +248,7 @@ impl<C: LockCore<Duration = Duration, Instant = Instant>> Acquires for RawLock<C
 }
 
 /// Whether the call acquires, which begins before the release of the token that blocks it.
-fn acquires_after_release<R: Threads + Clock + Sync, L: Acquires + Sync>(
+fn acquires_after_release<R: Threads + Clock + Sync, L: TimedLock + Sync>(
     rt: &R,
     lock: &L,
     want: Want,
@@ -264,7 +264,7 @@ fn acquires_after_release<R: Threads + Clock + Sync, L: Acquires + Sync>(
 }
 
 /// Each call, blocked and released. A timeout past the last instant never ends.
-fn check<R: Threads + Clock + Sync, L: Acquires + Sync>(rt: &R, lock: &L) -> Result<(), Fail> {
+fn check<R: Threads + Clock + Sync, L: TimedLock + Sync>(rt: &R, lock: &L) -> Result<(), Fail> {
     for (want, form) in CALLS {
         let seen = lock.acquires_beside(rt, want, form)?;
         if seen != (false, true) {
