@@ -6,6 +6,7 @@ allow.
 import copy
 import importlib.machinery
 import os
+import re
 import shutil
 import signal
 import subprocess
@@ -13,6 +14,7 @@ import sys
 import tempfile
 import types
 
+PROVED = re.compile(r"^\S+ \S+: proved.*\n", re.M)
 ROOT = os.path.dirname(os.path.dirname(os.path.realpath(__file__)))
 
 
@@ -49,7 +51,8 @@ def use_own_room():
 
 def task(crate, kind, after, work):
     """A piece of work on a crate for rt.in_lanes, which is done once those that it names have passed. It gets a copy of the crate
-    that writes to a file of its own, and how many processors it may use. Where it fails, what it wrote is shown."""
+    that writes to a file of its own, and how many processors it may use. Where it fails, what it wrote is shown, less what is
+    proved."""
 
     def call(given, jobs):
         failed = [f"{kind} of {name}" for name, kind in after if not given[name, kind]]
@@ -61,7 +64,7 @@ def task(crate, kind, after, work):
             is_well = work(own, jobs)
             own.out.seek(0)
             if not is_well:
-                say(f"FAILED: {kind} of {crate.name}\n{own.out.read()}")
+                say(f"FAILED: {kind} of {crate.name}\n{PROVED.sub('', own.out.read())}")
         return is_well
 
     return {(crate.name, kind): (after, crate.count(rb"\n"), rt.need(crate), call)}
