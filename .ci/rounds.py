@@ -15,6 +15,7 @@ import tempfile
 from toolchain import rt, say
 
 FLAGS = ["--jobs", "1"]
+EDIT = re.compile(r"[A-Za-z0-9_-][A-Za-z0-9_.-]*\.edit")
 HEAD = re.compile(r"^( *)(?:pub(?:\([^)]*\))? )?(?:(?:const|final|unsafe) )*fn (\w+)", re.M)
 PROVED = re.compile(r"^fn (\S+): proved", re.M)
 REFUSED = re.compile(r"^fn (\S+): (?:no proof|not proved)(.*)", re.M)
@@ -33,6 +34,31 @@ def edits_in(folder):
     """The edits right in a folder, less the files that are only to be read."""
     names = sorted(os.listdir(folder)) if os.path.isdir(folder) else []
     return [f"{folder}/{it}" for it in names if not it.endswith(".md")]
+
+
+def misfits(crate_folder, edits):
+    """Says of each edit that cannot be tried why that is."""
+    seen = {}
+    for file in edits:
+        texts, why = rt.read_edit(file, crate_folder)
+        if not EDIT.fullmatch(os.path.basename(file)):
+            yield f"{file}: its name is not of letters, digits, _, - and ., or does not end in .edit"
+        elif why:
+            yield f"{file}: {why}"
+        elif all(text_of(f"{crate_folder}/{path}") == it for path, it in texts.items()):
+            yield f"{file}: it changes nothing"
+        elif text_of(file) in seen:
+            yield f"{file}: it is {seen[text_of(file)]} again"
+        else:
+            seen[text_of(file)] = file
+
+
+def all_apply(edits):
+    """Says which edits do not apply, and returns whether there is none. The edits are given by the folder of their crate."""
+    wrong = [why for folder, files in edits.items() for why in misfits(folder, files)]
+    for it in wrong:
+        say(it)
+    return not wrong
 
 
 class Edit:
