@@ -42,7 +42,7 @@ impl<K, V> Inner<K, V> {
         mem::replace(self, Inner::Empty)
     }
 
-    /// The token with what shows the value.
+    /// Returns the token and the guard of the value.
     pub fn into_parts(self) -> (K, V)
         requires { is_filled self ≡ true }
         ensures { Filled result.0 result.1 ≡ self }
@@ -86,7 +86,7 @@ impl<K, V: ValueGuard> Inner<K, V> {
         self.fill(lock.acquire(), lock.show());
     }
 
-    /// Fills an empty part with the token of a call that was made, or puts back the part of one that was refused.
+    /// Fills an empty part with the token of a call that was admitted, or puts back the part of a refused one.
     pub fn settle<L: Acquire<Token = K, Shown = V>, U>(
         &mut self,
         lock: &L,
