@@ -27,13 +27,7 @@ pub fn with_upgraded<R: RawRwLockUpgradeDowngrade, T, U, F: FnOnce(&mut T) -> U>
 /// `with_upgraded` without blocking. If the raw lock refuses, returns the same part and does not call `f`.
 ///
 /// Releases the value's read lock after the raw lock has upgraded the token.
-pub fn try_with_upgraded<
-    R: RawRwLockUpgradeDowngrade,
-    T,
-    V: Drop,
-    U,
-    F: FnOnce(&mut T) -> U,
->(
+pub fn try_with_upgraded<R: RawRwLockUpgradeDowngrade, T, V: Drop, U, F: FnOnce(&mut T) -> U>(
     rwlock: &RwLock<R, T>,
     inner: Inner<R::UpgradableGuard, V>,
     f: F,
@@ -94,7 +88,12 @@ where
     ensures refused { IfErr result (λ same. same ≡ inner) }
 {
     let (token, shown) = inner.into_parts();
-    with_if_upgraded(rwlock, shown, rwlock.raw.try_upgrade_until(token, deadline), f)
+    with_if_upgraded(
+        rwlock,
+        shown,
+        rwlock.raw.try_upgrade_until(token, deadline),
+        f,
+    )
 }
 
 /// Runs `f` on the value if the token was upgraded, and downgrades the token.
