@@ -38,6 +38,7 @@ pub use Rattle.lock_guard.specs.Mapped
 pub use Rattle.lock_word.specs.Holds
 pub use Rattle.lock_word.specs.Holders
 pub use Rattle.lock_word.specs.Word
+pub use Rattle.lock_word.specs.Unblocking
 pub use Rattle.lock_word.specs.WordLaws
 pub use Rattle.lock_word.specs.BarLaws
 pub use Rattle.lock_word.specs.Turns
@@ -66,7 +67,6 @@ pub use Rattle.lock_rwlock_arc.specs.ArcRwLockGuard
 pub use Rattle.lock_remutex.specs.Guards
 pub use Rattle.lock_remutex.specs.ArcGuards
 pub use Rattle.lock_raws.specs.TokenArbiter
-pub use Rattle.lock_raws.specs.Unblocking
+pub use Rattle.lock_raws.specs.Waking
 pub use Rattle.lock_raws.specs.Journal
 pub use Rattle.lock_raws.specs.Recording
-pub use Rattle.lock_raws_word.specs.Waking

@@ -1,6 +1,6 @@
--- Who can get on after a step: the bag after it, and that nobody can where nothing was changed.
+-- Whom a step wakes: by the bag after it, and nobody where nothing was changed.
 use Rattle.std.proofs.Common.{◌≡◌, ℕ, ◌+◌, ◌≤◌, Bool, true, false, ◌&&◌, ◌||◌, List, refl, sym, ap, ◌∙◌, arith, lt-ltb}
-use Rattle.std.specs.Prelude.{not}
+use Rattle.std.specs.Prelude.{not, ◌==◌, if◌then◌else◌}
 use Rattle.std.specs.Bool.{OnTrue}
 use Rattle.std.proofs.lemmas.Bool.{false≢true}
 use Rattle.lock_base.specs.declared.machine.mode.Mode.{Mode}
@@ -8,12 +8,14 @@ use Rattle.lock_base.specs.declared.machine.mode.Mode.TheVariants.{Shared, Exclu
 use Rattle.lock_base.specs.declared.machine.mode_step.ModeStep.{ModeStep}
 use Rattle.lock_base.specs.declared.machine.mode_step.ModeStep.TheVariants.{Acquire, Release, Change}
 use Rattle.lock_base.specs.declared.machine.bag.Bag.{Bag}
-use Rattle.lock_base.specs.Modes.{tokens, admits, count_of, one_less}
+use Rattle.lock_base.specs.Modes.{tokens, count_of, one_less}
 use Rattle.lock_base.specs.ModeRuns.{has, Permits, bag_after}
 use Rattle.lock_base.specs.Tokens.{bag_of_tokens}
 use Rattle.lock_raws.specs.declared.wake.Wake.{Wake}
-use Rattle.lock_raws.specs.declared.wake.Wake.TheVariants.{Nobody}
-use Rattle.lock_raws.specs.Unblocking.{unblocks, may_upgrade, whom_to_wake, wakes}
+use Rattle.lock_raws.specs.declared.wake.Wake.TheVariants.{Nobody, One, All}
+use Rattle.lock_word.specs.declared.occupancy.Occupancy.{Occupancy}
+use Rattle.lock_word.specs.Unblocking.{occupancy, lets_on, may_upgrade, unblocks}
+use Rattle.lock_raws.specs.Waking.{wakes}
 use Rattle.lock_base.proofs.ModeLemmas.{tokens-one_more}
 use Rattle.lock_base.proofs.TokenSteps.{MakesStep}
 
@@ -24,19 +26,15 @@ not_and false = refl
 none_of : {a b c d : Bool} → a ≡ false → b ≡ false → c ≡ false → d ≡ false → (a || (b || (c || d))) ≡ false
 none_of {a} {b} {c} {d} p q r s = rw (p, q, r, s) refl
 
-and_none : (x : Bool) {y : Bool} → y ≡ false → (x && y) ≡ false
-and_none true none = none
-and_none false none = refl
-
 pub on_true : {P : Type 0} (b : Bool) → b ≡ true → OnTrue b P → P
 on_true true is p = p
 on_true false is p = absurd (false≢true is)
 
--- where nothing was changed nobody can get on who could not before
-unblocks_none : (limit : ℕ) (bar : Bool) (b : Bag) → unblocks limit bar b b ≡ false
-unblocks_none limit bar b =
-    none_of (and_none (not bar) (not_and (admits limit b Shared))) (not_and (admits limit b Exclusive))
-    (and_none (not bar) (not_and (admits limit b Upgradable))) (not_and (may_upgrade b))
+-- where nothing was changed no waiter is unblocked
+unblocks_none : (limit : ℕ) (now : Occupancy) → unblocks limit now now ≡ false
+unblocks_none limit now =
+    none_of (not_and (lets_on limit now Shared)) (not_and (lets_on limit now Exclusive))
+    (not_and (lets_on limit now Upgradable)) (not_and (may_upgrade now))
 
 -- a step that may be made has what it gives up
 pub has_permitted : (limit : ℕ) (b : Bag) (step : ModeStep) → Permits limit b step → has b step ≡ true
@@ -71,5 +69,6 @@ module _ {K : Type 0} where
   pub woken_none : {old new : List (K × Mode)} (limit : ℕ) (bar : Bool) → new ≡ old
       → Nobody ≡ wakes limit bar (bag_of_tokens old) (bag_of_tokens new)
   woken_none {old} {new} limit bar same =
-      ap (λ unblocked. whom_to_wake limit bar unblocked) (sym (unblocks_none limit bar (bag_of_tokens old)))
+      ap (λ unblocked. if unblocked then (if not bar && (limit == 1) then One else All) else Nobody)
+      (sym (unblocks_none limit (occupancy bar (bag_of_tokens old))))
       ∙ ap (λ (ts : List (K × Mode)). wakes limit bar (bag_of_tokens old) (bag_of_tokens ts)) (sym same)

@@ -1,4 +1,4 @@
 pub mod TokenArbiter
-pub mod Unblocking
+pub mod Waking
 pub mod Journal
 pub mod Recording

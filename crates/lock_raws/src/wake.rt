@@ -1,6 +1,9 @@
 //! Whom a step of a raw lock wakes.
-ghost use Rattle.std.specs.Prelude.{◌≡◌};
-ghost use Rattle.lock_raws.specs.Unblocking.{whom_to_wake};
+ghost use Rattle.std.specs.Prelude.{◌≡◌, ◌<◌, ◌^◌};
+ghost use Rattle.lock_base.specs.Modes.{tokens};
+ghost use Rattle.lock_raws.specs.Waking.{whom_to_wake};
+
+use lock_word::{Occupancy, unblocks};
 
 /// Whom a step wakes, of those that wait.
 #[derive(Clone, Copy, PartialEq, Eq, Debug)]
@@ -11,13 +14,15 @@ pub enum Wake {
 }
 
 impl Wake {
-    /// Whom to wake after a step of a lock of so many readers, with a bar or none, by which someone can get on, or nobody.
-    pub fn whom(readers: u64, is_barred: bool, unblocks: bool) -> Wake
-        ensures { result ≡ whom_to_wake readers is_barred unblocks }
+    /// Whom to wake after a step of a lock of so many readers.
+    pub fn whom(readers: u64, before: Occupancy, after: Occupancy) -> Wake
+        requires before_small { tokens before.bag < 2 ^ 64 }
+        requires after_small { tokens after.bag < 2 ^ 64 }
+        ensures { result ≡ whom_to_wake readers before after }
     {
-        if !unblocks {
+        if !unblocks(readers, before, after) {
             Wake::Nobody
-        } else if !is_barred && readers == 1 {
+        } else if !after.barred && readers == 1 {
             Wake::One
         } else {
             Wake::All

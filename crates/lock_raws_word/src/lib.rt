@@ -1,7 +1,6 @@
 //! Raw locks over one packed atomic word whose waiters sleep, and a condition variable whose waiters sleep.
 #![tactic(auto)]
 
-mod laws;
 mod real_time;
 mod sleepers;
 mod sleeping_condvar;
@@ -9,7 +8,6 @@ mod timing;
 mod word_core;
 mod word_lock;
 
-pub use laws::wakes_are_of_bags;
 pub use real_time::{RealTime, TimedCondvar, TimedRaw};
 pub use sleepers::Sleepers;
 pub use sleeping_condvar::SleepingCondvar;

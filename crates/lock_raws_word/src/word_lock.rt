@@ -1,12 +1,13 @@
 //! Tokens in one atomic word.
 ghost use Rattle.std.specs.Prelude.{◌≡◌};
 ghost use Rattle.lock_base.specs.Limits.{IsLimit};
-ghost use Rattle.lock_raws_word.specs.Waking.{word_wakes};
+ghost use Rattle.lock_word.specs.Unblocking.{occupancy_of_word};
+ghost use Rattle.lock_raws.specs.Waking.{whom_to_wake};
 
 use crate::sleepers::Sleepers;
 use crossbeam_utils::Backoff;
 use lock_raws::Wake;
-use lock_word::{Down, ExWant, has_bar, has_exclusive, has_tokens, unblocks};
+use lock_word::{Down, ExWant, Occupancy, has_exclusive, has_tokens};
 use std::sync::Wait;
 use std::sync::atomic::{AtomicU64, Ordering};
 
@@ -172,7 +173,8 @@ impl WordLock {
 
 /// Whom a step wakes that led from the one word to the other.
 fn whom(readers: u64, before: u64, after: u64) -> Wake
-    ensures { result ≡ word_wakes readers before after }
+    ensures { result ≡ whom_to_wake readers (occupancy_of_word before) (occupancy_of_word after) }
 {
-    Wake::whom(readers, has_bar(after), unblocks(readers, before, after))
+    let (before, after) = (Occupancy::of_word(before), Occupancy::of_word(after));
+    Wake::whom(readers, before, after)
 }

@@ -1,6 +1,7 @@
 pub mod Holds
 pub mod Holders
 pub mod Word
+pub mod Unblocking
 pub mod WordLaws
 pub mod BarLaws
 pub mod Turns

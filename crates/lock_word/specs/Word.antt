@@ -85,20 +85,6 @@ down_of_mode mode.Shared = down.Shared
 down_of_mode mode.Exclusive = down.Exclusive
 down_of_mode mode.Upgradable = down.Upgradable
 
--- whether `after` admits what is wanted, and `before` does not
-abbrev pub word_newly_admits : Bool → ℕ → ℕ → ℕ → ExWant → Bool
-word_newly_admits announced limit before after want =
-    not (word_admits announced limit before want) && word_admits announced limit after want
-
--- whether a waiter may be admitted at the word after that was not at the word before. Under a bar a waiting writer
--- counts as the party that set it
-abbrev pub word_unblocks : ℕ → ℕ → ℕ → Bool
-word_unblocks limit before after =
-    word_newly_admits false limit before after Shared
-    || (word_newly_admits true limit before after Exclusive
-    || (word_newly_admits false limit before after Upgradable
-    || word_newly_admits false limit before after Upgrade))
-
 -- the bag that a packed word encodes
 abbrev pub bag_of_word : ℕ → Bag
 bag_of_word word =

@@ -1,6 +1,5 @@
 //! Exchanges of the word.
-ghost use Rattle.std.specs.Prelude.{◌≡◌, false};
-ghost use Rattle.lock_word.specs.Word.{word_unblocks, word_newly_admits};
+ghost use Rattle.std.specs.Prelude.{◌≡◌};
 
 use crate::word::{BAR, EXCLUSIVE, UPGRADABLE};
 use crate::word_step::WordStep;
@@ -69,23 +68,4 @@ impl ExWant {
             _ => None,
         }
     }
-
-    /// Returns whether `after` admits what is wanted, and `before` does not.
-    fn newly_admitted(self, announced: bool, readers: u64, before: u64, after: u64) -> bool
-        ensures { result ≡ word_newly_admits announced readers before after self }
-    {
-        self.exchanged(announced, readers, before).is_none()
-            && self.exchanged(announced, readers, after).is_some()
-    }
-}
-
-/// Returns whether a waiter may be admitted at the word `after` that was not at the word `before`. Under a bar a
-/// waiting writer counts as the party that set it.
-pub fn unblocks(readers: u64, before: u64, after: u64) -> bool
-    ensures { result ≡ word_unblocks readers before after }
-{
-    ExWant::Shared.newly_admitted(false, readers, before, after)
-        || ExWant::Exclusive.newly_admitted(true, readers, before, after)
-        || ExWant::Upgradable.newly_admitted(false, readers, before, after)
-        || ExWant::Upgrade.newly_admitted(false, readers, before, after)
 }

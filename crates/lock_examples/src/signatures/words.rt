@@ -1,7 +1,7 @@
 //! Every public type of the packed word, and of the locks on one, in a signature.
 use lock_api::{
-    AtomicStep, Attempt, Down, ExWant, Hold, NoTime, Outcome, PackedToken, PackedWord, Party,
-    PartyState, PartyView, Place, Places, RealTime, SeatedLock, Sleepers, SleepingCondvar,
+    AtomicStep, Attempt, Down, ExWant, Hold, NoTime, Occupancy, Outcome, PackedToken, PackedWord,
+    Party, PartyState, PartyView, Place, Places, RealTime, SeatedLock, Sleepers, SleepingCondvar,
     TimedCondvar, TimedRaw, Timing, Wake, WordCore, WordLock, WordRaw, WordRule, WordStep,
     WordToken, World,
 };
@@ -28,6 +28,6 @@ pub fn words(
     _world: &World,
     _places: (&Places, &Place),
     _step: (&AtomicStep, &Outcome, &Down, &ExWant, &PartyState),
-    _hold: (&Hold, &WordStep),
+    _hold: (&Hold, &WordStep, &Occupancy),
     _seated: (&SeatedLock, &Party, &PartyView, &WordRule, &Attempt),
 ) {}

@@ -1,0 +1,39 @@
+-- Which waiters a step lets proceed.
+use Rattle.std.specs.Prelude.{ℕ, Bool, not, ◌&&◌, ◌||◌}
+use Rattle.lock_base.specs.declared.machine.mode.Mode.{Mode}
+use Rattle.lock_base.specs.declared.machine.mode.Mode.TheVariants.{Shared, Exclusive, Upgradable}
+use Rattle.lock_base.specs.declared.machine.mode_step.ModeStep.TheVariants.{Change}
+use Rattle.lock_base.specs.declared.machine.bag.Bag.{Bag}
+use Rattle.lock_base.specs.Modes.{admits, may_become, is_exclusive}
+use Rattle.lock_base.specs.ModeRuns.{has}
+use Rattle.lock_word.specs.declared.occupancy.Occupancy.{Occupancy}
+use Rattle.lock_word.specs.Holds.{is_barred}
+use Rattle.lock_word.specs.Word.{bag_of_word, barred_bag_of_word}
+
+-- these modes, with a bar or with none
+abbrev pub occupancy : Bool → Bag → Occupancy
+occupancy bar b = record { bag = b; barred = bar }
+
+-- those that the word shows
+abbrev pub occupancy_of_word : ℕ → Occupancy
+occupancy_of_word word = occupancy (is_barred (barred_bag_of_word word)) (bag_of_word word)
+
+-- a waiter for the mode may proceed: under a bar only the writer that set it
+abbrev pub lets_on : ℕ → Occupancy → Mode → Bool
+lets_on limit now mode = (not now.barred || is_exclusive mode) && admits limit now.bag mode
+
+-- an upgradable token is out, and may become exclusive
+abbrev pub may_upgrade : Occupancy → Bool
+may_upgrade now = has now.bag (Change Upgradable Exclusive) && may_become now.bag Exclusive
+
+-- a waiter for the mode may proceed after the step, and could not before it
+abbrev pub newly_lets_on : ℕ → Occupancy → Occupancy → Mode → Bool
+newly_lets_on limit before after mode = not (lets_on limit before mode) && lets_on limit after mode
+
+-- some waiter may
+abbrev pub unblocks : ℕ → Occupancy → Occupancy → Bool
+unblocks limit before after =
+    newly_lets_on limit before after Shared
+    || (newly_lets_on limit before after Exclusive
+    || (newly_lets_on limit before after Upgradable
+    || (not (may_upgrade before) && may_upgrade after)))

@@ -1,0 +1,72 @@
+//! What decides whether a waiter may proceed, and whom a step lets proceed.
+ghost use Rattle.std.specs.Prelude.{◌≡◌, ◌<◌, ◌^◌};
+ghost use Rattle.lock_base.specs.Modes.{tokens};
+ghost use Rattle.lock_word.specs.Unblocking.{occupancy_of_word, lets_on, newly_lets_on, may_upgrade, unblocks};
+
+use crate::word::{EXCLUSIVE, UPGRADABLE, has_bar};
+use lock_base::machine::{Bag, Mode, ModeStep};
+
+/// The modes that are held, and whether a bar stands.
+#[derive(Clone, Copy, PartialEq, Eq, Debug)]
+pub struct Occupancy {
+    pub bag: Bag,
+    pub barred: bool,
+}
+
+impl Occupancy {
+    /// Decodes a packed word.
+    pub fn of_word(word: u64) -> Occupancy
+        ensures decoded { result ≡ occupancy_of_word word }
+        ensures few { tokens result.bag < 2 ^ 64 }
+    {
+        let upgradable = word / UPGRADABLE % 2;
+        let bag = Bag {
+            shared: (word % UPGRADABLE).saturating_sub(upgradable),
+            exclusive: word / EXCLUSIVE % 2,
+            upgradable,
+        };
+        Occupancy {
+            bag,
+            barred: has_bar(word),
+        }
+    }
+
+    /// Whether a waiter for the mode may proceed.
+    fn lets_on(self, readers: u64, mode: Mode) -> bool
+        requires { tokens self.bag < 2 ^ 64 }
+        ensures { result ≡ lets_on readers self mode }
+    {
+        (!self.barred || mode == Mode::Exclusive) && self.bag.admits(readers, mode)
+    }
+
+    /// Whether a waiter for an upgrade may proceed.
+    fn may_upgrade(self) -> bool
+        requires { tokens self.bag < 2 ^ 64 }
+        ensures { result ≡ may_upgrade self }
+    {
+        self.bag
+            .has(ModeStep::Change(Mode::Upgradable, Mode::Exclusive))
+            && self.bag.may_become(Mode::Exclusive)
+    }
+}
+
+/// Whether a waiter may proceed after a step, and could not before it.
+pub fn unblocks(readers: u64, before: Occupancy, after: Occupancy) -> bool
+    requires before_small { tokens before.bag < 2 ^ 64 }
+    requires after_small { tokens after.bag < 2 ^ 64 }
+    ensures { result ≡ unblocks readers before after }
+{
+    newly_lets_on(readers, before, after, Mode::Shared)
+        || newly_lets_on(readers, before, after, Mode::Exclusive)
+        || newly_lets_on(readers, before, after, Mode::Upgradable)
+        || !before.may_upgrade() && after.may_upgrade()
+}
+
+/// Whether a waiter for the mode may proceed after a step, and could not before it.
+fn newly_lets_on(readers: u64, before: Occupancy, after: Occupancy, mode: Mode) -> bool
+    requires before_small { tokens before.bag < 2 ^ 64 }
+    requires after_small { tokens after.bag < 2 ^ 64 }
+    ensures { result ≡ newly_lets_on readers before after mode }
+{
+    !before.lets_on(readers, mode) && after.lets_on(readers, mode)
+}
