@@ -60,7 +60,7 @@ module _ {K : Type 0} where
         capacity = places;
         tokens = [];
         levels = free_levels limit;
-        bar = None;
+        barred = false;
       })
   nothing_backed kind limit places l = record {
     bag = record { counts = λ test. refl };
@@ -68,10 +68,6 @@ module _ {K : Type 0} where
     compatible = compatible_empty (token_limit kind limit);
     positive = l;
   }
-
-  -- the bar backs nothing
-  pub barred_backed : (ss : List (ℕ × Slot K)) (t : Backing K) (bar : Option ℕ) → AreBacked ss t → AreBacked ss (record t { bar = bar })
-  barred_backed ss t bar b = record { bag = b.bag; holders = b.holders; compatible = b.compatible; positive = b.positive }
 
   -- slots with the same tokens are backed where they are held by the same
   alike_backed : (ss us : List (ℕ × Slot K)) (t : Backing K)

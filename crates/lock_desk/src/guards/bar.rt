@@ -15,14 +15,17 @@ impl<R: RawState> Guards<R> {
     pub(crate) fn is_barred(&self) -> bool
         ensures { result ≡ is_some self.now.bar }
     {
-        self.backing.is_barred()
+        self.bar.is_some()
     }
 
     /// Whether the party has announced itself.
     pub(crate) fn has_announced(&self, party: PartyId) -> bool
         ensures { result ≡ has_announced self.now.bar (id_of party) }
     {
-        self.backing.has_announced(party)
+        match self.bar {
+            Some(announced) => announced == party,
+            None => false,
+        }
     }
 
     /// The bar is this party's, or there is none.
@@ -30,22 +33,26 @@ impl<R: RawState> Guards<R> {
         requires { IsBarOf self.old.kind (option_map id_of bar) }
         ensures { self.new ≡ with_bar self.old (option_map id_of bar) }
     {
-        self.backing.set_bar(bar);
+        self.backing.set_bar(bar.is_some());
+        self.bar = bar;
     }
 
     // Whether a guard of the party and the mode passes the bar.
     pub(super) fn passes(&self, party: PartyId, mode: Mode) -> bool
         ensures { result ≡ passes self.now.bar (id_of party) mode }
     {
-        self.backing.passes(party, mode)
+        match self.bar {
+            Some(announced) => mode == Mode::Exclusive && announced == party,
+            None => true,
+        }
     }
 
     // The bar that is left once a guard of the mode was let in.
     pub(super) fn end_bar(&mut self, mode: Mode)
         ensures { self.new ≡ after_admission self.old mode }
     {
-        if mode == Mode::Exclusive {
-            self.backing.set_bar(None);
+        if mode == Mode::Exclusive && self.bar.is_some() {
+            self.set_bar(None);
         }
     }
 }

@@ -1,5 +1,8 @@
 use Rattle.std.proofs.Common.{arith, ap}
 use Rattle.lock_base.proofs.SoundRegisters.{raised_sound}
+use Rattle.std.specs.Option.{option_map}
+use Rattle.lock_base.specs.Party.{id_of}
+use Rattle.lock_base.specs.Register.{with_bar}
 use Rattle.lock_desk.specs.Backing.{register_of}
 use Rattle.lock_desk.proofs.guards.Guards.skip_to.Goals as goal
 
@@ -10,6 +13,7 @@ invariant_of-self g c =
       backed = c.self.invariant.backed;
       capacity = c.self.invariant.capacity;
       within = c.self.invariant.within;
-      sound = raised_sound (register_of c.self.inside.backing c.self.inside.slots.capacity c.self.inside.slots.last c.self.inside.slots.items)
-          c.args.last (omega (arith, last, c.requires)) c.self.invariant.sound;
+      flag = c.self.invariant.flag;
+      sound = raised_sound (with_bar (register_of c.self.inside.backing c.self.inside.slots.capacity c.self.inside.slots.last c.self.inside.slots.items)
+          (option_map id_of c.self.inside.bar)) c.args.last (omega (arith, last, c.requires)) c.self.invariant.sound;
     })
