@@ -1,5 +1,5 @@
 //! A writer that keeps others out while it waits.
-ghost use Rattle.std.specs.Prelude.{◌≡◌, ◌&&◌, ◌||◌, not, is_some};
+ghost use Rattle.std.specs.Prelude.{◌≡◌, ◌&&◌, ◌||◌, not, false, is_some, IfSome, IfNone};
 ghost use Rattle.lock_base.specs.Modes.{admits};
 ghost use Rattle.lock_base.specs.declared.machine.mode.Mode.TheVariants.{Exclusive};
 ghost use Rattle.lock_base.specs.Tokens.{bag_of_tokens};
@@ -15,10 +15,12 @@ pub(crate) fn admit_or_announce<A: Arbiter>(
 ) -> Option<A::Token>
     ensures admitted { is_some result ≡ ((announced.old || not (A.bar arbiter.old))
         && admits (A.reader_limit arbiter.old) (bag_of_tokens (A.tokens_out arbiter.old)) Exclusive) }
-    ensures bar { A.bar arbiter.new
-        ≡ (not (is_some result) && (A.has_bars || (not announced.old && A.bar arbiter.old))) }
-    ensures announced { announced.new
-        ≡ (announced.old || (not (is_some result) && (A.has_bars && not (A.bar arbiter.old)))) }
+    ensures bar_ends { IfSome result (λ _. A.bar arbiter.new ≡ false) }
+    ensures bar_stands { IfNone result
+        (A.bar arbiter.new ≡ (A.has_bars || (not announced.old && A.bar arbiter.old))) }
+    ensures same_caller { IfSome result (λ _. announced.new ≡ announced.old) }
+    ensures announces { IfNone result
+        (announced.new ≡ (announced.old || (A.has_bars && not (A.bar arbiter.old)))) }
 {
     if *announced {
         arbiter.withdraw();
