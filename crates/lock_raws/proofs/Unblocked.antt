@@ -14,7 +14,7 @@ use Rattle.lock_base.specs.Tokens.{bag_of_tokens}
 use Rattle.lock_raws.specs.declared.wake.Wake.{Wake}
 use Rattle.lock_raws.specs.declared.wake.Wake.TheVariants.{Nobody, One, All}
 use Rattle.lock_word.specs.declared.occupancy.Occupancy.{Occupancy}
-use Rattle.lock_word.specs.Unblocking.{occupancy, lets_on, may_upgrade, unblocks}
+use Rattle.lock_word.specs.Unblocking.{occupancy, may_proceed, may_upgrade, unblocks}
 use Rattle.lock_raws.specs.Waking.{wakes}
 use Rattle.lock_base.proofs.ModeLemmas.{tokens-one_more}
 use Rattle.lock_base.proofs.TokenSteps.{MakesStep}
@@ -33,8 +33,8 @@ on_true false is p = absurd (false≢true is)
 -- where nothing was changed no waiter is unblocked
 unblocks_none : (limit : ℕ) (now : Occupancy) → unblocks limit now now ≡ false
 unblocks_none limit now =
-    none_of (not_and (lets_on limit now Shared)) (not_and (lets_on limit now Exclusive))
-    (not_and (lets_on limit now Upgradable)) (not_and (may_upgrade now))
+    none_of (not_and (may_proceed limit now Shared)) (not_and (may_proceed limit now Exclusive))
+    (not_and (may_proceed limit now Upgradable)) (not_and (may_upgrade now))
 
 -- a step that may be made has what it gives up
 pub has_permitted : (limit : ℕ) (b : Bag) (step : ModeStep) → Permits limit b step → has b step ≡ true

@@ -19,21 +19,21 @@ abbrev pub occupancy_of_word : ℕ → Occupancy
 occupancy_of_word word = occupancy (is_barred (barred_bag_of_word word)) (bag_of_word word)
 
 -- a waiter for the mode may proceed: under a bar only the writer that set it
-abbrev pub lets_on : ℕ → Occupancy → Mode → Bool
-lets_on limit now mode = (not now.barred || is_exclusive mode) && admits limit now.bag mode
+abbrev pub may_proceed : ℕ → Occupancy → Mode → Bool
+may_proceed limit now mode = (not now.barred || is_exclusive mode) && admits limit now.bag mode
 
 -- an upgradable token is out, and may become exclusive
 abbrev pub may_upgrade : Occupancy → Bool
 may_upgrade now = has now.bag (Change Upgradable Exclusive) && may_become now.bag Exclusive
 
 -- a waiter for the mode may proceed after the step, and could not before it
-abbrev pub newly_lets_on : ℕ → Occupancy → Occupancy → Mode → Bool
-newly_lets_on limit before after mode = not (lets_on limit before mode) && lets_on limit after mode
+abbrev pub newly_may_proceed : ℕ → Occupancy → Occupancy → Mode → Bool
+newly_may_proceed limit before after mode = not (may_proceed limit before mode) && may_proceed limit after mode
 
 -- some waiter may
 abbrev pub unblocks : ℕ → Occupancy → Occupancy → Bool
 unblocks limit before after =
-    newly_lets_on limit before after Shared
-    || (newly_lets_on limit before after Exclusive
-    || (newly_lets_on limit before after Upgradable
+    newly_may_proceed limit before after Shared
+    || (newly_may_proceed limit before after Exclusive
+    || (newly_may_proceed limit before after Upgradable
     || (not (may_upgrade before) && may_upgrade after)))

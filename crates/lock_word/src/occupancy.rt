@@ -1,7 +1,7 @@
 //! What decides whether a waiter may proceed, and whom a step lets proceed.
 ghost use Rattle.std.specs.Prelude.{◌≡◌, ◌<◌, ◌^◌};
 ghost use Rattle.lock_base.specs.Modes.{tokens};
-ghost use Rattle.lock_word.specs.Unblocking.{occupancy_of_word, lets_on, newly_lets_on, may_upgrade, unblocks};
+ghost use Rattle.lock_word.specs.Unblocking.{occupancy_of_word, may_proceed, newly_may_proceed, may_upgrade, unblocks};
 
 use crate::word::{EXCLUSIVE, UPGRADABLE, has_bar};
 use lock_base::machine::{Bag, Mode, ModeStep};
@@ -32,9 +32,9 @@ impl Occupancy {
     }
 
     /// Whether a waiter for the mode may proceed.
-    fn lets_on(self, readers: u64, mode: Mode) -> bool
+    fn may_proceed(self, readers: u64, mode: Mode) -> bool
         requires { tokens self.bag < 2 ^ 64 }
-        ensures { result ≡ lets_on readers self mode }
+        ensures { result ≡ may_proceed readers self mode }
     {
         (!self.barred || mode == Mode::Exclusive) && self.bag.admits(readers, mode)
     }
@@ -56,17 +56,17 @@ pub fn unblocks(readers: u64, before: Occupancy, after: Occupancy) -> bool
     requires after_small { tokens after.bag < 2 ^ 64 }
     ensures { result ≡ unblocks readers before after }
 {
-    newly_lets_on(readers, before, after, Mode::Shared)
-        || newly_lets_on(readers, before, after, Mode::Exclusive)
-        || newly_lets_on(readers, before, after, Mode::Upgradable)
+    newly_may_proceed(readers, before, after, Mode::Shared)
+        || newly_may_proceed(readers, before, after, Mode::Exclusive)
+        || newly_may_proceed(readers, before, after, Mode::Upgradable)
         || !before.may_upgrade() && after.may_upgrade()
 }
 
 /// Whether a waiter for the mode may proceed after a step, and could not before it.
-fn newly_lets_on(readers: u64, before: Occupancy, after: Occupancy, mode: Mode) -> bool
+fn newly_may_proceed(readers: u64, before: Occupancy, after: Occupancy, mode: Mode) -> bool
     requires before_small { tokens before.bag < 2 ^ 64 }
     requires after_small { tokens after.bag < 2 ^ 64 }
-    ensures { result ≡ newly_lets_on readers before after mode }
+    ensures { result ≡ newly_may_proceed readers before after mode }
 {
-    !before.lets_on(readers, mode) && after.lets_on(readers, mode)
+    !before.may_proceed(readers, mode) && after.may_proceed(readers, mode)
 }
