@@ -1,6 +1,5 @@
 //! How each guard prints, by `Debug` and by `Display`.
 use lock_base::machine::PartyId;
-use lock_base::raw::Fault;
 use lock_guard::raw::RawMutex;
 use lock_mutex::{Mutex, MutexGuard};
 use lock_raws_word::WordRaw;
@@ -14,12 +13,12 @@ use std::test::Fail;
 type Pair = (u64, u64);
 
 /// Whether both texts of each guard of 5, and of each guard of a part 5, are `5`.
-fn shown<R: RawMutex>(
+fn are_shown<R: RawMutex>(
     alloc: Global,
     mutexes: (&Mutex<R, u64>, &Mutex<R, Pair>),
     reentrant: (&ReentrantMutex<R, u64>, &ReentrantMutex<R, Pair>),
     one: PartyId,
-) -> Result<[(&'static str, bool); 4], Fault>
+) -> Result<(), Fail>
 where
     R::Guard: Drop,
 {
@@ -27,7 +26,7 @@ where
     let part = MutexGuard::map(pair.lock(), Item0);
     let (number, numbers) = reentrant;
     let reentrant_part = ReentrantMutexGuard::map(numbers.lock(one)?, Item0);
-    Ok([
+    let shown = [
         ("MutexGuard", texts_are(alloc, mutex.lock(), "5")),
         ("MappedMutexGuard", texts_are(alloc, part, "5")),
         (
@@ -38,7 +37,11 @@ where
             "MappedReentrantMutexGuard",
             texts_are(alloc, reentrant_part, "5"),
         ),
-    ])
+    ];
+    for (guard, is_shown) in shown {
+        equal((guard, is_shown), (guard, true))?;
+    }
+    Ok(())
 }
 
 fn check<R: RawMutex + Drop>(alloc: Global, waiters: [R::Waiter; 4]) -> Result<(), Fail>
@@ -50,11 +53,7 @@ where
     let pair: Mutex<R, Pair> = Mutex::new(alloc, second, (5, 2))?;
     let number: ReentrantMutex<R, u64> = ReentrantMutex::new(alloc, third, 5)?;
     let numbers: ReentrantMutex<R, Pair> = ReentrantMutex::new(alloc, fourth, (5, 2))?;
-    let shown = shown(alloc, (&mutex, &pair), (&number, &numbers), party(1)?)?;
-    for (guard, is_shown) in shown {
-        equal((guard, is_shown), (guard, true))?;
-    }
-    Ok(())
+    are_shown(alloc, (&mutex, &pair), (&number, &numbers), party(1)?)
 }
 
 #[test]

@@ -1,5 +1,4 @@
 //! How each guard prints, by `Debug` and by `Display`.
-use lock_base::raw::Fault;
 use lock_guard::raw::RawRwLockUpgrade;
 use lock_raws_word::WordRaw;
 use lock_rwlock::{RwLock, RwLockReadGuard, RwLockWriteGuard};
@@ -34,12 +33,20 @@ fn shown<R: RawRwLockUpgrade>(
     ]
 }
 
+/// Each guard prints as it is to.
+fn are_shown(shown: &[(&'static str, bool)]) -> Result<(), Fail> {
+    for (guard, is_shown) in shown {
+        equal((*guard, *is_shown), (*guard, true))?;
+    }
+    Ok(())
+}
+
 /// `shown`, of guards that keep their lock alive.
-fn shown_by_an_arc<R: RawRwLockUpgrade + Drop>(
+fn are_shown_by_an_arc<R: RawRwLockUpgrade + Drop>(
     alloc: Global,
     lock: &Arc<RwLock<R, u64>>,
-) -> Result<[(&'static str, bool); 3], Fault> {
-    Ok([
+) -> Result<(), Fail> {
+    let shown = [
         (
             "ArcRwLockReadGuard",
             texts_are(alloc, RwLock::read_arc(lock)?, "5"),
@@ -52,21 +59,16 @@ fn shown_by_an_arc<R: RawRwLockUpgrade + Drop>(
             "ArcRwLockUpgradableReadGuard",
             texts_are(alloc, RwLock::upgradable_read_arc(lock)?, "5"),
         ),
-    ])
+    ];
+    are_shown(&shown)
 }
 
 fn check<R: RawRwLockUpgrade + Drop>(alloc: Global, waiters: [R::Waiter; 2]) -> Result<(), Fail> {
     let [first, second] = waiters;
     let lock: RwLock<R, u64> = RwLock::new(alloc, first, 5)?;
     let pair: RwLock<R, Pair> = RwLock::new(alloc, second, (5, 2))?;
-    for (guard, is_shown) in shown(alloc, &lock, &pair) {
-        equal((guard, is_shown), (guard, true))?;
-    }
-    let lock = Arc::new(alloc, lock)?;
-    for (guard, is_shown) in shown_by_an_arc(alloc, &lock)? {
-        equal((guard, is_shown), (guard, true))?;
-    }
-    Ok(())
+    are_shown(&shown(alloc, &lock, &pair))?;
+    are_shown_by_an_arc(alloc, &Arc::new(alloc, lock)?)
 }
 
 #[test]
