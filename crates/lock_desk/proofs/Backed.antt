@@ -1,4 +1,4 @@
--- What keeps the guards that are held backed, and what the tokens show of them.
+-- The held guards stay backed, and what the tokens show of them.
 use Rattle.std.proofs.Common.{◌≡◌, ℕ, ◌+◌, ◌<◌, ◌≤◌, suc, Bool, true, false, not, cond, nat_eq, List, [], ◌∷◌, ◌++◌, length, refl, sym, ap, subst, ◌∙◌, Option, None, Some, arith}
 use Rattle.std.specs.Prelude.{IsTrue, ◌&&◌, is_none}
 use Rattle.std.specs.Bool.{OnTrue, OnFalse}
@@ -53,7 +53,7 @@ module _ {K : Type 0} where
   still_positive : (old new : Backing K) → KeepsLimits old new → 0 < old.levels.limit → 0 < new.levels.limit
   still_positive old new k p = subst (λ n. 0 < n) (sym k.limit) p
 
-  -- nothing is backed where no token is out
+  -- without tokens nothing is backed
   pub nothing_backed : (kind : Kind) (limit places : ℕ) → 0 < limit
       → AreBacked {K = K} [] (record {
         kind = kind;
@@ -119,7 +119,7 @@ module _ {K : Type 0} where
 
   -- Slots with a token of their own
 
-  -- the bag beside the token of one slot
+  -- the bag without the token of one slot
   bag_beside : (s : Slot K) (ss others : List (ℕ × Slot K)) (k : K) (t : Backing K) → Differs s ss others
       → s.hold ≡ Token k → AreBacked ss t
       → SameBag t.tokens ((k, s.mode) ∷ (tokens_in others ++ token_of_owner t.levels.owner))
@@ -194,7 +194,7 @@ module _ {K : Type 0} where
   bag_of_owner : (ss : List (ℕ × Slot K)) (t : Backing K) → NoHold is_token ss → AreBacked ss t → SameBag t.tokens (token_of_owner t.levels.owner)
   bag_of_owner ss t none b = rw (no_tokens ss none) at b.bag
 
-  -- an owner's one token may be out
+  -- an owner may hold its one token
   owner_compatible : (owner : Option (Owner K)) (tokens : List (K × Mode)) → SameBag tokens (token_of_owner owner)
       → AreCompatible 1 (bag_of_tokens tokens)
   owner_compatible owner tokens p = subst (λ g. AreCompatible 1 g) (sym (bag_of_same tokens (token_of_owner owner) p)) (one_token owner)
@@ -217,7 +217,7 @@ module _ {K : Type 0} where
       behind : (kind : Kind) → is_reentrant kind ≡ true → token_limit kind t.levels.limit ≡ 1
       behind kind n = rw n refl
 
-  -- a level stands only on a reentrant lock
+  -- only a reentrant lock has a level
   reentrant_of_level : (s : Slot K) (ss others : List (ℕ × Slot K)) (t : Backing K) → Differs s ss others
       → s.hold ≡ Level → AreBacked ss t → is_reentrant t.kind ≡ true
   reentrant_of_level s ss others t d e b = by_nesting (is_reentrant t.kind) b.holders
@@ -266,13 +266,13 @@ module _ {K : Type 0} where
         λ test. omega (arith, bag_count test ss t b, ap (λ o. count test (token_of_owner o)) (of_others ss t n b).1);
   }
 
-  -- where guards are no levels, the bag of the tokens is that of the held entries
+  -- if guards are no levels, the bag of the tokens is that of the held entries
   pub bag_of_held : (ss : List (ℕ × Slot K)) (t : Backing K) → is_reentrant t.kind ≡ false → AreBacked ss t
       → bag_of_tokens t.tokens ≡ held_bag (entries_of ss)
   bag_of_held ss t n b =
       bag_of_same t.tokens (tokens_in ss) (bag_of_slots ss t n b) ∙ ap bag_of (modes_of-tokens_in ss (of_others ss t n b).0)
 
-  -- the tokens that are out are those of the register
+  -- the held tokens are those of the register
   pub bag_of_register : (places last : ℕ) (ss : List (ℕ × Slot K)) (t : Backing K) → AreBacked ss t
       → bag_of_tokens t.tokens ≡ tokens_of (register_of t places last ss)
   bag_of_register places last ss t b = by_nesting (is_reentrant t.kind) refl
@@ -340,13 +340,13 @@ module _ {K : Type 0} where
   pub room_fits : (t : Backing K) → is_reentrant t.kind ≡ false → HasRoom t → length t.tokens < t.capacity
   room_fits t n (ss, b, l) = omega (arith, same_length (bag_of_slots ss t n b), tokens_fit ss, l)
 
-  -- where nobody owns the lock, no token is out
+  -- if no party owns the lock, no token is held
   pub no_owner : (owner : Option (Owner K)) (tokens : List (K × Mode)) → owner ≡ None → SameBag tokens (token_of_owner owner) → tokens ≡ []
   no_owner owner tokens e p = same_as_none tokens (subst (λ o. SameBag tokens (token_of_owner o)) e p)
 
-  -- Whether a token goes back
+  -- Whether a token is released
 
-  -- what is told of a hold, as its entry and the guards that are left show it
+  -- what a hold says, from its entry and the guards that are left
   pub told_of : (back held shown : Bool) (old new : Backing K) (places last : ℕ) (others left : List (ℕ × Slot K))
       → back ≡ (held && moves_token (register_of old places last others)) → held ≡ shown → new.kind ≡ old.kind
       → length (held_of others) ≡ length (held_of left) → back ≡ (shown && moves_token (register_of new places last left))
@@ -408,7 +408,7 @@ module _ {K : Type 0} where
       → not (nat_eq (level_of t.levels party) 0) ≡ some_of_party party (held_of ss)
   owner_holds party ss t n b = levels_of_held party t.levels.owner (held_of ss) (of_reentrant ss t n b).1
 
-  -- a party has as many levels as there may be exactly where as many are held
+  -- a party has as many levels as the limit exactly if as many are held
   pub full_owner : (party places last : ℕ) (ss : List (ℕ × Slot K)) (t : Backing K) → AreBacked ss t
       → nat_eq (level_of t.levels party) t.levels.limit ≡ is_full_count (register_of t places last ss) party
   full_owner party places last ss t b = by_nesting (is_reentrant t.kind) b.holders
@@ -511,7 +511,7 @@ module _ {K : Type 0} where
       d.party p ∙ ap (λ h. cond h (nat_eq (id_of s.party) p && all_of_party p (held_of others))
       (all_of_party p (held_of others))) e
 
-  -- the party of a held slot has the levels of all that are held
+  -- the party of a held slot has the levels of all held slots
   held_levels : (s : Slot K) (ss others : List (ℕ × Slot K)) (t : Backing K) → is_reentrant t.kind ≡ true
       → Differs s ss others → is_held s.hold ≡ true → AreBacked ss t
       → level_of t.levels (id_of s.party) ≡ length (held_of ss)
@@ -519,7 +519,7 @@ module _ {K : Type 0} where
       holder_owns t.levels.owner (id_of s.party) (held_of ss) (held_of others) (of_reentrant ss t n b).1
       (omega (arith, held_slot s ss others d e)) (held_party s ss others d e)
 
-  -- what is held is legal where it is no level, or the only one
+  -- the held guards are legal if this is no level, or the only one
   held_legally : (ss : List (ℕ × Slot K)) (t : Backing K) → (is_reentrant t.kind ≡ true → length (held_of ss) ≡ 1) → AreBacked ss t
       → AreLegallyHeld (is_reentrant t.kind) t.levels.limit (entries_of ss)
   held_legally ss t alone b = by_nesting (is_reentrant t.kind) refl
@@ -536,7 +536,7 @@ module _ {K : Type 0} where
           subst (λ g. AreCompatible t.levels.limit g) (bag_of_held ss t n b)
           (subst (λ l. AreCompatible l (bag_of_tokens t.tokens)) behind b.compatible)
 
-  -- a guard that gives its token back fits in again
+  -- a guard that releases its token is admitted again
   pub fits_in_after_park : (n places last : ℕ) (ss : List (ℕ × Slot K)) (s : Slot K) (t : Backing K) → items.find n ss ≡ Some s
       → is_held s.hold ≡ true → bumps t (id_of s.party) ≡ true → AreBacked ss t
       → fits_in (with_change (register_of t places last ss) n parked_entry) (id_of s.party) s.mode ≡ true

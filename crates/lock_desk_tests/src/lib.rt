@@ -1,4 +1,4 @@
-//! Sessions at a `Desk`, with the replies that are wanted. There is nothing else here.
+//! Sessions at a `Desk`, with the expected replies.
 #![tactic(auto)]
 
 #[cfg(test)]

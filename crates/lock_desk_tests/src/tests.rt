@@ -26,16 +26,16 @@ type CountedDesk<R> = Desk<CountedState<R>, u64>;
 /// How a session went wrong.
 #[derive(Clone, Copy, PartialEq, Eq, Debug)]
 enum Wrong {
-    /// There is no desk, for this fault.
+    /// No desk was made, for this fault.
     Unmade(Fault),
-    /// This reply is not the wanted one.
+    /// This reply is not the expected one.
     Reply(Reply<u64>),
-    /// The raw state was given this many tokens back, and the desk counts otherwise.
+    /// This many tokens of the raw state were released, and the desk counts another number.
     GivenBack(u64),
 }
 
-/// Makes the calls of a session, each beside the reply that is wanted, and compares the tokens that the desk spent with
-/// those that its raw state was given back.
+/// Makes the calls of a session, each with its expected reply, and compares the tokens that the desk spent with those
+/// that its raw state saw released.
 fn replay<R: RawState, O: Op<u64, Answer = u64>>(
     desk: &mut CountedDesk<R>,
     session: &[(Call<O>, Reply<u64>)],
@@ -54,7 +54,7 @@ fn replay<R: RawState, O: Op<u64, Answer = u64>>(
     }
 }
 
-/// `replay` on a desk over this raw state that is made for the session.
+/// `replay`, on a new desk over this raw state.
 fn replay_over<R: RawState, O: Op<u64, Answer = u64>>(
     alloc: Global,
     maker: Maker,
@@ -66,7 +66,7 @@ fn replay_over<R: RawState, O: Op<u64, Answer = u64>>(
     }
 }
 
-/// The session goes as wanted over a table and over a packed word.
+/// The session goes as expected over a table and over a packed word.
 fn check<O: Op<u64, Answer = u64>>(
     alloc: Global,
     maker: Maker,

@@ -1,4 +1,4 @@
-//! What the examples answer when threads use them, which no clause says. There is nothing else here.
+//! What the examples answer when threads use them, which no contract states.
 #![tactic(auto)]
 
 #[cfg(test)]

@@ -36,7 +36,7 @@ unblocks_none limit now =
     none_of (not_and (may_proceed limit now Shared)) (not_and (may_proceed limit now Exclusive))
     (not_and (may_proceed limit now Upgradable)) (not_and (may_upgrade now))
 
--- a step that may be made has what it gives up
+-- a permitted step has what it releases or changes
 pub has_permitted : (limit : ℕ) (b : Bag) (step : ModeStep) → Permits limit b step → has b step ≡ true
 has_permitted limit b (Acquire mode) permitted = refl
 has_permitted limit b (Release mode) permitted = lt-ltb 0 (count_of b mode) permitted

@@ -1,4 +1,4 @@
-//! A writer that keeps others out while it waits.
+//! A waiting writer that keeps other threads out.
 ghost use Rattle.std.specs.Prelude.{◌≡◌, ◌&&◌, ◌||◌, not, false, is_some, IfSome, IfNone};
 ghost use Rattle.lock_base.specs.Modes.{admits};
 ghost use Rattle.lock_base.specs.declared.machine.mode.Mode.TheVariants.{Exclusive};
@@ -7,8 +7,8 @@ ghost use Rattle.lock_base.specs.Tokens.{bag_of_tokens};
 use crate::arbiter::Arbiter;
 use lock_base::machine::Mode;
 
-/// An exclusive token, where it is admitted to one that has announced itself, or has not. Where it is not, that one
-/// announces itself, if no bar stands. Its bar ends as it gets in.
+/// Acquires an exclusive token, if it is admitted to a writer that has announced itself, or has not. If not, the writer
+/// announces itself, unless the bar is set. Acquiring clears its bar.
 pub(crate) fn admit_or_announce<A: Arbiter>(
     arbiter: &mut A,
     announced: &mut bool,

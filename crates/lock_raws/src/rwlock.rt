@@ -45,7 +45,7 @@ impl<C: LockCore> RawRwLock for RawLock<C> {
         self.core.release(token.token, Mode::Shared);
     }
 
-    /// While it waits it may keep out all that come later.
+    /// While it blocks, it may refuse later threads.
     fn lock_exclusive(&self) -> ExclusiveToken<C::Token> {
         let token = match self.core.try_acquire(Mode::Exclusive) {
             Some(token) => token,
@@ -72,7 +72,7 @@ impl<C: LockCore> RawRwLock for RawLock<C> {
     }
 }
 
-/// A fair unlock is an unlock.
+/// A fair release is a plain release.
 impl<C: LockCore> RawRwLockFair for RawLock<C> {
     fn unlock_shared_fair(&self, token: SharedToken<C::Token>) {
         self.unlock_shared(token);
@@ -153,7 +153,7 @@ impl<C: LockCore> RawRwLockUpgrade for RawLock<C> {
     }
 }
 
-/// A fair unlock is an unlock.
+/// A fair release is a plain release.
 impl<C: LockCore> RawRwLockUpgradeFair for RawLock<C> {
     fn unlock_upgradable_fair(&self, token: UpgradableToken<C::Token>) {
         self.unlock_upgradable(token);
@@ -205,7 +205,7 @@ impl<C: LockCore> RawRwLockUpgradeTimed for RawLock<C> {
     }
 }
 
-/// What an upgrade gave, or the upgradable token that it left.
+/// The result of an upgrade, as tokens of the two modes.
 fn by_mode<T>(upgraded: Result<T, T>) -> Result<ExclusiveToken<T>, UpgradableToken<T>>
     ensures { MatchResult result (λ next. Ok next.token ≡ upgraded) (λ same. Err same.token ≡ upgraded) }
 {

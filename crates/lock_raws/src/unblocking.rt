@@ -1,4 +1,4 @@
-//! Whom to wake after a token was given back or changed.
+//! Which waiters to wake after a release or a change of mode.
 ghost use Rattle.std.specs.Prelude.{◌≡◌, ◌<◌, ◌^◌, IsTrue};
 ghost use Rattle.lock_base.specs.Modes.{tokens, is_move};
 ghost use Rattle.lock_base.specs.Tokens.{bag_of_tokens};
@@ -9,7 +9,7 @@ use crate::wake::Wake;
 use lock_base::machine::{Bag, Mode, ModeStep};
 use lock_word::Occupancy;
 
-/// Gives a token back. Whom that wakes.
+/// Releases a token. Returns which waiters to wake.
 pub(crate) fn give_back<A: Arbiter>(arbiter: &mut A, token: A::Token, mode: Mode) -> Wake
     ensures { result ≡ wakes (A.reader_limit arbiter.old) (A.bar arbiter.old)
         (bag_of_tokens (A.tokens_out arbiter.old)) (bag_of_tokens (A.tokens_out arbiter.new)) }
@@ -22,7 +22,7 @@ pub(crate) fn give_back<A: Arbiter>(arbiter: &mut A, token: A::Token, mode: Mode
     whom(arbiter, before, after)
 }
 
-/// The token in a lower mode, or as it is where it was not out. Whom that wakes.
+/// Downgrades a token, or returns it unchanged if it is not held. Returns which waiters to wake too.
 pub(crate) fn lower<A: Arbiter>(
     arbiter: &mut A,
     token: A::Token,
@@ -43,7 +43,7 @@ pub(crate) fn lower<A: Arbiter>(
     }
 }
 
-/// Whom a step wakes that led from the one bag to the other.
+/// Decides which waiters a step between two bags wakes.
 fn whom<A: Arbiter>(arbiter: &A, before: Bag, after: Bag) -> Wake
     requires before_small { tokens before < 2 ^ 64 }
     requires after_small { tokens after < 2 ^ 64 }

@@ -1,11 +1,11 @@
-//! Whom a step of a raw lock wakes.
+//! Which waiters a step of a raw lock wakes.
 ghost use Rattle.std.specs.Prelude.{◌≡◌, ◌<◌, ◌^◌};
 ghost use Rattle.lock_base.specs.Modes.{tokens};
 ghost use Rattle.lock_raws.specs.Waking.{whom_to_wake};
 
 use lock_word::{Occupancy, unblocks};
 
-/// Whom a step wakes, of those that wait.
+/// Which waiters a step wakes.
 #[derive(Clone, Copy, PartialEq, Eq, Debug)]
 pub enum Wake {
     Nobody,
@@ -14,7 +14,7 @@ pub enum Wake {
 }
 
 impl Wake {
-    /// Whom to wake after a step of a lock of so many readers.
+    /// Decides which waiters to wake after a step, from the readers' limit and the states before and after.
     pub fn whom(readers: u64, before: Occupancy, after: Occupancy) -> Wake
         requires before_small { tokens before.bag < 2 ^ 64 }
         requires after_small { tokens after.bag < 2 ^ 64 }

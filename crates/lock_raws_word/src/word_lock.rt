@@ -1,4 +1,4 @@
-//! Tokens in one atomic word.
+//! A lock on one atomic word.
 ghost use Rattle.std.specs.Prelude.{◌≡◌};
 ghost use Rattle.lock_base.specs.Limits.{IsLimit};
 ghost use Rattle.lock_word.specs.Unblocking.{occupancy_of_word};
@@ -11,12 +11,12 @@ use lock_word::{Down, ExWant, Occupancy, has_exclusive, has_tokens};
 use std::sync::Wait;
 use std::sync::atomic::{AtomicU64, Ordering};
 
-/// How often a call that waits tries again before it sleeps.
+/// How often a blocked call tries again before it sleeps.
 const TRIES: u32 = 10;
 
-/// Tokens in one atomic word, and the threads that sleep until it admits what they want.
+/// A lock on one atomic word, and its sleeping waiters.
 ///
-/// What is given up must be out: else the word is that of other tokens, and calls may wait for ever.
+/// A release must be of a held token. Otherwise the word encodes other tokens, and calls may block for ever.
 #[derive(Drop)]
 pub struct WordLock {
     word: AtomicU64,
@@ -26,7 +26,7 @@ pub struct WordLock {
 }
 
 impl WordLock {
-    /// No token is out, and at most so many may read.
+    /// Makes an unlocked word with this readers' limit.
     pub fn new(readers: u64) -> WordLock
         requires { IsLimit readers }
         ensures { result.readers ≡ readers }
@@ -38,22 +38,23 @@ impl WordLock {
         }
     }
 
-    /// Whether a token is out, which may be old at once.
+    /// Returns whether the lock is held. The answer may be stale at once.
     pub fn is_locked(&self) -> bool {
         has_tokens(self.word.load(Ordering::SeqCst))
     }
 
-    /// Whether an exclusive token is out, which may be old at once.
+    /// Returns whether the lock is held exclusively. The answer may be stale at once.
     pub fn is_locked_exclusive(&self) -> bool {
         has_exclusive(self.word.load(Ordering::SeqCst))
     }
 
-    /// Those that sleep until something is given up.
+    /// Returns the threads that sleep until a release.
     pub fn sleepers(&self) -> &Sleepers {
         &self.freed
     }
 
-    /// One load and at most one exchange. False where the word refuses, and where another step came between the two.
+    /// Tries once: one load, and at most one exchange. Answers false if the word refuses, and if the exchange lost a
+    /// race.
     pub fn try_for(&self, want: ExWant) -> bool {
         let word = self.word.load(Ordering::SeqCst);
         match want.exchanged(false, self.readers, word) {
@@ -62,7 +63,7 @@ impl WordLock {
         }
     }
 
-    /// Tries a few times, longer and longer apart.
+    /// Tries a few times, with growing pauses.
     pub fn try_again(&self, want: ExWant) -> bool {
         let backoff = Backoff::new();
         for _ in 0..TRIES {
@@ -74,13 +75,13 @@ impl WordLock {
         false
     }
 
-    /// False only where a word that was loaded refuses: a lost exchange must not send the caller to sleep, since the
-    /// step that it lost to need not wake anybody.
+    /// Tries until it acquires, or a loaded word refuses. After a lost exchange it tries again: the step that won need
+    /// not wake any thread, so the caller must not sleep.
     pub fn insist_on<W: Wait>(&self, waiter: &W, want: ExWant) -> bool {
         self.insist(waiter, false, want)
     }
 
-    /// One subtraction. Then it wakes those that may get on by it.
+    /// Releases or downgrades by one subtraction, and wakes the waiters that it admits.
     pub fn give_up(&self, down: Down) {
         let less = down.amount();
         let before = self.word.fetch_sub(less, Ordering::SeqCst);
@@ -105,7 +106,7 @@ impl WordLock {
             .is_ok()
     }
 
-    /// `insist_on`, for one that has announced itself, or has not.
+    /// `acquire_until_refused`, for a party that has announced itself, or has not.
     fn insist<W: Wait>(&self, waiter: &W, announced: bool, want: ExWant) -> bool {
         for _ in waiter.forever() {
             let word = self.word.load(Ordering::SeqCst);
@@ -118,8 +119,8 @@ impl WordLock {
         unreachable!()
     }
 
-    /// Insists on an exclusive token. Where the word refuses, the caller announces itself, if no bar stands, and looks
-    /// again: a release before that knew of no bar, and may have woken one whom the bar keeps out.
+    /// Acquires exclusively. If the word refuses, the caller announces itself, unless the bar is set, and tries again:
+    /// an earlier release saw no bar, and may have woken a waiter that the bar keeps out.
     fn insist_or_announce<W: Wait>(&self, waiter: &W, announced: &mut bool) -> bool {
         if self.insist(waiter, *announced, ExWant::Exclusive) {
             return true;
@@ -131,8 +132,7 @@ impl WordLock {
         self.insist(waiter, true, ExWant::Exclusive)
     }
 
-    /// Waits until the word admits it: tries again, and then sleeps between tries. Apart from the way of
-    /// those that need not wait.
+    /// Blocks until the word admits `want`: tries again, and then sleeps between tries. Kept off the uncontended path.
     #[cold]
     #[inline(never)]
     pub fn wait_for<W: Wait>(&self, waiter: &W, want: ExWant) {
@@ -150,8 +150,8 @@ impl WordLock {
         unreachable!()
     }
 
-    /// Waits until the word admits an exclusive token. Who has to sleep announces itself, where no bar stands, and keeps
-    /// out all that come later. Its bar ends as it gets in.
+    /// Blocks until the word admits a writer. Before it sleeps, the caller announces itself, unless the bar is set,
+    /// which refuses later threads. Acquiring clears its bar.
     #[cold]
     #[inline(never)]
     pub fn wait_announced<W: Wait>(&self, waiter: &W) {
@@ -171,7 +171,7 @@ impl WordLock {
     }
 }
 
-/// Whom a step wakes that led from the one word to the other.
+/// Decides which waiters a step between two words wakes.
 fn whom(readers: u64, before: u64, after: u64) -> Wake
     ensures { result ≡ whom_to_wake readers (occupancy_of_word before) (occupancy_of_word after) }
 {

@@ -11,14 +11,14 @@ use lock_base::machine::{Mode, PartyId};
 use lock_base::raw::RawState;
 
 impl<R: RawState> Guards<R> {
-    /// Whether a party has announced itself.
+    /// Returns whether a party has announced itself.
     pub(crate) fn is_barred(&self) -> bool
         ensures { result ≡ is_some self.now.bar }
     {
         self.bar.is_some()
     }
 
-    /// Whether the party has announced itself.
+    /// Returns whether the party has announced itself.
     pub(crate) fn has_announced(&self, party: PartyId) -> bool
         ensures { result ≡ has_announced self.now.bar (id_of party) }
     {
@@ -28,7 +28,7 @@ impl<R: RawState> Guards<R> {
         }
     }
 
-    /// The bar is this party's, or there is none.
+    /// Sets the bar for a party, or clears it.
     pub(crate) fn set_bar(&mut self, bar: Option<PartyId>)
         requires { IsBarOf self.old.kind (option_map id_of bar) }
         ensures { self.new ≡ with_bar self.old (option_map id_of bar) }
@@ -37,7 +37,7 @@ impl<R: RawState> Guards<R> {
         self.bar = bar;
     }
 
-    // Whether a guard of the party and the mode passes the bar.
+    // Returns whether the bar lets the party acquire the mode.
     pub(super) fn passes(&self, party: PartyId, mode: Mode) -> bool
         ensures { result ≡ passes self.now.bar (id_of party) mode }
     {
@@ -47,7 +47,7 @@ impl<R: RawState> Guards<R> {
         }
     }
 
-    // The bar that is left once a guard of the mode was let in.
+    // Clears the bar after an admitted exclusive acquisition.
     pub(super) fn end_bar(&mut self, mode: Mode)
         ensures { self.new ≡ after_admission self.old mode }
     {

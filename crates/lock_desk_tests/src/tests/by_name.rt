@@ -1,12 +1,12 @@
-//! Calls by the public functions that `apply` goes round.
+//! Calls by the named public functions, instead of `apply`.
 use crate::tests::CountedDesk;
 use lock_base::machine::{Call, Form, Op, PartyId, Reply, Want};
 use lock_base::raw::{Fault, RawState};
 
-/// The answer of a function that may have to wait, or its refusal.
+/// The answer of a function that may not be admitted, or its refusal.
 type Answer<X> = Result<Option<X>, Fault>;
 
-/// `apply`, where a call that has four forms is made by the function of its form.
+/// `apply`, where a call with four forms is made by the function of its form.
 pub fn by_name<R: RawState, O: Op<u64, Answer = u64>>(
     desk: &mut CountedDesk<R>,
     call: &Call<O>,
@@ -28,7 +28,7 @@ pub fn by_name<R: RawState, O: Op<u64, Answer = u64>>(
     }
 }
 
-/// The answer as a reply. A blocking function refuses where it would have to wait.
+/// The answer as a reply. A blocking function refuses where it is not admitted.
 fn reply<X, F: FnOnce(X) -> Reply<u64>>(answer: Answer<X>, tell: F) -> Reply<u64>
     requires { F.IsAlwaysCallable tell }
 {

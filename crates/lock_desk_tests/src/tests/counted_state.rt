@@ -3,7 +3,7 @@ use lock_base::machine::Mode;
 use lock_base::raw::{Fault, RawState};
 use std::alloc::Global;
 
-/// A raw state that counts the tokens that were given back.
+/// A raw state that counts the released tokens.
 #[derive(Drop)]
 pub struct CountedState<R: RawState> {
     raw: R,

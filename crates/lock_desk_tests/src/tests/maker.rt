@@ -4,7 +4,7 @@ use lock_base::raw::{Fault, RawState};
 use lock_desk::Desk;
 use std::alloc::Global;
 
-/// The kind of a desk, its places, its limit where it has one, and its first value.
+/// The kind of a desk, its places, its limit if it has one, and its first value.
 #[derive(Clone, Copy)]
 pub enum Maker {
     Mutex(u64, u64),

@@ -4,7 +4,7 @@ ghost use Rattle.std.specs.Prelude.{◌+◌, ◌-◌, ◌^◌, nat_le};
 use lock_base::machine::Op;
 use std::cell::Cell;
 
-/// Adds to a number, where the sum is one.
+/// Adds to a number, if the sum fits.
 #[derive(Clone, Copy)]
 pub struct Add(pub u64);
 

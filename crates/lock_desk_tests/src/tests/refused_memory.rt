@@ -1,4 +1,4 @@
-//! Memory may be refused to each call that takes it, over a table and over a packed word.
+//! Each call that allocates, with an allocation refused, over a table and over a packed word.
 use crate::tests::maker::Maker;
 use crate::tests::operations::Add;
 use crate::tests::{CountedDesk, Wrong, replay, replay_over};
@@ -10,7 +10,7 @@ use lock_test_support::party;
 use std::alloc::Global;
 use std::test::Fail;
 
-/// The session goes as wanted over this raw state, or memory was refused to the maker.
+/// The session goes as expected over this raw state, or the maker answers that there is no memory.
 fn replayed_or_refused<R: RawState>(
     alloc: Global,
     maker: Maker,
@@ -69,7 +69,7 @@ fn refused_memory_reentrant(rt: HostRuntime) -> Result<(), Fail> {
     Ok(())
 }
 
-/// A list of calls is made as a whole, or memory was refused and none of it is.
+/// A list of calls is made as a whole, or not at all if there is no memory.
 fn ran_or_refused<R: RawState>(
     alloc: Global,
     desk: &mut CountedDesk<R>,

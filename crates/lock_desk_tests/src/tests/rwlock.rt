@@ -50,7 +50,7 @@ fn refused_upgrades_apply_nothing(rt: HostRuntime) -> Result<(), Fail> {
     Ok(())
 }
 
-/// Over each of the two raw states a call under an upgraded guard applies its operation once.
+/// Over each of the two raw states a call under an upgrade applies its operation once.
 #[test]
 fn upgrades_apply_once(rt: HostRuntime) -> Result<(), Fail> {
     let one = party(1)?;

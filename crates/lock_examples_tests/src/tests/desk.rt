@@ -1,4 +1,4 @@
-//! The examples of a `Desk` and of a journal: that the calls succeed with ample memory.
+//! The examples of a `Desk` and of a journal: the calls succeed with ample memory.
 use lock_api::{
     Bag, Mode, ModeStep, Mutex, PackedWord, PartyId, RawMutex, RecordingRaw, Reply, TokenTable,
 };
@@ -23,7 +23,7 @@ fn a_deposit_is_replied_to(rt: HostRuntime) -> Result<(), Fail> {
     Ok(())
 }
 
-/// What is left of a mutex under which 5 was written.
+/// What remains of a mutex whose value was set to 5.
 fn written<R: RawMutex>(mutex: Mutex<R, u64>) -> (R, u64) {
     *mutex.lock() = 5;
     mutex.into_inner_with_raw()

@@ -1,4 +1,4 @@
-//! A pool that lends, and takes back.
+//! A pool of leases.
 use crate::tests::in_threads::{Counts, twice};
 use lock_api::{ArcMutexGuard, Fault, RawMutex, WordRaw};
 use lock_examples::Pool;
@@ -20,8 +20,8 @@ fn pool_of<R: RawMutex + Drop>(
     Ok(pool)
 }
 
-/// Whether none is free while both are lent, what is free once the first came back as 11, and what the second is after the
-/// pool's end.
+/// Whether none is free while both are leased, what is free once the first came back as 11, and what the second is
+/// after the pool's end.
 fn lend_both<R: RawMutex + Drop>(
     pool: Pool<R, u64>,
 ) -> Result<Option<(bool, [Option<u64>; 2], u64)>, Fault> {

@@ -18,8 +18,8 @@ fn add_three<R: RawRwLockUpgrade>(
     ])
 }
 
-/// What the entry under 1 is, read twice and once more; and while it is held, whether there is one under 2, and which key
-/// a look under 3 misses.
+/// The entry under 1, read twice and once more; and while it is held, whether there is one under 2, and the key that a
+/// lookup under 3 misses.
 type Seen = ((Option<u64>, Option<u64>), Option<u64>, bool, Option<u64>);
 
 fn look_at_three<R: RawRwLock>(registry: &Registry<R, u64>) -> Result<Seen, u64> {

@@ -9,7 +9,7 @@ use std::test::Fail;
 use std::thread::{Threads, join};
 use std::time::{Clock, Duration};
 
-/// Adds one, and gives the value back a while later.
+/// Adds one, and releases the mutex a while later.
 #[tactic(auto, using(crate::proofs::Additions::adds_one))]
 fn add_slowly<R: Wait + Clock>(rt: &R, counter: &Counter, user: User<u64, u64>)
     requires { user.mutex ≡ counter.now }

@@ -27,14 +27,14 @@ fn two_threads_count_under_a_mutex(rt: HostRuntime) -> Result<(), Fail> {
     Ok(())
 }
 
-/// What two readers read side by side, and whether a third and a writer are kept out meanwhile.
+/// What two readers read at a time, and whether a third one and a writer are refused meanwhile.
 fn read_together<R: RawRwLock>(lock: &RwLock<R, u64>) -> ((u64, u64), [bool; 2]) {
     let readers = (lock.read(), lock.read());
     let kept_out = [lock.try_read().is_none(), lock.try_write().is_none()];
     ((*readers.0, *readers.1), kept_out)
 }
 
-/// Writes 8. Whether the lock is held exclusively meanwhile, and a reader is kept out.
+/// Writes 8. Returns whether the lock is held exclusively meanwhile, and a reader is refused.
 fn write_alone<R: RawRwLock>(lock: &RwLock<R, u64>) -> [bool; 2] {
     let mut writer = lock.write();
     *writer = 8;
@@ -50,7 +50,8 @@ fn readers_share_and_a_writer_is_alone(rt: HostRuntime) -> Result<(), Fail> {
     Ok(())
 }
 
-/// Which tries give a token: of two readers, a third and a writer beside them, and of one beside a writer.
+/// Which tries give a token: those of two readers, of a third and a writer at the same time, and of a reader while a
+/// writer holds the lock.
 fn try_beside_others<R: RawRwLock>(raw: &R) -> [bool; 4]
 where
     R::SharedGuard: Drop,
@@ -75,7 +76,7 @@ where
     ]
 }
 
-/// No value is here, so nothing but the word keeps a second token in.
+/// There is no value here, so only the word refuses a second token.
 #[test]
 fn no_token_is_given_beside_one_that_writes(rt: HostRuntime) -> Result<(), Fail> {
     let raw: Spin = RawRwLock::new(rt.alloc(), rt, 2)?;
