@@ -1,4 +1,4 @@
--- Whom a step wakes: by the bag after it, and nobody where nothing was changed.
+-- Which waiters a step wakes, from the bag after it; none if nothing changed.
 use Rattle.std.proofs.Common.{◌≡◌, ℕ, ◌+◌, ◌≤◌, Bool, true, false, ◌&&◌, ◌||◌, List, refl, sym, ap, ◌∙◌, arith, lt-ltb}
 use Rattle.std.specs.Prelude.{not, ◌==◌, if◌then◌else◌}
 use Rattle.std.specs.Bool.{OnTrue}
@@ -30,7 +30,7 @@ pub on_true : {P : Type 0} (b : Bool) → b ≡ true → OnTrue b P → P
 on_true true is p = p
 on_true false is p = absurd (false≢true is)
 
--- where nothing was changed no waiter is unblocked
+-- if nothing changed, no waiter is unblocked
 unblocks_none : (limit : ℕ) (now : Occupancy) → unblocks limit now now ≡ false
 unblocks_none limit now =
     none_of (not_and (may_proceed limit now Shared)) (not_and (may_proceed limit now Exclusive))
@@ -54,7 +54,7 @@ tokens-bag_after b (Release mode) = omega (arith, tokens-one_less b mode)
 tokens-bag_after b (Change from to) = omega (arith, tokens-one_more (one_less b from) to, tokens-one_less b from)
 
 module _ {K : Type 0} where
-  -- what was asked of the bags before and after a step is asked of the tokens
+  -- what holds of the bags before and after a step holds of the tokens
   pub woken_by : {old new : List (K × Mode)} {limit limit' : ℕ} {bar bar' : Bool} {before after : Bag} {answer : Wake} (step : ModeStep)
       → MakesStep limit old new step → before ≡ bag_of_tokens old → after ≡ bag_after before step
       → limit' ≡ limit → bar' ≡ bar → answer ≡ wakes limit' bar' before after
@@ -65,7 +65,7 @@ module _ {K : Type 0} where
       ∙ (ap (λ b. wakes limit bar b after) was
       ∙ ap (λ b. wakes limit bar (bag_of_tokens old) b) (is ∙ ap (λ b. bag_after b step) was ∙ sym made.after))))
 
-  -- and where no step was made
+  -- and if no step was made
   pub woken_none : {old new : List (K × Mode)} (limit : ℕ) (bar : Bool) → new ≡ old
       → Nobody ≡ wakes limit bar (bag_of_tokens old) (bag_of_tokens new)
   woken_none {old} {new} limit bar same =

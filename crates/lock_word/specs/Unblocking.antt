@@ -1,4 +1,4 @@
--- Which waiters a step lets proceed.
+-- Which waiters a step unblocks.
 use Rattle.std.specs.Prelude.{ℕ, Bool, not, ◌&&◌, ◌||◌}
 use Rattle.lock_base.specs.declared.machine.mode.Mode.{Mode}
 use Rattle.lock_base.specs.declared.machine.mode.Mode.TheVariants.{Shared, Exclusive, Upgradable}
@@ -10,23 +10,23 @@ use Rattle.lock_word.specs.declared.occupancy.Occupancy.{Occupancy}
 use Rattle.lock_word.specs.Holds.{is_barred}
 use Rattle.lock_word.specs.Word.{bag_of_word, barred_bag_of_word}
 
--- these modes, with a bar or with none
+-- these modes, with the bar or without it
 abbrev pub occupancy : Bool → Bag → Occupancy
 occupancy bar b = record { bag = b; barred = bar }
 
--- those that the word shows
+-- those that the word encodes
 abbrev pub occupancy_of_word : ℕ → Occupancy
 occupancy_of_word word = occupancy (is_barred (barred_bag_of_word word)) (bag_of_word word)
 
--- a waiter for the mode may proceed: under a bar only the writer that set it
+-- a waiter for the mode may proceed: under the bar only the writer that set it
 abbrev pub may_proceed : ℕ → Occupancy → Mode → Bool
 may_proceed limit now mode = (not now.barred || is_exclusive mode) && admits limit now.bag mode
 
--- an upgradable token is out, and may become exclusive
+-- an upgradable token is held that may become exclusive
 abbrev pub may_upgrade : Occupancy → Bool
 may_upgrade now = has now.bag (Change Upgradable Exclusive) && may_become now.bag Exclusive
 
--- a waiter for the mode may proceed after the step, and could not before it
+-- a waiter for the mode may proceed after the step that could not before it
 abbrev pub newly_may_proceed : ℕ → Occupancy → Occupancy → Mode → Bool
 newly_may_proceed limit before after mode = not (may_proceed limit before mode) && may_proceed limit after mode
 

@@ -1,4 +1,4 @@
-//! What decides whether a waiter may proceed, and whom a step lets proceed.
+//! Which waiters may proceed, and which of them a step unblocks.
 ghost use Rattle.std.specs.Prelude.{◌≡◌, ◌<◌, ◌^◌};
 ghost use Rattle.lock_base.specs.Modes.{tokens};
 ghost use Rattle.lock_word.specs.Unblocking.{occupancy_of_word, may_proceed, newly_may_proceed, may_upgrade, unblocks};
@@ -6,7 +6,7 @@ ghost use Rattle.lock_word.specs.Unblocking.{occupancy_of_word, may_proceed, new
 use crate::word::{EXCLUSIVE, UPGRADABLE, has_bar};
 use lock_base::machine::{Bag, Mode, ModeStep};
 
-/// The modes that are held, and whether a bar stands.
+/// The held modes, and whether the bar is set.
 #[derive(Clone, Copy, PartialEq, Eq, Debug)]
 pub struct Occupancy {
     pub bag: Bag,
@@ -31,7 +31,7 @@ impl Occupancy {
         }
     }
 
-    /// Whether a waiter for the mode may proceed.
+    /// Returns whether a waiter for the mode may proceed.
     fn may_proceed(self, readers: u64, mode: Mode) -> bool
         requires { tokens self.bag < 2 ^ 64 }
         ensures { result ≡ may_proceed readers self mode }
@@ -39,7 +39,7 @@ impl Occupancy {
         (!self.barred || mode == Mode::Exclusive) && self.bag.admits(readers, mode)
     }
 
-    /// Whether a waiter for an upgrade may proceed.
+    /// Returns whether a waiter for an upgrade may proceed.
     fn may_upgrade(self) -> bool
         requires { tokens self.bag < 2 ^ 64 }
         ensures { result ≡ may_upgrade self }
@@ -50,7 +50,7 @@ impl Occupancy {
     }
 }
 
-/// Whether a waiter may proceed after a step, and could not before it.
+/// Returns whether a waiter may proceed after a step that could not before it.
 pub fn unblocks(readers: u64, before: Occupancy, after: Occupancy) -> bool
     requires before_small { tokens before.bag < 2 ^ 64 }
     requires after_small { tokens after.bag < 2 ^ 64 }
@@ -62,7 +62,7 @@ pub fn unblocks(readers: u64, before: Occupancy, after: Occupancy) -> bool
         || !before.may_upgrade() && after.may_upgrade()
 }
 
-/// Whether a waiter for the mode may proceed after a step, and could not before it.
+/// Returns whether a waiter for the mode may proceed after a step that could not before it.
 fn newly_may_proceed(readers: u64, before: Occupancy, after: Occupancy, mode: Mode) -> bool
     requires before_small { tokens before.bag < 2 ^ 64 }
     requires after_small { tokens after.bag < 2 ^ 64 }
