@@ -45,10 +45,10 @@ pub use Rattle.lock_word.specs.Turns
 pub use Rattle.lock_word.specs.Rule
 pub use Rattle.lock_word.specs.Worlds
 pub use Rattle.lock_word.specs.Claims
-pub use Rattle.lock_states.specs.Table
+pub use Rattle.lock_states.specs.TableState
 pub use Rattle.lock_states.specs.Packed
 pub use Rattle.lock_seated.specs.Seats
-pub use Rattle.lock_seated.specs.Standing
+pub use Rattle.lock_seated.specs.CallerView
 pub use Rattle.lock_seated.specs.Attempts
 pub use Rattle.lock_ruled.specs.Ruled
 pub use Rattle.lock_ruled.specs.Slots

@@ -6,8 +6,8 @@ use Rattle.lock_base.specs.declared.machine.mode.Mode.{Mode}
 use Rattle.lock_base.specs.Modes.{bag_of, AreCompatible, admits}
 use Rattle.lock_base.specs.Kind.{is_reentrant}
 use Rattle.lock_base.specs.Entries.{Entry, held_entries, held_count, held_bag, modes_of_entries, all_of_party}
-use Rattle.lock_base.specs.Bar.{passes}
-use Rattle.lock_base.specs.Register.{Register, fits_in, lets_in, owns, is_full_count}
+use Rattle.lock_base.specs.Bar.{passes_bar}
+use Rattle.lock_base.specs.Register.{Register, admits_ignoring_bar, admits_party, owns, is_full_count}
 use Rattle.lock_base.specs.Legal.{AreLegallyHeld}
 use Rattle.lock_base.proofs.ModeLemmas.{compatible_acquired, compatible_released, admits-released, admits-beside_exclusive}
 use Rattle.lock_base.proofs.Splices.{EntryMap}
@@ -36,33 +36,33 @@ pub record HasNextLevel (r : Register) (party : ℕ) : Type 0 where
 
 module _ (r : Register) (party : ℕ) (mode : Mode) where
   -- an admitted acquisition
-  pub passed_bar : IsTrue (lets_in r party mode) → IsTrue (passes r.bar party mode)
-  passed_bar ok = (and_parts (passes r.bar party mode) (fits_in r party mode) ok).0
+  pub passed_bar : IsTrue (admits_party r party mode) → IsTrue (passes_bar r.bar party mode)
+  passed_bar ok = (and_parts (passes_bar r.bar party mode) (admits_ignoring_bar r party mode) ok).0
 
-  pub fitted_in : IsTrue (lets_in r party mode) → IsTrue (fits_in r party mode)
-  fitted_in ok = (and_parts (passes r.bar party mode) (fits_in r party mode) ok).1
+  pub fitted_in : IsTrue (admits_party r party mode) → IsTrue (admits_ignoring_bar r party mode)
+  fitted_in ok = (and_parts (passes_bar r.bar party mode) (admits_ignoring_bar r party mode) ok).1
 
   -- an admitted level of a reentrant lock
-  pub next_level : is_reentrant r.kind ≡ true → IsTrue (fits_in r party mode) → HasNextLevel r party
+  pub next_level : is_reentrant r.kind ≡ true → IsTrue (admits_ignoring_bar r party mode) → HasNextLevel r party
   next_level nested ok =
       let own : Bool = all_of_party party (held_entries r.entries) in
       let below : Bool = nat_lt (held_count r.entries) r.limit in
       let two = and_parts own below (in_then (is_reentrant r.kind) (own && below) (admits r.limit (held_bag r.entries) mode) nested ok) in
       record { own = two.0; below = ltb-true (held_count r.entries) r.limit two.1 }
 
-  pub fits_in-level : is_reentrant r.kind ≡ true → HasNextLevel r party → IsTrue (fits_in r party mode)
-  fits_in-level nested level =
+  pub admits_ignoring_bar-level : is_reentrant r.kind ≡ true → HasNextLevel r party → IsTrue (admits_ignoring_bar r party mode)
+  admits_ignoring_bar-level nested level =
       let own : Bool = all_of_party party (held_entries r.entries) in
       let below : Bool = nat_lt (held_count r.entries) r.limit in
       from_then (is_reentrant r.kind) (own && below) (admits r.limit (held_bag r.entries) mode) nested
       (and_from own below level.own (lt-ltb (held_count r.entries) r.limit level.below))
 
   -- an admitted guard of another lock
-  pub admitted_mode : is_reentrant r.kind ≡ false → IsTrue (fits_in r party mode) → IsTrue (admits r.limit (held_bag r.entries) mode)
+  pub admitted_mode : is_reentrant r.kind ≡ false → IsTrue (admits_ignoring_bar r party mode) → IsTrue (admits r.limit (held_bag r.entries) mode)
   admitted_mode plain ok = in_else (is_reentrant r.kind) _ (admits r.limit (held_bag r.entries) mode) plain ok
 
-  pub fits_in-mode : is_reentrant r.kind ≡ false → IsTrue (admits r.limit (held_bag r.entries) mode) → IsTrue (fits_in r party mode)
-  fits_in-mode plain ok = from_else (is_reentrant r.kind) _ (admits r.limit (held_bag r.entries) mode) plain ok
+  pub admits_ignoring_bar-mode : is_reentrant r.kind ≡ false → IsTrue (admits r.limit (held_bag r.entries) mode) → IsTrue (admits_ignoring_bar r party mode)
+  admits_ignoring_bar-mode plain ok = from_else (is_reentrant r.kind) _ (admits r.limit (held_bag r.entries) mode) plain ok
 
 -- nothing is admitted next to an exclusive guard
 
@@ -72,17 +72,17 @@ not_let_in true false h barred = sym (h refl)
 not_let_in false admitted h barred = refl
 
 pub not_let_in_beside_exclusive : (r : Register) (party : ℕ) (mode : Mode) → is_reentrant r.kind ≡ false → 0 < (held_bag r.entries).exclusive
-    → lets_in r party mode ≡ false
+    → admits_party r party mode ≡ false
 not_let_in_beside_exclusive r party mode plain out =
-    not_let_in (lets_in r party mode) (admits r.limit (held_bag r.entries) mode)
+    not_let_in (admits_party r party mode) (admits r.limit (held_bag r.entries) mode)
     (λ ok. admitted_mode r party mode plain (fitted_in r party mode ok))
     (admits-beside_exclusive r.limit (held_bag r.entries) mode out)
 
 -- only the held guards count
-pub lets_in-same_held : (r : Register) (es : EntryMap) (party : ℕ) (mode : Mode) → held_entries es ≡ held_entries r.entries
-    → lets_in (record r { entries = es }) party mode ≡ lets_in r party mode
-lets_in-same_held r es party mode same =
-    ap (λ (hs : List Entry). passes r.bar party mode && (if is_reentrant r.kind then all_of_party party hs && nat_lt (length hs) r.limit
+pub admits_party-same_held : (r : Register) (es : EntryMap) (party : ℕ) (mode : Mode) → held_entries es ≡ held_entries r.entries
+    → admits_party (record r { entries = es }) party mode ≡ admits_party r party mode
+admits_party-same_held r es party mode same =
+    ap (λ (hs : List Entry). passes_bar r.bar party mode && (if is_reentrant r.kind then all_of_party party hs && nat_lt (length hs) r.limit
     else admits r.limit (bag_of (modes_of_entries hs)) mode)) same
 
 -- the party of the held guards
@@ -130,7 +130,7 @@ legal_fewer false limit e more fewer one h =
 module _ (r : Register) (party : ℕ) (e : Entry) (more : EntryMap) (one : HasOneMore e more r.entries)
     (own : is_reentrant r.kind ≡ true → e.party ≡ party) where
   -- an admitted guard keeps the held guards legal
-  pub legal_more : IsTrue (fits_in r party e.mode) → AreLegallyHeld (is_reentrant r.kind) r.limit r.entries
+  pub legal_more : IsTrue (admits_ignoring_bar r party e.mode) → AreLegallyHeld (is_reentrant r.kind) r.limit r.entries
       → AreLegallyHeld (is_reentrant r.kind) r.limit more
   legal_more ok h = by_kind (is_reentrant r.kind) refl h
     where
@@ -148,10 +148,10 @@ module _ (r : Register) (party : ℕ) (e : Entry) (more : EntryMap) (one : HasOn
           (compatible_acquired r.limit (held_bag r.entries) e.mode h (admitted_mode r party e.mode plain ok))
 
   -- and a guard that was held next to these is admitted again
-  pub fits_in_again : AreLegallyHeld (is_reentrant r.kind) r.limit more → IsTrue (fits_in r party e.mode)
+  pub fits_in_again : AreLegallyHeld (is_reentrant r.kind) r.limit more → IsTrue (admits_ignoring_bar r party e.mode)
   fits_in_again h = by_kind (is_reentrant r.kind) refl h
     where
-      by_kind : (nested : Bool) → is_reentrant r.kind ≡ nested → AreLegallyHeld nested r.limit more → IsTrue (fits_in r party e.mode)
+      by_kind : (nested : Bool) → is_reentrant r.kind ≡ nested → AreLegallyHeld nested r.limit more → IsTrue (admits_ignoring_bar r party e.mode)
       by_kind true nested h =
           let owner : ℕ = h.0.0 in
           let all = subst (λ (hs : List Entry). IsTrue (all_of_party owner hs)) one.more_is h.0.1 in
@@ -159,12 +159,12 @@ module _ (r : Register) (party : ℕ) (e : Entry) (more : EntryMap) (one : HasOn
           let beside = subst (λ (hs : List Entry). IsTrue (all_of_party owner hs)) (sym one.fewer_is) rest.1 in
           let count = held_count-more e more r.entries one in
           let within : held_count more ≤ r.limit = h.1 in
-          fits_in-level r party e.mode nested (record {
+          admits_ignoring_bar-level r party e.mode nested (record {
             own = subst (λ (p : ℕ). IsTrue (all_of_party p (held_entries r.entries))) (sym rest.0 ∙ own nested) beside;
             below = omega (arith, count, within);
           })
       by_kind false plain h =
-          fits_in-mode r party e.mode plain
+          admits_ignoring_bar-mode r party e.mode plain
           (admits-released r.limit (held_bag r.entries) e.mode (subst (AreCompatible r.limit) (held_bag-more e more r.entries one) h))
 
   -- without a level there are fewer than the limit

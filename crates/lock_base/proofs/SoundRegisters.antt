@@ -10,7 +10,7 @@ use Rattle.lock_base.specs.Modes.{one_more, is_exclusive, is_move, may_become, A
 use Rattle.lock_base.specs.Kind.{is_reentrant, is_rwlock}
 use Rattle.lock_base.specs.Entries.{Entry, find, without, update, parked_entry, resumed_entry, in_mode, held_bag}
 use Rattle.lock_base.specs.Bar.{bar_after}
-use Rattle.lock_base.specs.Register.{Register, empty_register, fits_in, with_guard, without_guard, with_change, with_bar, after_admission}
+use Rattle.lock_base.specs.Register.{Register, empty_register, admits_ignoring_bar, with_guard, without_guard, with_change, with_bar, after_admission}
 use Rattle.lock_base.specs.Legal.{AreLegallyHeld, AreNumbered}
 use Rattle.lock_base.specs.Refusals.{has_want, mode_of}
 use Rattle.lock_base.specs.Sound.{FitsKind, IsLimitOf, IsModeOf, HaveModesOf, IsBarOf, IsSound}
@@ -53,7 +53,7 @@ have_modes_added kind [] x ys mode h = (mode, h)
 have_modes_added kind (e ∷ xs) x ys mode h = (h.0, have_modes_added kind xs x ys mode h.1)
 
 module _ (r : Register) (sound : IsSound r) where
-  pub with_guard_sound : (party : ℕ) (mode : Mode) → IsModeOf r.kind mode → length r.entries ≢ r.places → IsTrue (fits_in r party mode)
+  pub with_guard_sound : (party : ℕ) (mode : Mode) → IsModeOf r.kind mode → length r.entries ≢ r.places → IsTrue (admits_ignoring_bar r party mode)
       → IsSound (with_guard r party mode)
   with_guard_sound party mode of_kind room fits =
       let e : Entry = record { party = party; mode = mode; held = true } in
@@ -133,7 +133,7 @@ module _ (r : Register) (sound : IsSound r) where
         (more_than_parked guard e r.entries s held) sound.legal.held)
 
     pub resumed_sound : (party : ℕ) → e.held ≡ false → (IsTrue (is_reentrant r.kind) → e.party ≡ party)
-        → IsTrue (fits_in r party e.mode)
+        → IsTrue (admits_ignoring_bar r party e.mode)
         → IsSound (with_change r guard resumed_entry)
     resumed_sound party free own ok =
         change_sound resumed_entry whole_modes.0

@@ -9,9 +9,9 @@ has_announced None party = false
 has_announced (Some announced) party = announced == party
 
 -- whether the bar lets the party acquire the mode: exclusively, and only the party that set it
-abbrev pub passes : Option ℕ → ℕ → Mode → Bool
-passes None party mode = true
-passes (Some announced) party mode = is_exclusive mode && (announced == party)
+abbrev pub passes_bar : Option ℕ → ℕ → Mode → Bool
+passes_bar None party mode = true
+passes_bar (Some announced) party mode = is_exclusive mode && (announced == party)
 
 -- the bar after an admitted acquisition: an exclusive one clears it
 abbrev pub bar_after : Option ℕ → Mode → Option ℕ

@@ -6,7 +6,7 @@ use Rattle.lock_base.specs.declared.machine.bag.Bag.{Bag}
 use Rattle.lock_base.specs.declared.machine.kind.Kind.{Kind}
 use Rattle.lock_base.specs.Modes.{empty_bag, one_more, admits}
 use Rattle.lock_base.specs.Kind.{is_reentrant}
-use Rattle.lock_base.specs.Bar.{passes, bar_after}
+use Rattle.lock_base.specs.Bar.{passes_bar, bar_after}
 use Rattle.lock_base.specs.Entries.{Entry, without, update, held_entries, held_bag, held_count, all_of_party, some_of_party}
 
 pub record Register : Type 0 where
@@ -29,15 +29,15 @@ empty_register kind places limit =
 
 -- whether the mode is admitted next to the held guards, whatever the bar. A reentrant lock admits its owner, below the
 -- limit of levels
-abbrev pub fits_in : Register → ℕ → Mode → Bool
-fits_in r party mode =
+abbrev pub admits_ignoring_bar : Register → ℕ → Mode → Bool
+admits_ignoring_bar r party mode =
     if is_reentrant r.kind
     then all_of_party party (held_entries r.entries) && nat_lt (held_count r.entries) r.limit
     else admits r.limit (held_bag r.entries) mode
 
 -- whether the party may acquire the mode: the bar lets it pass, and the mode is admitted
-abbrev pub lets_in : Register → ℕ → Mode → Bool
-lets_in r party mode = passes r.bar party mode && fits_in r party mode
+abbrev pub admits_party : Register → ℕ → Mode → Bool
+admits_party r party mode = passes_bar r.bar party mode && admits_ignoring_bar r party mode
 
 -- whether the party holds a guard
 abbrev pub owns : Register → ℕ → Bool

@@ -9,25 +9,25 @@ use Rattle.lock_base.specs.declared.machine.reply.Reply.{Reply}
 use Rattle.lock_base.specs.Operation.{Operation}
 use Rattle.lock_base.specs.Party.{id_of}
 use Rattle.lock_base.specs.Modes.{is_exclusive}
-use Rattle.lock_base.specs.Bar.{passes, has_announced, bar_after}
-use Rattle.lock_base.specs.Register.{lets_in}
+use Rattle.lock_base.specs.Bar.{passes_bar, has_announced, bar_after}
+use Rattle.lock_base.specs.Register.{admits_party}
 use Rattle.lock_base.specs.Machine.{Machine}
 use Rattle.lock_base.specs.Steps.{step}
 use Rattle.lock_base.proofs.Admissions.{passed_bar}
 use Rattle.lock_base_laws.specs.Kept.{is_refusal}
-use Rattle.lock_base_laws.specs.Barring.{may_end_bar, BarsStand, BarsKeepOthersOut}
+use Rattle.lock_base_laws.specs.Barring.{may_end_bar, BarsPersist, BarsKeepOthersOut}
 use Rattle.lock_base_laws.proofs.Effects.{Effect, effect, exclusive_is}
 use Rattle.lock_base_laws.proofs.Refusals.{refusals_keep}
 
 pub keep_others_out : BarsKeepOthersOut
 keep_others_out r announced party mode stands ok =
-    let passed = subst (λ (bar : Option ℕ). IsTrue (passes bar party mode)) stands (passed_bar r party mode ok) in
+    let passed = subst (λ (bar : Option ℕ). IsTrue (passes_bar bar party mode)) stands (passed_bar r party mode ok) in
     let two = and_parts (is_exclusive mode) (announced == party) passed in
     (sym (eqb-true announced party two.1), exclusive_is mode two.0)
 
 -- no other party is admitted
 still : {T : Type 0} (m : Machine T) (party : ℕ) → m.bar ≡ Some party → (caller : PartyId) (mode : Mode)
-    → IsTrue (lets_in m.register (id_of caller) mode) → (id_of caller == party) ≡ false
+    → IsTrue (admits_party m.register (id_of caller) mode) → (id_of caller == party) ≡ false
     → bar_after m.bar mode ≡ Some party
 still m party stands caller mode ok other =
     absurd (eqb-false (id_of caller) party other (keep_others_out m.register party (id_of caller) mode stands ok).0)
@@ -36,7 +36,7 @@ module _ {O T A : Type 0} (m : Machine T) (party : ℕ) (stands : m.bar ≡ Some
   stays : {call : Call O} {reply : Reply A} {steps : List ModeStep} {after : Machine T} → Effect m call reply steps after
       → may_end_bar party call ≡ false
       → after.bar ≡ Some party
-  stays (Effect.acquired caller mode lets) other = still m party stands caller mode lets.let_in other
+  stays (Effect.acquired caller mode lets) other = still m party stands caller mode lets.admission other
   stays (Effect.resumes caller guard e out own ok) other = still m party stands caller e.mode ok other
   stays (Effect.announces caller kind none) other = let clash = sym none ∙ stands in cc
   stays (Effect.withdraws caller own) other =
@@ -44,7 +44,7 @@ module _ {O T A : Type 0} (m : Machine T) (party : ℕ) (stands : m.bar ≡ Some
       absurd (eqb-false (id_of caller) party other (sym (eqb-true party (id_of caller) same)))
   stays any other = stands
 
-pub bars_stand : {O T A : Type 0} (meaning : O → Operation T A) → BarsStand meaning
+pub bars_stand : {O T A : Type 0} (meaning : O → Operation T A) → BarsPersist meaning
 bars_stand {O} {T} {A} meaning m call party stands other = by_reply (is_refusal (step meaning m call).reply) refl
   where
     by_reply : (refused : Bool) → is_refusal (step meaning m call).reply ≡ refused

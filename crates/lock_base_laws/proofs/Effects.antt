@@ -21,23 +21,23 @@ use Rattle.lock_base.specs.Modes.{is_move, may_become, is_shared, is_exclusive, 
 use Rattle.lock_base.specs.Kind.{is_reentrant, is_rwlock}
 use Rattle.lock_base.specs.Entries.{Entry, find, parked_entry, resumed_entry, held_bag}
 use Rattle.lock_base.specs.Bar.{has_announced}
-use Rattle.lock_base.specs.Register.{Register, lets_in, is_full_count, moves_token, bumps_token, with_guard, without_guard, with_change, with_bar, after_admission}
+use Rattle.lock_base.specs.Register.{Register, admits_party, is_full_count, moves_token, bumps_token, with_guard, without_guard, with_change, with_bar, after_admission}
 use Rattle.lock_base.specs.Machine.{Machine, after_release, one_spent_more}
 use Rattle.lock_base.specs.Refusals.{Demand, mode_of, has_want, acquisition_refusal, announcement_refusal, withdrawal_refusal, held_guard, parked_guard, writing_guard, upgradable_guard, unshared_guard, exclusive_guard}
-use Rattle.lock_base.specs.Calls.{Turn, give, refuse, on_guard, with_register, with_mode, after_operation, park}
+use Rattle.lock_base.specs.Calls.{CallEffect, give, refuse, on_guard, with_register, with_mode, after_operation, park}
 use Rattle.lock_base.specs.Steps.{Response, response_of, response_in_form, done_reply, step}
 use Rattle.lock_base.proofs.SoundRegisters.{want_of_kind, rwlock_is}
 use Rattle.lock_base_laws.specs.Kept.{is_refusal}
 use Rattle.lock_base_laws.specs.Numbers.{numbers_of}
 use Rattle.lock_base.specs.Sound.{IsModeOf}
-use Rattle.lock_base_laws.specs.TokenSteps.{only_if, by_mode, steps_back, asked_steps, token_steps}
-use Rattle.lock_base_laws.proofs.Turns.{Meets, all_passed, both_passed, of_unless, of_guard, of_both}
+use Rattle.lock_base_laws.specs.TokenSteps.{only_if, by_mode, steps_back, raw_steps, token_steps}
+use Rattle.lock_base_laws.proofs.CallEffects.{Meets, all_passed, both_passed, of_unless, of_guard, of_both}
 
 -- an acquisition that gives a guard, and what it found
 pub record LetsIn (r : Register) (party : ℕ) (mode : Mode) : Type 0 where
   pub mode_of_kind : IsModeOf r.kind mode
   pub room : length r.entries ≢ r.places
-  pub let_in : IsTrue (lets_in r party mode)
+  pub admission : IsTrue (admits_party r party mode)
 
 -- the guard is held or parked
 pub record IsOut (r : Register) (guard : ℕ) (e : Entry) (is_held : Bool) : Type 0 where
@@ -58,7 +58,7 @@ pub data Effect {O T A : Type 0} (m : Machine T) : Call O → Reply A → List M
       (after_release m (with_change m.register guard parked_entry))
   resumes : (party : PartyId) (guard : ℕ) (e : Entry) → IsOut m.register guard e false
       → (IsTrue (is_reentrant m.kind) → e.party ≡ id_of party)
-      → IsTrue (lets_in m.register (id_of party) e.mode)
+      → IsTrue (admits_party m.register (id_of party) e.mode)
       → Effect m (Call.Resume party guard) Reply.Done (only_if (moves_token m.register) (Acquire e.mode ∷ []))
       (with_register m (after_admission (with_change m.register guard resumed_entry) e.mode))
   abandoned : {call : Call O} (guard : ℕ) (e : Entry) → IsOut m.register guard e false
@@ -107,7 +107,7 @@ out_of r demand party guard e meets = record { found = meets.found; held = meets
 module _ (O T A : Type 0) where
   -- the effect of a call, by its response
   abbrev HasEffect : Machine T → Call O → Response A T → Type 0
-  HasEffect m call t = Effect m call t.reply (only_if (not (is_refusal t.reply)) (asked_steps m call)) t.machine
+  HasEffect m call t = Effect m call t.reply (only_if (not (is_refusal t.reply)) (raw_steps m call)) t.machine
 
   module _ (m : Machine T) (call : Call O) where
     -- the steps by the mode of a guard
@@ -138,14 +138,14 @@ module _ (O T A : Type 0) where
     some_given For answered x next h = h
     some_given Until answered x next h = h
 
-    of_response : {R : Type 0} (answered : R → Reply A) (demand : Demand) (party guard : ℕ) (act : Entry → Turn R T)
+    of_response : {R : Type 0} (answered : R → Reply A) (demand : Demand) (party guard : ℕ) (act : Entry → CallEffect R T)
         → ((e : Entry) → Meets m.register demand party guard e → HasEffect m call (response_of answered (act e)))
         → HasEffect m call (response_of answered (on_guard m demand party guard act))
     of_response answered demand party guard act acts =
         of_guard (λ turn. HasEffect m call (response_of answered turn)) m demand party guard act (λ f. kept refl) acts
 
     of_response_in_form : {R : Type 0} (form : Form) (answered : R → Reply A) (demand : Demand) (party guard : ℕ)
-        (act : Entry → Turn (Option R) T)
+        (act : Entry → CallEffect (Option R) T)
         → ((e : Entry) → Meets m.register demand party guard e → HasEffect m call (response_in_form form answered (act e)))
         → HasEffect m call (response_in_form form answered (on_guard m demand party guard act))
     of_response_in_form form answered demand party guard act acts =
@@ -164,12 +164,12 @@ module _ {O T A : Type 0} (meaning : O → Operation T A) (m : Machine T) where
       (is_full_count m.register (id_of party))
       fault.WrongKind fault.NoPlace fault.NumbersSpent fault.FullCount passed in
       of_both (λ turn. HasEffect O T A m call (response_in_form form Reply.Guard turn))
-      (lets_in m.register (id_of party) (mode_of want)) _ _
+      (admits_party m.register (id_of party) (mode_of want)) _ _
       (λ ok. some_given O T A m call form Reply.Guard _ _ (acquired party (mode_of want)
       (record {
         mode_of_kind = want_of_kind m.kind want (not-false (has_want m.kind want) all.first);
         room = eqb-false _ _ all.second;
-        let_in = ok;
+        admission = ok;
       })))
       (λ no. none_kept O T A m call form Reply.Guard))
 
@@ -182,7 +182,7 @@ module _ {O T A : Type 0} (meaning : O → Operation T A) (m : Machine T) where
       (unlocked guard e (out_of m.register held_guard (id_of party) guard e meets)))
 
   -- both forms of parking do the same
-  of_park : (call : Call O) (party guard : ℕ) → asked_steps m call ≡ steps_back m.register guard (with_change m.register guard parked_entry)
+  of_park : (call : Call O) (party guard : ℕ) → raw_steps m call ≡ steps_back m.register guard (with_change m.register guard parked_entry)
       → HasEffect O T A m call (response_of done_reply (park m party guard))
   of_park call party guard asked =
       of_response O T A m call done_reply held_guard party guard _
@@ -198,7 +198,7 @@ module _ {O T A : Type 0} (meaning : O → Operation T A) (m : Machine T) where
       of_both (λ turn. HasEffect O T A m (Call.Resume party guard) (response_of done_reply turn))
       (is_full_count m.register (id_of party)) _ _ (λ full. kept refl)
       (λ room. of_both (λ turn. HasEffect O T A m (Call.Resume party guard) (response_of done_reply turn))
-      (lets_in m.register (id_of party) e.mode) _ _
+      (admits_party m.register (id_of party) e.mode) _ _
       (λ ok. by_found O T A m (Call.Resume party guard) guard e
       (with_register m (after_admission (with_change m.register guard resumed_entry) e.mode))
       (λ mode. only_if (moves_token m.register) (Acquire mode ∷ [])) meets.found

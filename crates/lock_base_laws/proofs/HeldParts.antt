@@ -10,7 +10,7 @@ use Rattle.lock_base.specs.Machine.{Machine}
 use Rattle.lock_base.specs.Refusals.{found_refusal, upgradable_guard}
 use Rattle.lock_base.specs.Calls.{refuse, give, unless, at_entry, with_mode, upgrade}
 use Rattle.lock_base.proofs.Splices.{EntryMap}
-use Rattle.lock_base.proofs.Admissions.{lets_in-same_held}
+use Rattle.lock_base.proofs.Admissions.{admits_party-same_held}
 use Rattle.lock_base_laws.specs.Exclusion.{IsHeld}
 use Rattle.lock_base_laws.specs.Parked.{held_part, without_parked, ParkedGuardsHoldNothing}
 
@@ -91,7 +91,7 @@ parked_hold_nothing m =
     let same = held_entries-held_part m.entries in
     let one_exclusive : List Entry → Bool = λ hs. not ((bag_of (modes_of_entries hs)).exclusive == 0) in
     record {
-      let_in = λ party mode. lets_in-same_held m.register (held_part m.entries) party mode same;
+      admission = λ party mode. admits_party-same_held m.register (held_part m.entries) party mode same;
       full = λ party. ap (λ (hs : List Entry). is_reentrant m.kind && (some_of_party party hs && (length hs == m.limit))) same;
       locked = ap (λ (hs : List Entry). not (length hs == 0)) same;
       exclusive = same_told (without_parked m) m (is_rwlock m.kind) _ _ (ap one_exclusive same);

@@ -9,29 +9,29 @@ use Rattle.lock_base.specs.declared.raw.fault.Fault.TheVariants as fault
 use Rattle.lock_base.specs.Modes.{count_of}
 use Rattle.lock_base.specs.Kind.{is_reentrant}
 use Rattle.lock_base.specs.Entries.{Entry, find, resumed_entry, held_bag}
-use Rattle.lock_base.specs.Register.{lets_in, is_full_count, with_guard, with_change, after_admission}
+use Rattle.lock_base.specs.Register.{admits_party, is_full_count, with_guard, with_change, after_admission}
 use Rattle.lock_base.specs.Machine.{Machine}
 use Rattle.lock_base.specs.Refusals.{mode_of, acquisition_refusal, parked_guard}
-use Rattle.lock_base.specs.Calls.{Turn, blocking_answer, refuse, give, with_register, acquire, resume}
+use Rattle.lock_base.specs.Calls.{CallEffect, blocking_answer, refuse, give, with_register, acquire, resume}
 use Rattle.lock_base.proofs.Splices.{find-append}
 use Rattle.lock_base.proofs.Admissions.{not_let_in_beside_exclusive}
 use Rattle.lock_base.specs.Sound.{IsModeOf}
-use Rattle.lock_base_laws.specs.Exclusion.{IsHeld, LetsNobodyIn, ExclusiveGuardsExclude, MutexGuardsExclude, NewGuardsAreHeld}
-use Rattle.lock_base_laws.proofs.Turns.{of_unless, of_guard, of_both}
+use Rattle.lock_base_laws.specs.Exclusion.{IsHeld, AdmitsNobody, ExclusiveGuardsExclude, MutexGuardsExclude, NewGuardsAreHeld}
+use Rattle.lock_base_laws.proofs.CallEffects.{of_unless, of_guard, of_both}
 use Rattle.lock_base.proofs.SoundRegisters.{out_mode}
 use Rattle.lock_base_laws.proofs.GuardNumbers.{find-above}
 use Rattle.lock_base_laws.proofs.Written.{held_is_counted}
 
 module _ {T : Type 0} (m : Machine T) where
   -- a machine whose register admits nothing
-  lets_nobody_in : ((party : ℕ) (mode : Mode) → lets_in m.register party mode ≡ false) → LetsNobodyIn m
+  lets_nobody_in : ((party : ℕ) (mode : Mode) → admits_party m.register party mode ≡ false) → AdmitsNobody m
   lets_nobody_in nobody = record {
     none_given = λ want party. asked want party (λ turn. IfOk turn.answer (λ found. IsNone found)) (λ f. tt) refl;
     blocking_refused = λ want party. asked want party (λ turn. IsErr (blocking_answer turn.answer)) (λ f. refl) refl;
     none_resumed = resume_refused;
   }
     where
-      asked : (want : Want) (party : ℕ) (P : Turn (Option ℕ) T → Type 0) → ((f : _) → P (refuse m f)) → P (give None m)
+      asked : (want : Want) (party : ℕ) (P : CallEffect (Option ℕ) T → Type 0) → ((f : _) → P (refuse m f)) → P (give None m)
           → P (acquire m want party)
       asked want party P refused none =
           of_unless P m (acquisition_refusal m.register want party) _ refused
@@ -48,7 +48,7 @@ module _ {T : Type 0} (m : Machine T) where
           else refuse m fault.WouldWait).answer) (sym (nobody party e.mode)) refl))
 
   beside_exclusive : (guard : ℕ) (holder : IsHeld m.register guard) → is_reentrant m.kind ≡ false
-      → holder.entry.mode ≡ Exclusive → LetsNobodyIn m
+      → holder.entry.mode ≡ Exclusive → AdmitsNobody m
   beside_exclusive guard holder plain exclusive =
       let counted = held_is_counted guard holder.entry m.entries holder.found holder.held in
       let out : 0 < (held_bag m.entries).exclusive =
@@ -76,6 +76,6 @@ module _ {T : Type 0} where
       of_unless (λ turn. turn.answer ≡ Ok (Some number) → find number turn.machine.entries ≡ Some new) m
       (acquisition_refusal m.register want party) _ (λ f told. cc)
       (λ passed. of_both (λ turn. turn.answer ≡ Ok (Some number) → find number turn.machine.entries ≡ Some new)
-      (lets_in m.register party (mode_of want)) _ _
+      (admits_party m.register party (mode_of want)) _ _
       (λ ok told. let same : m.last + 1 ≡ number = cc in behind number same)
       (λ others told. cc)) answered

@@ -9,18 +9,18 @@ use Rattle.lock_base.specs.Party.{id_of}
 use Rattle.lock_base.specs.Modes.{is_exclusive}
 use Rattle.lock_base.specs.Kind.{is_reentrant}
 use Rattle.lock_base.specs.Entries.{Entry, parked_entry, resumed_entry}
-use Rattle.lock_base.specs.Bar.{passes, bar_after}
-use Rattle.lock_base.specs.Register.{Register, fits_in, lets_in, is_full_count, with_change, after_admission}
+use Rattle.lock_base.specs.Bar.{passes_bar, bar_after}
+use Rattle.lock_base.specs.Register.{Register, admits_ignoring_bar, admits_party, is_full_count, with_change, after_admission}
 use Rattle.lock_base.specs.Machine.{Machine, after_release}
 use Rattle.lock_base.specs.Refusals.{held_guard, parked_guard}
-use Rattle.lock_base.specs.Calls.{Turn, give, refuse, with_register, park, resume}
+use Rattle.lock_base.specs.Calls.{CallEffect, give, refuse, with_register, park, resume}
 use Rattle.lock_base.specs.Steps.{response_of, reply_of, done_reply}
 use Rattle.lock_base.proofs.Splices.{EntryMap, splice, find-update, update-back}
 use Rattle.lock_base.proofs.HeldEntries.{resumed_entry-parked_entry, more_than_parked}
 use Rattle.lock_base.proofs.Admissions.{fits_in_again, is_full_count-fewer}
 use Rattle.lock_base.specs.Sound.{IsSound}
 use Rattle.lock_base_laws.specs.Parking.{ParkedIsResumed}
-use Rattle.lock_base_laws.proofs.Turns.{Meets, of_guard, on_guard-met}
+use Rattle.lock_base_laws.proofs.CallEffects.{Meets, of_guard, on_guard-met}
 
 module _ {T : Type 0} (m : Machine T) (parker resumer guard : ℕ) (sound : IsSound m.register) (unbarred : m.bar ≡ None)
     (same_owner : IsTrue (is_reentrant m.kind) → resumer ≡ parker) where
@@ -29,7 +29,7 @@ module _ {T : Type 0} (m : Machine T) (parker resumer guard : ℕ) (sound : IsSo
   left = with_change m.register guard parked_entry
 
   -- a turn that parked the guard
-  record HasParked (turn : Turn (Unit {0}) T) : Type 0 where
+  record HasParked (turn : CallEffect (Unit {0}) T) : Type 0 where
     entry : Entry
     meets : Meets m.register held_guard parker guard entry
     machine_is : turn.machine ≡ after_release m left
@@ -61,18 +61,18 @@ module _ {T : Type 0} (m : Machine T) (parker resumer guard : ℕ) (sound : IsSo
         held = refl;
         in_mode = refl;
       } in
-      let held_again : Turn (Unit {0}) T = give tt (with_register next (after_admission (with_change left guard resumed_entry) e.mode)) in
-      let if_let_in : Turn (Unit {0}) T = (if lets_in left resumer e.mode then held_again else refuse next fault.WouldWait) in
+      let held_again : CallEffect (Unit {0}) T = give tt (with_register next (after_admission (with_change left guard resumed_entry) e.mode)) in
+      let if_let_in : CallEffect (Unit {0}) T = (if admits_party left resumer e.mode then held_again else refuse next fault.WouldWait) in
       on_guard-met next parked_guard resumer guard
       (λ x. if is_full_count left resumer then refuse next fault.FullCount
-      else (if lets_in left resumer x.mode
+      else (if admits_party left resumer x.mode
       then give tt (with_register next (after_admission (with_change left guard resumed_entry) x.mode))
       else refuse next fault.WouldWait))
       (parked_entry e) meets_parked
       ∙ ap (λ (b : Bool). if b then refuse next fault.FullCount else if_let_in)
       (is_full_count-fewer left resumer e m.entries one own sound.legal.held)
       ∙ ap (λ (b : Bool). if b then held_again else refuse next fault.WouldWait)
-      (ap (λ (bar : Option ℕ). passes bar resumer e.mode && fits_in left resumer e.mode) unbarred
+      (ap (λ (bar : Option ℕ). passes_bar bar resumer e.mode && admits_ignoring_bar left resumer e.mode) unbarred
       ∙ fits_in_again left resumer e m.entries one own sound.legal.held)
       ∙ ap (λ (bar : Option ℕ). give tt (with_register next (record (with_change left guard resumed_entry) { bar = bar }))) (still_unbarred e.mode)
       ∙ ap (λ (es : EntryMap). give tt (with_register next (record left { entries = es })))
@@ -85,7 +85,7 @@ module _ {O T A : Type 0} (meaning : O → Operation T A) where
       let p = parked_turn m (id_of parker) (id_of resumer) guard sound unbarred same_owner {A = A} answered in
       subst (λ (next : Machine T). response_of (done_reply {A = A}) (resume next (id_of resumer) guard)
       ≡ record { reply = Reply.Done; machine = record m { spent = next.spent } }) (sym p.machine_is)
-      (ap (λ (turn : Turn (Unit {0}) T). response_of (done_reply {A = A}) turn)
+      (ap (λ (turn : CallEffect (Unit {0}) T). response_of (done_reply {A = A}) turn)
       (resumed_turn m (id_of parker) (id_of resumer) guard sound unbarred same_owner p.entry p.meets))
 
   pub fairly_parked_is_resumed : ParkedIsResumed meaning Call.ParkFair

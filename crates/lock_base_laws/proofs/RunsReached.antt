@@ -27,7 +27,7 @@ module _ {O T A : Type 0} (m : Machine T) (sound : IsSound m.register) where
   effect_sound (Effect.acquired party mode lets) =
       admitted_sound (with_guard m.register (id_of party) mode) mode
       (with_guard_sound m.register sound (id_of party) mode lets.mode_of_kind lets.room
-      (fitted_in m.register (id_of party) mode lets.let_in))
+      (fitted_in m.register (id_of party) mode lets.admission))
   effect_sound (Effect.unlocked guard e out) = unlocked_sound m.register sound guard e (at_guard m.register guard e _ out) out.held
   effect_sound (Effect.parks guard e out) = parked_sound m.register sound guard e (at_guard m.register guard e _ out) out.held
   effect_sound (Effect.resumes party guard e out own ok) =

@@ -5,7 +5,7 @@ use Rattle.lock_base.specs.declared.machine.mode.Mode.TheVariants.{Exclusive}
 use Rattle.lock_base.specs.declared.machine.call.Call.{Call}
 use Rattle.lock_base.specs.Operation.{Operation}
 use Rattle.lock_base.specs.Party.{id_of}
-use Rattle.lock_base.specs.Register.{Register, lets_in}
+use Rattle.lock_base.specs.Register.{Register, admits_party}
 use Rattle.lock_base.specs.Machine.{Machine}
 use Rattle.lock_base.specs.Steps.{step}
 use Rattle.lock_base_laws.specs.Kept.{is_refusal}
@@ -18,8 +18,8 @@ may_end_bar party (Call.Withdraw caller) = id_of caller == party
 may_end_bar party _ = false
 
 -- the bar stays, whatever is called, until its party acquires or withdraws: by a call of its own that is not refused
-abbrev pub BarsStand : {O T A : Type 0} → (O → Operation T A) → Type 0
-BarsStand {O} {T} meaning =
+abbrev pub BarsPersist : {O T A : Type 0} → (O → Operation T A) → Type 0
+BarsPersist {O} {T} meaning =
     (m : Machine T) (call : Call O) (party : ℕ) → m.bar ≡ Some party
     → (not (is_refusal (step meaning m call).reply) && may_end_bar party call) ≡ false
     → (step meaning m call).machine.bar ≡ Some party
@@ -27,5 +27,5 @@ BarsStand {O} {T} meaning =
 -- under the bar only its party is admitted, and only exclusively
 abbrev pub BarsKeepOthersOut : Type 0
 BarsKeepOthersOut =
-    (r : Register) (announced party : ℕ) (mode : Mode) → r.bar ≡ Some announced → IsTrue (lets_in r party mode)
+    (r : Register) (announced party : ℕ) (mode : Mode) → r.bar ≡ Some announced → IsTrue (admits_party r party mode)
     → (party ≡ announced) × (mode ≡ Exclusive)

@@ -18,7 +18,7 @@ pub record IsHeld (r : Register) (guard : ℕ) : Type 0 where
   pub held : IsTrue entry.held
 
 -- no acquisition is admitted, and no parked guard is resumed
-pub record LetsNobodyIn {T : Type 0} (m : Machine T) : Type 0 where
+pub record AdmitsNobody {T : Type 0} (m : Machine T) : Type 0 where
   pub none_given : (want : Want) (party : ℕ) → IfOk (acquire m want party).answer (λ found. IsNone found)
   pub blocking_refused : (want : Want) (party : ℕ) → IsErr (blocking_answer (acquire m want party).answer)
   pub none_resumed : (party guard : ℕ) → IsErr (resume m party guard).answer
@@ -27,12 +27,12 @@ pub record LetsNobodyIn {T : Type 0} (m : Machine T) : Type 0 where
 abbrev pub ExclusiveGuardsExclude : Type 0 → Type 0
 ExclusiveGuardsExclude T =
     (m : Machine T) (guard : ℕ) (holder : IsHeld m.register guard) → is_reentrant m.kind ≡ false
-    → holder.entry.mode ≡ Exclusive → LetsNobodyIn m
+    → holder.entry.mode ≡ Exclusive → AdmitsNobody m
 
 -- and every held guard of a mutex is exclusive
 abbrev pub MutexGuardsExclude : Type 0 → Type 0
 MutexGuardsExclude T =
-    (m : Machine T) (guard : ℕ) → IsSound m.register → m.kind ≡ Mutex → IsHeld m.register guard → LetsNobodyIn m
+    (m : Machine T) (guard : ℕ) → IsSound m.register → m.kind ≡ Mutex → IsHeld m.register guard → AdmitsNobody m
 
 -- a new guard has the number that was answered, and is held in the mode that was acquired
 abbrev pub NewGuardsAreHeld : Type 0 → Type 0

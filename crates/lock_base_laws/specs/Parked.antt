@@ -2,7 +2,7 @@
 use Rattle.std.specs.Prelude.{◌≡◌, ℕ, if◌then◌else◌, List, [], ◌∷◌}
 use Rattle.lock_base.specs.declared.machine.mode.Mode.{Mode}
 use Rattle.lock_base.specs.Entries.{Entry}
-use Rattle.lock_base.specs.Register.{lets_in, is_full_count}
+use Rattle.lock_base.specs.Register.{admits_party, is_full_count}
 use Rattle.lock_base.specs.Machine.{Machine}
 use Rattle.lock_base.specs.Calls.{with_register, upgrade, is_locked, is_locked_exclusive, is_owned_by}
 use Rattle.lock_base_laws.specs.Exclusion.{IsHeld}
@@ -18,8 +18,8 @@ without_parked m = with_register m (record m.register { entries = held_part m.en
 
 -- without its parked guards the machine admits the same parties, and answers the same questions
 pub record CountsNoneParked {T : Type 0} (m : Machine T) : Type 0 where
-  pub let_in : (party : ℕ) (mode : Mode)
-      → lets_in (without_parked m).register party mode ≡ lets_in m.register party mode
+  pub admission : (party : ℕ) (mode : Mode)
+      → admits_party (without_parked m).register party mode ≡ admits_party m.register party mode
   pub full : (party : ℕ) → is_full_count (without_parked m).register party ≡ is_full_count m.register party
   pub locked : is_locked (without_parked m) ≡ is_locked m
   pub exclusive : (is_locked_exclusive (without_parked m)).answer ≡ (is_locked_exclusive m).answer

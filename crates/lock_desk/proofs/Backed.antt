@@ -3,7 +3,7 @@ use Rattle.std.proofs.Common.{◌≡◌, ℕ, ◌+◌, ◌<◌, ◌≤◌, suc, 
 use Rattle.std.specs.Prelude.{IsTrue, ◌&&◌, is_none}
 use Rattle.std.specs.Bool.{OnTrue, OnFalse}
 use Rattle.std.proofs.lemmas.Bool.{ne_eqb, eqb-true}
-use Rattle.lock_roll.specs.Items as items
+use Rattle.lock_slots.specs.Items as items
 use Rattle.lock_base.specs.declared.machine.kind.Kind.{Kind}
 use Rattle.lock_base.specs.declared.machine.mode.Mode.{Mode}
 use Rattle.lock_base.specs.declared.machine.mode.Mode.TheVariants.{Exclusive}
@@ -12,7 +12,7 @@ use Rattle.lock_base.specs.Kind.{is_reentrant}
 use Rattle.lock_base.specs.Party.{id_of}
 use Rattle.lock_base.specs.Modes.{AreCompatible, empty_bag, bag_of, one_more, is_move, admits, may_become}
 use Rattle.lock_base.specs.Entries.{Entry, parked_entry, held_bag, in_mode, modes_of_entries, all_of_party, some_of_party}
-use Rattle.lock_base.specs.Register.{fits_in, is_full_count, tokens_of, token_limit, moves_token, bumps_token, with_change}
+use Rattle.lock_base.specs.Register.{admits_ignoring_bar, is_full_count, tokens_of, token_limit, moves_token, bumps_token, with_change}
 use Rattle.lock_base.specs.Legal.{AreLegallyHeld}
 use Rattle.lock_base.specs.Tokens.{count, SameBag, bag_of_tokens, modes_of, IsOut, Removes, Adds}
 use Rattle.lock_base.proofs.TokenBags.{count-append, same_length, same_as_none, bag_of_same}
@@ -20,14 +20,14 @@ use Rattle.lock_base.proofs.ModeLemmas.{compatible_empty, compatible_acquired, c
 use Rattle.lock_base.proofs.Splices.{splice}
 use Rattle.lock_base.proofs.HeldEntries.{more_than_parked}
 use Rattle.lock_base.proofs.Admissions.{fits_in_again}
-use Rattle.lock_desk.specs.declared.slot.Hold.{Hold}
-use Rattle.lock_desk.specs.declared.slot.Hold.TheVariants.{Parked, Token, Level}
+use Rattle.lock_desk.specs.declared.slot.GuardHold.{GuardHold}
+use Rattle.lock_desk.specs.declared.slot.GuardHold.TheVariants.{Parked, Token, Level}
 use Rattle.lock_desk.specs.declared.slot.Slot.{Slot}
 use Rattle.lock_desk.specs.Slots.{entries_of, slot_entry, tokens_in, token_in, is_held, is_level, is_token, NoHold}
-use Rattle.lock_desk.specs.Owners.{OwnsLevels, token_of_owner, one_level_less, may_enter, HasEntered}
-use Rattle.lock_desk.specs.Backing.{Backing, register_of, KeepsLimits, bumps, held_of, Differs, AreHeldBy, AreBacked, Serves, HasRoom, IsHeldIn, Releases, TellsToken, HasChangeable, HasExchanged}
+use Rattle.lock_desk.specs.Owners.{OwnsLevels, token_of_owner, one_level_less, may_add_level, HasAddedLevel}
+use Rattle.lock_desk.specs.Backing.{Backing, register_of, KeepsLimits, bumps, held_of, Differs, AreHeldBy, AreBacked, BacksSlot, HasRoom, IsHeldIn, Releases, ReturnsToken, HasChangeable, HasExchanged}
 use Rattle.lock_desk.proofs.Entries.{entry_found}
-use Rattle.lock_desk.proofs.Owned.{owns_same, owns_less, owns_more, holder_owns, may_enter-held, levels_of_held, full_of_held, none_held}
+use Rattle.lock_desk.proofs.Owned.{owns_same, owns_less, owns_more, holder_owns, may_add_level-held, levels_of_held, full_of_held, none_held}
 use Rattle.lock_desk.proofs.Slots.{differs_found, differs_put, parked_held, parked_party, level_held, level_party, no_tokens, modes_of-tokens_in, same_put}
 
 module _ {K : Type 0} where
@@ -114,7 +114,7 @@ module _ {K : Type 0} where
       )
       holders_by false h = (d.more is_level (ap is_level e) h.0, h.1)
 
-  pub releases_parked : (hold : Hold K) (old new : Backing K) → hold ≡ Parked → new ≡ old → Releases hold old new
+  pub releases_parked : (hold : GuardHold K) (old new : Backing K) → hold ≡ Parked → new ≡ old → Releases hold old new
   releases_parked hold old new is same s ss others d e b = subst (λ t. AreBacked others t) (sym same) (drop_parked s ss others old d (e ∙ is) b)
 
   -- Slots with a token of their own
@@ -133,11 +133,11 @@ module _ {K : Type 0} where
     );
   }
 
-  pub held_token : (k : K) (party : ℕ) (t : Backing K) (hold : Hold K) → hold ≡ Token k → IsHeldIn party hold t → IsOut t.tokens k
+  pub held_token : (k : K) (party : ℕ) (t : Backing K) (hold : GuardHold K) → hold ≡ Token k → IsHeldIn party hold t → IsOut t.tokens k
   held_token k party t hold is (s, ss, others, d, e, q, b) =
       (s.mode, (tokens_in others ++ token_of_owner t.levels.owner, bag_beside s ss others k t d (e ∙ is) b))
 
-  releases_own : (hold : Hold K) (k : K) (old new : Backing K) → hold ≡ Token k → KeepsLimits old new
+  releases_own : (hold : GuardHold K) (k : K) (old new : Backing K) → hold ≡ Token k → KeepsLimits old new
       → new.levels.owner ≡ old.levels.owner → Removes old.tokens new.tokens k → Releases hold old new
   releases_own hold k old new is keeps owner removed s ss others d e b =
       let rest : List (K × Mode) = tokens_in others ++ token_of_owner old.levels.owner in
@@ -164,7 +164,7 @@ module _ {K : Type 0} where
   serves_own : (party : ℕ) (mode : Mode) (k : K) (old new : Backing K) → is_reentrant old.kind ≡ false
       → KeepsLimits old new → new.levels.owner ≡ old.levels.owner
       → IsTrue (admits (token_limit old.kind old.levels.limit) (bag_of_tokens old.tokens) mode)
-      → Adds old.tokens new.tokens k mode → Serves party mode (Token k) old new
+      → Adds old.tokens new.tokens k mode → BacksSlot party mode (Token k) old new
   serves_own party mode k old new n keeps owner admits added s ss others d e q m b =
       let held = of_others others old n b in
       let readers = token_limit old.kind old.levels.limit in
@@ -226,7 +226,7 @@ module _ {K : Type 0} where
       by_nesting true h = refl
       by_nesting false h = let f = (d.less is_level h.0).0 in let u = ap is_level e in cc
 
-  pub held_level : (party : ℕ) (t : Backing K) (hold : Hold K) → hold ≡ Level → IsHeldIn party hold t
+  pub held_level : (party : ℕ) (t : Backing K) (hold : GuardHold K) → hold ≡ Level → IsHeldIn party hold t
       → (0 < level_of t.levels party) × SameBag t.tokens (token_of_owner t.levels.owner)
   held_level party t hold is (s, ss, others, d, e, q, b) =
       let held = of_reentrant ss t (reentrant_of_level s ss others t d (e ∙ is) b) b in
@@ -236,7 +236,7 @@ module _ {K : Type 0} where
       (level_party s ss others d (e ∙ is)) in
       (subst (λ p. 0 < level_of t.levels p) q (omega (arith, count, some)), bag_of_owner ss t held.0 b)
 
-  pub releases_level : (hold : Hold K) (old new : Backing K) → hold ≡ Level → KeepsLimits old new
+  pub releases_level : (hold : GuardHold K) (old new : Backing K) → hold ≡ Level → KeepsLimits old new
       → new.levels.owner ≡ one_level_less old.levels.owner → SameBag new.tokens (token_of_owner new.levels.owner)
       → Releases hold old new
   releases_level hold old new is keeps left p s ss others d e b =
@@ -248,9 +248,9 @@ module _ {K : Type 0} where
       (level_party s ss others d (e ∙ is)))) p
 
   pub serves_level : (party : ℕ) (mode : Mode) (old new : Backing K) → is_reentrant old.kind ≡ true
-      → KeepsLimits old new → may_enter old.levels.limit party old.levels.owner ≡ true
-      → HasEntered party old.levels.owner new.levels.owner → SameBag new.tokens (token_of_owner new.levels.owner)
-      → Serves party mode Level old new
+      → KeepsLimits old new → may_add_level old.levels.limit party old.levels.owner ≡ true
+      → HasAddedLevel party old.levels.owner new.levels.owner → SameBag new.tokens (token_of_owner new.levels.owner)
+      → BacksSlot party mode Level old new
   serves_level party mode old new n keeps may entered p s ss others d e q m b =
       let held = of_reentrant others old n b in
       let of_party : (r : ℕ) → all_of_party r (held_of ss) ≡ nat_eq party r && all_of_party r (held_of others)
@@ -289,13 +289,13 @@ module _ {K : Type 0} where
       by_nesting false n = rw n (bag_of_held ss t n b)
 
   pub admitted_level : (r : Bool) (party : ℕ) (mode : Mode) (places last : ℕ) (ss : List (ℕ × Slot K)) (t : Backing K) → is_reentrant t.kind ≡ true
-      → r ≡ may_enter t.levels.limit party t.levels.owner → AreBacked ss t → r ≡ fits_in (register_of t places last ss) party mode
+      → r ≡ may_add_level t.levels.limit party t.levels.owner → AreBacked ss t → r ≡ admits_ignoring_bar (register_of t places last ss) party mode
   admitted_level r party mode places last ss t n e b =
-      rw n (e ∙ may_enter-held t.levels.limit party t.levels.owner (held_of ss) b.positive (of_reentrant ss t n b).1)
+      rw n (e ∙ may_add_level-held t.levels.limit party t.levels.owner (held_of ss) b.positive (of_reentrant ss t n b).1)
 
   admitted_own : (r : Bool) (party : ℕ) (mode : Mode) (places last : ℕ) (ss : List (ℕ × Slot K)) (t : Backing K) → is_reentrant t.kind ≡ false
       → r ≡ admits (token_limit t.kind t.levels.limit) (bag_of_tokens t.tokens) mode → AreBacked ss t
-      → r ≡ fits_in (register_of t places last ss) party mode
+      → r ≡ admits_ignoring_bar (register_of t places last ss) party mode
   admitted_own r party mode places last ss t n e b =
       let held : r ≡ admits (token_limit t.kind t.levels.limit) (held_bag (entries_of ss)) mode
       = e ∙ ap (λ g. admits (token_limit t.kind t.levels.limit) g mode) (bag_of_held ss t n b) in
@@ -303,7 +303,7 @@ module _ {K : Type 0} where
 
   -- The same of a backing as its fields show it
 
-  pub releases_token : (hold : Hold K) (k : K) (seen old new : Backing K) → seen ≡ old → hold ≡ Token k
+  pub releases_token : (hold : GuardHold K) (k : K) (seen old new : Backing K) → seen ≡ old → hold ≡ Token k
       → KeepsLimits seen new → new.levels.owner ≡ seen.levels.owner → Removes seen.tokens new.tokens k
       → Releases hold old new
   releases_token hold k seen old new same is keeps owner removed =
@@ -312,15 +312,15 @@ module _ {K : Type 0} where
   pub serves_token : (party : ℕ) (mode : Mode) (k : K) (seen old new : Backing K) → seen ≡ old
       → is_reentrant seen.kind ≡ false → KeepsLimits seen new → new.levels.owner ≡ seen.levels.owner
       → IsTrue (admits (token_limit seen.kind seen.levels.limit) (bag_of_tokens seen.tokens) mode)
-      → Adds seen.tokens new.tokens k mode → Serves party mode (Token k) old new
+      → Adds seen.tokens new.tokens k mode → BacksSlot party mode (Token k) old new
   serves_token party mode k seen old new same n keeps owner admits added =
-      subst (λ t. Serves party mode (Token k) t new) same (serves_own party mode k seen new n keeps owner admits added)
+      subst (λ t. BacksSlot party mode (Token k) t new) same (serves_own party mode k seen new n keeps owner admits added)
 
   pub admitted_token : (r : Bool) (party : ℕ) (mode : Mode) (places last : ℕ) (ss : List (ℕ × Slot K)) (seen t : Backing K) → seen ≡ t
       → is_reentrant seen.kind ≡ false → r ≡ admits (token_limit seen.kind seen.levels.limit) (bag_of_tokens seen.tokens) mode → AreBacked ss t
-      → r ≡ fits_in (register_of t places last ss) party mode
+      → r ≡ admits_ignoring_bar (register_of t places last ss) party mode
   admitted_token r party mode places last ss seen t same n e b =
-      subst (λ u. r ≡ fits_in (register_of u places last ss) party mode) same
+      subst (λ u. r ≡ admits_ignoring_bar (register_of u places last ss) party mode) same
       (admitted_own r party mode places last ss seen n e (subst (λ u. AreBacked ss u) (sym same) b))
 
   -- What room is left
@@ -329,7 +329,7 @@ module _ {K : Type 0} where
   tokens_fit [] = omega arith
   tokens_fit (s ∷ ss) = fit_one s.1.hold s.1.mode (length ss) (tokens_in ss) (tokens_fit ss)
     where
-      fit_one : (h : Hold K) (mode : Mode) (n : ℕ) (us : List (K × Mode)) → length us ≤ n → length (token_in h mode ++ us) ≤ suc n
+      fit_one : (h : GuardHold K) (mode : Mode) (n : ℕ) (us : List (K × Mode)) → length us ≤ n → length (token_in h mode ++ us) ≤ suc n
       fit_one Parked mode n us l = omega arith
       fit_one (Token k) mode n us l = omega arith
       fit_one Level mode n us l = omega arith
@@ -355,19 +355,19 @@ module _ {K : Type 0} where
       ∙ ap (λ w. shown && cond (is_reentrant w) (nat_eq (length (held_of others)) 0) true) (sym k)
       ∙ ap (λ n. shown && cond (is_reentrant new.kind) (nat_eq n 0) true) l
 
-  pub tells_parked : (hold : Hold K) (old : Backing K) → hold ≡ Parked → TellsToken false hold old
+  pub tells_parked : (hold : GuardHold K) (old : Backing K) → hold ≡ Parked → ReturnsToken false hold old
   tells_parked hold old is places last s ss others d e b = sym (rw is refl)
 
-  pub tells_token : (hold : Hold K) (k : K) (old : Backing K) → hold ≡ Token k → TellsToken true hold old
+  pub tells_token : (hold : GuardHold K) (k : K) (old : Backing K) → hold ≡ Token k → ReturnsToken true hold old
   tells_token hold k old is places last s ss others d e b = sym (rw (is, by_nesting (is_reentrant old.kind) b.holders) refl)
     where
       by_nesting : (n : Bool) → AreHeldBy n ss old.levels.owner → n ≡ false
       by_nesting true h = let t = (d.less is_token h.0).0 in let u = ap is_token (e ∙ is) in cc
       by_nesting false h = refl
 
-  pub tells_level : (back : Bool) (hold : Hold K) (old new : Backing K) → hold ≡ Level → KeepsLimits old new
+  pub tells_level : (back : Bool) (hold : GuardHold K) (old new : Backing K) → hold ≡ Level → KeepsLimits old new
       → new.levels.owner ≡ one_level_less old.levels.owner → SameBag new.tokens (token_of_owner new.levels.owner)
-      → back ≡ is_none new.levels.owner → TellsToken back hold old
+      → back ≡ is_none new.levels.owner → ReturnsToken back hold old
   tells_level back hold old new is keeps left p none places last s ss others d e b =
       let nested : is_reentrant old.kind ≡ true = reentrant_of_level s ss others old d (e ∙ is) b in
       let backed = releases_level hold old new is keeps left p s ss others d e b in
@@ -426,7 +426,7 @@ module _ {K : Type 0} where
       → is_held s.hold ≡ true → is_reentrant t.kind ≡ false → AreBacked ss t → (k : K) × (s.hold ≡ Token k)
   shows_token s ss others t d e n b = by_hold s.hold refl e (d.less is_level (of_others ss t n b).0).0
     where
-      by_hold : (h : Hold K) → s.hold ≡ h → is_held h ≡ true → is_level s.hold ≡ false → (k : K) × (s.hold ≡ Token k)
+      by_hold : (h : GuardHold K) → s.hold ≡ h → is_held h ≡ true → is_level s.hold ≡ false → (k : K) × (s.hold ≡ Token k)
       by_hold Parked i e l = cc
       by_hold (Token k) i e l = (k, i)
       by_hold Level i e l = let u = ap is_level i in cc
@@ -539,7 +539,7 @@ module _ {K : Type 0} where
   -- a guard that releases its token is admitted again
   pub fits_in_after_park : (n places last : ℕ) (ss : List (ℕ × Slot K)) (s : Slot K) (t : Backing K) → items.find n ss ≡ Some s
       → is_held s.hold ≡ true → bumps t (id_of s.party) ≡ true → AreBacked ss t
-      → fits_in (with_change (register_of t places last ss) n parked_entry) (id_of s.party) s.mode ≡ true
+      → admits_ignoring_bar (with_change (register_of t places last ss) n parked_entry) (id_of s.party) s.mode ≡ true
   fits_in_after_park n places last ss s t e held may b =
       let levels : is_reentrant t.kind ≡ true → level_of t.levels (id_of s.party) ≡ length (held_of ss)
       = λ nested. held_levels s ss _ t nested (differs_found n ss s e) held b in

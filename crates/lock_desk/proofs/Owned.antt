@@ -7,7 +7,7 @@ use Rattle.std.proofs.lemmas.Bool.{eq-eqb, ne_eqb, eqb-true, eqb-false, lt-ltb}
 use Rattle.lock_base.specs.declared.raw.fault.Fault.{Fault}
 use Rattle.lock_base.specs.Entries.{Entry, all_of_party, some_of_party}
 use Rattle.lock_base.specs.Levels.{Levels, Owner, IsLawful, GainsLevel, level_of}
-use Rattle.lock_desk.specs.Owners.{OwnsLevels, may_enter, HasEntered, one_level_less}
+use Rattle.lock_desk.specs.Owners.{OwnsLevels, may_add_level, HasAddedLevel, one_level_less}
 
 and_left : (a b : Bool) → a && b ≡ true → a ≡ true
 and_left true b h = refl
@@ -80,7 +80,7 @@ module _ {K : Type 0} where
       )
 
   pub owns_more : (limit party : ℕ) (owner new : Option (Owner K)) (xs ys : List Entry) → OwnsLevels owner xs
-      → may_enter limit party owner ≡ true → HasEntered party owner new → length ys ≡ 1 + length xs
+      → may_add_level limit party owner ≡ true → HasAddedLevel party owner new → length ys ≡ 1 + length xs
       → ((p : ℕ) → all_of_party p ys ≡ nat_eq party p && all_of_party p xs) → OwnsLevels new ys
   owns_more limit party None new xs ys h m e l a =
       let first : OwnsLevels (Some (record { party = party; count = 1; token = e.0 })) ys =
@@ -101,10 +101,10 @@ module _ {K : Type 0} where
       rw (eq-eqb o.party q (sym same)) (sym h.1)
 
   -- the owner admits the parties that the held entries admit
-  pub may_enter-held : (limit party : ℕ) (owner : Option (Owner K)) (xs : List Entry) → 0 < limit → OwnsLevels owner xs
-      → may_enter limit party owner ≡ (all_of_party party xs && nat_lt (length xs) limit)
-  may_enter-held limit party None xs l h = sym (rw h (lt-ltb 0 limit l))
-  may_enter-held limit party (Some o) xs l h =
+  pub may_add_level-held : (limit party : ℕ) (owner : Option (Owner K)) (xs : List Entry) → 0 < limit → OwnsLevels owner xs
+      → may_add_level limit party owner ≡ (all_of_party party xs && nat_lt (length xs) limit)
+  may_add_level-held limit party None xs l h = sym (rw h (lt-ltb 0 limit l))
+  may_add_level-held limit party (Some o) xs l h =
       sym (rw (party_of_all o.party party xs (omega (arith, h.0, h.1)) h.2, h.1) refl)
 
   pub levels_of_held : (party : ℕ) (owner : Option (Owner K)) (xs : List Entry) → OwnsLevels owner xs
@@ -134,7 +134,7 @@ module _ {K : Type 0} where
   -- Which party `again` admits
 
   may_by : (limit p : ℕ) (owner : Option (Owner K)) → IsSome owner → IfSome owner (λ o. (0 < o.count) × (o.count ≤ limit))
-      → may_enter limit p owner ≡ (not (nat_eq (count_for p owner) 0) && not (nat_eq (count_for p owner) limit))
+      → may_add_level limit p owner ≡ (not (nat_eq (count_for p owner) 0) && not (nat_eq (count_for p owner) limit))
   may_by limit p None s h = cc
   may_by limit p (Some o) s h = by_party (nat_eq o.party p)
     where
@@ -152,7 +152,7 @@ module _ {K : Type 0} where
   -- an owned lock gives a further level to the parties that the owner admits
   pub again_admits : (l m : Levels K) (p : ℕ) (r : Result Bool Fault) → IsSome l.owner → IsLawful l
       → IsErr r ↔ (level_of l p ≡ l.limit) → IfOk r (λ more. MatchBool more (GainsLevel l m p) ((level_of l p ≡ 0) × (m ≡ l)))
-      → result_unwrap_or r false ≡ may_enter l.limit p l.owner
+      → result_unwrap_or r false ≡ may_add_level l.limit p l.owner
   again_admits l m p r owned lawful full more = by_answer r full more ∙ sym (may_by l.limit p l.owner owned lawful.1)
     where
       last_test : (a b : Bool) → b ≡ true → a && not b ≡ false

@@ -17,14 +17,14 @@ module _ {K : Type 0} where
   token_of_owner (Some o) = (o.token, Exclusive) ∷ []
 
   -- whether the party may have one level more
-  abbrev pub may_enter : ℕ → ℕ → Option (Owner K) → Bool
-  may_enter limit party None = true
-  may_enter limit party (Some o) = (o.party == party) && nat_lt o.count limit
+  abbrev pub may_add_level : ℕ → ℕ → Option (Owner K) → Bool
+  may_add_level limit party None = true
+  may_add_level limit party (Some o) = (o.party == party) && nat_lt o.count limit
 
   -- the party has one level more
-  abbrev pub HasEntered : ℕ → Option (Owner K) → Option (Owner K) → Type 0
-  HasEntered party None new = (token : K) × (new ≡ Some (record { party = party; count = 1; token = token }))
-  HasEntered party (Some o) new = new ≡ Some (record o { count = o.count + 1 })
+  abbrev pub HasAddedLevel : ℕ → Option (Owner K) → Option (Owner K) → Type 0
+  HasAddedLevel party None new = (token : K) × (new ≡ Some (record { party = party; count = 1; token = token }))
+  HasAddedLevel party (Some o) new = new ≡ Some (record o { count = o.count + 1 })
 
   -- the owner with one level less
   abbrev pub one_level_less : Option (Owner K) → Option (Owner K)

@@ -4,7 +4,7 @@ mod calls;
 mod journal;
 mod scenario;
 
-pub use account::Entry;
+pub use account::AccountOp;
 pub use calls::{deposit_under_lock, run_new};
 pub use journal::{audit, audit_lock};
-pub use scenario::{Answers, two_ask};
+pub use scenario::{Answers, two_parties_acquire};

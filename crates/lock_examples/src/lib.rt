@@ -14,6 +14,6 @@ mod spin_lock;
 pub use callers::{Limit, Settings};
 pub use pool::{Lease, Pool};
 pub use queue::Queue;
-pub use registry::{Entry, EntryGuard, Registry, read_twice};
+pub use registry::{EntryGuard, EntryOf, Registry, read_twice};
 pub use ring::Ring;
 pub use spin_lock::{SpinLock, SpinReader, SpinWriter};

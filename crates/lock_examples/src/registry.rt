@@ -11,9 +11,9 @@ use std::collections::HashMap;
 
 /// The projection to the value under a key, for reading.
 #[derive(Clone, Copy)]
-pub struct Entry(pub u64);
+pub struct EntryOf(pub u64);
 
-impl<V> TryView<HashMap<u64, V>> for Entry {
+impl<V> TryView<HashMap<u64, V>> for EntryOf {
     type Part = V;
 
     type Miss = u64;
@@ -35,7 +35,7 @@ impl<V> TryView<HashMap<u64, V>> for Entry {
 }
 
 /// A guard of one entry of a registry. While it is held, nothing is added.
-pub type EntryGuard<'a, R, V> = MappedRwLockReadGuard<'a, R, HashMap<u64, V>, Entry>;
+pub type EntryGuard<'a, R, V> = MappedRwLockReadGuard<'a, R, HashMap<u64, V>, EntryOf>;
 
 /// Values under keys, which many threads may read at a time.
 #[derive(Drop)]
@@ -63,7 +63,7 @@ impl<R: RawRwLock, V> Registry<R, V> {
     pub fn look(&self, key: u64) -> Result<EntryGuard<'_, R, V>, u64>
         ensures { IfErr result (λ missed. missed ≡ key) }
     {
-        match RwLockReadGuard::try_map_or_err(self.values.read(), Entry(key)) {
+        match RwLockReadGuard::try_map_or_err(self.values.read(), EntryOf(key)) {
             Ok(entry) => Ok(entry),
             Err((_, missed)) => Err(missed),
         }

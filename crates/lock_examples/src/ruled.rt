@@ -3,6 +3,6 @@ mod bank;
 mod counter;
 mod queue;
 
-pub use bank::{Accounts, SumStays, Way, shuffle};
+pub use bank::{Accounts, Direction, SumStays, shuffle};
 pub use counter::{AddedUp, AddsOne, Counter, Sums, count, try_add};
 pub use queue::{InOrder, Log, Role, relay};

@@ -27,14 +27,14 @@ impl<'a, R: RawMutex, T> Acquire for BorrowedMutex<'a, R, T> {
         self.mutex.raw.lock()
     }
 
-    fn try_show(&self) -> Option<sync::MutexGuard<'a, T>> {
+    fn try_lock_value(&self) -> Option<sync::MutexGuard<'a, T>> {
         self.mutex.value.try_lock()
     }
 
     /// Kept off the uncontended path.
     #[cold]
     #[inline(never)]
-    fn wait_to_show(&self) -> sync::MutexGuard<'a, T> {
+    fn block_on_value(&self) -> sync::MutexGuard<'a, T> {
         self.mutex.value.lock(self.mutex.raw.waiter())
     }
 }

@@ -2,7 +2,7 @@ ghost use Rattle.std.specs.Prelude.{◌≡◌, false, IsOkUnless};
 ghost use Rattle.std.specs.Sync.Mutex.{mutex_guard_value};
 ghost use Rattle.lock_mutex.specs.WaitsWhile.{WaitsWhile, has_timed_out};
 
-use crate::sleep::{Sleep, UntilInstant, UntilNotified, trade};
+use crate::sleep::{Sleep, UntilInstant, UntilNotified, swap_token};
 use crate::waiting::sleep_while;
 use crate::{MutexGuard, WaitTimeoutResult};
 use lock_base::raw::Fault;
@@ -113,7 +113,7 @@ where
         ensures { (held_of guard.new).lock ≡ (held_of guard.old).lock }
     {
         let mutex = guard.held.lock.mutex;
-        let timed_out = trade(&mut guard.held, |token| {
+        let timed_out = swap_token(&mut guard.held, |token| {
             self.raw.wait_for(&mutex.raw, token, &timeout)
         });
         WaitTimeoutResult { timed_out }

@@ -28,11 +28,11 @@ impl<R: RawMutex + Drop, T: Drop> Acquire for OwnedMutex<R, T> {
         self.mutex.raw.lock()
     }
 
-    fn try_show(&self) -> Option<()> {
+    fn try_lock_value(&self) -> Option<()> {
         Some(())
     }
 
-    fn wait_to_show(&self) {}
+    fn block_on_value(&self) {}
 }
 
 impl<R: RawMutexFair + Drop, T: Drop> AcquireFair for OwnedMutex<R, T> {

@@ -17,12 +17,15 @@ pub trait Sleep<L: Acquire>: Drop {
 }
 
 /// Releases the value's lock, lets `wait` consume the token for another one, and locks the value's lock again.
-pub fn trade<L: Acquire, U, F: FnOnce(L::Token) -> (L::Token, U)>(held: &mut Held<L>, wait: F) -> U
+pub fn swap_token<L: Acquire, U, F: FnOnce(L::Token) -> (L::Token, U)>(
+    held: &mut Held<L>,
+    wait: F,
+) -> U
     requires { F.IsAlwaysCallable wait }
     ensures { held.new.lock ≡ held.old.lock }
 {
     let (next, answer) = wait(held.inner.empty());
-    held.inner.fill(next, held.lock.show());
+    held.inner.fill(next, held.lock.lock_value());
     answer
 }
 
@@ -42,7 +45,7 @@ impl<'a, C: RawCondvar, T> Sleep<BorrowedMutex<'a, C::RawMutex, T>> for UntilNot
 
     fn sleep(&self, held: &mut Held<BorrowedMutex<'a, C::RawMutex, T>>) -> bool {
         let mutex = held.lock.mutex;
-        trade(held, |token| (self.raw.wait(&mutex.raw, token), ()));
+        swap_token(held, |token| (self.raw.wait(&mutex.raw, token), ()));
         false
     }
 }
@@ -71,7 +74,7 @@ where
 
     fn sleep(&self, held: &mut Held<BorrowedMutex<'a, C::RawMutex, T>>) -> bool {
         let mutex = held.lock.mutex;
-        trade(held, |token| {
+        swap_token(held, |token| {
             self.raw.wait_until(&mutex.raw, token, &self.deadline)
         })
     }

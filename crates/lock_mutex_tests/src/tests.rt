@@ -9,16 +9,16 @@ mod parts;
 mod queue;
 mod raw_calls;
 mod remutex;
-mod rows;
+mod scenarios;
 mod texts;
 mod threads;
 
-use crate::tests::condvar::asked::AskedCondvar;
+use crate::tests::condvar::mock::MockCondvar;
 use lock_guard::raw::{RawMutex, RawMutexFair, RawMutexTimed};
 use lock_mutex::{Condvar, Mutex};
 use lock_raws::{LockCore, Monitor, RawLock, TableArbiter};
 use lock_raws_word::{NoTime, WordCore};
-use lock_test_support::raw_lock::{AskedRaw, Watch};
+use lock_test_support::raw_lock::{MockRaw, Watch};
 use std::alloc::Global;
 use std::sync::Arc;
 use std::test::Fail;
@@ -46,7 +46,7 @@ fn answers<R: RawMutexFair + RawMutexTimed<Duration = (), Instant = ()> + Drop>(
 
 /// The raw calls of borrowed guards, and of the end of a mutex.
 fn calls_by_a_borrow<R: RawMutexFair + Drop>(alloc: Global, waiter: R::Waiter) -> Result<(), Fail> {
-    let raw: AskedRaw<R> = RawMutex::new(alloc, waiter)?;
+    let raw: MockRaw<R> = RawMutex::new(alloc, waiter)?;
     let mut watch = Watch::new(raw.calls()?);
     let mut mutex = Mutex::from_raw(raw, ((0, 0), 0))?;
     raw_calls::all_calls(alloc, &mutex, &mut watch)?;
@@ -59,7 +59,7 @@ fn calls_by_a_borrow<R: RawMutexFair + Drop>(alloc: Global, waiter: R::Waiter) -
 
 /// The raw calls of `Arc` guards, and of the last reference's end.
 fn calls_by_an_arc<R: RawMutexFair + Drop>(alloc: Global, waiter: R::Waiter) -> Result<(), Fail> {
-    let raw: AskedRaw<R> = RawMutex::new(alloc, waiter)?;
+    let raw: MockRaw<R> = RawMutex::new(alloc, waiter)?;
     let mut watch = Watch::new(raw.calls()?);
     let mutex = Arc::new(alloc, Mutex::from_raw(raw, 5)?)?;
     texts::check(alloc, &mutex)?;
@@ -75,9 +75,9 @@ fn calls_by_a_condvar<R: RawMutexFair + Drop>(
     alloc: Global,
     waiter: R::Waiter,
 ) -> Result<(), Fail> {
-    let raw: AskedRaw<R> = RawMutex::new(alloc, waiter)?;
+    let raw: MockRaw<R> = RawMutex::new(alloc, waiter)?;
     let mut watch = Watch::new(raw.calls()?);
-    let condvar: Condvar<AskedCondvar<AskedRaw<R>>> = Condvar::new(alloc)?;
+    let condvar: Condvar<MockCondvar<MockRaw<R>>> = Condvar::new(alloc)?;
     condvar::check_calls(&condvar, &Mutex::from_raw(raw, 0)?, &mut watch)?;
     watch.verdict()
 }

@@ -58,11 +58,11 @@ impl<A: Arbiter, W: Wait + Clone + Drop> Monitor<A, W> {
     }
 
     /// Downgrades a token.
-    fn lower(&self, token: A::Token, from: Mode, to: Mode) -> A::Token
+    fn downgrade_to(&self, token: A::Token, from: Mode, to: Mode) -> A::Token
         requires { IsTrue (is_move from to) }
     {
         let mut arbiter = self.arbiter();
-        let (token, woken) = unblocking::lower(&mut *arbiter, token, from, to);
+        let (token, woken) = unblocking::downgrade_to(&mut *arbiter, token, from, to);
         drop(arbiter);
         self.wake(woken);
         token
@@ -170,15 +170,15 @@ impl<A: Arbiter, W: Wait + Clone + Drop> LockCore for Monitor<A, W> {
     }
 
     fn downgrade(&self, token: A::Token) -> A::Token {
-        self.lower(token, Mode::Exclusive, Mode::Shared)
+        self.downgrade_to(token, Mode::Exclusive, Mode::Shared)
     }
 
     fn downgrade_to_upgradable(&self, token: A::Token) -> A::Token {
-        self.lower(token, Mode::Exclusive, Mode::Upgradable)
+        self.downgrade_to(token, Mode::Exclusive, Mode::Upgradable)
     }
 
     fn downgrade_upgradable(&self, token: A::Token) -> A::Token {
-        self.lower(token, Mode::Upgradable, Mode::Shared)
+        self.downgrade_to(token, Mode::Upgradable, Mode::Shared)
     }
 
     fn instant_after(&self, _timeout: ()) -> Option<()> {

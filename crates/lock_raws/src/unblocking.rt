@@ -19,11 +19,11 @@ pub(crate) fn give_back<A: Arbiter>(arbiter: &mut A, token: A::Token, mode: Mode
         return Wake::Nobody;
     }
     let after = before.after(ModeStep::Release(mode));
-    whom(arbiter, before, after)
+    decide(arbiter, before, after)
 }
 
 /// Downgrades a token, or returns it unchanged if it is not held. Returns which waiters to wake too.
-pub(crate) fn lower<A: Arbiter>(
+pub(crate) fn downgrade_to<A: Arbiter>(
     arbiter: &mut A,
     token: A::Token,
     from: Mode,
@@ -37,14 +37,14 @@ pub(crate) fn lower<A: Arbiter>(
     match arbiter.change(token, from, to) {
         Ok(next) => {
             let after = before.after(ModeStep::Change(from, to));
-            (next, whom(arbiter, before, after))
+            (next, decide(arbiter, before, after))
         }
         Err(same) => (same.token, Wake::Nobody),
     }
 }
 
 /// Decides which waiters a step between two bags wakes.
-fn whom<A: Arbiter>(arbiter: &A, before: Bag, after: Bag) -> Wake
+fn decide<A: Arbiter>(arbiter: &A, before: Bag, after: Bag) -> Wake
     requires before_small { tokens before < 2 ^ 64 }
     requires after_small { tokens after < 2 ^ 64 }
     ensures { result ≡ wakes (A.reader_limit arbiter.now) (A.bar arbiter.now) before after }
@@ -55,5 +55,5 @@ fn whom<A: Arbiter>(arbiter: &A, before: Bag, after: Bag) -> Wake
         barred,
     };
     let after = Occupancy { bag: after, barred };
-    Wake::whom(arbiter.readers(), before, after)
+    Wake::decide(arbiter.readers(), before, after)
 }

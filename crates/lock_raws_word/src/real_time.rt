@@ -30,12 +30,12 @@ impl<W: Wait + Clock> Timing<W> for RealTime {
     /// It tries after each sleep before it looks at the clock, so that a notification to a thread whose time is up is
     /// not lost.
     fn wait_until(lock: &WordLock, waiter: &W, want: ExWant, deadline: Instant) -> bool {
-        if lock.try_for(want) || lock.try_again(want) {
+        if lock.try_once(want) || lock.try_with_backoff(want) {
             return true;
         }
         for _ in waiter.forever() {
             let announced = lock.sleepers().announce();
-            if lock.insist_on(waiter, want) {
+            if lock.acquire_until_refused(waiter, want) {
                 lock.sleepers().leave();
                 return true;
             }

@@ -39,7 +39,7 @@ impl<W: Wait> Timing<W> for NoTime {
     }
 
     fn wait_until(lock: &WordLock, _waiter: &W, want: ExWant, _deadline: ()) -> bool {
-        lock.try_for(want)
+        lock.try_once(want)
     }
 }
 

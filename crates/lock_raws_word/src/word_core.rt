@@ -73,17 +73,17 @@ impl<W: Wait + Clone + Drop, T: Timing<W>> LockCore for WordCore<W, T> {
     }
 
     fn acquire(&self, mode: Mode) -> WordToken {
-        self.lock.wait_for(&self.waiter, ExWant::of_mode(mode));
+        self.lock.block_on(&self.waiter, ExWant::of_mode(mode));
         WordToken { made: () }
     }
 
     fn acquire_announced(&self) -> WordToken {
-        self.lock.wait_announced(&self.waiter);
+        self.lock.block_announced(&self.waiter);
         WordToken { made: () }
     }
 
     fn try_acquire(&self, mode: Mode) -> Option<WordToken> {
-        token_if(self.lock.try_for(ExWant::of_mode(mode)))
+        token_if(self.lock.try_once(ExWant::of_mode(mode)))
     }
 
     fn try_acquire_until(&self, mode: Mode, deadline: T::Instant) -> Option<WordToken> {
@@ -91,16 +91,16 @@ impl<W: Wait + Clone + Drop, T: Timing<W>> LockCore for WordCore<W, T> {
     }
 
     fn release(&self, _token: WordToken, mode: Mode) {
-        self.lock.give_up(Down::of_mode(mode));
+        self.lock.release(Down::of_mode(mode));
     }
 
     fn upgrade(&self, token: WordToken) -> WordToken {
-        self.lock.wait_for(&self.waiter, ExWant::Upgrade);
+        self.lock.block_on(&self.waiter, ExWant::Upgrade);
         token
     }
 
     fn try_upgrade(&self, token: WordToken) -> Result<WordToken, WordToken> {
-        upgraded_if(self.lock.try_for(ExWant::Upgrade), token)
+        upgraded_if(self.lock.try_once(ExWant::Upgrade), token)
     }
 
     fn try_upgrade_until(
@@ -115,17 +115,17 @@ impl<W: Wait + Clone + Drop, T: Timing<W>> LockCore for WordCore<W, T> {
     }
 
     fn downgrade(&self, token: WordToken) -> WordToken {
-        self.lock.give_up(Down::ToShared);
+        self.lock.release(Down::ToShared);
         token
     }
 
     fn downgrade_to_upgradable(&self, token: WordToken) -> WordToken {
-        self.lock.give_up(Down::ToUpgradable);
+        self.lock.release(Down::ToUpgradable);
         token
     }
 
     fn downgrade_upgradable(&self, token: WordToken) -> WordToken {
-        self.lock.give_up(Down::UpgradableToShared);
+        self.lock.release(Down::UpgradableToShared);
         token
     }
 

@@ -2,7 +2,7 @@
 ghost use Rattle.std.specs.Prelude.{◌≡◌};
 ghost use Rattle.lock_base.specs.Limits.{IsLimit};
 ghost use Rattle.lock_word.specs.Unblocking.{occupancy_of_word};
-ghost use Rattle.lock_raws.specs.Waking.{whom_to_wake};
+ghost use Rattle.lock_raws.specs.Waking.{wake_decision};
 
 use crate::sleepers::Sleepers;
 use crossbeam_utils::Backoff;
@@ -55,7 +55,7 @@ impl WordLock {
 
     /// Tries once: one load, and at most one exchange. Answers false if the word refuses, and if the exchange lost a
     /// race.
-    pub fn try_for(&self, want: ExWant) -> bool {
+    pub fn try_once(&self, want: ExWant) -> bool {
         let word = self.word.load(Ordering::SeqCst);
         match want.exchanged(false, self.readers, word) {
             Some(next) => self.exchange(word, next),
@@ -64,11 +64,11 @@ impl WordLock {
     }
 
     /// Tries a few times, with growing pauses.
-    pub fn try_again(&self, want: ExWant) -> bool {
+    pub fn try_with_backoff(&self, want: ExWant) -> bool {
         let backoff = Backoff::new();
         for _ in 0..TRIES {
             backoff.snooze();
-            if self.try_for(want) {
+            if self.try_once(want) {
                 return true;
             }
         }
@@ -77,12 +77,12 @@ impl WordLock {
 
     /// Tries until it acquires, or a loaded word refuses. After a lost exchange it tries again: the step that won need
     /// not wake any thread, so the caller must not sleep.
-    pub fn insist_on<W: Wait>(&self, waiter: &W, want: ExWant) -> bool {
-        self.insist(waiter, false, want)
+    pub fn acquire_until_refused<W: Wait>(&self, waiter: &W, want: ExWant) -> bool {
+        self.exchange_until_refused(waiter, false, want)
     }
 
     /// Releases or downgrades by one subtraction, and wakes the waiters that it admits.
-    pub fn give_up(&self, down: Down) {
+    pub fn release(&self, down: Down) {
         let less = down.amount();
         let before = self.word.fetch_sub(less, Ordering::SeqCst);
         if self.freed.any() {
@@ -93,7 +93,7 @@ impl WordLock {
     #[cold]
     #[inline(never)]
     fn wake(&self, before: u64, less: u64) {
-        match whom(self.readers, before, before.wrapping_sub(less)) {
+        match decide(self.readers, before, before.wrapping_sub(less)) {
             Wake::Nobody => {}
             Wake::One => self.freed.notify_one(),
             Wake::All => self.freed.notify_all(),
@@ -107,7 +107,7 @@ impl WordLock {
     }
 
     /// `acquire_until_refused`, for a party that has announced itself, or has not.
-    fn insist<W: Wait>(&self, waiter: &W, announced: bool, want: ExWant) -> bool {
+    fn exchange_until_refused<W: Wait>(&self, waiter: &W, announced: bool, want: ExWant) -> bool {
         for _ in waiter.forever() {
             let word = self.word.load(Ordering::SeqCst);
             match want.exchanged(announced, self.readers, word) {
@@ -121,27 +121,27 @@ impl WordLock {
 
     /// Acquires exclusively. If the word refuses, the caller announces itself, unless the bar is set, and tries again:
     /// an earlier release saw no bar, and may have woken a waiter that the bar keeps out.
-    fn insist_or_announce<W: Wait>(&self, waiter: &W, announced: &mut bool) -> bool {
-        if self.insist(waiter, *announced, ExWant::Exclusive) {
+    fn acquire_or_announce<W: Wait>(&self, waiter: &W, announced: &mut bool) -> bool {
+        if self.exchange_until_refused(waiter, *announced, ExWant::Exclusive) {
             return true;
         }
-        if *announced || !self.insist(waiter, false, ExWant::Announce) {
+        if *announced || !self.exchange_until_refused(waiter, false, ExWant::Announce) {
             return false;
         }
         *announced = true;
-        self.insist(waiter, true, ExWant::Exclusive)
+        self.exchange_until_refused(waiter, true, ExWant::Exclusive)
     }
 
     /// Blocks until the word admits `want`: tries again, and then sleeps between tries. Kept off the uncontended path.
     #[cold]
     #[inline(never)]
-    pub fn wait_for<W: Wait>(&self, waiter: &W, want: ExWant) {
-        if self.try_again(want) {
+    pub fn block_on<W: Wait>(&self, waiter: &W, want: ExWant) {
+        if self.try_with_backoff(want) {
             return;
         }
         for _ in waiter.forever() {
             let announced = self.freed.announce();
-            if self.insist_on(waiter, want) {
+            if self.acquire_until_refused(waiter, want) {
                 self.freed.leave();
                 return;
             }
@@ -154,14 +154,14 @@ impl WordLock {
     /// which refuses later threads. Acquiring clears its bar.
     #[cold]
     #[inline(never)]
-    pub fn wait_announced<W: Wait>(&self, waiter: &W) {
-        if self.try_again(ExWant::Exclusive) {
+    pub fn block_announced<W: Wait>(&self, waiter: &W) {
+        if self.try_with_backoff(ExWant::Exclusive) {
             return;
         }
         let mut is_barring = false;
         for _ in waiter.forever() {
             let announced = self.freed.announce();
-            if self.insist_or_announce(waiter, &mut is_barring) {
+            if self.acquire_or_announce(waiter, &mut is_barring) {
                 self.freed.leave();
                 return;
             }
@@ -172,9 +172,9 @@ impl WordLock {
 }
 
 /// Decides which waiters a step between two words wakes.
-fn whom(readers: u64, before: u64, after: u64) -> Wake
-    ensures { result ≡ whom_to_wake readers (occupancy_of_word before) (occupancy_of_word after) }
+fn decide(readers: u64, before: u64, after: u64) -> Wake
+    ensures { result ≡ wake_decision readers (occupancy_of_word before) (occupancy_of_word after) }
 {
     let (before, after) = (Occupancy::of_word(before), Occupancy::of_word(after));
-    Wake::whom(readers, before, after)
+    Wake::decide(readers, before, after)
 }

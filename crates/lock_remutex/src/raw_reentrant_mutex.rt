@@ -196,7 +196,7 @@ where
         if let Some(token) = self.leave_sole(party)? {
             let next = self.raw.bump(token);
             if !self.first(party, next) {
-                self.lock_in_the_end(party);
+                self.lock_retrying(party);
             }
         }
         Ok(())
@@ -210,7 +210,7 @@ where
     }
 
     /// `lock`, which tries again also where the party has all its levels.
-    fn lock_in_the_end(&self, party: PartyId) {
+    fn lock_retrying(&self, party: PartyId) {
         for _ in self.raw.waiter().forever() {
             if self.lock(party).is_ok() {
                 return;

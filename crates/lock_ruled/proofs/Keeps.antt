@@ -16,7 +16,7 @@ use Rattle.lock_ruled.specs.declared.rule.UserView.{UserView}
 use Rattle.lock_ruled.specs.Ruled.{all_parts, Meets, Keeps}
 use Rattle.lock_ruled.specs.Ruled as asked
 use Rattle.lock_ruled.specs.Slots.{Fits, IsAway, IsHolding, IsOut, IsRuled, taken_value, known_if, known_views, opener, one_fewer, one_part, both_of, spent_view}
-use Rattle.lock_ruled.specs.Plays.{Self, HasTaken, Carries, IsIdle, Takes, Gives, Begins}
+use Rattle.lock_ruled.specs.Plays.{Self, HasAcquired, Carries, IsIdle, AcquiresValue, ReleasesValue, OpensMutex}
 use Rattle.lock_ruled.proofs.Views.{known_of, known_one, known_append, parts_append, around, both_around, two_parts, alone, set_at}
 
 abbrev Homes : Type 0 → Type 0
@@ -53,12 +53,12 @@ not_away st free away = subst IsAway free away
 
 module _ {T V : Type 0} (rule : T → List V → Type 0) (me after : Self T V) where
   -- a user that acquired a value holds it
-  pub has_out : IsIdle me → (took : HasTaken rule me after) → Carries after took.0 took.0
+  pub has_out : IsIdle me → (took : HasAcquired rule me after) → Carries after took.0 took.0
   has_out idle took =
       (ap (λ (m : Self T V). m.0.stage) took.1, ap (λ (m : Self T V). m.1) took.1 ∙ ap (λ (c : List (ℕ × std.Option T)). (0, Some took.0) ∷ c) idle.0)
 
   -- and the rule holds of it, with the view that contracts see
-  pub has_met : (took : HasTaken rule me after) (taken : T) (view : V) → taken ≡ took.0 → me.0.own ≡ view → Meets rule taken view
+  pub has_met : (took : HasAcquired rule me after) (taken : T) (view : V) → taken ≡ took.0 → me.0.own ≡ view → Meets rule taken view
   has_met took taken view same is = subst (λ (z : T × V). Meets rule z.0 z.1) (λ i. (sym same i, is i)) took.2
 
 -- a guard's value, put into its slot
@@ -104,7 +104,7 @@ module _ {T V : Type 0} (rule : T → List V → Type 0) where
       × then (slice_index s.words 0) (w, carried_after me.1 a)
 
   pub takes_value : (slots id : ℕ) (me : Self T V) (f : ℕ → ℕ) → ((n : ℕ) → f n ≢ 0) → me.0.stage ≡ Free → 0 < me.0.parts
-      → Allows (IsRuled rule) slots id me 0 f (Takes rule me)
+      → Allows (IsRuled rule) slots id me 0 f (AcquiresValue rule me)
   takes_value slots id me f away free some_part s r same at small =
       let word = slice_index s.words 0 in
       let about = around s.views id me.0 at in
@@ -142,7 +142,7 @@ module _ {T V : Type 0} (rule : T → List V → Type 0) where
 
   pub gives_value : (slots id : ℕ) (me : Self T V) (next : T → V → T → V) (taken value : T) → Carries me taken value
       → 0 < me.0.parts → Keeps rule taken me.0.own value (next taken me.0.own value)
-      → Allows (IsRuled rule) slots id me 0 (λ n. 0) (Gives next me)
+      → Allows (IsRuled rule) slots id me 0 (λ n. 0) (ReleasesValue next me)
   gives_value slots id me next taken value out some_part turn s r same at small =
       let holds = out.0 in
       let carries = out.1 in
@@ -176,7 +176,7 @@ module _ {T V : Type 0} (rule : T → List V → Type 0) where
       )
 
   pub begins : (slots id : ℕ) (me : Self T V) (first : T) → me.0.stage ≡ Opens first → 0 < me.0.parts
-      → Allows (IsRuled rule) slots id me 0 (λ n. 1) (λ n. Begins me 1)
+      → Allows (IsRuled rule) slots id me 0 (λ n. 1) (λ n. OpensMutex me 1)
   begins slots id me first opens some_part s r same at small =
       let word = slice_index s.words 0 in
       let about = around s.views id me.0 at in

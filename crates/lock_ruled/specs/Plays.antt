@@ -12,17 +12,17 @@ Self T V = Me (std.Option T) (UserView T V)
 
 module _ {T V : Type 0} where
   -- the user acquired the value
-  abbrev pub after_taking : Self T V → T → Self T V
-  after_taking me value = (record me.0 { stage = Holds value }, (0, Some value) ∷ me.1)
+  abbrev pub after_acquiring : Self T V → T → Self T V
+  after_acquiring me value = (record me.0 { stage = Holds value }, (0, Some value) ∷ me.1)
 
   -- the user acquired some value, of which the rule holds with the user's view
-  abbrev pub HasTaken : (T → List V → Type 0) → Self T V → Self T V → Type 0
-  HasTaken rule me after = (value : T) × (after ≡ after_taking me value) × Meets rule value me.0.own
+  abbrev pub HasAcquired : (T → List V → Type 0) → Self T V → Self T V → Type 0
+  HasAcquired rule me after = (value : T) × (after ≡ after_acquiring me value) × Meets rule value me.0.own
 
   -- a step that finds the mutex free acquires it, and otherwise does nothing
-  abbrev pub Takes : (T → List V → Type 0) → Self T V → ℕ → Self T V → Type 0
-  Takes rule me found after =
-      (found ≡ 0 → HasTaken rule me after) × (found ≢ 0 → after ≡ me)
+  abbrev pub AcquiresValue : (T → List V → Type 0) → Self T V → ℕ → Self T V → Type 0
+  AcquiresValue rule me found after =
+      (found ≡ 0 → HasAcquired rule me after) × (found ≢ 0 → after ≡ me)
 
   -- the user acquired the first value, and the slot that it holds has the second
   abbrev pub Carries : Self T V → T → T → Type 0
@@ -33,14 +33,14 @@ module _ {T V : Type 0} where
   IsIdle me = (me.1 ≡ []) × (me.0.stage ≡ Free) × (0 < me.0.parts)
 
   -- the user released this value, and its view is updated
-  abbrev pub after_giving : (T → V → T → V) → Self T V → T → T → Self T V
-  after_giving next me taken value = (record me.0 { own = next taken me.0.own value; stage = Free }, [])
+  abbrev pub after_releasing : (T → V → T → V) → Self T V → T → T → Self T V
+  after_releasing next me taken value = (record me.0 { own = next taken me.0.own value; stage = Free }, [])
 
-  abbrev pub Gives : (T → V → T → V) → Self T V → ℕ → Self T V → Type 0
-  Gives next me found after =
-      (taken value : T) → Carries me taken value → after ≡ after_giving next me taken value
+  abbrev pub ReleasesValue : (T → V → T → V) → Self T V → ℕ → Self T V → Type 0
+  ReleasesValue next me found after =
+      (taken value : T) → Carries me taken value → after ≡ after_releasing next me taken value
 
   -- the maker of the mutex holds the empty slot, as if it had acquired the first value from it
-  abbrev pub Begins : Self T V → ℕ → Self T V → Type 0
-  Begins me found after =
+  abbrev pub OpensMutex : Self T V → ℕ → Self T V → Type 0
+  OpensMutex me found after =
       (value : T) → me.0.stage ≡ Opens value → after ≡ (record me.0 { stage = Holds value }, (0, None) ∷ me.1)

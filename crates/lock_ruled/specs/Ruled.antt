@@ -3,14 +3,14 @@ use Rattle.std.specs.Prelude.{ℕ, ◌^◌, List, [], ◌∷◌, ◌++◌}
 use Rattle.atomic_table.specs.Seated.{TableId}
 
 -- a user: its mutex, the number of its parts, and its view
-pub record Knower (V : Type 0) : Type 0 where
+pub record UserState (V : Type 0) : Type 0 where
   pub mutex : TableId
   pub parts : ℕ
   pub view : V
 
 -- a guard: the user that holds it, the value as it was acquired, and the value now
 pub record Taken (T V : Type 0) : Type 0 where
-  pub user : Knower V
+  pub user : UserState V
   pub taken : T
   pub value : T
 
@@ -18,7 +18,7 @@ pub record Taken (T V : Type 0) : Type 0 where
 abbrev pub all_parts : ℕ
 all_parts = 2 ^ 32
 
-abbrev pub first_user : {V : Type 0} → TableId → V → Knower V
+abbrev pub first_user : {V : Type 0} → TableId → V → UserState V
 first_user mutex view = record { mutex = mutex; parts = all_parts; view = view }
 
 module _ {T V : Type 0} (rule : T → List V → Type 0) where

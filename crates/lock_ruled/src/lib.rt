@@ -13,5 +13,5 @@ pub use atomic_table::{Join, Split};
 pub use guard::RuledGuard;
 pub use laws::every_state_is_ruled;
 pub use mutex::RuledMutex;
-pub use rule::{MutexRule, SlotRule, Turn, UserStage, UserView};
+pub use rule::{MutexRule, SlotRule, UserStage, UserView, ViewUpdate};
 pub use user::User;

@@ -2,11 +2,11 @@
 ghost use Rattle.std.specs.Prelude.{◌≡◌, ◌-◌, ◌+◌, ◌<◌, [], ◌∷◌, ℕ, true, false, IfOk, IfErr};
 ghost use Rattle.lock_base.specs.declared.raw.fault.Fault.TheVariants as fault;
 ghost use Rattle.lock_ruled.specs.Ruled.{all_parts, first_user, Meets, Keeps, Splits, Joins};
-ghost use Rattle.lock_ruled.specs.Plays.{HasTaken, Carries, IsIdle};
+ghost use Rattle.lock_ruled.specs.Plays.{HasAcquired, Carries, IsIdle};
 
 use crate::guard::RuledGuard;
-use crate::plays::{Cut, Give, Open, Pair, Stay, Take};
-use crate::rule::{MutexRule, SlotRule, Turn, UserView};
+use crate::plays::{JoinParts, Open, SplitParts, Stay, TryLock, Unlock};
+use crate::rule::{MutexRule, SlotRule, UserView, ViewUpdate};
 use crate::user::User;
 use atomic_table::{Join, Seat, Split, Table};
 use crossbeam_utils::Backoff;
@@ -70,7 +70,7 @@ impl<T: Drop, V, P: MutexRule<T, V>> RuledMutex<T, V, P> {
         ensures second { result.1 ≡ record { mutex = self.now; parts = 1; view = M.right user.view } }
     {
         let mut seat = user.seat;
-        let other = self.table.shared.split_seat::<Cut<M>>(&mut seat);
+        let other = self.table.shared.split_seat::<SplitParts<M>>(&mut seat);
         (User { seat }, User { seat: other })
     }
 
@@ -83,7 +83,7 @@ impl<T: Drop, V, P: MutexRule<T, V>> RuledMutex<T, V, P> {
         let mut seat = user.seat;
         self.table
             .shared
-            .join_seat::<Pair<M>>(&mut seat, other.seat);
+            .join_seat::<JoinParts<M>>(&mut seat, other.seat);
         User { seat }
     }
 
@@ -95,7 +95,7 @@ impl<T: Drop, V, P: MutexRule<T, V>> RuledMutex<T, V, P> {
         ensures rule { Meets P.rule result.taken user.view }
     {
         let mut seat = user.seat;
-        self.take(rt, &mut seat);
+        self.acquire(rt, &mut seat);
         self.guard_of(seat)
     }
 
@@ -108,7 +108,7 @@ impl<T: Drop, V, P: MutexRule<T, V>> RuledMutex<T, V, P> {
         ensures refused { IfErr result (λ same. same ≡ user) }
     {
         let mut seat = user.seat;
-        if self.try_take(&mut seat) {
+        if self.try_acquire(&mut seat) {
             Ok(self.guard_of(seat))
         } else {
             Err(User { seat })
@@ -116,7 +116,7 @@ impl<T: Drop, V, P: MutexRule<T, V>> RuledMutex<T, V, P> {
     }
 
     /// Releases the mutex. The caller proves that the rule holds of the new value and the view that `M` gives the user.
-    pub fn unlock<M: Turn<T, V>>(&self, guard: RuledGuard<T, V>) -> User<T, V>
+    pub fn unlock<M: ViewUpdate<T, V>>(&self, guard: RuledGuard<T, V>) -> User<T, V>
         requires mutex { guard.user.mutex ≡ self.now }
         requires rule { Keeps P.rule guard.taken guard.user.view guard.value
             (M.next guard.taken guard.user.view guard.value) }
@@ -127,7 +127,7 @@ impl<T: Drop, V, P: MutexRule<T, V>> RuledMutex<T, V, P> {
             None => {}
             Some(_) => unreachable!(),
         }
-        if self.table.shared.swap::<Give<M>>(&mut seat, 0, FREE) == AWAITED {
+        if self.table.shared.swap::<Unlock<M>>(&mut seat, 0, FREE) == AWAITED {
             self.table.shared.wake_one(0);
         }
         User { seat }
@@ -163,43 +163,43 @@ impl<T: Drop, V, P: MutexRule<T, V>> RuledMutex<T, V, P> {
     }
 
     /// Tries, and then sleeps between tries.
-    fn take<R: Wait>(&self, rt: &R, seat: &mut Seat<Option<T>, UserView<T, V>>)
+    fn acquire<R: Wait>(&self, rt: &R, seat: &mut Seat<Option<T>, UserView<T, V>>)
         requires mutex { seat.old.table_id ≡ self.now }
         requires idle { IsIdle seat.old.me }
         ensures seat { seat.new.table_id ≡ seat.old.table_id }
-        ensures taken { HasTaken P.rule seat.old.me seat.new.me }
+        ensures taken { HasAcquired P.rule seat.old.me seat.new.me }
     {
-        if !self.try_take(seat) && !self.try_again(seat) {
-            self.sleep_for(rt, seat);
+        if !self.try_acquire(seat) && !self.try_with_backoff(seat) {
+            self.block(rt, seat);
         }
     }
 
     /// Tries to acquire, by one exchange.
-    fn try_take(&self, seat: &mut Seat<Option<T>, UserView<T, V>>) -> bool
+    fn try_acquire(&self, seat: &mut Seat<Option<T>, UserView<T, V>>) -> bool
         requires mutex { seat.old.table_id ≡ self.now }
         requires idle { IsIdle seat.old.me }
         ensures seat { seat.new.table_id ≡ seat.old.table_id }
-        ensures taken { result ≡ true → HasTaken P.rule seat.old.me seat.new.me }
+        ensures taken { result ≡ true → HasAcquired P.rule seat.old.me seat.new.me }
         ensures refused { result ≡ false → seat.new.me ≡ seat.old.me }
     {
         self.table
             .shared
-            .compare_exchange::<Take<P>>(seat, 0, FREE, TAKEN)
+            .compare_exchange::<TryLock<P>>(seat, 0, FREE, TAKEN)
             == FREE
     }
 
     /// Tries a few times, with growing pauses.
-    fn try_again(&self, seat: &mut Seat<Option<T>, UserView<T, V>>) -> bool
+    fn try_with_backoff(&self, seat: &mut Seat<Option<T>, UserView<T, V>>) -> bool
         requires mutex { seat.old.table_id ≡ self.now }
         requires idle { IsIdle seat.old.me }
         ensures seat { seat.new.table_id ≡ seat.old.table_id }
-        ensures taken { result ≡ true → HasTaken P.rule seat.old.me seat.new.me }
+        ensures taken { result ≡ true → HasAcquired P.rule seat.old.me seat.new.me }
         ensures refused { result ≡ false → seat.new.me ≡ seat.old.me }
     {
         let backoff = Backoff::new();
         for _ in 0..TRIES {
             backoff.snooze();
-            if self.try_take(seat) {
+            if self.try_acquire(seat) {
                 return true;
             }
         }
@@ -208,14 +208,14 @@ impl<T: Drop, V, P: MutexRule<T, V>> RuledMutex<T, V, P> {
 
     /// Blocks until it acquires. Each exchange marks the mutex as awaited, and acquires it if it was free; otherwise
     /// the user sleeps until a release.
-    fn sleep_for<R: Wait>(&self, rt: &R, seat: &mut Seat<Option<T>, UserView<T, V>>)
+    fn block<R: Wait>(&self, rt: &R, seat: &mut Seat<Option<T>, UserView<T, V>>)
         requires mutex { seat.old.table_id ≡ self.now }
         requires idle { IsIdle seat.old.me }
         ensures seat { seat.new.table_id ≡ seat.old.table_id }
-        ensures taken { HasTaken P.rule seat.old.me seat.new.me }
+        ensures taken { HasAcquired P.rule seat.old.me seat.new.me }
     {
         for _ in rt.forever() {
-            if self.table.shared.swap::<Take<P>>(seat, 0, AWAITED) == FREE {
+            if self.table.shared.swap::<TryLock<P>>(seat, 0, AWAITED) == FREE {
                 return;
             }
             self.table.shared.park(rt, 0, AWAITED as u32);

@@ -1,60 +1,60 @@
 //! The kinds of step on the word, and what each tells the user that makes it.
-ghost use Rattle.lock_ruled.specs.Plays.{Takes, Gives, Begins};
+ghost use Rattle.lock_ruled.specs.Plays.{AcquiresValue, ReleasesValue, OpensMutex};
 ghost use Rattle.lock_ruled.specs.Slots.{one_fewer, one_part, both_of, spent_view};
 
-use crate::rule::{MutexRule, Turn, UserView};
+use crate::rule::{MutexRule, UserView, ViewUpdate};
 use atomic_table::{Join, Play, Split};
 use std::marker::PhantomData;
 
 /// A step that acquires the value if it is free.
-pub(crate) struct Take<P> {
+pub(crate) struct TryLock<P> {
     rule: PhantomData<P>,
 }
 
-impl<T, V, P: MutexRule<T, V>> Play<Option<T>, UserView<T, V>> for Take<P> {
-    ghost then = { λ s. Takes P.rule };
+impl<T, V, P: MutexRule<T, V>> Play<Option<T>, UserView<T, V>> for TryLock<P> {
+    ghost then = { λ s. AcquiresValue P.rule };
 }
 
 /// The step that releases the value.
-pub(crate) struct Give<M> {
+pub(crate) struct Unlock<M> {
     turn: PhantomData<M>,
 }
 
-impl<T, V, M: Turn<T, V>> Play<Option<T>, UserView<T, V>> for Give<M> {
-    ghost then = { λ s. Gives M.next };
+impl<T, V, M: ViewUpdate<T, V>> Play<Option<T>, UserView<T, V>> for Unlock<M> {
+    ghost then = { λ s. ReleasesValue M.next };
 }
 
 /// The step that takes the empty slot while the mutex is made.
 pub(crate) struct Open;
 
 impl<T, V> Play<Option<T>, UserView<T, V>> for Open {
-    ghost then = { λ s. Begins };
+    ghost then = { λ s. OpensMutex };
 }
 
 /// The view stays.
 pub(crate) struct Stay;
 
-impl<T, V> Turn<T, V> for Stay {
+impl<T, V> ViewUpdate<T, V> for Stay {
     ghost next = { λ taken view value. view };
 }
 
 /// A split of a user: the second gets one part.
-pub(crate) struct Cut<M> {
+pub(crate) struct SplitParts<M> {
     split: PhantomData<M>,
 }
 
-impl<T, V, M: Split<V>> Split<UserView<T, V>> for Cut<M> {
+impl<T, V, M: Split<V>> Split<UserView<T, V>> for SplitParts<M> {
     ghost left = { one_fewer M.left };
 
     ghost right = { one_part M.right };
 }
 
 /// A join of two users, with the parts of both.
-pub(crate) struct Pair<M> {
+pub(crate) struct JoinParts<M> {
     join: PhantomData<M>,
 }
 
-impl<T, V, M: Join<V>> Join<UserView<T, V>> for Pair<M> {
+impl<T, V, M: Join<V>> Join<UserView<T, V>> for JoinParts<M> {
     ghost both = { both_of M.both };
 
     ghost spent = { spent_view M.spent };

@@ -15,7 +15,7 @@ pub trait MutexRule<T, V> {
 
 /// What a user knows after a release: a function of the value as it was acquired, the user's view, and the value that
 /// is released.
-pub trait Turn<T, V> {
+pub trait ViewUpdate<T, V> {
     ghost next: { T → V → T → V };
 }
 

@@ -13,10 +13,10 @@ pub struct User<T, V> {
 }
 
 impl<T, V> Model for User<T, V> {
-    ghost use Rattle.lock_ruled.specs.Ruled.{Knower};
+    ghost use Rattle.lock_ruled.specs.Ruled.{UserState};
     ghost use Rattle.lock_ruled.specs.Plays.{IsIdle};
 
-    ghost Value = { Knower V };
+    ghost Value = { UserState V };
 
     ghost view = { λ u.
         record { mutex = u.seat.table_id; parts = u.seat.me.0.parts; view = u.seat.me.0.own } };

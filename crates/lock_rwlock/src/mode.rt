@@ -37,10 +37,10 @@ pub trait ShowMode<'a, R: RawRwLock, T>: LockMode<R> {
     type Shown: ValueGuard;
 
     /// Tries the value's lock.
-    fn try_show(rwlock: &'a RwLock<R, T>) -> Option<Self::Shown>;
+    fn try_lock_value(rwlock: &'a RwLock<R, T>) -> Option<Self::Shown>;
 
     /// Locks the value's lock, blocking until it is free.
-    fn wait_to_show(rwlock: &'a RwLock<R, T>) -> Self::Shown;
+    fn block_on_value(rwlock: &'a RwLock<R, T>) -> Self::Shown;
 }
 
 /// A borrowed lock in the mode `M`: `Shared`, `Exclusive` or `Upgradable`.
@@ -78,12 +78,12 @@ impl<'a, M: ShowMode<'a, R, T>, R: RawRwLock, T> Acquire for InMode<'a, M, R, T>
         M::acquire(&self.rwlock.raw)
     }
 
-    fn try_show(&self) -> Option<M::Shown> {
-        M::try_show(self.rwlock)
+    fn try_lock_value(&self) -> Option<M::Shown> {
+        M::try_lock_value(self.rwlock)
     }
 
-    fn wait_to_show(&self) -> M::Shown {
-        M::wait_to_show(self.rwlock)
+    fn block_on_value(&self) -> M::Shown {
+        M::block_on_value(self.rwlock)
     }
 }
 

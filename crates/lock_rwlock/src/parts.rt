@@ -25,7 +25,7 @@ pub fn read_with<R: RawRwLock, T, U, F: FnOnce(&T) -> U>(rwlock: &RwLock<R, T>, 
     requires { F.IsAlwaysCallable f }
     ensures { ReadsSomeValue F.FnOnce f result }
 {
-    let value = InMode::<Shared, R, T>::new(rwlock).show();
+    let value = InMode::<Shared, R, T>::new(rwlock).lock_value();
     f(&value)
 }
 
@@ -34,6 +34,6 @@ pub fn write_with<R: RawRwLock, T, U, F: FnOnce(&mut T) -> U>(rwlock: &RwLock<R,
     requires { F.IsAlwaysCallable f }
     ensures { AnswersSomeValue F.FnOnce f result }
 {
-    let mut value = InMode::<Exclusive, R, T>::new(rwlock).show();
+    let mut value = InMode::<Exclusive, R, T>::new(rwlock).lock_value();
     f(&mut value)
 }

@@ -44,11 +44,11 @@ impl<M: LockMode<R>, R: RawRwLock + Drop, T: Drop> Acquire for OwnedInMode<M, R,
         M::acquire(raw(&self.rwlock))
     }
 
-    fn try_show(&self) -> Option<()> {
+    fn try_lock_value(&self) -> Option<()> {
         Some(())
     }
 
-    fn wait_to_show(&self) {}
+    fn block_on_value(&self) {}
 }
 
 impl<M: FairMode<R>, R: RawRwLock + Drop, T: Drop> AcquireFair for OwnedInMode<M, R, T> {

@@ -7,7 +7,7 @@ mod order;
 mod raw_calls;
 mod raws;
 mod recording;
-mod rows;
+mod scenarios;
 mod texts;
 mod threads;
 mod upgrades;
@@ -18,7 +18,7 @@ use lock_guard::raw::{
 use lock_raws::{LockCore, Monitor, RawLock, TableArbiter};
 use lock_raws_word::{NoTime, WordCore};
 use lock_rwlock::RwLock;
-use lock_test_support::raw_lock::{AskedRaw, Watch};
+use lock_test_support::raw_lock::{MockRaw, Watch};
 use std::alloc::Global;
 use std::sync::Arc;
 use std::test::Fail;
@@ -51,7 +51,7 @@ fn calls_by_a_borrow<R: RawRwLockUpgradeFair + RawRwLockUpgradeDowngrade + Drop>
     alloc: Global,
     waiter: R::Waiter,
 ) -> Result<(), Fail> {
-    let raw: AskedRaw<R> = RawRwLock::new(alloc, waiter, 8)?;
+    let raw: MockRaw<R> = RawRwLock::new(alloc, waiter, 8)?;
     let mut watch = Watch::new(raw.calls()?);
     let mut lock = RwLock::from_raw(raw, ((0, 0), 0))?;
     raw_calls::all_calls(&lock, &mut watch);
@@ -67,7 +67,7 @@ fn calls_by_an_arc<R: RawRwLockUpgradeFair + RawRwLockUpgradeDowngrade + Drop>(
     alloc: Global,
     waiter: R::Waiter,
 ) -> Result<(), Fail> {
-    let raw: AskedRaw<R> = RawRwLock::new(alloc, waiter, 8)?;
+    let raw: MockRaw<R> = RawRwLock::new(alloc, waiter, 8)?;
     let mut watch = Watch::new(raw.calls()?);
     let lock = Arc::new(alloc, RwLock::from_raw(raw, 5)?)?;
     texts::check(alloc, &lock)?;

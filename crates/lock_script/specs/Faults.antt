@@ -6,15 +6,15 @@ use Rattle.lock_script.specs.declared.fault.ReplayFault.TheVariants.{BadLine, To
 use Rattle.lock_script.specs.Lines.{IsFirstBad}
 
 -- between these two states of its input, a reader gave bytes that pass
-abbrev pub Gives : Option (List ℕ) → Option (List ℕ) → (List ℕ → Type 0) → Type 0
-Gives ahead left Passes = (bytes : List ℕ) × (Consumes ahead left bytes × Passes bytes)
+abbrev pub ReadsBytes : Option (List ℕ) → Option (List ℕ) → (List ℕ → Type 0) → Type 0
+ReadsBytes ahead left Passes = (bytes : List ℕ) × (Consumes ahead left bytes × Passes bytes)
 
 -- a fault of reading a script, and how much was read
 abbrev pub IsReadingFault : Option (List ℕ) → Option (List ℕ) → ReplayFault → Type 0
 IsReadingFault ahead left (BadLine number) = ⊥
-IsReadingFault ahead left TooLong = Gives ahead left (λ bytes. length bytes ≡ 1048577)
-IsReadingFault ahead left OutOfMemory = Gives ahead left (λ bytes. length bytes ≤ 1048577)
-IsReadingFault ahead left InputFailed = Gives ahead left (λ bytes. length bytes ≤ 1048576)
+IsReadingFault ahead left TooLong = ReadsBytes ahead left (λ bytes. length bytes ≡ 1048577)
+IsReadingFault ahead left OutOfMemory = ReadsBytes ahead left (λ bytes. length bytes ≤ 1048577)
+IsReadingFault ahead left InputFailed = ReadsBytes ahead left (λ bytes. length bytes ≤ 1048576)
 IsReadingFault ahead left OutputFailed = ⊥
 
 -- a fault of parsing these lines, of which a bad line is the first bad one

@@ -5,7 +5,7 @@ pub mod Numbers
 pub mod Pair
 pub mod Parts
 pub mod Replays
-pub mod Script
+pub mod CallLines
 pub mod Session
 pub mod Words
 pub mod WorldLines

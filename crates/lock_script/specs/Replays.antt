@@ -6,7 +6,7 @@ use Rattle.lock_script.specs.declared.choice.Which.{Which}
 use Rattle.lock_script.specs.declared.choice.Which.TheVariants.{Table, Word, Steps}
 use Rattle.lock_script.specs.declared.fault.ReplayFault.{ReplayFault}
 use Rattle.lock_script.specs.declared.fault.ReplayFault.TheVariants.{BadLine, TooLong, OutOfMemory, InputFailed, OutputFailed}
-use Rattle.lock_script.specs.Faults.{Gives}
+use Rattle.lock_script.specs.Faults.{ReadsBytes}
 use Rattle.lock_script.specs.Lines.{IsFirstBad, lines_of}
 use Rattle.lock_script.specs.Session.{IsDeskAnswer}
 use Rattle.lock_script.specs.Words.{IsCall, IsMaker}
@@ -32,9 +32,9 @@ IsAnswer Word script text = IsDeskAnswer script text
 IsAnswer Steps script text = IsWorldAnswer script text
 
 -- a reader gave a script that passes, of at most 1,048,576 bytes, and has nothing left
-abbrev pub GivesScript : Option (List ℕ) → Option (List ℕ) → (List ℕ → Type 0) → Type 0
-GivesScript ahead left Passes =
-    IsAtEnd left × Gives ahead left (λ script. (length script ≤ 1048576) × Passes script)
+abbrev pub ReadsScript : Option (List ℕ) → Option (List ℕ) → (List ℕ → Type 0) → Type 0
+ReadsScript ahead left Passes =
+    IsAtEnd left × ReadsBytes ahead left (λ script. (length script ≤ 1048576) × Passes script)
 
 -- the written bytes grow by the answer to the script
 abbrev pub AppendsAnswer : Which → List ℕ → Option (List ℕ) → Option (List ℕ) → Type 0
@@ -49,10 +49,10 @@ abbrev pub BeginsAnswer : Which → List ℕ → Option (List ℕ) → Option (L
 BeginsAnswer which script old new = (text : List ℕ) × (IsAnswer which script text × AppendsFront old new text)
 
 -- what a fault means for the bytes that the reader gave, and for those that were written
-abbrev pub Tells : Which → Option (List ℕ) → Option (List ℕ) → Option (List ℕ) → Option (List ℕ) → ReplayFault → Type 0
-Tells which ahead left old new (BadLine number) =
-    GivesScript ahead left (λ script. IsFirstBad (IsFirst which) (IsFurther which) (lines_of script) number)
-Tells which ahead left old new TooLong = Gives ahead left (λ bytes. length bytes ≡ 1048577)
-Tells which ahead left old new OutOfMemory = Gives ahead left (λ bytes. length bytes ≤ 1048577)
-Tells which ahead left old new InputFailed = Gives ahead left (λ bytes. length bytes ≤ 1048576)
-Tells which ahead left old new OutputFailed = GivesScript ahead left (λ script. BeginsAnswer which script old new)
+abbrev pub ExplainsFault : Which → Option (List ℕ) → Option (List ℕ) → Option (List ℕ) → Option (List ℕ) → ReplayFault → Type 0
+ExplainsFault which ahead left old new (BadLine number) =
+    ReadsScript ahead left (λ script. IsFirstBad (IsFirst which) (IsFurther which) (lines_of script) number)
+ExplainsFault which ahead left old new TooLong = ReadsBytes ahead left (λ bytes. length bytes ≡ 1048577)
+ExplainsFault which ahead left old new OutOfMemory = ReadsBytes ahead left (λ bytes. length bytes ≤ 1048577)
+ExplainsFault which ahead left old new InputFailed = ReadsBytes ahead left (λ bytes. length bytes ≤ 1048576)
+ExplainsFault which ahead left old new OutputFailed = ReadsScript ahead left (λ script. BeginsAnswer which script old new)

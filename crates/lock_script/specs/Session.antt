@@ -13,7 +13,7 @@ use Rattle.lock_script.specs.declared.pair.PairOp.{PairOp}
 use Rattle.lock_script.specs.Answers.{reply_lines}
 use Rattle.lock_script.specs.Lines.{AreLines, fields_of, lines_of}
 use Rattle.lock_script.specs.Pair.{meaning}
-use Rattle.lock_script.specs.Script.{call_fields, maker_fields}
+use Rattle.lock_script.specs.CallLines.{call_fields, maker_fields}
 use Rattle.lock_script.specs.Words.{IsCall, IsMaker}
 
 -- the limits are in range

@@ -2,7 +2,7 @@
 use Rattle.std.specs.Prelude.{◌≡◌, ℕ, List, [], ◌∷◌, ◌++◌, codes, ◌⊎◌}
 use Rattle.lock_base.specs.declared.machine.call.Form.TheVariants.{Block, Try, For, Until}
 use Rattle.lock_script.specs.Numbers.{IsParty, IsSigned, IsUnsigned}
-use Rattle.lock_script.specs.Script.{in_form}
+use Rattle.lock_script.specs.CallLines.{in_form}
 
 -- the word is one of these
 abbrev pub IsOneOf : List (List ℕ) → List ℕ → Type 0

@@ -4,7 +4,7 @@ use Rattle.lock_base.specs.declared.machine.reply.Reply.{Reply}
 use Rattle.lock_base.specs.declared.raw.fault.Fault.{Fault}
 use Rattle.lock_base.specs.declared.raw.fault.Fault.TheVariants.{BadLimits, UnknownParty}
 use Rattle.lock_base.specs.Limits.{IsLimit}
-use Rattle.lock_word.specs.declared.party.PartyState.{PartyState}
+use Rattle.lock_word.specs.declared.party.WorldParty.{WorldParty}
 use Rattle.lock_word.specs.declared.step.Outcome.{Outcome}
 use Rattle.lock_word.specs.Holders.{holder_at}
 use Rattle.lock_word.specs.Worlds.{WorldState, new_world, after_step}
@@ -29,7 +29,7 @@ count_answer (Ok number) = Answer.Reply (Reply.Count number)
 count_answer (Err fault) = Answer.Reply (Reply.Refused fault)
 
 -- a count of a party, if the party exists
-abbrev pub party_count : (PartyState → ℕ) → Option PartyState → Answer
+abbrev pub party_count : (WorldParty → ℕ) → Option WorldParty → Answer
 party_count count None = count_answer (Err UnknownParty)
 party_count count (Some party) = count_answer (Ok (count party))
 
@@ -39,7 +39,7 @@ truth_answer (Ok is) = Answer.Reply (Reply.Bool is)
 truth_answer (Err fault) = Answer.Reply (Reply.Refused fault)
 
 -- whether a party has announced itself, if the party exists
-abbrev pub party_announced : Option PartyState → Answer
+abbrev pub party_announced : Option WorldParty → Answer
 party_announced None = truth_answer (Err UnknownParty)
 party_announced (Some party) = truth_answer (Ok party.held.announced)
 

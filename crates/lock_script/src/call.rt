@@ -3,7 +3,7 @@ ghost use Rattle.std.specs.Prelude.{◌≡◌, ◌↔◌, ◌∷◌, [], IfSome,
 ghost use Rattle.lock_base.specs.Party.{id_of};
 ghost use Rattle.lock_script.specs.Numbers.{IsParty};
 ghost use Rattle.lock_script.specs.Words.{IsOneOf, guard_words, item_words, lone_words, number_words, party_words};
-ghost use Rattle.lock_script.specs.Script.{by_party, call_fields, on_guard, on_item, with_number};
+ghost use Rattle.lock_script.specs.CallLines.{by_party, call_fields, on_guard, on_item, with_number};
 
 use crate::line::{Line, first_field};
 use crate::number::{signed, unsigned};

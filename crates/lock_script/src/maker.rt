@@ -1,7 +1,7 @@
 //! The first line of a script of calls.
 ghost use Rattle.std.specs.Prelude.{◌≡◌, ◌↔◌, ◌∷◌, IfSome, IsSome, decimal};
 ghost use Rattle.lock_script.specs.Lines.{fields_of};
-ghost use Rattle.lock_script.specs.Script.{pair_fields};
+ghost use Rattle.lock_script.specs.CallLines.{pair_fields};
 ghost use Rattle.lock_script.specs.Words.{AreLimitAndPair, ArePair};
 
 use crate::line::{Line, first_field};
@@ -17,7 +17,7 @@ pub enum Maker {
 }
 
 impl Line for Maker {
-    ghost use Rattle.lock_script.specs.Script.{maker_fields};
+    ghost use Rattle.lock_script.specs.CallLines.{maker_fields};
     ghost use Rattle.lock_script.specs.Words.{IsMaker};
 
     ghost fields = { maker_fields };

@@ -10,7 +10,7 @@ use std::alloc::Global;
 
 /// A parsed script: the first line makes a lock or a world, and each further line is a call.
 #[derive(Drop)]
-pub struct Script<M, C> {
+pub struct ParsedScript<M, C> {
     pub maker: M,
     pub calls: Vec<C>,
 }
@@ -23,7 +23,7 @@ pub struct Script<M, C> {
 pub fn parse<M: Line + Drop, C: Line + Drop>(
     alloc: Global,
     bytes: &[u8],
-) -> Result<Script<M, C>, ReplayFault>
+) -> Result<ParsedScript<M, C>, ReplayFault>
     ensures lines { IfOk result (λ script.
         M.fields script.maker ∷ map C.fields script.calls.items ≡ map fields_of (lines_of bytes.now)) }
     ensures good { OnOk result (AreLines M.makes C.makes (lines_of bytes.now)) }
@@ -43,5 +43,5 @@ pub fn parse<M: Line + Drop, C: Line + Drop>(
         rest = after;
         number += 1;
     }
-    Ok(Script { maker, calls })
+    Ok(ParsedScript { maker, calls })
 }

@@ -13,14 +13,14 @@ use crate::fault::ReplayFault;
 use crate::maker::Maker;
 use crate::pair::{Pair, PairOp};
 use crate::room::emptied;
-use crate::script::{Script, parse};
+use crate::script::{ParsedScript, parse};
 use lock_base::machine::{Call, Reply};
 use lock_base::raw::{Fault, RawState};
 use lock_desk::Desk;
 use std::alloc::{AllocError, Global};
 
 /// A script of calls.
-type DeskScript = Script<Maker, Call<PairOp>>;
+type DeskScript = ParsedScript<Maker, Call<PairOp>>;
 
 /// How many calls are made before their replies are written.
 const BLOCK: usize = 256;

@@ -3,7 +3,7 @@ ghost use Rattle.std.specs.Prelude.{◌≡◌, ◌≤◌, ◌<◌, length, take,
 ghost use Rattle.std.specs.Io.KnownBytes.{Appends, Keeps};
 ghost use Rattle.lock_script.specs.Faults.{IsBeforeWriting, IsParsingFault};
 ghost use Rattle.lock_script.specs.Lines.{lines_of};
-ghost use Rattle.lock_script.specs.Replays.{AppendsAnswer, AppendsFront, GivesScript, IsAnswer, IsFirst, IsFurther, Tells};
+ghost use Rattle.lock_script.specs.Replays.{AppendsAnswer, AppendsFront, ReadsScript, IsAnswer, IsFirst, IsFurther, ExplainsFault};
 
 use crate::choice::Which;
 use crate::fault::ReplayFault;
@@ -27,9 +27,9 @@ pub fn replay<R: Read, W: Write>(
     reader: &mut R,
     writer: &mut W,
 ) -> Result<(), ReplayFault>
-    ensures answered { OnOk result (GivesScript (R.remaining reader.old) (R.remaining reader.new)
+    ensures answered { OnOk result (ReadsScript (R.remaining reader.old) (R.remaining reader.new)
         (λ script. AppendsAnswer which script (W.contents writer.old) (W.contents writer.new))) }
-    ensures told { IfErr result (Tells which
+    ensures told { IfErr result (ExplainsFault which
         (R.remaining reader.old) (R.remaining reader.new) (W.contents writer.old) (W.contents writer.new)) }
     ensures unwritten { IfErr result (λ fault.
         IsBeforeWriting fault → Keeps (W.contents writer.old) (W.contents writer.new)) }

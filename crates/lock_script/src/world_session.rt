@@ -9,7 +9,7 @@ ghost use Rattle.lock_script.specs.WorldSession.{IsWorldAnswer, WorldAnswers, al
 use crate::answer::{Answer, write_answer};
 use crate::fault::ReplayFault;
 use crate::room::emptied;
-use crate::script::{Script, parse};
+use crate::script::{ParsedScript, parse};
 use crate::world_call::WorldCall;
 use crate::world_maker::WorldMaker;
 use lock_base::machine::Reply;
@@ -19,7 +19,7 @@ use lock_word::Outcome;
 use std::alloc::{AllocError, Global};
 
 /// A script of steps.
-type WorldScript = Script<WorldMaker, WorldCall>;
+type WorldScript = ParsedScript<WorldMaker, WorldCall>;
 
 /// Runs a script of steps, and returns its answers.
 pub fn world_answers(alloc: Global, script: Vec<u8>) -> Result<String, ReplayFault>

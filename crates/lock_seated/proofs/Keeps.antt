@@ -15,15 +15,15 @@ use Rattle.lock_word.specs.declared.down.Down.TheVariants as down
 use Rattle.lock_word.specs.Holds.{hold_has, hold_after}
 use Rattle.lock_word.specs.declared.want.ExWant.{ExWant}
 use Rattle.lock_word.specs.declared.down.Down.{Down}
-use Rattle.lock_word.specs.declared.party.PartyState.{PartyState}
+use Rattle.lock_word.specs.declared.party.WorldParty.{WorldParty}
 use Rattle.lock_word.specs.Word.{guards_of_word, word_admits, word_after, amount, step_of_want, step_of_down}
 use Rattle.lock_word.specs.Rule.{KeepsRule, held_by_all}
 use Rattle.lock_word.proofs.Words.{parts_of_word}
 use Rattle.lock_word.proofs.Bars.{announced_shows, bar_of_rule}
 use Rattle.lock_word.proofs.Guards.{GainsNoneOrUnbarred, guards_of_exchange, guards_of_take}
 use Rattle.lock_word.proofs.Rules.{keeps_load, keeps_lost, keeps_exchange, keeps_take, keeps_newcomer, amount_within, part_of_parties, shows, fails_bounded}
-use Rattle.lock_seated.specs.declared.rule.PartyView.{PartyView}
-use Rattle.lock_seated.specs.Seats.{newcomer_beside, parties_of, GuardsOnlyEnd, IsKept, EveryStateKeepsRule}
+use Rattle.lock_seated.specs.declared.rule.SeatView.{SeatView}
+use Rattle.lock_seated.specs.Seats.{newcomer_beside, parties_of, GuardsDoNotGrow, IsKept, EveryStateKeepsRule}
 use Rattle.lock_seated.specs.Plays.{Self, view_after_load, view_after_win, view_after_fail, Loads, Exchanges, Takes}
 
 -- the view of a seat, in std's words
@@ -32,14 +32,14 @@ seat_at [] k x h = cc
 seat_at (y ∷ xs) zero x h = cc
 seat_at (y ∷ xs) (suc k) x h = seat_at xs k x h
 
-party_at : (views : List PartyView) (k : ℕ) (v : PartyView) → get_elem? views k ≡ some v → slice_get (parties_of views) k ≡ Some v.state
-party_at views k v h = rw (slice_get-map (λ (x : PartyView). x.state) views k, seat_at views k v h)
+party_at : (views : List SeatView) (k : ℕ) (v : SeatView) → get_elem? views k ≡ some v → slice_get (parties_of views) k ≡ Some v.state
+party_at views k v h = rw (slice_get-map (λ (x : SeatView). x.state) views k, seat_at views k v h)
 
-abbrev Guarded : PartyView → ℕ → Type 0
-Guarded v word = GuardsOnlyEnd v.state.held.announced v.last word
+abbrev Guarded : SeatView → ℕ → Type 0
+Guarded v word = GuardsDoNotGrow v.state.held.announced v.last word
 
 -- an announced party's last load has no fewer guards than the word before, so no fewer than the word now
-still_guarded : (limit n word : ℕ) (views : List PartyView) (k : ℕ) (v : PartyView) → KeepsRule limit n (parties_of views)
+still_guarded : (limit n word : ℕ) (views : List SeatView) (k : ℕ) (v : SeatView) → KeepsRule limit n (parties_of views)
     → get_elem? views k ≡ some v → GainsNoneOrUnbarred word n → Guarded v word → Guarded v n
 still_guarded limit n word views k v rule at gains before announced =
     let least = before announced in
@@ -47,27 +47,27 @@ still_guarded limit n word views k v rule at gains before announced =
     elim gains [ inl fewer ↦ omega arith | inr unbarred ↦ omega arith ]
 
 -- a step of the seat at id that leaves the word n and the view v
-left : (limit id n : ℕ) (s : State (Unit {0}) PartyView) (v : PartyView) → IsKept limit s → v.readers ≡ limit
+left : (limit id n : ℕ) (s : State (Unit {0}) SeatView) (v : SeatView) → IsKept limit s → v.readers ≡ limit
     → KeepsRule limit n (slice_set (parties_of s.views) id v.state)
     → GainsNoneOrUnbarred (slice_index s.words 0) n → Guarded v (slice_index s.words 0)
     → IsKept limit record { words = slice_set s.words 0 n; homes = s.homes; views = slice_set s.views id v }
 left limit id n s v kept readers rule gains own =
     let one = kept.one_word in
     let is : get_or (set s.words 0 n) 0 0 ≡ n = get_or-set_same s.words 0 n 0 (omega arith) in
-    let again = map-set (λ (x : PartyView). x.state) s.views id v in
+    let again = map-set (λ (x : SeatView). x.state) s.views id v in
     record {
       one_word = length-set s.words 0 n ∙ kept.one_word;
       range = kept.range;
       known = λ k w h.
           elim (at_set s.views id k v w h) [
-            | inl e ↦ sym (ap (λ (x : PartyView). x.readers) e.1) ∙ readers
+            | inl e ↦ sym (ap (λ (x : SeatView). x.readers) e.1) ∙ readers
             | inr e ↦ kept.known k w e.1
           ];
       rule = rw is (rw again rule);
       guarded = λ k w h.
           rw is (still_guarded limit n (slice_index s.words 0) (slice_set s.views id v) k w (rw again rule) h gains
           (elim (at_set s.views id k v w h) [
-            | inl e ↦ subst (λ (x : PartyView). Guarded x (slice_index s.words 0)) e.1 own
+            | inl e ↦ subst (λ (x : SeatView). Guarded x (slice_index s.words 0)) e.1 own
             | inr e ↦ kept.guarded k w e.1
           ]));
     }
@@ -101,7 +101,7 @@ exchanges limit slots id me want old new is_open is_last holds admits is s kept 
     let there = party_at s.views id me.0 at in
     let readers = kept.known id me.0 at in
     exchanged word old new
-    (λ n. (w : PartyView) × (a : Act (Unit {0})) × Valid s.homes me.1 a × IsKept limit (stepped s 0 n id me.1 w a)
+    (λ n. (w : SeatView) × (a : Act (Unit {0})) × Valid s.homes me.1 a × IsKept limit (stepped s 0 n id me.1 w a)
     × Exchanges want (step slots 0 old new none) me word (w, carried_after me.1 a))
     (λ hit.
     let v = (view_after_win me (step_of_want want)).0 in
@@ -143,7 +143,7 @@ announced_before own down.UpgradableToShared h = h
 announced_before own down.Withdraw h = absurd (false≢true h)
 
 -- one party holds few tokens
-few_held : (limit word : ℕ) (ps : List PartyState) (k : ℕ) (me : PartyState) → IsLimit limit → KeepsRule limit word ps
+few_held : (limit word : ℕ) (ps : List WorldParty) (k : ℕ) (me : WorldParty) → IsLimit limit → KeepsRule limit word ps
     → slice_get ps k ≡ Some me → tokens me.held.bag < 2 ^ 63
 few_held limit word ps k me range rule at =
     let part = part_of_parties ps k me at in
@@ -175,7 +175,7 @@ takes limit slots id me down k holds is s kept same at small =
       (refl, few_held limit word parties id me.0.state kept.range kept.rule there),
     )
 
-pub parts : (limit id : ℕ) (v : PartyView) → Splits (IsKept limit) id v v (newcomer_beside v)
+pub parts : (limit id : ℕ) (v : SeatView) → Splits (IsKept limit) id v v (newcomer_beside v)
 parts limit id v s kept at =
     let again : set s.views id v ≡ s.views = set_again s.views id v at in
     let word = slice_index s.words 0 in
@@ -187,13 +187,13 @@ parts limit id v s kept at =
       known = λ k w h.
           elim (at_snoc s.views (newcomer_beside v) w k h) [
             | inl e ↦ kept.known k w e
-            | inr e ↦ sym (ap (λ (x : PartyView). x.readers) e) ∙ readers
+            | inr e ↦ sym (ap (λ (x : SeatView). x.readers) e) ∙ readers
           ];
-      rule = rw (map-append (λ (x : PartyView). x.state) s.views (newcomer_beside v ∷ [])) longer;
+      rule = rw (map-append (λ (x : SeatView). x.state) s.views (newcomer_beside v ∷ [])) longer;
       guarded = λ k w h.
           elim (at_snoc s.views (newcomer_beside v) w k h) [
             | inl e ↦ kept.guarded k w e
-            | inr e ↦ subst (λ (x : PartyView). Guarded x word) e (λ announced. absurd (false≢true announced))
+            | inr e ↦ subst (λ (x : SeatView). Guarded x word) e (λ announced. absurd (false≢true announced))
           ];
     }
 

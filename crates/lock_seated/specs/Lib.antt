@@ -1,4 +1,4 @@
 pub mod Seats
 pub mod Plays
-pub mod Standing
+pub mod CallerView
 pub mod Attempts

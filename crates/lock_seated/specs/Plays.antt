@@ -7,13 +7,13 @@ use Rattle.lock_word.specs.declared.down.Down.{Down}
 use Rattle.lock_word.specs.declared.word_step.WordStep.{WordStep}
 use Rattle.lock_word.specs.Word.{step_of_want, step_of_down}
 use Rattle.lock_word.specs.Turns.{with_load, after_win, after_fail}
-use Rattle.lock_word.specs.Rule.{Shows}
-use Rattle.lock_seated.specs.declared.rule.PartyView.{PartyView}
-use Rattle.lock_seated.specs.Seats.{GuardsOnlyEnd}
+use Rattle.lock_word.specs.Rule.{WordShows}
+use Rattle.lock_seated.specs.declared.rule.SeatView.{SeatView}
+use Rattle.lock_seated.specs.Seats.{GuardsDoNotGrow}
 
 -- a seat's view, and the slots that it holds: none
 abbrev pub Self : Type 0
-Self = Me (Unit {0}) PartyView
+Self = Me (Unit {0}) SeatView
 
 abbrev pub view_after_load : Self → ℕ → Self
 view_after_load me word = (record me.0 { state = with_load me.0.state word; last = word; loads = me.0.loads + 1 }, me.1)
@@ -27,7 +27,7 @@ view_after_fail me = (record me.0 { state = after_fail me.0.state }, me.1)
 -- a load tells its party the word, and what the word says of all holds
 abbrev pub Loads : Step (Unit {0}) → Self → ℕ → Self → Type 0
 Loads s me found after =
-    (after ≡ view_after_load me found) × Shows me.0.readers found me.0.state.held × GuardsOnlyEnd me.0.state.held.announced me.0.last found
+    (after ≡ view_after_load me found) × WordShows me.0.readers found me.0.state.held × GuardsDoNotGrow me.0.state.held.announced me.0.last found
 
 abbrev pub Exchanges : ExWant → Step (Unit {0}) → Self → ℕ → Self → Type 0
 Exchanges want s me found after =

@@ -1,7 +1,7 @@
 //! What the rule of the table means. The law is the contract of a function with an empty body.
 ghost use Rattle.lock_seated.specs.Seats.{EveryStateKeepsRule};
 
-use crate::rule::{PartyView, WordRule};
+use crate::rule::{SeatView, WordRule};
 use atomic_table::TableRule;
 
 /// Between any two steps of any threads, the word and all parties keep the rule that a `World` keeps. The word encodes
@@ -9,5 +9,5 @@ use atomic_table::TableRule;
 /// more often than the others have won. While a party is announced, no guard comes that was not in the word it loaded
 /// last.
 pub fn every_state_keeps_rule()
-    ensures { EveryStateKeepsRule ⟦<WordRule as TableRule<(), PartyView, u64>>⟧.holds }
+    ensures { EveryStateKeepsRule ⟦<WordRule as TableRule<(), SeatView, u64>>⟧.holds }
 {}

@@ -14,4 +14,4 @@ pub use laws::every_state_keeps_rule;
 pub use lock::SeatedLock;
 pub use lock_word::ExWant;
 pub use party::Party;
-pub use rule::{PartyView, WordRule};
+pub use rule::{SeatView, WordRule};

@@ -4,19 +4,19 @@ ghost use Rattle.lock_base.specs.Limits.{IsLimit, IsMakerFault};
 ghost use Rattle.lock_base.specs.Modes.{count_of, tokens};
 ghost use Rattle.lock_word.specs.Holds.{hold_has};
 ghost use Rattle.lock_word.specs.Word.{word_admits, word_after, step_of_want, step_of_down, down_of_mode};
-ghost use Rattle.lock_word.specs.Rule.{Shows};
+ghost use Rattle.lock_word.specs.Rule.{WordShows};
 ghost use Rattle.lock_seated.specs.Plays.{view_after_win, view_after_fail};
-ghost use Rattle.lock_seated.specs.Standing.{new_party, after_load, after_own_step};
-ghost use Rattle.lock_seated.specs.Seats.{GuardsOnlyEnd};
+ghost use Rattle.lock_seated.specs.CallerView.{new_party, after_load, after_own_step};
+ghost use Rattle.lock_seated.specs.Seats.{GuardsDoNotGrow};
 ghost use Rattle.lock_seated.specs.Attempts.{Attempted, Acquired};
 
 use crate::attempt::Attempt;
 use crate::party::Party;
 use crate::plays::{
-    Announce, DownToShared, DownToUpgradable, DownUpgradableToShared, Look, OffExclusive,
+    Announce, DownToShared, DownToUpgradable, DownUpgradableToShared, LoadWord, OffExclusive,
     OffShared, OffUpgradable, ToExclusive, ToShared, ToUpgradable, Upgrade, Withdraw,
 };
-use crate::rule::{Apart, PartyView, WordRule};
+use crate::rule::{SeatView, SplitOff, WordRule};
 use atomic_table::{Seat, Table};
 use lock_base::machine::Mode;
 use lock_base::raw::{Fault, is_limit};
@@ -36,7 +36,7 @@ const SPINS: u32 = 64;
 /// It protects no value. Its contracts follow each party's view across all threads.
 #[derive(Drop)]
 pub struct SeatedLock {
-    table: Table<(), PartyView, u64, WordRule, Global>,
+    table: Table<(), SeatView, u64, WordRule, Global>,
     readers: u64,
 }
 
@@ -44,7 +44,7 @@ impl Model for SeatedLock {
     ghost use Rattle.std.specs.Prelude.{◌≡◌};
     ghost use Rattle.lock_base.specs.Limits.{IsLimit};
     ghost use Rattle.lock_seated.specs.Plays.{view_after_win, view_after_fail};
-    ghost use Rattle.lock_seated.specs.Standing.{Lock};
+    ghost use Rattle.lock_seated.specs.CallerView.{Lock};
 
     ghost Value = { Lock };
 
@@ -82,7 +82,7 @@ impl SeatedLock {
         ensures second { result.1 ≡ new_party self.now result.1.number }
     {
         let Party { mut seat, held } = party;
-        let other = self.table.shared.split_seat::<Apart>(&mut seat);
+        let other = self.table.shared.split_seat::<SplitOff>(&mut seat);
         let second = Party {
             seat: other,
             held: Hold::none(),
@@ -94,11 +94,11 @@ impl SeatedLock {
     pub fn load(&self, party: &mut Party) -> u64
         requires { party.old.lock ≡ self.now }
         ensures party { party.new ≡ after_load party.old result }
-        ensures shows { Shows self.now.readers result party.old.state.held }
+        ensures shows { WordShows self.now.readers result party.old.state.held }
         // Under the party's own bar no new guard comes.
-        ensures guards { GuardsOnlyEnd party.old.state.held.announced party.old.last result }
+        ensures guards { GuardsDoNotGrow party.old.state.held.announced party.old.last result }
     {
-        self.table.shared.load::<Look>(&mut party.seat, 0)
+        self.table.shared.load::<LoadWord>(&mut party.seat, 0)
     }
 
     /// Loads the word, and then exchanges it at most once.
@@ -145,7 +145,7 @@ impl SeatedLock {
         requires holds { 0 < count_of party.old.state.held.bag mode }
         ensures { party.new ≡ after_own_step party.old (step_of_down (down_of_mode mode)) }
     {
-        self.take(party, Down::of_mode(mode));
+        self.subtract_and_record(party, Down::of_mode(mode));
     }
 
     /// Downgrades an exclusive hold to a shared one, by one subtraction.
@@ -154,7 +154,7 @@ impl SeatedLock {
         requires holds { 0 < party.old.state.held.bag.exclusive }
         ensures { party.new ≡ after_own_step party.old (step_of_down Down.ToShared) }
     {
-        self.take(party, Down::ToShared);
+        self.subtract_and_record(party, Down::ToShared);
     }
 
     /// Downgrades an exclusive hold to an upgradable one, by one subtraction.
@@ -163,7 +163,7 @@ impl SeatedLock {
         requires holds { 0 < party.old.state.held.bag.exclusive }
         ensures { party.new ≡ after_own_step party.old (step_of_down Down.ToUpgradable) }
     {
-        self.take(party, Down::ToUpgradable);
+        self.subtract_and_record(party, Down::ToUpgradable);
     }
 
     /// Downgrades an upgradable hold to a shared one, by one subtraction.
@@ -172,7 +172,7 @@ impl SeatedLock {
         requires holds { 0 < party.old.state.held.bag.upgradable }
         ensures { party.new ≡ after_own_step party.old (step_of_down Down.UpgradableToShared) }
     {
-        self.take(party, Down::UpgradableToShared);
+        self.subtract_and_record(party, Down::UpgradableToShared);
     }
 
     /// Clears the party's bar, by one subtraction.
@@ -181,10 +181,10 @@ impl SeatedLock {
         requires announced { party.old.state.held.announced ≡ true }
         ensures { party.new ≡ after_own_step party.old (step_of_down Down.Withdraw) }
     {
-        self.take(party, Down::Withdraw);
+        self.subtract_and_record(party, Down::Withdraw);
     }
 
-    fn take(&self, party: &mut Party, down: Down)
+    fn subtract_and_record(&self, party: &mut Party, down: Down)
         requires lock { party.old.lock ≡ self.now }
         requires holds { IsTrue (hold_has party.old.state.held (step_of_down down)) }
         ensures { party.new ≡ after_own_step party.old (step_of_down down) }
@@ -194,7 +194,7 @@ impl SeatedLock {
     }
 
     /// Exchanges the word that was loaded last.
-    fn exchange(&self, seat: &mut Seat<(), PartyView>, want: ExWant, word: u64, next: u64) -> u64
+    fn exchange(&self, seat: &mut Seat<(), SeatView>, want: ExWant, word: u64, next: u64) -> u64
         requires lock { seat.old.table_id ≡ self.now.id }
         requires load { (seat.old.me.0.state.loaded ≡ Some word) × (seat.old.me.0.last ≡ word) }
         requires holds { IsTrue (hold_has seat.old.me.0.state.held (step_of_want want)) }
@@ -215,7 +215,7 @@ impl SeatedLock {
     }
 
     /// Subtracts from the word.
-    fn subtract(&self, seat: &mut Seat<(), PartyView>, down: Down)
+    fn subtract(&self, seat: &mut Seat<(), SeatView>, down: Down)
         requires lock { seat.old.table_id ≡ self.now.id }
         requires holds { IsTrue (hold_has seat.old.me.0.state.held (step_of_down down)) }
         ensures seat { (seat.new.table_id ≡ seat.old.table_id) × (seat.new.id ≡ seat.old.id) }

@@ -2,7 +2,7 @@
 ghost use Rattle.std.specs.Prelude.{◌≡◌};
 ghost use Rattle.lock_base.specs.Modes.{count_of};
 
-use crate::rule::PartyView;
+use crate::rule::SeatView;
 use atomic_table::Seat;
 use lock_base::machine::Mode;
 use lock_word::Hold;
@@ -14,15 +14,15 @@ use std::marker::Model;
 /// A party that is dropped never releases what it holds, and its bar stays set.
 #[derive(Drop)]
 pub struct Party {
-    pub(crate) seat: Seat<(), PartyView>,
+    pub(crate) seat: Seat<(), SeatView>,
     pub(crate) held: Hold,
 }
 
 impl Model for Party {
     ghost use Rattle.std.specs.Prelude.{◌≡◌, []};
-    ghost use Rattle.lock_seated.specs.Standing.{Standing};
+    ghost use Rattle.lock_seated.specs.CallerView.{CallerView};
 
-    ghost Value = { Standing };
+    ghost Value = { CallerView };
 
     ghost view = { λ p.
         record {

@@ -2,12 +2,12 @@
 ghost use Rattle.lock_seated.specs.Seats.{IsKept, newcomer, newcomer_beside};
 
 use atomic_table::{Split, TableRule};
-use lock_word::PartyState;
+use lock_word::WorldParty;
 
 /// The seat's view of a party: what the rule keeps of it. It exists in contracts only.
-pub struct PartyView {
+pub struct SeatView {
     /// What the party holds, its open load, its wins and fails.
-    pub state: PartyState,
+    pub state: WorldParty,
     /// The word that it loaded last.
     pub last: u64,
     /// How often it loaded the word.
@@ -19,16 +19,16 @@ pub struct PartyView {
 /// The rule of a word and of the parties that step on it. The key of the table is the readers' limit.
 pub struct WordRule;
 
-impl TableRule<(), PartyView, u64> for WordRule {
+impl TableRule<(), SeatView, u64> for WordRule {
     ghost holds = { IsKept };
 
     ghost first = { newcomer };
 }
 
 /// A split: the first keeps everything, and the second is a newcomer.
-pub(crate) struct Apart;
+pub(crate) struct SplitOff;
 
-impl Split<PartyView> for Apart {
+impl Split<SeatView> for SplitOff {
     ghost left = { λ v. v };
 
     ghost right = { newcomer_beside };

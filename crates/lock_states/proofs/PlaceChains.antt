@@ -12,7 +12,7 @@ use Rattle.lock_base.proofs.TokenBags.{same_length, bag_of_same}
 use Rattle.lock_states.specs.declared.places.Place.{Place}
 use Rattle.lock_states.specs.declared.places.Place.TheVariants.{Free, Taken}
 use Rattle.lock_states.specs.Places.{mode_in, modes_in, IsChain}
-use Rattle.lock_states.specs.Table.{tokens_from, tokens_of, IsTable}
+use Rattle.lock_states.specs.TableState.{tokens_from, tokens_of, IsTable}
 use Rattle.lock_states.proofs.TableTokens.{taken, freed, changed}
 
 pub length-modes_in : (ps : List Place) → length (modes_in ps) ≡ length ps

@@ -1,6 +1,6 @@
 //! The places of a table, which are read and written one at a time.
 ghost use Rattle.std.specs.Prelude.{◌≡◌, ◌-◌, ◌<◌, [], length, IfOk, IfErr, Some, slice_get, slice_set};
-ghost use Rattle.lock_states.specs.Table.{tokens_of};
+ghost use Rattle.lock_states.specs.TableState.{tokens_of};
 ghost use Rattle.lock_states.specs.Places.{modes_in, IsChain, one_access_more};
 
 use lock_base::machine::Mode;

@@ -2,7 +2,7 @@
 ghost use Rattle.std.specs.Prelude.{◌≡◌, ◌+◌, ◌<◌, ◌≤◌, ◌^◌, ◌&&◌, not, length, ◌↔◌, IsTrue, IfOk, IfErr, IfSome, IfNone, OnErr, is_some, is_ok};
 ghost use Rattle.lock_base.specs.Modes.{tokens, admits, may_become};
 ghost use Rattle.lock_base.specs.Tokens.{bag_of_tokens, IsOut, IsOutAs, Adds, Removes, CanChange, Replaces};
-ghost use Rattle.lock_states.specs.Table.{tokens_of, KeepsLimits};
+ghost use Rattle.lock_states.specs.TableState.{tokens_of, KeepsLimits};
 
 pub use crate::places::{Place, Places};
 use lock_base::machine::{Bag, Mode};
@@ -31,9 +31,9 @@ pub struct TokenTable {
 
 impl Model for TokenTable {
     ghost use Rattle.lock_states.specs.Places.{modes_in};
-    ghost use Rattle.lock_states.specs.Table.{Table, IsTable};
+    ghost use Rattle.lock_states.specs.TableState.{TableState, IsTable};
 
-    ghost Value = { Table };
+    ghost Value = { TableState };
 
     ghost view = { λ table. record {
       places = modes_in table.places.places;

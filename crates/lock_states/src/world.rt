@@ -10,7 +10,7 @@ ghost use Rattle.lock_word.specs.Claims.{Leaves, BarIsOfOne, FailsAreBounded, Is
 
 use lock_base::machine::Mode;
 use lock_base::raw::{Fault, is_limit};
-use lock_word::PartyState;
+use lock_word::WorldParty;
 pub use lock_word::{AtomicStep, Down, ExWant, Outcome};
 use std::alloc::Global;
 use std::marker::Model;
@@ -22,7 +22,7 @@ pub struct World {
     word: u64,
     readers: u64,
     steps: u64,
-    parties: Vec<PartyState>,
+    parties: Vec<WorldParty>,
 }
 
 impl Model for World {
@@ -38,7 +38,7 @@ impl Model for World {
 }
 
 /// Returns the index of a party, if the party exists.
-fn place_of(parties: &[PartyState], party: u64) -> Option<usize>
+fn place_of(parties: &[WorldParty], party: u64) -> Option<usize>
     ensures unknown { IfNone result (holder_at parties.now party ≡ None) }
     ensures known { IfSome result (λ place. (party ≡ place + 1) × (place < length parties.now)) }
 {
@@ -59,7 +59,7 @@ impl World {
         if !is_limit(parties) || !is_limit(readers) {
             return Err(Fault::BadLimits);
         }
-        let Ok(parties) = vec![in alloc; PartyState::idle(); parties as usize] else {
+        let Ok(parties) = vec![in alloc; WorldParty::idle(); parties as usize] else {
             return Err(Fault::OutOfMemory);
         };
         Ok(World {
@@ -114,7 +114,7 @@ impl World {
         Ok(self.party(party)?.fails)
     }
 
-    fn party(&self, party: u64) -> Result<PartyState, Fault>
+    fn party(&self, party: u64) -> Result<WorldParty, Fault>
         ensures known { IfOk result (λ me. holder_at self.now.parties party ≡ Some me) }
         ensures bounded { IfOk result (λ me. me.fails ≤ others_wins self.now.parties me) }
         ensures unknown { IfErr result (IsUnknownIn self.now party) }

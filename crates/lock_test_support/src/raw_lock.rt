@@ -1,16 +1,16 @@
 //! Raw locks of the tests, and the calls that they record.
-mod asked_raw;
-mod asked_rwlock;
+mod admits_all;
+mod admits_all_rwlock;
 mod calls;
-mod liar;
+mod mock_raw;
+mod mock_rwlock;
 mod parts;
 mod raw_call;
-mod rwlock_liar;
 mod watch;
 
-pub use asked_raw::AskedRaw;
+pub use admits_all::AdmitsAll;
 pub use calls::Calls;
-pub use liar::Liar;
+pub use mock_raw::MockRaw;
 pub use parts::{watch_fair_end, watch_write};
 pub use raw_call::RawCall;
 pub use watch::Watch;

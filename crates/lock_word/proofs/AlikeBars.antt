@@ -6,12 +6,12 @@ use Rattle.lock_base.specs.declared.machine.mode.Mode.TheVariants.{Shared, Exclu
 use Rattle.lock_base.specs.declared.machine.mode_step.ModeStep.TheVariants.{Acquire}
 use Rattle.lock_base.specs.Modes.{is_exclusive}
 use Rattle.lock_base.specs.Bar.{bar_after}
-use Rattle.lock_word.specs.Holds.{bars_of, Passes}
-use Rattle.lock_word.specs.BarLaws.{BarsAreAlike}
+use Rattle.lock_word.specs.Holds.{bars_of, StepPassesBar}
+use Rattle.lock_word.specs.BarLaws.{BarEncodingsAgree}
 
 -- where a bar stands, which is one's own or is not
 
-lets_own_pass : (own : Bool) (mode : Mode) → IsTrue (is_exclusive mode && own) ↔ Passes own 1 (Acquire mode)
+lets_own_pass : (own : Bool) (mode : Mode) → IsTrue (is_exclusive mode && own) ↔ StepPassesBar own 1 (Acquire mode)
 lets_own_pass true Exclusive = ((λ h. refl), (λ e. refl))
 lets_own_pass false Exclusive = ((λ h. cc), (λ e. cc))
 lets_own_pass own Shared = ((λ h. cc), (λ e. cc))
@@ -24,11 +24,11 @@ leaves_none announced false Exclusive h = cc
 leaves_none announced own Shared h = cc
 leaves_none announced own Upgradable h = cc
 
-pub bars_are_alike : BarsAreAlike
-bars_are_alike None party Shared bag = record { lets_pass = ((λ h. refl), (λ e. refl)); leaves = λ h. refl }
-bars_are_alike None party Exclusive bag = record { lets_pass = ((λ h. refl), (λ e. refl)); leaves = λ h. refl }
-bars_are_alike None party Upgradable bag = record { lets_pass = ((λ h. refl), (λ e. refl)); leaves = λ h. refl }
-bars_are_alike (Some announced) party mode bag =
+pub bar_encodings_agree : BarEncodingsAgree
+bar_encodings_agree None party Shared bag = record { lets_pass = ((λ h. refl), (λ e. refl)); leaves = λ h. refl }
+bar_encodings_agree None party Exclusive bag = record { lets_pass = ((λ h. refl), (λ e. refl)); leaves = λ h. refl }
+bar_encodings_agree None party Upgradable bag = record { lets_pass = ((λ h. refl), (λ e. refl)); leaves = λ h. refl }
+bar_encodings_agree (Some announced) party mode bag =
     record {
       lets_pass = lets_own_pass (announced == party) mode;
       leaves = leaves_none announced (announced == party) mode;

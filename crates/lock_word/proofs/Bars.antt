@@ -4,7 +4,7 @@ use Rattle.std.proofs.lemmas.Bool.{eqb-false}
 use Rattle.std.proofs.lemmas.List.Sums.{sum_by-cons}
 use Rattle.lock_base.specs.Limits.{IsLimit}
 use Rattle.lock_word.specs.declared.hold.Hold.{Hold}
-use Rattle.lock_word.specs.declared.party.PartyState.{PartyState}
+use Rattle.lock_word.specs.declared.party.WorldParty.{WorldParty}
 use Rattle.lock_word.specs.Holds.{bars_of, no_hold}
 use Rattle.lock_word.specs.Rule.{holds, held_by_all, KeepsRule}
 use Rattle.lock_word.specs.Worlds.{WorldState, IsReachable}
@@ -35,22 +35,22 @@ two_bars hs k j a b other at_k at_j =
     omega arith
 
 -- a party of the list has announced itself
-abbrev Found : List PartyState → Type 0
-Found ps = (k : ℕ) × (me : PartyState) × (slice_get ps k ≡ Some me) × (me.held.announced ≡ true)
+abbrev Found : List WorldParty → Type 0
+Found ps = (k : ℕ) × (me : WorldParty) × (slice_get ps k ≡ Some me) × (me.held.announced ≡ true)
 
-found : (ps : List PartyState) → 0 < sum_by bar_of (holds ps) → Found ps
+found : (ps : List WorldParty) → 0 < sum_by bar_of (holds ps) → Found ps
 found [] some = absurd (omega arith)
 found (q ∷ ps) some =
     let rest = sum_by-cons bar_of q.held (holds ps) in
     first q ps q.held.announced refl
     (λ none. let bar : bar_of q.held ≡ 0 = ap bars_of none in found ps (omega arith))
   where
-    first : (q : PartyState) (ps : List PartyState) (b : Bool) → q.held.announced ≡ b
+    first : (q : WorldParty) (ps : List WorldParty) (b : Bool) → q.held.announced ≡ b
         → (q.held.announced ≡ false → Found ps) → Found (q ∷ ps)
     first q ps true e later = (0, q, refl, e)
     first q ps false e later = let f = later e in (suc f.0, f.1, f.2, f.3)
 
-sole : (limit word : ℕ) (ps : List PartyState) → KeepsRule limit word ps → (p q : ℕ) → IsAnnounced ps p
+sole : (limit word : ℕ) (ps : List WorldParty) → KeepsRule limit word ps → (p q : ℕ) → IsAnnounced ps p
     → IsAnnounced ps q → p ≡ q
 sole limit word ps rule zero q a b = let none = a.1 in cc
 sole limit word ps rule (suc k) zero a b = let none = b.1 in cc
@@ -66,7 +66,7 @@ sole limit word ps rule (suc k) (suc j) a b = same (k == j) refl
         let one = rule.legal.one_bar in
         absurd (omega arith)
 
-pub announced_shows : (limit word : ℕ) (ps : List PartyState) (p : ℕ) → KeepsRule limit word ps → IsAnnounced ps p → 2 ^ 34 ≤ word
+pub announced_shows : (limit word : ℕ) (ps : List WorldParty) (p : ℕ) → KeepsRule limit word ps → IsAnnounced ps p → 2 ^ 34 ≤ word
 announced_shows limit word ps zero rule a = let none = a.1 in cc
 announced_shows limit word ps (suc k) rule a =
     let part = part_of_parties ps k a.0 a.1 in
@@ -76,7 +76,7 @@ announced_shows limit word ps (suc k) rule a =
     omega arith
 
 -- at most one party has announced itself, and the word has 2^34 exactly if one has
-pub bar_of_rule : (limit word : ℕ) (ps : List PartyState) → IsLimit limit → KeepsRule limit word ps → BarIsOfOne word ps
+pub bar_of_rule : (limit word : ℕ) (ps : List WorldParty) → IsLimit limit → KeepsRule limit word ps → BarIsOfOne word ps
 bar_of_rule limit word ps range rule =
     record {
       sole = sole limit word ps rule;

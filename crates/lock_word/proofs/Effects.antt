@@ -7,7 +7,7 @@ use Rattle.lock_base.specs.Limits.{IsLimit}
 use Rattle.lock_word.specs.Holds.{hold_has}
 use Rattle.lock_word.specs.declared.want.ExWant.{ExWant}
 use Rattle.lock_word.specs.declared.down.Down.{Down}
-use Rattle.lock_word.specs.declared.party.PartyState.{PartyState}
+use Rattle.lock_word.specs.declared.party.WorldParty.{WorldParty}
 use Rattle.lock_word.specs.declared.step.AtomicStep.{AtomicStep}
 use Rattle.lock_word.specs.declared.step.AtomicStep.TheVariants.{Load, Exchange, Take}
 use Rattle.lock_word.specs.declared.step.Outcome.TheVariants.{Done, NotAdmitted, Changed}
@@ -17,7 +17,7 @@ use Rattle.lock_word.specs.Rule.{KeepsRule}
 use Rattle.lock_word.proofs.Rules.{slice_set_same, keeps_load, keeps_unloaded, keeps_lost, keeps_exchange, keeps_take}
 
 -- all that a turn can be
-pub data Effect (limit word : ℕ) (me : PartyState) (s : AtomicStep) (t : Turn) : Type 0 where
+pub data Effect (limit word : ℕ) (me : WorldParty) (s : AtomicStep) (t : Turn) : Type 0 where
   is_refused : (f : Fault) → ((p : ℕ) → s ≢ Load p) → t ≡ refused_turn word me f → Effect limit word me s t
   is_load : (p : ℕ) → s ≡ Load p → t ≡ load_turn word me → Effect limit word me s t
   is_not_admitted : (p : ℕ) (want : ExWant) (loaded : ℕ) → s ≡ Exchange p want → me.loaded ≡ Some loaded
@@ -41,7 +41,7 @@ pub of_both : {A : Type 0} (P : A → Type 0) (b : Bool) (x y : A) → (b ≡ tr
 of_both P true x y f g = f refl
 of_both P false x y f g = g refl
 
-effect_loaded : (limit word : ℕ) (me : PartyState) (p : ℕ) (want : ExWant) (o : Option ℕ) → me.loaded ≡ o
+effect_loaded : (limit word : ℕ) (me : WorldParty) (p : ℕ) (want : ExWant) (o : Option ℕ) → me.loaded ≡ o
     → IsTrue (hold_has me.held (step_of_want want))
     → Effect limit word me (Exchange p want) (loaded_turn limit word me want o)
 effect_loaded limit word me p want None was own = is_refused fault.NoLoad (λ q e. cc) refl
@@ -56,7 +56,7 @@ effect_loaded limit word me p want (Some loaded) was own =
     (λ other. is_changed p want loaded refl was (λ e. eqb-false word loaded other e) refl))
     (λ refuses. is_not_admitted p want loaded refl was refuses refl)
 
-pub effect : (limit word : ℕ) (me : PartyState) (s : AtomicStep) → Effect limit word me s (turn limit word me s)
+pub effect : (limit word : ℕ) (me : WorldParty) (s : AtomicStep) → Effect limit word me s (turn limit word me s)
 effect limit word me (Load p) = is_load p refl refl
 effect limit word me (Exchange p want) =
     of_both (Effect limit word me (Exchange p want)) (hold_has me.held (step_of_want want)) _ _
@@ -68,7 +68,7 @@ effect limit word me (Take p d) =
     (λ h. is_refused fault.WrongMode (λ q e. cc) refl)
 
 -- the rule after a turn of the party at k
-pub keeps_turn : (limit word : ℕ) (ps : List PartyState) (k : ℕ) (me : PartyState) (s : AtomicStep) (t : Turn)
+pub keeps_turn : (limit word : ℕ) (ps : List WorldParty) (k : ℕ) (me : WorldParty) (s : AtomicStep) (t : Turn)
     → IsLimit limit → KeepsRule limit word ps → slice_get ps k ≡ Some me → Effect limit word me s t
     → KeepsRule limit t.word (slice_set ps k t.party)
 keeps_turn limit word ps k me s t range rule at e =

@@ -6,8 +6,8 @@ use Rattle.lock_word.specs.declared.want.ExWant.{ExWant}
 use Rattle.lock_word.specs.declared.want.ExWant.TheVariants.{Shared, Exclusive, Upgradable, Upgrade, Announce}
 use Rattle.lock_word.specs.declared.down.Down.{Down}
 use Rattle.lock_word.specs.declared.down.Down.TheVariants as down
-use Rattle.lock_word.specs.declared.party.PartyState.{PartyState}
-use Rattle.lock_word.specs.Holds.{BarredBag, MayStand, PermitsTo, barred_after, hold_has}
+use Rattle.lock_word.specs.declared.party.WorldParty.{WorldParty}
+use Rattle.lock_word.specs.Holds.{BarredBag, IsLegalBarredBag, PermitsWordStep, barred_after, hold_has}
 use Rattle.lock_word.specs.Word.{word_of, guards_of_word, word_admits, word_after, amount, step_of_want, step_of_down}
 use Rattle.lock_word.specs.Rule.{held_by_all, KeepsRule}
 use Rattle.lock_word.proofs.Holders.{Has}
@@ -18,7 +18,7 @@ use Rattle.lock_word.proofs.Rules.{permits_of_rule, has_of_all}
 abbrev guards : BarredBag → ℕ
 guards all = readers all.bag + all.bag.exclusive
 
-guards_of_bag : (limit : ℕ) (all : BarredBag) → limit < 2 ^ 32 → MayStand limit all
+guards_of_bag : (limit : ℕ) (all : BarredBag) → limit < 2 ^ 32 → IsLegalBarredBag limit all
     → guards_of_word (word_of all) ≡ guards all
 guards_of_bag limit all fits stands =
     let parts = parts_of_word limit all fits stands in
@@ -31,7 +31,7 @@ abbrev pub GainsNoneOrUnbarred : ℕ → ℕ → Type 0
 GainsNoneOrUnbarred word new = (guards_of_word new ≤ guards_of_word word) ⊎ (new < 2 ^ 34)
 
 guards_after_want : (announced : Bool) (limit : ℕ) (all : BarredBag) (want : ExWant)
-    → PermitsTo announced limit all (step_of_want want)
+    → PermitsWordStep announced limit all (step_of_want want)
     → (guards (barred_after announced all (step_of_want want)) ≤ guards all)
     ⊎ ((barred_after announced all (step_of_want want)).bars ≡ 0)
 guards_after_want announced limit all Shared p = let none = p.1 in inr (omega arith)
@@ -50,7 +50,7 @@ guards_after_down announced all down.ToUpgradable h = omega arith
 guards_after_down announced all down.UpgradableToShared h = omega arith
 guards_after_down announced all down.Withdraw h = omega arith
 
-pub guards_of_exchange : (limit word : ℕ) (ps : List PartyState) (k : ℕ) (me : PartyState) (want : ExWant) → IsLimit limit
+pub guards_of_exchange : (limit word : ℕ) (ps : List WorldParty) (k : ℕ) (me : WorldParty) (want : ExWant) → IsLimit limit
     → KeepsRule limit word ps → slice_get ps k ≡ Some me → IsTrue (word_admits me.held.announced limit word want)
     → GainsNoneOrUnbarred word (word_after word want)
 guards_of_exchange limit word ps k me want range rule at admits =
@@ -71,7 +71,7 @@ guards_of_exchange limit word ps k me want range rule at admits =
       | inr none ↦ inr (omega arith)
     ]
 
-pub guards_of_take : (limit word : ℕ) (ps : List PartyState) (k : ℕ) (me : PartyState) (d : Down) → IsLimit limit
+pub guards_of_take : (limit word : ℕ) (ps : List WorldParty) (k : ℕ) (me : WorldParty) (d : Down) → IsLimit limit
     → KeepsRule limit word ps → slice_get ps k ≡ Some me → IsTrue (hold_has me.held (step_of_down d))
     → guards_of_word (word - amount d) ≤ guards_of_word word
 guards_of_take limit word ps k me d range rule at has =

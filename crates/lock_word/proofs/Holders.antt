@@ -14,7 +14,7 @@ use Rattle.lock_base.proofs.TokenBags.{same_counts}
 use Rattle.lock_word.specs.declared.hold.Hold.{Hold}
 use Rattle.lock_word.specs.declared.word_step.WordStep.{WordStep}
 use Rattle.lock_word.specs.declared.word_step.WordStep.TheVariants.{Modes, Announce, Withdraw}
-use Rattle.lock_word.specs.Holds.{BarredBag, bars_of, without_bars, ends_bar, PermitsTo, barred_after, no_hold, hold_has, hold_after}
+use Rattle.lock_word.specs.Holds.{BarredBag, bars_of, without_bars, ends_bar, PermitsWordStep, barred_after, no_hold, hold_has, hold_after}
 use Rattle.lock_word.specs.Holders.{all_of, IsPart, holder_at, HolderStep, IsHolderStep, IsHolderRun, modes_of, steps_of}
 
 -- the bag has what the step releases or changes
@@ -124,7 +124,7 @@ bars_announced true bars le none = omega arith
 bars_announced false bars le none = omega arith
 
 alike_bars : (limit : ℕ) (own : Hold) (all : BarredBag) (s : WordStep) → IsPart own all → IsTrue (hold_has own s)
-    → PermitsTo own.announced limit all s
+    → PermitsWordStep own.announced limit all s
     → all.bars + bars_of (hold_after own s).announced ≡ (barred_after own.announced all s).bars + bars_of own.announced
 alike_bars limit own all (Modes s) part h permitted = bars_left (ends_bar s) own.announced all.bars part.bars
 alike_bars limit own all Announce part h none = bars_announced own.announced all.bars part.bars none
@@ -134,7 +134,7 @@ alike_bars limit own all Withdraw part h some =
 
 -- a step of one holder is the same step on the sum of all holds
 pub all_of-after : (limit : ℕ) (holds : List Hold) (k : ℕ) (own : Hold) (s : WordStep) → slice_get holds k ≡ Some own
-    → IsTrue (hold_has own s) → PermitsTo own.announced limit (all_of holds) s
+    → IsTrue (hold_has own s) → PermitsWordStep own.announced limit (all_of holds) s
     → all_of (slice_set holds k (hold_after own s)) ≡ barred_after own.announced (all_of holds) s
 all_of-after limit holds k own s at h permitted =
     let part = part_of_all holds k own at in
@@ -166,7 +166,7 @@ step_of_all limit before after s made = at s.holder refl
 
 -- a step on the bag and its bars is a step of the modes on the bag, or none
 modes_made : (limit : ℕ) (announced : Bool) (all : BarredBag) (s : WordStep) (rest : List ModeStep) (last : Bag)
-    → PermitsTo announced limit all s → IsModeRun limit (barred_after announced all s).bag rest last
+    → PermitsWordStep announced limit all s → IsModeRun limit (barred_after announced all s).bag rest last
     → IsModeRun limit all.bag (modes_of s ++ rest) last
 modes_made limit announced all (Modes s) rest last permitted run = (permitted.0, run)
 modes_made limit announced all Announce rest last permitted run = run

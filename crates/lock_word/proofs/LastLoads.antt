@@ -3,10 +3,10 @@
 use Rattle.std.proofs.Common.{◌≡◌, ◌≢◌, ℕ, zero, suc, ◌+◌, ◌-◌, ◌^◌, ◌<◌, ◌≤◌, ◌⊎◌, inl, inr, Bool, false, IsTrue, List, [], ◌∷◌, slice_get, slice_set, Some, None, refl, sym, ap, subst, ◌∙◌, arith, true≢false}
 use Rattle.std.proofs.lemmas.Option.{same_Some}
 use Rattle.lock_base.specs.Limits.{IsLimit}
-use Rattle.lock_word.specs.Holds.{MayStand, PermitsTo}
+use Rattle.lock_word.specs.Holds.{IsLegalBarredBag, PermitsWordStep}
 use Rattle.lock_word.specs.declared.want.ExWant.{ExWant}
 use Rattle.lock_word.specs.declared.hold.Hold.{Hold}
-use Rattle.lock_word.specs.declared.party.PartyState.{PartyState}
+use Rattle.lock_word.specs.declared.party.WorldParty.{WorldParty}
 use Rattle.lock_word.specs.declared.step.AtomicStep.{AtomicStep}
 use Rattle.lock_word.specs.declared.step.AtomicStep.TheVariants.{Load, Exchange, Take}
 use Rattle.lock_word.specs.declared.step.Outcome.TheVariants.{Done, NotAdmitted, Changed, Refused}
@@ -23,7 +23,7 @@ use Rattle.lock_word.proofs.Reached.{StepEffect, none_made, one_made, step_effec
 
 -- the party has this word open
 pub record IsOpen (w : WorldState) (p loaded : ℕ) : Type 0 where
-  pub me : PartyState
+  pub me : WorldParty
   pub at : holder_at w.parties p ≡ Some me
   pub open_load : me.loaded ≡ Some loaded
 
@@ -49,7 +49,7 @@ no_load_cons p (Take q d) ss other rest = rest
 Before : WorldState → ℕ → ℕ → AtomicStep → Type 0
 Before w p loaded s = ((s ≡ Load p) × (w.word ≡ loaded)) ⊎ (IsOpen w p loaded × IsNoLoad s p)
 
-of_turn : (w : WorldState) (s : AtomicStep) (k loaded : ℕ) (me : PartyState) (t : Turn) → party_of s ≡ suc k
+of_turn : (w : WorldState) (s : AtomicStep) (k loaded : ℕ) (me : WorldParty) (t : Turn) → party_of s ≡ suc k
     → slice_get w.parties k ≡ Some me → Effect w.readers w.word me s t → t.party.loaded ≡ Some loaded
     → Before w (suc k) loaded s
 unfolding Before IsNoLoad
@@ -91,7 +91,7 @@ open_before w s (suc j) loaded r more e o =
           elim (changed_or_not w.parties k j t.party o.me found) [
             | inl h ↦
                 subst (λ n. Before w (suc n) loaded s) (sym h.0)
-                (of_turn w s k loaded me t is there made (sym (ap (λ (x : PartyState). x.loaded) h.1) ∙ o.open_load))
+                (of_turn w s k loaded me t is there made (sym (ap (λ (x : WorldParty). x.loaded) h.1) ∙ o.open_load))
             | inr h ↦ inr (
               record { me = o.me; at = h.1; open_load = o.open_load },
               λ n g p. (let e : suc k ≡ suc j = sym is ∙ (ap party_of g ∙ p) in h.0 (omega arith)),
@@ -104,15 +104,15 @@ open_before w s (suc j) loaded r more e o =
 -- from one world to a later one: the others' wins have not fallen, and have grown where the word is another. What the
 -- party holds is the same, since it has a load open
 record Since (w v : WorldState) (p : ℕ) : Type 0 where
-  past : PartyState
-  now : PartyState
+  past : WorldParty
+  now : WorldParty
   was : holder_at w.parties p ≡ Some past
   is : holder_at v.parties p ≡ Some now
   grows : others_wins w.parties past ≤ others_wins v.parties now
   held : now.held ≡ past.held
   moved : (w.word ≡ v.word) ⊎ (others_wins w.parties past < others_wins v.parties now)
 
-since_same : (w v : WorldState) (p : ℕ) (q : PartyState) → v ≡ w → holder_at v.parties p ≡ Some q → Since w v p
+since_same : (w v : WorldState) (p : ℕ) (q : WorldParty) → v ≡ w → holder_at v.parties p ≡ Some q → Since w v p
 since_same w v p q e at =
     record {
       past = q;
@@ -136,7 +136,7 @@ since_then w v u p f g =
       was = f.was;
       is = g.is;
       grows = omega arith;
-      held = g.held ∙ (sym (ap (λ (x : PartyState). x.held) between) ∙ f.held);
+      held = g.held ∙ (sym (ap (λ (x : WorldParty). x.held) between) ∙ f.held);
       moved = elim f.moved [
         | inl a ↦ elim g.moved [ inl b ↦ inl (a ∙ b) | inr b ↦ inr (omega arith) ]
         | inr a ↦ inr (omega arith)
@@ -144,11 +144,11 @@ since_then w v u p f g =
     }
 
 -- a turn wins nothing and leaves the word, or it wins and spends the open load
-data Wins (w : WorldState) (me : PartyState) (t : Turn) : Type 0 where
+data Wins (w : WorldState) (me : WorldParty) (t : Turn) : Type 0 where
   wins_nothing : t.party.wins ≡ me.wins → w.word ≡ t.word → t.party.held ≡ me.held → Wins w me t
   wins_once : t.party.wins ≡ me.wins + 1 → t.party.loaded ≡ None → Wins w me t
 
-wins_of : (w : WorldState) (s : AtomicStep) (me : PartyState) (t : Turn) → Effect w.readers w.word me s t
+wins_of : (w : WorldState) (s : AtomicStep) (me : WorldParty) (t : Turn) → Effect w.readers w.word me s t
     → Wins w me t
 wins_of w s me t e =
     elim e [
@@ -161,7 +161,7 @@ wins_of w s me t e =
     ]
 
 -- a turn of another party
-since_other : (w : WorldState) (k j : ℕ) (me q : PartyState) (t : Turn) → slice_get w.parties k ≡ Some me
+since_other : (w : WorldState) (k j : ℕ) (me q : WorldParty) (t : Turn) → slice_get w.parties k ≡ Some me
     → slice_get w.parties j ≡ Some q → j ≢ k → slice_get (slice_set w.parties k t.party) j ≡ Some q → Wins w me t
     → Since w (after_turn w k t).world (suc j)
 since_other w k j me q t at_k at_j other there e =
@@ -175,7 +175,7 @@ since_other w k j me q t at_k at_j other there e =
     ]
 
 -- a turn of the party after which it has an open load
-since_own : (w : WorldState) (k loaded : ℕ) (me : PartyState) (t : Turn) → slice_get w.parties k ≡ Some me
+since_own : (w : WorldState) (k loaded : ℕ) (me : WorldParty) (t : Turn) → slice_get w.parties k ≡ Some me
     → slice_get (slice_set w.parties k t.party) k ≡ Some t.party → t.party.loaded ≡ Some loaded → Wins w me t
     → Since w (after_turn w k t).world (suc k)
 since_own w k loaded me t at there is_open e =
@@ -203,7 +203,7 @@ since_step w s (suc j) loaded r e o =
                 (let mine : slice_get (slice_set w.parties k t.party) k ≡ Some t.party
                 = subst (λ n. slice_get (slice_set w.parties k t.party) n ≡ Some t.party) h.0 (found ∙ ap Some h.1) in
                 subst (λ n. Since w (after_turn w k t).world (suc n)) (sym h.0)
-                (since_own w k loaded me t there mine (sym (ap (λ (x : PartyState). x.loaded) h.1) ∙ o.open_load) won))
+                (since_own w k loaded me t there mine (sym (ap (λ (x : WorldParty). x.loaded) h.1) ∙ o.open_load) won))
             | inr h ↦ since_other w k j me o.me t there h.1 h.0 found won
           ]))
     ]
@@ -274,7 +274,7 @@ nothing_open count limit zero loaded o = let h = o.at in cc
 nothing_open count limit (suc k) loaded o =
     let e = get_of_replicate count k idle o.me o.at in
     let h : o.me.loaded ≡ Some loaded = o.open_load in
-    let n : None ≡ Some loaded = sym (ap (λ (x : PartyState). x.loaded) e) ∙ h in
+    let n : None ≡ Some loaded = sym (ap (λ (x : WorldParty). x.loaded) e) ∙ h in
     cc
 
 -- from a new world on, a load that is open is the last one of the party
@@ -301,7 +301,7 @@ record Missed (w : WorldState) (p : ℕ) (Why : Bool → ℕ → Type 0) : Type 
   why : Why is_open.me.held.announced loaded
   more : w.steps ≢ 2 ^ 64 - 1
 
-refused_turn_says : (w : WorldState) (p k : ℕ) (want : ExWant) (me : PartyState) (t : Turn) → p ≡ suc k
+refused_turn_says : (w : WorldState) (p k : ℕ) (want : ExWant) (me : WorldParty) (t : Turn) → p ≡ suc k
     → slice_get w.parties k ≡ Some me → w.steps ≢ 2 ^ 64 - 1 → Effect w.readers w.word me (Exchange p want) t
     → t.outcome ≡ NotAdmitted
     → Missed w p (λ announced loaded. word_admits announced w.readers loaded want ≡ false)
@@ -331,7 +331,7 @@ refused_says w p want r e h =
           refused_turn_says w p k want me t is at more made (sym (ap (λ u. u.outcome) same) ∙ h)
     ]
 
-changed_turn_says : (w : WorldState) (p k : ℕ) (want : ExWant) (me : PartyState) (t : Turn) → p ≡ suc k
+changed_turn_says : (w : WorldState) (p k : ℕ) (want : ExWant) (me : WorldParty) (t : Turn) → p ≡ suc k
     → slice_get w.parties k ≡ Some me → w.steps ≢ 2 ^ 64 - 1 → Effect w.readers w.word me (Exchange p want) t
     → t.outcome ≡ Changed
     → Missed w p (λ announced loaded. w.word ≢ loaded)
@@ -398,13 +398,13 @@ are_refused_by_loads w (s ∷ ss) h = (
 -- what is permitted where the party made its last load, the loaded word admits
 admitted_there : (announced : Bool) (count limit : ℕ) (ss : List AtomicStep) (loaded : ℕ) (want : ExWant) → IsLimit limit
     → (world_after (new_world count limit) ss).word ≡ loaded
-    → PermitsTo announced limit (held_by_all (world_after (new_world count limit) ss).parties) (step_of_want want)
+    → PermitsWordStep announced limit (held_by_all (world_after (new_world count limit) ss).parties) (step_of_want want)
     → IsTrue (word_admits announced limit loaded want)
 admitted_there announced count limit ss loaded want range found permitted =
     let start = new_world count limit in
     let there = reachable_after start ss (reachable_new count limit range) in
     let all = held_by_all (world_after start ss).parties in
-    let legal = subst (λ n. MayStand n all) (readers_after start ss) there.rule.legal in
+    let legal = subst (λ n. IsLegalBarredBag n all) (readers_after start ss) there.rule.legal in
     let admits = word_of_permits announced limit all want range.1 legal permitted in
     subst (λ n. IsTrue (word_admits announced limit n want)) (sym there.rule.coded ∙ found) admits
 
@@ -420,7 +420,7 @@ refused_at_last_load count limit ss p want range h =
     let since = l.since in
     let me = missed.is_open.me in
     let held : me.held ≡ since.past.held
-    = ap (λ (x : PartyState). x.held) (same_Some me since.now (sym missed.is_open.at ∙ since.is)) ∙ since.held in
+    = ap (λ (x : WorldParty). x.held) (same_Some me since.now (sym missed.is_open.at ∙ since.is)) ∙ since.held in
     let never : word_admits since.past.held.announced limit missed.loaded want ≡ false
     = ap (λ (h : Hold). word_admits h.announced limit missed.loaded want) (sym held)
     ∙ ap (λ n. word_admits me.held.announced n missed.loaded want) (sym (readers_after start ss)) ∙ missed.why in

@@ -7,14 +7,14 @@ use Rattle.lock_base.specs.declared.raw.fault.Fault.TheVariants as fault
 use Rattle.lock_base.specs.Limits.{IsLimit}
 use Rattle.lock_base.specs.Modes.{empty_bag}
 use Rattle.lock_base.proofs.ModeLemmas.{compatible_empty}
-use Rattle.lock_word.specs.declared.party.PartyState.{PartyState}
+use Rattle.lock_word.specs.declared.party.WorldParty.{WorldParty}
 use Rattle.lock_word.specs.declared.step.AtomicStep.{AtomicStep}
 use Rattle.lock_word.specs.declared.step.AtomicStep.TheVariants.{Load, Exchange, Take}
 use Rattle.lock_word.specs.declared.step.Outcome.{Outcome}
 use Rattle.lock_word.specs.declared.step.Outcome.TheVariants.{Loaded, Done, NotAdmitted, Changed, Refused}
 use Rattle.lock_word.specs.declared.hold.Hold.{Hold}
 use Rattle.lock_word.specs.declared.word_step.WordStep.{WordStep}
-use Rattle.lock_word.specs.Holds.{MayStand, without_bars, PermitsTo, no_hold, hold_has, hold_after}
+use Rattle.lock_word.specs.Holds.{IsLegalBarredBag, without_bars, PermitsWordStep, no_hold, hold_has, hold_after}
 use Rattle.lock_word.specs.Holders.{holder_at, all_of, HolderStep, IsHolderRun}
 use Rattle.lock_word.specs.Word.{word_of, step_of_want, step_of_down, barred_bag_of_word, IsPacked}
 use Rattle.lock_word.specs.Turns.{Turn, idle, with_load, after_win, after_fail, without_load, turn, party_of, steps_after, CanStep}
@@ -31,11 +31,11 @@ pub data StepEffect (w : WorldState) (s : AtomicStep) (r : Stepped) : Type 0 whe
   none_made : (f : Fault) → (w.steps < 2 ^ 64 - 1 → holder_at w.parties (party_of s) ≡ None)
       → r ≡ record { world = w; outcome = Refused f }
       → StepEffect w s r
-  one_made : (k : ℕ) (me : PartyState) (t : Turn) → party_of s ≡ suc k → slice_get w.parties k ≡ Some me
+  one_made : (k : ℕ) (me : WorldParty) (t : Turn) → party_of s ≡ suc k → slice_get w.parties k ≡ Some me
       → w.steps ≢ 2 ^ 64 - 1 → Effect w.readers w.word me s t → r ≡ after_turn w k t
       → StepEffect w s r
 
-effect_at : (w : WorldState) (s : AtomicStep) (p : ℕ) (o : Option PartyState) → party_of s ≡ p
+effect_at : (w : WorldState) (s : AtomicStep) (p : ℕ) (o : Option WorldParty) → party_of s ≡ p
     → holder_at w.parties p ≡ o → w.steps ≢ 2 ^ 64 - 1
     → StepEffect w s (after_step_of w s o)
 effect_at w s p None is at more = none_made fault.UnknownParty (λ h. ap (λ n. holder_at w.parties n) is ∙ at) refl
@@ -54,7 +54,7 @@ step_effect w s =
 
 -- what a program has to know before a turn
 
-pub can_step : (w : WorldState) (k : ℕ) (me : PartyState) → IsReachable w → slice_get w.parties k ≡ Some me
+pub can_step : (w : WorldState) (k : ℕ) (me : WorldParty) → IsReachable w → slice_get w.parties k ≡ Some me
     → w.steps < 2 ^ 64 - 1 → CanStep w.word me
 can_step w k me h at more =
     let part = part_of_parties w.parties k me at in
@@ -75,7 +75,7 @@ pub stepped_unknown : (w : WorldState) (s : AtomicStep) → w.steps < 2 ^ 64 - 1
 unfolding after_step
 stepped_unknown w s h none = rw (ne_eqb w.steps (2 ^ 64 - 1) (λ e. omega arith), none)
 
-pub stepped_at : (w : WorldState) (s : AtomicStep) (k : ℕ) (me : PartyState) → w.steps < 2 ^ 64 - 1
+pub stepped_at : (w : WorldState) (s : AtomicStep) (k : ℕ) (me : WorldParty) → w.steps < 2 ^ 64 - 1
     → party_of s ≡ k + 1 → slice_get w.parties k ≡ Some me
     → after_step w s ≡ after_turn w k (turn w.readers w.word me s)
 unfolding after_step
@@ -85,7 +85,7 @@ stepped_at w s k me h is at =
     rw (ne_eqb w.steps (2 ^ 64 - 1) (λ e. omega arith), there, index)
 
 -- the same from what a program has computed
-pub stepped_is : (w : WorldState) (s : AtomicStep) (k : ℕ) (me : PartyState) (t : Turn) (steps : ℕ) → w.steps < 2 ^ 64 - 1
+pub stepped_is : (w : WorldState) (s : AtomicStep) (k : ℕ) (me : WorldParty) (t : Turn) (steps : ℕ) → w.steps < 2 ^ 64 - 1
     → party_of s ≡ k + 1 → slice_get w.parties k ≡ Some me
     → t.word ≡ (turn w.readers w.word me s).word → t.party ≡ (turn w.readers w.word me s).party
     → t.outcome ≡ (turn w.readers w.word me s).outcome → steps ≡ steps_after w.steps t.outcome
@@ -107,7 +107,7 @@ steps_grow n NotAdmitted = (omega arith, omega arith)
 steps_grow n Changed = (omega arith, omega arith)
 
 -- a party's wins and fails stay within the steps done
-counted_turn : (limit word n : ℕ) (me : PartyState) (s : AtomicStep) (t : Turn) → me.wins + me.fails ≤ n
+counted_turn : (limit word n : ℕ) (me : WorldParty) (s : AtomicStep) (t : Turn) → me.wins + me.fails ≤ n
     → Effect limit word me s t → t.party.wins + t.party.fails ≤ steps_after n t.outcome
 counted_turn limit word n me s t h e =
     let Within : Turn → Type 0 = λ u. u.party.wins + u.party.fails ≤ steps_after n u.outcome in
@@ -121,15 +121,15 @@ counted_turn limit word n me s t h e =
     ]
 
 -- the word of all that is held is packed
-packed_word : (limit word : ℕ) (ps : List PartyState) → IsLimit limit → KeepsRule limit word ps → IsPacked limit word
+packed_word : (limit word : ℕ) (ps : List WorldParty) → IsLimit limit → KeepsRule limit word ps → IsPacked limit word
 packed_word limit word ps range rule =
     let all = held_by_all ps in
     let same : barred_bag_of_word word ≡ all
     = ap barred_bag_of_word rule.coded ∙ bag_of_word_of limit all range.1 rule.legal in
-    record { coded = rule.coded ∙ ap word_of (sym same); legal = subst (MayStand limit) (sym same) rule.legal }
+    record { coded = rule.coded ∙ ap word_of (sym same); legal = subst (IsLegalBarredBag limit) (sym same) rule.legal }
 
 -- a load that is open after a turn is the word, or was open before
-load_turn_packed : (limit word : ℕ) (me : PartyState) (s : AtomicStep) (t : Turn) → IsPacked limit word
+load_turn_packed : (limit word : ℕ) (me : WorldParty) (s : AtomicStep) (t : Turn) → IsPacked limit word
     → HasPackedLoad limit me → Effect limit word me s t → HasPackedLoad limit t.party
 load_turn_packed limit word me s t packed before e =
     let Packed : Turn → Type 0 = λ u. HasPackedLoad limit u.party in
@@ -157,7 +157,7 @@ reachable_step w s r h e =
             steps_fit = omega arith;
             rule = keeps_turn w.readers w.word w.parties k me s t h.limit h.rule at made;
             counted =
-                each_after (λ (x : PartyState). x.wins + x.fails ≤ steps_after w.steps t.outcome) w.parties k t.party
+                each_after (λ (x : WorldParty). x.wins + x.fails ≤ steps_after w.steps t.outcome) w.parties k t.party
                 (counted_turn w.readers w.word w.steps me s t (h.counted k me at) made)
                 (λ j x n at_j. let before = h.counted j x at_j in omega arith);
             loads =
@@ -208,7 +208,7 @@ reachable_new count limit range =
           record {
             coded = sym (ap word_of none);
             legal =
-                subst (MayStand limit) (sym none)
+                subst (IsLegalBarredBag limit) (sym none)
                 (record { compatible = compatible_empty limit; one_bar = omega arith });
             behind = λ k me at.
                 subst (λ q. IsBehind (others_wins (replicate count idle) q) 0 q)
@@ -216,7 +216,7 @@ reachable_new count limit range =
                 record { bounded = omega arith; open_load = λ w e d. cc };
           };
       counted = λ k me at.
-          subst (λ (q : PartyState). q.wins + q.fails ≤ 0) (sym (get_of_replicate count k idle me at)) (omega arith);
+          subst (λ (q : WorldParty). q.wins + q.fails ≤ 0) (sym (get_of_replicate count k idle me at)) (omega arith);
       loads = λ k me at.
           subst (HasPackedLoad limit) (sym (get_of_replicate count k idle me at)) (λ loaded is. cc);
     }
@@ -224,8 +224,8 @@ reachable_new count limit range =
 -- the steps that were done are a run of the modes
 
 -- one change of modes by the party at k
-one_step : (limit : ℕ) (ps : List PartyState) (k p : ℕ) (me : PartyState) (s : WordStep) → p ≡ suc k
-    → slice_get ps k ≡ Some me → IsTrue (hold_has me.held s) → PermitsTo me.held.announced limit (held_by_all ps) s
+one_step : (limit : ℕ) (ps : List WorldParty) (k p : ℕ) (me : WorldParty) (s : WordStep) → p ≡ suc k
+    → slice_get ps k ≡ Some me → IsTrue (hold_has me.held s) → PermitsWordStep me.held.announced limit (held_by_all ps) s
     → IsHolderRun limit (holds ps) (record { holder = p; step = s } ∷ []) (holds (slice_set ps k (after_win me s)))
 one_step limit ps k p me s is at own permitted =
     let index : p - 1 ≡ k = omega arith in (
@@ -241,7 +241,7 @@ one_step limit ps k p me s is at own permitted =
     )
 
 -- along equations of the step and of the turn
-along : (limit k : ℕ) (ps : List PartyState) {s x : AtomicStep} {t u : Turn} → s ≡ x → t ≡ u
+along : (limit k : ℕ) (ps : List WorldParty) {s x : AtomicStep} {t u : Turn} → s ≡ x → t ≡ u
     → IsHolderRun limit (holds ps) (holder_step x u.outcome) (holds (slice_set ps k u.party))
     → IsHolderRun limit (holds ps) (holder_step s t.outcome) (holds (slice_set ps k t.party))
 along limit k ps {s} {x} {t} {u} a q h =
@@ -256,7 +256,7 @@ no_step limit (Load p) f before after same = same
 no_step limit (Exchange p want) f before after same = same
 no_step limit (Take p d) f before after same = same
 
-run_of_turn : (limit word k : ℕ) (ps : List PartyState) (me : PartyState) (s : AtomicStep) (t : Turn) → IsLimit limit
+run_of_turn : (limit word k : ℕ) (ps : List WorldParty) (me : WorldParty) (s : AtomicStep) (t : Turn) → IsLimit limit
     → KeepsRule limit word ps → party_of s ≡ suc k → slice_get ps k ≡ Some me → Effect limit word me s t
     → IsHolderRun limit (holds ps) (holder_step s t.outcome) (holds (slice_set ps k t.party))
 run_of_turn limit word k ps me s t range rule is at e =
@@ -308,11 +308,11 @@ run_of_steps w (s ∷ ss) h =
 
 -- what a step leaves
 
-leaves_turn : (w : WorldState) (s : AtomicStep) (k : ℕ) (me : PartyState) (t : Turn) → slice_get w.parties k ≡ Some me
+leaves_turn : (w : WorldState) (s : AtomicStep) (k : ℕ) (me : WorldParty) (t : Turn) → slice_get w.parties k ≡ Some me
     → Effect w.readers w.word me s t → Leaves t.outcome w (after_turn w k t).world
 leaves_turn w s k me t at e =
     let Left : Turn → Type 0 = λ u. Leaves u.outcome w (after_turn w k u).world in
-    let By : List PartyState → WorldState = λ ps. record { word = w.word; readers = w.readers; steps = w.steps; parties = ps } in
+    let By : List WorldParty → WorldState = λ ps. record { word = w.word; readers = w.readers; steps = w.steps; parties = ps } in
     elim e [
       | is_refused f x p ↦ subst Left (sym p) (ap By (slice_set_same w.parties k me at))
       | is_load n a p ↦ subst Left (sym p) (refl, (refl, holds_same w.parties k me (with_load me w.word) at refl))

@@ -6,15 +6,15 @@ use Rattle.std.proofs.lemmas.Option.{same_Some, get_or_from_slice_get, slice_get
 use Rattle.lock_base.specs.Limits.{IsLimit}
 use Rattle.lock_word.specs.declared.hold.Hold.{Hold}
 use Rattle.lock_word.specs.declared.word_step.WordStep.{WordStep}
-use Rattle.lock_word.specs.Holds.{MayStand, bars_of, PermitsTo, barred_after, no_hold, hold_has}
+use Rattle.lock_word.specs.Holds.{IsLegalBarredBag, bars_of, PermitsWordStep, barred_after, no_hold, hold_has}
 use Rattle.lock_base.proofs.TokenBags.{same_counts}
 use Rattle.lock_word.specs.declared.want.ExWant.{ExWant}
 use Rattle.lock_word.specs.declared.down.Down.{Down}
-use Rattle.lock_word.specs.declared.party.PartyState.{PartyState}
+use Rattle.lock_word.specs.declared.party.WorldParty.{WorldParty}
 use Rattle.lock_word.specs.Holders.{all_of, IsPart}
 use Rattle.lock_word.specs.Word.{word_of, word_admits, word_after, amount, step_of_want, step_of_down}
 use Rattle.lock_word.specs.Turns.{idle, with_load, without_load, after_win, after_fail}
-use Rattle.lock_word.specs.Rule.{holds, held_by_all, all_wins, others_wins, IsBehind, KeepsRule, Shows}
+use Rattle.lock_word.specs.Rule.{holds, held_by_all, all_wins, others_wins, IsBehind, KeepsRule, WordShows}
 use Rattle.lock_word.specs.Claims.{FailsAreBounded}
 use Rattle.lock_word.proofs.Holders.{Has, has_of_part, part_of_all, sum_by-slice_set, le-sum_by, same_barred, all_of-after}
 use Rattle.lock_word.proofs.Words.{alone_or_none, parts_of_word, permits_of_word, word_after_want, permits_down, word_before_down, stands_after}
@@ -44,36 +44,36 @@ slice_set_same xs k x h = let at : get_or xs k x ≡ x = get_or_from_slice_get x
 
 -- what the parties hold, and their wins
 
-pub holds_at : (ps : List PartyState) (k : ℕ) (me : PartyState) → slice_get ps k ≡ Some me
+pub holds_at : (ps : List WorldParty) (k : ℕ) (me : WorldParty) → slice_get ps k ≡ Some me
     → slice_get (holds ps) k ≡ Some me.held
-holds_at ps k me h = rw (slice_get-map (λ (q : PartyState). q.held) ps k, h)
+holds_at ps k me h = rw (slice_get-map (λ (q : WorldParty). q.held) ps k, h)
 
-pub holds_set : (ps : List PartyState) (k : ℕ) (you : PartyState)
+pub holds_set : (ps : List WorldParty) (k : ℕ) (you : WorldParty)
     → holds (slice_set ps k you) ≡ slice_set (holds ps) k you.held
-holds_set ps k you = map-set (λ (q : PartyState). q.held) ps k you
+holds_set ps k you = map-set (λ (q : WorldParty). q.held) ps k you
 
 -- one party is changed, and it has the same modes
-pub holds_same : (ps : List PartyState) (k : ℕ) (me you : PartyState) → slice_get ps k ≡ Some me → you.held ≡ me.held
+pub holds_same : (ps : List WorldParty) (k : ℕ) (me you : WorldParty) → slice_get ps k ≡ Some me → you.held ≡ me.held
     → holds (slice_set ps k you) ≡ holds ps
 holds_same ps k me you at held =
     holds_set ps k you
     ∙ (ap (λ b. slice_set (holds ps) k b) held ∙ slice_set_same (holds ps) k me.held (holds_at ps k me at))
 
-pub part_of_parties : (ps : List PartyState) (k : ℕ) (me : PartyState) → slice_get ps k ≡ Some me
+pub part_of_parties : (ps : List WorldParty) (k : ℕ) (me : WorldParty) → slice_get ps k ≡ Some me
     → IsPart me.held (held_by_all ps)
 part_of_parties ps k me at = part_of_all (holds ps) k me.held (holds_at ps k me at)
 
-pub all_wins_set : (ps : List PartyState) (k : ℕ) (me you : PartyState) → slice_get ps k ≡ Some me
+pub all_wins_set : (ps : List WorldParty) (k : ℕ) (me you : WorldParty) → slice_get ps k ≡ Some me
     → all_wins (slice_set ps k you) + me.wins ≡ all_wins ps + you.wins
-all_wins_set ps k me you at = sum_by-slice_set (λ (q : PartyState). q.wins) ps k me you at
+all_wins_set ps k me you at = sum_by-slice_set (λ (q : WorldParty). q.wins) ps k me you at
 
-pub wins_within : (ps : List PartyState) (k : ℕ) (me : PartyState) → slice_get ps k ≡ Some me → me.wins ≤ all_wins ps
-wins_within ps k me at = le-sum_by (λ (q : PartyState). q.wins) ps k me at
+pub wins_within : (ps : List WorldParty) (k : ℕ) (me : WorldParty) → slice_get ps k ≡ Some me → me.wins ≤ all_wins ps
+wins_within ps k me at = le-sum_by (λ (q : WorldParty). q.wins) ps k me at
 
 -- the kinds of step
 
 -- the party has only loaded, or lost its open load
-keeps_quiet : (limit word : ℕ) (ps : List PartyState) (k : ℕ) (me you : PartyState) → KeepsRule limit word ps
+keeps_quiet : (limit word : ℕ) (ps : List WorldParty) (k : ℕ) (me you : WorldParty) → KeepsRule limit word ps
     → slice_get ps k ≡ Some me → you.held ≡ me.held → you.wins ≡ me.wins → you.fails ≡ me.fails
     → ((loaded : ℕ) → you.loaded ≡ Some loaded → word ≡ loaded)
     → KeepsRule limit word (slice_set ps k you)
@@ -97,19 +97,19 @@ keeps_quiet limit word ps k me you rule at held wins fails loads =
           });
     }
 
-pub keeps_load : (limit word : ℕ) (ps : List PartyState) (k : ℕ) (me : PartyState) → KeepsRule limit word ps
+pub keeps_load : (limit word : ℕ) (ps : List WorldParty) (k : ℕ) (me : WorldParty) → KeepsRule limit word ps
     → slice_get ps k ≡ Some me → KeepsRule limit word (slice_set ps k (with_load me word))
 keeps_load limit word ps k me rule at =
     keeps_quiet limit word ps k me (with_load me word) rule at refl refl refl (λ loaded e. same_Some word loaded e)
 
 -- an exchange was not admitted
-pub keeps_unloaded : (limit word : ℕ) (ps : List PartyState) (k : ℕ) (me : PartyState) → KeepsRule limit word ps
+pub keeps_unloaded : (limit word : ℕ) (ps : List WorldParty) (k : ℕ) (me : WorldParty) → KeepsRule limit word ps
     → slice_get ps k ≡ Some me → KeepsRule limit word (slice_set ps k (without_load me))
 keeps_unloaded limit word ps k me rule at =
     keeps_quiet limit word ps k me (without_load me) rule at refl refl refl (λ loaded e. cc)
 
 -- an exchange found a word other than the open load
-pub keeps_lost : (limit word : ℕ) (ps : List PartyState) (k loaded : ℕ) (me : PartyState) → KeepsRule limit word ps
+pub keeps_lost : (limit word : ℕ) (ps : List WorldParty) (k loaded : ℕ) (me : WorldParty) → KeepsRule limit word ps
     → slice_get ps k ≡ Some me → me.loaded ≡ Some loaded → word ≢ loaded
     → KeepsRule limit word (slice_set ps k (after_fail me))
 keeps_lost limit word ps k loaded me rule at was differs =
@@ -130,9 +130,9 @@ keeps_lost limit word ps k loaded me rule at was differs =
     }
 
 -- the party has made a permitted step, and the word encodes what all parties hold after it
-keeps_won : (limit word new : ℕ) (ps : List PartyState) (k : ℕ) (me : PartyState) (s : WordStep) → 0 < limit
+keeps_won : (limit word new : ℕ) (ps : List WorldParty) (k : ℕ) (me : WorldParty) (s : WordStep) → 0 < limit
     → KeepsRule limit word ps → slice_get ps k ≡ Some me → IsTrue (hold_has me.held s)
-    → PermitsTo me.held.announced limit (held_by_all ps) s
+    → PermitsWordStep me.held.announced limit (held_by_all ps) s
     → new ≡ word_of (barred_after me.held.announced (held_by_all ps) s)
     → KeepsRule limit new (slice_set ps k (after_win me s))
 keeps_won limit word new ps k me s positive rule at has permitted coded =
@@ -144,7 +144,7 @@ keeps_won limit word new ps k me s positive rule at has permitted coded =
     record {
       coded = coded ∙ ap word_of (sym all);
       legal =
-          subst (MayStand limit) (sym all)
+          subst (IsLegalBarredBag limit) (sym all)
           (stands_after me.held.announced limit (held_by_all ps) s positive rule.legal permitted);
       behind =
           each_after (λ q. IsBehind (others_wins (slice_set ps k (after_win me s)) q) new q) ps k (after_win me s)
@@ -157,16 +157,16 @@ keeps_won limit word new ps k me s positive rule at has permitted coded =
     }
 
 -- what the word admits to a party is permitted to it by what all parties hold
-pub permits_of_rule : (limit word : ℕ) (ps : List PartyState) (k : ℕ) (me : PartyState) (want : ExWant) → IsLimit limit
+pub permits_of_rule : (limit word : ℕ) (ps : List WorldParty) (k : ℕ) (me : WorldParty) (want : ExWant) → IsLimit limit
     → KeepsRule limit word ps → slice_get ps k ≡ Some me
     → IsTrue (word_admits me.held.announced limit word want)
-    → PermitsTo me.held.announced limit (held_by_all ps) (step_of_want want)
+    → PermitsWordStep me.held.announced limit (held_by_all ps) (step_of_want want)
 permits_of_rule limit word ps k me want range rule at admits =
     permits_of_word me.held.announced limit (held_by_all ps) want range.1 rule.legal (part_of_parties ps k me at).bars
     (subst (λ w. IsTrue (word_admits me.held.announced limit w want)) rule.coded admits)
 
 -- an exchange was done
-pub keeps_exchange : (limit word : ℕ) (ps : List PartyState) (k : ℕ) (me : PartyState) (want : ExWant) → IsLimit limit
+pub keeps_exchange : (limit word : ℕ) (ps : List WorldParty) (k : ℕ) (me : WorldParty) (want : ExWant) → IsLimit limit
     → KeepsRule limit word ps → slice_get ps k ≡ Some me → IsTrue (hold_has me.held (step_of_want want))
     → IsTrue (word_admits me.held.announced limit word want)
     → KeepsRule limit (word_after word want) (slice_set ps k (after_win me (step_of_want want)))
@@ -176,12 +176,12 @@ keeps_exchange limit word ps k me want range rule at has admits =
     (ap (λ w. word_after w want) rule.coded ∙ word_after_want me.held.announced limit (held_by_all ps) want permitted)
 
 -- the sum of all holds has what one party has
-pub has_of_all : (ps : List PartyState) (k : ℕ) (me : PartyState) (s : WordStep) → slice_get ps k ≡ Some me
+pub has_of_all : (ps : List WorldParty) (k : ℕ) (me : WorldParty) (s : WordStep) → slice_get ps k ≡ Some me
     → IsTrue (hold_has me.held s) → Has (held_by_all ps) s
 has_of_all ps k me s at h = has_of_part me.held (held_by_all ps) s (part_of_parties ps k me at) h
 
 -- what a party subtracts is part of the word
-pub amount_within : (limit word : ℕ) (ps : List PartyState) (k : ℕ) (me : PartyState) (d : Down)
+pub amount_within : (limit word : ℕ) (ps : List WorldParty) (k : ℕ) (me : WorldParty) (d : Down)
     → KeepsRule limit word ps → slice_get ps k ≡ Some me → IsTrue (hold_has me.held (step_of_down d)) → amount d ≤ word
 amount_within limit word ps k me d rule at has =
     let coded = rule.coded in
@@ -189,7 +189,7 @@ amount_within limit word ps k me d rule at has =
     omega arith
 
 -- a subtraction was done
-pub keeps_take : (limit word : ℕ) (ps : List PartyState) (k : ℕ) (me : PartyState) (d : Down) → IsLimit limit
+pub keeps_take : (limit word : ℕ) (ps : List WorldParty) (k : ℕ) (me : WorldParty) (d : Down) → IsLimit limit
     → KeepsRule limit word ps → slice_get ps k ≡ Some me → IsTrue (hold_has me.held (step_of_down d))
     → KeepsRule limit (word - amount d) (slice_set ps k (after_win me (step_of_down d)))
 keeps_take limit word ps k me d range rule at has =
@@ -209,11 +209,11 @@ element_of_longer [] y z (suc j) h = cc
 element_of_longer (x ∷ xs) y z zero h = inl h
 element_of_longer (x ∷ xs) y z (suc j) h = element_of_longer xs y z j h
 
-held_by_longer : (ps : List PartyState) → held_by_all (ps ++ idle ∷ []) ≡ held_by_all ps
+held_by_longer : (ps : List WorldParty) → held_by_all (ps ++ idle ∷ []) ≡ held_by_all ps
 held_by_longer ps =
     let all = holds ps in
     let more = all ++ no_hold ∷ [] in
-    let longer : holds (ps ++ idle ∷ []) ≡ more = map-append (λ (q : PartyState). q.held) ps (idle ∷ []) in
+    let longer : holds (ps ++ idle ∷ []) ≡ more = map-append (λ (q : WorldParty). q.held) ps (idle ∷ []) in
     let s = sum_by-append (λ (b : Hold). b.bag.shared) all (no_hold ∷ []) in
     let x = sum_by-append (λ (b : Hold). b.bag.exclusive) all (no_hold ∷ []) in
     let u = sum_by-append (λ (b : Hold). b.bag.upgradable) all (no_hold ∷ []) in
@@ -222,15 +222,15 @@ held_by_longer ps =
     ∙ same_barred (all_of more) (all_of all)
     (same_counts (all_of more).bag (all_of all).bag (omega arith) (omega arith) (omega arith)) (omega arith)
 
-pub keeps_newcomer : (limit word : ℕ) (ps : List PartyState) → KeepsRule limit word ps
+pub keeps_newcomer : (limit word : ℕ) (ps : List WorldParty) → KeepsRule limit word ps
     → KeepsRule limit word (ps ++ idle ∷ [])
 keeps_newcomer limit word ps rule =
     let same = held_by_longer ps in
     let total : all_wins (ps ++ idle ∷ []) ≡ all_wins ps + 0
-    = sum_by-append (λ (q : PartyState). q.wins) ps (idle ∷ []) in
+    = sum_by-append (λ (q : WorldParty). q.wins) ps (idle ∷ []) in
     record {
       coded = rule.coded ∙ ap word_of (sym same);
-      legal = subst (MayStand limit) (sym same) rule.legal;
+      legal = subst (IsLegalBarredBag limit) (sym same) rule.legal;
       behind = λ j q h.
           elim (element_of_longer ps idle q j h) [
             | inl old ↦
@@ -248,8 +248,8 @@ keeps_newcomer limit word ps rule =
 
 -- what the word says to a party
 
-pub shows : (limit word : ℕ) (ps : List PartyState) (k : ℕ) (me : PartyState) → IsLimit limit → KeepsRule limit word ps
-    → slice_get ps k ≡ Some me → Shows limit word me.held
+pub shows : (limit word : ℕ) (ps : List WorldParty) (k : ℕ) (me : WorldParty) → IsLimit limit → KeepsRule limit word ps
+    → slice_get ps k ≡ Some me → WordShows limit word me.held
 shows limit word ps k me range rule at =
     let part = part_of_parties ps k me at in
     let parts = parts_of_word limit (held_by_all ps) range.1 rule.legal in
@@ -271,6 +271,6 @@ shows limit word ps k me range rule at =
     }
 
 -- no party's fails outnumber the wins of the others
-pub fails_bounded : (limit word : ℕ) (ps : List PartyState) → KeepsRule limit word ps → FailsAreBounded ps
+pub fails_bounded : (limit word : ℕ) (ps : List WorldParty) → KeepsRule limit word ps → FailsAreBounded ps
 fails_bounded limit word ps rule zero me at = cc
 fails_bounded limit word ps rule (suc k) me at = (rule.behind k me at).bounded

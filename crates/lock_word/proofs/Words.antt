@@ -8,7 +8,7 @@ use Rattle.lock_base.specs.Limits.{IsLimit}
 use Rattle.lock_base.specs.Modes.{readers, tokens, admits, may_become, AreCompatible}
 use Rattle.lock_word.specs.declared.word_step.WordStep.{WordStep}
 use Rattle.lock_word.specs.declared.word_step.WordStep.TheVariants as step
-use Rattle.lock_word.specs.Holds.{BarredBag, is_barred, MayStand, bars_of, PermitsTo, barred_after}
+use Rattle.lock_word.specs.Holds.{BarredBag, is_barred, IsLegalBarredBag, bars_of, PermitsWordStep, barred_after}
 use Rattle.lock_base.proofs.TokenBags.{same_counts}
 use Rattle.lock_base.proofs.ModeLemmas.{compatible_after, shared_admitted, exclusive_admitted, upgradable_admitted}
 use Rattle.lock_word.specs.declared.want.ExWant.{ExWant}
@@ -16,7 +16,7 @@ use Rattle.lock_word.specs.declared.want.ExWant.TheVariants.{Shared, Exclusive, 
 use Rattle.lock_word.specs.declared.down.Down.{Down}
 use Rattle.lock_word.specs.declared.down.Down.TheVariants as down
 use Rattle.lock_word.specs.Word.{word_of, readers_of_word, word_admits, word_after, amount, step_of_want, step_of_down, want_of_mode, bag_of_word, barred_bag_of_word, word_with_bar, IsPacked}
-use Rattle.lock_word.specs.WordLaws.{ExchangesAreOfBags, SubtractionsAreOfBags, WordsAreOfOneBag}
+use Rattle.lock_word.specs.WordLaws.{ExchangesRefineSteps, SubtractionsRefineSteps, EncodingIsInjective}
 use Rattle.lock_word.proofs.Holders.{Has, has_of_part, same_barred}
 
 -- an exclusive token is alone, or there is none
@@ -31,7 +31,7 @@ pub record HasParts (word : ℕ) (all : BarredBag) : Type 0 where
   pub bars : word / 2 ^ 34 ≡ all.bars
   pub small : word ≤ 2 ^ 34 + 2 ^ 33 + 2 ^ 32
 
-pub parts_of_word : (limit : ℕ) (all : BarredBag) → limit < 2 ^ 32 → MayStand limit all → HasParts (word_of all) all
+pub parts_of_word : (limit : ℕ) (all : BarredBag) → limit < 2 ^ 32 → IsLegalBarredBag limit all → HasParts (word_of all) all
 parts_of_word limit all fits stands =
     let l = stands.compatible in
     let none = alone_or_none limit all.bag l in
@@ -41,7 +41,7 @@ parts_of_word limit all fits stands =
     record { low = omega arith; upgradable = omega arith; exclusive = omega arith; bars = omega arith; small = omega arith }
 
 -- the word of a legal state encodes that state
-pub bag_of_word_of : (limit : ℕ) (all : BarredBag) → limit < 2 ^ 32 → MayStand limit all
+pub bag_of_word_of : (limit : ℕ) (all : BarredBag) → limit < 2 ^ 32 → IsLegalBarredBag limit all
     → barred_bag_of_word (word_of all) ≡ all
 bag_of_word_of limit all fits stands =
     let parts = parts_of_word limit all fits stands in
@@ -103,9 +103,9 @@ word_of_free false all free =
     rw (eq-eqb (word_of all) 0 (omega arith)) refl
 
 -- what the word admits is permitted
-pub permits_of_word : (announced : Bool) (limit : ℕ) (all : BarredBag) (want : ExWant) → limit < 2 ^ 32 → MayStand limit all
+pub permits_of_word : (announced : Bool) (limit : ℕ) (all : BarredBag) (want : ExWant) → limit < 2 ^ 32 → IsLegalBarredBag limit all
     → bars_of announced ≤ all.bars → IsTrue (word_admits announced limit (word_of all) want)
-    → PermitsTo announced limit all (step_of_want want)
+    → PermitsWordStep announced limit all (step_of_want want)
 permits_of_word announced limit all Shared fits stands own h =
     let b = all.bag in
     let parts = parts_of_word limit all fits stands in
@@ -138,8 +138,8 @@ permits_of_word announced limit all Announce fits stands own h =
     let w = ltb-true (word_of all) (2 ^ 34) h in omega arith
 
 -- and what is permitted, the word admits
-pub word_of_permits : (announced : Bool) (limit : ℕ) (all : BarredBag) (want : ExWant) → limit < 2 ^ 32 → MayStand limit all
-    → PermitsTo announced limit all (step_of_want want) → IsTrue (word_admits announced limit (word_of all) want)
+pub word_of_permits : (announced : Bool) (limit : ℕ) (all : BarredBag) (want : ExWant) → limit < 2 ^ 32 → IsLegalBarredBag limit all
+    → PermitsWordStep announced limit all (step_of_want want) → IsTrue (word_admits announced limit (word_of all) want)
 word_of_permits announced limit all Shared fits stands h =
     let a = shared_admitted limit all.bag h.0 in
     let none = h.1 in
@@ -170,7 +170,7 @@ word_of_permits announced limit all Announce fits stands h =
 
 -- the word that the exchange puts encodes the state after the step
 pub word_after_want : (announced : Bool) (limit : ℕ) (all : BarredBag) (want : ExWant)
-    → PermitsTo announced limit all (step_of_want want)
+    → PermitsWordStep announced limit all (step_of_want want)
     → word_after (word_of all) want ≡ word_of (barred_after announced all (step_of_want want))
 word_after_want announced limit all Shared p = omega arith
 word_after_want announced limit all Exclusive p =
@@ -188,7 +188,7 @@ word_after_want announced limit all Announce p = omega arith
 
 -- a subtraction of what is held is always permitted
 pub permits_down : (announced : Bool) (limit : ℕ) (all : BarredBag) (d : Down) → Has all (step_of_down d)
-    → PermitsTo announced limit all (step_of_down d)
+    → PermitsWordStep announced limit all (step_of_down d)
 permits_down announced limit all down.Shared h = (h, tt)
 permits_down announced limit all down.Exclusive h = (h, tt)
 permits_down announced limit all down.Upgradable h = (h, tt)
@@ -209,8 +209,8 @@ word_before_down announced all down.UpgradableToShared h = omega arith
 word_before_down announced all down.Withdraw h = omega arith
 
 -- a permitted step leaves a legal state
-pub stands_after : (announced : Bool) (limit : ℕ) (all : BarredBag) (s : WordStep) → 0 < limit → MayStand limit all
-    → PermitsTo announced limit all s → MayStand limit (barred_after announced all s)
+pub stands_after : (announced : Bool) (limit : ℕ) (all : BarredBag) (s : WordStep) → 0 < limit → IsLegalBarredBag limit all
+    → PermitsWordStep announced limit all s → IsLegalBarredBag limit (barred_after announced all s)
 stands_after announced limit all (step.Modes s) positive stands permitted =
     let bar = stands.one_bar in
     record { compatible = compatible_after limit all.bag s positive stands.compatible permitted.0; one_bar = omega arith }
@@ -227,14 +227,14 @@ pub record IsRepacked (limit word new : ℕ) (s : WordStep) : Type 0 where
   pub all : barred_bag_of_word new ≡ barred_after false (barred_bag_of_word word) s
 
 pub repacked : (limit word new : ℕ) (s : WordStep) → IsLimit limit → IsPacked limit word
-    → PermitsTo false limit (barred_bag_of_word word) s → new ≡ word_of (barred_after false (barred_bag_of_word word) s)
+    → PermitsWordStep false limit (barred_bag_of_word word) s → new ≡ word_of (barred_after false (barred_bag_of_word word) s)
     → IsRepacked limit word new s
 repacked limit word new s range p permitted e =
     let after = barred_after false (barred_bag_of_word word) s in
     let stands = stands_after false limit (barred_bag_of_word word) s range.0 p.legal permitted in
     let same : barred_bag_of_word new ≡ after = ap barred_bag_of_word e ∙ bag_of_word_of limit after range.1 stands in
     record {
-      packed = record { coded = e ∙ ap word_of (sym same); legal = subst (MayStand limit) (sym same) stands };
+      packed = record { coded = e ∙ ap word_of (sym same); legal = subst (IsLegalBarredBag limit) (sym same) stands };
       all = same;
     }
 
@@ -251,7 +251,7 @@ unbarred_from_test bars h =
     elim (eq-zero-or-pos bars) [ inl none ↦ none | inr some ↦ absurd (false≢true (sym (ap not (lt-ltb 0 bars some)) ∙ h)) ]
 
 -- to a party that has not announced itself, the word admits a mode if no bar is set and the bag admits it
-pub word_admits_mode : (limit : ℕ) (all : BarredBag) (m : Mode) → limit < 2 ^ 32 → MayStand limit all
+pub word_admits_mode : (limit : ℕ) (all : BarredBag) (m : Mode) → limit < 2 ^ 32 → IsLegalBarredBag limit all
     → word_admits false limit (word_of all) (want_of_mode m) ≡ (not (is_barred all) && admits limit all.bag m)
 word_admits_mode limit all m fits stands =
     same_tests (word_admits false limit (word_of all) (want_of_mode m)) (not (is_barred all) && admits limit all.bag m)
@@ -262,20 +262,20 @@ word_admits_mode limit all m fits stands =
     let two = and_parts (not (is_barred all)) (admits limit all.bag m) h in
     word_of_permits false limit all (want_of_mode m) fits stands (mode_permits m (unbarred_from_test all.bars two.0) two.1))
   where
-    permits_mode : (m : Mode) → PermitsTo false limit all (step_of_want (want_of_mode m))
+    permits_mode : (m : Mode) → PermitsWordStep false limit all (step_of_want (want_of_mode m))
         → (all.bars ≡ 0) × IsTrue (admits limit all.bag m)
     permits_mode mode.Shared p = (p.1, p.0)
     permits_mode mode.Exclusive p = (p.1, p.0)
     permits_mode mode.Upgradable p = (p.1, p.0)
 
     mode_permits : (m : Mode) → all.bars ≡ 0 → IsTrue (admits limit all.bag m)
-        → PermitsTo false limit all (step_of_want (want_of_mode m))
+        → PermitsWordStep false limit all (step_of_want (want_of_mode m))
     mode_permits mode.Shared none h = (h, none)
     mode_permits mode.Exclusive none h = (h, none)
     mode_permits mode.Upgradable none h = (h, none)
 
 -- and an upgrade if the bag allows it to a party with an upgradable hold, with or without a bar
-pub word_admits_upgrade : (limit : ℕ) (all : BarredBag) → limit < 2 ^ 32 → MayStand limit all → 0 < all.bag.upgradable
+pub word_admits_upgrade : (limit : ℕ) (all : BarredBag) → limit < 2 ^ 32 → IsLegalBarredBag limit all → 0 < all.bag.upgradable
     → word_admits false limit (word_of all) Upgrade ≡ may_become all.bag mode.Exclusive
 word_admits_upgrade limit all fits stands some =
     same_tests (word_admits false limit (word_of all) Upgrade) (may_become all.bag mode.Exclusive)
@@ -298,7 +298,7 @@ packed_with_bar limit word new barred range p is =
     let bag = bag_of_word word in
     let all : BarredBag = record { bag = bag; bars = bars_of barred } in
     let one : bars_of barred ≤ 1 = at_most_one barred in
-    let stands : MayStand limit all = record { compatible = p.legal.compatible; one_bar = one } in
+    let stands : IsLegalBarredBag limit all = record { compatible = p.legal.compatible; one_bar = one } in
     let old = parts_of_word limit (barred_bag_of_word word) range.1 p.legal in
     let coded = p.coded in
     let low = old.low in
@@ -308,7 +308,7 @@ packed_with_bar limit word new barred range p is =
     let same : new ≡ word_of all = omega arith in
     let stood : barred_bag_of_word new ≡ all = ap barred_bag_of_word same ∙ bag_of_word_of limit all range.1 stands in
     record {
-      packed = record { coded = same ∙ ap word_of (sym stood); legal = subst (MayStand limit) (sym stood) stands };
+      packed = record { coded = same ∙ ap word_of (sym stood); legal = subst (IsLegalBarredBag limit) (sym stood) stands };
       bag = ap (λ (x : BarredBag). x.bag) stood;
       bar = bar_test barred (new / 2 ^ 34) (ap (λ (x : BarredBag). x.bars) stood);
     }
@@ -319,8 +319,8 @@ packed_with_bar limit word new barred range p is =
 
 -- laws
 
-pub exchanges_are_of_bags : ExchangesAreOfBags
-exchanges_are_of_bags announced limit all want range stands own =
+pub exchanges_refine_steps : ExchangesRefineSteps
+exchanges_refine_steps announced limit all want range stands own =
     record {
       admits = (
         permits_of_word announced limit all want range.1 stands own,
@@ -329,10 +329,10 @@ exchanges_are_of_bags announced limit all want range stands own =
       puts = word_after_want announced limit all want;
     }
 
-pub subtractions_are_of_bags : SubtractionsAreOfBags
-subtractions_are_of_bags own all d part h =
+pub subtractions_refine_steps : SubtractionsRefineSteps
+subtractions_refine_steps own all d part h =
     word_before_down own.announced all d (has_of_part own all (step_of_down d) part h)
 
-pub words_are_of_one_bag : WordsAreOfOneBag
-words_are_of_one_bag limit a b range la lb same =
+pub encoding_is_injective : EncodingIsInjective
+encoding_is_injective limit a b range la lb same =
     sym (bag_of_word_of limit a range.1 la) ∙ ap barred_bag_of_word same ∙ bag_of_word_of limit b range.1 lb

@@ -2,10 +2,10 @@
 use Rattle.std.specs.Prelude.{◌≡◌, ◌≢◌, ◌↔◌, ℕ, ◌^◌, ◌<◌, ◌≤◌, true, List, [], ◌∷◌, ◌++◌, Some, ⊤}
 use Rattle.lock_base.specs.Limits.{IsLimit}
 use Rattle.lock_base.specs.Modes.{AreCompatible, empty_bag}
-use Rattle.lock_word.specs.Holds.{BarredBag, MayStand, PermitsTo}
+use Rattle.lock_word.specs.Holds.{BarredBag, IsLegalBarredBag, PermitsWordStep}
 use Rattle.lock_base.specs.ModeRuns.{IsModeRun}
 use Rattle.lock_word.specs.declared.want.ExWant.{ExWant}
-use Rattle.lock_word.specs.declared.party.PartyState.{PartyState}
+use Rattle.lock_word.specs.declared.party.WorldParty.{WorldParty}
 use Rattle.lock_word.specs.declared.step.AtomicStep.{AtomicStep}
 use Rattle.lock_word.specs.declared.step.AtomicStep.TheVariants.{Load, Exchange, Take}
 use Rattle.lock_word.specs.declared.step.Outcome.{Outcome}
@@ -28,16 +28,16 @@ Leaves Changed old new = KeepsWord old new
 Leaves Done old new = ⊤
 
 -- no party's fails outnumber the wins of the others
-abbrev pub FailsAreBounded : List PartyState → Type 0
+abbrev pub FailsAreBounded : List WorldParty → Type 0
 FailsAreBounded parties =
-    (p : ℕ) (me : PartyState) → holder_at parties p ≡ Some me → me.fails ≤ others_wins parties me
+    (p : ℕ) (me : WorldParty) → holder_at parties p ≡ Some me → me.fails ≤ others_wins parties me
 
 -- the party has announced itself
-abbrev pub IsAnnounced : List PartyState → ℕ → Type 0
-IsAnnounced parties p = (me : PartyState) × (holder_at parties p ≡ Some me) × (me.held.announced ≡ true)
+abbrev pub IsAnnounced : List WorldParty → ℕ → Type 0
+IsAnnounced parties p = (me : WorldParty) × (holder_at parties p ≡ Some me) × (me.held.announced ≡ true)
 
 -- at most one party has announced itself, and the word has the bar, 2^34, exactly if one has
-pub record BarIsOfOne (word : ℕ) (parties : List PartyState) : Type 0 where
+pub record BarIsOfOne (word : ℕ) (parties : List WorldParty) : Type 0 where
   pub sole : (p q : ℕ) → IsAnnounced parties p → IsAnnounced parties q → p ≡ q
   pub shown : (2 ^ 34 ≤ word) ↔ ((p : ℕ) × IsAnnounced parties p)
 
@@ -58,19 +58,19 @@ pub record LastLoadRefuses (start : WorldState) (steps : List AtomicStep) (p : �
   pub before : List AtomicStep
   pub after : List AtomicStep
   pub split : IsLastLoad steps p before after
-  pub past : PartyState
+  pub past : WorldParty
   pub was : holder_at (world_after start before).parties p ≡ Some past
   pub refuses :
-      ¬ PermitsTo past.held.announced start.readers (held_by_all (world_after start before).parties) (step_of_want want)
+      ¬ PermitsWordStep past.held.announced start.readers (held_by_all (world_after start before).parties) (step_of_want want)
 
 -- the party's open load is the word of what was held at that load, which did not permit the exchange
 pub record OpenLoadRefuses (w : WorldState) (p : ℕ) (want : ExWant) : Type 0 where
-  pub me : PartyState
+  pub me : WorldParty
   pub is : holder_at w.parties p ≡ Some me
   pub all : BarredBag
   pub open_load : me.loaded ≡ Some (word_of all)
-  pub stood : MayStand w.readers all
-  pub refuses : ¬ PermitsTo me.held.announced w.readers all (step_of_want want)
+  pub stood : IsLegalBarredBag w.readers all
+  pub refuses : ¬ PermitsWordStep me.held.announced w.readers all (step_of_want want)
 
 -- if the step was an exchange that was not admitted, the party's open load refused it
 abbrev pub IsRefusedByLoad : WorldState → AtomicStep → Outcome → Type 0
@@ -88,8 +88,8 @@ pub record LastLoadOutrun (start : WorldState) (steps : List AtomicStep) (p : �
   pub before : List AtomicStep
   pub after : List AtomicStep
   pub split : IsLastLoad steps p before after
-  pub past : PartyState
-  pub now : PartyState
+  pub past : WorldParty
+  pub now : WorldParty
   pub was : holder_at (world_after start before).parties p ≡ Some past
   pub is : holder_at (world_after start steps).parties p ≡ Some now
   pub outrun : others_wins (world_after start before).parties past < others_wins (world_after start steps).parties now
@@ -108,7 +108,7 @@ IsRunOnAll old changes new =
     IsModeRun old.readers (held_by_all old.parties).bag (steps_of changes) (held_by_all new.parties).bag
 
 -- what holds of the world after these steps, and of any next step
-pub record IsSound (start : WorldState) (steps : List AtomicStep) (last : WorldState) : Type 0 where
+pub record IsSoundInterleaving (start : WorldState) (steps : List AtomicStep) (last : WorldState) : Type 0 where
   -- the word encodes what all parties hold, which is compatible, and the bar of the one party that announced itself
   pub coded : last.word ≡ word_of (held_by_all last.parties)
   pub legal : AreCompatible start.readers (held_by_all last.parties).bag
@@ -128,4 +128,4 @@ pub record IsSound (start : WorldState) (steps : List AtomicStep) (last : WorldS
 abbrev pub EveryInterleaving : Type 0
 EveryInterleaving =
     (count limit : ℕ) (steps : List AtomicStep) → IsLimit limit
-    → IsSound (new_world count limit) steps (world_after (new_world count limit) steps)
+    → IsSoundInterleaving (new_world count limit) steps (world_after (new_world count limit) steps)

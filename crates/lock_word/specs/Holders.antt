@@ -4,7 +4,7 @@ use Rattle.lock_base.specs.declared.machine.mode_step.ModeStep.{ModeStep}
 use Rattle.lock_word.specs.declared.hold.Hold.{Hold}
 use Rattle.lock_word.specs.declared.word_step.WordStep.{WordStep}
 use Rattle.lock_word.specs.declared.word_step.WordStep.TheVariants.{Modes, Announce, Withdraw}
-use Rattle.lock_word.specs.Holds.{BarredBag, bars_of, PermitsTo, hold_has, hold_after}
+use Rattle.lock_word.specs.Holds.{BarredBag, bars_of, PermitsWordStep, hold_has, hold_after}
 
 -- the sum of several holds
 abbrev pub all_of : List Hold → BarredBag
@@ -41,7 +41,7 @@ pub record IsHolderStep (limit : ℕ) (before : List Hold) (s : HolderStep) (aft
   pub own : Hold
   pub is_own : holder_at before s.holder ≡ Some own
   pub had : IsTrue (hold_has own s.step)
-  pub permitted : PermitsTo own.announced limit (all_of before) s.step
+  pub permitted : PermitsWordStep own.announced limit (all_of before) s.step
   pub changed : after ≡ slice_set before (s.holder - 1) (hold_after own s.step)
 
 -- the steps lead from one list of holds to the other, and each is permitted where it is made

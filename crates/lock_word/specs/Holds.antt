@@ -27,23 +27,23 @@ abbrev pub is_barred : BarredBag → Bool
 is_barred all = nat_lt 0 all.bars
 
 -- the holds are compatible, and at most one bar is set
-pub record MayStand (limit : ℕ) (all : BarredBag) : Type 0 where
+pub record IsLegalBarredBag (limit : ℕ) (all : BarredBag) : Type 0 where
   pub compatible : AreCompatible limit all.bag
   pub one_bar : all.bars ≤ 1
 
 -- the bars let the step pass: a reader if none is set, a writer if none is set but its own
-abbrev pub Passes : Bool → ℕ → ModeStep → Type 0
-Passes announced bars (Acquire Shared) = bars ≡ 0
-Passes announced bars (Acquire Exclusive) = bars ≡ bars_of announced
-Passes announced bars (Acquire Upgradable) = bars ≡ 0
-Passes announced bars (Release mode) = ⊤
-Passes announced bars (Change from to) = ⊤
+abbrev pub StepPassesBar : Bool → ℕ → ModeStep → Type 0
+StepPassesBar announced bars (Acquire Shared) = bars ≡ 0
+StepPassesBar announced bars (Acquire Exclusive) = bars ≡ bars_of announced
+StepPassesBar announced bars (Acquire Upgradable) = bars ≡ 0
+StepPassesBar announced bars (Release mode) = ⊤
+StepPassesBar announced bars (Change from to) = ⊤
 
 -- whether what all hold permits the step to a party, which has announced itself or has not
-abbrev pub PermitsTo : Bool → ℕ → BarredBag → WordStep → Type 0
-PermitsTo announced limit all (Modes step) = Permits limit all.bag step × Passes announced all.bars step
-PermitsTo announced limit all Announce = all.bars ≡ 0
-PermitsTo announced limit all Withdraw = 0 < all.bars
+abbrev pub PermitsWordStep : Bool → ℕ → BarredBag → WordStep → Type 0
+PermitsWordStep announced limit all (Modes step) = Permits limit all.bag step × StepPassesBar announced all.bars step
+PermitsWordStep announced limit all Announce = all.bars ≡ 0
+PermitsWordStep announced limit all Withdraw = 0 < all.bars
 
 -- an exclusive acquisition, which clears the bar of the party that acquires
 abbrev pub ends_bar : ModeStep → Bool

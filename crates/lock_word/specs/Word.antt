@@ -11,7 +11,7 @@ use Rattle.lock_word.specs.declared.down.Down.{Down}
 use Rattle.lock_word.specs.declared.down.Down.TheVariants as down
 use Rattle.lock_word.specs.declared.word_step.WordStep.{WordStep}
 use Rattle.lock_word.specs.declared.word_step.WordStep.TheVariants as step
-use Rattle.lock_word.specs.Holds.{BarredBag, MayStand, bars_of}
+use Rattle.lock_word.specs.Holds.{BarredBag, IsLegalBarredBag, bars_of}
 
 -- the readers, 2^32 for an upgradable hold, 2^33 for an exclusive one, and 2^34 for the bar
 abbrev pub word_of : BarredBag → ℕ
@@ -105,4 +105,4 @@ word_with_bar word barred = word % 2 ^ 34 + 2 ^ 34 * bars_of barred
 -- the number encodes a legal state
 pub record IsPacked (limit word : ℕ) : Type 0 where
   pub coded : word ≡ word_of (barred_bag_of_word word)
-  pub legal : MayStand limit (barred_bag_of_word word)
+  pub legal : IsLegalBarredBag limit (barred_bag_of_word word)

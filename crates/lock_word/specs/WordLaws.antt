@@ -4,7 +4,7 @@ use Rattle.lock_base.specs.Limits.{IsLimit}
 use Rattle.lock_word.specs.declared.want.ExWant.{ExWant}
 use Rattle.lock_word.specs.declared.down.Down.{Down}
 use Rattle.lock_word.specs.declared.hold.Hold.{Hold}
-use Rattle.lock_word.specs.Holds.{BarredBag, MayStand, bars_of, PermitsTo, barred_after, hold_has}
+use Rattle.lock_word.specs.Holds.{BarredBag, IsLegalBarredBag, bars_of, PermitsWordStep, barred_after, hold_has}
 use Rattle.lock_word.specs.Holders.{IsPart}
 use Rattle.lock_word.specs.Word.{word_of, word_admits, word_after, amount, step_of_want, step_of_down}
 
@@ -12,21 +12,21 @@ use Rattle.lock_word.specs.Word.{word_of, word_admits, word_after, amount, step_
 -- hold after it
 pub record IsExchangeOf (announced : Bool) (limit : ℕ) (all : BarredBag) (want : ExWant) : Type 0 where
   pub admits :
-      IsTrue (word_admits announced limit (word_of all) want) ↔ PermitsTo announced limit all (step_of_want want)
-  pub puts : PermitsTo announced limit all (step_of_want want)
+      IsTrue (word_admits announced limit (word_of all) want) ↔ PermitsWordStep announced limit all (step_of_want want)
+  pub puts : PermitsWordStep announced limit all (step_of_want want)
       → word_after (word_of all) want ≡ word_of (barred_after announced all (step_of_want want))
 
 -- a party that announced itself has its bar among those that are set
-abbrev pub ExchangesAreOfBags : Type 0
-ExchangesAreOfBags =
-    (announced : Bool) (limit : ℕ) (all : BarredBag) (want : ExWant) → IsLimit limit → MayStand limit all
+abbrev pub ExchangesRefineSteps : Type 0
+ExchangesRefineSteps =
+    (announced : Bool) (limit : ℕ) (all : BarredBag) (want : ExWant) → IsLimit limit → IsLegalBarredBag limit all
     → bars_of announced ≤ all.bars → IsExchangeOf announced limit all want
 
-abbrev pub SubtractionsAreOfBags : Type 0
-SubtractionsAreOfBags =
+abbrev pub SubtractionsRefineSteps : Type 0
+SubtractionsRefineSteps =
     (own : Hold) (all : BarredBag) (down : Down) → IsPart own all → IsTrue (hold_has own (step_of_down down))
     → word_of all ≡ word_of (barred_after own.announced all (step_of_down down)) + amount down
 
-abbrev pub WordsAreOfOneBag : Type 0
-WordsAreOfOneBag =
-    (limit : ℕ) (a b : BarredBag) → IsLimit limit → MayStand limit a → MayStand limit b → word_of a ≡ word_of b → a ≡ b
+abbrev pub EncodingIsInjective : Type 0
+EncodingIsInjective =
+    (limit : ℕ) (a b : BarredBag) → IsLimit limit → IsLegalBarredBag limit a → IsLegalBarredBag limit b → word_of a ≡ word_of b → a ≡ b

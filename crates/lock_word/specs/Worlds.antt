@@ -3,7 +3,7 @@ use Rattle.std.specs.Prelude.{◌≡◌, ℕ, ◌+◌, ◌-◌, ◌^◌, ◌<◌
 use Rattle.lock_base.specs.declared.raw.fault.Fault.{Fault}
 use Rattle.lock_base.specs.declared.raw.fault.Fault.TheVariants as fault
 use Rattle.lock_base.specs.Limits.{IsLimit}
-use Rattle.lock_word.specs.declared.party.PartyState.{PartyState}
+use Rattle.lock_word.specs.declared.party.WorldParty.{WorldParty}
 use Rattle.lock_word.specs.declared.step.AtomicStep.{AtomicStep}
 use Rattle.lock_word.specs.declared.step.AtomicStep.TheVariants.{Exchange, Take}
 use Rattle.lock_word.specs.declared.step.Outcome.{Outcome}
@@ -18,13 +18,13 @@ pub record WorldState : Type 0 where
   pub word : ℕ
   pub readers : ℕ
   pub steps : ℕ
-  pub parties : List PartyState
+  pub parties : List WorldParty
 
 abbrev pub new_world : ℕ → ℕ → WorldState
 new_world count limit = record { word = 0; readers = limit; steps = 0; parties = replicate count idle }
 
 -- the party of that number exists, and this holds of it
-abbrev pub IsOfParty : WorldState → ℕ → (PartyState → Type 0) → Type 0
+abbrev pub IsOfParty : WorldState → ℕ → (WorldParty → Type 0) → Type 0
 IsOfParty w party fact = IsSomeAnd (holder_at w.parties party) fact
 
 -- no party has that number, and this is the fault of that
@@ -50,7 +50,7 @@ after_turn w k t =
       outcome = t.outcome;
     }
 
-abbrev pub after_step_of : WorldState → AtomicStep → Option PartyState → Stepped
+abbrev pub after_step_of : WorldState → AtomicStep → Option WorldParty → Stepped
 after_step_of w s None = record { world = w; outcome = Refused fault.UnknownParty }
 after_step_of w s (Some me) = after_turn w (party_of s - 1) (turn w.readers w.word me s)
 
@@ -81,7 +81,7 @@ done_steps (s ∷ ss) [] = []
 done_steps (s ∷ ss) (outcome ∷ outcomes) = holder_step s outcome ++ done_steps ss outcomes
 
 -- the party's open load, if any, encodes a legal bag with at most one bar
-abbrev pub HasPackedLoad : ℕ → PartyState → Type 0
+abbrev pub HasPackedLoad : ℕ → WorldParty → Type 0
 HasPackedLoad limit me = (loaded : ℕ) → me.loaded ≡ Some loaded → IsPacked limit loaded
 
 -- a world that steps from a new one can reach
@@ -89,5 +89,5 @@ pub record IsReachable (w : WorldState) : Type 0 where
   pub limit : IsLimit w.readers
   pub steps_fit : w.steps < 2 ^ 64
   pub rule : KeepsRule w.readers w.word w.parties
-  pub counted : (k : ℕ) (me : PartyState) → slice_get w.parties k ≡ Some me → me.wins + me.fails ≤ w.steps
-  pub loads : (k : ℕ) (me : PartyState) → slice_get w.parties k ≡ Some me → HasPackedLoad w.readers me
+  pub counted : (k : ℕ) (me : WorldParty) → slice_get w.parties k ≡ Some me → me.wins + me.fails ≤ w.steps
+  pub loads : (k : ℕ) (me : WorldParty) → slice_get w.parties k ≡ Some me → HasPackedLoad w.readers me

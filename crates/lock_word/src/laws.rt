@@ -1,28 +1,28 @@
 //! Laws of the packed word and of the steps on it. Each is the contract of a function with an empty body.
-ghost use Rattle.lock_word.specs.WordLaws.{ExchangesAreOfBags, SubtractionsAreOfBags, WordsAreOfOneBag};
-ghost use Rattle.lock_word.specs.BarLaws.{BarsAreAlike};
+ghost use Rattle.lock_word.specs.WordLaws.{ExchangesRefineSteps, SubtractionsRefineSteps, EncodingIsInjective};
+ghost use Rattle.lock_word.specs.BarLaws.{BarEncodingsAgree};
 ghost use Rattle.lock_word.specs.Claims.{EveryInterleaving};
 
 /// An exchange refines a step on the bag: the word admits it exactly where the bag and the bar permit the step, and the
 /// new word is that of the new bag.
-pub fn exchanges_are_of_bags()
-    ensures { ExchangesAreOfBags }
+pub fn exchanges_refine_steps()
+    ensures { ExchangesRefineSteps }
 {}
 
 /// A subtraction refines a step on the bag: if the party holds what it releases, the new word is that of the new bag.
-pub fn subtractions_are_of_bags()
-    ensures { SubtractionsAreOfBags }
+pub fn subtractions_refine_steps()
+    ensures { SubtractionsRefineSteps }
 {}
 
 /// The encoding is injective on legal states: two compatible bags with the same word, with or without a bar, are equal.
-pub fn words_are_of_one_bag()
-    ensures { WordsAreOfOneBag }
+pub fn encoding_is_injective()
+    ensures { EncodingIsInjective }
 {}
 
 /// The bar of a register names its party, and the bar of a word does not. Both admit the same acquisitions and are
 /// cleared by the same ones.
-pub fn bars_are_alike()
-    ensures { BarsAreAlike }
+pub fn bar_encodings_agree()
+    ensures { BarEncodingsAgree }
 {}
 
 /// Takes any steps of any parties, in any order, from a new world. The steps that were done are a run of the modes, and

@@ -14,11 +14,11 @@ mod word_step;
 pub use down::Down;
 pub use hold::Hold;
 pub use laws::{
-    bars_are_alike, every_interleaving, exchanges_are_of_bags, subtractions_are_of_bags,
-    words_are_of_one_bag,
+    bar_encodings_agree, encoding_is_injective, every_interleaving, exchanges_refine_steps,
+    subtractions_refine_steps,
 };
 pub use occupancy::{Occupancy, unblocks};
-pub use party::PartyState;
+pub use party::WorldParty;
 pub use step::{AtomicStep, Outcome};
 pub use want::ExWant;
 pub use word::{has_bar, has_exclusive, has_tokens, with_bar};

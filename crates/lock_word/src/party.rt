@@ -10,7 +10,7 @@ use lock_base::raw::Fault;
 
 /// The world's view of a party: what it holds, its open load, and how often it won and failed.
 #[derive(Clone, Copy, PartialEq, Eq, Debug)]
-pub struct PartyState {
+pub struct WorldParty {
     pub held: Hold,
     /// The open load: the word that the party loaded last, until its next exchange or subtraction.
     pub loaded: Option<u64>,
@@ -20,17 +20,17 @@ pub struct PartyState {
     pub fails: u64,
 }
 
-impl PartyState {
+impl WorldParty {
     ghost use Rattle.lock_base.specs.Modes.{tokens};
     ghost use Rattle.lock_word.specs.Holds.{hold_has};
     ghost use Rattle.lock_word.specs.Word.{word_of};
     ghost use Rattle.lock_word.specs.Turns.{idle, after_win, load_turn, exchange_turn, take_turn, turn, CanStep};
 
     /// Makes a party that has done nothing yet.
-    pub fn idle() -> PartyState
+    pub fn idle() -> WorldParty
         ensures { result ≡ idle }
     {
-        PartyState {
+        WorldParty {
             held: Hold::none(),
             loaded: None,
             wins: 0,

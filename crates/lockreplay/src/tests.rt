@@ -1,7 +1,7 @@
 //! What no clause says: worked rows, texts, and what readers, writers and memory may do.
 mod bad_lines;
 mod machine;
-mod rows;
+mod scenarios;
 mod streams;
 mod table_is_word;
 mod texts;

@@ -3,7 +3,7 @@ ghost use Rattle.std.specs.Prelude.{◌≡◌, ◌+◌, ◌<◌, ◌^◌, [], �
 ghost use Rattle.lock_api.specs.Entries.{held_bag};
 ghost use Rattle.lock_api.specs.Modes.{AreCompatible};
 
-use crate::desk::account::Entry;
+use crate::desk::account::AccountOp;
 use lock_api::{Call, Desk, Fault, Form, Op, PartyId, RawState, Reply, Want, runs_are_sound};
 use std::alloc::Global;
 
@@ -18,8 +18,8 @@ pub fn deposit_under_lock<R: RawState>(
     let mut desk: Desk<R, u64> = Desk::mutex(alloc, 1, 0)?;
     let calls = [
         Call::Acquire(Want::Lock, Form::Block, party),
-        Call::Change(party, 1, Entry::Deposit(250)),
-        Call::Change(party, 1, Entry::Withdraw(300)),
+        Call::Change(party, 1, AccountOp::Deposit(250)),
+        Call::Change(party, 1, AccountOp::Withdraw(300)),
     ];
     desk.run(alloc, &calls)
 }

@@ -15,7 +15,7 @@ pub struct Answers {
 
 /// The first party locks, the second party's try and blocking call are refused, and it acquires once the first has
 /// released.
-pub fn two_ask<R: RawState>(
+pub fn two_parties_acquire<R: RawState>(
     alloc: Global,
     first: PartyId,
     second: PartyId,

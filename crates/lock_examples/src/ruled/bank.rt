@@ -2,7 +2,7 @@
 ghost use Rattle.std.specs.Prelude.{◌≡◌, ◌+◌, ◌^◌, ◌<◌, IfOk};
 ghost use Rattle.std.specs.Thread.{IsSync};
 
-use lock_api::{Fault, Join, MutexRule, RuledMutex, Split, Turn, User};
+use lock_api::{Fault, Join, MutexRule, RuledMutex, Split, User, ViewUpdate};
 use std::alloc::Global;
 use std::sync::Wait;
 use std::thread::{Threads, join};
@@ -16,24 +16,24 @@ pub struct Accounts {
 
 /// The direction of a transfer.
 #[derive(Clone, Copy, PartialEq, Eq, Debug)]
-pub enum Way {
+pub enum Direction {
     ToLeft,
     ToRight,
 }
 
 impl Accounts {
     /// Returns the accounts after the transfer, or unchanged if the amount is not there.
-    pub fn transfer(self, way: Way, amount: u64) -> Accounts
+    pub fn transfer(self, way: Direction, amount: u64) -> Accounts
         requires { self.left + self.right < 2 ^ 64 }
         ensures { result.left + result.right ≡ self.left + self.right }
     {
         let Accounts { left, right } = self;
         match way {
-            Way::ToRight if amount <= left => Accounts {
+            Direction::ToRight if amount <= left => Accounts {
                 left: left - amount,
                 right: right + amount,
             },
-            Way::ToLeft if amount <= right => Accounts {
+            Direction::ToLeft if amount <= right => Accounts {
                 left: left + amount,
                 right: right - amount,
             },
@@ -57,7 +57,7 @@ impl MutexRule<Accounts, u64> for SumStays {
 /// The view stays.
 struct SameSum;
 
-impl Turn<Accounts, u64> for SameSum {
+impl ViewUpdate<Accounts, u64> for SameSum {
     ghost next = { λ taken sum accounts. sum };
 }
 
@@ -79,7 +79,13 @@ type Teller = User<Accounts, u64>;
 
 /// Makes each transfer that is possible, one after another.
 #[tactic(auto, using(crate::proofs::Tellers::sum_known, crate::proofs::Tellers::sum_stays))]
-fn transfer_all<R: Wait>(rt: &R, bank: &Bank, teller: Teller, way: Way, amounts: &[u64]) -> Teller
+fn transfer_all<R: Wait>(
+    rt: &R,
+    bank: &Bank,
+    teller: Teller,
+    way: Direction,
+    amounts: &[u64],
+) -> Teller
     requires bank { teller.mutex ≡ bank.now }
     requires range { teller.view < 2 ^ 64 }
     ensures { result ≡ teller }
@@ -113,11 +119,11 @@ pub fn shuffle<R: Threads + Wait + Sync>(
         move || -> Teller
             requires { IsSync R.row × (teller.mutex ≡ shared.now) × (teller.view < 2 ^ 64) }
             ensures { result ≡ teller }
-        { transfer_all(rt, shared, teller, Way::ToRight, to_right) },
+        { transfer_all(rt, shared, teller, Direction::ToRight, to_right) },
         move || -> Teller
             requires { IsSync R.row × (other.mutex ≡ shared.now) × (other.view < 2 ^ 64) }
             ensures { result ≡ other }
-        { transfer_all(rt, shared, other, Way::ToLeft, to_left) },
+        { transfer_all(rt, shared, other, Direction::ToLeft, to_left) },
     );
     let teller = bank.join::<SameSum>(teller, other);
     Ok(bank.into_inner(teller))

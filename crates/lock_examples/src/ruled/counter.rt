@@ -2,7 +2,7 @@
 ghost use Rattle.std.specs.Prelude.{◌≡◌, ◌+◌, ◌-◌, ◌*◌, ◌^◌, ◌<◌, ◌≤◌, IfOk, IfErr};
 ghost use Rattle.std.specs.Thread.{IsSync};
 
-use lock_api::{Fault, Join, MutexRule, RuledMutex, Split, Turn, User};
+use lock_api::{Fault, Join, MutexRule, RuledMutex, Split, User, ViewUpdate};
 use std::alloc::Global;
 use std::sync::Wait;
 use std::thread::{Threads, join};
@@ -21,7 +21,7 @@ impl MutexRule<u64, u64> for AddedUp {
 /// The user added one more.
 pub struct AddsOne;
 
-impl Turn<u64, u64> for AddsOne {
+impl ViewUpdate<u64, u64> for AddsOne {
     ghost use Rattle.std.specs.Prelude.{◌+◌};
 
     ghost next = { λ taken view value. view + 1 };

@@ -3,7 +3,7 @@ ghost use Rattle.std.specs.Prelude.{◌≡◌, ◌++◌, [], ◌∷◌, vec_len,
 ghost use Rattle.std.specs.Thread.{IsSync};
 ghost use Rattle.lock_examples.specs.Logs.{producer, consumer};
 
-use lock_api::{Fault, Join, MutexRule, RuledMutex, Split, Turn, User};
+use lock_api::{Fault, Join, MutexRule, RuledMutex, Split, User, ViewUpdate};
 use std::alloc::Global;
 use std::collections::LinkedList;
 use std::sync::Wait;
@@ -41,16 +41,16 @@ impl MutexRule<Vec<u32>, Log> for InOrder {
 /// The last of the items was pushed.
 struct Puts;
 
-impl Turn<Vec<u32>, Log> for Puts {
+impl ViewUpdate<Vec<u32>, Log> for Puts {
     ghost use Rattle.std.specs.Prelude.{◌++◌, drop, length};
 
     ghost next = { λ before log after. record log { put = log.put ++ drop (length before.items) after.items } };
 }
 
 /// The first of the items was popped.
-struct Takes;
+struct Pops;
 
-impl Turn<Vec<u32>, Log> for Takes {
+impl ViewUpdate<Vec<u32>, Log> for Pops {
     ghost use Rattle.std.specs.Prelude.{◌++◌, take};
 
     ghost next = { λ before log after. record log { taken = log.taken ++ take 1 before.items } };
@@ -59,7 +59,7 @@ impl Turn<Vec<u32>, Log> for Takes {
 /// The view stays.
 struct Looks;
 
-impl Turn<Vec<u32>, Log> for Looks {
+impl ViewUpdate<Vec<u32>, Log> for Looks {
     ghost next = { λ before log after. log };
 }
 
@@ -116,7 +116,7 @@ fn try_take<R: Wait>(rt: &R, queue: &Queue, client: Client) -> (Client, Option<u
         return (queue.unlock::<Looks>(items), None);
     }
     let item = items.remove(0);
-    (queue.unlock::<Takes>(items), Some(item))
+    (queue.unlock::<Pops>(items), Some(item))
 }
 
 /// Pushes all items, and yields while there is no room.

@@ -1,9 +1,9 @@
 //! Every public type of the packed word, and of the locks on one, in a signature.
 use lock_api::{
     AtomicStep, Attempt, Down, ExWant, Hold, NoTime, Occupancy, Outcome, PackedToken, PackedWord,
-    Party, PartyState, PartyView, Place, Places, RealTime, SeatedLock, Sleepers, SleepingCondvar,
-    TimedCondvar, TimedRaw, Timing, Wake, WordCore, WordLock, WordRaw, WordRule, WordStep,
-    WordToken, World,
+    Party, Place, Places, RealTime, SeatView, SeatedLock, Sleepers, SleepingCondvar, TimedCondvar,
+    TimedRaw, Timing, Wake, WordCore, WordLock, WordRaw, WordRule, WordStep, WordToken, World,
+    WorldParty,
 };
 use std::clone::Clone;
 use std::sync::Wait;
@@ -27,7 +27,7 @@ pub fn words(
     _token: &PackedToken,
     _world: &World,
     _places: (&Places, &Place),
-    _step: (&AtomicStep, &Outcome, &Down, &ExWant, &PartyState),
+    _step: (&AtomicStep, &Outcome, &Down, &ExWant, &WorldParty),
     _hold: (&Hold, &WordStep, &Occupancy),
-    _seated: (&SeatedLock, &Party, &PartyView, &WordRule, &Attempt),
+    _seated: (&SeatedLock, &Party, &SeatView, &WordRule, &Attempt),
 ) {}

@@ -2,7 +2,7 @@
 use lock_api::{
     Bag, Mode, ModeStep, Mutex, PackedWord, PartyId, RawMutex, RecordingRaw, Reply, TokenTable,
 };
-use lock_examples::desk::{audit, audit_lock, deposit_under_lock, two_ask};
+use lock_examples::desk::{audit, audit_lock, deposit_under_lock, two_parties_acquire};
 use std::test::Fail;
 
 fn party(id: u64) -> Result<PartyId, Fail> {
@@ -11,7 +11,7 @@ fn party(id: u64) -> Result<PartyId, Fail> {
 
 #[test]
 fn two_parties_ask(rt: HostRuntime) -> Result<(), Fail> {
-    let answers = two_ask::<TokenTable>(rt.alloc(), party(1)?, party(2)?)?;
+    let answers = two_parties_acquire::<TokenTable>(rt.alloc(), party(1)?, party(2)?)?;
     assert_eq!(rt; answers.locked_again, Ok(2));
     Ok(())
 }

@@ -34,7 +34,7 @@ impl<L: Acquire> Held<L> {
     pub fn new(lock: L, token: L::Token) -> Held<L>
         ensures { result.lock ≡ lock }
     {
-        let shown = lock.wait_to_show();
+        let shown = lock.block_on_value();
         Held {
             lock,
             inner: Inner::Filled(token, shown),
@@ -46,7 +46,7 @@ impl<L: Acquire> Held<L> {
         ensures held { IfOk result (λ held. held.lock ≡ lock) }
         ensures back { IfErr result (λ back. (back.0 ≡ lock) × (back.1 ≡ token)) }
     {
-        match lock.try_show() {
+        match lock.try_lock_value() {
             Some(shown) => Ok(Held {
                 lock,
                 inner: Inner::Filled(token, shown),
@@ -119,7 +119,7 @@ impl<L: AcquireFair> Held<L> {
         ensures { self.new.lock ≡ self.old.lock }
     {
         let next = self.lock.bump(self.inner.empty());
-        self.inner.fill(next, self.lock.show());
+        self.inner.fill(next, self.lock.lock_value());
     }
 }
 

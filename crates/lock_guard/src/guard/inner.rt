@@ -83,7 +83,7 @@ impl<K, V: ValueGuard> Inner<K, V> {
         requires { is_filled self.old ≡ false }
         ensures { is_filled self.new ≡ true }
     {
-        self.fill(lock.acquire(), lock.show());
+        self.fill(lock.acquire(), lock.lock_value());
     }
 
     /// Fills an empty part with the token of a call that was admitted, or puts back the part of a refused one.
@@ -101,7 +101,7 @@ impl<K, V: ValueGuard> Inner<K, V> {
     {
         match made {
             Ok((token, answer)) => {
-                self.fill(token, lock.show());
+                self.fill(token, lock.lock_value());
                 Some(answer)
             }
             Err(same) => {

@@ -1,8 +1,6 @@
 //! The condition variable, over raw ones whose waits end at once.
-pub mod asked;
+pub mod mock;
 
-use asked::CondvarCall::{self, NotifyAll, NotifyOne, Wait, WaitUntil};
-use asked::{AskedCondvar, ENDLESS, LATE};
 use lock_base::machine::Mode::Exclusive;
 use lock_guard::raw::{RawCondvar, RawCondvarTimed, RawMutex, RawMutexTimed};
 use lock_mutex::{Condvar, Mutex, MutexGuard};
@@ -10,6 +8,8 @@ use lock_raws::SpuriousCondvar;
 use lock_test_support::answer::{debug_is, equal};
 use lock_test_support::raw_lock::RawCall::{self, Lock, Unlock};
 use lock_test_support::raw_lock::Watch;
+use mock::CondvarCall::{self, NotifyAll, NotifyOne, Wait, WaitUntil};
+use mock::{ENDLESS, LATE, MockCondvar};
 use std::alloc::Global;
 use std::test::Fail;
 
@@ -91,7 +91,7 @@ pub fn check_at_once<R: RawMutexTimed<Duration = (), Instant = ()> + Drop>(
 
 /// Whether a wait with this timeout made just these raw calls, and whether it timed out.
 fn wait_for<R: RawMutexTimed<Duration = u64, Instant = u64>>(
-    condvar: &Condvar<AskedCondvar<R>>,
+    condvar: &Condvar<MockCondvar<R>>,
     guard: &mut ChecksGuard<'_, R>,
     timeout: u64,
     wanted: CondvarCall,
@@ -102,7 +102,7 @@ fn wait_for<R: RawMutexTimed<Duration = u64, Instant = u64>>(
 
 /// `wait_for`, with a deadline.
 fn wait_until<R: RawMutexTimed<Duration = u64, Instant = u64>>(
-    condvar: &Condvar<AskedCondvar<R>>,
+    condvar: &Condvar<MockCondvar<R>>,
     guard: &mut ChecksGuard<'_, R>,
     deadline: u64,
 ) -> (bool, bool) {
@@ -112,7 +112,7 @@ fn wait_until<R: RawMutexTimed<Duration = u64, Instant = u64>>(
 
 /// Each plain wait, and each with a timeout.
 fn waits<R: RawMutexTimed<Duration = u64, Instant = u64>>(
-    condvar: &Condvar<AskedCondvar<R>>,
+    condvar: &Condvar<MockCondvar<R>>,
     checks: &Checks<R>,
 ) -> [(bool, bool); 5] {
     let mut guard = checks.lock();
@@ -127,7 +127,7 @@ fn waits<R: RawMutexTimed<Duration = u64, Instant = u64>>(
 
 /// Whether a conditional wait, whose first check is true, made just these raw calls, and whether it timed out.
 fn wait_while_for<R: RawMutexTimed<Duration = u64, Instant = u64>>(
-    condvar: &Condvar<AskedCondvar<R>>,
+    condvar: &Condvar<MockCondvar<R>>,
     checks: &Checks<R>,
     timeout: u64,
     wanted: CondvarCall,
@@ -140,7 +140,7 @@ fn wait_while_for<R: RawMutexTimed<Duration = u64, Instant = u64>>(
 
 /// `wait_while_for`, without a timeout and with a deadline.
 fn waits_while<R: RawMutexTimed<Duration = u64, Instant = u64>>(
-    condvar: &Condvar<AskedCondvar<R>>,
+    condvar: &Condvar<MockCondvar<R>>,
     checks: &Checks<R>,
 ) -> [bool; 2] {
     let mut guard = checks.lock();
@@ -152,7 +152,7 @@ fn waits_while<R: RawMutexTimed<Duration = u64, Instant = u64>>(
 
 /// The answers of the conditional waits.
 fn conditional_waits<R: RawMutexTimed<Duration = u64, Instant = u64>>(
-    condvar: &Condvar<AskedCondvar<R>>,
+    condvar: &Condvar<MockCondvar<R>>,
     checks: &Checks<R>,
 ) -> ([bool; 2], [(bool, bool); 2]) {
     let plain = waits_while(condvar, checks);
@@ -162,7 +162,7 @@ fn conditional_waits<R: RawMutexTimed<Duration = u64, Instant = u64>>(
 }
 
 /// Whether one was woken, how many were, and whether each notification was one raw call.
-fn notify<R: RawMutex>(condvar: &Condvar<AskedCondvar<R>>, woken: usize) -> (bool, usize, bool) {
+fn notify<R: RawMutex>(condvar: &Condvar<MockCondvar<R>>, woken: usize) -> (bool, usize, bool) {
     condvar.raw().woken.set(woken);
     let one = condvar.notify_one();
     let all = condvar.notify_all();
@@ -171,7 +171,7 @@ fn notify<R: RawMutex>(condvar: &Condvar<AskedCondvar<R>>, woken: usize) -> (boo
 
 /// Each wait is one raw call and releases once, and each notification is one raw call.
 pub fn check_calls<R: RawMutexTimed<Duration = u64, Instant = u64>>(
-    condvar: &Condvar<AskedCondvar<R>>,
+    condvar: &Condvar<MockCondvar<R>>,
     checks: &Checks<R>,
     watch: &mut Watch,
 ) -> Result<(), Fail> {

@@ -5,7 +5,7 @@ use lock_guard::raw::RawMutex;
 use lock_mutex::Mutex;
 use lock_raws::{LockCore, RawLock};
 use lock_test_support::answer::{equal, holds_or_lacks_memory};
-use lock_test_support::raw_lock::AskedRaw;
+use lock_test_support::raw_lock::MockRaw;
 use std::alloc::Global;
 use std::test::Fail;
 
@@ -23,18 +23,18 @@ pub fn check<R: RawMutex + Drop>(
 }
 
 /// Whether a new mutex has made no raw call.
-fn is_unasked<R: RawMutex + Drop>(made: Mutex<AskedRaw<R>, u64>) -> bool {
+fn has_no_calls<R: RawMutex + Drop>(made: Mutex<MockRaw<R>, u64>) -> bool {
     let (raw, _) = made.into_inner_with_raw();
-    raw.is_unasked()
+    raw.has_no_calls()
 }
 
 /// No maker makes a raw call.
 pub fn check_calls<R: RawMutex + Drop>(alloc: Global, waiters: [R::Waiter; 3]) -> Result<(), Fail> {
     let [first, second, third] = waiters;
     let unasked = [
-        is_unasked::<R>(Mutex::new(alloc, first, 5)?),
-        is_unasked::<R>(Mutex::from(alloc, second, 5)?),
-        is_unasked::<R>(Mutex::default(alloc, third)?),
+        has_no_calls::<R>(Mutex::new(alloc, first, 5)?),
+        has_no_calls::<R>(Mutex::from(alloc, second, 5)?),
+        has_no_calls::<R>(Mutex::default(alloc, third)?),
     ];
     equal(unasked, [true; 3])
 }

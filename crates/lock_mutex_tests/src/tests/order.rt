@@ -5,7 +5,7 @@ use lock_guard::raw::{RawMutex, RawMutexFair};
 use lock_mutex::{Condvar, Mutex, MutexGuard};
 use lock_raws::SpuriousCondvar;
 use lock_test_support::answer::equal;
-use lock_test_support::raw_lock::{Calls, Liar};
+use lock_test_support::raw_lock::{AdmitsAll, Calls};
 use lock_test_support::wait_for_flag;
 use patient::Patient;
 use std::sync::Wait;
@@ -83,7 +83,7 @@ fn read_again_once_held<W: Wait, R: RawMutex>(
 /// It ends only if a thread calls the raw lock before it locks the value's lock, also on its way back from `unlocked`.
 #[test]
 fn the_raw_lock_is_asked_before_the_value_is_taken(rt: HostRuntime) -> Result<(), Fail> {
-    let raw: Liar<HostRuntime> = RawMutex::new(rt.alloc(), rt)?;
+    let raw: AdmitsAll<HostRuntime> = RawMutex::new(rt.alloc(), rt)?;
     let calls = raw.calls()?;
     let mutex = Mutex::from_raw(raw, 0)?;
     let is_held = AtomicBool::new(false);

@@ -11,7 +11,7 @@ use lock_test_support::project::Nested;
 use lock_test_support::raw_lock::RawCall::{
     self, Bump, IsLocked, Lock, TryLock, Unlock, UnlockFair,
 };
-use lock_test_support::raw_lock::{Calls, Liar, Watch};
+use lock_test_support::raw_lock::{AdmitsAll, Calls, Watch};
 use std::alloc::Global;
 use std::test::Fail;
 
@@ -85,7 +85,7 @@ fn looks<R: RawMutex>(raw: &R, calls: Calls, wanted: &[RawCall]) -> (bool, bool)
 /// A look that saw other calls than it wanted is told, and a later one that is right does not mend it.
 #[test]
 fn a_watch_tells_of_other_calls(rt: HostRuntime) -> Result<(), Fail> {
-    let raw: Liar<HostRuntime> = RawMutex::new(rt.alloc(), rt)?;
+    let raw: AdmitsAll<HostRuntime> = RawMutex::new(rt.alloc(), rt)?;
     let seen = [
         looks(&raw, raw.calls()?, &[Lock(Exclusive), Unlock(Exclusive)]),
         looks(
@@ -108,7 +108,7 @@ fn a_watch_tells_of_other_calls(rt: HostRuntime) -> Result<(), Fail> {
 
 #[test]
 fn a_bump_by_default_is_a_fair_unlock_and_a_lock(rt: HostRuntime) -> Result<(), Fail> {
-    let raw: Liar<HostRuntime> = RawMutex::new(rt.alloc(), rt)?;
+    let raw: AdmitsAll<HostRuntime> = RawMutex::new(rt.alloc(), rt)?;
     let mut watch = Watch::new(raw.calls()?);
     raw.unlock(RawMutexFair::bump(&raw, RawMutex::lock(&raw)));
     watch.saw(&[
@@ -126,7 +126,7 @@ fn is_refused<R: RawMutex>(mutex: &Mutex<R, u64>) -> bool {
 
 #[test]
 fn a_refused_try_gives_nothing_back(rt: HostRuntime) -> Result<(), Fail> {
-    let raw: Liar<HostRuntime> = RawMutex::new(rt.alloc(), rt)?;
+    let raw: AdmitsAll<HostRuntime> = RawMutex::new(rt.alloc(), rt)?;
     let raw = raw.refusing();
     let mut watch = Watch::new(raw.calls()?);
     let mutex = Mutex::from_raw(raw, 5)?;

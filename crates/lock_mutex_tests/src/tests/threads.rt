@@ -4,7 +4,7 @@ use super::order::come_and_wait;
 use lock_guard::raw::RawMutex;
 use lock_mutex::{Condvar, Mutex};
 use lock_raws::{RawLock, SpuriousCondvar};
-use lock_test_support::raw_lock::Liar;
+use lock_test_support::raw_lock::AdmitsAll;
 use lock_test_support::{Count, add_in_four_threads};
 use std::test::Fail;
 use std::thread;
@@ -25,9 +25,9 @@ impl<R: RawMutex> Count for Counted<'_, R> {
 /// Over a raw lock that admits everyone, so that only the value's lock excludes the threads.
 #[test]
 fn four_threads_count_and_two_wait_for_each_other(rt: HostRuntime) -> Result<(), Fail> {
-    let counter: Mutex<Liar<HostRuntime>, u64> = Mutex::new(rt.alloc(), rt, 0)?;
+    let counter: Mutex<AdmitsAll<HostRuntime>, u64> = Mutex::new(rt.alloc(), rt, 0)?;
     add_in_four_threads(&rt, &Counted(&counter));
-    let condvar: Condvar<SpuriousCondvar<Liar<HostRuntime>>> = Condvar::new(rt.alloc())?;
+    let condvar: Condvar<SpuriousCondvar<AdmitsAll<HostRuntime>>> = Condvar::new(rt.alloc())?;
     thread::join(
         &rt,
         || come_and_wait(&counter, &condvar, 4_002),

@@ -117,7 +117,7 @@ impl<'a, R: RawRwLockUpgradeDowngrade, T> RwLockGuard<InMode<'a, Upgradable, R, 
     {
         let held = &mut self.held;
         let (token, answer) = parts::with_upgraded(held.lock.rwlock, held.inner.empty(), f);
-        held.inner.fill(token, held.lock.show());
+        held.inner.fill(token, held.lock.lock_value());
         answer
     }
 

@@ -33,14 +33,14 @@ impl<R: RawRwLockFair> FairMode<R> for Exclusive {
 impl<'a, R: RawRwLock, T: 'a> ShowMode<'a, R, T> for Exclusive {
     type Shown = sync::RwLockWriteGuard<'a, T>;
 
-    fn try_show(rwlock: &'a RwLock<R, T>) -> Option<sync::RwLockWriteGuard<'a, T>> {
+    fn try_lock_value(rwlock: &'a RwLock<R, T>) -> Option<sync::RwLockWriteGuard<'a, T>> {
         rwlock.value.try_write()
     }
 
     /// Kept off the uncontended path.
     #[cold]
     #[inline(never)]
-    fn wait_to_show(rwlock: &'a RwLock<R, T>) -> sync::RwLockWriteGuard<'a, T> {
+    fn block_on_value(rwlock: &'a RwLock<R, T>) -> sync::RwLockWriteGuard<'a, T> {
         rwlock.value.write(rwlock.raw.waiter())
     }
 }

@@ -33,14 +33,14 @@ impl<R: RawRwLockUpgradeFair> FairMode<R> for Upgradable {
 impl<'a, R: RawRwLockUpgrade, T: 'a> ShowMode<'a, R, T> for Upgradable {
     type Shown = sync::RwLockReadGuard<'a, T>;
 
-    fn try_show(rwlock: &'a RwLock<R, T>) -> Option<sync::RwLockReadGuard<'a, T>> {
+    fn try_lock_value(rwlock: &'a RwLock<R, T>) -> Option<sync::RwLockReadGuard<'a, T>> {
         rwlock.value.try_read()
     }
 
     /// Kept off the uncontended path.
     #[cold]
     #[inline(never)]
-    fn wait_to_show(rwlock: &'a RwLock<R, T>) -> sync::RwLockReadGuard<'a, T> {
+    fn block_on_value(rwlock: &'a RwLock<R, T>) -> sync::RwLockReadGuard<'a, T> {
         rwlock.value.read(rwlock.raw.waiter())
     }
 }

@@ -5,7 +5,7 @@ use lock_guard::raw::RawRwLock;
 use lock_raws::{LockCore, RawLock};
 use lock_rwlock::RwLock;
 use lock_test_support::answer::{equal, holds_or_lacks_memory};
-use lock_test_support::raw_lock::AskedRaw;
+use lock_test_support::raw_lock::MockRaw;
 use std::alloc::Global;
 use std::test::Fail;
 
@@ -46,9 +46,9 @@ where
 }
 
 /// Whether a new lock has made no raw call.
-fn is_unasked<R: RawRwLock + Drop>(made: RwLock<AskedRaw<R>, u64>) -> bool {
+fn has_no_calls<R: RawRwLock + Drop>(made: RwLock<MockRaw<R>, u64>) -> bool {
     let (raw, _) = made.into_inner_with_raw();
-    raw.is_unasked()
+    raw.has_no_calls()
 }
 
 /// No maker makes a raw call.
@@ -58,10 +58,10 @@ pub fn check_calls<R: RawRwLock + Drop>(
 ) -> Result<(), Fail> {
     let [first, second, third, last] = waiters;
     let unasked = [
-        is_unasked::<R>(RwLock::new(alloc, first, 5)?),
-        is_unasked::<R>(RwLock::from(alloc, second, 5)?),
-        is_unasked::<R>(RwLock::default(alloc, third)?),
-        is_unasked::<R>(RwLock::with_readers(alloc, last, 1, 5)?),
+        has_no_calls::<R>(RwLock::new(alloc, first, 5)?),
+        has_no_calls::<R>(RwLock::from(alloc, second, 5)?),
+        has_no_calls::<R>(RwLock::default(alloc, third)?),
+        has_no_calls::<R>(RwLock::with_readers(alloc, last, 1, 5)?),
     ];
     equal(unasked, [true; 4])
 }

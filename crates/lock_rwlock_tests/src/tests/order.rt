@@ -3,7 +3,7 @@ use lock_guard::guard::Acquire;
 use lock_guard::raw::{RawRwLock, RawRwLockUpgrade};
 use lock_rwlock::{RwLock, RwLockGuard};
 use lock_test_support::answer::equal;
-use lock_test_support::raw_lock::{Calls, Liar};
+use lock_test_support::raw_lock::{AdmitsAll, Calls};
 use lock_test_support::wait_for_flag;
 use std::sync::Wait;
 use std::sync::atomic::{AtomicBool, Ordering};
@@ -63,7 +63,7 @@ fn find_once_held<W: Wait, R: RawRwLock>(
 /// It ends only if a thread calls the raw lock before it locks the value's lock.
 #[test]
 fn the_raw_lock_is_asked_before_the_value_is_taken(rt: HostRuntime) -> Result<(), Fail> {
-    let raw: Liar<HostRuntime> = RawRwLock::new(rt.alloc(), rt, 1)?;
+    let raw: AdmitsAll<HostRuntime> = RawRwLock::new(rt.alloc(), rt, 1)?;
     let calls = raw.calls()?;
     let is_held = AtomicBool::new(false);
     let lock = RwLock::from_raw(raw, 0)?;

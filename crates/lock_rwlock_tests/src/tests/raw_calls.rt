@@ -16,7 +16,7 @@ use lock_test_support::raw_lock::RawCall::{
     Bump, Downgrade, DowngradeToUpgradable, DowngradeUpgradable, IsLocked, IsLockedExclusive, Lock,
     TryUpgrade, TryUpgradeFor, TryUpgradeUntil, Unlock, UnlockFair, Upgrade,
 };
-use lock_test_support::raw_lock::{Liar, Watch};
+use lock_test_support::raw_lock::{AdmitsAll, Watch};
 use std::test::Fail;
 
 /// A pair in a pair behind a lock.
@@ -213,7 +213,7 @@ fn bumps_by_default<R: RawRwLockUpgradeFair>(raw: &R) {
 
 #[test]
 fn a_bump_by_default_is_a_fair_unlock_and_a_lock(rt: HostRuntime) -> Result<(), Fail> {
-    let raw: Liar<HostRuntime> = RawRwLock::new(rt.alloc(), rt, 1)?;
+    let raw: AdmitsAll<HostRuntime> = RawRwLock::new(rt.alloc(), rt, 1)?;
     let mut watch = Watch::new(raw.calls()?);
     bumps_by_default(&raw);
     watch.saw(&[

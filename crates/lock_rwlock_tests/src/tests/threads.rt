@@ -5,7 +5,7 @@ use super::Word;
 use lock_guard::raw::RawRwLock;
 use lock_raws::RawLock;
 use lock_rwlock::RwLock;
-use lock_test_support::raw_lock::Liar;
+use lock_test_support::raw_lock::AdmitsAll;
 use lock_test_support::{Count, add_in_four_threads};
 use std::sync::atomic::{AtomicBool, Ordering};
 use std::test::Fail;
@@ -48,7 +48,7 @@ fn sees_while_it_reads<R: RawRwLock>(
 /// Over a raw lock that admits everyone, so that only the value's lock excludes the threads.
 #[test]
 fn four_threads_count_and_two_read_at_once(rt: HostRuntime) -> Result<(), Fail> {
-    let lock: RwLock<Liar<HostRuntime>, u64> = RwLock::new(rt.alloc(), rt, 0)?;
+    let lock: RwLock<AdmitsAll<HostRuntime>, u64> = RwLock::new(rt.alloc(), rt, 0)?;
     add_in_four_threads(&rt, &Counted(&lock));
     let first = AtomicBool::new(false);
     let second = AtomicBool::new(false);

@@ -7,7 +7,7 @@ use lock_raws::{LockCore, RawLock};
 use lock_remutex::{RawReentrantMutex, ReentrantMutex};
 use lock_test_support::answer::equal;
 use lock_test_support::party;
-use lock_test_support::raw_lock::AskedRaw;
+use lock_test_support::raw_lock::MockRaw;
 use std::alloc::Global;
 use std::mem;
 use std::test::Fail;
@@ -101,12 +101,12 @@ where
 }
 
 /// Whether a new lock has made no raw call.
-fn is_unasked<R: RawMutex + Drop>(made: ReentrantMutex<AskedRaw<R>, u8>) -> bool
+fn has_no_calls<R: RawMutex + Drop>(made: ReentrantMutex<MockRaw<R>, u8>) -> bool
 where
     R::Guard: Drop,
 {
     let (raw, _) = made.into_inner_with_raw();
-    raw.is_unasked()
+    raw.has_no_calls()
 }
 
 /// No maker makes a raw call.
@@ -116,10 +116,10 @@ where
 {
     let [first, second, third, last] = waiters;
     let unasked = [
-        is_unasked::<R>(ReentrantMutex::new(alloc, first, 5)?),
-        is_unasked::<R>(ReentrantMutex::from(alloc, second, 5)?),
-        is_unasked::<R>(ReentrantMutex::default(alloc, third)?),
-        is_unasked::<R>(ReentrantMutex::with_levels(alloc, last, 1, 5)?),
+        has_no_calls::<R>(ReentrantMutex::new(alloc, first, 5)?),
+        has_no_calls::<R>(ReentrantMutex::from(alloc, second, 5)?),
+        has_no_calls::<R>(ReentrantMutex::default(alloc, third)?),
+        has_no_calls::<R>(ReentrantMutex::with_levels(alloc, last, 1, 5)?),
     ];
     equal(unasked, [true; 4])
 }

@@ -4,7 +4,7 @@ use lock_base::raw::Fault;
 use lock_guard::raw::{RawMutex, RawMutexFair, RawMutexTimed};
 use lock_remutex::{RawReentrantMutex, ReentrantMutex, ReentrantMutexGuard};
 use lock_test_support::answer::equal;
-use lock_test_support::raw_lock::Liar;
+use lock_test_support::raw_lock::AdmitsAll;
 use lock_test_support::two_parties;
 use std::alloc::Global;
 use std::clone::Clone;
@@ -199,8 +199,8 @@ where
 pub fn one_owner<W: Wait + Clone + Drop>(alloc: Global, waiters: [W; 2]) -> Result<(), Fail> {
     let [first_waiter, second_waiter] = waiters;
     let (first, second) = two_parties()?;
-    let raw: RawReentrantMutex<Liar<W>> = RawReentrantMutex::new(alloc, first_waiter)?;
+    let raw: RawReentrantMutex<AdmitsAll<W>> = RawReentrantMutex::new(alloc, first_waiter)?;
     equal(owned(&raw, first, second)?, (false, true, true))?;
-    let lock: ReentrantMutex<Liar<W>, u8> = ReentrantMutex::new(alloc, second_waiter, 7)?;
+    let lock: ReentrantMutex<AdmitsAll<W>, u8> = ReentrantMutex::new(alloc, second_waiter, 7)?;
     equal(guarded(&lock, first, second)?, (false, true))
 }

@@ -12,7 +12,7 @@ use lock_base::raw::Fault;
 use lock_guard::raw::{RawMutex, RawMutexFair, RawMutexTimed};
 use lock_remutex::ReentrantMutex;
 use lock_test_support::project::Nested;
-use lock_test_support::raw_lock::{AskedRaw, Watch};
+use lock_test_support::raw_lock::{MockRaw, Watch};
 use lock_test_support::{party, two_parties};
 use std::alloc::Global;
 use std::sync::Arc;
@@ -73,7 +73,7 @@ where
     R::Guard: Send + Drop,
 {
     let (one, two) = two_parties()?;
-    let raw: AskedRaw<R> = RawMutex::new(alloc, waiter)?;
+    let raw: MockRaw<R> = RawMutex::new(alloc, waiter)?;
     let mut watch = Watch::new(raw.calls()?);
     let mut lock = ReentrantMutex::from_raw(raw, ((0, 0), 0))?;
     calls_by_a_borrow(&lock, &mut watch, (one, two))?;
@@ -90,7 +90,7 @@ fn all_calls_by_an_arc<R: RawMutexFair + Drop>(alloc: Global, waiter: R::Waiter)
 where
     R::Guard: Send + Drop,
 {
-    let raw: AskedRaw<R> = RawMutex::new(alloc, waiter)?;
+    let raw: MockRaw<R> = RawMutex::new(alloc, waiter)?;
     let mut watch = Watch::new(raw.calls()?);
     let lock = Arc::new(alloc, ReentrantMutex::from_raw(raw, 5)?)?;
     calls_by_an_arc(alloc, &lock, &mut watch, two_parties()?)?;
@@ -107,7 +107,7 @@ fn all_calls_at_a_full_count<R: RawMutexFair + Drop>(
 where
     R::Guard: Send + Drop,
 {
-    let lock: Paired<AskedRaw<R>> = ReentrantMutex::with_levels(alloc, waiter, 1, ((0, 0), 0))?;
+    let lock: Paired<MockRaw<R>> = ReentrantMutex::with_levels(alloc, waiter, 1, ((0, 0), 0))?;
     levels::refused(&lock, party(1)?)?;
     let (raw, value) = lock.into_inner_with_raw();
     let mut watch = Watch::new(raw.calls()?);

@@ -6,7 +6,7 @@ use lock_base::raw::Fault;
 use lock_guard::raw::RawMutex;
 use lock_raws::RawLock;
 use lock_remutex::ReentrantMutex;
-use lock_test_support::raw_lock::{Calls, Liar};
+use lock_test_support::raw_lock::{AdmitsAll, Calls};
 use lock_test_support::{two_parties, wait_for_flag};
 use std::alloc::Global;
 use std::sync::Wait;
@@ -85,9 +85,9 @@ struct Owned<R: RawMutex, W> {
     is_owned: AtomicBool,
 }
 
-impl<W: Wait + Clone + Drop> Owned<Liar<W>, W> {
-    fn new(alloc: Global, waiter: W, watcher: W) -> Result<Owned<Liar<W>, W>, Fail> {
-        let raw: Liar<W> = RawMutex::new(alloc, waiter)?;
+impl<W: Wait + Clone + Drop> Owned<AdmitsAll<W>, W> {
+    fn new(alloc: Global, waiter: W, watcher: W) -> Result<Owned<AdmitsAll<W>, W>, Fail> {
+        let raw: AdmitsAll<W> = RawMutex::new(alloc, waiter)?;
         let calls = raw.calls()?;
         Ok(Owned {
             lock: ReentrantMutex::from_raw(raw, 0)?,

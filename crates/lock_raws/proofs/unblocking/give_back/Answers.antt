@@ -23,4 +23,4 @@ returns g c =
     let was_out = c.if-not-give_back.false in
     woken_by (Release c.args.mode)
     (releases (g.A.Arbiter.reader_limit c.args.arbiter.now) c.args.mode (back.was_out.0 was_out) (on_true c.give_back.result was_out back.removed))
-    c.bag-before.ensures.bag c.after-after.ensures back.limit_kept back.bar_kept c.whom.ensures
+    c.bag-before.ensures.bag c.after-after.ensures back.limit_kept back.bar_kept c.decide.ensures

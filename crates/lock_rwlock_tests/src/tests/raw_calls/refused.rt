@@ -8,7 +8,7 @@ use lock_rwlock::{RwLock, RwLockUpgradableReadGuard};
 use lock_test_support::raw_lock::RawCall::{
     Lock, TryLock, TryUpgrade, TryUpgradeFor, TryUpgradeUntil, Unlock,
 };
-use lock_test_support::raw_lock::{Liar, Watch};
+use lock_test_support::raw_lock::{AdmitsAll, Watch};
 use std::test::Fail;
 
 /// Upgrades, and calls under them, beside a reader. The calls are not made.
@@ -46,7 +46,7 @@ fn refused<R: RawRwLockUpgrade>(lock: &RwLock<R, u64>) -> [bool; 4] {
 
 #[test]
 fn a_refused_try_gives_nothing_back(rt: HostRuntime) -> Result<(), Fail> {
-    let raw: Liar<HostRuntime> = RawRwLock::new(rt.alloc(), rt, 1)?;
+    let raw: AdmitsAll<HostRuntime> = RawRwLock::new(rt.alloc(), rt, 1)?;
     let raw = raw.refusing();
     let mut watch = Watch::new(raw.calls()?);
     let lock = RwLock::from_raw(raw, 5)?;

@@ -9,7 +9,7 @@ use std::thread::{self, Threads};
 
 /// Two numbers that a writer keeps equal.
 #[derive(Drop)]
-struct Pair {
+struct EqualNumbers {
     one: u64,
     other: u64,
 }
@@ -26,7 +26,7 @@ trait Pairs {
     fn read_pairs(&self) -> u64;
 }
 
-impl<R: RawRwLock> Pairs for RwLock<R, Pair> {
+impl<R: RawRwLock> Pairs for RwLock<R, EqualNumbers> {
     type Waiter = R::Waiter;
 
     fn write_pairs(&self) {
@@ -64,8 +64,8 @@ fn read_beside_a_writer<R: Threads + Sync, C: Pairs + Sync>(rt: &R, pair: &C) ->
 #[test]
 fn readers_see_no_half_of_a_pair(rt: HostRuntime) -> Result<(), Fail> {
     for readers in [1, 2, 64] {
-        let pair = Pair { one: 0, other: 0 };
-        let lock: RwLock<RawLock<Word>, Pair> = RwLock::with_readers(
+        let pair = EqualNumbers { one: 0, other: 0 };
+        let lock: RwLock<RawLock<Word>, EqualNumbers> = RwLock::with_readers(
             rt.alloc(),
             rt,
             readers,

@@ -6,7 +6,7 @@ use lock_guard::raw::RawMutex;
 use lock_remutex::ReentrantMutex;
 use lock_test_support::answer::equal;
 use lock_test_support::raw_lock::RawCall::{Lock, TryLock, Unlock};
-use lock_test_support::raw_lock::{Liar, Watch};
+use lock_test_support::raw_lock::{AdmitsAll, Watch};
 use lock_test_support::two_parties;
 use std::alloc::Global;
 use std::clone::Clone;
@@ -30,7 +30,7 @@ where
 /// The token that came too early is given back.
 fn admitted<W: Wait + Clone + Drop>(alloc: Global, waiter: W) -> Result<(), Fail> {
     let (one, two) = two_parties()?;
-    let raw: Liar<W> = RawMutex::new(alloc, waiter)?;
+    let raw: AdmitsAll<W> = RawMutex::new(alloc, waiter)?;
     let mut watch = Watch::new(raw.calls()?);
     try_beside_an_owner(&ReentrantMutex::from_raw(raw, 5)?, one, two)?;
     watch.saw(&[
@@ -53,7 +53,7 @@ where
 /// A refused try gives nothing back.
 fn refused<W: Wait + Clone + Drop>(alloc: Global, waiter: W) -> Result<(), Fail> {
     let (one, _) = two_parties()?;
-    let raw: Liar<W> = RawMutex::new(alloc, waiter)?;
+    let raw: AdmitsAll<W> = RawMutex::new(alloc, waiter)?;
     let raw = raw.refusing();
     let mut watch = Watch::new(raw.calls()?);
     equal(is_refused(&ReentrantMutex::from_raw(raw, 5)?, one)?, true)?;

@@ -9,7 +9,7 @@ use Rattle.lock_ruled.proofs.mutex.RuledMutex.unlock.Goals as goal
 pub swap-requires : goal.swap-requires
 swap-requires g c =
     let rule = g.P.MutexRule.rule in
-    let next = g.M.Turn.next in
+    let next = g.M.ViewUpdate.next in
     let value = c.guard.inside.value in
     let taken = taken_value c.guard.inside.seat.me.0.stage value in
     let is = ap (λ (m : Self g.row.T.Denot g.row.V.Denot). m.0) c.exchange.ensures.3 in
@@ -35,7 +35,7 @@ invariant_of-result g c =
 
 pub returns : goal.returns
 returns g c =
-    let next = g.M.Turn.next in
+    let next = g.M.ViewUpdate.next in
     let value = c.guard.inside.value in
     let taken = taken_value c.guard.inside.seat.me.0.stage value in
     let is = ap (λ (m : Self g.row.T.Denot g.row.V.Denot). m.0) c.exchange.ensures.3 in

@@ -1,5 +1,5 @@
 use Rattle.std.proofs.Common.{rules, sym, ap, ◌∙◌}
-use Rattle.lock_seated.specs.Standing.{Lock}
+use Rattle.lock_seated.specs.CallerView.{Lock}
 use Rattle.lock_seated.proofs.Keeps.{exchanges_as}
 use Rattle.lock_seated.proofs.lock.SeatedLock.exchange.Goals as goal
 

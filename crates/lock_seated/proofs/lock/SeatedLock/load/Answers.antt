@@ -1,11 +1,11 @@
 use Rattle.std.proofs.Common.{rules, sym, ap, ◌∙◌}
-use Rattle.lock_seated.specs.Standing.{Lock, Standing}
+use Rattle.lock_seated.specs.CallerView.{Lock, CallerView}
 use Rattle.lock_seated.proofs.Keeps.{loads}
 use Rattle.lock_seated.proofs.lock.SeatedLock.load.Goals as goal
 
 pub load-requires : goal.load-requires
 load-requires c = (
-  ap (λ (l : Lock). l.id) (ap (λ (p : Standing). p.lock) c.party.view_is ∙ c.requires ∙ sym c.self.view_is),
+  ap (λ (l : Lock). l.id) (ap (λ (p : CallerView). p.lock) c.party.view_is ∙ c.requires ∙ sym c.self.view_is),
   search rules,
   loads _ _ _ _,
 )

@@ -1,0 +1,90 @@
+//! A raw lock that admits everything, or refuses every try.
+use crate::raw_lock::calls::Calls;
+use crate::raw_lock::raw_call::RawCall;
+use lock_base::machine::Mode;
+use lock_base::raw::Fault;
+use lock_guard::raw::{GuardSend, RawMutex, RawMutexFair};
+use std::alloc::Global;
+use std::clone::Clone;
+use std::sync::Wait;
+
+/// A raw lock that admits everything, or refuses every try. It records its calls, and keeps the default bodies of the
+/// raw traits.
+#[derive(Drop)]
+pub struct AdmitsAll<W: Wait + Clone + Drop> {
+    waiter: W,
+    calls: Calls,
+    pub(crate) refuses: bool,
+}
+
+impl<W: Wait + Clone + Drop> AdmitsAll<W> {
+    /// Returns the same raw lock, which now refuses every try.
+    pub fn refusing(self) -> AdmitsAll<W> {
+        AdmitsAll {
+            refuses: true,
+            ..self
+        }
+    }
+
+    /// Returns the recorded calls.
+    pub fn calls(&self) -> Result<Calls, Fault> {
+        self.calls.another()
+    }
+
+    pub(crate) fn asked(&self, call: RawCall) {
+        self.calls.add(&self.waiter, call);
+    }
+
+    /// Returns what a try in the mode answers.
+    pub(crate) fn tried(&self, mode: Mode) -> Option<GuardSend> {
+        self.asked(RawCall::TryLock(mode));
+        if self.refuses {
+            None
+        } else {
+            Some(GuardSend::new())
+        }
+    }
+}
+
+impl<W: Wait + Clone + Drop> RawMutex for AdmitsAll<W> {
+    type Guard = GuardSend;
+
+    type Waiter = W;
+
+    fn new(alloc: Global, waiter: W) -> Result<AdmitsAll<W>, Fault> {
+        let calls = Calls::new(alloc)?;
+        Ok(AdmitsAll {
+            waiter,
+            calls,
+            refuses: false,
+        })
+    }
+
+    fn waiter(&self) -> &W {
+        &self.waiter
+    }
+
+    fn lock(&self) -> GuardSend {
+        self.asked(RawCall::Lock(Mode::Exclusive));
+        GuardSend::new()
+    }
+
+    fn try_lock(&self) -> Option<GuardSend> {
+        self.tried(Mode::Exclusive)
+    }
+
+    fn unlock(&self, _token: GuardSend) {
+        self.asked(RawCall::Unlock(Mode::Exclusive));
+    }
+
+    fn is_locked(&self) -> bool {
+        self.asked(RawCall::IsLocked);
+        false
+    }
+}
+
+impl<W: Wait + Clone + Drop> RawMutexFair for AdmitsAll<W> {
+    fn unlock_fair(&self, _token: GuardSend) {
+        self.asked(RawCall::UnlockFair(Mode::Exclusive));
+    }
+}
