@@ -4,6 +4,7 @@ mod rwlock_pairs;
 mod scripts;
 
 use std::io;
+use std::sync::Wait;
 use std::time::Instant;
 
 /// Whether calls are timed, or only made.
@@ -30,9 +31,9 @@ impl Bench {
 }
 
 /// Makes the calls of each part, and prints a line for each.
-pub fn print(rt: &HostRuntime, bench: Bench) -> io::Result<()> {
+pub fn print<W: Wait + Clone + Drop>(rt: &HostRuntime, waiter: &W, bench: Bench) -> io::Result<()> {
     mix::run(rt, bench)?;
-    rwlock_pairs::run(rt, rt, bench)?;
+    rwlock_pairs::run(rt, waiter, bench)?;
     scripts::run(rt, bench)
 }
 

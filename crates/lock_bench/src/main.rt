@@ -24,10 +24,10 @@ use std::{env, io};
 fn main(rt: HostRuntime) -> io::Result<()> {
     let words = words(&rt)?;
     let Some(word) = words.first() else {
-        return desk::print(&rt, Bench { is_timed: false });
+        return desk::print(&rt, &rt, Bench { is_timed: false });
     };
     match word.as_str() {
-        "desk" => desk::print(&rt, Bench { is_timed: true }),
+        "desk" => desk::print(&rt, &rt, Bench { is_timed: true }),
         word => run(&rt, rt.alloc(), word, number(words.get(1))),
     }
 }
