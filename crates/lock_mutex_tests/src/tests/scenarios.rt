@@ -27,7 +27,7 @@ where
     mutex::timed_row::<R>(alloc, second)?;
     mutex::changed_row::<R>(alloc, third)?;
     arc_mutex::row::<R>(alloc, last)?;
-    remutex::scenarios::<R>(rt, alloc, remutexes)
+    remutex::rows::<R>(rt, alloc, remutexes)
 }
 
 /// All rows over a raw lock with that core.
@@ -40,7 +40,7 @@ fn rows_over<C: LockCore<Duration = (), Instant = ()>>(
 where
     C::Token: Send,
 {
-    scenarios::<RawLock<C>>(rt, alloc, mutexes, remutexes)
+    rows::<RawLock<C>>(rt, alloc, mutexes, remutexes)
 }
 
 #[test]

@@ -29,7 +29,7 @@ fn rows_over<C: LockCore<Duration = (), Instant = ()>>(
     alloc: Global,
     waiters: [C::Waiter; 5],
 ) -> Result<(), Fail> {
-    scenarios::<RawLock<C>>(rt, alloc, waiters)
+    rows::<RawLock<C>>(rt, alloc, waiters)
 }
 
 #[test]
