@@ -1,49 +1,42 @@
-/* Refuses one allocation of the program that it is preloaded into: the one whose number, from 1, REFUSED_ALLOCATION gives.
- *
- * It counts the calls of the C library's allocator that the program itself makes, and none that a shared library makes.
- * Where the program ends before that allocation, it says so on standard error. */
-#define _GNU_SOURCE
-#include <dlfcn.h>
-#include <errno.h>
-#include <stdatomic.h>
-#include <stdbool.h>
-#include <stdlib.h>
-#include <sys/auxv.h>
-#include <unistd.h>
+// Preloaded into the tests of a crate: refuses the allocation whose number is in REFUSE, counted from 1, and says so on standard
+// error. The tests allocate by malloc and realloc. A call from the C library itself does not count, as where it starts a thread.
+// No header is included, since a machine may lack those of C.
+extern void *__libc_malloc(unsigned long);
+extern void *__libc_realloc(void *, unsigned long);
+extern char *getenv(const char *);
+extern long atol(const char *);
+extern long write(int, const void *, unsigned long);
+extern unsigned long getauxval(unsigned long);
 
-extern void *__libc_malloc(size_t), *__libc_calloc(size_t, size_t), *__libc_realloc(void *, size_t), *__libc_memalign(size_t, size_t);
+// what dladdr tells of an address
+struct place {
+    const char *file;
+    void *base;
+    const char *symbol;
+    void *start;
+};
+extern int dladdr(const void *, struct place *);
 
-static atomic_ulong made;
-static unsigned long refused;
-static void *program;
+#define AT_ENTRY 9
+static const char TOLD[] = "an allocation is refused\n";
 
-static void *base_of(void *address) {
-    Dl_info found;
-    return dladdr(address, &found) ? found.dli_fbase : NULL;
+static int is_of_the_tests(void *caller) {
+    struct place tests, here;
+    return dladdr((void *)getauxval(AT_ENTRY), &tests) && dladdr(caller, &here) && here.base == tests.base;
 }
 
-__attribute__((constructor)) static void begin(void) {
-    program = base_of((void *)getauxval(AT_ENTRY));
-    refused = strtoul(getenv("REFUSED_ALLOCATION"), NULL, 10);
+static int is_refused(void *caller) {
+    static long made = 0;
+    if (!is_of_the_tests(caller) || __atomic_add_fetch(&made, 1, __ATOMIC_SEQ_CST) != atol(getenv("REFUSE")))
+        return 0;
+    write(2, TOLD, sizeof TOLD - 1);
+    return 1;
 }
 
-__attribute__((destructor)) static void end(void) {
-    static const char said[] = "every allocation was passed\n";
-    if (made < refused && write(STDERR_FILENO, said, sizeof said - 1) < 0) abort();
+void *malloc(unsigned long size) {
+    return is_refused(__builtin_return_address(0)) ? 0 : __libc_malloc(size);
 }
 
-static bool is_refused(void *caller) {
-    bool is = program && base_of(caller) == program && atomic_fetch_add(&made, 1) + 1 == refused;
-    if (is) errno = ENOMEM;
-    return is;
-}
-
-#define CALLER __builtin_extract_return_addr(__builtin_return_address(0))
-void *malloc(size_t size) { return is_refused(CALLER) ? NULL : __libc_malloc(size); }
-void *calloc(size_t count, size_t size) { return is_refused(CALLER) ? NULL : __libc_calloc(count, size); }
-void *realloc(void *old, size_t size) { return is_refused(CALLER) ? NULL : __libc_realloc(old, size); }
-void *aligned_alloc(size_t align, size_t size) { return is_refused(CALLER) ? NULL : __libc_memalign(align, size); }
-int posix_memalign(void **to, size_t align, size_t size) {
-    *to = is_refused(CALLER) ? NULL : __libc_memalign(align, size);
-    return *to ? 0 : ENOMEM;
+void *realloc(void *old, unsigned long size) {
+    return is_refused(__builtin_return_address(0)) ? 0 : __libc_realloc(old, size);
 }
