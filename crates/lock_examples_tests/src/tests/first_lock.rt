@@ -2,7 +2,7 @@
 use lock_api::{Mutex, WordRaw};
 use std::test::Fail;
 
-/// The raw lock, which may wait by the runtime's leave.
+/// The raw lock. Its waiter is the runtime, which permits blocking.
 type Raw = WordRaw<HostRuntime>;
 
 #[test]
