@@ -1,4 +1,4 @@
-//! A lock on one thread, beside a `Desk` that is given the same calls.
+//! A lock on one thread, compared with a `Desk` that gets the same calls.
 ghost use Rattle.std.specs.Prelude.{◌≡◌, None, IsSome, MatchBool, MatchResult};
 
 mod put;
@@ -22,7 +22,7 @@ fn given(is_given: bool, number: u64) -> Reply<i64> {
     }
 }
 
-/// A desk that remembers where it first differed from the lock beside it.
+/// A desk that remembers where it first differed from the lock.
 #[derive(Drop)]
 pub struct BesideDesk {
     table: Table,

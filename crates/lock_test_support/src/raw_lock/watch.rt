@@ -81,8 +81,8 @@ impl Watch {
         self.saw_hold(guard, mode);
     }
 
-    /// The lock was acquired in the mode by a call that waits, by a try, by one for a time of 3, and by one until the
-    /// instant 4, and given up after each.
+    /// The lock was acquired in the mode by a blocking call, by a try, by one for a time of 3, and by one until the
+    /// instant 4. It was released after each.
     pub fn saw_acquisitions(&mut self, mode: Mode) {
         self.saw(&[
             RawCall::Lock(mode),

@@ -9,7 +9,7 @@ use std::alloc::Global;
 use std::sync::Arc;
 use std::test::Fail;
 
-/// A guard is given up and taken again, and ends by a fair release that answers the mutex.
+/// A guard releases the mutex and acquires it again, and ends by a fair release that returns the mutex.
 fn given_up_and_taken_again<R: RawMutexFair + Drop>(
     desk: &mut BesideDesk,
     mutex: &Mutex<R, i64>,

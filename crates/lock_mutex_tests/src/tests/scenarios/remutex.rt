@@ -10,7 +10,7 @@ use std::alloc::Global;
 use std::process::Abort;
 use std::test::Fail;
 
-/// The one level that is left is given up and taken again, read, and ended.
+/// The last level releases the lock and acquires it again, reads, and ends.
 fn last_level<R: RawMutexFair>(
     rt: &impl Abort,
     desk: &mut BesideDesk,
@@ -53,7 +53,7 @@ where
     Ok(())
 }
 
-/// Two levels of one party, and what another may do beside them.
+/// Two levels of one party, and the calls of another party meanwhile.
 fn beside_an_owner<R: RawMutexFair>(
     desk: &mut BesideDesk,
     remutex: &ReentrantMutex<R, i64>,

@@ -1,4 +1,4 @@
-//! Who waits for a raw lock is let on.
+//! Every thread that waits for a raw lock is woken.
 mod ends;
 mod runs;
 
@@ -8,7 +8,8 @@ use std::process::Abort;
 use std::thread::Threads;
 use std::time::Clock;
 
-/// Each kind of end of a lock of four readers, and runs of it and of a lock of one. It ends only where all are let on.
+/// Each kind of release of a lock of four readers, and runs of it and of a lock of one reader. It ends only if every waiter
+/// is woken.
 pub fn check<R, L>(rt: &R, four: &L, one: &L)
 where
     R: Threads + Clock + Abort + Sync,

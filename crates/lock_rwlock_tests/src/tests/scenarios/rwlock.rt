@@ -15,16 +15,16 @@ use std::alloc::Global;
 use std::process::Abort;
 use std::test::Fail;
 
-/// The value, and another beside it.
+/// The value, and another one.
 type Pair = (i64, i64);
 
 type Paired<R> = RwLock<R, Pair>;
 
 type Upgradable<'a, R> = RwLockUpgradableReadGuard<'a, R, Pair>;
 
-/// The guard that came back from an upgrade, which a reader beside it refused.
+/// The guard that an upgrade returned, since a reader holds the lock too.
 pub fn given_back<W: Drop, G>(rt: &impl Abort, tried: Result<W, G>) -> G {
-    tried.err().expect(rt, "a reader beside it")
+    tried.err().expect(rt, "a reader holds the lock too")
 }
 
 /// The guard of a writer that an upgrade gave, nobody else holding the lock.
@@ -110,7 +110,7 @@ fn up_and_down<
     reader
 }
 
-/// An upgradable guard, after what a reader beside it refuses.
+/// An upgradable guard, after the calls that a reader refuses.
 fn upgradable_beside_a_reader<
     'a,
     R: RawRwLockUpgradeTimed<Duration = (), Instant = ()> + RawRwLockUpgradeDowngrade,

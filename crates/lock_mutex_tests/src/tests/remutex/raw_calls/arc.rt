@@ -117,7 +117,7 @@ where
     Ok(())
 }
 
-/// What a guard can do beside another, which asks nothing. Each closure looks at the raw lock.
+/// The calls of a guard of a further level. Only their closures make a call on the raw lock.
 pub fn calls_of_an_inner_guard<R: RawMutexFair + Drop>(
     lock: &Shareable<R>,
     watch: &mut Watch,

@@ -1,4 +1,4 @@
-//! What the raw lock is asked where a party takes levels beside its first, and gives them up: nothing.
+//! A party that acquires and releases further levels makes no call on the raw lock.
 use super::Paired;
 use lock_base::machine::Mode::Exclusive;
 use lock_base::machine::PartyId;
@@ -28,7 +28,7 @@ where
     Ok(())
 }
 
-/// What a guard can do beside another. Each closure looks at the raw lock.
+/// The calls of a guard of a further level. Only their closures make a call on the raw lock.
 pub fn calls_of_a_guard<R: RawMutexFair>(
     lock: &Paired<R>,
     watch: &mut Watch,

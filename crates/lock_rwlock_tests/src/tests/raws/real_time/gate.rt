@@ -10,7 +10,7 @@ use std::sync::atomic::{AtomicBool, AtomicU64, Ordering};
 use std::thread;
 use std::time::{Clock, Duration, Instant};
 
-/// A lock, a condition variable, and what threads tell one another beside them.
+/// A lock, a condition variable, and the flags by which threads signal one another.
 #[derive(Drop)]
 pub struct Gate<C: LockCore> {
     raw: RawLock<C>,
