@@ -17,7 +17,7 @@ abbrev bar_of : Hold → ℕ
 bar_of h = bars_of h.announced
 
 -- an element of a list of which another was changed stays where it was
-other_stays : {A : Type 0} (xs : List A) (k j : ℕ) (y z : A) → j ≢ k → slice_get xs j ≡ Some z
+pub other_stays : {A : Type 0} (xs : List A) (k j : ℕ) (y z : A) → j ≢ k → slice_get xs j ≡ Some z
     → slice_get (slice_set xs k y) j ≡ Some z
 other_stays [] k j y z other h = h
 other_stays (x ∷ xs) zero zero y z other h = absurd (other refl)

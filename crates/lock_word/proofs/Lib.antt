@@ -8,3 +8,5 @@ pub mod Reached
 pub mod LastLoads
 pub mod Sound
 pub mod AlikeBars
+pub mod Unblocking
+pub mod Wakes

@@ -121,7 +121,7 @@ counted_turn limit word n me s t h e =
     ]
 
 -- the word of all that is held is packed
-packed_word : (limit word : ℕ) (ps : List WorldParty) → IsLimit limit → KeepsRule limit word ps → IsPacked limit word
+pub packed_word : (limit word : ℕ) (ps : List WorldParty) → IsLimit limit → KeepsRule limit word ps → IsPacked limit word
 packed_word limit word ps range rule =
     let all = held_by_all ps in
     let same : barred_bag_of_word word ≡ all

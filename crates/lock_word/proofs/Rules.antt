@@ -202,7 +202,7 @@ keeps_take limit word ps k me d range rule at has =
 -- one party more
 
 -- an element of a longer list is one of the list, or the new one
-element_of_longer : {A : Type 0} (xs : List A) (y z : A) (j : ℕ) → slice_get (xs ++ y ∷ []) j ≡ Some z
+pub element_of_longer : {A : Type 0} (xs : List A) (y z : A) (j : ℕ) → slice_get (xs ++ y ∷ []) j ≡ Some z
     → (slice_get xs j ≡ Some z) ⊎ (z ≡ y)
 element_of_longer [] y z zero h = inr (same_Some z y (sym h))
 element_of_longer [] y z (suc j) h = cc

@@ -52,22 +52,22 @@ bag_of_word_of limit all fits stands =
 
 -- exchanges
 
-both_below : (a b c d : ℕ) → (nat_lt a b && nat_lt c d) ≡ true → (a < b) × (c < d)
+pub both_below : (a b c d : ℕ) → (nat_lt a b && nat_lt c d) ≡ true → (a < b) × (c < d)
 both_below a b c d h = let two = and_parts (nat_lt a b) (nat_lt c d) h in (ltb-true a b two.0, ltb-true c d two.1)
 
-both_tests : (a b c d : ℕ) → a < b → c < d → (nat_lt a b && nat_lt c d) ≡ true
+pub both_tests : (a b c d : ℕ) → a < b → c < d → (nat_lt a b && nat_lt c d) ≡ true
 both_tests a b c d p q = and_from (nat_lt a b) (nat_lt c d) (lt-ltb a b p) (lt-ltb c d q)
 
-either_test : (p q : Bool) → (p || q) ≡ true → (p ≡ true) ⊎ (q ≡ true)
+pub either_test : (p q : Bool) → (p || q) ≡ true → (p ≡ true) ⊎ (q ≡ true)
 either_test true q h = inl refl
 either_test false q h = inr h
 
 -- the word is one of two
-one_of : (w a b : ℕ) → ((w == a) || (w == b)) ≡ true → (w ≡ a) ⊎ (w ≡ b)
+pub one_of : (w a b : ℕ) → ((w == a) || (w == b)) ≡ true → (w ≡ a) ⊎ (w ≡ b)
 one_of w a b h =
     elim (either_test (w == a) (w == b) h) [ inl e ↦ inl (eqb-true w a e) | inr e ↦ inr (eqb-true w b e) ]
 
-is_one_of : (w a b : ℕ) → (w ≡ a) ⊎ (w ≡ b) → ((w == a) || (w == b)) ≡ true
+pub is_one_of : (w a b : ℕ) → (w ≡ a) ⊎ (w ≡ b) → ((w == a) || (w == b)) ≡ true
 is_one_of w a b h =
     elim h [ inl e ↦ rw (eq-eqb w a e) refl | inr e ↦ second (w == a) (w == b) (eq-eqb w b e) ]
   where
@@ -238,7 +238,7 @@ repacked limit word new s range p permitted e =
       all = same;
     }
 
-same_tests : (a b : Bool) → (IsTrue a → IsTrue b) → (IsTrue b → IsTrue a) → a ≡ b
+pub same_tests : (a b : Bool) → (IsTrue a → IsTrue b) → (IsTrue b → IsTrue a) → a ≡ b
 same_tests true b f g = sym (f refl)
 same_tests false true f g = g refl
 same_tests false false f g = refl

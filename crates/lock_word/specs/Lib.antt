@@ -8,3 +8,6 @@ pub mod Turns
 pub mod Rule
 pub mod Worlds
 pub mod Claims
+pub mod Sleepers
+pub mod Wakes
+pub mod WakeLaws

@@ -2,6 +2,7 @@
 ghost use Rattle.lock_word.specs.WordLaws.{ExchangesRefineSteps, SubtractionsRefineSteps, EncodingIsInjective};
 ghost use Rattle.lock_word.specs.BarLaws.{BarEncodingsAgree};
 ghost use Rattle.lock_word.specs.Claims.{EveryInterleaving};
+ghost use Rattle.lock_word.specs.WakeLaws.{ExchangesUnblockNobody, UnblocksMissesNobody, StepsKeepWakes};
 
 /// An exchange refines a step on the bag: the word admits it exactly where the bag and the bar permit the step, and the
 /// new word is that of the new bag.
@@ -29,4 +30,22 @@ pub fn bar_encodings_agree()
 /// no party's failed exchanges outnumber the wins of the others.
 pub fn every_interleaving()
     ensures { EveryInterleaving }
+{}
+
+/// An admitted exchange unblocks nobody: a waiter that the new word admits was admitted by the old one. So an
+/// acquisition wakes nobody.
+pub fn exchanges_unblock_nobody()
+    ensures { ExchangesUnblockNobody }
+{}
+
+/// `unblocks` misses nobody: if it answers `false` for two words, a waiter that the second admits was admitted by the
+/// first. It need not know which of the waiters set the bar.
+pub fn unblocks_misses_nobody()
+    ensures { UnblocksMissesNobody }
+{}
+
+/// Each kind of step of any party keeps the rule by which no wake-up is lost. While a sleeper waits for what the word
+/// admits, some party is due to wake it. In a lock at rest, the word refuses every sleeper.
+pub fn steps_keep_wakes()
+    ensures { StepsKeepWakes }
 {}

@@ -1,0 +1,236 @@
+-- Which waiters a step unblocks: an exchange nobody, and a take nobody that `unblocks` does not find.
+use Rattle.std.proofs.Common.{◌≡◌, ℕ, not, ◌+◌, ◌-◌, ◌^◌, ◌<◌, ◌≤◌, Bool, true, false, ◌&&◌, ◌||◌, ◌==◌, ◌⊎◌, inl, inr, IsTrue, refl, sym, ap, ◌∙◌, arith, eqb-true, ltb-true, lt-ltb, eq-eqb, nat_lt, eq-zero-or-pos}
+use Rattle.std.proofs.lemmas.Bool.{and_parts, and_from, or_parts, or_cases, or_left, false≢true}
+use Rattle.lock_base.specs.declared.machine.mode.Mode.{Mode}
+use Rattle.lock_base.specs.declared.machine.mode.Mode.TheVariants as mode
+use Rattle.lock_base.specs.Limits.{IsLimit}
+use Rattle.lock_base.specs.Modes.{tokens, admits}
+use Rattle.lock_word.specs.declared.hold.Hold.{Hold}
+use Rattle.lock_word.specs.declared.want.ExWant.{ExWant}
+use Rattle.lock_word.specs.declared.want.ExWant.TheVariants.{Shared, Exclusive, Upgradable, Upgrade, Announce}
+use Rattle.lock_word.specs.Holds.{bars_of, is_barred}
+use Rattle.lock_word.specs.Word.{word_of, word_admits, readers_of_word, want_of_mode, barred_bag_of_word, IsPacked}
+use Rattle.lock_word.specs.Unblocking.{occupancy_of_word, may_proceed, may_upgrade, newly_may_proceed}
+use Rattle.lock_word.specs.Rule.{WordShows}
+use Rattle.lock_word.specs.Sleepers.{is_awaited}
+use Rattle.lock_word.specs.WakeLaws.{ExchangesUnblockNobody, UnblocksMissesNobody}
+use Rattle.lock_word.proofs.Words.{both_below, both_tests, one_of, is_one_of, same_tests, permits_of_word, word_of_permits, word_admits_mode}
+
+-- an exclusive hold is admitted on a free word, or under the party's own bar alone
+free_or_own : (a : Bool) (w : ℕ) → ((w == 0) || (a && (w == 2 ^ 34))) ≡ true → (w ≡ 0) ⊎ ((a ≡ true) × (w ≡ 2 ^ 34))
+free_or_own a w h =
+    elim (or_cases (w == 0) (a && (w == 2 ^ 34)) h) [
+      | inl e ↦ inl (eqb-true w 0 e)
+      | inr e ↦ (let two = and_parts a (w == 2 ^ 34) e in inr (two.0, eqb-true w (2 ^ 34) two.1))
+    ]
+
+-- a party's upgradable hold is in the word
+upgradable_in : (limit word : ℕ) (own : Hold) → WordShows limit word own → 0 < own.bag.upgradable → 2 ^ 32 < word
+upgradable_in limit word own seen some =
+    let part = seen.part.upgradable in
+    let coded = seen.coded in
+    omega arith
+
+bar_in : (limit word : ℕ) (own : Hold) → WordShows limit word own → own.announced ≡ true → 2 ^ 34 ≤ word
+bar_in limit word own seen announced = let one : bars_of own.announced ≡ 1 = ap bars_of announced in seen.announced (omega arith)
+
+pub exchanges_unblock_nobody : ExchangesUnblockNobody
+exchanges_unblock_nobody a limit word Shared own Shared range seen h awaited has after = h
+exchanges_unblock_nobody a limit word Shared own Exclusive range seen h awaited has after =
+    let now = both_below word (2 ^ 33) (readers_of_word word) limit h in
+    absurd (elim (free_or_own own.announced (word + 1) after) [ inl e ↦ omega arith | inr e ↦ (let w = e.1 in omega arith) ])
+exchanges_unblock_nobody a limit word Shared own Upgradable range seen h awaited has after =
+    let now = both_below word (2 ^ 33) (readers_of_word word) limit h in
+    let then = both_below (word + 1) (2 ^ 32) (readers_of_word (word + 1)) limit after in
+    both_tests word (2 ^ 32) (readers_of_word word) limit (omega arith) (omega arith)
+exchanges_unblock_nobody a limit word Shared own Upgrade range seen h awaited has after =
+    let now = both_below word (2 ^ 33) (readers_of_word word) limit h in
+    let up = upgradable_in limit word own seen (ltb-true 0 own.bag.upgradable has) in
+    absurd (elim (one_of (word + 1) (2 ^ 32 + 1) (2 ^ 34 + 2 ^ 32 + 1) after) [ inl e ↦ omega arith | inr e ↦ omega arith ])
+exchanges_unblock_nobody a limit word Exclusive own Shared range seen h awaited has after =
+    absurd (false≢true after)
+exchanges_unblock_nobody a limit word Exclusive own Exclusive range seen h awaited has after =
+    absurd (elim (free_or_own own.announced (2 ^ 33) after) [ inl e ↦ omega arith | inr e ↦ (let w = e.1 in omega arith) ])
+exchanges_unblock_nobody a limit word Exclusive own Upgradable range seen h awaited has after =
+    absurd (false≢true after)
+exchanges_unblock_nobody a limit word Exclusive own Upgrade range seen h awaited has after =
+    absurd (false≢true after)
+exchanges_unblock_nobody a limit word Upgradable own Shared range seen h awaited has after =
+    let now = both_below word (2 ^ 32) (readers_of_word word) limit h in
+    both_tests word (2 ^ 33) (readers_of_word word) limit (omega arith) (omega arith)
+exchanges_unblock_nobody a limit word Upgradable own Exclusive range seen h awaited has after =
+    let now = both_below word (2 ^ 32) (readers_of_word word) limit h in
+    absurd (elim (free_or_own own.announced (word + (2 ^ 32 + 1)) after) [ inl e ↦ omega arith | inr e ↦ (let w = e.1 in omega arith) ])
+exchanges_unblock_nobody a limit word Upgradable own Upgradable range seen h awaited has after = h
+exchanges_unblock_nobody a limit word Upgradable own Upgrade range seen h awaited has after =
+    let now = both_below word (2 ^ 32) (readers_of_word word) limit h in
+    let up = upgradable_in limit word own seen (ltb-true 0 own.bag.upgradable has) in
+    absurd (omega arith)
+exchanges_unblock_nobody a limit word Upgrade own Shared range seen h awaited has after =
+    let then = both_below (word + (2 ^ 32 - 1)) (2 ^ 33) (readers_of_word (word + (2 ^ 32 - 1))) limit after in
+    absurd (elim (one_of word (2 ^ 32 + 1) (2 ^ 34 + 2 ^ 32 + 1) h) [ inl e ↦ omega arith | inr e ↦ omega arith ])
+exchanges_unblock_nobody a limit word Upgrade own Exclusive range seen h awaited has after =
+    absurd (elim (one_of word (2 ^ 32 + 1) (2 ^ 34 + 2 ^ 32 + 1) h) [
+      | inl w ↦ elim (free_or_own own.announced (word + (2 ^ 32 - 1)) after) [ inl e ↦ omega arith | inr e ↦ (let v = e.1 in omega arith) ]
+      | inr w ↦ elim (free_or_own own.announced (word + (2 ^ 32 - 1)) after) [ inl e ↦ omega arith | inr e ↦ (let v = e.1 in omega arith) ]
+    ])
+exchanges_unblock_nobody a limit word Upgrade own Upgradable range seen h awaited has after =
+    let then = both_below (word + (2 ^ 32 - 1)) (2 ^ 32) (readers_of_word (word + (2 ^ 32 - 1))) limit after in
+    absurd (elim (one_of word (2 ^ 32 + 1) (2 ^ 34 + 2 ^ 32 + 1) h) [ inl e ↦ omega arith | inr e ↦ omega arith ])
+exchanges_unblock_nobody a limit word Upgrade own Upgrade range seen h awaited has after = h
+exchanges_unblock_nobody a limit word Announce own Shared range seen h awaited has after =
+    let then = both_below (word + 2 ^ 34) (2 ^ 33) (readers_of_word (word + 2 ^ 34)) limit after in absurd (omega arith)
+exchanges_unblock_nobody a limit word Announce own Exclusive range seen h awaited has after =
+    let now = ltb-true word (2 ^ 34) h in
+    absurd (elim (free_or_own own.announced (word + 2 ^ 34) after) [
+      | inl e ↦ omega arith
+      | inr e ↦ (let barred = bar_in limit word own seen e.0 in omega arith)
+    ])
+exchanges_unblock_nobody a limit word Announce own Upgradable range seen h awaited has after =
+    let then = both_below (word + 2 ^ 34) (2 ^ 32) (readers_of_word (word + 2 ^ 34)) limit after in absurd (omega arith)
+exchanges_unblock_nobody a limit word Announce own Upgrade range seen h awaited has after =
+    let now = ltb-true word (2 ^ 34) h in
+    elim (one_of (word + 2 ^ 34) (2 ^ 32 + 1) (2 ^ 34 + 2 ^ 32 + 1) after) [
+      | inl e ↦ absurd (omega arith)
+      | inr e ↦ is_one_of word (2 ^ 32 + 1) (2 ^ 34 + 2 ^ 32 + 1) (inl (omega arith))
+    ]
+exchanges_unblock_nobody a limit word want own Announce range seen h awaited has after = absurd (false≢true awaited)
+
+-- the four tests of `unblocks`, on a packed word
+
+or_false : (b : Bool) → (b || false) ≡ b
+or_false true = refl
+or_false false = refl
+
+or_true : (b : Bool) → (b || true) ≡ true
+or_true true = refl
+or_true false = refl
+
+-- a reader may proceed if the word admits it
+reader_test : (limit word : ℕ) (m : Mode) → IsLimit limit → IsPacked limit word
+    → word_admits false limit word (want_of_mode m) ≡ ((not (is_barred (barred_bag_of_word word)) || false) && admits limit (barred_bag_of_word word).bag m)
+reader_test limit word m range p =
+    let all = barred_bag_of_word word in
+    ap (λ w. word_admits false limit w (want_of_mode m)) p.coded
+    ∙ (word_admits_mode limit all m range.1 p.legal ∙ ap (λ x. x && admits limit all.bag m) (sym (or_false (not (is_barred all)))))
+
+shared_test : (limit word : ℕ) → IsLimit limit → IsPacked limit word
+    → word_admits false limit word Shared ≡ may_proceed limit (occupancy_of_word word) mode.Shared
+shared_test limit word range p = reader_test limit word mode.Shared range p
+
+upgradable_test : (limit word : ℕ) → IsLimit limit → IsPacked limit word
+    → word_admits false limit word Upgradable ≡ may_proceed limit (occupancy_of_word word) mode.Upgradable
+upgradable_test limit word range p = reader_test limit word mode.Upgradable range p
+
+-- a writer may proceed if the word admits it or would under the writer's own bar
+writer_test : (limit word : ℕ) → IsLimit limit → IsPacked limit word
+    → word_admits true limit word Exclusive ≡ may_proceed limit (occupancy_of_word word) mode.Exclusive
+writer_test limit word range p =
+    let all = barred_bag_of_word word in
+    let coded = p.coded in
+    let one = p.legal.one_bar in
+    let same : word_admits true limit word Exclusive ≡ (tokens all.bag == 0)
+    = same_tests (word_admits true limit word Exclusive) (tokens all.bag == 0)
+    (λ h. elim (one_of word 0 (2 ^ 34) h) [
+      | inl e ↦ eq-eqb (tokens all.bag) 0 (omega arith)
+      | inr e ↦ eq-eqb (tokens all.bag) 0 (omega arith)
+    ])
+    (λ h.
+    let none = eqb-true (tokens all.bag) 0 h in
+    is_one_of word 0 (2 ^ 34) (elim (eq-zero-or-pos all.bars) [ inl free ↦ inl (omega arith) | inr barred ↦ inr (omega arith) ])) in
+    same ∙ ap (λ x. x && (tokens all.bag == 0)) (sym (or_true (not (is_barred all))))
+
+upgrade_test : (limit word : ℕ) → IsLimit limit → IsPacked limit word
+    → word_admits false limit word Upgrade ≡ may_upgrade (occupancy_of_word word)
+upgrade_test limit word range p =
+    let all = barred_bag_of_word word in
+    ap (λ w. word_admits false limit w Upgrade) p.coded
+    ∙ same_tests (word_admits false limit (word_of all) Upgrade) (nat_lt 0 all.bag.upgradable && (tokens all.bag == 1))
+    (λ h.
+    let permits = permits_of_word false limit all Upgrade range.1 p.legal (omega arith) h in
+    and_from (nat_lt 0 all.bag.upgradable) (tokens all.bag == 1) (lt-ltb 0 all.bag.upgradable permits.0.0) permits.0.2)
+    (λ h.
+    let two = and_parts (nat_lt 0 all.bag.upgradable) (tokens all.bag == 1) h in
+    word_of_permits false limit all Upgrade range.1 p.legal ((ltb-true 0 all.bag.upgradable two.0, refl, two.1), tt))
+
+-- what a test finds after the step and not newly, it found before
+before_too : (x y : Bool) → (not x && y) ≡ false → y ≡ true → x ≡ true
+before_too true y h now = refl
+before_too false y h now = sym h ∙ now
+
+-- the same of a test on words that equals a test on occupancies
+admitted_before : (a b x y : Bool) → a ≡ x → b ≡ y → (not x && y) ≡ false → IsTrue b → IsTrue a
+admitted_before a b x y before after h now = before ∙ before_too x y h (sym after ∙ now)
+
+module _ (limit before after : ℕ) (range : IsLimit limit) (was : IsPacked limit before) (is : IsPacked limit after) where
+  shared_before : newly_may_proceed limit (occupancy_of_word before) (occupancy_of_word after) mode.Shared ≡ false
+      → IsTrue (word_admits false limit after Shared) → IsTrue (word_admits false limit before Shared)
+  shared_before h now =
+      admitted_before (word_admits false limit before Shared) (word_admits false limit after Shared)
+      (may_proceed limit (occupancy_of_word before) mode.Shared) (may_proceed limit (occupancy_of_word after) mode.Shared)
+      (shared_test limit before range was) (shared_test limit after range is) h now
+
+  upgradable_before : newly_may_proceed limit (occupancy_of_word before) (occupancy_of_word after) mode.Upgradable ≡ false
+      → IsTrue (word_admits false limit after Upgradable) → IsTrue (word_admits false limit before Upgradable)
+  upgradable_before h now =
+      admitted_before (word_admits false limit before Upgradable) (word_admits false limit after Upgradable)
+      (may_proceed limit (occupancy_of_word before) mode.Upgradable) (may_proceed limit (occupancy_of_word after) mode.Upgradable)
+      (upgradable_test limit before range was) (upgradable_test limit after range is) h now
+
+  writer_before : newly_may_proceed limit (occupancy_of_word before) (occupancy_of_word after) mode.Exclusive ≡ false
+      → IsTrue (word_admits true limit after Exclusive) → IsTrue (word_admits true limit before Exclusive)
+  writer_before h now =
+      admitted_before (word_admits true limit before Exclusive) (word_admits true limit after Exclusive)
+      (may_proceed limit (occupancy_of_word before) mode.Exclusive) (may_proceed limit (occupancy_of_word after) mode.Exclusive)
+      (writer_test limit before range was) (writer_test limit after range is) h now
+
+  upgrade_before : (not (may_upgrade (occupancy_of_word before)) && may_upgrade (occupancy_of_word after)) ≡ false
+      → IsTrue (word_admits false limit after Upgrade) → IsTrue (word_admits false limit before Upgrade)
+  upgrade_before h now =
+      admitted_before (word_admits false limit before Upgrade) (word_admits false limit after Upgrade)
+      (may_upgrade (occupancy_of_word before)) (may_upgrade (occupancy_of_word after))
+      (upgrade_test limit before range was) (upgrade_test limit after range is) h now
+
+  -- a writer without the bar gains by a foreign withdrawal alone, which admits readers too
+  exclusive_before : (a : Bool) → newly_may_proceed limit (occupancy_of_word before) (occupancy_of_word after) mode.Shared ≡ false
+      → newly_may_proceed limit (occupancy_of_word before) (occupancy_of_word after) mode.Exclusive ≡ false
+      → IsTrue (word_admits a limit after Exclusive) → IsTrue (word_admits a limit before Exclusive)
+  exclusive_before true s x now = writer_before x now
+  exclusive_before false s x now =
+      elim (free_or_own false after now) [
+        | inl free ↦
+            elim (one_of before 0 (2 ^ 34) (writer_before x (is_one_of after 0 (2 ^ 34) (inl free)))) [
+              | inl e ↦ or_left (before == 0) false (eq-eqb before 0 e)
+              | inr e ↦
+                  (let positive = range.0 in
+                  let reads = both_tests after (2 ^ 33) (readers_of_word after) limit (omega arith) (omega arith) in
+                  let read = both_below before (2 ^ 33) (readers_of_word before) limit (shared_before s reads) in
+                  absurd (omega arith))
+            ]
+        | inr own ↦ absurd (false≢true own.0)
+      ]
+
+pub unblocks_misses_nobody : UnblocksMissesNobody
+unblocks_misses_nobody announced limit before after want range was is awaited blocked now =
+    let b = occupancy_of_word before in
+    let n = occupancy_of_word after in
+    let s = newly_may_proceed limit b n mode.Shared in
+    let x = newly_may_proceed limit b n mode.Exclusive in
+    let u = newly_may_proceed limit b n mode.Upgradable in
+    let g = not (may_upgrade b) && may_upgrade n in
+    let one = or_parts s (x || (u || g)) blocked in
+    let two = or_parts x (u || g) one.1 in
+    let three = or_parts u g two.1 in
+    by want awaited now one.0 two.0 three.0 three.1
+  where
+    by : (want : ExWant) → IsTrue (is_awaited want) → IsTrue (word_admits announced limit after want)
+        → newly_may_proceed limit (occupancy_of_word before) (occupancy_of_word after) mode.Shared ≡ false
+        → newly_may_proceed limit (occupancy_of_word before) (occupancy_of_word after) mode.Exclusive ≡ false
+        → newly_may_proceed limit (occupancy_of_word before) (occupancy_of_word after) mode.Upgradable ≡ false
+        → (not (may_upgrade (occupancy_of_word before)) && may_upgrade (occupancy_of_word after)) ≡ false
+        → IsTrue (word_admits announced limit before want)
+    by Shared w h s x u g = shared_before limit before after range was is s h
+    by Exclusive w h s x u g = exclusive_before limit before after range was is announced s x h
+    by Upgradable w h s x u g = upgradable_before limit before after range was is u h
+    by Upgrade w h s x u g = upgrade_before limit before after range was is g h
+    by Announce w h s x u g = absurd (false≢true w)
