@@ -27,7 +27,7 @@ use Rattle.lock_seated.specs.Seats.{newcomer_beside, parties_of, GuardsDoNotGrow
 use Rattle.lock_seated.specs.Plays.{Self, view_after_load, view_after_win, view_after_fail, Loads, Exchanges, Takes}
 
 -- the view of a seat, in std's words
-seat_at : {A : Type 0} (xs : List A) (k : ℕ) (x : A) → get_elem? xs k ≡ some x → slice_get xs k ≡ Some x
+pub seat_at : {A : Type 0} (xs : List A) (k : ℕ) (x : A) → get_elem? xs k ≡ some x → slice_get xs k ≡ Some x
 seat_at [] k x h = cc
 seat_at (y ∷ xs) zero x h = cc
 seat_at (y ∷ xs) (suc k) x h = seat_at xs k x h
@@ -39,11 +39,12 @@ abbrev Guarded : SeatView → ℕ → Type 0
 Guarded v word = GuardsDoNotGrow v.state.held.announced v.last word
 
 -- an announced party's last load has no fewer guards than the word before, so no fewer than the word now
-still_guarded : (limit n word : ℕ) (views : List SeatView) (k : ℕ) (v : SeatView) → KeepsRule limit n (parties_of views)
-    → get_elem? views k ≡ some v → GainsNoneOrUnbarred word n → Guarded v word → Guarded v n
-still_guarded limit n word views k v rule at gains before announced =
+pub still_guarded : (limit n word last : ℕ) (ps : List WorldParty) (k : ℕ) (me : WorldParty) → KeepsRule limit n ps
+    → slice_get ps k ≡ Some me → GainsNoneOrUnbarred word n → GuardsDoNotGrow me.held.announced last word
+    → GuardsDoNotGrow me.held.announced last n
+still_guarded limit n word last ps k me rule at gains before announced =
     let least = before announced in
-    let high = announced_shows limit n (parties_of views) (suc k) rule (v.state, party_at views k v at, announced) in
+    let high = announced_shows limit n ps (suc k) rule (me, at, announced) in
     elim gains [ inl fewer ↦ omega arith | inr unbarred ↦ omega arith ]
 
 -- a step of the seat at id that leaves the word n and the view v
@@ -65,7 +66,8 @@ left limit id n s v kept readers rule gains own =
           ];
       rule = rw is (rw again rule);
       guarded = λ k w h.
-          rw is (still_guarded limit n (slice_index s.words 0) (slice_set s.views id v) k w (rw again rule) h gains
+          rw is (still_guarded limit n (slice_index s.words 0) w.last (parties_of (slice_set s.views id v)) k w.state
+          (rw again rule) (party_at (slice_set s.views id v) k w h) gains
           (elim (at_set s.views id k v w h) [
             | inl e ↦ subst (λ (x : SeatView). Guarded x (slice_index s.words 0)) e.1 own
             | inr e ↦ kept.guarded k w e.1
@@ -129,11 +131,11 @@ exchanges limit slots id me want old new is_open is_last holds admits is s kept 
     ))
 
 -- the result of a subtraction of the table
-subtracted : (n k : ℕ) → k ≤ n → n < 18446744073709551616 → n - k ≡ (n + (2 ^ 64 - k)) % 2 ^ 64
+pub subtracted : (n k : ℕ) → k ≤ n → n < 18446744073709551616 → n - k ≡ (n + (2 ^ 64 - k)) % 2 ^ 64
 subtracted n k room small = omega arith
 
 -- a party that is announced after a subtraction was announced before it
-announced_before : (own : Hold) (d : Down) → (hold_after own (step_of_down d)).announced ≡ true → own.announced ≡ true
+pub announced_before : (own : Hold) (d : Down) → (hold_after own (step_of_down d)).announced ≡ true → own.announced ≡ true
 announced_before own down.Shared h = h
 announced_before own down.Exclusive h = h
 announced_before own down.Upgradable h = h
@@ -143,7 +145,7 @@ announced_before own down.UpgradableToShared h = h
 announced_before own down.Withdraw h = absurd (false≢true h)
 
 -- one party holds few tokens
-few_held : (limit word : ℕ) (ps : List WorldParty) (k : ℕ) (me : WorldParty) → IsLimit limit → KeepsRule limit word ps
+pub few_held : (limit word : ℕ) (ps : List WorldParty) (k : ℕ) (me : WorldParty) → IsLimit limit → KeepsRule limit word ps
     → slice_get ps k ≡ Some me → tokens me.held.bag < 2 ^ 63
 few_held limit word ps k me range rule at =
     let part = part_of_parties ps k me at in

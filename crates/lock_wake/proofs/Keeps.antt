@@ -1,0 +1,489 @@
+-- Each kind of step of a seat keeps the rule of the table, by the lemma of that kind of step.
+use Rattle.std.proofs.Common.{◌≡◌, ◌≢◌, ℕ, ◌+◌, ◌-◌, ◌%◌, ◌^◌, ◌<◌, ◌≤◌, inl, inr, List, [], ◌∷◌, set, get_or, slice_get, slice_set, slice_index, length, Some, IsTrue, refl, sym, ap, subst, ◌∙◌, arith, eqb, length-set, get_or-set_same}
+use Rattle.std.proofs.lemmas.Bool.{cases_eq, cases_lt, false≢true}
+use Rattle.std.proofs.lemmas.List.{map-set, map-append, get_or-set_other}
+use Rattle.std.proofs.lemmas.Option.{slice_get-map}
+use mathlib.Core.Option.{some, none}
+use lib.ListN.{get_elem?}
+use prog.Atomic.{either}
+use Rattle.atomic_table.specs.Table.{Act, step, keeps, stepped, carried_after, Valid, Allows, Splits}
+use Rattle.atomic_table.proofs.Lists.{at_set, at_snoc, set_again, exchanged}
+use Rattle.lock_word.specs.declared.want.ExWant.{ExWant}
+use Rattle.lock_word.specs.declared.down.Down.{Down}
+use Rattle.lock_word.specs.declared.sleeper.WakeLimits.{WakeLimits}
+use Rattle.lock_word.specs.declared.sleeper.Watch.TheVariants.{Away, Counted, Restarts}
+use Rattle.lock_word.specs.declared.sleeper.Debt.TheVariants.{Nothing, OwesAt}
+use Rattle.lock_word.specs.declared.sleeper.SleeperView.{SleeperView}
+use Rattle.lock_word.specs.Holds.{hold_has}
+use Rattle.lock_word.specs.Word.{guards_of_word, word_admits, word_after, amount, step_of_want, step_of_down}
+use Rattle.lock_word.specs.Sleepers.{closed_count, count_of_watch}
+use Rattle.lock_word.specs.Wakes.{KeepsWakes, EachStepKeeps, view_after_take}
+use Rattle.lock_word.proofs.Holders.{le-sum_by}
+use Rattle.lock_word.proofs.Bars.{bar_of_rule}
+use Rattle.lock_word.proofs.Guards.{GainsNoneOrUnbarred, guards_of_exchange, guards_of_take}
+use Rattle.lock_word.proofs.Rules.{slice_set_same, amount_within, shows, fails_bounded}
+use Rattle.lock_word.proofs.Wakes.{state_at, each_step, joins, at_rest}
+use Rattle.lock_seated.proofs.Keeps.{seat_at, still_guarded, subtracted, announced_before, few_held}
+use Rattle.lock_wake.specs.declared.rule.WakeView.{WakeView}
+use Rattle.lock_wake.specs.Seats.{newcomer_beside, sleepers_of, parties_of, Table, word_in, count_in, epoch_in, IsGuarded, IsKept, EveryStateForgetsNone}
+use Rattle.lock_wake.specs.Plays.{Self, self_after_load, self_after_win, self_after_fail, self_after_take, self_after_epoch, self_watching, self_owing, Loads, Exchanges, Takes, CountsIn, CountsOut, LooksForSleepers, Closes, Watches, Notes, Ends, BeginsAnew}
+
+sleeper_at : (views : List WakeView) (k : ℕ) (v : WakeView) → get_elem? views k ≡ some v → slice_get (sleepers_of views) k ≡ Some v.sleeper
+sleeper_at views k v h = rw (slice_get-map (λ (x : WakeView). x.sleeper) views k, seat_at views k v h)
+
+party_at : (views : List WakeView) (k : ℕ) (v : WakeView) → get_elem? views k ≡ some v → slice_get (parties_of views) k ≡ Some v.sleeper.state
+party_at views k v h = state_at (sleepers_of views) k v.sleeper (sleeper_at views k v h)
+
+-- what a step of the seat at id that leaves the view v has to keep
+record Keeps (limits : WakeLimits) (id : ℕ) (s : Table) (v : WakeView) (word count epoch : ℕ) : Type 0 where
+  same_limits : v.limits ≡ limits
+  wakes : KeepsWakes limits word count epoch (slice_set (sleepers_of s.views) id v.sleeper)
+  guards : GainsNoneOrUnbarred (word_in s) word
+  own : IsGuarded (word_in s) v
+
+-- the table after a step that leaves these words and the view v
+left : (limits : WakeLimits) (id : ℕ) (s : Table) (words : List ℕ) (v : WakeView) → length words ≡ 3 → IsKept limits s
+    → Keeps limits id s v (slice_index words 0) (slice_index words 1) (slice_index words 2)
+    → IsKept limits record { words = words; homes = s.homes; views = slice_set s.views id v }
+left limits id s words v three kept by =
+    let again : sleepers_of (slice_set s.views id v) ≡ slice_set (sleepers_of s.views) id v.sleeper
+    = map-set (λ (x : WakeView). x.sleeper) s.views id v in
+    let wakes : KeepsWakes limits (slice_index words 0) (slice_index words 1) (slice_index words 2) (sleepers_of (slice_set s.views id v))
+    = rw again by.wakes in
+    record {
+      three_words = three;
+      range = kept.range;
+      known = λ k w h.
+          elim (at_set s.views id k v w h) [
+            | inl e ↦ sym (ap (λ (x : WakeView). x.limits) e.1) ∙ by.same_limits
+            | inr e ↦ kept.known k w e.1
+          ];
+      kept = wakes;
+      guarded = λ k w h.
+          still_guarded limits.readers (slice_index words 0) (word_in s) w.last (parties_of (slice_set s.views id v)) k
+          w.sleeper.state wakes.rule (party_at (slice_set s.views id v) k w h) by.guards
+          (elim (at_set s.views id k v w h) [
+            | inl e ↦ subst (IsGuarded (word_in s)) e.1 by.own
+            | inr e ↦ kept.guarded k w e.1
+          ]);
+    }
+
+-- a step on each of the words
+
+abbrev After : Table → ℕ → ℕ → ℕ → WakeView → Table
+After s i n id v = record { words = slice_set s.words i n; homes = s.homes; views = slice_set s.views id v }
+
+on_word : (limits : WakeLimits) (id n : ℕ) (s : Table) (v : WakeView) → IsKept limits s
+    → Keeps limits id s v n (count_in s) (epoch_in s) → IsKept limits (After s 0 n id v)
+on_word limits id n s v kept by =
+    let three = kept.three_words in
+    let word : get_or (set s.words 0 n) 0 0 ≡ n = get_or-set_same s.words 0 n 0 (omega arith) in
+    let count : get_or (set s.words 0 n) 1 0 ≡ get_or s.words 1 0 = get_or-set_other s.words 0 1 n 0 (λ e. omega arith) in
+    let epoch : get_or (set s.words 0 n) 2 0 ≡ get_or s.words 2 0 = get_or-set_other s.words 0 2 n 0 (λ e. omega arith) in
+    left limits id s (slice_set s.words 0 n) v (length-set s.words 0 n ∙ kept.three_words) kept (rw (word, count, epoch) by)
+
+on_count : (limits : WakeLimits) (id n : ℕ) (s : Table) (v : WakeView) → IsKept limits s
+    → Keeps limits id s v (word_in s) n (epoch_in s) → IsKept limits (After s 1 n id v)
+on_count limits id n s v kept by =
+    let three = kept.three_words in
+    let word : get_or (set s.words 1 n) 0 0 ≡ get_or s.words 0 0 = get_or-set_other s.words 1 0 n 0 (λ e. omega arith) in
+    let count : get_or (set s.words 1 n) 1 0 ≡ n = get_or-set_same s.words 1 n 0 (omega arith) in
+    let epoch : get_or (set s.words 1 n) 2 0 ≡ get_or s.words 2 0 = get_or-set_other s.words 1 2 n 0 (λ e. omega arith) in
+    left limits id s (slice_set s.words 1 n) v (length-set s.words 1 n ∙ kept.three_words) kept (rw (word, count, epoch) by)
+
+on_epoch : (limits : WakeLimits) (id n : ℕ) (s : Table) (v : WakeView) → IsKept limits s
+    → Keeps limits id s v (word_in s) (count_in s) n → IsKept limits (After s 2 n id v)
+on_epoch limits id n s v kept by =
+    let three = kept.three_words in
+    let word : get_or (set s.words 2 n) 0 0 ≡ get_or s.words 0 0 = get_or-set_other s.words 2 0 n 0 (λ e. omega arith) in
+    let count : get_or (set s.words 2 n) 1 0 ≡ get_or s.words 1 0 = get_or-set_other s.words 2 1 n 0 (λ e. omega arith) in
+    let epoch : get_or (set s.words 2 n) 2 0 ≡ n = get_or-set_same s.words 2 n 0 (omega arith) in
+    left limits id s (slice_set s.words 2 n) v (length-set s.words 2 n ∙ kept.three_words) kept (rw (word, count, epoch) by)
+
+-- the rule of each kind of step, at the seat
+by_step : (limits : WakeLimits) (id : ℕ) (s : Table) (v : WakeView) → IsKept limits s → get_elem? s.views id ≡ some v
+    → EachStepKeeps limits (word_in s) (count_in s) (epoch_in s) (sleepers_of s.views) id v.sleeper
+by_step limits id s v kept at =
+    each_step limits (word_in s) (count_in s) (epoch_in s) (sleepers_of s.views) id v.sleeper kept.range kept.kept
+    (sleeper_at s.views id v at)
+
+-- a step that leaves the view as it was
+unmoved : (limits : WakeLimits) (id : ℕ) (s : Table) (v : WakeView) → IsKept limits s → get_elem? s.views id ≡ some v
+    → Keeps limits id s v (word_in s) (count_in s) (epoch_in s)
+unmoved limits id s v kept at =
+    record {
+      same_limits = kept.known id v at;
+      wakes =
+          subst (KeepsWakes limits (word_in s) (count_in s) (epoch_in s))
+          (sym (slice_set_same (sleepers_of s.views) id v.sleeper (sleeper_at s.views id v at))) kept.kept;
+      guards = inl (omega arith);
+      own = kept.guarded id v at;
+    }
+
+-- a step off the word, which changes neither the party's state nor its last load
+aside : (limits : WakeLimits) (id count epoch : ℕ) (s : Table) (me : WakeView) (you : SleeperView) → IsKept limits s
+    → get_elem? s.views id ≡ some me → you.state.held ≡ me.sleeper.state.held
+    → KeepsWakes limits (word_in s) count epoch (slice_set (sleepers_of s.views) id you)
+    → Keeps limits id s (record me { sleeper = you }) (word_in s) count epoch
+aside limits id count epoch s me you kept at held wakes =
+    record {
+      same_limits = kept.known id me at;
+      wakes = wakes;
+      guards = inl (omega arith);
+      own = rw held (kept.guarded id me at);
+    }
+
+-- steps on the word
+
+pub loads : (limits : WakeLimits) (slots id : ℕ) (me : Self)
+    → Allows (IsKept limits) slots id me 0 (λ n. n) (Loads (step slots 0 0 0 none) me)
+loads limits slots id me s kept same at small =
+    let word = word_in s in
+    let v = (self_after_load me word).0 in
+    let known = ap (λ (l : WakeLimits). l.readers) (kept.known id me.0 at) in (
+      v,
+      keeps,
+      tt,
+      on_word limits id word s v kept record {
+        same_limits = kept.known id me.0 at;
+        wakes = (by_step limits id s me.0 kept at).load;
+        guards = inl (omega arith);
+        own = λ announced. omega arith;
+      },
+      (
+        refl,
+        rw known (shows limits.readers word (parties_of s.views) id me.0.sleeper.state kept.range kept.kept.rule
+            (party_at s.views id me.0 at)),
+        kept.guarded id me.0 at,
+      ),
+    )
+
+pub exchanges : (limits : WakeLimits) (slots id : ℕ) (me : Self) (want : ExWant) (old new : ℕ)
+    → me.0.sleeper.state.loaded ≡ Some old → me.0.last ≡ old
+    → IsTrue (hold_has me.0.sleeper.state.held (step_of_want want))
+    → IsTrue (word_admits me.0.sleeper.state.held.announced limits.readers old want) → new ≡ word_after old want
+    → Allows (IsKept limits) slots id me 0 (λ n. either (eqb n old) new n) (Exchanges want (step slots 0 old new none) me)
+exchanges limits slots id me want old new is_open is_last holds admits is s kept same at small =
+    let word = word_in s in
+    let by = by_step limits id s me.0 kept at in
+    exchanged word old new
+    (λ n. (w : WakeView) × (a : Act (Unit {0})) × Valid s.homes me.1 a × IsKept limits (stepped s 0 n id me.1 w a)
+    × Exchanges want (step slots 0 old new none) me word (w, carried_after me.1 a))
+    (λ hit.
+    let v = (self_after_win me (step_of_want want)).0 in
+    let here : IsTrue (word_admits me.0.sleeper.state.held.announced limits.readers word want)
+    = subst (λ n. IsTrue (word_admits me.0.sleeper.state.held.announced limits.readers n want)) (sym hit) admits in
+    let next : word_after word want ≡ new = ap (λ n. word_after n want) hit ∙ sym is in (
+      v,
+      keeps,
+      tt,
+      on_word limits id new s v kept record {
+        same_limits = kept.known id me.0 at;
+        wakes =
+            subst (λ n. KeepsWakes limits n (count_in s) (epoch_in s) (slice_set (sleepers_of s.views) id v.sleeper)) next
+            (by.exchange want holds here);
+        guards =
+            subst (GainsNoneOrUnbarred word) next
+            (guards_of_exchange limits.readers word (parties_of s.views) id me.0.sleeper.state want kept.range kept.kept.rule
+            (party_at s.views id me.0 at) here);
+        own = λ announced. let same = ap guards_of_word (is_last ∙ sym hit) in omega arith;
+      },
+      ((λ h. refl), (λ miss. absurd (miss hit))),
+    ))
+    (λ miss.
+    let v = (self_after_fail me).0 in (
+      v,
+      keeps,
+      tt,
+      on_word limits id word s v kept (aside limits id (count_in s) (epoch_in s) s me.0 v.sleeper kept at refl (by.lost old is_open miss)),
+      ((λ hit. absurd (miss hit)), (λ h. refl)),
+    ))
+
+pub takes : (limits : WakeLimits) (slots id : ℕ) (me : Self) (down : Down) (k : ℕ)
+    → IsTrue (hold_has me.0.sleeper.state.held (step_of_down down)) → k ≡ amount down
+    → Allows (IsKept limits) slots id me 0 (λ n. (n + (2 ^ 64 - k)) % 2 ^ 64) (Takes down (step slots 0 k 0 none) me)
+takes limits slots id me down k holds is s kept same at small =
+    let word = word_in s in
+    let ps = parties_of s.views in
+    let mine = me.0.sleeper.state in
+    let there = party_at s.views id me.0 at in
+    let readers = ap (λ (l : WakeLimits). l.readers) (kept.known id me.0 at) in
+    let v = (self_after_take me word down).0 in
+    let within = amount_within limits.readers word ps id mine down kept.kept.rule there holds in
+    let next : word - amount down ≡ (word + (2 ^ 64 - k)) % 2 ^ 64
+    = ap (λ (j : ℕ). word - j) (sym is) ∙ subtracted word k (omega arith) small in
+    let taken : KeepsWakes limits (word - amount down) (count_in s) (epoch_in s) (slice_set (sleepers_of s.views) id v.sleeper)
+    = subst
+    (λ r. KeepsWakes limits (word - amount down) (count_in s) (epoch_in s)
+    (slice_set (sleepers_of s.views) id (view_after_take r word me.0.sleeper down)))
+    (sym readers) ((by_step limits id s me.0 kept at).take down holds) in (
+      v,
+      keeps,
+      tt,
+      on_word limits id ((word + (2 ^ 64 - k)) % 2 ^ 64) s v kept record {
+        same_limits = kept.known id me.0 at;
+        wakes = subst (λ n. KeepsWakes limits n (count_in s) (epoch_in s) (slice_set (sleepers_of s.views) id v.sleeper)) next taken;
+        guards =
+            inl (subst (λ n. guards_of_word n ≤ guards_of_word word) next
+            (guards_of_take limits.readers word ps id mine down kept.range kept.kept.rule there holds));
+        own = λ announced. kept.guarded id me.0 at (announced_before mine.held down announced);
+      },
+      (refl, within, few_held limits.readers word ps id mine kept.range kept.kept.rule there),
+    )
+
+-- steps on the count
+
+pub counts_in : (limits : WakeLimits) (slots id : ℕ) (me : Self) (old new : ℕ) → me.0.sleeper.watch ≡ Away
+    → old + 1 < closed_count → new ≡ old + 1
+    → Allows (IsKept limits) slots id me 1 (λ n. either (eqb n old) new n) (CountsIn (step slots 1 old new none) me)
+counts_in limits slots id me old new away few is s kept same at small =
+    let count = count_in s in
+    let by = by_step limits id s me.0 kept at in
+    exchanged count old new
+    (λ n. (w : WakeView) × (a : Act (Unit {0})) × Valid s.homes me.1 a × IsKept limits (stepped s 1 n id me.1 w a)
+    × CountsIn (step slots 1 old new none) me count (w, carried_after me.1 a))
+    (λ hit.
+    let v = (self_watching me Counted).0 in
+    let next : count + 1 ≡ new = ap (λ n. n + 1) hit ∙ sym is in (
+      v,
+      keeps,
+      tt,
+      on_count limits id new s v kept (aside limits id new (epoch_in s) s me.0 v.sleeper kept at refl
+          (subst (λ n. KeepsWakes limits (word_in s) n (epoch_in s) (slice_set (sleepers_of s.views) id v.sleeper)) next
+          (by.counts_in away (omega arith)))),
+      ((λ h. refl), (λ miss. absurd (miss hit))),
+    ))
+    (λ miss. (
+      me.0,
+      keeps,
+      tt,
+      on_count limits id count s me.0 kept (unmoved limits id s me.0 kept at),
+      ((λ hit. absurd (miss hit)), (λ h. refl)),
+    ))
+
+pub counts_out : (limits : WakeLimits) (slots id : ℕ) (me : Self) → count_of_watch me.0.sleeper.watch ≡ 1
+    → Allows (IsKept limits) slots id me 1 (λ n. (n + (2 ^ 64 - 1)) % 2 ^ 64) (CountsOut me)
+counts_out limits slots id me counted s kept same at small =
+    let count = count_in s in
+    let v = (self_watching me Away).0 in
+    let all = le-sum_by (λ (w : SleeperView). count_of_watch w.watch) (sleepers_of s.views) id me.0.sleeper (sleeper_at s.views id me.0 at) in
+    let sum = kept.kept.counted in (
+      v,
+      keeps,
+      tt,
+      on_count limits id ((count + (2 ^ 64 - 1)) % 2 ^ 64) s v kept
+          (aside limits id ((count + (2 ^ 64 - 1)) % 2 ^ 64) (epoch_in s) s me.0 v.sleeper kept at refl
+          (subst (λ n. KeepsWakes limits (word_in s) n (epoch_in s) (slice_set (sleepers_of s.views) id v.sleeper))
+          (subtracted count 1 (omega arith) small) ((by_step limits id s me.0 kept at).counts_out counted))),
+      refl,
+    )
+
+pub looks_for_sleepers : (limits : WakeLimits) (slots id : ℕ) (me : Self)
+    → Allows (IsKept limits) slots id me 1 (λ n. n) (LooksForSleepers me)
+looks_for_sleepers limits slots id me s kept same at small =
+    let count = count_in s in
+    elim (cases_eq count 0) [
+      | inl none_counted ↦
+          (let v = (self_owing me Nothing).0 in (
+            v,
+            keeps,
+            tt,
+            on_count limits id count s v kept (aside limits id count (epoch_in s) s me.0 v.sleeper kept at refl
+                ((by_step limits id s me.0 kept at).finds_none none_counted)),
+            ((λ h. refl), (λ h. absurd (h none_counted))),
+          ))
+      | inr counted ↦ (
+        me.0,
+        keeps,
+        tt,
+        on_count limits id count s me.0 kept (unmoved limits id s me.0 kept at),
+        ((λ h. absurd (counted h)), (λ h. refl)),
+      )
+    ]
+
+pub closes : (limits : WakeLimits) (slots id : ℕ) (me : Self) → me.0.sleeper.watch ≡ Away
+    → Allows (IsKept limits) slots id me 1 (λ n. either (eqb n 0) closed_count n) (Closes me)
+closes limits slots id me away s kept same at small =
+    let count = count_in s in
+    let by = by_step limits id s me.0 kept at in
+    exchanged count 0 closed_count
+    (λ n. (w : WakeView) × (a : Act (Unit {0})) × Valid s.homes me.1 a × IsKept limits (stepped s 1 n id me.1 w a)
+    × Closes me count (w, carried_after me.1 a))
+    (λ hit.
+    let v = (self_watching me Restarts).0 in (
+      v,
+      keeps,
+      tt,
+      on_count limits id closed_count s v kept (aside limits id closed_count (epoch_in s) s me.0 v.sleeper kept at refl (by.closes away hit)),
+      ((λ h. refl), (λ miss. absurd (miss hit))),
+    ))
+    (λ miss. (
+      me.0,
+      keeps,
+      tt,
+      on_count limits id count s me.0 kept (unmoved limits id s me.0 kept at),
+      ((λ hit. absurd (miss hit)), (λ h. refl)),
+    ))
+
+pub opens : (limits : WakeLimits) (slots id : ℕ) (me : Self) → me.0.sleeper.watch ≡ Restarts
+    → Allows (IsKept limits) slots id me 1 (λ n. (n + (2 ^ 64 - closed_count)) % 2 ^ 64) (CountsOut me)
+opens limits slots id me restarts s kept same at small =
+    let count = count_in s in
+    let v = (self_watching me Away).0 in
+    let closed = kept.kept.alone id me.0.sleeper (sleeper_at s.views id me.0 at) restarts in (
+      v,
+      keeps,
+      tt,
+      on_count limits id ((count + (2 ^ 64 - closed_count)) % 2 ^ 64) s v kept
+          (aside limits id ((count + (2 ^ 64 - closed_count)) % 2 ^ 64) (epoch_in s) s me.0 v.sleeper kept at refl
+          (subst (λ n. KeepsWakes limits (word_in s) n (epoch_in s) (slice_set (sleepers_of s.views) id v.sleeper))
+          (subtracted count closed_count (omega arith) small) ((by_step limits id s me.0 kept at).opens restarts))),
+      refl,
+    )
+
+-- steps on the epoch
+
+pub begins_anew : (limits : WakeLimits) (slots id : ℕ) (me : Self) → me.0.sleeper.watch ≡ Restarts
+    → Allows (IsKept limits) slots id me 2 (λ _. 0) (λ _. BeginsAnew me 0)
+begins_anew limits slots id me restarts s kept same at small = (
+  me.0,
+  keeps,
+  tt,
+  on_epoch limits id 0 s me.0 kept (aside limits id (count_in s) 0 s me.0 me.0.sleeper kept at refl
+      ((by_step limits id s me.0 kept at).restarts restarts)),
+  refl,
+)
+
+pub watches : (limits : WakeLimits) (slots id : ℕ) (me : Self) → count_of_watch me.0.sleeper.watch ≡ 1
+    → Allows (IsKept limits) slots id me 2 (λ n. n) (Watches me)
+watches limits slots id me counted s kept same at small =
+    let epoch = epoch_in s in
+    let known = ap (λ (l : WakeLimits). l.last_epoch) (kept.known id me.0 at) in
+    elim (cases_lt epoch limits.last_epoch) [
+      | inl early ↦
+          (let v = (self_after_epoch me epoch).0 in (
+            v,
+            keeps,
+            tt,
+            on_epoch limits id epoch s v kept (aside limits id (count_in s) epoch s me.0 v.sleeper kept at refl
+                ((by_step limits id s me.0 kept at).watches counted early)),
+            ((λ h. refl), (λ late. absurd (omega arith))),
+          ))
+      | inr late ↦ (
+        me.0,
+        keeps,
+        tt,
+        on_epoch limits id epoch s me.0 kept (unmoved limits id s me.0 kept at),
+        ((λ early. absurd (omega arith)), (λ h. refl)),
+      )
+    ]
+
+pub notes : (limits : WakeLimits) (slots id : ℕ) (me : Self) → me.0.sleeper.debt ≢ Nothing
+    → Allows (IsKept limits) slots id me 2 (λ n. n) (Notes me)
+notes limits slots id me owes s kept same at small =
+    let epoch = epoch_in s in
+    let known = ap (λ (l : WakeLimits). l.last_epoch) (kept.known id me.0 at) in
+    elim (cases_lt epoch limits.last_epoch) [
+      | inl early ↦
+          (let v = (self_owing me (OwesAt epoch)).0 in (
+            v,
+            keeps,
+            tt,
+            on_epoch limits id epoch s v kept (aside limits id (count_in s) epoch s me.0 v.sleeper kept at refl
+                ((by_step limits id s me.0 kept at).notes owes)),
+            ((λ h. refl), (λ late. absurd (omega arith))),
+          ))
+      | inr late ↦
+          (let v = (self_owing me Nothing).0 in (
+            v,
+            keeps,
+            tt,
+            on_epoch limits id epoch s v kept (aside limits id (count_in s) epoch s me.0 v.sleeper kept at refl
+                ((by_step limits id s me.0 kept at).finds_last late)),
+            ((λ early. absurd (omega arith)), (λ h. refl)),
+          ))
+    ]
+
+pub ends : (limits : WakeLimits) (slots id : ℕ) (me : Self) (old new : ℕ) → me.0.sleeper.debt ≡ OwesAt old → new ≡ old + 1
+    → Allows (IsKept limits) slots id me 2 (λ n. either (eqb n old) new n) (Ends me)
+ends limits slots id me old new owes is s kept same at small =
+    let epoch = epoch_in s in
+    let by = by_step limits id s me.0 kept at in
+    let v = (self_owing me Nothing).0 in
+    exchanged epoch old new
+    (λ n. (w : WakeView) × (a : Act (Unit {0})) × Valid s.homes me.1 a × IsKept limits (stepped s 2 n id me.1 w a)
+    × Ends me epoch (w, carried_after me.1 a))
+    (λ hit.
+    let next : epoch + 1 ≡ new = ap (λ n. n + 1) hit ∙ sym is in (
+      v,
+      keeps,
+      tt,
+      on_epoch limits id new s v kept (aside limits id (count_in s) new s me.0 v.sleeper kept at refl
+          (subst (λ n. KeepsWakes limits (word_in s) (count_in s) n (slice_set (sleepers_of s.views) id v.sleeper)) next by.ends)),
+      refl,
+    ))
+    (λ miss. (
+      v,
+      keeps,
+      tt,
+      on_epoch limits id epoch s v kept (aside limits id (count_in s) epoch s me.0 v.sleeper kept at refl (by.finds_ended old owes miss)),
+      refl,
+    ))
+
+-- one more seat
+
+pub parts : (limits : WakeLimits) (id : ℕ) (v : WakeView) → Splits (IsKept limits) id v v (newcomer_beside v)
+parts limits id v s kept at =
+    let again : set s.views id v ≡ s.views = set_again s.views id v at in
+    let readers = kept.known id v at in
+    rw again record {
+      three_words = kept.three_words;
+      range = kept.range;
+      known = λ k w h.
+          elim (at_snoc s.views (newcomer_beside v) w k h) [
+            | inl e ↦ kept.known k w e
+            | inr e ↦ sym (ap (λ (x : WakeView). x.limits) e) ∙ readers
+          ];
+      kept =
+          rw (map-append (λ (x : WakeView). x.sleeper) s.views (newcomer_beside v ∷ []))
+          (joins limits (word_in s) (count_in s) (epoch_in s) (sleepers_of s.views) kept.kept);
+      guarded = λ k w h.
+          elim (at_snoc s.views (newcomer_beside v) w k h) [
+            | inl e ↦ kept.guarded k w e
+            | inr e ↦ subst (IsGuarded (word_in s)) e (λ announced. absurd (false≢true announced))
+          ];
+    }
+
+-- the same, where the limits and the kind are known by equations
+
+pub exchanges_as : (limits : WakeLimits) (limit slots id : ℕ) (me : Self) (kind want : ExWant) (old new : ℕ) → limit ≡ limits.readers
+    → want ≡ kind → (me.0.sleeper.state.loaded ≡ Some old) × (me.0.last ≡ old)
+    → IsTrue (hold_has me.0.sleeper.state.held (step_of_want want))
+    → IsTrue (word_admits me.0.sleeper.state.held.announced limit old want)
+    → new ≡ word_after old want
+    → Allows (IsKept limits) slots id me 0 (λ n. either (eqb n old) new n) (Exchanges kind (step slots 0 old new none) me)
+exchanges_as limits limit slots id me kind want old new same_limit same_want is_open holds admits is =
+    exchanges limits slots id me kind old new is_open.0 is_open.1
+    (subst (λ (w : ExWant). IsTrue (hold_has me.0.sleeper.state.held (step_of_want w))) same_want holds)
+    (subst (λ (t : ℕ × ExWant). IsTrue (word_admits me.0.sleeper.state.held.announced t.0 old t.1)) (λ i. (same_limit i, same_want i)) admits)
+    (is ∙ ap (word_after old) same_want)
+
+pub takes_as : (limits : WakeLimits) (slots id : ℕ) (me : Self) (kind down : Down) (k : ℕ) → down ≡ kind
+    → IsTrue (hold_has me.0.sleeper.state.held (step_of_down down)) → k ≡ amount down
+    → Allows (IsKept limits) slots id me 0 (λ n. (n + (2 ^ 64 - k)) % 2 ^ 64) (Takes kind (step slots 0 k 0 none) me)
+takes_as limits slots id me kind down k same_down holds is =
+    takes limits slots id me kind k (subst (λ (d : Down). IsTrue (hold_has me.0.sleeper.state.held (step_of_down d))) same_down holds)
+    (is ∙ ap amount same_down)
+
+pub every_state_forgets_none : EveryStateForgetsNone IsKept
+every_state_forgets_none limits s kept =
+    let word = word_in s in
+    record {
+      range = kept.range;
+      rule = kept.kept.rule;
+      bounded = fails_bounded limits.readers word (parties_of s.views) kept.kept.rule;
+      bar = bar_of_rule limits.readers word (parties_of s.views) kept.range kept.kept.rule;
+      guarded = kept.guarded;
+      none_forgotten = kept.kept.none_forgotten;
+      at_rest = at_rest limits word (count_in s) (epoch_in s) (sleepers_of s.views) kept.kept;
+    }

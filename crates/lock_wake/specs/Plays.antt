@@ -1,0 +1,102 @@
+-- What each kind of step does to the view of the party that makes it.
+use Rattle.std.specs.Prelude.{◌≡◌, ◌≢◌, ℕ, ◌+◌, ◌^◌, ◌<◌, ◌≤◌}
+use Rattle.atomic_table.specs.Table.{Me, Step}
+use Rattle.lock_base.specs.Modes.{tokens}
+use Rattle.lock_word.specs.declared.want.ExWant.{ExWant}
+use Rattle.lock_word.specs.declared.down.Down.{Down}
+use Rattle.lock_word.specs.declared.word_step.WordStep.{WordStep}
+use Rattle.lock_word.specs.declared.sleeper.Watch.{Watch}
+use Rattle.lock_word.specs.declared.sleeper.Watch.TheVariants.{Away, Counted, Restarts}
+use Rattle.lock_word.specs.declared.sleeper.Debt.{Debt}
+use Rattle.lock_word.specs.declared.sleeper.Debt.TheVariants.{Nothing, OwesAt}
+use Rattle.lock_word.specs.declared.sleeper.SleeperView.{SleeperView}
+use Rattle.lock_word.specs.Word.{amount, step_of_want}
+use Rattle.lock_word.specs.Turns.{with_load, after_win, after_fail}
+use Rattle.lock_word.specs.Rule.{WordShows}
+use Rattle.lock_word.specs.Wakes.{with_state, with_watch, with_debt, view_after_take, view_after_epoch}
+use Rattle.lock_seated.specs.Seats.{GuardsDoNotGrow}
+use Rattle.lock_wake.specs.declared.rule.WakeView.{WakeView}
+
+-- a seat's view, and the slots that it holds: none
+abbrev pub Self : Type 0
+Self = Me (Unit {0}) WakeView
+
+abbrev pub with_sleeper : Self → SleeperView → Self
+with_sleeper me sleeper = (record me.0 { sleeper = sleeper }, me.1)
+
+abbrev pub self_after_load : Self → ℕ → Self
+self_after_load me word = (
+  record me.0 {
+    sleeper = with_state me.0.sleeper (with_load me.0.sleeper.state word);
+    last = word;
+    loads = me.0.loads + 1;
+  },
+  me.1,
+)
+
+abbrev pub self_after_win : Self → WordStep → Self
+self_after_win me step = with_sleeper me (with_state me.0.sleeper (after_win me.0.sleeper.state step))
+
+abbrev pub self_after_fail : Self → Self
+self_after_fail me = with_sleeper me (with_state me.0.sleeper (after_fail me.0.sleeper.state))
+
+-- a take of this word makes its party due if it unblocks some waiter
+abbrev pub self_after_take : Self → ℕ → Down → Self
+self_after_take me word down = with_sleeper me (view_after_take me.0.limits.readers word me.0.sleeper down)
+
+abbrev pub self_after_epoch : Self → ℕ → Self
+self_after_epoch me epoch = with_sleeper me (view_after_epoch epoch me.0.sleeper)
+
+abbrev pub self_watching : Self → Watch → Self
+self_watching me watch = with_sleeper me (with_watch me.0.sleeper watch)
+
+abbrev pub self_owing : Self → Debt → Self
+self_owing me debt = with_sleeper me (with_debt me.0.sleeper debt)
+
+-- on the word: a load tells its party the word, and what the word says of all holds
+abbrev pub Loads : Step (Unit {0}) → Self → ℕ → Self → Type 0
+Loads s me found after =
+    (after ≡ self_after_load me found) × WordShows me.0.limits.readers found me.0.sleeper.state.held
+    × GuardsDoNotGrow me.0.sleeper.state.held.announced me.0.last found
+
+abbrev pub Exchanges : ExWant → Step (Unit {0}) → Self → ℕ → Self → Type 0
+Exchanges want s me found after =
+    (found ≡ s.first → after ≡ self_after_win me (step_of_want want)) × (found ≢ s.first → after ≡ self_after_fail me)
+
+abbrev pub Takes : Down → Step (Unit {0}) → Self → ℕ → Self → Type 0
+Takes down s me found after =
+    (after ≡ self_after_take me found down) × (amount down ≤ found) × (tokens me.0.sleeper.state.held.bag < 2 ^ 63)
+
+-- on the count: an exchange counts the party in, and a subtraction counts it out
+abbrev pub CountsIn : Step (Unit {0}) → Self → ℕ → Self → Type 0
+CountsIn s me found after = (found ≡ s.first → after ≡ self_watching me Counted) × (found ≢ s.first → after ≡ me)
+
+abbrev pub CountsOut : Self → ℕ → Self → Type 0
+CountsOut me found after = after ≡ self_watching me Away
+
+-- a party that finds no sleepers is not due
+abbrev pub LooksForSleepers : Self → ℕ → Self → Type 0
+LooksForSleepers me found after = (found ≡ 0 → after ≡ self_owing me Nothing) × (found ≢ 0 → after ≡ me)
+
+-- an exchange of a count of 0 closes it
+abbrev pub Closes : Self → ℕ → Self → Type 0
+Closes me found after = (found ≡ 0 → after ≡ self_watching me Restarts) × (found ≢ 0 → after ≡ me)
+
+-- on the epoch: a counted party loads it
+abbrev pub Watches : Self → ℕ → Self → Type 0
+Watches me found after =
+    (found < me.0.limits.last_epoch → after ≡ self_after_epoch me found) × (me.0.limits.last_epoch ≤ found → after ≡ me)
+
+-- a due party loads it
+abbrev pub Notes : Self → ℕ → Self → Type 0
+Notes me found after =
+    (found < me.0.limits.last_epoch → after ≡ self_owing me (OwesAt found))
+    × (me.0.limits.last_epoch ≤ found → after ≡ self_owing me Nothing)
+
+-- an exchange ends it, or some other party did
+abbrev pub Ends : Self → ℕ → Self → Type 0
+Ends me found after = after ≡ self_owing me Nothing
+
+-- the epochs begin anew
+abbrev pub BeginsAnew : Self → ℕ → Self → Type 0
+BeginsAnew me found after = after ≡ me
