@@ -48,9 +48,8 @@ impl BlockingLock {
         ensures room { tokens seat.old.me.0.sleeper.state.held.bag < 2 ^ 63 }
     {
         let before = self.subtract(seat, down);
-        if self.finds_sleepers(seat)
-            && word_unblocks(self.readers, before, before - down.amount())
-        {
+        let after = before - down.amount();
+        if self.finds_sleepers(seat) && word_unblocks(self.readers, before, after) {
             self.end_epoch(seat, last_epoch);
         }
     }
