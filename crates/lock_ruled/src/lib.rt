@@ -4,14 +4,18 @@
 
 mod guard;
 mod laws;
+mod ledger;
 mod mutex;
 mod plays;
+mod ready;
 mod rule;
 mod user;
 
 pub use atomic_table::{Join, Split};
 pub use guard::RuledGuard;
 pub use laws::every_state_is_ruled;
+pub use ledger::{Ledger, Measure, Settles, Share, Shares};
 pub use mutex::RuledMutex;
+pub use ready::ReadyRule;
 pub use rule::{MutexRule, SlotRule, UserStage, UserView, ViewUpdate};
 pub use user::User;
