@@ -2,6 +2,7 @@
 use Rattle.std.specs.Prelude.{◌≡◌}
 use Rattle.std.specs.Borrow.{Bor}
 use Rattle.lock_guard.specs.declared.guard.held.Held.{Held}
+use Rattle.lock_guard.specs.Held.{held_value}
 use Rattle.lock_rwlock.specs.declared.guard.RwLockGuard.{RwLockGuard}
 use Rattle.lock_rwlock.specs.declared.mode.InMode.{InMode}
 
@@ -17,3 +18,8 @@ IsGuardOf lock guard = (held_of guard).lock.rwlock.ref_ptr ≡ lock.ref_ptr
 abbrev pub SameLock : {M M' R R' T T' V V' K K' W W' X X' : Type 0} {g g' : _}
     → RwLockGuard (InMode M R T) V K W X g → RwLockGuard (InMode M' R' T') V' K' W' X' g' → Type 0
 SameLock old new = (held_of old).lock.rwlock.ref_ptr ≡ (held_of new).lock.rwlock.ref_ptr
+
+-- two guards, in whatever modes, show one value
+abbrev pub ShowsSame : {L L' V K K' W W' X : Type 0} {g g' : _} → (V → X)
+    → RwLockGuard L V K W X g → RwLockGuard L' V K' W' X g' → Type 0
+ShowsSame value_of old new = held_value value_of (held_of old) ≡ held_value value_of (held_of new)

@@ -19,8 +19,9 @@ pub use write::RwLockWriteGuard;
 
 /// A guard of a lock in one mode. On drop it releases the value's lock, then the raw lock.
 ///
-/// An upgrade or a downgrade exchanges the raw lock's token and gives a guard of the new mode. The raw lock promises
-/// that nobody wrote in between; no contract states it.
+/// An upgrade or a downgrade exchanges the raw lock's token and gives a guard of the new mode. After the downgrade of an
+/// upgradable guard the new guard shows the same value. After the others the raw lock promises that nobody wrote in
+/// between; no contract states it.
 #[derive(Drop)]
 pub struct RwLockGuard<L: Acquire> {
     pub(crate) held: Held<L>,

@@ -1,5 +1,6 @@
 //! The upgradable read guard.
 ghost use Rattle.std.specs.Prelude.{◌≡◌, IfSome, IfNone, IfErr, MatchResult, is_ok};
+ghost use Rattle.std.specs.Sync.RwLock.{read_guard_value};
 ghost use Rattle.lock_guard.specs.Closure.{AnswersSomeValue};
 
 use super::{RwLockGuard, RwLockReadGuard, RwLockWriteGuard, guard};
@@ -99,14 +100,21 @@ impl<'a, R: RawRwLockUpgradeTimed, T> RwLockGuard<InMode<'a, Upgradable, R, T>> 
 }
 
 impl<'a, R: RawRwLockUpgradeDowngrade, T> RwLockGuard<InMode<'a, Upgradable, R, T>> {
-    ghost use Rattle.lock_rwlock.specs.RwLockGuard.{SameLock};
+    ghost use Rattle.lock_rwlock.specs.RwLockGuard.{SameLock, ShowsSame};
 
-    /// Downgrades the guard to a read guard. It never blocks on the raw lock.
+    /// Downgrades the guard to a read guard, which shows the same value. It never blocks.
     pub fn downgrade(guard: RwLockUpgradableReadGuard<'a, R, T>) -> RwLockReadGuard<'a, R, T>
-        ensures { SameLock guard.entry result }
+        ensures lock { SameLock guard.entry result }
+        ensures value { ShowsSame read_guard_value guard.entry result }
     {
-        let (lock, token) = guard.into_token();
-        guard!(lock.rwlock, lock.rwlock.raw.downgrade_upgradable(token))
+        let (lock, token, shown) = guard.held.into_parts();
+        let token = lock.rwlock.raw.downgrade_upgradable(token);
+        RwLockGuard {
+            held: Held {
+                lock: InMode::new(lock.rwlock),
+                inner: Inner::Filled(token, shown),
+            },
+        }
     }
 
     /// Upgrades, runs `f` on the value, and downgrades again. The upgrade blocks until no other guard is held.
