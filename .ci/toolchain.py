@@ -30,7 +30,8 @@ rt = loaded()
 
 
 def say(text):
-    print(text, flush=True)
+    # the line and its end in one write, since checks that run side by side say something too
+    print(f"{text}\n", end="", flush=True)
 
 
 def crates_below(top):
