@@ -103,6 +103,19 @@ impl<R: RawMutex, T> Mutex<R, T> {
         })
     }
 
+    /// Acquires the mutex, runs `f` on the value, which it may change, and releases the mutex.
+    ///
+    /// # Blocking
+    ///
+    /// Blocks until the mutex is available. If `f` acquires the same mutex, it blocks for ever.
+    pub fn with<U, F: FnOnce(&mut T) -> U>(&self, f: F) -> U
+        requires { F.IsAlwaysCallable f }
+        ensures { AnswersSomeValue F.FnOnce f result }
+    {
+        let mut guard = self.lock();
+        f(&mut guard)
+    }
+
     /// Returns what the raw lock says: whether it is held. The answer may be stale at once.
     pub fn is_locked(&self) -> bool {
         self.raw.is_locked()

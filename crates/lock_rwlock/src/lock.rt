@@ -1,6 +1,7 @@
 //! A reader-writer lock over any raw lock.
 ghost use Rattle.std.specs.Prelude.{◌≡◌, ◌↔◌, IfSome, IfOk, IfErr, IsOkAnd, IsOkUnless};
 ghost use Rattle.lock_base.specs.Limits.{IsLimit, IsMakerFault};
+ghost use Rattle.lock_guard.specs.Closure.{ReadsSomeValue, AnswersSomeValue};
 
 use crate::guard::{RwLockReadGuard, RwLockUpgradableReadGuard, RwLockWriteGuard, guard};
 use lock_base::raw::{DEFAULT_READERS, Fault};
@@ -133,6 +134,32 @@ impl<R: RawRwLock, T> RwLock<R, T> {
         ensures { IsGuardOf self.entry result }
     {
         guard!(self, self.raw.lock_exclusive())
+    }
+
+    /// Acquires the lock shared, runs `f` on the value, and releases the lock.
+    ///
+    /// # Blocking
+    ///
+    /// As `read`: blocks until the lock is available.
+    pub fn with_read<U, F: FnOnce(&T) -> U>(&self, f: F) -> U
+        requires { F.IsAlwaysCallable f }
+        ensures { ReadsSomeValue F.FnOnce f result }
+    {
+        let guard = self.read();
+        f(&guard)
+    }
+
+    /// Acquires the lock exclusively, runs `f` on the value, which it may change, and releases the lock.
+    ///
+    /// # Blocking
+    ///
+    /// Blocks until the lock is available. If `f` acquires the same lock, it blocks for ever.
+    pub fn with_write<U, F: FnOnce(&mut T) -> U>(&self, f: F) -> U
+        requires { F.IsAlwaysCallable f }
+        ensures { AnswersSomeValue F.FnOnce f result }
+    {
+        let mut guard = self.write();
+        f(&mut guard)
     }
 
     /// Acquires the lock exclusively without blocking, or returns `None` if the raw lock refuses.
