@@ -4,6 +4,8 @@
 //! traits under them in `lock_guard`), and `parts` of `lock_rwlock`.
 #![tactic(auto)]
 
+mod named;
+
 pub use lock_base::machine::Bag;
 pub use lock_base::machine::Call;
 pub use lock_base::machine::Form;
@@ -181,3 +183,11 @@ pub use lock_word::has_tokens;
 pub use lock_word::subtractions_refine_steps;
 pub use lock_word::unblocks;
 pub use lock_word::with_bar;
+pub use named::TimedWordCondvar;
+pub use named::TimedWordMutex;
+pub use named::TimedWordReentrantMutex;
+pub use named::TimedWordRwLock;
+pub use named::WordCondvar;
+pub use named::WordMutex;
+pub use named::WordReentrantMutex;
+pub use named::WordRwLock;
