@@ -8,6 +8,8 @@ mod queue;
 mod registry;
 mod ring;
 pub mod ruled;
+pub mod seated;
+mod shelf;
 mod signatures;
 mod spin_lock;
 
@@ -16,4 +18,5 @@ pub use pool::{Lease, Pool};
 pub use queue::Queue;
 pub use registry::{EntryGuard, EntryOf, Registry, read_twice};
 pub use ring::Ring;
+pub use shelf::{Loan, Shelf};
 pub use spin_lock::{SpinLock, SpinReader, SpinWriter};

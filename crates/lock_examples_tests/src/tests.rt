@@ -5,5 +5,7 @@ mod pool;
 mod queue;
 mod registry;
 mod ruled;
+mod seated;
+mod shelf;
 mod sleeper;
 mod spin_lock;
