@@ -25,7 +25,7 @@ use Rattle.lock_word.proofs.Rules.{slice_set_same, amount_within, shows, fails_b
 use Rattle.lock_word.proofs.Wakes.{state_at, each_step, joins, at_rest}
 use Rattle.lock_seated.proofs.Keeps.{seat_at, still_guarded, subtracted, announced_before, few_held}
 use Rattle.lock_wake.specs.declared.rule.WakeView.{WakeView}
-use Rattle.lock_wake.specs.Seats.{newcomer_beside, sleepers_of, parties_of, Table, word_in, count_in, epoch_in, IsGuarded, IsKept, EveryStateForgetsNone}
+use Rattle.lock_wake.specs.WakeSeats.{newcomer_beside, sleepers_of, parties_of, Table, word_in, count_in, epoch_in, IsGuarded, IsKept, EveryStateForgetsNone}
 use Rattle.lock_wake.specs.Plays.{Self, self_after_load, self_after_win, self_after_fail, self_after_take, self_after_epoch, self_watching, self_owing, Loads, Exchanges, Takes, CountsIn, CountsOut, LooksForSleepers, Closes, Watches, Notes, Ends, BeginsAnew}
 
 sleeper_at : (views : List WakeView) (k : ℕ) (v : WakeView) → get_elem? views k ≡ some v → slice_get (sleepers_of views) k ≡ Some v.sleeper

@@ -1,3 +1,3 @@
-pub mod Seats
+pub mod WakeSeats
 pub mod Plays
-pub mod Waits
+pub mod Acquisitions

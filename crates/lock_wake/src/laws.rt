@@ -1,5 +1,5 @@
 //! What the rule of the table means. The law is the contract of a function with an empty body.
-ghost use Rattle.lock_wake.specs.Seats.{EveryStateForgetsNone};
+ghost use Rattle.lock_wake.specs.WakeSeats.{EveryStateForgetsNone};
 
 use crate::rule::{WakeRule, WakeView};
 use atomic_table::TableRule;

@@ -9,7 +9,7 @@ ghost use Rattle.lock_word.specs.Sleepers.{is_awaited};
 ghost use Rattle.lock_seated.specs.CallerView.{new_party, after_load, after_own_step};
 ghost use Rattle.lock_seated.specs.Seats.{GuardsDoNotGrow};
 ghost use Rattle.lock_seated.specs.Attempts.{Attempted, Acquired};
-ghost use Rattle.lock_wake.specs.Waits.{AcquiredAnnounced};
+ghost use Rattle.lock_wake.specs.Acquisitions.{AcquiredAnnounced};
 
 use crate::party::WaitingParty;
 use crate::rule::{SplitOff, WakeRule, WakeView};
@@ -241,8 +241,14 @@ impl BlockingLock {
         self.take(party, Down::Withdraw);
     }
 
-    /// Returns how many parties are counted as sleepers, which may be outdated at once. No contract says more.
+    /// Returns how many parties are counted as sleepers. It may be outdated at once, so no contract says more.
     pub fn sleepers(&self) -> u64 {
         self.table.shared.peek(COUNT)
+    }
+
+    /// Returns the epoch, which counts the wake-ups since the epochs last began. It may be outdated at once, so no
+    /// contract says more.
+    pub fn epoch(&self) -> u64 {
+        self.table.shared.peek(EPOCH)
     }
 }

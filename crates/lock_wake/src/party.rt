@@ -25,7 +25,7 @@ impl Model for WaitingParty {
     ghost use Rattle.lock_word.specs.declared.sleeper.Watch.TheVariants.{Away};
     ghost use Rattle.lock_word.specs.declared.sleeper.Debt.TheVariants.{Nothing};
     ghost use Rattle.lock_seated.specs.CallerView.{CallerView};
-    ghost use Rattle.lock_wake.specs.Waits.{seen};
+    ghost use Rattle.lock_wake.specs.Acquisitions.{seen};
 
     ghost Value = { CallerView };
 

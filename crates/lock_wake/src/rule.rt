@@ -1,5 +1,5 @@
 //! The rule of the three words and of all views.
-ghost use Rattle.lock_wake.specs.Seats.{IsKept, newcomer, newcomer_beside};
+ghost use Rattle.lock_wake.specs.WakeSeats.{IsKept, newcomer, newcomer_beside};
 
 use atomic_table::{Split, TableRule};
 use lock_word::{SleeperView, WakeLimits};

@@ -7,7 +7,7 @@ ghost use Rattle.lock_word.specs.Rule.{WordShows};
 ghost use Rattle.lock_seated.specs.Seats.{GuardsDoNotGrow};
 ghost use Rattle.lock_seated.specs.Attempts.{Attempted};
 ghost use Rattle.lock_wake.specs.Plays.{self_after_load, self_after_win, self_after_fail, self_after_take};
-ghost use Rattle.lock_wake.specs.Waits.{seen, KeepsRest};
+ghost use Rattle.lock_wake.specs.Acquisitions.{seen, KeepsRest};
 
 use crate::lock::{BlockingLock, WORD};
 use crate::plays::{

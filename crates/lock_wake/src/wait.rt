@@ -8,7 +8,7 @@ ghost use Rattle.lock_word.specs.Word.{step_of_want};
 ghost use Rattle.lock_word.specs.Sleepers.{count_of_watch, is_awaited, Sleeps};
 ghost use Rattle.lock_seated.specs.Attempts.{Tried, Acquired};
 ghost use Rattle.lock_wake.specs.Plays.{self_after_epoch, self_watching};
-ghost use Rattle.lock_wake.specs.Waits.{seen, KeepsRest, TriedAnnounced, AcquiredAnnounced};
+ghost use Rattle.lock_wake.specs.Acquisitions.{seen, KeepsRest, TriedAnnounced, AcquiredAnnounced};
 
 use crate::lock::{BlockingLock, COUNT, EPOCH};
 use crate::plays::{CloseCount, CountIn, CountOut, OpenCount, RestartEpochs, WatchEpoch};

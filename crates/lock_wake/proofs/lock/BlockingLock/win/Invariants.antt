@@ -1,6 +1,6 @@
 use Rattle.std.specs.Prelude.{◌≡◌}
 use Rattle.lock_seated.specs.Attempts.{Tried}
-use Rattle.lock_wake.specs.Waits.{seen, KeepsRest}
+use Rattle.lock_wake.specs.Acquisitions.{seen, KeepsRest}
 use Rattle.lock_wake.proofs.lock.BlockingLock.win.Given as goal
 
 abbrev pub invariant-loop : goal.invariant-loop

@@ -1,5 +1,5 @@
 use Rattle.std.specs.Prelude.{◌≡◌}
-use Rattle.lock_wake.specs.Waits.{seen, KeepsRest, TriedAnnounced}
+use Rattle.lock_wake.specs.Acquisitions.{seen, KeepsRest, TriedAnnounced}
 use Rattle.lock_wake.proofs.lock.BlockingLock.win_announced.Given as goal
 
 abbrev pub invariant-loop : goal.invariant-loop
