@@ -2,15 +2,14 @@
 #![tactic(auto)]
 
 mod real_time;
-mod sleepers;
 mod sleeping_condvar;
 mod timing;
 mod word_core;
 mod word_lock;
 
+pub use lock_sleepers::{Sleepers, time_left};
 pub use real_time::{RealTime, TimedCondvar, TimedRaw};
-pub use sleepers::Sleepers;
 pub use sleeping_condvar::SleepingCondvar;
-pub use timing::{NoTime, Timing, time_left};
+pub use timing::{NoTime, Timing};
 pub use word_core::{WordCore, WordRaw, WordToken};
 pub use word_lock::WordLock;

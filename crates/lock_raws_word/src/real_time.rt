@@ -1,9 +1,10 @@
 //! Real time, by the waiter's clock.
 use crate::sleeping_condvar::SleepingCondvar;
-use crate::timing::{Timing, time_left};
+use crate::timing::Timing;
 use crate::word_core::WordCore;
 use crate::word_lock::WordLock;
 use lock_raws::RawLock;
+use lock_sleepers::time_left;
 use lock_word::ExWant;
 use std::sync::Wait;
 use std::time::{Clock, Duration, Instant};

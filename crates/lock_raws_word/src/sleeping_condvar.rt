@@ -1,8 +1,7 @@
 //! A condition variable whose waiters sleep.
-use crate::sleepers::Sleepers;
-use crate::timing::time_left;
 use lock_base::raw::Fault;
 use lock_guard::raw::{RawCondvar, RawCondvarTimed, RawMutex, RawMutexTimed};
+use lock_sleepers::{Sleepers, time_left};
 use std::alloc::Global;
 use std::marker::PhantomData;
 use std::time::{Clock, Duration, Instant};

@@ -1,12 +1,9 @@
 //! How a lock on a word measures time.
-ghost use Rattle.std.specs.Prelude.{◌<◌, ◌≤◌, IfSome, IsSome};
-ghost use Rattle.std.specs.Duration.{as_nanos};
-ghost use Rattle.std.specs.Time.{instant_nanos};
+ghost use Rattle.std.specs.Prelude.{IsSome};
 
 use crate::word_lock::WordLock;
 use lock_word::ExWant;
 use std::sync::Wait;
-use std::time::{Clock, Duration, Instant};
 
 /// How long timed calls block. The waiter may provide a clock.
 pub trait Timing<W: Wait>: Drop {
@@ -41,13 +38,4 @@ impl<W: Wait> Timing<W> for NoTime {
     fn wait_until(lock: &WordLock, _waiter: &W, want: ExWant, _deadline: ()) -> bool {
         lock.try_once(want)
     }
-}
-
-/// Returns the time until `deadline`, or `None` if it has passed or the clock cannot be read.
-pub fn time_left<W: Clock>(clock: &W, deadline: Instant) -> Option<Duration>
-    ensures { IfSome result (λ left. (0 < as_nanos left) × (as_nanos left ≤ instant_nanos deadline)) }
-{
-    let now = Instant::now(clock).ok()?;
-    let left = deadline.checked_duration_since(now)?;
-    if left.is_zero() { None } else { Some(left) }
 }

@@ -4,9 +4,9 @@ ghost use Rattle.lock_base.specs.Limits.{IsLimit};
 ghost use Rattle.lock_word.specs.Unblocking.{occupancy_of_word};
 ghost use Rattle.lock_raws.specs.Waking.{wake_decision};
 
-use crate::sleepers::Sleepers;
 use crossbeam_utils::Backoff;
 use lock_raws::Wake;
+use lock_sleepers::Sleepers;
 use lock_word::{Down, ExWant, Occupancy, has_exclusive, has_tokens};
 use std::sync::Wait;
 use std::sync::atomic::{AtomicU64, Ordering};

@@ -2,6 +2,7 @@
 //! users. The rule holds whenever the mutex is free, and each release proves that it is kept.
 #![tactic(auto)]
 
+mod conditions;
 mod guard;
 mod laws;
 mod ledger;

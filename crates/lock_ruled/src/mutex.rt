@@ -11,6 +11,7 @@ use crate::user::User;
 use atomic_table::{Join, Seat, Split, Table};
 use crossbeam_utils::Backoff;
 use lock_base::raw::Fault;
+use lock_sleepers::Sleepers;
 use std::alloc::Global;
 use std::marker::Model;
 use std::sync::Wait;
@@ -32,6 +33,8 @@ const TRIES: u32 = 10;
 #[derive(Drop)]
 pub struct RuledMutex<T: Drop, V, P: MutexRule<T, V>> {
     table: Table<Option<T>, UserView<T, V>, T, SlotRule<P>, Global>,
+    /// Users that sleep until the value has changed.
+    pub(crate) changed: Sleepers,
 }
 
 impl<T: Drop, V, P: MutexRule<T, V>> Model for RuledMutex<T, V, P> {
@@ -56,8 +59,11 @@ impl<T: Drop, V, P: MutexRule<T, V>> RuledMutex<T, V, P> {
             return Err(Fault::OutOfMemory);
         };
         table.shared.store::<Open>(&mut seat, 0, TAKEN);
-        let mutex = RuledMutex { table };
-        let user = mutex.unlock::<Stay>(RuledGuard { value, seat });
+        let mutex = RuledMutex {
+            table,
+            changed: Sleepers::new(),
+        };
+        let user = mutex.release::<Stay>(RuledGuard { value, seat });
         Ok((mutex, user))
     }
 
@@ -122,6 +128,34 @@ impl<T: Drop, V, P: MutexRule<T, V>> RuledMutex<T, V, P> {
             (M.next guard.taken guard.user.view guard.value) }
         ensures { result ≡ record guard.user { view = M.next guard.taken guard.user.view guard.value } }
     {
+        let user = self.release::<M>(guard);
+        self.changed.notify_all();
+        user
+    }
+
+    /// Consumes the mutex and its only user, and returns the value, of which the rule holds with that user's view.
+    pub fn into_inner(self, user: User<T, V>) -> T
+        requires mutex { user.mutex ≡ self }
+        requires alone { user.parts ≡ all_parts }
+        ensures { P.rule result (user.view ∷ []) }
+    {
+        let RuledMutex { table, changed: _ } = self;
+        let mut closed = table.close_with(user.seat);
+        let slot = closed.take(0);
+        closed.free();
+        match slot {
+            Some(value) => value,
+            None => unreachable!(),
+        }
+    }
+
+    /// Releases the mutex as `unlock` does, but wakes no user that waits for a condition.
+    pub(crate) fn release<M: ViewUpdate<T, V>>(&self, guard: RuledGuard<T, V>) -> User<T, V>
+        requires mutex { guard.user.mutex ≡ self.now }
+        requires rule { Keeps P.rule guard.taken guard.user.view guard.value
+            (M.next guard.taken guard.user.view guard.value) }
+        ensures { result ≡ record guard.user { view = M.next guard.taken guard.user.view guard.value } }
+    {
         let RuledGuard { value, mut seat } = guard;
         match self.table.shared.exchange(&mut seat, 0, Some(value)) {
             None => {}
@@ -131,21 +165,6 @@ impl<T: Drop, V, P: MutexRule<T, V>> RuledMutex<T, V, P> {
             self.table.shared.wake_one(0);
         }
         User { seat }
-    }
-
-    /// Consumes the mutex and its only user, and returns the value, of which the rule holds with that user's view.
-    pub fn into_inner(self, user: User<T, V>) -> T
-        requires mutex { user.mutex ≡ self }
-        requires alone { user.parts ≡ all_parts }
-        ensures { P.rule result (user.view ∷ []) }
-    {
-        let mut closed = self.table.close_with(user.seat);
-        let slot = closed.take(0);
-        closed.free();
-        match slot {
-            Some(value) => value,
-            None => unreachable!(),
-        }
     }
 
     /// Takes the value out of the slot, which the user has acquired.

@@ -4,7 +4,7 @@ use Rattle.lock_ruled.specs.Ruled.{Taken, Keeps}
 use Rattle.lock_ruled.specs.Plays.{Self}
 use Rattle.lock_ruled.specs.Slots.{taken_value}
 use Rattle.lock_ruled.proofs.Keeps.{gives_value, refilled}
-use Rattle.lock_ruled.proofs.mutex.RuledMutex.unlock.Goals as goal
+use Rattle.lock_ruled.proofs.mutex.RuledMutex.release.Goals as goal
 
 pub swap-requires : goal.swap-requires
 swap-requires g c =

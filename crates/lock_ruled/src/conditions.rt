@@ -1,0 +1,84 @@
+//! Waiting until the value meets a condition.
+ghost use Rattle.std.specs.Prelude.{◌≡◌, true, IfOk, IfErr};
+ghost use Rattle.std.specs.Fn.{FnReturnsAt};
+ghost use Rattle.lock_ruled.specs.Ruled.{Meets};
+
+use crate::guard::RuledGuard;
+use crate::mutex::RuledMutex;
+use crate::plays::Stay;
+use crate::rule::MutexRule;
+use crate::user::User;
+use lock_sleepers::time_left;
+use std::sync::Wait;
+use std::time::{Clock, Instant};
+
+impl<T: Drop, V, P: MutexRule<T, V>> RuledMutex<T, V, P> {
+    /// Acquires the mutex once `condition` holds of the value, blocking until then.
+    ///
+    /// # Blocking
+    /// While the condition does not hold, the user sleeps until another user calls `unlock`.
+    pub fn lock_when<R: Wait, F: Fn(&T) -> bool>(
+        &self,
+        rt: &R,
+        user: User<T, V>,
+        condition: F,
+    ) -> RuledGuard<T, V>
+        requires mutex { user.mutex ≡ self.now }
+        requires condition { F.IsAlwaysCallable condition }
+        ensures user { result.user ≡ user }
+        ensures value { result.value ≡ result.taken }
+        ensures rule { Meets P.rule result.taken user.view }
+        ensures condition { FnReturnsAt F.Fn condition result.value true }
+    {
+        let mut user = user;
+        for _ in rt.forever() {
+            let guard = self.lock(rt, user);
+            if condition(&*guard) {
+                return guard;
+            }
+            let announced = self.changed.announce();
+            user = self.release::<Stay>(guard);
+            self.changed.sleep(rt, announced);
+        }
+        unreachable!()
+    }
+
+    /// Acquires the mutex once `condition` holds of the value, or returns the user at `deadline`.
+    ///
+    /// # Blocking
+    /// As `lock_when`, until `deadline` by the clock of `rt`. While another user holds a guard it also blocks, as `lock`
+    /// does. After the deadline it checks the condition once more.
+    pub fn lock_when_until<R: Wait + Clock, F: Fn(&T) -> bool>(
+        &self,
+        rt: &R,
+        user: User<T, V>,
+        condition: F,
+        deadline: Instant,
+    ) -> Result<RuledGuard<T, V>, User<T, V>>
+        requires mutex { user.mutex ≡ self.now }
+        requires condition { F.IsAlwaysCallable condition }
+        ensures user { IfOk result (λ guard. guard.user ≡ user) }
+        ensures value { IfOk result (λ guard. guard.value ≡ guard.taken) }
+        ensures rule { IfOk result (λ guard. Meets P.rule guard.taken user.view) }
+        ensures condition { IfOk result (λ guard. FnReturnsAt F.Fn condition guard.value true) }
+        ensures refused { IfErr result (λ same. same ≡ user) }
+    {
+        let mut user = user;
+        for _ in rt.forever() {
+            let guard = self.lock(rt, user);
+            if condition(&*guard) {
+                return Ok(guard);
+            }
+            let announced = self.changed.announce();
+            user = self.release::<Stay>(guard);
+            match time_left(rt, deadline) {
+                Some(left) => self.changed.sleep_for(rt, announced, left),
+                None => {
+                    self.changed.leave();
+                    return Err(user);
+                }
+            }
+        }
+        unreachable!()
+    }
+}
