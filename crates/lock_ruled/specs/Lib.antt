@@ -6,3 +6,6 @@ pub mod EachViews
 pub mod Sums
 pub mod Ledger
 pub mod Ledgers
+pub mod Tally
+pub mod Tallies
+pub mod Bounds

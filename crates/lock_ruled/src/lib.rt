@@ -3,6 +3,8 @@
 #![tactic(auto)]
 
 mod conditions;
+mod constant;
+mod grows;
 mod guard;
 mod laws;
 mod ledger;
@@ -10,13 +12,17 @@ mod mutex;
 mod plays;
 mod ready;
 mod rule;
+mod tally;
 mod user;
 
 pub use atomic_table::{Join, Split};
+pub use constant::{Constant, SameView};
+pub use grows::{Bound, Grows};
 pub use guard::RuledGuard;
 pub use laws::every_state_is_ruled;
 pub use ledger::{Ledger, Measure, Settles, Share, Shares};
 pub use mutex::RuledMutex;
 pub use ready::ReadyRule;
 pub use rule::{MutexRule, SlotRule, UserStage, UserView, ViewUpdate};
+pub use tally::{AddsOne, Sums, Tally};
 pub use user::User;
