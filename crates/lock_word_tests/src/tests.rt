@@ -1,3 +1,4 @@
+mod blocking;
 mod refused_memory;
 mod seated;
 mod table;
