@@ -45,11 +45,16 @@ pub use Rattle.lock_word.specs.Turns
 pub use Rattle.lock_word.specs.Rule
 pub use Rattle.lock_word.specs.Worlds
 pub use Rattle.lock_word.specs.Claims
+pub use Rattle.lock_word.specs.Sleepers
+pub use Rattle.lock_word.specs.Wakes
+pub use Rattle.lock_word.specs.WakeLaws
 pub use Rattle.lock_states.specs.TableState
 pub use Rattle.lock_states.specs.Packed
 pub use Rattle.lock_seated.specs.Seats
 pub use Rattle.lock_seated.specs.CallerView
 pub use Rattle.lock_seated.specs.Attempts
+pub use Rattle.lock_wake.specs.WakeSeats
+pub use Rattle.lock_wake.specs.Acquisitions
 pub use Rattle.lock_ruled.specs.Ruled
 pub use Rattle.lock_ruled.specs.Slots
 pub use Rattle.lock_desk.specs.Closures
