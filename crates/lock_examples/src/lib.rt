@@ -3,6 +3,7 @@
 
 mod callers;
 pub mod desk;
+pub mod gate;
 mod pool;
 mod queue;
 mod registry;

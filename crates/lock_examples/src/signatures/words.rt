@@ -1,8 +1,9 @@
 //! Every public type of the packed word, and of the locks on one, in a signature.
 use lock_api::{
-    AtomicStep, Attempt, Down, ExWant, Hold, NoTime, Occupancy, Outcome, PackedToken, PackedWord,
-    Party, Place, Places, RealTime, SeatView, SeatedLock, Sleepers, SleepingCondvar, TimedCondvar,
-    TimedRaw, Timing, Wake, WordCore, WordLock, WordRaw, WordRule, WordStep, WordToken, World,
+    AtomicStep, Attempt, BlockingLock, Debt, Down, ExWant, Hold, NoTime, Occupancy, Outcome,
+    PackedToken, PackedWord, Party, Place, Places, RealTime, SeatView, SeatedLock, SleeperView,
+    Sleepers, SleepingCondvar, TimedCondvar, TimedRaw, Timing, WaitingParty, Wake, WakeLimits,
+    WakeRule, WakeView, Watch, WordCore, WordLock, WordRaw, WordRule, WordStep, WordToken, World,
     WorldParty,
 };
 use std::clone::Clone;
@@ -21,7 +22,7 @@ pub fn word_raws<W: Wait + Clone + Drop + Clock, T: Timing<W>>(
     _condvars: (&SleepingCondvar<WordRaw<W>>, &TimedCondvar<W>, &Sleepers),
 ) {}
 
-/// A value of each type of the places of a table, the word, the world and the seated lock.
+/// A value of each type of the places of a table, the word, the world, the seated lock and the blocking lock.
 pub fn words(
     _word: &PackedWord,
     _token: &PackedToken,
@@ -30,4 +31,6 @@ pub fn words(
     _step: (&AtomicStep, &Outcome, &Down, &ExWant, &WorldParty),
     _hold: (&Hold, &WordStep, &Occupancy),
     _seated: (&SeatedLock, &Party, &SeatView, &WordRule, &Attempt),
+    _blocking: (&BlockingLock, &WaitingParty, &WakeView, &WakeRule),
+    _sleeper: (&SleeperView, &Watch, &Debt, &WakeLimits),
 ) {}
