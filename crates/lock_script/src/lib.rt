@@ -20,8 +20,14 @@ mod world_call;
 mod world_maker;
 mod world_session;
 
+pub use answer::{Answer, write_answer};
 pub use arguments::which;
 pub use choice::Which;
 pub use fault::ReplayFault;
-pub use reading::SCRIPT_LIMIT;
-pub use streams::{answers, replay};
+pub use line::Line;
+pub use maker::Maker;
+pub use pair::{Pair, PairOp};
+pub use reading::{SCRIPT_LIMIT, read_script};
+pub use script::{ParsedScript, parse};
+pub use session::{DeskScript, make_desk};
+pub use streams::{answers, put, replay};

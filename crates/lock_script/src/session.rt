@@ -1,5 +1,6 @@
 //! Running a script of calls on a desk.
 ghost use Rattle.std.specs.Prelude.{◌≡◌, [], ◌++◌, ◌↔◌, Err, IfErr, IfOk, OnOk, string_bytes};
+ghost use Rattle.lock_base.specs.Limits.{IsMakerFault};
 ghost use Rattle.lock_base.specs.Steps.{replies};
 ghost use Rattle.lock_script.specs.Answers.{reply_lines};
 ghost use Rattle.lock_script.specs.Faults.{IsParsingFault};
@@ -20,7 +21,7 @@ use lock_desk::Desk;
 use std::alloc::{AllocError, Global};
 
 /// A script of calls.
-type DeskScript = ParsedScript<Maker, Call<PairOp>>;
+pub type DeskScript = ParsedScript<Maker, Call<PairOp>>;
 
 /// How many calls are made before their replies are written.
 const BLOCK: usize = 256;
@@ -44,7 +45,7 @@ fn answers_to<R: RawState>(
     requires { string_bytes text ≡ [] }
     ensures { IfOk result (λ text. Answers script.now.maker script.now.calls.items (string_bytes text)) }
 {
-    match make::<R>(alloc, script.maker) {
+    match make_desk::<R>(alloc, script.maker) {
         Ok(desk) => {
             write_answer(&mut text, Answer::Reply(Reply::Done))?;
             write_calls(alloc, &mut text, desk, script.calls.as_slice())?;
@@ -90,9 +91,10 @@ fn write_replies(text: &mut String, replies: &[Reply<i64>]) -> Result<(), AllocE
     Ok(())
 }
 
-/// Makes the desk.
-fn make<R: RawState>(alloc: Global, maker: Maker) -> Result<Desk<R, Pair>, Fault>
+/// Makes the desk of a script.
+pub fn make_desk<R: RawState>(alloc: Global, maker: Maker) -> Result<Desk<R, Pair>, Fault>
     ensures limits { (result ≡ Err Fault.BadLimits) ↔ (HasLimits maker → ⊥) }
+    ensures fault { IfErr result IsMakerFault }
     ensures made { IfOk result (λ desk. desk ≡ machine_of maker) }
 {
     match maker {

@@ -56,7 +56,7 @@ pub fn answers(alloc: Global, which: Which, script: Vec<u8>) -> Result<String, R
 }
 
 /// Writes the whole text, and flushes.
-fn put<W: Write>(text: &str, writer: &mut W) -> Result<(), ReplayFault>
+pub fn put<W: Write>(text: &str, writer: &mut W) -> Result<(), ReplayFault>
     ensures written { OnOk result (Appends (W.contents writer.old) (W.contents writer.new) text.now) }
     ensures begun { OnErr result (AppendsFront (W.contents writer.old) (W.contents writer.new) text.now) }
     ensures fault { IfErr result (λ fault. fault ≡ ReplayFault.OutputFailed) }
