@@ -1,0 +1,47 @@
+-- The answers so far are the first replies of the `Desk`.
+use Rattle.std.proofs.Common.{◌≡◌, ℕ, ℤ, ◌≤◌, Bool, true, false, if◌then◌else◌, List, [], ◌∷◌, ◌++◌, length, map, take, get_or, refl, ◌∙◌, rules}
+use Rattle.std.specs.Prelude.{All, IfSome, Option, None, Some, is_some}
+use Rattle.std.specs.List.{slice_get}
+use Rattle.std.proofs.lemmas.List.{take_more, take_all, map-append, length_push}
+use Rattle.std.proofs.lemmas.Option.{slice_get_within, get_or_from_slice_get}
+use Rattle.lock_base.specs.declared.machine.reply.Reply.{Reply}
+use Rattle.lock_conform.specs.declared.difference.Difference.{Difference}
+use Rattle.lock_conform.specs.declared.entry.Entry.{Entry}
+use Rattle.lock_conform.specs.Entries.{replies_of, IsSilentIfRefused}
+
+-- so they are with the next reply
+pub one_more : (entries : List Entry) (replies : List (Reply ℤ)) (entry : Entry)
+    → replies_of entries ≡ take (length entries) replies
+    → slice_get replies (length entries) ≡ Some entry.reply
+    → replies_of (entries ++ entry ∷ []) ≡ take (length (entries ++ entry ∷ [])) replies
+one_more entries replies entry first next =
+    rw (
+      length_push entries entry,
+      map-append (λ e. e.reply) entries (entry ∷ []),
+      first,
+      take_more replies (length entries) entry.reply (slice_get_within _ _ _ next),
+      get_or_from_slice_get replies (length entries) entry.reply entry.reply next,
+    ) refl
+
+-- if as many are answered as there are replies, they are all the replies
+pub all_answered : (entries : List Entry) (replies : List (Reply ℤ))
+    → replies_of entries ≡ take (length entries) replies → length replies ≤ length entries
+    → replies_of entries ≡ replies
+all_answered entries replies first enough = first ∙ take_all (length entries) replies enough
+
+pub all_silent : (entries : List Entry) → All IsSilentIfRefused entries
+all_silent entries k d within = (get_or entries k d).silent
+
+-- they are with the next reply, if there is memory for it
+pub one_more_if : (is_pushed : Bool) (entries new : List Entry) (replies : List (Reply ℤ)) (entry : Entry)
+    → new ≡ (if is_pushed then entries ++ entry ∷ [] else entries)
+    → replies_of entries ≡ take (length entries) replies
+    → slice_get replies (length entries) ≡ Some entry.reply
+    → replies_of new ≡ take (length new) replies
+one_more_if true entries new replies entry pushed first next = rw pushed (one_more entries replies entry first next)
+one_more_if false entries new replies entry pushed first next = rw pushed first
+
+-- without a difference there is none to be at a call
+pub no_difference : (found : Option Difference) (P : Difference → Type 0) → is_some found ≡ false → ∥ IfSome found P ∥₁
+no_difference None P none = ∣ tt ∣₁
+no_difference (Some difference) P none = search rules

@@ -1,0 +1,9 @@
+pub mod Differences
+pub mod Entries
+pub mod Makers
+pub mod ModeWords
+pub mod PlainRaws
+pub mod Refusals
+pub mod Reports
+pub mod RwGuards
+pub mod Texts

@@ -1,0 +1,5 @@
+-- Raw mutexes with the traits that the kit asks for.
+use Rattle.lock_conform.specs.declared.plain_raw.PlainRaw.{PlainRaw}
+
+abbrev pub raw_of : {R : Type 0} → PlainRaw R → R
+raw_of plain = plain.raw
