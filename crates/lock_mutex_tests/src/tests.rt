@@ -9,13 +9,13 @@ mod parts;
 mod queue;
 mod raw_calls;
 mod remutex;
-mod scenarios;
 mod texts;
 mod threads;
 
 use crate::tests::condvar::mock::MockCondvar;
+use lock_base::machine::Mode::Exclusive;
 use lock_guard::raw::{RawMutex, RawMutexFair, RawMutexTimed};
-use lock_mutex::{Condvar, Mutex};
+use lock_mutex::{ArcMutexGuard, Condvar, Mutex};
 use lock_raws::{LockCore, Monitor, RawLock, TableArbiter};
 use lock_raws_word::{NoTime, WordCore};
 use lock_test_support::raw_lock::{MockRaw, Watch};
@@ -49,7 +49,7 @@ fn calls_by_a_borrow<R: RawMutexFair + Drop>(alloc: Global, waiter: R::Waiter) -
     let raw: MockRaw<R> = RawMutex::new(alloc, waiter)?;
     let mut watch = Watch::new(raw.calls()?);
     let mut mutex = Mutex::from_raw(raw, ((0, 0), 0))?;
-    raw_calls::all_calls(alloc, &mutex, &mut watch)?;
+    raw_calls::calls_of_parts(alloc, &mutex, &mut watch)?;
     *mutex.get_mut() = ((5, 2), 0);
     let (raw, value) = mutex.into_inner_with_raw();
     Mutex::from_raw(raw, value)?.into_inner();
@@ -64,7 +64,9 @@ fn calls_by_an_arc<R: RawMutexFair + Drop>(alloc: Global, waiter: R::Waiter) -> 
     let mutex = Arc::new(alloc, Mutex::from_raw(raw, 5)?)?;
     texts::check(alloc, &mutex)?;
     watch.saw(&texts::RAW_CALLS);
-    raw_calls::all_calls_by_an_arc(&mutex, &mut watch)?;
+    let guard = Mutex::lock_arc(&mutex)?;
+    ArcMutexGuard::mutex(&guard);
+    watch.saw_hold(guard, Exclusive);
     drop(mutex);
     watch.saw(&[]);
     watch.verdict()

@@ -7,7 +7,6 @@ mod order;
 mod raw_calls;
 mod raws;
 mod recording;
-mod scenarios;
 mod texts;
 mod threads;
 mod upgrades;

@@ -7,5 +7,5 @@ mod wanted;
 
 pub use makers::holds_or_lacks_memory;
 pub use texts::{debug_is, texts_are};
-pub use tries::{gives_none, guard_of};
+pub use tries::gives_none;
 pub use wanted::equal;

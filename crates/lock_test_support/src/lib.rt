@@ -3,7 +3,6 @@
 #![tactic(auto)]
 
 pub mod answer;
-pub mod beside_desk;
 mod flags;
 mod four_threads;
 mod parties;

@@ -1,16 +1,12 @@
-//! What the raw lock is asked, call by call.
-mod arc;
+//! What the raw lock is asked where no script of `conform/` makes the call.
 mod mapped;
 
-pub use arc::all_calls_by_an_arc;
 use lock_base::machine::Mode::Exclusive;
-use lock_guard::raw::{RawMutex, RawMutexFair, RawMutexTimed};
+use lock_guard::raw::{RawMutex, RawMutexFair};
 use lock_mutex::{Mutex, MutexGuard};
 use lock_test_support::answer::equal;
 use lock_test_support::project::Nested;
-use lock_test_support::raw_lock::RawCall::{
-    self, Bump, IsLocked, Lock, TryLock, Unlock, UnlockFair,
-};
+use lock_test_support::raw_lock::RawCall::{self, Lock, TryLock, Unlock, UnlockFair};
 use lock_test_support::raw_lock::{AdmitsAll, Calls, Watch};
 use std::alloc::Global;
 use std::test::Fail;
@@ -18,54 +14,15 @@ use std::test::Fail;
 /// A pair in a pair behind a mutex.
 type Paired<R> = Mutex<R, Nested>;
 
-/// Of a free mutex, and tries beside a guard. A guard that is not kept ends at once.
-fn acquisitions<R: RawMutexTimed<Duration = u64, Instant = u64>>(
-    mutex: &Paired<R>,
-    watch: &mut Watch,
-) {
-    mutex.lock();
-    mutex.try_lock();
-    mutex.try_lock_for(3);
-    mutex.try_lock_until(4);
-    watch.saw_acquisitions(Exclusive);
-    let guard = mutex.lock();
-    mutex.try_lock();
-    mutex.try_lock_for(3);
-    mutex.try_lock_until(4);
-    watch.saw_refused_tries(guard, Exclusive);
-    mutex.is_locked();
-    watch.saw(&[IsLocked]);
-}
-
-fn calls_of_a_guard<R: RawMutexFair>(mutex: &Paired<R>, watch: &mut Watch) {
-    let mut guard = mutex.lock();
-    guard.1 = guard.0.0;
-    MutexGuard::mutex(&guard);
-    MutexGuard::bump(&mut guard);
-    MutexGuard::unlocked(&mut guard, || mutex.is_locked());
-    MutexGuard::unlocked_fair(&mut guard, || mutex.is_locked());
-    MutexGuard::unlock_fair(guard);
-    watch.saw(&[
-        Lock(Exclusive),
-        Bump(Exclusive),
-        Unlock(Exclusive),
-        IsLocked,
-        Lock(Exclusive),
-        UnlockFair(Exclusive),
-        IsLocked,
-        Lock(Exclusive),
-        UnlockFair(Exclusive),
-    ]);
-}
-
-/// All of these, on a mutex that is free before and after each.
-pub fn all_calls<R: RawMutexFair + RawMutexTimed<Duration = u64, Instant = u64>>(
+/// A guard that only names its mutex, and parts of the value.
+pub fn calls_of_parts<R: RawMutexFair>(
     alloc: Global,
     mutex: &Paired<R>,
     watch: &mut Watch,
 ) -> Result<(), Fail> {
-    acquisitions(mutex, watch);
-    calls_of_a_guard(mutex, watch);
+    let guard = mutex.lock();
+    MutexGuard::mutex(&guard);
+    watch.saw_hold(guard, Exclusive);
     mapped::maps(mutex, watch);
     mapped::texts(alloc, mutex, watch)?;
     mapped::uses_of_parts(mutex, watch);

@@ -1,6 +1,6 @@
-//! Questions about the holders of a lock, and refused upgrades.
-use lock_guard::raw::{RawRwLock, RawRwLockUpgradeDowngrade};
-use lock_rwlock::{RwLock, RwLockReadGuard, RwLockUpgradableReadGuard, RwLockWriteGuard};
+//! Refused upgrades.
+use lock_guard::raw::RawRwLockUpgradeDowngrade;
+use lock_rwlock::{RwLock, RwLockUpgradableReadGuard};
 use lock_test_support::answer::equal;
 use std::cell::Cell;
 use std::test::Fail;
@@ -23,20 +23,7 @@ fn refused<R: RawRwLockUpgradeDowngrade>(lock: &RwLock<R, u64>) -> (u64, u64, bo
     )
 }
 
-/// Whether the lock is held exclusively, by a reader and by a writer.
-fn is_exclusive<R: RawRwLock>(lock: &RwLock<R, u64>) -> (bool, bool) {
-    let reader = lock.read();
-    let by_reader = RwLockReadGuard::rwlock(&reader).is_locked_exclusive();
-    drop(reader);
-    let writer = lock.write();
-    (
-        by_reader,
-        RwLockWriteGuard::rwlock(&writer).is_locked_exclusive(),
-    )
-}
-
 /// The answers of a lock of 5.
 pub fn check<R: RawRwLockUpgradeDowngrade>(lock: &RwLock<R, u64>) -> Result<(), Fail> {
-    equal(is_exclusive(lock), (false, true))?;
     equal(refused(lock), (0, 5, true))
 }

@@ -80,32 +80,4 @@ impl Watch {
         *guard = value;
         self.saw_hold(guard, mode);
     }
-
-    /// The lock was acquired in the mode by a blocking call, by a try, by one for a time of 3, and by one until the
-    /// instant 4. It was released after each.
-    pub fn saw_acquisitions(&mut self, mode: Mode) {
-        self.saw(&[
-            RawCall::Lock(mode),
-            RawCall::Unlock(mode),
-            RawCall::TryLock(mode),
-            RawCall::Unlock(mode),
-            RawCall::TryLockFor(mode, 3),
-            RawCall::Unlock(mode),
-            RawCall::TryLockUntil(mode, 4),
-            RawCall::Unlock(mode),
-        ]);
-    }
-
-    /// The exclusive guard that was just acquired kept out a try in the mode, one for a time of 3, and one until the
-    /// instant 4. It is dropped.
-    pub fn saw_refused_tries<G: Drop>(&mut self, held: G, mode: Mode) {
-        self.saw(&[
-            RawCall::Lock(Mode::Exclusive),
-            RawCall::TryLock(mode),
-            RawCall::TryLockFor(mode, 3),
-            RawCall::TryLockUntil(mode, 4),
-        ]);
-        drop(held);
-        self.saw(&[RawCall::Unlock(Mode::Exclusive)]);
-    }
 }

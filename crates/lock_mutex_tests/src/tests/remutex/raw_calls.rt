@@ -1,19 +1,17 @@
-//! What the raw lock is asked, call by call.
-mod arc;
-mod borrowed;
+//! What the raw lock is asked where no script of `conform/` makes the call.
 mod levels;
 pub mod lies;
 mod mapped;
-mod raw;
 
 use super::texts;
+use lock_base::machine::Mode::Exclusive;
 use lock_base::machine::PartyId;
 use lock_base::raw::Fault;
-use lock_guard::raw::{RawMutex, RawMutexFair, RawMutexTimed};
-use lock_remutex::ReentrantMutex;
+use lock_guard::raw::{RawMutex, RawMutexFair};
+use lock_remutex::{ArcReentrantMutexGuard, ReentrantMutex};
+use lock_test_support::party;
 use lock_test_support::project::Nested;
 use lock_test_support::raw_lock::{MockRaw, Watch};
-use lock_test_support::{party, two_parties};
 use std::alloc::Global;
 use std::sync::Arc;
 use std::test::Fail;
@@ -21,50 +19,40 @@ use std::test::Fail;
 /// A pair in a pair behind a lock.
 type Paired<R> = ReentrantMutex<R, Nested>;
 
-/// What guards ask that borrow the lock, which is free before and after each matter.
-fn calls_by_a_borrow<R: RawMutexFair + RawMutexTimed<Duration = u64, Instant = u64>>(
+/// What mapped guards ask, of a lock that is free before and after each matter.
+fn calls_by_a_borrow<R: RawMutexFair>(
     lock: &Paired<R>,
     watch: &mut Watch,
-    parties: (PartyId, PartyId),
+    one: PartyId,
 ) -> Result<(), Fault>
 where
     R::Guard: Drop,
 {
-    let (one, two) = parties;
-    borrowed::acquisitions(lock, watch, one);
-    borrowed::calls_of_a_guard(lock, watch, one)?;
-    borrowed::tries_of_another(lock, watch, one, two)?;
-    levels::acquisitions(lock, watch, one)?;
-    levels::calls_of_a_guard(lock, watch, one)?;
-    levels::ends(lock, watch, one)?;
     mapped::maps(lock, watch, one)?;
+    mapped::inner_map(lock, watch, one)?;
     mapped::misses(lock, watch, one)?;
     Ok(())
 }
 
-/// What guards ask that keep the lock alive, and texts of it.
-fn calls_by_an_arc<R: RawMutexFair + RawMutexTimed<Duration = u64, Instant = u64> + Drop>(
+/// What a guard asks that keeps the lock alive, and texts of it.
+fn calls_by_an_arc<R: RawMutexFair + Drop>(
     alloc: Global,
     lock: &Arc<ReentrantMutex<R, u64>>,
     watch: &mut Watch,
-    parties: (PartyId, PartyId),
+    one: PartyId,
 ) -> Result<(), Fail>
 where
     R::Guard: Drop,
 {
-    let (one, two) = parties;
     texts::check(alloc, lock, one)?;
     watch.saw(&texts::RAW_CALLS);
-    arc::acquisitions(lock, watch, one);
-    arc::calls_of_a_guard(lock, watch, one)?;
-    arc::ends_of_guards(lock, watch, one)?;
-    arc::acquisitions_of_the_owner(lock, watch, one)?;
-    arc::calls_of_an_inner_guard(lock, watch, one)?;
-    arc::tries_of_another(lock, watch, one, two)?;
+    let guard = ReentrantMutex::lock_arc(lock, one)?;
+    ArcReentrantMutexGuard::remutex(&guard);
+    watch.saw_hold(guard, Exclusive);
     Ok(())
 }
 
-/// What guards ask that borrow a lock, what the calls ask that end one, and what its raw lock's levels ask alone.
+/// What guards ask that borrow a lock, and what the calls ask that end one.
 fn all_calls_by_a_borrow<R: RawMutexFair + Drop>(
     alloc: Global,
     waiter: R::Waiter,
@@ -72,16 +60,14 @@ fn all_calls_by_a_borrow<R: RawMutexFair + Drop>(
 where
     R::Guard: Send + Drop,
 {
-    let (one, two) = two_parties()?;
     let raw: MockRaw<R> = RawMutex::new(alloc, waiter)?;
     let mut watch = Watch::new(raw.calls()?);
     let mut lock = ReentrantMutex::from_raw(raw, ((0, 0), 0))?;
-    calls_by_a_borrow(&lock, &mut watch, (one, two))?;
+    calls_by_a_borrow(&lock, &mut watch, party(1)?)?;
     *lock.get_mut() = ((5, 2), 0);
     let (raw, value) = lock.into_inner_with_raw();
-    let lock = ReentrantMutex::from_raw(raw, value)?;
+    ReentrantMutex::from_raw(raw, value)?.into_inner();
     watch.saw(&[]);
-    raw::all_calls(lock.into_inner_with_raw().0, &mut watch, one, two)?;
     watch.verdict()
 }
 
@@ -93,7 +79,7 @@ where
     let raw: MockRaw<R> = RawMutex::new(alloc, waiter)?;
     let mut watch = Watch::new(raw.calls()?);
     let lock = Arc::new(alloc, ReentrantMutex::from_raw(raw, 5)?)?;
-    calls_by_an_arc(alloc, &lock, &mut watch, two_parties()?)?;
+    calls_by_an_arc(alloc, &lock, &mut watch, party(1)?)?;
     drop(lock);
     watch.saw(&[]);
     watch.verdict()

@@ -1,38 +1,10 @@
-//! What the raw lock is asked by what it refuses.
-use super::{Paired, tried_upgrades};
+//! What a raw lock is asked that refuses every try.
 use lock_base::machine::Mode::{Exclusive, Shared, Upgradable};
-use lock_guard::raw::{
-    RawRwLock, RawRwLockUpgrade, RawRwLockUpgradeDowngrade, RawRwLockUpgradeTimed,
-};
+use lock_guard::raw::{RawRwLock, RawRwLockUpgrade};
 use lock_rwlock::{RwLock, RwLockUpgradableReadGuard};
-use lock_test_support::raw_lock::RawCall::{
-    Lock, TryLock, TryUpgrade, TryUpgradeFor, TryUpgradeUntil, Unlock,
-};
+use lock_test_support::raw_lock::RawCall::{Lock, TryLock, TryUpgrade, Unlock};
 use lock_test_support::raw_lock::{AdmitsAll, Watch};
 use std::test::Fail;
-
-/// Upgrades, and calls under them, beside a reader. The calls are not made.
-pub fn upgrades<
-    R: RawRwLockUpgradeTimed<Duration = u64, Instant = u64> + RawRwLockUpgradeDowngrade,
->(lock: &Paired<R>, watch: &mut Watch) {
-    let reader = lock.read();
-    watch.saw(&[Lock(Shared)]);
-    tried_upgrades(lock, Upgradable, watch);
-    let mut guard = lock.upgradable_read();
-    guard.try_with_upgraded(|_| lock.is_locked());
-    guard.try_with_upgraded_for(3, |_| lock.is_locked());
-    guard.try_with_upgraded_until(4, |_| lock.is_locked());
-    drop(guard);
-    drop(reader);
-    watch.saw(&[
-        Lock(Upgradable),
-        TryUpgrade,
-        TryUpgradeFor(3),
-        TryUpgradeUntil(4),
-        Unlock(Upgradable),
-        Unlock(Shared),
-    ]);
-}
 
 /// Which tries are refused, that to upgrade among them.
 fn refused<R: RawRwLockUpgrade>(lock: &RwLock<R, u64>) -> [bool; 4] {

@@ -73,6 +73,22 @@ where
     Ok(())
 }
 
+/// A guard beside another, which asks nothing.
+pub fn inner_map<R: RawMutex>(
+    lock: &Paired<R>,
+    watch: &mut Watch,
+    party: PartyId,
+) -> Result<(), Fault>
+where
+    R::Guard: Drop,
+{
+    let outer = lock.lock(party)?;
+    ReentrantMutexGuard::remutex(&outer);
+    ReentrantMutexGuard::map(lock.lock(party)?, Item0);
+    watch.saw_hold(outer, Exclusive);
+    Ok(())
+}
+
 /// By a part that is not there.
 pub fn misses<R: RawMutex>(lock: &Paired<R>, watch: &mut Watch, party: PartyId) -> Result<(), Fault>
 where
