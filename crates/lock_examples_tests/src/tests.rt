@@ -1,3 +1,4 @@
+mod conform;
 mod desk;
 mod first_lock;
 mod in_threads;

@@ -1,0 +1,34 @@
+//! The raw lock that spins, tested by a script.
+use lock_api::RawMutex;
+use lock_conform::{ParkBy, run_mutex};
+use lock_examples::SpinLock;
+use lock_script::parse;
+use std::test::Fail;
+
+/// Two parties acquire, change the value, park and release.
+const SCRIPT: &str = "mutex 2 1 2
+lock 1
+try_lock 2
+lock 2
+add 1 1 0 5
+park 1 1
+try_lock_for 2
+get 2 2 0
+unlock_fair 2 2
+resume 1 1
+bump 1 1
+unlock 1 1
+is_locked
+";
+
+#[test]
+fn a_spin_lock_answers_as_the_desk(rt: HostRuntime) -> Result<(), Fail> {
+    for park_by in [ParkBy::Release, ParkBy::Unlocked] {
+        let raw: SpinLock<HostRuntime> = RawMutex::new(rt.alloc(), rt)?;
+        let script = parse(rt.alloc(), SCRIPT.as_bytes())?;
+        let report = run_mutex(rt.alloc(), raw, script, park_by)?;
+        assert_eq!(rt; report.difference, None);
+        assert_eq!(rt; report.entries.len(), 12);
+    }
+    Ok(())
+}
