@@ -1,8 +1,7 @@
 //! The raw lock that spins, tested by a script.
 use lock_api::RawMutex;
-use lock_conform::{ParkBy, run_mutex};
+use lock_conform::{ParkBy, PlainRaw, parse, run_mutex};
 use lock_examples::SpinLock;
-use lock_script::parse;
 use std::test::Fail;
 
 /// Two parties acquire, change the value, park and release.
@@ -26,7 +25,7 @@ fn a_spin_lock_answers_as_the_desk(rt: HostRuntime) -> Result<(), Fail> {
     for park_by in [ParkBy::Release, ParkBy::Unlocked] {
         let raw: SpinLock<HostRuntime> = RawMutex::new(rt.alloc(), rt)?;
         let script = parse(rt.alloc(), SCRIPT.as_bytes())?;
-        let report = run_mutex(rt.alloc(), raw, script, park_by)?;
+        let report = run_mutex(rt.alloc(), PlainRaw::over(raw), script, park_by)?;
         assert_eq!(rt; report.difference, None);
         assert_eq!(rt; report.entries.len(), 12);
     }
