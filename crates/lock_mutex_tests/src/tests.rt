@@ -39,7 +39,6 @@ fn answers<R: RawMutexFair + RawMutexTimed<Duration = (), Instant = ()> + Drop>(
     makers::check::<R>(alloc, first, second)?;
     let mutex: Mutex<R, u64> = Mutex::new(alloc, third, 5)?;
     texts::check(alloc, &mutex)?;
-    order::check(&mutex)?;
     let mutex: Mutex<R, i64> = Mutex::new(alloc, last, 0)?;
     arc::check(&Arc::new(alloc, mutex)?)
 }

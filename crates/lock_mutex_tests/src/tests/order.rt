@@ -1,10 +1,9 @@
 //! The order in which a mutex locks and unlocks its raw lock and the value's lock.
 mod patient;
 
-use lock_guard::raw::{RawMutex, RawMutexFair};
+use lock_guard::raw::RawMutex;
 use lock_mutex::{Condvar, Mutex, MutexGuard};
 use lock_raws::SpuriousCondvar;
-use lock_test_support::answer::equal;
 use lock_test_support::raw_lock::{AdmitsAll, Calls};
 use lock_test_support::wait_for_flag;
 use patient::Patient;
@@ -22,26 +21,6 @@ fn wait_for_calls<W: Wait>(waiter: &W, calls: &Calls, count: usize) {
         thread::yield_now();
     }
     unreachable!()
-}
-
-/// Adds 1 to the value.
-fn count_up<R: RawMutex>(mutex: &Mutex<R, u64>) {
-    let mut guard = mutex.lock();
-    *guard = guard.wrapping_add(1);
-}
-
-/// Adds 1 while a guard is unlocked, plainly and fairly, and then reads.
-fn count_while_unlocked<R: RawMutexFair>(mutex: &Mutex<R, u64>) -> u64 {
-    let mut guard = mutex.lock();
-    *guard = 6;
-    MutexGuard::unlocked(&mut guard, || count_up(mutex));
-    MutexGuard::unlocked_fair(&mut guard, || count_up(mutex));
-    *guard
-}
-
-/// It ends only if nothing is held while the closures run.
-pub fn check<R: RawMutexFair>(mutex: &Mutex<R, u64>) -> Result<(), Fail> {
-    equal(count_while_unlocked(mutex), 8)
 }
 
 /// Once the raw lock got this many calls, holds the value's lock until two more came, and then adds 5.

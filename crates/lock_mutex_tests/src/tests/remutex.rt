@@ -19,7 +19,7 @@ use std::process::Abort;
 use std::test::Fail;
 
 /// The permissions to block: for owners, for makers, and for the rest.
-type Waiters<W> = ([W; 3], ([W; 3], [W; 4], [W; 4]), [W; 3]);
+type Waiters<W> = ([W; 2], ([W; 3], [W; 4], [W; 4]), [W; 3]);
 
 /// The answers of a reentrant lock on one thread, of its guards, and of its `Arc` guards.
 fn answers<R: RawMutexFair + RawMutexTimed<Duration = (), Instant = ()> + Drop>(
@@ -56,7 +56,7 @@ where
 /// One test: each function that names the raw lock would have to be proved anew.
 #[test]
 fn answers_and_calls_on_one_thread(rt: HostRuntime) -> Result<(), Fail> {
-    let of_answers = ([rt; 3], ([rt; 3], [rt; 4], [rt; 4]), [rt; 3]);
+    let of_answers = ([rt; 2], ([rt; 3], [rt; 4], [rt; 4]), [rt; 3]);
     let waiters = (of_answers, [rt; 4], [rt; 3]);
     answers_and_calls::<Table>(&rt, rt.alloc(), waiters)
 }

@@ -2,7 +2,7 @@
 use lock_base::machine::PartyId;
 use lock_base::raw::Fault;
 use lock_guard::raw::{RawMutex, RawMutexFair, RawMutexTimed};
-use lock_remutex::{RawReentrantMutex, ReentrantMutex, ReentrantMutexGuard};
+use lock_remutex::{RawReentrantMutex, ReentrantMutex};
 use lock_test_support::answer::equal;
 use lock_test_support::raw_lock::AdmitsAll;
 use lock_test_support::two_parties;
@@ -36,43 +36,6 @@ where
         is_given(lock.try_lock_for(party, ())),
         is_given(lock.try_lock_until(party, ())),
     ]
-}
-
-/// The party's tries while the owner has a level, and whether the party owns the lock then.
-fn beside_owner<R: RawMutexTimed<Duration = (), Instant = ()>>(
-    lock: &ReentrantMutex<R, u8>,
-    owner: PartyId,
-    party: PartyId,
-) -> Result<(Tries, bool), Fault>
-where
-    R::Guard: Drop,
-{
-    let guard = lock.lock(owner)?;
-    let tried = tries(lock, party);
-    Ok((
-        tried,
-        ReentrantMutexGuard::remutex(&guard).is_owned_by_current_thread(party),
-    ))
-}
-
-fn others_beside_an_owner<R: RawMutexTimed<Duration = (), Instant = ()> + Drop>(
-    alloc: Global,
-    waiter: R::Waiter,
-) -> Result<(), Fail>
-where
-    R::Guard: Send + Drop,
-{
-    let (first, second) = two_parties()?;
-    let lock: ReentrantMutex<R, u8> = ReentrantMutex::new(alloc, waiter, 5)?;
-    equal(beside_owner(&lock, first, first)?, (GIVEN, true))?;
-    equal(beside_owner(&lock, first, second)?, (NOT_GIVEN, false))?;
-    equal(beside_owner(&lock, second, first)?, (NOT_GIVEN, false))?;
-    equal(beside_owner(&lock, second, second)?, (GIVEN, true))?;
-    let tried = tries(&lock, second);
-    equal(
-        (tried, lock.is_owned_by_current_thread(second)),
-        (GIVEN, false),
-    )
 }
 
 /// The refusal of a third level by `lock`, the tries of the owner and of another party at two levels, and the owner's
@@ -151,18 +114,17 @@ where
     equal(lefts, wanted)
 }
 
-/// Other parties are refused while one owns the lock, a full count is refused, and only the owner releases.
+/// A full count is refused, and only the owner releases.
 pub fn check<R: RawMutexFair + RawMutexTimed<Duration = (), Instant = ()> + Drop>(
     alloc: Global,
-    waiters: [R::Waiter; 3],
+    waiters: [R::Waiter; 2],
 ) -> Result<(), Fail>
 where
     R::Guard: Send + Drop,
 {
-    let [first, second, third] = waiters;
-    others_beside_an_owner::<R>(alloc, first)?;
-    full_count::<R>(alloc, second)?;
-    left_by_its_owner::<R>(alloc, third)
+    let [first, second] = waiters;
+    full_count::<R>(alloc, first)?;
+    left_by_its_owner::<R>(alloc, second)
 }
 
 /// Whether another party acquires the owner's lock, and whether the owner still owns it, afterwards and after a bump.
