@@ -57,6 +57,11 @@ pub use Rattle.lock_wake.specs.WakeSeats
 pub use Rattle.lock_wake.specs.Acquisitions
 pub use Rattle.lock_ruled.specs.Ruled
 pub use Rattle.lock_ruled.specs.Slots
+pub use Rattle.lock_ruled.specs.EachView
+pub use Rattle.lock_ruled.specs.Ledger
+pub use Rattle.lock_ruled.specs.Tally
+pub use Rattle.lock_ruled.specs.Bounds
+pub use Rattle.lock_semaphore.specs.Permits
 pub use Rattle.lock_desk.specs.Closures
 pub use Rattle.lock_mutex.specs.Mutex
 pub use Rattle.lock_mutex.specs.MutexGuard

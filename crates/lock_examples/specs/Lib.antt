@@ -2,5 +2,4 @@ pub mod Account
 pub mod Line
 pub mod Logs
 pub mod Pool
-pub mod Sums
 pub mod Words

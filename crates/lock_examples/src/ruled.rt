@@ -1,8 +1,10 @@
-//! Programs whose threads share a value, with proved results: a counter, a bank and a queue.
+//! Programs whose threads share a value, with proved results: a counter, a bank, a queue and a semaphore.
 mod bank;
 mod counter;
 mod queue;
+mod workers;
 
-pub use bank::{Accounts, Direction, SumStays, shuffle};
-pub use counter::{AddedUp, AddsOne, Counter, Sums, count, try_add};
+pub use bank::{Accounts, Direction, Sum, shuffle};
+pub use counter::{Added, Counter, count, try_add};
 pub use queue::{InOrder, Log, Role, relay};
+pub use workers::{permits_after, work_in_turns};

@@ -2,7 +2,7 @@
 ghost use Rattle.std.specs.Prelude.{◌≡◌, ◌+◌, ◌^◌, ◌<◌, IfOk};
 ghost use Rattle.std.specs.Thread.{IsSync};
 
-use lock_api::{Fault, Join, MutexRule, RuledMutex, Split, User, ViewUpdate};
+use lock_api::{Constant, Fault, Measure, RuledMutex, SameView, User};
 use std::alloc::Global;
 use std::sync::Wait;
 use std::thread::{Threads, join};
@@ -42,43 +42,20 @@ impl Accounts {
     }
 }
 
-/// The rule: the sum of both accounts stays. A user's view is that sum.
-pub struct SumStays;
+/// The measure of the accounts: what is on both.
+pub struct Sum;
 
-impl MutexRule<Accounts, u64> for SumStays {
+impl Measure<Accounts> for Sum {
     ghost use Rattle.std.specs.Prelude.{◌+◌};
-    ghost use Rattle.lock_examples.specs.Sums.{AllAre};
 
-    ghost rule = { λ accounts sums. AllAre (accounts.left + accounts.right) sums };
-
-    ghost first = { λ accounts. accounts.left + accounts.right };
+    ghost measure = { λ accounts. accounts.left + accounts.right };
 }
 
-/// The view stays.
-struct SameSum;
-
-impl ViewUpdate<Accounts, u64> for SameSum {
-    ghost next = { λ taken sum accounts. sum };
-}
-
-impl Split<u64> for SameSum {
-    ghost left = { λ sum. sum };
-
-    ghost right = { λ sum. sum };
-}
-
-impl Join<u64> for SameSum {
-    ghost both = { λ sum other. sum };
-
-    ghost spent = { 0 };
-}
-
-type Bank = RuledMutex<Accounts, u64, SumStays>;
+type Bank = RuledMutex<Accounts, u64, Constant<Sum>>;
 
 type Teller = User<Accounts, u64>;
 
 /// Makes each transfer that is possible, one after another.
-#[tactic(auto, using(crate::proofs::Tellers::sum_known, crate::proofs::Tellers::sum_stays))]
 fn transfer_all<R: Wait>(
     rt: &R,
     bank: &Bank,
@@ -93,14 +70,14 @@ fn transfer_all<R: Wait>(
     let mut teller = teller;
     for amount in amounts {
         let mut accounts = bank.lock(rt, teller);
+        bank.known(&accounts);
         *accounts = accounts.transfer(way, *amount);
-        teller = bank.unlock::<SameSum>(accounts);
+        teller = bank.unlock_ready::<SameView>(accounts);
     }
     teller
 }
 
 /// Returns the accounts after two threads have made the transfers, one to the right and one to the left.
-#[tactic(auto, using(crate::proofs::Tellers::splits, crate::proofs::Tellers::joins))]
 pub fn shuffle<R: Threads + Wait + Sync>(
     rt: &R,
     alloc: Global,
@@ -113,7 +90,7 @@ pub fn shuffle<R: Threads + Wait + Sync>(
 {
     let (bank, teller) = Bank::new(alloc, accounts)?;
     let shared = &bank;
-    let (teller, other) = bank.split::<SameSum>(teller);
+    let (teller, other) = bank.split_ready::<SameView>(teller);
     let (teller, other) = join(
         rt,
         move || -> Teller
@@ -125,6 +102,6 @@ pub fn shuffle<R: Threads + Wait + Sync>(
             ensures { result ≡ other }
         { transfer_all(rt, shared, other, Direction::ToLeft, to_left) },
     );
-    let teller = bank.join::<SameSum>(teller, other);
-    Ok(bank.into_inner(teller))
+    let teller = bank.join_ready::<SameView>(teller, other);
+    Ok(bank.into_inner_ready(teller))
 }
