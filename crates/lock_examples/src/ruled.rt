@@ -2,9 +2,11 @@
 mod bank;
 mod counter;
 mod queue;
+mod tickets;
 mod workers;
 
 pub use bank::{Accounts, Direction, Sum, shuffle};
 pub use counter::{Added, Counter, count, try_add};
 pub use queue::{InOrder, Log, Role, relay};
+pub use tickets::{TicketBox, Tickets, put_ticket, take_ticket};
 pub use workers::{permits_after, work_in_turns};
