@@ -1,0 +1,4 @@
+pub mod Rows
+pub mod Stands
+pub mod Simulation
+pub mod Tables

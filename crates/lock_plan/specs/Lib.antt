@@ -1,0 +1,5 @@
+pub mod Holds
+pub mod Checks
+pub mod Worlds
+pub mod Points
+pub mod Below
