@@ -2,6 +2,7 @@ mod conform;
 mod desk;
 mod first_lock;
 mod in_threads;
+mod permits;
 mod pool;
 mod queue;
 mod registry;

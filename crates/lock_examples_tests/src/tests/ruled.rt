@@ -1,7 +1,7 @@
 //! The programs under a rule run, and give what their contracts say.
 
-use lock_api::Fault;
-use lock_examples::ruled::{Accounts, AddsOne, Counter, Sums, count, relay, shuffle, try_add};
+use lock_api::{AddsOne, Fault, Sums};
+use lock_examples::ruled::{Accounts, Counter, count, permits_after, relay, shuffle, try_add};
 use std::test::Fail;
 
 #[test]
@@ -29,6 +29,13 @@ fn money_stays(rt: HostRuntime) -> Result<(), Fail> {
 }
 
 #[test]
+fn workers_give_all_permits_back(rt: HostRuntime) -> Result<(), Fail> {
+    assert!(rt; permits_after(&rt, rt.alloc(), 3, 2, 2_000)? == 3);
+    assert!(rt; permits_after(&rt, rt.alloc(), 1, 1, 2_000)? == 1);
+    Ok(())
+}
+
+#[test]
 fn items_come_in_order(rt: HostRuntime) -> Result<(), Fail> {
     let mut items = Vec::new(rt.alloc());
     for item in 0..500u32 {
@@ -42,19 +49,19 @@ fn items_come_in_order(rt: HostRuntime) -> Result<(), Fail> {
 #[test]
 fn try_adds_nothing_while_value_is_out(rt: HostRuntime) -> Result<(), Fail> {
     let (counter, user) = Counter::new(rt.alloc(), 7)?;
-    let (first, second) = counter.split::<Sums>(user);
+    let (first, second) = counter.split_ready::<Sums>(user);
     let mut value = counter.lock(&rt, first);
     let second = match try_add(&counter, second) {
         Ok(_) => panic!(rt; "the value was out"),
         Err(second) => second,
     };
     *value = value.wrapping_add(1);
-    let first = counter.unlock::<AddsOne>(value);
+    let first = counter.unlock_ready::<AddsOne>(value);
     let second = match try_add(&counter, second) {
         Ok(second) => second,
         Err(_) => panic!(rt; "the value was at home"),
     };
-    let user = counter.join::<Sums>(second, first);
+    let user = counter.join_ready::<Sums>(second, first);
     assert!(rt; counter.into_inner(user) == 9);
     Ok(())
 }

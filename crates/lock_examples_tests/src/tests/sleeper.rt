@@ -2,22 +2,21 @@
 ghost use Rattle.std.specs.Prelude.{◌≡◌};
 ghost use Rattle.std.specs.Thread.{IsSync};
 
-use lock_api::User;
-use lock_examples::ruled::{AddsOne, Counter, Sums};
+use lock_api::{AddsOne, Sums, User};
+use lock_examples::ruled::Counter;
 use std::sync::Wait;
 use std::test::Fail;
 use std::thread::{Threads, join};
 use std::time::{Clock, Duration};
 
 /// Adds one, and releases the mutex a while later.
-#[tactic(auto, using(crate::proofs::Additions::adds_one))]
 fn add_slowly<R: Wait + Clock>(rt: &R, counter: &Counter, user: User<u64, u64>)
     requires { user.mutex ≡ counter.now }
 {
     let mut value = counter.lock(rt, user);
     rt.sleep(Duration::from_millis(200));
     *value = value.wrapping_add(1);
-    drop(counter.unlock::<AddsOne>(value));
+    drop(counter.unlock_ready::<AddsOne>(value));
 }
 
 /// Two users add, each on a thread.
@@ -67,8 +66,8 @@ fn add_beside_two<R: Threads + Wait + Clock + Sync>(
 #[test]
 fn each_that_sleeps_is_woken(rt: HostRuntime) -> Result<(), Fail> {
     let (counter, user) = Counter::new(rt.alloc(), 0)?;
-    let (first, second) = counter.split::<Sums>(user);
-    let (first, third) = counter.split::<Sums>(first);
+    let (first, second) = counter.split_ready::<Sums>(user);
+    let (first, third) = counter.split_ready::<Sums>(first);
     add_beside_two(&rt, &counter, (first, second), third);
     Ok(())
 }
