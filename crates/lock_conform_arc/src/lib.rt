@@ -1,0 +1,10 @@
+//! Scripts of calls, made on the shared locks by guards that own a reference to their lock.
+#![tactic(auto)]
+
+mod mutex;
+mod reentrant;
+mod rwlock;
+
+pub use mutex::run_arc_mutex;
+pub use reentrant::run_arc_reentrant;
+pub use rwlock::run_arc_rwlock;

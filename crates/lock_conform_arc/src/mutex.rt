@@ -1,0 +1,157 @@
+//! A mutex by guards that own a reference to it.
+ghost use Rattle.std.specs.Prelude.{◌≡◌, ◌↔◌, IsTrue, IfOk, IfErr};
+ghost use Rattle.lock_script.specs.Session.{HasLimits, replies_to};
+ghost use Rattle.lock_conform.specs.Makers.{IsRunFault, is_mutex};
+ghost use Rattle.lock_conform.specs.Reports.{IsReport};
+
+use lock_base::machine::{Form, PartyId, Want, Way};
+use lock_base::raw::Fault;
+use lock_conform::{Deadline, Driven, Lines, ParkBy, Recorder, Report, ask, change, run_on};
+use lock_guard::raw::{RawMutex, RawMutexFair, RawMutexTimed};
+use lock_mutex::{ArcMutexGuard, Mutex};
+use lock_script::{DeskScript, Maker, Pair, PairOp};
+use std::alloc::Global;
+use std::sync::Arc;
+
+/// Runs a script of a mutex over the raw lock, by guards that own a reference to the lock.
+pub fn run_arc_mutex<R>(
+    alloc: Global,
+    raw: R,
+    script: DeskScript,
+    park_by: ParkBy,
+) -> Result<Report, Fault>
+where
+    R: RawMutexFair + RawMutexTimed + Drop,
+    R::Duration: Default,
+    R::Instant: Deadline<R::Waiter>,
+    ensures kind { (result ≡ Err Fault.WrongKind) ↔ ¬ IsTrue (is_mutex script.maker) }
+    ensures limits { (result ≡ Err Fault.BadLimits) ↔ (IsTrue (is_mutex script.maker) × ¬ HasLimits script.maker) }
+    ensures fault { IfErr result IsRunFault }
+    ensures report { IfOk result
+        (IsReport script.calls.items (replies_to script.maker script.calls.items)) }
+{
+    let Maker::Mutex(_, pair) = script.maker else {
+        return Err(Fault::WrongKind);
+    };
+    let lines = Lines::of_script(alloc, script)?;
+    let raw = Recorder::over(alloc, raw)?;
+    let log = raw.log()?;
+    let lock = Mutex::from_raw(raw, pair)?;
+    let Ok(lock) = Arc::new(alloc, lock) else {
+        return Err(Fault::OutOfMemory);
+    };
+    let report = run_on(alloc, &OwningMutex { lock }, log, lines, park_by)?;
+    Ok(report)
+}
+
+/// A mutex by guards that own a reference to it.
+#[derive(Drop)]
+struct OwningMutex<R: RawMutex + Drop> {
+    lock: Arc<Mutex<R, Pair>>,
+}
+
+impl<R> Driven for OwningMutex<R>
+where
+    R: RawMutexFair + RawMutexTimed<Duration = (), Instant = ()> + Drop,
+{
+    type Guard = ArcMutexGuard<R, Pair>;
+
+    fn acquire(&self, _want: Want, form: Form, _party: PartyId) -> Option<ArcMutexGuard<R, Pair>> {
+        match form {
+            Form::Block => Mutex::lock_arc(&self.lock).ok(),
+            Form::Try => Mutex::try_lock_arc(&self.lock).ok()?,
+            Form::For => Mutex::try_lock_arc_for(&self.lock, ()).ok()?,
+            Form::Until => Mutex::try_lock_arc_until(&self.lock, ()).ok()?,
+        }
+    }
+
+    fn want(&self, _guard: &ArcMutexGuard<R, Pair>) -> Want {
+        Want::Lock
+    }
+
+    fn release(&self, guard: ArcMutexGuard<R, Pair>, way: Way) {
+        match way {
+            Way::Plain => drop(guard),
+            Way::Fair => ArcMutexGuard::unlock_fair(guard),
+            Way::IntoArc => drop(ArcMutexGuard::into_arc(guard)),
+            Way::IntoArcFair => drop(ArcMutexGuard::into_arc_fair(guard)),
+        }
+    }
+
+    fn bump(&self, guard: ArcMutexGuard<R, Pair>) -> ArcMutexGuard<R, Pair> {
+        let mut guard = guard;
+        ArcMutexGuard::bump(&mut guard);
+        guard
+    }
+
+    fn unlocked<U, F: FnOnce() -> U>(
+        &self,
+        guard: ArcMutexGuard<R, Pair>,
+        is_fair: bool,
+        f: F,
+    ) -> (ArcMutexGuard<R, Pair>, U) {
+        let mut guard = guard;
+        let done = if is_fair {
+            ArcMutexGuard::unlocked_fair(&mut guard, f)
+        } else {
+            ArcMutexGuard::unlocked(&mut guard, f)
+        };
+        (guard, done)
+    }
+
+    fn upgrade(
+        &self,
+        _form: Form,
+        guard: ArcMutexGuard<R, Pair>,
+    ) -> (ArcMutexGuard<R, Pair>, bool) {
+        (guard, false)
+    }
+
+    fn downgrade(&self, guard: ArcMutexGuard<R, Pair>) -> ArcMutexGuard<R, Pair> {
+        guard
+    }
+
+    fn downgrade_to_upgradable(&self, guard: ArcMutexGuard<R, Pair>) -> ArcMutexGuard<R, Pair> {
+        guard
+    }
+
+    fn with_upgraded(
+        &self,
+        _form: Form,
+        guard: ArcMutexGuard<R, Pair>,
+        _operation: PairOp,
+    ) -> (ArcMutexGuard<R, Pair>, Option<Option<i64>>) {
+        (guard, None)
+    }
+
+    fn get(
+        &self,
+        guard: ArcMutexGuard<R, Pair>,
+        operation: PairOp,
+    ) -> (ArcMutexGuard<R, Pair>, Option<i64>) {
+        let item = ArcMutexGuard::with(&guard, |pair: &Pair| ask(operation, pair));
+        (guard, item)
+    }
+
+    fn change(
+        &self,
+        guard: ArcMutexGuard<R, Pair>,
+        operation: PairOp,
+    ) -> (ArcMutexGuard<R, Pair>, Option<i64>) {
+        let mut guard = guard;
+        let item = ArcMutexGuard::with_mut(&mut guard, |pair: &mut Pair| change(operation, pair));
+        (guard, item)
+    }
+
+    fn is_locked(&self) -> bool {
+        self.lock.is_locked()
+    }
+
+    fn is_locked_exclusive(&self) -> bool {
+        self.lock.is_locked()
+    }
+
+    fn is_owned_by(&self, _party: PartyId) -> bool {
+        false
+    }
+}
