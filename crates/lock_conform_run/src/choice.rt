@@ -1,0 +1,62 @@
+//! The words after the program's name.
+ghost use Rattle.std.specs.Prelude.{◌≡◌, ◌≢◌, IfNone, IfSome};
+
+use crate::words::{are_options, has};
+use lock_conform::ParkBy;
+
+/// A raw lock.
+#[derive(Clone, Copy, PartialEq, Eq, Debug)]
+pub enum RawChoice {
+    Word,
+    Table,
+    Timed,
+    Recording,
+}
+
+/// How a script is run.
+#[derive(Clone, Copy, PartialEq, Eq, Debug)]
+pub struct Choice {
+    pub raw: RawChoice,
+    pub park_by: ParkBy,
+    pub is_arc: bool,
+    pub prints_calls: bool,
+}
+
+impl Choice {
+    /// Returns what the words choose, or `None` for the usage line.
+    pub fn of_words(words: &[String]) -> Option<Choice> {
+        let (first, options) = words.split_first()?;
+        let raw = RawChoice::of_word(first.as_str())?;
+        if !are_options(options) {
+            return None;
+        }
+        Some(Choice {
+            raw,
+            park_by: if has(options, "within") {
+                ParkBy::Unlocked
+            } else {
+                ParkBy::Release
+            },
+            is_arc: has(options, "arc"),
+            prints_calls: has(options, "calls"),
+        })
+    }
+}
+
+impl RawChoice {
+    ghost use Rattle.lock_conform_run.specs.Choices.{raw_word};
+
+    /// Returns the raw lock of a word.
+    fn of_word(word: &str) -> Option<RawChoice>
+        ensures some { IfSome result (λ raw. word.now ≡ raw_word raw) }
+        ensures none { IfNone result ((raw : RawChoice) → word.now ≢ raw_word raw) }
+    {
+        match word {
+            "word" => Some(RawChoice::Word),
+            "table" => Some(RawChoice::Table),
+            "timed" => Some(RawChoice::Timed),
+            "recording" => Some(RawChoice::Recording),
+            _ => None,
+        }
+    }
+}

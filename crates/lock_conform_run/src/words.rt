@@ -1,0 +1,23 @@
+//! Lists of words.
+ghost use Rattle.std.specs.Prelude.{◌↔◌, IsTrue};
+ghost use Rattle.lock_conform_run.specs.Choices.{IsOption};
+
+/// Returns whether the word is among the words.
+pub fn has(words: &[String], word: &str) -> bool {
+    words.iter().any(|it| it.as_str() == word)
+}
+
+/// Returns whether each word is an option.
+pub fn are_options(words: &[String]) -> bool {
+    words.iter().all(|it| is_option(it.as_str()))
+}
+
+/// Returns whether the word is an option.
+fn is_option(word: &str) -> bool
+    ensures { IsTrue result ↔ IsOption word.now }
+{
+    match word {
+        "within" | "arc" | "calls" => true,
+        _ => false,
+    }
+}
