@@ -73,7 +73,7 @@ where
     Ok(())
 }
 
-/// A guard beside another, which asks nothing.
+/// An inner guard makes no raw call.
 pub fn inner_map<R: RawMutex>(
     lock: &Paired<R>,
     watch: &mut Watch,
