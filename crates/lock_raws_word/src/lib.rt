@@ -7,7 +7,6 @@ mod timing;
 mod word_core;
 mod word_lock;
 
-pub use lock_sleepers::{Sleepers, time_left};
 pub use real_time::{RealTime, TimedCondvar, TimedRaw};
 pub use sleeping_condvar::SleepingCondvar;
 pub use timing::{NoTime, Timing};

@@ -20,6 +20,7 @@ use Rattle.lock_word.specs.Word.{guards_of_word, word_admits, word_after, amount
 use Rattle.lock_word.specs.Rule.{KeepsRule, held_by_all}
 use Rattle.lock_word.proofs.Words.{parts_of_word}
 use Rattle.lock_word.proofs.Bars.{announced_shows, bar_of_rule}
+use Rattle.lock_word.proofs.Distinct.{same_exchange, same_take}
 use Rattle.lock_word.proofs.Guards.{GainsNoneOrUnbarred, guards_of_exchange, guards_of_take}
 use Rattle.lock_word.proofs.Rules.{keeps_load, keeps_lost, keeps_exchange, keeps_take, keeps_newcomer, amount_within, part_of_parties, shows, fails_bounded}
 use Rattle.lock_seated.specs.declared.rule.SeatView.{SeatView}
@@ -93,22 +94,23 @@ loads limit slots id me s kept same at small =
       ),
     )
 
-pub exchanges : (limit slots id : ℕ) (me : Self) (want : ExWant) (old new : ℕ) → me.0.state.loaded ≡ Some old
-    → me.0.last ≡ old → IsTrue (hold_has me.0.state.held (step_of_want want))
-    → IsTrue (word_admits me.0.state.held.announced limit old want) → new ≡ word_after old want
-    → Allows (IsKept limit) slots id me 0 (λ n. either (eqb n old) new n) (Exchanges want (step slots 0 old new none) me)
-exchanges limit slots id me want old new is_open is_last holds admits is s kept same at small =
+pub exchanges : (limit known slots id : ℕ) (me : Self) (want : ExWant) (old new : ℕ) → known ≡ limit
+    → me.0.state.loaded ≡ Some old → me.0.last ≡ old → IsTrue (hold_has me.0.state.held (step_of_want want))
+    → IsTrue (word_admits me.0.state.held.announced known old want) → new ≡ word_after old want
+    → Allows (IsKept limit) slots id me 0 (λ n. either (eqb n old) new n) (Exchanges (step slots 0 old new none) me)
+exchanges limit known slots id me want old new same_limit is_open is_last holds admits is s kept same at small =
     let word = slice_index s.words 0 in
     let parties = parties_of s.views in
     let there = party_at s.views id me.0 at in
     let readers = kept.known id me.0 at in
+    let announced = me.0.state.held.announced in
     exchanged word old new
     (λ n. (w : SeatView) × (a : Act (Unit {0})) × Valid s.homes me.1 a × IsKept limit (stepped s 0 n id me.1 w a)
-    × Exchanges want (step slots 0 old new none) me word (w, carried_after me.1 a))
+    × Exchanges (step slots 0 old new none) me word (w, carried_after me.1 a))
     (λ hit.
     let v = (view_after_win me (step_of_want want)).0 in
-    let here : IsTrue (word_admits me.0.state.held.announced limit word want)
-    = subst (λ n. IsTrue (word_admits me.0.state.held.announced limit n want)) (sym hit) admits in
+    let here : IsTrue (word_admits announced limit word want)
+    = subst (λ (t : ℕ × ℕ). IsTrue (word_admits announced t.0 t.1 want)) (λ i. (same_limit i, sym hit i)) admits in
     let rule = keeps_exchange limit word parties id me.0.state want kept.range kept.rule there holds here in
     let next : word_after word want ≡ new = ap (λ n. word_after n want) hit ∙ sym is in (
       v,
@@ -118,7 +120,12 @@ exchanges limit slots id me want old new is_open is_last holds admits is s kept 
           (subst (GainsNoneOrUnbarred word) next
           (guards_of_exchange limit word parties id me.0.state want kept.range kept.rule there here))
           (λ announced. let same = ap guards_of_word (is_last ∙ sym hit) in omega arith),
-      ((λ h. refl), (λ miss. absurd (miss hit))),
+      λ other asked there_admits there_is. (
+        (λ h.
+            ap (λ (w : ExWant). view_after_win me (step_of_want w))
+            (same_exchange announced known other old new want asked admits is there_admits there_is)),
+        (λ miss. absurd (miss hit)),
+      ),
     ))
     (λ miss.
     let v = (view_after_fail me).0 in
@@ -127,7 +134,7 @@ exchanges limit slots id me want old new is_open is_last holds admits is s kept 
       keeps,
       tt,
       left limit id word s v kept readers rule (inl (omega arith)) (kept.guarded id me.0 at),
-      ((λ hit. absurd (miss hit)), (λ h. refl)),
+      λ other asked there_admits there_is. ((λ hit. absurd (miss hit)), (λ h. refl)),
     ))
 
 -- the result of a subtraction of the table
@@ -155,7 +162,7 @@ few_held limit word ps k me range rule at =
 
 pub takes : (limit slots id : ℕ) (me : Self) (down : Down) (k : ℕ) → IsTrue (hold_has me.0.state.held (step_of_down down))
     → k ≡ amount down
-    → Allows (IsKept limit) slots id me 0 (λ n. (n + (2 ^ 64 - k)) % 2 ^ 64) (Takes down (step slots 0 k 0 none) me)
+    → Allows (IsKept limit) slots id me 0 (λ n. (n + (2 ^ 64 - k)) % 2 ^ 64) (Takes (step slots 0 k 0 none) me)
 takes limit slots id me down k holds is s kept same at small =
     let word = slice_index s.words 0 in
     let parties = parties_of s.views in
@@ -174,7 +181,10 @@ takes limit slots id me down k holds is s kept same at small =
           (inl (subst (λ n. guards_of_word n ≤ guards_of_word word) next
           (guards_of_take limit word parties id me.0.state down kept.range kept.rule there holds)))
           (λ announced. kept.guarded id me.0 at (announced_before me.0.state.held down announced)),
-      (refl, few_held limit word parties id me.0.state kept.range kept.rule there),
+      λ other there_is. (
+        ap (λ (d : Down). view_after_win me (step_of_down d)) (same_take k down other is there_is),
+        few_held limit word parties id me.0.state kept.range kept.rule there,
+      ),
     )
 
 pub parts : (limit id : ℕ) (v : SeatView) → Splits (IsKept limit) id v v (newcomer_beside v)
@@ -198,26 +208,6 @@ parts limit id v s kept at =
             | inr e ↦ subst (λ (x : SeatView). Guarded x word) e (λ announced. absurd (false≢true announced))
           ];
     }
-
--- the same, where the limit and the kind are known by equations
-
-pub exchanges_as : (key limit slots id : ℕ) (me : Self) (kind want : ExWant) (old new : ℕ) → limit ≡ key → want ≡ kind
-    → (me.0.state.loaded ≡ Some old) × (me.0.last ≡ old) → IsTrue (hold_has me.0.state.held (step_of_want want))
-    → IsTrue (word_admits me.0.state.held.announced limit old want)
-    → new ≡ word_after old want
-    → Allows (IsKept key) slots id me 0 (λ n. either (eqb n old) new n) (Exchanges kind (step slots 0 old new none) me)
-exchanges_as key limit slots id me kind want old new same_limit same_want is_open holds admits is =
-    exchanges key slots id me kind old new is_open.0 is_open.1
-    (subst (λ (w : ExWant). IsTrue (hold_has me.0.state.held (step_of_want w))) same_want holds)
-    (subst (λ (t : ℕ × ExWant). IsTrue (word_admits me.0.state.held.announced t.0 old t.1)) (λ i. (same_limit i, same_want i)) admits)
-    (is ∙ ap (word_after old) same_want)
-
-pub takes_as : (limit slots id : ℕ) (me : Self) (kind down : Down) (k : ℕ) → down ≡ kind
-    → IsTrue (hold_has me.0.state.held (step_of_down down)) → k ≡ amount down
-    → Allows (IsKept limit) slots id me 0 (λ n. (n + (2 ^ 64 - k)) % 2 ^ 64) (Takes kind (step slots 0 k 0 none) me)
-takes_as limit slots id me kind down k same_down holds is =
-    takes limit slots id me kind k (subst (λ (d : Down). IsTrue (hold_has me.0.state.held (step_of_down d))) same_down holds)
-    (is ∙ ap amount same_down)
 
 pub every_state_keeps_rule : EveryStateKeepsRule IsKept
 every_state_keeps_rule limit s kept =

@@ -1,11 +1,11 @@
 -- What each kind of step does to the view of the party that makes it.
-use Rattle.std.specs.Prelude.{◌≡◌, ◌≢◌, ℕ, ◌+◌, ◌^◌, ◌<◌}
+use Rattle.std.specs.Prelude.{◌≡◌, ◌≢◌, ℕ, ◌+◌, ◌^◌, ◌<◌, IsTrue}
 use Rattle.atomic_table.specs.Table.{Me, Step}
 use Rattle.lock_base.specs.Modes.{tokens}
 use Rattle.lock_word.specs.declared.want.ExWant.{ExWant}
 use Rattle.lock_word.specs.declared.down.Down.{Down}
 use Rattle.lock_word.specs.declared.word_step.WordStep.{WordStep}
-use Rattle.lock_word.specs.Word.{step_of_want, step_of_down}
+use Rattle.lock_word.specs.Word.{word_admits, word_after, amount, step_of_want, step_of_down}
 use Rattle.lock_word.specs.Turns.{with_load, after_win, after_fail}
 use Rattle.lock_word.specs.Rule.{WordShows}
 use Rattle.lock_seated.specs.declared.rule.SeatView.{SeatView}
@@ -29,10 +29,15 @@ abbrev pub Loads : Step (Unit {0}) → Self → ℕ → Self → Type 0
 Loads s me found after =
     (after ≡ view_after_load me found) × WordShows me.0.readers found me.0.state.held × GuardsDoNotGrow me.0.state.held.announced me.0.last found
 
-abbrev pub Exchanges : ExWant → Step (Unit {0}) → Self → ℕ → Self → Type 0
-Exchanges want s me found after =
-    (found ≡ s.first → after ≡ view_after_win me (step_of_want want)) × (found ≢ s.first → after ≡ view_after_fail me)
+-- an exchange that a loaded word admits, whatever the party wanted
+abbrev pub Exchanges : Step (Unit {0}) → Self → ℕ → Self → Type 0
+Exchanges s me found after =
+    (limit : ℕ) (want : ExWant) → IsTrue (word_admits me.0.state.held.announced limit s.first want)
+    → s.second ≡ word_after s.first want
+    → (found ≡ s.first → after ≡ view_after_win me (step_of_want want)) × (found ≢ s.first → after ≡ view_after_fail me)
 
--- a party holds few tokens, so counting one more cannot overflow
-abbrev pub Takes : Down → Step (Unit {0}) → Self → ℕ → Self → Type 0
-Takes down s me found after = (after ≡ view_after_win me (step_of_down down)) × (tokens me.0.state.held.bag < 2 ^ 63)
+-- a take, and a party holds few tokens, so counting one more cannot overflow
+abbrev pub Takes : Step (Unit {0}) → Self → ℕ → Self → Type 0
+Takes s me found after =
+    (down : Down) → s.first ≡ amount down
+    → (after ≡ view_after_win me (step_of_down down)) × (tokens me.0.state.held.bag < 2 ^ 63)

@@ -1,23 +1,19 @@
 //! The seated lock.
-ghost use Rattle.std.specs.Prelude.{◌≡◌, ◌≢◌, ◌↔◌, ◌+◌, ◌<◌, ◌^◌, true, Some, IfOk, IfErr, OnOk, IsTrue};
+ghost use Rattle.std.specs.Prelude.{◌≡◌, ◌↔◌, ◌+◌, ◌<◌, true, IfOk, IfErr, OnOk, IsTrue};
 ghost use Rattle.lock_base.specs.Limits.{IsLimit, IsMakerFault};
-ghost use Rattle.lock_base.specs.Modes.{count_of, tokens};
+ghost use Rattle.lock_base.specs.Modes.{count_of};
 ghost use Rattle.lock_word.specs.Holds.{hold_has};
-ghost use Rattle.lock_word.specs.Word.{word_admits, word_after, step_of_want, step_of_down, down_of_mode};
+ghost use Rattle.lock_word.specs.Word.{step_of_want, step_of_down, down_of_mode};
 ghost use Rattle.lock_word.specs.Rule.{WordShows};
-ghost use Rattle.lock_seated.specs.Plays.{view_after_win, view_after_fail};
 ghost use Rattle.lock_seated.specs.CallerView.{new_party, after_load, after_own_step};
 ghost use Rattle.lock_seated.specs.Seats.{GuardsDoNotGrow};
 ghost use Rattle.lock_seated.specs.Attempts.{Attempted, Acquired};
 
 use crate::attempt::Attempt;
 use crate::party::Party;
-use crate::plays::{
-    Announce, DownToShared, DownToUpgradable, DownUpgradableToShared, LoadWord, OffExclusive,
-    OffShared, OffUpgradable, ToExclusive, ToShared, ToUpgradable, Upgrade, Withdraw,
-};
+use crate::plays::{Exchange, LoadWord, Take};
 use crate::rule::{SeatView, SplitOff, WordRule};
-use atomic_table::{Seat, Table};
+use atomic_table::Table;
 use lock_base::machine::Mode;
 use lock_base::raw::{Fault, is_limit};
 use lock_word::{Down, ExWant, Hold};
@@ -111,7 +107,8 @@ impl SeatedLock {
         let Some(next) = want.exchanged(party.held.announced, self.readers, word) else {
             return Attempt::NotAdmitted(word);
         };
-        if self.exchange(&mut party.seat, want, word, next) != word {
+        let shared = &self.table.shared;
+        if shared.compare_exchange::<Exchange>(&mut party.seat, 0, word, next) != word {
             return Attempt::Changed;
         }
         party.held = party.held.after(want.step());
@@ -145,7 +142,7 @@ impl SeatedLock {
         requires holds { 0 < count_of party.old.state.held.bag mode }
         ensures { party.new ≡ after_own_step party.old (step_of_down (down_of_mode mode)) }
     {
-        self.subtract_and_record(party, Down::of_mode(mode));
+        self.take(party, Down::of_mode(mode));
     }
 
     /// Downgrades an exclusive hold to a shared one, by one subtraction.
@@ -154,7 +151,7 @@ impl SeatedLock {
         requires holds { 0 < party.old.state.held.bag.exclusive }
         ensures { party.new ≡ after_own_step party.old (step_of_down Down.ToShared) }
     {
-        self.subtract_and_record(party, Down::ToShared);
+        self.take(party, Down::ToShared);
     }
 
     /// Downgrades an exclusive hold to an upgradable one, by one subtraction.
@@ -163,7 +160,7 @@ impl SeatedLock {
         requires holds { 0 < party.old.state.held.bag.exclusive }
         ensures { party.new ≡ after_own_step party.old (step_of_down Down.ToUpgradable) }
     {
-        self.subtract_and_record(party, Down::ToUpgradable);
+        self.take(party, Down::ToUpgradable);
     }
 
     /// Downgrades an upgradable hold to a shared one, by one subtraction.
@@ -172,7 +169,7 @@ impl SeatedLock {
         requires holds { 0 < party.old.state.held.bag.upgradable }
         ensures { party.new ≡ after_own_step party.old (step_of_down Down.UpgradableToShared) }
     {
-        self.subtract_and_record(party, Down::UpgradableToShared);
+        self.take(party, Down::UpgradableToShared);
     }
 
     /// Clears the party's bar, by one subtraction.
@@ -181,57 +178,16 @@ impl SeatedLock {
         requires announced { party.old.state.held.announced ≡ true }
         ensures { party.new ≡ after_own_step party.old (step_of_down Down.Withdraw) }
     {
-        self.subtract_and_record(party, Down::Withdraw);
+        self.take(party, Down::Withdraw);
     }
 
-    fn subtract_and_record(&self, party: &mut Party, down: Down)
+    fn take(&self, party: &mut Party, down: Down)
         requires lock { party.old.lock ≡ self.now }
         requires holds { IsTrue (hold_has party.old.state.held (step_of_down down)) }
         ensures { party.new ≡ after_own_step party.old (step_of_down down) }
     {
-        self.subtract(&mut party.seat, down);
+        let shared = &self.table.shared;
+        shared.fetch_sub::<Take>(&mut party.seat, 0, down.amount());
         party.held = party.held.after(down.step());
-    }
-
-    /// Exchanges the word that was loaded last.
-    fn exchange(&self, seat: &mut Seat<(), SeatView>, want: ExWant, word: u64, next: u64) -> u64
-        requires lock { seat.old.table_id ≡ self.now.id }
-        requires load { (seat.old.me.0.state.loaded ≡ Some word) × (seat.old.me.0.last ≡ word) }
-        requires holds { IsTrue (hold_has seat.old.me.0.state.held (step_of_want want)) }
-        requires admitted { IsTrue (word_admits seat.old.me.0.state.held.announced self.now.readers word want) }
-        requires next { next ≡ word_after word want }
-        ensures seat { (seat.new.table_id ≡ seat.old.table_id) × (seat.new.id ≡ seat.old.id) }
-        ensures done { result ≡ word → seat.new.me ≡ view_after_win seat.old.me (step_of_want want) }
-        ensures changed { result ≢ word → seat.new.me ≡ view_after_fail seat.old.me }
-    {
-        let shared = &self.table.shared;
-        match want {
-            ExWant::Shared => shared.compare_exchange::<ToShared>(seat, 0, word, next),
-            ExWant::Exclusive => shared.compare_exchange::<ToExclusive>(seat, 0, word, next),
-            ExWant::Upgradable => shared.compare_exchange::<ToUpgradable>(seat, 0, word, next),
-            ExWant::Upgrade => shared.compare_exchange::<Upgrade>(seat, 0, word, next),
-            ExWant::Announce => shared.compare_exchange::<Announce>(seat, 0, word, next),
-        }
-    }
-
-    /// Subtracts from the word.
-    fn subtract(&self, seat: &mut Seat<(), SeatView>, down: Down)
-        requires lock { seat.old.table_id ≡ self.now.id }
-        requires holds { IsTrue (hold_has seat.old.me.0.state.held (step_of_down down)) }
-        ensures seat { (seat.new.table_id ≡ seat.old.table_id) × (seat.new.id ≡ seat.old.id) }
-        ensures done { seat.new.me ≡ view_after_win seat.old.me (step_of_down down) }
-        ensures room { tokens seat.old.me.0.state.held.bag < 2 ^ 63 }
-    {
-        let shared = &self.table.shared;
-        let amount = down.amount();
-        match down {
-            Down::Shared => shared.fetch_sub::<OffShared>(seat, 0, amount),
-            Down::Exclusive => shared.fetch_sub::<OffExclusive>(seat, 0, amount),
-            Down::Upgradable => shared.fetch_sub::<OffUpgradable>(seat, 0, amount),
-            Down::ToShared => shared.fetch_sub::<DownToShared>(seat, 0, amount),
-            Down::ToUpgradable => shared.fetch_sub::<DownToUpgradable>(seat, 0, amount),
-            Down::UpgradableToShared => shared.fetch_sub::<DownUpgradableToShared>(seat, 0, amount),
-            Down::Withdraw => shared.fetch_sub::<Withdraw>(seat, 0, amount),
-        };
     }
 }

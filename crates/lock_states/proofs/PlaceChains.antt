@@ -9,6 +9,7 @@ use Rattle.lock_base.specs.declared.machine.bag.Bag.{Bag}
 use Rattle.lock_base.specs.Modes.{one_more, one_less, count_of}
 use Rattle.lock_base.specs.Tokens.{SameBag, bag_of_tokens}
 use Rattle.lock_base.proofs.TokenBags.{same_length, bag_of_same}
+use Rattle.lock_word.proofs.Bars.{other_stays}
 use Rattle.lock_states.specs.declared.places.Place.{Place}
 use Rattle.lock_states.specs.declared.places.Place.TheVariants.{Free, Taken}
 use Rattle.lock_states.specs.Places.{mode_in, modes_in, IsChain}
@@ -34,13 +35,6 @@ get_set [] i p q e = cc
 get_set (r ∷ ps) zero p q e = refl
 get_set (r ∷ ps) (suc i) p q e = get_set ps i p q e
 
-get_other : (ps : List Place) (i j : ℕ) (p q : Place) → i ≢ j → slice_get ps i ≡ Some q → slice_get (set ps j p) i ≡ Some q
-get_other [] i j p q d e = cc
-get_other (r ∷ ps) zero zero p q d e = absurd (d refl)
-get_other (r ∷ ps) zero (suc j) p q d e = e
-get_other (r ∷ ps) (suc i) zero p q d e = e
-get_other (r ∷ ps) (suc i) (suc j) p q d e = get_other ps i j p q (λ f. d (ap suc f)) e
-
 -- a start has at most one length of chain
 pub one_chain : (ps : List Place) (m n : ℕ) (start : Option ℕ) → IsChain ps m start → IsChain ps n start → m ≡ n
 one_chain ps zero zero start p q = refl
@@ -61,7 +55,7 @@ pub chain_set : (ps : List Place) (at : ℕ) (p : Place) (n : ℕ) (start : Opti
 chain_set ps at p zero start off c = c
 chain_set ps at p (suc n) start off c =
     let other : c.0 ≢ at = λ same. off n (omega arith) (at, c.1, refl, subst (λ k. slice_get ps k ≡ Some (Free c.1)) same c.3, c.4) in
-    (c.0, c.1, c.2, get_other ps c.0 at p (Free c.1) other c.3, chain_set ps at p n c.1 (λ m below. off m (omega arith)) c.4)
+    (c.0, c.1, c.2, other_stays ps at c.0 p (Free c.1) other c.3, chain_set ps at p n c.1 (λ m below. off m (omega arith)) c.4)
 
 -- a taken place is on no chain
 pub taken_is_off : (ps : List Place) (at : ℕ) (mode : Mode) → slice_get ps at ≡ Some (Taken mode) → (m : ℕ) → IsChain ps (suc m) (Some at) → ⊥

@@ -20,6 +20,7 @@ use Rattle.lock_word.specs.Sleepers.{closed_count, count_of_watch}
 use Rattle.lock_word.specs.Wakes.{KeepsWakes, EachStepKeeps, view_after_take}
 use Rattle.lock_word.proofs.Holders.{le-sum_by}
 use Rattle.lock_word.proofs.Bars.{bar_of_rule}
+use Rattle.lock_word.proofs.Distinct.{same_exchange, same_take}
 use Rattle.lock_word.proofs.Guards.{GainsNoneOrUnbarred, guards_of_exchange, guards_of_take}
 use Rattle.lock_word.proofs.Rules.{slice_set_same, amount_within, shows, fails_bounded}
 use Rattle.lock_word.proofs.Wakes.{state_at, each_step, joins, at_rest}
@@ -158,21 +159,22 @@ loads limits slots id me s kept same at small =
       ),
     )
 
-pub exchanges : (limits : WakeLimits) (slots id : ℕ) (me : Self) (want : ExWant) (old new : ℕ)
+pub exchanges : (limits : WakeLimits) (known slots id : ℕ) (me : Self) (want : ExWant) (old new : ℕ) → known ≡ limits.readers
     → me.0.sleeper.state.loaded ≡ Some old → me.0.last ≡ old
     → IsTrue (hold_has me.0.sleeper.state.held (step_of_want want))
-    → IsTrue (word_admits me.0.sleeper.state.held.announced limits.readers old want) → new ≡ word_after old want
-    → Allows (IsKept limits) slots id me 0 (λ n. either (eqb n old) new n) (Exchanges want (step slots 0 old new none) me)
-exchanges limits slots id me want old new is_open is_last holds admits is s kept same at small =
+    → IsTrue (word_admits me.0.sleeper.state.held.announced known old want) → new ≡ word_after old want
+    → Allows (IsKept limits) slots id me 0 (λ n. either (eqb n old) new n) (Exchanges (step slots 0 old new none) me)
+exchanges limits known slots id me want old new same_limit is_open is_last holds admits is s kept same at small =
     let word = word_in s in
     let by = by_step limits id s me.0 kept at in
+    let announced = me.0.sleeper.state.held.announced in
     exchanged word old new
     (λ n. (w : WakeView) × (a : Act (Unit {0})) × Valid s.homes me.1 a × IsKept limits (stepped s 0 n id me.1 w a)
-    × Exchanges want (step slots 0 old new none) me word (w, carried_after me.1 a))
+    × Exchanges (step slots 0 old new none) me word (w, carried_after me.1 a))
     (λ hit.
     let v = (self_after_win me (step_of_want want)).0 in
-    let here : IsTrue (word_admits me.0.sleeper.state.held.announced limits.readers word want)
-    = subst (λ n. IsTrue (word_admits me.0.sleeper.state.held.announced limits.readers n want)) (sym hit) admits in
+    let here : IsTrue (word_admits announced limits.readers word want)
+    = subst (λ (t : ℕ × ℕ). IsTrue (word_admits announced t.0 t.1 want)) (λ i. (same_limit i, sym hit i)) admits in
     let next : word_after word want ≡ new = ap (λ n. word_after n want) hit ∙ sym is in (
       v,
       keeps,
@@ -188,7 +190,12 @@ exchanges limits slots id me want old new is_open is_last holds admits is s kept
             (party_at s.views id me.0 at) here);
         own = λ announced. let same = ap guards_of_word (is_last ∙ sym hit) in omega arith;
       },
-      ((λ h. refl), (λ miss. absurd (miss hit))),
+      λ other asked there_admits there_is. (
+        (λ h.
+            ap (λ (w : ExWant). self_after_win me (step_of_want w))
+            (same_exchange announced known other old new want asked admits is there_admits there_is)),
+        (λ miss. absurd (miss hit)),
+      ),
     ))
     (λ miss.
     let v = (self_after_fail me).0 in (
@@ -196,12 +203,12 @@ exchanges limits slots id me want old new is_open is_last holds admits is s kept
       keeps,
       tt,
       on_word limits id word s v kept (aside limits id (count_in s) (epoch_in s) s me.0 v.sleeper kept at refl (by.lost old is_open miss)),
-      ((λ hit. absurd (miss hit)), (λ h. refl)),
+      λ other asked there_admits there_is. ((λ hit. absurd (miss hit)), (λ h. refl)),
     ))
 
 pub takes : (limits : WakeLimits) (slots id : ℕ) (me : Self) (down : Down) (k : ℕ)
     → IsTrue (hold_has me.0.sleeper.state.held (step_of_down down)) → k ≡ amount down
-    → Allows (IsKept limits) slots id me 0 (λ n. (n + (2 ^ 64 - k)) % 2 ^ 64) (Takes down (step slots 0 k 0 none) me)
+    → Allows (IsKept limits) slots id me 0 (λ n. (n + (2 ^ 64 - k)) % 2 ^ 64) (Takes (step slots 0 k 0 none) me)
 takes limits slots id me down k holds is s kept same at small =
     let word = word_in s in
     let ps = parties_of s.views in
@@ -228,7 +235,12 @@ takes limits slots id me down k holds is s kept same at small =
             (guards_of_take limits.readers word ps id mine down kept.range kept.kept.rule there holds));
         own = λ announced. kept.guarded id me.0 at (announced_before mine.held down announced);
       },
-      (refl, within, few_held limits.readers word ps id mine kept.range kept.kept.rule there),
+      λ other there_is.
+          let same_down = same_take k down other is there_is in (
+            ap (self_after_take me word) same_down,
+            subst (λ (d : Down). amount d ≤ word) same_down within,
+            few_held limits.readers word ps id mine kept.range kept.kept.rule there,
+          ),
     )
 
 -- steps on the count
@@ -453,27 +465,6 @@ parts limits id v s kept at =
             | inr e ↦ subst (IsGuarded (word_in s)) e (λ announced. absurd (false≢true announced))
           ];
     }
-
--- the same, where the limits and the kind are known by equations
-
-pub exchanges_as : (limits : WakeLimits) (limit slots id : ℕ) (me : Self) (kind want : ExWant) (old new : ℕ) → limit ≡ limits.readers
-    → want ≡ kind → (me.0.sleeper.state.loaded ≡ Some old) × (me.0.last ≡ old)
-    → IsTrue (hold_has me.0.sleeper.state.held (step_of_want want))
-    → IsTrue (word_admits me.0.sleeper.state.held.announced limit old want)
-    → new ≡ word_after old want
-    → Allows (IsKept limits) slots id me 0 (λ n. either (eqb n old) new n) (Exchanges kind (step slots 0 old new none) me)
-exchanges_as limits limit slots id me kind want old new same_limit same_want is_open holds admits is =
-    exchanges limits slots id me kind old new is_open.0 is_open.1
-    (subst (λ (w : ExWant). IsTrue (hold_has me.0.sleeper.state.held (step_of_want w))) same_want holds)
-    (subst (λ (t : ℕ × ExWant). IsTrue (word_admits me.0.sleeper.state.held.announced t.0 old t.1)) (λ i. (same_limit i, same_want i)) admits)
-    (is ∙ ap (word_after old) same_want)
-
-pub takes_as : (limits : WakeLimits) (slots id : ℕ) (me : Self) (kind down : Down) (k : ℕ) → down ≡ kind
-    → IsTrue (hold_has me.0.sleeper.state.held (step_of_down down)) → k ≡ amount down
-    → Allows (IsKept limits) slots id me 0 (λ n. (n + (2 ^ 64 - k)) % 2 ^ 64) (Takes kind (step slots 0 k 0 none) me)
-takes_as limits slots id me kind down k same_down holds is =
-    takes limits slots id me kind k (subst (λ (d : Down). IsTrue (hold_has me.0.sleeper.state.held (step_of_down d))) same_down holds)
-    (is ∙ ap amount same_down)
 
 pub every_state_forgets_none : EveryStateForgetsNone IsKept
 every_state_forgets_none limits s kept =

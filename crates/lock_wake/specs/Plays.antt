@@ -1,5 +1,5 @@
 -- What each kind of step does to the view of the party that makes it.
-use Rattle.std.specs.Prelude.{◌≡◌, ◌≢◌, ℕ, ◌+◌, ◌^◌, ◌<◌, ◌≤◌}
+use Rattle.std.specs.Prelude.{◌≡◌, ◌≢◌, ℕ, ◌+◌, ◌^◌, ◌<◌, ◌≤◌, IsTrue}
 use Rattle.atomic_table.specs.Table.{Me, Step}
 use Rattle.lock_base.specs.Modes.{tokens}
 use Rattle.lock_word.specs.declared.want.ExWant.{ExWant}
@@ -10,7 +10,7 @@ use Rattle.lock_word.specs.declared.sleeper.Watch.TheVariants.{Away, Counted, Re
 use Rattle.lock_word.specs.declared.sleeper.Debt.{Debt}
 use Rattle.lock_word.specs.declared.sleeper.Debt.TheVariants.{Nothing, OwesAt}
 use Rattle.lock_word.specs.declared.sleeper.SleeperView.{SleeperView}
-use Rattle.lock_word.specs.Word.{amount, step_of_want}
+use Rattle.lock_word.specs.Word.{word_admits, word_after, amount, step_of_want}
 use Rattle.lock_word.specs.Turns.{with_load, after_win, after_fail}
 use Rattle.lock_word.specs.Rule.{WordShows}
 use Rattle.lock_word.specs.Wakes.{with_state, with_watch, with_debt, view_after_take, view_after_epoch}
@@ -59,13 +59,16 @@ Loads s me found after =
     (after ≡ self_after_load me found) × WordShows me.0.limits.readers found me.0.sleeper.state.held
     × GuardsDoNotGrow me.0.sleeper.state.held.announced me.0.last found
 
-abbrev pub Exchanges : ExWant → Step (Unit {0}) → Self → ℕ → Self → Type 0
-Exchanges want s me found after =
-    (found ≡ s.first → after ≡ self_after_win me (step_of_want want)) × (found ≢ s.first → after ≡ self_after_fail me)
+abbrev pub Exchanges : Step (Unit {0}) → Self → ℕ → Self → Type 0
+Exchanges s me found after =
+    (limit : ℕ) (want : ExWant) → IsTrue (word_admits me.0.sleeper.state.held.announced limit s.first want)
+    → s.second ≡ word_after s.first want
+    → (found ≡ s.first → after ≡ self_after_win me (step_of_want want)) × (found ≢ s.first → after ≡ self_after_fail me)
 
-abbrev pub Takes : Down → Step (Unit {0}) → Self → ℕ → Self → Type 0
-Takes down s me found after =
-    (after ≡ self_after_take me found down) × (amount down ≤ found) × (tokens me.0.sleeper.state.held.bag < 2 ^ 63)
+abbrev pub Takes : Step (Unit {0}) → Self → ℕ → Self → Type 0
+Takes s me found after =
+    (down : Down) → s.first ≡ amount down
+    → (after ≡ self_after_take me found down) × (amount down ≤ found) × (tokens me.0.sleeper.state.held.bag < 2 ^ 63)
 
 -- on the count: an exchange counts the party in, and a subtraction counts it out
 abbrev pub CountsIn : Step (Unit {0}) → Self → ℕ → Self → Type 0

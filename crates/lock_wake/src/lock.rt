@@ -241,13 +241,13 @@ impl BlockingLock {
         self.take(party, Down::Withdraw);
     }
 
-    /// Returns how many parties are counted as sleepers. It may be outdated at once, so no contract says more.
+    /// Returns how many parties are counted as sleepers. It has no `ensures`: the load is of a shared cell, without a
+    /// seat that the rule could tell of it, and may be outdated at once. So the result is any `u64`.
     pub fn sleepers(&self) -> u64 {
         self.table.shared.peek(COUNT)
     }
 
-    /// Returns the epoch, which counts the wake-ups since the epochs last began. It may be outdated at once, so no
-    /// contract says more.
+    /// Returns the epoch, which counts the wake-ups since the epochs last began. It has no `ensures`, as `sleepers`.
     pub fn epoch(&self) -> u64 {
         self.table.shared.peek(EPOCH)
     }

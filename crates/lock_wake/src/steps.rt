@@ -1,19 +1,16 @@
 //! The steps of a blocking lock on the packed word.
-ghost use Rattle.std.specs.Prelude.{◌≡◌, ◌≢◌, ◌<◌, ◌≤◌, ◌^◌, Some, IsTrue};
+ghost use Rattle.std.specs.Prelude.{◌≡◌, ◌<◌, ◌≤◌, ◌^◌, IsTrue};
 ghost use Rattle.lock_base.specs.Modes.{tokens};
 ghost use Rattle.lock_word.specs.Holds.{hold_has};
-ghost use Rattle.lock_word.specs.Word.{word_admits, word_after, amount, step_of_want, step_of_down};
+ghost use Rattle.lock_word.specs.Word.{amount, step_of_want, step_of_down};
 ghost use Rattle.lock_word.specs.Rule.{WordShows};
 ghost use Rattle.lock_seated.specs.Seats.{GuardsDoNotGrow};
 ghost use Rattle.lock_seated.specs.Attempts.{Attempted};
-ghost use Rattle.lock_wake.specs.Plays.{self_after_load, self_after_win, self_after_fail, self_after_take};
+ghost use Rattle.lock_wake.specs.Plays.{self_after_load, self_after_take};
 ghost use Rattle.lock_wake.specs.Acquisitions.{seen, KeepsRest};
 
 use crate::lock::{BlockingLock, WORD};
-use crate::plays::{
-    Announce, DownToShared, DownToUpgradable, DownUpgradableToShared, LoadWord, OffExclusive,
-    OffShared, OffUpgradable, ToExclusive, ToShared, ToUpgradable, Upgrade, Withdraw,
-};
+use crate::plays::{Exchange, LoadWord, Take};
 use crate::rule::WakeView;
 use atomic_table::Seat;
 use lock_seated::Attempt;
@@ -49,31 +46,11 @@ impl BlockingLock {
         let Some(next) = want.exchanged(announced, self.readers, word) else {
             return Attempt::NotAdmitted(word);
         };
-        if self.exchange(seat, want, word, next) != word {
+        let shared = &self.table.shared;
+        if shared.compare_exchange::<Exchange>(seat, WORD, word, next) != word {
             return Attempt::Changed;
         }
         Attempt::Done
-    }
-
-    /// Exchanges the word that was loaded last.
-    fn exchange(&self, seat: &mut Seat<(), WakeView>, want: ExWant, word: u64, next: u64) -> u64
-        requires lock { seat.old.table_id ≡ self.now.id }
-        requires load { (seat.old.me.0.sleeper.state.loaded ≡ Some word) × (seat.old.me.0.last ≡ word) }
-        requires holds { IsTrue (hold_has seat.old.me.0.sleeper.state.held (step_of_want want)) }
-        requires admitted { IsTrue (word_admits seat.old.me.0.sleeper.state.held.announced self.now.readers word want) }
-        requires next { next ≡ word_after word want }
-        ensures seat { (seat.new.table_id ≡ seat.old.table_id) × (seat.new.id ≡ seat.old.id) }
-        ensures done { result ≡ word → seat.new.me ≡ self_after_win seat.old.me (step_of_want want) }
-        ensures changed { result ≢ word → seat.new.me ≡ self_after_fail seat.old.me }
-    {
-        let shared = &self.table.shared;
-        match want {
-            ExWant::Shared => shared.compare_exchange::<ToShared>(seat, WORD, word, next),
-            ExWant::Exclusive => shared.compare_exchange::<ToExclusive>(seat, WORD, word, next),
-            ExWant::Upgradable => shared.compare_exchange::<ToUpgradable>(seat, WORD, word, next),
-            ExWant::Upgrade => shared.compare_exchange::<Upgrade>(seat, WORD, word, next),
-            ExWant::Announce => shared.compare_exchange::<Announce>(seat, WORD, word, next),
-        }
     }
 
     /// Subtracts from the word, and answers the word before. The party is due if that unblocks some waiter.
@@ -85,18 +62,8 @@ impl BlockingLock {
         ensures within { amount down ≤ result }
         ensures room { tokens seat.old.me.0.sleeper.state.held.bag < 2 ^ 63 }
     {
-        let shared = &self.table.shared;
-        let amount = down.amount();
-        match down {
-            Down::Shared => shared.fetch_sub::<OffShared>(seat, WORD, amount),
-            Down::Exclusive => shared.fetch_sub::<OffExclusive>(seat, WORD, amount),
-            Down::Upgradable => shared.fetch_sub::<OffUpgradable>(seat, WORD, amount),
-            Down::ToShared => shared.fetch_sub::<DownToShared>(seat, WORD, amount),
-            Down::ToUpgradable => shared.fetch_sub::<DownToUpgradable>(seat, WORD, amount),
-            Down::UpgradableToShared => shared.fetch_sub::<DownUpgradableToShared>(
-                seat, WORD, amount,
-            ),
-            Down::Withdraw => shared.fetch_sub::<Withdraw>(seat, WORD, amount),
-        }
+        self.table
+            .shared
+            .fetch_sub::<Take>(seat, WORD, down.amount())
     }
 }

@@ -11,7 +11,7 @@ ghost use Rattle.lock_wake.specs.Plays.{self_after_epoch, self_watching};
 ghost use Rattle.lock_wake.specs.Acquisitions.{seen, KeepsRest, TriedAnnounced, AcquiredAnnounced};
 
 use crate::lock::{BlockingLock, COUNT, EPOCH};
-use crate::plays::{CloseCount, CountIn, CountOut, OpenCount, RestartEpochs, WatchEpoch};
+use crate::plays::{CloseCount, CountIn, CountOut, RestartEpochs, WatchEpoch};
 use crate::rule::WakeView;
 use atomic_table::Seat;
 use crossbeam_utils::Backoff;
@@ -226,7 +226,7 @@ impl BlockingLock {
         }
         if shared.compare_exchange::<CloseCount>(seat, COUNT, 0, CLOSED_COUNT) == 0 {
             shared.store::<RestartEpochs>(seat, EPOCH, 0);
-            shared.fetch_sub::<OpenCount>(seat, COUNT, CLOSED_COUNT);
+            shared.fetch_sub::<CountOut>(seat, COUNT, CLOSED_COUNT);
         }
     }
 

@@ -10,3 +10,4 @@ pub mod Sound
 pub mod AlikeBars
 pub mod Unblocking
 pub mod Wakes
+pub mod Distinct

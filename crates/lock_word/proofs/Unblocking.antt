@@ -6,6 +6,7 @@ use Rattle.lock_base.specs.declared.machine.mode.Mode.TheVariants as mode
 use Rattle.lock_base.specs.Limits.{IsLimit}
 use Rattle.lock_base.specs.Modes.{tokens, admits}
 use Rattle.lock_word.specs.declared.hold.Hold.{Hold}
+use Rattle.lock_word.specs.declared.occupancy.Occupancy.{Occupancy}
 use Rattle.lock_word.specs.declared.want.ExWant.{ExWant}
 use Rattle.lock_word.specs.declared.want.ExWant.TheVariants.{Shared, Exclusive, Upgradable, Upgrade, Announce}
 use Rattle.lock_word.specs.Holds.{bars_of, is_barred}
@@ -17,7 +18,7 @@ use Rattle.lock_word.specs.WakeLaws.{ExchangesUnblockNobody, UnblocksMissesNobod
 use Rattle.lock_word.proofs.Words.{both_below, both_tests, one_of, is_one_of, same_tests, permits_of_word, word_of_permits, word_admits_mode}
 
 -- an exclusive hold is admitted on a free word, or under the party's own bar alone
-free_or_own : (a : Bool) (w : ℕ) → ((w == 0) || (a && (w == 2 ^ 34))) ≡ true → (w ≡ 0) ⊎ ((a ≡ true) × (w ≡ 2 ^ 34))
+pub free_or_own : (a : Bool) (w : ℕ) → ((w == 0) || (a && (w == 2 ^ 34))) ≡ true → (w ≡ 0) ⊎ ((a ≡ true) × (w ≡ 2 ^ 34))
 free_or_own a w h =
     elim (or_cases (w == 0) (a && (w == 2 ^ 34)) h) [
       | inl e ↦ inl (eqb-true w 0 e)
@@ -163,33 +164,30 @@ admitted_before : (a b x y : Bool) → a ≡ x → b ≡ y → (not x && y) ≡ 
 admitted_before a b x y before after h now = before ∙ before_too x y h (sym after ∙ now)
 
 module _ (limit before after : ℕ) (range : IsLimit limit) (was : IsPacked limit before) (is : IsPacked limit after) where
+  -- what the new word admits newly, a test on the occupancies finds newly
+  test_before : (a : Bool) (want : ExWant) (test : Occupancy → Bool)
+      → ((word : ℕ) → IsLimit limit → IsPacked limit word → word_admits a limit word want ≡ test (occupancy_of_word word))
+      → (not (test (occupancy_of_word before)) && test (occupancy_of_word after)) ≡ false
+      → IsTrue (word_admits a limit after want) → IsTrue (word_admits a limit before want)
+  test_before a want test same h now =
+      admitted_before (word_admits a limit before want) (word_admits a limit after want) (test (occupancy_of_word before))
+      (test (occupancy_of_word after)) (same before range was) (same after range is) h now
+
   shared_before : newly_may_proceed limit (occupancy_of_word before) (occupancy_of_word after) mode.Shared ≡ false
       → IsTrue (word_admits false limit after Shared) → IsTrue (word_admits false limit before Shared)
-  shared_before h now =
-      admitted_before (word_admits false limit before Shared) (word_admits false limit after Shared)
-      (may_proceed limit (occupancy_of_word before) mode.Shared) (may_proceed limit (occupancy_of_word after) mode.Shared)
-      (shared_test limit before range was) (shared_test limit after range is) h now
+  shared_before = test_before false Shared (λ o. may_proceed limit o mode.Shared) (shared_test limit)
 
   upgradable_before : newly_may_proceed limit (occupancy_of_word before) (occupancy_of_word after) mode.Upgradable ≡ false
       → IsTrue (word_admits false limit after Upgradable) → IsTrue (word_admits false limit before Upgradable)
-  upgradable_before h now =
-      admitted_before (word_admits false limit before Upgradable) (word_admits false limit after Upgradable)
-      (may_proceed limit (occupancy_of_word before) mode.Upgradable) (may_proceed limit (occupancy_of_word after) mode.Upgradable)
-      (upgradable_test limit before range was) (upgradable_test limit after range is) h now
+  upgradable_before = test_before false Upgradable (λ o. may_proceed limit o mode.Upgradable) (upgradable_test limit)
 
   writer_before : newly_may_proceed limit (occupancy_of_word before) (occupancy_of_word after) mode.Exclusive ≡ false
       → IsTrue (word_admits true limit after Exclusive) → IsTrue (word_admits true limit before Exclusive)
-  writer_before h now =
-      admitted_before (word_admits true limit before Exclusive) (word_admits true limit after Exclusive)
-      (may_proceed limit (occupancy_of_word before) mode.Exclusive) (may_proceed limit (occupancy_of_word after) mode.Exclusive)
-      (writer_test limit before range was) (writer_test limit after range is) h now
+  writer_before = test_before true Exclusive (λ o. may_proceed limit o mode.Exclusive) (writer_test limit)
 
   upgrade_before : (not (may_upgrade (occupancy_of_word before)) && may_upgrade (occupancy_of_word after)) ≡ false
       → IsTrue (word_admits false limit after Upgrade) → IsTrue (word_admits false limit before Upgrade)
-  upgrade_before h now =
-      admitted_before (word_admits false limit before Upgrade) (word_admits false limit after Upgrade)
-      (may_upgrade (occupancy_of_word before)) (may_upgrade (occupancy_of_word after))
-      (upgrade_test limit before range was) (upgrade_test limit after range is) h now
+  upgrade_before = test_before false Upgrade may_upgrade (upgrade_test limit)
 
   -- a writer without the bar gains by a foreign withdrawal alone, which admits readers too
   exclusive_before : (a : Bool) → newly_may_proceed limit (occupancy_of_word before) (occupancy_of_word after) mode.Shared ≡ false

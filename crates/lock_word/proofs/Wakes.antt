@@ -352,12 +352,14 @@ module _ (limits : WakeLimits) (word count epoch : ℕ) (views : List SleeperVie
       (λ other sleeps admitted. let found = sleeps.found in cc)
       (λ j v other is sleeps admitted. inl admitted))
 
-  notes : me.debt ≢ Nothing → KeepsWakes limits word count epoch (slice_set views k (with_debt me (OwesAt epoch)))
-  notes owes =
-      let you = with_debt me (OwesAt epoch) in
+  -- the debt is another, and the party as due as it was
+  owes_anew : (debt : Debt) → (IsDue epoch me.debt → IsDue epoch debt)
+      → KeepsWakes limits word count epoch (slice_set views k (with_debt me debt))
+  owes_anew debt due =
+      let you = with_debt me debt in
       keeps limits word word count count epoch epoch views k me you at kept
       (same_rule limits.readers word views k me at kept.rule) refl refl (λ w h. h) mine
-      (forgets_none limits.readers word word epoch views k me you at kept.none_forgotten (λ d. refl)
+      (forgets_none limits.readers word word epoch views k me you at kept.none_forgotten due
       (λ other sleeps admitted. (
         record {
           looked = sleeps.looked;
@@ -371,26 +373,14 @@ module _ (limits : WakeLimits) (word count epoch : ℕ) (views : List SleeperVie
       ))
       (λ j v other is sleeps admitted. inl admitted))
 
+  notes : me.debt ≢ Nothing → KeepsWakes limits word count epoch (slice_set views k (with_debt me (OwesAt epoch)))
+  notes owes = owes_anew (OwesAt epoch) (λ d. refl)
+
   finds_ended : (e : ℕ) → me.debt ≡ OwesAt e → epoch ≢ e
       → KeepsWakes limits word count epoch (slice_set views k (with_debt me Nothing))
   finds_ended e owed differs =
-      let you = with_debt me Nothing in
-      keeps limits word word count count epoch epoch views k me you at kept
-      (same_rule limits.readers word views k me at kept.rule) refl refl (λ w h. h) mine
-      (forgets_none limits.readers word word epoch views k me you at kept.none_forgotten
+      owes_anew Nothing
       (λ d. let due : IsDue epoch (OwesAt e) = subst (IsDue epoch) owed d in differs (sym due))
-      (λ other sleeps admitted. (
-        record {
-          looked = sleeps.looked;
-          watches = sleeps.watches;
-          found = sleeps.found;
-          awaited = sleeps.awaited;
-          entitled = sleeps.entitled;
-          refused = sleeps.refused;
-        },
-        admitted,
-      ))
-      (λ j v other is sleeps admitted. inl admitted))
 
   closes : me.watch ≡ Away → count ≡ 0
       → KeepsWakes limits word closed_count epoch (slice_set views k (with_watch me Restarts))
