@@ -61,6 +61,7 @@ pub use Rattle.lock_ruled.specs.EachView
 pub use Rattle.lock_ruled.specs.Ledger
 pub use Rattle.lock_ruled.specs.Tally
 pub use Rattle.lock_ruled.specs.Bounds
+pub use Rattle.lock_ruled.specs.InOrder
 pub use Rattle.lock_semaphore.specs.Permits
 pub use Rattle.lock_desk.specs.Closures
 pub use Rattle.lock_mutex.specs.Mutex

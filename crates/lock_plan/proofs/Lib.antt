@@ -2,3 +2,5 @@ pub mod Rows
 pub mod Stands
 pub mod Simulation
 pub mod Tables
+pub mod Few
+pub mod Said

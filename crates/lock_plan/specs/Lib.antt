@@ -3,3 +3,4 @@ pub mod Checks
 pub mod Worlds
 pub mod Points
 pub mod Below
+pub mod Stops

@@ -7,14 +7,18 @@ ghost use Rattle.lock_plan.specs.Checks.{is_of_kind, is_over, fault_on, call_fau
 
 use crate::call::{Act, PlanCall};
 use crate::fault::CallFault;
-use crate::hold::Hold;
+use crate::hold::PlanHold;
 use crate::lock::PlanLock;
 use lock_base::machine::{Kind, Mode, ModeStep};
 
 /// Returns why a call can never be made by a party with these holds.
-pub(crate) fn call_fault(locks: &[PlanLock], holds: &[Hold], call: PlanCall) -> Option<CallFault>
+pub(crate) fn call_fault(
+    locks: &[PlanLock],
+    holds: &[PlanHold],
+    call: PlanCall,
+) -> Option<CallFault>
     requires long { length holds.now ≡ length locks.now }
-    requires few { (l : ℕ) → tokens (get_or holds.now l no_hold).bag < 2 ^ 31 }
+    requires few { (l : ℕ) → tokens (get_or holds.now l no_hold).bag < 2 ^ 64 }
     ensures { result ≡ call_fault locks.now holds.now call }
 {
     if call.lock >= locks.len() {
@@ -24,8 +28,8 @@ pub(crate) fn call_fault(locks: &[PlanLock], holds: &[Hold], call: PlanCall) -> 
 }
 
 /// Returns why a call on this lock can never be made with this hold.
-fn fault_on(lock: PlanLock, own: Hold, act: Act) -> Option<CallFault>
-    requires { tokens own.bag < 2 ^ 31 }
+fn fault_on(lock: PlanLock, own: PlanHold, act: Act) -> Option<CallFault>
+    requires { tokens own.bag < 2 ^ 64 }
     ensures { result ≡ fault_on lock own act }
 {
     if !is_of_kind(lock.kind, act) {
@@ -67,8 +71,8 @@ fn is_move(from: Mode, to: Mode) -> bool
 }
 
 /// Returns whether the call acquires a level above the limit.
-fn is_over(lock: PlanLock, own: Hold, act: Act) -> bool
-    requires { tokens own.bag < 2 ^ 31 }
+fn is_over(lock: PlanLock, own: PlanHold, act: Act) -> bool
+    requires { tokens own.bag < 2 ^ 64 }
     ensures { result ≡ is_over lock own act }
 {
     act.is_write() && lock.kind.is_reentrant() && own.bag.tokens() >= lock.limit

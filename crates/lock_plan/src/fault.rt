@@ -37,7 +37,7 @@ impl fmt::Display for CallFault {
 pub enum PlanFault {
     /// This call of this party, both counted from 0, can never be made. It is the first such call.
     Call(usize, usize, CallFault),
-    /// The plan has too many calls, or more worlds than a number can count.
+    /// The plan has more nodes than a number can count.
     TooLarge,
     OutOfMemory,
 }
