@@ -9,3 +9,5 @@ pub mod Ledgers
 pub mod Tally
 pub mod Tallies
 pub mod Bounds
+pub mod InOrder
+pub mod InOrders

@@ -46,8 +46,8 @@ impl<T: Drop, V, P: MutexRule<T, V>> RuledMutex<T, V, P> {
     /// Acquires the mutex once `condition` holds of the value, or returns the user at `deadline`.
     ///
     /// # Blocking
-    /// As `lock_when`, until `deadline` by the clock of `rt`. While another user holds a guard it also blocks, as `lock`
-    /// does. After the deadline it checks the condition once more.
+    /// As `lock_when`, until `deadline` by the clock of `rt`. After the deadline it checks the condition once more, unless
+    /// another user holds the mutex.
     pub fn lock_when_until<R: Wait + Clock, F: Fn(&T) -> bool>(
         &self,
         rt: &R,
@@ -65,7 +65,7 @@ impl<T: Drop, V, P: MutexRule<T, V>> RuledMutex<T, V, P> {
     {
         let mut user = user;
         for _ in rt.forever() {
-            let guard = self.lock(rt, user);
+            let guard = self.lock_until(rt, user, deadline)?;
             if condition(&*guard) {
                 return Ok(guard);
             }

@@ -17,13 +17,13 @@ use std::marker::Model;
 use std::sync::Wait;
 
 /// The mutex is free.
-const FREE: u64 = 0;
+pub(crate) const FREE: u64 = 0;
 
 /// The mutex is held.
 const TAKEN: u64 = 1;
 
 /// The mutex is held, and a user may sleep until it is released.
-const AWAITED: u64 = 2;
+pub(crate) const AWAITED: u64 = 2;
 
 /// How often a blocked call tries again before it sleeps.
 const TRIES: u32 = 10;
@@ -32,7 +32,7 @@ const TRIES: u32 = 10;
 /// exchanges it back in.
 #[derive(Drop)]
 pub struct RuledMutex<T: Drop, V, P: MutexRule<T, V>> {
-    table: Table<Option<T>, UserView<T, V>, T, SlotRule<P>, Global>,
+    pub(crate) table: Table<Option<T>, UserView<T, V>, T, SlotRule<P>, Global>,
     /// Users that sleep until the value has changed.
     pub(crate) changed: Sleepers,
 }
@@ -168,7 +168,7 @@ impl<T: Drop, V, P: MutexRule<T, V>> RuledMutex<T, V, P> {
     }
 
     /// Takes the value out of the slot, which the user has acquired.
-    fn guard_of(&self, mut seat: Seat<Option<T>, UserView<T, V>>) -> RuledGuard<T, V>
+    pub(crate) fn guard_of(&self, mut seat: Seat<Option<T>, UserView<T, V>>) -> RuledGuard<T, V>
         requires mutex { seat.table_id ≡ self.now }
         requires out { (value : T) × Carries seat.me value value }
         requires part { 0 < seat.me.0.parts }
@@ -194,7 +194,7 @@ impl<T: Drop, V, P: MutexRule<T, V>> RuledMutex<T, V, P> {
     }
 
     /// Tries to acquire, by one exchange.
-    fn try_acquire(&self, seat: &mut Seat<Option<T>, UserView<T, V>>) -> bool
+    pub(crate) fn try_acquire(&self, seat: &mut Seat<Option<T>, UserView<T, V>>) -> bool
         requires mutex { seat.old.table_id ≡ self.now }
         requires idle { IsIdle seat.old.me }
         ensures seat { seat.new.table_id ≡ seat.old.table_id }
@@ -208,7 +208,7 @@ impl<T: Drop, V, P: MutexRule<T, V>> RuledMutex<T, V, P> {
     }
 
     /// Tries a few times, with growing pauses.
-    fn try_with_backoff(&self, seat: &mut Seat<Option<T>, UserView<T, V>>) -> bool
+    pub(crate) fn try_with_backoff(&self, seat: &mut Seat<Option<T>, UserView<T, V>>) -> bool
         requires mutex { seat.old.table_id ≡ self.now }
         requires idle { IsIdle seat.old.me }
         ensures seat { seat.new.table_id ≡ seat.old.table_id }
