@@ -1,5 +1,4 @@
 pub mod Account
 pub mod Line
-pub mod Logs
 pub mod Pool
 pub mod Words

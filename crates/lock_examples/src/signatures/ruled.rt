@@ -1,6 +1,9 @@
-//! Every public type of a mutex under a rule, in a signature.
+//! Every public type of a mutex under a rule, and of a semaphore, in a signature.
 use lock_api::{
-    Join, MutexRule, RuledGuard, RuledMutex, SlotRule, Split, User, UserStage, UserView, ViewUpdate,
+    AddsOne, Bound, Constant, Grows, Holder, InOrder, Items, Join, Lease, Ledger, Log, Looks,
+    Measure, MutexRule, Permits, Pops, Pushes, ReadyRule, Roles, RuledGuard, RuledMutex, SameView,
+    Semaphore, Settles, Share, Shares, SlotRule, Split, Sums, Tally, User, UserStage, UserView,
+    ViewUpdate,
 };
 
 /// A value of each type.
@@ -11,3 +14,22 @@ pub fn ruled<T: Drop, V, P: MutexRule<T, V>, M: ViewUpdate<T, V> + Split<V> + Jo
     _known: (&UserView<T, V>, &UserStage<T>),
     _rules: (&SlotRule<P>, &M),
 ) {}
+
+/// A value of each type of the ready rules.
+pub fn ready<T, V, X, P: ReadyRule<T, V>, M: Measure<T>, I: Items<T, X>>(
+    _rules: (
+        &P,
+        &Ledger<M>,
+        &Tally<M>,
+        &Constant<M>,
+        &Grows<M>,
+        &InOrder<I>,
+    ),
+    _views: (&Share, &Log<X>),
+    _updates: (&Settles<M>, &AddsOne, &SameView, &Bound<M>),
+    _ends: (&Pushes<I>, &Pops<I>, &Looks),
+    _splits: (&Shares, &Sums, &Roles),
+) {}
+
+/// A value of each type of a semaphore.
+pub fn semaphores(_semaphore: &Semaphore, _users: (&Holder, &Lease), _measure: &Permits) {}
