@@ -1,15 +1,22 @@
-//! Flags that one thread raises for another.
+//! Threads that wait for one another.
 use std::sync::Wait;
 use std::sync::atomic::{AtomicBool, Ordering};
 use std::thread;
 
-/// Waits until the flag is raised.
-pub fn wait_for_flag<W: Wait>(waiter: &W, flag: &AtomicBool) {
+/// Blocks until the condition is true. It calls the condition again and again.
+pub fn wait_until<W: Wait, F: Fn() -> bool>(waiter: &W, condition: F)
+    requires { F.IsAlwaysCallable condition }
+{
     for _ in waiter.forever() {
-        if flag.load(Ordering::SeqCst) {
+        if condition() {
             return;
         }
         thread::yield_now();
     }
     unreachable!()
+}
+
+/// Blocks until another thread raises the flag.
+pub fn wait_for_flag<W: Wait>(waiter: &W, flag: &AtomicBool) {
+    wait_until(waiter, || flag.load(Ordering::SeqCst));
 }

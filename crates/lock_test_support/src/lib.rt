@@ -9,6 +9,6 @@ mod parties;
 pub mod project;
 pub mod raw_lock;
 
-pub use flags::wait_for_flag;
+pub use flags::{wait_for_flag, wait_until};
 pub use four_threads::{Count, add_in_four_threads};
 pub use parties::{party, two_parties};

@@ -16,23 +16,19 @@ fn ended<R: Wait>(waiter: &R, entries: Vec<(bool, bool)>) -> Option<(LoopEnd, u6
     Some((end, checks))
 }
 
-fn ends_as<R: Wait>(
-    waiter: &R,
-    alloc: Global,
-    entries: &[(bool, bool)],
-    wanted: Option<(LoopEnd, u64)>,
-) -> Result<(), Fail> {
-    equal(ended(waiter, Vec::from_slice(alloc, entries)?), wanted)
-}
+/// Scripts, and how they end.
+const SCRIPTS: [(&[(bool, bool)], Option<(LoopEnd, u64)>); 5] = [
+    (&[(true, false), (false, true)], Some((LoopEnd::False, 2))),
+    (&[(true, false), (true, true)], Some((LoopEnd::TimedOut, 2))),
+    (&[(false, false)], Some((LoopEnd::False, 1))),
+    (&[(true, false)], Some((LoopEnd::RanOut, 1))),
+    (&[], None),
+];
 
 #[test]
 fn scripts_end_as_written(rt: HostRuntime) -> Result<(), Fail> {
-    let alloc = rt.alloc();
-    let one_wait = [(true, false), (false, true)];
-    ends_as(&rt, alloc, &one_wait, Some((LoopEnd::False, 2)))?;
-    let late = [(true, false), (true, true)];
-    ends_as(&rt, alloc, &late, Some((LoopEnd::TimedOut, 2)))?;
-    ends_as(&rt, alloc, &[(false, false)], Some((LoopEnd::False, 1)))?;
-    ends_as(&rt, alloc, &[(true, false)], Some((LoopEnd::RanOut, 1)))?;
-    ends_as(&rt, alloc, &[], None)
+    for (entries, wanted) in SCRIPTS {
+        equal(ended(&rt, Vec::from_slice(rt.alloc(), entries)?), wanted)?;
+    }
+    Ok(())
 }

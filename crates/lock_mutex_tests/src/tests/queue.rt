@@ -31,68 +31,53 @@ impl<R: RawMutex + Drop> Slot<R> {
     }
 }
 
-/// Room for one item, shared by threads.
+/// What two threads each do at a time.
 trait Room {
     /// The permission to block.
     type Waiter: Wait;
 
-    /// Waits until there is room.
-    fn put(&self, item: u64);
+    /// Puts this item and those after it, each once there is room.
+    fn produce(&self, first: u64);
 
-    /// Waits until there is an item.
-    fn take(&self) -> u64;
+    /// Takes items, each once there is one, and returns their sum.
+    fn consume(&self) -> u64;
 }
 
 impl<R: RawMutex> Room for Slot<R> {
     type Waiter = R::Waiter;
 
-    fn put(&self, item: u64) {
-        let mut slot = self.item.lock();
-        self.emptied.wait_while(&mut slot, |slot| slot.is_some());
-        *slot = Some(item);
-        drop(slot);
-        self.filled.notify_one();
+    fn produce(&self, first: u64) {
+        for index in 0..EACH {
+            let mut slot = self.item.lock();
+            self.emptied.wait_while(&mut slot, |slot| slot.is_some());
+            *slot = Some(first.wrapping_add(index));
+            drop(slot);
+            self.filled.notify_one();
+        }
     }
 
-    fn take(&self) -> u64 {
-        let mut slot = self.item.lock();
-        self.filled.wait_while(&mut slot, |slot| slot.is_none());
-        let item = slot.unwrap_or(0);
-        *slot = None;
-        drop(slot);
-        self.emptied.notify_one();
-        item
+    fn consume(&self) -> u64 {
+        let mut sum: u64 = 0;
+        for _ in 0..EACH {
+            let mut slot = self.item.lock();
+            self.filled.wait_while(&mut slot, |slot| slot.is_none());
+            sum = sum.wrapping_add(slot.unwrap_or(0));
+            *slot = None;
+            drop(slot);
+            self.emptied.notify_one();
+        }
+        sum
     }
-}
-
-fn produce<C: Room>(room: &C, first: u64) {
-    for index in 0..EACH {
-        room.put(first.wrapping_add(index));
-    }
-}
-
-/// The sum of the items that were taken.
-fn consume<C: Room>(room: &C) -> u64 {
-    let mut sum: u64 = 0;
-    for _ in 0..EACH {
-        sum = sum.wrapping_add(room.take());
-    }
-    sum
-}
-
-fn produce_twice<T: Threads, C: Room + Sync>(rt: &T, room: &C) {
-    thread::join(rt, || produce(room, 1), || produce(room, 1 + EACH));
-}
-
-fn consume_twice<T: Threads, C: Room + Sync>(rt: &T, room: &C) -> u64 {
-    let (one, other) = thread::join(rt, || consume(room), || consume(room));
-    one.wrapping_add(other)
 }
 
 /// The sum of 1 to 20,000, if each item is taken once.
 fn sum_of_all<T: Threads + Sync, C: Room + Sync>(rt: &T, room: &C) -> u64 {
-    let (_, sum) = thread::join(rt, || produce_twice(rt, room), || consume_twice(rt, room));
-    sum
+    let (_, (one, other)) = thread::join(
+        rt,
+        || thread::join(rt, || room.produce(1), || room.produce(1 + EACH)),
+        || thread::join(rt, || room.consume(), || room.consume()),
+    );
+    one.wrapping_add(other)
 }
 
 #[test]

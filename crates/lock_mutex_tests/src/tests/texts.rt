@@ -1,42 +1,75 @@
-//! The texts of a mutex and its guards, and whether it is held.
-use lock_base::machine::Mode::Exclusive;
+//! How locks and guards print, by `Debug` and by `Display`.
 use lock_guard::raw::RawMutex;
-use lock_mutex::{Mutex, MutexGuard};
+use lock_mutex::{Condvar, Mutex, MutexGuard};
+use lock_raws::SpuriousCondvar;
+use lock_raws_word::WordRaw;
+use lock_remutex::{ReentrantMutex, ReentrantMutexGuard};
 use lock_test_support::answer::{debug_is, equal, texts_are};
-use lock_test_support::raw_lock::RawCall::{self, IsLocked, Lock, TryLock, Unlock};
+use lock_test_support::party;
+use lock_test_support::project::Item0;
+use lock_test_support::raw_lock::AdmitsAll;
 use std::alloc::Global;
 use std::test::Fail;
 
-/// Whether a guard's mutex is held, and refused to another thread.
-fn is_held<R: RawMutex>(mutex: &Mutex<R, u64>) -> bool {
-    let guard = mutex.lock();
-    MutexGuard::mutex(&guard).is_locked() && mutex.try_lock().is_none()
-}
+type Pair = (u64, u64);
 
-/// Whether a free mutex, a held one and its guard print as expected.
-fn are_shown<R: RawMutex>(alloc: Global, mutex: &Mutex<R, u64>) -> [bool; 3] {
+/// What prints, and whether it prints as it should.
+type Shown = (&'static str, bool);
+
+/// A mutex of 5, while it is free and while it is held, and its guard. Then the guard of a part, which is 5.
+fn of_a_mutex<R: RawMutex>(
+    alloc: Global,
+    mutex: &Mutex<R, u64>,
+    pair: &Mutex<R, Pair>,
+) -> [Shown; 4] {
     let free = debug_is(alloc, mutex, "Mutex { data: 5 }");
     let guard = mutex.lock();
     let held = debug_is(alloc, mutex, "Mutex { data: <locked> }");
-    [free, held, texts_are(alloc, guard, "5")]
+    let part = MutexGuard::map(pair.lock(), Item0);
+    [
+        ("free Mutex", free),
+        ("held Mutex", held),
+        ("MutexGuard", texts_are(alloc, guard, "5")),
+        ("MappedMutexGuard", texts_are(alloc, part, "5")),
+    ]
 }
 
-/// The texts of a mutex of 5 that is free before and after.
-pub fn check<R: RawMutex>(alloc: Global, mutex: &Mutex<R, u64>) -> Result<(), Fail> {
-    equal((is_held(mutex), mutex.is_locked()), (true, false))?;
-    equal(are_shown(alloc, mutex), [true; 3])
+fn are_right(shown: &[Shown]) -> Result<(), Fail> {
+    for (what, is_shown) in shown {
+        equal((*what, *is_shown), (*what, true))?;
+    }
+    Ok(())
 }
 
-/// The raw calls of `check`: each text of the mutex tries to lock it, and the guard's text makes no call.
-pub const RAW_CALLS: [RawCall; 10] = [
-    Lock(Exclusive),
-    IsLocked,
-    TryLock(Exclusive),
-    Unlock(Exclusive),
-    IsLocked,
-    TryLock(Exclusive),
-    Unlock(Exclusive),
-    Lock(Exclusive),
-    TryLock(Exclusive),
-    Unlock(Exclusive),
-];
+#[test]
+fn mutexes_and_guards_print_their_value(rt: HostRuntime) -> Result<(), Fail> {
+    let alloc = rt.alloc();
+    let mutex: Mutex<WordRaw<HostRuntime>, u64> = Mutex::new(alloc, rt, 5)?;
+    let pair: Mutex<WordRaw<HostRuntime>, Pair> = Mutex::new(alloc, rt, (5, 2))?;
+    are_right(&of_a_mutex(alloc, &mutex, &pair))?;
+    let condvar: Condvar<SpuriousCondvar<WordRaw<HostRuntime>>> = Condvar::new(alloc)?;
+    let is_shown = debug_is(alloc, &condvar, "Condvar { .. }");
+    are_right(&[("Condvar", is_shown)])
+}
+
+/// Over a raw lock that always says that it is free.
+#[test]
+fn reentrant_mutexes_and_guards_print_their_value(rt: HostRuntime) -> Result<(), Fail> {
+    let (alloc, one) = (rt.alloc(), party(1)?);
+    let lock: ReentrantMutex<AdmitsAll<HostRuntime>, u64> = ReentrantMutex::new(alloc, rt, 5)?;
+    let free = debug_is(alloc, &lock, "ReentrantMutex { data: 5 }");
+    let guard = lock.lock(one)?;
+    let held = debug_is(alloc, &lock, "ReentrantMutex { data: <locked> }");
+    let pair: ReentrantMutex<AdmitsAll<HostRuntime>, Pair> = ReentrantMutex::new(
+        alloc,
+        rt,
+        (5, 2),
+    )?;
+    let part = ReentrantMutexGuard::map(pair.lock(one)?, Item0);
+    are_right(&[
+        ("free ReentrantMutex", free),
+        ("held ReentrantMutex", held),
+        ("ReentrantMutexGuard", texts_are(alloc, guard, "5")),
+        ("MappedReentrantMutexGuard", texts_are(alloc, part, "5")),
+    ])
+}

@@ -1,6 +1,5 @@
 //! Threads that count behind a mutex, and wait for each other.
 use super::Word;
-use super::order::come_and_wait;
 use lock_guard::raw::RawMutex;
 use lock_mutex::{Condvar, Mutex};
 use lock_raws::{RawLock, SpuriousCondvar};
@@ -20,6 +19,17 @@ impl<R: RawMutex> Count for Counted<'_, R> {
         let mut count = self.0.lock();
         *count = count.wrapping_add(1);
     }
+}
+
+/// Waits until all threads came. Of two threads that wait for each other none ends if a wait holds the mutex.
+fn come_and_wait<R: RawMutex>(
+    mutex: &Mutex<R, u64>,
+    condvar: &Condvar<SpuriousCondvar<R>>,
+    all: u64,
+) {
+    let mut guard = mutex.lock();
+    *guard = guard.wrapping_add(1);
+    condvar.wait_while(&mut guard, |come| *come < all);
 }
 
 /// Over a raw lock that admits everyone, so that only the value's lock excludes the threads.

@@ -1,4 +1,4 @@
-//! A raw condition variable whose waits end at once, and which records its calls.
+//! A raw condition variable that records its calls.
 use lock_base::raw::Fault;
 use lock_guard::raw::{RawCondvar, RawCondvarTimed, RawMutex, RawMutexTimed};
 use std::alloc::Global;
@@ -20,7 +20,7 @@ pub enum CondvarCall {
     NotifyAll,
 }
 
-/// A raw condition variable for one thread.
+/// A raw condition variable for one thread. Its waits end at once, and do not release the mutex.
 #[derive(Drop)]
 pub struct MockCondvar<R> {
     alloc: Global,
@@ -59,10 +59,9 @@ impl<R: RawMutex> RawCondvar for MockCondvar<R> {
         })
     }
 
-    fn wait(&self, mutex: &R, token: R::Guard) -> R::Guard {
+    fn wait(&self, _mutex: &R, token: R::Guard) -> R::Guard {
         self.asked(CondvarCall::Wait);
-        mutex.unlock(token);
-        mutex.lock()
+        token
     }
 
     fn notify_one(&self) -> bool {
@@ -86,9 +85,8 @@ impl<R: RawMutexTimed<Duration = u64, Instant = u64>> RawCondvarTimed for MockCo
         timeout.checked_add(1)
     }
 
-    fn wait_until(&self, mutex: &R, token: R::Guard, deadline: &u64) -> (R::Guard, bool) {
+    fn wait_until(&self, _mutex: &R, token: R::Guard, deadline: &u64) -> (R::Guard, bool) {
         self.asked(CondvarCall::WaitUntil(*deadline));
-        mutex.unlock(token);
-        (mutex.lock(), *deadline >= LATE)
+        (token, *deadline >= LATE)
     }
 }

@@ -1,105 +1,107 @@
-//! A bump that finds the party at its limit of levels when it reacquires.
-mod pausing;
-
-use super::by_two::{ByTwo, in_threads};
+//! A party that has all its levels.
+use crate::tests::Table;
+use lock_base::machine::Mode::Exclusive;
 use lock_base::machine::PartyId;
-use lock_base::raw::Fault;
-use lock_guard::raw::{RawMutex, RawMutexFair};
+use lock_base::raw::Fault::{self, FullCount};
+use lock_guard::raw::{RawMutex, RawMutexTimed};
+use lock_raws::RawLock;
 use lock_remutex::{ReentrantMutex, ReentrantMutexGuard};
-use lock_test_support::{party, wait_for_flag};
-use pausing::Pausing;
+use lock_test_support::answer::equal;
+use lock_test_support::party;
+use lock_test_support::raw_lock::RawCall::{Lock, Unlock};
+use lock_test_support::raw_lock::{MockRaw, Watch};
 use std::alloc::Global;
-use std::sync::Wait;
-use std::sync::atomic::{AtomicBool, Ordering};
+use std::sync::Arc;
 use std::test::Fail;
-use std::thread;
 
-/// A lock with one level, which a party bumps on one thread and acquires on another.
-#[derive(Drop)]
-struct Bumped<R: RawMutex, W> {
-    lock: ReentrantMutex<R, u8>,
-    party: PartyId,
-    waiter: W,
-    is_held: AtomicBool,
-    is_over: AtomicBool,
+/// A call, and its refusal.
+type Refused = (&'static str, Option<Fault>);
+
+/// The refusal of `unlocked` whose closure acquires the only level.
+fn unlocked<R: RawMutex>(guard: ReentrantMutexGuard<'_, R, u8>, party: PartyId) -> Option<Fault>
+where
+    R::Guard: Drop,
+{
+    let lock = ReentrantMutexGuard::remutex(&guard);
+    let (fault, taken) = ReentrantMutexGuard::unlocked(guard, || lock.lock(party)).err()?;
+    taken.ok()?;
+    Some(fault)
 }
 
-impl<R: RawMutex + Drop, W: Wait + Drop> Bumped<R, W>
+/// What the party is refused beside the guard of its only level.
+fn refused<R: RawMutexTimed<Duration = u64, Instant = u64>>(
+    guard: ReentrantMutexGuard<'_, R, u8>,
+    party: PartyId,
+) -> [Refused; 5]
+where
+    R::Guard: Drop,
+{
+    let lock = ReentrantMutexGuard::remutex(&guard);
+    [
+        ("lock", lock.lock(party).err()),
+        ("try_lock", lock.try_lock(party).err()),
+        ("try_lock_for", lock.try_lock_for(party, 3).err()),
+        ("try_lock_until", lock.try_lock_until(party, 4).err()),
+        ("unlocked", unlocked(guard, party)),
+    ]
+}
+
+/// The same of the acquisitions by guards that own a reference to the lock.
+fn arc_refused<R: RawMutexTimed<Duration = u64, Instant = u64> + Drop>(
+    lock: &Arc<ReentrantMutex<R, u8>>,
+    party: PartyId,
+) -> [Refused; 4]
+where
+    R::Guard: Drop,
+{
+    [
+        ("lock_arc", ReentrantMutex::lock_arc(lock, party).err()),
+        (
+            "try_lock_arc",
+            ReentrantMutex::try_lock_arc(lock, party).err(),
+        ),
+        (
+            "try_lock_arc_for",
+            ReentrantMutex::try_lock_arc_for(lock, party, 3).err(),
+        ),
+        (
+            "try_lock_arc_until",
+            ReentrantMutex::try_lock_arc_until(lock, party, 4).err(),
+        ),
+    ]
+}
+
+fn check<R: RawMutex + Drop>(alloc: Global, waiters: [R::Waiter; 2]) -> Result<(), Fail>
 where
     R::Guard: Send + Drop,
 {
-    fn new(alloc: Global, waiter: R::Waiter, watcher: W) -> Result<Bumped<R, W>, Fail> {
-        Ok(Bumped {
-            lock: ReentrantMutex::with_levels(alloc, waiter, 1, 0)?,
-            party: party(1)?,
-            waiter: watcher,
-            is_held: AtomicBool::new(false),
-            is_over: AtomicBool::new(false),
-        })
+    let one = party(1)?;
+    let [first, second] = waiters;
+    let lock: ReentrantMutex<MockRaw<R>, u8> = ReentrantMutex::with_levels(alloc, first, 1, 7)?;
+    for (call, fault) in refused(lock.lock(one)?, one) {
+        equal((call, fault), (call, Some(FullCount)))?;
     }
-}
-
-impl<R: RawMutexFair, W: Wait> Bumped<R, W>
-where
-    R::Guard: Drop,
-{
-    /// Waits until the party's level is released.
-    fn wait_until_given_up(&self) {
-        for _ in self.waiter.forever() {
-            if !self.lock.is_owned_by_current_thread(self.party) {
-                return;
-            }
-            thread::yield_now();
-        }
-        unreachable!()
+    let (raw, value) = lock.into_inner_with_raw();
+    let mut watch = Watch::new(raw.calls()?);
+    watch.saw(&[
+        Lock(Exclusive),
+        Unlock(Exclusive),
+        Lock(Exclusive),
+        Unlock(Exclusive),
+    ]);
+    watch.verdict()?;
+    let lock: ReentrantMutex<MockRaw<R>, u8> = ReentrantMutex::with_levels(
+        alloc, second, 1, value,
+    )?;
+    let lock = Arc::new(alloc, lock)?;
+    let _guard = ReentrantMutex::lock_arc(&lock, one)?;
+    for (call, fault) in arc_refused(&lock, one) {
+        equal((call, fault), (call, Some(FullCount)))?;
     }
-
-    /// Lets the raw bump end, and waits until its token is released again, since the party has its only level already.
-    fn wait_until_refused(&self) {
-        for _ in self.waiter.forever() {
-            if self.lock.is_locked() {
-                return;
-            }
-            thread::yield_now();
-        }
-        unreachable!()
-    }
-}
-
-impl<R: RawMutexFair, W: Wait> ByTwo for Bumped<R, W>
-where
-    R::Guard: Drop,
-{
-    type Waiter = R::Waiter;
-
-    /// Bumps a guard. Returns whether the party owns the lock once the level of the other thread is released.
-    fn first(&self) -> Result<bool, Fault> {
-        let mut guard = self.lock.lock(self.party)?;
-        self.is_held.store(true, Ordering::SeqCst);
-        ReentrantMutexGuard::bump(&mut guard);
-        wait_for_flag(&self.waiter, &self.is_over);
-        Ok(self.lock.is_owned_by_current_thread(self.party))
-    }
-
-    /// Acquires the only level during the bump, and keeps it while the bump tries to reacquire it.
-    fn second(&self) -> Result<bool, Fault> {
-        wait_for_flag(&self.waiter, &self.is_held);
-        self.wait_until_given_up();
-        let guard = self.lock.lock(self.party)?;
-        self.wait_until_refused();
-        for _ in 0..10_000u32 {
-            thread::yield_now();
-        }
-        drop(guard);
-        self.is_over.store(true, Ordering::SeqCst);
-        Ok(true)
-    }
-}
-
-/// The raw lock pauses in a bump until it is asked whether it is held.
-#[test]
-fn a_bump_waits_for_a_level(rt: HostRuntime) -> Result<(), Fail> {
-    let bumped: Bumped<Pausing<HostRuntime>, HostRuntime> = Bumped::new(rt.alloc(), rt, rt)?;
-    assert_eq!(rt; in_threads(&rt, &bumped), [Ok(true); 2]);
     Ok(())
+}
+
+#[test]
+fn a_full_count_is_refused(rt: HostRuntime) -> Result<(), Fail> {
+    check::<RawLock<Table>>(rt.alloc(), [rt; 2])
 }

@@ -1,152 +1,95 @@
-//! The refusals of the makers, and what a lock returns when it is consumed.
+//! The makers of a reentrant lock, and what a consumed lock returns.
 use crate::tests::Table;
+use crate::tests::makers::Maker;
+use lock_base::machine::Mode::Exclusive;
 use lock_base::machine::PartyId;
-use lock_base::raw::{DEFAULT_LEVELS, Fault, Levels};
+use lock_base::raw::Fault;
 use lock_guard::raw::RawMutex;
-use lock_raws::{LockCore, RawLock};
-use lock_remutex::{RawReentrantMutex, ReentrantMutex};
+use lock_raws::RawLock;
+use lock_remutex::ReentrantMutex;
 use lock_test_support::answer::equal;
 use lock_test_support::party;
-use lock_test_support::raw_lock::MockRaw;
+use lock_test_support::raw_lock::RawCall::Lock;
+use lock_test_support::raw_lock::{MockRaw, Watch};
 use std::alloc::Global;
 use std::mem;
 use std::test::Fail;
 
-/// Whether the party gets a hundred levels, which stay held.
-fn gives_many_levels<R: RawMutex>(lock: &ReentrantMutex<R, u8>, party: PartyId) -> bool
+/// A maker, the value of its lock, how many of a hundred levels a party gets, and whether they are one raw call.
+type Made = (Maker, u8, u8, bool);
+
+/// How many of a hundred levels the party gets. They stay held.
+fn levels<R: RawMutex>(lock: &ReentrantMutex<R, u8>, party: PartyId) -> u8
 where
     R::Guard: Drop,
 {
-    for _ in 0..100 {
+    for level in 0..100 {
         match lock.lock(party) {
             Ok(guard) => mem::forget(guard),
-            Err(_) => return false,
+            Err(_) => return level,
         }
     }
-    true
+    100
 }
 
-/// A lock of each maker without a limit of levels.
-fn makers_give_many_levels<R: RawMutex + Drop>(
-    alloc: Global,
-    waiters: [R::Waiter; 4],
-) -> Result<(), Fail>
-where
-    R::Guard: Send + Drop,
-{
-    let one = party(1)?;
-    let [first, second, third, last] = waiters;
-    let given = [
-        gives_many_levels(&ReentrantMutex::<R, u8>::new(alloc, first, 1)?, one),
-        gives_many_levels(&ReentrantMutex::<R, u8>::from(alloc, second, 1)?, one),
-        gives_many_levels(&ReentrantMutex::<R, u8>::default(alloc, third)?, one),
-        gives_many_levels(&ReentrantMutex::from_raw(R::new(alloc, last)?, 1)?, one),
-    ];
-    equal(given, [true; 4])
-}
-
-fn put_in_and_out<R: RawMutex + Drop>(alloc: Global, waiters: [R::Waiter; 3]) -> Result<(), Fail>
-where
-    R::Guard: Send + Drop,
-{
-    let [first, second, third] = waiters;
-    let mut default: ReentrantMutex<R, u8> = ReentrantMutex::default(alloc, first)?;
-    let was = *default.get_mut();
-    *default.get_mut() = 9;
-    let from: ReentrantMutex<R, u8> = ReentrantMutex::from(alloc, second, 3)?;
-    equal((was, default.into_inner(), from.into_inner()), (0, 9, 3))?;
-    let made: ReentrantMutex<R, u8> = ReentrantMutex::new(alloc, third, 4)?;
-    let (raw, value) = made.into_inner_with_raw();
-    equal((raw.is_locked(), value), (false, 4))
-}
-
-/// Whether this limit of levels is accepted by `Levels`, and by a lock over it.
-fn makers_take<R: RawMutex + Drop>(alloc: Global, waiter: R::Waiter, levels: u64) -> (bool, bool)
-where
-    R::Guard: Send + Drop,
-{
-    let made: Result<ReentrantMutex<R, u8>, Fault> = ReentrantMutex::with_levels(
-        alloc, waiter, levels, 0,
-    );
-    (Levels::<u8>::new(levels).is_ok(), made.is_ok())
-}
-
-fn limits_of_levels<R: RawMutex + Drop>(alloc: Global, waiters: [R::Waiter; 4]) -> Result<(), Fail>
-where
-    R::Guard: Send + Drop,
-{
-    let [zero, one, most, past] = waiters;
-    let taken = [
-        makers_take::<R>(alloc, zero, 0),
-        makers_take::<R>(alloc, one, 1),
-        makers_take::<R>(alloc, most, DEFAULT_LEVELS),
-        makers_take::<R>(alloc, past, DEFAULT_LEVELS + 1),
-    ];
-    let (is, is_not) = ((true, true), (false, false));
-    equal(taken, [is_not, is, is, is_not])
-}
-
-/// The value and the raw lock that come back, the limits of levels, and the default limit.
-pub fn check<R: RawMutex + Drop>(
-    alloc: Global,
-    waiters: ([R::Waiter; 3], [R::Waiter; 4], [R::Waiter; 4]),
-) -> Result<(), Fail>
-where
-    R::Guard: Send + Drop,
-{
-    let (values, limits, levels) = waiters;
-    put_in_and_out::<R>(alloc, values)?;
-    limits_of_levels::<R>(alloc, limits)?;
-    makers_give_many_levels::<R>(alloc, levels)
-}
-
-/// Whether a new lock has made no raw call.
-fn has_no_calls<R: RawMutex + Drop>(made: ReentrantMutex<MockRaw<R>, u8>) -> bool
+/// Acquires levels of a new lock, and consumes it.
+fn consumed<R: RawMutex + Drop>(
+    maker: Maker,
+    lock: ReentrantMutex<MockRaw<R>, u8>,
+    party: PartyId,
+) -> Result<Made, Fault>
 where
     R::Guard: Drop,
 {
-    let (raw, _) = made.into_inner_with_raw();
-    raw.has_no_calls()
+    let levels = levels(&lock, party);
+    let (raw, value) = lock.into_inner_with_raw();
+    let mut watch = Watch::new(raw.calls()?);
+    watch.saw(&[Lock(Exclusive)]);
+    Ok((maker, value, levels, watch.is_right()))
 }
 
-/// No maker makes a raw call.
-pub fn check_calls<R: RawMutex + Drop>(alloc: Global, waiters: [R::Waiter; 4]) -> Result<(), Fail>
+fn made<R: RawMutex + Drop>(
+    alloc: Global,
+    waiters: [R::Waiter; 5],
+    one: PartyId,
+) -> Result<[Made; 5], Fault>
 where
     R::Guard: Send + Drop,
 {
-    let [first, second, third, last] = waiters;
-    let unasked = [
-        has_no_calls::<R>(ReentrantMutex::new(alloc, first, 5)?),
-        has_no_calls::<R>(ReentrantMutex::from(alloc, second, 5)?),
-        has_no_calls::<R>(ReentrantMutex::default(alloc, third)?),
-        has_no_calls::<R>(ReentrantMutex::with_levels(alloc, last, 1, 5)?),
-    ];
-    equal(unasked, [true; 4])
+    let [first, second, third, fourth, fifth] = waiters;
+    let raw: MockRaw<R> = RawMutex::new(alloc, fifth)?;
+    Ok([
+        consumed::<R>(Maker::New, ReentrantMutex::new(alloc, first, 5)?, one)?,
+        consumed::<R>(Maker::From, ReentrantMutex::from(alloc, second, 6)?, one)?,
+        consumed::<R>(Maker::Default, ReentrantMutex::default(alloc, third)?, one)?,
+        consumed::<R>(
+            Maker::WithLevels,
+            ReentrantMutex::with_levels(alloc, fourth, 3, 7)?,
+            one,
+        )?,
+        consumed::<R>(Maker::FromRaw, ReentrantMutex::from_raw(raw, 8)?, one)?,
+    ])
 }
 
-/// Whether a maker was refused for want of memory, if at all.
-fn is_told(refusal: Option<Fault>) -> bool {
-    refusal.is_none() || refusal == Some(Fault::OutOfMemory)
-}
+const WANTED: [Made; 5] = [
+    (Maker::New, 5, 100, true),
+    (Maker::From, 6, 100, true),
+    (Maker::Default, 0, 100, true),
+    (Maker::WithLevels, 7, 3, true),
+    (Maker::FromRaw, 8, 100, true),
+];
 
-/// Whether each maker answered as it should.
-fn are_told<C: LockCore>(alloc: Global, waiters: [C::Waiter; 6]) -> [bool; 6]
-where
-    C::Token: Send,
-{
-    let [first, second, third, fourth, fifth, sixth] = waiters;
-    [
-        is_told(ReentrantMutex::<RawLock<C>, u8>::new(alloc, first, 1).err()),
-        is_told(ReentrantMutex::<RawLock<C>, u8>::from(alloc, second, 1).err()),
-        is_told(ReentrantMutex::<RawLock<C>, u8>::default(alloc, third).err()),
-        is_told(ReentrantMutex::<RawLock<C>, u8>::with_levels(alloc, fourth, 3, 1).err()),
-        is_told(RawReentrantMutex::<RawLock<C>>::new(alloc, fifth).err()),
-        is_told(RawReentrantMutex::<RawLock<C>>::with_levels(alloc, sixth, 3).err()),
-    ]
-}
-
-/// It passes too if an allocation is refused, since the refusal is answered then.
 #[test]
-fn refused_memory_is_told_by_the_makers(rt: HostRuntime) {
-    assert!(rt; are_told::<Table>(rt.alloc(), [rt; 6]) == [true; 6]);
+fn makers_of_a_reentrant_lock_lock_nothing(rt: HostRuntime) -> Result<(), Fail> {
+    equal(
+        made::<RawLock<Table>>(rt.alloc(), [rt; 5], party(1)?)?,
+        WANTED,
+    )
+}
+
+/// The record of raw calls may lack one for want of memory, so no answers are compared.
+#[test]
+fn refused_memory_is_told_by_the_makers(rt: HostRuntime) -> Result<(), Fail> {
+    let refusal = made::<RawLock<Table>>(rt.alloc(), [rt; 5], party(1)?).err();
+    equal(refusal.unwrap_or(Fault::OutOfMemory), Fault::OutOfMemory)
 }

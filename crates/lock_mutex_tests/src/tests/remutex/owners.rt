@@ -1,168 +1,69 @@
-//! Acquisitions of a lock that a party owns, over an honest raw lock and over one that admits too much.
-use lock_base::machine::PartyId;
-use lock_base::raw::Fault;
-use lock_guard::raw::{RawMutex, RawMutexFair, RawMutexTimed};
-use lock_remutex::{RawReentrantMutex, ReentrantMutex};
+//! Calls of an owner and of another party, over a raw lock that admits everything.
+use lock_base::machine::Mode::Exclusive;
+use lock_base::raw::Fault::{self, Foreign};
+use lock_guard::raw::RawMutex;
+use lock_remutex::RawReentrantMutex;
 use lock_test_support::answer::equal;
-use lock_test_support::raw_lock::AdmitsAll;
+use lock_test_support::raw_lock::RawCall::{Lock, TryLock, Unlock, UnlockFair};
+use lock_test_support::raw_lock::{AdmitsAll, Watch};
 use lock_test_support::two_parties;
-use std::alloc::Global;
-use std::clone::Clone;
-use std::sync::Wait;
 use std::test::Fail;
 
-/// Whether each try of the party gave a guard, which is dropped at once.
-type Tries = [Result<bool, Fault>; 3];
+/// A call, its answer, and whether the first party owns the lock then.
+type Answered = (&'static str, Result<bool, Fault>, bool);
 
-const GIVEN: Tries = [Ok(true); 3];
+/// The first party acquires two levels and releases them.
+const WANTED: [Answered; 11] = [
+    ("lock", Ok(true), true),
+    ("try_lock", Ok(true), true),
+    ("another's try_lock", Ok(false), true),
+    ("another's unlock", Err(Foreign), true),
+    ("another's unlock_fair", Err(Foreign), true),
+    ("another's bump", Err(Foreign), true),
+    ("unlock", Ok(true), true),
+    ("bump", Ok(true), true),
+    ("unlock_fair", Ok(true), false),
+    ("unlock once more", Err(Foreign), false),
+    ("another's lock", Ok(true), false),
+];
 
-const NOT_GIVEN: Tries = [Ok(false); 3];
-
-const FULL: Tries = [Err(Fault::FullCount); 3];
-
-fn is_given<G: Drop>(tried: Result<Option<G>, Fault>) -> Result<bool, Fault> {
-    Ok(tried?.is_some())
-}
-
-fn tries<R: RawMutexTimed<Duration = (), Instant = ()>>(
-    lock: &ReentrantMutex<R, u8>,
-    party: PartyId,
-) -> Tries
-where
-    R::Guard: Drop,
-{
-    [
-        is_given(lock.try_lock(party)),
-        is_given(lock.try_lock_for(party, ())),
-        is_given(lock.try_lock_until(party, ())),
-    ]
-}
-
-/// The refusal of a third level by `lock`, the tries of the owner and of another party at two levels, and the owner's
-/// tries at one level.
-fn beside_two_levels<R: RawMutexTimed<Duration = (), Instant = ()>>(
-    lock: &ReentrantMutex<R, u8>,
-    owner: PartyId,
-    other: PartyId,
-) -> Result<(Option<Fault>, [Tries; 3]), Fault>
-where
-    R::Guard: Drop,
-{
-    let outer = lock.lock(owner)?;
-    let _inner = lock.lock(owner)?;
-    let refused = lock.lock(owner).err();
-    let (own, others) = (tries(lock, owner), tries(lock, other));
-    drop(outer);
-    Ok((refused, [own, others, tries(lock, owner)]))
-}
-
-fn full_count<R: RawMutexTimed<Duration = (), Instant = ()> + Drop>(
-    alloc: Global,
-    waiter: R::Waiter,
-) -> Result<(), Fail>
-where
-    R::Guard: Send + Drop,
-{
-    let (first, second) = two_parties()?;
-    let lock: ReentrantMutex<R, u8> = ReentrantMutex::with_levels(alloc, waiter, 2, 0)?;
-    let seen = beside_two_levels(&lock, first, second)?;
-    equal(seen, (Some(Fault::FullCount), [FULL, NOT_GIVEN, GIVEN]))
-}
-
-/// The answers that the party gets from the calls of owners.
-fn owners_calls<R: RawMutexFair>(
-    lock: &RawReentrantMutex<R>,
-    party: PartyId,
-) -> [Result<(), Fault>; 3]
-where
-    R::Guard: Drop,
-{
-    [
-        lock.unlock(party),
-        lock.unlock_fair(party),
-        lock.bump(party),
-    ]
-}
-
-/// What `unlock` answers to the party, and whether the party owns the lock afterwards, and whether the lock is held.
-fn left<R: RawMutex>(lock: &RawReentrantMutex<R>, party: PartyId) -> (Result<(), Fault>, bool, bool)
-where
-    R::Guard: Drop,
-{
-    let answer = lock.unlock(party);
-    (
-        answer,
-        lock.is_owned_by_current_thread(party),
-        lock.is_locked(),
-    )
-}
-
-fn left_by_its_owner<R: RawMutexFair + Drop>(alloc: Global, waiter: R::Waiter) -> Result<(), Fail>
-where
-    R::Guard: Send + Drop,
-{
-    let (first, second) = two_parties()?;
-    let lock: RawReentrantMutex<R> = RawReentrantMutex::new(alloc, waiter)?;
-    equal((lock.lock(first), lock.try_lock(first)), (Ok(()), Ok(true)))?;
-    equal(owners_calls(&lock, second), [Err(Fault::Foreign); 3])?;
-    let lefts = [left(&lock, first), left(&lock, first), left(&lock, first)];
-    let wanted = [
-        (Ok(()), true, true),
-        (Ok(()), false, false),
-        (Err(Fault::Foreign), false, false),
+/// Another party's token is released at once, since it came too early.
+#[test]
+fn a_raw_lock_that_lies_makes_no_second_owner(rt: HostRuntime) -> Result<(), Fail> {
+    let (one, two) = two_parties()?;
+    let raw: AdmitsAll<HostRuntime> = RawMutex::new(rt.alloc(), rt)?;
+    let mut watch = Watch::new(raw.calls()?);
+    let lock = RawReentrantMutex::from_raw(raw);
+    let done = |call, answer: Result<(), Fault>| {
+        (
+            call,
+            answer.map(|()| true),
+            lock.is_owned_by_current_thread(one),
+        )
+    };
+    let tried = |call, answer| (call, answer, lock.is_owned_by_current_thread(one));
+    let answered = [
+        done("lock", lock.lock(one)),
+        tried("try_lock", lock.try_lock(one)),
+        tried("another's try_lock", lock.try_lock(two)),
+        done("another's unlock", lock.unlock(two)),
+        done("another's unlock_fair", lock.unlock_fair(two)),
+        done("another's bump", lock.bump(two)),
+        done("unlock", lock.unlock(one)),
+        done("bump", lock.bump(one)),
+        done("unlock_fair", lock.unlock_fair(one)),
+        done("unlock once more", lock.unlock(one)),
+        done("another's lock", lock.lock(two)),
     ];
-    equal(lefts, wanted)
-}
-
-/// A full count is refused, and only the owner releases.
-pub fn check<R: RawMutexFair + RawMutexTimed<Duration = (), Instant = ()> + Drop>(
-    alloc: Global,
-    waiters: [R::Waiter; 2],
-) -> Result<(), Fail>
-where
-    R::Guard: Send + Drop,
-{
-    let [first, second] = waiters;
-    full_count::<R>(alloc, first)?;
-    left_by_its_owner::<R>(alloc, second)
-}
-
-/// Whether another party acquires the owner's lock, and whether the owner still owns it, afterwards and after a bump.
-fn owned<R: RawMutexFair>(
-    lock: &RawReentrantMutex<R>,
-    owner: PartyId,
-    other: PartyId,
-) -> Result<(bool, bool, bool), Fault>
-where
-    R::Guard: Drop,
-{
-    lock.lock(owner)?;
-    let is_given = lock.try_lock(other)?;
-    let is_owned = lock.is_owned_by_current_thread(owner);
-    lock.bump(owner)?;
-    Ok((is_given, is_owned, lock.is_owned_by_current_thread(owner)))
-}
-
-/// Whether another party gets a guard while the owner has one, and whether the owner still owns the lock.
-fn guarded<R: RawMutex>(
-    lock: &ReentrantMutex<R, u8>,
-    owner: PartyId,
-    other: PartyId,
-) -> Result<(bool, bool), Fault>
-where
-    R::Guard: Drop,
-{
-    let _guard = lock.lock(owner)?;
-    let other_is_given = is_given(lock.try_lock(other))?;
-    Ok((other_is_given, lock.is_owned_by_current_thread(owner)))
-}
-
-/// Over a raw lock that admits everything.
-pub fn one_owner<W: Wait + Clone + Drop>(alloc: Global, waiters: [W; 2]) -> Result<(), Fail> {
-    let [first_waiter, second_waiter] = waiters;
-    let (first, second) = two_parties()?;
-    let raw: RawReentrantMutex<AdmitsAll<W>> = RawReentrantMutex::new(alloc, first_waiter)?;
-    equal(owned(&raw, first, second)?, (false, true, true))?;
-    let lock: ReentrantMutex<AdmitsAll<W>, u8> = ReentrantMutex::new(alloc, second_waiter, 7)?;
-    equal(guarded(&lock, first, second)?, (false, true))
+    equal(answered, WANTED)?;
+    watch.saw(&[
+        Lock(Exclusive),
+        TryLock(Exclusive),
+        Unlock(Exclusive),
+        UnlockFair(Exclusive),
+        Lock(Exclusive),
+        UnlockFair(Exclusive),
+        Lock(Exclusive),
+    ]);
+    watch.verdict()
 }

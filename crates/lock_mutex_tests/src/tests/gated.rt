@@ -1,4 +1,4 @@
-//! A raw lock that pauses in a bump.
+//! A raw lock whose releases wait.
 use lock_base::raw::Fault;
 use lock_guard::raw::{GuardSend, RawMutex, RawMutexFair};
 use lock_test_support::wait_for_flag;
@@ -7,24 +7,24 @@ use std::clone::Clone;
 use std::sync::Wait;
 use std::sync::atomic::{AtomicBool, Ordering};
 
-/// A raw lock that admits everything. A bump ends once `is_locked` was called, which answers true once a token was
-/// released.
+/// A raw lock that admits everything. Its releases wait until `is_locked` was called, which answers false once a plain
+/// release ended.
 #[derive(Drop)]
-pub struct Pausing<W: Wait + Clone + Drop> {
+pub struct Gated<W: Wait + Clone + Drop> {
     waiter: W,
-    was_asked: AtomicBool,
+    is_open: AtomicBool,
     was_unlocked: AtomicBool,
 }
 
-impl<W: Wait + Clone + Drop> RawMutex for Pausing<W> {
+impl<W: Wait + Clone + Drop> RawMutex for Gated<W> {
     type Guard = GuardSend;
 
     type Waiter = W;
 
-    fn new(_alloc: Global, waiter: W) -> Result<Pausing<W>, Fault> {
-        Ok(Pausing {
+    fn new(_alloc: Global, waiter: W) -> Result<Gated<W>, Fault> {
+        Ok(Gated {
             waiter,
-            was_asked: AtomicBool::new(false),
+            is_open: AtomicBool::new(false),
             was_unlocked: AtomicBool::new(false),
         })
     }
@@ -42,20 +42,19 @@ impl<W: Wait + Clone + Drop> RawMutex for Pausing<W> {
     }
 
     fn unlock(&self, _token: GuardSend) {
+        wait_for_flag(&self.waiter, &self.is_open);
         self.was_unlocked.store(true, Ordering::SeqCst);
     }
 
     fn is_locked(&self) -> bool {
-        self.was_asked.store(true, Ordering::SeqCst);
-        self.was_unlocked.load(Ordering::SeqCst)
+        self.is_open.store(true, Ordering::SeqCst);
+        !self.was_unlocked.load(Ordering::SeqCst)
     }
 }
 
-impl<W: Wait + Clone + Drop> RawMutexFair for Pausing<W> {
-    fn unlock_fair(&self, _token: GuardSend) {}
-
-    fn bump(&self, token: GuardSend) -> GuardSend {
-        wait_for_flag(&self.waiter, &self.was_asked);
-        token
+/// A bump is by default such a release, and another acquisition.
+impl<W: Wait + Clone + Drop> RawMutexFair for Gated<W> {
+    fn unlock_fair(&self, _token: GuardSend) {
+        wait_for_flag(&self.waiter, &self.is_open);
     }
 }

@@ -1,0 +1,111 @@
+//! The raw calls of guards of parts, and of calls that make none.
+use crate::tests::Table;
+use lock_base::machine::Mode::Exclusive;
+use lock_base::machine::PartyId;
+use lock_base::raw::Fault;
+use lock_guard::raw::{RawMutex, RawMutexFair};
+use lock_raws::RawLock;
+use lock_remutex::{
+    ArcReentrantMutexGuard, MappedReentrantMutexGuard, ReentrantMutex, ReentrantMutexGuard,
+};
+use lock_test_support::answer::equal;
+use lock_test_support::party;
+use lock_test_support::project::{Item0, Item1, Nth};
+use lock_test_support::raw_lock::{MockRaw, Watch, watch_fair_end};
+use std::alloc::Global;
+use std::sync::Arc;
+use std::test::Fail;
+
+/// A pair behind a lock.
+type Paired<R> = ReentrantMutex<R, (u64, u64)>;
+
+/// Maps a guard that was just acquired: by a part that is there, and by one that is not.
+fn maps<R: RawMutexFair>(lock: &Paired<R>, watch: &mut Watch, party: PartyId) -> Result<(), Fault>
+where
+    R::Guard: Drop,
+{
+    watch.saw_hold(
+        ReentrantMutexGuard::map(lock.lock(party)?, Item0),
+        Exclusive,
+    );
+    watch_fair_end(
+        ReentrantMutexGuard::map(lock.lock(party)?, Item0),
+        Exclusive,
+        watch,
+    );
+    for index in [1, 2] {
+        watch.saw_hold(
+            ReentrantMutexGuard::try_map(lock.lock(party)?, Nth(index)),
+            Exclusive,
+        );
+        watch.saw_hold(
+            ReentrantMutexGuard::try_map_or_err(lock.lock(party)?, Nth(index)),
+            Exclusive,
+        );
+    }
+    Ok(())
+}
+
+/// Misses a third and a sixth item, and reads the second beside another guard, which ends first. Returns the last miss,
+/// and the item.
+fn inner_maps<R: RawMutexFair>(
+    lock: &Paired<R>,
+    watch: &mut Watch,
+    party: PartyId,
+) -> Option<(usize, u64)>
+where
+    R::Guard: Drop,
+{
+    let outer = lock.lock(party).ok()?;
+    let guard = ReentrantMutexGuard::try_map(lock.lock(party).ok()?, Nth(2)).err()?;
+    let (guard, missed) = ReentrantMutexGuard::try_map_or_err(guard, Nth(5)).err()?;
+    let part = ReentrantMutexGuard::map(guard, Item1);
+    let item = *part;
+    MappedReentrantMutexGuard::unlock_fair(part);
+    ReentrantMutexGuard::remutex(&outer);
+    watch.saw_hold(outer, Exclusive);
+    Some((missed, item))
+}
+
+/// The guard of a lock that it owns a reference to, and the end of the last reference.
+fn ends<R: RawMutex + Drop>(
+    lock: Arc<Paired<R>>,
+    watch: &mut Watch,
+    party: PartyId,
+) -> Result<(), Fault>
+where
+    R::Guard: Drop,
+{
+    let guard = ReentrantMutex::lock_arc(&lock, party)?;
+    ArcReentrantMutexGuard::remutex(&guard);
+    watch.saw_hold(guard, Exclusive);
+    drop(lock);
+    watch.saw(&[]);
+    Ok(())
+}
+
+fn check<R: RawMutexFair + Drop>(alloc: Global, waiter: R::Waiter) -> Result<(), Fail>
+where
+    R::Guard: Send + Drop,
+{
+    let one = party(1)?;
+    let raw: MockRaw<R> = RawMutex::new(alloc, waiter)?;
+    let mut watch = Watch::new(raw.calls()?);
+    let mut lock = ReentrantMutex::from_raw(raw, (1, 2))?;
+    maps(&lock, &mut watch, one)?;
+    equal(inner_maps(&lock, &mut watch, one), Some((5, 2)))?;
+    *lock.get_mut() = (3, 4);
+    let (raw, value) = lock.into_inner_with_raw();
+    watch.saw(&[]);
+    ends(
+        Arc::new(alloc, ReentrantMutex::from_raw(raw, value)?)?,
+        &mut watch,
+        one,
+    )?;
+    watch.verdict()
+}
+
+#[test]
+fn maps_make_no_raw_calls(rt: HostRuntime) -> Result<(), Fail> {
+    check::<RawLock<Table>>(rt.alloc(), rt)
+}
