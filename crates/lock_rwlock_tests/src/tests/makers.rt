@@ -9,6 +9,27 @@ use lock_test_support::raw_lock::MockRaw;
 use std::alloc::Global;
 use std::test::Fail;
 
+/// A maker's name, its lock, how many readers that admits, and its value.
+type Made<R> = (&'static str, Result<RwLock<R, u64>, Fault>, u64, u64);
+
+/// What `new`, `from`, `default` and `with_readers` make.
+type Makers<R> = (Made<R>, Made<R>, Made<R>, Made<R>);
+
+fn made<R: RawRwLock>(alloc: Global, waiters: [R::Waiter; 4]) -> Makers<R> {
+    let [first, second, third, last] = waiters;
+    (
+        ("new", RwLock::new(alloc, first, 5), 64, 5),
+        ("from", RwLock::from(alloc, second, 6), 64, 6),
+        ("default", RwLock::default(alloc, third), 64, 0),
+        (
+            "with_readers",
+            RwLock::with_readers(alloc, last, 3, 7),
+            3,
+            7,
+        ),
+    )
+}
+
 /// How many of 66 tries get a shared token, none of which is released.
 fn readers_of_66<R: RawRwLock>(raw: &R) -> u64
 where
@@ -24,60 +45,44 @@ where
     readers
 }
 
+/// Checks a lock, and that its maker made no raw call.
+fn check_made<R: RawRwLock + Drop>(made: Made<MockRaw<R>>) -> Result<(), Fail>
+where
+    R::SharedGuard: Drop,
+{
+    let (name, lock, readers, value) = made;
+    let (raw, found) = lock?.into_inner_with_raw();
+    let has_no_calls = raw.has_no_calls();
+    equal(
+        (name, has_no_calls, readers_of_66(&raw), found),
+        (name, true, readers, value),
+    )
+}
+
 pub fn check<R: RawRwLock + Drop>(alloc: Global, waiters: [R::Waiter; 4]) -> Result<(), Fail>
 where
     R::SharedGuard: Drop,
 {
-    let [first, second, third, last] = waiters;
-    let made: RwLock<R, u64> = RwLock::new(alloc, first, 0)?;
-    equal(readers_of_66(&made.into_inner_with_raw().0), 64)?;
-    let made: RwLock<R, u64> = RwLock::with_readers(alloc, second, 3, 0)?;
-    equal(readers_of_66(&made.into_inner_with_raw().0), 3)?;
-    let from: RwLock<R, u64> = RwLock::from(alloc, third, 6)?;
-    let mut default: RwLock<R, u64> = RwLock::default(alloc, last)?;
-    *default.get_mut() = 5;
-    let (raw, value) = default.into_inner_with_raw();
-    let again = RwLock::from_raw(raw, value)?;
-    let is_held = again.is_locked() || again.is_locked_exclusive();
-    equal(
-        (from.into_inner(), is_held, again.into_inner()),
-        (6, false, 5),
-    )
+    let (new, from, default, with_readers) = made::<MockRaw<R>>(alloc, waiters);
+    check_made(new)?;
+    check_made(from)?;
+    check_made(default)?;
+    check_made(with_readers)
 }
 
-/// Whether a new lock has made no raw call.
-fn has_no_calls<R: RawRwLock + Drop>(made: RwLock<MockRaw<R>, u64>) -> bool {
-    let (raw, _) = made.into_inner_with_raw();
-    raw.has_no_calls()
+/// Whether the maker gave a lock of its value, or answered that there was no memory.
+fn holds_or_lacks<C: LockCore>(made: Made<RawLock<C>>) -> bool {
+    let (_, lock, _, value) = made;
+    holds_or_lacks_memory(lock.map(|lock| lock.into_inner()), value)
 }
 
-/// No maker makes a raw call.
-pub fn check_calls<R: RawRwLock + Drop>(
-    alloc: Global,
-    waiters: [R::Waiter; 4],
-) -> Result<(), Fail> {
-    let [first, second, third, last] = waiters;
-    let unasked = [
-        has_no_calls::<R>(RwLock::new(alloc, first, 5)?),
-        has_no_calls::<R>(RwLock::from(alloc, second, 5)?),
-        has_no_calls::<R>(RwLock::default(alloc, third)?),
-        has_no_calls::<R>(RwLock::with_readers(alloc, last, 1, 5)?),
-    ];
-    equal(unasked, [true; 4])
-}
-
-fn holds_or_lacks<C: LockCore>(made: Result<RwLock<RawLock<C>, u64>, Fault>, value: u64) -> bool {
-    holds_or_lacks_memory(made.map(|lock| lock.into_inner()), value)
-}
-
-/// Whether each maker gave a lock of its value, or answered that there was no memory.
 fn hold_or_lack<C: LockCore>(alloc: Global, waiters: [C::Waiter; 4]) -> [bool; 4] {
-    let [first, second, third, last] = waiters;
+    let (new, from, default, with_readers) = made(alloc, waiters);
     [
-        holds_or_lacks::<C>(RwLock::new(alloc, first, 5), 5),
-        holds_or_lacks::<C>(RwLock::from(alloc, second, 6), 6),
-        holds_or_lacks::<C>(RwLock::default(alloc, third), 0),
-        holds_or_lacks::<C>(RwLock::with_readers(alloc, last, 1, 7), 7),
+        holds_or_lacks::<C>(new),
+        holds_or_lacks(from),
+        holds_or_lacks(default),
+        holds_or_lacks(with_readers),
     ]
 }
 

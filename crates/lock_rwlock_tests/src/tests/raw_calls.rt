@@ -1,101 +1,105 @@
 //! What the raw lock is asked by guards that borrow the lock, where no script of `conform/` makes the call.
-mod mapped;
-mod refused;
-
-use lock_base::machine::Mode::{Exclusive, Shared, Upgradable};
+use lock_base::machine::Mode::{self, Exclusive, Shared, Upgradable};
 use lock_guard::raw::{
-    RawRwLock, RawRwLockUpgrade, RawRwLockUpgradeDowngrade, RawRwLockUpgradeFair,
+    RawRwLock, RawRwLockFair, RawRwLockUpgrade, RawRwLockUpgradeDowngrade, RawRwLockUpgradeFair,
     RawRwLockUpgradeTimed,
 };
 use lock_rwlock::{RwLock, RwLockReadGuard, RwLockUpgradableReadGuard, RwLockWriteGuard};
-use lock_test_support::project::Nested;
+use lock_test_support::project::{Item0, Nested, inner_item};
 use lock_test_support::raw_lock::RawCall::{
-    DowngradeToUpgradable, IsLocked, Lock, TryUpgrade, TryUpgradeFor, TryUpgradeUntil, Unlock,
-    UnlockFair, Upgrade,
+    self, DowngradeToUpgradable, IsLocked, Lock, TryUpgrade, TryUpgradeFor, TryUpgradeUntil,
+    Unlock, UnlockFair, Upgrade,
 };
-use lock_test_support::raw_lock::{AdmitsAll, Watch};
+use lock_test_support::raw_lock::{AdmitsAll, Watch, watch_fair_end, watch_write};
 use std::test::Fail;
 
 /// A pair in a pair behind a lock.
 type Paired<R> = RwLock<R, Nested>;
 
-/// What reads and writes the value, or tells the lock, asks nothing.
-fn uses_of_guards<R: RawRwLockUpgrade>(lock: &Paired<R>, watch: &mut Watch) {
+/// A guard names its lock.
+fn names<R: RawRwLock>(lock: &Paired<R>, watch: &mut Watch) {
     let reader = lock.read();
     RwLockReadGuard::rwlock(&reader);
-    watch.saw_read(reader, Shared);
+    watch.saw_hold(reader, Shared);
     let writer = lock.write();
     RwLockWriteGuard::rwlock(&writer);
-    watch.saw_write(writer, ((1, 1), 1), Exclusive);
-    let guard = lock.upgradable_read();
-    RwLockUpgradableReadGuard::rwlock(&guard);
-    watch.saw_read(guard, Upgradable);
+    watch.saw_hold(writer, Exclusive);
+}
+
+/// A guard is mapped, by a part that is there and by one that is not. What a mapped guard asks by itself is one code for
+/// all locks, and asked of a mutex.
+fn maps<R: RawRwLockFair>(lock: &Paired<R>, watch: &mut Watch) {
+    watch.saw_hold(RwLockReadGuard::map(lock.read(), Item0), Shared);
+    watch_fair_end(RwLockReadGuard::map(lock.read(), Item0), Shared, watch);
+    watch_write(RwLockWriteGuard::map(lock.write(), Item0), Exclusive, watch);
+    for index in [1, 2] {
+        let part = RwLockReadGuard::try_map(lock.read(), inner_item(index));
+        watch.saw_hold(part, Shared);
+        let part = RwLockReadGuard::try_map_or_err(lock.read(), inner_item(index));
+        watch.saw_hold(part, Shared);
+    }
 }
 
 /// Calls under an upgraded guard. Each closure looks at the raw lock.
 fn calls_under_an_upgrade<
     R: RawRwLockUpgradeTimed<Duration = u64, Instant = u64> + RawRwLockUpgradeDowngrade,
->(lock: &Paired<R>, watch: &mut Watch) {
+>(lock: &Paired<R>) {
     let mut guard = lock.upgradable_read();
+    RwLockUpgradableReadGuard::rwlock(&guard);
     guard.with_upgraded(|_| lock.is_locked());
     guard.try_with_upgraded(|_| lock.is_locked());
     guard.try_with_upgraded_for(3, |_| lock.is_locked());
     guard.try_with_upgraded_until(4, |_| lock.is_locked());
-    drop(guard);
-    watch.saw(&[
-        Lock(Upgradable),
-        Upgrade,
-        IsLocked,
-        DowngradeToUpgradable,
-        TryUpgrade,
-        IsLocked,
-        DowngradeToUpgradable,
-        TryUpgradeFor(3),
-        IsLocked,
-        DowngradeToUpgradable,
-        TryUpgradeUntil(4),
-        IsLocked,
-        DowngradeToUpgradable,
-        Unlock(Upgradable),
-    ]);
 }
+
+/// The raw calls of a guard and its calls under an upgrade, each of which looks at the raw lock.
+pub const UNDER_AN_UPGRADE: [RawCall; 14] = [
+    Lock(Upgradable),
+    Upgrade,
+    IsLocked,
+    DowngradeToUpgradable,
+    TryUpgrade,
+    IsLocked,
+    DowngradeToUpgradable,
+    TryUpgradeFor(3),
+    IsLocked,
+    DowngradeToUpgradable,
+    TryUpgradeUntil(4),
+    IsLocked,
+    DowngradeToUpgradable,
+    Unlock(Upgradable),
+];
 
 /// All of these, on a lock that is free before and after each.
-pub fn all_calls<
+pub fn check<
     R: RawRwLockUpgradeTimed<Duration = u64, Instant = u64>
-        + RawRwLockUpgradeFair
+        + RawRwLockFair
         + RawRwLockUpgradeDowngrade,
 >(lock: &Paired<R>, watch: &mut Watch) {
-    uses_of_guards(lock, watch);
-    mapped::maps(lock, watch);
-    mapped::write_of_a_part(lock, watch);
-    calls_under_an_upgrade(lock, watch);
+    names(lock, watch);
+    maps(lock, watch);
+    calls_under_an_upgrade(lock);
+    watch.saw(&UNDER_AN_UPGRADE);
 }
 
-fn bumps_by_default<R: RawRwLockUpgradeFair>(raw: &R) {
+/// A lock, a bump and an unlock in the mode.
+fn bumped(mode: Mode) -> [RawCall; 4] {
+    [Lock(mode), UnlockFair(mode), Lock(mode), Unlock(mode)]
+}
+
+fn bumps_by_default<R: RawRwLockUpgradeFair>(raw: &R, watch: &mut Watch) {
     raw.unlock_shared(raw.bump_shared(raw.lock_shared()));
+    watch.saw(&bumped(Shared));
     raw.unlock_exclusive(raw.bump_exclusive(raw.lock_exclusive()));
+    watch.saw(&bumped(Exclusive));
     raw.unlock_upgradable(raw.bump_upgradable(raw.lock_upgradable()));
+    watch.saw(&bumped(Upgradable));
 }
 
 #[test]
 fn a_bump_by_default_is_a_fair_unlock_and_a_lock(rt: HostRuntime) -> Result<(), Fail> {
     let raw: AdmitsAll<HostRuntime> = RawRwLock::new(rt.alloc(), rt, 1)?;
     let mut watch = Watch::new(raw.calls()?);
-    bumps_by_default(&raw);
-    watch.saw(&[
-        Lock(Shared),
-        UnlockFair(Shared),
-        Lock(Shared),
-        Unlock(Shared),
-        Lock(Exclusive),
-        UnlockFair(Exclusive),
-        Lock(Exclusive),
-        Unlock(Exclusive),
-        Lock(Upgradable),
-        UnlockFair(Upgradable),
-        Lock(Upgradable),
-        Unlock(Upgradable),
-    ]);
+    bumps_by_default(&raw, &mut watch);
     watch.verdict()
 }

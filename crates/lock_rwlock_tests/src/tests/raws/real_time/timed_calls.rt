@@ -1,15 +1,22 @@
 //! Every timed call: it times out no sooner than its time, and a release before that lets it acquire.
-use super::{is_over, long, raw_rwlock, short, wait_for_flag};
+use super::{is_over, raw_rwlock, short};
+use crate::tests::raws::held::{Held, lock, unlock};
+use lock_base::machine::Mode::{Exclusive, Shared};
 use lock_guard::raw::{
-    RawMutex, RawMutexTimed, RawRwLock, RawRwLockTimed, RawRwLockUpgrade, RawRwLockUpgradeTimed,
+    RawMutexTimed, RawRwLock, RawRwLockTimed, RawRwLockUpgrade, RawRwLockUpgradeTimed,
 };
 use lock_raws::{LockCore, RawLock};
 use lock_raws_word::TimedRaw;
-use std::sync::Wait;
+use lock_test_support::wait_for_flag;
 use std::sync::atomic::{AtomicBool, Ordering};
 use std::test::Fail;
-use std::thread::{self, Threads};
+use std::thread;
 use std::time::{Clock, Duration, Instant};
+
+/// Longer than any test lasts.
+fn long() -> Duration {
+    Duration::from_secs(3_600)
+}
 
 /// What a timed call acquires.
 #[derive(Clone, Copy, PartialEq, Debug)]
@@ -60,96 +67,44 @@ impl Form {
     }
 }
 
-/// Whether the call acquires the lock. It releases the lock at once.
-fn acquires_lock<R: RawMutexTimed<Duration = Duration, Instant = Instant>>(
-    raw: &R,
+/// Makes the timed call. An upgradable token that is not upgraded is released.
+fn acquired<C: LockCore<Duration = Duration, Instant = Instant>>(
+    raw: &RawLock<C>,
+    want: Want,
     end: End,
-) -> bool {
-    let acquired = match end {
-        End::For(time) => raw.try_lock_for(time),
-        End::Until(deadline) => raw.try_lock_until(deadline),
-    };
-    match acquired {
-        Some(token) => {
-            raw.unlock(token);
-            true
+) -> Option<Held<C>> {
+    let held = match (want, end) {
+        (Want::Lock, End::For(time)) => Held::Writer(raw.try_lock_for(time)?),
+        (Want::Lock, End::Until(deadline)) => Held::Writer(raw.try_lock_until(deadline)?),
+        (Want::Shared, End::For(time)) => Held::Reader(raw.try_lock_shared_for(time)?),
+        (Want::Shared, End::Until(deadline)) => Held::Reader(raw.try_lock_shared_until(deadline)?),
+        (Want::Exclusive, End::For(time)) => Held::Writer(raw.try_lock_exclusive_for(time)?),
+        (Want::Exclusive, End::Until(deadline)) => {
+            Held::Writer(raw.try_lock_exclusive_until(deadline)?)
         }
-        None => false,
-    }
+        (Want::Upgradable, End::For(time)) => Held::Upgrader(raw.try_lock_upgradable_for(time)?),
+        (Want::Upgradable, End::Until(deadline)) => {
+            Held::Upgrader(raw.try_lock_upgradable_until(deadline)?)
+        }
+        (Want::Upgrade, end) => return upgraded(raw, end),
+    };
+    Some(held)
 }
 
-/// `acquires_lock`, of a shared token.
-fn acquires_shared<R: RawRwLockTimed<Duration = Duration, Instant = Instant>>(
-    raw: &R,
+fn upgraded<C: LockCore<Duration = Duration, Instant = Instant>>(
+    raw: &RawLock<C>,
     end: End,
-) -> bool {
-    let acquired = match end {
-        End::For(time) => raw.try_lock_shared_for(time),
-        End::Until(deadline) => raw.try_lock_shared_until(deadline),
+) -> Option<Held<C>> {
+    let token = raw.lock_upgradable();
+    let answer = match end {
+        End::For(time) => raw.try_upgrade_for(token, time),
+        End::Until(deadline) => raw.try_upgrade_until(token, deadline),
     };
-    match acquired {
-        Some(token) => {
-            raw.unlock_shared(token);
-            true
-        }
-        None => false,
-    }
-}
-
-/// `acquires_lock`, of an exclusive token.
-fn acquires_exclusive<R: RawRwLockTimed<Duration = Duration, Instant = Instant>>(
-    raw: &R,
-    end: End,
-) -> bool {
-    let acquired = match end {
-        End::For(time) => raw.try_lock_exclusive_for(time),
-        End::Until(deadline) => raw.try_lock_exclusive_until(deadline),
-    };
-    match acquired {
-        Some(token) => {
-            raw.unlock_exclusive(token);
-            true
-        }
-        None => false,
-    }
-}
-
-/// `acquires_lock`, of an upgradable token.
-fn acquires_upgradable<R: RawRwLockUpgradeTimed<Duration = Duration, Instant = Instant>>(
-    raw: &R,
-    end: End,
-) -> bool {
-    let acquired = match end {
-        End::For(time) => raw.try_lock_upgradable_for(time),
-        End::Until(deadline) => raw.try_lock_upgradable_until(deadline),
-    };
-    match acquired {
-        Some(token) => {
-            raw.unlock_upgradable(token);
-            true
-        }
-        None => false,
-    }
-}
-
-/// `acquires_lock`, of an exclusive token for an upgradable one.
-fn upgrades<R: RawRwLockUpgradeTimed<Duration = Duration, Instant = Instant>>(
-    raw: &R,
-    end: End,
-) -> bool {
-    let upgradable = raw.lock_upgradable();
-    let upgraded = match end {
-        End::For(time) => raw.try_upgrade_for(upgradable, time),
-        End::Until(deadline) => raw.try_upgrade_until(upgradable, deadline),
-    };
-    match upgraded {
-        Ok(token) => {
-            raw.unlock_exclusive(token);
-            true
-        }
+    match answer {
+        Ok(token) => Some(Held::Writer(token)),
         Err(token) => {
             raw.unlock_upgradable(token);
-            false
+            None
         }
     }
 }
@@ -160,129 +115,87 @@ fn acquires<C: LockCore<Duration = Duration, Instant = Instant>>(
     want: Want,
     end: End,
 ) -> bool {
-    match want {
-        Want::Lock => acquires_lock(raw, end),
-        Want::Shared => acquires_shared(raw, end),
-        Want::Exclusive => acquires_exclusive(raw, end),
-        Want::Upgradable => acquires_upgradable(raw, end),
-        Want::Upgrade => upgrades(raw, end),
+    match acquired(raw, want, end) {
+        Some(held) => {
+            unlock(raw, held);
+            true
+        }
+        None => false,
     }
 }
 
-/// Whether the call acquires within `short`, and whether `short` was over when it returned.
-fn acquires_in_time<K: Clock, C: LockCore<Duration = Duration, Instant = Instant>>(
+/// Acquires a token that blocks the call.
+fn block<C: LockCore>(raw: &RawLock<C>, want: Want) -> Held<C> {
+    lock(
+        raw,
+        if want == Want::Upgrade {
+            Shared
+        } else {
+            Exclusive
+        },
+    )
+}
+
+/// Whether the call acquires within `short`, next to a token that blocks it, and whether `short` was over when it
+/// returned.
+fn acquires_beside<K: Clock, C: LockCore<Duration = Duration, Instant = Instant>>(
     clock: &K,
     raw: &RawLock<C>,
     want: Want,
     form: Form,
 ) -> Result<(bool, bool), Fail> {
+    let held = block(raw, want);
     let start = Instant::now(clock)?;
-    let end = form.end(clock, short())?;
-    let is_acquired = acquires(raw, want, end);
-    Ok((is_acquired, is_over(clock, start)))
+    let is_acquired = acquires(raw, want, form.end(clock, short())?);
+    let was_over = is_over(clock, start);
+    unlock(raw, held);
+    Ok((is_acquired, was_over))
 }
 
-/// What threads do with a lock that they share.
-trait TimedLock {
-    /// Where a thread waits.
-    type Waiter: Wait;
-
-    /// `acquires_in_time`, while another token blocks the call.
-    fn acquires_beside<K: Clock>(
-        &self,
-        clock: &K,
-        want: Want,
-        form: Form,
-    ) -> Result<(bool, bool), Fail>;
-
-    /// Holds a token that blocks the call for `short`, and releases it.
-    fn release_later<K: Clock>(&self, clock: &K, want: Want, is_held: &AtomicBool);
-
-    /// Whether the call acquires, which begins once another thread holds a token that blocks it.
-    fn acquires_once_held(&self, want: Want, end: End, is_held: &AtomicBool) -> bool;
-}
-
-/// Tells the other thread that a token is held, and waits for `short`.
-fn show_for_short<K: Clock>(clock: &K, is_held: &AtomicBool) {
-    is_held.store(true, Ordering::SeqCst);
-    clock.sleep(short());
-}
-
-impl<C: LockCore<Duration = Duration, Instant = Instant>> TimedLock for RawLock<C> {
-    type Waiter = C::Waiter;
-
-    fn acquires_beside<K: Clock>(
-        &self,
-        clock: &K,
-        want: Want,
-        form: Form,
-    ) -> Result<(bool, bool), Fail> {
-        if want == Want::Upgrade {
-            let shared = self.lock_shared();
-            let seen = acquires_in_time(clock, self, want, form);
-            self.unlock_shared(shared);
-            return seen;
-        }
-        let exclusive = self.lock_exclusive();
-        let seen = acquires_in_time(clock, self, want, form);
-        self.unlock_exclusive(exclusive);
-        seen
-    }
-
-    fn release_later<K: Clock>(&self, clock: &K, want: Want, is_held: &AtomicBool) {
-        if want == Want::Upgrade {
-            let shared = self.lock_shared();
-            show_for_short(clock, is_held);
-            self.unlock_shared(shared);
-            return;
-        }
-        let exclusive = self.lock_exclusive();
-        show_for_short(clock, is_held);
-        self.unlock_exclusive(exclusive);
-    }
-
-    fn acquires_once_held(&self, want: Want, end: End, is_held: &AtomicBool) -> bool {
-        wait_for_flag(RawMutex::waiter(self), is_held);
-        acquires(self, want, end)
-    }
-}
-
-/// Whether the call acquires, which begins before the release of the token that blocks it.
-fn acquires_after_release<R: Threads + Clock + Sync, L: TimedLock + Sync>(
-    rt: &R,
-    lock: &L,
+/// Whether the call acquires, which begins once another thread holds a token that blocks it.
+fn acquires_once_held<C: LockCore<Duration = Duration, Instant = Instant>>(
+    raw: &RawLock<C>,
     want: Want,
     end: End,
+    is_held: &AtomicBool,
 ) -> bool {
-    let is_held = AtomicBool::new(false);
-    let (is_acquired, ()) = thread::join(
-        rt,
-        || lock.acquires_once_held(want, end, &is_held),
-        || lock.release_later(rt, want, &is_held),
-    );
-    is_acquired
+    wait_for_flag(RawRwLock::waiter(raw), is_held);
+    acquires(raw, want, end)
+}
+
+/// Holds a token that blocks the call for `short`, and releases it.
+fn release_later<K: Clock, C: LockCore>(
+    clock: &K,
+    raw: &RawLock<C>,
+    want: Want,
+    is_held: &AtomicBool,
+) {
+    let held = block(raw, want);
+    is_held.store(true, Ordering::SeqCst);
+    clock.sleep(short());
+    unlock(raw, held);
 }
 
 /// Each call, blocked and released. A timeout past the last instant never ends.
-fn check<R: Threads + Clock + Sync, L: TimedLock + Sync>(rt: &R, lock: &L) -> Result<(), Fail> {
-    for (want, form) in CALLS {
-        let seen = lock.acquires_beside(rt, want, form)?;
-        if seen != (false, true) {
-            return Err(Fail::from((want, form, "timed out before its time", seen)));
-        }
-        let end = form.end(rt, long())?;
-        if !acquires_after_release(rt, lock, want, end) {
-            return Err(Fail::from((want, form, "timed out after a release")));
-        }
-        if !acquires_after_release(rt, lock, want, End::For(Duration::MAX)) {
-            return Err(Fail::from((want, "timed out though its timeout never ends")));
-        }
-    }
-    Ok(())
-}
-
 #[test]
 fn timed_calls_wait_for_their_time(rt: HostRuntime) -> Result<(), Fail> {
     let raw: TimedRaw<HostRuntime> = raw_rwlock(rt.alloc(), rt)?;
-    check(&rt, &raw)
+    for (want, form) in CALLS {
+        let seen = acquires_beside(&rt, &raw, want, form)?;
+        if seen != (false, true) {
+            return Err(Fail::from((want, form, "timed out before its time", seen)));
+        }
+        for end in [form.end(&rt, long())?, End::For(Duration::MAX)] {
+            let is_held = AtomicBool::new(false);
+            let (is_acquired, ()) = thread::join(
+                &rt,
+                || acquires_once_held(&raw, want, end, &is_held),
+                || release_later(&rt, &raw, want, &is_held),
+            );
+            if !is_acquired {
+                return Err(Fail::from((want, form, "timed out after a release")));
+            }
+        }
+    }
+    Ok(())
 }

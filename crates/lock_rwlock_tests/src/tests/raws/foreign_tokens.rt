@@ -1,0 +1,39 @@
+//! Tokens of another lock, which a lock over a table ignores.
+use lock_base::machine::Mode::Shared;
+use lock_base::machine::ModeStep::{self, Acquire, Release};
+use lock_guard::raw::{RawRwLock, RawRwLockDowngrade};
+use lock_raws::{LockCore, RawLock, RecordingRaw};
+use lock_test_support::answer::equal;
+use std::alloc::Global;
+use std::test::Fail;
+
+/// Releases a token of the one at the other, which has a reader of its own. Returns whether each is held after that.
+fn unlock_the_other<C: LockCore>(one: &RawLock<C>, other: &RawLock<C>) -> [bool; 2] {
+    let shared = other.lock_shared();
+    other.unlock_exclusive(one.lock_exclusive());
+    let is_held = RawRwLock::is_locked(other);
+    other.unlock_shared(shared);
+    [one.is_locked_exclusive(), is_held]
+}
+
+/// Downgrades a token of the one at the other, and releases it there. Returns whether that is held after each.
+fn downgrade_at_the_other<C: LockCore>(one: &RawLock<C>, other: &RawLock<C>) -> [bool; 2] {
+    let shared = other.downgrade(one.lock_exclusive());
+    let is_held = RawRwLock::is_locked(other);
+    other.unlock_shared(shared);
+    [is_held, RawRwLock::is_locked(other)]
+}
+
+/// They also write no step.
+#[test]
+fn foreign_tokens_are_ignored(rt: HostRuntime) -> Result<(), Fail> {
+    let one = RecordingRaw::with_room(rt.alloc(), rt, 1, 4)?;
+    let other = RecordingRaw::with_room(rt.alloc(), rt, 1, 4)?;
+    assert_eq!(rt; unlock_the_other(&one, &other), [true, true]);
+    let third = RecordingRaw::with_room(rt.alloc(), rt, 1, 4)?;
+    assert_eq!(rt; downgrade_at_the_other(&third, &other), [false, false]);
+    assert!(rt;
+        other.journal(rt.alloc())?.as_slice() == [Acquire(Shared), Release(Shared)].as_slice()
+    );
+    Ok(())
+}

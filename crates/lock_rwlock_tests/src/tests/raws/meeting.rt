@@ -1,0 +1,66 @@
+//! Where four threads wait for one another, and what they tell one another.
+use std::sync::Wait;
+use std::sync::atomic::{AtomicU64, Ordering};
+use std::thread;
+
+const THREADS: u64 = 4;
+
+/// Counts of what four threads have done.
+#[derive(Drop)]
+pub struct Meeting {
+    arrivals: AtomicU64,
+    reads: AtomicU64,
+    writes: AtomicU64,
+}
+
+impl Meeting {
+    pub fn new() -> Meeting {
+        Meeting {
+            arrivals: AtomicU64::new(0),
+            reads: AtomicU64::new(0),
+            writes: AtomicU64::new(0),
+        }
+    }
+
+    /// Waits until all threads have come as often as this one.
+    pub fn meet<W: Wait>(&self, waiter: &W) {
+        let before = self.arrivals.fetch_add(1, Ordering::SeqCst);
+        let all = (before / THREADS).wrapping_add(1).wrapping_mul(THREADS);
+        wait_for(waiter, &self.arrivals, all);
+    }
+
+    pub fn write(&self) {
+        self.writes.fetch_add(1, Ordering::SeqCst);
+    }
+
+    pub fn is_written(&self) -> bool {
+        self.writes.load(Ordering::SeqCst) != 0
+    }
+
+    pub fn await_write<W: Wait>(&self, waiter: &W) {
+        wait_for(waiter, &self.writes, 1);
+    }
+
+    /// Reads until another thread does, so that the lock is never free as long as later readers are admitted; or for
+    /// some turns.
+    pub fn let_another_read(&self) {
+        let before = self.reads.fetch_add(1, Ordering::SeqCst).wrapping_add(1);
+        for _ in 0..1_000u32 {
+            if self.reads.load(Ordering::SeqCst) != before {
+                return;
+            }
+            thread::yield_now();
+        }
+    }
+}
+
+/// Waits until the count is that large.
+fn wait_for<W: Wait>(waiter: &W, count: &AtomicU64, least: u64) {
+    for _ in waiter.forever() {
+        if count.load(Ordering::SeqCst) >= least {
+            return;
+        }
+        thread::yield_now();
+    }
+    unreachable!()
+}
