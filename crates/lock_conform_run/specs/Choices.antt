@@ -1,7 +1,10 @@
 -- What the words after the program's name choose.
-use Rattle.std.specs.Prelude.{◌≡◌, ◌⊎◌, ℕ, List, codes}
+use Rattle.std.specs.Prelude.{◌≡◌, ◌≢◌, ◌⊎◌, ◌↔◌, [], ◌∷◌, ℕ, List, String, string_bytes, codes, IsTrue, All}
+use Rattle.std.specs.Global.{Global}
+use Rattle.lock_conform_run.specs.declared.choice.Choice.{Choice}
 use Rattle.lock_conform_run.specs.declared.choice.RawChoice.{RawChoice}
 use Rattle.lock_conform_run.specs.declared.choice.RawChoice.TheVariants.{Word, Table, Timed, Recording}
+use Rattle.lock_conform.specs.declared.park_by.ParkBy.TheVariants.{Unlocked}
 
 -- the word of a raw lock
 abbrev pub raw_word : RawChoice → List ℕ
@@ -12,3 +15,19 @@ raw_word Recording = codes "recording"
 
 abbrev pub IsOption : List ℕ → Type 0
 IsOption word = (word ≡ codes "within") ⊎ ((word ≡ codes "arc") ⊎ (word ≡ codes "calls"))
+
+-- not each of the words is another word
+abbrev pub HasWord : List (String Global) → List ℕ → Type 0
+HasWord words word = ¬ All (λ it. string_bytes it ≢ word) words
+
+-- the first word is the raw lock's, and the options are the others, in any order
+pub record IsChosen (first : List ℕ) (options : List (String Global)) (choice : Choice) : Type 0 where
+  pub raw : first ≡ raw_word choice.raw
+  pub known : All (λ it. IsOption (string_bytes it)) options
+  pub within : (choice.park_by ≡ Unlocked) ↔ HasWord options (codes "within")
+  pub arc : IsTrue choice.is_arc ↔ HasWord options (codes "arc")
+  pub calls : IsTrue choice.prints_calls ↔ HasWord options (codes "calls")
+
+abbrev pub IsChoice : List (String Global) → Choice → Type 0
+IsChoice [] choice = ⊥
+IsChoice (first ∷ options) choice = IsChosen (string_bytes first) options choice

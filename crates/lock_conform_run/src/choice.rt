@@ -1,5 +1,6 @@
 //! The words after the program's name.
-ghost use Rattle.std.specs.Prelude.{◌≡◌, ◌≢◌, IfNone, IfSome};
+ghost use Rattle.std.specs.Prelude.{◌≡◌, ◌≢◌, ◌↔◌, IfNone, IfSome, codes};
+ghost use Rattle.lock_conform_run.specs.Choices.{HasWord};
 
 use crate::words::{are_options, has};
 use lock_conform::ParkBy;
@@ -23,8 +24,13 @@ pub struct Choice {
 }
 
 impl Choice {
+    ghost use Rattle.lock_conform_run.specs.Choices.{IsChoice};
+
     /// Returns what the words choose, or `None` for the usage line.
-    pub fn of_words(words: &[String]) -> Option<Choice> {
+    pub fn of_words(words: &[String]) -> Option<Choice>
+        ensures some { IfSome result (IsChoice words.now) }
+        ensures none { IfNone result ((choice : Choice) → ¬ IsChoice words.now choice) }
+    {
         let (first, options) = words.split_first()?;
         let raw = RawChoice::of_word(first.as_str())?;
         if !are_options(options) {
@@ -32,11 +38,7 @@ impl Choice {
         }
         Some(Choice {
             raw,
-            park_by: if has(options, "within") {
-                ParkBy::Unlocked
-            } else {
-                ParkBy::Release
-            },
+            park_by: park_by(options),
             is_arc: has(options, "arc"),
             prints_calls: has(options, "calls"),
         })
@@ -58,5 +60,16 @@ impl RawChoice {
             "recording" => Some(RawChoice::Recording),
             _ => None,
         }
+    }
+}
+
+/// Returns how the options choose to park.
+fn park_by(options: &[String]) -> ParkBy
+    ensures { (result ≡ ParkBy.Unlocked) ↔ HasWord options.now (codes "within") }
+{
+    if has(options, "within") {
+        ParkBy::Unlocked
+    } else {
+        ParkBy::Release
     }
 }

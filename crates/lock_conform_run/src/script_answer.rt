@@ -3,7 +3,7 @@ ghost use Rattle.std.specs.Prelude.{◌≡◌, [], ◌∷◌, IfOk, string_bytes
 ghost use Rattle.lock_script.specs.Answers.{reply_lines};
 
 use crate::choice::Choice;
-use crate::difference_line::difference_line;
+use crate::difference_line::{difference_line, script_line};
 use crate::over_raw::run_chosen;
 use lock_base::machine::Reply;
 use lock_base::raw::Fault;
@@ -34,7 +34,10 @@ impl ScriptAnswer {
             Ok(report) => {
                 let text = write_report(alloc, &report, choice.prints_calls)?;
                 let difference = match &report.difference {
-                    Some(difference) => Some(difference_line(alloc, bytes, difference)?),
+                    Some(difference) => {
+                        let line = script_line(bytes, difference.line);
+                        Some(difference_line(alloc, line, difference)?)
+                    }
                     None => None,
                 };
                 Ok(ScriptAnswer { text, difference })
