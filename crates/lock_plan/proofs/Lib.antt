@@ -3,4 +3,5 @@ pub mod Stands
 pub mod Simulation
 pub mod Tables
 pub mod Few
+pub mod OneToOne
 pub mod Said
