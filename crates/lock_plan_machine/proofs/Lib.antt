@@ -6,3 +6,5 @@ pub mod MachineTurns
 pub mod Ties
 pub mod Steps
 pub mod Runs
+pub mod Fits
+pub mod MachineStops

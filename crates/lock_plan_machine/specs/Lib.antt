@@ -1,2 +1,3 @@
 pub mod Scenes
 pub mod Bridge
+pub mod MachineStops
