@@ -5,4 +5,4 @@ mod deadline;
 mod sleepers;
 
 pub use deadline::time_left;
-pub use sleepers::Sleepers;
+pub use sleepers::{Sleepers, low_half};

@@ -72,8 +72,8 @@ impl Sleepers {
     }
 }
 
-/// The half of a number that a sleeping thread compares.
-fn low_half(number: u64) -> u32
+/// Returns the half of a number that a parked thread compares.
+pub fn low_half(number: u64) -> u32
     ensures { result ≡ number % 2 ^ 32 }
 {
     (number % 0x1_0000_0000) as u32
