@@ -1,5 +1,5 @@
 -- Each kind of step of a user keeps the rule of the table.
-use Rattle.std.proofs.Common.{◌≡◌, ◌≢◌, ℕ, zero, suc, ◌<◌, List, [], ◌∷◌, ◌++◌, eqb, set, get_or, slice_index, replicate, sym, refl, ap, subst, ◌∙◌, ⊎_elim, arith, suc-ne-zero, length-set, get_or-set_same, append_assoc}
+use Rattle.std.proofs.Common.{◌≡◌, ◌≢◌, ℕ, zero, suc, ◌+◌, ◌<◌, ◌≤◌, inl, inr, List, [], ◌∷◌, ◌++◌, eqb, eq-eqb, Bool, true, false, set, get_or, slice_index, replicate, sym, refl, ap, subst, ◌∙◌, ⊎_elim, arith, suc-ne-zero, length-set, get_or-set_same, append_assoc}
 use Rattle.std.specs.Prelude.{Some, None}
 use Rattle.std.specs.Prelude as std
 use Rattle.std.specs.Option.{unwrap_or}
@@ -8,34 +8,58 @@ use mathlib.Core.Logic.{dite}
 use native.Mathlib.Decide.{ℕ_discrete, dec_lt}
 use lib.ListN.{get_elem?}
 use prog.Atomic.{either}
+use Rattle.std.proofs.lemmas.Bool.{cases_lt}
+use Rattle.std.proofs.lemmas.List.{get_or-set_other}
 use Rattle.atomic_table.specs.Table.{State, Act, keeps, takes, gives, stepped, carried_after, Valid, Allows, Splits, Joins, Final, Seen, opening, put_back, rest}
 use Rattle.atomic_table.proofs.Lists.{at_set, at_snoc, at_longer, set_else, set_again, exchanged}
 use Rattle.lock_ruled.specs.declared.rule.UserStage.{UserStage}
-use Rattle.lock_ruled.specs.declared.rule.UserStage.TheVariants.{Free, Opens, Holds}
+use Rattle.lock_ruled.specs.declared.rule.UserStage.TheVariants.{Free, Opens, Holds, Watches, Sleeps, Owes, OwesAt}
 use Rattle.lock_ruled.specs.declared.rule.UserView.{UserView}
 use Rattle.lock_ruled.specs.Ruled.{all_parts, Meets, Keeps}
 use Rattle.lock_ruled.specs.Ruled as asked
-use Rattle.lock_ruled.specs.Slots.{Fits, IsAway, IsHolding, IsOut, IsRuled, taken_value, known_if, known_views, opener, one_fewer, one_part, both_of, spent_view}
-use Rattle.lock_ruled.specs.Plays.{Self, HasAcquired, Carries, IsIdle, AcquiresValue, ReleasesValue, OpensMutex}
+use Rattle.lock_ruled.specs.Wakes.{awaited, last_epoch, IsAsleep, IsDue, watched, KeepsWakes}
+use Rattle.lock_ruled.specs.Slots.{Fits, IsAway, IsHolding, IsOut, IsRuled, word_in, epoch_in, EveryStateForgetsNoUser, taken_value, known_if, known_views, opener, one_fewer, one_part, both_of, spent_view}
+use Rattle.lock_ruled.specs.Plays.{Self, HasAcquired, Carries, IsIdle, stage_after_release, AcquiresValue, MarksAwaited, ReleasesValue, OpensMutex, WatchesEpoch, Leaves, NotesEpoch, EndsEpoch}
+use Rattle.lock_ruled.proofs.Wakes.{changes, moves, frees, ends, finds_last, newcomer, forgets_no_user}
 use Rattle.lock_ruled.proofs.Views.{known_of, known_one, known_append, parts_append, around, both_around, two_parts, alone, set_at}
 
 abbrev Homes : Type 0 → Type 0
 Homes T = List (Option (std.Option T))
 
+-- a user that has released the value neither has it nor sleeps
+home_after_release : (T : Type 0) (was_awaited : Bool) → IsAway {T = T} (stage_after_release was_awaited) → ⊥
+home_after_release T true away = away
+home_after_release T false away = away
+
+up_after_release : (T : Type 0) (was_awaited : Bool) (epoch : ℕ) → watched {T = T} (stage_after_release was_awaited) ≤ epoch
+up_after_release T true epoch = omega arith
+up_after_release T false epoch = omega arith
+
+awake_after_release : (T : Type 0) (was_awaited : Bool) (epoch : ℕ) → IsAsleep {T = T} epoch (stage_after_release was_awaited) → ⊥
+awake_after_release T true epoch asleep = let e = asleep.0 in cc
+awake_after_release T false epoch asleep = let e = asleep.0 in cc
+
 module _ {T : Type 0} where
   -- a user without the value fits any state
   is_free : (st : UserStage T) (word holder number word' holder' : ℕ) (homes homes' : Homes T) (y y' : T)
       → (holder ≡ number → word ≢ 0 → ⊥) → Fits word homes y holder number st → Fits word' homes' y' holder' number st
-  is_free Free word holder number word' holder' homes homes' y y' not fits = tt
   is_free (Opens x) word holder number word' holder' homes homes' y y' not fits = absurd (not fits.0 fits.1)
   is_free (Holds x) word holder number word' holder' homes homes' y y' not fits = absurd (not fits.0 fits.1)
+  is_free stage word holder number word' holder' homes homes' y y' not fits = tt
 
   -- the word may change if it does not become 0
   still_fits : (st : UserStage T) (word word' holder number : ℕ) (homes : Homes T) (y : T) → word' ≢ 0
       → Fits word homes y holder number st → Fits word' homes y holder number st
-  still_fits Free word word' holder number homes y away fits = tt
   still_fits (Opens x) word word' holder number homes y away fits = (fits.0, away, fits.2, fits.3)
   still_fits (Holds x) word word' holder number homes y away fits = (fits.0, away, fits.2, fits.3)
+  still_fits stage word word' holder number homes y away fits = tt
+
+  -- a user without the value fits any state
+  fits_any : (st : UserStage T) (word holder number : ℕ) (homes : Homes T) (y : T) → (IsAway st → ⊥)
+      → Fits word homes y holder number st
+  fits_any (Opens x) word holder number homes y not = absurd (not tt)
+  fits_any (Holds x) word holder number homes y not = absurd (not tt)
+  fits_any stage word holder number homes y not = tt
 
   -- what lies in the slot that was acquired last
   abbrev slot_in : List (ℕ × std.Option T) → T → T
@@ -44,9 +68,8 @@ module _ {T : Type 0} where
 
 module _ {T : Type 0} where
   pub holds_taken : (st : UserStage T) (other : T) → IsHolding st → st ≡ Holds (taken_value st other)
-  holds_taken Free other h = absurd h
-  holds_taken (Opens x) other h = absurd h
   holds_taken (Holds x) other h = refl
+  holds_taken stage other h = absurd h
 
 pub not_away : {T : Type 0} (st : UserStage T) → st ≡ Free → IsAway st → ⊥
 not_away st free away = subst IsAway free away
@@ -68,27 +91,34 @@ pub refilled : {T V : Type 0} (me now : Self T V) (value : T) → now ≡ (me.0,
 refilled me now value is out holds =
     (ap (λ m. m.0.stage) is ∙ holds_taken me.0.stage value holds, ap (λ m. m.1) is ∙ ap (λ l. (0, Some value) ∷ rest l) out)
 
--- an exchange of 0 for 1 never leaves 0
-pub one_or_more : (n : ℕ) → either (eqb n 0) 1 n ≢ 0
-one_or_more n = exchanged n 0 1 (λ m. m ≢ 0) (λ hit e. suc-ne-zero 0 e) (λ miss. miss)
-
 module _ {T V : Type 0} (rule : T → List V → Type 0) where
-  -- the state after a step of one user
+  -- the user that holds the value is not one that does not
+  others_out : (s : State (std.Option T) (UserView T V)) (r : IsRuled rule s) (id : ℕ) (u w : UserView T V) → get_elem? s.views id ≡ some u
+      → (IsAway u.stage → ⊥) → IsOut s.views r.holder → IsOut (set s.views id w) r.holder
+  others_out s r id u w at not out =
+      dite (ℕ_discrete r.holder id)
+      (λ same. absurd (not (subst (λ (x : UserView T V). IsAway x.stage)
+      (some-injective out.0 u (sym out.1 ∙ ap (λ (k : ℕ). get_elem? s.views k) same ∙ at)) out.3)))
+      (λ apart. (out.0, set_else s.views id r.holder w apart ∙ out.1, out.2, out.3))
+
+  -- the state after a step of one user on the word
   left : (s : State (std.Option T) (UserView T V)) (r : IsRuled rule s) (id n holder : ℕ) (homes : Homes T)
       (u w : UserView T V) (y : T) → get_elem? s.views id ≡ some u
       → w.parts ≡ u.parts → rule y (known_views (set s.views id w)) → (n ≡ 0 → homes ≡ some (Some y) ∷ [])
       → (n ≢ 0 → IsOut (set s.views id w) holder) → Fits n homes y holder id w.stage
       → ((k : ℕ) (x : UserView T V) → k ≢ id → get_elem? s.views k ≡ some x → Fits n homes y holder k x.stage)
+      → KeepsWakes n (epoch_in s) (set s.views id w)
       → IsRuled rule record { words = set s.words 0 n; homes = homes; views = set s.views id w }
-  left s r id n holder homes u w y at same rules home out mine others =
-      let one = r.one_word in
+  left s r id n holder homes u w y at same rules home out mine others wakes =
+      let two = r.two_words in
       let is : get_or (set s.words 0 n) 0 0 ≡ n = get_or-set_same s.words 0 n 0 (omega arith) in
+      let epoch : get_or (set s.words 0 n) 1 0 ≡ get_or s.words 1 0 = get_or-set_other s.words 0 1 n 0 (λ e. omega arith) in
       let sum = (around s.views id u at).parts w in
       let all = r.parts in
       record {
         value = y;
         holder = holder;
-        one_word = length-set s.words 0 n ∙ r.one_word;
+        two_words = length-set s.words 0 n ∙ r.two_words;
         parts = omega arith;
         kept = rules;
         at_home = λ free. home (sym is ∙ free);
@@ -97,19 +127,48 @@ module _ {T V : Type 0} (rule : T → List V → Type 0) where
             (⊎_elim (λ (here : (k ≡ id) × (w ≡ x)). subst
             (λ (z : ℕ × UserView T V). Fits n homes y holder z.0 z.1.stage) (λ i. (sym here.0 i, here.1 i)) mine)
             (λ (there : (k ≢ id) × (get_elem? s.views k ≡ some x)). others k x there.0 there.1) (at_set s.views id k w x e));
+        wakes = subst (λ (z : ℕ × ℕ). KeepsWakes z.0 z.1 (set s.views id w)) (λ i. (sym is i, sym epoch i)) wakes;
+      }
+
+  -- the state after a step on the epoch of a user that has no value, before and after
+  aside : (s : State (std.Option T) (UserView T V)) (r : IsRuled rule s) (id n : ℕ) (u : UserView T V) (stage : UserStage T)
+      → get_elem? s.views id ≡ some u → (IsAway u.stage → ⊥) → (IsAway stage → ⊥)
+      → KeepsWakes (word_in s) n (set s.views id (record u { stage = stage }))
+      → IsRuled rule record { words = set s.words 1 n; homes = s.homes; views = set s.views id (record u { stage = stage }) }
+  aside s r id n u stage at before after wakes =
+      let w : UserView T V = record u { stage = stage } in
+      let two = r.two_words in
+      let is : get_or (set s.words 1 n) 0 0 ≡ get_or s.words 0 0 = get_or-set_other s.words 1 0 n 0 (λ e. omega arith) in
+      let epoch : get_or (set s.words 1 n) 1 0 ≡ n = get_or-set_same s.words 1 n 0 (omega arith) in
+      let about = around s.views id u at in
+      let sum = about.parts w in
+      let all = r.parts in
+      let known_same : known_views (set s.views id w) ≡ known_views s.views = about.becomes w ∙ sym about.was in
+      record {
+        value = r.value;
+        holder = r.holder;
+        two_words = length-set s.words 1 n ∙ r.two_words;
+        parts = omega arith;
+        kept = subst (rule r.value) (sym known_same) r.kept;
+        at_home = λ free. r.at_home (sym is ∙ free);
+        is_out = λ away. others_out s r id u w at before (r.is_out (λ none. away (is ∙ none)));
+        each = λ k x e. subst (λ (m : ℕ). Fits m s.homes r.value r.holder k x.stage) (sym is)
+            (⊎_elim (λ (here : (k ≡ id) × (w ≡ x)). subst (λ (y : UserView T V). Fits (word_in s) s.homes r.value r.holder k y.stage) here.1
+            (fits_any stage (word_in s) r.holder k s.homes r.value after))
+            (λ (there : (k ≢ id) × (get_elem? s.views k ≡ some x)). r.each k x there.1) (at_set s.views id k w x e));
+        wakes = subst (λ (z : ℕ × ℕ). KeepsWakes z.0 z.1 (set s.views id w)) (λ i. (sym is i, sym epoch i)) wakes;
       }
 
   abbrev After : State (std.Option T) (UserView T V) → ℕ → Self T V → ℕ → (ℕ → Self T V → Type 0) → Type 0
   After s id me n then = (w : UserView T V) × (a : Act (std.Option T)) × Valid s.homes me.1 a × IsRuled rule (stepped s 0 n id me.1 w a)
-      × then (slice_index s.words 0) (w, carried_after me.1 a)
+      × then (word_in s) (w, carried_after me.1 a)
 
-  pub takes_value : (slots id : ℕ) (me : Self T V) (f : ℕ → ℕ) → ((n : ℕ) → f n ≢ 0) → me.0.stage ≡ Free → 0 < me.0.parts
-      → Allows (IsRuled rule) slots id me 0 f (AcquiresValue rule me)
-  takes_value slots id me f away free some_part s r same at small =
-      let word = slice_index s.words 0 in
+  -- a step that finds the mutex free acquires the value
+  acquires : (s : State (std.Option T) (UserView T V)) (r : IsRuled rule s) (id n : ℕ) (me : Self T V) → get_elem? s.views id ≡ some me.0
+      → word_in s ≡ 0 → n ≢ 0 → 0 < me.0.parts → (IsDue (epoch_in s) me.0.stage → ⊥)
+      → After s id me n (λ found. HasAcquired rule me)
+  acquires s r id n me at hit away some_part not_due =
       let about = around s.views id me.0 at in
-      dite (ℕ_discrete word 0)
-      (λ hit.
       let y = r.value in
       let w : UserView T V = record me.0 { stage = Holds y } in
       let home = r.at_home hit in
@@ -121,23 +180,69 @@ module _ {T V : Type 0} (rule : T → List V → Type 0) where
         w,
         takes 0 (Some y),
         there,
-        left s r id (f word) id (set s.homes 0 none) me.0 w y at refl (subst (rule y) (sym known_same) r.kept) (λ none. absurd (away word none))
-            (λ _. (w, set_at s.views id me.0 w at, some_part, tt))
-            (refl, away word, refl, homes)
-            (λ k x apart e. is_free x.stage word r.holder k (f word) id s.homes (set s.homes 0 none) y y (λ _ nonzero. nonzero hit) (r.each k x e)),
-        ((λ _. (y, refl, (about.before, about.after, subst (rule y) mine r.kept))), (λ miss. absurd (miss hit))),
+        left s r id n id (set s.homes 0 none) me.0 w y at refl (subst (rule y) (sym known_same) r.kept) (λ none. absurd (away none))
+            (λ _. (w, set_at s.views id me.0 w at, some_part, tt)) (refl, away, refl, homes)
+            (λ k x apart e. is_free x.stage (word_in s) r.holder k n id s.homes (set s.homes 0 none) y y (λ _ nonzero. nonzero hit) (r.each k x e))
+            (changes (word_in s) n (epoch_in s) s.views id me.0 w at r.wakes (omega arith) (λ due. absurd (not_due due))
+            (λ asleep. let e = asleep.0 in cc) (λ is. absurd (suc-ne-zero 1 (sym is ∙ hit)))),
+        (y, refl, (about.before, about.after, subst (rule y) mine r.kept)),
+      )
+
+  pub takes_value : (slots id : ℕ) (me : Self T V) → me.0.stage ≡ Free → 0 < me.0.parts
+      → Allows (IsRuled rule) slots id me 0 (λ n. either (eqb n 0) 1 n) (AcquiresValue rule me)
+  takes_value slots id me free some_part s r same at small =
+      exchanged (word_in s) 0 1 (λ n. After s id me n (AcquiresValue rule me))
+      (λ hit.
+      let took = acquires s r id 1 me at hit (λ e. suc-ne-zero 0 e) some_part (λ due. subst (IsDue (epoch_in s)) free due) in (
+        took.0,
+        took.1,
+        took.2,
+        took.3,
+        ((λ _. took.4), (λ miss. absurd (miss hit))),
       ))
       (λ miss.
       let again = set_again s.views id me.0 at in (
         me.0,
         keeps,
         tt,
-        left s r id (f word) r.holder s.homes me.0 me.0 r.value at refl
+        left s r id (word_in s) r.holder s.homes me.0 me.0 r.value at refl
             (subst (λ (us : List (UserView T V)). rule r.value (known_views us)) (sym again) r.kept)
-            (λ none. absurd (away word none)) (λ _. subst (λ (us : List (UserView T V)). IsOut us r.holder) (sym again) (r.is_out miss))
-            (still_fits me.0.stage word (f word) r.holder id s.homes r.value (away word) (r.each id me.0 at))
-            (λ k x apart e. still_fits x.stage word (f word) r.holder k s.homes r.value (away word) (r.each k x e)),
+            r.at_home (λ _. subst (λ (us : List (UserView T V)). IsOut us r.holder) (sym again) (r.is_out miss))
+            (r.each id me.0 at) (λ k x apart e. r.each k x e)
+            (subst (λ (us : List (UserView T V)). KeepsWakes (word_in s) (epoch_in s) us) (sym again) r.wakes),
         ((λ hit. absurd (miss hit)), (λ _. refl)),
+      ))
+
+  pub marks_awaited : (slots id : ℕ) (me : Self T V) (epoch : ℕ) → me.0.stage ≡ Watches epoch → 0 < me.0.parts
+      → Allows (IsRuled rule) slots id me 0 (λ n. awaited) (MarksAwaited rule me)
+  marks_awaited slots id me epoch watches some_part s r same at small =
+      let away : awaited ≢ 0 = λ e. suc-ne-zero 1 e in
+      let not_due = λ (due : IsDue (epoch_in s) me.0.stage). subst (IsDue (epoch_in s)) watches due in
+      dite (ℕ_discrete (word_in s) 0)
+      (λ hit.
+      let took = acquires s r id awaited me at hit away some_part not_due in (
+        took.0,
+        took.1,
+        took.2,
+        took.3,
+        ((λ _. took.4), (λ miss. absurd (miss hit))),
+      ))
+      (λ miss.
+      let w : UserView T V = record me.0 { stage = Sleeps epoch } in
+      let about = around s.views id me.0 at in
+      let known_same : known_views (set s.views id w) ≡ known_views s.views = about.becomes w ∙ sym about.was in
+      let past : watched me.0.stage ≤ epoch_in s = r.wakes.within id me.0 at in
+      let same_epoch : watched me.0.stage ≡ epoch = ap watched watches in (
+        w,
+        keeps,
+        tt,
+        left s r id awaited r.holder s.homes me.0 w r.value at refl (subst (rule r.value) (sym known_same) r.kept)
+            (λ none. absurd (away none))
+            (λ _. others_out s r id me.0 w at (λ out. subst IsAway watches out) (r.is_out miss)) tt
+            (λ k x apart e. still_fits x.stage (word_in s) awaited r.holder k s.homes r.value away (r.each k x e))
+            (changes (word_in s) awaited (epoch_in s) s.views id me.0 w at r.wakes (omega arith) (λ due. absurd (not_due due))
+            (λ asleep. refl) (λ is. inl refl)),
+        ((λ hit. absurd (miss hit)), (λ _ found is. (let e : found ≡ epoch = ap watched (sym is ∙ watches) in λ i. (record me.0 { stage = Sleeps (sym e i) }, me.1)))),
       ))
 
   pub gives_value : (slots id : ℕ) (me : Self T V) (next : T → V → T → V) (taken value : T) → Carries me taken value
@@ -146,12 +251,14 @@ module _ {T V : Type 0} (rule : T → List V → Type 0) where
   gives_value slots id me next taken value out some_part turn s r same at small =
       let holds = out.0 in
       let carries = out.1 in
-      let word = slice_index s.words 0 in
+      let word = word_in s in
+      let epoch = epoch_in s in
+      let was_awaited = eqb word awaited in
       let about = around s.views id me.0 at in
       let fits : Fits word s.homes r.value r.holder id (Holds taken)
       = subst (λ (st : UserStage T). Fits word s.homes r.value r.holder id st) holds (r.each id me.0 at) in
       let own = next taken me.0.own value in
-      let w : UserView T V = record me.0 { own = own; stage = Free } in
+      let w : UserView T V = record me.0 { own = own; stage = stage_after_release was_awaited } in
       let one = λ (v : V). known_one me.0.parts v some_part in
       let was : known_views s.views ≡ about.before ++ me.0.own ∷ about.after
       = about.was ∙ ap (λ (l : List V). about.before ++ (l ++ about.after)) (one me.0.own) in
@@ -161,22 +268,28 @@ module _ {T V : Type 0} (rule : T → List V → Type 0) where
       = subst (λ (z : T × List V). rule z.0 z.1) (λ i. (sym fits.2 i, was i)) r.kept in
       let after = subst (rule value) (sym becomes) (turn about.before about.after before) in
       let homes : List (Option (std.Option T)) = put_back s.homes me.1 in
-      let is : homes ≡ some (Some value) ∷ [] = (λ i. put_back (fits.3 i) (carries i)) in (
+      let is : homes ≡ some (Some value) ∷ [] = (λ i. put_back (fits.3 i) (carries i)) in
+      let wakes : KeepsWakes 0 epoch (set s.views id w)
+      = changes word 0 epoch s.views id me.0 w at r.wakes (up_after_release T was_awaited epoch)
+      (λ due. absurd (subst (IsDue epoch) holds due)) (λ asleep. absurd (awake_after_release T was_awaited epoch asleep))
+      (λ found. inr (subst (λ (b : Bool). IsDue {T = T} epoch (stage_after_release b)) (sym (eq-eqb word awaited found)) tt)) in (
         w,
         gives,
         tt,
-        left s r id 0 0 homes me.0 w value at refl after (λ _. is) (λ away. absurd (away refl)) tt
-            (λ k x apart e. is_free x.stage word r.holder k 0 0 s.homes homes r.value value (λ mine _. apart (sym mine ∙ fits.0)) (r.each k x e)),
+        left s r id 0 0 homes me.0 w value at refl after (λ _. is) (λ away. absurd (away refl))
+            (fits_any (stage_after_release was_awaited) 0 0 id homes value (home_after_release T was_awaited))
+            (λ k x apart e. is_free x.stage word r.holder k 0 0 s.homes homes r.value value (λ mine _. apart (sym mine ∙ fits.0)) (r.each k x e))
+            wakes,
         (λ x y out'.
             let held = out'.0 in
             let in_hand = out'.1 in
             let same_x : taken ≡ x = ap (λ (st : UserStage T). taken_value st taken) (sym holds ∙ held) in
             let same_y : value ≡ y = ap (λ (c : List (ℕ × std.Option T)). slot_in c value) (sym carries ∙ in_hand) in
-            λ i. (record me.0 { own = next (same_x i) me.0.own (same_y i); stage = Free }, rest (carries i))),
+            λ i. (record me.0 { own = next (same_x i) me.0.own (same_y i); stage = stage_after_release was_awaited }, rest (carries i))),
       )
 
   pub begins : (slots id : ℕ) (me : Self T V) (first : T) → me.0.stage ≡ Opens first → 0 < me.0.parts
-      → Allows (IsRuled rule) slots id me 0 (λ n. 1) (λ n. OpensMutex me 1)
+      → Allows (IsRuled rule) slots id me 0 (λ n. n) (OpensMutex me)
   begins slots id me first opens some_part s r same at small =
       let word = slice_index s.words 0 in
       let about = around s.views id me.0 at in
@@ -184,15 +297,17 @@ module _ {T V : Type 0} (rule : T → List V → Type 0) where
       = subst (λ (st : UserStage T). Fits word s.homes r.value r.holder id st) opens (r.each id me.0 at) in
       let w : UserView T V = record me.0 { stage = Holds first } in
       let known_same : known_views (set s.views id w) ≡ known_views s.views = about.becomes w ∙ sym about.was in
-      let away : 1 ≢ 0 = λ e. suc-ne-zero 0 e in (
+      let away : word ≢ 0 = fits.1 in (
         w,
         takes 0 None,
         ap (λ (h : Homes T). get_elem? h 0) fits.3,
-        left s r id 1 id (set s.homes 0 none) me.0 w r.value at refl (subst (rule r.value) (sym known_same) r.kept) (λ none. absurd (away none))
+        left s r id word id (set s.homes 0 none) me.0 w r.value at refl (subst (rule r.value) (sym known_same) r.kept) (λ none. absurd (away none))
             (λ _. (w, set_at s.views id me.0 w at, some_part, tt))
             (refl, away, fits.2, ap (λ (h : Homes T). set h 0 none) fits.3)
-            (λ k x apart e. is_free x.stage word r.holder k 1 id s.homes (set s.homes 0 none) r.value r.value
-            (λ mine _. apart (sym mine ∙ fits.0)) (r.each k x e)),
+            (λ k x apart e. is_free x.stage word r.holder k word id s.homes (set s.homes 0 none) r.value r.value
+            (λ mine _. apart (sym mine ∙ fits.0)) (r.each k x e))
+            (moves word (epoch_in s) s.views id me.0 w at r.wakes (omega arith)
+            (λ due. absurd (subst (IsDue (epoch_in s)) opens due)) (λ asleep. let e = asleep.0 in cc)),
         (λ x opened i. (record me.0 { stage = Holds (ap (λ (st : UserStage T). taken_value st first) (sym opens ∙ opened) i) }, (0, None) ∷ me.1)),
       )
 
@@ -203,29 +318,116 @@ module _ {T V : Type 0} (rule : T → List V → Type 0) where
       (refl, (λ e. suc-ne-zero 0 e), refl, refl)
   maker_fits value view (suc k) x at = absurd (some-ne-none x (sym at))
 
-  pub starts : (value : T) (view : V) → rule value (view ∷ []) → IsRuled rule (opening (1 ∷ []) (replicate 1 None) (opener value view))
+  maker_watches : (value : T) (view : V) (k : ℕ) (x : UserView T V) → get_elem? (opener value view ∷ []) k ≡ some x → watched x.stage ≤ 0
+  maker_watches value view zero x at =
+      subst (λ (u : UserView T V). watched u.stage ≤ 0) (some-injective (opener value view) x at) (omega arith)
+  maker_watches value view (suc k) x at = absurd (some-ne-none x (sym at))
+
+  maker_is_up : (value : T) (view : V) (k : ℕ) (x : UserView T V) → get_elem? (opener value view ∷ []) k ≡ some x → IsAsleep 0 x.stage → ⊥
+  maker_is_up value view zero x at asleep =
+      let is : Opens value ≡ Sleeps 0 = ap (λ (u : UserView T V). u.stage) (some-injective (opener value view) x at) ∙ asleep.0 in cc
+  maker_is_up value view (suc k) x at asleep = absurd (some-ne-none x (sym at))
+
+  pub starts : (value : T) (view : V) → rule value (view ∷ []) → IsRuled rule (opening (1 ∷ 0 ∷ []) (replicate 1 None) (opener value view))
   starts value view law =
       let u : UserView T V = opener value view in
       record {
         value = value;
         holder = 0;
-        one_word = refl;
+        two_words = refl;
         parts = refl;
         kept = law;
         at_home = λ e. absurd (suc-ne-zero 0 e);
         is_out = λ _. (u, refl, omega arith, tt);
         each = maker_fits value view;
+        wakes = record { within = λ k x e. maker_watches value view k x e; none_forgotten = λ k x e asleep. absurd (maker_is_up value view k x e asleep) };
       }
 
-  -- the user that holds the value is not one that does not
-  others_out : (s : State (std.Option T) (UserView T V)) (r : IsRuled rule s) (id : ℕ) (u w : UserView T V) → get_elem? s.views id ≡ some u
-      → u.stage ≡ Free → IsOut s.views r.holder → IsOut (set s.views id w) r.holder
-  others_out s r id u w at free out =
-      dite (ℕ_discrete r.holder id)
-      (λ same. absurd (not_away out.0.stage
-      (ap (λ (x : UserView T V). x.stage)
-      (some-injective out.0 u (sym out.1 ∙ ap (λ (k : ℕ). get_elem? s.views k) same ∙ at)) ∙ free) out.3))
-      (λ apart. (out.0, set_else s.views id r.holder w apart ∙ out.1, out.2, out.3))
+  -- steps on the epoch
+
+  pub watches_epoch : (slots id : ℕ) (me : Self T V) → me.0.stage ≡ Free
+      → Allows (IsRuled rule) slots id me 1 (λ n. n) (WatchesEpoch me)
+  watches_epoch slots id me free s r same at small =
+      let epoch = epoch_in s in
+      let w : UserView T V = record me.0 { stage = Watches epoch } in (
+        w,
+        keeps,
+        tt,
+        aside s r id epoch me.0 (Watches epoch) at (not_away me.0.stage free) (λ away. away)
+            (moves (word_in s) epoch s.views id me.0 w at r.wakes (omega arith)
+            (λ due. absurd (subst (IsDue epoch) free due)) (λ asleep. let e = asleep.0 in cc)),
+        refl,
+      )
+
+  -- a user that is neither due nor has the value does nothing more
+  rests : (s : State (std.Option T) (UserView T V)) (r : IsRuled rule s) (id : ℕ) (u : UserView T V) → get_elem? s.views id ≡ some u
+      → (IsAway u.stage → ⊥) → (IsDue (epoch_in s) u.stage → ⊥)
+      → IsRuled rule record { words = set s.words 1 (epoch_in s); homes = s.homes; views = set s.views id (record u { stage = Free }) }
+  rests s r id u at not_out not_due =
+      aside s r id (epoch_in s) u Free at not_out (λ away. away)
+      (frees (word_in s) (epoch_in s) s.views id u (record u { stage = Free }) at r.wakes not_due refl)
+
+  pub leaves : (slots id : ℕ) (me : Self T V) (epoch : ℕ) → me.0.stage ≡ Sleeps epoch
+      → Allows (IsRuled rule) slots id me 1 (λ n. n) (Leaves me)
+  leaves slots id me epoch sleeps s r same at small = (
+    record me.0 { stage = Free },
+    keeps,
+    tt,
+    rests s r id me.0 at (λ away. subst IsAway sleeps away) (λ due. subst (IsDue (epoch_in s)) sleeps due),
+    refl,
+  )
+
+  pub notes_epoch : (slots id : ℕ) (me : Self T V) → me.0.stage ≡ Owes
+      → Allows (IsRuled rule) slots id me 1 (λ n. n) (NotesEpoch me)
+  notes_epoch slots id me owes s r same at small =
+      let epoch = epoch_in s in
+      let not_out = λ (away : IsAway me.0.stage). subst IsAway owes away in
+      elim (cases_lt epoch last_epoch) [
+        | inl early ↦
+            (let w : UserView T V = record me.0 { stage = OwesAt epoch } in (
+              w,
+              keeps,
+              tt,
+              aside s r id epoch me.0 (OwesAt epoch) at not_out (λ away. away)
+                  (moves (word_in s) epoch s.views id me.0 w at r.wakes (omega arith) (λ due. refl) (λ asleep. let e = asleep.0 in cc)),
+              ((λ _. refl), (λ late. absurd (omega arith))),
+            ))
+        | inr late ↦
+            (let w : UserView T V = record me.0 { stage = Free } in (
+              w,
+              keeps,
+              tt,
+              aside s r id epoch me.0 Free at not_out (λ away. away)
+                  (finds_last (word_in s) epoch s.views id w r.wakes (omega arith) refl),
+              ((λ early. absurd (omega arith)), (λ _. refl)),
+            ))
+      ]
+
+  pub ends_epoch : (slots id : ℕ) (me : Self T V) (old new : ℕ) → me.0.stage ≡ OwesAt old → new ≡ old + 1
+      → Allows (IsRuled rule) slots id me 1 (λ n. either (eqb n old) new n) (EndsEpoch me)
+  ends_epoch slots id me old new owes is s r same at small =
+      let epoch = epoch_in s in
+      let w : UserView T V = record me.0 { stage = Free } in
+      let not_out = λ (away : IsAway me.0.stage). subst IsAway owes away in
+      exchanged epoch old new
+      (λ n. (w : UserView T V) × (a : Act (std.Option T)) × Valid s.homes me.1 a × IsRuled rule (stepped s 1 n id me.1 w a)
+      × EndsEpoch me epoch (w, carried_after me.1 a))
+      (λ hit.
+      let next : epoch + 1 ≡ new = ap (λ n. n + 1) hit ∙ sym is in (
+        w,
+        keeps,
+        tt,
+        aside s r id new me.0 Free at not_out (λ away. away)
+            (subst (λ n. KeepsWakes (word_in s) n (set s.views id w)) next (ends (word_in s) epoch s.views id w r.wakes refl)),
+        refl,
+      ))
+      (λ miss. (
+        w,
+        keeps,
+        tt,
+        rests s r id me.0 at not_out (λ due. miss (sym (subst (IsDue epoch) owes due))),
+        refl,
+      ))
 
   pub splits : (id : ℕ) (u : UserView T V) (left_of right_of : V → V) → u.stage ≡ Free → 1 < u.parts
       → asked.Splits rule u.own (left_of u.own) (right_of u.own)
@@ -248,17 +450,19 @@ module _ {T V : Type 0} (rule : T → List V → Type 0) where
       record {
         value = r.value;
         holder = r.holder;
-        one_word = r.one_word;
+        two_words = r.two_words;
         parts = omega arith;
         kept = subst (rule r.value) (sym all) (law r.value about.before about.after (subst (rule r.value) was r.kept));
         at_home = r.at_home;
-        is_out = λ away. (let out = others_out s r id u l at free (r.is_out away) in
+        is_out = λ away. (let out = others_out s r id u l at (not_away u.stage free) (r.is_out away) in
             (out.0, at_longer us (k ∷ []) r.holder out.0 out.1, out.2, out.3));
         each = λ j x e. ⊎_elim
             (λ (old : get_elem? us j ≡ some x). ⊎_elim
             (λ (here : (j ≡ id) × (l ≡ x)). subst (λ (y : UserView T V). Fits n s.homes r.value r.holder j y.stage) here.1 tt)
             (λ (there : (j ≢ id) × (get_elem? s.views j ≡ some x)). r.each j x there.1) (at_set s.views id j l x old))
             (λ (new : k ≡ x). subst (λ (y : UserView T V). Fits n s.homes r.value r.holder j y.stage) new tt) (at_snoc us k x j e);
+        wakes = newcomer n (epoch_in s) us k
+            (frees n (epoch_in s) s.views id u l at r.wakes (λ due. subst (IsDue (epoch_in s)) free due) refl) refl;
       }
 
   -- the views of two users, whichever comes first, when they are joined
@@ -301,12 +505,12 @@ module _ {T V : Type 0} (rule : T → List V → Type 0) where
       record {
         value = r.value;
         holder = r.holder;
-        one_word = r.one_word;
+        two_words = r.two_words;
         parts = omega arith;
         kept = joined s.views id other u w one left_over r.value law some_u some_w (omega arith) refl apart at there r.kept;
         at_home = r.at_home;
         is_out = λ away.
-            (let out = others_out s r id u one at free (r.is_out away) in
+            (let out = others_out s r id u one at (not_away u.stage free) (r.is_out away) in
             dite (ℕ_discrete r.holder other)
             (λ same. absurd (not_away out.0.stage
             (ap (λ (x : UserView T V). x.stage)
@@ -318,6 +522,9 @@ module _ {T V : Type 0} (rule : T → List V → Type 0) where
             (λ (here : (j ≡ id) × (one ≡ x)). subst (λ (y : UserView T V). Fits n s.homes r.value r.holder j y.stage) here.1 tt)
             (λ (old : (j ≢ id) × (get_elem? s.views j ≡ some x)). r.each j x old.1) (at_set s.views id j one x rest_of.1))
             (at_set us other j left_over x e);
+        wakes = frees n (epoch_in s) us other w left_over at'
+            (frees n (epoch_in s) s.views id u one at r.wakes (λ due. subst (IsDue (epoch_in s)) free due) refl)
+            (λ due. subst (IsDue (epoch_in s)) free' due) refl;
       }
 
   -- a user with all parts and no guard finds the mutex free
@@ -344,3 +551,6 @@ module _ {T V : Type 0} (rule : T → List V → Type 0) where
         (λ empty. (let both : Some r.value ≡ None = sym is ∙ empty in cc)),
         (λ value full. subst (λ (y : T). rule y (u.own ∷ [])) (ap (λ (o : std.Option T). unwrap_or o r.value) (sym is ∙ full)) law),
       )
+
+  pub every_state_forgets_no_user : EveryStateForgetsNoUser (λ (first : T). IsRuled rule)
+  every_state_forgets_no_user first s r = forgets_no_user (word_in s) (epoch_in s) s.views r.wakes

@@ -1,2 +1,3 @@
 pub mod Views
+pub mod Wakes
 pub mod Keeps

@@ -1,4 +1,5 @@
 pub mod Ruled
+pub mod Wakes
 pub mod Slots
 pub mod Plays
 pub mod EachView

@@ -16,13 +16,15 @@ mod rule;
 mod tally;
 mod timed;
 mod user;
+mod wait;
+mod wake;
 
 pub use atomic_table::{Join, Split};
 pub use constant::{Constant, SameView};
 pub use grows::{Bound, Grows};
 pub use guard::RuledGuard;
 pub use in_order::{InOrder, Items, Log, Looks, Pops, Pushes, Roles};
-pub use laws::every_state_is_ruled;
+pub use laws::{every_state_forgets_no_user, every_state_is_ruled};
 pub use ledger::{Ledger, Measure, Settles, Share, Shares};
 pub use mutex::RuledMutex;
 pub use ready::ReadyRule;

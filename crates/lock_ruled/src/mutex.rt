@@ -2,7 +2,7 @@
 ghost use Rattle.std.specs.Prelude.{◌≡◌, ◌-◌, ◌+◌, ◌<◌, [], ◌∷◌, ℕ, true, false, IfOk, IfErr};
 ghost use Rattle.lock_base.specs.declared.raw.fault.Fault.TheVariants as fault;
 ghost use Rattle.lock_ruled.specs.Ruled.{all_parts, first_user, Meets, Keeps, Splits, Joins};
-ghost use Rattle.lock_ruled.specs.Plays.{HasAcquired, Carries, IsIdle};
+ghost use Rattle.lock_ruled.specs.Plays.{HasAcquired, Carries, IsIdle, stage_after_release};
 
 use crate::guard::RuledGuard;
 use crate::plays::{JoinParts, Open, SplitParts, Stay, TryLock, Unlock};
@@ -16,6 +16,12 @@ use std::alloc::Global;
 use std::marker::Model;
 use std::sync::Wait;
 
+/// The word: `FREE`, `TAKEN` or `AWAITED`.
+pub(crate) const WORD: usize = 0;
+
+/// The epoch, which counts the releases of an awaited mutex.
+pub(crate) const EPOCH: usize = 1;
+
 /// The mutex is free.
 pub(crate) const FREE: u64 = 0;
 
@@ -25,11 +31,17 @@ const TAKEN: u64 = 1;
 /// The mutex is held, and a user may sleep until it is released.
 pub(crate) const AWAITED: u64 = 2;
 
+/// The epoch at which no user sleeps. It is never reached: each epoch takes a release.
+pub(crate) const LAST_EPOCH: u64 = u64::MAX;
+
 /// How often a blocked call tries again before it sleeps.
 const TRIES: u32 = 10;
 
-/// A mutex under a rule: one word, and one slot for the value. `lock` exchanges the value out of the slot, and `unlock`
-/// exchanges it back in.
+/// A mutex under a rule: a word, an epoch, and one slot for the value. `lock` exchanges the value out of the slot, and
+/// `unlock` exchanges it back in.
+///
+/// Blocked users sleep until an epoch ends, and no wake-up of theirs is lost: see `every_state_forgets_no_user`. That law
+/// does not speak of users that wait for a condition (`lock_when`).
 #[derive(Drop)]
 pub struct RuledMutex<T: Drop, V, P: MutexRule<T, V>> {
     pub(crate) table: Table<Option<T>, UserView<T, V>, T, SlotRule<P>, Global>,
@@ -45,7 +57,7 @@ impl<T: Drop, V, P: MutexRule<T, V>> Model for RuledMutex<T, V, P> {
 
     ghost view = { λ m. m.table.shared.table_id };
 
-    ghost invariant = { λ m. (m.table.shared.table_id.words ≡ 1) × (m.table.shared.table_id.slots ≡ 1) };
+    ghost invariant = { λ m. (m.table.shared.table_id.words ≡ 2) × (m.table.shared.table_id.slots ≡ 1) };
 }
 
 impl<T: Drop, V, P: MutexRule<T, V>> RuledMutex<T, V, P> {
@@ -55,10 +67,10 @@ impl<T: Drop, V, P: MutexRule<T, V>> RuledMutex<T, V, P> {
         ensures user { IfOk result (λ made. made.1 ≡ first_user made.0 (P.first value)) }
         ensures fault { IfErr result (λ error. error ≡ fault.OutOfMemory) }
     {
-        let Ok((table, mut seat)) = Table::vacant(alloc, &[TAKEN], 1, &value) else {
+        let Ok((table, mut seat)) = Table::vacant(alloc, &[TAKEN, 0], 1, &value) else {
             return Err(Fault::OutOfMemory);
         };
-        table.shared.store::<Open>(&mut seat, 0, TAKEN);
+        table.shared.load::<Open>(&mut seat, WORD);
         let mutex = RuledMutex {
             table,
             changed: Sleepers::new(),
@@ -156,15 +168,34 @@ impl<T: Drop, V, P: MutexRule<T, V>> RuledMutex<T, V, P> {
             (M.next guard.taken guard.user.view guard.value) }
         ensures { result ≡ record guard.user { view = M.next guard.taken guard.user.view guard.value } }
     {
+        let (mut seat, was_awaited) = self.put_back::<M>(guard);
+        if was_awaited {
+            self.end_epoch(&mut seat);
+        }
+        User { seat }
+    }
+
+    /// Puts the value back into the slot, and marks the mutex as free. Returns whether it was awaited, which makes the user
+    /// due.
+    fn put_back<M: ViewUpdate<T, V>>(
+        &self,
+        guard: RuledGuard<T, V>,
+    ) -> (Seat<Option<T>, UserView<T, V>>, bool)
+        requires mutex { guard.user.mutex ≡ self.now }
+        requires rule { Keeps P.rule guard.taken guard.user.view guard.value
+            (M.next guard.taken guard.user.view guard.value) }
+        ensures seat { (result.0.table_id ≡ self.now) × (result.0.me.1 ≡ []) }
+        ensures parts { (result.0.me.0.parts ≡ guard.user.parts) × (0 < guard.user.parts) }
+        ensures view { result.0.me.0.own ≡ M.next guard.taken guard.user.view guard.value }
+        ensures stage { result.0.me.0.stage ≡ stage_after_release result.1 }
+    {
         let RuledGuard { value, mut seat } = guard;
         match self.table.shared.exchange(&mut seat, 0, Some(value)) {
             None => {}
             Some(_) => unreachable!(),
         }
-        if self.table.shared.swap::<Unlock<M>>(&mut seat, 0, FREE) == AWAITED {
-            self.table.shared.wake_one(0);
-        }
-        User { seat }
+        let found = self.table.shared.swap::<Unlock<M>>(&mut seat, WORD, FREE);
+        (seat, found == AWAITED)
     }
 
     /// Takes the value out of the slot, which the user has acquired.
@@ -203,7 +234,7 @@ impl<T: Drop, V, P: MutexRule<T, V>> RuledMutex<T, V, P> {
     {
         self.table
             .shared
-            .compare_exchange::<TryLock<P>>(seat, 0, FREE, TAKEN)
+            .compare_exchange::<TryLock<P>>(seat, WORD, FREE, TAKEN)
             == FREE
     }
 
@@ -223,22 +254,5 @@ impl<T: Drop, V, P: MutexRule<T, V>> RuledMutex<T, V, P> {
             }
         }
         false
-    }
-
-    /// Blocks until it acquires. Each exchange marks the mutex as awaited, and acquires it if it was free; otherwise
-    /// the user sleeps until a release.
-    fn block<R: Wait>(&self, rt: &R, seat: &mut Seat<Option<T>, UserView<T, V>>)
-        requires mutex { seat.old.table_id ≡ self.now }
-        requires idle { IsIdle seat.old.me }
-        ensures seat { seat.new.table_id ≡ seat.old.table_id }
-        ensures taken { HasAcquired P.rule seat.old.me seat.new.me }
-    {
-        for _ in rt.forever() {
-            if self.table.shared.swap::<TryLock<P>>(seat, 0, AWAITED) == FREE {
-                return;
-            }
-            self.table.shared.park(rt, 0, AWAITED as u32);
-        }
-        unreachable!()
     }
 }

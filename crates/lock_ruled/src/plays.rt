@@ -1,5 +1,5 @@
-//! The kinds of step on the word, and what each tells the user that makes it.
-ghost use Rattle.lock_ruled.specs.Plays.{AcquiresValue, ReleasesValue, OpensMutex};
+//! The kinds of step on the word and the epoch, and what each tells the user that makes it.
+ghost use Rattle.lock_ruled.specs.Plays.{AcquiresValue, MarksAwaited, ReleasesValue, OpensMutex, WatchesEpoch, Leaves, NotesEpoch, EndsEpoch};
 ghost use Rattle.lock_ruled.specs.Slots.{one_fewer, one_part, both_of, spent_view};
 
 use crate::rule::{MutexRule, UserView, ViewUpdate};
@@ -13,6 +13,15 @@ pub(crate) struct TryLock<P> {
 
 impl<T, V, P: MutexRule<T, V>> Play<Option<T>, UserView<T, V>> for TryLock<P> {
     ghost then = { λ s. AcquiresValue P.rule };
+}
+
+/// A step of a blocked user that marks the mutex as awaited, and acquires the value if it is free.
+pub(crate) struct MarkAwaited<P> {
+    rule: PhantomData<P>,
+}
+
+impl<T, V, P: MutexRule<T, V>> Play<Option<T>, UserView<T, V>> for MarkAwaited<P> {
+    ghost then = { λ s. MarksAwaited P.rule };
 }
 
 /// The step that releases the value.
@@ -29,6 +38,34 @@ pub(crate) struct Open;
 
 impl<T, V> Play<Option<T>, UserView<T, V>> for Open {
     ghost then = { λ s. OpensMutex };
+}
+
+/// A load of the epoch by a user that is to be blocked.
+pub(crate) struct WatchEpoch;
+
+impl<T, V> Play<Option<T>, UserView<T, V>> for WatchEpoch {
+    ghost then = { λ s. WatchesEpoch };
+}
+
+/// A load of the epoch by a user that slept.
+pub(crate) struct Leave;
+
+impl<T, V> Play<Option<T>, UserView<T, V>> for Leave {
+    ghost then = { λ s. Leaves };
+}
+
+/// A load of the epoch by a due user.
+pub(crate) struct NoteEpoch;
+
+impl<T, V> Play<Option<T>, UserView<T, V>> for NoteEpoch {
+    ghost then = { λ s. NotesEpoch };
+}
+
+/// An exchange that ends the epoch.
+pub(crate) struct EndEpoch;
+
+impl<T, V> Play<Option<T>, UserView<T, V>> for EndEpoch {
+    ghost then = { λ s. EndsEpoch };
 }
 
 /// The view stays.

@@ -19,14 +19,22 @@ pub trait ViewUpdate<T, V> {
     ghost next: { T → V → T → V };
 }
 
-/// How a user stands to the value. It exists in contracts only.
+/// How far a user has come in a call, and whether it holds a guard. It exists in contracts only.
 pub enum UserStage<T> {
-    /// The user holds no guard.
+    /// The user holds no guard and makes no call.
     Free,
     /// The user is making the mutex, with this value.
     Opens(T),
     /// The user holds a guard, which acquired this value.
     Holds(T),
+    /// The user is blocked. It loaded this epoch, and has yet to mark the mutex as awaited.
+    Watches(u64),
+    /// The user is blocked. It loaded this epoch, then marked the mutex as awaited, and sleeps until the epoch ends.
+    Sleeps(u64),
+    /// The user released the mutex, which was awaited, and has yet to load the epoch.
+    Owes,
+    /// The user released the mutex, which was awaited, and has yet to end this epoch.
+    OwesAt(u64),
 }
 
 /// What the mutex keeps of a user. It exists in contracts only.
@@ -37,7 +45,7 @@ pub struct UserView<T, V> {
     pub stage: UserStage<T>,
 }
 
-/// The rule of the word, the slot and all views, derived from the rule of the mutex.
+/// The rule of the word, the epoch, the slot and all views, derived from the rule of the mutex.
 pub struct SlotRule<P> {
     rule: PhantomData<P>,
 }

@@ -4,8 +4,7 @@ ghost use Rattle.lock_ruled.specs.Ruled.{Meets};
 ghost use Rattle.lock_ruled.specs.Plays.{HasAcquired, IsIdle};
 
 use crate::guard::RuledGuard;
-use crate::mutex::{AWAITED, FREE, RuledMutex};
-use crate::plays::TryLock;
+use crate::mutex::RuledMutex;
 use crate::rule::{MutexRule, UserView};
 use crate::user::User;
 use atomic_table::Seat;
@@ -53,8 +52,7 @@ impl<T: Drop, V, P: MutexRule<T, V>> RuledMutex<T, V, P> {
             || self.block_until(rt, seat, deadline)
     }
 
-    /// Blocks as `block` does, until the deadline. It leaves the mutex marked as awaited, so that a wake-up that came to
-    /// this user reaches another one.
+    /// Blocks as `block` does, until the deadline. It leaves the mutex marked as awaited.
     fn block_until<R: Wait + Clock>(
         &self,
         rt: &R,
@@ -68,13 +66,14 @@ impl<T: Drop, V, P: MutexRule<T, V>> RuledMutex<T, V, P> {
         ensures refused { result ≡ false → seat.new.me ≡ seat.old.me }
     {
         for _ in rt.forever() {
-            if self.table.shared.swap::<TryLock<P>>(seat, 0, AWAITED) == FREE {
+            let Some(epoch) = self.mark(seat) else {
                 return true;
-            }
-            match time_left(rt, deadline) {
-                Some(left) => self.table.shared.park_timeout(rt, 0, AWAITED as u32, left),
-                None => return false,
-            }
+            };
+            let Some(left) = time_left(rt, deadline) else {
+                self.leave(seat);
+                return false;
+            };
+            self.sleep(rt, seat, epoch, Some(left));
         }
         unreachable!()
     }

@@ -5,5 +5,5 @@ use Rattle.lock_ruled.proofs.mutex.RuledMutex.new.Goals as goal
 pub vacant-requires : goal.vacant-requires
 vacant-requires g c = starts g.P.MutexRule.rule _ _ c.requires
 
-pub store-requires : goal.store-requires
-store-requires g c = (search rules, search rules, begins g.P.MutexRule.rule _ _ _ c.args.value (search rules) (search rules))
+pub load-requires : goal.load-requires
+load-requires g c = (search rules, search rules, begins g.P.MutexRule.rule _ _ _ c.args.value (search rules) (search rules))
