@@ -1,0 +1,6 @@
+//! The text of what [`explore`](lock_plan::explore) finds: the steps into a stop, who waits there, and who holds what.
+#![tactic(auto)]
+
+mod names;
+
+pub use names::Names;
