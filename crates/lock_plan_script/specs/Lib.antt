@@ -1,0 +1,4 @@
+pub mod PlanLines
+pub mod Drafts
+pub mod PlanFaults
+pub mod Drafted

@@ -1,0 +1,19 @@
+//! The text of a plan: [`parse_plan`] makes a plan and its names of bytes, or tells the first fault.
+//!
+//! A plan has a line for each lock, party and call. The module `PlanLines` of the specs says what each line says by the
+//! fields that it prints as, and `Drafts` says what the lines make, one after another.
+#![tactic(auto)]
+
+mod draft;
+mod fault;
+mod limit;
+mod lines;
+mod name;
+mod named_plan;
+mod place;
+mod plan_line;
+mod reading;
+mod verb;
+
+pub use fault::PlanTextFault;
+pub use named_plan::{NamedPlan, parse_plan};

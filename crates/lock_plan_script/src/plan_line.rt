@@ -1,0 +1,11 @@
+//! What lines of a plan say.
+use lock_plan::{Act, PlanLock};
+
+/// What a line says of the lock or party that it names.
+#[derive(Clone, Copy, PartialEq, Eq, Debug)]
+pub(crate) enum PlanLine {
+    Lock(PlanLock),
+    Party,
+    /// A call, and whether its word is one for reader-writer locks.
+    Call(bool, Act),
+}
