@@ -1,1 +1,2 @@
 mod Past
+mod Rows

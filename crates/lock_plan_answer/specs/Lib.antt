@@ -4,3 +4,4 @@ pub mod Marks
 pub mod Steps
 pub mod Stops
 pub mod Answers
+pub mod Lanes

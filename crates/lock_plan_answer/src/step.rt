@@ -42,7 +42,7 @@ pub(crate) fn last_node(plan: &Plan, trace: &[usize]) -> usize
 }
 
 /// Returns the node after a step of a party, or the same node where the party has no step.
-fn step(plan: &Plan, node: usize, party: usize) -> usize
+pub(crate) fn step(plan: &Plan, node: usize, party: usize) -> usize
     requires { node < plan.now.nodes }
     ensures world { world_of plan.now result ≡ stepped plan.now.locks.items (world_of plan.now node) party }
     ensures within { result < plan.now.nodes }
