@@ -1,0 +1,2 @@
+pub mod PlanAnswers
+pub mod Explorations
