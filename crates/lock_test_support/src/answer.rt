@@ -2,10 +2,8 @@
 
 mod makers;
 mod texts;
-mod tries;
 mod wanted;
 
 pub use makers::holds_or_lacks_memory;
 pub use texts::{debug_is, texts_are};
-pub use tries::gives_none;
 pub use wanted::equal;

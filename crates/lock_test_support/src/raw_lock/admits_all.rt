@@ -1,4 +1,4 @@
-//! A raw lock that admits everything, or refuses every try.
+//! A raw lock that admits everything.
 use crate::raw_lock::calls::Calls;
 use crate::raw_lock::raw_call::RawCall;
 use lock_base::machine::Mode;
@@ -8,24 +8,14 @@ use std::alloc::Global;
 use std::clone::Clone;
 use std::sync::Wait;
 
-/// A raw lock that admits everything, or refuses every try. It records its calls, and keeps the default bodies of the
-/// raw traits.
+/// A raw lock that admits everything. It records its calls, and keeps the default bodies of the raw traits.
 #[derive(Drop)]
 pub struct AdmitsAll<W: Wait + Clone + Drop> {
     waiter: W,
     calls: Calls,
-    pub(crate) refuses: bool,
 }
 
 impl<W: Wait + Clone + Drop> AdmitsAll<W> {
-    /// Returns the same raw lock, which now refuses every try.
-    pub fn refusing(self) -> AdmitsAll<W> {
-        AdmitsAll {
-            refuses: true,
-            ..self
-        }
-    }
-
     /// Returns the recorded calls.
     pub fn calls(&self) -> Result<Calls, Fault> {
         self.calls.another()
@@ -38,11 +28,7 @@ impl<W: Wait + Clone + Drop> AdmitsAll<W> {
     /// Returns what a try in the mode answers.
     pub(crate) fn tried(&self, mode: Mode) -> Option<GuardSend> {
         self.asked(RawCall::TryLock(mode));
-        if self.refuses {
-            None
-        } else {
-            Some(GuardSend::new())
-        }
+        Some(GuardSend::new())
     }
 }
 
@@ -53,11 +39,7 @@ impl<W: Wait + Clone + Drop> RawMutex for AdmitsAll<W> {
 
     fn new(alloc: Global, waiter: W) -> Result<AdmitsAll<W>, Fault> {
         let calls = Calls::new(alloc)?;
-        Ok(AdmitsAll {
-            waiter,
-            calls,
-            refuses: false,
-        })
+        Ok(AdmitsAll { waiter, calls })
     }
 
     fn waiter(&self) -> &W {

@@ -98,7 +98,7 @@ impl<W: Wait + Clone + Drop> RawRwLockUpgrade for AdmitsAll<W> {
 
     fn try_upgrade(&self, token: GuardSend) -> Result<GuardSend, GuardSend> {
         self.asked(RawCall::TryUpgrade);
-        if self.refuses { Err(token) } else { Ok(token) }
+        Ok(token)
     }
 }
 

@@ -4,7 +4,6 @@ ghost use Rattle.std.specs.Prelude.{◌≡◌, None, IsSome, MatchBool, MatchRes
 use crate::raw_lock::calls::Calls;
 use crate::raw_lock::raw_call::RawCall;
 use lock_base::machine::Mode;
-use std::ops::{Deref, DerefMut};
 use std::test::Fail;
 
 /// Compares the calls that came since the look before with those that are wanted, and remembers where they first
@@ -61,23 +60,5 @@ impl Watch {
         self.saw(&[RawCall::Lock(mode)]);
         drop(held);
         self.saw(&[RawCall::Unlock(mode)]);
-    }
-
-    /// The guard, which was just acquired in the mode, is read and ends.
-    pub fn saw_read<G: Deref + Drop>(&mut self, guard: G, mode: Mode) {
-        guard.deref();
-        self.saw_hold(guard, mode);
-    }
-
-    /// The guard, which was just acquired in the mode, writes the value and ends.
-    pub fn saw_write<T: Drop, G: DerefMut<Target = T> + Drop>(
-        &mut self,
-        guard: G,
-        value: T,
-        mode: Mode,
-    ) {
-        let mut guard = guard;
-        *guard = value;
-        self.saw_hold(guard, mode);
     }
 }

@@ -46,8 +46,8 @@ where
     Ok(())
 }
 
-/// Misses a third and a sixth item, and reads the second beside another guard, which ends first. Returns the last miss,
-/// and the item.
+/// Misses a third and a sixth item, and then reads the second by an inner guard, which it releases before the outer one.
+/// Returns the last miss and the item.
 fn inner_maps<R: RawMutexFair>(
     lock: &Paired<R>,
     watch: &mut Watch,

@@ -142,7 +142,7 @@ fn is_right<C: LockCore, K: Clock>(
 
 /// Returns whether a reader is refused at last.
 fn await_bar<C: LockCore>(raw: &RawLock<C>) -> bool {
-    for _ in 0..10_000_000u32 {
+    for _ in 0..1_000_000u32 {
         match raw.try_lock_shared() {
             Some(shared) => raw.unlock_shared(shared),
             None => return true,
