@@ -1,4 +1,7 @@
 //! Threads that wait for one another.
+ghost use Rattle.std.specs.Prelude.{true};
+ghost use Rattle.std.specs.Fn.{FnReturns};
+
 use std::sync::Wait;
 use std::sync::atomic::{AtomicBool, Ordering};
 use std::thread;
@@ -6,6 +9,7 @@ use std::thread;
 /// Blocks until the condition is true. It calls the condition again and again.
 pub fn wait_until<W: Wait, F: Fn() -> bool>(waiter: &W, condition: F)
     requires { F.IsAlwaysCallable condition }
+    ensures { FnReturns F.Fn condition tt true }
 {
     for _ in waiter.forever() {
         if condition() {
