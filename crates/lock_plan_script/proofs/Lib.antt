@@ -1,1 +1,3 @@
 mod LastFields
+mod OneDraft
+mod OneLine

@@ -2,3 +2,4 @@ pub mod PlanLines
 pub mod Drafts
 pub mod PlanFaults
 pub mod Drafted
+pub mod Meanings

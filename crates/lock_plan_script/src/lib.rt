@@ -8,6 +8,7 @@ mod draft;
 mod fault;
 mod limit;
 mod lines;
+mod meaning;
 mod name;
 mod named_plan;
 mod place;
@@ -16,4 +17,5 @@ mod reading;
 mod verb;
 
 pub use fault::PlanTextFault;
+pub use meaning::texts_have_one_meaning;
 pub use named_plan::{NamedPlan, parse_plan};
