@@ -1,15 +1,15 @@
 //! A mutex by guards that own a reference to it.
-ghost use Rattle.std.specs.Prelude.{◌≡◌, ◌↔◌, IsTrue, IfOk, IfErr};
+ghost use Rattle.std.specs.Prelude.{◌≡◌, ◌↔◌, IfOk, IfErr};
 ghost use Rattle.lock_script.specs.Session.{HasLimits, replies_to};
-ghost use Rattle.lock_conform.specs.Makers.{IsRunFault, is_mutex};
+ghost use Rattle.lock_conform.specs.Makers.{IsRunFault, kind_of};
 ghost use Rattle.lock_conform.specs.Reports.{IsReport};
 
-use lock_base::machine::{Form, PartyId, Want, Way};
+use lock_base::machine::{Form, Kind, PartyId, Want, Way};
 use lock_base::raw::Fault;
-use lock_conform::{Deadline, Driven, Lines, ParkBy, Recorder, Report, ask, change, run_on};
+use lock_conform::{Deadline, Driven, ParkBy, Report, ask, change, run_on, run_parts};
 use lock_guard::raw::{RawMutex, RawMutexFair, RawMutexTimed};
 use lock_mutex::{ArcMutexGuard, Mutex};
-use lock_script::{DeskScript, Maker, Pair, PairOp};
+use lock_script::{DeskScript, Pair, PairOp};
 use std::alloc::Global;
 use std::sync::Arc;
 
@@ -24,18 +24,13 @@ where
     R: RawMutexFair + RawMutexTimed + Drop,
     R::Duration: Default,
     R::Instant: Deadline<R::Waiter>,
-    ensures kind { (result ≡ Err Fault.WrongKind) ↔ ¬ IsTrue (is_mutex script.maker) }
-    ensures limits { (result ≡ Err Fault.BadLimits) ↔ (IsTrue (is_mutex script.maker) × ¬ HasLimits script.maker) }
+    ensures kind { (result ≡ Err Fault.WrongKind) ↔ ¬ (kind_of script.maker ≡ Kind.Mutex) }
+    ensures limits { (result ≡ Err Fault.BadLimits) ↔ ((kind_of script.maker ≡ Kind.Mutex) × ¬ HasLimits script.maker) }
     ensures fault { IfErr result IsRunFault }
     ensures report { IfOk result
         (IsReport script.calls.items (replies_to script.maker script.calls.items)) }
 {
-    let Maker::Mutex(_, pair) = script.maker else {
-        return Err(Fault::WrongKind);
-    };
-    let lines = Lines::of_script(alloc, script)?;
-    let raw = Recorder::over(alloc, raw)?;
-    let log = raw.log()?;
+    let (raw, pair, log, lines) = run_parts(alloc, Kind::Mutex, raw, script)?;
     let lock = Mutex::from_raw(raw, pair)?;
     let Ok(lock) = Arc::new(alloc, lock) else {
         return Err(Fault::OutOfMemory);

@@ -1,0 +1,48 @@
+//! What a run of a script needs.
+ghost use Rattle.std.specs.Prelude.{◌≡◌, ◌↔◌, IfOk, IfErr};
+ghost use Rattle.lock_script.specs.Session.{HasLimits, replies_to};
+ghost use Rattle.lock_conform.specs.Makers.{IsRunFault, kind_of};
+
+use crate::call_log::CallLog;
+use crate::lines::Lines;
+use crate::recorder::Recorder;
+use lock_base::machine::Kind;
+use lock_base::raw::Fault;
+use lock_script::{DeskScript, Maker, Pair};
+use std::alloc::Global;
+
+/// Returns what a run of the script on a lock of that kind needs: the raw lock with a record of its calls, the first
+/// value, the record, and the lines.
+pub fn run_parts<R: Drop>(
+    alloc: Global,
+    kind: Kind,
+    raw: R,
+    script: DeskScript,
+) -> Result<(Recorder<R>, Pair, CallLog, Lines), Fault>
+    ensures kind { (result ≡ Err Fault.WrongKind) ↔ ¬ (kind_of script.maker ≡ kind) }
+    ensures limits { (result ≡ Err Fault.BadLimits) ↔ ((kind_of script.maker ≡ kind) × ¬ HasLimits script.maker) }
+    ensures fault { IfErr result IsRunFault }
+    ensures calls { IfOk result (λ made. made.3.calls.items ≡ script.calls.items) }
+    ensures replies { IfOk result (λ made.
+        made.3.replies.items ≡ replies_to script.maker script.calls.items) }
+{
+    let (made, pair) = kind_and_pair(script.maker);
+    if made != kind {
+        return Err(Fault::WrongKind);
+    }
+    let lines = Lines::of_script(alloc, script)?;
+    let raw = Recorder::over(alloc, raw)?;
+    let log = raw.log()?;
+    Ok((raw, pair, log, lines))
+}
+
+/// Returns the kind of a script's lock, and its first value.
+fn kind_and_pair(maker: Maker) -> (Kind, Pair)
+    ensures { result.0 ≡ kind_of maker }
+{
+    match maker {
+        Maker::Mutex(_, pair) => (Kind::Mutex, pair),
+        Maker::RwLock(_, _, pair) => (Kind::RwLock, pair),
+        Maker::Reentrant(_, _, pair) => (Kind::Reentrant, pair),
+    }
+}
