@@ -1,4 +1,5 @@
 pub mod Account
+pub mod Gate
 pub mod Line
 pub mod Pool
 pub mod Words
