@@ -106,26 +106,27 @@ impl<T> Weight<T> for One {
     ghost weight = { λ object. 1 };
 }
 
-/// Returns the objects after two threads have borrowed them in turns: as many as before.
-pub fn lend_in_turns<R: Threads + Wait + Sync>(
+/// Returns the objects after two threads have borrowed them in turns. By each weight they weigh what they weighed before, so
+/// none is lost, and none came twice.
+pub fn lend_in_turns<R: Threads + Wait + Sync, W: Weight<u64> + Sync>(
     rt: &R,
     alloc: Global,
     objects: Ring<u64>,
     turns: u64,
 ) -> Result<Ring<u64>, Fault>
-    ensures { IfOk result (λ after. sum_by (λ object. 1) after.items ≡ sum_by (λ object. 1) objects.items) }
+    ensures { IfOk result (λ after. sum_by W.weight after.items ≡ sum_by W.weight objects.items) }
 {
-    let (made, user): (Lending<u64, One>, Borrower<u64>) = RuledMutex::new(alloc, objects)?;
+    let (made, user): (Lending<u64, W>, Borrower<u64>) = RuledMutex::new(alloc, objects)?;
     let pool = &made;
     let (user, other) = pool.split_ready::<Shares>(user);
     let (user, other) = join(
         rt,
         move || -> Borrower<u64>
-            requires { IsSync R.row × (user.mutex ≡ pool.now) }
+            requires { IsSync R.row × IsSync W.row × (user.mutex ≡ pool.now) }
             ensures { result ≡ user }
         { borrow_in_turns(rt, pool, user, turns) },
         move || -> Borrower<u64>
-            requires { IsSync R.row × (other.mutex ≡ pool.now) }
+            requires { IsSync R.row × IsSync W.row × (other.mutex ≡ pool.now) }
             ensures { result ≡ other }
         { borrow_in_turns(rt, pool, other, turns) },
     );
