@@ -1,3 +1,5 @@
 mod LastFields
 mod OneDraft
 mod OneLine
+mod Origins
+mod Ties

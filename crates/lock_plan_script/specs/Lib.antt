@@ -3,3 +3,4 @@ pub mod Drafts
 pub mod PlanFaults
 pub mod Drafted
 pub mod Meanings
+pub mod CallOrigins

@@ -1,4 +1,5 @@
-//! A text has one meaning.
+//! What drafts of plans are: each text has one, and each of its calls stands on its line.
+ghost use Rattle.lock_plan_script.specs.CallOrigins.{CallsHaveLines};
 ghost use Rattle.lock_plan_script.specs.Meanings.{DraftsAreGood, HaveOneBadLine, MakeOneDraft, SayOneLine};
 
 /// Each line of a plan says one thing at most. All lines make one draft at most, or have one first bad line.
@@ -7,4 +8,9 @@ pub fn texts_have_one_meaning()
     ensures draft { MakeOneDraft }
     ensures bad { HaveOneBadLine }
     ensures good { DraftsAreGood }
+{}
+
+/// Each call of a draft is what the line with its number says.
+pub fn calls_have_lines()
+    ensures { CallsHaveLines }
 {}
