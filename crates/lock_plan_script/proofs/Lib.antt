@@ -1,3 +1,4 @@
+mod FaultPlaces
 mod LastFields
 mod OneDraft
 mod OneLine

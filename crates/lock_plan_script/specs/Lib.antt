@@ -4,3 +4,4 @@ pub mod PlanFaults
 pub mod Drafted
 pub mod Meanings
 pub mod CallOrigins
+pub mod FaultLines
