@@ -1,6 +1,9 @@
 //! Reads a plan of lock calls from standard input, and prints whether it can deadlock.
 #![tactic(auto)]
 
+#[cfg(test)]
+mod tests;
+
 use lock_plan_run::{Verdict, explore_plan, is_drawn};
 use lock_plan_script::PlanTextFault;
 use std::process::ExitCode;

@@ -1,0 +1,71 @@
+//! What no clause says: the answer where nothing fails, and what memory, a reader and a writer that fail leave.
+use lock_plan_run::{Verdict, explore_plan};
+use lock_plan_script::PlanTextFault;
+use std::io::{self, ErrorKind, Read};
+use std::test::Fail;
+
+const PLAN: &[u8] = b"mutex a\nparty one\nlock a\nlock a\n";
+
+const ANSWER: &[u8] =
+    b"deadlock\none lock a\none waits for lock a: one exclusive\n\none\n* a:x\n-> a\n";
+
+/// Gives the bytes that it has, and then fails.
+#[derive(Drop)]
+struct Broken<'a> {
+    left: &'a [u8],
+}
+
+impl Read for Broken<'_> {
+    fn read(&mut self, buf: &mut [u8]) -> io::Result<usize> {
+        if self.left.is_empty() {
+            return Err(io::Error::from(ErrorKind::TimedOut));
+        }
+        self.left.read(buf)
+    }
+}
+
+/// Also run with one allocation after another refused.
+#[test]
+fn refused_memory_explore(rt: HostRuntime) -> Result<(), Fail> {
+    let mut plan = PLAN;
+    let mut kept = [0u8; 128];
+    let mut out = kept.as_mut_slice();
+    let told = explore_plan(rt.alloc(), true, &mut plan, &mut out);
+    let is_answered = told == Ok(Verdict::Stops) && kept.starts_with(ANSWER);
+    let is_refused = told == Err(PlanTextFault::OutOfMemory) && kept == [0u8; 128];
+    if is_answered || is_refused {
+        return Ok(());
+    }
+    Err(Fail::new("answered otherwise"))
+}
+
+#[test]
+fn a_plan_that_never_stops_has_no_drawing(rt: HostRuntime) -> Result<(), Fail> {
+    let mut plan: &[u8] = b"mutex a\nparty one\nlock a\n";
+    let mut out = Vec::new(rt.alloc());
+    let told = explore_plan(rt.alloc(), true, &mut plan, &mut out);
+    assert_eq!(rt; told, Ok(Verdict::NeverStops));
+    assert_eq!(rt; out.as_slice(), b"no deadlock, 2 states\n".as_slice());
+    Ok(())
+}
+
+#[test]
+fn a_writer_without_room_keeps_a_prefix(rt: HostRuntime) -> Result<(), Fail> {
+    let mut plan = PLAN;
+    let mut kept = [0u8; 16];
+    let mut out = kept.as_mut_slice();
+    let told = explore_plan(rt.alloc(), false, &mut plan, &mut out);
+    assert_eq!(rt; told, Err(PlanTextFault::OutputFailed));
+    assert_eq!(rt; kept.as_slice(), &ANSWER[..16]);
+    Ok(())
+}
+
+#[test]
+fn a_reader_that_fails_leaves_nothing_written(rt: HostRuntime) -> Result<(), Fail> {
+    let mut broken = Broken { left: PLAN };
+    let mut out = Vec::new(rt.alloc());
+    let told = explore_plan(rt.alloc(), false, &mut broken, &mut out);
+    assert_eq!(rt; told, Err(PlanTextFault::InputFailed));
+    assert_eq!(rt; out.as_slice(), b"".as_slice());
+    Ok(())
+}
