@@ -17,7 +17,7 @@ use Rattle.lock_ruled.specs.declared.rule.UserStage.TheVariants.{Free, Opens, Ho
 use Rattle.lock_ruled.specs.declared.rule.UserView.{UserView}
 use Rattle.lock_ruled.specs.Ruled.{all_parts, Meets, Keeps}
 use Rattle.lock_ruled.specs.Ruled as asked
-use Rattle.lock_ruled.specs.Wakes.{awaited, last_epoch, IsAsleep, IsDue, watched, KeepsWakes}
+use Rattle.lock_ruled.specs.SleepingUsers.{awaited, last_epoch, IsAsleep, IsDue, watched, KeepsWakes}
 use Rattle.lock_ruled.specs.Slots.{Fits, IsAway, IsHolding, IsOut, IsRuled, word_in, epoch_in, EveryStateForgetsNoUser, taken_value, known_if, known_views, opener, one_fewer, one_part, both_of, spent_view}
 use Rattle.lock_ruled.specs.Plays.{Self, HasAcquired, Carries, IsIdle, stage_after_release, AcquiresValue, MarksAwaited, ReleasesValue, OpensMutex, WatchesEpoch, Leaves, NotesEpoch, EndsEpoch}
 use Rattle.lock_ruled.proofs.Wakes.{changes, moves, frees, ends, finds_last, newcomer, forgets_no_user}

@@ -8,7 +8,7 @@ use Rattle.atomic_table.proofs.Lists.{at_set, at_snoc, at_longer, set_else}
 use Rattle.lock_ruled.specs.declared.rule.UserStage.{UserStage}
 use Rattle.lock_ruled.specs.declared.rule.UserStage.TheVariants.{Free}
 use Rattle.lock_ruled.specs.declared.rule.UserView.{UserView}
-use Rattle.lock_ruled.specs.Wakes.{awaited, last_epoch, IsAsleep, IsDue, watched, SomeoneIsDue, KeepsWakes, ForgetsNoUser}
+use Rattle.lock_ruled.specs.SleepingUsers.{awaited, last_epoch, IsAsleep, IsDue, watched, SomeoneIsDue, KeepsWakes, ForgetsNoUser}
 use Rattle.lock_ruled.proofs.Views.{set_at}
 
 module _ {T V : Type 0} where

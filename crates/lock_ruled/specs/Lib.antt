@@ -1,5 +1,5 @@
 pub mod Ruled
-pub mod Wakes
+pub mod SleepingUsers
 pub mod Slots
 pub mod Plays
 pub mod EachView

@@ -6,7 +6,7 @@ use Rattle.lock_ruled.specs.declared.rule.UserStage.TheVariants.{Free, Opens, Ho
 use Rattle.lock_ruled.specs.declared.rule.UserStage.{UserStage}
 use Rattle.lock_ruled.specs.declared.rule.UserView.{UserView}
 use Rattle.lock_ruled.specs.Ruled.{Meets}
-use Rattle.lock_ruled.specs.Wakes.{awaited, last_epoch}
+use Rattle.lock_ruled.specs.SleepingUsers.{awaited, last_epoch}
 
 -- a user's view, and the slots that it holds
 abbrev pub Self : Type 0 → Type 0 → Type 0

@@ -9,7 +9,7 @@ use Rattle.lock_ruled.specs.declared.rule.UserStage.{UserStage}
 use Rattle.lock_ruled.specs.declared.rule.UserStage.TheVariants.{Free, Opens, Holds}
 use Rattle.lock_ruled.specs.declared.rule.UserView.{UserView}
 use Rattle.lock_ruled.specs.Ruled.{all_parts}
-use Rattle.lock_ruled.specs.Wakes.{KeepsWakes, ForgetsNoUser}
+use Rattle.lock_ruled.specs.SleepingUsers.{KeepsWakes, ForgetsNoUser}
 
 module _ {T : Type 0} where
   -- the value that was acquired, or else the other one

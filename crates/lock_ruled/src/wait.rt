@@ -1,7 +1,7 @@
 //! How a blocked user waits: it marks the mutex as awaited, and sleeps until a release ends the epoch.
 ghost use Rattle.std.specs.Prelude.{◌≡◌, ℕ, None, IfSome};
 ghost use Rattle.lock_ruled.specs.declared.rule.UserStage.TheVariants.{Sleeps, Free};
-ghost use Rattle.lock_ruled.specs.Wakes.{IsAsleep};
+ghost use Rattle.lock_ruled.specs.SleepingUsers.{IsAsleep};
 ghost use Rattle.lock_ruled.specs.Plays.{HasAcquired, IsIdle, at_stage};
 
 use crate::mutex::{AWAITED, EPOCH, FREE, LAST_EPOCH, RuledMutex, WORD};
