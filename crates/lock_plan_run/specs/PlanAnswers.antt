@@ -10,6 +10,7 @@ use Rattle.lock_plan_answer.specs.Answers.{answer_text}
 use Rattle.lock_plan_answer.specs.Lanes.{drawing_text}
 use Rattle.lock_plan_script.specs.declared.named_plan.NamedPlan.{NamedPlan}
 use Rattle.lock_plan_script.specs.Drafted.{IsPlanOf}
+use Rattle.step_search.specs.Counts.{IsCountOf}
 use Rattle.lock_plan_run.specs.declared.verdict.Verdict.{Verdict}
 use Rattle.lock_plan_run.specs.declared.verdict.Verdict.TheVariants.{NeverStops, Stops}
 
@@ -17,10 +18,11 @@ abbrev pub verdict_of : Option (Vec ℕ Global) → Verdict
 verdict_of None = NeverStops
 verdict_of (Some trace) = Stops
 
--- no interleaving leads into a stop, or this trace is a shortest one
-abbrev pub IsFound : List PlanLock → List (List PlanCall) → Option (Vec ℕ Global) → Type 0
-IsFound locks parties None = plans.NeverStops locks parties
-IsFound locks parties (Some trace) = plans.IsShortestStop locks parties trace.items
+-- no interleaving leads into a stop, and so many worlds can be reached; or this trace is a shortest one
+abbrev pub IsFound : List PlanLock → List (List PlanCall) → Option (Vec ℕ Global) → ℕ → Type 0
+IsFound locks parties None visited =
+    plans.NeverStops locks parties × IsCountOf (plans.IsReachableWorld locks parties) visited
+IsFound locks parties (Some trace) visited = plans.IsShortestStop locks parties trace.items
 
 -- the drawing, where it is asked for
 abbrev pub drawing_if : Bool → List PlanLock → List (List PlanCall) → Names → Option (Vec ℕ Global) → List ℕ
@@ -39,6 +41,6 @@ pub record IsPlanAnswer (is_drawn : Bool) (bytes : List ℕ) (verdict : Verdict)
   pub plan : IsPlanOf bytes named
   pub trace : Option (Vec ℕ Global)
   pub visited : ℕ
-  pub found : IsFound named.plan.locks.items (calls_of named.plan) trace
+  pub found : IsFound named.plan.locks.items (calls_of named.plan) trace visited
   pub verdict_is : verdict ≡ verdict_of trace
   pub text_is : text ≡ whole_text is_drawn named trace visited
