@@ -42,11 +42,11 @@ record Made (text : ℕ → List ℕ) (draft : Draft) : Type 0 where
 
 call_kept : (text : ℕ → List ℕ) (draft : Draft) (lock : PlanLock) (name : List ℕ) → length draft.locks ≡ length draft.lock_names
     → (call : PlanCall) (number : ℕ) → IsCallOf text draft call number → IsCallOf text (with_lock draft lock name) call number
-call_kept text draft lock name named call number (is_rw, (act, (called, (says, (place, does))))) =
+call_kept text draft lock name named call number (for_rwlock, (act, (called, (says, (place, does))))) =
     let found = position-push (λ other. bytes_eq other called) draft.lock_names name call.lock place in
     let same : get_or (draft.locks ++ lock ∷ []) call.lock no_lock ≡ get_or draft.locks call.lock no_lock
     = get_or-append draft.locks (lock ∷ []) no_lock call.lock (omega (arith, found.0)) in
-    (is_rw, (act, (called, (says, (found.1, does ∙ ap (λ (l : PlanLock). act_on is_rw act l.kind) (sym same))))))
+    (for_rwlock, (act, (called, (says, (found.1, does ∙ ap (λ (l : PlanLock). act_on for_rwlock act l.kind) (sym same))))))
 
 made_lock : (text : ℕ → List ℕ) (draft : Draft) (lock : PlanLock) (name : List ℕ) → Made text draft → Made text (with_lock draft lock name)
 made_lock text draft lock name made = record {
@@ -60,15 +60,15 @@ taken : (t : Bool) (draft next : Draft) → cond t None (Some draft) ≡ Some ne
 taken true draft next is = cc
 taken false draft next is = cc
 
-made_call : (text : ℕ → List ℕ) (draft next : Draft) (number : ℕ) (is_rw : Bool) (act : Act) (name : List ℕ) (place : Option ℕ) → Made text draft
-    → Says (text number) (Call is_rw act) name → place_of draft.lock_names name ≡ place
-    → call_at_place draft number place is_rw act ≡ Some next → Made text next
-made_call text draft next number is_rw act name None made says found is = cc
-made_call text draft next number is_rw act name (Some lock) made says found is =
-    subst (Made text) (taken (length draft.parties == 0) (with_call draft number lock is_rw act) next is) (record {
+made_call : (text : ℕ → List ℕ) (draft next : Draft) (number : ℕ) (for_rwlock : Bool) (act : Act) (name : List ℕ) (place : Option ℕ) → Made text draft
+    → Says (text number) (Call for_rwlock act) name → place_of draft.lock_names name ≡ place
+    → call_at_place draft number place for_rwlock act ≡ Some next → Made text next
+made_call text draft next number for_rwlock act name None made says found is = cc
+made_call text draft next number for_rwlock act name (Some lock) made says found is =
+    subst (Made text) (taken (length draft.parties == 0) (with_call draft number lock for_rwlock act) next is) (record {
       named = made.named;
       tied = tied_onto_last (IsCallOf text draft) draft.parties draft.numbers _ number made.tied
-          (is_rw, (act, (name, (says, (found, refl)))));
+          (for_rwlock, (act, (name, (says, (found, refl)))));
     })
 
 made_line : (text : ℕ → List ℕ) (draft next : Draft) (number : ℕ) (line : PlanLine) (name : List ℕ) → Made text draft
@@ -80,8 +80,8 @@ made_line text draft next number Party name made says is =
       named = made.named;
       tied = tied_push (AreTied (IsCallOf text draft)) draft.parties draft.numbers [] [] made.tied tt;
     })
-made_line text draft next number (Call is_rw act) name made says is =
-    made_call text draft next number is_rw act name (place_of draft.lock_names name) made says refl is
+made_line text draft next number (Call for_rwlock act) name made says is =
+    made_call text draft next number for_rwlock act name (place_of draft.lock_names name) made says refl is
 
 -- `text` gives each of the texts by its number
 made_all : (text : ℕ → List ℕ) (draft end : Draft) (number : ℕ) (texts : List (List ℕ)) → Made text draft

@@ -24,10 +24,10 @@ text_at bytes number = get_or (texts_of bytes) (number - 1) []
 -- the call is what line `number` says: the line names its lock and has a word for its act
 abbrev pub IsCallOf : (ℕ → List ℕ) → Draft → PlanCall → ℕ → Type 0
 IsCallOf text draft call number =
-    (is_rw : Bool) × ((act : Act) × ((name : List ℕ)
-    × (Says (text number) (Call is_rw act) name
+    (for_rwlock : Bool) × ((act : Act) × ((name : List ℕ)
+    × (Says (text number) (Call for_rwlock act) name
     × ((place_of draft.lock_names name ≡ Some call.lock)
-    × (call.act ≡ act_on is_rw act (get_or draft.locks call.lock no_lock).kind)))))
+    × (call.act ≡ act_on for_rwlock act (get_or draft.locks call.lock no_lock).kind)))))
 
 -- each call of a draft is what the line with its number says
 abbrev pub CallsHaveLines : Type 0

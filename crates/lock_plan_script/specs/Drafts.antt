@@ -59,16 +59,16 @@ with_party draft name = record draft {
 }
 
 abbrev pub with_call : Draft → ℕ → ℕ → Bool → Act → Draft
-with_call draft number lock is_rw act = record draft {
-  parties = onto_last draft.parties (record { lock = lock; act = act_on is_rw act (get_or draft.locks lock no_lock).kind });
+with_call draft number lock for_rwlock act = record draft {
+  parties = onto_last draft.parties (record { lock = lock; act = act_on for_rwlock act (get_or draft.locks lock no_lock).kind });
   numbers = onto_last draft.numbers number;
 }
 
 -- a call of the last party on the lock at a place
 abbrev pub call_at_place : Draft → ℕ → Option ℕ → Bool → Act → Option Draft
-call_at_place draft number None is_rw act = None
-call_at_place draft number (Some lock) is_rw act =
-    if length draft.parties == 0 then None else Some (with_call draft number lock is_rw act)
+call_at_place draft number None for_rwlock act = None
+call_at_place draft number (Some lock) for_rwlock act =
+    if length draft.parties == 0 then None else Some (with_call draft number lock for_rwlock act)
 
 -- the draft with one more line; none if the name of a new lock or party is there, or a call has no lock or no party
 abbrev pub with_line : Draft → ℕ → PlanLine → List ℕ → Option Draft
@@ -76,7 +76,7 @@ with_line draft number (Lock lock) name =
     if is_some (place_of draft.lock_names name) then None else Some (with_lock draft lock name)
 with_line draft number Party name =
     if is_some (place_of draft.party_names name) then None else Some (with_party draft name)
-with_line draft number (Call is_rw act) name = call_at_place draft number (place_of draft.lock_names name) is_rw act
+with_line draft number (Call for_rwlock act) name = call_at_place draft number (place_of draft.lock_names name) for_rwlock act
 
 -- the text of line `number` makes one draft of another
 abbrev pub Adds : Draft → ℕ → List ℕ → Draft → Type 0
