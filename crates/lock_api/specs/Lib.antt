@@ -56,6 +56,7 @@ pub use Rattle.lock_seated.specs.Attempts
 pub use Rattle.lock_wake.specs.WakeSeats
 pub use Rattle.lock_wake.specs.Acquisitions
 pub use Rattle.lock_ruled.specs.Ruled
+pub use Rattle.lock_ruled.specs.SleepingUsers
 pub use Rattle.lock_ruled.specs.Slots
 pub use Rattle.lock_ruled.specs.EachView
 pub use Rattle.lock_ruled.specs.Ledger

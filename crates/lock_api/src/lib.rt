@@ -147,6 +147,7 @@ pub use lock_ruled::User;
 pub use lock_ruled::UserStage;
 pub use lock_ruled::UserView;
 pub use lock_ruled::ViewUpdate;
+pub use lock_ruled::every_state_forgets_no_user;
 pub use lock_ruled::every_state_is_ruled;
 pub use lock_rwlock::Exclusive;
 pub use lock_rwlock::FairMode;
