@@ -3,14 +3,14 @@
 //! With no word it makes a few calls of a `Desk`, of a lock and of scripts, and prints how many were done.
 //! `desk`: it makes many of these calls, and prints how long each took.
 //! `locks ROUNDS`: nanoseconds of a round of each lock on one thread, and of a condition variable's round trip between
-//! two. `seated ROUNDS`: of an attempt and a release of a seated lock. `waits MILLIS`: the processor time of a wait so long.
-//! `timed`: what timed calls answer, and after how long.
+//! two. `seated ROUNDS`: of an attempt and a release of the locks that have parties or users. `waits MILLIS`: the processor
+//! time of a wait so long.
 #![tactic(auto)]
 
+mod counter;
 mod desk;
 mod locks;
 mod seated;
-mod timed;
 mod waits;
 
 use crate::desk::Bench;
@@ -42,10 +42,7 @@ fn run<R: Print + Clock + CpuClock + Wait + Threads + Sync + Copy>(
         "locks" => locks::print(rt, alloc, number.unwrap_or(1_000_000)),
         "seated" => seated::print(rt, alloc, number.unwrap_or(1_000_000)),
         "waits" => waits::print(rt, alloc, number.unwrap_or(100)),
-        "timed" => timed::print(rt, alloc),
-        _ => println!(rt;
-            "usage: lock_bench desk | locks ROUNDS | seated ROUNDS | waits MILLIS | timed"
-        ),
+        _ => println!(rt; "usage: lock_bench desk | locks ROUNDS | seated ROUNDS | waits MILLIS"),
     }
 }
 

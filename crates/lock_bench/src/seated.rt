@@ -1,4 +1,7 @@
-//! Rounds of a seated lock, which has no value, on one thread.
+//! Rounds of the locks that have users or parties, on one thread.
+mod blocking;
+mod ruled;
+
 ghost use Rattle.std.specs.Prelude.{◌≡◌};
 
 use crate::locks::{READERS, line};
@@ -6,10 +9,18 @@ use lock_base::machine::Mode;
 use lock_seated::{Attempt, ExWant, Party, SeatedLock};
 use std::alloc::Global;
 use std::io;
+use std::sync::Wait;
 use std::time::{Clock, Instant};
 
+/// The lines of each lock.
+pub fn print<R: Print + Clock + Wait>(rt: &R, alloc: Global, rounds: u64) -> io::Result<()> {
+    print_seated(rt, alloc, rounds)?;
+    blocking::print(rt, alloc, rounds)?;
+    ruled::print(rt, alloc, rounds)
+}
+
 /// A line for each mode: nanoseconds of an attempt and a release.
-pub fn print<R: Print + Clock>(rt: &R, alloc: Global, rounds: u64) -> io::Result<()> {
+fn print_seated<R: Print + Clock>(rt: &R, alloc: Global, rounds: u64) -> io::Result<()> {
     let Ok((lock, party)) = SeatedLock::new(alloc, READERS) else {
         return println!(rt; "SeatedLock: out of memory");
     };

@@ -1,4 +1,7 @@
 //! What a blocked thread costs.
+mod blocking;
+mod ruled;
+
 use lock_base::raw::Fault;
 use lock_guard::raw::RawMutex;
 use lock_mutex::{Condvar, Mutex};
@@ -149,5 +152,7 @@ pub fn print<R: Print + Clock + CpuClock + Wait + Threads + Sync + Copy>(
     over::<R, Flag<TokenRaw<R>>>(rt, alloc, "TokenRaw", millis)?;
     over::<R, Flag<RecordingRaw<R>>>(rt, alloc, "RecordingRaw", millis)?;
     over::<R, Flag<WordRaw<R>>>(rt, alloc, "WordRaw", millis)?;
-    over::<R, Flag<TimedRaw<R>>>(rt, alloc, "TimedRaw", millis)
+    over::<R, Flag<TimedRaw<R>>>(rt, alloc, "TimedRaw", millis)?;
+    blocking::print(rt, alloc, millis)?;
+    ruled::print(rt, alloc, millis)
 }
