@@ -1,5 +1,5 @@
 -- A party past the last has no call and no step.
-use Rattle.std.proofs.Common.{◌≡◌, ◌∙◌, ℕ, ◌≤◌, [], List, length, map, get_or, Vec, Global, sym, ap, arith}
+use Rattle.std.proofs.Common.{◌≡◌, ◌∙◌, ℕ, ◌≤◌, [], length, map, get_or, Vec, Global, sym, ap, arith}
 use Rattle.std.proofs.lemmas.List.{get_or_past, length-map}
 use Rattle.lock_plan.specs.declared.call.PlanCall.{PlanCall}
 use Rattle.lock_plan.specs.declared.plan.Plan.{Plan}

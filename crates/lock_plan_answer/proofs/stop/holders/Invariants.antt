@@ -1,8 +1,7 @@
 -- The marks so far, and those of the holds that are left, are the marks of all.
 use Rattle.std.proofs.Common.{◌≡◌, ◌++◌, drop}
 use Rattle.std.specs.List.{flat_map}
-use Rattle.lock_plan.specs.Stops.{world_of, all_holds}
-use Rattle.lock_plan_answer.specs.Marks.{marks_of, holders}
+use Rattle.lock_plan_answer.specs.Marks.{marks_of}
 use Rattle.lock_plan_answer.proofs.stop.holders.Given as goal
 
 abbrev pub invariant-loop-it : goal.invariant-loop-it
