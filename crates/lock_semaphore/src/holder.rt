@@ -2,8 +2,8 @@
 use lock_ruled::{Share, User};
 use std::marker::Model;
 
-/// A user of a `Semaphore`, which one thread at a time may own. Contracts see how many permits it has, and how many the
-/// semaphore was made with.
+/// A user of a `Semaphore`, which one thread at a time may own. Contracts see it as a `User`: `view.own` is the number of
+/// its permits, and `view.all` the number that the semaphore was made with.
 ///
 /// The permits of a dropped holder are lost.
 #[derive(Drop)]
