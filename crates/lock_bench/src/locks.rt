@@ -1,23 +1,23 @@
 //! Rounds of locks on one thread. Loops that a Rust program has too are not inlined, so that each is compiled by itself.
+use crate::turns::{Act, TakeTurns, Turns, cost_beside};
 use lock_base::machine::PartyId;
-use lock_base::raw::Fault;
 use lock_guard::raw::{RawMutex, RawRwLock, RawRwLockUpgradeDowngrade};
-use lock_mutex::{Condvar, Mutex};
+use lock_mutex::Mutex;
 use lock_raws::{LockCore, Monitor, RawLock, RecordingArbiter, TableArbiter, TokenRaw};
-use lock_raws_word::{NoTime, RealTime, SleepingCondvar, WordCore, WordRaw};
+use lock_raws_word::{NoTime, RealTime, WordCore, WordRaw};
 use lock_remutex::ReentrantMutex;
 use lock_rwlock::{RwLock, RwLockUpgradableReadGuard, RwLockWriteGuard};
 use std::alloc::Global;
 use std::io;
 use std::sync::Wait;
-use std::thread::{self, Threads};
-use std::time::{Clock, Instant};
+use std::thread::Threads;
+use std::time::{Clock, CpuClock, Instant};
 
 /// How many readers the reader-writer locks have.
 pub const READERS: u64 = 64;
 
 /// A line for each lock and raw lock: its names, and nanoseconds a round.
-pub fn print<R: Print + Clock + Wait + Threads + Sync + Copy>(
+pub fn print<R: Print + Clock + CpuClock + Wait + Threads + Sync + Copy>(
     rt: &R,
     alloc: Global,
     rounds: u64,
@@ -208,81 +208,28 @@ where
     sum
 }
 
-/// Whose turn it is, and where the other thread waits for it.
-#[derive(Drop)]
-struct Turns<R> {
-    turn: Mutex<R, u64>,
-    changed: Condvar<SleepingCondvar<R>>,
-}
-
-impl<R: RawMutex> Turns<R> {
-    /// Waits for each turn that is `first` or every second after it, and ends it.
-    fn take_from(&self, first: u64, rounds: u64) {
-        for _ in 0..rounds {
-            let mut turn = self.turn.lock();
-            self.changed
-                .wait_while(&mut turn, |turn| *turn % 2 != first);
-            *turn = turn.wrapping_add(1);
-            drop(turn);
-            self.changed.notify_one();
-        }
-    }
-}
-
-/// Turns over a raw lock that only their maker names.
-trait TakeTurns: Sized {
-    /// The permission to block.
-    type Waiter: Wait;
-
-    /// Before the first turn.
-    fn new(alloc: Global, waiter: Self::Waiter) -> Result<Self, Fault>;
-
-    /// Takes every second turn from this one on.
-    fn take_turns(&self, first: u64, rounds: u64);
-
-    /// Drops it: a bound `Drop` would have all of the raw lock proved twice.
-    fn end(self);
-}
-
-impl<C: LockCore> TakeTurns for Turns<RawLock<C>> {
-    type Waiter = C::Waiter;
-
-    fn new(alloc: Global, waiter: C::Waiter) -> Result<Turns<RawLock<C>>, Fault> {
-        Ok(Turns {
-            turn: Mutex::new(alloc, waiter, 0)?,
-            changed: Condvar::new(alloc)?,
-        })
-    }
-
-    fn take_turns(&self, first: u64, rounds: u64) {
-        self.take_from(first, rounds);
-    }
-
-    fn end(self) {}
-}
-
-fn in_two_threads<R: Threads, T: TakeTurns + Sync>(rt: &R, turns: T, rounds: u64) {
-    thread::join(
-        rt,
-        || turns.take_turns(0, rounds),
-        || turns.take_turns(1, rounds),
-    );
-    turns.end();
-}
-
-/// The line of a condition variable.
-fn trips<R: Print + Clock + Wait + Threads + Sync + Copy, T: TakeTurns<Waiter = R> + Sync>(
-    rt: &R,
-    alloc: Global,
-    name: &str,
-    rounds: u64,
-) -> io::Result<()> {
+/// The line of a condition variable: two threads that take turns.
+fn trips<
+    R: Print + Clock + CpuClock + Wait + Threads + Sync + Copy,
+    T: TakeTurns<Waiter = R> + Sync,
+>(rt: &R, alloc: Global, name: &str, rounds: u64) -> io::Result<()> {
     let Ok(turns) = T::new(alloc, *rt) else {
         return println!(rt; "{name}: out of memory");
     };
     // its fault is told once the turns are ended, since nothing else drops them
     let start = Instant::now(rt);
-    in_two_threads(rt, turns, rounds);
+    let even = Act::Take {
+        first: 0,
+        rounds,
+        after: 0,
+    };
+    let odd = Act::Take {
+        first: 1,
+        rounds,
+        after: 0,
+    };
+    let _ = cost_beside(rt, &turns, even, odd, 0);
+    turns.end();
     line(
         rt,
         name,

@@ -11,6 +11,7 @@ mod counter;
 mod desk;
 mod locks;
 mod seated;
+mod turns;
 mod waits;
 
 use crate::desk::Bench;

@@ -27,9 +27,7 @@ fn script(rt: &HostRuntime, guards: u64, turns: u64, questions: u64) -> io::Resu
     }
     for turn in 0..turns {
         let oldest = turn.wrapping_add(1);
-        writeln!(text, "get 1 {oldest} 0")?;
-        writeln!(text, "unlock 1 {oldest}")?;
-        writeln!(text, "read 1")?;
+        writeln!(text, "get 1 {oldest} 0\nunlock 1 {oldest}\nread 1")?;
     }
     let mut seed = 1;
     for _ in 0..questions {

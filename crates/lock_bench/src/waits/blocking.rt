@@ -1,8 +1,8 @@
 //! What it costs to wait for a lock whose waiters sleep.
 ghost use Rattle.std.specs.Prelude.{◌≡◌, ◌<◌};
 
-use super::used;
 use crate::locks::READERS;
+use crate::turns::used;
 use lock_base::machine::Mode;
 use lock_wake::{BlockingLock, ExWant, WaitingParty};
 use std::alloc::Global;

@@ -2,8 +2,8 @@
 ghost use Rattle.std.specs.Prelude.{◌≡◌};
 ghost use Rattle.std.specs.Thread.{IsSync};
 
-use super::used;
 use crate::counter::{Adder, Counter};
+use crate::turns::used;
 use lock_ruled::{AddsOne, SameView, Sums};
 use std::alloc::Global;
 use std::io;
