@@ -1,6 +1,8 @@
 mod conform;
+mod deadlines;
 mod desk;
 mod first_lock;
+mod gate;
 mod in_threads;
 mod permits;
 mod pool;

@@ -1,7 +1,10 @@
 //! The programs under a rule run, and give what their contracts say.
 
 use lock_api::{AddsOne, Fault, Sums};
-use lock_examples::ruled::{Accounts, Counter, count, permits_after, relay, shuffle, try_add};
+use lock_examples::Ring;
+use lock_examples::ruled::{
+    Accounts, Counter, One, count, lend_in_turns, permits_after, relay, shuffle, try_add,
+};
 use std::test::Fail;
 
 #[test]
@@ -32,6 +35,34 @@ fn money_stays(rt: HostRuntime) -> Result<(), Fail> {
 fn workers_give_all_permits_back(rt: HostRuntime) -> Result<(), Fail> {
     assert!(rt; permits_after(&rt, rt.alloc(), 3, 2, 2_000)? == 3);
     assert!(rt; permits_after(&rt, rt.alloc(), 1, 1, 2_000)? == 1);
+    Ok(())
+}
+
+/// Sets of objects that two threads borrow.
+const OBJECTS: [&[u64]; 3] = [&[], &[7], &[3, 1, 2, 1]];
+
+#[test]
+fn lent_objects_come_back(rt: HostRuntime) -> Result<(), Fail> {
+    for objects in OBJECTS {
+        let mut ring = Ring::with_places(rt.alloc(), objects.len())?;
+        for object in objects {
+            if !ring.is_full() {
+                ring.push(*object);
+            }
+        }
+        let turns = if objects.is_empty() { 0 } else { 500 };
+        let mut after = lend_in_turns::<HostRuntime, One>(&rt, rt.alloc(), ring, turns)?;
+        let (mut expected, mut found) = (Vec::new(rt.alloc()), Vec::new(rt.alloc()));
+        expected.extend_from_slice(objects)?;
+        for _ in objects {
+            if !after.is_empty() {
+                found.push(after.pop())?;
+            }
+        }
+        expected.sort()?;
+        found.sort()?;
+        assert!(rt; after.is_empty() && found == expected);
+    }
     Ok(())
 }
 

@@ -1,0 +1,18 @@
+//! Visitors that sleep at a gate are woken. A lost wake-up makes the test hang.
+use lock_api::Fault;
+use lock_examples::gate::open_for_two;
+use std::test::Fail;
+
+/// With three places the keeper's downgrade admits both visitors. With two, the first visitor's release admits the second.
+#[test]
+fn opened_gate_wakes_all_that_wait(rt: HostRuntime) -> Result<(), Fail> {
+    for run in 0..300u64 {
+        let places = 2 + run % 2;
+        let seen = open_for_two(&rt, rt.alloc(), places)?;
+        assert_eq!(rt; seen.closed, 1 << 33);
+        let (first, second) = seen.inside;
+        assert!(rt; 2 <= first && first <= places && 2 <= second && second <= places);
+    }
+    assert!(rt; open_for_two(&rt, rt.alloc(), 0) == Err(Fault::BadLimits));
+    Ok(())
+}
