@@ -1,4 +1,5 @@
 mod FaultPlaces
+mod FitLocks
 mod LastFields
 mod OneDraft
 mod OneLine

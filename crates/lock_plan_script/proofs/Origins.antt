@@ -56,7 +56,7 @@ made_lock text draft lock name made = record {
       draft.parties draft.numbers made.tied;
 }
 
-taken : (t : Bool) (draft next : Draft) → cond t None (Some draft) ≡ Some next → draft ≡ next
+pub taken : (t : Bool) (draft next : Draft) → cond t None (Some draft) ≡ Some next → draft ≡ next
 taken true draft next is = cc
 taken false draft next is = cc
 

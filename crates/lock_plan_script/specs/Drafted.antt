@@ -1,6 +1,6 @@
 -- What a draft in memory is, and the plan that is made of a draft.
-use Rattle.std.specs.Prelude.{◌≡◌, ℕ, List, map, None, string_bytes}
-use Rattle.lock_plan.specs.Checks.{plan_fault}
+use Rattle.std.specs.Prelude.{◌≡◌, ℕ, IsTrue, List, map, None, string_bytes}
+use Rattle.lock_plan.specs.Checks.{fit_machines, plan_fault}
 use Rattle.lock_plan.specs.Stops.{calls_of}
 use Rattle.lock_plan_script.specs.declared.draft.PlanDraft.{PlanDraft}
 use Rattle.lock_plan_script.specs.declared.named_plan.NamedPlan.{NamedPlan}
@@ -26,3 +26,7 @@ pub record IsMadeOf (draft : Draft) (named : NamedPlan) : Type 0 where
 -- the bytes are the text of the plan
 abbrev pub IsPlanOf : List ℕ → NamedPlan → Type 0
 IsPlanOf bytes named = (draft : Draft) × (IsDraftOf bytes draft × IsMadeOf draft named)
+
+-- machines of guards can be the locks of a text's plan
+abbrev pub TextsFitMachines : Type 0
+TextsFitMachines = (bytes : List ℕ) (named : NamedPlan) → IsPlanOf bytes named → IsTrue (fit_machines named.plan.locks.items)

@@ -17,5 +17,5 @@ mod reading;
 mod verb;
 
 pub use fault::PlanTextFault;
-pub use meaning::{calls_have_lines, texts_have_one_meaning};
+pub use meaning::{calls_have_lines, texts_fit_machines, texts_have_one_meaning};
 pub use named_plan::{NamedPlan, parse_plan};

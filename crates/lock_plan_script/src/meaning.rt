@@ -1,5 +1,6 @@
-//! What drafts of plans are: each text has one, and each of its calls stands on its line.
+//! What texts of plans are: each has one draft, each call stands on its line, and machines can be the locks.
 ghost use Rattle.lock_plan_script.specs.CallOrigins.{CallsHaveLines};
+ghost use Rattle.lock_plan_script.specs.Drafted.{TextsFitMachines};
 ghost use Rattle.lock_plan_script.specs.FaultLines.{FaultsHaveLines};
 ghost use Rattle.lock_plan_script.specs.Meanings.{DraftsAreGood, HaveOneBadLine, MakeOneDraft, SayOneLine};
 
@@ -15,4 +16,9 @@ pub fn texts_have_one_meaning()
 pub fn calls_have_lines()
     ensures calls { CallsHaveLines }
     ensures faults { FaultsHaveLines }
+{}
+
+/// Machines of guards can be the locks of a text's plan, as `machines_stop_as_explored` of `lock_plan_machine` requires.
+pub fn texts_fit_machines()
+    ensures { TextsFitMachines }
 {}
