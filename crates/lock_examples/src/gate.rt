@@ -94,7 +94,7 @@ pub struct Sights {
 }
 
 /// A keeper opens its gate once two visitors wait at it, each party on its thread. The keeper stays inside, so visitors need
-/// at least one of the `places` beside it.
+/// at least one more of the `places`.
 pub fn open_for_two<R: Threads + Wait + Sync>(
     rt: &R,
     alloc: Global,

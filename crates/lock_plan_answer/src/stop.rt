@@ -1,4 +1,4 @@
-//! Who is stopped, and who holds what.
+//! The stopped parties, and who holds what.
 ghost use Rattle.std.specs.Prelude.{◌≡◌, ◌++◌, OnOk, IfOk, string_bytes};
 ghost use Rattle.lock_plan.specs.Worlds.{is_refused};
 ghost use Rattle.lock_plan.specs.Stops.{world_of};

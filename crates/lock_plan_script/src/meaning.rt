@@ -1,4 +1,4 @@
-//! What texts of plans are: each has one draft, each call stands on its line, and machines can be the locks.
+//! What texts of plans are: each has one draft, each call has its line, and machines can be the locks.
 ghost use Rattle.lock_plan_script.specs.CallOrigins.{CallsHaveLines};
 ghost use Rattle.lock_plan_script.specs.Drafted.{TextsFitMachines};
 ghost use Rattle.lock_plan_script.specs.FaultLines.{FaultsHaveLines};

@@ -1,4 +1,4 @@
-//! A user that waits until a deadline gives up there, and is woken before it.
+//! A user that waits until a deadline returns at it, and is woken before it.
 ghost use Rattle.std.specs.Prelude.{◌≡◌};
 ghost use Rattle.std.specs.Thread.{IsSync};
 
