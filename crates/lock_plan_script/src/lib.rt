@@ -1,4 +1,4 @@
-//! The text of a plan: [`parse_plan`] makes a plan and its names of bytes, or tells the first fault.
+//! The text of a plan: [`parse_plan`] parses bytes into a plan and its names, or returns the first fault.
 //!
 //! A plan has a line for each lock, party and call. The module `PlanLines` of the specs says what each line says by the
 //! fields that it prints as, and `Drafts` says what the lines make, one after another.
