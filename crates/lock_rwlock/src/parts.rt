@@ -9,9 +9,7 @@ use crate::lock::RwLock;
 use crate::mode::{Exclusive, InMode, Shared};
 use lock_guard::guard::Acquire;
 use lock_guard::raw::RawRwLock;
-pub use upgraded::{
-    try_with_upgraded, try_with_upgraded_for, try_with_upgraded_until, with_upgraded,
-};
+pub use upgraded::{with_if_upgraded, with_upgraded};
 
 /// Returns the raw lock.
 pub fn raw<R, T>(rwlock: &RwLock<R, T>) -> &R

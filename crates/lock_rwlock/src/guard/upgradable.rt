@@ -139,8 +139,10 @@ impl<'a, R: RawRwLockUpgradeDowngrade, T> RwLockGuard<InMode<'a, Upgradable, R, 
         ensures refused { IfNone result (self.new ≡ self.old) }
     {
         let held = &mut self.held;
-        let inner = held.inner.take();
-        let made = parts::try_with_upgraded(held.lock.rwlock, inner, f);
+        let rwlock = held.lock.rwlock;
+        let (token, shown) = held.inner.take().into_parts();
+        let upgraded = rwlock.raw.try_upgrade(token);
+        let made = parts::with_if_upgraded(rwlock, shown, upgraded, f);
         held.inner.settle(&held.lock, made)
     }
 }
@@ -164,8 +166,10 @@ impl<'a, R: RawRwLockUpgradeTimed + RawRwLockUpgradeDowngrade, T> RwLockGuard<
         ensures refused { IfNone result (self.new ≡ self.old) }
     {
         let held = &mut self.held;
-        let inner = held.inner.take();
-        let made = parts::try_with_upgraded_for(held.lock.rwlock, inner, timeout, f);
+        let rwlock = held.lock.rwlock;
+        let (token, shown) = held.inner.take().into_parts();
+        let upgraded = rwlock.raw.try_upgrade_for(token, timeout);
+        let made = parts::with_if_upgraded(rwlock, shown, upgraded, f);
         held.inner.settle(&held.lock, made)
     }
 
@@ -183,8 +187,10 @@ impl<'a, R: RawRwLockUpgradeTimed + RawRwLockUpgradeDowngrade, T> RwLockGuard<
         ensures refused { IfNone result (self.new ≡ self.old) }
     {
         let held = &mut self.held;
-        let inner = held.inner.take();
-        let made = parts::try_with_upgraded_until(held.lock.rwlock, inner, deadline, f);
+        let rwlock = held.lock.rwlock;
+        let (token, shown) = held.inner.take().into_parts();
+        let upgraded = rwlock.raw.try_upgrade_until(token, deadline);
+        let made = parts::with_if_upgraded(rwlock, shown, upgraded, f);
         held.inner.settle(&held.lock, made)
     }
 }

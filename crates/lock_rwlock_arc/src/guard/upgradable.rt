@@ -10,9 +10,7 @@ use super::{
 use crate::owned::OwnedInMode;
 use lock_guard::guard::{Held, Inner};
 use lock_guard::raw::{RawRwLockUpgrade, RawRwLockUpgradeDowngrade, RawRwLockUpgradeTimed};
-use lock_rwlock::parts::{
-    raw, try_with_upgraded, try_with_upgraded_for, try_with_upgraded_until, with_upgraded,
-};
+use lock_rwlock::parts::{raw, with_if_upgraded, with_upgraded};
 use lock_rwlock::{RwLock, Upgradable};
 
 impl<R: RawRwLockUpgrade + Drop, T: Drop> ArcRwLockGuard<Upgradable, R, T> {
@@ -121,8 +119,10 @@ impl<R: RawRwLockUpgradeDowngrade + Drop, T: Drop> ArcRwLockGuard<Upgradable, R,
         ensures refused { IfNone result (self.new ≡ self.old) }
     {
         let held = &mut self.held;
-        let inner = held.inner.take();
-        let made = try_with_upgraded(&held.lock.rwlock, inner, f);
+        let rwlock = &held.lock.rwlock;
+        let (token, ()) = held.inner.take().into_parts();
+        let upgraded = raw(rwlock).try_upgrade(token);
+        let made = with_if_upgraded(rwlock, (), upgraded, f);
         held.inner.settle(&held.lock, made)
     }
 }
@@ -146,8 +146,10 @@ impl<R: RawRwLockUpgradeTimed + RawRwLockUpgradeDowngrade + Drop, T: Drop> ArcRw
         ensures refused { IfNone result (self.new ≡ self.old) }
     {
         let held = &mut self.held;
-        let inner = held.inner.take();
-        let made = try_with_upgraded_for(&held.lock.rwlock, inner, timeout, f);
+        let rwlock = &held.lock.rwlock;
+        let (token, ()) = held.inner.take().into_parts();
+        let upgraded = raw(rwlock).try_upgrade_for(token, timeout);
+        let made = with_if_upgraded(rwlock, (), upgraded, f);
         held.inner.settle(&held.lock, made)
     }
 
@@ -165,8 +167,10 @@ impl<R: RawRwLockUpgradeTimed + RawRwLockUpgradeDowngrade + Drop, T: Drop> ArcRw
         ensures refused { IfNone result (self.new ≡ self.old) }
     {
         let held = &mut self.held;
-        let inner = held.inner.take();
-        let made = try_with_upgraded_until(&held.lock.rwlock, inner, deadline, f);
+        let rwlock = &held.lock.rwlock;
+        let (token, ()) = held.inner.take().into_parts();
+        let upgraded = raw(rwlock).try_upgrade_until(token, deadline);
+        let made = with_if_upgraded(rwlock, (), upgraded, f);
         held.inner.settle(&held.lock, made)
     }
 }
