@@ -1,33 +1,33 @@
 -- Each kind of step of a seat keeps the rule of the table, by the lemma of that kind of step.
-use Rattle.std.proofs.Common.{◌≡◌, ◌≢◌, ℕ, ◌+◌, ◌-◌, ◌%◌, ◌^◌, ◌<◌, ◌≤◌, inl, inr, List, [], ◌∷◌, set, get_or, slice_get, slice_set, slice_index, length, Some, IsTrue, refl, sym, ap, subst, ◌∙◌, arith, eqb, length-set, get_or-set_same}
-use Rattle.std.proofs.lemmas.Bool.{cases_eq, cases_lt, false≢true}
-use Rattle.std.proofs.lemmas.List.{map-set, map-append, get_or-set_other}
+use Rattle.std.proofs.Common.{◌≡◌, ◌≢◌, ℕ, ◌+◌, ◌-◌, ◌%◌, ◌^◌, ◌<◌, ◌≤◌, inl, inr, List, set, get_or, slice_get, slice_set, slice_index, length, Some, IsTrue, refl, sym, ap, subst, ◌∙◌, arith, eqb, length-set, get_or-set_same}
+use Rattle.std.proofs.lemmas.Bool.{cases_eq, cases_lt}
+use Rattle.std.proofs.lemmas.List.{map-set, get_or-set_other}
 use Rattle.std.proofs.lemmas.Option.{slice_get-map}
 use mathlib.Core.Option.{some, none}
 use lib.ListN.{get_elem?}
 use prog.Atomic.{either}
-use Rattle.atomic_table.specs.Table.{Act, step, keeps, stepped, carried_after, Valid, Allows, Splits}
-use Rattle.atomic_table.proofs.Lists.{at_set, at_snoc, set_again, exchanged}
+use Rattle.atomic_table.specs.Table.{Act, step, keeps, stepped, carried_after, Valid, Allows}
+use Rattle.atomic_table.proofs.Lists.{at_set, exchanged}
 use Rattle.lock_word.specs.declared.want.ExWant.{ExWant}
 use Rattle.lock_word.specs.declared.down.Down.{Down}
 use Rattle.lock_word.specs.declared.sleeper.WakeLimits.{WakeLimits}
 use Rattle.lock_word.specs.declared.sleeper.Watch.TheVariants.{Away, Counted, Restarts}
-use Rattle.lock_word.specs.declared.sleeper.Debt.TheVariants.{Nothing, OwesAt}
+use Rattle.lock_word.specs.declared.sleeper.Debt.TheVariants.{Nothing, Owes, OwesAt}
 use Rattle.lock_word.specs.declared.sleeper.SleeperView.{SleeperView}
 use Rattle.lock_word.specs.Holds.{hold_has}
 use Rattle.lock_word.specs.Word.{guards_of_word, word_admits, word_after, amount, step_of_want, step_of_down}
-use Rattle.lock_word.specs.Sleepers.{closed_count, count_of_watch}
-use Rattle.lock_word.specs.Wakes.{KeepsWakes, EachStepKeeps, view_after_take}
+use Rattle.lock_word.specs.Sleepers.{changes_of, closed_count, count_of_watch}
+use Rattle.lock_word.specs.Wakes.{KeepsWakes, EachStepKeeps, may_want, view_after_take}
 use Rattle.lock_word.proofs.Holders.{le-sum_by}
 use Rattle.lock_word.proofs.Bars.{bar_of_rule}
 use Rattle.lock_word.proofs.Distinct.{same_exchange, same_take}
 use Rattle.lock_word.proofs.Guards.{GainsNoneOrUnbarred, guards_of_exchange, guards_of_take}
 use Rattle.lock_word.proofs.Rules.{slice_set_same, amount_within, shows, fails_bounded}
-use Rattle.lock_word.proofs.Wakes.{state_at, each_step, joins, at_rest}
+use Rattle.lock_word.proofs.Wakes.{state_at, each_step, at_rest, one_wakes}
 use Rattle.lock_seated.proofs.Keeps.{seat_at, still_guarded, subtracted, announced_before, few_held}
 use Rattle.lock_wake.specs.declared.rule.WakeView.{WakeView}
-use Rattle.lock_wake.specs.WakeSeats.{newcomer_beside, sleepers_of, parties_of, Table, word_in, count_in, epoch_in, IsGuarded, IsKept, EveryStateForgetsNone}
-use Rattle.lock_wake.specs.Plays.{Self, self_after_load, self_after_win, self_after_fail, self_after_take, self_after_epoch, self_watching, self_owing, Loads, Exchanges, Takes, CountsIn, CountsOut, LooksForSleepers, Closes, Watches, Notes, Ends, BeginsAnew}
+use Rattle.lock_wake.specs.WakeSeats.{sleepers_of, parties_of, Table, word_in, count_in, epoch_in, IsGuarded, IsKept, EveryStateForgetsNone}
+use Rattle.lock_wake.specs.Plays.{Self, self_after_load, self_after_win, self_after_loss, self_after_take, self_after_epoch, self_watching, self_owing, self_after_sleep, self_after_end, Loads, Exchanges, Takes, CountsIn, CountsOut, LooksForSleepers, Closes, Opens, Watches, Notes, Ends, BeginsAnew}
 
 sleeper_at : (views : List WakeView) (k : ℕ) (v : WakeView) → get_elem? views k ≡ some v → slice_get (sleepers_of views) k ≡ Some v.sleeper
 sleeper_at views k v h = rw (slice_get-map (λ (x : WakeView). x.sleeper) views k, seat_at views k v h)
@@ -136,12 +136,28 @@ aside limits id count epoch s me you kept at held wakes =
 
 -- steps on the word
 
+-- what the rule means
+pub every_state_forgets_none : EveryStateForgetsNone IsKept
+every_state_forgets_none limits s kept =
+    let word = word_in s in
+    record {
+      range = kept.range;
+      rule = kept.kept.rule;
+      bounded = fails_bounded limits.readers word (parties_of s.views) kept.kept.rule;
+      bar = bar_of_rule limits.readers word (parties_of s.views) kept.range kept.kept.rule;
+      guarded = kept.guarded;
+      none_forgotten = kept.kept.none_forgotten;
+      at_rest = at_rest limits word (count_in s) (epoch_in s) (sleepers_of s.views) kept.kept;
+      one_wakes = one_wakes limits word (count_in s) (epoch_in s) (sleepers_of s.views) kept.kept;
+    }
+
 pub loads : (limits : WakeLimits) (slots id : ℕ) (me : Self)
     → Allows (IsKept limits) slots id me 0 (λ n. n) (Loads (step slots 0 0 0 none) me)
 loads limits slots id me s kept same at small =
     let word = word_in s in
     let v = (self_after_load me word).0 in
-    let known = ap (λ (l : WakeLimits). l.readers) (kept.known id me.0 at) in (
+    let known_limits : me.0.limits ≡ limits = kept.known id me.0 at in
+    let known = ap (λ (l : WakeLimits). l.readers) known_limits in (
       v,
       keeps,
       tt,
@@ -155,16 +171,25 @@ loads limits slots id me s kept same at small =
         refl,
         rw known (shows limits.readers word (parties_of s.views) id me.0.sleeper.state kept.range kept.kept.rule
             (party_at s.views id me.0 at)),
-        kept.guarded id me.0 at,
+        record {
+          state = s;
+          law = rw known_limits (every_state_forgets_none limits s kept);
+          loaded = refl;
+          number = id;
+          view = me.0;
+          is = at;
+          holds = refl;
+        },
       ),
     )
 
 pub exchanges : (limits : WakeLimits) (known slots id : ℕ) (me : Self) (want : ExWant) (old new : ℕ) → known ≡ limits.readers
     → me.0.sleeper.state.loaded ≡ Some old → me.0.last ≡ old
     → IsTrue (hold_has me.0.sleeper.state.held (step_of_want want))
-    → IsTrue (word_admits me.0.sleeper.state.held.announced known old want) → new ≡ word_after old want
+    → IsTrue (word_admits me.0.sleeper.state.held.announced known old want) → IsTrue (may_want me.0.limits want)
+    → new ≡ word_after old want
     → Allows (IsKept limits) slots id me 0 (λ n. either (eqb n old) new n) (Exchanges (step slots 0 old new none) me)
-exchanges limits known slots id me want old new same_limit is_open is_last holds admits is s kept same at small =
+exchanges limits known slots id me want old new same_limit is_open is_last holds admits may is s kept same at small =
     let word = word_in s in
     let by = by_step limits id s me.0 kept at in
     let announced = me.0.sleeper.state.held.announced in
@@ -172,7 +197,7 @@ exchanges limits known slots id me want old new same_limit is_open is_last holds
     (λ n. (w : WakeView) × (a : Act (Unit {0})) × Valid s.homes me.1 a × IsKept limits (stepped s 0 n id me.1 w a)
     × Exchanges (step slots 0 old new none) me word (w, carried_after me.1 a))
     (λ hit.
-    let v = (self_after_win me (step_of_want want)).0 in
+    let v = (self_after_win me want).0 in
     let here : IsTrue (word_admits announced limits.readers word want)
     = subst (λ (t : ℕ × ℕ). IsTrue (word_admits announced t.0 t.1 want)) (λ i. (same_limit i, sym hit i)) admits in
     let next : word_after word want ≡ new = ap (λ n. word_after n want) hit ∙ sym is in (
@@ -183,7 +208,7 @@ exchanges limits known slots id me want old new same_limit is_open is_last holds
         same_limits = kept.known id me.0 at;
         wakes =
             subst (λ n. KeepsWakes limits n (count_in s) (epoch_in s) (slice_set (sleepers_of s.views) id v.sleeper)) next
-            (by.exchange want holds here);
+            (by.exchange want holds here (subst (λ (l : WakeLimits). IsTrue (may_want l want)) (kept.known id me.0 at) may));
         guards =
             subst (GainsNoneOrUnbarred word) next
             (guards_of_exchange limits.readers word (parties_of s.views) id me.0.sleeper.state want kept.range kept.kept.rule
@@ -192,13 +217,13 @@ exchanges limits known slots id me want old new same_limit is_open is_last holds
       },
       λ other asked there_admits there_is. (
         (λ h.
-            ap (λ (w : ExWant). self_after_win me (step_of_want w))
+            ap (self_after_win me)
             (same_exchange announced known other old new want asked admits is there_admits there_is)),
         (λ miss. absurd (miss hit)),
       ),
     ))
     (λ miss.
-    let v = (self_after_fail me).0 in (
+    let v = (self_after_loss me word).0 in (
       v,
       keeps,
       tt,
@@ -214,16 +239,15 @@ takes limits slots id me down k holds is s kept same at small =
     let ps = parties_of s.views in
     let mine = me.0.sleeper.state in
     let there = party_at s.views id me.0 at in
-    let readers = ap (λ (l : WakeLimits). l.readers) (kept.known id me.0 at) in
     let v = (self_after_take me word down).0 in
     let within = amount_within limits.readers word ps id mine down kept.kept.rule there holds in
     let next : word - amount down ≡ (word + (2 ^ 64 - k)) % 2 ^ 64
     = ap (λ (j : ℕ). word - j) (sym is) ∙ subtracted word k (omega arith) small in
     let taken : KeepsWakes limits (word - amount down) (count_in s) (epoch_in s) (slice_set (sleepers_of s.views) id v.sleeper)
     = subst
-    (λ r. KeepsWakes limits (word - amount down) (count_in s) (epoch_in s)
-    (slice_set (sleepers_of s.views) id (view_after_take r word me.0.sleeper down)))
-    (sym readers) ((by_step limits id s me.0 kept at).take down holds) in (
+    (λ (l : WakeLimits). KeepsWakes limits (word - amount down) (count_in s) (epoch_in s)
+    (slice_set (sleepers_of s.views) id (view_after_take l word me.0.sleeper down)))
+    (sym (kept.known id me.0 at)) ((by_step limits id s me.0 kept at).take down holds) in (
       v,
       keeps,
       tt,
@@ -277,7 +301,8 @@ pub counts_out : (limits : WakeLimits) (slots id : ℕ) (me : Self) → count_of
     → Allows (IsKept limits) slots id me 1 (λ n. (n + (2 ^ 64 - 1)) % 2 ^ 64) (CountsOut me)
 counts_out limits slots id me counted s kept same at small =
     let count = count_in s in
-    let v = (self_watching me Away).0 in
+    let changes = changes_of (sleepers_of s.views) in
+    let v = (self_after_sleep me changes).0 in
     let all = le-sum_by (λ (w : SleeperView). count_of_watch w.watch) (sleepers_of s.views) id me.0.sleeper (sleeper_at s.views id me.0 at) in
     let sum = kept.kept.counted in (
       v,
@@ -287,7 +312,7 @@ counts_out limits slots id me counted s kept same at small =
           (aside limits id ((count + (2 ^ 64 - 1)) % 2 ^ 64) (epoch_in s) s me.0 v.sleeper kept at refl
           (subst (λ n. KeepsWakes limits (word_in s) n (epoch_in s) (slice_set (sleepers_of s.views) id v.sleeper))
           (subtracted count 1 (omega arith) small) ((by_step limits id s me.0 kept at).counts_out counted))),
-      refl,
+      (changes, refl),
     )
 
 pub looks_for_sleepers : (limits : WakeLimits) (slots id : ℕ) (me : Self)
@@ -338,7 +363,7 @@ closes limits slots id me away s kept same at small =
     ))
 
 pub opens : (limits : WakeLimits) (slots id : ℕ) (me : Self) → me.0.sleeper.watch ≡ Restarts
-    → Allows (IsKept limits) slots id me 1 (λ n. (n + (2 ^ 64 - closed_count)) % 2 ^ 64) (CountsOut me)
+    → Allows (IsKept limits) slots id me 1 (λ n. (n + (2 ^ 64 - closed_count)) % 2 ^ 64) (Opens me)
 opens limits slots id me restarts s kept same at small =
     let count = count_in s in
     let v = (self_watching me Away).0 in
@@ -390,6 +415,9 @@ watches limits slots id me counted s kept same at small =
       )
     ]
 
+pub owes_something : Owes ≢ Nothing
+owes_something e = cc
+
 pub notes : (limits : WakeLimits) (slots id : ℕ) (me : Self) → me.0.sleeper.debt ≢ Nothing
     → Allows (IsKept limits) slots id me 2 (λ n. n) (Notes me)
 notes limits slots id me owes s kept same at small =
@@ -421,7 +449,9 @@ pub ends : (limits : WakeLimits) (slots id : ℕ) (me : Self) (old new : ℕ) �
 ends limits slots id me old new owes is s kept same at small =
     let epoch = epoch_in s in
     let by = by_step limits id s me.0 kept at in
-    let v = (self_owing me Nothing).0 in
+    let note = Some (changes_of (sleepers_of s.views)) in
+    let v = (self_after_end me note).0 in
+    let w = (self_owing me Nothing).0 in
     exchanged epoch old new
     (λ n. (w : WakeView) × (a : Act (Unit {0})) × Valid s.homes me.1 a × IsKept limits (stepped s 2 n id me.1 w a)
     × Ends me epoch (w, carried_after me.1 a))
@@ -432,49 +462,12 @@ ends limits slots id me old new owes is s kept same at small =
       tt,
       on_epoch limits id new s v kept (aside limits id (count_in s) new s me.0 v.sleeper kept at refl
           (subst (λ n. KeepsWakes limits (word_in s) (count_in s) n (slice_set (sleepers_of s.views) id v.sleeper)) next by.ends)),
-      refl,
+      (note, refl),
     ))
     (λ miss. (
-      v,
+      w,
       keeps,
       tt,
-      on_epoch limits id epoch s v kept (aside limits id (count_in s) epoch s me.0 v.sleeper kept at refl (by.finds_ended old owes miss)),
-      refl,
+      on_epoch limits id epoch s w kept (aside limits id (count_in s) epoch s me.0 w.sleeper kept at refl (by.finds_ended old owes miss)),
+      (me.0.sleeper.ended_at, refl),
     ))
-
--- one more seat
-
-pub parts : (limits : WakeLimits) (id : ℕ) (v : WakeView) → Splits (IsKept limits) id v v (newcomer_beside v)
-parts limits id v s kept at =
-    let again : set s.views id v ≡ s.views = set_again s.views id v at in
-    let readers = kept.known id v at in
-    rw again record {
-      three_words = kept.three_words;
-      range = kept.range;
-      known = λ k w h.
-          elim (at_snoc s.views (newcomer_beside v) w k h) [
-            | inl e ↦ kept.known k w e
-            | inr e ↦ sym (ap (λ (x : WakeView). x.limits) e) ∙ readers
-          ];
-      kept =
-          rw (map-append (λ (x : WakeView). x.sleeper) s.views (newcomer_beside v ∷ []))
-          (joins limits (word_in s) (count_in s) (epoch_in s) (sleepers_of s.views) kept.kept);
-      guarded = λ k w h.
-          elim (at_snoc s.views (newcomer_beside v) w k h) [
-            | inl e ↦ kept.guarded k w e
-            | inr e ↦ subst (IsGuarded (word_in s)) e (λ announced. absurd (false≢true announced))
-          ];
-    }
-
-pub every_state_forgets_none : EveryStateForgetsNone IsKept
-every_state_forgets_none limits s kept =
-    let word = word_in s in
-    record {
-      range = kept.range;
-      rule = kept.kept.rule;
-      bounded = fails_bounded limits.readers word (parties_of s.views) kept.kept.rule;
-      bar = bar_of_rule limits.readers word (parties_of s.views) kept.range kept.kept.rule;
-      guarded = kept.guarded;
-      none_forgotten = kept.kept.none_forgotten;
-      at_rest = at_rest limits word (count_in s) (epoch_in s) (sleepers_of s.views) kept.kept;
-    }

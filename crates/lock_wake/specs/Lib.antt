@@ -1,3 +1,4 @@
 pub mod WakeSeats
 pub mod Plays
-pub mod Acquisitions
+pub mod Calls
+pub mod Own

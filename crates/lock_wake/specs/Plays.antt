@@ -1,21 +1,19 @@
 -- What each kind of step does to the view of the party that makes it.
-use Rattle.std.specs.Prelude.{◌≡◌, ◌≢◌, ℕ, ◌+◌, ◌^◌, ◌<◌, ◌≤◌, IsTrue}
+use Rattle.std.specs.Prelude.{◌≡◌, ◌≢◌, ℕ, ◌+◌, ◌^◌, ◌<◌, ◌≤◌, Option, IsTrue}
 use Rattle.atomic_table.specs.Table.{Me, Step}
 use Rattle.lock_base.specs.Modes.{tokens}
 use Rattle.lock_word.specs.declared.want.ExWant.{ExWant}
 use Rattle.lock_word.specs.declared.down.Down.{Down}
-use Rattle.lock_word.specs.declared.word_step.WordStep.{WordStep}
 use Rattle.lock_word.specs.declared.sleeper.Watch.{Watch}
 use Rattle.lock_word.specs.declared.sleeper.Watch.TheVariants.{Away, Counted, Restarts}
 use Rattle.lock_word.specs.declared.sleeper.Debt.{Debt}
 use Rattle.lock_word.specs.declared.sleeper.Debt.TheVariants.{Nothing, OwesAt}
 use Rattle.lock_word.specs.declared.sleeper.SleeperView.{SleeperView}
-use Rattle.lock_word.specs.Word.{word_admits, word_after, amount, step_of_want}
-use Rattle.lock_word.specs.Turns.{with_load, after_win, after_fail}
+use Rattle.lock_word.specs.Word.{word_admits, word_after, amount}
 use Rattle.lock_word.specs.Rule.{WordShows}
-use Rattle.lock_word.specs.Wakes.{with_state, with_watch, with_debt, view_after_take, view_after_epoch}
-use Rattle.lock_seated.specs.Seats.{GuardsDoNotGrow}
+use Rattle.lock_word.specs.Wakes.{with_watch, with_debt, view_after_load, view_after_win, view_after_loss, view_after_take, view_after_epoch, view_after_sleep}
 use Rattle.lock_wake.specs.declared.rule.WakeView.{WakeView}
+use Rattle.lock_wake.specs.WakeSeats.{StandsUnderLaw}
 
 -- a seat's view, and the slots that it holds: none
 abbrev pub Self : Type 0
@@ -27,22 +25,22 @@ with_sleeper me sleeper = (record me.0 { sleeper = sleeper }, me.1)
 abbrev pub self_after_load : Self → ℕ → Self
 self_after_load me word = (
   record me.0 {
-    sleeper = with_state me.0.sleeper (with_load me.0.sleeper.state word);
+    sleeper = view_after_load word me.0.sleeper;
     last = word;
     loads = me.0.loads + 1;
   },
   me.1,
 )
 
-abbrev pub self_after_win : Self → WordStep → Self
-self_after_win me step = with_sleeper me (with_state me.0.sleeper (after_win me.0.sleeper.state step))
+abbrev pub self_after_win : Self → ExWant → Self
+self_after_win me want = with_sleeper me (view_after_win me.0.sleeper want)
 
-abbrev pub self_after_fail : Self → Self
-self_after_fail me = with_sleeper me (with_state me.0.sleeper (after_fail me.0.sleeper.state))
+abbrev pub self_after_loss : Self → ℕ → Self
+self_after_loss me found = with_sleeper me (view_after_loss found me.0.sleeper)
 
--- a take of this word makes its party due if it unblocks some waiter
+-- a take of this word makes its party due if it has to wake
 abbrev pub self_after_take : Self → ℕ → Down → Self
-self_after_take me word down = with_sleeper me (view_after_take me.0.limits.readers word me.0.sleeper down)
+self_after_take me word down = with_sleeper me (view_after_take me.0.limits word me.0.sleeper down)
 
 abbrev pub self_after_epoch : Self → ℕ → Self
 self_after_epoch me epoch = with_sleeper me (view_after_epoch epoch me.0.sleeper)
@@ -53,17 +51,25 @@ self_watching me watch = with_sleeper me (with_watch me.0.sleeper watch)
 abbrev pub self_owing : Self → Debt → Self
 self_owing me debt = with_sleeper me (with_debt me.0.sleeper debt)
 
--- on the word: a load tells its party the word, and what the word says of all holds
+-- a party that left its sleep notes how often the word has changed, which it does not know
+abbrev pub self_after_sleep : Self → ℕ → Self
+self_after_sleep me changes = with_sleeper me (view_after_sleep changes me.0.sleeper)
+
+-- a party that ended an epoch notes that too
+abbrev pub self_after_end : Self → Option ℕ → Self
+self_after_end me note = with_sleeper me (record me.0.sleeper { debt = Nothing; ended_at = note })
+
+-- on the word: a load tells its party the word, what the word says of all holds, and that the law holds
 abbrev pub Loads : Step (Unit {0}) → Self → ℕ → Self → Type 0
 Loads s me found after =
     (after ≡ self_after_load me found) × WordShows me.0.limits.readers found me.0.sleeper.state.held
-    × GuardsDoNotGrow me.0.sleeper.state.held.announced me.0.last found
+    × StandsUnderLaw me.0.limits found me.0.sleeper.state.held
 
 abbrev pub Exchanges : Step (Unit {0}) → Self → ℕ → Self → Type 0
 Exchanges s me found after =
     (limit : ℕ) (want : ExWant) → IsTrue (word_admits me.0.sleeper.state.held.announced limit s.first want)
     → s.second ≡ word_after s.first want
-    → (found ≡ s.first → after ≡ self_after_win me (step_of_want want)) × (found ≢ s.first → after ≡ self_after_fail me)
+    → (found ≡ s.first → after ≡ self_after_win me want) × (found ≢ s.first → after ≡ self_after_loss me found)
 
 abbrev pub Takes : Step (Unit {0}) → Self → ℕ → Self → Type 0
 Takes s me found after =
@@ -75,7 +81,7 @@ abbrev pub CountsIn : Step (Unit {0}) → Self → ℕ → Self → Type 0
 CountsIn s me found after = (found ≡ s.first → after ≡ self_watching me Counted) × (found ≢ s.first → after ≡ me)
 
 abbrev pub CountsOut : Self → ℕ → Self → Type 0
-CountsOut me found after = after ≡ self_watching me Away
+CountsOut me found after = (changes : ℕ) × (after ≡ self_after_sleep me changes)
 
 -- a party that finds no sleepers is not due
 abbrev pub LooksForSleepers : Self → ℕ → Self → Type 0
@@ -84,6 +90,10 @@ LooksForSleepers me found after = (found ≡ 0 → after ≡ self_owing me Nothi
 -- an exchange of a count of 0 closes it
 abbrev pub Closes : Self → ℕ → Self → Type 0
 Closes me found after = (found ≡ 0 → after ≡ self_watching me Restarts) × (found ≢ 0 → after ≡ me)
+
+-- a subtraction opens it again
+abbrev pub Opens : Self → ℕ → Self → Type 0
+Opens me found after = after ≡ self_watching me Away
 
 -- on the epoch: a counted party loads it
 abbrev pub Watches : Self → ℕ → Self → Type 0
@@ -98,7 +108,7 @@ Notes me found after =
 
 -- an exchange ends it, or some other party did
 abbrev pub Ends : Self → ℕ → Self → Type 0
-Ends me found after = after ≡ self_owing me Nothing
+Ends me found after = (note : Option ℕ) × (after ≡ self_after_end me note)
 
 -- the epochs begin anew
 abbrev pub BeginsAnew : Self → ℕ → Self → Type 0

@@ -1,15 +1,16 @@
 -- The rule by which no wake-up is lost, stated of a table with three words and of the views of its seats.
-use Rattle.std.specs.Prelude.{◌≡◌, ℕ, List, map, length, slice_index}
+use Rattle.std.specs.Prelude.{◌≡◌, ℕ, not, List, map, length, slice_index, IsTrue}
 use mathlib.Core.Option.{some}
 use lib.ListN.{get_elem?}
 use Rattle.atomic_table.specs.Table.{State}
 use Rattle.lock_base.specs.Limits.{IsLimit}
+use Rattle.lock_word.specs.declared.hold.Hold.{Hold}
 use Rattle.lock_word.specs.declared.party.WorldParty.{WorldParty}
 use Rattle.lock_word.specs.declared.sleeper.WakeLimits.{WakeLimits}
 use Rattle.lock_word.specs.declared.sleeper.SleeperView.{SleeperView}
 use Rattle.lock_word.specs.Rule.{KeepsRule}
 use Rattle.lock_word.specs.Claims.{FailsAreBounded, BarIsOfOne}
-use Rattle.lock_word.specs.Sleepers.{states_of, NoneIsForgotten, IsAtRest, SleepersAreRefused}
+use Rattle.lock_word.specs.Sleepers.{states_of, NoneIsForgotten, IsAtRest, HaveLooked, SleepersAreRefused, FreeWordWakesOne}
 use Rattle.lock_word.specs.Wakes.{KeepsWakes, new_sleeper}
 use Rattle.lock_seated.specs.Seats.{GuardsDoNotGrow}
 use Rattle.lock_wake.specs.declared.rule.WakeView.{WakeView}
@@ -17,10 +18,6 @@ use Rattle.lock_wake.specs.declared.rule.WakeView.{WakeView}
 -- the view of a party that has done nothing yet
 abbrev pub newcomer : WakeLimits → WakeView
 newcomer limits = record { sleeper = new_sleeper; last = 0; loads = 0; limits = limits }
-
--- the view of the second party of a split
-abbrev pub newcomer_beside : WakeView → WakeView
-newcomer_beside v = newcomer v.limits
 
 abbrev pub sleepers_of : List WakeView → List SleeperView
 sleepers_of views = map (λ (v : WakeView). v.sleeper) views
@@ -63,12 +60,26 @@ pub record ForgetsNone (limits : WakeLimits) (s : Table) : Type 0 where
   pub bar : BarIsOfOne (word_in s) (parties_of s.views)
   -- while it has, no new guard comes
   pub guarded : (k : ℕ) (v : WakeView) → get_elem? s.views k ≡ some v → IsGuarded (word_in s) v
-  -- if a party sleeps and the word admits what it waits for, some party is due
-  pub none_forgotten : NoneIsForgotten limits.readers (word_in s) (epoch_in s) (sleepers_of s.views)
-  -- so if no party is in the middle of a release, the word refuses every sleeper
-  pub at_rest : IsAtRest (sleepers_of s.views)
-      → SleepersAreRefused limits.readers (word_in s) (epoch_in s) (sleepers_of s.views)
+  -- if a party sleeps and the word admits what it waits for, some party is due, or one is woken
+  pub none_forgotten : NoneIsForgotten limits (word_in s) (epoch_in s) (sleepers_of s.views)
+  -- so if no party is in the middle of a release, and the lock wakes all, the word refuses every sleeper
+  pub at_rest : IsTrue (not limits.wakes_one) → IsAtRest (sleepers_of s.views)
+      → SleepersAreRefused limits (word_in s) (epoch_in s) (sleepers_of s.views)
+  -- and if it wakes one, and no woken party has yet to look, a word that is free had a wake-up since it last changed
+  pub one_wakes : IsAtRest (sleepers_of s.views) → HaveLooked (sleepers_of s.views)
+      → FreeWordWakesOne limits (word_in s) (epoch_in s) (sleepers_of s.views)
 
 -- of every state that a table under this rule has between two steps
 abbrev pub EveryStateForgetsNone : (WakeLimits → Table → Type 0) → Type 0
 EveryStateForgetsNone holds = (limits : WakeLimits) (s : Table) → holds limits s → ForgetsNone limits s
+
+-- at the moment of a load: a state of the words and of all parties that keeps the law, in which the word is the loaded
+-- one, and some party holds this
+pub record StandsUnderLaw (limits : WakeLimits) (word : ℕ) (held : Hold) : Type 0 where
+  pub state : Table
+  pub law : ForgetsNone limits state
+  pub loaded : word_in state ≡ word
+  pub number : ℕ
+  pub view : WakeView
+  pub is : get_elem? state.views number ≡ some view
+  pub holds : view.sleeper.state.held ≡ held

@@ -5,10 +5,17 @@ use crate::rule::{WakeRule, WakeView};
 use atomic_table::TableRule;
 use lock_word::WakeLimits;
 
-/// Between any two steps of any threads, the word and all parties keep the rule that a `World` keeps, and no sleeper is
-/// forgotten. If a party sleeps and the word admits what it waits for, some party is due: it is in the middle of a
-/// release, and has yet to look for sleepers or to end the epoch. So if no party is in the middle of a release, the word
-/// refuses every sleeper.
+/// The law of every `WordLock`, between any two atomic steps of any threads.
+///
+/// The word encodes what all parties hold, and the bar of a waiting writer. What they hold is compatible. A party is a
+/// token, or a call that has not ended. A call that ends without a token holds nothing.
+///
+/// No sleeper is forgotten. If a party sleeps and the word admits what it waits for, some party is due: it is in the
+/// middle of a release, and has yet to look for sleepers or to end the epoch. So if no party is in the middle of a
+/// release, the word refuses every sleeper.
+///
+/// A lock for one reader wakes one sleeper at a time. There, no party may be due if an epoch has ended since the word last
+/// changed: the wake-up of one sleeper follows. No party that left its sleep since then has done anything but look.
 pub fn every_state_forgets_none()
     ensures { EveryStateForgetsNone ⟦<WakeRule as TableRule<(), WakeView, WakeLimits>>⟧.holds }
 {}

@@ -1,20 +1,20 @@
-//! A reader-writer lock on which waiting threads sleep, under a rule by which no wake-up is lost. It has the calls and
-//! contracts of a `SeatedLock`. Next to the packed word it has a count of sleepers and an epoch, which a release ends
-//! when sleepers are to look again.
+//! A reader-writer lock on which waiting threads sleep, under a rule by which no wake-up is lost. Next to the packed word
+//! it has a count of sleepers and an epoch, which a release ends when sleepers are to look again. A call takes a new seat
+//! at the words, and the seat is the token of what the call acquires.
 #![tactic(auto)]
 
+mod acquisitions;
+mod attempts;
+mod call;
 mod laws;
-mod lock;
-mod party;
 mod plays;
 mod rule;
-mod steps;
-mod wait;
-mod wake;
+mod takes;
+mod transitions;
+mod waits;
+mod word_lock;
 
+pub use call::WordToken;
 pub use laws::every_state_forgets_none;
-pub use lock::BlockingLock;
-pub use lock_seated::Attempt;
-pub use lock_word::ExWant;
-pub use party::WaitingParty;
 pub use rule::{WakeRule, WakeView};
+pub use word_lock::WordLock;

@@ -1,5 +1,5 @@
 //! The kinds of step on the three words, and what each tells the party that makes it.
-ghost use Rattle.lock_wake.specs.Plays.{Loads, Exchanges, Takes, CountsIn, CountsOut, LooksForSleepers, Closes, Watches, Notes, Ends, BeginsAnew};
+ghost use Rattle.lock_wake.specs.Plays.{Loads, Exchanges, Takes, CountsIn, CountsOut, LooksForSleepers, Closes, Opens, Watches, Notes, Ends, BeginsAnew};
 
 use crate::rule::WakeView;
 use atomic_table::Play;
@@ -32,7 +32,7 @@ impl Play<(), WakeView> for CountIn {
     ghost then = { CountsIn };
 }
 
-/// A subtraction from the count that takes the party out of it, or opens the count again.
+/// A subtraction from the count that takes the party out of it.
 pub(crate) struct CountOut;
 
 impl Play<(), WakeView> for CountOut {
@@ -51,6 +51,13 @@ pub(crate) struct CloseCount;
 
 impl Play<(), WakeView> for CloseCount {
     ghost then = { λ s. Closes };
+}
+
+/// A subtraction from the closed count that opens it again.
+pub(crate) struct OpenCount;
+
+impl Play<(), WakeView> for OpenCount {
+    ghost then = { λ s. Opens };
 }
 
 /// A load of the epoch by a counted party.

@@ -1,7 +1,7 @@
 //! The rule of the three words and of all views.
-ghost use Rattle.lock_wake.specs.WakeSeats.{IsKept, newcomer, newcomer_beside};
+ghost use Rattle.lock_wake.specs.WakeSeats.{IsKept, newcomer};
 
-use atomic_table::{Split, TableRule};
+use atomic_table::TableRule;
 use lock_word::{SleeperView, WakeLimits};
 
 /// The seat's view of a party: what the rule keeps of it. It exists in contracts only.
@@ -24,13 +24,4 @@ impl TableRule<(), WakeView, WakeLimits> for WakeRule {
     ghost holds = { IsKept };
 
     ghost first = { newcomer };
-}
-
-/// A split: the first keeps everything, and the second is a newcomer.
-pub(crate) struct SplitOff;
-
-impl Split<WakeView> for SplitOff {
-    ghost left = { λ v. v };
-
-    ghost right = { newcomer_beside };
 }

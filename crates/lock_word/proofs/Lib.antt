@@ -9,5 +9,6 @@ pub mod LastLoads
 pub mod Sound
 pub mod AlikeBars
 pub mod Unblocking
+pub mod Mutex
 pub mod Wakes
 pub mod Distinct

@@ -1,18 +1,16 @@
 -- Which waiters a step unblocks: an exchange nobody, and a take nobody that `unblocks` does not find.
-use Rattle.std.proofs.Common.{◌≡◌, ℕ, not, ◌+◌, ◌-◌, ◌^◌, ◌<◌, ◌≤◌, Bool, true, false, ◌&&◌, ◌||◌, ◌==◌, ◌⊎◌, inl, inr, IsTrue, refl, sym, ap, ◌∙◌, arith, eqb-true, ltb-true, lt-ltb, eq-eqb, nat_lt, eq-zero-or-pos}
+use Rattle.std.proofs.Common.{◌≡◌, ℕ, not, ◌^◌, Bool, true, false, ◌&&◌, ◌||◌, ◌==◌, ◌⊎◌, inl, inr, IsTrue, refl, sym, ap, ◌∙◌, arith, eqb-true, ltb-true, lt-ltb, eq-eqb, nat_lt, eq-zero-or-pos}
 use Rattle.std.proofs.lemmas.Bool.{and_parts, and_from, or_parts, or_cases, or_left, false≢true}
 use Rattle.lock_base.specs.declared.machine.mode.Mode.{Mode}
 use Rattle.lock_base.specs.declared.machine.mode.Mode.TheVariants as mode
 use Rattle.lock_base.specs.Limits.{IsLimit}
 use Rattle.lock_base.specs.Modes.{tokens, admits}
-use Rattle.lock_word.specs.declared.hold.Hold.{Hold}
 use Rattle.lock_word.specs.declared.occupancy.Occupancy.{Occupancy}
 use Rattle.lock_word.specs.declared.want.ExWant.{ExWant}
 use Rattle.lock_word.specs.declared.want.ExWant.TheVariants.{Shared, Exclusive, Upgradable, Upgrade, Announce}
-use Rattle.lock_word.specs.Holds.{bars_of, is_barred}
+use Rattle.lock_word.specs.Holds.{is_barred}
 use Rattle.lock_word.specs.Word.{word_of, word_admits, readers_of_word, want_of_mode, barred_bag_of_word, IsPacked}
 use Rattle.lock_word.specs.Unblocking.{occupancy_of_word, may_proceed, may_upgrade, newly_may_proceed}
-use Rattle.lock_word.specs.Rule.{WordShows}
 use Rattle.lock_word.specs.Sleepers.{is_awaited}
 use Rattle.lock_word.specs.WakeLaws.{ExchangesUnblockNobody, UnblocksMissesNobody}
 use Rattle.lock_word.proofs.Words.{both_below, both_tests, one_of, is_one_of, same_tests, permits_of_word, word_of_permits, word_admits_mode}
@@ -25,77 +23,8 @@ free_or_own a w h =
       | inr e ↦ (let two = and_parts a (w == 2 ^ 34) e in inr (two.0, eqb-true w (2 ^ 34) two.1))
     ]
 
--- a party's upgradable hold is in the word
-upgradable_in : (limit word : ℕ) (own : Hold) → WordShows limit word own → 0 < own.bag.upgradable → 2 ^ 32 < word
-upgradable_in limit word own seen some =
-    let part = seen.part.upgradable in
-    let coded = seen.coded in
-    omega arith
-
-bar_in : (limit word : ℕ) (own : Hold) → WordShows limit word own → own.announced ≡ true → 2 ^ 34 ≤ word
-bar_in limit word own seen announced = let one : bars_of own.announced ≡ 1 = ap bars_of announced in seen.announced (omega arith)
-
 pub exchanges_unblock_nobody : ExchangesUnblockNobody
-exchanges_unblock_nobody a limit word Shared own Shared range seen h awaited has after = h
-exchanges_unblock_nobody a limit word Shared own Exclusive range seen h awaited has after =
-    let now = both_below word (2 ^ 33) (readers_of_word word) limit h in
-    absurd (elim (free_or_own own.announced (word + 1) after) [ inl e ↦ omega arith | inr e ↦ (let w = e.1 in omega arith) ])
-exchanges_unblock_nobody a limit word Shared own Upgradable range seen h awaited has after =
-    let now = both_below word (2 ^ 33) (readers_of_word word) limit h in
-    let then = both_below (word + 1) (2 ^ 32) (readers_of_word (word + 1)) limit after in
-    both_tests word (2 ^ 32) (readers_of_word word) limit (omega arith) (omega arith)
-exchanges_unblock_nobody a limit word Shared own Upgrade range seen h awaited has after =
-    let now = both_below word (2 ^ 33) (readers_of_word word) limit h in
-    let up = upgradable_in limit word own seen (ltb-true 0 own.bag.upgradable has) in
-    absurd (elim (one_of (word + 1) (2 ^ 32 + 1) (2 ^ 34 + 2 ^ 32 + 1) after) [ inl e ↦ omega arith | inr e ↦ omega arith ])
-exchanges_unblock_nobody a limit word Exclusive own Shared range seen h awaited has after =
-    absurd (false≢true after)
-exchanges_unblock_nobody a limit word Exclusive own Exclusive range seen h awaited has after =
-    absurd (elim (free_or_own own.announced (2 ^ 33) after) [ inl e ↦ omega arith | inr e ↦ (let w = e.1 in omega arith) ])
-exchanges_unblock_nobody a limit word Exclusive own Upgradable range seen h awaited has after =
-    absurd (false≢true after)
-exchanges_unblock_nobody a limit word Exclusive own Upgrade range seen h awaited has after =
-    absurd (false≢true after)
-exchanges_unblock_nobody a limit word Upgradable own Shared range seen h awaited has after =
-    let now = both_below word (2 ^ 32) (readers_of_word word) limit h in
-    both_tests word (2 ^ 33) (readers_of_word word) limit (omega arith) (omega arith)
-exchanges_unblock_nobody a limit word Upgradable own Exclusive range seen h awaited has after =
-    let now = both_below word (2 ^ 32) (readers_of_word word) limit h in
-    absurd (elim (free_or_own own.announced (word + (2 ^ 32 + 1)) after) [ inl e ↦ omega arith | inr e ↦ (let w = e.1 in omega arith) ])
-exchanges_unblock_nobody a limit word Upgradable own Upgradable range seen h awaited has after = h
-exchanges_unblock_nobody a limit word Upgradable own Upgrade range seen h awaited has after =
-    let now = both_below word (2 ^ 32) (readers_of_word word) limit h in
-    let up = upgradable_in limit word own seen (ltb-true 0 own.bag.upgradable has) in
-    absurd (omega arith)
-exchanges_unblock_nobody a limit word Upgrade own Shared range seen h awaited has after =
-    let then = both_below (word + (2 ^ 32 - 1)) (2 ^ 33) (readers_of_word (word + (2 ^ 32 - 1))) limit after in
-    absurd (elim (one_of word (2 ^ 32 + 1) (2 ^ 34 + 2 ^ 32 + 1) h) [ inl e ↦ omega arith | inr e ↦ omega arith ])
-exchanges_unblock_nobody a limit word Upgrade own Exclusive range seen h awaited has after =
-    absurd (elim (one_of word (2 ^ 32 + 1) (2 ^ 34 + 2 ^ 32 + 1) h) [
-      | inl w ↦ elim (free_or_own own.announced (word + (2 ^ 32 - 1)) after) [ inl e ↦ omega arith | inr e ↦ (let v = e.1 in omega arith) ]
-      | inr w ↦ elim (free_or_own own.announced (word + (2 ^ 32 - 1)) after) [ inl e ↦ omega arith | inr e ↦ (let v = e.1 in omega arith) ]
-    ])
-exchanges_unblock_nobody a limit word Upgrade own Upgradable range seen h awaited has after =
-    let then = both_below (word + (2 ^ 32 - 1)) (2 ^ 32) (readers_of_word (word + (2 ^ 32 - 1))) limit after in
-    absurd (elim (one_of word (2 ^ 32 + 1) (2 ^ 34 + 2 ^ 32 + 1) h) [ inl e ↦ omega arith | inr e ↦ omega arith ])
-exchanges_unblock_nobody a limit word Upgrade own Upgrade range seen h awaited has after = h
-exchanges_unblock_nobody a limit word Announce own Shared range seen h awaited has after =
-    let then = both_below (word + 2 ^ 34) (2 ^ 33) (readers_of_word (word + 2 ^ 34)) limit after in absurd (omega arith)
-exchanges_unblock_nobody a limit word Announce own Exclusive range seen h awaited has after =
-    let now = ltb-true word (2 ^ 34) h in
-    absurd (elim (free_or_own own.announced (word + 2 ^ 34) after) [
-      | inl e ↦ omega arith
-      | inr e ↦ (let barred = bar_in limit word own seen e.0 in omega arith)
-    ])
-exchanges_unblock_nobody a limit word Announce own Upgradable range seen h awaited has after =
-    let then = both_below (word + 2 ^ 34) (2 ^ 32) (readers_of_word (word + 2 ^ 34)) limit after in absurd (omega arith)
-exchanges_unblock_nobody a limit word Announce own Upgrade range seen h awaited has after =
-    let now = ltb-true word (2 ^ 34) h in
-    elim (one_of (word + 2 ^ 34) (2 ^ 32 + 1) (2 ^ 34 + 2 ^ 32 + 1) after) [
-      | inl e ↦ absurd (omega arith)
-      | inr e ↦ is_one_of word (2 ^ 32 + 1) (2 ^ 34 + 2 ^ 32 + 1) (inl (omega arith))
-    ]
-exchanges_unblock_nobody a limit word want own Announce range seen h awaited has after = absurd (false≢true awaited)
+exchanges_unblock_nobody a limit word want own other range seen h awaited has after = grind arith
 
 -- the four tests of `unblocks`, on a packed word
 

@@ -1,6 +1,6 @@
 -- Each kind of step of one party keeps the rule by which no wake-up is lost.
-use Rattle.std.proofs.Common.{◌≡◌, ◌≢◌, ℕ, zero, suc, ◌+◌, ◌-◌, ◌<◌, ◌≤◌, Bool, true, false, ◌⊎◌, inl, inr, List, [], ◌∷◌, ◌++◌, sum_by, slice_get, slice_set, Some, IsTrue, refl, sym, ap, subst, ◌∙◌, arith}
-use Rattle.std.proofs.lemmas.Bool.{false≢true, true≢false, cases_eq, cases_Bool, false_from_ne_true}
+use Rattle.std.proofs.Common.{◌≡◌, ◌≢◌, ℕ, not, zero, suc, ◌+◌, ◌-◌, ◌<◌, ◌≤◌, Bool, true, false, ◌==◌, if◌then◌else◌, ◌⊎◌, inl, inr, List, [], ◌∷◌, ◌++◌, sum_by, slice_get, slice_set, Option, Some, None, IsTrue, refl, sym, ap, subst, ◌∙◌, arith}
+use Rattle.std.proofs.lemmas.Bool.{false≢true, true≢false, or_parts, cases_eq, cases_Bool, false_from_ne_true}
 use Rattle.std.proofs.lemmas.List.{map-set, map-append}
 use Rattle.std.proofs.lemmas.List.Sums.{sum_by-append}
 use Rattle.std.proofs.lemmas.Option.{same_Some, slice_get-map}
@@ -8,23 +8,25 @@ use Rattle.lock_base.specs.Limits.{IsLimit}
 use Rattle.lock_word.specs.declared.want.ExWant.{ExWant}
 use Rattle.lock_word.specs.declared.down.Down.{Down}
 use Rattle.lock_word.specs.Holds.{hold_has}
+use Rattle.lock_word.specs.declared.party.WorldParty.{WorldParty}
 use Rattle.lock_word.specs.Word.{word_after, amount, step_of_want, step_of_down}
-use Rattle.lock_word.specs.Turns.{with_load, after_win, after_fail}
-use Rattle.lock_word.specs.Rule.{KeepsRule}
+use Rattle.lock_word.specs.Turns.{idle}
+use Rattle.lock_word.specs.Rule.{all_wins, KeepsRule}
 use Rattle.lock_word.proofs.Holders.{sum_by-slice_set, le-sum_by}
-use Rattle.lock_word.proofs.Rules.{changed_or_not, slice_set_same, keeps_load, keeps_unloaded, keeps_lost, keeps_exchange, keeps_take, keeps_newcomer, shows, element_of_longer}
+use Rattle.lock_word.proofs.Rules.{all_wins_set, changed_or_not, slice_set_same, keeps_load, keeps_unloaded, keeps_lost, keeps_exchange, keeps_take, keeps_newcomer, shows, element_of_longer}
 use Rattle.lock_word.proofs.Bars.{other_stays}
 use Rattle.lock_word.proofs.Reached.{packed_word}
 use Rattle.lock_word.specs.declared.sleeper.WakeLimits.{WakeLimits}
 use Rattle.lock_word.specs.declared.sleeper.Watch.{Watch}
-use Rattle.lock_word.specs.declared.sleeper.Watch.TheVariants.{Away, Counted, Since, Restarts}
+use Rattle.lock_word.specs.declared.sleeper.Watch.TheVariants.{Away, Counted, Since, Woken, Restarts}
 use Rattle.lock_word.specs.declared.sleeper.Debt.{Debt}
 use Rattle.lock_word.specs.declared.sleeper.Debt.TheVariants.{Nothing, OwesAt}
 use Rattle.lock_word.specs.declared.sleeper.SleeperView.{SleeperView}
-use Rattle.lock_word.specs.Sleepers.{states_of, closed_count, count_of_watch, count_of_sleepers, admits_to, Sleeps, IsDue, SomeoneIsDue, NoneIsForgotten, IsAtRest, SleepersAreRefused}
-use Rattle.lock_word.specs.Wakes.{IsWithin, KeepsWakes, new_sleeper, with_state, with_watch, with_debt, debt_after, word_unblocks, view_after_take, view_after_epoch, EachStepKeeps}
+use Rattle.lock_word.specs.Sleepers.{states_of, changes_of, closed_count, count_of_watch, count_of_sleepers, is_awaited, admits_to, Sleeps, IsDue, SomeoneIsDue, OneIsWoken, NoneIsForgotten, LooksOnceWoken, WokenAreToLook, IsAtRest, HaveLooked, SleepersAreRefused, FreeWordWakesOne}
+use Rattle.lock_word.specs.Wakes.{IsWithin, IsMutexWord, KeepsWakes, new_sleeper, with_watch, with_debt, after_exchange, after_look, view_after_load, view_after_win, view_after_loss, may_want, debt_after, word_unblocks, has_to_wake, view_after_take, view_after_epoch, watch_after_sleep, left_after_sleep, view_after_sleep, view_after_end, EachStepKeeps}
 use Rattle.lock_word.specs.WakeLaws.{StepsKeepWakes}
 use Rattle.lock_word.proofs.Unblocking.{exchanges_unblock_nobody, unblocks_misses_nobody}
+use Rattle.lock_word.proofs.Mutex.{awaited_where_one, stays_unbarred, refuses_once_taken}
 
 -- lists of views of which one is changed
 
@@ -46,6 +48,68 @@ same_rule : (limit word : ℕ) (views : List SleeperView) (k : ℕ) (me : Sleepe
     → KeepsRule limit word (states_of views) → KeepsRule limit word (slice_set (states_of views) k me.state)
 same_rule limit word views k me at rule =
     subst (KeepsRule limit word) (sym (slice_set_same (states_of views) k me.state (state_at views k me at))) rule
+
+-- how often the word has changed
+
+pub changes_after : (views : List SleeperView) (k : ℕ) (me you : SleeperView) → slice_get views k ≡ Some me
+    → changes_of (slice_set views k you) + me.state.wins ≡ changes_of views + you.state.wins
+changes_after views k me you at =
+    subst (λ (parties : List WorldParty). all_wins parties + me.state.wins ≡ changes_of views + you.state.wins)
+    (sym (states_of-set views k you)) (all_wins_set (states_of views) k me.state you.state (state_at views k me at))
+
+same_changes : (views : List SleeperView) (k : ℕ) (me you : SleeperView) → slice_get views k ≡ Some me
+    → you.state.wins ≡ me.state.wins → changes_of (slice_set views k you) ≡ changes_of views
+same_changes views k me you at same = let sum = changes_after views k me you at in omega arith
+
+one_more : (views : List SleeperView) (k : ℕ) (me you : SleeperView) → slice_get views k ≡ Some me
+    → you.state.wins ≡ me.state.wins + 1 → changes_of (slice_set views k you) ≡ changes_of views + 1
+one_more views k me you at more = let sum = changes_after views k me you at in omega arith
+
+changes_longer : (views : List SleeperView) → changes_of (views ++ new_sleeper ∷ []) ≡ changes_of views
+changes_longer views =
+    let longer : states_of (views ++ new_sleeper ∷ []) ≡ states_of views ++ idle ∷ []
+    = map-append (λ (v : SleeperView). v.state) views (new_sleeper ∷ []) in
+    let total = sum_by-append (λ (q : WorldParty). q.wins) (states_of views) (idle ∷ []) in
+    let none : all_wins (idle ∷ []) ≡ 0 = refl in
+    ap all_wins longer ∙ omega arith
+
+-- who has to look
+
+looks_after : (word new changes : ℕ) (views : List SleeperView) (k : ℕ) (you : SleeperView) → WokenAreToLook word views
+    → changes_of (slice_set views k you) ≡ changes → LooksOnceWoken new changes you
+    → ((v : SleeperView) → LooksOnceWoken word (changes_of views) v → LooksOnceWoken new changes v)
+    → WokenAreToLook new (slice_set views k you)
+looks_after word new changes views k you woken total own others j v is =
+    subst (λ c. LooksOnceWoken new c v) (sym total)
+    (elim (changed_or_not views k j you v is) [
+      | inl e ↦ subst (LooksOnceWoken new changes) (sym e.1) own
+      | inr e ↦ others v (woken j v e.1)
+    ])
+
+-- the word stays
+still_looks : (word : ℕ) (views : List SleeperView) (k : ℕ) (me you : SleeperView) → slice_get views k ≡ Some me
+    → WokenAreToLook word views → you.state.wins ≡ me.state.wins → you.left_at ≡ me.left_at
+    → (word ≡ 0 → me.watch ≡ Woken → you.watch ≡ Woken) → WokenAreToLook word (slice_set views k you)
+still_looks word views k me you at woken wins left watch =
+    let mine = woken k me at in
+    looks_after word word (changes_of views) views k you woken (same_changes views k me you at wins)
+    record { past = λ n e. mine.past n (sym left ∙ e); looks = λ e free. watch free (mine.looks (sym left ∙ e) free) }
+    (λ v h. h)
+
+-- the word changes, so nobody has left its sleep since
+looks_anew : (word new : ℕ) (views : List SleeperView) (k : ℕ) (me you : SleeperView) → slice_get views k ≡ Some me
+    → WokenAreToLook word views → you.state.wins ≡ me.state.wins + 1 → you.left_at ≡ me.left_at
+    → WokenAreToLook new (slice_set views k you)
+looks_anew word new views k me you at woken wins left =
+    looks_after word new (changes_of views + 1) views k you woken (one_more views k me you at wins)
+    (anew you (λ n e. (woken k me at).past n (sym left ∙ e))) (λ v h. anew v h.past)
+  where
+    anew : (v : SleeperView) → ((n : ℕ) → v.left_at ≡ Some n → n ≤ changes_of views) → LooksOnceWoken new (changes_of views + 1) v
+    anew v past =
+        record {
+          past = λ n e. let least = past n e in omega arith;
+          looks = λ e free. let least = past (changes_of views + 1) e in absurd (omega arith);
+        }
 
 -- who is due
 
@@ -75,33 +139,106 @@ due_here : (epoch : ℕ) (views : List SleeperView) (k : ℕ) (me you : SleeperV
     → IsDue epoch you.debt → SomeoneIsDue epoch (slice_set views k you)
 due_here epoch views k me you at due = record { number = k; view = you; is = placed views k me you at; due = due }
 
+-- one is still woken where the word stays, and the one who changed has ended what it had
+woken_after : (limits : WakeLimits) (views : List SleeperView) (k : ℕ) (me you : SleeperView) → slice_get views k ≡ Some me
+    → you.state.wins ≡ me.state.wins → you.ended_at ≡ me.ended_at → OneIsWoken limits views → OneIsWoken limits (slice_set views k you)
+woken_after limits views k me you at wins ended woken =
+    let by = woken.1 in
+    let total = same_changes views k me you at wins in (
+      woken.0,
+      elim (cases_eq by.number k) [
+        | inl e ↦
+            (let found : slice_get views k ≡ Some by.view = subst (λ n. slice_get views n ≡ Some by.view) e by.is in
+            let same : by.view ≡ me = same_Some by.view me (sym found ∙ at) in
+            record {
+              number = k;
+              view = you;
+              is = placed views k me you at;
+              ended = ended ∙ (sym (ap (λ (v : SleeperView). v.ended_at) same) ∙ (by.ended ∙ ap Some (sym total)));
+            })
+        | inr other ↦ record {
+          number = by.number;
+          view = by.view;
+          is = other_stays views k by.number you by.view other by.is;
+          ended = by.ended ∙ ap Some (sym total);
+        }
+      ],
+    )
+
+-- what was so before a step of one party, and stays so
+record Stays (limits : WakeLimits) (word : ℕ) (views later : List SleeperView) (v : SleeperView) (want : ExWant) : Type 0 where
+  admitted : IsTrue (admits_to limits.readers word v want)
+  woken : OneIsWoken limits views → OneIsWoken limits later
+
 -- none is forgotten after a step of one party, which leaves the epoch
-forgets_none : (limit word new epoch : ℕ) (views : List SleeperView) (k : ℕ) (me you : SleeperView)
-    → slice_get views k ≡ Some me → NoneIsForgotten limit word epoch views
+forgets_none : (limits : WakeLimits) (word new epoch : ℕ) (views : List SleeperView) (k : ℕ) (me you : SleeperView)
+    → slice_get views k ≡ Some me → NoneIsForgotten limits word epoch views
     → (IsDue epoch me.debt → IsDue epoch you.debt)
-    → ((want : ExWant) → Sleeps limit epoch you want → IsTrue (admits_to limit new you want)
-    → Sleeps limit epoch me want × IsTrue (admits_to limit word me want))
-    → ((j : ℕ) (v : SleeperView) (want : ExWant) → slice_get views j ≡ Some v → Sleeps limit epoch v want
-    → IsTrue (admits_to limit new v want) → IsTrue (admits_to limit word v want) ⊎ IsDue epoch you.debt)
-    → NoneIsForgotten limit new epoch (slice_set views k you)
-forgets_none limit word new epoch views k me you at none still own others j v want is sleeps admitted =
+    → ((want : ExWant) → Sleeps limits epoch you want → IsTrue (admits_to limits.readers new you want)
+    → Sleeps limits epoch me want × Stays limits word views (slice_set views k you) me want)
+    → ((j : ℕ) (v : SleeperView) (want : ExWant) → slice_get views j ≡ Some v → Sleeps limits epoch v want
+    → IsTrue (admits_to limits.readers new v want) → Stays limits word views (slice_set views k you) v want ⊎ IsDue epoch you.debt)
+    → NoneIsForgotten limits new epoch (slice_set views k you)
+forgets_none limits word new epoch views k me you at none still own others j v want is sleeps admitted =
     elim (changed_or_not views k j you v is) [
       | inl e ↦
-          (let before = own want (subst (λ (w : SleeperView). Sleeps limit epoch w want) e.1 sleeps)
-          (subst (λ (w : SleeperView). IsTrue (admits_to limit new w want)) e.1 admitted) in
-          due_after epoch views k me you at still (none k me want at before.0 before.1))
+          (let before = own want (subst (λ (w : SleeperView). Sleeps limits epoch w want) e.1 sleeps)
+          (subst (λ (w : SleeperView). IsTrue (admits_to limits.readers new w want)) e.1 admitted) in
+          now before.1.woken (none k me want at before.0 before.1.admitted))
       | inr e ↦
           elim (others j v want e.1 sleeps admitted) [
-            | inl before ↦ due_after epoch views k me you at still (none j v want e.1 sleeps before)
-            | inr due ↦ due_here epoch views k me you at due
+            | inl before ↦ now before.woken (none j v want e.1 sleeps before.admitted)
+            | inr due ↦ inl (due_here epoch views k me you at due)
           ]
     ]
+  where
+    now : (OneIsWoken limits views → OneIsWoken limits (slice_set views k you)) → SomeoneIsDue epoch views ⊎ OneIsWoken limits views
+        → SomeoneIsDue epoch (slice_set views k you) ⊎ OneIsWoken limits (slice_set views k you)
+    now woken (inl due) = inl (due_after epoch views k me you at still due)
+    now woken (inr one) = inr (woken one)
 
 -- nobody sleeps at all
-nobody_sleeps : (limit word epoch : ℕ) (views : List SleeperView)
-    → ((j : ℕ) (v : SleeperView) → slice_get views j ≡ Some v → v.watch ≢ Since epoch)
-    → NoneIsForgotten limit word epoch views
-nobody_sleeps limit word epoch views away j v want is sleeps admitted = absurd (away j v is sleeps.watches)
+nobody_sleeps : (limits : WakeLimits) (word epoch : ℕ) (views : List SleeperView)
+    → ((j : ℕ) (v : SleeperView) (want : ExWant) → slice_get views j ≡ Some v → Sleeps limits epoch v want → ⊥)
+    → NoneIsForgotten limits word epoch views
+nobody_sleeps limits word epoch views awake j v want is sleeps admitted = absurd (awake j v want is sleeps)
+
+-- an epoch that a sleeper watches
+watched_within : (limits : WakeLimits) (epoch later : ℕ) (v : SleeperView) (want : ExWant) → IsWithin limits epoch v.watch
+    → (s : Sleeps limits later v want) → (s.watched ≤ epoch) × (s.watched < limits.last_epoch)
+watched_within limits epoch later v want within s = subst (IsWithin limits epoch) s.watches within
+
+-- a sleeper is counted
+sleeper_counts : (limits : WakeLimits) (epoch : ℕ) (v : SleeperView) (want : ExWant) → Sleeps limits epoch v want
+    → count_of_watch v.watch ≡ 1
+sleeper_counts limits epoch v want s = ap count_of_watch s.watches
+
+-- how a look or an exchange leaves a party's way to sleep
+record GoesOn (w x : Watch) : Type 0 where
+  count : count_of_watch x ≡ count_of_watch w
+  restarts : x ≡ Restarts → w ≡ Restarts
+  within : (limits : WakeLimits) (epoch : ℕ) → IsWithin limits epoch w → IsWithin limits epoch x
+
+same_way : (w : Watch) → GoesOn w w
+same_way w = record { count = refl; restarts = λ e. e; within = λ limits epoch h. h }
+
+exchanges_on : (w : Watch) → GoesOn w (after_exchange w)
+exchanges_on Away = same_way Away
+exchanges_on Counted = same_way Counted
+exchanges_on (Since e) = same_way (Since e)
+exchanges_on Woken = record { count = refl; restarts = λ e. cc; within = λ limits epoch h. tt }
+exchanges_on Restarts = same_way Restarts
+
+looks_on : (word : ℕ) (w : Watch) → GoesOn w (after_look word w)
+looks_on word w = either (word == 0)
+  where
+    either : (b : Bool) → GoesOn w (if b then w else after_exchange w)
+    either true = same_way w
+    either false = exchanges_on w
+
+-- a woken party that finds the word free still has to look
+looks_at_free : (word : ℕ) (w : Watch) → word ≡ 0 → w ≡ Woken → after_look word w ≡ Woken
+looks_at_free word w free woken = subst (λ n. after_look n w ≡ Woken) (sym free) woken
 
 -- a step of one party, as far as the rule speaks of each by itself
 keeps_in : (limits : WakeLimits) (word new count counted epoch later : ℕ) (views : List SleeperView) (k : ℕ) (me you : SleeperView)
@@ -111,9 +248,9 @@ keeps_in : (limits : WakeLimits) (word new count counted epoch later : ℕ) (vie
     → ((w : Watch) → IsWithin limits epoch w → IsWithin limits later w) → IsWithin limits later you.watch
     → ((j : ℕ) (v : SleeperView) → slice_get (slice_set views k you) j ≡ Some v → v.watch ≡ Restarts
     → counted ≡ count_of_sleepers (slice_set views k you) → counted ≡ closed_count)
-    → NoneIsForgotten limits.readers new later (slice_set views k you)
+    → IsMutexWord limits new → NoneIsForgotten limits new later (slice_set views k you) → WokenAreToLook new (slice_set views k you)
     → KeepsWakes limits new counted later (slice_set views k you)
-keeps_in limits word new count counted epoch later views k me you at kept rule counts passes within alone none =
+keeps_in limits word new count counted epoch later views k me you at kept rule counts passes within alone mutex none woken =
     let total = sum_by-slice_set (λ (v : SleeperView). count_of_watch v.watch) views k me you at in
     let before = kept.counted in
     let sum : counted ≡ count_of_sleepers (slice_set views k you) = omega arith in
@@ -126,25 +263,28 @@ keeps_in limits word new count counted epoch later views k me you at kept rule c
             | inr e ↦ passes v.watch (kept.within j v e.1)
           ];
       alone = λ j v is restarts. alone j v is restarts sum;
+      mutex = mutex;
       none_forgotten = none;
+      woken = woken;
     }
 
 -- the party stays counted, or not
 keeps : (limits : WakeLimits) (word new count counted epoch later : ℕ) (views : List SleeperView) (k : ℕ) (me you : SleeperView)
     → slice_get views k ≡ Some me → KeepsWakes limits word count epoch views
-    → KeepsRule limits.readers new (slice_set (states_of views) k you.state) → you.watch ≡ me.watch → counted ≡ count
-    → ((w : Watch) → IsWithin limits epoch w → IsWithin limits later w) → IsWithin limits later you.watch
-    → NoneIsForgotten limits.readers new later (slice_set views k you)
+    → KeepsRule limits.readers new (slice_set (states_of views) k you.state) → GoesOn me.watch you.watch → counted ≡ count
+    → ((w : Watch) → IsWithin limits epoch w → IsWithin limits later w)
+    → IsMutexWord limits new → NoneIsForgotten limits new later (slice_set views k you) → WokenAreToLook new (slice_set views k you)
     → KeepsWakes limits new counted later (slice_set views k you)
-keeps limits word new count counted epoch later views k me you at kept rule same_watch same passes within none =
-    let weight = ap count_of_watch same_watch in
-    keeps_in limits word new count counted epoch later views k me you at kept rule (omega arith) passes within
+keeps limits word new count counted epoch later views k me you at kept rule on same passes mutex none woken =
+    let weight = on.count in
+    keeps_in limits word new count counted epoch later views k me you at kept rule (omega arith) passes
+    (on.within limits later (passes me.watch (kept.within k me at)))
     (λ j v is restarts sum.
     elim (changed_or_not views k j you v is) [
-      | inl e ↦ same ∙ kept.alone k me at (sym same_watch ∙ (sym (ap (λ (w : SleeperView). w.watch) e.1) ∙ restarts))
+      | inl e ↦ same ∙ kept.alone k me at (on.restarts (sym (ap (λ (w : SleeperView). w.watch) e.1) ∙ restarts))
       | inr e ↦ same ∙ kept.alone j v e.1 restarts
     ])
-    none
+    mutex none woken
 
 -- the count is not that of a restart
 not_closed : (counted : ℕ) (views : List SleeperView) → counted < closed_count → (j : ℕ) (v : SleeperView)
@@ -154,42 +294,20 @@ not_closed counted views few j v is restarts sum =
     let weight : count_of_watch v.watch ≡ closed_count = ap count_of_watch restarts in
     absurd (omega arith)
 
-uncounted : (w : Watch) → count_of_watch w ≡ 0 → w ≡ Away
-uncounted Away none = refl
-uncounted Counted none = absurd (omega arith)
-uncounted (Since e) none = absurd (omega arith)
-uncounted Restarts none = absurd (omega arith)
+-- a party that is not counted as one is within any epochs
+uncounted_within : (limits : WakeLimits) (epoch : ℕ) (w : Watch) → count_of_watch w ≢ 1 → IsWithin limits epoch w
+uncounted_within limits epoch Away none = tt
+uncounted_within limits epoch Counted none = tt
+uncounted_within limits epoch (Since e) none = absurd (none refl)
+uncounted_within limits epoch Woken none = tt
+uncounted_within limits epoch Restarts none = tt
 
 later_within : (limits : WakeLimits) (epoch : ℕ) (w : Watch) → IsWithin limits epoch w → IsWithin limits (epoch + 1) w
 later_within limits epoch Away h = h
 later_within limits epoch Counted h = h
 later_within limits epoch (Since e) h = let past = h.0 in (omega arith, h.1)
+later_within limits epoch Woken h = h
 later_within limits epoch Restarts h = h
-
-not_later : (limits : WakeLimits) (epoch : ℕ) (w : Watch) → IsWithin limits epoch w → w ≢ Since (epoch + 1)
-not_later limits epoch Away h e = cc
-not_later limits epoch Counted h e = cc
-not_later limits epoch Restarts h e = cc
-not_later limits epoch (Since n) h e = let same = since_same n (epoch + 1) e in let past = h.0 in absurd (omega arith)
-  where
-    epoch_of : Watch → ℕ
-    epoch_of Away = 0
-    epoch_of Counted = 0
-    epoch_of (Since n) = n
-    epoch_of Restarts = 0
-
-    since_same : (n m : ℕ) → Since n ≡ Since m → n ≡ m
-    since_same n m e = ap epoch_of e
-
-not_last : (limits : WakeLimits) (epoch : ℕ) (w : Watch) → limits.last_epoch ≤ epoch → IsWithin limits epoch w → w ≢ Since epoch
-not_last limits epoch w last within e =
-    let h : IsWithin limits epoch (Since epoch) = subst (IsWithin limits epoch) e within in let early = h.1 in absurd (omega arith)
-
-not_counted : (epoch : ℕ) (w : Watch) → count_of_watch w ≡ 0 → w ≢ Since epoch
-not_counted epoch Away none e = cc
-not_counted epoch Counted none e = cc
-not_counted epoch Restarts none e = cc
-not_counted epoch (Since n) none e = omega arith
 
 -- who is due after a step
 
@@ -201,9 +319,6 @@ due_since : (epoch : ℕ) (u : Bool) (d : Debt) → u ≡ true → IsDue epoch (
 due_since epoch true d h = tt
 due_since epoch false d h = absurd (false≢true h)
 
-due_noted : (epoch : ℕ) (d : Debt) → IsDue epoch d → epoch ≡ epoch
-due_noted epoch d h = refl
-
 -- the steps of a party, whatever all others are
 
 module _ (limits : WakeLimits) (word count epoch : ℕ) (views : List SleeperView) (k : ℕ) (me : SleeperView)
@@ -211,62 +326,95 @@ module _ (limits : WakeLimits) (word count epoch : ℕ) (views : List SleeperVie
   there : slice_get (states_of views) k ≡ Some me.state
   there = state_at views k me at
 
-  mine : IsWithin limits epoch me.watch
-  mine = kept.within k me at
+  -- what the word admitted before a step that leaves it, it admits, and one that is woken stays so
+  stays : (you v : SleeperView) (want : ExWant) → you.state.wins ≡ me.state.wins → you.ended_at ≡ me.ended_at
+      → IsTrue (admits_to limits.readers word v want) → Stays limits word views (slice_set views k you) v want
+  stays you v want wins ended admitted =
+      record { admitted = admitted; woken = woken_after limits views k me you at wins ended }
 
-  load : KeepsWakes limits word count epoch (slice_set views k (with_state me (with_load me.state word)))
+  -- a step that leaves the word, after which the party does not sleep, or not for what the word admits
+  none_on : (you : SleeperView) → you.state.wins ≡ me.state.wins → you.ended_at ≡ me.ended_at
+      → (IsDue epoch me.debt → IsDue epoch you.debt)
+      → ((want : ExWant) → Sleeps limits epoch you want → IsTrue (admits_to limits.readers word you want) → ⊥)
+      → NoneIsForgotten limits word epoch (slice_set views k you)
+  none_on you wins ended due awake =
+      forgets_none limits word word epoch views k me you at kept.none_forgotten due
+      (λ want sleeps admitted. absurd (awake want sleeps admitted))
+      (λ j v want is sleeps admitted. inl (stays you v want wins ended admitted))
+
+  load : KeepsWakes limits word count epoch (slice_set views k (view_after_load word me))
   load =
-      let you = with_state me (with_load me.state word) in
+      let you = view_after_load word me in
       keeps limits word word count count epoch epoch views k me you at kept
-      (keeps_load limits.readers word (states_of views) k me.state kept.rule there) refl refl (λ w h. h) mine
-      (forgets_none limits.readers word word epoch views k me you at kept.none_forgotten (λ d. d)
-      (λ want sleeps admitted.
+      (keeps_load limits.readers word (states_of views) k me.state kept.rule there) (looks_on word me.watch) refl (λ w h. h) kept.mutex
+      (none_on you refl refl (λ d. d) (λ want sleeps admitted.
       let same : word ≡ sleeps.looked = same_Some word sleeps.looked sleeps.found in
-      absurd (true≢false (sym admitted ∙ (ap (λ w. admits_to limits.readers w me want) same ∙ sleeps.refused))))
-      (λ j v want is sleeps admitted. inl admitted))
+      true≢false (sym admitted ∙ (ap (λ w. admits_to limits.readers w me want) same ∙ sleeps.refused))))
+      (still_looks word views k me you at kept.woken refl refl (looks_at_free word me.watch))
 
   exchange : (want : ExWant) → IsTrue (hold_has me.state.held (step_of_want want)) → IsTrue (admits_to limits.readers word me want)
-      → KeepsWakes limits (word_after word want) count epoch
-      (slice_set views k (with_state me (after_win me.state (step_of_want want))))
-  exchange want has admits =
-      let you = with_state me (after_win me.state (step_of_want want)) in
-      keeps limits word (word_after word want) count count epoch epoch views k me you at kept
-      (keeps_exchange limits.readers word (states_of views) k me.state want range kept.rule there has admits) refl refl (λ w h. h) mine
-      (forgets_none limits.readers word (word_after word want) epoch views k me you at kept.none_forgotten (λ d. d)
+      → IsTrue (may_want limits want)
+      → KeepsWakes limits (word_after word want) count epoch (slice_set views k (view_after_win me want))
+  exchange want has admits may =
+      let you = view_after_win me want in
+      let new = word_after word want in
+      let awaited : IsTrue limits.wakes_one → IsTrue (is_awaited want) = awaited_where_one (is_awaited want) limits.wakes_one may in
+      keeps limits word new count count epoch epoch views k me you at kept
+      (keeps_exchange limits.readers word (states_of views) k me.state want range kept.rule there has admits) (exchanges_on me.watch) refl
+      (λ w h. h)
+      record {
+        one_token = kept.mutex.one_token;
+        no_bar = λ one. stays_unbarred me.state.held.announced limits.readers word want (awaited one) admits (kept.mutex.no_bar one);
+      }
+      (forgets_none limits word new epoch views k me you at kept.none_forgotten (λ d. d)
       (λ other sleeps admitted. let found = sleeps.found in cc)
       (λ j v other is sleeps admitted.
-      inl (exchanges_unblock_nobody me.state.held.announced limits.readers word want v.state.held other range
+      let before = exchanges_unblock_nobody me.state.held.announced limits.readers word want v.state.held other range
       (shows limits.readers word (states_of views) j v.state range kept.rule (state_at views j v is)) admits sleeps.awaited sleeps.entitled
-      admitted)))
+      admitted in
+      inl record {
+        admitted = before;
+        woken = λ woken.
+            absurd (refuses_once_taken me.state.held.announced v.state.held.announced limits.readers word want other
+            (kept.mutex.one_token woken.0) (awaited woken.0) sleeps.awaited admits before admitted);
+      }))
+      (looks_anew word new views k me you at kept.woken refl refl)
 
   lost : (loaded : ℕ) → me.state.loaded ≡ Some loaded → word ≢ loaded
-      → KeepsWakes limits word count epoch (slice_set views k (with_state me (after_fail me.state)))
+      → KeepsWakes limits word count epoch (slice_set views k (view_after_loss word me))
   lost loaded was differs =
-      let you = with_state me (after_fail me.state) in
+      let you = view_after_loss word me in
       keeps limits word word count count epoch epoch views k me you at kept
-      (keeps_lost limits.readers word (states_of views) k loaded me.state kept.rule there was differs) refl refl (λ w h. h) mine
-      (forgets_none limits.readers word word epoch views k me you at kept.none_forgotten (λ d. d)
-      (λ other sleeps admitted. let found = sleeps.found in cc)
-      (λ j v other is sleeps admitted. inl admitted))
+      (keeps_lost limits.readers word (states_of views) k loaded me.state kept.rule there was differs) (looks_on word me.watch) refl
+      (λ w h. h) kept.mutex
+      (none_on you refl refl (λ d. d) (λ other sleeps admitted. let found = sleeps.found in cc))
+      (still_looks word views k me you at kept.woken refl refl (looks_at_free word me.watch))
 
   take : (down : Down) → IsTrue (hold_has me.state.held (step_of_down down))
-      → KeepsWakes limits (word - amount down) count epoch (slice_set views k (view_after_take limits.readers word me down))
+      → KeepsWakes limits (word - amount down) count epoch (slice_set views k (view_after_take limits word me down))
   take down has =
-      let you = view_after_take limits.readers word me down in
+      let you = view_after_take limits word me down in
       let new = word - amount down in
+      let wakes = has_to_wake limits word new in
       let rule = keeps_take limits.readers word (states_of views) k me.state down range kept.rule there has in
-      keeps limits word new count count epoch epoch views k me you at kept rule refl refl (λ w h. h) mine
-      (forgets_none limits.readers word new epoch views k me you at kept.none_forgotten
-      (due_if_was epoch (word_unblocks limits.readers word new) me.debt)
+      keeps limits word new count count epoch epoch views k me you at kept rule (same_way me.watch) refl (λ w h. h)
+      record { one_token = kept.mutex.one_token; no_bar = λ one. let few = kept.mutex.no_bar one in omega arith }
+      (forgets_none limits word new epoch views k me you at kept.none_forgotten (due_if_was epoch wakes me.debt)
       (λ other sleeps admitted. let found = sleeps.found in cc)
       (λ j v other is sleeps admitted.
-      elim (cases_Bool (word_unblocks limits.readers word new)) [
-        | inl unblocks ↦ inr (due_since epoch (word_unblocks limits.readers word new) me.debt unblocks)
-        | inr blocked ↦
-            inl (unblocks_misses_nobody v.state.held.announced limits.readers word new other range
-            (packed_word limits.readers word (states_of views) range kept.rule)
-            (packed_word limits.readers new (slice_set (states_of views) k you.state) range rule) sleeps.awaited blocked admitted)
+      elim (cases_Bool wakes) [
+        | inl has_to ↦ inr (due_since epoch wakes me.debt has_to)
+        | inr need_not ↦
+            (let two = or_parts limits.wakes_one (word_unblocks limits.readers word new) need_not in
+            inl record {
+              admitted =
+                  unblocks_misses_nobody v.state.held.announced limits.readers word new other range
+                  (packed_word limits.readers word (states_of views) range kept.rule)
+                  (packed_word limits.readers new (slice_set (states_of views) k you.state) range rule) sleeps.awaited two.1 admitted;
+              woken = λ woken. absurd (true≢false (sym woken.0 ∙ two.0));
+            })
       ]))
+      (looks_anew word new views k me you at kept.woken refl refl)
 
   counts_in : me.watch ≡ Away → count + 1 < closed_count
       → KeepsWakes limits word (count + 1) epoch (slice_set views k (with_watch me Counted))
@@ -275,10 +423,9 @@ module _ (limits : WakeLimits) (word count epoch : ℕ) (views : List SleeperVie
       let none : count_of_watch me.watch ≡ 0 = ap count_of_watch away in
       keeps_in limits word word count (count + 1) epoch epoch views k me you at kept
       (same_rule limits.readers word views k me at kept.rule) (omega arith) (λ w h. h) tt
-      (not_closed (count + 1) (slice_set views k you) few)
-      (forgets_none limits.readers word word epoch views k me you at kept.none_forgotten (λ d. d)
-      (λ other sleeps admitted. let watches = sleeps.watches in cc)
-      (λ j v other is sleeps admitted. inl admitted))
+      (not_closed (count + 1) (slice_set views k you) few) kept.mutex
+      (none_on you refl refl (λ d. d) (λ other sleeps admitted. let watches = sleeps.watches in cc))
+      (still_looks word views k me you at kept.woken refl refl (λ free woken. cc))
 
   -- while one is counted, nobody restarts
   few_while_counted : count_of_watch me.watch ≡ 1 → (j : ℕ) (v : SleeperView) (you : SleeperView)
@@ -302,44 +449,110 @@ module _ (limits : WakeLimits) (word count epoch : ℕ) (views : List SleeperVie
             omega arith)
       ]
 
-  counts_out : count_of_watch me.watch ≡ 1 → KeepsWakes limits word (count - 1) epoch (slice_set views k (with_watch me Away))
-  counts_out one =
-      let you = with_watch me Away in
+  -- a counted party is not woken
+  not_woken : count_of_watch me.watch ≡ 1 → me.watch ≡ Woken → ⊥
+  not_woken one woken = let none : count_of_watch me.watch ≡ 0 = ap count_of_watch woken in omega arith
+
+  -- a party that is not counted any more
+  counts_out_as : (you : SleeperView) → count_of_watch me.watch ≡ 1 → count_of_watch you.watch ≡ 0 → you.state ≡ me.state
+      → you.ended_at ≡ me.ended_at → you.debt ≡ me.debt → WokenAreToLook word (slice_set views k you)
+      → KeepsWakes limits word (count - 1) epoch (slice_set views k you)
+  counts_out_as you one none state ended debt woken =
       let all = le-sum_by (λ (v : SleeperView). count_of_watch v.watch) views k me at in
       let sum = kept.counted in
       keeps_in limits word word count (count - 1) epoch epoch views k me you at kept
-      (same_rule limits.readers word views k me at kept.rule) (omega arith) (λ w h. h) tt
-      (λ j v is restarts s. absurd (few_while_counted one j v you (omega arith) is restarts))
-      (forgets_none limits.readers word word epoch views k me you at kept.none_forgotten (λ d. d)
-      (λ other sleeps admitted. let watches = sleeps.watches in cc)
-      (λ j v other is sleeps admitted. inl admitted))
+      (subst (λ party. KeepsRule limits.readers word (slice_set (states_of views) k party)) (sym state)
+      (same_rule limits.readers word views k me at kept.rule)) (omega arith) (λ w h. h)
+      (uncounted_within limits epoch you.watch (λ e. omega arith))
+      (λ j v is restarts s. absurd (few_while_counted one j v you (omega arith) is restarts)) kept.mutex
+      (none_on you (ap (λ (p : WorldParty). p.wins) state) ended (subst (IsDue epoch) (sym debt))
+      (λ other sleeps admitted. let counts = sleeper_counts limits epoch you other sleeps in omega arith))
+      woken
+
+  counts_out : count_of_watch me.watch ≡ 1
+      → KeepsWakes limits word (count - 1) epoch (slice_set views k (view_after_sleep (changes_of views) me))
+  counts_out one = by me.state.loaded
+    where
+      out : Option ℕ → SleeperView
+      out loaded = record me { watch = watch_after_sleep loaded; left_at = left_after_sleep loaded (changes_of views) me.left_at }
+
+      by : (loaded : Option ℕ) → KeepsWakes limits word (count - 1) epoch (slice_set views k (out loaded))
+      by None =
+          let you = with_watch me Away in
+          counts_out_as you one refl refl refl refl
+          (still_looks word views k me you at kept.woken refl refl (λ free woken. absurd (not_woken one woken)))
+      by (Some looked) =
+          let you = out (Some looked) in
+          counts_out_as you one refl refl refl refl
+          (looks_after word word (changes_of views) views k you kept.woken (same_changes views k me you at refl)
+          record {
+            past = λ n e. let same = same_Some (changes_of views) n e in omega arith;
+            looks = λ e free. refl;
+          }
+          (λ v h. h))
+
+  -- whatever its debt, a party sleeps
+  again : (debt : Debt) (want : ExWant) → Sleeps limits epoch (with_debt me debt) want → Sleeps limits epoch me want
+  again debt want sleeps =
+      record {
+        looked = sleeps.looked;
+        watched = sleeps.watched;
+        watches = sleeps.watches;
+        may_sleep = sleeps.may_sleep;
+        found = sleeps.found;
+        awaited = sleeps.awaited;
+        entitled = sleeps.entitled;
+        refused = sleeps.refused;
+      }
 
   -- the debt is gone, where nobody sleeps
-  settled : (later : ℕ) → ((w : Watch) → IsWithin limits epoch w → IsWithin limits later w)
-      → ((j : ℕ) (v : SleeperView) → slice_get views j ≡ Some v → v.watch ≢ Since later)
-      → KeepsWakes limits word count later (slice_set views k (with_debt me Nothing))
-  settled later passes away =
+  settled : ((j : ℕ) (v : SleeperView) (want : ExWant) → slice_get views j ≡ Some v → Sleeps limits epoch v want → ⊥)
+      → KeepsWakes limits word count epoch (slice_set views k (with_debt me Nothing))
+  settled awake =
       let you = with_debt me Nothing in
-      keeps limits word word count count epoch later views k me you at kept
-      (same_rule limits.readers word views k me at kept.rule) refl refl passes (passes me.watch mine)
-      (nobody_sleeps limits.readers word later (slice_set views k you) (λ j v is.
+      keeps limits word word count count epoch epoch views k me you at kept
+      (same_rule limits.readers word views k me at kept.rule) (same_way me.watch) refl (λ w h. h) kept.mutex
+      (nobody_sleeps limits word epoch (slice_set views k you) (λ j v want is sleeps.
       elim (changed_or_not views k j you v is) [
-        | inl e ↦ subst (λ (w : SleeperView). w.watch ≢ Since later) (sym e.1) (away k me at)
-        | inr e ↦ away j v e.1
+        | inl e ↦ awake k me want at (again Nothing want (subst (λ (w : SleeperView). Sleeps limits epoch w want) e.1 sleeps))
+        | inr e ↦ awake j v want e.1 sleeps
       ]))
+      (still_looks word views k me you at kept.woken refl refl (λ free woken. woken))
 
   finds_none : count ≡ 0 → KeepsWakes limits word count epoch (slice_set views k (with_debt me Nothing))
   finds_none zero_count =
-      settled epoch (λ w h. h) (λ j v is.
+      settled (λ j v want is sleeps.
       let all = le-sum_by (λ (w : SleeperView). count_of_watch w.watch) views j v is in
       let sum = kept.counted in
-      not_counted epoch v.watch (omega arith))
+      let counts = sleeper_counts limits epoch v want sleeps in
+      omega arith)
 
   finds_last : limits.last_epoch ≤ epoch → KeepsWakes limits word count epoch (slice_set views k (with_debt me Nothing))
-  finds_last high = settled epoch (λ w h. h) (λ j v is. not_last limits epoch v.watch high (kept.within j v is))
+  finds_last high =
+      settled (λ j v want is sleeps.
+      let early = watched_within limits epoch epoch v want (kept.within j v is) sleeps in
+      elim sleeps.may_sleep [ inl e ↦ omega arith | inr past ↦ omega arith ])
 
-  ends : KeepsWakes limits word count (epoch + 1) (slice_set views k (with_debt me Nothing))
-  ends = settled (epoch + 1) (later_within limits epoch) (λ j v is. not_later limits epoch v.watch (kept.within j v is))
+  -- the end of an epoch wakes all that sleep; or one, and is noted
+  ends : KeepsWakes limits word count (epoch + 1) (slice_set views k (view_after_end (changes_of views) me))
+  ends =
+      let you = view_after_end (changes_of views) me in
+      let total = same_changes views k me you at refl in
+      keeps limits word word count count epoch (epoch + 1) views k me you at kept
+      (same_rule limits.readers word views k me at kept.rule) (same_way me.watch) refl (later_within limits epoch) kept.mutex
+      (λ j v want is sleeps admitted.
+      elim sleeps.may_sleep [
+        | inl e ↦
+            (let within : IsWithin limits epoch v.watch
+            = elim (changed_or_not views k j you v is) [
+              | inl same ↦ subst (λ (w : SleeperView). IsWithin limits epoch w.watch) (sym same.1) (kept.within k me at)
+              | inr other ↦ kept.within j v other.1
+            ] in
+            let past = watched_within limits epoch (epoch + 1) v want within sleeps in
+            absurd (omega arith))
+        | inr past ↦ inr (past.0, record { number = k; view = you; is = placed views k me you at; ended = ap Some (sym total) })
+      ])
+      (still_looks word views k me you at kept.woken refl refl (λ free woken. woken))
 
   watches : count_of_watch me.watch ≡ 1 → epoch < limits.last_epoch
       → KeepsWakes limits word count epoch (slice_set views k (view_after_epoch epoch me))
@@ -347,10 +560,9 @@ module _ (limits : WakeLimits) (word count epoch : ℕ) (views : List SleeperVie
       let you = view_after_epoch epoch me in
       keeps_in limits word word count count epoch epoch views k me you at kept
       (keeps_unloaded limits.readers word (states_of views) k me.state kept.rule there) (omega arith) (λ w h. h) (omega arith, early)
-      (λ j v is restarts s. absurd (few_while_counted one j v you (omega arith) is restarts))
-      (forgets_none limits.readers word word epoch views k me you at kept.none_forgotten (λ d. d)
-      (λ other sleeps admitted. let found = sleeps.found in cc)
-      (λ j v other is sleeps admitted. inl admitted))
+      (λ j v is restarts s. absurd (few_while_counted one j v you (omega arith) is restarts)) kept.mutex
+      (none_on you refl refl (λ d. d) (λ other sleeps admitted. let found = sleeps.found in cc))
+      (still_looks word views k me you at kept.woken refl refl (λ free woken. absurd (not_woken one woken)))
 
   -- the debt is another, and the party as due as it was
   owes_anew : (debt : Debt) → (IsDue epoch me.debt → IsDue epoch debt)
@@ -358,20 +570,11 @@ module _ (limits : WakeLimits) (word count epoch : ℕ) (views : List SleeperVie
   owes_anew debt due =
       let you = with_debt me debt in
       keeps limits word word count count epoch epoch views k me you at kept
-      (same_rule limits.readers word views k me at kept.rule) refl refl (λ w h. h) mine
-      (forgets_none limits.readers word word epoch views k me you at kept.none_forgotten due
-      (λ other sleeps admitted. (
-        record {
-          looked = sleeps.looked;
-          watches = sleeps.watches;
-          found = sleeps.found;
-          awaited = sleeps.awaited;
-          entitled = sleeps.entitled;
-          refused = sleeps.refused;
-        },
-        admitted,
-      ))
-      (λ j v other is sleeps admitted. inl admitted))
+      (same_rule limits.readers word views k me at kept.rule) (same_way me.watch) refl (λ w h. h) kept.mutex
+      (forgets_none limits word word epoch views k me you at kept.none_forgotten due
+      (λ other sleeps admitted. (again debt other sleeps, stays you me other refl refl admitted))
+      (λ j v other is sleeps admitted. inl (stays you v other refl refl admitted)))
+      (still_looks word views k me you at kept.woken refl refl (λ free woken. woken))
 
   notes : me.debt ≢ Nothing → KeepsWakes limits word count epoch (slice_set views k (with_debt me (OwesAt epoch)))
   notes owes = owes_anew (OwesAt epoch) (λ d. refl)
@@ -388,49 +591,41 @@ module _ (limits : WakeLimits) (word count epoch : ℕ) (views : List SleeperVie
       let you = with_watch me Restarts in
       let none : count_of_watch me.watch ≡ 0 = ap count_of_watch away in
       keeps_in limits word word count closed_count epoch epoch views k me you at kept
-      (same_rule limits.readers word views k me at kept.rule) (omega arith) (λ w h. h) tt (λ j v is restarts s. refl)
-      (forgets_none limits.readers word word epoch views k me you at kept.none_forgotten (λ d. d)
-      (λ other sleeps admitted. let watches = sleeps.watches in cc)
-      (λ j v other is sleeps admitted. inl admitted))
+      (same_rule limits.readers word views k me at kept.rule) (omega arith) (λ w h. h) tt (λ j v is restarts s. refl) kept.mutex
+      (none_on you refl refl (λ d. d) (λ other sleeps admitted. let watches = sleeps.watches in cc))
+      (still_looks word views k me you at kept.woken refl refl (λ free woken. cc))
 
-  -- while one restarts, all others are away
-  others_away : me.watch ≡ Restarts → (j : ℕ) (v : SleeperView) → j ≢ k → slice_get views j ≡ Some v → v.watch ≡ Away
-  others_away restarts j v other is =
+  -- while one restarts, nobody is counted
+  none_counted : me.watch ≡ Restarts → (j : ℕ) (v : SleeperView) → slice_get views j ≡ Some v → count_of_watch v.watch ≢ 1
+  none_counted restarts j v is counts =
       let closed = kept.alone k me at restarts in
       let sum = kept.counted in
       let away = with_watch me Away in
       let total = sum_by-slice_set (λ (w : SleeperView). count_of_watch w.watch) views k me away at in
       let weight : count_of_watch me.watch ≡ closed_count = ap count_of_watch restarts in
       let none : count_of_watch away.watch ≡ 0 = refl in
-      let rest = le-sum_by (λ (w : SleeperView). count_of_watch w.watch) (slice_set views k away) j v
-      (other_stays views k j away v other is) in
-      uncounted v.watch (omega arith)
-
-  -- so nobody is counted
-  none_counted : me.watch ≡ Restarts → (j : ℕ) (v : SleeperView) → slice_get views j ≡ Some v
-      → (v.watch ≡ Away) ⊎ (v.watch ≡ Restarts)
-  none_counted restarts j v is =
       elim (cases_eq j k) [
         | inl e ↦
             (let found : slice_get views k ≡ Some v = subst (λ n. slice_get views n ≡ Some v) e is in
-            let same : v ≡ me = same_Some v me (sym found ∙ at) in
-            inr (ap (λ (w : SleeperView). w.watch) same ∙ restarts))
-        | inr other ↦ inl (others_away restarts j v other is)
+            let same = ap (λ (w : SleeperView). count_of_watch w.watch) (same_Some v me (sym found ∙ at)) in
+            omega arith)
+        | inr other ↦
+            (let rest = le-sum_by (λ (w : SleeperView). count_of_watch w.watch) (slice_set views k away) j v
+            (other_stays views k j away v other is) in
+            omega arith)
       ]
 
   restarts : me.watch ≡ Restarts → KeepsWakes limits word count 0 (slice_set views k me)
   restarts begun =
       subst (KeepsWakes limits word count 0) (sym (slice_set_same views k me at)) record {
         rule = kept.rule;
+        mutex = kept.mutex;
         counted = kept.counted;
-        within = λ j v is.
-            elim (none_counted begun j v is) [
-              | inl away ↦ subst (IsWithin limits 0) (sym away) tt
-              | inr closed ↦ subst (IsWithin limits 0) (sym closed) tt
-            ];
+        within = λ j v is. uncounted_within limits 0 v.watch (none_counted begun j v is);
         alone = kept.alone;
-        none_forgotten = nobody_sleeps limits.readers word 0 views (λ j v is e.
-            elim (none_counted begun j v is) [ inl away ↦ cc | inr closed ↦ cc ]);
+        none_forgotten = nobody_sleeps limits word 0 views (λ j v want is sleeps.
+            none_counted begun j v is (sleeper_counts limits 0 v want sleeps));
+        woken = kept.woken;
       }
 
   opens : me.watch ≡ Restarts
@@ -441,10 +636,9 @@ module _ (limits : WakeLimits) (word count epoch : ℕ) (views : List SleeperVie
       let weight : count_of_watch me.watch ≡ closed_count = ap count_of_watch restarts in
       keeps_in limits word word count (count - closed_count) epoch epoch views k me you at kept
       (same_rule limits.readers word views k me at kept.rule) (omega arith) (λ w h. h) tt
-      (not_closed (count - closed_count) (slice_set views k you) (omega arith))
-      (forgets_none limits.readers word word epoch views k me you at kept.none_forgotten (λ d. d)
-      (λ other sleeps admitted. let watches = sleeps.watches in cc)
-      (λ j v other is sleeps admitted. inl admitted))
+      (not_closed (count - closed_count) (slice_set views k you) (omega arith)) kept.mutex
+      (none_on you refl refl (λ d. d) (λ other sleeps admitted. let watches = sleeps.watches in cc))
+      (still_looks word views k me you at kept.woken refl refl (λ free woken. cc))
 
   pub each_step : EachStepKeeps limits word count epoch views k me
   each_step =
@@ -473,8 +667,11 @@ in_longer [] y j z h = cc
 in_longer (x ∷ xs) y zero z h = h
 in_longer (x ∷ xs) y (suc j) z h = in_longer xs y j z h
 
-pub starts : (limits : WakeLimits) → IsLimit limits.readers → KeepsWakes limits 0 0 0 (new_sleeper ∷ [])
-starts limits range =
+newcomer_looks : (word changes : ℕ) → LooksOnceWoken word changes new_sleeper
+newcomer_looks word changes = record { past = λ n e. cc; looks = λ e free. cc }
+
+pub starts : (limits : WakeLimits) → IsLimit limits.readers → IsMutexWord limits 0 → KeepsWakes limits 0 0 0 (new_sleeper ∷ [])
+starts limits range mutex =
     record {
       rule =
           keeps_newcomer limits.readers 0 [] record {
@@ -485,6 +682,7 @@ starts limits range =
             };
             behind = λ k me at. cc;
           };
+      mutex = mutex;
       counted = refl;
       within = λ k v is.
           elim (element_of_longer [] new_sleeper v k is) [
@@ -496,11 +694,17 @@ starts limits range =
             | inl old ↦ cc
             | inr new ↦ (let away : v.watch ≡ Away = ap (λ (w : SleeperView). w.watch) new in cc)
           ];
-      none_forgotten = nobody_sleeps limits.readers 0 0 (new_sleeper ∷ []) (λ k v is.
+      none_forgotten = nobody_sleeps limits 0 0 (new_sleeper ∷ []) (λ k v want is sleeps.
+          let counts = sleeper_counts limits 0 v want sleeps in
           elim (element_of_longer [] new_sleeper v k is) [
             | inl old ↦ cc
-            | inr new ↦ subst (λ (w : SleeperView). w.watch ≢ Since 0) (sym new) (λ e. cc)
+            | inr new ↦ (let none = ap (λ (w : SleeperView). count_of_watch w.watch) new in omega arith)
           ]);
+      woken = λ k v is.
+          elim (element_of_longer [] new_sleeper v k is) [
+            | inl old ↦ cc
+            | inr new ↦ subst (LooksOnceWoken 0 0) (sym new) (newcomer_looks 0 0)
+          ];
     }
 
 pub joins : (limits : WakeLimits) (word count epoch : ℕ) (views : List SleeperView) → KeepsWakes limits word count epoch views
@@ -511,6 +715,7 @@ joins limits word count epoch views kept =
     let sum = kept.counted in
     record {
       rule = rw (map-append (λ (v : SleeperView). v.state) views (new_sleeper ∷ [])) (keeps_newcomer limits.readers word (states_of views) kept.rule);
+      mutex = kept.mutex;
       counted = omega arith;
       within = λ k v is.
           elim (element_of_longer views new_sleeper v k is) [
@@ -525,28 +730,61 @@ joins limits word count epoch views kept =
       none_forgotten = λ k v want is sleeps admitted.
           elim (element_of_longer views new_sleeper v k is) [
             | inl old ↦
-                (let someone = kept.none_forgotten k v want old sleeps admitted in
-                record {
-                  number = someone.number;
-                  view = someone.view;
-                  is = in_longer views new_sleeper someone.number someone.view someone.is;
-                  due = someone.due;
-                })
+                elim (kept.none_forgotten k v want old sleeps admitted) [
+                  | inl someone ↦ inl record {
+                    number = someone.number;
+                    view = someone.view;
+                    is = in_longer views new_sleeper someone.number someone.view someone.is;
+                    due = someone.due;
+                  }
+                  | inr one ↦ inr (
+                    one.0,
+                    record {
+                      number = one.1.number;
+                      view = one.1.view;
+                      is = in_longer views new_sleeper one.1.number one.1.view one.1.is;
+                      ended = one.1.ended ∙ ap Some (sym (changes_longer views));
+                    },
+                  )
+                ]
             | inr new ↦
                 (let away : v.watch ≡ Away = ap (λ (w : SleeperView). w.watch) new in
                 let watches = sleeps.watches in
                 cc)
           ];
+      woken = λ k v is.
+          subst (λ c. LooksOnceWoken word c v) (sym (changes_longer views))
+          (elim (element_of_longer views new_sleeper v k is) [
+            | inl old ↦ kept.woken k v old
+            | inr new ↦ subst (LooksOnceWoken word (changes_of views)) (sym new) (newcomer_looks word (changes_of views))
+          ]);
     }
 
 -- where nobody is due
 
+none_due : (epoch : ℕ) (views : List SleeperView) → IsAtRest views → SomeoneIsDue epoch views → ⊥
+none_due epoch views nobody someone = subst (IsDue epoch) (nobody someone.number someone.view someone.is) someone.due
+
+not_one : (b : Bool) → IsTrue (not b) → IsTrue b → ⊥
+not_one true h one = false≢true h
+not_one false h one = false≢true one
+
 pub at_rest : (limits : WakeLimits) (word count epoch : ℕ) (views : List SleeperView) → KeepsWakes limits word count epoch views
-    → IsAtRest views → SleepersAreRefused limits.readers word epoch views
-at_rest limits word count epoch views kept nobody k v want is sleeps =
+    → IsTrue (not limits.wakes_one) → IsAtRest views → SleepersAreRefused limits word epoch views
+at_rest limits word count epoch views kept all nobody k v want is sleeps =
     false_from_ne_true (admits_to limits.readers word v want) (λ admitted.
-    let someone = kept.none_forgotten k v want is sleeps admitted in
-    subst (IsDue epoch) (nobody someone.number someone.view someone.is) someone.due)
+    elim (kept.none_forgotten k v want is sleeps admitted) [
+      | inl someone ↦ none_due epoch views nobody someone
+      | inr one ↦ not_one limits.wakes_one all one.0
+    ])
+
+pub one_wakes : (limits : WakeLimits) (word count epoch : ℕ) (views : List SleeperView) → KeepsWakes limits word count epoch views
+    → IsAtRest views → HaveLooked views → FreeWordWakesOne limits word epoch views
+one_wakes limits word count epoch views kept nobody looked k v want is sleeps admitted free =
+    elim (kept.none_forgotten k v want is sleeps admitted) [
+      | inl someone ↦ absurd (none_due epoch views nobody someone)
+      | inr one ↦ (one.1, λ j w there left. looked j w there ((kept.woken j w there).looks left free))
+    ]
 
 pub steps_keep_wakes : StepsKeepWakes
 steps_keep_wakes =
@@ -555,4 +793,5 @@ steps_keep_wakes =
       joins = joins;
       steps = λ limits word count epoch views k me range kept at. each_step limits word count epoch views k me range kept at;
       at_rest = at_rest;
+      one_wakes = one_wakes;
     }

@@ -1,19 +1,25 @@
 -- Waiters that sleep: who sleeps, who is due to wake them, and that no sleeper is forgotten.
-use Rattle.std.specs.Prelude.{◌≡◌, ℕ, ◌^◌, Bool, true, false, List, map, sum_by, slice_get, Some, ⊤, IsTrue}
+use Rattle.std.specs.Prelude.{◌≡◌, ◌≢◌, ℕ, ◌^◌, ◌<◌, ◌≤◌, Bool, true, false, ◌⊎◌, List, map, sum_by, slice_get, Some, ⊤, IsTrue}
 use Rattle.lock_word.specs.declared.want.ExWant.{ExWant}
 use Rattle.lock_word.specs.declared.want.ExWant.TheVariants.{Shared, Exclusive, Upgradable, Upgrade, Announce}
 use Rattle.lock_word.specs.declared.party.WorldParty.{WorldParty}
+use Rattle.lock_word.specs.declared.sleeper.WakeLimits.{WakeLimits}
 use Rattle.lock_word.specs.declared.sleeper.Watch.{Watch}
-use Rattle.lock_word.specs.declared.sleeper.Watch.TheVariants.{Away, Counted, Since, Restarts}
+use Rattle.lock_word.specs.declared.sleeper.Watch.TheVariants.{Away, Counted, Since, Woken, Restarts}
 use Rattle.lock_word.specs.declared.sleeper.Debt.{Debt}
 use Rattle.lock_word.specs.declared.sleeper.Debt.TheVariants.{Nothing, Owes, OwesAt}
 use Rattle.lock_word.specs.declared.sleeper.SleeperView.{SleeperView}
 use Rattle.lock_word.specs.Holds.{hold_has}
 use Rattle.lock_word.specs.Word.{word_admits, step_of_want}
+use Rattle.lock_word.specs.Rule.{all_wins}
 
 -- the views' states on the word
 abbrev pub states_of : List SleeperView → List WorldParty
 states_of views = map (λ (v : SleeperView). v.state) views
+
+-- how often the word has changed: each change is a win of one party
+abbrev pub changes_of : List SleeperView → ℕ
+changes_of views = all_wins (states_of views)
 
 -- the count while the epochs begin anew: no waiter is counted then
 abbrev pub closed_count : ℕ
@@ -24,6 +30,7 @@ abbrev pub count_of_watch : Watch → ℕ
 count_of_watch Away = 0
 count_of_watch Counted = 1
 count_of_watch (Since epoch) = 1
+count_of_watch Woken = 0
 count_of_watch Restarts = closed_count
 
 abbrev pub count_of_sleepers : List SleeperView → ℕ
@@ -41,14 +48,22 @@ is_awaited Announce = false
 abbrev pub admits_to : ℕ → ℕ → SleeperView → ExWant → Bool
 admits_to limit word v want = word_admits v.state.held.announced limit word want
 
--- the party sleeps or is about to: it is counted, then loaded this epoch, and then a word that refuses what it wants
-pub record Sleeps (limit epoch : ℕ) (v : SleeperView) (want : ExWant) : Type 0 where
+-- a party that watches this epoch may sleep: the epoch is the present one; or it is past, the lock wakes one, and the
+-- present epoch is not the last, whose beginning wakes all
+abbrev pub MaySleepSince : WakeLimits → ℕ → ℕ → Type 0
+MaySleepSince limits epoch watched =
+    (watched ≡ epoch) ⊎ (IsTrue limits.wakes_one × (watched < epoch) × (epoch < limits.last_epoch))
+
+-- the party sleeps or is about to: it is counted, then loaded an epoch, and then a word that refuses what it wants
+pub record Sleeps (limits : WakeLimits) (epoch : ℕ) (v : SleeperView) (want : ExWant) : Type 0 where
   pub looked : ℕ
-  pub watches : v.watch ≡ Since epoch
+  pub watched : ℕ
+  pub watches : v.watch ≡ Since watched
+  pub may_sleep : MaySleepSince limits epoch watched
   pub found : v.state.loaded ≡ Some looked
   pub awaited : IsTrue (is_awaited want)
   pub entitled : IsTrue (hold_has v.state.held (step_of_want want))
-  pub refused : admits_to limit looked v want ≡ false
+  pub refused : admits_to limits.readers looked v want ≡ false
 
 -- a party with this debt has yet to look for sleepers, or to end this epoch
 abbrev pub IsDue : ℕ → Debt → Type 0
@@ -63,18 +78,54 @@ pub record SomeoneIsDue (epoch : ℕ) (views : List SleeperView) : Type 0 where
   pub is : slice_get views number ≡ Some view
   pub due : IsDue epoch view.debt
 
--- THE THEOREM: if a party sleeps and the word admits what it waits for, some party is due
-abbrev pub NoneIsForgotten : ℕ → ℕ → ℕ → List SleeperView → Type 0
-NoneIsForgotten limit word epoch views =
-    (k : ℕ) (v : SleeperView) (want : ExWant) → slice_get views k ≡ Some v → Sleeps limit epoch v want
-    → IsTrue (admits_to limit word v want) → SomeoneIsDue epoch views
+-- an epoch has ended since the word last changed
+pub record EpochHasEnded (views : List SleeperView) : Type 0 where
+  pub number : ℕ
+  pub view : SleeperView
+  pub is : slice_get views number ≡ Some view
+  pub ended : view.ended_at ≡ Some (changes_of views)
+
+-- the lock wakes one sleeper, and an epoch has ended since the word last changed: its wake-up follows or was made
+abbrev pub OneIsWoken : WakeLimits → List SleeperView → Type 0
+OneIsWoken limits views = IsTrue limits.wakes_one × EpochHasEnded views
+
+-- THE THEOREM: if a party sleeps and the word admits what it waits for, some party is due, or one is woken
+abbrev pub NoneIsForgotten : WakeLimits → ℕ → ℕ → List SleeperView → Type 0
+NoneIsForgotten limits word epoch views =
+    (k : ℕ) (v : SleeperView) (want : ExWant) → slice_get views k ≡ Some v → Sleeps limits epoch v want
+    → IsTrue (admits_to limits.readers word v want) → SomeoneIsDue epoch views ⊎ OneIsWoken limits views
+
+-- what a party noted is past; and if it left its sleep since the word last changed, it has to look, unless the word is taken
+pub record LooksOnceWoken (word changes : ℕ) (v : SleeperView) : Type 0 where
+  pub past : (left : ℕ) → v.left_at ≡ Some left → left ≤ changes
+  pub looks : v.left_at ≡ Some changes → word ≡ 0 → v.watch ≡ Woken
+
+-- each party that left its sleep since the word last changed looks at it, before it does anything else
+abbrev pub WokenAreToLook : ℕ → List SleeperView → Type 0
+WokenAreToLook word views =
+    (k : ℕ) (v : SleeperView) → slice_get views k ≡ Some v → LooksOnceWoken word (changes_of views) v
 
 -- no party is in the middle of a release
 abbrev pub IsAtRest : List SleeperView → Type 0
 IsAtRest views = (k : ℕ) (v : SleeperView) → slice_get views k ≡ Some v → v.debt ≡ Nothing
 
+-- no party has yet to look at the word after its sleep
+abbrev pub HaveLooked : List SleeperView → Type 0
+HaveLooked views = (k : ℕ) (v : SleeperView) → slice_get views k ≡ Some v → v.watch ≢ Woken
+
+-- no party has left its sleep since the word last changed
+abbrev pub NoneHasLeft : List SleeperView → Type 0
+NoneHasLeft views = (k : ℕ) (v : SleeperView) → slice_get views k ≡ Some v → v.left_at ≢ Some (changes_of views)
+
 -- the word refuses each sleeper what it waits for
-abbrev pub SleepersAreRefused : ℕ → ℕ → ℕ → List SleeperView → Type 0
-SleepersAreRefused limit word epoch views =
-    (k : ℕ) (v : SleeperView) (want : ExWant) → slice_get views k ≡ Some v → Sleeps limit epoch v want
-    → admits_to limit word v want ≡ false
+abbrev pub SleepersAreRefused : WakeLimits → ℕ → ℕ → List SleeperView → Type 0
+SleepersAreRefused limits word epoch views =
+    (k : ℕ) (v : SleeperView) (want : ExWant) → slice_get views k ≡ Some v → Sleeps limits epoch v want
+    → admits_to limits.readers word v want ≡ false
+
+-- if a party sleeps and the word is free, an epoch has ended since the word last changed, and the sleeper that its
+-- wake-up wakes has not left its sleep yet
+abbrev pub FreeWordWakesOne : WakeLimits → ℕ → ℕ → List SleeperView → Type 0
+FreeWordWakesOne limits word epoch views =
+    (k : ℕ) (v : SleeperView) (want : ExWant) → slice_get views k ≡ Some v → Sleeps limits epoch v want
+    → IsTrue (admits_to limits.readers word v want) → word ≡ 0 → EpochHasEnded views × NoneHasLeft views

@@ -1,5 +1,5 @@
 -- What is proved of the rule by which no wake-up is lost.
-use Rattle.std.specs.Prelude.{◌≡◌, ℕ, Bool, false, List, [], ◌∷◌, ◌++◌, slice_get, Some, IsTrue}
+use Rattle.std.specs.Prelude.{◌≡◌, ℕ, Bool, false, not, List, [], ◌∷◌, ◌++◌, slice_get, Some, IsTrue}
 use Rattle.lock_base.specs.Limits.{IsLimit}
 use Rattle.lock_word.specs.declared.want.ExWant.{ExWant}
 use Rattle.lock_word.specs.declared.hold.Hold.{Hold}
@@ -8,8 +8,8 @@ use Rattle.lock_word.specs.declared.sleeper.SleeperView.{SleeperView}
 use Rattle.lock_word.specs.Holds.{hold_has}
 use Rattle.lock_word.specs.Word.{word_admits, word_after, step_of_want, IsPacked}
 use Rattle.lock_word.specs.Rule.{WordShows}
-use Rattle.lock_word.specs.Sleepers.{is_awaited, IsAtRest, SleepersAreRefused}
-use Rattle.lock_word.specs.Wakes.{KeepsWakes, EachStepKeeps, new_sleeper, word_unblocks}
+use Rattle.lock_word.specs.Sleepers.{is_awaited, IsAtRest, HaveLooked, SleepersAreRefused, FreeWordWakesOne}
+use Rattle.lock_word.specs.Wakes.{KeepsWakes, IsMutexWord, EachStepKeeps, new_sleeper, word_unblocks}
 
 -- an admitted exchange unblocks nobody: what the new word admits to a waiter, the old word admitted
 abbrev pub ExchangesUnblockNobody : Type 0
@@ -28,11 +28,17 @@ UnblocksMissesNobody =
 
 -- THE LAW: a new lock keeps the rule, each kind of step keeps it, and no wake-up is lost in a lock at rest
 pub record StepsKeepWakes : Type 0 where
-  pub starts : (limits : WakeLimits) → IsLimit limits.readers → KeepsWakes limits 0 0 0 (new_sleeper ∷ [])
+  pub starts : (limits : WakeLimits) → IsLimit limits.readers → IsMutexWord limits 0 → KeepsWakes limits 0 0 0 (new_sleeper ∷ [])
   pub joins : (limits : WakeLimits) (word count epoch : ℕ) (views : List SleeperView)
       → KeepsWakes limits word count epoch views → KeepsWakes limits word count epoch (views ++ new_sleeper ∷ [])
   pub steps : (limits : WakeLimits) (word count epoch : ℕ) (views : List SleeperView) (k : ℕ) (me : SleeperView)
       → IsLimit limits.readers → KeepsWakes limits word count epoch views → slice_get views k ≡ Some me
       → EachStepKeeps limits word count epoch views k me
+  -- a lock that wakes all
   pub at_rest : (limits : WakeLimits) (word count epoch : ℕ) (views : List SleeperView)
-      → KeepsWakes limits word count epoch views → IsAtRest views → SleepersAreRefused limits.readers word epoch views
+      → KeepsWakes limits word count epoch views → IsTrue (not limits.wakes_one) → IsAtRest views
+      → SleepersAreRefused limits word epoch views
+  -- any lock
+  pub one_wakes : (limits : WakeLimits) (word count epoch : ℕ) (views : List SleeperView)
+      → KeepsWakes limits word count epoch views → IsAtRest views → HaveLooked views
+      → FreeWordWakesOne limits word epoch views

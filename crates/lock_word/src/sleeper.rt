@@ -9,6 +9,8 @@ pub struct WakeLimits {
     pub readers: u64,
     /// The epoch at which no waiter sleeps. The lock begins its epochs anew once no waiter is counted.
     pub last_epoch: u64,
+    /// Whether a release wakes one sleeper, and not all. Such a lock is a mutex: it has one token, and no bar.
+    pub wakes_one: bool,
 }
 
 /// How far a party has come on its way to sleep. It exists in contracts only.
@@ -19,6 +21,8 @@ pub enum Watch {
     Counted,
     /// The party is counted, and this is the epoch that it loaded since.
     Since(u64),
+    /// The party left its sleep, and has to look at the word again.
+    Woken,
     /// The party closed the count, and begins the epochs anew.
     Restarts,
 }
@@ -33,9 +37,14 @@ pub enum Debt {
     OwesAt(u64),
 }
 
-/// The rule's view of a party: its state on the word, its way to sleep, and its debt. It exists in contracts only.
+/// The rule's view of a party: its state on the word, its way to sleep, its debt, and what it noted. It exists in
+/// contracts only.
 pub struct SleeperView {
     pub state: WorldParty,
     pub watch: Watch,
     pub debt: Debt,
+    /// How often the word had changed when the party last left its sleep.
+    pub left_at: Option<u64>,
+    /// How often the word had changed when the party last ended an epoch.
+    pub ended_at: Option<u64>,
 }

@@ -1,0 +1,3 @@
+pub mod EventCounts
+pub mod Plays
+pub mod EventCalls

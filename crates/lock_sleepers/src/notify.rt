@@ -1,0 +1,58 @@
+//! How a thread notifies those that wait.
+ghost use Rattle.std.specs.Prelude.{◌≡◌, ◌≢◌, true};
+ghost use Rattle.lock_sleepers.specs.declared.stage.CallStage.TheVariants.{Owes, Over};
+
+use crate::call::Call;
+use crate::event_count::{COUNT, EPOCH, EventCount, LAST_EPOCH};
+use crate::notified::Notified;
+use crate::plays::{Begin, EndEpoch, NoteEpoch};
+
+impl EventCount {
+    /// Ends the epoch if a wait is registered, and wakes one thread that sleeps. One load if none is registered.
+    pub fn notify_one(&self) -> Notified
+        ensures { result.events ≡ self.now }
+    {
+        let (mut call, waits) = self.begin();
+        if waits == 0 {
+            return self.found_none(call);
+        }
+        self.end_epoch(&mut call, waits);
+        self.wake_one(call, waits)
+    }
+
+    /// Ends the epoch if a wait is registered, and wakes all threads that sleep. One load if none is registered.
+    pub fn notify_all(&self) -> Notified
+        ensures events { result.events ≡ self.now }
+        ensures all { result.all ≡ true }
+    {
+        let (mut call, waits) = self.begin();
+        if waits == 0 {
+            return self.found_none(call);
+        }
+        self.end_epoch(&mut call, waits);
+        self.wake_all(call, waits)
+    }
+
+    /// Begins a notification, by a load of the count.
+    fn begin(&self) -> (Call, u64)
+        ensures events { result.0.events ≡ self.now }
+        ensures none { result.1 ≡ 0 → result.0.stage ≡ Over 0 }
+        ensures some { result.1 ≢ 0 → result.0.stage ≡ Owes result.1 }
+    {
+        let (waits, seat) = self.table.shared.load_new_seat::<Begin>(COUNT);
+        (Call { seat }, waits)
+    }
+
+    /// Ends the epoch, unless another notification did since the load.
+    fn end_epoch(&self, call: &mut Call, waits: u64)
+        requires events { call.old.events ≡ self.now }
+        requires owes { call.old.stage ≡ Owes waits }
+        ensures { call.new ≡ record call.old { stage = Over waits } }
+    {
+        let shared = &self.table.shared;
+        let epoch = shared.load::<NoteEpoch>(&mut call.seat, EPOCH);
+        if epoch < LAST_EPOCH {
+            shared.compare_exchange::<EndEpoch>(&mut call.seat, EPOCH, epoch, epoch + 1);
+        }
+    }
+}

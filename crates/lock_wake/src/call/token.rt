@@ -1,0 +1,66 @@
+//! The token of one acquisition.
+ghost use Rattle.std.specs.Prelude.{◌≡◌};
+ghost use Rattle.lock_wake.specs.Calls.{IsDone, IsTokenSeat, token_of};
+
+use crate::call::Call;
+use crate::rule::WakeView;
+use atomic_table::Seat;
+use std::marker::Model;
+
+/// The token of one acquisition on a `WordLock`. It has no bytes. Contracts see its lock, and what it holds.
+///
+/// A token that is dropped is never released.
+#[derive(Drop)]
+pub struct WordToken {
+    seat: Seat<(), WakeView>,
+}
+
+impl Model for WordToken {
+    ghost use Rattle.lock_wake.specs.Calls.{TokenView, IsTokenSeat, token_of};
+    ghost use base.Fml.{ftrue};
+
+    ghost Value = { TokenView };
+
+    ghost view = { λ t. token_of t.seat.table_id t.seat.me };
+
+    ghost invariant = { λ t. IsTokenSeat t.seat.me };
+
+    // A token owns its seat and nothing more. The checker takes a proof of `Sync` only beside this member.
+    ghost also_owns = { λ _. ftrue };
+}
+
+unsafe impl Send for WordToken {}
+
+/// A seat is not `Sync`. A token is: no call takes a reference to one.
+unsafe impl Sync for WordToken {}
+
+impl WordToken {
+    fn new(seat: Seat<(), WakeView>) -> WordToken
+        requires { IsTokenSeat seat.me }
+        ensures { result ≡ token_of seat.table_id seat.me }
+    {
+        WordToken { seat }
+    }
+
+    /// Begins a call that changes or releases the token.
+    pub(crate) fn into_call(self) -> Call
+        ensures lock { result.lock ≡ self.lock }
+        ensures held { result.sleeper.state.held ≡ self.held }
+        ensures done { IsDone result }
+    {
+        let WordToken { seat } = self;
+        Call { seat }
+    }
+}
+
+impl Call {
+    /// Ends a call that leaves a token.
+    pub(crate) fn into_token(self) -> WordToken
+        requires { IsDone self }
+        ensures lock { result.lock ≡ self.lock }
+        ensures held { result.held ≡ self.sleeper.state.held }
+    {
+        let Call { seat } = self;
+        WordToken::new(seat)
+    }
+}

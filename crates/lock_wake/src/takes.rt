@@ -1,0 +1,54 @@
+//! How a call releases or downgrades, and wakes the sleepers that this unblocks.
+ghost use Rattle.std.specs.Prelude.{◌≡◌, IsTrue};
+ghost use Rattle.lock_word.specs.declared.sleeper.Watch.TheVariants.{Away};
+ghost use Rattle.lock_word.specs.declared.sleeper.Debt.TheVariants.{Nothing};
+ghost use Rattle.lock_word.specs.Holds.{hold_has, hold_after};
+ghost use Rattle.lock_word.specs.Word.{step_of_down};
+ghost use Rattle.lock_word.specs.Wakes.{word_unblocks, has_to_wake, debt_after, with_debt};
+ghost use Rattle.lock_wake.specs.Calls.{ComesTo, with_sleeper};
+
+use crate::call::Call;
+use crate::word_lock::WordLock;
+use lock_word::{Down, Occupancy, unblocks};
+
+impl WordLock {
+    /// Subtracts from the word, and then looks for sleepers. If there are any and the take has to wake, it ends the
+    /// epoch and wakes.
+    pub(crate) fn take_and_wake(&self, call: &mut Call, down: Down)
+        requires lock { call.old.lock ≡ self.now }
+        requires holds { IsTrue (hold_has call.old.sleeper.state.held (step_of_down down)) }
+        requires at_rest { call.old.sleeper.debt ≡ Nothing }
+        requires away { call.old.sleeper.watch ≡ Away }
+        ensures { ComesTo (hold_after call.old.sleeper.state.held (step_of_down down)) call.old call.new }
+    {
+        let before = self.subtract(call, down);
+        if self.finds_sleepers(call) {
+            self.wake(call, before, before - down.amount());
+        }
+    }
+
+    /// Ends the epoch and wakes, if the change of the word unblocks some waiter. A lock that wakes one has one token, so a
+    /// take always does. Kept off the uncontended path.
+    #[cold]
+    #[inline(never)]
+    fn wake(&self, call: &mut Call, before: u64, after: u64)
+        requires lock { call.old.lock ≡ self.now }
+        requires owes { call.old.sleeper.debt ≡ debt_after (has_to_wake self.now.limits before after) Nothing }
+        ensures { call.new ≡ with_sleeper call.old (with_debt call.old.sleeper Nothing) }
+    {
+        if self.limits.wakes_one || word_unblocks(self.limits.readers, before, after) {
+            self.end_epoch(call);
+        }
+    }
+}
+
+/// Returns whether the change from one word to the other unblocks some waiter.
+fn word_unblocks(readers: u64, before: u64, after: u64) -> bool
+    ensures { result ≡ word_unblocks readers before after }
+{
+    unblocks(
+        readers,
+        Occupancy::of_word(before),
+        Occupancy::of_word(after),
+    )
+}
