@@ -54,7 +54,8 @@ pub use Rattle.lock_seated.specs.Seats
 pub use Rattle.lock_seated.specs.CallerView
 pub use Rattle.lock_seated.specs.Attempts
 pub use Rattle.lock_wake.specs.WakeSeats
-pub use Rattle.lock_wake.specs.Acquisitions
+pub use Rattle.lock_wake.specs.Calls as WordCalls
+pub use Rattle.lock_wake.specs.Own
 pub use Rattle.lock_ruled.specs.Ruled
 pub use Rattle.lock_ruled.specs.SleepingUsers
 pub use Rattle.lock_ruled.specs.Slots
@@ -63,7 +64,11 @@ pub use Rattle.lock_ruled.specs.Ledger
 pub use Rattle.lock_ruled.specs.Tally
 pub use Rattle.lock_ruled.specs.Bounds
 pub use Rattle.lock_ruled.specs.InOrder
-pub use Rattle.lock_semaphore.specs.Permits
+pub use Rattle.lock_ruled.specs.Permits
+pub use Rattle.lock_ruled.specs.With
+pub use Rattle.lock_permits.specs.Accounts
+pub use Rattle.lock_sleepers.specs.EventCounts
+pub use Rattle.lock_sleepers.specs.EventCalls
 pub use Rattle.lock_desk.specs.Closures
 pub use Rattle.lock_mutex.specs.Mutex
 pub use Rattle.lock_mutex.specs.MutexGuard
@@ -82,3 +87,8 @@ pub use Rattle.lock_raws.specs.TokenArbiter
 pub use Rattle.lock_raws.specs.Waking
 pub use Rattle.lock_raws.specs.Journal
 pub use Rattle.lock_raws.specs.Recording
+pub use Rattle.lock_line.specs.Tickets
+pub use Rattle.lock_line.specs.LineLaws
+pub use Rattle.lock_raws_fair.specs.FairState
+pub use Rattle.lock_raws_fair.specs.FairLaws
+pub use Rattle.lock_raws_fair.specs.FairWaking

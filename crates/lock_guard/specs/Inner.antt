@@ -10,6 +10,11 @@ module _ {K V : Type 0} where
   is_filled (Filled token shown) = true
   is_filled Empty = false
 
+  -- the token, where there is one, is one of the lock's own
+  abbrev pub owns : (K → Bool) → Inner K V → Bool
+  owns is_own (Filled token shown) = is_own token
+  owns is_own Empty = true
+
   module _ {X : Type 0} where
     -- the value that is shown, where there is one
     abbrev pub inner_value : (V → X) → Inner K V → Option X
@@ -25,6 +30,11 @@ module _ {K V : Type 0} where
         → is_filled inner ≡ true → is_filled (inner_with_value with_value inner value) ≡ true
     is_filled-inner_with_value with_value (Filled token shown) value filled = refl
     is_filled-inner_with_value with_value Empty value filled = filled
+
+    pub owns-inner_with_value : (is_own : K → Bool) (with_value : V → X → V) (inner : Inner K V) (value : X)
+        → owns is_own inner ≡ true → owns is_own (inner_with_value with_value inner value) ≡ true
+    owns-inner_with_value is_own with_value (Filled token shown) value own = own
+    owns-inner_with_value is_own with_value Empty value own = own
 
     -- writing back what is shown changes nothing
     pub inner_with_same : (value_of : V → X) (with_value : V → X → V)

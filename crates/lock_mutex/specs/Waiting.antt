@@ -1,6 +1,8 @@
 -- The value of a lock whose holder waits.
-use Rattle.std.specs.Prelude.{◌≡◌, true, false, Some, refl}
+use Rattle.std.specs.Prelude.{◌≡◌, Bool, true, false, Option, Some, IsSomeAnd, refl}
 use Rattle.lock_guard.specs.declared.guard.inner.Inner.{Inner}
+use Rattle.lock_guard.specs.declared.guard.lock.Release as release
+use Rattle.lock_guard.specs.declared.guard.value_guard.ValueGuard as value_guard
 use Rattle.lock_guard.specs.declared.guard.inner.Inner.TheVariants.{Filled, Empty}
 use Rattle.lock_guard.specs.Inner.{is_filled, inner_value, inner_with_value}
 use Rattle.lock_guard.specs.Held.{held_with_value}
@@ -27,16 +29,20 @@ module _ {K V X : Type 0} where
   filled_value-with value_of with_value law (Filled token shown) value filled = law shown value
   filled_value-with value_of with_value law Empty value filled = absurd (false_not_true filled)
 
-module _ {L S V K W X : Type 0} {g : _} where
-  abbrev pub waiting_value : (V → X) → Waiting L S V K W X g → X
+module _ {L S V K W X : Type 0} {r : release.Ghosts L K W} {g : value_guard.Ghosts V X} where
+  abbrev pub waiting_value : (V → X) → Waiting L S V K W X r g → X
   waiting_value value_of waiting = filled_value value_of waiting.held.inner waiting.held.filled
 
-  abbrev pub waiting_with_value : (V → X → V) → Waiting L S V K W X g → X → Waiting L S V K W X g
+  abbrev pub waiting_with_value : (V → X → V) → Waiting L S V K W X r g → X → Waiting L S V K W X r g
   waiting_with_value with_value waiting value = record waiting { held = held_with_value with_value waiting.held value }
+
+  -- a wait answers what it may answer, and keeps the lock
+  abbrev pub waiting_gives : (Bool → Type 0) → Waiting L S V K W X r g → Option Bool → Waiting L S V K W X r g → Type 0
+  waiting_gives may_answer before answer after = IsSomeAnd answer may_answer × (after.held.lock ≡ before.held.lock)
 
   pub waiting_value-with : (value_of : V → X) (with_value : V → X → V)
       → ((shown : V) (value : X) → value_of (with_value shown value) ≡ value)
-      → (waiting : Waiting L S V K W X g) (value : X)
+      → (waiting : Waiting L S V K W X r g) (value : X)
       → waiting_value value_of (waiting_with_value with_value waiting value) ≡ value
   waiting_value-with value_of with_value law waiting value =
       filled_value-with value_of with_value law waiting.held.inner value _

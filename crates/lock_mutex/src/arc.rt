@@ -2,7 +2,7 @@
 ghost use Rattle.std.specs.Prelude.{IfOk, IfSome, IsOkUnless};
 ghost use Rattle.lock_mutex.specs.ArcMutexGuard.{IsArcGuardOf};
 
-use crate::{ArcMutexGuard, Mutex};
+use crate::{ArcGuard, ArcMutexGuard, Mutex};
 use lock_base::raw::Fault;
 use lock_guard::guard::another_owner;
 use lock_guard::raw::{RawMutex, RawMutexTimed};
@@ -20,7 +20,7 @@ impl<R: RawMutex + Drop, T: Drop> Mutex<R, T> {
     {
         let mutex = another_owner(this)?;
         let token = mutex.raw.lock();
-        Ok(ArcMutexGuard::new(mutex, token))
+        Ok(ArcGuard::new(mutex, token))
     }
 
     /// Acquires the mutex without blocking. The guard owns a clone of the `Arc`.
@@ -34,7 +34,7 @@ impl<R: RawMutex + Drop, T: Drop> Mutex<R, T> {
     {
         let mutex = another_owner(this)?;
         let token = mutex.raw.try_lock();
-        Ok(ArcMutexGuard::of_token(mutex, token))
+        Ok(ArcGuard::of_token(mutex, token))
     }
 }
 
@@ -49,7 +49,7 @@ impl<R: RawMutexTimed + Drop, T: Drop> Mutex<R, T> {
     {
         let mutex = another_owner(this)?;
         let token = mutex.raw.try_lock_for(timeout);
-        Ok(ArcMutexGuard::of_token(mutex, token))
+        Ok(ArcGuard::of_token(mutex, token))
     }
 
     /// `try_lock_arc`, where the raw lock may block until `deadline`.
@@ -62,6 +62,6 @@ impl<R: RawMutexTimed + Drop, T: Drop> Mutex<R, T> {
     {
         let mutex = another_owner(this)?;
         let token = mutex.raw.try_lock_until(deadline);
-        Ok(ArcMutexGuard::of_token(mutex, token))
+        Ok(ArcGuard::of_token(mutex, token))
     }
 }

@@ -1,11 +1,12 @@
 //! The mutex guard that owns a reference to its mutex.
-ghost use Rattle.std.specs.Prelude.{◌≡◌, IfSome, is_some};
+ghost use Rattle.std.specs.Prelude.{◌≡◌, true, IfSome, is_some};
+ghost use Rattle.std.specs.Arc.{arc_value};
 ghost use Rattle.lock_guard.specs.Closure.{ReadsSomeValue, AnswersSomeValue};
 ghost use Rattle.lock_mutex.specs.ArcMutexGuard.{arc_of};
 
 use crate::Mutex;
 use crate::owned::OwnedMutex;
-use lock_guard::guard::{AcquireFair, Held, Release};
+use lock_guard::guard::{Acquire, AcquireFair, Held, Release};
 use lock_guard::raw::{RawMutex, RawMutexFair};
 use std::sync::Arc;
 
@@ -13,15 +14,19 @@ use std::sync::Arc;
 ///
 /// It lends the value to closures, and locks the value's lock for the length of each call.
 #[derive(Drop)]
-pub struct ArcMutexGuard<R: RawMutex + Drop, T: Drop> {
-    held: Held<OwnedMutex<R, T>>,
+pub struct ArcGuard<L: Acquire> {
+    held: Held<L>,
 }
 
-impl<R: RawMutex + Drop, T: Drop> ArcMutexGuard<R, T> {
+/// The guard that owns a reference to its mutex.
+pub type ArcMutexGuard<R, T> = ArcGuard<OwnedMutex<R, T>>;
+
+impl<R: RawMutex + Drop, T: Drop> ArcGuard<OwnedMutex<R, T>> {
     pub(crate) fn new(mutex: Arc<Mutex<R, T>>, token: R::Guard) -> ArcMutexGuard<R, T>
+        requires { R.is_own (arc_value mutex).raw token ≡ true }
         ensures { arc_of result ≡ mutex }
     {
-        ArcMutexGuard {
+        ArcGuard {
             held: Held::new(OwnedMutex { mutex }, token),
         }
     }
@@ -31,10 +36,11 @@ impl<R: RawMutex + Drop, T: Drop> ArcMutexGuard<R, T> {
         mutex: Arc<Mutex<R, T>>,
         token: Option<R::Guard>,
     ) -> Option<ArcMutexGuard<R, T>>
+        requires { IfSome token (λ t. R.is_own (arc_value mutex).raw t ≡ true) }
         ensures some { is_some result ≡ is_some token }
         ensures lock { IfSome result (λ guard. arc_of guard ≡ mutex) }
     {
-        Some(ArcMutexGuard::new(mutex, token?))
+        Some(ArcGuard::new(mutex, token?))
     }
 
     /// Returns the mutex of the guard.
@@ -80,7 +86,7 @@ impl<R: RawMutex + Drop, T: Drop> ArcMutexGuard<R, T> {
     }
 }
 
-impl<R: RawMutexFair + Drop, T: Drop> ArcMutexGuard<R, T> {
+impl<R: RawMutexFair + Drop, T: Drop> ArcGuard<OwnedMutex<R, T>> {
     /// Releases the mutex by a fair release.
     pub fn unlock_fair(guard: ArcMutexGuard<R, T>) {
         guard.held.unlock_fair();

@@ -15,6 +15,8 @@ impl<R: RawMutex, T> Release for BorrowedMutex<'_, R, T> {
 
     type Waiter = R::Waiter;
 
+    ghost is_own = { λ borrowed token. R.is_own borrowed.mutex.now.raw token };
+
     fn release(&self, token: R::Guard) {
         self.mutex.raw.unlock(token);
     }

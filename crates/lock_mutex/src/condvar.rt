@@ -2,10 +2,11 @@ ghost use Rattle.std.specs.Prelude.{◌≡◌, false, IsOkUnless};
 ghost use Rattle.std.specs.Sync.Mutex.{mutex_guard_value};
 ghost use Rattle.lock_mutex.specs.WaitsWhile.{WaitsWhile, has_timed_out};
 
-use crate::sleep::{Sleep, UntilInstant, UntilNotified, swap_token};
+use crate::sleep::{Sleep, UntilInstant, UntilNotified};
 use crate::waiting::sleep_while;
 use crate::{MutexGuard, WaitTimeoutResult};
 use lock_base::raw::Fault;
+use lock_guard::guard::Acquire;
 use lock_guard::raw::{RawCondvar, RawCondvarTimed, RawMutex, RawMutexTimed};
 use std::alloc::Global;
 use std::fmt;
@@ -113,9 +114,9 @@ where
         ensures { (held_of guard.new).lock ≡ (held_of guard.old).lock }
     {
         let mutex = guard.held.lock.mutex;
-        let timed_out = swap_token(&mut guard.held, |token| {
-            self.raw.wait_for(&mutex.raw, token, &timeout)
-        });
+        let held = &mut guard.held;
+        let (next, timed_out) = self.raw.wait_for(&mutex.raw, held.inner.empty(), &timeout);
+        held.inner.fill(next, held.lock.lock_value());
         WaitTimeoutResult { timed_out }
     }
 

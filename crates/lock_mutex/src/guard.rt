@@ -96,7 +96,7 @@ where
     fn deref_mut(&mut self) -> &mut <L::Shown as ValueGuard>::Value
         ensures* writes_back { sem 𝓛 (Lends
             (the_row L.row L.Shown.row L.Token.row L.Waiter.row L.Shown.Value.row
-            L.Shown.ValueGuard) L.Shown.Value.row self.entry result (λ value.
+            L.Release L.Shown.ValueGuard) L.Shown.Value.row self.entry result (λ value.
             record { held = held_with_value L.Shown.with_value (held_of self.old) value })) }
         ensures value { held_value L.Shown.value_of (held_of self.old) ≡ Some result.now }
     {

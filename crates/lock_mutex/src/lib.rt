@@ -14,11 +14,12 @@ mod sleep;
 mod wait_timeout_result;
 mod waiting;
 
-pub use arc_guard::ArcMutexGuard;
+pub use arc_guard::{ArcGuard, ArcMutexGuard};
 pub use borrowed::BorrowedMutex;
 pub use condition_loop::{LoopEnd, Script, Waits, run_loop};
 pub use condvar::Condvar;
 pub use guard::{Guard, MutexGuard};
 pub use mapped::MappedMutexGuard;
 pub use mutex::Mutex;
+pub use owned::OwnedMutex;
 pub use wait_timeout_result::WaitTimeoutResult;

@@ -1,4 +1,6 @@
 //! A mutex that a guard owns a reference to.
+ghost use Rattle.std.specs.Arc.{arc_value};
+
 use crate::Mutex;
 use lock_guard::guard::{Acquire, AcquireFair, Release};
 use lock_guard::raw::{RawMutex, RawMutexFair};
@@ -14,6 +16,8 @@ impl<R: RawMutex + Drop, T: Drop> Release for OwnedMutex<R, T> {
     type Token = R::Guard;
 
     type Waiter = R::Waiter;
+
+    ghost is_own = { λ owned token. R.is_own (arc_value owned.mutex).raw token };
 
     fn release(&self, token: R::Guard) {
         self.mutex.raw.unlock(token);

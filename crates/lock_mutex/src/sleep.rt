@@ -16,19 +16,6 @@ pub trait Sleep<L: Acquire>: Drop {
         ensures answer { may_answer result };
 }
 
-/// Releases the value's lock, lets `wait` consume the token for another one, and locks the value's lock again.
-pub fn swap_token<L: Acquire, U, F: FnOnce(L::Token) -> (L::Token, U)>(
-    held: &mut Held<L>,
-    wait: F,
-) -> U
-    requires { F.IsAlwaysCallable wait }
-    ensures { held.new.lock ≡ held.old.lock }
-{
-    let (next, answer) = wait(held.inner.empty());
-    held.inner.fill(next, held.lock.lock_value());
-    answer
-}
-
 /// A wait for a notification.
 pub struct UntilNotified<'c, C> {
     pub raw: &'c C,
@@ -45,7 +32,8 @@ impl<'a, C: RawCondvar, T> Sleep<BorrowedMutex<'a, C::RawMutex, T>> for UntilNot
 
     fn sleep(&self, held: &mut Held<BorrowedMutex<'a, C::RawMutex, T>>) -> bool {
         let mutex = held.lock.mutex;
-        swap_token(held, |token| (self.raw.wait(&mutex.raw, token), ()));
+        let next = self.raw.wait(&mutex.raw, held.inner.empty());
+        held.inner.fill(next, held.lock.lock_value());
         false
     }
 }
@@ -74,8 +62,10 @@ where
 
     fn sleep(&self, held: &mut Held<BorrowedMutex<'a, C::RawMutex, T>>) -> bool {
         let mutex = held.lock.mutex;
-        swap_token(held, |token| {
-            self.raw.wait_until(&mutex.raw, token, &self.deadline)
-        })
+        let (next, timed_out) = self
+            .raw
+            .wait_until(&mutex.raw, held.inner.empty(), &self.deadline);
+        held.inner.fill(next, held.lock.lock_value());
+        timed_out
     }
 }

@@ -19,7 +19,7 @@ impl<L: Acquire, S: Sleep<L>> Waits for Waiting<L, S>
 where
     L::Shown: ValueGuardMut,
 {
-    ghost use Rattle.lock_mutex.specs.Waiting.{waiting_value, waiting_with_value, waiting_value-with};
+    ghost use Rattle.lock_mutex.specs.Waiting.{waiting_value, waiting_with_value, waiting_value-with, waiting_gives};
 
     type Value = <L::Shown as ValueGuard>::Value;
 
@@ -27,7 +27,7 @@ where
 
     ghost with_current = { waiting_with_value L.Shown.with_value };
 
-    ghost wait_gives = { λ before answer after. IsSomeAnd answer S.may_answer };
+    ghost wait_gives = { waiting_gives S.may_answer };
 
     fn value(&mut self) -> &mut <L::Shown as ValueGuard>::Value {
         self.held.value_mut()

@@ -1,5 +1,5 @@
 //! The arbiter of a raw lock: it decides which tokens are held.
-ghost use Rattle.std.specs.Prelude.{◌≡◌, ℕ, Bool, false, not, ◌&&◌, ◌||◌, List, [], ◌↔◌, IsTrue, Option, if◌then◌else◌, is_some, is_ok, ◌<◌, ◌^◌, IfOk, IfErr, IfSome, IfNone, OnErr};
+ghost use Rattle.std.specs.Prelude.{◌≡◌, ℕ, Bool, false, not, ◌&&◌, ◌||◌, List, [], ◌↔◌, IsTrue, Option, if◌then◌else◌, is_some, is_ok, ◌<◌, ◌^◌, IfOk, IfErr, IfSome, IfNone, OnErr, MatchResult};
 ghost use Rattle.std.specs.Bool.{OnTrue, OnFalse};
 ghost use Rattle.lock_base.specs.declared.machine.mode.Mode.{Mode};
 ghost use Rattle.lock_base.specs.declared.machine.mode_step.ModeStep.{ModeStep};
@@ -17,6 +17,29 @@ pub struct Unchanged<T> {
     pub token: T,
     /// Whether the token is held in its mode. Then another token refused the change.
     pub is_out: bool,
+}
+
+/// Returns the result of an upgrade. A token that is not held counts as upgraded.
+pub fn upgraded<T>(changed: Result<T, Unchanged<T>>) -> Result<T, T>
+    ensures answer { MatchResult changed (λ next. result ≡ Ok next)
+        (λ same. result ≡ if same.is_out then Err same.token else Ok same.token) }
+    ensures back { (token : T) → IfErr changed (λ same. same.token ≡ token) → IfErr result (λ back. back ≡ token) }
+{
+    match changed {
+        Ok(next) => Ok(next),
+        Err(
+            Unchanged {
+                token,
+                is_out: true,
+            },
+        ) => Err(token),
+        Err(
+            Unchanged {
+                token,
+                is_out: false,
+            },
+        ) => Ok(token),
+    }
 }
 
 /// The held tokens of a raw lock, which are always compatible, and the bar.

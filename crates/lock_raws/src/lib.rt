@@ -19,7 +19,7 @@ mod tokens;
 mod unblocking;
 mod wake;
 
-pub use arbiter::{Arbiter, Unchanged};
+pub use arbiter::{Arbiter, Unchanged, upgraded};
 pub use lock_base::machine::ModeStep;
 pub use lock_core::LockCore;
 pub use monitor::Monitor;

@@ -1,5 +1,6 @@
 //! The core of a raw lock.
-ghost use Rattle.std.specs.Prelude.{◌≡◌, ◌↔◌, IfErr, IfOk};
+ghost use Rattle.std.specs.Prelude.{◌≡◌, ◌↔◌, Bool, true, IfSome, IfErr, IfOk};
+ghost use Rattle.lock_base.specs.declared.machine.mode.Mode.{Mode};
 ghost use Rattle.lock_base.specs.Limits.{IsLimit, IsMakerFault};
 
 use lock_base::machine::Mode;
@@ -25,6 +26,9 @@ pub trait LockCore: Sized + Drop {
     /// The type of deadlines.
     type Instant: Drop;
 
+    /// Whether this lock holds the token in the mode. A core that takes any token leaves it at `true`.
+    ghost holds: { Self → Mode → Self.Token → Bool } = { λ _ _ _. true };
+
     /// Makes an unlocked core. At most `readers` tokens are shared or upgradable at a time.
     fn new(alloc: Global, waiter: Self::Waiter, readers: u64) -> Result<Self, Fault>
         ensures limits { (result ≡ Err Fault.BadLimits) ↔ (IsLimit readers → ⊥) }
@@ -41,29 +45,39 @@ pub trait LockCore: Sized + Drop {
     fn is_locked_exclusive(&self) -> bool;
 
     /// Acquires the mode, blocking until it is admitted. `RawLock` calls `try_acquire` first.
-    fn acquire(&self, mode: Mode) -> Self::Token;
+    fn acquire(&self, mode: Mode) -> Self::Token
+        ensures { holds self.now mode result ≡ true };
 
     /// Acquires exclusively, blocking until it is admitted. A core may refuse later threads meanwhile. `RawLock` calls
     /// `try_acquire` first.
-    fn acquire_announced(&self) -> Self::Token {
+    fn acquire_announced(&self) -> Self::Token
+        ensures { holds self.now Mode.Exclusive result ≡ true }
+    {
         self.acquire(Mode::Exclusive)
     }
 
     /// Acquires the mode without blocking, or returns `None` where `acquire` would block.
-    fn try_acquire(&self, mode: Mode) -> Option<Self::Token>;
+    fn try_acquire(&self, mode: Mode) -> Option<Self::Token>
+        ensures { IfSome result (λ token. holds self.now mode token ≡ true) };
 
     /// Tries to acquire the mode until `deadline`.
-    fn try_acquire_until(&self, mode: Mode, deadline: Self::Instant) -> Option<Self::Token>;
+    fn try_acquire_until(&self, mode: Mode, deadline: Self::Instant) -> Option<Self::Token>
+        ensures { IfSome result (λ token. holds self.now mode token ≡ true) };
 
     /// Releases a token of the mode.
-    fn release(&self, token: Self::Token, mode: Mode);
+    fn release(&self, token: Self::Token, mode: Mode)
+        requires { holds self.now mode token ≡ true };
 
     /// Makes an upgradable token exclusive, blocking until no other token is held. `RawLock` calls `try_upgrade` first.
-    fn upgrade(&self, token: Self::Token) -> Self::Token;
+    fn upgrade(&self, token: Self::Token) -> Self::Token
+        requires { holds self.now Mode.Upgradable token ≡ true }
+        ensures { holds self.now Mode.Exclusive result ≡ true };
 
     /// Makes an upgradable token exclusive without blocking, or returns it unchanged where `upgrade` would block.
     fn try_upgrade(&self, token: Self::Token) -> Result<Self::Token, Self::Token>
-        ensures { IfErr result (λ back. back ≡ token) };
+        requires { holds self.now Mode.Upgradable token ≡ true }
+        ensures held { IfOk result (λ upgraded. holds self.now Mode.Exclusive upgraded ≡ true) }
+        ensures back { IfErr result (λ back. back ≡ token) };
 
     /// Tries to make an upgradable token exclusive until `deadline`, or returns it unchanged.
     fn try_upgrade_until(
@@ -71,16 +85,24 @@ pub trait LockCore: Sized + Drop {
         token: Self::Token,
         deadline: Self::Instant,
     ) -> Result<Self::Token, Self::Token>
-        ensures { IfErr result (λ back. back ≡ token) };
+        requires { holds self.now Mode.Upgradable token ≡ true }
+        ensures held { IfOk result (λ upgraded. holds self.now Mode.Exclusive upgraded ≡ true) }
+        ensures back { IfErr result (λ back. back ≡ token) };
 
     /// Makes an exclusive token shared.
-    fn downgrade(&self, token: Self::Token) -> Self::Token;
+    fn downgrade(&self, token: Self::Token) -> Self::Token
+        requires { holds self.now Mode.Exclusive token ≡ true }
+        ensures { holds self.now Mode.Shared result ≡ true };
 
     /// Makes an exclusive token upgradable.
-    fn downgrade_to_upgradable(&self, token: Self::Token) -> Self::Token;
+    fn downgrade_to_upgradable(&self, token: Self::Token) -> Self::Token
+        requires { holds self.now Mode.Exclusive token ≡ true }
+        ensures { holds self.now Mode.Upgradable result ≡ true };
 
     /// Makes an upgradable token shared.
-    fn downgrade_upgradable(&self, token: Self::Token) -> Self::Token;
+    fn downgrade_upgradable(&self, token: Self::Token) -> Self::Token
+        requires { holds self.now Mode.Upgradable token ≡ true }
+        ensures { holds self.now Mode.Shared result ≡ true };
 
     /// Returns the instant that is `timeout` from now, or `None` if it cannot be represented.
     fn instant_after(&self, timeout: Self::Duration) -> Option<Self::Instant>;

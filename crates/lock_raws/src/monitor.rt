@@ -1,9 +1,9 @@
 //! An arbiter behind a std mutex.
-ghost use Rattle.std.specs.Prelude.{◌≡◌, IsTrue, IfErr, MatchResult, if◌then◌else◌};
+ghost use Rattle.std.specs.Prelude.{◌≡◌, IsTrue};
 ghost use Rattle.lock_base.specs.Modes.{is_move};
 
 use crate::announcing::admit_or_announce;
-use crate::arbiter::{Arbiter, Unchanged};
+use crate::arbiter::{Arbiter, upgraded};
 use crate::lock_core::LockCore;
 use crate::unblocking;
 use crate::wake::Wake;
@@ -183,28 +183,5 @@ impl<A: Arbiter, W: Wait + Clone + Drop> LockCore for Monitor<A, W> {
 
     fn instant_after(&self, _timeout: ()) -> Option<()> {
         Some(())
-    }
-}
-
-/// The result of an upgrade. A token that is not held counts as upgraded.
-fn upgraded<T>(changed: Result<T, Unchanged<T>>) -> Result<T, T>
-    ensures answer { MatchResult changed (λ next. result ≡ Ok next)
-        (λ same. result ≡ if same.is_out then Err same.token else Ok same.token) }
-    ensures back { (token : T) → IfErr changed (λ same. same.token ≡ token) → IfErr result (λ back. back ≡ token) }
-{
-    match changed {
-        Ok(next) => Ok(next),
-        Err(
-            Unchanged {
-                token,
-                is_out: true,
-            },
-        ) => Err(token),
-        Err(
-            Unchanged {
-                token,
-                is_out: false,
-            },
-        ) => Ok(token),
     }
 }

@@ -1,4 +1,6 @@
 //! The raw lock as a raw mutex, with a readers' limit of 1.
+ghost use Rattle.lock_base.specs.declared.machine.mode.Mode.{Mode};
+
 use crate::lock_core::LockCore;
 use crate::raw_lock::RawLock;
 use crate::tokens::ExclusiveToken;
@@ -11,6 +13,8 @@ impl<C: LockCore> RawMutex for RawLock<C> {
     type Guard = ExclusiveToken<C::Token>;
 
     type Waiter = C::Waiter;
+
+    ghost is_own = { λ raw token. C.holds raw.core Mode.Exclusive token.token };
 
     fn new(alloc: Global, waiter: C::Waiter) -> Result<RawLock<C>, Fault> {
         let core: C = LockCore::new(alloc, waiter, 1)?;

@@ -1,5 +1,5 @@
 //! A raw lock over any core.
-ghost use Rattle.std.specs.Prelude.{◌≡◌, IfErr};
+ghost use Rattle.std.specs.Prelude.{◌≡◌, true, IfSome, IfOk, IfErr};
 
 use crate::lock_core::LockCore;
 use lock_base::machine::Mode;
@@ -12,7 +12,9 @@ pub struct RawLock<C: LockCore> {
 
 impl<C: LockCore> RawLock<C> {
     /// Tries to acquire the mode for at most `timeout`. If the deadline cannot be represented, it blocks without one.
-    pub(crate) fn acquire_within(&self, mode: Mode, timeout: C::Duration) -> Option<C::Token> {
+    pub(crate) fn acquire_within(&self, mode: Mode, timeout: C::Duration) -> Option<C::Token>
+        ensures { IfSome result (λ token. C.holds self.now.core mode token ≡ true) }
+    {
         match self.core.instant_after(timeout) {
             Some(deadline) => self.core.try_acquire_until(mode, deadline),
             None => Some(self.core.acquire(mode)),
@@ -26,7 +28,9 @@ impl<C: LockCore> RawLock<C> {
         token: C::Token,
         timeout: C::Duration,
     ) -> Result<C::Token, C::Token>
-        ensures { IfErr result (λ back. back ≡ token) }
+        requires { C.holds self.now.core Mode.Upgradable token ≡ true }
+        ensures held { IfOk result (λ upgraded. C.holds self.now.core Mode.Exclusive upgraded ≡ true) }
+        ensures back { IfErr result (λ back. back ≡ token) }
     {
         match self.core.instant_after(timeout) {
             Some(deadline) => self.core.try_upgrade_until(token, deadline),

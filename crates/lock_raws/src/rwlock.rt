@@ -1,5 +1,6 @@
 //! The raw lock as a raw reader-writer lock.
 ghost use Rattle.std.specs.Prelude.{◌≡◌, MatchResult};
+ghost use Rattle.lock_base.specs.declared.machine.mode.Mode.{Mode};
 
 use crate::lock_core::LockCore;
 use crate::raw_lock::RawLock;
@@ -18,6 +19,10 @@ impl<C: LockCore> RawRwLock for RawLock<C> {
     type ExclusiveGuard = ExclusiveToken<C::Token>;
 
     type Waiter = C::Waiter;
+
+    ghost owns_shared = { λ raw token. C.holds raw.core Mode.Shared token.token };
+
+    ghost owns_exclusive = { λ raw token. C.holds raw.core Mode.Exclusive token.token };
 
     fn new(alloc: Global, waiter: C::Waiter, readers: u64) -> Result<RawLock<C>, Fault> {
         let core: C = LockCore::new(alloc, waiter, readers)?;
@@ -119,6 +124,8 @@ impl<C: LockCore> RawRwLockTimed for RawLock<C> {
 
 impl<C: LockCore> RawRwLockUpgrade for RawLock<C> {
     type UpgradableGuard = UpgradableToken<C::Token>;
+
+    ghost owns_upgradable = { λ raw token. C.holds raw.core Mode.Upgradable token.token };
 
     fn lock_upgradable(&self) -> UpgradableToken<C::Token> {
         let token = match self.core.try_acquire(Mode::Upgradable) {

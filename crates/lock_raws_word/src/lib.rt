@@ -5,10 +5,8 @@ mod real_time;
 mod sleeping_condvar;
 mod timing;
 mod word_core;
-mod word_lock;
 
 pub use real_time::{RealTime, TimedCondvar, TimedRaw};
 pub use sleeping_condvar::SleepingCondvar;
 pub use timing::{NoTime, Timing};
-pub use word_core::{WordCore, WordRaw, WordToken};
-pub use word_lock::WordLock;
+pub use word_core::{WordCore, WordRaw};

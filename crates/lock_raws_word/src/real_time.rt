@@ -2,10 +2,9 @@
 use crate::sleeping_condvar::SleepingCondvar;
 use crate::timing::Timing;
 use crate::word_core::WordCore;
-use crate::word_lock::WordLock;
+use lock_base::machine::Mode;
 use lock_raws::RawLock;
-use lock_sleepers::time_left;
-use lock_word::ExWant;
+use lock_wake::{WordLock, WordToken};
 use std::sync::Wait;
 use std::time::{Clock, Duration, Instant};
 
@@ -28,26 +27,21 @@ impl<W: Wait + Clock> Timing<W> for RealTime {
         Instant::now(waiter).ok()?.checked_add(timeout)
     }
 
-    /// It tries after each sleep before it looks at the clock, so that a notification to a thread whose time is up is
-    /// not lost.
-    fn wait_until(lock: &WordLock, waiter: &W, want: ExWant, deadline: Instant) -> bool {
-        if lock.try_once(want) || lock.try_with_backoff(want) {
-            return true;
-        }
-        for _ in waiter.forever() {
-            let announced = lock.sleepers().announce();
-            if lock.acquire_until_refused(waiter, want) {
-                lock.sleepers().leave();
-                return true;
-            }
-            match time_left(waiter, deadline) {
-                Some(left) => lock.sleepers().sleep_for(waiter, announced, left),
-                None => {
-                    lock.sleepers().leave();
-                    return false;
-                }
-            }
-        }
-        unreachable!()
+    fn acquire_until(
+        lock: &WordLock,
+        waiter: &W,
+        mode: Mode,
+        deadline: Instant,
+    ) -> Option<WordToken> {
+        lock.acquire_until(waiter, mode, deadline)
+    }
+
+    fn upgrade_until(
+        lock: &WordLock,
+        waiter: &W,
+        token: WordToken,
+        deadline: Instant,
+    ) -> Result<WordToken, WordToken> {
+        lock.upgrade_until(waiter, token, deadline)
     }
 }

@@ -1,44 +1,45 @@
 //! A condition variable whose waiters sleep.
 use lock_base::raw::Fault;
 use lock_guard::raw::{RawCondvar, RawCondvarTimed, RawMutex, RawMutexTimed};
-use lock_sleepers::{Sleepers, time_left};
+use lock_sleepers::{EventCount, time_left};
 use std::alloc::Global;
 use std::marker::PhantomData;
 use std::time::{Clock, Duration, Instant};
 
-/// A condition variable over any raw mutex. A wait releases the mutex and sleeps until a notification that came after
-/// the wait began. Without waiters a notification is one load.
+/// A condition variable over any raw mutex. A wait registers, releases the mutex, and sleeps. A notification that begins
+/// after the wait registered ends its sleep: see `every_state_wakes_the_registered`. Without waiters a notification is one
+/// load.
+///
+/// `notify_one` answers whether a waiter was registered, and `notify_all` how many were.
 #[derive(Drop)]
 pub struct SleepingCondvar<R> {
-    waiting: Sleepers,
+    waiting: EventCount,
     mutex: PhantomData<R>,
 }
 
 impl<R: RawMutex> RawCondvar for SleepingCondvar<R> {
     type RawMutex = R;
 
-    fn new(_alloc: Global) -> Result<SleepingCondvar<R>, Fault> {
+    fn new(alloc: Global) -> Result<SleepingCondvar<R>, Fault> {
         Ok(SleepingCondvar {
-            waiting: Sleepers::new(),
+            waiting: EventCount::new(alloc)?,
             mutex: PhantomData,
         })
     }
 
     fn wait(&self, mutex: &R, token: R::Guard) -> R::Guard {
-        let announced = self.waiting.announce();
+        let registered = self.waiting.register(mutex.waiter());
         mutex.unlock(token);
-        self.waiting.sleep(mutex.waiter(), announced);
+        self.waiting.sleep(mutex.waiter(), registered);
         mutex.lock()
     }
 
     fn notify_one(&self) -> bool {
-        self.waiting.notify_one();
-        false
+        self.waiting.notify_one().waiters() > 0
     }
 
     fn notify_all(&self) -> usize {
-        self.waiting.notify_all();
-        0
+        self.waiting.notify_all().waiters() as usize
     }
 }
 
@@ -58,11 +59,11 @@ where
     }
 
     fn wait_until(&self, mutex: &R, token: R::Guard, deadline: &Instant) -> (R::Guard, bool) {
-        let announced = self.waiting.announce();
+        let registered = self.waiting.register(mutex.waiter());
         mutex.unlock(token);
         match time_left(mutex.waiter(), *deadline) {
-            Some(left) => self.waiting.sleep_for(mutex.waiter(), announced, left),
-            None => self.waiting.leave(),
+            Some(left) => self.waiting.sleep_for(mutex.waiter(), registered, left),
+            None => self.waiting.leave(registered),
         }
         let timed_out = time_left(mutex.waiter(), *deadline).is_none();
         (mutex.lock(), timed_out)

@@ -1,8 +1,10 @@
 //! How a lock on a word measures time.
-ghost use Rattle.std.specs.Prelude.{IsSome};
+ghost use Rattle.std.specs.Prelude.{◌≡◌, IsSome, IfSome, MatchResult};
+ghost use Rattle.lock_base.specs.declared.machine.mode.Mode.TheVariants.{Exclusive, Upgradable};
+ghost use Rattle.lock_wake.specs.Calls.{IsTokenOf};
 
-use crate::word_lock::WordLock;
-use lock_word::ExWant;
+use lock_base::machine::Mode;
+use lock_wake::{WordLock, WordToken};
 use std::sync::Wait;
 
 /// How long timed calls block. The waiter may provide a clock.
@@ -16,8 +18,24 @@ pub trait Timing<W: Wait>: Drop {
     /// Returns the instant that is `timeout` from now, or `None` if it cannot be represented.
     fn instant_after(waiter: &W, timeout: Self::Duration) -> Option<Self::Instant>;
 
-    /// Blocks until the word admits `want`, or until `deadline`. Returns whether it was admitted.
-    fn wait_until(lock: &WordLock, waiter: &W, want: ExWant, deadline: Self::Instant) -> bool;
+    /// Acquires the mode, blocking until `deadline`.
+    fn acquire_until(
+        lock: &WordLock,
+        waiter: &W,
+        mode: Mode,
+        deadline: Self::Instant,
+    ) -> Option<WordToken>
+        ensures { IfSome result (IsTokenOf lock.now mode) };
+
+    /// Makes an upgradable token exclusive, blocking until `deadline`, or returns it unchanged.
+    fn upgrade_until(
+        lock: &WordLock,
+        waiter: &W,
+        token: WordToken,
+        deadline: Self::Instant,
+    ) -> Result<WordToken, WordToken>
+        requires { IsTokenOf lock.now Upgradable token }
+        ensures { MatchResult result (IsTokenOf lock.now Exclusive) (λ back. back ≡ token) };
 }
 
 /// Measures no time: a timed try is a plain try, and does not block.
@@ -35,7 +53,16 @@ impl<W: Wait> Timing<W> for NoTime {
         Some(())
     }
 
-    fn wait_until(lock: &WordLock, _waiter: &W, want: ExWant, _deadline: ()) -> bool {
-        lock.try_once(want)
+    fn acquire_until(lock: &WordLock, _waiter: &W, mode: Mode, _deadline: ()) -> Option<WordToken> {
+        lock.try_acquire(mode)
+    }
+
+    fn upgrade_until(
+        lock: &WordLock,
+        _waiter: &W,
+        token: WordToken,
+        _deadline: (),
+    ) -> Result<WordToken, WordToken> {
+        lock.try_upgrade(token)
     }
 }

@@ -1,13 +1,13 @@
 //! The raw lock over one word.
-ghost use Rattle.std.specs.Prelude.{◌≡◌, ◌↔◌, IfOk, IfErr, IsOk, is_some, is_ok};
-ghost use Rattle.lock_base.specs.Limits.{IsLimit};
+ghost use Rattle.std.specs.Prelude.{◌≡◌, ◌↔◌, true, IfOk, IfErr};
+ghost use Rattle.lock_base.specs.Limits.{IsLimit, IsMakerFault};
+ghost use Rattle.lock_wake.specs.Own.{is_token_of};
 
 use crate::timing::{NoTime, Timing};
-use crate::word_lock::WordLock;
 use lock_base::machine::Mode;
-use lock_base::raw::{Fault, is_limit};
+use lock_base::raw::Fault;
 use lock_raws::{LockCore, RawLock};
-use lock_word::{Down, ExWant};
+use lock_wake::{WordLock, WordToken};
 use std::alloc::Global;
 use std::clone::Clone;
 use std::marker::PhantomData;
@@ -17,17 +17,12 @@ use std::sync::Wait;
 /// a waiting writer keeps others out. Pick it where speed counts.
 ///
 /// A try is one load and at most one exchange; it also answers `None` if the exchange lost a race. A release or a
-/// downgrade is one subtraction. A blocked call tries a few times, and then sleeps. A token of another lock makes the
-/// word wrong. Then calls may block for ever, or be admitted wrongly; that can never cause a data race.
+/// downgrade is one subtraction. A blocked call tries a few times, and then sleeps. It takes its own tokens only, in the
+/// mode that each holds. Its word encodes the tokens that are held, and no sleeper is forgotten: see
+/// `every_state_forgets_none`.
 pub type WordRaw<W> = RawLock<WordCore<W, NoTime>>;
 
-/// The token of one acquisition. Only this crate makes it.
-#[derive(Drop)]
-pub struct WordToken {
-    made: (),
-}
-
-/// A lock on a word, with its permission to block and its measure of time.
+/// A `WordLock`, with its permission to block and its measure of time.
 #[derive(Drop)]
 pub struct WordCore<W: Wait + Clone + Drop, T: Timing<W>> {
     waiter: W,
@@ -44,18 +39,18 @@ impl<W: Wait + Clone + Drop, T: Timing<W>> LockCore for WordCore<W, T> {
 
     type Instant = T::Instant;
 
-    /// It allocates nothing, so it never fails for want of memory.
-    fn new(_alloc: Global, waiter: W, readers: u64) -> Result<WordCore<W, T>, Fault>
-        ensures range { IsOk result ↔ IsLimit readers }
-        ensures fault { IfErr result (λ fault. fault ≡ Fault.BadLimits) }
-        ensures limit { IfOk result (λ core. core.lock.readers ≡ readers) }
+    ghost holds = { λ core mode token. is_token_of core.lock mode token };
+
+    /// No other call allocates.
+    fn new(alloc: Global, waiter: W, readers: u64) -> Result<WordCore<W, T>, Fault>
+        ensures limits { (result ≡ Err Fault.BadLimits) ↔ (IsLimit readers → ⊥) }
+        ensures in_range { IfOk result (λ core. (core.lock.limits.readers ≡ readers) × IsLimit readers) }
+        ensures fault { IfErr result IsMakerFault }
     {
-        if !is_limit(readers) {
-            return Err(Fault::BadLimits);
-        }
+        let lock = WordLock::new(alloc, readers)?;
         Ok(WordCore {
             waiter,
-            lock: WordLock::new(readers),
+            lock,
             timing: PhantomData,
         })
     }
@@ -72,81 +67,66 @@ impl<W: Wait + Clone + Drop, T: Timing<W>> LockCore for WordCore<W, T> {
         self.lock.is_locked_exclusive()
     }
 
+    #[tactic(auto, using(lock_wake::proofs::Own::own_token))]
     fn acquire(&self, mode: Mode) -> WordToken {
-        self.lock.block_on(&self.waiter, ExWant::of_mode(mode));
-        WordToken { made: () }
+        self.lock.acquire(&self.waiter, mode)
     }
 
+    #[tactic(auto, using(lock_wake::proofs::Own::own_token))]
     fn acquire_announced(&self) -> WordToken {
-        self.lock.block_announced(&self.waiter);
-        WordToken { made: () }
+        self.lock.acquire_announced(&self.waiter)
     }
 
+    #[tactic(auto, using(lock_wake::proofs::Own::own_token))]
     fn try_acquire(&self, mode: Mode) -> Option<WordToken> {
-        token_if(self.lock.try_once(ExWant::of_mode(mode)))
+        self.lock.try_acquire(mode)
     }
 
+    #[tactic(auto, using(lock_wake::proofs::Own::own_token))]
     fn try_acquire_until(&self, mode: Mode, deadline: T::Instant) -> Option<WordToken> {
-        token_if(T::wait_until(&self.lock, &self.waiter, ExWant::of_mode(mode), deadline))
+        T::acquire_until(&self.lock, &self.waiter, mode, deadline)
     }
 
-    fn release(&self, _token: WordToken, mode: Mode) {
-        self.lock.release(Down::of_mode(mode));
+    #[tactic(auto, using(lock_wake::proofs::Own::token_of))]
+    fn release(&self, token: WordToken, mode: Mode) {
+        self.lock.release(token, mode);
     }
 
+    #[tactic(auto, using(lock_wake::proofs::Own::token_of, lock_wake::proofs::Own::own_token))]
     fn upgrade(&self, token: WordToken) -> WordToken {
-        self.lock.block_on(&self.waiter, ExWant::Upgrade);
-        token
+        self.lock.upgrade(&self.waiter, token)
     }
 
+    #[tactic(auto, using(lock_wake::proofs::Own::token_of, lock_wake::proofs::Own::own_token))]
     fn try_upgrade(&self, token: WordToken) -> Result<WordToken, WordToken> {
-        upgraded_if(self.lock.try_once(ExWant::Upgrade), token)
+        self.lock.try_upgrade(token)
     }
 
+    #[tactic(auto, using(lock_wake::proofs::Own::token_of, lock_wake::proofs::Own::own_token))]
     fn try_upgrade_until(
         &self,
         token: WordToken,
         deadline: T::Instant,
     ) -> Result<WordToken, WordToken> {
-        upgraded_if(
-            T::wait_until(&self.lock, &self.waiter, ExWant::Upgrade, deadline),
-            token,
-        )
+        T::upgrade_until(&self.lock, &self.waiter, token, deadline)
     }
 
+    #[tactic(auto, using(lock_wake::proofs::Own::token_of, lock_wake::proofs::Own::own_token))]
     fn downgrade(&self, token: WordToken) -> WordToken {
-        self.lock.release(Down::ToShared);
-        token
+        self.lock.downgrade(token)
     }
 
+    #[tactic(auto, using(lock_wake::proofs::Own::token_of, lock_wake::proofs::Own::own_token))]
     fn downgrade_to_upgradable(&self, token: WordToken) -> WordToken {
-        self.lock.release(Down::ToUpgradable);
-        token
+        self.lock.downgrade_to_upgradable(token)
     }
 
+    #[tactic(auto, using(lock_wake::proofs::Own::token_of, lock_wake::proofs::Own::own_token))]
     fn downgrade_upgradable(&self, token: WordToken) -> WordToken {
-        self.lock.release(Down::UpgradableToShared);
-        token
+        self.lock.downgrade_upgradable(token)
     }
 
     fn instant_after(&self, timeout: T::Duration) -> Option<T::Instant> {
         T::instant_after(&self.waiter, timeout)
     }
-}
-
-fn token_if(is_admitted: bool) -> Option<WordToken>
-    ensures { is_some result ≡ is_admitted }
-{
-    if is_admitted {
-        Some(WordToken { made: () })
-    } else {
-        None
-    }
-}
-
-fn upgraded_if(is_admitted: bool, token: WordToken) -> Result<WordToken, WordToken>
-    ensures admitted { is_ok result ≡ is_admitted }
-    ensures back { IfErr result (λ back. back ≡ token) }
-{
-    if is_admitted { Ok(token) } else { Err(token) }
 }

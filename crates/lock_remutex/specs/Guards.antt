@@ -2,18 +2,13 @@
 use Rattle.std.specs.Prelude.{◌≡◌, ℕ, Option, Some}
 use Rattle.std.specs.Borrow.{Bor}
 use Rattle.lock_base.specs.Party.{id_of}
-use Rattle.lock_remutex.specs.declared.raw_reentrant_mutex.RawReentrantMutex.{RawReentrantMutex}
 use Rattle.lock_remutex.specs.declared.reentrant_mutex.ReentrantMutex.{ReentrantMutex}
 use Rattle.lock_remutex.specs.declared.reentrant_mutex_guard.ReentrantMutexGuard.{ReentrantMutexGuard}
-
--- the raw lock whose token the owner of levels has
-abbrev pub raw_under : {R G W : Type 0} → RawReentrantMutex R G W → R
-raw_under lock = lock.raw
 
 module _ {R T G W : Type 0} where
   -- the raw lock under the lock
   abbrev pub raw_of : ReentrantMutex R T G W → R
-  raw_of lock = raw_under lock.raw
+  raw_of lock = lock.raw
 
   -- the value behind the lock
   abbrev pub value_of : ReentrantMutex R T G W → T

@@ -1,2 +1,4 @@
+pub mod Keyed
+pub mod Owned
 pub mod Guards
 pub mod ArcGuards

@@ -3,6 +3,7 @@
 
 mod arc;
 mod arc_guard;
+mod keyed_mutex;
 mod mapped;
 mod raw_reentrant_mutex;
 mod reentrant_mutex;

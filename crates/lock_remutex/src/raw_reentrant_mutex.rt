@@ -1,25 +1,53 @@
-ghost use Rattle.std.specs.Prelude.{◌≡◌, ◌↔◌, IfOk, IfErr, IsOkUnless};
+ghost use Rattle.std.specs.Prelude.{◌≡◌, ◌↔◌, true, None, IfOk, IfErr, IfSome, IsOkUnless};
 ghost use Rattle.lock_base.specs.Limits.{IsLimit, IsMakerFault};
-ghost use Rattle.lock_remutex.specs.Guards.{raw_under};
 
+use crate::keyed_mutex::{KeyRule, KeyedMutex};
 use lock_base::machine::PartyId;
 use lock_base::raw::{Fault, Levels};
-use lock_guard::lock_std;
 use lock_guard::raw::{RawMutex, RawMutexFair, RawMutexTimed};
 use std::alloc::Global;
-use std::sync::{Mutex, MutexGuard, Wait};
+use std::marker::{Model, PhantomData};
+use std::snapshot::Snapshot;
+use std::sync::Wait;
+
+/// The owner's token is one of the raw lock that is the key.
+pub struct OwnTokens<R> {
+    raw: PhantomData<R>,
+}
+
+impl<R: RawMutex> KeyRule<Snapshot<R>, Levels<R::Guard>> for OwnTokens<R> {
+    ghost use Rattle.lock_remutex.specs.Owned.{OwnsToken};
+
+    ghost fits = { λ key levels. OwnsToken (R.is_own key.value) levels };
+}
 
 /// A raw mutex that the owning party may acquire again, up to a limit of levels.
 ///
-/// The owner's token lies behind a std mutex, which makes the lock `Sync` for tokens that are `Send`. A lock that is
-/// dropped while owned drops the token.
+/// The owner's token lies behind a mutex of its own, which makes the lock `Sync` for tokens that are `Send`. A lock that
+/// is dropped while owned drops the token. Contracts see the lock as its raw lock.
 #[derive(Drop)]
-pub struct RawReentrantMutex<R: RawMutex> {
+pub struct RawReentrantMutex<R: RawMutex>
+where
+    R::Guard: Drop,
+{
     raw: R,
-    levels: Mutex<Levels<R::Guard>>,
+    levels: KeyedMutex<Snapshot<R>, Levels<R::Guard>, OwnTokens<R>>,
 }
 
-impl<R: RawMutex> RawReentrantMutex<R>
+impl<R: RawMutex> Model for RawReentrantMutex<R>
+where
+    R::Guard: Drop,
+{
+    ghost use Rattle.std.specs.Prelude.{◌≡◌};
+
+    ghost Value = { R };
+
+    ghost view = { λ lock. lock.raw };
+
+    ghost invariant = { λ lock. lock.levels.key.value ≡ lock.raw };
+}
+
+impl<R: RawMutex + Drop> RawReentrantMutex<R>
 where
     R::Guard: Send + Drop,
 {
@@ -27,7 +55,7 @@ where
     pub fn new(alloc: Global, waiter: R::Waiter) -> Result<Self, Fault>
         ensures { IsOkUnless result Fault.OutOfMemory }
     {
-        Ok(RawReentrantMutex::from_raw(R::new(alloc, waiter)?))
+        RawReentrantMutex::from_raw(alloc, R::new(alloc, waiter)?)
     }
 
     /// Makes an unlocked lock of `levels`. It checks the limit before it allocates.
@@ -36,17 +64,28 @@ where
         ensures in_range { IfOk result (λ _. IsLimit levels) }
         ensures fault { IfErr result IsMakerFault }
     {
-        let levels = Mutex::new(Levels::new(levels)?);
-        let raw = R::new(alloc, waiter)?;
-        Ok(RawReentrantMutex { raw, levels })
+        let levels = Levels::new(levels)?;
+        RawReentrantMutex::over(alloc, R::new(alloc, waiter)?, levels)
     }
 
-    /// Makes a lock of `DEFAULT_LEVELS` over a given raw lock.
-    pub fn from_raw(raw: R) -> Self
-        ensures { raw_under result ≡ raw }
+    /// Makes a lock of `DEFAULT_LEVELS` over a given raw lock. The raw lock is dropped if there is no memory.
+    pub fn from_raw(alloc: Global, raw: R) -> Result<Self, Fault>
+        ensures fault { IsOkUnless result Fault.OutOfMemory }
+        ensures raw { IfOk result (λ lock. lock ≡ raw) }
     {
-        let levels = Mutex::new(Levels::default());
-        RawReentrantMutex { raw, levels }
+        RawReentrantMutex::over(alloc, raw, Levels::default())
+    }
+
+    /// Makes a lock of levels without an owner.
+    fn over(alloc: Global, raw: R, levels: Levels<R::Guard>) -> Result<Self, Fault>
+        requires { levels.owner ≡ None }
+        ensures fault { IsOkUnless result Fault.OutOfMemory }
+        ensures raw { IfOk result (λ lock. lock ≡ raw) }
+    {
+        let Ok(levels) = KeyedMutex::new(alloc, &Snapshot::of(&raw), levels) else {
+            return Err(Fault::OutOfMemory);
+        };
+        Ok(RawReentrantMutex { raw, levels })
     }
 }
 
@@ -56,7 +95,7 @@ where
 {
     /// Consumes the lock, and returns the raw lock. A token that is left is dropped.
     pub(crate) fn into_raw(self) -> R
-        ensures { result ≡ raw_under self }
+        ensures { result ≡ self }
     {
         let RawReentrantMutex { raw, levels: _ } = self;
         raw
@@ -86,7 +125,7 @@ where
     pub fn try_lock(&self, party: PartyId) -> Result<bool, Fault>
         ensures { IfErr result (λ fault. fault ≡ Fault.FullCount) }
     {
-        self.try_lock_with(party, || self.raw.try_lock())
+        Ok(self.again(party)? || self.first_of(party, self.raw.try_lock()))
     }
 
     /// Releases one level of the party, and with the last level the raw lock.
@@ -110,49 +149,38 @@ where
 
     /// Returns whether the party owns the lock. The answer may be stale at once if other threads act for the party.
     pub fn is_owned_by_current_thread(&self, party: PartyId) -> bool {
-        self.levels().level(party) > 0
-    }
-
-    /// Locks the levels. Each call holds this lock for a moment.
-    fn levels(&self) -> MutexGuard<'_, Levels<R::Guard>> {
-        lock_std(&self.levels, self.raw.waiter())
+        let (levels, out) = self.levels.lock(self.raw.waiter());
+        let level = levels.level(party);
+        self.levels.unlock(levels, out);
+        level > 0
     }
 
     /// Returns whether any party owns the lock. The answer may be stale at once.
     pub(crate) fn is_owned(&self) -> bool {
-        self.levels().is_owned()
-    }
-
-    /// Acquires a further level for the owner. For another party it acquires the first level, if `try_raw` gets a
-    /// token.
-    fn try_lock_with<F: FnOnce() -> Option<R::Guard> + Drop>(
-        &self,
-        party: PartyId,
-        try_raw: F,
-    ) -> Result<bool, Fault>
-        requires { F.IsAlwaysCallable try_raw }
-        ensures { IfErr result (λ fault. fault ≡ Fault.FullCount) }
-    {
-        if self.again(party)? {
-            return Ok(true);
-        }
-        match try_raw() {
-            Some(token) => Ok(self.first(party, token)),
-            None => Ok(false),
-        }
+        let (levels, out) = self.levels.lock(self.raw.waiter());
+        let is_owned = levels.is_owned();
+        self.levels.unlock(levels, out);
+        is_owned
     }
 
     /// Acquires a further level if the party owns the lock, or answers false.
     fn again(&self, party: PartyId) -> Result<bool, Fault>
         ensures { IfErr result (λ fault. fault ≡ Fault.FullCount) }
     {
-        self.levels().again(party)
+        let (mut levels, out) = self.levels.lock(self.raw.waiter());
+        let answer = levels.again(party);
+        self.levels.unlock(levels, out);
+        answer
     }
 
     /// Acquires the party's first level, with this token. If there is an owner it answers false and unlocks the token:
     /// only a raw lock that admits too many threads leads there.
-    fn first(&self, party: PartyId, token: R::Guard) -> bool {
-        let back = self.levels().first(party, token);
+    fn first(&self, party: PartyId, token: R::Guard) -> bool
+        requires { R.is_own self.now token ≡ true }
+    {
+        let (mut levels, out) = self.levels.lock(self.raw.waiter());
+        let back = levels.first(party, token);
+        self.levels.unlock(levels, out);
         match back {
             Some(token) => {
                 self.raw.unlock(token);
@@ -162,11 +190,25 @@ where
         }
     }
 
+    /// `first`, if the raw lock gave a token.
+    fn first_of(&self, party: PartyId, token: Option<R::Guard>) -> bool
+        requires { IfSome token (λ token. R.is_own self.now token ≡ true) }
+    {
+        match token {
+            Some(token) => self.first(party, token),
+            None => false,
+        }
+    }
+
     /// Releases one level, and returns the token with the last level.
     fn leave(&self, party: PartyId) -> Result<Option<R::Guard>, Fault>
-        ensures { IfErr result (λ fault. fault ≡ Fault.Foreign) }
+        ensures fault { IfErr result (λ fault. fault ≡ Fault.Foreign) }
+        ensures own { IfOk result (λ last. IfSome last (λ token. R.is_own self.now token ≡ true)) }
     {
-        self.levels().leave(party)
+        let (mut levels, out) = self.levels.lock(self.raw.waiter());
+        let answer = levels.leave(party);
+        self.levels.unlock(levels, out);
+        answer
     }
 }
 
@@ -204,9 +246,13 @@ where
 
     /// Releases the only level of a party, and returns its token.
     fn leave_sole(&self, party: PartyId) -> Result<Option<R::Guard>, Fault>
-        ensures { IfErr result (λ fault. fault ≡ Fault.Foreign) }
+        ensures fault { IfErr result (λ fault. fault ≡ Fault.Foreign) }
+        ensures own { IfOk result (λ last. IfSome last (λ token. R.is_own self.now token ≡ true)) }
     {
-        self.levels().leave_sole(party)
+        let (mut levels, out) = self.levels.lock(self.raw.waiter());
+        let answer = levels.leave_sole(party);
+        self.levels.unlock(levels, out);
+        answer
     }
 
     /// `lock`, which tries again also where the party has all its levels.
@@ -228,13 +274,13 @@ where
     pub fn try_lock_for(&self, party: PartyId, timeout: R::Duration) -> Result<bool, Fault>
         ensures { IfErr result (λ fault. fault ≡ Fault.FullCount) }
     {
-        self.try_lock_with(party, || self.raw.try_lock_for(timeout))
+        Ok(self.again(party)? || self.first_of(party, self.raw.try_lock_for(timeout)))
     }
 
     /// `try_lock`, where the raw lock may block until `deadline`.
     pub fn try_lock_until(&self, party: PartyId, deadline: R::Instant) -> Result<bool, Fault>
         ensures { IfErr result (λ fault. fault ≡ Fault.FullCount) }
     {
-        self.try_lock_with(party, || self.raw.try_lock_until(deadline))
+        Ok(self.again(party)? || self.first_of(party, self.raw.try_lock_until(deadline)))
     }
 }

@@ -9,18 +9,21 @@ use std::alloc::Global;
 /// A value behind a mutex that its owner may acquire again.
 ///
 /// A party may hold several guards at a time, so a guard only reads. The value is stored plainly and must be `Sync`.
-/// The raw lock's token lies behind a std mutex and must be `Send`.
+/// The raw lock's token lies behind a mutex of its own and must be `Send`.
 #[derive(Drop)]
-pub struct ReentrantMutex<R: RawMutex, T> {
+pub struct ReentrantMutex<R: RawMutex, T>
+where
+    R::Guard: Drop,
+{
     raw: RawReentrantMutex<R>,
     value: T,
 }
 
-impl<R: RawMutex, T: Sync> ReentrantMutex<R, T>
+impl<R: RawMutex + Drop, T: Sync> ReentrantMutex<R, T>
 where
     R::Guard: Send + Drop,
 {
-    ghost use Rattle.std.specs.Prelude.{◌≡◌, ◌↔◌, IsOk, IfOk, IfErr, IsOkUnless};
+    ghost use Rattle.std.specs.Prelude.{◌≡◌, ◌↔◌, IfOk, IfErr, IsOkUnless};
     ghost use Rattle.lock_base.specs.Limits.{IsLimit, IsMakerFault};
     ghost use Rattle.lock_remutex.specs.Guards.{raw_of, value_of};
 
@@ -73,13 +76,15 @@ where
         ReentrantMutex::new(alloc, waiter, T::default())
     }
 
-    /// Makes a lock of `DEFAULT_LEVELS` over a given raw lock. It allocates nothing, so it never fails.
-    pub fn from_raw(raw: R, value: T) -> Result<Self, Fault>
-        ensures made { IsOk result }
+    /// Makes a lock of `DEFAULT_LEVELS` over a given raw lock. Both are dropped if there is no memory.
+    pub fn from_raw(alloc: Global, raw: R, value: T) -> Result<Self, Fault>
+    where
+        T: Drop,
+        ensures fault { IsOkUnless result Fault.OutOfMemory }
         ensures raw { IfOk result (λ lock. raw_of lock ≡ raw) }
         ensures value { IfOk result (λ lock. value_of lock ≡ value) }
     {
-        let raw = RawReentrantMutex::from_raw(raw);
+        let raw = RawReentrantMutex::from_raw(alloc, raw)?;
         Ok(ReentrantMutex { raw, value })
     }
 }
@@ -114,7 +119,7 @@ where
 
     /// Returns the value. No locking is needed, since the lock is borrowed exclusively.
     pub fn get_mut(&mut self) -> &mut T
-        ensures* writes_back { sem 𝓛 (Lends (the_row R.row T.row R.Guard.row R.Waiter.row) T.row
+        ensures* writes_back { sem 𝓛 (Lends (the_row R.row T.row R.Guard.row R.Waiter.row R.RawMutex R.Waiter.Wait R.Waiter.Clone) T.row
             self.entry result (with_value self.old)) }
         ensures value { result.now ≡ value_of self.old }
     {

@@ -12,3 +12,5 @@ pub mod Tallies
 pub mod Bounds
 pub mod InOrder
 pub mod InOrders
+pub mod Permits
+pub mod With

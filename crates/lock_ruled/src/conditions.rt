@@ -36,9 +36,9 @@ impl<T: Drop, V, P: MutexRule<T, V>> RuledMutex<T, V, P> {
             if condition(&*guard) {
                 return guard;
             }
-            let announced = self.changed.announce();
-            user = self.release::<Stay>(guard);
-            self.changed.sleep(rt, announced);
+            let registered = self.changed.register(rt);
+            user = self.release::<Stay>(guard).registered(&registered);
+            self.changed.sleep(rt, registered);
         }
         unreachable!()
     }
@@ -69,12 +69,12 @@ impl<T: Drop, V, P: MutexRule<T, V>> RuledMutex<T, V, P> {
             if condition(&*guard) {
                 return Ok(guard);
             }
-            let announced = self.changed.announce();
-            user = self.release::<Stay>(guard);
+            let registered = self.changed.register(rt);
+            user = self.release::<Stay>(guard).registered(&registered);
             match time_left(rt, deadline) {
-                Some(left) => self.changed.sleep_for(rt, announced, left),
+                Some(left) => self.changed.sleep_for(rt, registered, left),
                 None => {
-                    self.changed.leave();
+                    self.changed.leave(registered);
                     return Err(user);
                 }
             }

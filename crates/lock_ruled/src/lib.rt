@@ -1,18 +1,23 @@
 //! A mutex whose value is known across threads. It is made with a rule: a fact about the value and the views of all
-//! users. The rule holds whenever the mutex is free, and each release proves that it is kept.
+//! users. The rule holds whenever the mutex is free, and each release proves that it is kept. A semaphore stands on it.
 #![tactic(auto)]
 
 mod conditions;
 mod constant;
 mod grows;
 mod guard;
+mod holder;
 mod in_order;
 mod laws;
+mod lease;
 mod ledger;
 mod mutex;
+mod permits;
 mod plays;
 mod ready;
+mod released;
 mod rule;
+mod semaphore;
 mod tally;
 mod timed;
 mod user;
@@ -23,11 +28,15 @@ pub use atomic_table::{Join, Split};
 pub use constant::{Constant, SameView};
 pub use grows::{Bound, Grows};
 pub use guard::RuledGuard;
+pub use holder::Holder;
 pub use in_order::{InOrder, Items, Log, Looks, Pops, Pushes, Roles};
 pub use laws::{every_state_forgets_no_user, every_state_is_ruled};
+pub use lease::Lease;
 pub use ledger::{Ledger, Measure, Settles, Share, Shares};
 pub use mutex::RuledMutex;
+pub use permits::Permits;
 pub use ready::ReadyRule;
 pub use rule::{MutexRule, SlotRule, UserStage, UserView, ViewUpdate};
+pub use semaphore::Semaphore;
 pub use tally::{AddsOne, Sums, Tally};
 pub use user::User;

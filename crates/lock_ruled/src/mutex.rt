@@ -6,12 +6,13 @@ ghost use Rattle.lock_ruled.specs.Plays.{HasAcquired, Carries, IsIdle, stage_aft
 
 use crate::guard::RuledGuard;
 use crate::plays::{JoinParts, Open, SplitParts, Stay, TryLock, Unlock};
+use crate::released::Released;
 use crate::rule::{MutexRule, SlotRule, UserView, ViewUpdate};
 use crate::user::User;
 use atomic_table::{Join, Seat, Split, Table};
 use crossbeam_utils::Backoff;
 use lock_base::raw::Fault;
-use lock_sleepers::Sleepers;
+use lock_sleepers::EventCount;
 use std::alloc::Global;
 use std::marker::Model;
 use std::sync::Wait;
@@ -45,8 +46,8 @@ const TRIES: u32 = 10;
 #[derive(Drop)]
 pub struct RuledMutex<T: Drop, V, P: MutexRule<T, V>> {
     pub(crate) table: Table<Option<T>, UserView<T, V>, T, SlotRule<P>, Global>,
-    /// Users that sleep until the value has changed.
-    pub(crate) changed: Sleepers,
+    /// On which users sleep until the value has changed.
+    pub(crate) changed: EventCount,
 }
 
 impl<T: Drop, V, P: MutexRule<T, V>> Model for RuledMutex<T, V, P> {
@@ -67,15 +68,13 @@ impl<T: Drop, V, P: MutexRule<T, V>> RuledMutex<T, V, P> {
         ensures user { IfOk result (λ made. made.1 ≡ first_user made.0 (P.first value)) }
         ensures fault { IfErr result (λ error. error ≡ fault.OutOfMemory) }
     {
+        let changed = EventCount::new(alloc)?;
         let Ok((table, mut seat)) = Table::vacant(alloc, &[TAKEN, 0], 1, &value) else {
             return Err(Fault::OutOfMemory);
         };
         table.shared.load::<Open>(&mut seat, WORD);
-        let mutex = RuledMutex {
-            table,
-            changed: Sleepers::new(),
-        };
-        let user = mutex.release::<Stay>(RuledGuard { value, seat });
+        let mutex = RuledMutex { table, changed };
+        let user = mutex.unlock::<Stay>(RuledGuard { value, seat });
         Ok((mutex, user))
     }
 
@@ -140,9 +139,8 @@ impl<T: Drop, V, P: MutexRule<T, V>> RuledMutex<T, V, P> {
             (M.next guard.taken guard.user.view guard.value) }
         ensures { result ≡ record guard.user { view = M.next guard.taken guard.user.view guard.value } }
     {
-        let user = self.release::<M>(guard);
-        self.changed.notify_all();
-        user
+        let released = self.release::<M>(guard);
+        released.told(&self.changed.notify_all())
     }
 
     /// Consumes the mutex and its only user, and returns the value, of which the rule holds with that user's view.
@@ -162,7 +160,7 @@ impl<T: Drop, V, P: MutexRule<T, V>> RuledMutex<T, V, P> {
     }
 
     /// Releases the mutex as `unlock` does, but wakes no user that waits for a condition.
-    pub(crate) fn release<M: ViewUpdate<T, V>>(&self, guard: RuledGuard<T, V>) -> User<T, V>
+    pub(crate) fn release<M: ViewUpdate<T, V>>(&self, guard: RuledGuard<T, V>) -> Released<T, V>
         requires mutex { guard.user.mutex ≡ self.now }
         requires rule { Keeps P.rule guard.taken guard.user.view guard.value
             (M.next guard.taken guard.user.view guard.value) }
@@ -172,7 +170,9 @@ impl<T: Drop, V, P: MutexRule<T, V>> RuledMutex<T, V, P> {
         if was_awaited {
             self.end_epoch(&mut seat);
         }
-        User { seat }
+        Released {
+            user: User { seat },
+        }
     }
 
     /// Puts the value back into the slot, and marks the mutex as free. Returns whether it was awaited, which makes the user

@@ -1,12 +1,14 @@
 //! Rules whose obligations name one user and one value, so that a caller needs no lemma about lists of views.
 ghost use Rattle.std.specs.Prelude.{◌≡◌, ◌-◌, ◌+◌, ◌<◌};
 ghost use Rattle.lock_ruled.specs.Ruled.{all_parts, Meets};
+ghost use Rattle.lock_ruled.specs.With.{KeepsWith, RanWith};
 
 use crate::guard::RuledGuard;
 use crate::mutex::RuledMutex;
 use crate::rule::{MutexRule, ViewUpdate};
 use crate::user::User;
 use atomic_table::{Join, Split};
+use std::sync::Wait;
 
 /// A rule that says when a step of one user keeps it. Its laws prove that such a step keeps the rule whatever the views
 /// of the other users are.
@@ -50,6 +52,28 @@ impl<T: Drop, V, P: ReadyRule<T, V>> RuledMutex<T, V, P> {
         ensures { result ≡ record guard.user { view = M.next guard.taken guard.user.view guard.value } }
     {
         self.unlock::<M>(guard)
+    }
+
+    /// Runs `f` on the value, holding the mutex for the length of the call, and returns the user and what `f` returned. `f`
+    /// may return early, by `?` too: the mutex is released in any case.
+    ///
+    /// # Blocking
+    ///
+    /// As `lock`. If `f` acquires the same mutex, it blocks for ever.
+    pub fn with<M: ViewUpdate<T, V>, R: Wait, U, F: FnOnce(&mut T) -> U>(
+        &self,
+        rt: &R,
+        user: User<T, V>,
+        f: F,
+    ) -> (User<T, V>, U)
+        requires mutex { user.mutex ≡ self.now }
+        requires callable { F.IsAlwaysCallable f }
+        requires update { KeepsWith P.rule P.updates M.next F.FnOnce f user.view }
+        ensures { RanWith P.rule M.next F.FnOnce f user result }
+    {
+        let mut guard = self.lock(rt, user);
+        let answer = f(&mut guard);
+        (self.unlock_ready::<M>(guard), answer)
     }
 
     /// Makes a second user as `split` does. The caller proves `P.splits` in place of `Splits`.

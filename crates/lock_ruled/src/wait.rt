@@ -1,5 +1,5 @@
 //! How a blocked user waits: it marks the mutex as awaited, and sleeps until a release ends the epoch.
-ghost use Rattle.std.specs.Prelude.{◌≡◌, ℕ, None, IfSome};
+ghost use Rattle.std.specs.Prelude.{◌≡◌, ◌%◌, ◌^◌, ℕ, None, IfSome};
 ghost use Rattle.lock_ruled.specs.declared.rule.UserStage.TheVariants.{Sleeps, Free};
 ghost use Rattle.lock_ruled.specs.SleepingUsers.{IsAsleep};
 ghost use Rattle.lock_ruled.specs.Plays.{HasAcquired, IsIdle, at_stage};
@@ -8,7 +8,6 @@ use crate::mutex::{AWAITED, EPOCH, FREE, LAST_EPOCH, RuledMutex, WORD};
 use crate::plays::{Leave, MarkAwaited, WatchEpoch};
 use crate::rule::{MutexRule, UserView};
 use atomic_table::Seat;
-use lock_sleepers::low_half;
 use std::sync::Wait;
 use std::thread;
 use std::time::Duration;
@@ -99,4 +98,11 @@ impl<T: Drop, V, P: MutexRule<T, V>> RuledMutex<T, V, P> {
     {
         self.table.shared.load::<Leave>(seat, EPOCH);
     }
+}
+
+/// Returns the half of a number that a parked thread compares.
+fn low_half(number: u64) -> u32
+    ensures { result ≡ number % 2 ^ 32 }
+{
+    (number % 0x1_0000_0000) as u32
 }

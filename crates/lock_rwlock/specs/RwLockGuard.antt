@@ -7,19 +7,19 @@ use Rattle.lock_rwlock.specs.declared.guard.RwLockGuard.{RwLockGuard}
 use Rattle.lock_rwlock.specs.declared.mode.InMode.{InMode}
 
 -- what a guard holds: the lock in its mode, its token, and what shows the value
-abbrev pub held_of : {L V K W X : Type 0} {g : _} → RwLockGuard L V K W X g → Held L V K W X g
+abbrev pub held_of : {L V K W X : Type 0} {r : _} {g : _} → RwLockGuard L V K W X r g → Held L V K W X r g
 held_of guard = guard.held
 
 -- the guard is one of this lock
-abbrev pub IsGuardOf : {M R T V K W X Y : Type 0} {g : _} → Bor Y → RwLockGuard (InMode M R T) V K W X g → Type 0
+abbrev pub IsGuardOf : {M R T V K W X Y : Type 0} {r : _} {g : _} → Bor Y → RwLockGuard (InMode M R T) V K W X r g → Type 0
 IsGuardOf lock guard = (held_of guard).lock.rwlock.ref_ptr ≡ lock.ref_ptr
 
 -- two guards are of one lock, in whatever modes
-abbrev pub SameLock : {M M' R R' T T' V V' K K' W W' X X' : Type 0} {g g' : _}
-    → RwLockGuard (InMode M R T) V K W X g → RwLockGuard (InMode M' R' T') V' K' W' X' g' → Type 0
+abbrev pub SameLock : {M M' R R' T T' V V' K K' W W' X X' : Type 0} {r r' : _} {g g' : _}
+    → RwLockGuard (InMode M R T) V K W X r g → RwLockGuard (InMode M' R' T') V' K' W' X' r' g' → Type 0
 SameLock old new = (held_of old).lock.rwlock.ref_ptr ≡ (held_of new).lock.rwlock.ref_ptr
 
 -- two guards, in whatever modes, show one value
-abbrev pub ShowsSame : {L L' V K K' W W' X : Type 0} {g g' : _} → (V → X)
-    → RwLockGuard L V K W X g → RwLockGuard L' V K' W' X g' → Type 0
+abbrev pub ShowsSame : {L L' V K K' W W' X : Type 0} {r r' : _} {g g' : _} → (V → X)
+    → RwLockGuard L V K W X r g → RwLockGuard L' V K' W' X r' g' → Type 0
 ShowsSame value_of old new = held_value value_of (held_of old) ≡ held_value value_of (held_of new)

@@ -4,7 +4,7 @@ mod read;
 mod upgradable;
 mod write;
 
-ghost use Rattle.std.specs.Prelude.{◌≡◌, Some};
+ghost use Rattle.std.specs.Prelude.{◌≡◌, true, Some};
 ghost use Rattle.std.specs.Borrow.{Lends, sem};
 
 use lock_guard::guard::{
@@ -52,7 +52,8 @@ impl<L: Acquire> RwLockGuard<L> {
 
     /// Releases the value's lock, and returns the lock with its token.
     pub(crate) fn into_token(self) -> (L, L::Token)
-        ensures { result.0 ≡ (held_of self).lock }
+        ensures lock { result.0 ≡ (held_of self).lock }
+        ensures own { L.is_own result.0 result.1 ≡ true }
     {
         self.held.into_token()
     }
@@ -109,7 +110,7 @@ where
     fn deref_mut(&mut self) -> &mut <L::Shown as ValueGuard>::Value
         ensures* writes_back { sem 𝓛 (Lends
             (the_row L.row L.Shown.row L.Token.row L.Waiter.row L.Shown.Value.row
-            L.Shown.ValueGuard) L.Shown.Value.row self.entry result (λ value.
+            L.Release L.Shown.ValueGuard) L.Shown.Value.row self.entry result (λ value.
             record { held = held_with_value L.Shown.with_value (held_of self.old) value })) }
         ensures value { held_value L.Shown.value_of (held_of self.old) ≡ Some result.now }
     {

@@ -3,7 +3,7 @@ mod exclusive;
 mod shared;
 mod upgradable;
 
-ghost use Rattle.std.specs.Prelude.{◌≡◌};
+ghost use Rattle.std.specs.Prelude.{◌≡◌, Bool, true};
 
 use crate::lock::RwLock;
 pub use exclusive::Exclusive;
@@ -18,18 +18,26 @@ pub trait LockMode<R: RawRwLock> {
     /// The raw lock's token of this mode.
     type Token;
 
-    /// Acquires the raw lock in this mode, blocking until it is available.
-    fn acquire(raw: &R) -> Self::Token;
+    /// Whether the token is one of the raw lock's acquisitions in this mode.
+    ghost is_own: { R → Self.Token → Bool };
 
-    fn release(raw: &R, token: Self::Token);
+    /// Acquires the raw lock in this mode, blocking until it is available.
+    fn acquire(raw: &R) -> Self::Token
+        ensures { is_own raw.now result ≡ true };
+
+    fn release(raw: &R, token: Self::Token)
+        requires { is_own raw.now token ≡ true };
 }
 
 /// The fair calls of a raw lock in one mode.
 pub trait FairMode<R: RawRwLock>: LockMode<R> {
-    fn release_fair(raw: &R, token: Self::Token);
+    fn release_fair(raw: &R, token: Self::Token)
+        requires { Self.is_own raw.now token ≡ true };
 
     /// Releases the raw lock by a fair release, and reacquires it.
-    fn bump(raw: &R, token: Self::Token) -> Self::Token;
+    fn bump(raw: &R, token: Self::Token) -> Self::Token
+        requires { Self.is_own raw.now token ≡ true }
+        ensures { Self.is_own raw.now result ≡ true };
 }
 
 /// How a borrowed lock, held in one mode, reaches its value through std's lock.
@@ -52,7 +60,8 @@ pub struct InMode<'a, M, R, T> {
 
 impl<'a, M, R, T> InMode<'a, M, R, T> {
     pub(crate) fn new(rwlock: &'a RwLock<R, T>) -> Self
-        ensures { result.rwlock.ref_ptr ≡ rwlock.entry.ref_ptr }
+        ensures place { result.rwlock.ref_ptr ≡ rwlock.entry.ref_ptr }
+        ensures same { result.rwlock.now ≡ rwlock.now }
     {
         InMode {
             rwlock,
@@ -65,6 +74,8 @@ impl<M: LockMode<R>, R: RawRwLock, T> Release for InMode<'_, M, R, T> {
     type Token = M::Token;
 
     type Waiter = R::Waiter;
+
+    ghost is_own = { λ borrowed token. M.is_own borrowed.rwlock.now.raw token };
 
     fn release(&self, token: M::Token) {
         M::release(&self.rwlock.raw, token);

@@ -5,21 +5,21 @@ use Rattle.std.specs.declared.alloc.Global.{Global}
 use Rattle.std.specs.declared.sync.Arc.{Arc}
 use Rattle.lock_guard.specs.declared.guard.inner.Inner.{Inner}
 use Rattle.lock_rwlock.specs.declared.lock.RwLock.{RwLock}
-use Rattle.lock_rwlock_arc.specs.declared.guard.ArcRwLockGuard.{ArcRwLockGuard}
+use Rattle.lock_rwlock_arc.specs.declared.guard.ArcModeGuard.{ArcModeGuard}
 use Rattle.lock_rwlock_arc.specs.declared.owned.OwnedInMode.{OwnedInMode}
 
-module _ {M R T K W S X : Type 0} where
+module _ {M R T A B C D V K W X : Type 0} {r : _} {g : _} where
   -- the lock that a guard is of, in whatever mode
-  abbrev pub arc_of : ArcRwLockGuard M R T K W S X → Arc (RwLock R T) Global
+  abbrev pub arc_of : ArcModeGuard (OwnedInMode M R T A B C D) V K W X r g → Arc (RwLock R T) Global
   arc_of guard = guard.held.lock.rwlock
 
   -- the lock in its mode, and what has the token
-  abbrev pub lock_of : ArcRwLockGuard M R T K W S X → OwnedInMode M R T K W S X
+  abbrev pub lock_of : ArcModeGuard (OwnedInMode M R T A B C D) V K W X r g → OwnedInMode M R T A B C D
   lock_of guard = guard.held.lock
 
-  abbrev pub inner_of : ArcRwLockGuard M R T K W S X → Inner K (Unit {0})
+  abbrev pub inner_of : ArcModeGuard (OwnedInMode M R T A B C D) V K W X r g → Inner K V
   inner_of guard = guard.held.inner
 
   -- the guard is one of this lock
-  abbrev pub IsArcGuardOf : Arc (RwLock R T) Global → ArcRwLockGuard M R T K W S X → Type 0
+  abbrev pub IsArcGuardOf : Arc (RwLock R T) Global → ArcModeGuard (OwnedInMode M R T A B C D) V K W X r g → Type 0
   IsArcGuardOf lock guard = arc_value (arc_of guard) ≡ arc_value lock

@@ -2,10 +2,14 @@
 ghost use Rattle.std.specs.Prelude.{IfOk, IfSome, IsOkUnless};
 ghost use Rattle.lock_rwlock_arc.specs.ArcRwLockGuard.{IsArcGuardOf};
 
-use crate::guard::{ArcRwLockReadGuard, ArcRwLockUpgradableReadGuard, ArcRwLockWriteGuard};
+use crate::guard::{
+    ArcModeGuard, ArcRwLockReadGuard, ArcRwLockUpgradableReadGuard, ArcRwLockWriteGuard,
+};
 use lock_base::raw::Fault;
+use lock_guard::guard::another_owner;
 use lock_guard::raw::{RawRwLock, RawRwLockTimed, RawRwLockUpgrade, RawRwLockUpgradeTimed};
 use lock_rwlock::RwLock;
+use lock_rwlock::parts::raw;
 use std::sync::Arc;
 
 /// The acquisitions of an `RwLock` by guards that own a clone of its `Arc`.
@@ -41,7 +45,9 @@ impl<R: RawRwLock + Drop, T: Drop> RwLockArc<R, T> for RwLock<R, T> {
     }
 
     fn try_read_arc(this: &Arc<RwLock<R, T>>) -> Result<Option<ArcRwLockReadGuard<R, T>>, Fault> {
-        ArcRwLockReadGuard::acquire_by(this, |raw| raw.try_lock_shared())
+        let rwlock = another_owner(this)?;
+        let token = raw(&rwlock).try_lock_shared();
+        Ok(ArcModeGuard::of_token(rwlock, token))
     }
 
     fn write_arc(this: &Arc<RwLock<R, T>>) -> Result<ArcRwLockWriteGuard<R, T>, Fault> {
@@ -49,7 +55,9 @@ impl<R: RawRwLock + Drop, T: Drop> RwLockArc<R, T> for RwLock<R, T> {
     }
 
     fn try_write_arc(this: &Arc<RwLock<R, T>>) -> Result<Option<ArcRwLockWriteGuard<R, T>>, Fault> {
-        ArcRwLockWriteGuard::acquire_by(this, |raw| raw.try_lock_exclusive())
+        let rwlock = another_owner(this)?;
+        let token = raw(&rwlock).try_lock_exclusive();
+        Ok(ArcModeGuard::of_token(rwlock, token))
     }
 }
 
@@ -93,28 +101,36 @@ impl<R: RawRwLockTimed + Drop, T: Drop> RwLockArcTimed<R, T> for RwLock<R, T> {
         this: &Arc<RwLock<R, T>>,
         timeout: R::Duration,
     ) -> Result<Option<ArcRwLockReadGuard<R, T>>, Fault> {
-        ArcRwLockReadGuard::acquire_by(this, |raw| raw.try_lock_shared_for(timeout))
+        let rwlock = another_owner(this)?;
+        let token = raw(&rwlock).try_lock_shared_for(timeout);
+        Ok(ArcModeGuard::of_token(rwlock, token))
     }
 
     fn try_read_arc_until(
         this: &Arc<RwLock<R, T>>,
         deadline: R::Instant,
     ) -> Result<Option<ArcRwLockReadGuard<R, T>>, Fault> {
-        ArcRwLockReadGuard::acquire_by(this, |raw| raw.try_lock_shared_until(deadline))
+        let rwlock = another_owner(this)?;
+        let token = raw(&rwlock).try_lock_shared_until(deadline);
+        Ok(ArcModeGuard::of_token(rwlock, token))
     }
 
     fn try_write_arc_for(
         this: &Arc<RwLock<R, T>>,
         timeout: R::Duration,
     ) -> Result<Option<ArcRwLockWriteGuard<R, T>>, Fault> {
-        ArcRwLockWriteGuard::acquire_by(this, |raw| raw.try_lock_exclusive_for(timeout))
+        let rwlock = another_owner(this)?;
+        let token = raw(&rwlock).try_lock_exclusive_for(timeout);
+        Ok(ArcModeGuard::of_token(rwlock, token))
     }
 
     fn try_write_arc_until(
         this: &Arc<RwLock<R, T>>,
         deadline: R::Instant,
     ) -> Result<Option<ArcRwLockWriteGuard<R, T>>, Fault> {
-        ArcRwLockWriteGuard::acquire_by(this, |raw| raw.try_lock_exclusive_until(deadline))
+        let rwlock = another_owner(this)?;
+        let token = raw(&rwlock).try_lock_exclusive_until(deadline);
+        Ok(ArcModeGuard::of_token(rwlock, token))
     }
 }
 
@@ -145,7 +161,9 @@ impl<R: RawRwLockUpgrade + Drop, T: Drop> RwLockArcUpgrade<R, T> for RwLock<R, T
     fn try_upgradable_read_arc(
         this: &Arc<RwLock<R, T>>,
     ) -> Result<Option<ArcRwLockUpgradableReadGuard<R, T>>, Fault> {
-        ArcRwLockUpgradableReadGuard::acquire_by(this, |raw| raw.try_lock_upgradable())
+        let rwlock = another_owner(this)?;
+        let token = raw(&rwlock).try_lock_upgradable();
+        Ok(ArcModeGuard::of_token(rwlock, token))
     }
 }
 
@@ -173,16 +191,17 @@ impl<R: RawRwLockUpgradeTimed + Drop, T: Drop> RwLockArcUpgradeTimed<R, T> for R
         this: &Arc<RwLock<R, T>>,
         timeout: R::Duration,
     ) -> Result<Option<ArcRwLockUpgradableReadGuard<R, T>>, Fault> {
-        ArcRwLockUpgradableReadGuard::acquire_by(this, |raw| raw.try_lock_upgradable_for(timeout))
+        let rwlock = another_owner(this)?;
+        let token = raw(&rwlock).try_lock_upgradable_for(timeout);
+        Ok(ArcModeGuard::of_token(rwlock, token))
     }
 
     fn try_upgradable_read_arc_until(
         this: &Arc<RwLock<R, T>>,
         deadline: R::Instant,
     ) -> Result<Option<ArcRwLockUpgradableReadGuard<R, T>>, Fault> {
-        ArcRwLockUpgradableReadGuard::acquire_by(
-            this,
-            |raw| raw.try_lock_upgradable_until(deadline),
-        )
+        let rwlock = another_owner(this)?;
+        let token = raw(&rwlock).try_lock_upgradable_until(deadline);
+        Ok(ArcModeGuard::of_token(rwlock, token))
     }
 }

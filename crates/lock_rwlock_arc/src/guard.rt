@@ -2,15 +2,17 @@
 mod upgradable;
 mod write;
 
-ghost use Rattle.std.specs.Prelude.{◌≡◌, IfOk, IfSome, IsOkUnless, is_some};
+ghost use Rattle.std.specs.Prelude.{◌≡◌, true, IfOk, IfSome, IsOkUnless, is_some};
+ghost use Rattle.std.specs.Arc.{arc_value};
 ghost use Rattle.lock_guard.specs.Closure.{ReadsSomeValue};
+ghost use Rattle.lock_rwlock.specs.RwLock.{raw_of};
 ghost use Rattle.lock_rwlock_arc.specs.ArcRwLockGuard.{arc_of, IsArcGuardOf};
 
-use crate::owned::OwnedInMode;
+use crate::owned::{OwnedInMode, ReadValue};
 use lock_base::raw::Fault;
-use lock_guard::guard::{AcquireFair, Held, Release, another_owner};
+use lock_guard::guard::{Acquire, AcquireFair, Held, Release, another_owner};
 use lock_guard::raw::RawRwLock;
-use lock_rwlock::parts::{raw, read_with};
+use lock_rwlock::parts::raw;
 use lock_rwlock::{Exclusive, FairMode, LockMode, RwLock, Shared, Upgradable};
 use std::sync::Arc;
 
@@ -19,26 +21,30 @@ use std::sync::Arc;
 ///
 /// An upgrade or a downgrade exchanges the raw lock's token and gives a guard of the new mode. The raw lock promises
 /// that nobody wrote in between; no contract states it.
+pub type ArcRwLockGuard<M, R, T> = ArcModeGuard<OwnedInMode<M, R, T>>;
+
+/// The struct behind an `ArcRwLockGuard`.
 #[derive(Drop)]
-pub struct ArcRwLockGuard<M: LockMode<R>, R: RawRwLock + Drop, T: Drop> {
-    held: Held<OwnedInMode<M, R, T>>,
+pub struct ArcModeGuard<L: Acquire> {
+    pub(crate) held: Held<L>,
 }
 
 /// A read guard that owns a reference to its lock.
-pub type ArcRwLockReadGuard<R, T> = ArcRwLockGuard<Shared, R, T>;
+pub type ArcRwLockReadGuard<R, T> = ArcModeGuard<OwnedInMode<Shared, R, T>>;
 
 /// A write guard that owns a reference to its lock.
-pub type ArcRwLockWriteGuard<R, T> = ArcRwLockGuard<Exclusive, R, T>;
+pub type ArcRwLockWriteGuard<R, T> = ArcModeGuard<OwnedInMode<Exclusive, R, T>>;
 
 /// An upgradable read guard that owns a reference to its lock.
-pub type ArcRwLockUpgradableReadGuard<R, T> = ArcRwLockGuard<Upgradable, R, T>;
+pub type ArcRwLockUpgradableReadGuard<R, T> = ArcModeGuard<OwnedInMode<Upgradable, R, T>>;
 
-impl<M: LockMode<R>, R: RawRwLock + Drop, T: Drop> ArcRwLockGuard<M, R, T> {
+impl<M: LockMode<R>, R: RawRwLock + Drop, T: Drop> ArcModeGuard<OwnedInMode<M, R, T>> {
     /// Makes the guard of a token that the raw lock gave.
     pub(crate) fn new(rwlock: Arc<RwLock<R, T>>, token: M::Token) -> Self
+        requires { M.is_own (raw_of (arc_value rwlock)) token ≡ true }
         ensures { arc_of result ≡ rwlock }
     {
-        ArcRwLockGuard {
+        ArcModeGuard {
             held: Held::new(OwnedInMode::new(rwlock), token),
         }
     }
@@ -50,25 +56,16 @@ impl<M: LockMode<R>, R: RawRwLock + Drop, T: Drop> ArcRwLockGuard<M, R, T> {
     {
         let rwlock = another_owner(this)?;
         let token = M::acquire(raw(&rwlock));
-        Ok(ArcRwLockGuard::new(rwlock, token))
+        Ok(ArcModeGuard::new(rwlock, token))
     }
 
-    /// Clones the `Arc`, then makes the guard of the token that `try_raw` gets.
-    pub(crate) fn acquire_by<F: FnOnce(&R) -> Option<M::Token>>(
-        this: &Arc<RwLock<R, T>>,
-        try_raw: F,
-    ) -> Result<Option<Self>, Fault>
-    where
-        F: Drop,
-        requires { F.IsAlwaysCallable try_raw }
-        ensures fault { IsOkUnless result Fault.OutOfMemory }
-        ensures lock { IfOk result (λ got. IfSome got (IsArcGuardOf this.now)) }
+    /// Makes the guard of the token, if the raw lock gave one.
+    pub(crate) fn of_token(rwlock: Arc<RwLock<R, T>>, token: Option<M::Token>) -> Option<Self>
+        requires { IfSome token (λ t. M.is_own (raw_of (arc_value rwlock)) t ≡ true) }
+        ensures some { is_some result ≡ is_some token }
+        ensures lock { IfSome result (λ guard. arc_of guard ≡ rwlock) }
     {
-        let rwlock = another_owner(this)?;
-        match try_raw(raw(&rwlock)) {
-            Some(token) => Ok(Some(ArcRwLockGuard::new(rwlock, token))),
-            None => Ok(None),
-        }
+        Some(ArcModeGuard::new(rwlock, token?))
     }
 
     /// Returns the lock of the guard.
@@ -92,7 +89,7 @@ impl<M: LockMode<R>, R: RawRwLock + Drop, T: Drop> ArcRwLockGuard<M, R, T> {
         requires { F.IsAlwaysCallable f }
         ensures { ReadsSomeValue F.FnOnce f result }
     {
-        read_with(&guard.held.lock.rwlock, f)
+        guard.held.lock.read_value(f)
     }
 
     /// Releases the lock, runs `f`, and reacquires the lock in the same mode, blocking until it is available.
@@ -106,14 +103,15 @@ impl<M: LockMode<R>, R: RawRwLock + Drop, T: Drop> ArcRwLockGuard<M, R, T> {
 
     /// Returns the lock, with the guard's token.
     pub(crate) fn into_token(self) -> (Arc<RwLock<R, T>>, M::Token)
-        ensures { result.0 ≡ arc_of self }
+        ensures lock { result.0 ≡ arc_of self }
+        ensures own { M.is_own (raw_of (arc_value result.0)) result.1 ≡ true }
     {
         let (lock, token) = self.held.into_token();
         (lock.rwlock, token)
     }
 }
 
-impl<M: FairMode<R>, R: RawRwLock + Drop, T: Drop> ArcRwLockGuard<M, R, T> {
+impl<M: FairMode<R>, R: RawRwLock + Drop, T: Drop> ArcModeGuard<OwnedInMode<M, R, T>> {
     /// Releases the lock by a fair release.
     pub fn unlock_fair(guard: Self) {
         guard.held.unlock_fair();

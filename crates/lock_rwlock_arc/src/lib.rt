@@ -8,5 +8,7 @@ mod text;
 
 pub use acquire::{RwLockArc, RwLockArcTimed, RwLockArcUpgrade, RwLockArcUpgradeTimed};
 pub use guard::{
-    ArcRwLockGuard, ArcRwLockReadGuard, ArcRwLockUpgradableReadGuard, ArcRwLockWriteGuard,
+    ArcModeGuard, ArcRwLockGuard, ArcRwLockReadGuard, ArcRwLockUpgradableReadGuard,
+    ArcRwLockWriteGuard,
 };
+pub use owned::{OwnedInMode, ReadValue};

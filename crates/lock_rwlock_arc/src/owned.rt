@@ -1,12 +1,25 @@
 //! A reader-writer lock that a guard owns a reference to.
 ghost use Rattle.std.specs.Prelude.{◌≡◌};
+ghost use Rattle.std.specs.Arc.{arc_value};
+ghost use Rattle.lock_guard.specs.Closure.{ReadsSomeValue};
+ghost use Rattle.lock_rwlock.specs.RwLock.{raw_of};
 
 use lock_guard::guard::{Acquire, AcquireFair, Release};
 use lock_guard::raw::RawRwLock;
-use lock_rwlock::parts::raw;
+use lock_rwlock::parts::{raw, read_with};
 use lock_rwlock::{FairMode, LockMode, RwLock};
 use std::marker::PhantomData;
 use std::sync::Arc;
+
+/// A lock whose value can be read while a guard holds the lock.
+pub trait ReadValue: Acquire {
+    type Value;
+
+    /// Runs `f` on the value, holding the value's lock for the length of the call.
+    fn read_value<U, F: FnOnce(&Self::Value) -> U>(&self, f: F) -> U
+        requires { F.IsAlwaysCallable f }
+        ensures { ReadsSomeValue F.FnOnce f result };
+}
 
 /// One `Arc` of a lock, held in the mode `M`.
 #[derive(Drop)]
@@ -31,6 +44,8 @@ impl<M: LockMode<R>, R: RawRwLock + Drop, T: Drop> Release for OwnedInMode<M, R,
 
     type Waiter = R::Waiter;
 
+    ghost is_own = { λ owned token. M.is_own (raw_of (arc_value owned.rwlock)) token };
+
     fn release(&self, token: M::Token) {
         M::release(raw(&self.rwlock), token);
     }
@@ -49,6 +64,14 @@ impl<M: LockMode<R>, R: RawRwLock + Drop, T: Drop> Acquire for OwnedInMode<M, R,
     }
 
     fn block_on_value(&self) {}
+}
+
+impl<M: LockMode<R>, R: RawRwLock + Drop, T: Drop> ReadValue for OwnedInMode<M, R, T> {
+    type Value = T;
+
+    fn read_value<U, F: FnOnce(&T) -> U>(&self, f: F) -> U {
+        read_with(&self.rwlock, f)
+    }
 }
 
 impl<M: FairMode<R>, R: RawRwLock + Drop, T: Drop> AcquireFair for OwnedInMode<M, R, T> {

@@ -1,7 +1,7 @@
 //! A held lock.
 ghost use Rattle.std.specs.Prelude.{◌≡◌, IfErr, IfOk, true};
 ghost use Rattle.lock_guard.specs.declared.guard.inner.Inner.TheVariants.{Filled};
-ghost use Rattle.lock_guard.specs.Inner.{is_filled};
+ghost use Rattle.lock_guard.specs.Inner.{is_filled, owns};
 
 use crate::guard::{Acquire, AcquireFair, Inner};
 
@@ -27,11 +27,13 @@ pub struct Held<L: Acquire> {
     pub lock: L,
     pub inner: Inner<L::Token, L::Shown>,
     ghost filled: { is_filled inner ≡ true },
+    ghost own: { owns (L.is_own lock) inner ≡ true },
 }
 
 impl<L: Acquire> Held<L> {
     /// Makes the `Held` of a lock and its token, blocking until the value's lock is free. `held!` tries it first.
     pub fn new(lock: L, token: L::Token) -> Held<L>
+        requires { L.is_own lock token ≡ true }
         ensures { result.lock ≡ lock }
     {
         let shown = lock.block_on_value();
@@ -43,6 +45,7 @@ impl<L: Acquire> Held<L> {
 
     /// Makes the `Held` if the value's lock is free. Otherwise returns the lock and the token.
     pub fn try_new(lock: L, token: L::Token) -> Result<Held<L>, (L, L::Token)>
+        requires { L.is_own lock token ≡ true }
         ensures held { IfOk result (λ held. held.lock ≡ lock) }
         ensures back { IfErr result (λ back. (back.0 ≡ lock) × (back.1 ≡ token)) }
     {
@@ -57,7 +60,8 @@ impl<L: Acquire> Held<L> {
 
     /// Releases the value's lock, and returns the lock with its token.
     pub fn into_token(self) -> (L, L::Token)
-        ensures { result.0 ≡ self.lock }
+        ensures lock { result.0 ≡ self.lock }
+        ensures own { L.is_own result.0 result.1 ≡ true }
     {
         let Held { lock, inner } = self;
         (lock, inner.into_token())
@@ -68,6 +72,7 @@ impl<L: Acquire> Held<L> {
     pub fn into_parts(self) -> (L, L::Token, L::Shown)
         ensures lock { result.0 ≡ self.lock }
         ensures inner { Filled result.1 result.2 ≡ self.inner }
+        ensures own { L.is_own result.0 result.1 ≡ true }
     {
         let Held { lock, inner } = self;
         let (token, shown) = inner.into_parts();
@@ -76,7 +81,8 @@ impl<L: Acquire> Held<L> {
 
     /// Returns the inner part, still filled. The caller releases the token.
     pub fn into_inner(self) -> Inner<L::Token, L::Shown>
-        ensures { result ≡ self.inner }
+        ensures inner { result ≡ self.inner }
+        ensures own { owns (L.is_own self.lock) result ≡ true }
     {
         let Held { lock: _, inner } = self;
         inner

@@ -1,7 +1,7 @@
 //! The inner part of a guard.
-ghost use Rattle.std.specs.Prelude.{◌≡◌, true, false, Some, IfNone, IfSome, IfOk, IfErr, is_ok, is_some};
+ghost use Rattle.std.specs.Prelude.{◌≡◌, Bool, true, false, Some, IfNone, IfSome, IfOk, IfErr, is_ok, is_some};
 ghost use Rattle.std.specs.Borrow.{Lends, sem};
-ghost use Rattle.lock_guard.specs.Inner.{is_filled, inner_value, inner_with_value};
+ghost use Rattle.lock_guard.specs.Inner.{is_filled, owns, inner_value, inner_with_value};
 ghost use Rattle.lock_guard.specs.declared.guard.inner.Inner.TheVariants.{Filled};
 ghost use Rattle.lock_guard.specs.contracts.guard.inner.Inner.{the_row};
 
@@ -18,7 +18,7 @@ impl<K, V> Inner<K, V> {
     /// Fills an empty inner part.
     pub fn fill(&mut self, token: K, shown: V)
         requires { is_filled self.old ≡ false }
-        ensures { is_filled self.new ≡ true }
+        ensures { self.new ≡ Filled token shown }
     {
         self.put(Inner::Filled(token, shown));
     }
@@ -58,7 +58,8 @@ impl<K, V: Drop> Inner<K, V> {
     /// Releases the value's lock, empties the part, and returns the token.
     pub fn empty(&mut self) -> K
         requires { is_filled self.old ≡ true }
-        ensures { is_filled self.new ≡ false }
+        ensures emptied { is_filled self.new ≡ false }
+        ensures token { (is_own : K → Bool) → owns is_own self.old ≡ true → is_own result ≡ true }
     {
         mem::replace(self, Inner::Empty).into_token()
     }
@@ -66,6 +67,7 @@ impl<K, V: Drop> Inner<K, V> {
     /// Releases the value's lock, and returns the token.
     pub fn into_token(self) -> K
         requires { is_filled self ≡ true }
+        ensures { (is_own : K → Bool) → owns is_own self ≡ true → is_own result ≡ true }
     {
         match self {
             Inner::Filled(token, shown) => {
@@ -81,7 +83,8 @@ impl<K, V: ValueGuard> Inner<K, V> {
     /// Acquires the lock, blocking until it is available, and fills an empty inner part.
     pub fn refill<L: Acquire<Token = K, Shown = V>>(&mut self, lock: &L)
         requires { is_filled self.old ≡ false }
-        ensures { is_filled self.new ≡ true }
+        ensures filled { is_filled self.new ≡ true }
+        ensures own { owns (L.is_own lock.now) self.new ≡ true }
     {
         self.fill(lock.acquire(), lock.lock_value());
     }
@@ -94,7 +97,10 @@ impl<K, V: ValueGuard> Inner<K, V> {
     ) -> Option<U>
         requires emptied { is_filled self.old ≡ false }
         requires filled { IfErr made (λ same. is_filled same ≡ true) }
+        requires own { IfOk made (λ done. L.is_own lock.now done.0 ≡ true) }
+        requires still_own { IfErr made (λ same. owns (L.is_own lock.now) same ≡ true) }
         ensures filled { is_filled self.new ≡ true }
+        ensures own { owns (L.is_own lock.now) self.new ≡ true }
         ensures made { is_some result ≡ is_ok made }
         ensures answer { IfOk made (λ done. result ≡ Some done.1) }
         ensures refused { IfErr made (λ same. self.new ≡ same) }

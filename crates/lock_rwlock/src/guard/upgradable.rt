@@ -1,5 +1,5 @@
 //! The upgradable read guard.
-ghost use Rattle.std.specs.Prelude.{◌≡◌, IfSome, IfNone, IfErr, MatchResult, is_ok};
+ghost use Rattle.std.specs.Prelude.{◌≡◌, true, IfSome, IfNone, IfOk, IfErr, MatchResult, is_ok};
 ghost use Rattle.std.specs.Sync.RwLock.{read_guard_value};
 ghost use Rattle.lock_guard.specs.Closure.{AnswersSomeValue};
 
@@ -51,6 +51,8 @@ impl<'a, R: RawRwLockUpgrade, T> RwLockGuard<InMode<'a, Upgradable, R, T>> {
         shown: sync::RwLockReadGuard<'a, T>,
         answer: Result<R::ExclusiveGuard, R::UpgradableGuard>,
     ) -> Result<RwLockWriteGuard<'a, R, T>, RwLockUpgradableReadGuard<'a, R, T>>
+        requires own { IfOk answer (λ token. R.owns_exclusive lock.rwlock.now.raw token ≡ true) }
+        requires same { IfErr answer (λ token. R.owns_upgradable lock.rwlock.now.raw token ≡ true) }
         ensures upgraded { is_ok result ≡ is_ok answer }
         ensures lock { MatchResult result (IsGuardOf lock.entry.rwlock) (λ same. (held_of same).lock ≡ lock.entry) }
         ensures again { (token : R.UpgradableGuard) → IfErr answer (λ back. back ≡ token)

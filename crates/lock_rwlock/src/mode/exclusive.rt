@@ -11,6 +11,8 @@ pub struct Exclusive;
 impl<R: RawRwLock> LockMode<R> for Exclusive {
     type Token = R::ExclusiveGuard;
 
+    ghost is_own = { R.owns_exclusive };
+
     fn acquire(raw: &R) -> R::ExclusiveGuard {
         raw.lock_exclusive()
     }

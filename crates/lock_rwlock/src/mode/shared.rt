@@ -11,6 +11,8 @@ pub struct Shared;
 impl<R: RawRwLock> LockMode<R> for Shared {
     type Token = R::SharedGuard;
 
+    ghost is_own = { R.owns_shared };
+
     fn acquire(raw: &R) -> R::SharedGuard {
         raw.lock_shared()
     }

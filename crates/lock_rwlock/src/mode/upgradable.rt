@@ -11,6 +11,8 @@ pub struct Upgradable;
 impl<R: RawRwLockUpgrade> LockMode<R> for Upgradable {
     type Token = R::UpgradableGuard;
 
+    ghost is_own = { R.owns_upgradable };
+
     fn acquire(raw: &R) -> R::UpgradableGuard {
         raw.lock_upgradable()
     }

@@ -1,7 +1,7 @@
 //! Calls under an upgraded token, which is downgraded afterwards.
 ghost use Rattle.std.specs.Prelude.{◌≡◌, true, IfOk, IfErr, is_ok};
 ghost use Rattle.lock_guard.specs.Closure.{AnswersSomeValue};
-ghost use Rattle.lock_guard.specs.Inner.{is_filled};
+ghost use Rattle.lock_guard.specs.Inner.{is_filled, owns};
 ghost use Rattle.lock_guard.specs.declared.guard.inner.Inner.TheVariants.{Filled};
 
 use super::write_with;
@@ -16,8 +16,10 @@ pub fn with_upgraded<R: RawRwLockUpgradeDowngrade, T, U, F: FnOnce(&mut T) -> U>
     token: R::UpgradableGuard,
     f: F,
 ) -> (R::UpgradableGuard, U)
-    requires { F.IsAlwaysCallable f }
-    ensures { AnswersSomeValue F.FnOnce f result.1 }
+    requires callable { F.IsAlwaysCallable f }
+    requires own { R.owns_upgradable rwlock.now.raw token ≡ true }
+    ensures answer { AnswersSomeValue F.FnOnce f result.1 }
+    ensures own { R.owns_upgradable rwlock.now.raw result.0 ≡ true }
 {
     let token = rwlock.raw.upgrade(token);
     let answer = write_with(rwlock, f);
@@ -36,7 +38,11 @@ pub fn with_if_upgraded<R: RawRwLockUpgradeDowngrade, T, V: Drop, U, F: FnOnce(&
 ) -> Result<(R::UpgradableGuard, U), Inner<R::UpgradableGuard, V>>
 where
     F: Drop,
-    requires { F.IsAlwaysCallable f }
+    requires callable { F.IsAlwaysCallable f }
+    requires own { IfOk upgraded (λ token. R.owns_exclusive rwlock.now.raw token ≡ true) }
+    requires same { IfErr upgraded (λ token. R.owns_upgradable rwlock.now.raw token ≡ true) }
+    ensures own { IfOk result (λ made. R.owns_upgradable rwlock.now.raw made.0 ≡ true) }
+    ensures still_own { IfErr result (λ same. owns (R.owns_upgradable rwlock.now.raw) same ≡ true) }
     ensures called { is_ok result ≡ is_ok upgraded }
     ensures answer { IfOk result (λ made. AnswersSomeValue F.FnOnce f made.1) }
     ensures filled { IfErr result (λ same. is_filled same ≡ true) }

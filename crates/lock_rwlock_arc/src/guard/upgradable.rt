@@ -1,26 +1,26 @@
 //! What an upgradable guard can do besides.
-ghost use Rattle.std.specs.Prelude.{◌≡◌, IfSome, IfNone, IfErr, MatchResult, is_ok};
+ghost use Rattle.std.specs.Prelude.{◌≡◌, true, IfSome, IfNone, IfOk, IfErr, MatchResult, is_ok};
+ghost use Rattle.std.specs.Arc.{arc_value};
 ghost use Rattle.lock_guard.specs.Closure.{AnswersSomeValue};
 ghost use Rattle.lock_guard.specs.declared.guard.inner.Inner.TheVariants.{Filled};
+ghost use Rattle.lock_rwlock.specs.RwLock.{raw_of};
 ghost use Rattle.lock_rwlock_arc.specs.ArcRwLockGuard.{arc_of, lock_of, inner_of};
 
-use super::{
-    ArcRwLockGuard, ArcRwLockReadGuard, ArcRwLockUpgradableReadGuard, ArcRwLockWriteGuard,
-};
+use super::{ArcModeGuard, ArcRwLockReadGuard, ArcRwLockUpgradableReadGuard, ArcRwLockWriteGuard};
 use crate::owned::OwnedInMode;
 use lock_guard::guard::{Held, Inner};
 use lock_guard::raw::{RawRwLockUpgrade, RawRwLockUpgradeDowngrade, RawRwLockUpgradeTimed};
 use lock_rwlock::parts::{raw, with_if_upgraded, with_upgraded};
 use lock_rwlock::{RwLock, Upgradable};
 
-impl<R: RawRwLockUpgrade + Drop, T: Drop> ArcRwLockGuard<Upgradable, R, T> {
+impl<R: RawRwLockUpgrade + Drop, T: Drop> ArcModeGuard<OwnedInMode<Upgradable, R, T>> {
     /// Upgrades the guard to a write guard, blocking until no other guard is held.
     pub fn upgrade(guard: ArcRwLockUpgradableReadGuard<R, T>) -> ArcRwLockWriteGuard<R, T>
         ensures { arc_of result ≡ arc_of guard }
     {
         let (rwlock, token) = guard.into_token();
         let token = raw(&rwlock).upgrade(token);
-        ArcRwLockGuard::new(rwlock, token)
+        ArcModeGuard::new(rwlock, token)
     }
 
     /// Upgrades the guard without blocking, or returns it unchanged if the raw lock refuses.
@@ -32,7 +32,7 @@ impl<R: RawRwLockUpgrade + Drop, T: Drop> ArcRwLockGuard<Upgradable, R, T> {
     {
         let (lock, token, ()) = guard.held.into_parts();
         let answer = raw(&lock.rwlock).try_upgrade(token);
-        ArcRwLockGuard::upgraded(lock, answer)
+        ArcModeGuard::upgraded(lock, answer)
     }
 
     /// Makes the guard of the token that the raw lock returned.
@@ -40,6 +40,8 @@ impl<R: RawRwLockUpgrade + Drop, T: Drop> ArcRwLockGuard<Upgradable, R, T> {
         lock: OwnedInMode<Upgradable, R, T>,
         answer: Result<R::ExclusiveGuard, R::UpgradableGuard>,
     ) -> Result<ArcRwLockWriteGuard<R, T>, ArcRwLockUpgradableReadGuard<R, T>>
+        requires own { IfOk answer (λ token. R.owns_exclusive (raw_of (arc_value lock.rwlock)) token ≡ true) }
+        requires same { IfErr answer (λ token. R.owns_upgradable (raw_of (arc_value lock.rwlock)) token ≡ true) }
         ensures upgraded { is_ok result ≡ is_ok answer }
         ensures lock { MatchResult result (λ upgraded. arc_of upgraded ≡ lock.rwlock)
             (λ same. lock_of same ≡ lock) }
@@ -47,10 +49,10 @@ impl<R: RawRwLockUpgrade + Drop, T: Drop> ArcRwLockGuard<Upgradable, R, T> {
             → IfErr result (λ same. inner_of same ≡ Filled token tt) }
     {
         match answer {
-            Ok(token) => Ok(ArcRwLockGuard::new(lock.rwlock, token)),
+            Ok(token) => Ok(ArcModeGuard::new(lock.rwlock, token)),
             Err(token) => {
                 let inner = Inner::Filled(token, ());
-                Err(ArcRwLockGuard {
+                Err(ArcModeGuard {
                     held: Held { lock, inner },
                 })
             }
@@ -58,7 +60,7 @@ impl<R: RawRwLockUpgrade + Drop, T: Drop> ArcRwLockGuard<Upgradable, R, T> {
     }
 }
 
-impl<R: RawRwLockUpgradeTimed + Drop, T: Drop> ArcRwLockGuard<Upgradable, R, T> {
+impl<R: RawRwLockUpgradeTimed + Drop, T: Drop> ArcModeGuard<OwnedInMode<Upgradable, R, T>> {
     /// `try_upgrade`, where the raw lock may block for at most `timeout`.
     pub fn try_upgrade_for(
         guard: ArcRwLockUpgradableReadGuard<R, T>,
@@ -69,7 +71,7 @@ impl<R: RawRwLockUpgradeTimed + Drop, T: Drop> ArcRwLockGuard<Upgradable, R, T> 
     {
         let (lock, token, ()) = guard.held.into_parts();
         let answer = raw(&lock.rwlock).try_upgrade_for(token, timeout);
-        ArcRwLockGuard::upgraded(lock, answer)
+        ArcModeGuard::upgraded(lock, answer)
     }
 
     /// `try_upgrade`, where the raw lock may block until `deadline`.
@@ -82,18 +84,18 @@ impl<R: RawRwLockUpgradeTimed + Drop, T: Drop> ArcRwLockGuard<Upgradable, R, T> 
     {
         let (lock, token, ()) = guard.held.into_parts();
         let answer = raw(&lock.rwlock).try_upgrade_until(token, deadline);
-        ArcRwLockGuard::upgraded(lock, answer)
+        ArcModeGuard::upgraded(lock, answer)
     }
 }
 
-impl<R: RawRwLockUpgradeDowngrade + Drop, T: Drop> ArcRwLockGuard<Upgradable, R, T> {
+impl<R: RawRwLockUpgradeDowngrade + Drop, T: Drop> ArcModeGuard<OwnedInMode<Upgradable, R, T>> {
     /// Downgrades the guard to a read guard.
     pub fn downgrade(guard: ArcRwLockUpgradableReadGuard<R, T>) -> ArcRwLockReadGuard<R, T>
         ensures { arc_of result ≡ arc_of guard }
     {
         let (rwlock, token) = guard.into_token();
         let token = raw(&rwlock).downgrade_upgradable(token);
-        ArcRwLockGuard::new(rwlock, token)
+        ArcModeGuard::new(rwlock, token)
     }
 
     /// Upgrades, runs `f` on the value, and downgrades again. The upgrade blocks until no other guard is held.
@@ -127,10 +129,8 @@ impl<R: RawRwLockUpgradeDowngrade + Drop, T: Drop> ArcRwLockGuard<Upgradable, R,
     }
 }
 
-impl<R: RawRwLockUpgradeTimed + RawRwLockUpgradeDowngrade + Drop, T: Drop> ArcRwLockGuard<
-    Upgradable,
-    R,
-    T,
+impl<R: RawRwLockUpgradeTimed + RawRwLockUpgradeDowngrade + Drop, T: Drop> ArcModeGuard<
+    OwnedInMode<Upgradable, R, T>,
 > {
     /// `try_with_upgraded`, where the raw lock may block for at most `timeout`.
     pub fn try_with_upgraded_for<U, F: FnOnce(&mut T) -> U>(

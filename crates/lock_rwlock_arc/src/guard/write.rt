@@ -3,14 +3,13 @@ ghost use Rattle.std.specs.Prelude.{◌≡◌};
 ghost use Rattle.lock_guard.specs.Closure.{AnswersSomeValue};
 ghost use Rattle.lock_rwlock_arc.specs.ArcRwLockGuard.{arc_of};
 
-use super::{
-    ArcRwLockGuard, ArcRwLockReadGuard, ArcRwLockUpgradableReadGuard, ArcRwLockWriteGuard,
-};
+use super::{ArcModeGuard, ArcRwLockReadGuard, ArcRwLockUpgradableReadGuard, ArcRwLockWriteGuard};
+use crate::owned::OwnedInMode;
 use lock_guard::raw::{RawRwLock, RawRwLockDowngrade, RawRwLockUpgradeDowngrade};
 use lock_rwlock::Exclusive;
 use lock_rwlock::parts::{raw, write_with};
 
-impl<R: RawRwLock + Drop, T: Drop> ArcRwLockGuard<Exclusive, R, T> {
+impl<R: RawRwLock + Drop, T: Drop> ArcModeGuard<OwnedInMode<Exclusive, R, T>> {
     /// Runs `f` on the value, which it may change, holding the value's lock for the length of the call.
     pub fn with_mut<U, F: FnOnce(&mut T) -> U>(guard: &mut ArcRwLockWriteGuard<R, T>, f: F) -> U
         requires { F.IsAlwaysCallable f }
@@ -21,18 +20,18 @@ impl<R: RawRwLock + Drop, T: Drop> ArcRwLockGuard<Exclusive, R, T> {
     }
 }
 
-impl<R: RawRwLockDowngrade + Drop, T: Drop> ArcRwLockGuard<Exclusive, R, T> {
+impl<R: RawRwLockDowngrade + Drop, T: Drop> ArcModeGuard<OwnedInMode<Exclusive, R, T>> {
     /// Downgrades the guard to a read guard.
     pub fn downgrade(guard: ArcRwLockWriteGuard<R, T>) -> ArcRwLockReadGuard<R, T>
         ensures { arc_of result ≡ arc_of guard }
     {
         let (rwlock, token) = guard.into_token();
         let token = raw(&rwlock).downgrade(token);
-        ArcRwLockGuard::new(rwlock, token)
+        ArcModeGuard::new(rwlock, token)
     }
 }
 
-impl<R: RawRwLockUpgradeDowngrade + Drop, T: Drop> ArcRwLockGuard<Exclusive, R, T> {
+impl<R: RawRwLockUpgradeDowngrade + Drop, T: Drop> ArcModeGuard<OwnedInMode<Exclusive, R, T>> {
     /// Downgrades the guard to an upgradable read guard.
     pub fn downgrade_to_upgradable(
         guard: ArcRwLockWriteGuard<R, T>,
@@ -41,6 +40,6 @@ impl<R: RawRwLockUpgradeDowngrade + Drop, T: Drop> ArcRwLockGuard<Exclusive, R, 
     {
         let (rwlock, token) = guard.into_token();
         let token = raw(&rwlock).downgrade_to_upgradable(token);
-        ArcRwLockGuard::new(rwlock, token)
+        ArcModeGuard::new(rwlock, token)
     }
 }

@@ -5,4 +5,4 @@ pub returns : goal.returns
 returns g c =
     let parts = c.into_parts-token.ensures in
     let upgraded = c.upgraded.ensures in
-    upgraded_or_same c.args.guard c.upgraded.result parts.lock parts.inner upgraded.lock (upgraded.again _ c.try_upgrade-answer.ensures)
+    upgraded_or_same c.args.guard c.upgraded.result parts.lock parts.inner upgraded.lock (upgraded.again _ c.try_upgrade-answer.ensures.back)

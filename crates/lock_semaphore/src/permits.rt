@@ -1,9 +1,0 @@
-//! What the ledger of a semaphore counts.
-use lock_ruled::Measure;
-
-/// The measure of a semaphore's value: the number of free permits.
-pub struct Permits;
-
-impl Measure<u64> for Permits {
-    ghost measure = { λ free. free };
-}
