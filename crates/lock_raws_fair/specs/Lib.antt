@@ -1,0 +1,3 @@
+pub mod FairState
+pub mod FairLaws
+pub mod FairWaking

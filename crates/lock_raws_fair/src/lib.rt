@@ -1,0 +1,18 @@
+//! Raw locks that admit in the order of arrival.
+//!
+//! `FairArbiter` is an arbiter with a line of tickets. `FairCore` is a `LockCore`: a std `Mutex` around it, and event counts
+//! on which waiters sleep.
+#![tactic(auto)]
+
+mod fair_arbiter;
+mod fair_core;
+mod fair_timing;
+mod fair_wake;
+mod laws;
+mod turn;
+
+pub use fair_arbiter::FairArbiter;
+pub use fair_core::{FairCore, FairRaw, TimedFairRaw};
+pub use fair_timing::FairTiming;
+pub use fair_wake::FairWake;
+pub use laws::{nobody_is_stuck, nobody_passes_an_upgrade, wakes_miss_nobody};
