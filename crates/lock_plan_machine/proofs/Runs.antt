@@ -12,7 +12,7 @@ use Rattle.lock_plan.specs.declared.lock.PlanLock.{PlanLock}
 use Rattle.lock_plan.specs.declared.turn.Turn.{Turn}
 use Rattle.lock_plan.specs.declared.turn.Turn.TheVariants.{Goes, Announces, Waits, Refused}
 use Rattle.lock_plan.specs.Holds.{no_hold}
-use Rattle.lock_plan.specs.Worlds.{Stand, no_stand, no_lock, turn_of, turn_at, first_call, gone, announced_for, stand_after, put_stand, world_step, on_from, world_after, first_world, some_below, is_refused_turn, is_step_turn, is_stuck, is_refused, is_stop}
+use Rattle.lock_plan.specs.Worlds.{Stand, no_stand, no_lock, turn_of, turn_at, first_call, gone, announced_for, stand_after, put_stand, world_step, on_from, world_after, first_world, some_below, is_server, is_due, is_refused_turn, is_step_turn, is_stuck, is_refused, is_stop}
 use Rattle.lock_plan_machine.specs.Scenes.{Caller, parties_of, Scene, scene_with, left_after, machine_turn, HasTurn, IsStep, IsRun, IsStuckScene, IsRefusedScene, IsStopScene, first_scene}
 use Rattle.lock_plan_machine.specs.Bridge.{AreDistinct, Shows, RunsAreOfWorlds, WorldRunsAreOfMachines, StopsAreTheSame}
 use Rattle.lock_plan_machine.proofs.MachineTurns.{ByTurn}
@@ -240,8 +240,8 @@ module _ {O T A : Type 0} (meaning : O → Operation T A) (ids : ℕ → PartyId
     not_true true h = absurd (h refl)
     not_true false h = refl
 
-    stuck_here : IsStuckScene meaning ids locks s → is_stuck locks w ≡ true
-    stuck_here h =
+    stuck_here : (servers : List Bool) → IsStuckScene meaning ids servers locks s → is_stuck servers locks w ≡ true
+    stuck_here servers h =
         let p = h.left.0 in
         let any : Caller = record { party = p; guard = 0 } in
         let g = guard_of meaning ids distinct locks bars w s tied any h.left.1 h.left.2 h.left.3 in
@@ -249,24 +249,27 @@ module _ {O T A : Type 0} (meaning : O → Operation T A) (ids : ℕ → PartyId
         let same = same_turn meaning ids distinct locks bars w s tied c h.left.1 h.left.2 h.left.3 g.1 in
         let inside = known meaning ids distinct locks bars w s tied c h.left.1 h.left.2 h.left.3 in
         and_from _ _
-        (some_at (λ q. is_some (turn_of locks w q)) (length w) p inside (ap is_some same.in_world))
+        (some_at (λ q. is_due (is_server servers q) (turn_of locks w q)) (length w) p inside
+        (and_from (is_some (turn_of locks w p)) (not (is_server servers p)) (ap is_some same.in_world) (ap not h.left.4)))
         (not_true (some_below (λ q. is_step_turn (turn_of locks w q)) (length w)) (no_step_here h.none))
 
-    call_of : (p : ℕ) (calls : List PlanCall) → get_or s.calls p [] ≡ calls
-        → is_some (turn_at locks (map (λ x. x.holds) w) p (first_call calls)) ≡ true
-        → (q : ℕ) × (call : PlanCall) × (rest : List PlanCall) × (get_or s.calls q [] ≡ call ∷ rest)
-    call_of p [] next is = cc
-    call_of p (call ∷ calls) next is = (p, call, calls, next)
+    call_of : (servers : List Bool) (p : ℕ) (calls : List PlanCall) → get_or s.calls p [] ≡ calls
+        → is_some (turn_at locks (map (λ x. x.holds) w) p (first_call calls)) ≡ true → is_server servers p ≡ false
+        → (q : ℕ) × (call : PlanCall) × (rest : List PlanCall) × (get_or s.calls q [] ≡ call ∷ rest) × (is_server servers q ≡ false)
+    call_of servers p [] next is other = cc
+    call_of servers p (call ∷ calls) next is other = (p, call, calls, next, other)
 
-    stuck_back : is_stuck locks w ≡ true → IsStuckScene meaning ids locks s
-    stuck_back is =
-        let both = and_parts (some_below (λ q. is_some (turn_of locks w q)) (length w))
+    stuck_back : (servers : List Bool) → is_stuck servers locks w ≡ true → IsStuckScene meaning ids servers locks s
+    stuck_back servers is =
+        let both = and_parts (some_below (λ q. is_due (is_server servers q) (turn_of locks w q)) (length w))
         (not (some_below (λ q. is_step_turn (turn_of locks w q)) (length w))) is in
-        let found = some_found (λ q. is_some (turn_of locks w q)) (length w) both.0 in
+        let found = some_found (λ q. is_due (is_server servers q) (turn_of locks w q)) (length w) both.0 in
+        let due = and_parts (is_some (turn_of locks w found.0)) (not (is_server servers found.0)) found.1 in
         record {
-          left = call_of found.0 (get_or s.calls found.0 []) refl
+          left = call_of servers found.0 (get_or s.calls found.0 []) refl
               (ap (λ (calls : List PlanCall). is_some (turn_at locks (map (λ x. x.holds) w) found.0 (first_call calls)))
-              (sym (calls_same meaning ids distinct locks bars w s tied found.0)) ∙ found.1);
+              (sym (calls_same meaning ids distinct locks bars w s tied found.0)) ∙ due.0)
+              (not-true (is_server servers found.0) due.1);
           none = λ c after h.
               false≢true (sym (not-true (some_below (λ q. is_step_turn (turn_of locks w q)) (length w)) both.1) ∙ step_there c after h);
         }
@@ -276,16 +279,19 @@ module _ {O T A : Type 0} (meaning : O → Operation T A) (ids : ℕ → PartyId
     or_one false b (inl h) = absurd (false≢true h)
     or_one false b (inr h) = h
 
-    stop_here : IsStopScene meaning ids locks s → is_stop locks w ≡ true
-    stop_here (inl h) = or_one (is_refused locks w) (is_stuck locks w) (inl (refused_here h))
-    stop_here (inr h) = or_one (is_refused locks w) (is_stuck locks w) (inr (stuck_here h))
+    stop_here : (servers : List Bool) → IsStopScene meaning ids servers locks s → is_stop servers locks w ≡ true
+    stop_here servers (inl h) = or_one (is_refused locks w) (is_stuck servers locks w) (inl (refused_here h))
+    stop_here servers (inr h) = or_one (is_refused locks w) (is_stuck servers locks w) (inr (stuck_here servers h))
 
-    stop_by : (is_refused locks w ≡ true) ⊎ (is_stuck locks w ≡ true) → IsStopScene meaning ids locks s
-    stop_by (inl h) = inl (refused_back h)
-    stop_by (inr h) = inr (stuck_back h)
+    stop_by : (servers : List Bool) → (is_refused locks w ≡ true) ⊎ (is_stuck servers locks w ≡ true) → IsStopScene meaning ids servers locks s
+    stop_by servers (inl h) = inl (refused_back h)
+    stop_by servers (inr h) = inr (stuck_back servers h)
 
-    pub same_stop : IsStopScene meaning ids locks s ↔ (is_stop locks w ≡ true)
-    same_stop = (stop_here, λ is. stop_by (or_cases (is_refused locks w) (is_stuck locks w) is))
+    pub same_stop : (servers : List Bool) → IsStopScene meaning ids servers locks s ↔ (is_stop servers locks w ≡ true)
+    same_stop servers = (
+      stop_here servers,
+      λ is. stop_by servers (or_cases (is_refused locks w) (is_stuck servers locks w) is),
+    )
 
   -- a run of scenes is one of worlds
   pub run_on : (cs : List Caller) (w : List Stand) (s after : Scene T) → IsTied ids locks w s → IsRun meaning ids locks s cs after
@@ -344,8 +350,8 @@ module _ {O T A : Type 0} (meaning : O → Operation T A) where
       (r.callers, r.after, r.parties, r.is_run, shows ids distinct locks w r.after r.still)
 
   pub same_stops : StopsAreTheSame meaning
-  same_stops ids locks parties values places cs s w distinct fits run is =
+  same_stops ids locks parties values places cs s w servers distinct fits run is =
       let r = run_on meaning ids distinct locks fits.bars cs (first_world locks parties) (first_scene locks parties values places) s
       (first_tied locks ids parties values places fits) run in
       same_stop meaning ids distinct locks fits.bars w s
-      (subst (λ (x : List Stand). IsTied ids locks x s) (same_worlds r.0 w (sym r.1 ∙ is)) r.2)
+      (subst (λ (x : List Stand). IsTied ids locks x s) (same_worlds r.0 w (sym r.1 ∙ is)) r.2) servers

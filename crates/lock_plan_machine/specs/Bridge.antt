@@ -1,5 +1,5 @@
 -- The bridge: the scenes of a plan and its worlds make the same runs, and have the same stops.
-use Rattle.std.specs.Prelude.{◌≡◌, ℕ, ◌<◌, ◌≤◌, ◌^◌, ◌==◌, true, if◌then◌else◌, List, [], ◌∷◌, length, map, sum_by, Some, None, IsTrue, ◌↔◌, option_map}
+use Rattle.std.specs.Prelude.{◌≡◌, ℕ, ◌<◌, ◌≤◌, ◌^◌, ◌==◌, Bool, true, if◌then◌else◌, List, [], ◌∷◌, length, map, sum_by, Some, None, IsTrue, ◌↔◌, option_map}
 use Rattle.std.proofs.Common.{get_or}
 use Rattle.lock_base.specs.declared.machine.bag.Bag.{Bag}
 use Rattle.lock_base.specs.declared.machine.party.PartyId.{PartyId}
@@ -78,12 +78,12 @@ module _ {O T A : Type 0} (meaning : O → Operation T A) where
       → (cs : List Caller) × (s : Scene T) × (parties_of cs ≡ ps)
       × IsRun meaning ids locks (first_scene locks parties values places) cs s × Shows ids locks w s
 
-  -- the machines stop exactly where the worlds do
+  -- the machines stop exactly where the worlds do, whichever parties are servers
   abbrev pub StopsAreTheSame : Type 0
   StopsAreTheSame =
       (ids : ℕ → PartyId) (locks : List PlanLock) (parties : List (List PlanCall)) (values : ℕ → T) (places : ℕ)
-      (cs : List Caller) (s : Scene T) (w : List Stand)
+      (cs : List Caller) (s : Scene T) (w : List Stand) (servers : List Bool)
       → AreDistinct ids → FitsMachines locks parties places
       → IsRun meaning ids locks (first_scene locks parties values places) cs s
       → world_after locks (first_world locks parties) (parties_of cs) ≡ Some w
-      → IsStopScene meaning ids locks s ↔ (is_stop locks w ≡ true)
+      → IsStopScene meaning ids servers locks s ↔ (is_stop servers locks w ≡ true)

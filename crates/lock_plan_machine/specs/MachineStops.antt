@@ -1,5 +1,5 @@
 -- The answers of a search for a stop, said of machines of guards.
-use Rattle.std.specs.Prelude.{◌≡◌, ℕ, ◌<◌, ◌≤◌, List, length, sum_by}
+use Rattle.std.specs.Prelude.{◌≡◌, ℕ, Bool, ◌<◌, ◌≤◌, List, length, sum_by}
 use Rattle.lock_base.specs.declared.machine.party.PartyId.{PartyId}
 use Rattle.lock_base.specs.Operation.{Operation}
 use Rattle.lock_plan.specs.declared.call.PlanCall.{PlanCall}
@@ -14,15 +14,16 @@ module _ {O T A : Type 0} (meaning : O → Operation T A) (locks : List PlanLock
     pub room : sum_by length parties ≤ places
     pub is_run : IsRun meaning ids locks (first_scene locks parties values places) cs s
 
+module _ {O T A : Type 0} (meaning : O → Operation T A) (servers : List Bool) (locks : List PlanLock) (parties : List (List PlanCall)) where
   -- no run of the machines leads into a stop
   abbrev pub MachinesNeverStop : Type 0
   MachinesNeverStop =
       (ids : ℕ → PartyId) (values : ℕ → T) (places : ℕ) (cs : List Caller) (s : Scene T)
-      → LeadsInto ids values places cs s → IsStopScene meaning ids locks s → ⊥
+      → LeadsInto meaning locks parties ids values places cs s → IsStopScene meaning ids servers locks s → ⊥
 
   -- these parties run the machines into a stop, and no fewer calls do
   pub record IsShortestStopOfMachines (trace : List ℕ) : Type 0 where
     pub stops : (ids : ℕ → PartyId) (values : ℕ → T) (places : ℕ) → AreDistinct ids → sum_by length parties ≤ places
-        → (cs : List Caller) × (s : Scene T) × (parties_of cs ≡ trace) × LeadsInto ids values places cs s × IsStopScene meaning ids locks s
+        → (cs : List Caller) × (s : Scene T) × (parties_of cs ≡ trace) × LeadsInto meaning locks parties ids values places cs s × IsStopScene meaning ids servers locks s
     pub shortest : (ids : ℕ → PartyId) (values : ℕ → T) (places : ℕ) (cs : List Caller) (s : Scene T)
-        → length cs < length trace → LeadsInto ids values places cs s → IsStopScene meaning ids locks s → ⊥
+        → length cs < length trace → LeadsInto meaning locks parties ids values places cs s → IsStopScene meaning ids servers locks s → ⊥

@@ -27,7 +27,7 @@ use Rattle.lock_plan.specs.declared.lock.PlanLock.{PlanLock}
 use Rattle.lock_plan.specs.declared.turn.Turn.{Turn}
 use Rattle.lock_plan.specs.declared.turn.Turn.TheVariants.{Goes, Announces, Waits, Refused}
 use Rattle.lock_plan.specs.Holds.{is_write}
-use Rattle.lock_plan.specs.Worlds.{no_lock}
+use Rattle.lock_plan.specs.Worlds.{no_lock, is_server}
 
 -- the call of the machine that a call of a plan is, on this guard
 
@@ -161,14 +161,15 @@ module _ {O T A : Type 0} (meaning : O → Operation T A) (ids : ℕ → PartyId
   IsRun locks s [] after = s ≡ after
   IsRun locks s (c ∷ cs) after = (next : Scene T) × IsStep locks s c next × IsRun locks next cs after
 
-  -- some party has calls left, and no party has a step, whichever of its guards it names
-  pub record IsStuckScene (locks : List PlanLock) (s : Scene T) : Type 0 where
+  -- some party that is no server has calls left, and no party has a step, whichever of its guards it names
+  pub record IsStuckScene (servers : List Bool) (locks : List PlanLock) (s : Scene T) : Type 0 where
     pub left : (party : ℕ) × (call : PlanCall) × (calls : List PlanCall) × (get_or s.calls party [] ≡ call ∷ calls)
+        × (is_server servers party ≡ false)
     pub none : (c : Caller) (after : Scene T) → IsStep locks s c after → ⊥
 
   -- the next call of some party is refused
   abbrev pub IsRefusedScene : List PlanLock → Scene T → Type 0
   IsRefusedScene locks s = (c : Caller) × (after : Scene T) × HasTurn locks s c Refused after
 
-  abbrev pub IsStopScene : List PlanLock → Scene T → Type 0
-  IsStopScene locks s = IsRefusedScene locks s ⊎ IsStuckScene locks s
+  abbrev pub IsStopScene : List Bool → List PlanLock → Scene T → Type 0
+  IsStopScene servers locks s = IsRefusedScene locks s ⊎ IsStuckScene servers locks s

@@ -11,8 +11,8 @@ use lock_plan::Plan;
 /// What [`explore`](lock_plan::explore) answers about a plan holds of machines of guards.
 pub fn machines_stop_as_explored<T, O: Op<T>>(plan: &Plan)
     requires { IsTrue (fit_machines plan.now.locks.items) }
-    ensures none { NeverStops plan.now.locks.items (calls_of plan.now)
-        → MachinesNeverStop O.meaning plan.now.locks.items (calls_of plan.now) }
-    ensures stop { (trace : List ℕ) → IsShortestStop plan.now.locks.items (calls_of plan.now) trace
-        → IsShortestStopOfMachines O.meaning plan.now.locks.items (calls_of plan.now) trace }
+    ensures none { NeverStops plan.now.servers.items plan.now.locks.items (calls_of plan.now)
+        → MachinesNeverStop O.meaning plan.now.servers.items plan.now.locks.items (calls_of plan.now) }
+    ensures stop { (trace : List ℕ) → IsShortestStop plan.now.servers.items plan.now.locks.items (calls_of plan.now) trace
+        → IsShortestStopOfMachines O.meaning plan.now.servers.items plan.now.locks.items (calls_of plan.now) trace }
 {}

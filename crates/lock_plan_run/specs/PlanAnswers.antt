@@ -19,10 +19,10 @@ verdict_of None = NeverStops
 verdict_of (Some trace) = Stops
 
 -- no interleaving leads into a stop, and so many worlds can be reached; or this trace is a shortest one
-abbrev pub IsFound : List PlanLock → List (List PlanCall) → Option (Vec ℕ Global) → ℕ → Type 0
-IsFound locks parties None visited =
-    plans.NeverStops locks parties × IsCountOf (plans.IsReachableWorld locks parties) visited
-IsFound locks parties (Some trace) visited = plans.IsShortestStop locks parties trace.items
+abbrev pub IsFound : List Bool → List PlanLock → List (List PlanCall) → Option (Vec ℕ Global) → ℕ → Type 0
+IsFound servers locks parties None visited =
+    plans.NeverStops servers locks parties × IsCountOf (plans.IsReachableWorld locks parties) visited
+IsFound servers locks parties (Some trace) visited = plans.IsShortestStop servers locks parties trace.items
 
 -- the drawing, where it is asked for
 abbrev pub drawing_if : Bool → List PlanLock → List (List PlanCall) → Names → Option (Vec ℕ Global) → List ℕ
@@ -41,6 +41,6 @@ pub record IsPlanAnswer (is_drawn : Bool) (bytes : List ℕ) (verdict : Verdict)
   pub plan : IsPlanOf bytes named
   pub trace : Option (Vec ℕ Global)
   pub visited : ℕ
-  pub found : IsFound named.plan.locks.items (calls_of named.plan) trace visited
+  pub found : IsFound named.plan.servers.items named.plan.locks.items (calls_of named.plan) trace visited
   pub verdict_is : verdict ≡ verdict_of trace
   pub text_is : text ≡ whole_text is_drawn named trace visited

@@ -11,9 +11,9 @@ use Rattle.lock_plan.specs.Checks.{fit_machines, fits_kind, fits_machine}
 use Rattle.lock_plan_script.specs.declared.plan_line.PlanLine.{PlanLine}
 use Rattle.lock_plan_script.specs.declared.plan_line.PlanLine.TheVariants.{Lock, Party, Call}
 use Rattle.lock_plan_script.specs.Drafted.{TextsFitMachines}
-use Rattle.lock_plan_script.specs.Drafts.{Draft, Make, call_at_place, no_draft, place_of, texts_of, with_call, with_line, with_lock, with_party}
+use Rattle.lock_plan_script.specs.Drafts.{Draft, Make, call_at_place, no_draft, place_of, texts_of, party_names, with_call, with_line, with_lock}
 use Rattle.lock_plan_script.specs.PlanLines.{IsLineLock, IsPlanLine}
-use Rattle.lock_plan_script.proofs.Origins.{taken}
+use Rattle.lock_plan_script.proofs.Origins.{parties_kept, taken}
 
 -- the locks of the draft fit machines
 abbrev Fit : Draft → Type 0
@@ -40,8 +40,8 @@ fit_line : (draft next : Draft) (number : ℕ) (line : PlanLine) (name : List �
 fit_line draft next number (Lock lock) name fit ok is =
     subst Fit (taken (is_some (place_of draft.lock_names name)) (with_lock draft lock name) next is)
     (fit_lock draft lock name fit (kind_fits lock.kind lock.limit lock.bar ok))
-fit_line draft next number Party name fit ok is =
-    subst Fit (taken (is_some (place_of draft.party_names name)) (with_party draft name) next is) fit
+fit_line draft next number (Party serves copies) name fit ok is =
+    parties_kept Fit serves (λ d called kept. kept) (record draft { first = length draft.parties }) next (party_names name copies) fit is
 fit_line draft next number (Call for_rwlock act) name fit ok is =
     fit_call draft next number for_rwlock act (place_of draft.lock_names name) fit is
 

@@ -1,3 +1,4 @@
+mod CopyNames
 mod FaultPlaces
 mod FitLocks
 mod LastFields

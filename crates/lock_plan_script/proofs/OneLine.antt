@@ -12,7 +12,7 @@ use Rattle.lock_plan.specs.declared.call.Act.TheVariants.{Step, Announce, Withdr
 use Rattle.lock_plan_answer.specs.Words.{act_word}
 use Rattle.lock_plan_script.specs.declared.plan_line.PlanLine.{PlanLine}
 use Rattle.lock_plan_script.specs.declared.plan_line.PlanLine.TheVariants.{Lock, Party, Call}
-use Rattle.lock_plan_script.specs.PlanLines.{IsLineLock, IsPlanLine, IsVerb, kind_word, last_fields, limit_fields, line_word, plan_fields}
+use Rattle.lock_plan_script.specs.PlanLines.{IsCopies, IsLineLock, IsPlanLine, IsVerb, copy_fields, kind_word, last_fields, limit_fields, line_word, party_word, plan_fields}
 
 -- a line without the limit of its lock
 abbrev of_kind : Kind → PlanLine
@@ -20,7 +20,7 @@ of_kind kind = Lock (record { kind = kind; limit = 0; bar = false })
 
 abbrev bare : PlanLine → PlanLine
 bare (Lock lock) = of_kind lock.kind
-bare Party = Party
+bare (Party serves copies) = Party serves None
 bare (Call is_rwlock act) = Call is_rwlock act
 
 -- the line of a word
@@ -29,7 +29,8 @@ by_word word =
     cond (bytes_eq word (codes "mutex")) (Some (of_kind Mutex))
     (cond (bytes_eq word (codes "rwlock")) (Some (of_kind RwLock))
     (cond (bytes_eq word (codes "reentrant")) (Some (of_kind Reentrant))
-    (cond (bytes_eq word (codes "party")) (Some Party)
+    (cond (bytes_eq word (codes "party")) (Some (Party false None))
+    (cond (bytes_eq word (codes "server")) (Some (Party true None))
     (cond (bytes_eq word (codes "lock")) (Some (Call false (Step (Acquire Exclusive))))
     (cond (bytes_eq word (codes "unlock")) (Some (Call false (Step (Release Exclusive))))
     (cond (bytes_eq word (codes "read")) (Some (Call true (Step (Acquire Shared))))
@@ -43,7 +44,7 @@ by_word word =
     (cond (bytes_eq word (codes "downgrade_to_upgradable")) (Some (Call true (Step (Change Exclusive Upgradable))))
     (cond (bytes_eq word (codes "downgrade_upgradable")) (Some (Call true (Step (Change Upgradable Shared))))
     (cond (bytes_eq word (codes "announce")) (Some (Call true Announce))
-    (cond (bytes_eq word (codes "withdraw")) (Some (Call true Withdraw)) None)))))))))))))))))
+    (cond (bytes_eq word (codes "withdraw")) (Some (Call true Withdraw)) None))))))))))))))))))
 
 kind_by_word : (kind : Kind) → by_word (kind_word kind) ≡ Some (of_kind kind)
 unfolding by_word
@@ -88,13 +89,14 @@ act_by_word false (Step (Change Upgradable Upgradable)) ok = absurd (false≢tru
 act_by_word false Announce ok = absurd (false≢true ok)
 act_by_word false Withdraw ok = absurd (false≢true ok)
 
-party_by_word : by_word (codes "party") ≡ Some Party
+party_by_word : (serves : Bool) → by_word (party_word serves) ≡ Some (Party serves None)
 unfolding by_word
-party_by_word = refl
+party_by_word false = refl
+party_by_word true = refl
 
 line_by_word : (line : PlanLine) → IsPlanLine line → by_word (line_word line) ≡ Some (bare line)
 line_by_word (Lock lock) ok = kind_by_word lock.kind
-line_by_word Party ok = party_by_word
+line_by_word (Party serves copies) ok = party_by_word serves
 line_by_word (Call is_rwlock act) ok = act_by_word is_rwlock act ok
 
 same_limits : (kind : Kind) (limit other : ℕ) (bar flag : Bool) → IsLineLock kind limit bar → IsLineLock kind other flag
@@ -126,20 +128,37 @@ same_locks Reentrant RwLock limit other bar flag is ok good same = cc
 
 abbrev kind_of : PlanLine → Kind
 kind_of (Lock lock) = lock.kind
-kind_of Party = Mutex
+kind_of (Party serves copies) = Mutex
 kind_of (Call is_rwlock act) = Mutex
+
+abbrev serves_of : PlanLine → Bool
+serves_of (Lock lock) = false
+serves_of (Party serves copies) = serves
+serves_of (Call is_rwlock act) = false
+
+same_copies : (serves : Bool) (copies other : Option ℕ) → IsCopies copies → IsCopies other → copy_fields copies ≡ copy_fields other
+    → Party serves copies ≡ Party serves other
+same_copies serves None None ok good same = refl
+same_copies serves None (Some other) ok good same = cc
+same_copies serves (Some count) None ok good same = cc
+same_copies serves (Some count) (Some other) ok good same =
+    let text : decimal count ≡ decimal other = cc in
+    let counts : count ≡ other = decimal_injective count other (omega (arith, ok.1)) (omega (arith, good.1)) text in
+    ap (λ (n : ℕ). Party serves (Some n)) counts
 
 same_lines : (line other : PlanLine) → bare line ≡ bare other → IsPlanLine line → IsPlanLine other → last_fields line ≡ last_fields other → line ≡ other
 same_lines (Lock lock) (Lock other) is ok good same =
     let kinds : lock.kind ≡ other.kind = ap kind_of is in
     same_locks lock.kind other.kind lock.limit other.limit lock.bar other.bar kinds ok good same
-same_lines (Lock lock) Party is ok good same = cc
+same_lines (Lock lock) (Party serves copies) is ok good same = cc
 same_lines (Lock lock) (Call is_rwlock act) is ok good same = cc
-same_lines Party (Lock other) is ok good same = cc
-same_lines Party Party is ok good same = refl
-same_lines Party (Call is_rwlock act) is ok good same = cc
+same_lines (Party serves copies) (Lock other) is ok good same = cc
+same_lines (Party serves copies) (Party waits other) is ok good same =
+    let servers : serves ≡ waits = ap serves_of is in
+    ap (λ (b : Bool). Party b copies) servers ∙ same_copies waits copies other ok good same
+same_lines (Party serves copies) (Call is_rwlock act) is ok good same = cc
 same_lines (Call is_rwlock act) (Lock other) is ok good same = cc
-same_lines (Call is_rwlock act) Party is ok good same = cc
+same_lines (Call is_rwlock act) (Party serves copies) is ok good same = cc
 same_lines (Call is_rwlock act) (Call for_rwlock other) is ok good same = is
 
 pub one_line : (line other : PlanLine) (name another : List ℕ) → IsPlanLine line → IsPlanLine other

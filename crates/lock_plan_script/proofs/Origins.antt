@@ -12,9 +12,9 @@ use Rattle.lock_plan.specs.Worlds.{no_lock}
 use Rattle.lock_plan_script.specs.declared.plan_line.PlanLine.{PlanLine}
 use Rattle.lock_plan_script.specs.declared.plan_line.PlanLine.TheVariants.{Lock, Party, Call}
 use Rattle.lock_plan_script.specs.CallOrigins.{AreTied, CallsHaveLines, IsCallOf, text_at}
-use Rattle.lock_plan_script.specs.Drafts.{Draft, Make, act_on, call_at_place, no_draft, place_of, texts_of, with_call, with_line, with_lock, with_party}
+use Rattle.lock_plan_script.specs.Drafts.{Draft, Make, act_on, call_at_place, no_draft, place_of, texts_of, with_call, with_line, with_lock, with_parties, with_party, party_names}
 use Rattle.lock_plan_script.specs.PlanLines.{Says}
-use Rattle.lock_plan_script.proofs.Ties.{tied_more, tied_onto_last, tied_push}
+use Rattle.lock_plan_script.proofs.Ties.{tied_more, tied_onto_from, tied_push}
 
 by_test : (t : Bool) (n i : ℕ) → cond t (Some n) None ≡ Some i → (n ≡ i) × (t ≡ true)
 by_test true n i is = (cc, refl)
@@ -67,19 +67,39 @@ made_call text draft next number for_rwlock act name None made says found is = c
 made_call text draft next number for_rwlock act name (Some lock) made says found is =
     subst (Made text) (taken (length draft.parties == 0) (with_call draft number lock for_rwlock act) next is) (record {
       named = made.named;
-      tied = tied_onto_last (IsCallOf text draft) draft.parties draft.numbers _ number made.tied
+      tied = tied_onto_from (IsCallOf text draft) draft.first draft.parties draft.numbers _ number made.tied
           (for_rwlock, (act, (name, (says, (found, refl)))));
     })
+
+pub parties_kept : (P : Draft → Type 0) (serves : Bool) → ((draft : Draft) (name : List ℕ) → P draft → P (with_party draft serves name))
+    → (draft next : Draft) (names : List (List ℕ)) → P draft → with_parties draft serves names ≡ Some next → P next
+parties_kept P serves keeps draft next [] kept is = let same : draft ≡ next = cc in subst P same kept
+parties_kept P serves keeps draft next (name ∷ names) kept is =
+    by_test (is_some (place_of draft.party_names name)) is
+    (parties_kept P serves keeps (with_party draft serves name) next names (keeps draft name kept))
+  where
+    by_test : (t : Bool) → cond t None (with_parties (with_party draft serves name) serves names) ≡ Some next
+        → (with_parties (with_party draft serves name) serves names ≡ Some next → P next) → P next
+    by_test true is rest = cc
+    by_test false is rest = rest is
+
+made_parties : (text : ℕ → List ℕ) (serves : Bool) (draft next : Draft) (names : List (List ℕ)) → Made text draft
+    → with_parties draft serves names ≡ Some next → Made text next
+made_parties text serves draft next names made is =
+    parties_kept (Made text) serves
+    (λ d name kept. (record {
+      named = kept.named;
+      tied = tied_push (AreTied (IsCallOf text d)) d.parties d.numbers [] [] kept.tied tt;
+    }))
+    draft next names made is
 
 made_line : (text : ℕ → List ℕ) (draft next : Draft) (number : ℕ) (line : PlanLine) (name : List ℕ) → Made text draft
     → Says (text number) line name → with_line draft number line name ≡ Some next → Made text next
 made_line text draft next number (Lock lock) name made says is =
     subst (Made text) (taken (is_some (place_of draft.lock_names name)) (with_lock draft lock name) next is) (made_lock text draft lock name made)
-made_line text draft next number Party name made says is =
-    subst (Made text) (taken (is_some (place_of draft.party_names name)) (with_party draft name) next is) (record {
-      named = made.named;
-      tied = tied_push (AreTied (IsCallOf text draft)) draft.parties draft.numbers [] [] made.tied tt;
-    })
+made_line text draft next number (Party serves copies) name made says is =
+    made_parties text serves (record draft { first = length draft.parties }) next (party_names name copies)
+    (record { named = made.named; tied = made.tied }) is
 made_line text draft next number (Call for_rwlock act) name made says is =
     made_call text draft next number for_rwlock act name (place_of draft.lock_names name) made says refl is
 

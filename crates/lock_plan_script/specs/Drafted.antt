@@ -12,6 +12,8 @@ drafted draft = record {
   lock_names = map string_bytes draft.names.locks.items;
   parties = map (λ v. v.items) draft.parties.items;
   party_names = map string_bytes draft.names.parties.items;
+  servers = draft.servers.items;
+  first = draft.first;
   numbers = map (λ v. v.items) draft.numbers.items;
 }
 
@@ -19,6 +21,7 @@ drafted draft = record {
 pub record IsMadeOf (draft : Draft) (named : NamedPlan) : Type 0 where
   pub locks : named.plan.locks.items ≡ draft.locks
   pub parties : calls_of named.plan ≡ draft.parties
+  pub servers : named.plan.servers.items ≡ draft.servers
   pub lock_names : map string_bytes named.names.locks.items ≡ draft.lock_names
   pub party_names : map string_bytes named.names.parties.items ≡ draft.party_names
   pub right : plan_fault draft.locks draft.parties ≡ None

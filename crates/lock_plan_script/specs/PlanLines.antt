@@ -1,5 +1,5 @@
 -- The lines of a plan: each is given by the fields that it prints as.
-use Rattle.std.specs.Prelude.{◌≡◌, ℕ, Bool, true, false, ◌&&◌, ◌||◌, ◌==◌, nat_lt, IsTrue, List, [], ◌∷◌, length, codes, decimal, if◌then◌else◌}
+use Rattle.std.specs.Prelude.{◌≡◌, ℕ, ◌<◌, ◌≤◌, Option, Some, None, Bool, true, false, ◌&&◌, ◌||◌, ◌==◌, nat_lt, IsTrue, List, [], ◌∷◌, length, codes, decimal, if◌then◌else◌}
 use Rattle.std.specs.Bool.{⊤}
 use Rattle.std.specs.Char.{is_ascii_alphanumeric}
 use Rattle.std.specs.List.{list_all}
@@ -27,10 +27,14 @@ kind_word Mutex = codes "mutex"
 kind_word RwLock = codes "rwlock"
 kind_word Reentrant = codes "reentrant"
 
+abbrev pub party_word : Bool → List ℕ
+party_word false = codes "party"
+party_word true = codes "server"
+
 -- the first field of a line
 abbrev pub line_word : PlanLine → List ℕ
 line_word (Lock lock) = kind_word lock.kind
-line_word Party = codes "party"
+line_word (Party serves copies) = party_word serves
 line_word (Call is_rwlock act) = act_word is_rwlock act
 
 -- the fields after the name of a lock
@@ -39,9 +43,14 @@ limit_fields Mutex limit bar = []
 limit_fields RwLock limit bar = decimal limit ∷ (if bar then codes "bar" ∷ [] else [])
 limit_fields Reentrant limit bar = decimal limit ∷ []
 
+-- the fields after the name of a party
+abbrev pub copy_fields : Option ℕ → List (List ℕ)
+copy_fields None = []
+copy_fields (Some count) = decimal count ∷ []
+
 abbrev pub last_fields : PlanLine → List (List ℕ)
 last_fields (Lock lock) = limit_fields lock.kind lock.limit lock.bar
-last_fields Party = []
+last_fields (Party serves copies) = copy_fields copies
 last_fields (Call is_rwlock act) = []
 
 -- the fields of a line about the lock or party with this name
@@ -51,6 +60,18 @@ plan_fields line name = line_word line ∷ name ∷ last_fields line
 -- the field is a limit
 abbrev pub IsLimitField : List ℕ → Type 0
 IsLimitField field = (limit : ℕ) × (IsLimit limit × (decimal limit ≡ field))
+
+-- a party has so many copies at most
+abbrev pub IsCount : ℕ → Type 0
+IsCount count = (0 < count) × (count ≤ 64)
+
+-- the field is a count of copies
+abbrev pub IsCountField : List ℕ → Type 0
+IsCountField field = (count : ℕ) × (IsCount count × (decimal count ≡ field))
+
+abbrev pub IsCopies : Option ℕ → Type 0
+IsCopies None = ⊤
+IsCopies (Some count) = IsCount count
 
 -- a lock of a line: what the line does not print is fixed
 abbrev pub IsLineLock : Kind → ℕ → Bool → Type 0
@@ -66,7 +87,7 @@ IsVerb false act = IsTrue (is_of_kind Mutex act)
 -- a line with these values can be written
 abbrev pub IsPlanLine : PlanLine → Type 0
 IsPlanLine (Lock lock) = IsLineLock lock.kind lock.limit lock.bar
-IsPlanLine Party = ⊤
+IsPlanLine (Party serves copies) = IsCopies copies
 IsPlanLine (Call is_rwlock act) = IsVerb is_rwlock act
 
 -- the text is such a line, about this name

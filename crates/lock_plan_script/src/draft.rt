@@ -1,12 +1,13 @@
 //! What the lines of a plan make.
-ghost use Rattle.std.specs.Prelude.{◌≡◌, Some, None, IfOk, if◌then◌else◌};
+ghost use Rattle.std.specs.Prelude.{◌≡◌, ◌∷◌, [], Some, None, IfOk, if◌then◌else◌};
 ghost use Rattle.std.proofs.Common.{get_or};
 ghost use Rattle.lock_plan.specs.Worlds.{no_lock};
 ghost use Rattle.lock_plan_script.specs.declared.plan_line.PlanLine.TheVariants as line;
-ghost use Rattle.lock_plan_script.specs.Drafts.{act_on, no_draft, with_line};
+ghost use Rattle.lock_plan_script.specs.Drafts.{act_on, copy_names, no_draft, with_line, with_parties};
 ghost use Rattle.lock_plan_script.specs.Drafted.{drafted};
 
-use crate::place::{place_of, push_last};
+use crate::copies::copy_name;
+use crate::place::{place_of, push_from};
 use crate::plan_line::PlanLine;
 use lock_base::machine::{Kind, Mode, ModeStep};
 use lock_plan::{Act, PlanCall, PlanLock};
@@ -18,6 +19,10 @@ use std::alloc::{AllocError, Global};
 pub(crate) struct PlanDraft {
     pub(crate) locks: Vec<PlanLock>,
     pub(crate) parties: Vec<Vec<PlanCall>>,
+    /// Whether each party is a server.
+    pub(crate) servers: Vec<bool>,
+    /// The first party of the last line of parties. A call is one of each party from there on.
+    pub(crate) first: usize,
     pub(crate) numbers: Vec<Vec<u64>>,
     pub(crate) names: Names,
 }
@@ -30,6 +35,8 @@ impl PlanDraft {
         PlanDraft {
             locks: Vec::new(alloc),
             parties: Vec::new(alloc),
+            servers: Vec::new(alloc),
+            first: 0,
             numbers: Vec::new(alloc),
             names: Names {
                 locks: Vec::new(alloc),
@@ -51,7 +58,7 @@ impl PlanDraft {
     {
         match line {
             PlanLine::Lock(lock) => self.add_lock(alloc, lock, name),
-            PlanLine::Party => self.add_party(alloc, name),
+            PlanLine::Party(is_server, copies) => self.add_parties(alloc, is_server, copies, name),
             PlanLine::Call(is_rwlock, act) => self.add_call(number, is_rwlock, act, name),
         }
     }
@@ -69,9 +76,48 @@ impl PlanDraft {
         Ok(true)
     }
 
+    /// Adds a party, or copies of one, unless one of the names is there.
+    fn add_parties(
+        &mut self,
+        alloc: Global,
+        is_server: bool,
+        copies: Option<u64>,
+        name: &str,
+    ) -> Result<bool, AllocError>
+        ensures { IfOk result (λ is_added. with_line (drafted self.old) 0 (line.Party is_server copies) name.now
+            ≡ (if is_added then Some (drafted self.new) else None)) }
+    {
+        self.first = self.parties.len();
+        match copies {
+            None => self.add_party(alloc, is_server, name),
+            Some(count) => self.add_copies(alloc, is_server, name, count),
+        }
+    }
+
+    /// Adds copies of a party, one after another, up to one whose name is there.
+    fn add_copies(
+        &mut self,
+        alloc: Global,
+        is_server: bool,
+        name: &str,
+        count: u64,
+    ) -> Result<bool, AllocError>
+        ensures { IfOk result (λ is_added. with_parties (drafted self.old) is_server (copy_names name.now 0 count)
+            ≡ (if is_added then Some (drafted self.new) else None)) }
+    {
+        for copy in 0..count {
+            let copied = copy_name(alloc, name, copy + 1)?;
+            let is_added = self.add_party(alloc, is_server, copied.as_str())?;
+            if !is_added {
+                return Ok(false);
+            }
+        }
+        Ok(true)
+    }
+
     /// Adds a party, unless its name is there.
-    fn add_party(&mut self, alloc: Global, name: &str) -> Result<bool, AllocError>
-        ensures { IfOk result (λ is_added. with_line (drafted self.old) 0 line.Party name.now
+    fn add_party(&mut self, alloc: Global, is_server: bool, name: &str) -> Result<bool, AllocError>
+        ensures { IfOk result (λ is_added. with_parties (drafted self.old) is_server (name.now ∷ [])
             ≡ (if is_added then Some (drafted self.new) else None)) }
     {
         if place_of(self.names.parties.as_slice(), name).is_some() {
@@ -79,11 +125,12 @@ impl PlanDraft {
         }
         self.parties.push(Vec::new(alloc))?;
         self.numbers.push(Vec::new(alloc))?;
+        self.servers.push(is_server)?;
         self.names.parties.push(String::from_str(alloc, name)?)?;
         Ok(true)
     }
 
-    /// Adds a call of the last party, unless there is no such lock, or no party.
+    /// Adds a call of the last line of parties, unless there is no such lock, or no party.
     fn add_call(
         &mut self,
         number: u64,
@@ -101,8 +148,8 @@ impl PlanDraft {
             return Ok(false);
         }
         let act = act_on(is_rwlock, act, self.kind(lock));
-        push_last(&mut self.parties, PlanCall { lock, act })?;
-        push_last(&mut self.numbers, number)?;
+        push_from(&mut self.parties, self.first, PlanCall { lock, act })?;
+        push_from(&mut self.numbers, self.first, number)?;
         Ok(true)
     }
 

@@ -4,6 +4,7 @@
 //! fields that it prints as, and `Drafts` says what the lines make, one after another.
 #![tactic(auto)]
 
+mod copies;
 mod draft;
 mod fault;
 mod limit;

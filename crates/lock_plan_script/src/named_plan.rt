@@ -37,7 +37,7 @@ fn plan_of(alloc: Global, draft: PlanDraft) -> Result<NamedPlan, PlanTextFault>
     ensures plan { IfOk result (IsMadeOf (drafted draft)) }
     ensures fault { IfErr result (λ fault. (draft_fault (drafted draft) ≡ Some fault) ⊎ (fault ≡ OutOfMemory)) }
 {
-    match Plan::new(alloc, draft.locks, draft.parties) {
+    match Plan::new(alloc, draft.locks, draft.parties, draft.servers) {
         Ok(plan) => Ok(NamedPlan {
             plan,
             names: draft.names,

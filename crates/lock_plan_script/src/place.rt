@@ -1,6 +1,6 @@
 //! Finding names, and adding to the last of several lists.
 ghost use Rattle.std.specs.Prelude.{◌≡◌, map, string_bytes, OnOk};
-ghost use Rattle.lock_plan_script.specs.Drafts.{onto_last, place_of};
+ghost use Rattle.lock_plan_script.specs.Drafts.{onto_from, place_of};
 
 use std::alloc::AllocError;
 
@@ -11,13 +11,16 @@ pub(crate) fn place_of(names: &[String], name: &str) -> Option<usize>
     names.iter().position(|other| other.as_str() == name)
 }
 
-/// Adds an item to the last list, if there is one.
-pub(crate) fn push_last<T: Drop>(lists: &mut Vec<Vec<T>>, item: T) -> Result<(), AllocError>
-    ensures { OnOk result (map (λ v. v.items) lists.new.items ≡ onto_last (map (λ v. v.items) lists.old.items) item) }
+/// Adds an item to each list from this place on.
+pub(crate) fn push_from<T: Copy + Drop>(
+    lists: &mut Vec<Vec<T>>,
+    first: usize,
+    item: T,
+) -> Result<(), AllocError>
+    ensures { OnOk result (map (λ v. v.items) lists.new.items ≡ onto_from first (map (λ v. v.items) lists.old.items) item) }
 {
-    let count = lists.len();
-    if count > 0 {
-        lists[count - 1].push(item)?;
+    for place in first..lists.len() {
+        lists[place].push(item)?;
     }
     Ok(())
 }

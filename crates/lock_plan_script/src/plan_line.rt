@@ -5,7 +5,8 @@ use lock_plan::{Act, PlanLock};
 #[derive(Clone, Copy, PartialEq, Eq, Debug)]
 pub(crate) enum PlanLine {
     Lock(PlanLock),
-    Party,
+    /// A party, or so many copies of one, and whether it is a server.
+    Party(bool, Option<u64>),
     /// A call, and whether its word is one for reader-writer locks.
     Call(bool, Act),
 }

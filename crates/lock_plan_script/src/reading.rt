@@ -2,8 +2,9 @@
 ghost use Rattle.std.specs.Prelude.{◌≡◌, ℕ, List, [], IfNone, IfSome};
 ghost use Rattle.lock_script.specs.Lines.{fields_of};
 ghost use Rattle.lock_script.specs.Parts.{bytes_of};
-ghost use Rattle.lock_plan_script.specs.PlanLines.{IsPlanLine, Says, last_fields, line_word};
+ghost use Rattle.lock_plan_script.specs.PlanLines.{IsPlanLine, Says, last_fields, line_word, party_word};
 
+use crate::copies::copies;
 use crate::limit::{reentrant, rwlock};
 use crate::name::is_name;
 use crate::plan_line::PlanLine;
@@ -39,12 +40,22 @@ fn short_line(word: &str) -> Option<PlanLine>
             limit: 1,
             bar: false,
         })),
-        "party" => Some(PlanLine::Party),
+        "party" => Some(PlanLine::Party(false, None)),
+        "server" => Some(PlanLine::Party(true, None)),
         _ => {
             let (is_rwlock, act) = verb(word)?;
             Some(PlanLine::Call(is_rwlock, act))
         }
     }
+}
+
+/// Reads a line of copies of a party with these fields after the name.
+fn party_line(is_server: bool, last: &str) -> Option<PlanLine>
+    ensures line { IfSome result (λ line. IsPlanLine line × ((line_word line ≡ party_word is_server) × (last_fields line ≡ fields_of last.now))) }
+    ensures bad { IfNone result ((line : PlanLine) → IsPlanLine line → line_word line ≡ party_word is_server → last_fields line ≡ fields_of last.now → ⊥) }
+{
+    let count = copies(last)?;
+    Some(PlanLine::Party(is_server, Some(count)))
 }
 
 /// Reads a line with these fields after the name.
@@ -55,6 +66,8 @@ fn long_line(word: &str, last: &str) -> Option<PlanLine>
     match word {
         "rwlock" => Some(PlanLine::Lock(rwlock(last)?)),
         "reentrant" => Some(PlanLine::Lock(reentrant(last)?)),
+        "party" => party_line(false, last),
+        "server" => party_line(true, last),
         _ => None,
     }
 }

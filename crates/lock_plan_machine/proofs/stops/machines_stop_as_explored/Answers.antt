@@ -11,6 +11,6 @@ returns g c =
     let fit : (places : ℕ) → sum_by length (calls_of plan) ≤ places → FitsMachines plan.locks.items (calls_of plan) places =
     λ places room. fits plan.locks.items (calls_of plan) places plan.right c.requires room in
     record {
-      none = never g.O.Op.meaning plan.locks.items (calls_of plan) fit;
-      stop = shortest g.O.Op.meaning plan.locks.items (calls_of plan) fit;
+      none = never g.O.Op.meaning plan.servers.items plan.locks.items (calls_of plan) fit;
+      stop = shortest g.O.Op.meaning plan.servers.items plan.locks.items (calls_of plan) fit;
     }

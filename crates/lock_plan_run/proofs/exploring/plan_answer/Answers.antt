@@ -12,7 +12,7 @@ returns-clause-answer c =
       plan = c.in_ok-named.ensures.plan;
       trace = searched.trace;
       visited = searched.visited;
-      found = found_of named.plan.locks.items (calls_of named.plan) searched.trace searched.visited c.in_ok-searched.ensures.stop
+      found = found_of named.plan.servers.items named.plan.locks.items (calls_of named.plan) searched.trace searched.visited c.in_ok-searched.ensures.stop
           c.in_ok-searched.ensures.none c.in_ok-searched.ensures.all;
       verdict_is = c.of.ensures;
       text_is = c.in_ok-text.ensures;
