@@ -4,6 +4,7 @@ use lock_base::machine::PartyId;
 use lock_guard::raw::{RawMutex, RawRwLock, RawRwLockUpgradeDowngrade};
 use lock_mutex::Mutex;
 use lock_raws::{LockCore, Monitor, RawLock, RecordingArbiter, TableArbiter, TokenRaw};
+use lock_raws_fair::FairCore;
 use lock_raws_word::{NoTime, RealTime, WordCore, WordRaw};
 use lock_remutex::ReentrantMutex;
 use lock_rwlock::{RwLock, RwLockUpgradableReadGuard, RwLockWriteGuard};
@@ -26,6 +27,7 @@ pub fn print<R: Print + Clock + CpuClock + Wait + Threads + Sync + Copy>(
     over::<R, Monitor<RecordingArbiter<TableArbiter>, R>>(rt, alloc, "RecordingRaw", rounds)?;
     over::<R, WordCore<R, NoTime>>(rt, alloc, "WordRaw", rounds)?;
     over::<R, WordCore<R, RealTime>>(rt, alloc, "TimedRaw", rounds)?;
+    over::<R, FairCore<TableArbiter, R, NoTime>>(rt, alloc, "FairRaw", rounds)?;
     trips::<R, Turns<TokenRaw<R>>>(rt, alloc, "TokenRaw", rounds / 100)?;
     trips::<R, Turns<WordRaw<R>>>(rt, alloc, "WordRaw", rounds / 100)
 }

@@ -1,6 +1,6 @@
 //! Rounds of the locks that have users or parties, on one thread.
-mod blocking;
 mod ruled;
+mod word_lock;
 
 ghost use Rattle.std.specs.Prelude.{◌≡◌};
 
@@ -15,7 +15,7 @@ use std::time::{Clock, Instant};
 /// The lines of each lock.
 pub fn print<R: Print + Clock + Wait>(rt: &R, alloc: Global, rounds: u64) -> io::Result<()> {
     print_seated(rt, alloc, rounds)?;
-    blocking::print(rt, alloc, rounds)?;
+    word_lock::print(rt, alloc, rounds)?;
     ruled::print(rt, alloc, rounds)
 }
 

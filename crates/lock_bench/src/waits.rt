@@ -1,6 +1,6 @@
 //! What a blocked thread costs.
-mod blocking;
 mod ruled;
+mod word_lock;
 
 use crate::turns::{Act, TakeTurns, Turns, cost_beside};
 use lock_raws::{RecordingRaw, TokenRaw};
@@ -47,6 +47,6 @@ pub fn print<R: Print + Clock + CpuClock + Wait + Threads + Sync + Copy>(
     over::<R, Turns<RecordingRaw<R>>>(rt, alloc, "RecordingRaw", millis)?;
     over::<R, Turns<WordRaw<R>>>(rt, alloc, "WordRaw", millis)?;
     over::<R, Turns<TimedRaw<R>>>(rt, alloc, "TimedRaw", millis)?;
-    blocking::print(rt, alloc, millis)?;
+    word_lock::print(rt, alloc, millis)?;
     ruled::print(rt, alloc, millis)
 }

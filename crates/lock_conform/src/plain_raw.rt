@@ -26,6 +26,8 @@ impl<R: RawMutex> RawMutex for PlainRaw<R> {
 
     type Waiter = R::Waiter;
 
+    ghost is_own = { λ plain token. R.is_own plain.raw token };
+
     fn new(alloc: Global, waiter: R::Waiter) -> Result<PlainRaw<R>, Fault> {
         Ok(PlainRaw::over(R::new(alloc, waiter)?))
     }

@@ -47,6 +47,8 @@ impl<R: RawMutex + Drop> RawMutex for Recorder<R> {
 
     type Waiter = R::Waiter;
 
+    ghost is_own = { λ recorder token. R.is_own recorder.raw token };
+
     fn new(alloc: Global, waiter: R::Waiter) -> Result<Recorder<R>, Fault> {
         Recorder::over(alloc, R::new(alloc, waiter)?)
     }

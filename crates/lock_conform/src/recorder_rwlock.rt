@@ -23,6 +23,10 @@ impl<R: RawRwLock + Drop> RawRwLock for Recorder<R> {
 
     type Waiter = R::Waiter;
 
+    ghost owns_shared = { λ recorder token. R.owns_shared recorder.raw token };
+
+    ghost owns_exclusive = { λ recorder token. R.owns_exclusive recorder.raw token };
+
     fn new(alloc: Global, waiter: R::Waiter, readers: u64) -> Result<Recorder<R>, Fault> {
         Recorder::over(alloc, R::new(alloc, waiter, readers)?)
     }
@@ -135,6 +139,8 @@ where
 
 impl<R: RawRwLockUpgrade + Drop> RawRwLockUpgrade for Recorder<R> {
     type UpgradableGuard = R::UpgradableGuard;
+
+    ghost owns_upgradable = { λ recorder token. R.owns_upgradable recorder.raw token };
 
     fn lock_upgradable(&self) -> R::UpgradableGuard {
         self.record_call(RawCall::Lock(Mode::Upgradable));

@@ -38,7 +38,7 @@ where
         (IsReport script.calls.items (replies_to script.maker script.calls.items)) }
 {
     let (raw, pair, log, lines) = run_parts(alloc, Kind::Reentrant, raw, script)?;
-    let lock = ReentrantMutex::from_raw(raw, pair)?;
+    let lock = ReentrantMutex::from_raw(alloc, raw, pair)?;
     let report = run_on(
         alloc,
         &BorrowingReentrant { lock: &lock },
@@ -51,7 +51,10 @@ where
 
 /// A reentrant mutex by guards that borrow it.
 #[derive(Drop)]
-struct BorrowingReentrant<'a, R: RawMutexFair> {
+struct BorrowingReentrant<'a, R: RawMutexFair>
+where
+    R::Guard: Drop,
+{
     lock: &'a ReentrantMutex<R, Pair>,
 }
 

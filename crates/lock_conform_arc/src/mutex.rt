@@ -6,11 +6,13 @@ ghost use Rattle.lock_conform.specs.Reports.{IsReport};
 
 use lock_base::machine::{Form, Kind, PartyId, Want, Way};
 use lock_base::raw::Fault;
-use lock_conform::{Deadline, Driven, ParkBy, Report, ask, change, run_on, run_parts};
+use lock_conform::{
+    CallLog, Deadline, Driven, Lines, ParkBy, Report, ask, change, run_on, run_parts,
+};
 use lock_guard::raw::{RawMutex, RawMutexFair, RawMutexTimed};
 use lock_mutex::{ArcMutexGuard, Mutex};
 use lock_script::{DeskScript, Pair, PairOp};
-use std::alloc::Global;
+use std::alloc::{AllocError, Global};
 use std::sync::Arc;
 
 /// Runs a script of a mutex over the raw lock, by guards that own a reference to the lock.
@@ -35,7 +37,7 @@ where
     let Ok(lock) = Arc::new(alloc, lock) else {
         return Err(Fault::OutOfMemory);
     };
-    let report = run_on(alloc, &OwningMutex { lock }, log, lines, park_by)?;
+    let report = OwningMutex { lock }.run(alloc, log, lines, park_by)?;
     Ok(report)
 }
 
@@ -43,6 +45,25 @@ where
 #[derive(Drop)]
 struct OwningMutex<R: RawMutex + Drop> {
     lock: Arc<Mutex<R, Pair>>,
+}
+
+impl<R> OwningMutex<R>
+where
+    R: RawMutexFair + RawMutexTimed<Duration = (), Instant = ()> + Drop,
+{
+    /// Makes the lines of a script. Here the raw lock is a type parameter, since the proof of a call that drops such a
+    /// guard over a raw lock of a known type is not made.
+    fn run(
+        &self,
+        alloc: Global,
+        log: CallLog,
+        lines: Lines,
+        park_by: ParkBy,
+    ) -> Result<Report, AllocError>
+        ensures { IfOk result (IsReport lines.calls.items lines.replies.items) }
+    {
+        run_on(alloc, self, log, lines, park_by)
+    }
 }
 
 impl<R> Driven for OwningMutex<R>

@@ -32,7 +32,7 @@ where
         (IsReport script.calls.items (replies_to script.maker script.calls.items)) }
 {
     let (raw, pair, log, lines) = run_parts(alloc, Kind::Reentrant, raw, script)?;
-    let lock = ReentrantMutex::from_raw(raw, pair)?;
+    let lock = ReentrantMutex::from_raw(alloc, raw, pair)?;
     let Ok(lock) = Arc::new(alloc, lock) else {
         return Err(Fault::OutOfMemory);
     };

@@ -6,7 +6,9 @@ ghost use Rattle.lock_conform.specs.Reports.{IsReport};
 
 use lock_base::machine::{Form, Kind, PartyId, Want, Way};
 use lock_base::raw::Fault;
-use lock_conform::{Deadline, Driven, ParkBy, Report, RwGuard, ask, change, run_on, run_parts};
+use lock_conform::{
+    CallLog, Deadline, Driven, Lines, ParkBy, Report, RwGuard, ask, change, run_on, run_parts,
+};
 use lock_guard::raw::{
     RawRwLock, RawRwLockUpgradeDowngrade, RawRwLockUpgradeFair, RawRwLockUpgradeTimed,
 };
@@ -16,7 +18,7 @@ use lock_rwlock_arc::{
     RwLockArc, RwLockArcTimed, RwLockArcUpgrade, RwLockArcUpgradeTimed,
 };
 use lock_script::{DeskScript, Pair, PairOp};
-use std::alloc::Global;
+use std::alloc::{AllocError, Global};
 use std::sync::Arc;
 
 /// Runs a script of a reader-writer lock over the raw lock, by guards that own a reference to the lock.
@@ -41,7 +43,7 @@ where
     let Ok(lock) = Arc::new(alloc, lock) else {
         return Err(Fault::OutOfMemory);
     };
-    let report = run_on(alloc, &OwningRwLock { lock }, log, lines, park_by)?;
+    let report = OwningRwLock { lock }.run(alloc, log, lines, park_by)?;
     Ok(report)
 }
 
@@ -49,6 +51,28 @@ where
 #[derive(Drop)]
 struct OwningRwLock<R: RawRwLock + Drop> {
     lock: Arc<RwLock<R, Pair>>,
+}
+
+impl<R> OwningRwLock<R>
+where
+    R: RawRwLockUpgradeFair
+        + RawRwLockUpgradeDowngrade
+        + RawRwLockUpgradeTimed<Duration = (), Instant = ()>
+        + Drop,
+{
+    /// Makes the lines of a script. Here the raw lock is a type parameter, since the proof of a call that drops such a
+    /// guard over a raw lock of a known type is not made.
+    fn run(
+        &self,
+        alloc: Global,
+        log: CallLog,
+        lines: Lines,
+        park_by: ParkBy,
+    ) -> Result<Report, AllocError>
+        ensures { IfOk result (IsReport lines.calls.items lines.replies.items) }
+    {
+        run_on(alloc, self, log, lines, park_by)
+    }
 }
 
 type Guard<R> = RwGuard<

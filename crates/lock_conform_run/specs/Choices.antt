@@ -3,8 +3,20 @@ use Rattle.std.specs.Prelude.{◌≡◌, ◌≢◌, ◌⊎◌, ◌↔◌, [], �
 use Rattle.std.specs.Global.{Global}
 use Rattle.lock_conform_run.specs.declared.choice.Choice.{Choice}
 use Rattle.lock_conform_run.specs.declared.choice.RawChoice.{RawChoice}
-use Rattle.lock_conform_run.specs.declared.choice.RawChoice.TheVariants.{Word, Table, Timed, Recording}
+use Rattle.lock_conform_run.specs.declared.choice.RawChoice.TheVariants.{Word, Table, Timed, Recording, Fair, TimedFair, Wrong}
+use Rattle.lock_test_support.specs.declared.raw_lock.mistake.Mistake.{Mistake}
+use Rattle.lock_test_support.specs.declared.raw_lock.mistake.Mistake.TheVariants.{ExtraReader, UpgradeAmongReaders, RefusalAdmits, KeptToken, FairKeptToken, HalfBump, TimedRefusal}
 use Rattle.lock_conform.specs.declared.park_by.ParkBy.TheVariants.{Unlocked}
+
+-- the word of a mistake
+abbrev pub mistake_word : Mistake → List ℕ
+mistake_word ExtraReader = codes "extra_reader"
+mistake_word UpgradeAmongReaders = codes "upgrade_among_readers"
+mistake_word RefusalAdmits = codes "refusal_admits"
+mistake_word KeptToken = codes "kept_token"
+mistake_word FairKeptToken = codes "fair_kept_token"
+mistake_word HalfBump = codes "half_bump"
+mistake_word TimedRefusal = codes "timed_refusal"
 
 -- the word of a raw lock
 abbrev pub raw_word : RawChoice → List ℕ
@@ -12,6 +24,9 @@ raw_word Word = codes "word"
 raw_word Table = codes "table"
 raw_word Timed = codes "timed"
 raw_word Recording = codes "recording"
+raw_word (Wrong mistake) = mistake_word mistake
+raw_word Fair = codes "fair"
+raw_word TimedFair = codes "timed_fair"
 
 abbrev pub IsOption : List ℕ → Type 0
 IsOption word = (word ≡ codes "within") ⊎ ((word ≡ codes "arc") ⊎ (word ≡ codes "calls"))

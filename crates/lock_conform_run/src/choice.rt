@@ -1,17 +1,21 @@
 //! The words after the program's name.
 ghost use Rattle.std.specs.Prelude.{◌≡◌, ◌≢◌, ◌↔◌, IfNone, IfSome, codes};
-ghost use Rattle.lock_conform_run.specs.Choices.{HasWord};
+ghost use Rattle.lock_conform_run.specs.Choices.{HasWord, mistake_word};
 
 use crate::words::{are_options, has};
 use lock_conform::ParkBy;
+use lock_test_support::raw_lock::Mistake;
 
-/// A raw lock.
+/// A raw lock of the library, or one that makes a mistake.
 #[derive(Clone, Copy, PartialEq, Eq, Debug)]
 pub enum RawChoice {
     Word,
     Table,
     Timed,
     Recording,
+    Fair,
+    TimedFair,
+    Wrong(Mistake),
 }
 
 /// How a script is run.
@@ -58,8 +62,27 @@ impl RawChoice {
             "table" => Some(RawChoice::Table),
             "timed" => Some(RawChoice::Timed),
             "recording" => Some(RawChoice::Recording),
-            _ => None,
+            "fair" => Some(RawChoice::Fair),
+            "timed_fair" => Some(RawChoice::TimedFair),
+            _ => Some(RawChoice::Wrong(mistake_of_word(word)?)),
         }
+    }
+}
+
+/// Returns the mistake of a word.
+fn mistake_of_word(word: &str) -> Option<Mistake>
+    ensures some { IfSome result (λ mistake. word.now ≡ mistake_word mistake) }
+    ensures none { IfNone result ((mistake : Mistake) → word.now ≢ mistake_word mistake) }
+{
+    match word {
+        "extra_reader" => Some(Mistake::ExtraReader),
+        "upgrade_among_readers" => Some(Mistake::UpgradeAmongReaders),
+        "refusal_admits" => Some(Mistake::RefusalAdmits),
+        "kept_token" => Some(Mistake::KeptToken),
+        "fair_kept_token" => Some(Mistake::FairKeptToken),
+        "half_bump" => Some(Mistake::HalfBump),
+        "timed_refusal" => Some(Mistake::TimedRefusal),
+        _ => None,
     }
 }
 

@@ -16,7 +16,8 @@ use std::process::ExitCode;
 use std::rt::Env;
 use std::{env, io};
 
-const USAGE: &str = "usage: lock_conform_run word|table|timed|recording [within] [arc] [calls]";
+const USAGE: &str =
+    "usage: lock_conform_run word|table|timed|recording|fair|timed_fair|MISTAKE [within] [arc] [calls]";
 
 fn main(rt: HostRuntime) -> ExitCode {
     let choice = match chosen(&rt) {

@@ -1,5 +1,6 @@
 pub mod Account
 pub mod Gate
 pub mod Line
+pub mod Parts
 pub mod Pool
 pub mod Words

@@ -6,7 +6,7 @@ use Rattle.lock_api.specs.declared.Guard.{Guard}
 use Rattle.lock_api.specs.declared.Reply.{Reply}
 
 -- the guard shows this value
-abbrev pub Shows : {L V K W X : Type 0} {g : _} → (V → X) → X → Guard L V K W X g → Type 0
+abbrev pub Shows : {L V K W X : Type 0} {r : _} {g : _} → (V → X) → X → Guard L V K W X r g → Type 0
 Shows value_of value guard = held_value value_of (held_of guard) ≡ Some value
 
 -- the answer of an operation, where the reply is one

@@ -4,17 +4,20 @@
 mod callers;
 pub mod desk;
 pub mod gate;
+mod parts;
 mod pool;
 mod queue;
 mod registry;
 mod ring;
 pub mod ruled;
 pub mod seated;
+pub mod shared_permits;
 mod shelf;
 mod signatures;
 mod spin_lock;
 
-pub use callers::{Limit, Settings};
+pub use callers::{Limit, Settings, read_within, write_under_each};
+pub use parts::{Job, Nth, Progress};
 pub use pool::{Lease, Pool};
 pub use queue::Queue;
 pub use registry::{EntryGuard, EntryOf, Registry, read_twice};

@@ -8,7 +8,7 @@ mod tickets;
 mod workers;
 
 pub use bank::{Accounts, Direction, Sum, shuffle};
-pub use counter::{Added, Counter, count, try_add};
+pub use counter::{Added, Counter, count, next_number, try_add};
 pub use lending::{
     Borrower, Lending, One, Weighed, Weight, borrow, give_back, join_borrowers, lend_in_turns,
 };

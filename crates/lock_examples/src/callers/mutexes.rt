@@ -48,14 +48,14 @@ pub fn lock_it<R: RawMutex, T>(mutex: &Mutex<R, T>) -> MutexGuard<'_, R, T>
     mutex.lock()
 }
 
-/// A guard in a struct.
+/// A guard in a struct, which is generic over the guard.
 #[derive(Drop)]
-pub struct Session<'a, R: RawMutex> {
-    guard: MutexGuard<'a, R, u64>,
+pub struct Session<G: Drop> {
+    guard: G,
     pub calls: u64,
 }
 
-impl<'a, R: RawMutex> Session<'a, R> {
+impl<'a, R: RawMutex> Session<MutexGuard<'a, R, u64>> {
     /// Writes through the guard, which then reads the same.
     pub fn write(&mut self, value: u64) -> u64
         ensures { result ≡ value }

@@ -42,6 +42,22 @@ pub fn try_add(counter: &Counter, user: User<u64, u64>) -> Result<User<u64, u64>
     Ok(counter.unlock_ready::<AddsOne>(value))
 }
 
+/// Adds one under the lock, and returns the count before.
+pub fn next_number<R: Wait>(
+    rt: &R,
+    counter: &Counter,
+    user: User<u64, u64>,
+) -> (User<u64, u64>, u64)
+    requires { user.mutex ≡ counter.now }
+    ensures { result.0 ≡ record user { view = user.view + 1 } }
+{
+    counter.with::<AddsOne, R, u64, _>(rt, user, |count: &mut u64| {
+        let number = *count;
+        *count = number.wrapping_add(1);
+        number
+    })
+}
+
 /// Several threads add one several times each, the last of them as this user.
 fn work<R: Threads + Wait + Sync>(
     rt: &R,

@@ -1,9 +1,9 @@
-//! Every public type of a mutex under a rule, and of a semaphore, in a signature.
+//! Every public type of a mutex under a rule, and of the semaphores, in a signature.
 use lock_api::{
-    AddsOne, Bound, Constant, Grows, Holder, InOrder, Items, Join, Lease, Ledger, Log, Looks,
-    Measure, MutexRule, Permits, Pops, Pushes, ReadyRule, Roles, RuledGuard, RuledMutex, SameView,
-    Semaphore, Settles, Share, Shares, SlotRule, Split, Sums, Tally, User, UserStage, UserView,
-    ViewUpdate,
+    AddsOne, ArcPermitGuard, Bound, Constant, Grows, Holder, InOrder, Items, Join, Lease, Ledger,
+    Log, Looks, Measure, MutexRule, PermitGuard, PermitRule, PermitToken, PermitView, Permits,
+    Pops, Pushes, ReadyRule, Roles, RuledGuard, RuledMutex, SameView, Semaphore, Settles, Share,
+    SharedSemaphore, Shares, SlotRule, Split, Sums, Tally, User, UserStage, UserView, ViewUpdate,
 };
 
 /// A value of each type.
@@ -33,3 +33,11 @@ pub fn ready<T, V, X, P: ReadyRule<T, V>, M: Measure<T>, I: Items<T, X>>(
 
 /// A value of each type of a semaphore.
 pub fn semaphores(_semaphore: &Semaphore, _users: (&Holder, &Lease), _measure: &Permits) {}
+
+/// A value of each type of a semaphore that threads share.
+pub fn shared_semaphores(
+    _semaphore: &SharedSemaphore,
+    _token: &PermitToken,
+    _guards: (&PermitGuard<'_>, &ArcPermitGuard),
+    _rule: (&PermitRule, &PermitView),
+) {}

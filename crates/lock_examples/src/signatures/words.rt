@@ -1,10 +1,10 @@
 //! Every public type of the packed word, and of the locks on one, in a signature.
 use lock_api::{
-    AtomicStep, Attempt, BlockingLock, Debt, Down, ExWant, Hold, NoTime, Occupancy, Outcome,
-    PackedToken, PackedWord, Party, Place, Places, RealTime, SeatView, SeatedLock, SleeperView,
-    Sleepers, SleepingCondvar, TimedCondvar, TimedRaw, Timing, WaitingParty, Wake, WakeLimits,
-    WakeRule, WakeView, Watch, WordCore, WordLock, WordRaw, WordRule, WordStep, WordToken, World,
-    WorldParty,
+    AtomicStep, Attempt, CallStage, CountRule, Debt, Down, EventCount, ExWant, Hold, NoTime,
+    Notified, Occupancy, Outcome, PackedToken, PackedWord, Party, Place, Places, RealTime,
+    Registered, SeatView, SeatedLock, SleeperView, SleepingCondvar, TimedCondvar, TimedRaw, Timing,
+    Wake, WakeLimits, WakeRule, WakeView, Watch, WordCore, WordLock, WordRaw, WordRule, WordStep,
+    WordToken, World, WorldParty,
 };
 use std::clone::Clone;
 use std::sync::Wait;
@@ -19,10 +19,10 @@ pub fn word_raws<W: Wait + Clone + Drop + Clock, T: Timing<W>>(
     _token: &WordToken,
     _wake: &Wake,
     _times: (&NoTime, &RealTime),
-    _condvars: (&SleepingCondvar<WordRaw<W>>, &TimedCondvar<W>, &Sleepers),
+    _condvars: (&SleepingCondvar<WordRaw<W>>, &TimedCondvar<W>),
 ) {}
 
-/// A value of each type of the places of a table, the word, the world, the seated lock and the blocking lock.
+/// A value of each type of the places of a table, the word, the world, the seated lock and the word lock.
 pub fn words(
     _word: &PackedWord,
     _token: &PackedToken,
@@ -31,6 +31,7 @@ pub fn words(
     _step: (&AtomicStep, &Outcome, &Down, &ExWant, &WorldParty),
     _hold: (&Hold, &WordStep, &Occupancy),
     _seated: (&SeatedLock, &Party, &SeatView, &WordRule, &Attempt),
-    _blocking: (&BlockingLock, &WaitingParty, &WakeView, &WakeRule),
+    _seats: (&WakeView, &WakeRule),
     _sleeper: (&SleeperView, &Watch, &Debt, &WakeLimits),
+    _events: (&EventCount, &Registered, &Notified, &CallStage, &CountRule),
 ) {}

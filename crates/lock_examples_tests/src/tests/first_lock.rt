@@ -1,7 +1,10 @@
 //! The first locks, by the names that fix their raw lock.
 use lock_api::{
-    PartyId, RwLockUpgradableReadGuard, TimedWordCondvar, TimedWordMutex, TimedWordReentrantMutex,
-    TimedWordRwLock, WordCondvar, WordMutex, WordReentrantMutex, WordRwLock,
+    FairCondvar, FairMutex, FairReentrantMutex, FairRwLock, PartyId, RecordingCondvar,
+    RecordingMutex, RecordingReentrantMutex, RecordingRwLock, RwLockUpgradableReadGuard,
+    TimedFairCondvar, TimedFairMutex, TimedFairReentrantMutex, TimedFairRwLock, TimedWordCondvar,
+    TimedWordMutex, TimedWordReentrantMutex, TimedWordRwLock, TokenCondvar, TokenMutex,
+    TokenReentrantMutex, TokenRwLock, WordCondvar, WordMutex, WordReentrantMutex, WordRwLock,
 };
 use std::test::Fail;
 use std::thread;
@@ -27,6 +30,44 @@ fn two_threads_share_a_mutex(rt: HostRuntime) -> Result<(), Fail> {
         || count.with(|value| *value = value.wrapping_add(3)),
     );
     assert_eq!(rt; count.with(|value| *value), 5);
+    Ok(())
+}
+
+/// The same over another raw lock: only the name of the type differs.
+#[test]
+fn two_threads_share_a_fair_mutex(rt: HostRuntime) -> Result<(), Fail> {
+    let count = FairMutex::new(rt.alloc(), rt, 0u64)?;
+    thread::join(
+        &rt,
+        || count.with(|value| *value = value.wrapping_add(2)),
+        || count.with(|value| *value = value.wrapping_add(3)),
+    );
+    assert_eq!(rt; count.with(|value| *value), 5);
+    Ok(())
+}
+
+#[test]
+fn each_fair_name_makes_a_lock(rt: HostRuntime) -> Result<(), Fail> {
+    let party = PartyId::new(1).expect(&rt, "1 is a number");
+    let mutex = FairMutex::new(rt.alloc(), rt, 1u64)?;
+    let condvar = FairCondvar::new(rt.alloc())?;
+    condvar.wait_while(&mut mutex.lock(), |value| *value != 1);
+    let lock = FairRwLock::new(rt.alloc(), rt, 2u64)?;
+    assert_eq!(rt; *lock.read(), 2);
+    let reentrant = FairReentrantMutex::new(rt.alloc(), rt, 3u64)?;
+    assert_eq!(rt; *reentrant.lock(party)?, 3);
+
+    let short = Duration::from_millis(1);
+    let mutex = TimedFairMutex::new(rt.alloc(), rt, 4u64)?;
+    let condvar = TimedFairCondvar::new(rt.alloc())?;
+    let waited = condvar.wait_while_for(&mut mutex.lock(), |value| *value == 4, short);
+    assert!(rt; waited.timed_out());
+    let lock = TimedFairRwLock::new(rt.alloc(), rt, 5u64)?;
+    let guard = lock.write();
+    assert!(rt; lock.try_read_for(short).is_none());
+    drop(guard);
+    let reentrant = TimedFairReentrantMutex::new(rt.alloc(), rt, 6u64)?;
+    assert!(rt; reentrant.try_lock_for(party, short)?.is_some());
     Ok(())
 }
 
@@ -78,5 +119,26 @@ fn each_name_makes_a_lock(rt: HostRuntime) -> Result<(), Fail> {
     drop(guard);
     let reentrant = TimedWordReentrantMutex::new(rt.alloc(), rt, 5u64)?;
     assert!(rt; reentrant.try_lock_for(party, short)?.is_some());
+    Ok(())
+}
+
+#[test]
+fn each_name_over_a_table_makes_a_lock(rt: HostRuntime) -> Result<(), Fail> {
+    let party = PartyId::new(1).expect(&rt, "1 is a number");
+    let mutex = TokenMutex::new(rt.alloc(), rt, 1u64)?;
+    let condvar = TokenCondvar::new(rt.alloc())?;
+    condvar.wait_while(&mut mutex.lock(), |value| *value != 1);
+    let lock = TokenRwLock::new(rt.alloc(), rt, 2u64)?;
+    assert_eq!(rt; *lock.read(), 2);
+    let reentrant = TokenReentrantMutex::new(rt.alloc(), rt, 3u64)?;
+    assert_eq!(rt; *reentrant.lock(party)?, 3);
+
+    let mutex = RecordingMutex::new(rt.alloc(), rt, 4u64)?;
+    let condvar = RecordingCondvar::new(rt.alloc())?;
+    condvar.wait_while(&mut mutex.lock(), |value| *value != 4);
+    let lock = RecordingRwLock::new(rt.alloc(), rt, 5u64)?;
+    assert_eq!(rt; *lock.read(), 5);
+    let reentrant = RecordingReentrantMutex::new(rt.alloc(), rt, 6u64)?;
+    assert_eq!(rt; *reentrant.lock(party)?, 6);
     Ok(())
 }

@@ -54,8 +54,14 @@ fn permits_that_stay_away_are_refused(rt: HostRuntime) -> Result<(), Fail> {
         Ok(_) => panic!(rt; "there are three permits"),
         Err(same) => same,
     };
-    let lease = semaphore.lease(&rt, holder, 2);
-    let holder = lease.end(&rt, &semaphore);
+    let (holder, answer) = semaphore.with_permits(&rt, holder, 3, || 7u64);
+    assert!(rt; answer == 7);
+    let holder = match semaphore.try_acquire(&rt, holder, 3) {
+        Ok(holder) => semaphore.release(&rt, holder, 3),
+        Err(_) => panic!(rt; "three permits are free"),
+    };
+    let (holder, free) = semaphore.available_permits(&rt, holder);
+    assert!(rt; free == 3);
     let deadline = Instant::now(&rt)
         .ok()
         .and_then(|now| now.checked_add(Duration::from_millis(20)));

@@ -43,6 +43,8 @@ impl<R: RawMutex + Drop> RawMutex for MockRaw<R> {
 
     type Waiter = R::Waiter;
 
+    ghost is_own = { λ mock token. R.is_own mock.raw token };
+
     fn new(alloc: Global, waiter: R::Waiter) -> Result<MockRaw<R>, Fault> {
         MockRaw::over(alloc, R::new(alloc, waiter)?)
     }

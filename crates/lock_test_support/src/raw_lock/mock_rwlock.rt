@@ -22,6 +22,10 @@ impl<R: RawRwLock + Drop> RawRwLock for MockRaw<R> {
 
     type Waiter = R::Waiter;
 
+    ghost owns_shared = { λ mock token. R.owns_shared mock.raw token };
+
+    ghost owns_exclusive = { λ mock token. R.owns_exclusive mock.raw token };
+
     fn new(alloc: Global, waiter: R::Waiter, readers: u64) -> Result<MockRaw<R>, Fault> {
         MockRaw::over(alloc, R::new(alloc, waiter, readers)?)
     }
@@ -128,6 +132,8 @@ impl<R: RawRwLock + Drop> RawRwLockTimed for MockRaw<R> {
 
 impl<R: RawRwLockUpgrade + Drop> RawRwLockUpgrade for MockRaw<R> {
     type UpgradableGuard = R::UpgradableGuard;
+
+    ghost owns_upgradable = { λ mock token. R.owns_upgradable mock.raw token };
 
     fn lock_upgradable(&self) -> R::UpgradableGuard {
         self.asked(RawCall::Lock(Mode::Upgradable));

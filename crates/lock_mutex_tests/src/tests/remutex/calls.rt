@@ -91,14 +91,14 @@ where
     let one = party(1)?;
     let raw: MockRaw<R> = RawMutex::new(alloc, waiter)?;
     let mut watch = Watch::new(raw.calls()?);
-    let mut lock = ReentrantMutex::from_raw(raw, (1, 2))?;
+    let mut lock = ReentrantMutex::from_raw(alloc, raw, (1, 2))?;
     maps(&lock, &mut watch, one)?;
     equal(inner_maps(&lock, &mut watch, one), Some((5, 2)))?;
     *lock.get_mut() = (3, 4);
     let (raw, value) = lock.into_inner_with_raw();
     watch.saw(&[]);
     ends(
-        Arc::new(alloc, ReentrantMutex::from_raw(raw, value)?)?,
+        Arc::new(alloc, ReentrantMutex::from_raw(alloc, raw, value)?)?,
         &mut watch,
         one,
     )?;

@@ -71,14 +71,15 @@ where
     ]
 }
 
-fn check<R: RawMutex + Drop>(alloc: Global, waiters: [R::Waiter; 2]) -> Result<(), Fail>
+/// The refusals by guards that borrow, and the raw calls that they make. Returns the value.
+fn check_borrowed<R: RawMutex + Drop>(alloc: Global, waiter: R::Waiter) -> Result<u8, Fail>
 where
     R::Guard: Send + Drop,
 {
     let one = party(1)?;
-    let [first, second] = waiters;
-    let lock: ReentrantMutex<MockRaw<R>, u8> = ReentrantMutex::with_levels(alloc, first, 1, 7)?;
-    for (call, fault) in refused(lock.lock(one)?, one) {
+    let lock: ReentrantMutex<MockRaw<R>, u8> = ReentrantMutex::with_levels(alloc, waiter, 1, 7)?;
+    let guard = lock.lock(one)?;
+    for (call, fault) in refused(guard, one) {
         equal((call, fault), (call, Some(FullCount)))?;
     }
     let (raw, value) = lock.into_inner_with_raw();
@@ -90,8 +91,17 @@ where
         Unlock(Exclusive),
     ]);
     watch.verdict()?;
+    Ok(value)
+}
+
+/// The refusals by guards that own a reference to the lock.
+fn check_arc<R: RawMutex + Drop>(alloc: Global, waiter: R::Waiter, value: u8) -> Result<(), Fail>
+where
+    R::Guard: Send + Drop,
+{
+    let one = party(1)?;
     let lock: ReentrantMutex<MockRaw<R>, u8> = ReentrantMutex::with_levels(
-        alloc, second, 1, value,
+        alloc, waiter, 1, value,
     )?;
     let lock = Arc::new(alloc, lock)?;
     let _guard = ReentrantMutex::lock_arc(&lock, one)?;
@@ -103,5 +113,6 @@ where
 
 #[test]
 fn a_full_count_is_refused(rt: HostRuntime) -> Result<(), Fail> {
-    check::<RawLock<Table>>(rt.alloc(), [rt; 2])
+    let value = check_borrowed::<RawLock<Table>>(rt.alloc(), rt)?;
+    check_arc::<RawLock<Table>>(rt.alloc(), rt, value)
 }

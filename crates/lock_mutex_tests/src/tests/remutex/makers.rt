@@ -67,7 +67,11 @@ where
             ReentrantMutex::with_levels(alloc, fourth, 3, 7)?,
             one,
         )?,
-        consumed::<R>(Maker::FromRaw, ReentrantMutex::from_raw(raw, 8)?, one)?,
+        consumed::<R>(
+            Maker::FromRaw,
+            ReentrantMutex::from_raw(alloc, raw, 8)?,
+            one,
+        )?,
     ])
 }
 

@@ -33,7 +33,7 @@ fn a_raw_lock_that_lies_makes_no_second_owner(rt: HostRuntime) -> Result<(), Fai
     let (one, two) = two_parties()?;
     let raw: AdmitsAll<HostRuntime> = RawMutex::new(rt.alloc(), rt)?;
     let mut watch = Watch::new(raw.calls()?);
-    let lock = RawReentrantMutex::from_raw(raw);
+    let lock = RawReentrantMutex::from_raw(rt.alloc(), raw)?;
     let done = |call, answer: Result<(), Fault>| {
         (
             call,

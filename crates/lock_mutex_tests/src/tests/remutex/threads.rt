@@ -83,7 +83,7 @@ fn lock_asks_again_while_another_owns(rt: HostRuntime) -> Result<(), Fail> {
     let (one, two) = two_parties()?;
     let raw: AdmitsAll<HostRuntime> = RawMutex::new(rt.alloc(), rt)?;
     let calls = raw.calls()?;
-    let lock = ReentrantMutex::from_raw(raw, 0u8)?;
+    let lock = ReentrantMutex::from_raw(rt.alloc(), raw, 0u8)?;
     let is_owned = AtomicBool::new(false);
     let ends = thread::join(
         &rt,

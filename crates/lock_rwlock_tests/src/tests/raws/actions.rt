@@ -1,5 +1,5 @@
 //! What threads do with a raw lock, as lists.
-use super::held::{Held, bump, change, lock, try_lock, try_upgrade, unlock};
+use super::held::Held;
 use super::meeting::Meeting;
 use lock_base::machine::Mode::{self, Exclusive, Shared};
 use lock_guard::raw::RawRwLock;
@@ -69,7 +69,7 @@ impl<C: LockCore> Acts for RawLock<C> {
         lists: &[Actions],
         times: u32,
     ) -> Option<Action> {
-        let mut held = Held::Nothing;
+        let mut held = Held::nothing(self);
         let mut wrong = None;
         for _ in 0..times {
             for list in lists {
@@ -91,29 +91,29 @@ impl<C: LockCore> Acts for RawLock<C> {
 }
 
 /// Makes one action. Returns the token afterwards, and whether all went as it must.
-fn acted<C: LockCore, K: Clock>(
-    raw: &RawLock<C>,
+fn acted<'a, C: LockCore, K: Clock>(
+    raw: &'a RawLock<C>,
     clock: &K,
     meeting: &Meeting,
-    held: Held<C>,
+    held: Held<'a, C>,
     action: Action,
-) -> (Held<C>, bool) {
+) -> (Held<'a, C>, bool) {
     match action {
-        Action::Lock(mode) => (lock(raw, mode), true),
-        Action::Try(mode) => match try_lock(raw, mode) {
+        Action::Lock(mode) => (Held::lock(raw, mode), true),
+        Action::Try(mode) => match Held::try_lock(raw, mode) {
             Some(token) => (token, true),
             None => (held, false),
         },
-        Action::WriteOrRead => match try_lock(raw, Exclusive) {
+        Action::WriteOrRead => match Held::try_lock(raw, Exclusive) {
             Some(token) => (token, true),
-            None => (lock(raw, Shared), true),
+            None => (Held::lock(raw, Shared), true),
         },
-        Action::To(mode) => (change(raw, held, mode), true),
-        Action::TryUpgrade => (try_upgrade(raw, held), true),
-        Action::Bump => (bump(raw, held), true),
+        Action::To(mode) => (held.change(mode), true),
+        Action::TryUpgrade => (held.try_upgrade(), true),
+        Action::Bump => (held.bump(), true),
         Action::Unlock => {
-            unlock(raw, held);
-            (Held::Nothing, true)
+            held.unlock();
+            (Held::nothing(raw), true)
         }
         other => (held, is_right(raw, clock, meeting, other)),
     }

@@ -2,13 +2,18 @@
 use lock_base::machine::Mode::Shared;
 use lock_base::machine::ModeStep::{self, Acquire, Release};
 use lock_guard::raw::{RawRwLock, RawRwLockDowngrade};
-use lock_raws::{LockCore, RawLock, RecordingRaw};
+use lock_raws::RecordingRaw;
 use lock_test_support::answer::equal;
 use std::alloc::Global;
+use std::clone::Clone;
+use std::sync::Wait;
 use std::test::Fail;
 
 /// Releases a token of the one at the other, which has a reader of its own. Returns whether each is held after that.
-fn unlock_the_other<C: LockCore>(one: &RawLock<C>, other: &RawLock<C>) -> [bool; 2] {
+fn unlock_the_other<W: Wait + Clone + Drop>(
+    one: &RecordingRaw<W>,
+    other: &RecordingRaw<W>,
+) -> [bool; 2] {
     let shared = other.lock_shared();
     other.unlock_exclusive(one.lock_exclusive());
     let is_held = RawRwLock::is_locked(other);
@@ -17,7 +22,10 @@ fn unlock_the_other<C: LockCore>(one: &RawLock<C>, other: &RawLock<C>) -> [bool;
 }
 
 /// Downgrades a token of the one at the other, and releases it there. Returns whether that is held after each.
-fn downgrade_at_the_other<C: LockCore>(one: &RawLock<C>, other: &RawLock<C>) -> [bool; 2] {
+fn downgrade_at_the_other<W: Wait + Clone + Drop>(
+    one: &RecordingRaw<W>,
+    other: &RecordingRaw<W>,
+) -> [bool; 2] {
     let shared = other.downgrade(one.lock_exclusive());
     let is_held = RawRwLock::is_locked(other);
     other.unlock_shared(shared);

@@ -1,6 +1,11 @@
-//! Which tokens another thread may have. The compiler refuses `GuardNoSend` as an argument of `hand_over`.
+//! Which tokens and guards another thread may have. The compiler refuses `GuardNoSend` as an argument of `hand_over`.
+use crate::tests::Word;
 use lock_guard::raw::{GuardNoSend, GuardSend};
+use lock_raws::RawLock;
+use lock_rwlock::RwLock;
+use std::ops::Deref;
 use std::test::Fail;
+use std::thread::{self, Threads};
 
 /// Accepts what another thread may own.
 fn hand_over<T: Send + Drop>(token: T) {
@@ -20,5 +25,20 @@ fn markers_of_threads(rt: HostRuntime) -> Result<(), Fail> {
         format!(in rt.alloc(); "{default:?}")?.as_str()
     );
     hand_over(made.0);
+    Ok(())
+}
+
+/// Reads through one guard in two threads.
+fn read_in_two_threads<R: Threads, G: Deref<Target = u64> + Sync>(rt: &R, guard: &G) -> (u64, u64) {
+    thread::join(rt, || **guard, || **guard)
+}
+
+#[test]
+fn threads_read_through_one_guard(rt: HostRuntime) -> Result<(), Fail> {
+    let lock: RwLock<RawLock<Word>, u64> = RwLock::new(rt.alloc(), rt, 7)?;
+    let guard = lock.read();
+    let seen = read_in_two_threads(&rt, &guard);
+    drop(guard);
+    assert_eq!(rt; (seen, lock.into_inner()), ((7, 7), 7));
     Ok(())
 }

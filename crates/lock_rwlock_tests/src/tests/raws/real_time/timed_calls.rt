@@ -1,6 +1,6 @@
 //! Every timed call: it times out no sooner than its time, and a release before that lets it acquire.
 use super::{is_over, raw_rwlock, short};
-use crate::tests::raws::held::{Held, lock, unlock};
+use crate::tests::raws::held::Held;
 use lock_base::machine::Mode::{Exclusive, Shared};
 use lock_guard::raw::{
     RawMutexTimed, RawRwLock, RawRwLockTimed, RawRwLockUpgrade, RawRwLockUpgradeTimed,
@@ -72,36 +72,41 @@ fn acquired<C: LockCore<Duration = Duration, Instant = Instant>>(
     raw: &RawLock<C>,
     want: Want,
     end: End,
-) -> Option<Held<C>> {
-    let held = match (want, end) {
-        (Want::Lock, End::For(time)) => Held::Writer(raw.try_lock_for(time)?),
-        (Want::Lock, End::Until(deadline)) => Held::Writer(raw.try_lock_until(deadline)?),
-        (Want::Shared, End::For(time)) => Held::Reader(raw.try_lock_shared_for(time)?),
-        (Want::Shared, End::Until(deadline)) => Held::Reader(raw.try_lock_shared_until(deadline)?),
-        (Want::Exclusive, End::For(time)) => Held::Writer(raw.try_lock_exclusive_for(time)?),
+) -> Option<Held<'_, C>> {
+    Some(match (want, end) {
+        (Want::Lock, End::For(time)) => Held::writer(raw, raw.try_lock_for(time)?),
+        (Want::Lock, End::Until(deadline)) => Held::writer(raw, raw.try_lock_until(deadline)?),
+        (Want::Shared, End::For(time)) => Held::reader(raw, raw.try_lock_shared_for(time)?),
+        (Want::Shared, End::Until(deadline)) => Held::reader(
+            raw,
+            raw.try_lock_shared_until(deadline)?,
+        ),
+        (Want::Exclusive, End::For(time)) => Held::writer(raw, raw.try_lock_exclusive_for(time)?),
         (Want::Exclusive, End::Until(deadline)) => {
-            Held::Writer(raw.try_lock_exclusive_until(deadline)?)
+            Held::writer(raw, raw.try_lock_exclusive_until(deadline)?)
         }
-        (Want::Upgradable, End::For(time)) => Held::Upgrader(raw.try_lock_upgradable_for(time)?),
+        (Want::Upgradable, End::For(time)) => Held::upgrader(
+            raw,
+            raw.try_lock_upgradable_for(time)?,
+        ),
         (Want::Upgradable, End::Until(deadline)) => {
-            Held::Upgrader(raw.try_lock_upgradable_until(deadline)?)
+            Held::upgrader(raw, raw.try_lock_upgradable_until(deadline)?)
         }
         (Want::Upgrade, end) => return upgraded(raw, end),
-    };
-    Some(held)
+    })
 }
 
 fn upgraded<C: LockCore<Duration = Duration, Instant = Instant>>(
     raw: &RawLock<C>,
     end: End,
-) -> Option<Held<C>> {
+) -> Option<Held<'_, C>> {
     let token = raw.lock_upgradable();
     let answer = match end {
         End::For(time) => raw.try_upgrade_for(token, time),
         End::Until(deadline) => raw.try_upgrade_until(token, deadline),
     };
     match answer {
-        Ok(token) => Some(Held::Writer(token)),
+        Ok(token) => Some(Held::writer(raw, token)),
         Err(token) => {
             raw.unlock_upgradable(token);
             None
@@ -117,7 +122,7 @@ fn acquires<C: LockCore<Duration = Duration, Instant = Instant>>(
 ) -> bool {
     match acquired(raw, want, end) {
         Some(held) => {
-            unlock(raw, held);
+            held.unlock();
             true
         }
         None => false,
@@ -125,15 +130,13 @@ fn acquires<C: LockCore<Duration = Duration, Instant = Instant>>(
 }
 
 /// Acquires a token that blocks the call.
-fn block<C: LockCore>(raw: &RawLock<C>, want: Want) -> Held<C> {
-    lock(
-        raw,
-        if want == Want::Upgrade {
-            Shared
-        } else {
-            Exclusive
-        },
-    )
+fn block<C: LockCore>(raw: &RawLock<C>, want: Want) -> Held<'_, C> {
+    let mode = if want == Want::Upgrade {
+        Shared
+    } else {
+        Exclusive
+    };
+    Held::lock(raw, mode)
 }
 
 /// Whether the call acquires within `short`, next to a token that blocks it, and whether `short` was over when it
@@ -148,7 +151,7 @@ fn acquires_beside<K: Clock, C: LockCore<Duration = Duration, Instant = Instant>
     let start = Instant::now(clock)?;
     let is_acquired = acquires(raw, want, form.end(clock, short())?);
     let was_over = is_over(clock, start);
-    unlock(raw, held);
+    held.unlock();
     Ok((is_acquired, was_over))
 }
 
@@ -173,7 +176,7 @@ fn release_later<K: Clock, C: LockCore>(
     let held = block(raw, want);
     is_held.store(true, Ordering::SeqCst);
     clock.sleep(short());
-    unlock(raw, held);
+    held.unlock();
 }
 
 /// Each call, blocked and released. A timeout past the last instant never ends.

@@ -57,14 +57,14 @@ fn wait_until_open<R: RawMutex>(
     raw.unlock(token);
 }
 
-/// Raises the flag once two threads sleep, and notifies them once.
+/// Raises the flag once two threads sleep, and notifies them once. Returns how many waits were registered.
 fn open<K: Clock, R: RawMutex>(
     clock: &K,
     raw: &R,
     opened: &SleepingCondvar<R>,
     waiting: &AtomicU64,
     is_open: &AtomicBool,
-) {
+) -> usize {
     for _ in raw.waiter().forever() {
         if waiting.load(Ordering::SeqCst) == 2 {
             break;
@@ -75,16 +75,16 @@ fn open<K: Clock, R: RawMutex>(
     let token = raw.lock();
     is_open.store(true, Ordering::SeqCst);
     raw.unlock(token);
-    opened.notify_all();
+    opened.notify_all()
 }
 
-/// It ends only if both threads are woken.
+/// It ends only if both threads are woken. Then no wait is registered.
 #[test]
 fn one_notification_of_all_ends_each_wait(rt: HostRuntime) -> Result<(), Fail> {
     let raw: TimedRaw<HostRuntime> = raw_rwlock(rt.alloc(), rt)?;
     let opened: TimedCondvar<HostRuntime> = RawCondvar::new(rt.alloc())?;
     let (waiting, is_open) = (AtomicU64::new(0), AtomicBool::new(false));
-    thread::join(
+    let (_, told) = thread::join(
         &rt,
         || thread::join(
             &rt,
@@ -93,6 +93,9 @@ fn one_notification_of_all_ends_each_wait(rt: HostRuntime) -> Result<(), Fail> {
         ),
         || open(&rt, &raw, &opened, &waiting, &is_open),
     );
+    assert!(rt; told == 2);
+    assert!(rt; !opened.notify_one());
+    assert!(rt; opened.notify_all() == 0);
     Ok(())
 }
 

@@ -1,0 +1,257 @@
+//! The raw lock with a mistake, for readers and writers.
+ghost use Rattle.std.specs.Prelude.{◌≡◌, IfErr};
+ghost use Rattle.lock_test_support.specs.WrongTokens.{owns_if_some};
+
+use crate::raw_lock::mistake::Mistake;
+use crate::raw_lock::wrong_raw::WrongRaw;
+use lock_base::raw::Fault;
+use lock_guard::raw::{
+    RawRwLock, RawRwLockDowngrade, RawRwLockFair, RawRwLockTimed, RawRwLockUpgrade,
+    RawRwLockUpgradeDowngrade, RawRwLockUpgradeFair, RawRwLockUpgradeTimed,
+};
+use std::alloc::Global;
+
+impl<R: RawRwLock> RawRwLock for WrongRaw<R>
+where
+    R::SharedGuard: Drop,
+    R::ExclusiveGuard: Drop,
+{
+    type SharedGuard = R::SharedGuard;
+
+    type ExclusiveGuard = Option<R::ExclusiveGuard>;
+
+    type Waiter = R::Waiter;
+
+    ghost owns_shared = { λ wrong token. R.owns_shared wrong.raw token };
+
+    ghost owns_exclusive = { λ wrong token. owns_if_some (R.owns_exclusive wrong.raw) token };
+
+    fn new(alloc: Global, waiter: R::Waiter, readers: u64) -> Result<WrongRaw<R>, Fault> {
+        Ok(WrongRaw::over(R::new(alloc, waiter, readers)?, Mistake::KeptToken))
+    }
+
+    fn waiter(&self) -> &R::Waiter {
+        self.raw.waiter()
+    }
+
+    fn lock_shared(&self) -> R::SharedGuard {
+        self.raw.lock_shared()
+    }
+
+    fn try_lock_shared(&self) -> Option<R::SharedGuard> {
+        self.raw.try_lock_shared()
+    }
+
+    fn unlock_shared(&self, token: R::SharedGuard) {
+        if !self.makes(Mistake::KeptToken) {
+            self.raw.unlock_shared(token);
+        }
+    }
+
+    fn lock_exclusive(&self) -> Option<R::ExclusiveGuard> {
+        Some(self.raw.lock_exclusive())
+    }
+
+    fn try_lock_exclusive(&self) -> Option<Option<R::ExclusiveGuard>> {
+        let token = self.raw.try_lock_exclusive();
+        if token.is_none() && self.makes(Mistake::RefusalAdmits) {
+            drop(self.raw.try_lock_shared());
+        }
+        Some(Some(token?))
+    }
+
+    fn unlock_exclusive(&self, token: Option<R::ExclusiveGuard>) {
+        if let Some(token) = token
+            && !self.makes(Mistake::KeptToken)
+        {
+            self.raw.unlock_exclusive(token);
+        }
+    }
+
+    fn is_locked(&self) -> bool {
+        self.raw.is_locked()
+    }
+
+    fn is_locked_exclusive(&self) -> bool {
+        self.raw.is_locked_exclusive()
+    }
+}
+
+impl<R: RawRwLockFair> RawRwLockFair for WrongRaw<R>
+where
+    R::SharedGuard: Drop,
+    R::ExclusiveGuard: Drop,
+{
+    fn unlock_shared_fair(&self, token: R::SharedGuard) {
+        if !self.makes(Mistake::FairKeptToken) {
+            self.raw.unlock_shared_fair(token);
+        }
+    }
+
+    fn unlock_exclusive_fair(&self, token: Option<R::ExclusiveGuard>) {
+        if let Some(token) = token
+            && !self.makes(Mistake::FairKeptToken)
+        {
+            self.raw.unlock_exclusive_fair(token);
+        }
+    }
+
+    fn bump_shared(&self, token: R::SharedGuard) -> R::SharedGuard {
+        self.raw.bump_shared(token)
+    }
+
+    fn bump_exclusive(&self, token: Option<R::ExclusiveGuard>) -> Option<R::ExclusiveGuard> {
+        let token = token?;
+        if self.makes(Mistake::HalfBump) {
+            self.raw.unlock_exclusive(token);
+            return None;
+        }
+        Some(self.raw.bump_exclusive(token))
+    }
+}
+
+impl<R: RawRwLockDowngrade> RawRwLockDowngrade for WrongRaw<R>
+where
+    R::SharedGuard: Drop,
+    R::ExclusiveGuard: Drop,
+{
+    fn downgrade(&self, token: Option<R::ExclusiveGuard>) -> R::SharedGuard {
+        let Some(token) = token else {
+            return self.raw.lock_shared();
+        };
+        self.raw.downgrade(token)
+    }
+}
+
+impl<R: RawRwLockTimed> RawRwLockTimed for WrongRaw<R>
+where
+    R::SharedGuard: Drop,
+    R::ExclusiveGuard: Drop,
+{
+    type Duration = R::Duration;
+
+    type Instant = R::Instant;
+
+    fn try_lock_shared_for(&self, timeout: R::Duration) -> Option<R::SharedGuard> {
+        if self.makes(Mistake::TimedRefusal) {
+            return None;
+        }
+        self.raw.try_lock_shared_for(timeout)
+    }
+
+    fn try_lock_shared_until(&self, deadline: R::Instant) -> Option<R::SharedGuard> {
+        if self.makes(Mistake::TimedRefusal) {
+            return None;
+        }
+        self.raw.try_lock_shared_until(deadline)
+    }
+
+    fn try_lock_exclusive_for(&self, timeout: R::Duration) -> Option<Option<R::ExclusiveGuard>> {
+        Some(Some(self.raw.try_lock_exclusive_for(timeout)?))
+    }
+
+    fn try_lock_exclusive_until(&self, deadline: R::Instant) -> Option<Option<R::ExclusiveGuard>> {
+        Some(Some(self.raw.try_lock_exclusive_until(deadline)?))
+    }
+}
+
+impl<R: RawRwLockUpgrade> RawRwLockUpgrade for WrongRaw<R>
+where
+    R::SharedGuard: Drop,
+    R::ExclusiveGuard: Drop,
+{
+    type UpgradableGuard = R::UpgradableGuard;
+
+    ghost owns_upgradable = { λ wrong token. R.owns_upgradable wrong.raw token };
+
+    fn lock_upgradable(&self) -> R::UpgradableGuard {
+        self.raw.lock_upgradable()
+    }
+
+    fn try_lock_upgradable(&self) -> Option<R::UpgradableGuard> {
+        self.raw.try_lock_upgradable()
+    }
+
+    fn unlock_upgradable(&self, token: R::UpgradableGuard) {
+        self.raw.unlock_upgradable(token);
+    }
+
+    fn upgrade(&self, token: R::UpgradableGuard) -> Option<R::ExclusiveGuard> {
+        Some(self.raw.upgrade(token))
+    }
+
+    fn try_upgrade(
+        &self,
+        token: R::UpgradableGuard,
+    ) -> Result<Option<R::ExclusiveGuard>, R::UpgradableGuard> {
+        match self.raw.try_upgrade(token) {
+            Ok(token) => Ok(Some(token)),
+            Err(token) if self.makes(Mistake::UpgradeAmongReaders) => {
+                self.raw.unlock_upgradable(token);
+                Ok(None)
+            }
+            Err(token) => Err(token),
+        }
+    }
+}
+
+impl<R: RawRwLockUpgradeFair> RawRwLockUpgradeFair for WrongRaw<R>
+where
+    R::SharedGuard: Drop,
+    R::ExclusiveGuard: Drop,
+{
+    fn unlock_upgradable_fair(&self, token: R::UpgradableGuard) {
+        self.raw.unlock_upgradable_fair(token);
+    }
+
+    fn bump_upgradable(&self, token: R::UpgradableGuard) -> R::UpgradableGuard {
+        self.raw.bump_upgradable(token)
+    }
+}
+
+impl<R: RawRwLockUpgradeDowngrade> RawRwLockUpgradeDowngrade for WrongRaw<R>
+where
+    R::SharedGuard: Drop,
+    R::ExclusiveGuard: Drop,
+{
+    fn downgrade_upgradable(&self, token: R::UpgradableGuard) -> R::SharedGuard {
+        self.raw.downgrade_upgradable(token)
+    }
+
+    fn downgrade_to_upgradable(&self, token: Option<R::ExclusiveGuard>) -> R::UpgradableGuard {
+        match token {
+            Some(token) => self.raw.downgrade_to_upgradable(token),
+            None => self.raw.lock_upgradable(),
+        }
+    }
+}
+
+impl<R: RawRwLockUpgradeTimed> RawRwLockUpgradeTimed for WrongRaw<R>
+where
+    R::SharedGuard: Drop,
+    R::ExclusiveGuard: Drop,
+{
+    fn try_lock_upgradable_for(&self, timeout: R::Duration) -> Option<R::UpgradableGuard> {
+        self.raw.try_lock_upgradable_for(timeout)
+    }
+
+    fn try_lock_upgradable_until(&self, deadline: R::Instant) -> Option<R::UpgradableGuard> {
+        self.raw.try_lock_upgradable_until(deadline)
+    }
+
+    fn try_upgrade_for(
+        &self,
+        token: R::UpgradableGuard,
+        timeout: R::Duration,
+    ) -> Result<Option<R::ExclusiveGuard>, R::UpgradableGuard> {
+        Ok(Some(self.raw.try_upgrade_for(token, timeout)?))
+    }
+
+    fn try_upgrade_until(
+        &self,
+        token: R::UpgradableGuard,
+        deadline: R::Instant,
+    ) -> Result<Option<R::ExclusiveGuard>, R::UpgradableGuard> {
+        Ok(Some(self.raw.try_upgrade_until(token, deadline)?))
+    }
+}

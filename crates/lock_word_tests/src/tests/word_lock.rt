@@ -1,0 +1,274 @@
+//! Threads at a word lock. A lost wake-up makes a test hang.
+ghost use Rattle.std.specs.Prelude.{◌≡◌};
+ghost use Rattle.lock_base.specs.declared.machine.mode.Mode.TheVariants.{Exclusive, Shared};
+ghost use Rattle.lock_wake.specs.Calls.{IsTokenOf};
+
+use lock_base::machine::Mode;
+use lock_wake::{WordLock, WordToken};
+use std::alloc::Global;
+use std::sync::Wait;
+use std::sync::atomic::{AtomicU64, Ordering};
+use std::test::Fail;
+use std::thread::{Threads, join, yield_now};
+use std::time::{Clock, Duration, Instant};
+
+/// Gives other threads time to fall asleep.
+fn rest(turns: u32) {
+    for _ in 0..turns {
+        yield_now();
+    }
+}
+
+/// Returns once so many calls are counted as sleepers before this epoch, and they had time to fall asleep.
+fn let_sleep<R: Wait>(rt: &R, lock: &WordLock, count: u64, last_epoch: u64) {
+    for _ in rt.forever() {
+        if lock.sleepers() == count && lock.epoch() < last_epoch {
+            break;
+        }
+        yield_now();
+    }
+    rest(2_000);
+}
+
+/// An epoch that these tests never reach.
+const FAR: u64 = 1_000_000_000;
+
+/// What one thread does in a short run.
+#[derive(Clone, Copy, PartialEq, Eq, Debug)]
+enum Visit {
+    Read,
+    Write,
+    WriteAnnounced,
+    Upgrade,
+    GiveUp,
+}
+
+/// One visit, with a pause at each mode.
+fn make_visit<R: Wait + Clock>(rt: &R, lock: &WordLock, visit: Visit) {
+    match visit {
+        Visit::Read => read(rt, lock),
+        Visit::Write => write_and_downgrade(rt, lock),
+        Visit::WriteAnnounced => write_announced(rt, lock),
+        Visit::Upgrade => upgrade(rt, lock),
+        Visit::GiveUp => give_up(rt, lock),
+    }
+}
+
+fn read<R: Wait>(rt: &R, lock: &WordLock) {
+    let token = lock.acquire(rt, Mode::Shared);
+    rest(40);
+    lock.release(token, Mode::Shared);
+}
+
+fn write_and_downgrade<R: Wait>(rt: &R, lock: &WordLock) {
+    let token = lock.acquire(rt, Mode::Exclusive);
+    rest(40);
+    let token = lock.downgrade(token);
+    rest(40);
+    lock.release(token, Mode::Shared);
+}
+
+fn write_announced<R: Wait>(rt: &R, lock: &WordLock) {
+    let token = lock.acquire_announced(rt);
+    rest(40);
+    lock.release(token, Mode::Exclusive);
+}
+
+fn upgrade<R: Wait>(rt: &R, lock: &WordLock) {
+    let token = lock.acquire(rt, Mode::Upgradable);
+    rest(40);
+    let token = lock.upgrade(rt, token);
+    rest(40);
+    let token = lock.downgrade_to_upgradable(token);
+    rest(40);
+    let token = lock.downgrade_upgradable(token);
+    lock.release(token, Mode::Shared);
+}
+
+/// Waits for a few microseconds, and releases what it acquired.
+fn give_up<R: Wait + Clock>(rt: &R, lock: &WordLock) {
+    let Ok(now) = Instant::now(rt) else {
+        return;
+    };
+    let Some(deadline) = now.checked_add(Duration::from_micros(20)) else {
+        return;
+    };
+    let Some(token) = lock.acquire_until(rt, Mode::Upgradable, deadline) else {
+        return;
+    };
+    match lock.upgrade_until(rt, token, deadline) {
+        Ok(token) => lock.release(token, Mode::Exclusive),
+        Err(token) => lock.release(token, Mode::Upgradable),
+    }
+}
+
+/// What the four threads of a run do.
+const RUNS: [[Visit; 4]; 5] = [
+    [Visit::Write, Visit::Write, Visit::Write, Visit::Write],
+    [
+        Visit::Read,
+        Visit::Read,
+        Visit::Write,
+        Visit::WriteAnnounced,
+    ],
+    [Visit::Upgrade, Visit::Read, Visit::Upgrade, Visit::Read],
+    [
+        Visit::Read,
+        Visit::Write,
+        Visit::GiveUp,
+        Visit::WriteAnnounced,
+    ],
+    [
+        Visit::WriteAnnounced,
+        Visit::Upgrade,
+        Visit::GiveUp,
+        Visit::Write,
+    ],
+];
+
+/// Four visits to a new lock, on a thread each. Returns whether the lock is free afterwards, and no call is counted.
+fn short_run<R: Threads + Wait + Clock + Sync>(
+    rt: &R,
+    alloc: Global,
+    readers: u64,
+    visits: [Visit; 4],
+) -> Result<bool, Fail> {
+    let lock = WordLock::new(alloc, readers)?;
+    let [first, second, third, fourth] = visits;
+    join(
+        rt,
+        || {
+            join(
+                rt,
+                || make_visit(rt, &lock, first),
+                || make_visit(rt, &lock, second),
+            );
+        },
+        || {
+            join(
+                rt,
+                || make_visit(rt, &lock, third),
+                || make_visit(rt, &lock, fourth),
+            );
+        },
+    );
+    Ok(!lock.is_locked() && lock.sleepers() == 0)
+}
+
+#[test]
+fn no_short_run_hangs(rt: HostRuntime) -> Result<(), Fail> {
+    for run in 0..5_000usize {
+        let readers = [1, 2, 4][run % 3];
+        assert!(rt; short_run(&rt, rt.alloc(), readers, RUNS[run % 5])?);
+    }
+    Ok(())
+}
+
+/// Releases the token once a call sleeps. Returns whether a reader was refused before.
+fn refuse_and_release<R: Wait>(rt: &R, lock: &WordLock, token: WordToken) -> bool
+    requires { IsTokenOf lock.now Shared token }
+{
+    let_sleep(rt, lock, 1, FAR);
+    let is_refused = match lock.try_acquire(Mode::Shared) {
+        Some(reader) => {
+            lock.release(reader, Mode::Shared);
+            false
+        }
+        None => true,
+    };
+    lock.release(token, Mode::Shared);
+    is_refused
+}
+
+#[test]
+fn a_waiting_writer_keeps_readers_out_and_is_woken(rt: HostRuntime) -> Result<(), Fail> {
+    let lock = WordLock::new(rt.alloc(), 4)?;
+    let token = lock.acquire(&rt, Mode::Shared);
+    let (is_refused, _) = join(
+        &rt,
+        || refuse_and_release(&rt, &lock, token),
+        || write_announced(&rt, &lock),
+    );
+    assert!(rt; is_refused, "the bar is set");
+    assert!(rt; lock.epoch() > 0, "the release ended an epoch");
+    Ok(())
+}
+
+/// Downgrades once two calls sleep, and keeps the shared token until both have read.
+fn downgrade_later<R: Wait>(rt: &R, lock: &WordLock, token: WordToken, reads: &AtomicU64)
+    requires { IsTokenOf lock.now Exclusive token }
+{
+    let_sleep(rt, lock, 2, FAR);
+    let token = lock.downgrade(token);
+    come_to(rt, reads, 2);
+    lock.release(token, Mode::Shared);
+}
+
+/// Reads once, and counts that.
+fn read_and_count<R: Wait>(rt: &R, lock: &WordLock, reads: &AtomicU64) {
+    let token = lock.acquire(rt, Mode::Shared);
+    reads.fetch_add(1, Ordering::SeqCst);
+    lock.release(token, Mode::Shared);
+}
+
+#[test]
+fn a_downgrade_wakes_readers(rt: HostRuntime) -> Result<(), Fail> {
+    let lock = WordLock::new(rt.alloc(), 4)?;
+    let token = lock.acquire(&rt, Mode::Exclusive);
+    let reads = AtomicU64::new(0);
+    join(
+        &rt,
+        || downgrade_later(&rt, &lock, token, &reads),
+        || {
+            join(
+                &rt,
+                || read_and_count(&rt, &lock, &reads),
+                || read_and_count(&rt, &lock, &reads),
+            );
+        },
+    );
+    assert!(rt; reads.load(Ordering::SeqCst) == 2);
+    Ok(())
+}
+
+/// Holds exclusive so often, and releases each time once the other call sleeps before the last epoch.
+fn hold_until_slept<R: Wait>(rt: &R, lock: &WordLock, turn: &AtomicU64) {
+    for round in 0..9u64 {
+        let token = lock.acquire(rt, Mode::Exclusive);
+        turn.store(round + 1, Ordering::SeqCst);
+        let_sleep(rt, lock, 1, 2);
+        lock.release(token, Mode::Exclusive);
+        come_to(rt, turn, 0);
+    }
+}
+
+/// Waits for the lock as often, once the other thread holds it.
+fn wait_for_holder<R: Wait>(rt: &R, lock: &WordLock, turn: &AtomicU64) {
+    for round in 0..9u64 {
+        come_to(rt, turn, round + 1);
+        read(rt, lock);
+        turn.store(0, Ordering::SeqCst);
+    }
+}
+
+fn come_to<R: Wait>(rt: &R, turn: &AtomicU64, wanted: u64) {
+    for _ in rt.forever() {
+        if turn.load(Ordering::SeqCst) == wanted {
+            break;
+        }
+        yield_now();
+    }
+}
+
+#[test]
+fn epochs_begin_anew_past_a_small_last_one(rt: HostRuntime) -> Result<(), Fail> {
+    let lock = WordLock::with_last_epoch(rt.alloc(), 4, 2)?;
+    let turn = AtomicU64::new(0);
+    join(
+        &rt,
+        || hold_until_slept(&rt, &lock, &turn),
+        || wait_for_holder(&rt, &lock, &turn),
+    );
+    assert!(rt; lock.epoch() == 1 && lock.sleepers() == 0);
+    Ok(())
+}
