@@ -1,6 +1,5 @@
-// Preloaded into the tests of a crate: refuses the allocation whose number is in REFUSE, counted from 1, and says so on standard
-// error. The tests allocate by malloc and realloc. A call from the C library itself does not count, as where it starts a thread.
-// No header is included, since a machine may lack those of C.
+// Preloaded into tests: refuses the allocation whose number is in REFUSE, counted from 1, and says so on standard error. A call
+// from the C library itself does not count, as where it starts a thread. A machine may lack C's headers, so none is included.
 extern void *__libc_malloc(unsigned long);
 extern void *__libc_realloc(void *, unsigned long);
 extern char *getenv(const char *);
@@ -8,7 +7,6 @@ extern long atol(const char *);
 extern long write(int, const void *, unsigned long);
 extern unsigned long getauxval(unsigned long);
 
-// what dladdr tells of an address
 struct place {
     const char *file;
     void *base;
@@ -20,14 +18,12 @@ extern int dladdr(const void *, struct place *);
 #define AT_ENTRY 9
 static const char TOLD[] = "an allocation is refused\n";
 
-static int is_of_the_tests(void *caller) {
-    struct place tests, here;
-    return dladdr((void *)getauxval(AT_ENTRY), &tests) && dladdr(caller, &here) && here.base == tests.base;
-}
-
 static int is_refused(void *caller) {
     static long made = 0;
-    if (!is_of_the_tests(caller) || __atomic_add_fetch(&made, 1, __ATOMIC_SEQ_CST) != atol(getenv("REFUSE")))
+    struct place tests, here;
+    if (!dladdr((void *)getauxval(AT_ENTRY), &tests) || !dladdr(caller, &here) || here.base != tests.base)
+        return 0;
+    if (__atomic_add_fetch(&made, 1, __ATOMIC_SEQ_CST) != atol(getenv("REFUSE")))
         return 0;
     write(2, TOLD, sizeof TOLD - 1);
     return 1;

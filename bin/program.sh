@@ -1,36 +1,17 @@
-# Runs a program of this repository: the proved one where it is built and up to date, else one that is compiled for this run,
-# without its proof. bin/build makes the proved programs.
+#!/bin/sh
+# Runs a program of this repository: the proved one where it is built and no source is newer, else one that is compiled for this
+# run, without its proof. bin/build makes the proved programs.
 #
-# A script sets these before it reads this file, and then calls run_program or tell_usage:
-#   root       the top of the repository
-#   name       the program and its crate
-#   no_answer  the status where the program without its proof gives no answer; the program itself never ends with it
+# usage: bin/program.sh NAME NO_ANSWER [WORD..]     NO_ANSWER is the status where the program without its proof gives no answer
+name=$1
+no_answer=$2
+shift 2
+root=$(CDPATH='' cd -- "$(dirname -- "$0")/.." && pwd) || exit "$no_answer"
 program=$root/crates/$name/out/$name
 
-# Prints the program's crate and each crate below it in crates.txt, one a line.
-crates() {
-    awk -F: -v name="$name" '
-        { sub(/#.*/, ""); split($1, names, " "); below[names[1]] = $2 }
-        END {
-            for (left = name; split(left, names, " "); left = next_left) {
-                next_left = ""
-                for (at in names) if (names[at] in below) {
-                    print names[at]
-                    next_left = next_left " " below[names[at]]
-                    delete below[names[at]]
-                }
-            }
-        }' "$root/crates.txt"
-}
-
 is_up_to_date() {
-    [ -x "$program" ] || return 1
-    set -- "$root/crates.txt"
-    for crate in $(crates); do
-        set -- "$@" "$root/crates/$crate/src" "$root/crates/$crate/specs"
-    done
-    newer=$(find "$@" -newer "$program" -print 2> /dev/null | head -n 1)
-    [ -z "$newer" ]
+    newer=$(find "$root/crates.txt" "$root"/crates/*/src "$root"/crates/*/specs -newer "$program" -print 2> /dev/null | head -n 1)
+    [ -x "$program" ] && [ -z "$newer" ]
 }
 
 # Runs `rt try` on standard input. It takes a pause of two seconds for the end of its input, so it gets a file.
@@ -43,29 +24,34 @@ try() {
     told=$(cd "$root/crates/$name" && rt try -- "$@" 2>&1 <&4 >&5 3>&- 4<&- 5>&-)
 }
 
-# Prints what the program wrote to standard error, and ends with its status, if the last line of `rt try` shows that the program
-# ended. The status alone does not: `rt try` also ends with 1 where it refuses the crates, and with 2 where it fails itself.
-end_as_program() {
-    printf '%s\n' "$told" | tail -n 1 | grep -q "^run=ended status=$status .*proved=no\$" || return
+# wrong words get the usage line of the program, and compile nothing
+case "$name:$#:${1-}" in
+    lockreplay:1:table | lockreplay:1:word | lockreplay:1:steps | lockexplore:0: | lockexplore:1:lanes) ;;
+    *)
+        sed -n 's/^const USAGE: &str = "\(.*\)";$/\1/p' "$root/crates/$name/src/main.rt" >&2
+        exit 2
+        ;;
+esac
+is_up_to_date && exec "$program" "$@"
+# Says what takes so long. A reader of this script's output must not wait for the sleep.
+tell_late() {
+    sleep 10 < /dev/null > /dev/null 2>&1
+    echo "$name: compiling without its proof, in about half a minute; bin/build makes the proved program" >&2
+}
+
+tell_late &
+late=$!
+try "$@"
+status=$?
+kill "$late" 2> /dev/null
+wait "$late" 2> /dev/null
+# The status alone does not show that the program ended: `rt try` also ends with 1 where it refuses the crates, and with 2 where
+# it fails itself.
+if printf '%s\n' "$told" | tail -n 1 | grep -q "^run=ended status=$status .*proved=no\$"; then
     printf '%s\n' "$told" | sed '/^checked: ended /d; /^run=ended /d' >&2
     exit "$status"
-}
-
-# Prints the usage line of the program, which compiles nothing, and ends with its status.
-tell_usage() {
-    sed -n 's/^const USAGE: &str = "\(.*\)";$/\1/p' "$root/crates/$name/src/main.rt" >&2
-    exit 2
-}
-
-# Runs the program with these words, and ends with its status or with $no_answer.
-run_program() {
-    is_up_to_date && exec "$program" "$@"
-    [ -t 2 ] && echo "$name: compiling without its proof, in about half a minute; bin/build makes the proved program" >&2
-    try "$@"
-    status=$?
-    end_as_program
-    why=$(printf '%s\n' "$told" | sed -n 's/^checked: no-answer: //p')
-    [ -n "$why" ] || [ -z "$told" ] || printf '%s\n' "$told" >&2
-    echo "$name: no answer without its proof: ${why:-rt try ended with status $status}; bin/build makes the proved program" >&2
-    exit "$no_answer"
-}
+fi
+why=$(printf '%s\n' "$told" | sed -n 's/^checked: no-answer: //p')
+[ -n "$why" ] || [ -z "$told" ] || printf '%s\n' "$told" >&2
+echo "$name: no answer without its proof: ${why:-rt try ended with status $status}; bin/build makes the proved program" >&2
+exit "$no_answer"

@@ -24,11 +24,14 @@ def random_plan(number):
     kinds = {it: rng.choice(["mutex", "rwlock", "rwlock", "rwlock", "reentrant"]) for it in locks}
     limits = {it: rng.randint(1, 3) for it in locks}
     lines = [lock_line(rng, it, kinds[it], limits[it]) for it in locks]
-    parties = rng.randint(1, 4)
+    parties = total = rng.randint(1, 4)
     is_ordered = rng.random() < 0.5
-    for party in range(parties):
-        lines.append(f"party p{party}")
-        lines += calls(rng, kinds, limits, rng.randint(0, MOST_CALLS[parties]), is_ordered)
+    while parties > 0:
+        copies = rng.randint(1, parties) if rng.random() < 0.3 else None
+        word = "server" if rng.random() < 0.2 else "party"
+        lines.append(f"{word} p{parties}" + (f" {copies}" if copies else ""))
+        lines += calls(rng, kinds, limits, rng.randint(0, MOST_CALLS[total]), is_ordered)
+        parties -= copies or 1
     if rng.random() < 0.06:
         lines.insert(rng.randint(0, len(lines)), f"{rng.choice(any_call())} {rng.choice(locks)}")
     if rng.random() < 0.06:
@@ -97,5 +100,5 @@ def acquisitions(rng, held, kinds, limits, is_ordered):
 def spoilt(rng, text):
     """The text with one small change, after which a line may be wrong."""
     at = rng.randrange(len(text) + 1)
-    changed = rng.choice(["", " ", "\n", "x", "0", "\r", "\u00e9", " bar", "4294967296", "lock0", "party p0\n", "mutex lock0\n"])
+    changed = rng.choice(["", " ", "\n", "x", "0", "\r", "\u00e9", " bar", "4294967296", "lock0", "party p1\n", "server p 2\n", "mutex lock0\n"])
     return text[:at] + changed + text[at + rng.randint(0, 1) :]
