@@ -9,6 +9,7 @@ pub use Rattle.lock_base.specs.Tokens
 pub use Rattle.lock_base.specs.Operation
 pub use Rattle.lock_base.specs.Entries
 pub use Rattle.lock_base.specs.Bar
+pub use Rattle.lock_base.specs.Holds
 pub use Rattle.lock_base.specs.Register
 pub use Rattle.lock_base.specs.Machine
 pub use Rattle.lock_base.specs.Refusals
@@ -35,7 +36,7 @@ pub use Rattle.lock_guard.specs.Inner
 pub use Rattle.lock_guard.specs.Held
 pub use Rattle.lock_guard.specs.GuardPart
 pub use Rattle.lock_guard.specs.Mapped
-pub use Rattle.lock_word.specs.Holds
+pub use Rattle.lock_word.specs.BarredBags
 pub use Rattle.lock_word.specs.Holders
 pub use Rattle.lock_word.specs.Word
 pub use Rattle.lock_word.specs.Unblocking

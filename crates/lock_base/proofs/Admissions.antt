@@ -6,7 +6,7 @@ use Rattle.lock_base.specs.declared.machine.mode.Mode.{Mode}
 use Rattle.lock_base.specs.Modes.{bag_of, AreCompatible, admits}
 use Rattle.lock_base.specs.Kind.{is_reentrant}
 use Rattle.lock_base.specs.Entries.{Entry, held_entries, held_count, held_bag, modes_of_entries, all_of_party}
-use Rattle.lock_base.specs.Bar.{passes_bar}
+use Rattle.lock_base.specs.Bar.{bar_lets_pass}
 use Rattle.lock_base.specs.Register.{Register, admits_ignoring_bar, admits_party, owns, is_full_count}
 use Rattle.lock_base.specs.Legal.{AreLegallyHeld}
 use Rattle.lock_base.proofs.ModeLemmas.{compatible_acquired, compatible_released, admits-released, admits-beside_exclusive}
@@ -36,11 +36,11 @@ pub record HasNextLevel (r : Register) (party : ℕ) : Type 0 where
 
 module _ (r : Register) (party : ℕ) (mode : Mode) where
   -- an admitted acquisition
-  pub passed_bar : IsTrue (admits_party r party mode) → IsTrue (passes_bar r.bar party mode)
-  passed_bar ok = (and_parts (passes_bar r.bar party mode) (admits_ignoring_bar r party mode) ok).0
+  pub passed_bar : IsTrue (admits_party r party mode) → IsTrue (bar_lets_pass r.bar party mode)
+  passed_bar ok = (and_parts (bar_lets_pass r.bar party mode) (admits_ignoring_bar r party mode) ok).0
 
   pub fitted_in : IsTrue (admits_party r party mode) → IsTrue (admits_ignoring_bar r party mode)
-  fitted_in ok = (and_parts (passes_bar r.bar party mode) (admits_ignoring_bar r party mode) ok).1
+  fitted_in ok = (and_parts (bar_lets_pass r.bar party mode) (admits_ignoring_bar r party mode) ok).1
 
   -- an admitted level of a reentrant lock
   pub next_level : is_reentrant r.kind ≡ true → IsTrue (admits_ignoring_bar r party mode) → HasNextLevel r party
@@ -82,7 +82,7 @@ not_let_in_beside_exclusive r party mode plain out =
 pub admits_party-same_held : (r : Register) (es : EntryMap) (party : ℕ) (mode : Mode) → held_entries es ≡ held_entries r.entries
     → admits_party (record r { entries = es }) party mode ≡ admits_party r party mode
 admits_party-same_held r es party mode same =
-    ap (λ (hs : List Entry). passes_bar r.bar party mode && (if is_reentrant r.kind then all_of_party party hs && nat_lt (length hs) r.limit
+    ap (λ (hs : List Entry). bar_lets_pass r.bar party mode && (if is_reentrant r.kind then all_of_party party hs && nat_lt (length hs) r.limit
     else admits r.limit (bag_of (modes_of_entries hs)) mode)) same
 
 -- the party of the held guards

@@ -9,6 +9,7 @@ pub mod Tokens
 pub mod Operation
 pub mod Entries
 pub mod Bar
+pub mod Holds
 pub mod Register
 pub mod Machine
 pub mod Refusals

@@ -6,7 +6,7 @@ use Rattle.lock_base.specs.declared.machine.bag.Bag.{Bag}
 use Rattle.lock_base.specs.declared.machine.kind.Kind.{Kind}
 use Rattle.lock_base.specs.Modes.{empty_bag, one_more, admits}
 use Rattle.lock_base.specs.Kind.{is_reentrant}
-use Rattle.lock_base.specs.Bar.{passes_bar, bar_after}
+use Rattle.lock_base.specs.Bar.{bar_lets_pass, bar_after}
 use Rattle.lock_base.specs.Entries.{Entry, without, update, held_entries, held_bag, held_count, all_of_party, some_of_party}
 
 pub record Register : Type 0 where
@@ -37,7 +37,7 @@ admits_ignoring_bar r party mode =
 
 -- whether the party may acquire the mode: the bar lets it pass, and the mode is admitted
 abbrev pub admits_party : Register → ℕ → Mode → Bool
-admits_party r party mode = passes_bar r.bar party mode && admits_ignoring_bar r party mode
+admits_party r party mode = bar_lets_pass r.bar party mode && admits_ignoring_bar r party mode
 
 -- whether the party holds a guard
 abbrev pub owns : Register → ℕ → Bool

@@ -9,7 +9,7 @@ use Rattle.lock_base.specs.declared.machine.reply.Reply.{Reply}
 use Rattle.lock_base.specs.Operation.{Operation}
 use Rattle.lock_base.specs.Party.{id_of}
 use Rattle.lock_base.specs.Modes.{is_exclusive}
-use Rattle.lock_base.specs.Bar.{passes_bar, has_announced, bar_after}
+use Rattle.lock_base.specs.Bar.{bar_lets_pass, has_announced, bar_after}
 use Rattle.lock_base.specs.Register.{admits_party}
 use Rattle.lock_base.specs.Machine.{Machine}
 use Rattle.lock_base.specs.Steps.{step}
@@ -21,7 +21,7 @@ use Rattle.lock_base_laws.proofs.Refusals.{refusals_keep}
 
 pub keep_others_out : BarsKeepOthersOut
 keep_others_out r announced party mode stands ok =
-    let passed = subst (λ (bar : Option ℕ). IsTrue (passes_bar bar party mode)) stands (passed_bar r party mode ok) in
+    let passed = subst (λ (bar : Option ℕ). IsTrue (bar_lets_pass bar party mode)) stands (passed_bar r party mode ok) in
     let two = and_parts (is_exclusive mode) (announced == party) passed in
     (sym (eqb-true announced party two.1), exclusive_is mode two.0)
 

@@ -9,7 +9,7 @@ use Rattle.lock_base.specs.Party.{id_of}
 use Rattle.lock_base.specs.Modes.{is_exclusive}
 use Rattle.lock_base.specs.Kind.{is_reentrant}
 use Rattle.lock_base.specs.Entries.{Entry, parked_entry, resumed_entry}
-use Rattle.lock_base.specs.Bar.{passes_bar, bar_after}
+use Rattle.lock_base.specs.Bar.{bar_lets_pass, bar_after}
 use Rattle.lock_base.specs.Register.{Register, admits_ignoring_bar, admits_party, is_full_count, with_change, after_admission}
 use Rattle.lock_base.specs.Machine.{Machine, after_release}
 use Rattle.lock_base.specs.Refusals.{held_guard, parked_guard}
@@ -72,7 +72,7 @@ module _ {T : Type 0} (m : Machine T) (parker resumer guard : ℕ) (sound : IsSo
       ∙ ap (λ (b : Bool). if b then refuse next fault.FullCount else if_let_in)
       (is_full_count-fewer left resumer e m.entries one own sound.legal.held)
       ∙ ap (λ (b : Bool). if b then held_again else refuse next fault.WouldWait)
-      (ap (λ (bar : Option ℕ). passes_bar bar resumer e.mode && admits_ignoring_bar left resumer e.mode) unbarred
+      (ap (λ (bar : Option ℕ). bar_lets_pass bar resumer e.mode && admits_ignoring_bar left resumer e.mode) unbarred
       ∙ fits_in_again left resumer e m.entries one own sound.legal.held)
       ∙ ap (λ (bar : Option ℕ). give tt (with_register next (record (with_change left guard resumed_entry) { bar = bar }))) (still_unbarred e.mode)
       ∙ ap (λ (es : EntryMap). give tt (with_register next (record left { entries = es })))

@@ -12,7 +12,7 @@ use Rattle.lock_base.specs.declared.raw.fault.Fault.TheVariants as fault
 use Rattle.lock_base.specs.Party.{id_of}
 use Rattle.lock_base.specs.Modes.{tokens, is_exclusive, admits}
 use Rattle.lock_base.specs.Kind.{is_reentrant, is_rwlock}
-use Rattle.lock_base.specs.Bar.{passes_bar}
+use Rattle.lock_base.specs.Bar.{bar_lets_pass}
 use Rattle.lock_base.specs.Entries.{Entry, held_entries, held_bag, held_count, all_of_party, some_of_party}
 use Rattle.lock_base.specs.Register.{admits_ignoring_bar, admits_party, owns, is_full_count}
 use Rattle.lock_base.specs.Legal.{AreLegallyHeld}
@@ -175,13 +175,13 @@ module _ {T : Type 0} (ids : ℕ → PartyId) (distinct : AreDistinct ids) (lock
       by_equal true is = eq-eqb (id_of (ids a)) (id_of (ids b)) (ap (λ (n : ℕ). id_of (ids n)) (eqb-true a b is))
       by_equal false is = ne_eqb (id_of (ids a)) (id_of (ids b)) (λ same. eqb-false a b is (distinct a b same))
 
-  same_passes : (bar : Option ℕ) → passes_bar (option_map (λ q. id_of (ids q)) bar) x mode ≡ passes_bar bar p mode
+  same_passes : (bar : Option ℕ) → bar_lets_pass (option_map (λ q. id_of (ids q)) bar) x mode ≡ bar_lets_pass bar p mode
   same_passes None = refl
   same_passes (Some a) = ap (λ (b : Bool). is_exclusive mode && b) (same_party a p)
 
   -- the machine admits the party where the world does
   pub same_admission : admits_party m.register x mode ≡ is_let_in lock (sight_of hss p l) (Acquire mode)
   same_admission =
-      ap (λ (b : Option ℕ). passes_bar b x mode && admits_ignoring_bar m.register x mode) seen.bar
+      ap (λ (b : Option ℕ). bar_lets_pass b x mode && admits_ignoring_bar m.register x mode) seen.bar
       ∙ ap (λ (b : Bool). b && admits_ignoring_bar m.register x mode) (same_passes (bar_from 0 l hss))
-      ∙ ap (λ (b : Bool). passes_bar (bar_from 0 l hss) p mode && b) (same_ignoring lock.kind refl)
+      ∙ ap (λ (b : Bool). bar_lets_pass (bar_from 0 l hss) p mode && b) (same_ignoring lock.kind refl)

@@ -14,7 +14,7 @@ use Rattle.lock_base.specs.Operation.{Operation}
 use Rattle.lock_base.specs.Party.{id_of}
 use Rattle.lock_base.specs.Modes.{is_exclusive, is_shared, is_upgradable, is_move, may_become, tokens}
 use Rattle.lock_base.specs.Kind.{is_reentrant, is_rwlock}
-use Rattle.lock_base.specs.Bar.{has_announced, passes_bar}
+use Rattle.lock_base.specs.Bar.{has_announced, bar_lets_pass}
 use Rattle.lock_base.specs.Entries.{Entry, find, held_bag}
 use Rattle.lock_base.specs.Register.{admits_party, admits_ignoring_bar, with_guard, without_guard, with_bar, after_admission}
 use Rattle.lock_base.specs.Machine.{Machine, after_release}
@@ -305,7 +305,7 @@ module _ {O T A : Type 0} (meaning : O → Operation T A) (ids : ℕ → PartyId
     acquire_by true is = record {
       same = refl;
       moved = acquired ids lock m hss p l left seen mode
-          (and_parts (passes_bar m.bar x mode) (admits_ignoring_bar m.register x mode) is).0;
+          (and_parts (bar_lets_pass m.bar x mode) (admits_ignoring_bar m.register x mode) is).0;
     }
     acquire_by false is =
         fits_from a _ (waiting_by (announce m x) (lock.bar && is_exclusive mode)) _

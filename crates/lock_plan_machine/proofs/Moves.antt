@@ -9,7 +9,7 @@ use Rattle.lock_base.specs.declared.machine.party.PartyId.{PartyId}
 use Rattle.lock_base.specs.Party.{id_of}
 use Rattle.lock_base.specs.Modes.{one_more, one_less, is_exclusive}
 use Rattle.lock_base.specs.ModeRuns.{bag_after}
-use Rattle.lock_base.specs.Bar.{has_announced, passes_bar, bar_after}
+use Rattle.lock_base.specs.Bar.{has_announced, bar_lets_pass, bar_after}
 use Rattle.lock_base.specs.Entries.{Entry, find, without, update, in_mode, held_bag}
 use Rattle.lock_base.specs.Register.{with_guard, without_guard, with_bar, after_admission}
 use Rattle.lock_base.specs.Machine.{Machine, after_release}
@@ -72,7 +72,7 @@ pub other_announced : (bar : Option ℕ) (x y : ℕ) → has_announced bar x ≡
 other_announced None x y own other = refl
 other_announced (Some a) x y own other = let here = eqb-true a x own in sym (ne_eqb a y (λ same. other (sym here ∙ same)))
 
-pub passed_other : (bar : Option ℕ) (x y : ℕ) (mode : Mode) → passes_bar bar x mode ≡ true → (x ≡ y → ⊥)
+pub passed_other : (bar : Option ℕ) (x y : ℕ) (mode : Mode) → bar_lets_pass bar x mode ≡ true → (x ≡ y → ⊥)
     → has_announced (bar_after bar mode) y ≡ has_announced bar y
 passed_other bar x y Shared passes other = refl
 passed_other None x y Exclusive passes other = refl
@@ -101,7 +101,7 @@ module _ {T : Type 0} (ids : ℕ → PartyId) (lock : PlanLock) (m : Machine T) 
   x = id_of (ids p)
 
   -- an acquisition that the bar lets pass
-  pub acquired : (mode : Mode) → passes_bar m.bar x mode ≡ true
+  pub acquired : (mode : Mode) → bar_lets_pass m.bar x mode ≡ true
       → Moved m (with_register m (after_admission (with_guard m.register x mode) mode)) x
       (hold_after (hold_of hss p l) (act.Step (Acquire mode))) (bag_after_act (bag_on l hss) (act.Step (Acquire mode))) 1
   acquired mode passes =

@@ -1,7 +1,7 @@
 -- What contracts see of a lock and of a party.
 use Rattle.std.specs.Prelude.{ℕ, ◌+◌}
 use Rattle.atomic_table.specs.Seated.{TableId}
-use Rattle.lock_word.specs.declared.word_step.WordStep.{WordStep}
+use Rattle.lock_base.specs.declared.machine.lock_step.LockStep.{LockStep}
 use Rattle.lock_word.specs.declared.party.WorldParty.{WorldParty}
 use Rattle.lock_word.specs.Turns.{idle, with_load, after_win, after_fail}
 
@@ -28,7 +28,7 @@ abbrev pub after_load : CallerView → ℕ → CallerView
 after_load party word = record party { state = with_load party.state word; last = word; loads = party.loads + 1 }
 
 -- the party after a step of its own changed the word
-abbrev pub after_own_step : CallerView → WordStep → CallerView
+abbrev pub after_own_step : CallerView → LockStep → CallerView
 after_own_step party step = record party { state = after_win party.state step }
 
 -- the party after its exchange found another word

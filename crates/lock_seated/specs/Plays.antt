@@ -1,10 +1,10 @@
 -- What each kind of step does to the view of the party that makes it.
 use Rattle.std.specs.Prelude.{◌≡◌, ◌≢◌, ℕ, ◌+◌, ◌^◌, ◌<◌, IsTrue}
 use Rattle.atomic_table.specs.Table.{Me, Step}
+use Rattle.lock_base.specs.declared.machine.lock_step.LockStep.{LockStep}
 use Rattle.lock_base.specs.Modes.{tokens}
 use Rattle.lock_word.specs.declared.want.ExWant.{ExWant}
 use Rattle.lock_word.specs.declared.down.Down.{Down}
-use Rattle.lock_word.specs.declared.word_step.WordStep.{WordStep}
 use Rattle.lock_word.specs.Word.{word_admits, word_after, amount, step_of_want, step_of_down}
 use Rattle.lock_word.specs.Turns.{with_load, after_win, after_fail}
 use Rattle.lock_word.specs.Rule.{WordShows}
@@ -18,7 +18,7 @@ Self = Me (Unit {0}) SeatView
 abbrev pub view_after_load : Self → ℕ → Self
 view_after_load me word = (record me.0 { state = with_load me.0.state word; last = word; loads = me.0.loads + 1 }, me.1)
 
-abbrev pub view_after_win : Self → WordStep → Self
+abbrev pub view_after_win : Self → LockStep → Self
 view_after_win me step = (record me.0 { state = after_win me.0.state step }, me.1)
 
 abbrev pub view_after_fail : Self → Self

@@ -4,8 +4,7 @@ ghost use Rattle.lock_base.specs.Modes.{count_of};
 
 use crate::rule::SeatView;
 use atomic_table::Seat;
-use lock_base::machine::Mode;
-use lock_word::Hold;
+use lock_base::machine::{Hold, Mode};
 use std::marker::Model;
 
 /// A party of a seated lock: a seat at the word, and what the party holds. Contracts see it as `CallerView`: its lock,

@@ -1,6 +1,7 @@
 //! A raw state in one number.
 ghost use Rattle.std.specs.Prelude.{◌≡◌, ◌↔◌, ◌<◌, ◌&&◌, false, not, IfOk, IfErr, IsOk, IsTrue, if◌then◌else◌};
 ghost use Rattle.lock_base.specs.Limits.{IsLimit};
+ghost use Rattle.lock_base.specs.Bar.{passes_bar};
 ghost use Rattle.lock_base.specs.Modes.{empty_bag, count_of, one_more, one_less, admits, may_become, is_move};
 
 use lock_base::machine::Mode;
@@ -26,7 +27,7 @@ pub struct PackedWord {
 
 impl Model for PackedWord {
     ghost use Rattle.lock_base.specs.Limits.{IsLimit};
-    ghost use Rattle.lock_word.specs.Holds.{is_barred};
+    ghost use Rattle.lock_word.specs.BarredBags.{is_barred};
     ghost use Rattle.lock_word.specs.Word.{bag_of_word, barred_bag_of_word, IsPacked};
     ghost use Rattle.lock_states.specs.Packed.{Packed};
 
@@ -43,15 +44,15 @@ impl Model for PackedWord {
 }
 
 impl PackedWord {
-    /// Acquires the mode, if it is admitted.
-    fn acquire(&mut self, mode: Mode) -> bool
-        ensures admitted { result ≡ (not self.old.bar && admits self.old.readers self.old.bag mode) }
+    /// Acquires the mode, if it is admitted and the bar lets the party pass. The bar stays as it is.
+    fn acquire(&mut self, mode: Mode, is_own: bool) -> bool
+        ensures admitted { result ≡ (passes_bar self.old.bar is_own mode && admits self.old.readers self.old.bag mode) }
         ensures after { self.new ≡ if result then record self.old { bag = one_more self.old.bag mode } else self.old }
     {
-        let Some(next) = ExWant::of_mode(mode).exchanged(false, self.readers, self.word) else {
+        let Some(next) = ExWant::of_mode(mode).exchanged(is_own, self.readers, self.word) else {
             return false;
         };
-        self.word = next;
+        self.word = with_bar(next, has_bar(self.word));
         true
     }
 
@@ -117,8 +118,8 @@ impl RawState for PackedWord {
     }
 
     #[tactic(auto, using(crate::proofs::PackedTokens::bag_of_tokens_in))]
-    fn admit(&mut self, mode: Mode) -> Option<PackedToken> {
-        if !self.acquire(mode) {
+    fn admit_as(&mut self, mode: Mode, is_own: bool) -> Option<PackedToken> {
+        if !self.acquire(mode, is_own) {
             return None;
         }
         Some(PackedToken { mode })

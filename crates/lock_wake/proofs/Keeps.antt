@@ -8,13 +8,13 @@ use lib.ListN.{get_elem?}
 use prog.Atomic.{either}
 use Rattle.atomic_table.specs.Table.{Act, step, keeps, stepped, carried_after, Valid, Allows}
 use Rattle.atomic_table.proofs.Lists.{at_set, exchanged}
+use Rattle.lock_base.specs.Holds.{hold_has}
 use Rattle.lock_word.specs.declared.want.ExWant.{ExWant}
 use Rattle.lock_word.specs.declared.down.Down.{Down}
 use Rattle.lock_word.specs.declared.sleeper.WakeLimits.{WakeLimits}
 use Rattle.lock_word.specs.declared.sleeper.Watch.TheVariants.{Away, Counted, Restarts}
 use Rattle.lock_word.specs.declared.sleeper.Debt.TheVariants.{Nothing, Owes, OwesAt}
 use Rattle.lock_word.specs.declared.sleeper.SleeperView.{SleeperView}
-use Rattle.lock_word.specs.Holds.{hold_has}
 use Rattle.lock_word.specs.Word.{guards_of_word, word_admits, word_after, amount, step_of_want, step_of_down}
 use Rattle.lock_word.specs.Sleepers.{changes_of, closed_count, count_of_watch}
 use Rattle.lock_word.specs.Wakes.{KeepsWakes, EachStepKeeps, may_want, view_after_take}

@@ -3,15 +3,15 @@ use Rattle.std.specs.Prelude.{◌≡◌, ℕ, false, [], None, ◌⊎◌}
 use Rattle.atomic_table.specs.Seated.{TableId}
 use Rattle.atomic_table.specs.Table.{Me}
 use Rattle.lock_base.specs.declared.machine.mode.Mode.{Mode}
+use Rattle.lock_base.specs.declared.machine.hold.Hold.{Hold}
 use Rattle.lock_base.specs.Modes.{empty_bag, one_more}
-use Rattle.lock_word.specs.declared.hold.Hold.{Hold}
+use Rattle.lock_base.specs.Holds.{no_hold, hold_after}
 use Rattle.lock_word.specs.declared.want.ExWant.{ExWant}
 use Rattle.lock_word.specs.declared.want.ExWant.TheVariants.{Announce}
 use Rattle.lock_word.specs.declared.sleeper.SleeperView.{SleeperView}
 use Rattle.lock_word.specs.declared.sleeper.WakeLimits.{WakeLimits}
 use Rattle.lock_word.specs.declared.sleeper.Watch.TheVariants.{Away}
 use Rattle.lock_word.specs.declared.sleeper.Debt.TheVariants.{Nothing}
-use Rattle.lock_word.specs.Holds.{no_hold, hold_after}
 use Rattle.lock_word.specs.Word.{step_of_want}
 use Rattle.lock_word.specs.Sleepers.{admits_to}
 use Rattle.lock_word.specs.Turns.{idle, with_load}

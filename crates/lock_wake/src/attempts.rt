@@ -2,7 +2,7 @@
 ghost use Rattle.std.specs.Prelude.{◌≡◌, true, false, IsTrue};
 ghost use Rattle.lock_word.specs.declared.want.ExWant.TheVariants.{Exclusive, Announce};
 ghost use Rattle.lock_word.specs.declared.sleeper.Watch.TheVariants.{Away};
-ghost use Rattle.lock_word.specs.Holds.{hold_has};
+ghost use Rattle.lock_base.specs.Holds.{hold_has};
 ghost use Rattle.lock_word.specs.Word.{step_of_want};
 ghost use Rattle.lock_word.specs.Sleepers.{is_awaited};
 ghost use Rattle.lock_word.specs.Wakes.{may_want};

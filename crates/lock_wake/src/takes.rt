@@ -2,7 +2,7 @@
 ghost use Rattle.std.specs.Prelude.{◌≡◌, IsTrue};
 ghost use Rattle.lock_word.specs.declared.sleeper.Watch.TheVariants.{Away};
 ghost use Rattle.lock_word.specs.declared.sleeper.Debt.TheVariants.{Nothing};
-ghost use Rattle.lock_word.specs.Holds.{hold_has, hold_after};
+ghost use Rattle.lock_base.specs.Holds.{hold_has, hold_after};
 ghost use Rattle.lock_word.specs.Word.{step_of_down};
 ghost use Rattle.lock_word.specs.Wakes.{word_unblocks, has_to_wake, debt_after, with_debt};
 ghost use Rattle.lock_wake.specs.Calls.{ComesTo, with_sleeper};

@@ -1,7 +1,7 @@
 //! How a call waits: it counts itself as a sleeper, looks once more, and sleeps until the epoch ends.
 ghost use Rattle.std.specs.Prelude.{◌≡◌, true, false, None, IsTrue};
 ghost use Rattle.lock_word.specs.declared.sleeper.Watch.TheVariants.{Away, Counted};
-ghost use Rattle.lock_word.specs.Holds.{hold_has};
+ghost use Rattle.lock_base.specs.Holds.{hold_has};
 ghost use Rattle.lock_word.specs.Word.{step_of_want};
 ghost use Rattle.lock_word.specs.Sleepers.{count_of_watch, is_awaited};
 ghost use Rattle.lock_wake.specs.Calls.{ComesTo, CameBack, away, won};

@@ -6,7 +6,7 @@ use Rattle.lock_base.specs.declared.machine.mode.Mode.TheVariants.{Shared, Exclu
 use Rattle.lock_base.specs.declared.machine.mode_step.ModeStep.TheVariants.{Acquire}
 use Rattle.lock_base.specs.Modes.{is_exclusive}
 use Rattle.lock_base.specs.Bar.{bar_after}
-use Rattle.lock_word.specs.Holds.{bars_of, StepPassesBar}
+use Rattle.lock_word.specs.BarredBags.{bars_of, StepPassesBar}
 use Rattle.lock_word.specs.BarLaws.{BarEncodingsAgree}
 
 -- where a bar stands, which is one's own or is not

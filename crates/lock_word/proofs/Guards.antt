@@ -2,12 +2,13 @@
 use Rattle.std.proofs.Common.{◌≡◌, ℕ, ◌+◌, ◌-◌, ◌^◌, ◌<◌, ◌≤◌, ◌⊎◌, inl, inr, Bool, List, slice_get, Some, IsTrue, ap, ◌∙◌, arith}
 use Rattle.lock_base.specs.Limits.{IsLimit}
 use Rattle.lock_base.specs.Modes.{readers}
+use Rattle.lock_base.specs.Holds.{hold_has}
 use Rattle.lock_word.specs.declared.want.ExWant.{ExWant}
 use Rattle.lock_word.specs.declared.want.ExWant.TheVariants.{Shared, Exclusive, Upgradable, Upgrade, Announce}
 use Rattle.lock_word.specs.declared.down.Down.{Down}
 use Rattle.lock_word.specs.declared.down.Down.TheVariants as down
 use Rattle.lock_word.specs.declared.party.WorldParty.{WorldParty}
-use Rattle.lock_word.specs.Holds.{BarredBag, IsLegalBarredBag, PermitsWordStep, barred_after, hold_has}
+use Rattle.lock_word.specs.BarredBags.{BarredBag, IsLegalBarredBag, PermitsLockStep, barred_after}
 use Rattle.lock_word.specs.Word.{word_of, guards_of_word, word_admits, word_after, amount, step_of_want, step_of_down}
 use Rattle.lock_word.specs.Rule.{held_by_all, KeepsRule}
 use Rattle.lock_word.proofs.Holders.{Has}
@@ -31,7 +32,7 @@ abbrev pub GainsNoneOrUnbarred : ℕ → ℕ → Type 0
 GainsNoneOrUnbarred word new = (guards_of_word new ≤ guards_of_word word) ⊎ (new < 2 ^ 34)
 
 guards_after_want : (announced : Bool) (limit : ℕ) (all : BarredBag) (want : ExWant)
-    → PermitsWordStep announced limit all (step_of_want want)
+    → PermitsLockStep announced limit all (step_of_want want)
     → (guards (barred_after announced all (step_of_want want)) ≤ guards all)
     ⊎ ((barred_after announced all (step_of_want want)).bars ≡ 0)
 guards_after_want announced limit all Shared p = let none = p.1 in inr (omega arith)

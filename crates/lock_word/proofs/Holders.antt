@@ -8,13 +8,14 @@ use Rattle.lock_base.specs.declared.machine.mode.Mode.TheVariants.{Shared, Exclu
 use Rattle.lock_base.specs.declared.machine.mode_step.ModeStep.{ModeStep}
 use Rattle.lock_base.specs.declared.machine.mode_step.ModeStep.TheVariants.{Acquire, Release, Change}
 use Rattle.lock_base.specs.declared.machine.bag.Bag.{Bag}
+use Rattle.lock_base.specs.declared.machine.hold.Hold.{Hold}
+use Rattle.lock_base.specs.declared.machine.lock_step.LockStep.{LockStep}
+use Rattle.lock_base.specs.declared.machine.lock_step.LockStep.TheVariants.{Modes, Announce, Withdraw}
 use Rattle.lock_base.specs.Modes.{empty_bag, count_of, one_more, one_less}
 use Rattle.lock_base.specs.ModeRuns.{has, bag_after, IsModeRun}
+use Rattle.lock_base.specs.Holds.{ends_bar, no_hold, hold_has, hold_after}
 use Rattle.lock_base.proofs.TokenBags.{same_counts}
-use Rattle.lock_word.specs.declared.hold.Hold.{Hold}
-use Rattle.lock_word.specs.declared.word_step.WordStep.{WordStep}
-use Rattle.lock_word.specs.declared.word_step.WordStep.TheVariants.{Modes, Announce, Withdraw}
-use Rattle.lock_word.specs.Holds.{BarredBag, bars_of, without_bars, ends_bar, PermitsWordStep, barred_after, no_hold, hold_has, hold_after}
+use Rattle.lock_word.specs.BarredBags.{BarredBag, bars_of, without_bars, PermitsLockStep, barred_after}
 use Rattle.lock_word.specs.Holders.{all_of, IsPart, holder_at, HolderStep, IsHolderStep, IsHolderRun, modes_of, steps_of}
 
 -- the bag has what the step releases or changes
@@ -24,7 +25,7 @@ HasModes b (Release mode) = 0 < count_of b mode
 HasModes b (Change from to) = 0 < count_of b from
 
 -- the same of a bag with bars
-abbrev pub Has : BarredBag → WordStep → Type 0
+abbrev pub Has : BarredBag → LockStep → Type 0
 Has all (Modes step) = HasModes all.bag step
 Has all Announce = ⊤
 Has all Withdraw = 0 < all.bars
@@ -45,7 +46,7 @@ modes-part own all (Acquire mode) part h = tt
 modes-part own all (Release mode) part h = let le = count-part own all mode part in omega arith
 modes-part own all (Change from to) part h = let le = count-part own all from part in omega arith
 
-pub has_of_part : (own : Hold) (all : BarredBag) (s : WordStep) → IsPart own all → IsTrue (hold_has own s) → Has all s
+pub has_of_part : (own : Hold) (all : BarredBag) (s : LockStep) → IsPart own all → IsTrue (hold_has own s) → Has all s
 has_of_part own all (Modes s) part h = modes-part own all s part (modes_from_test own.bag s h)
 has_of_part own all Announce part h = tt
 has_of_part own all Withdraw part h =
@@ -105,7 +106,7 @@ alike_modes own all (Change from to) part h =
     let more = alike_more (one_less own.bag from) (one_less all.bag from) to in
     record { shared = omega arith; exclusive = omega arith; upgradable = omega arith }
 
-alike_after : (own : Hold) (all : BarredBag) (s : WordStep) → IsPart own all → IsTrue (hold_has own s)
+alike_after : (own : Hold) (all : BarredBag) (s : LockStep) → IsPart own all → IsTrue (hold_has own s)
     → Alike own.bag all.bag (hold_after own s).bag (barred_after own.announced all s).bag
 alike_after own all (Modes s) part h = alike_modes own all s part (modes_from_test own.bag s h)
 alike_after own all Announce part h = record { shared = refl; exclusive = refl; upgradable = refl }
@@ -123,8 +124,8 @@ bars_announced : (announced : Bool) (bars : ℕ) → bars_of announced ≤ bars 
 bars_announced true bars le none = omega arith
 bars_announced false bars le none = omega arith
 
-alike_bars : (limit : ℕ) (own : Hold) (all : BarredBag) (s : WordStep) → IsPart own all → IsTrue (hold_has own s)
-    → PermitsWordStep own.announced limit all s
+alike_bars : (limit : ℕ) (own : Hold) (all : BarredBag) (s : LockStep) → IsPart own all → IsTrue (hold_has own s)
+    → PermitsLockStep own.announced limit all s
     → all.bars + bars_of (hold_after own s).announced ≡ (barred_after own.announced all s).bars + bars_of own.announced
 alike_bars limit own all (Modes s) part h permitted = bars_left (ends_bar s) own.announced all.bars part.bars
 alike_bars limit own all Announce part h none = bars_announced own.announced all.bars part.bars none
@@ -133,8 +134,8 @@ alike_bars limit own all Withdraw part h some =
     omega arith
 
 -- a step of one holder is the same step on the sum of all holds
-pub all_of-after : (limit : ℕ) (holds : List Hold) (k : ℕ) (own : Hold) (s : WordStep) → slice_get holds k ≡ Some own
-    → IsTrue (hold_has own s) → PermitsWordStep own.announced limit (all_of holds) s
+pub all_of-after : (limit : ℕ) (holds : List Hold) (k : ℕ) (own : Hold) (s : LockStep) → slice_get holds k ≡ Some own
+    → IsTrue (hold_has own s) → PermitsLockStep own.announced limit (all_of holds) s
     → all_of (slice_set holds k (hold_after own s)) ≡ barred_after own.announced (all_of holds) s
 all_of-after limit holds k own s at h permitted =
     let part = part_of_all holds k own at in
@@ -165,8 +166,8 @@ step_of_all limit before after s made = at s.holder refl
         ∙ all_of-after limit before k made.own s.step there made.had made.permitted
 
 -- a step on the bag and its bars is a step of the modes on the bag, or none
-modes_made : (limit : ℕ) (announced : Bool) (all : BarredBag) (s : WordStep) (rest : List ModeStep) (last : Bag)
-    → PermitsWordStep announced limit all s → IsModeRun limit (barred_after announced all s).bag rest last
+modes_made : (limit : ℕ) (announced : Bool) (all : BarredBag) (s : LockStep) (rest : List ModeStep) (last : Bag)
+    → PermitsLockStep announced limit all s → IsModeRun limit (barred_after announced all s).bag rest last
     → IsModeRun limit all.bag (modes_of s ++ rest) last
 modes_made limit announced all (Modes s) rest last permitted run = (permitted.0, run)
 modes_made limit announced all Announce rest last permitted run = run

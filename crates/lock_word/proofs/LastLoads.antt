@@ -2,10 +2,10 @@
 -- that is not admitted was not permitted there, and one that finds another word comes after a win of another.
 use Rattle.std.proofs.Common.{◌≡◌, ◌≢◌, ℕ, zero, suc, ◌+◌, ◌-◌, ◌^◌, ◌<◌, ◌≤◌, ◌⊎◌, inl, inr, Bool, false, IsTrue, List, [], ◌∷◌, slice_get, slice_set, Some, None, refl, sym, ap, subst, ◌∙◌, arith, true≢false}
 use Rattle.std.proofs.lemmas.Option.{same_Some}
+use Rattle.lock_base.specs.declared.machine.hold.Hold.{Hold}
 use Rattle.lock_base.specs.Limits.{IsLimit}
-use Rattle.lock_word.specs.Holds.{IsLegalBarredBag, PermitsWordStep}
+use Rattle.lock_word.specs.BarredBags.{IsLegalBarredBag, PermitsLockStep}
 use Rattle.lock_word.specs.declared.want.ExWant.{ExWant}
-use Rattle.lock_word.specs.declared.hold.Hold.{Hold}
 use Rattle.lock_word.specs.declared.party.WorldParty.{WorldParty}
 use Rattle.lock_word.specs.declared.step.AtomicStep.{AtomicStep}
 use Rattle.lock_word.specs.declared.step.AtomicStep.TheVariants.{Load, Exchange, Take}
@@ -398,7 +398,7 @@ are_refused_by_loads w (s ∷ ss) h = (
 -- what is permitted where the party made its last load, the loaded word admits
 admitted_there : (announced : Bool) (count limit : ℕ) (ss : List AtomicStep) (loaded : ℕ) (want : ExWant) → IsLimit limit
     → (world_after (new_world count limit) ss).word ≡ loaded
-    → PermitsWordStep announced limit (held_by_all (world_after (new_world count limit) ss).parties) (step_of_want want)
+    → PermitsLockStep announced limit (held_by_all (world_after (new_world count limit) ss).parties) (step_of_want want)
     → IsTrue (word_admits announced limit loaded want)
 admitted_there announced count limit ss loaded want range found permitted =
     let start = new_world count limit in

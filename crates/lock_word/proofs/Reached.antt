@@ -4,17 +4,18 @@ use Rattle.std.proofs.lemmas.Bool.{eqb-false}
 use Rattle.std.proofs.lemmas.Option.{same_Some}
 use Rattle.lock_base.specs.declared.raw.fault.Fault.{Fault}
 use Rattle.lock_base.specs.declared.raw.fault.Fault.TheVariants as fault
+use Rattle.lock_base.specs.declared.machine.hold.Hold.{Hold}
+use Rattle.lock_base.specs.declared.machine.lock_step.LockStep.{LockStep}
 use Rattle.lock_base.specs.Limits.{IsLimit}
 use Rattle.lock_base.specs.Modes.{empty_bag}
+use Rattle.lock_base.specs.Holds.{no_hold, hold_has, hold_after}
 use Rattle.lock_base.proofs.ModeLemmas.{compatible_empty}
 use Rattle.lock_word.specs.declared.party.WorldParty.{WorldParty}
 use Rattle.lock_word.specs.declared.step.AtomicStep.{AtomicStep}
 use Rattle.lock_word.specs.declared.step.AtomicStep.TheVariants.{Load, Exchange, Take}
 use Rattle.lock_word.specs.declared.step.Outcome.{Outcome}
 use Rattle.lock_word.specs.declared.step.Outcome.TheVariants.{Loaded, Done, NotAdmitted, Changed, Refused}
-use Rattle.lock_word.specs.declared.hold.Hold.{Hold}
-use Rattle.lock_word.specs.declared.word_step.WordStep.{WordStep}
-use Rattle.lock_word.specs.Holds.{IsLegalBarredBag, without_bars, PermitsWordStep, no_hold, hold_has, hold_after}
+use Rattle.lock_word.specs.BarredBags.{IsLegalBarredBag, without_bars, PermitsLockStep}
 use Rattle.lock_word.specs.Holders.{holder_at, all_of, HolderStep, IsHolderRun}
 use Rattle.lock_word.specs.Word.{word_of, step_of_want, step_of_down, barred_bag_of_word, IsPacked}
 use Rattle.lock_word.specs.Turns.{Turn, idle, with_load, after_win, after_fail, without_load, turn, party_of, steps_after, CanStep}
@@ -224,8 +225,8 @@ reachable_new count limit range =
 -- the steps that were done are a run of the modes
 
 -- one change of modes by the party at k
-one_step : (limit : ℕ) (ps : List WorldParty) (k p : ℕ) (me : WorldParty) (s : WordStep) → p ≡ suc k
-    → slice_get ps k ≡ Some me → IsTrue (hold_has me.held s) → PermitsWordStep me.held.announced limit (held_by_all ps) s
+one_step : (limit : ℕ) (ps : List WorldParty) (k p : ℕ) (me : WorldParty) (s : LockStep) → p ≡ suc k
+    → slice_get ps k ≡ Some me → IsTrue (hold_has me.held s) → PermitsLockStep me.held.announced limit (held_by_all ps) s
     → IsHolderRun limit (holds ps) (record { holder = p; step = s } ∷ []) (holds (slice_set ps k (after_win me s)))
 one_step limit ps k p me s is at own permitted =
     let index : p - 1 ≡ k = omega arith in (

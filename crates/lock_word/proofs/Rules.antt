@@ -3,10 +3,11 @@ use Rattle.std.proofs.Common.{◌≡◌, ◌≢◌, ℕ, zero, suc, ◌+◌, ◌
 use Rattle.std.proofs.lemmas.List.{map-set, map-append, set-get_or}
 use Rattle.std.proofs.lemmas.List.Sums.{sum_by-append}
 use Rattle.std.proofs.lemmas.Option.{same_Some, get_or_from_slice_get, slice_get-map}
+use Rattle.lock_base.specs.declared.machine.hold.Hold.{Hold}
+use Rattle.lock_base.specs.declared.machine.lock_step.LockStep.{LockStep}
 use Rattle.lock_base.specs.Limits.{IsLimit}
-use Rattle.lock_word.specs.declared.hold.Hold.{Hold}
-use Rattle.lock_word.specs.declared.word_step.WordStep.{WordStep}
-use Rattle.lock_word.specs.Holds.{IsLegalBarredBag, bars_of, PermitsWordStep, barred_after, no_hold, hold_has}
+use Rattle.lock_base.specs.Holds.{no_hold, hold_has}
+use Rattle.lock_word.specs.BarredBags.{IsLegalBarredBag, bars_of, PermitsLockStep, barred_after}
 use Rattle.lock_base.proofs.TokenBags.{same_counts}
 use Rattle.lock_word.specs.declared.want.ExWant.{ExWant}
 use Rattle.lock_word.specs.declared.down.Down.{Down}
@@ -130,9 +131,9 @@ keeps_lost limit word ps k loaded me rule at was differs =
     }
 
 -- the party has made a permitted step, and the word encodes what all parties hold after it
-keeps_won : (limit word new : ℕ) (ps : List WorldParty) (k : ℕ) (me : WorldParty) (s : WordStep) → 0 < limit
+keeps_won : (limit word new : ℕ) (ps : List WorldParty) (k : ℕ) (me : WorldParty) (s : LockStep) → 0 < limit
     → KeepsRule limit word ps → slice_get ps k ≡ Some me → IsTrue (hold_has me.held s)
-    → PermitsWordStep me.held.announced limit (held_by_all ps) s
+    → PermitsLockStep me.held.announced limit (held_by_all ps) s
     → new ≡ word_of (barred_after me.held.announced (held_by_all ps) s)
     → KeepsRule limit new (slice_set ps k (after_win me s))
 keeps_won limit word new ps k me s positive rule at has permitted coded =
@@ -160,7 +161,7 @@ keeps_won limit word new ps k me s positive rule at has permitted coded =
 pub permits_of_rule : (limit word : ℕ) (ps : List WorldParty) (k : ℕ) (me : WorldParty) (want : ExWant) → IsLimit limit
     → KeepsRule limit word ps → slice_get ps k ≡ Some me
     → IsTrue (word_admits me.held.announced limit word want)
-    → PermitsWordStep me.held.announced limit (held_by_all ps) (step_of_want want)
+    → PermitsLockStep me.held.announced limit (held_by_all ps) (step_of_want want)
 permits_of_rule limit word ps k me want range rule at admits =
     permits_of_word me.held.announced limit (held_by_all ps) want range.1 rule.legal (part_of_parties ps k me at).bars
     (subst (λ w. IsTrue (word_admits me.held.announced limit w want)) rule.coded admits)
@@ -176,7 +177,7 @@ keeps_exchange limit word ps k me want range rule at has admits =
     (ap (λ w. word_after w want) rule.coded ∙ word_after_want me.held.announced limit (held_by_all ps) want permitted)
 
 -- the sum of all holds has what one party has
-pub has_of_all : (ps : List WorldParty) (k : ℕ) (me : WorldParty) (s : WordStep) → slice_get ps k ≡ Some me
+pub has_of_all : (ps : List WorldParty) (k : ℕ) (me : WorldParty) (s : LockStep) → slice_get ps k ≡ Some me
     → IsTrue (hold_has me.held s) → Has (held_by_all ps) s
 has_of_all ps k me s at h = has_of_part me.held (held_by_all ps) s (part_of_parties ps k me at) h
 

@@ -4,7 +4,7 @@ use Rattle.lock_base.specs.Modes.{AreCompatible}
 use Rattle.lock_base.specs.ModeRuns.{IsModeRun}
 use Rattle.lock_word.specs.declared.step.AtomicStep.{AtomicStep}
 use Rattle.lock_word.specs.Holders.{steps_of}
-use Rattle.lock_word.specs.Holds.{BarredBag}
+use Rattle.lock_word.specs.BarredBags.{BarredBag}
 use Rattle.lock_word.specs.Rule.{holds, held_by_all}
 use Rattle.lock_word.specs.Worlds.{WorldState, after_step, new_world, world_after, IsReachable}
 use Rattle.lock_word.specs.Claims.{changes_from, EveryInterleaving}

@@ -8,7 +8,7 @@ use Rattle.lock_base.specs.Modes.{tokens, admits}
 use Rattle.lock_word.specs.declared.occupancy.Occupancy.{Occupancy}
 use Rattle.lock_word.specs.declared.want.ExWant.{ExWant}
 use Rattle.lock_word.specs.declared.want.ExWant.TheVariants.{Shared, Exclusive, Upgradable, Upgrade, Announce}
-use Rattle.lock_word.specs.Holds.{is_barred}
+use Rattle.lock_word.specs.BarredBags.{is_barred}
 use Rattle.lock_word.specs.Word.{word_of, word_admits, readers_of_word, want_of_mode, barred_bag_of_word, IsPacked}
 use Rattle.lock_word.specs.Unblocking.{occupancy_of_word, may_proceed, may_upgrade, newly_may_proceed}
 use Rattle.lock_word.specs.Sleepers.{is_awaited}

@@ -5,9 +5,9 @@ use Rattle.std.proofs.lemmas.List.{map-set, map-append}
 use Rattle.std.proofs.lemmas.List.Sums.{sum_by-append}
 use Rattle.std.proofs.lemmas.Option.{same_Some, slice_get-map}
 use Rattle.lock_base.specs.Limits.{IsLimit}
+use Rattle.lock_base.specs.Holds.{hold_has}
 use Rattle.lock_word.specs.declared.want.ExWant.{ExWant}
 use Rattle.lock_word.specs.declared.down.Down.{Down}
-use Rattle.lock_word.specs.Holds.{hold_has}
 use Rattle.lock_word.specs.declared.party.WorldParty.{WorldParty}
 use Rattle.lock_word.specs.Word.{word_after, amount, step_of_want, step_of_down}
 use Rattle.lock_word.specs.Turns.{idle}

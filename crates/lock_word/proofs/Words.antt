@@ -3,9 +3,9 @@ use Rattle.std.proofs.Common.{◌≡◌, ℕ, not, ◌+◌, ◌%◌, ◌/◌, �
 use Rattle.std.proofs.lemmas.Bool.{and_parts, and_from}
 use Rattle.lock_base.specs.declared.machine.bag.Bag.{Bag}
 use Rattle.lock_base.specs.declared.machine.mode.Mode.{Mode}
+use Rattle.lock_base.specs.declared.machine.lock_step.LockStep.{LockStep}
 use Rattle.lock_base.specs.Modes.{readers, tokens, admits, AreCompatible}
-use Rattle.lock_word.specs.declared.word_step.WordStep.{WordStep}
-use Rattle.lock_word.specs.Holds.{BarredBag, is_barred, IsLegalBarredBag, bars_of, PermitsWordStep, barred_after}
+use Rattle.lock_word.specs.BarredBags.{BarredBag, is_barred, IsLegalBarredBag, bars_of, PermitsLockStep, barred_after}
 use Rattle.lock_word.specs.declared.want.ExWant.{ExWant}
 use Rattle.lock_word.specs.declared.down.Down.{Down}
 use Rattle.lock_word.specs.Word.{word_of, readers_of_word, word_admits, word_after, amount, step_of_want, step_of_down, want_of_mode, barred_bag_of_word}
@@ -60,17 +60,17 @@ record IsFreeFor (announced : Bool) (all : BarredBag) : Type 0 where
 -- what the word admits is permitted
 pub permits_of_word : (announced : Bool) (limit : ℕ) (all : BarredBag) (want : ExWant) → limit < 2 ^ 32 → IsLegalBarredBag limit all
     → bars_of announced ≤ all.bars → IsTrue (word_admits announced limit (word_of all) want)
-    → PermitsWordStep announced limit all (step_of_want want)
+    → PermitsLockStep announced limit all (step_of_want want)
 permits_of_word x0 x1 x2 x3 x4 x5 x6 x7 = grind arith
 
 -- and what is permitted, the word admits
 pub word_of_permits : (announced : Bool) (limit : ℕ) (all : BarredBag) (want : ExWant) → limit < 2 ^ 32 → IsLegalBarredBag limit all
-    → PermitsWordStep announced limit all (step_of_want want) → IsTrue (word_admits announced limit (word_of all) want)
+    → PermitsLockStep announced limit all (step_of_want want) → IsTrue (word_admits announced limit (word_of all) want)
 word_of_permits x0 x1 x2 x3 x4 x5 x6 = grind arith
 
 -- the word that the exchange puts encodes the state after the step
 pub word_after_want : (announced : Bool) (limit : ℕ) (all : BarredBag) (want : ExWant)
-    → PermitsWordStep announced limit all (step_of_want want)
+    → PermitsLockStep announced limit all (step_of_want want)
     → word_after (word_of all) want ≡ word_of (barred_after announced all (step_of_want want))
 word_after_want x0 x1 x2 x3 x4 = grind arith
 
@@ -78,7 +78,7 @@ word_after_want x0 x1 x2 x3 x4 = grind arith
 
 -- a subtraction of what is held is always permitted
 pub permits_down : (announced : Bool) (limit : ℕ) (all : BarredBag) (d : Down) → Has all (step_of_down d)
-    → PermitsWordStep announced limit all (step_of_down d)
+    → PermitsLockStep announced limit all (step_of_down d)
 permits_down x0 x1 x2 x3 x4 = grind arith
 
 -- the word encodes the state after the subtraction, plus the amount
@@ -87,8 +87,8 @@ pub word_before_down : (announced : Bool) (all : BarredBag) (d : Down) → Has a
 word_before_down x0 x1 x2 x3 = grind arith
 
 -- a permitted step leaves a legal state
-pub stands_after : (announced : Bool) (limit : ℕ) (all : BarredBag) (s : WordStep) → 0 < limit → IsLegalBarredBag limit all
-    → PermitsWordStep announced limit all s → IsLegalBarredBag limit (barred_after announced all s)
+pub stands_after : (announced : Bool) (limit : ℕ) (all : BarredBag) (s : LockStep) → 0 < limit → IsLegalBarredBag limit all
+    → PermitsLockStep announced limit all s → IsLegalBarredBag limit (barred_after announced all s)
 stands_after x0 x1 x2 x3 x4 x5 x6 = grind arith
 
 -- packed words

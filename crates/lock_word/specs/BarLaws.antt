@@ -3,9 +3,9 @@ use Rattle.std.specs.Prelude.{◌≡◌, ℕ, ◌↔◌, Option, is_some, IsTrue
 use Rattle.lock_base.specs.declared.machine.mode.Mode.{Mode}
 use Rattle.lock_base.specs.declared.machine.mode_step.ModeStep.TheVariants.{Acquire}
 use Rattle.lock_base.specs.declared.machine.bag.Bag.{Bag}
-use Rattle.lock_base.specs.Bar.{passes_bar, has_announced, bar_after}
-use Rattle.lock_word.specs.declared.word_step.WordStep.TheVariants.{Modes}
-use Rattle.lock_word.specs.Holds.{BarredBag, bars_of, StepPassesBar, barred_after}
+use Rattle.lock_base.specs.declared.machine.lock_step.LockStep.TheVariants.{Modes}
+use Rattle.lock_base.specs.Bar.{bar_lets_pass, has_announced, bar_after}
+use Rattle.lock_word.specs.BarredBags.{BarredBag, bars_of, StepPassesBar, barred_after}
 
 -- a bag with the bar of a register, as a number of bars
 abbrev pub barred_by : Option ℕ → Bag → BarredBag
@@ -14,8 +14,8 @@ barred_by bar bag = record { bag = bag; bars = bars_of (is_some bar) }
 -- both bars let the acquisition pass, or neither does, and both are the same afterwards
 pub record IsBarAlike (bar : Option ℕ) (party : ℕ) (mode : Mode) (bag : Bag) : Type 0 where
   pub lets_pass :
-      IsTrue (passes_bar bar party mode) ↔ StepPassesBar (has_announced bar party) (bars_of (is_some bar)) (Acquire mode)
-  pub leaves : IsTrue (passes_bar bar party mode)
+      IsTrue (bar_lets_pass bar party mode) ↔ StepPassesBar (has_announced bar party) (bars_of (is_some bar)) (Acquire mode)
+  pub leaves : IsTrue (bar_lets_pass bar party mode)
       → (barred_after (has_announced bar party) (barred_by bar bag) (Modes (Acquire mode))).bars
       ≡ bars_of (is_some (bar_after bar mode))
 

@@ -2,7 +2,7 @@
 use Rattle.std.specs.Prelude.{◌≡◌, ◌≢◌, ◌↔◌, ℕ, ◌^◌, ◌<◌, ◌≤◌, true, List, [], ◌∷◌, ◌++◌, Some, ⊤}
 use Rattle.lock_base.specs.Limits.{IsLimit}
 use Rattle.lock_base.specs.Modes.{AreCompatible, empty_bag}
-use Rattle.lock_word.specs.Holds.{BarredBag, IsLegalBarredBag, PermitsWordStep}
+use Rattle.lock_word.specs.BarredBags.{BarredBag, IsLegalBarredBag, PermitsLockStep}
 use Rattle.lock_base.specs.ModeRuns.{IsModeRun}
 use Rattle.lock_word.specs.declared.want.ExWant.{ExWant}
 use Rattle.lock_word.specs.declared.party.WorldParty.{WorldParty}
@@ -61,7 +61,7 @@ pub record LastLoadRefuses (start : WorldState) (steps : List AtomicStep) (p : �
   pub past : WorldParty
   pub was : holder_at (world_after start before).parties p ≡ Some past
   pub refuses :
-      ¬ PermitsWordStep past.held.announced start.readers (held_by_all (world_after start before).parties) (step_of_want want)
+      ¬ PermitsLockStep past.held.announced start.readers (held_by_all (world_after start before).parties) (step_of_want want)
 
 -- the party's open load is the word of what was held at that load, which did not permit the exchange
 pub record OpenLoadRefuses (w : WorldState) (p : ℕ) (want : ExWant) : Type 0 where
@@ -70,7 +70,7 @@ pub record OpenLoadRefuses (w : WorldState) (p : ℕ) (want : ExWant) : Type 0 w
   pub all : BarredBag
   pub open_load : me.loaded ≡ Some (word_of all)
   pub stood : IsLegalBarredBag w.readers all
-  pub refuses : ¬ PermitsWordStep me.held.announced w.readers all (step_of_want want)
+  pub refuses : ¬ PermitsLockStep me.held.announced w.readers all (step_of_want want)
 
 -- if the step was an exchange that was not admitted, the party's open load refused it
 abbrev pub IsRefusedByLoad : WorldState → AtomicStep → Outcome → Type 0

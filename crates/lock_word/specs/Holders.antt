@@ -1,10 +1,11 @@
 -- Holders: what all hold together, and runs of the modes by them.
 use Rattle.std.specs.Prelude.{zero, suc, ◌≡◌, ◌≤◌, ℕ, ◌-◌, List, [], ◌∷◌, ◌++◌, sum_by, slice_get, slice_set, Option, Some, None, IsTrue}
 use Rattle.lock_base.specs.declared.machine.mode_step.ModeStep.{ModeStep}
-use Rattle.lock_word.specs.declared.hold.Hold.{Hold}
-use Rattle.lock_word.specs.declared.word_step.WordStep.{WordStep}
-use Rattle.lock_word.specs.declared.word_step.WordStep.TheVariants.{Modes, Announce, Withdraw}
-use Rattle.lock_word.specs.Holds.{BarredBag, bars_of, PermitsWordStep, hold_has, hold_after}
+use Rattle.lock_base.specs.declared.machine.hold.Hold.{Hold}
+use Rattle.lock_base.specs.declared.machine.lock_step.LockStep.{LockStep}
+use Rattle.lock_base.specs.declared.machine.lock_step.LockStep.TheVariants.{Modes, Announce, Withdraw}
+use Rattle.lock_base.specs.Holds.{hold_has, hold_after}
+use Rattle.lock_word.specs.BarredBags.{BarredBag, bars_of, PermitsLockStep}
 
 -- the sum of several holds
 abbrev pub all_of : List Hold → BarredBag
@@ -34,14 +35,14 @@ holder_at xs (suc k) = slice_get xs k
 -- one step of one holder
 pub record HolderStep : Type 0 where
   pub holder : ℕ
-  pub step : WordStep
+  pub step : LockStep
 
 -- the holder exists, holds what the step releases, and the sum of all holds permits the step
 pub record IsHolderStep (limit : ℕ) (before : List Hold) (s : HolderStep) (after : List Hold) : Type 0 where
   pub own : Hold
   pub is_own : holder_at before s.holder ≡ Some own
   pub had : IsTrue (hold_has own s.step)
-  pub permitted : PermitsWordStep own.announced limit (all_of before) s.step
+  pub permitted : PermitsLockStep own.announced limit (all_of before) s.step
   pub changed : after ≡ slice_set before (s.holder - 1) (hold_after own s.step)
 
 -- the steps lead from one list of holds to the other, and each is permitted where it is made
@@ -51,7 +52,7 @@ IsHolderRun limit before (s ∷ ss) after =
     (mid : List Hold) × IsHolderStep limit before s mid × IsHolderRun limit mid ss after
 
 -- the step on the modes; an announcement and a withdrawal make none
-abbrev pub modes_of : WordStep → List ModeStep
+abbrev pub modes_of : LockStep → List ModeStep
 modes_of (Modes step) = step ∷ []
 modes_of Announce = []
 modes_of Withdraw = []

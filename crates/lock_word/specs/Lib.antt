@@ -1,4 +1,4 @@
-pub mod Holds
+pub mod BarredBags
 pub mod Holders
 pub mod Word
 pub mod Unblocking

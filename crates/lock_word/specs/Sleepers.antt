@@ -1,5 +1,6 @@
 -- Waiters that sleep: who sleeps, who is due to wake them, and that no sleeper is forgotten.
 use Rattle.std.specs.Prelude.{◌≡◌, ◌≢◌, ℕ, ◌^◌, ◌<◌, ◌≤◌, Bool, true, false, ◌⊎◌, List, map, sum_by, slice_get, Some, ⊤, IsTrue}
+use Rattle.lock_base.specs.Holds.{hold_has}
 use Rattle.lock_word.specs.declared.want.ExWant.{ExWant}
 use Rattle.lock_word.specs.declared.want.ExWant.TheVariants.{Shared, Exclusive, Upgradable, Upgrade, Announce}
 use Rattle.lock_word.specs.declared.party.WorldParty.{WorldParty}
@@ -9,7 +10,6 @@ use Rattle.lock_word.specs.declared.sleeper.Watch.TheVariants.{Away, Counted, Si
 use Rattle.lock_word.specs.declared.sleeper.Debt.{Debt}
 use Rattle.lock_word.specs.declared.sleeper.Debt.TheVariants.{Nothing, Owes, OwesAt}
 use Rattle.lock_word.specs.declared.sleeper.SleeperView.{SleeperView}
-use Rattle.lock_word.specs.Holds.{hold_has}
 use Rattle.lock_word.specs.Word.{word_admits, step_of_want}
 use Rattle.lock_word.specs.Rule.{all_wins}
 

@@ -2,6 +2,8 @@
 use Rattle.std.specs.Prelude.{ℕ, ◌+◌, ◌-◌, ◌^◌, ◌<◌, ◌≤◌, ◌==◌, if◌then◌else◌, Option, Some, None}
 use Rattle.lock_base.specs.declared.raw.fault.Fault.{Fault}
 use Rattle.lock_base.specs.declared.raw.fault.Fault.TheVariants as fault
+use Rattle.lock_base.specs.declared.machine.lock_step.LockStep.{LockStep}
+use Rattle.lock_base.specs.Holds.{no_hold, hold_has, hold_after}
 use Rattle.lock_word.specs.declared.want.ExWant.{ExWant}
 use Rattle.lock_word.specs.declared.down.Down.{Down}
 use Rattle.lock_word.specs.declared.party.WorldParty.{WorldParty}
@@ -9,8 +11,7 @@ use Rattle.lock_word.specs.declared.step.AtomicStep.{AtomicStep}
 use Rattle.lock_word.specs.declared.step.AtomicStep.TheVariants.{Load, Exchange, Take}
 use Rattle.lock_word.specs.declared.step.Outcome.{Outcome}
 use Rattle.lock_word.specs.declared.step.Outcome.TheVariants.{Loaded, Done, NotAdmitted, Changed, Refused}
-use Rattle.lock_word.specs.declared.word_step.WordStep.{WordStep}
-use Rattle.lock_word.specs.Holds.{bars_of, no_hold, hold_has, hold_after}
+use Rattle.lock_word.specs.BarredBags.{bars_of}
 use Rattle.lock_word.specs.Word.{word_of, word_admits, word_after, amount, step_of_want, step_of_down}
 
 -- the word and the party after a step, and its outcome
@@ -39,7 +40,7 @@ abbrev pub without_load : WorldParty → WorldParty
 without_load me = record me { loaded = None }
 
 -- the party after a step that changed the word; its open load is spent
-abbrev pub after_win : WorldParty → WordStep → WorldParty
+abbrev pub after_win : WorldParty → LockStep → WorldParty
 after_win me step = record me { held = hold_after me.held step; loaded = None; wins = me.wins + 1 }
 
 -- the party after an exchange that found another word

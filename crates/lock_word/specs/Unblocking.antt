@@ -7,7 +7,7 @@ use Rattle.lock_base.specs.declared.machine.bag.Bag.{Bag}
 use Rattle.lock_base.specs.Modes.{admits, may_become, is_exclusive}
 use Rattle.lock_base.specs.ModeRuns.{has}
 use Rattle.lock_word.specs.declared.occupancy.Occupancy.{Occupancy}
-use Rattle.lock_word.specs.Holds.{is_barred}
+use Rattle.lock_word.specs.BarredBags.{is_barred}
 use Rattle.lock_word.specs.Word.{bag_of_word, barred_bag_of_word}
 
 -- these modes, with the bar or without it

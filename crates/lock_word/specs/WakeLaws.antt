@@ -1,11 +1,11 @@
 -- What is proved of the rule by which no wake-up is lost.
 use Rattle.std.specs.Prelude.{◌≡◌, ℕ, Bool, false, not, List, [], ◌∷◌, ◌++◌, slice_get, Some, IsTrue}
+use Rattle.lock_base.specs.declared.machine.hold.Hold.{Hold}
 use Rattle.lock_base.specs.Limits.{IsLimit}
+use Rattle.lock_base.specs.Holds.{hold_has}
 use Rattle.lock_word.specs.declared.want.ExWant.{ExWant}
-use Rattle.lock_word.specs.declared.hold.Hold.{Hold}
 use Rattle.lock_word.specs.declared.sleeper.WakeLimits.{WakeLimits}
 use Rattle.lock_word.specs.declared.sleeper.SleeperView.{SleeperView}
-use Rattle.lock_word.specs.Holds.{hold_has}
 use Rattle.lock_word.specs.Word.{word_admits, word_after, step_of_want, IsPacked}
 use Rattle.lock_word.specs.Rule.{WordShows}
 use Rattle.lock_word.specs.Sleepers.{is_awaited, IsAtRest, HaveLooked, SleepersAreRefused, FreeWordWakesOne}

@@ -1,5 +1,6 @@
 -- The rule by which no wake-up is lost: of the packed word, the count of sleepers, the epoch, and all parties.
 use Rattle.std.specs.Prelude.{◌≡◌, ◌≢◌, ℕ, ◌+◌, ◌-◌, ◌^◌, ◌<◌, ◌≤◌, Bool, not, ◌||◌, ◌==◌, List, slice_get, slice_set, if◌then◌else◌, Option, Some, None, ⊤, IsTrue}
+use Rattle.lock_base.specs.Holds.{hold_has}
 use Rattle.lock_word.specs.declared.want.ExWant.{ExWant}
 use Rattle.lock_word.specs.declared.down.Down.{Down}
 use Rattle.lock_word.specs.declared.sleeper.WakeLimits.{WakeLimits}
@@ -8,7 +9,6 @@ use Rattle.lock_word.specs.declared.sleeper.Watch.TheVariants.{Away, Counted, Si
 use Rattle.lock_word.specs.declared.sleeper.Debt.{Debt}
 use Rattle.lock_word.specs.declared.sleeper.Debt.TheVariants.{Nothing, Owes, OwesAt}
 use Rattle.lock_word.specs.declared.sleeper.SleeperView.{SleeperView}
-use Rattle.lock_word.specs.Holds.{hold_has}
 use Rattle.lock_word.specs.Word.{word_after, amount, step_of_want, step_of_down}
 use Rattle.lock_word.specs.Unblocking.{occupancy_of_word, unblocks}
 use Rattle.lock_word.specs.Turns.{idle, with_load, without_load, after_win, after_fail}

@@ -4,14 +4,14 @@ use Rattle.lock_base.specs.declared.machine.mode.Mode.{Mode}
 use Rattle.lock_base.specs.declared.machine.mode.Mode.TheVariants as mode
 use Rattle.lock_base.specs.declared.machine.mode_step.ModeStep.TheVariants.{Acquire, Release, Change}
 use Rattle.lock_base.specs.declared.machine.bag.Bag.{Bag}
+use Rattle.lock_base.specs.declared.machine.lock_step.LockStep.{LockStep}
+use Rattle.lock_base.specs.declared.machine.lock_step.LockStep.TheVariants as step
 use Rattle.lock_base.specs.Modes.{readers}
 use Rattle.lock_word.specs.declared.want.ExWant.{ExWant}
 use Rattle.lock_word.specs.declared.want.ExWant.TheVariants.{Shared, Exclusive, Upgradable, Upgrade, Announce}
 use Rattle.lock_word.specs.declared.down.Down.{Down}
 use Rattle.lock_word.specs.declared.down.Down.TheVariants as down
-use Rattle.lock_word.specs.declared.word_step.WordStep.{WordStep}
-use Rattle.lock_word.specs.declared.word_step.WordStep.TheVariants as step
-use Rattle.lock_word.specs.Holds.{BarredBag, IsLegalBarredBag, bars_of}
+use Rattle.lock_word.specs.BarredBags.{BarredBag, IsLegalBarredBag, bars_of}
 
 -- the readers, 2^32 for an upgradable hold, 2^33 for an exclusive one, and 2^34 for the bar
 abbrev pub word_of : BarredBag → ℕ
@@ -56,7 +56,7 @@ amount down.UpgradableToShared = 2 ^ 32
 amount down.Withdraw = 2 ^ 34
 
 -- the step on modes and bar of an exchange
-abbrev pub step_of_want : ExWant → WordStep
+abbrev pub step_of_want : ExWant → LockStep
 step_of_want Shared = step.Modes (Acquire mode.Shared)
 step_of_want Exclusive = step.Modes (Acquire mode.Exclusive)
 step_of_want Upgradable = step.Modes (Acquire mode.Upgradable)
@@ -64,7 +64,7 @@ step_of_want Upgrade = step.Modes (Change mode.Upgradable mode.Exclusive)
 step_of_want Announce = step.Announce
 
 -- the step on modes and bar of a subtraction
-abbrev pub step_of_down : Down → WordStep
+abbrev pub step_of_down : Down → LockStep
 step_of_down down.Shared = step.Modes (Release mode.Shared)
 step_of_down down.Exclusive = step.Modes (Release mode.Exclusive)
 step_of_down down.Upgradable = step.Modes (Release mode.Upgradable)

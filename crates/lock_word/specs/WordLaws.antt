@@ -1,10 +1,11 @@
 -- What the packed word says of the holds that it encodes.
 use Rattle.std.specs.Prelude.{◌≡◌, ℕ, ◌+◌, ◌≤◌, Bool, ◌↔◌, IsTrue}
+use Rattle.lock_base.specs.declared.machine.hold.Hold.{Hold}
 use Rattle.lock_base.specs.Limits.{IsLimit}
+use Rattle.lock_base.specs.Holds.{hold_has}
 use Rattle.lock_word.specs.declared.want.ExWant.{ExWant}
 use Rattle.lock_word.specs.declared.down.Down.{Down}
-use Rattle.lock_word.specs.declared.hold.Hold.{Hold}
-use Rattle.lock_word.specs.Holds.{BarredBag, IsLegalBarredBag, bars_of, PermitsWordStep, barred_after, hold_has}
+use Rattle.lock_word.specs.BarredBags.{BarredBag, IsLegalBarredBag, bars_of, PermitsLockStep, barred_after}
 use Rattle.lock_word.specs.Holders.{IsPart}
 use Rattle.lock_word.specs.Word.{word_of, word_admits, word_after, amount, step_of_want, step_of_down}
 
@@ -12,8 +13,8 @@ use Rattle.lock_word.specs.Word.{word_of, word_admits, word_after, amount, step_
 -- hold after it
 pub record IsExchangeOf (announced : Bool) (limit : ℕ) (all : BarredBag) (want : ExWant) : Type 0 where
   pub admits :
-      IsTrue (word_admits announced limit (word_of all) want) ↔ PermitsWordStep announced limit all (step_of_want want)
-  pub puts : PermitsWordStep announced limit all (step_of_want want)
+      IsTrue (word_admits announced limit (word_of all) want) ↔ PermitsLockStep announced limit all (step_of_want want)
+  pub puts : PermitsLockStep announced limit all (step_of_want want)
       → word_after (word_of all) want ≡ word_of (barred_after announced all (step_of_want want))
 
 -- a party that announced itself has its bar among those that are set

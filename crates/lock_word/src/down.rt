@@ -2,8 +2,7 @@
 ghost use Rattle.std.specs.Prelude.{◌≡◌};
 
 use crate::word::{BAR, EXCLUSIVE, UPGRADABLE};
-use crate::word_step::WordStep;
-use lock_base::machine::{Mode, ModeStep};
+use lock_base::machine::{LockStep, Mode, ModeStep};
 
 /// What a subtraction from the word releases or downgrades.
 #[derive(Clone, Copy, PartialEq, Eq, Debug)]
@@ -39,7 +38,7 @@ impl Down {
     }
 
     /// Returns the step on the modes and the bar.
-    pub fn step(self) -> WordStep
+    pub fn step(self) -> LockStep
         ensures { result ≡ step_of_down self }
     {
         let step = match self {
@@ -49,9 +48,9 @@ impl Down {
             Down::ToShared => ModeStep::Change(Mode::Exclusive, Mode::Shared),
             Down::ToUpgradable => ModeStep::Change(Mode::Exclusive, Mode::Upgradable),
             Down::UpgradableToShared => ModeStep::Change(Mode::Upgradable, Mode::Shared),
-            Down::Withdraw => return WordStep::Withdraw,
+            Down::Withdraw => return LockStep::Withdraw,
         };
-        WordStep::Modes(step)
+        LockStep::Modes(step)
     }
 
     /// Returns the number to subtract.

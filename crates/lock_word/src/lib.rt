@@ -2,7 +2,6 @@
 #![tactic(auto)]
 
 mod down;
-mod hold;
 mod laws;
 mod occupancy;
 mod party;
@@ -10,10 +9,8 @@ mod sleeper;
 mod step;
 mod want;
 mod word;
-mod word_step;
 
 pub use down::Down;
-pub use hold::Hold;
 pub use laws::{
     bar_encodings_agree, encoding_is_injective, every_interleaving, exchanges_refine_steps,
     exchanges_unblock_nobody, steps_keep_wakes, subtractions_refine_steps, unblocks_misses_nobody,
@@ -24,4 +21,3 @@ pub use sleeper::{Debt, SleeperView, WakeLimits, Watch};
 pub use step::{AtomicStep, Outcome};
 pub use want::ExWant;
 pub use word::{has_bar, has_exclusive, has_tokens, with_bar};
-pub use word_step::WordStep;

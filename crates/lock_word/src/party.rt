@@ -2,10 +2,9 @@
 ghost use Rattle.std.specs.Prelude.{◌≡◌, ◌-◌, ◌^◌, ◌<◌, ◌≤◌, IsTrue};
 
 use crate::down::Down;
-use crate::hold::Hold;
 use crate::step::{AtomicStep, Outcome};
 use crate::want::ExWant;
-use crate::word_step::WordStep;
+use lock_base::machine::{Hold, LockStep};
 use lock_base::raw::Fault;
 
 /// The world's view of a party: what it holds, its open load, and how often it won and failed.
@@ -22,7 +21,7 @@ pub struct WorldParty {
 
 impl WorldParty {
     ghost use Rattle.lock_base.specs.Modes.{tokens};
-    ghost use Rattle.lock_word.specs.Holds.{hold_has};
+    ghost use Rattle.lock_base.specs.Holds.{hold_has};
     ghost use Rattle.lock_word.specs.Word.{word_of};
     ghost use Rattle.lock_word.specs.Turns.{idle, after_win, load_turn, exchange_turn, take_turn, turn, CanStep};
 
@@ -100,7 +99,7 @@ impl WorldParty {
         Outcome::Done
     }
 
-    fn win(&mut self, step: WordStep)
+    fn win(&mut self, step: LockStep)
         requires had { IsTrue (hold_has self.old.held step) }
         requires room { tokens self.old.held.bag < 2 ^ 64 - 1 }
         requires counts { self.old.wins < 2 ^ 64 - 1 }

@@ -2,8 +2,7 @@
 ghost use Rattle.std.specs.Prelude.{◌≡◌};
 
 use crate::word::{BAR, EXCLUSIVE, UPGRADABLE};
-use crate::word_step::WordStep;
-use lock_base::machine::{Mode, ModeStep};
+use lock_base::machine::{LockStep, Mode, ModeStep};
 
 /// What an exchange of the word acquires or sets.
 #[derive(Clone, Copy, PartialEq, Eq, Debug)]
@@ -35,7 +34,7 @@ impl ExWant {
     }
 
     /// Returns the step on the modes and the bar.
-    pub fn step(self) -> WordStep
+    pub fn step(self) -> LockStep
         ensures { result ≡ step_of_want self }
     {
         let step = match self {
@@ -43,9 +42,9 @@ impl ExWant {
             ExWant::Exclusive => ModeStep::Acquire(Mode::Exclusive),
             ExWant::Upgradable => ModeStep::Acquire(Mode::Upgradable),
             ExWant::Upgrade => ModeStep::Change(Mode::Upgradable, Mode::Exclusive),
-            ExWant::Announce => return WordStep::Announce,
+            ExWant::Announce => return LockStep::Announce,
         };
-        WordStep::Modes(step)
+        LockStep::Modes(step)
     }
 
     /// Returns the word to exchange for the loaded one, or `None` if the loaded word does not admit what is wanted. At

@@ -1,7 +1,7 @@
 //! The parts of a packed word.
 ghost use Rattle.std.specs.Prelude.{◌≡◌, ◌==◌, not};
 ghost use Rattle.lock_base.specs.Modes.{tokens};
-ghost use Rattle.lock_word.specs.Holds.{is_barred};
+ghost use Rattle.lock_word.specs.BarredBags.{is_barred};
 ghost use Rattle.lock_word.specs.Word.{bag_of_word, barred_bag_of_word, word_with_bar};
 
 /// What an upgradable hold adds to the word, besides counting as a reader.

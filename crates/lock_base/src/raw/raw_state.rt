@@ -1,6 +1,7 @@
 //! Raw states: the tokens of a lock, for one thread.
 ghost use Rattle.std.specs.Prelude.{◌≡◌, ℕ, Bool, false, ◌&&◌, ◌<◌, List, [], length, ◌↔◌, ◌==◌, not, is_some, is_ok, IfOk, IfErr, IfSome, IfNone, OnErr};
 ghost use Rattle.lock_base.specs.declared.machine.mode.Mode.{Mode};
+ghost use Rattle.lock_base.specs.Bar.{passes_bar};
 ghost use Rattle.lock_base.specs.Modes.{admits, may_become};
 ghost use Rattle.lock_base.specs.Tokens.{bag_of_tokens, IsOut, Adds, Removes, CanChange, Replaces};
 ghost use Rattle.lock_base.specs.Limits.{IsLimit, IsMakerFault};
@@ -39,16 +40,31 @@ pub trait RawState: Sized + Drop {
         ensures capacity_kept { IfOk result (λ state. capacity state ≡ places) }
         ensures limit_kept { IfOk result (λ state. reader_limit state ≡ readers) };
 
-    /// Acquires a token of the mode, if the mode is admitted and no bar is set.
-    fn admit(&mut self, mode: Mode) -> Option<Self::Token>
+    /// Acquires a token of the mode, if the mode is admitted and the bar lets the party pass. `is_own` says whether the
+    /// party set the bar.
+    fn admit_as(&mut self, mode: Mode, is_own: bool) -> Option<Self::Token>
         requires { length (tokens self.old) < capacity self.old }
         ensures admitted { is_some result
-            ≡ (not (bar self.old) && admits (reader_limit self.old) (bag_of_tokens (tokens self.old)) mode) }
+            ≡ (passes_bar (bar self.old) is_own mode && admits (reader_limit self.old) (bag_of_tokens (tokens self.old)) mode) }
         ensures added { IfSome result (λ token. Adds (tokens self.old) (tokens self.new) token mode) }
         ensures refused { IfNone result (tokens self.new ≡ tokens self.old) }
         ensures bar_kept { bar self.new ≡ bar self.old }
         ensures capacity_kept { capacity self.new ≡ capacity self.old }
         ensures limit_kept { reader_limit self.new ≡ reader_limit self.old };
+
+    /// Acquires a token of the mode, if the mode is admitted and no bar is set.
+    fn admit(&mut self, mode: Mode) -> Option<Self::Token>
+        requires { length (tokens self.old) < capacity self.old }
+        ensures admitted { is_some result
+            ≡ (passes_bar (bar self.old) false mode && admits (reader_limit self.old) (bag_of_tokens (tokens self.old)) mode) }
+        ensures added { IfSome result (λ token. Adds (tokens self.old) (tokens self.new) token mode) }
+        ensures refused { IfNone result (tokens self.new ≡ tokens self.old) }
+        ensures bar_kept { bar self.new ≡ bar self.old }
+        ensures capacity_kept { capacity self.new ≡ capacity self.old }
+        ensures limit_kept { reader_limit self.new ≡ reader_limit self.old }
+    {
+        self.admit_as(mode, false)
+    }
 
     /// Releases a token.
     fn give_back(&mut self, token: Self::Token)

@@ -2,7 +2,7 @@
 ghost use Rattle.std.specs.Prelude.{◌≡◌, is_some};
 ghost use Rattle.std.specs.Option.{option_map};
 ghost use Rattle.lock_base.specs.Party.{id_of};
-ghost use Rattle.lock_base.specs.Bar.{passes_bar, has_announced};
+ghost use Rattle.lock_base.specs.Bar.{bar_lets_pass, has_announced};
 ghost use Rattle.lock_base.specs.Register.{with_bar, after_admission};
 ghost use Rattle.lock_base.specs.Sound.{IsBarOf};
 
@@ -38,8 +38,8 @@ impl<R: RawState> Guards<R> {
     }
 
     // Returns whether the bar lets the party acquire the mode.
-    pub(super) fn passes_bar(&self, party: PartyId, mode: Mode) -> bool
-        ensures { result ≡ passes_bar self.now.bar (id_of party) mode }
+    pub(super) fn bar_lets_pass(&self, party: PartyId, mode: Mode) -> bool
+        ensures { result ≡ bar_lets_pass self.now.bar (id_of party) mode }
     {
         match self.bar {
             Some(announced) => mode == Mode::Exclusive && announced == party,

@@ -32,8 +32,8 @@ impl<R: RawState> RawState for CountedState<R> {
         Ok(CountedState { raw, given_back: 0 })
     }
 
-    fn admit(&mut self, mode: Mode) -> Option<R::Token> {
-        self.raw.admit(mode)
+    fn admit_as(&mut self, mode: Mode, is_own: bool) -> Option<R::Token> {
+        self.raw.admit_as(mode, is_own)
     }
 
     fn give_back(&mut self, token: R::Token) {

@@ -3,7 +3,7 @@ use lock_api::{
     AtomicStep, Attempt, CallStage, CountRule, Debt, Down, EventCount, ExWant, Hold, NoTime,
     Notified, Occupancy, Outcome, PackedToken, PackedWord, Party, Place, Places, RealTime,
     Registered, SeatView, SeatedLock, SleeperView, SleepingCondvar, TimedCondvar, TimedRaw, Timing,
-    Wake, WakeLimits, WakeRule, WakeView, Watch, WordCore, WordLock, WordRaw, WordRule, WordStep,
+    Wake, WakeLimits, WakeRule, WakeView, Watch, WordCore, WordLock, WordRaw, WordRule, LockStep,
     WordToken, World, WorldParty,
 };
 use std::clone::Clone;
@@ -29,7 +29,7 @@ pub fn words(
     _world: &World,
     _places: (&Places, &Place),
     _step: (&AtomicStep, &Outcome, &Down, &ExWant, &WorldParty),
-    _hold: (&Hold, &WordStep, &Occupancy),
+    _hold: (&Hold, &LockStep, &Occupancy),
     _seated: (&SeatedLock, &Party, &SeatView, &WordRule, &Attempt),
     _seats: (&WakeView, &WakeRule),
     _sleeper: (&SleeperView, &Watch, &Debt, &WakeLimits),

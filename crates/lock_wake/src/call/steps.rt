@@ -2,7 +2,7 @@
 ghost use Rattle.std.specs.Prelude.{◌≡◌, ◌<◌, ◌≤◌, ◌^◌, true, false, IsTrue};
 ghost use Rattle.lock_word.specs.declared.sleeper.Watch.TheVariants.{Away, Counted, Woken};
 ghost use Rattle.lock_word.specs.declared.sleeper.Debt.TheVariants.{Nothing, Owes};
-ghost use Rattle.lock_word.specs.Holds.{hold_has};
+ghost use Rattle.lock_base.specs.Holds.{hold_has};
 ghost use Rattle.lock_word.specs.Word.{amount, step_of_want, step_of_down};
 ghost use Rattle.lock_word.specs.Rule.{WordShows};
 ghost use Rattle.lock_word.specs.Sleepers.{count_of_watch, Sleeps};

@@ -1,10 +1,9 @@
-//! What one party holds on the word.
+//! What one party holds of a lock.
 ghost use Rattle.std.specs.Prelude.{◌≡◌, ◌-◌, ◌<◌, ◌^◌, IsTrue};
 
-use crate::word_step::WordStep;
-use lock_base::machine::{Bag, Mode, ModeStep};
+use crate::machine::{Bag, LockStep, Mode, ModeStep};
 
-/// What one party holds on the word: a bag of modes, and whether it has announced itself.
+/// What one party holds of a lock: a bag of modes, and whether it has announced itself.
 #[derive(Clone, Copy, PartialEq, Eq, Debug)]
 pub struct Hold {
     pub bag: Bag,
@@ -14,7 +13,7 @@ pub struct Hold {
 
 impl Hold {
     ghost use Rattle.lock_base.specs.Modes.{tokens};
-    ghost use Rattle.lock_word.specs.Holds.{no_hold, hold_has, hold_after};
+    ghost use Rattle.lock_base.specs.Holds.{no_hold, hold_has, hold_after};
 
     /// Makes the empty hold.
     pub fn none() -> Hold
@@ -27,36 +26,36 @@ impl Hold {
     }
 
     /// Returns whether the hold has what the step releases, changes or clears.
-    pub fn has(&self, step: WordStep) -> bool
+    pub fn has(&self, step: LockStep) -> bool
         ensures { result ≡ hold_has self.now step }
     {
         match step {
-            WordStep::Modes(step) => self.bag.has(step),
-            WordStep::Announce => true,
-            WordStep::Withdraw => self.announced,
+            LockStep::Modes(step) => self.bag.has(step),
+            LockStep::Announce => true,
+            LockStep::Withdraw => self.announced,
         }
     }
 
     /// Returns the hold after the step. Acquiring exclusively clears the announcement.
-    pub fn after(self, step: WordStep) -> Hold
+    pub fn after(self, step: LockStep) -> Hold
         requires had { IsTrue (hold_has self step) }
         requires room { tokens self.bag < 2 ^ 64 - 1 }
         ensures { result ≡ hold_after self step }
     {
         match step {
-            WordStep::Modes(ModeStep::Acquire(Mode::Exclusive)) => Hold {
+            LockStep::Modes(ModeStep::Acquire(Mode::Exclusive)) => Hold {
                 bag: self.bag.one_more(Mode::Exclusive),
                 announced: false,
             },
-            WordStep::Modes(step) => Hold {
+            LockStep::Modes(step) => Hold {
                 bag: self.bag.after(step),
                 ..self
             },
-            WordStep::Announce => Hold {
+            LockStep::Announce => Hold {
                 announced: true,
                 ..self
             },
-            WordStep::Withdraw => Hold {
+            LockStep::Withdraw => Hold {
                 announced: false,
                 ..self
             },

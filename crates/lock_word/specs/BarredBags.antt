@@ -1,14 +1,14 @@
--- Bags with bars: what one party holds, what all hold together, and what each step needs and does.
-use Rattle.std.specs.Prelude.{◌≡◌, ℕ, ◌+◌, ◌-◌, ◌<◌, ◌≤◌, Bool, true, false, ◌&&◌, not, nat_lt, if◌then◌else◌, ⊤}
+-- Bags with bars: what all parties hold together, and what each step needs and does.
+use Rattle.std.specs.Prelude.{◌≡◌, ℕ, ◌+◌, ◌-◌, ◌<◌, ◌≤◌, Bool, ◌&&◌, nat_lt, if◌then◌else◌, ⊤}
 use Rattle.lock_base.specs.declared.machine.mode.Mode.TheVariants.{Shared, Exclusive, Upgradable}
 use Rattle.lock_base.specs.declared.machine.mode_step.ModeStep.{ModeStep}
 use Rattle.lock_base.specs.declared.machine.mode_step.ModeStep.TheVariants.{Acquire, Release, Change}
 use Rattle.lock_base.specs.declared.machine.bag.Bag.{Bag}
-use Rattle.lock_base.specs.Modes.{empty_bag, is_exclusive, AreCompatible}
-use Rattle.lock_base.specs.ModeRuns.{has, Permits, bag_after}
-use Rattle.lock_word.specs.declared.hold.Hold.{Hold}
-use Rattle.lock_word.specs.declared.word_step.WordStep.{WordStep}
-use Rattle.lock_word.specs.declared.word_step.WordStep.TheVariants.{Modes, Announce, Withdraw}
+use Rattle.lock_base.specs.declared.machine.lock_step.LockStep.{LockStep}
+use Rattle.lock_base.specs.declared.machine.lock_step.LockStep.TheVariants.{Modes, Announce, Withdraw}
+use Rattle.lock_base.specs.Modes.{AreCompatible}
+use Rattle.lock_base.specs.ModeRuns.{Permits, bag_after}
+use Rattle.lock_base.specs.Holds.{ends_bar}
 
 -- what all parties hold together, and how many of them have announced themselves
 pub record BarredBag : Type 0 where
@@ -40,37 +40,14 @@ StepPassesBar announced bars (Release mode) = ⊤
 StepPassesBar announced bars (Change from to) = ⊤
 
 -- whether what all hold permits the step to a party, which has announced itself or has not
-abbrev pub PermitsWordStep : Bool → ℕ → BarredBag → WordStep → Type 0
-PermitsWordStep announced limit all (Modes step) = Permits limit all.bag step × StepPassesBar announced all.bars step
-PermitsWordStep announced limit all Announce = all.bars ≡ 0
-PermitsWordStep announced limit all Withdraw = 0 < all.bars
-
--- an exclusive acquisition, which clears the bar of the party that acquires
-abbrev pub ends_bar : ModeStep → Bool
-ends_bar (Acquire mode) = is_exclusive mode
-ends_bar (Release mode) = false
-ends_bar (Change from to) = false
+abbrev pub PermitsLockStep : Bool → ℕ → BarredBag → LockStep → Type 0
+PermitsLockStep announced limit all (Modes step) = Permits limit all.bag step × StepPassesBar announced all.bars step
+PermitsLockStep announced limit all Announce = all.bars ≡ 0
+PermitsLockStep announced limit all Withdraw = 0 < all.bars
 
 -- what all hold after the step of a party, which had announced itself or had not
-abbrev pub barred_after : Bool → BarredBag → WordStep → BarredBag
+abbrev pub barred_after : Bool → BarredBag → LockStep → BarredBag
 barred_after announced all (Modes step) =
     record { bag = bag_after all.bag step; bars = all.bars - bars_of (ends_bar step && announced) }
 barred_after announced all Announce = record all { bars = all.bars + 1 }
 barred_after announced all Withdraw = record all { bars = all.bars - 1 }
-
--- the empty hold
-abbrev pub no_hold : Hold
-no_hold = record { bag = empty_bag; announced = false }
-
--- whether the hold has what the step releases, changes or clears
-abbrev pub hold_has : Hold → WordStep → Bool
-hold_has own (Modes step) = has own.bag step
-hold_has own Announce = true
-hold_has own Withdraw = own.announced
-
--- the hold after the step
-abbrev pub hold_after : Hold → WordStep → Hold
-hold_after own (Modes step) =
-    record { bag = bag_after own.bag step; announced = not (ends_bar step) && own.announced }
-hold_after own Announce = record own { announced = true }
-hold_after own Withdraw = record own { announced = false }

@@ -1,9 +1,9 @@
 //! Steps on the modes and the bar.
-use lock_base::machine::ModeStep;
+use crate::machine::ModeStep;
 
 /// One step on the modes that are held, or on the bar.
 #[derive(Clone, Copy, PartialEq, Eq, Debug)]
-pub enum WordStep {
+pub enum LockStep {
     /// A step on the modes. Acquiring exclusively clears the bar of the party that acquires.
     Modes(ModeStep),
     /// Sets the bar.
