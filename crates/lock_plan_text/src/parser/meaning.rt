@@ -18,7 +18,7 @@ pub fn calls_have_lines()
     ensures faults { FaultsHaveLines }
 {}
 
-/// Machines of guards can be the locks of a text's plan, as `machines_stop_as_explored` of `lock_plan_machine` requires.
+/// Machines of guards can be the locks of a text's plan, as `machines_stop_as_explored` of `lock_plan_laws` requires.
 pub fn texts_fit_machines()
     ensures { TextsFitMachines }
 {}

@@ -3,7 +3,7 @@ ghost use Rattle.std.specs.Prelude.{ℕ, List, IsTrue};
 ghost use Rattle.lock_plan.specs.Checks.{fit_machines};
 ghost use Rattle.lock_plan.specs.Stops.{calls_of};
 ghost use Rattle.lock_plan.specs.Worlds.{NeverStops, IsShortestStop};
-ghost use Rattle.lock_plan_machine.specs.MachineStops.{MachinesNeverStop, IsShortestStopOfMachines};
+ghost use Rattle.lock_plan_laws.specs.MachineStops.{MachinesNeverStop, IsShortestStopOfMachines};
 
 use lock_base::machine::Op;
 use lock_plan::Plan;

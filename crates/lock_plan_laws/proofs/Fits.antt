@@ -18,8 +18,8 @@ use Rattle.lock_plan.specs.declared.lock.PlanLock.{PlanLock}
 use Rattle.lock_plan.specs.Worlds.{no_lock, no_holds, announced_for, gone}
 use Rattle.lock_plan.specs.Points.{announces_first, stands_of, views_of, view_of, all_views, size}
 use Rattle.lock_plan.specs.Checks.{call_fault, call_at, or_fault, party_fault, parties_fault, plan_fault, fits_kind, fits_machine, fit_machines}
-use Rattle.lock_plan_machine.specs.Scenes.{limit_for}
-use Rattle.lock_plan_machine.specs.Bridge.{AreCallable, FitsMachines}
+use Rattle.lock_plan_laws.specs.Scenes.{limit_for}
+use Rattle.lock_plan_laws.specs.Bridge.{AreCallable, FitsMachines}
 
 no_first : (a b : Option PlanFault) → or_fault a b ≡ None → a ≡ None
 no_first None b e = refl

@@ -18,10 +18,10 @@ use Rattle.lock_plan.specs.declared.hold.PlanHold.{PlanHold}
 use Rattle.lock_plan.specs.declared.lock.PlanLock.{PlanLock}
 use Rattle.lock_plan.specs.Holds.{no_hold}
 use Rattle.lock_plan.specs.Worlds.{Stand, no_stand, no_lock, no_holds, joined, bag_on, first_world}
-use Rattle.lock_plan_machine.specs.Scenes.{Scene, scene_with, limit_for, first_scene}
-use Rattle.lock_plan_machine.specs.Bridge.{bag_held_by, AreCallable, FitsMachines, AreDistinct}
-use Rattle.lock_plan_machine.proofs.Columns.{hold_of, Beside, beside, IsBarOf, bar_is}
-use Rattle.lock_plan_machine.proofs.Moves.{IsSeen, Moved}
+use Rattle.lock_plan_laws.specs.Scenes.{Scene, scene_with, limit_for, first_scene}
+use Rattle.lock_plan_laws.specs.Bridge.{bag_held_by, AreCallable, FitsMachines, AreDistinct}
+use Rattle.lock_plan_laws.proofs.Columns.{hold_of, Beside, beside, IsBarOf, bar_is}
+use Rattle.lock_plan_laws.proofs.Moves.{IsSeen, Moved}
 
 -- the machine of a lock holds what the parties hold of it, and has room for so many calls
 pub record IsLockTied {T : Type 0} (ids : ℕ → PartyId) (lock : PlanLock) (m : Machine T) (hss : List (List PlanHold)) (l left : ℕ) : Type 0 where

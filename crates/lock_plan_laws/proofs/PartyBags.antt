@@ -10,7 +10,7 @@ use Rattle.lock_base.specs.Legal.{AreNumbered}
 use Rattle.lock_base.proofs.ModeLemmas.{tokens-one_more}
 use Rattle.lock_base.proofs.Splices.{EntryMap, bag_of-modes-middle}
 use Rattle.lock_base.proofs.HeldEntries.{HasOneMore}
-use Rattle.lock_plan_machine.specs.Bridge.{of_party, bag_held_by}
+use Rattle.lock_plan_laws.specs.Bridge.{of_party, bag_held_by}
 
 of_party-append : (q : ℕ) (xs ys : List Entry) → of_party q (xs ++ ys) ≡ of_party q xs ++ of_party q ys
 of_party-append q [] ys = refl

@@ -1,5 +1,5 @@
 //! Worlds of a plan are runs of machines.
-ghost use Rattle.lock_plan_machine.specs.Bridge.{RunsAreOfWorlds, WorldRunsAreOfMachines, StopsAreTheSame};
+ghost use Rattle.lock_plan_laws.specs.Bridge.{RunsAreOfWorlds, WorldRunsAreOfMachines, StopsAreTheSame};
 
 use lock_base::machine::Op;
 

@@ -32,11 +32,11 @@ use Rattle.lock_plan.specs.declared.turn.Turn.TheVariants.{Goes, Announces, Wait
 use Rattle.lock_plan.specs.Holds.{has_for, hold_after, announced_hold, turn_on, is_let_in, announces_itself}
 use Rattle.lock_plan.specs.Checks.{fault_on, is_of_kind, is_over, is_again, is_without}
 use Rattle.lock_plan.specs.Worlds.{bag_on, bar_from, sight_of}
-use Rattle.lock_plan_machine.specs.Scenes.{want_for, Names, MachineTurn, turn_of_reply, announced_turn, after_reply, machine_turn}
-use Rattle.lock_plan_machine.specs.Bridge.{AreDistinct}
-use Rattle.lock_plan_machine.proofs.Columns.{hold_of}
-use Rattle.lock_plan_machine.proofs.Moves.{IsSeen, Moved, bag_after_act, none_announced, acquired, released, changed, announced, withdrawn}
-use Rattle.lock_plan_machine.proofs.Acquisitions.{mode_wanted, none_refused, same_admission}
+use Rattle.lock_plan_laws.specs.Scenes.{want_for, Names, MachineTurn, turn_of_reply, announced_turn, after_reply, machine_turn}
+use Rattle.lock_plan_laws.specs.Bridge.{AreDistinct}
+use Rattle.lock_plan_laws.proofs.Columns.{hold_of}
+use Rattle.lock_plan_laws.proofs.Moves.{IsSeen, Moved, bag_after_act, none_announced, acquired, released, changed, announced, withdrawn}
+use Rattle.lock_plan_laws.proofs.Acquisitions.{mode_wanted, none_refused, same_admission}
 
 -- a call that is not wrong in itself
 pub record IsRight (lock : PlanLock) (h : PlanHold) (a : Act) : Type 0 where

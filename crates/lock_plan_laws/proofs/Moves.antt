@@ -24,10 +24,10 @@ use Rattle.lock_plan.specs.declared.hold.PlanHold.{PlanHold}
 use Rattle.lock_plan.specs.declared.lock.PlanLock.{PlanLock}
 use Rattle.lock_plan.specs.Worlds.{bag_on, bar_from}
 use Rattle.lock_plan.specs.Holds.{hold_after, announced_hold}
-use Rattle.lock_plan_machine.specs.Scenes.{limit_for}
-use Rattle.lock_plan_machine.specs.Bridge.{bag_held_by}
-use Rattle.lock_plan_machine.proofs.PartyBags.{own_more, other_more}
-use Rattle.lock_plan_machine.proofs.Columns.{hold_of}
+use Rattle.lock_plan_laws.specs.Scenes.{limit_for}
+use Rattle.lock_plan_laws.specs.Bridge.{bag_held_by}
+use Rattle.lock_plan_laws.proofs.PartyBags.{own_more, other_more}
+use Rattle.lock_plan_laws.proofs.Columns.{hold_of}
 
 -- the machine is what a party of the world sees, and has room for so many calls
 pub record IsSeen {T : Type 0} (ids : ℕ → PartyId) (lock : PlanLock) (m : Machine T) (hss : List (List PlanHold)) (p l : ℕ) (left : ℕ) : Type 0 where

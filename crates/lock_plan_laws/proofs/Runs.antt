@@ -13,12 +13,12 @@ use Rattle.lock_plan.specs.declared.turn.Turn.{Turn}
 use Rattle.lock_plan.specs.declared.turn.Turn.TheVariants.{Goes, Announces, Waits, Refused}
 use Rattle.lock_plan.specs.Holds.{no_hold}
 use Rattle.lock_plan.specs.Worlds.{Stand, no_stand, no_lock, turn_of, turn_at, first_call, gone, announced_for, stand_after, put_stand, world_step, on_from, world_after, first_world, some_below, is_server, is_due, is_refused_turn, is_step_turn, is_stuck, is_refused, is_stop}
-use Rattle.lock_plan_machine.specs.Scenes.{Caller, parties_of, Scene, scene_with, left_after, machine_turn, HasTurn, IsStep, IsRun, IsStuckScene, IsRefusedScene, IsStopScene, first_scene}
-use Rattle.lock_plan_machine.specs.Bridge.{AreDistinct, Shows, RunsAreOfWorlds, WorldRunsAreOfMachines, StopsAreTheSame}
-use Rattle.lock_plan_machine.proofs.MachineTurns.{ByTurn}
-use Rattle.lock_plan_machine.proofs.Columns.{bar_is}
-use Rattle.lock_plan_machine.proofs.Ties.{IsTied, first_tied}
-use Rattle.lock_plan_machine.proofs.Steps.{calls_same, known, guard_of, same_turn}
+use Rattle.lock_plan_laws.specs.Scenes.{Caller, parties_of, Scene, scene_with, left_after, machine_turn, HasTurn, IsStep, IsRun, IsStuckScene, IsRefusedScene, IsStopScene, first_scene}
+use Rattle.lock_plan_laws.specs.Bridge.{AreDistinct, Shows, RunsAreOfWorlds, WorldRunsAreOfMachines, StopsAreTheSame}
+use Rattle.lock_plan_laws.proofs.MachineTurns.{ByTurn}
+use Rattle.lock_plan_laws.proofs.Columns.{bar_is}
+use Rattle.lock_plan_laws.proofs.Ties.{IsTied, first_tied}
+use Rattle.lock_plan_laws.proofs.Steps.{calls_same, known, guard_of, same_turn}
 
 -- a number below that has it
 

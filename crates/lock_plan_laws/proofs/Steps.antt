@@ -31,13 +31,13 @@ use Rattle.lock_plan.specs.declared.turn.Turn.TheVariants.{Goes, Announces, Wait
 use Rattle.lock_plan.specs.Holds.{no_hold, has_for, is_write, hold_after, announced_hold, announces_itself, turn_on, is_let_in}
 use Rattle.lock_plan.specs.Checks.{fault_on}
 use Rattle.lock_plan.specs.Worlds.{Stand, no_stand, no_lock, joined, bag_on, sight_of, first_call, turn_at, turn_of, gone, announced_for}
-use Rattle.lock_plan_machine.specs.Scenes.{Caller, Names, Scene, scene_with, MachineTurn, call_for, turn_of_reply, announced_turn, announces_after, machine_turn}
-use Rattle.lock_plan_machine.specs.Bridge.{bag_held_by, AreCallable, AreDistinct}
-use Rattle.lock_plan_machine.proofs.PartyBags.{HasGuard, has_guard}
-use Rattle.lock_plan_machine.proofs.Columns.{hold_of, Beside, beside, joined_after}
-use Rattle.lock_plan_machine.proofs.Moves.{Moved, bag_after_act}
-use Rattle.lock_plan_machine.proofs.MachineTurns.{IsRight, is_right, ByTurn, Acts, acts}
-use Rattle.lock_plan_machine.proofs.Ties.{IsLockTied, IsTied, holds_in, seen_of, tied_after}
+use Rattle.lock_plan_laws.specs.Scenes.{Caller, Names, Scene, scene_with, MachineTurn, call_for, turn_of_reply, announced_turn, announces_after, machine_turn}
+use Rattle.lock_plan_laws.specs.Bridge.{bag_held_by, AreCallable, AreDistinct}
+use Rattle.lock_plan_laws.proofs.PartyBags.{HasGuard, has_guard}
+use Rattle.lock_plan_laws.proofs.Columns.{hold_of, Beside, beside, joined_after}
+use Rattle.lock_plan_laws.proofs.Moves.{Moved, bag_after_act}
+use Rattle.lock_plan_laws.proofs.MachineTurns.{IsRight, is_right, ByTurn, Acts, acts}
+use Rattle.lock_plan_laws.proofs.Ties.{IsLockTied, IsTied, holds_in, seen_of, tied_after}
 
 known_of : (w : List Stand) (p : ℕ) (call : PlanCall) (calls : List PlanCall) → (get_or w p no_stand).calls ≡ call ∷ calls → p < length w
 known_of [] p call calls is = cc

@@ -6,10 +6,10 @@ use Rattle.lock_base.specs.Operation.{Operation}
 use Rattle.lock_plan.specs.declared.call.PlanCall.{PlanCall}
 use Rattle.lock_plan.specs.declared.lock.PlanLock.{PlanLock}
 use Rattle.lock_plan.specs.Worlds.{Stand, first_world, world_after, is_stop, NeverStops, IsShortestStop}
-use Rattle.lock_plan_machine.specs.Scenes.{Caller, parties_of, Scene, IsStopScene}
-use Rattle.lock_plan_machine.specs.Bridge.{FitsMachines}
-use Rattle.lock_plan_machine.specs.MachineStops.{LeadsInto, MachinesNeverStop, IsShortestStopOfMachines}
-use Rattle.lock_plan_machine.proofs.Runs.{runs_of_worlds, runs_of_machines, same_stops}
+use Rattle.lock_plan_laws.specs.Scenes.{Caller, parties_of, Scene, IsStopScene}
+use Rattle.lock_plan_laws.specs.Bridge.{FitsMachines}
+use Rattle.lock_plan_laws.specs.MachineStops.{LeadsInto, MachinesNeverStop, IsShortestStopOfMachines}
+use Rattle.lock_plan_laws.proofs.Runs.{runs_of_worlds, runs_of_machines, same_stops}
 
 as_many : (cs : List Caller) → length (parties_of cs) ≡ length cs
 as_many [] = refl

@@ -1,9 +1,9 @@
 use Rattle.std.proofs.Common.{ℕ, ◌≤◌, length, sum_by}
 use Rattle.lock_plan.specs.Stops.{calls_of}
-use Rattle.lock_plan_machine.specs.Bridge.{FitsMachines}
-use Rattle.lock_plan_machine.proofs.Fits.{fits}
-use Rattle.lock_plan_machine.proofs.MachineStops.{never, shortest}
-use Rattle.lock_plan_machine.proofs.stops.machines_stop_as_explored.Goals as goal
+use Rattle.lock_plan_laws.specs.Bridge.{FitsMachines}
+use Rattle.lock_plan_laws.proofs.Fits.{fits}
+use Rattle.lock_plan_laws.proofs.MachineStops.{never, shortest}
+use Rattle.lock_plan_laws.proofs.stops.machines_stop_as_explored.Goals as goal
 
 pub returns : goal.returns
 returns g c =

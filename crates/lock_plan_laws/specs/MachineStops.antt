@@ -4,8 +4,8 @@ use Rattle.lock_base.specs.declared.machine.party.PartyId.{PartyId}
 use Rattle.lock_base.specs.Operation.{Operation}
 use Rattle.lock_plan.specs.declared.call.PlanCall.{PlanCall}
 use Rattle.lock_plan.specs.declared.lock.PlanLock.{PlanLock}
-use Rattle.lock_plan_machine.specs.Scenes.{Caller, parties_of, Scene, first_scene, IsRun, IsStopScene}
-use Rattle.lock_plan_machine.specs.Bridge.{AreDistinct}
+use Rattle.lock_plan_laws.specs.Scenes.{Caller, parties_of, Scene, first_scene, IsRun, IsStopScene}
+use Rattle.lock_plan_laws.specs.Bridge.{AreDistinct}
 
 module _ {O T A : Type 0} (meaning : O → Operation T A) (locks : List PlanLock) (parties : List (List PlanCall)) where
   -- the calls run from the first scene into this one: the ids differ, and each call can have a place

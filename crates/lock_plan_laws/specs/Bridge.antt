@@ -15,7 +15,7 @@ use Rattle.lock_plan.specs.declared.lock.PlanLock.{PlanLock}
 use Rattle.lock_plan.specs.Holds.{no_hold}
 use Rattle.lock_plan.specs.Checks.{call_fault}
 use Rattle.lock_plan.specs.Worlds.{Stand, no_stand, no_lock, no_holds, bag_on, bar_from, gone, world_after, first_world, is_stop}
-use Rattle.lock_plan_machine.specs.Scenes.{Caller, parties_of, Scene, limit_for, first_scene, IsRun, IsStopScene}
+use Rattle.lock_plan_laws.specs.Scenes.{Caller, parties_of, Scene, limit_for, first_scene, IsRun, IsStopScene}
 
 -- the entries of the party
 abbrev pub of_party : ℕ → List Entry → List Entry

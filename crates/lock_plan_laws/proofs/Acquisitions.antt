@@ -23,11 +23,11 @@ use Rattle.lock_plan.specs.declared.hold.PlanHold.{PlanHold}
 use Rattle.lock_plan.specs.declared.lock.PlanLock.{PlanLock}
 use Rattle.lock_plan.specs.Worlds.{bag_on, bar_from, sight_of}
 use Rattle.lock_plan.specs.Holds.{is_let_in}
-use Rattle.lock_plan_machine.specs.Scenes.{want_for, limit_for}
-use Rattle.lock_plan_machine.specs.Bridge.{of_party, AreDistinct}
-use Rattle.lock_plan_machine.proofs.PartyBags.{tokens-held, tokens-own, all_of_party-count, numbered_long}
-use Rattle.lock_plan_machine.proofs.Columns.{hold_of}
-use Rattle.lock_plan_machine.proofs.Moves.{IsSeen}
+use Rattle.lock_plan_laws.specs.Scenes.{want_for, limit_for}
+use Rattle.lock_plan_laws.specs.Bridge.{of_party, AreDistinct}
+use Rattle.lock_plan_laws.proofs.PartyBags.{tokens-held, tokens-own, all_of_party-count, numbered_long}
+use Rattle.lock_plan_laws.proofs.Columns.{hold_of}
+use Rattle.lock_plan_laws.proofs.Moves.{IsSeen}
 
 pub wanted_by_kind : (kind : Kind) (mode : Mode) → (is_exclusive mode || is_rwlock kind) ≡ true → has_want kind (want_for kind mode) ≡ true
 wanted_by_kind Mutex Shared h = cc
