@@ -9,6 +9,7 @@ use Rattle.lock_base.specs.declared.machine.kind.Kind.{Kind}
 use Rattle.lock_base.specs.declared.machine.kind.Kind.TheVariants.{Mutex, RwLock, Reentrant}
 use Rattle.lock_base.specs.declared.machine.party.PartyId.{PartyId}
 use Rattle.lock_base.specs.declared.raw.fault.Fault.TheVariants as fault
+use Rattle.lock_base.specs.declared.machine.hold.Hold.{Hold}
 use Rattle.lock_base.specs.Party.{id_of}
 use Rattle.lock_base.specs.Modes.{tokens, is_exclusive, admits}
 use Rattle.lock_base.specs.Kind.{is_reentrant, is_rwlock}
@@ -19,10 +20,9 @@ use Rattle.lock_base.specs.Legal.{AreLegallyHeld}
 use Rattle.lock_base.specs.Machine.{Machine}
 use Rattle.lock_base.specs.Refusals.{has_want, mode_of, acquisition_refusal}
 use Rattle.lock_base_laws.proofs.CallEffects.{refusal-none}
-use Rattle.lock_plan.specs.declared.hold.PlanHold.{PlanHold}
 use Rattle.lock_plan.specs.declared.lock.PlanLock.{PlanLock}
-use Rattle.lock_plan.specs.Worlds.{bag_on, bar_from, sight_of}
-use Rattle.lock_plan.specs.Holds.{is_let_in}
+use Rattle.lock_plan.specs.Worlds.{bag_on, bar_from, lock_holds}
+use Rattle.lock_plan.specs.Holds.{admits_step}
 use Rattle.lock_plan_laws.specs.Scenes.{want_for, limit_for}
 use Rattle.lock_plan_laws.specs.Bridge.{of_party, AreDistinct}
 use Rattle.lock_plan_laws.proofs.PartyBags.{tokens-held, tokens-own, all_of_party-count, numbered_long}
@@ -77,7 +77,7 @@ or_right : (a : Bool) → (a || false) ≡ true → a ≡ true
 or_right true h = refl
 or_right false h = cc
 
-module _ {T : Type 0} (ids : ℕ → PartyId) (distinct : AreDistinct ids) (lock : PlanLock) (m : Machine T) (hss : List (List PlanHold)) (p l : ℕ) (left : ℕ)
+module _ {T : Type 0} (ids : ℕ → PartyId) (distinct : AreDistinct ids) (lock : PlanLock) (m : Machine T) (hss : List (List Hold)) (p l : ℕ) (left : ℕ)
     (seen : IsSeen ids lock m hss p l left) (mode : Mode)
     (of_kind : (is_exclusive mode || is_rwlock lock.kind) ≡ true)
     (not_over : (is_exclusive mode && (is_reentrant lock.kind && not (nat_lt (tokens (hold_of hss p l).bag) lock.limit))) ≡ false) where
@@ -180,7 +180,7 @@ module _ {T : Type 0} (ids : ℕ → PartyId) (distinct : AreDistinct ids) (lock
   same_passes (Some a) = ap (λ (b : Bool). is_exclusive mode && b) (same_party a p)
 
   -- the machine admits the party where the world does
-  pub same_admission : admits_party m.register x mode ≡ is_let_in lock (sight_of hss p l) (Acquire mode)
+  pub same_admission : admits_party m.register x mode ≡ admits_step lock (lock_holds hss p l) (Acquire mode)
   same_admission =
       ap (λ (b : Option ℕ). bar_lets_pass b x mode && admits_ignoring_bar m.register x mode) seen.bar
       ∙ ap (λ (b : Bool). b && admits_ignoring_bar m.register x mode) (same_passes (bar_from 0 l hss))

@@ -6,14 +6,14 @@ use Rattle.lock_base.specs.declared.machine.mode.Mode.TheVariants.{Shared, Exclu
 use Rattle.lock_base.specs.declared.machine.mode_step.ModeStep.{ModeStep}
 use Rattle.lock_base.specs.declared.machine.mode_step.ModeStep.TheVariants.{Acquire, Release, Change}
 use Rattle.lock_base.specs.declared.machine.bag.Bag.{Bag}
+use Rattle.lock_base.specs.declared.machine.hold.Hold.{Hold}
 use Rattle.lock_base.specs.Modes.{one_more, one_less, count_of}
 use Rattle.lock_base.specs.ModeRuns.{has, bag_after}
 use Rattle.lock_base.specs.Bar.{has_announced}
-use Rattle.lock_plan.specs.declared.hold.PlanHold.{PlanHold}
-use Rattle.lock_plan.specs.Holds.{no_hold}
+use Rattle.lock_base.specs.Holds.{no_hold}
 use Rattle.lock_plan.specs.Worlds.{joined, bag_on, bar_from}
 
-abbrev pub hold_of : List (List PlanHold) → ℕ → ℕ → PlanHold
+abbrev pub hold_of : List (List Hold) → ℕ → ℕ → Hold
 hold_of hss p l = get_or (get_or hss p []) l no_hold
 
 abbrev bag : ℕ → ℕ → ℕ → Bag
@@ -29,12 +29,12 @@ joined_swap : (a b c : Bag) → joined a (joined b c) ≡ joined b (joined a c)
 joined_swap a b c = same_bag (joined a (joined b c)) (joined b (joined a c)) (omega arith) (omega arith) (omega arith)
 
 -- the bag of the other parties beside one
-pub record Beside (hss : List (List PlanHold)) (p l : ℕ) : Type 0 where
+pub record Beside (hss : List (List Hold)) (p l : ℕ) : Type 0 where
   pub rest : Bag
   pub whole : bag_on l hss ≡ joined (hold_of hss p l).bag rest
-  pub changed : (hs : List PlanHold) → bag_on l (set hss p hs) ≡ joined (get_or hs l no_hold).bag rest
+  pub changed : (hs : List Hold) → bag_on l (set hss p hs) ≡ joined (get_or hs l no_hold).bag rest
 
-pub beside : (hss : List (List PlanHold)) (p l : ℕ) → p < length hss → Beside hss p l
+pub beside : (hss : List (List Hold)) (p l : ℕ) → p < length hss → Beside hss p l
 beside [] p l lt = absurd (omega arith)
 beside (hs ∷ hss) zero l lt = record { rest = bag_on l hss; whole = refl; changed = λ other. refl }
 beside (hs ∷ hss) (suc p) l lt =
@@ -70,14 +70,14 @@ IsBarOf id first end None = Unit {0}
 IsBarOf id first end (Some b) = (p : ℕ) × (first ≤ p) × (p < end) × (b ≡ id p)
 
 module _ (id : ℕ → ℕ) (distinct : (p q : ℕ) → id p ≡ id q → p ≡ q) (l : ℕ) where
-  none_is : (first : ℕ) (hss : List (List PlanHold)) → ((p : ℕ) → p < length hss → false ≡ (hold_of hss p l).announced)
+  none_is : (first : ℕ) (hss : List (List Hold)) → ((p : ℕ) → p < length hss → false ≡ (hold_of hss p l).announced)
       → bar_from first l hss ≡ None
   none_is first [] announced = refl
   none_is first (hs ∷ hss) announced =
       ap (λ (b : Bool). if b then Some first else bar_from (first + 1) l hss) (sym (announced 0 (omega arith)))
       ∙ none_is (first + 1) hss (λ p lt. announced (suc p) (omega arith))
 
-  some_is : (first p : ℕ) (hss : List (List PlanHold)) → ((q : ℕ) → q < length hss → (id p == id (first + q)) ≡ (hold_of hss q l).announced)
+  some_is : (first p : ℕ) (hss : List (List Hold)) → ((q : ℕ) → q < length hss → (id p == id (first + q)) ≡ (hold_of hss q l).announced)
       → first ≤ p → p < first + length hss → bar_from first l hss ≡ Some p
   some_is first p [] announced le lt = absurd (omega arith)
   some_is first p (hs ∷ hss) announced le lt =
@@ -97,7 +97,7 @@ module _ (id : ℕ → ℕ) (distinct : (p q : ℕ) → id p ≡ id q → p ≡ 
           ∙ rest (λ same. eqb-false (id p) (id (first + 0)) is (ap id same))
 
   -- the bar of the parties is the bar that shows who has announced
-  pub bar_is : (hss : List (List PlanHold)) (bar : Option ℕ) → IsBarOf id 0 (length hss) bar
+  pub bar_is : (hss : List (List Hold)) (bar : Option ℕ) → IsBarOf id 0 (length hss) bar
       → ((p : ℕ) → has_announced bar (id p) ≡ (hold_of hss p l).announced)
       → bar ≡ option_map id (bar_from 0 l hss)
   bar_is hss None known announced = sym (ap (option_map id) (none_is 0 hss (λ p lt. announced p)))

@@ -7,13 +7,13 @@ use Rattle.std.proofs.lemmas.List.Sums.{sum_by-cons}
 use Rattle.std.proofs.Math.Nat.{mul-le-mul}
 use Rattle.lock_base.specs.declared.machine.kind.Kind.{Kind}
 use Rattle.lock_base.specs.declared.machine.kind.Kind.TheVariants.{Mutex, RwLock, Reentrant}
+use Rattle.lock_base.specs.declared.machine.hold.Hold.{Hold}
 use Rattle.lock_base.specs.Kind.{is_rwlock}
 use Rattle.lock_base.specs.Sound.{IsLimitOf}
 use Rattle.lock_plan.specs.declared.call.PlanCall.{PlanCall}
 use Rattle.lock_plan.specs.declared.fault.PlanFault.{PlanFault}
 use Rattle.lock_plan.specs.declared.fault.PlanFault.TheVariants.{TooLarge}
 use Rattle.lock_plan.specs.declared.fault.CallFault.{CallFault}
-use Rattle.lock_plan.specs.declared.hold.PlanHold.{PlanHold}
 use Rattle.lock_plan.specs.declared.lock.PlanLock.{PlanLock}
 use Rattle.lock_plan.specs.Worlds.{no_lock, no_holds, announced_for, gone}
 use Rattle.lock_plan.specs.Points.{announces_first, stands_of, views_of, view_of, all_views, size}
@@ -33,7 +33,7 @@ no_call_fault : (party at : ℕ) (o : Option CallFault) → call_at party at o �
 no_call_fault party at None e = refl
 no_call_fault party at (Some fault) e = cc
 
-callable : (locks : List PlanLock) (party at : ℕ) (calls : List PlanCall) (holds : List PlanHold)
+callable : (locks : List PlanLock) (party at : ℕ) (calls : List PlanCall) (holds : List Hold)
     → party_fault locks party at calls holds ≡ None → AreCallable locks calls holds
 callable locks party at [] holds e = tt
 callable locks party at (call ∷ calls) holds e =
@@ -53,7 +53,7 @@ all_callable locks party (calls ∷ parties) e (suc p) =
     (no_second (party_fault locks party 0 calls (no_holds locks)) (parties_fault locks (party + 1) parties) e) p
 
 -- a party has more points than calls
-points : (locks : List PlanLock) (calls : List PlanCall) (holds : List PlanHold) → length calls < length (stands_of locks calls holds)
+points : (locks : List PlanLock) (calls : List PlanCall) (holds : List Hold) → length calls < length (stands_of locks calls holds)
 points locks [] holds = omega arith
 points locks (call ∷ calls) holds =
     by_case (announces_first locks (call ∷ calls) holds) (points locks calls (gone (call ∷ calls) holds).holds)

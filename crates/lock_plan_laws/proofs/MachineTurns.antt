@@ -1,6 +1,6 @@
 -- The turn of a party on its machine is its turn in the world, and changes what that turn changes.
 use Rattle.std.proofs.Common.{◌≡◌, ℕ, ◌+◌, ◌<◌, Bool, true, false, not, ◌&&◌, ◌||◌, nat_lt, if◌then◌else◌, List, Option, Some, None, option_map, is_some, IsTrue, refl, ap, sym, ◌∙◌, subst}
-use Rattle.std.proofs.lemmas.Bool.{and_parts, not-false}
+use Rattle.std.proofs.lemmas.Bool.{and_parts}
 use Rattle.lock_base.specs.declared.machine.mode.Mode.{Mode}
 use Rattle.lock_base.specs.declared.machine.mode.Mode.TheVariants.{Shared, Exclusive, Upgradable}
 use Rattle.lock_base.specs.declared.machine.mode_step.ModeStep.TheVariants.{Acquire, Release, Change}
@@ -10,6 +10,9 @@ use Rattle.lock_base.specs.declared.machine.party.PartyId.{PartyId}
 use Rattle.lock_base.specs.declared.machine.reply.Reply.{Reply}
 use Rattle.lock_base.specs.declared.raw.fault.Fault.{Fault}
 use Rattle.lock_base.specs.declared.raw.fault.Fault.TheVariants as fault
+use Rattle.lock_base.specs.declared.machine.lock_step.LockStep.{LockStep}
+use Rattle.lock_base.specs.declared.machine.lock_step.LockStep.TheVariants as lock_step
+use Rattle.lock_base.specs.declared.machine.hold.Hold.{Hold}
 use Rattle.lock_base.specs.Operation.{Operation}
 use Rattle.lock_base.specs.Party.{id_of}
 use Rattle.lock_base.specs.Modes.{is_exclusive, is_shared, is_upgradable, is_move, may_become, tokens}
@@ -21,53 +24,48 @@ use Rattle.lock_base.specs.Machine.{Machine, after_release}
 use Rattle.lock_base.specs.Refusals.{Demand, mode_of, held_guard, upgradable_guard, unshared_guard, exclusive_guard}
 use Rattle.lock_base.specs.Calls.{CallEffect, give, unless, on_guard, with_register, with_mode, announce}
 use Rattle.lock_base.specs.Steps.{response_of, response_in_form, done_reply}
+use Rattle.lock_base.specs.Holds.{hold_has, hold_after}
 use Rattle.lock_base_laws.proofs.CallEffects.{Meets, on_guard-met}
-use Rattle.lock_plan.specs.declared.call.Act.{Act}
-use Rattle.lock_plan.specs.declared.call.Act.TheVariants as act
 use Rattle.lock_plan.specs.declared.fault.CallFault.{CallFault}
-use Rattle.lock_plan.specs.declared.hold.PlanHold.{PlanHold}
 use Rattle.lock_plan.specs.declared.lock.PlanLock.{PlanLock}
 use Rattle.lock_plan.specs.declared.turn.Turn.{Turn}
 use Rattle.lock_plan.specs.declared.turn.Turn.TheVariants.{Goes, Announces, Waits, Refused}
-use Rattle.lock_plan.specs.Holds.{has_for, hold_after, announced_hold, turn_on, is_let_in, announces_itself}
-use Rattle.lock_plan.specs.Checks.{fault_on, is_of_kind, is_over, is_again, is_without}
-use Rattle.lock_plan.specs.Worlds.{bag_on, bar_from, sight_of}
+use Rattle.lock_plan.specs.Holds.{turn_on, admits_step, announces_itself}
+use Rattle.lock_plan.specs.Checks.{fault_on, is_of_kind, is_over, is_again}
+use Rattle.lock_plan.specs.Worlds.{bag_on, bar_from, lock_holds}
 use Rattle.lock_plan_laws.specs.Scenes.{want_for, Names, MachineTurn, turn_of_reply, announced_turn, after_reply, machine_turn}
 use Rattle.lock_plan_laws.specs.Bridge.{AreDistinct}
 use Rattle.lock_plan_laws.proofs.Columns.{hold_of}
-use Rattle.lock_plan_laws.proofs.Moves.{IsSeen, Moved, bag_after_act, none_announced, acquired, released, changed, announced, withdrawn}
+use Rattle.lock_plan_laws.proofs.Moves.{IsSeen, Moved, bag_after_step, none_announced, acquired, released, changed, announced, withdrawn}
 use Rattle.lock_plan_laws.proofs.Acquisitions.{mode_wanted, none_refused, same_admission}
 
 -- a call that is not wrong in itself
-pub record IsRight (lock : PlanLock) (h : PlanHold) (a : Act) : Type 0 where
+pub record IsRight (lock : PlanLock) (h : Hold) (a : LockStep) : Type 0 where
   pub of_kind : is_of_kind lock.kind a ≡ true
-  pub has : has_for h a ≡ true
+  pub has : hold_has h a ≡ true
   pub not_over : is_over lock h a ≡ false
   pub not_again : is_again h a ≡ false
-  pub not_without : is_without h a ≡ false
 
-record NoFault (a b c d e : Bool) : Type 0 where
+record NoFault (a b c d : Bool) : Type 0 where
   first : a ≡ true
   second : b ≡ true
   third : c ≡ false
   fourth : d ≡ false
-  fifth : e ≡ false
 
-no_fault : (a b c d e : Bool) (f g h i j : CallFault)
-    → (if not a then Some f else (if not b then Some g else (if c then Some h else (if d then Some i else (if e then Some j else None))))) ≡ None
-    → NoFault a b c d e
-no_fault false b c d e f g h i j none = cc
-no_fault true false c d e f g h i j none = cc
-no_fault true true true d e f g h i j none = cc
-no_fault true true false true e f g h i j none = cc
-no_fault true true false false true f g h i j none = cc
-no_fault true true false false false f g h i j none =
-    record { first = refl; second = refl; third = refl; fourth = refl; fifth = refl }
+no_fault : (a b c d : Bool) (f g h i : CallFault)
+    → (if not a then Some f else (if not b then Some g else (if c then Some h else (if d then Some i else None)))) ≡ None
+    → NoFault a b c d
+no_fault false b c d f g h i none = cc
+no_fault true false c d f g h i none = cc
+no_fault true true true d f g h i none = cc
+no_fault true true false true f g h i none = cc
+no_fault true true false false f g h i none =
+    record { first = refl; second = refl; third = refl; fourth = refl }
 
-pub is_right : (lock : PlanLock) (h : PlanHold) (a : Act) → fault_on lock h a ≡ None → IsRight lock h a
+pub is_right : (lock : PlanLock) (h : Hold) (a : LockStep) → fault_on lock h a ≡ None → IsRight lock h a
 is_right lock h a none =
-    let all = no_fault (is_of_kind lock.kind a) (has_for h a) (is_over lock h a) (is_again h a) (is_without h a) _ _ _ _ _ none in
-    record { of_kind = all.first; has = all.second; not_over = all.third; not_again = all.fourth; not_without = all.fifth }
+    let all = no_fault (is_of_kind lock.kind a) (hold_has h a) (is_over lock h a) (is_again h a) _ _ _ _ none in
+    record { of_kind = all.first; has = all.second; not_over = all.third; not_again = all.fourth }
 
 -- what a turn changes, if it is a step
 abbrev pub ByTurn : Turn → Type 0 → Type 0 → Type 0
@@ -76,10 +74,10 @@ ByTurn Announces goes announces = announces
 ByTurn Waits goes announces = Unit {0}
 ByTurn Refused goes announces = Unit {0}
 
-pub record Acts {T : Type 0} (t : MachineTurn T) (m : Machine T) (x : ℕ) (own : PlanHold) (all : Bag) (a : Act) (turn : Turn) : Type 0 where
+pub record Acts {T : Type 0} (t : MachineTurn T) (m : Machine T) (x : ℕ) (own : Hold) (all : Bag) (a : LockStep) (turn : Turn) : Type 0 where
   pub same : t.turn ≡ turn
-  pub moved : ByTurn turn (Moved m t.machine x (hold_after own a) (bag_after_act all a) 1)
-      (Moved m t.machine x (announced_hold own) all 0)
+  pub moved : ByTurn turn (Moved m t.machine x (hold_after own a) (bag_after_step all a) 1)
+      (Moved m t.machine x (hold_after own lock_step.Announce) all 0)
 
 and_false : (b : Bool) → (b && false) ≡ false
 and_false true = refl
@@ -105,18 +103,18 @@ exclusive_from Exclusive h = refl
 exclusive_from Upgradable h = cc
 
 module _ {O T A : Type 0} (meaning : O → Operation T A) (ids : ℕ → PartyId) (distinct : AreDistinct ids) (lock : PlanLock) (m : Machine T)
-    (hss : List (List PlanHold)) (p l left guard : ℕ) (seen : IsSeen ids lock m hss p l left) where
+    (hss : List (List Hold)) (p l left guard : ℕ) (seen : IsSeen ids lock m hss p l left) where
   abbrev x : ℕ
   x = id_of (ids p)
 
   -- the turn that the machine gives, and the turn of the world
-  abbrev Fits : Act → MachineTurn T → Turn → Type 0
+  abbrev Fits : LockStep → MachineTurn T → Turn → Type 0
   Fits a t turn = Acts t m (id_of (ids p)) (hold_of hss p l) (bag_on l hss) a turn
 
-  abbrev replied : Act → Reply A → Machine T → MachineTurn T
+  abbrev replied : LockStep → Reply A → Machine T → MachineTurn T
   replied a reply next = after_reply meaning ids lock p a (record { reply = reply; machine = next })
 
-  fits_from : (a : Act) (t u : MachineTurn T) (v w : Turn) → t ≡ u → v ≡ w → Fits a u w → Fits a t v
+  fits_from : (a : LockStep) (t u : MachineTurn T) (v w : Turn) → t ≡ u → v ≡ w → Fits a u w → Fits a t v
   fits_from a t u v w same turn fits =
       subst (λ (t' : MachineTurn T). Fits a t' v) (sym same) (subst (λ (v' : Turn). Fits a u v') (sym turn) fits)
 
@@ -135,13 +133,13 @@ module _ {O T A : Type 0} (meaning : O → Operation T A) (ids : ℕ → PartyId
       record { found = found; on_kind = on_kind; own = λ reentrant. refl; held = held; in_mode = in_mode }
 
   release_acts : (mode : Mode) → find guard m.entries ≡ Some (record { party = x; mode = mode; held = true })
-      → Fits (act.Step (Release mode)) (machine_turn meaning ids lock m (record { party = p; guard = guard }) (act.Step (Release mode)))
-      (turn_on lock (sight_of hss p l) (act.Step (Release mode)))
+      → Fits (lock_step.Modes (Release mode)) (machine_turn meaning ids lock m (record { party = p; guard = guard }) (lock_step.Modes (Release mode)))
+      (turn_on lock (lock_holds hss p l) (lock_step.Modes (Release mode)))
   release_acts mode found =
       let e : Entry = record { party = x; mode = mode; held = true } in
       let after = after_release m (without_guard m.register guard) in
-      fits_from (act.Step (Release mode)) _ (record { turn = Goes; machine = after }) Goes Goes
-      (ap (λ (effect : CallEffect (Unit {0}) T). after_reply meaning ids lock p (act.Step (Release mode)) (response_of done_reply effect))
+      fits_from (lock_step.Modes (Release mode)) _ (record { turn = Goes; machine = after }) Goes Goes
+      (ap (λ (effect : CallEffect (Unit {0}) T). after_reply meaning ids lock p (lock_step.Modes (Release mode)) (response_of done_reply effect))
       (on_guard-met m held_guard x guard (λ e'. give tt after) e (meets held_guard mode found refl refl refl)))
       refl
       (record { same = refl; moved = released ids lock m hss p l left seen guard mode found })
@@ -157,12 +155,12 @@ module _ {O T A : Type 0} (meaning : O → Operation T A) (ids : ℕ → PartyId
     -- a downgrade
     downgrade_acts : (to : Mode) (demand : Demand) → is_exclusive to ≡ false
         → Meets m.register demand x guard (record { party = x; mode = from; held = true })
-        → Fits (act.Step (Change from to))
-        (after_reply meaning ids lock p (act.Step (Change from to))
+        → Fits (lock_step.Modes (Change from to))
+        (after_reply meaning ids lock p (lock_step.Modes (Change from to))
         (response_of done_reply (on_guard m demand x guard (λ e. give tt (with_mode m guard to))))) Goes
     downgrade_acts to demand lower met =
-        fits_from (act.Step (Change from to)) _ (record { turn = Goes; machine = with_mode m guard to }) Goes Goes
-        (ap (λ (effect : CallEffect (Unit {0}) T). after_reply meaning ids lock p (act.Step (Change from to)) (response_of done_reply effect))
+        fits_from (lock_step.Modes (Change from to)) _ (record { turn = Goes; machine = with_mode m guard to }) Goes Goes
+        (ap (λ (effect : CallEffect (Unit {0}) T). after_reply meaning ids lock p (lock_step.Modes (Change from to)) (response_of done_reply effect))
         (on_guard-met m demand x guard (λ e'. give tt (with_mode m guard to)) entry met))
         refl
         (record { same = refl; moved = changed ids lock m hss p l left seen guard from found to })
@@ -171,27 +169,27 @@ module _ {O T A : Type 0} (meaning : O → Operation T A) (ids : ℕ → PartyId
     upgraded b = if b then give (Some tt) (with_mode m guard Exclusive) else give None m
 
     upgrade_by : (b : Bool)
-        → Fits (act.Step (Change from Exclusive))
-        (after_reply meaning ids lock p (act.Step (Change from Exclusive)) (response_in_form Block done_reply (upgraded b)))
+        → Fits (lock_step.Modes (Change from Exclusive))
+        (after_reply meaning ids lock p (lock_step.Modes (Change from Exclusive)) (response_in_form Block done_reply (upgraded b)))
         (if b then Goes else (if (lock.bar && false) && not (is_some (bar_from 0 l hss)) then Announces else Waits))
     upgrade_by true = record { same = refl; moved = changed ids lock m hss p l left seen guard from found Exclusive }
     upgrade_by false =
-        fits_from (act.Step (Change from Exclusive)) _ (record { turn = Waits; machine = m }) _ Waits
+        fits_from (lock_step.Modes (Change from Exclusive)) _ (record { turn = Waits; machine = m }) _ Waits
         (ap (waiting_by (announce m x)) (and_false lock.bar))
         (ap (λ (b : Bool). if b && not (is_some (bar_from 0 l hss)) then Announces else Waits) (and_false lock.bar))
         (record { same = refl; moved = tt })
 
     upgrade_acts : is_upgradable from ≡ true
-        → Fits (act.Step (Change from Exclusive))
-        (machine_turn meaning ids lock m (record { party = p; guard = guard }) (act.Step (Change from Exclusive)))
-        (turn_on lock (sight_of hss p l) (act.Step (Change from Exclusive)))
+        → Fits (lock_step.Modes (Change from Exclusive))
+        (machine_turn meaning ids lock m (record { party = p; guard = guard }) (lock_step.Modes (Change from Exclusive)))
+        (turn_on lock (lock_holds hss p l) (lock_step.Modes (Change from Exclusive)))
     upgrade_acts upgradable =
         let sole = may_become (held_bag m.entries) Exclusive in
-        fits_from (act.Step (Change from Exclusive)) _
-        (after_reply meaning ids lock p (act.Step (Change from Exclusive)) (response_in_form Block done_reply (upgraded sole))) _
+        fits_from (lock_step.Modes (Change from Exclusive)) _
+        (after_reply meaning ids lock p (lock_step.Modes (Change from Exclusive)) (response_in_form Block done_reply (upgraded sole))) _
         (if sole then Goes else (if (lock.bar && false) && not (is_some (bar_from 0 l hss)) then Announces else Waits))
         (ap (λ (effect : CallEffect (Option (Unit {0})) T).
-        after_reply meaning ids lock p (act.Step (Change from Exclusive)) (response_in_form Block done_reply effect))
+        after_reply meaning ids lock p (lock_step.Modes (Change from Exclusive)) (response_in_form Block done_reply effect))
         (on_guard-met m upgradable_guard x guard (λ e'. upgraded sole) entry
         (meets upgradable_guard from found rwlock_machine refl upgradable)))
         (ap (λ (b : Bag). if may_become b Exclusive then Goes
@@ -199,9 +197,9 @@ module _ {O T A : Type 0} (meaning : O → Operation T A) (ids : ℕ → PartyId
         (upgrade_by sole)
 
     change_acts : (to : Mode) → is_move from to ≡ true
-        → Fits (act.Step (Change from to))
-        (machine_turn meaning ids lock m (record { party = p; guard = guard }) (act.Step (Change from to)))
-        (turn_on lock (sight_of hss p l) (act.Step (Change from to)))
+        → Fits (lock_step.Modes (Change from to))
+        (machine_turn meaning ids lock m (record { party = p; guard = guard }) (lock_step.Modes (Change from to)))
+        (turn_on lock (lock_holds hss p l) (lock_step.Modes (Change from to)))
     change_acts Shared move =
         downgrade_acts Shared unshared_guard refl
         (meets unshared_guard from found rwlock_machine refl (not_shared_from from move))
@@ -229,29 +227,29 @@ module _ {O T A : Type 0} (meaning : O → Operation T A) (ids : ℕ → PartyId
       ∙ ap barred_by bar_some
 
   announce_by : (d : Bool) → is_some (bar_from 0 l hss) ≡ d
-      → Fits act.Announce (after_reply meaning ids lock p act.Announce (response_of done_reply (barred_by d))) (if d then Refused else Goes)
+      → Fits lock_step.Announce (after_reply meaning ids lock p lock_step.Announce (response_of done_reply (barred_by d))) (if d then Refused else Goes)
   announce_by true is = record { same = refl; moved = tt }
   announce_by false is = record { same = refl; moved = announced ids lock m hss p l left seen 1 (bar_some ∙ is) }
 
   announce_acts : is_rwlock lock.kind ≡ true
-      → Fits act.Announce (machine_turn meaning ids lock m (record { party = p; guard = guard }) act.Announce)
-      (turn_on lock (sight_of hss p l) act.Announce)
+      → Fits lock_step.Announce (machine_turn meaning ids lock m (record { party = p; guard = guard }) lock_step.Announce)
+      (turn_on lock (lock_holds hss p l) lock_step.Announce)
   announce_acts rwlock =
-      fits_from act.Announce _ (after_reply meaning ids lock p act.Announce (response_of done_reply (barred_by (is_some (bar_from 0 l hss))))) _ _
-      (ap (λ (effect : CallEffect (Unit {0}) T). after_reply meaning ids lock p act.Announce (response_of done_reply effect)) (announce_is rwlock))
+      fits_from lock_step.Announce _ (after_reply meaning ids lock p lock_step.Announce (response_of done_reply (barred_by (is_some (bar_from 0 l hss))))) _ _
+      (ap (λ (effect : CallEffect (Unit {0}) T). after_reply meaning ids lock p lock_step.Announce (response_of done_reply effect)) (announce_is rwlock))
       refl
       (announce_by (is_some (bar_from 0 l hss)) refl)
 
   withdraw_acts : is_rwlock lock.kind ≡ true → (hold_of hss p l).announced ≡ true
-      → Fits act.Withdraw (machine_turn meaning ids lock m (record { party = p; guard = guard }) act.Withdraw)
-      (turn_on lock (sight_of hss p l) act.Withdraw)
+      → Fits lock_step.Withdraw (machine_turn meaning ids lock m (record { party = p; guard = guard }) lock_step.Withdraw)
+      (turn_on lock (lock_holds hss p l) lock_step.Withdraw)
   withdraw_acts rwlock own =
       let after = with_register m (with_bar m.register None) in
-      fits_from act.Withdraw _ (record { turn = Goes; machine = after }) Goes Goes
-      (ap (λ (b : Bool). after_reply meaning ids lock p act.Withdraw (response_of done_reply
+      fits_from lock_step.Withdraw _ (record { turn = Goes; machine = after }) Goes Goes
+      (ap (λ (b : Bool). after_reply meaning ids lock p lock_step.Withdraw (response_of done_reply
       (unless (if not b then Some fault.WrongKind else (if not (has_announced m.bar x) then Some fault.NotAnnounced else None)) m (give tt after))))
       (ap is_rwlock seen.kind ∙ rwlock)
-      ∙ ap (λ (b : Bool). after_reply meaning ids lock p act.Withdraw (response_of done_reply
+      ∙ ap (λ (b : Bool). after_reply meaning ids lock p lock_step.Withdraw (response_of done_reply
       (unless (if not b then Some fault.NotAnnounced else None) m (give tt after)))) (seen.announced ∙ own))
       refl
       (record { same = refl; moved = withdrawn ids lock m hss p l left seen (seen.announced ∙ own) })
@@ -259,17 +257,17 @@ module _ {O T A : Type 0} (meaning : O → Operation T A) (ids : ℕ → PartyId
   -- acquisitions
 
   module _ (mode : Mode) (bars : IsTrue lock.bar → IsTrue (is_rwlock lock.kind)) where
-    abbrev a : Act
-    a = act.Step (Acquire mode)
+    abbrev a : LockStep
+    a = lock_step.Modes (Acquire mode)
 
-    abbrev own : PlanHold
+    abbrev own : Hold
     own = hold_of hss p l
 
     abbrev no_bar : Bool
     no_bar = not (is_some (bar_from 0 l hss))
 
     waits_barred : (d : Bool) → is_some (bar_from 0 l hss) ≡ d
-        → Fits (act.Step (Acquire mode)) (waiting_by (barred_by d) true) (if not own.announced && not d then Announces else Waits)
+        → Fits (lock_step.Modes (Acquire mode)) (waiting_by (barred_by d) true) (if not own.announced && not d then Announces else Waits)
     waits_barred true is =
         fits_from a _ (record { turn = Waits; machine = m }) _ Waits refl
         (ap (λ (b : Bool). if b then Announces else Waits) (and_false (not own.announced)))
@@ -281,7 +279,7 @@ module _ {O T A : Type 0} (meaning : O → Operation T A) (ids : ℕ → PartyId
         (record { same = refl; moved = announced ids lock m hss p l left seen 0 none })
 
     waits_by : (c : Bool) → (lock.bar && is_exclusive mode) ≡ c
-        → Fits (act.Step (Acquire mode)) (waiting_by (announce m x) c) (if (c && not own.announced) && no_bar then Announces else Waits)
+        → Fits (lock_step.Modes (Acquire mode)) (waiting_by (announce m x) c) (if (c && not own.announced) && no_bar then Announces else Waits)
     waits_by true is =
         let rwlock = bars (and_parts lock.bar (is_exclusive mode) is).0 in
         fits_from a _ (waiting_by (barred_by (is_some (bar_from 0 l hss))) true) _ _
@@ -297,10 +295,10 @@ module _ {O T A : Type 0} (meaning : O → Operation T A) (ids : ℕ → PartyId
         else give None m
 
     abbrev asked : CallEffect (Option ℕ) T → MachineTurn T
-    asked effect = after_reply meaning ids lock p (act.Step (Acquire mode)) (response_in_form Block Reply.Guard effect)
+    asked effect = after_reply meaning ids lock p (lock_step.Modes (Acquire mode)) (response_in_form Block Reply.Guard effect)
 
     acquire_by : (b : Bool) → admits_party m.register x mode ≡ b
-        → Fits (act.Step (Acquire mode)) (asked (let_in_by b))
+        → Fits (lock_step.Modes (Acquire mode)) (asked (let_in_by b))
         (if b then Goes else (if announces_itself lock own a && no_bar then Announces else Waits))
     acquire_by true is = record {
       same = refl;
@@ -321,29 +319,29 @@ module _ {O T A : Type 0} (meaning : O → Operation T A) (ids : ℕ → PartyId
 
     acquire_acts : 0 < left → (is_exclusive mode || is_rwlock lock.kind) ≡ true
         → (is_exclusive mode && (is_reentrant lock.kind && not (nat_lt (tokens own.bag) lock.limit))) ≡ false
-        → Fits (act.Step (Acquire mode)) (machine_turn meaning ids lock m (record { party = p; guard = guard }) (act.Step (Acquire mode)))
-        (turn_on lock (sight_of hss p l) (act.Step (Acquire mode)))
+        → Fits (lock_step.Modes (Acquire mode)) (machine_turn meaning ids lock m (record { party = p; guard = guard }) (lock_step.Modes (Acquire mode)))
+        (turn_on lock (lock_holds hss p l) (lock_step.Modes (Acquire mode)))
     acquire_acts more of_kind not_over =
         let want = want_for lock.kind mode in
         let same = same_admission ids distinct lock m hss p l left seen mode of_kind not_over in
-        fits_from a _ (asked (let_in_by (is_let_in lock (sight_of hss p l) (Acquire mode)))) _ _
+        fits_from a _ (asked (let_in_by (admits_step lock (lock_holds hss p l) (Acquire mode)))) _ _
         (ap (λ (o : Option Fault). asked (unless o m (asked_in (mode_of want))))
         (none_refused ids distinct lock m hss p l left seen mode of_kind not_over more)
         ∙ ap (λ (got : Mode). asked (asked_in got)) (mode_wanted lock.kind mode)
         ∙ ap (λ (b : Bool). asked (let_in_by b)) same)
         refl
-        (acquire_by (is_let_in lock (sight_of hss p l) (Acquire mode)) same)
+        (acquire_by (admits_step lock (lock_holds hss p l) (Acquire mode)) same)
 
   -- the turn on the machine is the turn in the world
-  pub acts : (a : Act) → 0 < left → IsRight lock (hold_of hss p l) a → (IsTrue lock.bar → IsTrue (is_rwlock lock.kind))
+  pub acts : (a : LockStep) → 0 < left → IsRight lock (hold_of hss p l) a → (IsTrue lock.bar → IsTrue (is_rwlock lock.kind))
       → Names m.entries x guard a
       → Acts (machine_turn meaning ids lock m (record { party = p; guard = guard }) a) m (id_of (ids p)) (hold_of hss p l) (bag_on l hss) a
-      (turn_on lock (sight_of hss p l) a)
-  acts (act.Step (Acquire mode)) more right bars names = acquire_acts mode bars more right.of_kind right.not_over
-  acts (act.Step (Release mode)) more right bars names = release_acts mode names
-  acts (act.Step (Change from to)) more right bars names =
+      (turn_on lock (lock_holds hss p l) a)
+  acts (lock_step.Modes (Acquire mode)) more right bars names = acquire_acts mode bars more right.of_kind right.not_over
+  acts (lock_step.Modes (Release mode)) more right bars names = release_acts mode names
+  acts (lock_step.Modes (Change from to)) more right bars names =
       let both = and_parts (is_move from to) (is_rwlock lock.kind) right.of_kind in
       change_acts from names both.1 to both.0
-  acts act.Announce more right bars names = announce_acts right.of_kind
-  acts act.Withdraw more right bars names =
-      withdraw_acts right.of_kind (not-false (hold_of hss p l).announced right.not_without)
+  acts lock_step.Announce more right bars names = announce_acts right.of_kind
+  acts lock_step.Withdraw more right bars names =
+      withdraw_acts right.of_kind right.has

@@ -6,6 +6,9 @@ use Rattle.lock_base.specs.declared.machine.mode.Mode.TheVariants.{Shared, Exclu
 use Rattle.lock_base.specs.declared.machine.mode_step.ModeStep.TheVariants.{Acquire, Release, Change}
 use Rattle.lock_base.specs.declared.machine.bag.Bag.{Bag}
 use Rattle.lock_base.specs.declared.machine.party.PartyId.{PartyId}
+use Rattle.lock_base.specs.declared.machine.lock_step.LockStep.{LockStep}
+use Rattle.lock_base.specs.declared.machine.lock_step.LockStep.TheVariants as lock_step
+use Rattle.lock_base.specs.declared.machine.hold.Hold.{Hold}
 use Rattle.lock_base.specs.Party.{id_of}
 use Rattle.lock_base.specs.Modes.{one_more, one_less, is_exclusive}
 use Rattle.lock_base.specs.ModeRuns.{bag_after}
@@ -18,19 +21,16 @@ use Rattle.lock_base.specs.Sound.{IsSound}
 use Rattle.lock_base.proofs.ModeLemmas.{one_less-one_more}
 use Rattle.lock_base.proofs.Splices.{splice}
 use Rattle.lock_base.proofs.HeldEntries.{HasOneMore, held_bag-more, more_than_rest, moved_is_more, issued_is_more}
-use Rattle.lock_plan.specs.declared.call.Act.{Act}
-use Rattle.lock_plan.specs.declared.call.Act.TheVariants as act
-use Rattle.lock_plan.specs.declared.hold.PlanHold.{PlanHold}
+use Rattle.lock_base.specs.Holds.{hold_after}
 use Rattle.lock_plan.specs.declared.lock.PlanLock.{PlanLock}
 use Rattle.lock_plan.specs.Worlds.{bag_on, bar_from}
-use Rattle.lock_plan.specs.Holds.{hold_after, announced_hold}
 use Rattle.lock_plan_laws.specs.Scenes.{limit_for}
 use Rattle.lock_plan_laws.specs.Bridge.{bag_held_by}
 use Rattle.lock_plan_laws.proofs.PartyBags.{own_more, other_more}
 use Rattle.lock_plan_laws.proofs.Columns.{hold_of}
 
 -- the machine is what a party of the world sees, and has room for so many calls
-pub record IsSeen {T : Type 0} (ids : ℕ → PartyId) (lock : PlanLock) (m : Machine T) (hss : List (List PlanHold)) (p l : ℕ) (left : ℕ) : Type 0 where
+pub record IsSeen {T : Type 0} (ids : ℕ → PartyId) (lock : PlanLock) (m : Machine T) (hss : List (List Hold)) (p l : ℕ) (left : ℕ) : Type 0 where
   pub kind : m.kind ≡ lock.kind
   pub limit : m.limit ≡ limit_for lock.kind lock.limit
   pub sound : IsSound m.register
@@ -43,7 +43,7 @@ pub record IsSeen {T : Type 0} (ids : ℕ → PartyId) (lock : PlanLock) (m : Ma
 
 -- after it the party `x` has this hold, all have this bag, the other parties have what they had, and there are at most
 -- so many guards more
-pub record Moved {T : Type 0} (m after : Machine T) (x : ℕ) (h : PlanHold) (bag : Bag) (more : ℕ) : Type 0 where
+pub record Moved {T : Type 0} (m after : Machine T) (x : ℕ) (h : Hold) (bag : Bag) (more : ℕ) : Type 0 where
   pub own : bag_held_by x after.entries ≡ h.bag
   pub others : (y : ℕ) → (x ≡ y → ⊥) → bag_held_by y after.entries ≡ bag_held_by y m.entries
   pub all : held_bag after.entries ≡ bag
@@ -53,18 +53,10 @@ pub record Moved {T : Type 0} (m after : Machine T) (x : ℕ) (h : PlanHold) (ba
   pub last : after.last ≤ m.last + more
 
 -- the bag after a call
-abbrev pub bag_after_act : Bag → Act → Bag
-bag_after_act b (act.Step step) = bag_after b step
-bag_after_act b act.Announce = b
-bag_after_act b act.Withdraw = b
-
-and_true : (b : Bool) → b ≡ (b && true)
-and_true true = refl
-and_true false = refl
-
-and_none : (b : Bool) → false ≡ (b && false)
-and_none true = refl
-and_none false = refl
+abbrev pub bag_after_step : Bag → LockStep → Bag
+bag_after_step b (lock_step.Modes step) = bag_after b step
+bag_after_step b lock_step.Announce = b
+bag_after_step b lock_step.Withdraw = b
 
 -- who has announced, when the bar is set, cleared or passed
 
@@ -84,10 +76,10 @@ none_announced None y none = refl
 none_announced (Some a) y none = cc
 
 own_after : (bar : Option ℕ) (x : ℕ) (mode : Mode) (before : Bool) → has_announced bar x ≡ before
-    → has_announced (bar_after bar mode) x ≡ (before && not (is_exclusive mode))
-own_after bar x Shared before is = is ∙ and_true before
-own_after bar x Exclusive before is = and_none before
-own_after bar x Upgradable before is = is ∙ and_true before
+    → has_announced (bar_after bar mode) x ≡ (not (is_exclusive mode) && before)
+own_after bar x Shared before is = is
+own_after bar x Exclusive before is = refl
+own_after bar x Upgradable before is = is
 
 bar_by : (bar : Option ℕ) (x : ℕ) (mode : Mode)
     → (bar_after bar mode ≡ bar) ⊎ ((bar_after bar mode ≡ None) ⊎ (bar_after bar mode ≡ Some x))
@@ -95,7 +87,7 @@ bar_by bar x Shared = inl refl
 bar_by bar x Exclusive = inr (inl refl)
 bar_by bar x Upgradable = inl refl
 
-module _ {T : Type 0} (ids : ℕ → PartyId) (lock : PlanLock) (m : Machine T) (hss : List (List PlanHold)) (p l : ℕ) (left : ℕ)
+module _ {T : Type 0} (ids : ℕ → PartyId) (lock : PlanLock) (m : Machine T) (hss : List (List Hold)) (p l : ℕ) (left : ℕ)
     (seen : IsSeen ids lock m hss p l left) where
   abbrev x : ℕ
   x = id_of (ids p)
@@ -103,7 +95,7 @@ module _ {T : Type 0} (ids : ℕ → PartyId) (lock : PlanLock) (m : Machine T) 
   -- an acquisition that the bar lets pass
   pub acquired : (mode : Mode) → bar_lets_pass m.bar x mode ≡ true
       → Moved m (with_register m (after_admission (with_guard m.register x mode) mode)) x
-      (hold_after (hold_of hss p l) (act.Step (Acquire mode))) (bag_after_act (bag_on l hss) (act.Step (Acquire mode))) 1
+      (hold_after (hold_of hss p l) (lock_step.Modes (Acquire mode))) (bag_after_step (bag_on l hss) (lock_step.Modes (Acquire mode))) 1
   acquired mode passes =
       let new : Entry = record { party = x; mode = mode; held = true } in
       let entries = m.entries ++ (m.last + 1, new) ∷ [] in
@@ -141,19 +133,19 @@ module _ {T : Type 0} (ids : ℕ → PartyId) (lock : PlanLock) (m : Machine T) 
     other_fewer y other = sym (other_more y e m.entries (without guard m.entries) one_fewer other)
 
     pub released : Moved m (after_release m (without_guard m.register guard)) x
-        (hold_after (hold_of hss p l) (act.Step (Release mode))) (bag_after_act (bag_on l hss) (act.Step (Release mode))) 1
+        (hold_after (hold_of hss p l) (lock_step.Modes (Release mode))) (bag_after_step (bag_on l hss) (lock_step.Modes (Release mode))) 1
     released = record {
       own = own_fewer;
       others = other_fewer;
       all = all_fewer;
-      announced = seen.announced ∙ and_true (hold_of hss p l).announced;
+      announced = seen.announced;
       other_bars = λ y other. refl;
       barred = inl refl;
       last = omega arith;
     }
 
     pub changed : (to : Mode) → Moved m (with_mode m guard to) x
-        (hold_after (hold_of hss p l) (act.Step (Change mode to))) (bag_after_act (bag_on l hss) (act.Step (Change mode to))) 1
+        (hold_after (hold_of hss p l) (lock_step.Modes (Change mode to))) (bag_after_step (bag_on l hss) (lock_step.Modes (Change mode to))) 1
     changed to =
         let entries = update guard (in_mode to) m.entries in
         let one : HasOneMore (in_mode to e) entries (without guard m.entries) =
@@ -162,14 +154,14 @@ module _ {T : Type 0} (ids : ℕ → PartyId) (lock : PlanLock) (m : Machine T) 
           own = own_more x (in_mode to e) entries (without guard m.entries) one refl ∙ ap (λ (b : Bag). one_more b to) own_fewer;
           others = λ y other. other_more y (in_mode to e) entries (without guard m.entries) one other ∙ other_fewer y other;
           all = held_bag-more (in_mode to e) entries (without guard m.entries) one ∙ ap (λ (b : Bag). one_more b to) all_fewer;
-          announced = seen.announced ∙ and_true (hold_of hss p l).announced;
+          announced = seen.announced;
           other_bars = λ y other. refl;
           barred = inl refl;
           last = omega arith;
         }
 
   pub announced : (more : ℕ) → is_some m.bar ≡ false
-      → Moved m (with_register m (with_bar m.register (Some x))) x (announced_hold (hold_of hss p l)) (bag_on l hss) more
+      → Moved m (with_register m (with_bar m.register (Some x))) x (hold_after (hold_of hss p l) lock_step.Announce) (bag_on l hss) more
   announced more none = record {
     own = seen.own;
     others = λ y other. refl;
@@ -181,7 +173,7 @@ module _ {T : Type 0} (ids : ℕ → PartyId) (lock : PlanLock) (m : Machine T) 
   }
 
   pub withdrawn : has_announced m.bar x ≡ true
-      → Moved m (with_register m (with_bar m.register None)) x (hold_after (hold_of hss p l) act.Withdraw) (bag_on l hss) 1
+      → Moved m (with_register m (with_bar m.register None)) x (hold_after (hold_of hss p l) lock_step.Withdraw) (bag_on l hss) 1
   withdrawn own = record {
     own = seen.own;
     others = λ y other. refl;

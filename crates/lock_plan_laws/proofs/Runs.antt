@@ -3,15 +3,15 @@ use Rattle.std.proofs.Common.{◌≡◌, ℕ, zero, suc, ◌<◌, Bool, true, fa
 use Rattle.std.proofs.lemmas.Bool.{and_parts, and_from, or_cases, false≢true, not-true}
 use Rattle.std.proofs.Math.ListN.{get_or-map}
 use Rattle.lock_base.specs.declared.machine.party.PartyId.{PartyId}
+use Rattle.lock_base.specs.declared.machine.hold.Hold.{Hold}
 use Rattle.lock_base.specs.Operation.{Operation}
 use Rattle.lock_base.specs.Party.{id_of}
 use Rattle.lock_base.specs.Kind.{is_rwlock}
+use Rattle.lock_base.specs.Holds.{no_hold}
 use Rattle.lock_plan.specs.declared.call.PlanCall.{PlanCall}
-use Rattle.lock_plan.specs.declared.hold.PlanHold.{PlanHold}
 use Rattle.lock_plan.specs.declared.lock.PlanLock.{PlanLock}
 use Rattle.lock_plan.specs.declared.turn.Turn.{Turn}
 use Rattle.lock_plan.specs.declared.turn.Turn.TheVariants.{Goes, Announces, Waits, Refused}
-use Rattle.lock_plan.specs.Holds.{no_hold}
 use Rattle.lock_plan.specs.Worlds.{Stand, no_stand, no_lock, turn_of, turn_at, first_call, gone, announced_for, stand_after, put_stand, world_step, on_from, world_after, first_world, some_below, is_server, is_due, is_refused_turn, is_step_turn, is_stuck, is_refused, is_stop}
 use Rattle.lock_plan_laws.specs.Scenes.{Caller, parties_of, Scene, scene_with, left_after, machine_turn, HasTurn, IsStep, IsRun, IsStuckScene, IsRefusedScene, IsStopScene, first_scene}
 use Rattle.lock_plan_laws.specs.Bridge.{AreDistinct, Shows, RunsAreOfWorlds, WorldRunsAreOfMachines, StopsAreTheSame}
@@ -66,7 +66,7 @@ pub shows : {T : Type 0} (ids : ℕ → PartyId) (distinct : AreDistinct ids) (l
     → IsTied ids locks w s → Shows ids locks w s
 shows ids distinct locks w s tied = record {
   calls = tied.calls;
-  holds = λ l p lt. (tied.at l lt).own p ∙ ap (λ (hs : List PlanHold). (get_or hs l no_hold).bag) (get_or-map (λ (x : Stand). x.holds) w p no_stand);
+  holds = λ l p lt. (tied.at l lt).own p ∙ ap (λ (hs : List Hold). (get_or hs l no_hold).bag) (get_or-map (λ (x : Stand). x.holds) w p no_stand);
   bags = λ l lt. (tied.at l lt).all;
   bars = λ l lt. bar_is (λ q. id_of (ids q)) distinct l (map (λ x. x.holds) w) (s.machines l).bar (tied.at l lt).barred (tied.at l lt).announced;
 }
@@ -88,7 +88,7 @@ module _ {O T A : Type 0} (meaning : O → Operation T A) (ids : ℕ → PartyId
     goes_on c after h =
         let same = same_turn meaning ids distinct locks bars w s tied c h.call h.calls h.next h.names in
         let turn : same.turn ≡ Goes = sym same.on_machine ∙ h.turns in
-        let t = machine_turn meaning ids (get_or locks h.call.lock no_lock) (s.machines h.call.lock) c h.call.act in
+        let t = machine_turn meaning ids (get_or locks h.call.lock no_lock) (s.machines h.call.lock) c h.call.step in
         let stand = get_or w c.party no_stand in
         subst (λ (x : Scene T). IsTied ids locks (set w c.party (gone stand.calls stand.holds)) x) (sym h.leaves)
         (subst (λ (u : Turn). ByTurn u (IsTied ids locks (set w c.party (gone stand.calls stand.holds))
@@ -101,7 +101,7 @@ module _ {O T A : Type 0} (meaning : O → Operation T A) (ids : ℕ → PartyId
     announces_on c after h =
         let same = same_turn meaning ids distinct locks bars w s tied c h.call h.calls h.next h.names in
         let turn : same.turn ≡ Announces = sym same.on_machine ∙ h.turns in
-        let t = machine_turn meaning ids (get_or locks h.call.lock no_lock) (s.machines h.call.lock) c h.call.act in
+        let t = machine_turn meaning ids (get_or locks h.call.lock no_lock) (s.machines h.call.lock) c h.call.step in
         let stand = get_or w c.party no_stand in
         subst (λ (x : Scene T). IsTied ids locks (set w c.party (announced_for stand.calls stand.holds)) x) (sym h.leaves)
         (subst (λ (u : Turn). ByTurn u (IsTied ids locks (set w c.party (gone stand.calls stand.holds))
@@ -139,7 +139,7 @@ module _ {O T A : Type 0} (meaning : O → Operation T A) (ids : ℕ → PartyId
         let g = guard_of meaning ids distinct locks bars w s tied any call calls next in
         let c : Caller = record { party = p; guard = g.0 } in
         let same = same_turn meaning ids distinct locks bars w s tied c call calls next g.1 in
-        let t = machine_turn meaning ids (get_or locks call.lock no_lock) (s.machines call.lock) c call.act in
+        let t = machine_turn meaning ids (get_or locks call.lock no_lock) (s.machines call.lock) c call.step in
         record {
           caller = c;
           party = refl;

@@ -9,6 +9,9 @@ use Rattle.lock_base.specs.declared.machine.mode.Mode.{Mode}
 use Rattle.lock_base.specs.declared.machine.bag.Bag.{Bag}
 use Rattle.lock_base.specs.declared.machine.call.Call.{Call}
 use Rattle.lock_base.specs.declared.machine.party.PartyId.{PartyId}
+use Rattle.lock_base.specs.declared.machine.lock_step.LockStep.{LockStep}
+use Rattle.lock_base.specs.declared.machine.lock_step.LockStep.TheVariants as lock_step
+use Rattle.lock_base.specs.declared.machine.hold.Hold.{Hold}
 use Rattle.lock_base.specs.Operation.{Operation}
 use Rattle.lock_base.specs.Party.{id_of}
 use Rattle.lock_base.specs.Modes.{count_of}
@@ -18,24 +21,22 @@ use Rattle.lock_base.specs.Entries.{find}
 use Rattle.lock_base.specs.Machine.{Machine}
 use Rattle.lock_base.specs.Sound.{IsSound}
 use Rattle.lock_base.specs.Steps.{Response, step}
+use Rattle.lock_base.specs.Holds.{no_hold, hold_has, hold_after}
 use Rattle.lock_base_laws.specs.SoundRuns.{KeepsLimits}
 use Rattle.lock_base_laws.proofs.RunsReached.{step_sound, step_limits}
-use Rattle.lock_plan.specs.declared.call.Act.{Act}
-use Rattle.lock_plan.specs.declared.call.Act.TheVariants as act
 use Rattle.lock_plan.specs.declared.call.PlanCall.{PlanCall}
 use Rattle.lock_plan.specs.declared.fault.CallFault.{CallFault}
-use Rattle.lock_plan.specs.declared.hold.PlanHold.{PlanHold}
 use Rattle.lock_plan.specs.declared.lock.PlanLock.{PlanLock}
 use Rattle.lock_plan.specs.declared.turn.Turn.{Turn}
 use Rattle.lock_plan.specs.declared.turn.Turn.TheVariants.{Goes, Announces, Waits, Refused}
-use Rattle.lock_plan.specs.Holds.{no_hold, has_for, is_write, hold_after, announced_hold, announces_itself, turn_on, is_let_in}
+use Rattle.lock_plan.specs.Holds.{is_write, announces_itself, turn_on, admits_step}
 use Rattle.lock_plan.specs.Checks.{fault_on}
-use Rattle.lock_plan.specs.Worlds.{Stand, no_stand, no_lock, joined, bag_on, sight_of, first_call, turn_at, turn_of, gone, announced_for}
+use Rattle.lock_plan.specs.Worlds.{Stand, no_stand, no_lock, joined, bag_on, lock_holds, first_call, turn_at, turn_of, gone, announced_for}
 use Rattle.lock_plan_laws.specs.Scenes.{Caller, Names, Scene, scene_with, MachineTurn, call_for, turn_of_reply, announced_turn, announces_after, machine_turn}
 use Rattle.lock_plan_laws.specs.Bridge.{bag_held_by, AreCallable, AreDistinct}
 use Rattle.lock_plan_laws.proofs.PartyBags.{HasGuard, has_guard}
 use Rattle.lock_plan_laws.proofs.Columns.{hold_of, Beside, beside, joined_after}
-use Rattle.lock_plan_laws.proofs.Moves.{Moved, bag_after_act}
+use Rattle.lock_plan_laws.proofs.Moves.{Moved, bag_after_step}
 use Rattle.lock_plan_laws.proofs.MachineTurns.{IsRight, is_right, ByTurn, Acts, acts}
 use Rattle.lock_plan_laws.proofs.Ties.{IsLockTied, IsTied, holds_in, seen_of, tied_after}
 
@@ -54,11 +55,11 @@ lock_known true o f none = (refl, none)
 lock_known false o f none = cc
 
 -- what all parties hold after a call of one
-after_joined : (own : PlanHold) (rest : Bag) (a : Act) → has_for own a ≡ true
-    → joined (hold_after own a).bag rest ≡ bag_after_act (joined own.bag rest) a
-after_joined own rest (act.Step step) has = sym (joined_after own.bag rest step has)
-after_joined own rest act.Announce has = refl
-after_joined own rest act.Withdraw has = refl
+after_joined : (own : Hold) (rest : Bag) (a : LockStep) → hold_has own a ≡ true
+    → joined (hold_after own a).bag rest ≡ bag_after_step (joined own.bag rest) a
+after_joined own rest (lock_step.Modes step) has = sym (joined_after own.bag rest step has)
+after_joined own rest lock_step.Announce has = refl
+after_joined own rest lock_step.Withdraw has = refl
 
 -- a party announces itself only for a write, which may be made afterwards, too
 
@@ -71,49 +72,46 @@ refused_by : (b : Bool) → (if b then Refused else Goes) ≡ Announces → ⊥
 refused_by true is = cc
 refused_by false is = cc
 
-announcing_writes : (lock : PlanLock) (hss : List (List PlanHold)) (p l : ℕ) (a : Act) → turn_on lock (sight_of hss p l) a ≡ Announces
+announcing_writes : (lock : PlanLock) (hss : List (List Hold)) (p l : ℕ) (a : LockStep) → turn_on lock (lock_holds hss p l) a ≡ Announces
     → is_write a ≡ true
-announcing_writes lock hss p l (act.Step step) is =
-    let itself = announces_by (is_let_in lock (sight_of hss p l) step) (announces_itself lock (hold_of hss p l) (act.Step step)) _ is in
-    (and_parts (is_write (act.Step step)) (not (hold_of hss p l).announced)
-    (and_parts lock.bar (is_write (act.Step step) && not (hold_of hss p l).announced) itself).1).0
-announcing_writes lock hss p l act.Announce is = absurd (refused_by _ is)
-announcing_writes lock hss p l act.Withdraw is = cc
+announcing_writes lock hss p l (lock_step.Modes step) is =
+    let itself = announces_by (admits_step lock (lock_holds hss p l) step) (announces_itself lock (hold_of hss p l) (lock_step.Modes step)) _ is in
+    (and_parts (is_write (lock_step.Modes step)) (not (hold_of hss p l).announced)
+    (and_parts lock.bar (is_write (lock_step.Modes step) && not (hold_of hss p l).announced) itself).1).0
+announcing_writes lock hss p l lock_step.Announce is = absurd (refused_by _ is)
+announcing_writes lock hss p l lock_step.Withdraw is = cc
 
-fault_same : (lock : PlanLock) (own : PlanHold) (a : Act) → is_write a ≡ true → fault_on lock (announced_hold own) a ≡ fault_on lock own a
-fault_same lock own (act.Step step) w = refl
-fault_same lock own act.Announce w = cc
-fault_same lock own act.Withdraw w = cc
+fault_same : (lock : PlanLock) (own : Hold) (a : LockStep) → is_write a ≡ true → fault_on lock (hold_after own lock_step.Announce) a ≡ fault_on lock own a
+fault_same lock own (lock_step.Modes step) w = refl
+fault_same lock own lock_step.Announce w = cc
+fault_same lock own lock_step.Withdraw w = cc
 
-ends : (a b w : Bool) → w ≡ true → (a && not w) ≡ (b && not w)
+ends : (a b w : Bool) → w ≡ true → (not w && a) ≡ (not w && b)
 ends a b false is = cc
-ends true true true is = refl
-ends true false true is = refl
-ends false true true is = refl
-ends false false true is = refl
+ends a b true is = refl
 
-after_same : (own : PlanHold) (a : Act) → is_write a ≡ true → hold_after (announced_hold own) a ≡ hold_after own a
-after_same own (act.Step step) w =
-    ap (λ (b : Bool). record { bag = bag_after own.bag step; announced = b }) (ends true own.announced (is_write (act.Step step)) w)
-after_same own act.Announce w = cc
-after_same own act.Withdraw w = cc
+after_same : (own : Hold) (a : LockStep) → is_write a ≡ true → hold_after (hold_after own lock_step.Announce) a ≡ hold_after own a
+after_same own (lock_step.Modes step) w =
+    ap (λ (b : Bool). record { bag = bag_after own.bag step; announced = b }) (ends true own.announced (is_write (lock_step.Modes step)) w)
+after_same own lock_step.Announce w = cc
+after_same own lock_step.Withdraw w = cc
 
 -- a party that announced itself can still make its calls
-callable_announced : (locks : List PlanLock) (call : PlanCall) (calls : List PlanCall) (holds : List PlanHold) → call.lock < length holds
-    → is_write call.act ≡ true → AreCallable locks (call ∷ calls) holds
-    → AreCallable locks (call ∷ calls) (set holds call.lock (announced_hold (get_or holds call.lock no_hold)))
+callable_announced : (locks : List PlanLock) (call : PlanCall) (calls : List PlanCall) (holds : List Hold) → call.lock < length holds
+    → is_write call.step ≡ true → AreCallable locks (call ∷ calls) holds
+    → AreCallable locks (call ∷ calls) (set holds call.lock (hold_after (get_or holds call.lock no_hold) lock_step.Announce))
 callable_announced locks call calls holds within w ok =
     let own = get_or holds call.lock no_hold in
     let lock = get_or locks call.lock no_lock in
-    let there : get_or (set holds call.lock (announced_hold own)) call.lock no_hold ≡ announced_hold own =
-    get_or-set_same holds call.lock (announced_hold own) no_hold within in (
-      ap (λ (h : PlanHold). if nat_lt call.lock (length locks) then fault_on lock h call.act else Some CallFault.UnknownLock) there
-          ∙ ap (λ (o : Option CallFault). if nat_lt call.lock (length locks) then o else Some CallFault.UnknownLock) (fault_same lock own call.act w)
+    let there : get_or (set holds call.lock (hold_after own lock_step.Announce)) call.lock no_hold ≡ hold_after own lock_step.Announce =
+    get_or-set_same holds call.lock (hold_after own lock_step.Announce) no_hold within in (
+      ap (λ (h : Hold). if nat_lt call.lock (length locks) then fault_on lock h call.step else Some CallFault.UnknownLock) there
+          ∙ ap (λ (o : Option CallFault). if nat_lt call.lock (length locks) then o else Some CallFault.UnknownLock) (fault_same lock own call.step w)
           ∙ ok.0,
-      subst (λ (hs : List PlanHold). AreCallable locks calls hs)
-          (sym (ap (λ (h : PlanHold). set (set holds call.lock (announced_hold own)) call.lock (hold_after h call.act)) there
-          ∙ ap (λ (h : PlanHold). set (set holds call.lock (announced_hold own)) call.lock h) (after_same own call.act w)
-          ∙ set_twice holds call.lock (announced_hold own) (hold_after own call.act)))
+      subst (λ (hs : List Hold). AreCallable locks calls hs)
+          (sym (ap (λ (h : Hold). set (set holds call.lock (hold_after own lock_step.Announce)) call.lock (hold_after h call.step)) there
+          ∙ ap (λ (h : Hold). set (set holds call.lock (hold_after own lock_step.Announce)) call.lock h) (after_same own call.step w)
+          ∙ set_twice holds call.lock (hold_after own lock_step.Announce) (hold_after own call.step)))
           ok.1,
     )
 
@@ -135,17 +133,17 @@ module _ {O T A : Type 0} (meaning : O → Operation T A) (ids : ℕ → PartyId
 
   -- what each call of a machine keeps, a turn keeps
   turn_keeps : (P : Machine T → Type 0) → ((m : Machine T) (call : Call O) → P m → P (step meaning m call).machine)
-      → (lock : PlanLock) (m : Machine T) (c : Caller) (a : Act) → P m → P (machine_turn meaning ids lock m c a).machine
+      → (lock : PlanLock) (m : Machine T) (c : Caller) (a : LockStep) → P m → P (machine_turn meaning ids lock m c a).machine
   turn_keeps P keeps lock m c a start =
       let call : Call O = call_for lock.kind (ids c.party) c.guard a in
       keeps_by P keeps (step meaning m call) (ids c.party) (announces_after lock a (turn_of_reply (step meaning m call).reply))
       (keeps m call start)
 
-  turn_sound : (lock : PlanLock) (m : Machine T) (c : Caller) (a : Act) → IsSound m.register
+  turn_sound : (lock : PlanLock) (m : Machine T) (c : Caller) (a : LockStep) → IsSound m.register
       → IsSound (machine_turn meaning ids lock m c a).machine.register
   turn_sound lock m c a sound = turn_keeps (λ n. IsSound n.register) (λ n call h. step_sound meaning n call h) lock m c a sound
 
-  turn_limits : (lock : PlanLock) (m : Machine T) (c : Caller) (a : Act)
+  turn_limits : (lock : PlanLock) (m : Machine T) (c : Caller) (a : LockStep)
       → KeepsLimits m.register (machine_turn meaning ids lock m c a).machine.register
   turn_limits lock m c a =
       turn_keeps (λ n. KeepsLimits m.register n.register)
@@ -187,13 +185,13 @@ module _ {O T A : Type 0} (meaning : O → Operation T A) (ids : ℕ → PartyId
     abbrev stand : Stand
     stand = get_or w c.party no_stand
 
-    abbrev own : PlanHold
+    abbrev own : Hold
     own = get_or stand.holds l no_hold
 
     abbrev m : Machine T
     m = s.machines l
 
-    abbrev hss : List (List PlanHold)
+    abbrev hss : List (List Hold)
     hss = holds_in w
 
     pub stand_calls : (get_or w c.party no_stand).calls ≡ call ∷ calls
@@ -206,42 +204,42 @@ module _ {O T A : Type 0} (meaning : O → Operation T A) (ids : ℕ → PartyId
     callable = subst (λ (cs : List PlanCall). AreCallable locks cs stand.holds) stand_calls (tied.callable p)
 
     lock_right : (nat_lt call.lock (length locks) ≡ true) × (fault_on (get_or locks call.lock no_lock)
-        (get_or (get_or w c.party no_stand).holds call.lock no_hold) call.act ≡ None)
-    lock_right = lock_known (nat_lt l (length locks)) (fault_on lock own call.act) CallFault.UnknownLock callable.0
+        (get_or (get_or w c.party no_stand).holds call.lock no_hold) call.step ≡ None)
+    lock_right = lock_known (nat_lt l (length locks)) (fault_on lock own call.step) CallFault.UnknownLock callable.0
 
     within : call.lock < length locks
     within = ltb-true l (length locks) lock_right.0
 
-    right : IsRight (get_or locks call.lock no_lock) (get_or (get_or w c.party no_stand).holds call.lock no_hold) call.act
-    right = is_right lock own call.act lock_right.1
+    right : IsRight (get_or locks call.lock no_lock) (get_or (get_or w c.party no_stand).holds call.lock no_hold) call.step
+    right = is_right lock own call.step lock_right.1
 
     lock_tied : IsLockTied ids (get_or locks call.lock no_lock) (s.machines call.lock) (map (λ x. x.holds) w) call.lock (sum_by length s.calls)
     lock_tied = tied.at l within
 
     own_same : hold_of (map (λ x. x.holds) w) c.party call.lock ≡ get_or (get_or w c.party no_stand).holds call.lock no_hold
-    own_same = ap (λ (hs : List PlanHold). get_or hs l no_hold) (get_or-map (λ (x : Stand). x.holds) w p no_stand)
+    own_same = ap (λ (hs : List Hold). get_or hs l no_hold) (get_or-map (λ (x : Stand). x.holds) w p no_stand)
 
     held : (mode : Mode) → nat_lt 0 (count_of (get_or (get_or w c.party no_stand).holds call.lock no_hold).bag mode) ≡ true
         → (guard : ℕ) × (find guard (s.machines call.lock).entries ≡ Some (record { party = id_of (ids c.party); mode = mode; held = true }))
     held mode some =
         let count : count_of (bag_held_by (id_of (ids p)) m.entries) mode ≡ count_of own.bag mode =
-        ap (λ (b : Bag). count_of b mode) (lock_tied.own p ∙ ap (λ (h : PlanHold). h.bag) own_same) in
+        ap (λ (b : Bag). count_of b mode) (lock_tied.own p ∙ ap (λ (h : Hold). h.bag) own_same) in
         let out = ltb-true 0 (count_of own.bag mode) some in
         let g : HasGuard m.entries (id_of (ids p)) mode =
         has_guard 0 m.last (id_of (ids p)) mode m.entries lock_tied.sound.legal.numbered (omega (arith, count, out)) in
         (g.guard, g.found)
 
     -- the party has a guard for the call
-    guard_by : (a : Act) → has_for (get_or (get_or w c.party no_stand).holds call.lock no_hold) a ≡ true
+    guard_by : (a : LockStep) → hold_has (get_or (get_or w c.party no_stand).holds call.lock no_hold) a ≡ true
         → (guard : ℕ) × Names (s.machines call.lock).entries (id_of (ids c.party)) guard a
-    guard_by (act.Step (Acquire mode)) has = (0, tt)
-    guard_by (act.Step (Release mode)) has = held mode has
-    guard_by (act.Step (Change from to)) has = held from has
-    guard_by act.Announce has = (0, tt)
-    guard_by act.Withdraw has = (0, tt)
+    guard_by (lock_step.Modes (Acquire mode)) has = (0, tt)
+    guard_by (lock_step.Modes (Release mode)) has = held mode has
+    guard_by (lock_step.Modes (Change from to)) has = held from has
+    guard_by lock_step.Announce has = (0, tt)
+    guard_by lock_step.Withdraw has = (0, tt)
 
-    pub guard_of : (guard : ℕ) × Names (s.machines call.lock).entries (id_of (ids c.party)) guard call.act
-    guard_of = guard_by call.act right.has
+    pub guard_of : (guard : ℕ) × Names (s.machines call.lock).entries (id_of (ids c.party)) guard call.step
+    guard_of = guard_by call.step right.has
 
     abbrev left : ℕ
     left = sum_by length s.calls
@@ -261,20 +259,20 @@ module _ {O T A : Type 0} (meaning : O → Operation T A) (ids : ℕ → PartyId
         let long : length (get_or s.calls p []) ≡ suc (length calls) = ap length next in
         omega arith
 
-    module _ (names : Names (s.machines call.lock).entries (id_of (ids c.party)) c.guard call.act) where
+    module _ (names : Names (s.machines call.lock).entries (id_of (ids c.party)) c.guard call.step) where
       abbrev t : MachineTurn T
-      t = machine_turn meaning ids (get_or locks call.lock no_lock) (s.machines call.lock) c call.act
+      t = machine_turn meaning ids (get_or locks call.lock no_lock) (s.machines call.lock) c call.step
 
       abbrev turn : Turn
-      turn = turn_on (get_or locks call.lock no_lock) (sight_of (map (λ x. x.holds) w) c.party call.lock) call.act
+      turn = turn_on (get_or locks call.lock no_lock) (lock_holds (map (λ x. x.holds) w) c.party call.lock) call.step
 
-      acts_here : Acts (machine_turn meaning ids (get_or locks call.lock no_lock) (s.machines call.lock) c call.act) (s.machines call.lock)
-          (id_of (ids c.party)) (get_or (get_or w c.party no_stand).holds call.lock no_hold) (bag_on call.lock (map (λ x. x.holds) w)) call.act
-          (turn_on (get_or locks call.lock no_lock) (sight_of (map (λ x. x.holds) w) c.party call.lock) call.act)
+      acts_here : Acts (machine_turn meaning ids (get_or locks call.lock no_lock) (s.machines call.lock) c call.step) (s.machines call.lock)
+          (id_of (ids c.party)) (get_or (get_or w c.party no_stand).holds call.lock no_hold) (bag_on call.lock (map (λ x. x.holds) w)) call.step
+          (turn_on (get_or locks call.lock no_lock) (lock_holds (map (λ x. x.holds) w) c.party call.lock) call.step)
       acts_here =
-          subst (λ (h : PlanHold). Acts t m (id_of (ids p)) h (bag_on l hss) call.act turn) own_same
-          (acts meaning ids distinct lock m hss p l left c.guard (seen_of ids distinct lock m hss p l left lock_tied) call.act some_left
-          (subst (λ (h : PlanHold). IsRight lock h call.act) (sym own_same) right) (bars l) names)
+          subst (λ (h : Hold). Acts t m (id_of (ids p)) h (bag_on l hss) call.step turn) own_same
+          (acts meaning ids distinct lock m hss p l left c.guard (seen_of ids distinct lock m hss p l left lock_tied) call.step some_left
+          (subst (λ (h : Hold). IsRight lock h call.step) (sym own_same) right) (bars l) names)
 
       beside_here : Beside (map (λ x. x.holds) w) c.party call.lock
       beside_here = beside hss p l (omega (arith, known, length-map w (λ (x : Stand). x.holds)))
@@ -283,39 +281,39 @@ module _ {O T A : Type 0} (meaning : O → Operation T A) (ids : ℕ → PartyId
       long_here = omega (arith, within, ap length (get_or-map (λ (x : Stand). x.holds) w p no_stand), tied.long p known)
 
       -- the bag where the party has another hold
-      bag_with : (h : PlanHold) → bag_on call.lock (set (map (λ x. x.holds) w) c.party (set (get_or (map (λ x. x.holds) w) c.party []) call.lock h))
+      bag_with : (h : Hold) → bag_on call.lock (set (map (λ x. x.holds) w) c.party (set (get_or (map (λ x. x.holds) w) c.party []) call.lock h))
           ≡ joined h.bag beside_here.rest
       bag_with h =
           beside_here.changed (set (get_or hss p []) l h)
-          ∙ ap (λ (x : PlanHold). joined x.bag beside_here.rest) (get_or-set_same (get_or hss p []) l h no_hold long_here)
+          ∙ ap (λ (x : Hold). joined x.bag beside_here.rest) (get_or-set_same (get_or hss p []) l h no_hold long_here)
 
       bag_whole : bag_on call.lock (map (λ x. x.holds) w)
           ≡ joined (get_or (get_or w c.party no_stand).holds call.lock no_hold).bag beside_here.rest
-      bag_whole = beside_here.whole ∙ ap (λ (x : PlanHold). joined x.bag beside_here.rest) own_same
+      bag_whole = beside_here.whole ∙ ap (λ (x : Hold). joined x.bag beside_here.rest) own_same
 
       goes_tied : Moved (s.machines call.lock) t.machine (id_of (ids c.party))
-          (hold_after (get_or (get_or w c.party no_stand).holds call.lock no_hold) call.act)
-          (bag_after_act (bag_on call.lock (map (λ x. x.holds) w)) call.act) 1
+          (hold_after (get_or (get_or w c.party no_stand).holds call.lock no_hold) call.step)
+          (bag_after_step (bag_on call.lock (map (λ x. x.holds) w)) call.step) 1
           → IsTied ids locks (set w c.party (gone (call ∷ calls) (get_or w c.party no_stand).holds))
           (scene_with s call.lock t.machine c.party calls)
       goes_tied moved =
-          tied_after ids distinct locks w s tied p l known within (hold_after own call.act) calls t.machine 1
-          (bag_after_act (bag_on l hss) call.act) moved
-          (bag_with (hold_after own call.act) ∙ after_joined own beside_here.rest call.act right.has
-          ∙ ap (λ (b : Bag). bag_after_act b call.act) (sym bag_whole))
-          (turn_sound meaning ids lock m c call.act lock_tied.sound) (turn_limits meaning ids lock m c call.act)
+          tied_after ids distinct locks w s tied p l known within (hold_after own call.step) calls t.machine 1
+          (bag_after_step (bag_on l hss) call.step) moved
+          (bag_with (hold_after own call.step) ∙ after_joined own beside_here.rest call.step right.has
+          ∙ ap (λ (b : Bag). bag_after_step b call.step) (sym bag_whole))
+          (turn_sound meaning ids lock m c call.step lock_tied.sound) (turn_limits meaning ids lock m c call.step)
           (let count = left_with calls in omega arith)
           callable.1
 
-      announces_tied : is_write call.act ≡ true
+      announces_tied : is_write call.step ≡ true
           → Moved (s.machines call.lock) t.machine (id_of (ids c.party))
-          (announced_hold (get_or (get_or w c.party no_stand).holds call.lock no_hold)) (bag_on call.lock (map (λ x. x.holds) w)) 0
+          (hold_after (get_or (get_or w c.party no_stand).holds call.lock no_hold) lock_step.Announce) (bag_on call.lock (map (λ x. x.holds) w)) 0
           → IsTied ids locks (set w c.party (announced_for (call ∷ calls) (get_or w c.party no_stand).holds))
           (scene_with s call.lock t.machine c.party (call ∷ calls))
       announces_tied writes moved =
-          tied_after ids distinct locks w s tied p l known within (announced_hold own) (call ∷ calls) t.machine 0 (bag_on l hss) moved
-          (bag_with (announced_hold own) ∙ sym bag_whole)
-          (turn_sound meaning ids lock m c call.act lock_tied.sound) (turn_limits meaning ids lock m c call.act)
+          tied_after ids distinct locks w s tied p l known within (hold_after own lock_step.Announce) (call ∷ calls) t.machine 0 (bag_on l hss) moved
+          (bag_with (hold_after own lock_step.Announce) ∙ sym bag_whole)
+          (turn_sound meaning ids lock m c call.step lock_tied.sound) (turn_limits meaning ids lock m c call.step)
           (let count : sum_by length (set s.calls p (call ∷ calls)) + suc (length calls) ≡ sum_by length s.calls + suc (length calls) =
           left_with (call ∷ calls) in omega arith)
           (callable_announced locks call calls stand.holds (omega (arith, within, tied.long p known)) writes callable)
@@ -326,21 +324,21 @@ module _ {O T A : Type 0} (meaning : O → Operation T A) (ids : ℕ → PartyId
           (IsTied ids locks (set w p (announced_for cs stand.holds)) (scene_with s l t.machine p (call ∷ calls)))
 
       leads_by : (u : Turn)
-          → turn_on (get_or locks call.lock no_lock) (sight_of (map (λ x. x.holds) w) c.party call.lock) call.act ≡ u
+          → turn_on (get_or locks call.lock no_lock) (lock_holds (map (λ x. x.holds) w) c.party call.lock) call.step ≡ u
           → ByTurn u
           (Moved (s.machines call.lock) t.machine (id_of (ids c.party))
-          (hold_after (get_or (get_or w c.party no_stand).holds call.lock no_hold) call.act)
-          (bag_after_act (bag_on call.lock (map (λ x. x.holds) w)) call.act) 1)
+          (hold_after (get_or (get_or w c.party no_stand).holds call.lock no_hold) call.step)
+          (bag_after_step (bag_on call.lock (map (λ x. x.holds) w)) call.step) 1)
           (Moved (s.machines call.lock) t.machine (id_of (ids c.party))
-          (announced_hold (get_or (get_or w c.party no_stand).holds call.lock no_hold)) (bag_on call.lock (map (λ x. x.holds) w)) 0)
+          (hold_after (get_or (get_or w c.party no_stand).holds call.lock no_hold) lock_step.Announce) (bag_on call.lock (map (λ x. x.holds) w)) 0)
           → Leads u (call ∷ calls)
       leads_by Goes is moved = goes_tied moved
-      leads_by Announces is moved = announces_tied (announcing_writes lock hss p l call.act is) moved
+      leads_by Announces is moved = announces_tied (announcing_writes lock hss p l call.step is) moved
       leads_by Waits is moved = tt
       leads_by Refused is moved = tt
 
       pub same_turn : IsSameTurn ids locks w s c.party call.lock call calls
-          (machine_turn meaning ids (get_or locks call.lock no_lock) (s.machines call.lock) c call.act)
+          (machine_turn meaning ids (get_or locks call.lock no_lock) (s.machines call.lock) c call.step)
       same_turn = record {
         turn = turn;
         in_world = ap (λ (cs : List PlanCall). turn_at locks hss p (first_call cs)) stand_calls;

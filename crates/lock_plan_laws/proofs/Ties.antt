@@ -5,6 +5,7 @@ use Rattle.std.proofs.lemmas.List.{length-set, length-map, length-replicate, map
 use Rattle.std.proofs.Math.ListN.{get_or-map}
 use Rattle.lock_base.specs.declared.machine.bag.Bag.{Bag}
 use Rattle.lock_base.specs.declared.machine.party.PartyId.{PartyId}
+use Rattle.lock_base.specs.declared.machine.hold.Hold.{Hold}
 use Rattle.lock_base.specs.Party.{id_of}
 use Rattle.lock_base.specs.Modes.{empty_bag}
 use Rattle.lock_base.specs.Bar.{has_announced}
@@ -12,11 +13,10 @@ use Rattle.lock_base.specs.Entries.{held_bag}
 use Rattle.lock_base.specs.Machine.{Machine}
 use Rattle.lock_base.specs.Sound.{IsSound}
 use Rattle.lock_base.proofs.SoundRegisters.{empty_sound}
+use Rattle.lock_base.specs.Holds.{no_hold}
 use Rattle.lock_base_laws.specs.SoundRuns.{KeepsLimits}
 use Rattle.lock_plan.specs.declared.call.PlanCall.{PlanCall}
-use Rattle.lock_plan.specs.declared.hold.PlanHold.{PlanHold}
 use Rattle.lock_plan.specs.declared.lock.PlanLock.{PlanLock}
-use Rattle.lock_plan.specs.Holds.{no_hold}
 use Rattle.lock_plan.specs.Worlds.{Stand, no_stand, no_lock, no_holds, joined, bag_on, first_world}
 use Rattle.lock_plan_laws.specs.Scenes.{Scene, scene_with, limit_for, first_scene}
 use Rattle.lock_plan_laws.specs.Bridge.{bag_held_by, AreCallable, FitsMachines, AreDistinct}
@@ -24,7 +24,7 @@ use Rattle.lock_plan_laws.proofs.Columns.{hold_of, Beside, beside, IsBarOf, bar_
 use Rattle.lock_plan_laws.proofs.Moves.{IsSeen, Moved}
 
 -- the machine of a lock holds what the parties hold of it, and has room for so many calls
-pub record IsLockTied {T : Type 0} (ids : ℕ → PartyId) (lock : PlanLock) (m : Machine T) (hss : List (List PlanHold)) (l left : ℕ) : Type 0 where
+pub record IsLockTied {T : Type 0} (ids : ℕ → PartyId) (lock : PlanLock) (m : Machine T) (hss : List (List Hold)) (l left : ℕ) : Type 0 where
   pub kind : m.kind ≡ lock.kind
   pub limit : m.limit ≡ limit_for lock.kind lock.limit
   pub sound : IsSound m.register
@@ -35,7 +35,7 @@ pub record IsLockTied {T : Type 0} (ids : ℕ → PartyId) (lock : PlanLock) (m 
   pub room : m.last + left ≤ m.places
   pub numbers : m.last + left < 2 ^ 64
 
-abbrev pub holds_in : List Stand → List (List PlanHold)
+abbrev pub holds_in : List Stand → List (List Hold)
 holds_in w = map (λ stand. stand.holds) w
 
 abbrev pub calls_in : List Stand → List (List PlanCall)
@@ -50,22 +50,22 @@ pub record IsTied {T : Type 0} (ids : ℕ → PartyId) (locks : List PlanLock) (
       → IsLockTied ids (get_or locks l no_lock) (s.machines l) (map (λ stand. stand.holds) w) l (sum_by length s.calls)
 
 -- holds after those of one party changed at one lock
-module _ (hss : List (List PlanHold)) (p l : ℕ) (h : PlanHold) (known : p < length hss) where
-  abbrev after : List (List PlanHold)
+module _ (hss : List (List Hold)) (p l : ℕ) (h : Hold) (known : p < length hss) where
+  abbrev after : List (List Hold)
   after = set hss p (set (get_or hss p []) l h)
 
   pub hold_same : l < length (get_or hss p []) → hold_of after p l ≡ h
   hold_same within =
-      ap (λ (hs : List PlanHold). get_or hs l no_hold) (get_or-set_same hss p (set (get_or hss p []) l h) [] known)
+      ap (λ (hs : List Hold). get_or hs l no_hold) (get_or-set_same hss p (set (get_or hss p []) l h) [] known)
       ∙ get_or-set_same (get_or hss p []) l h no_hold within
 
   pub hold_of_other : (q k : ℕ) → q ≢ p → hold_of after q k ≡ hold_of hss q k
   hold_of_other q k other =
-      ap (λ (hs : List PlanHold). get_or hs k no_hold) (get_or-set_other hss p q (set (get_or hss p []) l h) [] other)
+      ap (λ (hs : List Hold). get_or hs k no_hold) (get_or-set_other hss p q (set (get_or hss p []) l h) [] other)
 
   hold_at_other : (k : ℕ) → k ≢ l → hold_of after p k ≡ hold_of hss p k
   hold_at_other k other =
-      ap (λ (hs : List PlanHold). get_or hs k no_hold) (get_or-set_same hss p (set (get_or hss p []) l h) [] known)
+      ap (λ (hs : List Hold). get_or hs k no_hold) (get_or-set_same hss p (set (get_or hss p []) l h) [] known)
       ∙ get_or-set_other (get_or hss p []) l k h no_hold other
 
   elsewhere_by : (q k : ℕ) → k ≢ l → (q ≡ p) ⊎ (q ≡ p → ⊥) → hold_of after q k ≡ hold_of hss q k
@@ -80,11 +80,11 @@ module _ (hss : List (List PlanHold)) (p l : ℕ) (h : PlanHold) (known : p < le
   bag_elsewhere k other =
       let b : Beside hss p k = beside hss p k known in
       b.changed (set (get_or hss p []) l h)
-      ∙ ap (λ (x : PlanHold). joined x.bag b.rest) (get_or-set_other (get_or hss p []) l k h no_hold other)
+      ∙ ap (λ (x : Hold). joined x.bag b.rest) (get_or-set_other (get_or hss p []) l k h no_hold other)
       ∙ sym b.whole
 
 module _ {T : Type 0} (ids : ℕ → PartyId) (distinct : AreDistinct ids) where
-  pub seen_of : (lock : PlanLock) (m : Machine T) (hss : List (List PlanHold)) (p l left : ℕ) → IsLockTied ids lock m hss l left
+  pub seen_of : (lock : PlanLock) (m : Machine T) (hss : List (List Hold)) (p l left : ℕ) → IsLockTied ids lock m hss l left
       → IsSeen ids lock m hss p l left
   seen_of lock m hss p l left tied = record {
     kind = tied.kind;
@@ -98,7 +98,7 @@ module _ {T : Type 0} (ids : ℕ → PartyId) (distinct : AreDistinct ids) where
     numbers = tied.numbers;
   }
 
-  module _ (hss : List (List PlanHold)) (p l : ℕ) (h : PlanHold) (known : p < length hss) where
+  module _ (hss : List (List Hold)) (p l : ℕ) (h : Hold) (known : p < length hss) where
     -- another lock
     pub tied_elsewhere : (lock : PlanLock) (m : Machine T) (k left fewer : ℕ) → k ≢ l → fewer ≤ left
         → IsLockTied ids lock m hss k left → IsLockTied ids lock m (set hss p (set (get_or hss p []) l h)) k fewer
@@ -107,8 +107,8 @@ module _ {T : Type 0} (ids : ℕ → PartyId) (distinct : AreDistinct ids) where
       limit = tied.limit;
       sound = tied.sound;
       all = tied.all ∙ sym (bag_elsewhere hss p l h known k other);
-      own = λ q. tied.own q ∙ ap (λ (x : PlanHold). x.bag) (sym (elsewhere hss p l h known q k other));
-      announced = λ q. tied.announced q ∙ ap (λ (x : PlanHold). x.announced) (sym (elsewhere hss p l h known q k other));
+      own = λ q. tied.own q ∙ ap (λ (x : Hold). x.bag) (sym (elsewhere hss p l h known q k other));
+      announced = λ q. tied.announced q ∙ ap (λ (x : Hold). x.announced) (sym (elsewhere hss p l h known q k other));
       barred = subst (λ (n : ℕ). IsBarOf (λ q. id_of (ids q)) 0 n m.bar) (sym (length-set hss p (set (get_or hss p []) l h))) tied.barred;
       room = let room = tied.room in omega arith;
       numbers = let numbers = tied.numbers in omega arith;
@@ -121,18 +121,18 @@ module _ {T : Type 0} (ids : ℕ → PartyId) (distinct : AreDistinct ids) where
       own_by : (q : ℕ) → (q ≡ p) ⊎ (q ≡ p → ⊥) → bag_held_by (id_of (ids q)) next.entries ≡ (hold_of (set hss p (set (get_or hss p []) l h)) q l).bag
       own_by q (inl same) =
           ap (λ (n : ℕ). bag_held_by (id_of (ids n)) next.entries) same ∙ moved.own
-          ∙ ap (λ (x : PlanHold). x.bag) (sym (hold_same hss p l h known within)) ∙ ap (λ (n : ℕ). (hold_of (set hss p (set (get_or hss p []) l h)) n l).bag) (sym same)
+          ∙ ap (λ (x : Hold). x.bag) (sym (hold_same hss p l h known within)) ∙ ap (λ (n : ℕ). (hold_of (set hss p (set (get_or hss p []) l h)) n l).bag) (sym same)
       own_by q (inr apart) =
           moved.others (id_of (ids q)) (λ same. apart (sym (distinct p q same))) ∙ tied.own q
-          ∙ ap (λ (x : PlanHold). x.bag) (sym (hold_of_other hss p l h known q l apart))
+          ∙ ap (λ (x : Hold). x.bag) (sym (hold_of_other hss p l h known q l apart))
 
       announced_by : (q : ℕ) → (q ≡ p) ⊎ (q ≡ p → ⊥) → has_announced next.bar (id_of (ids q)) ≡ (hold_of (set hss p (set (get_or hss p []) l h)) q l).announced
       announced_by q (inl same) =
           ap (λ (n : ℕ). has_announced next.bar (id_of (ids n))) same ∙ moved.announced
-          ∙ ap (λ (x : PlanHold). x.announced) (sym (hold_same hss p l h known within)) ∙ ap (λ (n : ℕ). (hold_of (set hss p (set (get_or hss p []) l h)) n l).announced) (sym same)
+          ∙ ap (λ (x : Hold). x.announced) (sym (hold_same hss p l h known within)) ∙ ap (λ (n : ℕ). (hold_of (set hss p (set (get_or hss p []) l h)) n l).announced) (sym same)
       announced_by q (inr apart) =
           moved.other_bars (id_of (ids q)) (λ same. apart (sym (distinct p q same))) ∙ tied.announced q
-          ∙ ap (λ (x : PlanHold). x.announced) (sym (hold_of_other hss p l h known q l apart))
+          ∙ ap (λ (x : Hold). x.announced) (sym (hold_of_other hss p l h known q l apart))
 
       barred_by : (next.bar ≡ m.bar) ⊎ ((next.bar ≡ None) ⊎ (next.bar ≡ Some (id_of (ids p))))
           → IsBarOf (λ q. id_of (ids q)) 0 (length hss) next.bar
@@ -157,7 +157,7 @@ module _ {T : Type 0} (ids : ℕ → PartyId) (distinct : AreDistinct ids) where
 
   -- a scene after a step of one party on one lock
   module _ (locks : List PlanLock) (w : List Stand) (s : Scene T) (tied : IsTied ids locks w s) (p l : ℕ) (known : p < length w)
-      (within : l < length locks) (h : PlanHold) (calls : List PlanCall) (next : Machine T) (more : ℕ) (bag : Bag) where
+      (within : l < length locks) (h : Hold) (calls : List PlanCall) (next : Machine T) (more : ℕ) (bag : Bag) where
     abbrev stand : Stand
     stand = get_or w p no_stand
 
@@ -177,7 +177,7 @@ module _ {T : Type 0} (ids : ℕ → PartyId) (distinct : AreDistinct ids) where
     pub holds_after : holds_in (set w p stand_after) ≡ set (holds_in w) p (set (get_or (holds_in w) p []) l h)
     holds_after =
         map-set (λ (x : Stand). x.holds) w p stand_after
-        ∙ ap (λ (hs : List PlanHold). set (holds_in w) p (set hs l h)) (sym holds_at)
+        ∙ ap (λ (hs : List Hold). set (holds_in w) p (set hs l h)) (sym holds_at)
 
     long_by : (q : ℕ) → q < length w → (q ≡ p) ⊎ (q ≡ p → ⊥) → length (get_or (set w p stand_after) q no_stand).holds ≡ length locks
     long_by q lt (inl same) =
@@ -213,7 +213,7 @@ module _ {T : Type 0} (ids : ℕ → PartyId) (distinct : AreDistinct ids) where
       calls = ap (λ (cs : List (List PlanCall)). set cs p calls) tied.calls ∙ sym (map-set (λ (x : Stand). x.calls) w p stand_after);
       long = λ q lt. long_by q (omega (arith, lt, length-set w p stand_after)) (cases_eq q p);
       callable = λ q. callable_by q ok (cases_eq q p);
-      at = λ k lt. subst (λ (hss : List (List PlanHold)). IsLockTied ids (get_or locks k no_lock) (scene_after.machines k) hss k fewer)
+      at = λ k lt. subst (λ (hss : List (List Hold)). IsLockTied ids (get_or locks k no_lock) (scene_after.machines k) hss k fewer)
           (sym holds_after) (at_by k lt (k == l) refl);
     }
       where
@@ -254,7 +254,7 @@ module _ (locks : List PlanLock) where
   first_bag : (parties : List (List PlanCall)) (l : ℕ) → bag_on l (map (λ stand. stand.holds) (first_world locks parties)) ≡ empty_bag
   first_bag [] l = refl
   first_bag (calls ∷ parties) l =
-      ap (λ (x : PlanHold). joined x.bag (bag_on l (map (λ stand. stand.holds) (first_world locks parties)))) (none_of (length locks) l)
+      ap (λ (x : Hold). joined x.bag (bag_on l (map (λ stand. stand.holds) (first_world locks parties)))) (none_of (length locks) l)
       ∙ ap (λ (b : Bag). joined empty_bag b) (first_bag parties l)
 
   first_calls : (parties : List (List PlanCall)) → parties ≡ map (λ stand. stand.calls) (first_world locks parties)
@@ -286,8 +286,8 @@ module _ (locks : List PlanLock) where
       sound = empty_sound (get_or locks l no_lock).kind places (limit_for (get_or locks l no_lock).kind (get_or locks l no_lock).limit)
           (fits.limits l lt);
       all = sym (first_bag parties l);
-      own = λ q. ap (λ (x : PlanHold). x.bag) (sym (first_hold parties q l));
-      announced = λ q. ap (λ (x : PlanHold). x.announced) (sym (first_hold parties q l));
+      own = λ q. ap (λ (x : Hold). x.bag) (sym (first_hold parties q l));
+      announced = λ q. ap (λ (x : Hold). x.announced) (sym (first_hold parties q l));
       barred = tt;
       room = let room = fits.room in omega arith;
       numbers = let numbers = fits.numbers in omega arith;

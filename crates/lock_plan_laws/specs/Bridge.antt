@@ -3,16 +3,16 @@ use Rattle.std.specs.Prelude.{◌≡◌, ℕ, ◌<◌, ◌≤◌, ◌^◌, ◌==
 use Rattle.std.proofs.Common.{get_or}
 use Rattle.lock_base.specs.declared.machine.bag.Bag.{Bag}
 use Rattle.lock_base.specs.declared.machine.party.PartyId.{PartyId}
+use Rattle.lock_base.specs.declared.machine.hold.Hold.{Hold}
 use Rattle.lock_base.specs.Operation.{Operation}
 use Rattle.lock_base.specs.Party.{id_of}
 use Rattle.lock_base.specs.Modes.{bag_of}
 use Rattle.lock_base.specs.Kind.{is_rwlock}
 use Rattle.lock_base.specs.Entries.{Entry, held_entries, held_bag, modes_of_entries}
 use Rattle.lock_base.specs.Sound.{IsLimitOf}
+use Rattle.lock_base.specs.Holds.{no_hold}
 use Rattle.lock_plan.specs.declared.call.PlanCall.{PlanCall}
-use Rattle.lock_plan.specs.declared.hold.PlanHold.{PlanHold}
 use Rattle.lock_plan.specs.declared.lock.PlanLock.{PlanLock}
-use Rattle.lock_plan.specs.Holds.{no_hold}
 use Rattle.lock_plan.specs.Checks.{call_fault}
 use Rattle.lock_plan.specs.Worlds.{Stand, no_stand, no_lock, no_holds, bag_on, bar_from, gone, world_after, first_world, is_stop}
 use Rattle.lock_plan_laws.specs.Scenes.{Caller, parties_of, Scene, limit_for, first_scene, IsRun, IsStopScene}
@@ -27,7 +27,7 @@ abbrev pub bag_held_by : ℕ → List (ℕ × Entry) → Bag
 bag_held_by party entries = bag_of (modes_of_entries (of_party party (held_entries entries)))
 
 -- a party with these calls and holds can make each of its calls in some interleaving
-abbrev pub AreCallable : List PlanLock → List PlanCall → List PlanHold → Type 0
+abbrev pub AreCallable : List PlanLock → List PlanCall → List Hold → Type 0
 AreCallable locks [] holds = Unit {0}
 AreCallable locks (call ∷ calls) holds =
     (call_fault locks holds call ≡ None) × AreCallable locks calls (gone (call ∷ calls) holds).holds

@@ -14,14 +14,14 @@ use Rattle.lock_base.specs.declared.machine.call.Want.TheVariants.{Lock, Read, W
 use Rattle.lock_base.specs.declared.machine.party.PartyId.{PartyId}
 use Rattle.lock_base.specs.declared.machine.reply.Reply.{Reply}
 use Rattle.lock_base.specs.declared.raw.fault.Fault.{Fault}
+use Rattle.lock_base.specs.declared.machine.lock_step.LockStep.{LockStep}
+use Rattle.lock_base.specs.declared.machine.lock_step.LockStep.TheVariants as lock_step
 use Rattle.lock_base.specs.Operation.{Operation}
 use Rattle.lock_base.specs.Party.{id_of}
 use Rattle.lock_base.specs.Kind.{is_rwlock}
 use Rattle.lock_base.specs.Entries.{Entry, find}
 use Rattle.lock_base.specs.Machine.{Machine, start}
 use Rattle.lock_base.specs.Steps.{Response, step}
-use Rattle.lock_plan.specs.declared.call.Act.{Act}
-use Rattle.lock_plan.specs.declared.call.Act.TheVariants as act
 use Rattle.lock_plan.specs.declared.call.PlanCall.{PlanCall}
 use Rattle.lock_plan.specs.declared.lock.PlanLock.{PlanLock}
 use Rattle.lock_plan.specs.declared.turn.Turn.{Turn}
@@ -41,22 +41,22 @@ change_for party guard Shared = Call.Downgrade party guard
 change_for party guard Exclusive = Call.Upgrade Block party guard
 change_for party guard Upgradable = Call.DowngradeToUpgradable party guard
 
-abbrev pub call_for : {O : Type 0} → Kind → PartyId → ℕ → Act → Call O
-call_for kind party guard (act.Step (Acquire mode)) = Call.Acquire (want_for kind mode) Block party
-call_for kind party guard (act.Step (Release mode)) = Call.Unlock party guard Plain
-call_for kind party guard (act.Step (Change from to)) = change_for party guard to
-call_for kind party guard act.Announce = Call.Announce party
-call_for kind party guard act.Withdraw = Call.Withdraw party
+abbrev pub call_for : {O : Type 0} → Kind → PartyId → ℕ → LockStep → Call O
+call_for kind party guard (lock_step.Modes (Acquire mode)) = Call.Acquire (want_for kind mode) Block party
+call_for kind party guard (lock_step.Modes (Release mode)) = Call.Unlock party guard Plain
+call_for kind party guard (lock_step.Modes (Change from to)) = change_for party guard to
+call_for kind party guard lock_step.Announce = Call.Announce party
+call_for kind party guard lock_step.Withdraw = Call.Withdraw party
 
 -- the guard is the party's, and is held in the mode that the call releases or changes
-abbrev pub Names : List (ℕ × Entry) → ℕ → ℕ → Act → Type 0
-Names entries party guard (act.Step (Acquire mode)) = Unit {0}
-Names entries party guard (act.Step (Release mode)) =
+abbrev pub Names : List (ℕ × Entry) → ℕ → ℕ → LockStep → Type 0
+Names entries party guard (lock_step.Modes (Acquire mode)) = Unit {0}
+Names entries party guard (lock_step.Modes (Release mode)) =
     find guard entries ≡ Some (record { party = party; mode = mode; held = true })
-Names entries party guard (act.Step (Change from to)) =
+Names entries party guard (lock_step.Modes (Change from to)) =
     find guard entries ≡ Some (record { party = party; mode = from; held = true })
-Names entries party guard act.Announce = Unit {0}
-Names entries party guard act.Withdraw = Unit {0}
+Names entries party guard lock_step.Announce = Unit {0}
+Names entries party guard lock_step.Withdraw = Unit {0}
 
 -- what a reply says: the party waits where the machine would block it
 abbrev pub turn_of_fault : Fault → Turn
@@ -75,11 +75,11 @@ announced_turn Waits = Waits
 announced_turn Refused = Waits
 
 -- whether a party announces itself after this turn
-abbrev pub announces_after : PlanLock → Act → Turn → Bool
-announces_after lock act Goes = false
-announces_after lock act Announces = false
-announces_after lock act Waits = lock.bar && is_write act
-announces_after lock act Refused = false
+abbrev pub announces_after : PlanLock → LockStep → Turn → Bool
+announces_after lock asked Goes = false
+announces_after lock asked Announces = false
+announces_after lock asked Waits = lock.bar && is_write asked
+announces_after lock asked Refused = false
 
 -- a turn, and the machine after it
 pub record MachineTurn (T : Type 0) : Type 0 where
@@ -129,27 +129,27 @@ first_scene locks parties values places = record {
 
 -- party `p` calls under the id `ids p`
 module _ {O T A : Type 0} (meaning : O → Operation T A) (ids : ℕ → PartyId) where
-  abbrev pub after_reply : PlanLock → ℕ → Act → Response A T → MachineTurn T
-  after_reply lock party act r =
-      if announces_after lock act (turn_of_reply r.reply)
+  abbrev pub after_reply : PlanLock → ℕ → LockStep → Response A T → MachineTurn T
+  after_reply lock party asked r =
+      if announces_after lock asked (turn_of_reply r.reply)
       then (let a = step meaning r.machine (Call.Announce (ids party)) in
       record { turn = announced_turn (turn_of_reply a.reply); machine = a.machine })
       else record { turn = turn_of_reply r.reply; machine = r.machine }
 
   -- the turn of a party that makes this call on its machine: a write that waits may announce the party
-  abbrev pub machine_turn : PlanLock → Machine T → Caller → Act → MachineTurn T
-  machine_turn lock m c act =
-      after_reply lock c.party act (step meaning m (call_for lock.kind (ids c.party) c.guard act))
+  abbrev pub machine_turn : PlanLock → Machine T → Caller → LockStep → MachineTurn T
+  machine_turn lock m c asked =
+      after_reply lock c.party asked (step meaning m (call_for lock.kind (ids c.party) c.guard asked))
 
   -- the next call of a party, on the guard that it names: its turn, and the scene after it
   pub record HasTurn (locks : List PlanLock) (s : Scene T) (c : Caller) (turn : Turn) (after : Scene T) : Type 0 where
     pub call : PlanCall
     pub calls : List PlanCall
     pub next : get_or s.calls c.party [] ≡ call ∷ calls
-    pub names : Names (s.machines call.lock).entries (id_of (ids c.party)) c.guard call.act
-    pub turns : (machine_turn (get_or locks call.lock no_lock) (s.machines call.lock) c call.act).turn ≡ turn
+    pub names : Names (s.machines call.lock).entries (id_of (ids c.party)) c.guard call.step
+    pub turns : (machine_turn (get_or locks call.lock no_lock) (s.machines call.lock) c call.step).turn ≡ turn
     pub leaves : after ≡ scene_with s call.lock
-        (machine_turn (get_or locks call.lock no_lock) (s.machines call.lock) c call.act).machine
+        (machine_turn (get_or locks call.lock no_lock) (s.machines call.lock) c call.step).machine
         c.party (left_after turn call calls)
 
   -- the next call of a party is made, or the party announces itself

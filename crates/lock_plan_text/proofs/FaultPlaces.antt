@@ -1,18 +1,18 @@
 -- The line of a call that can never be made.
 use Rattle.std.proofs.Common.{◌≡◌, ℕ, zero, suc, ◌+◌, ◌<◌, ◌≤◌, inl, inr, Bool, true, false, List, [], ◌∷◌, length, get_or, Option, Some, None, cond, arith, subst}
 use Rattle.std.specs.Prelude.{nat_lt, ◌^◌, ◌⊎◌, option_map}
+use Rattle.lock_base.specs.declared.machine.hold.Hold.{Hold}
 use Rattle.lock_plan.specs.declared.call.PlanCall.{PlanCall}
 use Rattle.lock_plan.specs.declared.fault.CallFault.{CallFault}
 use Rattle.lock_plan.specs.declared.fault.PlanFault.{PlanFault}
 use Rattle.lock_plan.specs.declared.fault.PlanFault.TheVariants as plan
-use Rattle.lock_plan.specs.declared.hold.PlanHold.{PlanHold}
 use Rattle.lock_plan.specs.declared.lock.PlanLock.{PlanLock}
 use Rattle.lock_plan.specs.Checks.{call_at, call_fault, or_fault, parties_fault, party_fault, plan_fault}
 use Rattle.lock_plan.specs.Points.{all_views, size}
 use Rattle.lock_plan.specs.Worlds.{gone, no_holds}
 use Rattle.lock_plan_text.specs.declared.parser.fault.PlanTextFault.TheVariants as text
 use Rattle.lock_plan_text.specs.CallOrigins.{AreTied, IsCallOf, text_at}
-use Rattle.lock_plan_text.specs.Drafts.{no_act}
+use Rattle.lock_plan_text.specs.Drafts.{no_step}
 use Rattle.lock_plan_text.specs.FaultLines.{FaultsHaveLines, call_of}
 use Rattle.lock_plan_text.specs.PlanFaults.{by_line, number_of}
 use Rattle.lock_plan_text.proofs.Origins.{calls_have_lines}
@@ -30,7 +30,7 @@ placed : (party at p k : ℕ) (o : Option CallFault) (why : CallFault) → call_
 placed party at p k None why is = cc
 placed party at p k (Some fault) why is = (cc, cc)
 
-party_place : (locks : List PlanLock) (party first p k : ℕ) (calls : List PlanCall) (holds : List PlanHold) (why : CallFault)
+party_place : (locks : List PlanLock) (party first p k : ℕ) (calls : List PlanCall) (holds : List Hold) (why : CallFault)
     → party_fault locks party first calls holds ≡ Some (plan.Call p k why) → (party ≡ p) × ((first ≤ k) × (k < first + length calls))
 party_place locks party first p k [] holds why is = cc
 party_place locks party first p k (call ∷ calls) holds why is =
@@ -100,7 +100,7 @@ told_of numbers (Some plan.TooLarge) number why is = cc
 told_of numbers (Some plan.OutOfMemory) number why is = cc
 
 abbrev no_call : PlanCall
-no_call = record { lock = 0; act = no_act }
+no_call = record { lock = 0; step = no_step }
 
 pub faults_have_lines : FaultsHaveLines
 faults_have_lines bytes draft number why makes is =

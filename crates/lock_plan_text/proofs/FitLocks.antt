@@ -5,7 +5,7 @@ use Rattle.std.proofs.lemmas.Bool.Decides.{nat_tests}
 use Rattle.std.proofs.lemmas.List.Folds.{list_all-append}
 use Rattle.lock_base.specs.declared.machine.kind.Kind.{Kind}
 use Rattle.lock_base.specs.declared.machine.kind.Kind.TheVariants.{Mutex, RwLock, Reentrant}
-use Rattle.lock_plan.specs.declared.call.Act.{Act}
+use Rattle.lock_base.specs.declared.machine.lock_step.LockStep.{LockStep}
 use Rattle.lock_plan.specs.declared.lock.PlanLock.{PlanLock}
 use Rattle.lock_plan.specs.Checks.{fit_machines, fits_kind, fits_machine}
 use Rattle.lock_plan_text.specs.declared.parser.plan_line.PlanLine.{PlanLine}
@@ -29,11 +29,11 @@ fit_lock : (draft : Draft) (lock : PlanLock) (name : List ℕ) → Fit draft →
 fit_lock draft lock name fit fits =
     list_all-append fits_machine draft.locks (lock ∷ []) ∙ ap₂ (λ a b. a && (b && true)) fit fits
 
-fit_call : (draft next : Draft) (number : ℕ) (for_rwlock : Bool) (act : Act) (place : Option ℕ) → Fit draft
-    → call_at_place draft number place for_rwlock act ≡ Some next → Fit next
-fit_call draft next number for_rwlock act None fit is = cc
-fit_call draft next number for_rwlock act (Some lock) fit is =
-    subst Fit (taken (length draft.parties == 0) (with_call draft number lock for_rwlock act) next is) fit
+fit_call : (draft next : Draft) (number : ℕ) (for_rwlock : Bool) (step : LockStep) (place : Option ℕ) → Fit draft
+    → call_at_place draft number place for_rwlock step ≡ Some next → Fit next
+fit_call draft next number for_rwlock step None fit is = cc
+fit_call draft next number for_rwlock step (Some lock) fit is =
+    subst Fit (taken (length draft.parties == 0) (with_call draft number lock for_rwlock step) next is) fit
 
 fit_line : (draft next : Draft) (number : ℕ) (line : PlanLine) (name : List ℕ) → Fit draft → IsPlanLine line
     → with_line draft number line name ≡ Some next → Fit next
@@ -42,8 +42,8 @@ fit_line draft next number (Lock lock) name fit ok is =
     (fit_lock draft lock name fit (kind_fits lock.kind lock.limit lock.bar ok))
 fit_line draft next number (Party serves copies) name fit ok is =
     parties_kept Fit serves (λ d called kept. kept) (record draft { first = length draft.parties }) next (party_names name copies) fit is
-fit_line draft next number (Call for_rwlock act) name fit ok is =
-    fit_call draft next number for_rwlock act (place_of draft.lock_names name) fit is
+fit_line draft next number (Call for_rwlock step) name fit ok is =
+    fit_call draft next number for_rwlock step (place_of draft.lock_names name) fit is
 
 fit_lines : (draft end : Draft) (number : ℕ) (texts : List (List ℕ)) → Fit draft → Make draft number texts end → Fit end
 fit_lines draft end number [] fit makes = subst Fit makes fit

@@ -5,14 +5,14 @@ use Rattle.std.specs.List.{position, position_or_len}
 use Rattle.std.proofs.lemmas.Bool.Decides.{nat_tests}
 use Rattle.std.proofs.lemmas.List.Folds.{position_or_len_push}
 use Rattle.std.proofs.Math.ListN.{get_or-append}
-use Rattle.lock_plan.specs.declared.call.Act.{Act}
+use Rattle.lock_base.specs.declared.machine.lock_step.LockStep.{LockStep}
 use Rattle.lock_plan.specs.declared.call.PlanCall.{PlanCall}
 use Rattle.lock_plan.specs.declared.lock.PlanLock.{PlanLock}
 use Rattle.lock_plan.specs.Worlds.{no_lock}
 use Rattle.lock_plan_text.specs.declared.parser.plan_line.PlanLine.{PlanLine}
 use Rattle.lock_plan_text.specs.declared.parser.plan_line.PlanLine.TheVariants.{Lock, Party, Call}
 use Rattle.lock_plan_text.specs.CallOrigins.{AreTied, CallsHaveLines, IsCallOf, text_at}
-use Rattle.lock_plan_text.specs.Drafts.{Draft, Make, act_on, call_at_place, no_draft, place_of, texts_of, with_call, with_line, with_lock, with_parties, with_party, party_names}
+use Rattle.lock_plan_text.specs.Drafts.{Draft, Make, step_on, call_at_place, no_draft, place_of, texts_of, with_call, with_line, with_lock, with_parties, with_party, party_names}
 use Rattle.lock_plan_text.specs.PlanLines.{Says}
 use Rattle.lock_plan_text.proofs.Ties.{tied_more, tied_onto_from, tied_push}
 
@@ -42,11 +42,11 @@ record Made (text : ℕ → List ℕ) (draft : Draft) : Type 0 where
 
 call_kept : (text : ℕ → List ℕ) (draft : Draft) (lock : PlanLock) (name : List ℕ) → length draft.locks ≡ length draft.lock_names
     → (call : PlanCall) (number : ℕ) → IsCallOf text draft call number → IsCallOf text (with_lock draft lock name) call number
-call_kept text draft lock name named call number (for_rwlock, (act, (called, (says, (place, does))))) =
+call_kept text draft lock name named call number (for_rwlock, (step, (called, (says, (place, does))))) =
     let found = position-push (λ other. bytes_eq other called) draft.lock_names name call.lock place in
     let same : get_or (draft.locks ++ lock ∷ []) call.lock no_lock ≡ get_or draft.locks call.lock no_lock
     = get_or-append draft.locks (lock ∷ []) no_lock call.lock (omega (arith, found.0)) in
-    (for_rwlock, (act, (called, (says, (found.1, does ∙ ap (λ (l : PlanLock). act_on for_rwlock act l.kind) (sym same))))))
+    (for_rwlock, (step, (called, (says, (found.1, does ∙ ap (λ (l : PlanLock). step_on for_rwlock step l.kind) (sym same))))))
 
 made_lock : (text : ℕ → List ℕ) (draft : Draft) (lock : PlanLock) (name : List ℕ) → Made text draft → Made text (with_lock draft lock name)
 made_lock text draft lock name made = record {
@@ -60,15 +60,15 @@ pub taken : (t : Bool) (draft next : Draft) → cond t None (Some draft) ≡ Som
 taken true draft next is = cc
 taken false draft next is = cc
 
-made_call : (text : ℕ → List ℕ) (draft next : Draft) (number : ℕ) (for_rwlock : Bool) (act : Act) (name : List ℕ) (place : Option ℕ) → Made text draft
-    → Says (text number) (Call for_rwlock act) name → place_of draft.lock_names name ≡ place
-    → call_at_place draft number place for_rwlock act ≡ Some next → Made text next
-made_call text draft next number for_rwlock act name None made says found is = cc
-made_call text draft next number for_rwlock act name (Some lock) made says found is =
-    subst (Made text) (taken (length draft.parties == 0) (with_call draft number lock for_rwlock act) next is) (record {
+made_call : (text : ℕ → List ℕ) (draft next : Draft) (number : ℕ) (for_rwlock : Bool) (step : LockStep) (name : List ℕ) (place : Option ℕ) → Made text draft
+    → Says (text number) (Call for_rwlock step) name → place_of draft.lock_names name ≡ place
+    → call_at_place draft number place for_rwlock step ≡ Some next → Made text next
+made_call text draft next number for_rwlock step name None made says found is = cc
+made_call text draft next number for_rwlock step name (Some lock) made says found is =
+    subst (Made text) (taken (length draft.parties == 0) (with_call draft number lock for_rwlock step) next is) (record {
       named = made.named;
       tied = tied_onto_from (IsCallOf text draft) draft.first draft.parties draft.numbers _ number made.tied
-          (for_rwlock, (act, (name, (says, (found, refl)))));
+          (for_rwlock, (step, (name, (says, (found, refl)))));
     })
 
 pub parties_kept : (P : Draft → Type 0) (serves : Bool) → ((draft : Draft) (name : List ℕ) → P draft → P (with_party draft serves name))
@@ -100,8 +100,8 @@ made_line text draft next number (Lock lock) name made says is =
 made_line text draft next number (Party serves copies) name made says is =
     made_parties text serves (record draft { first = length draft.parties }) next (party_names name copies)
     (record { named = made.named; tied = made.tied }) is
-made_line text draft next number (Call for_rwlock act) name made says is =
-    made_call text draft next number for_rwlock act name (place_of draft.lock_names name) made says refl is
+made_line text draft next number (Call for_rwlock step) name made says is =
+    made_call text draft next number for_rwlock step name (place_of draft.lock_names name) made says refl is
 
 -- `text` gives each of the texts by its number
 made_all : (text : ℕ → List ℕ) (draft end : Draft) (number : ℕ) (texts : List (List ℕ)) → Made text draft

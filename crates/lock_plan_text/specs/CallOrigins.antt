@@ -2,11 +2,11 @@
 use Rattle.std.specs.Prelude.{◌≡◌, ℕ, ◌-◌, Bool, List, [], ◌∷◌, Some}
 use Rattle.std.specs.Bool.{⊤}
 use Rattle.std.proofs.Common.{get_or}
-use Rattle.lock_plan.specs.declared.call.Act.{Act}
+use Rattle.lock_base.specs.declared.machine.lock_step.LockStep.{LockStep}
 use Rattle.lock_plan.specs.declared.call.PlanCall.{PlanCall}
 use Rattle.lock_plan.specs.Worlds.{no_lock}
 use Rattle.lock_plan_text.specs.declared.parser.plan_line.PlanLine.TheVariants.{Call}
-use Rattle.lock_plan_text.specs.Drafts.{Draft, IsDraftOf, act_on, place_of, texts_of}
+use Rattle.lock_plan_text.specs.Drafts.{Draft, IsDraftOf, step_on, place_of, texts_of}
 use Rattle.lock_plan_text.specs.PlanLines.{Says}
 
 module _ {X Y : Type 0} where
@@ -21,13 +21,13 @@ module _ {X Y : Type 0} where
 abbrev pub text_at : List ℕ → ℕ → List ℕ
 text_at bytes number = get_or (texts_of bytes) (number - 1) []
 
--- the call is what line `number` says: the line names its lock and has a word for its act
+-- the call is what line `number` says: the line names its lock and has a word for its step
 abbrev pub IsCallOf : (ℕ → List ℕ) → Draft → PlanCall → ℕ → Type 0
 IsCallOf text draft call number =
-    (for_rwlock : Bool) × ((act : Act) × ((name : List ℕ)
-    × (Says (text number) (Call for_rwlock act) name
+    (for_rwlock : Bool) × ((step : LockStep) × ((name : List ℕ)
+    × (Says (text number) (Call for_rwlock step) name
     × ((place_of draft.lock_names name ≡ Some call.lock)
-    × (call.act ≡ act_on for_rwlock act (get_or draft.locks call.lock no_lock).kind)))))
+    × (call.step ≡ step_on for_rwlock step (get_or draft.locks call.lock no_lock).kind)))))
 
 -- each call of a draft is what the line with its number says
 abbrev pub CallsHaveLines : Type 0

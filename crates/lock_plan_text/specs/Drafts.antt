@@ -5,9 +5,9 @@ use Rattle.std.proofs.Common.{get_or}
 use Rattle.lock_base.specs.declared.machine.kind.Kind.{Kind}
 use Rattle.lock_base.specs.declared.machine.mode.Mode.TheVariants.{Exclusive}
 use Rattle.lock_base.specs.declared.machine.mode_step.ModeStep.TheVariants.{Change}
+use Rattle.lock_base.specs.declared.machine.lock_step.LockStep.{LockStep}
+use Rattle.lock_base.specs.declared.machine.lock_step.LockStep.TheVariants.{Modes}
 use Rattle.lock_base.specs.Kind.{is_rwlock}
-use Rattle.lock_plan.specs.declared.call.Act.{Act}
-use Rattle.lock_plan.specs.declared.call.Act.TheVariants.{Step}
 use Rattle.lock_plan.specs.declared.call.PlanCall.{PlanCall}
 use Rattle.lock_plan.specs.declared.lock.PlanLock.{PlanLock}
 use Rattle.lock_plan.specs.Worlds.{no_lock}
@@ -40,14 +40,14 @@ module _ {X : Type 0} where
   onto_from zero (xs ∷ rest) x = (xs ++ x ∷ []) ∷ onto_from zero rest x
   onto_from (suc first) (xs ∷ rest) x = xs ∷ onto_from first rest x
 
--- an act of no kind of lock: a plan with it is refused
-abbrev pub no_act : Act
-no_act = Step (Change Exclusive Exclusive)
+-- a step of no kind of lock: a plan with it is refused
+abbrev pub no_step : LockStep
+no_step = Modes (Change Exclusive Exclusive)
 
 -- what a call does on a lock of this kind; its word is one for reader-writer locks, or one for the others
-abbrev pub act_on : Bool → Act → Kind → Act
-act_on true act kind = if is_rwlock kind then act else no_act
-act_on false act kind = if is_rwlock kind then no_act else act
+abbrev pub step_on : Bool → LockStep → Kind → LockStep
+step_on true step kind = if is_rwlock kind then step else no_step
+step_on false step kind = if is_rwlock kind then no_step else step
 
 abbrev pub with_lock : Draft → PlanLock → List ℕ → Draft
 with_lock draft lock name =
@@ -80,17 +80,17 @@ abbrev pub party_names : List ℕ → Option ℕ → List (List ℕ)
 party_names name None = name ∷ []
 party_names name (Some count) = copy_names name 0 count
 
-abbrev pub with_call : Draft → ℕ → ℕ → Bool → Act → Draft
-with_call draft number lock for_rwlock act = record draft {
-  parties = onto_from draft.first draft.parties (record { lock = lock; act = act_on for_rwlock act (get_or draft.locks lock no_lock).kind });
+abbrev pub with_call : Draft → ℕ → ℕ → Bool → LockStep → Draft
+with_call draft number lock for_rwlock step = record draft {
+  parties = onto_from draft.first draft.parties (record { lock = lock; step = step_on for_rwlock step (get_or draft.locks lock no_lock).kind });
   numbers = onto_from draft.first draft.numbers number;
 }
 
 -- a call of the last line's parties on the lock at a place
-abbrev pub call_at_place : Draft → ℕ → Option ℕ → Bool → Act → Option Draft
-call_at_place draft number None for_rwlock act = None
-call_at_place draft number (Some lock) for_rwlock act =
-    if length draft.parties == 0 then None else Some (with_call draft number lock for_rwlock act)
+abbrev pub call_at_place : Draft → ℕ → Option ℕ → Bool → LockStep → Option Draft
+call_at_place draft number None for_rwlock step = None
+call_at_place draft number (Some lock) for_rwlock step =
+    if length draft.parties == 0 then None else Some (with_call draft number lock for_rwlock step)
 
 -- the draft with one more line; none if the name of a new lock or party is there, or a call has no lock or no party
 abbrev pub with_line : Draft → ℕ → PlanLine → List ℕ → Option Draft
@@ -98,7 +98,7 @@ with_line draft number (Lock lock) name =
     if is_some (place_of draft.lock_names name) then None else Some (with_lock draft lock name)
 with_line draft number (Party serves copies) name =
     with_parties (record draft { first = length draft.parties }) serves (party_names name copies)
-with_line draft number (Call for_rwlock act) name = call_at_place draft number (place_of draft.lock_names name) for_rwlock act
+with_line draft number (Call for_rwlock step) name = call_at_place draft number (place_of draft.lock_names name) for_rwlock step
 
 -- the text of line `number` makes one draft of another
 abbrev pub Adds : Draft → ℕ → List ℕ → Draft → Type 0

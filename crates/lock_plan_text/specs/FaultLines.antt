@@ -7,12 +7,12 @@ use Rattle.lock_plan.specs.declared.fault.PlanFault.TheVariants as plan
 use Rattle.lock_plan.specs.Checks.{plan_fault}
 use Rattle.lock_plan_text.specs.declared.parser.fault.PlanTextFault.TheVariants.{Call}
 use Rattle.lock_plan_text.specs.CallOrigins.{IsCallOf, text_at}
-use Rattle.lock_plan_text.specs.Drafts.{Draft, IsDraftOf, no_act}
+use Rattle.lock_plan_text.specs.Drafts.{Draft, IsDraftOf, no_step}
 use Rattle.lock_plan_text.specs.PlanFaults.{draft_fault}
 
 -- a call of a draft; past its end it is no call of a plan
 abbrev pub call_of : Draft → ℕ → ℕ → PlanCall
-call_of draft party k = get_or (get_or draft.parties party []) k (record { lock = 0; act = no_act })
+call_of draft party k = get_or (get_or draft.parties party []) k (record { lock = 0; step = no_step })
 
 -- the plan's fault is that of a call, which is what line `number` says
 abbrev pub IsFaultOnLine : List ℕ → Draft → ℕ → CallFault → Type 0

@@ -3,8 +3,8 @@ use Rattle.std.specs.Prelude.{ℕ, zero, suc, Bool, true, false, nat_lt, List, [
 use Rattle.std.specs.Global.{Global}
 use Rattle.std.specs.List.{flat_map, join_by}
 use Rattle.std.proofs.Common.{get_or}
-use Rattle.lock_plan.specs.declared.hold.PlanHold.{PlanHold}
-use Rattle.lock_plan.specs.Holds.{no_hold}
+use Rattle.lock_base.specs.declared.machine.hold.Hold.{Hold}
+use Rattle.lock_base.specs.Holds.{no_hold}
 use Rattle.lock_plan.specs.Worlds.{Stand}
 use Rattle.lock_plan.specs.Stops.{all_holds}
 use Rattle.lock_plan_text.specs.declared.printer.mark.Mark.{Mark}
@@ -19,7 +19,7 @@ mark_if number mark true = record { number = number; mark = mark } ∷ []
 mark_if number mark false = []
 
 -- each mode of a hold, and its announcement
-abbrev pub marks_of : ℕ → PlanHold → List Marked
+abbrev pub marks_of : ℕ → Hold → List Marked
 marks_of number h =
     mark_if number Shared (nat_lt 0 h.bag.shared)
     ++ (mark_if number Exclusive (nat_lt 0 h.bag.exclusive)
@@ -31,7 +31,7 @@ abbrev pub holders : List Stand → ℕ → List Marked
 holders w lock = flat_map (λ h. marks_of h.party h.hold) (all_holds w lock)
 
 -- which of the first locks are held, and in which modes
-abbrev pub locks_held : List PlanHold → ℕ → List Marked
+abbrev pub locks_held : List Hold → ℕ → List Marked
 locks_held holds zero = []
 locks_held holds (suc n) = locks_held holds n ++ marks_of n (get_or holds n no_hold)
 

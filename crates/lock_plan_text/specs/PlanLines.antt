@@ -6,10 +6,10 @@ use Rattle.std.specs.List.{list_all}
 use Rattle.std.specs.Str.{IsUtf8}
 use Rattle.lock_base.specs.declared.machine.kind.Kind.{Kind}
 use Rattle.lock_base.specs.declared.machine.kind.Kind.TheVariants.{Mutex, RwLock, Reentrant}
+use Rattle.lock_base.specs.declared.machine.lock_step.LockStep.{LockStep}
 use Rattle.lock_base.specs.Limits.{IsLimit}
-use Rattle.lock_plan.specs.declared.call.Act.{Act}
 use Rattle.lock_plan.specs.Checks.{is_of_kind}
-use Rattle.lock_plan_text.specs.Words.{act_word}
+use Rattle.lock_plan_text.specs.Words.{step_word}
 use Rattle.lock_plan_text.specs.declared.parser.plan_line.PlanLine.{PlanLine}
 use Rattle.lock_plan_text.specs.declared.parser.plan_line.PlanLine.TheVariants.{Lock, Party, Call}
 use Rattle.lock_script.specs.Lines.{fields_of}
@@ -35,7 +35,7 @@ party_word true = codes "server"
 abbrev pub line_word : PlanLine → List ℕ
 line_word (Lock lock) = kind_word lock.kind
 line_word (Party serves copies) = party_word serves
-line_word (Call is_rwlock act) = act_word is_rwlock act
+line_word (Call is_rwlock step) = step_word is_rwlock step
 
 -- the fields after the name of a lock
 abbrev pub limit_fields : Kind → ℕ → Bool → List (List ℕ)
@@ -51,7 +51,7 @@ copy_fields (Some count) = decimal count ∷ []
 abbrev pub last_fields : PlanLine → List (List ℕ)
 last_fields (Lock lock) = limit_fields lock.kind lock.limit lock.bar
 last_fields (Party serves copies) = copy_fields copies
-last_fields (Call is_rwlock act) = []
+last_fields (Call is_rwlock step) = []
 
 -- the fields of a line about the lock or party with this name
 abbrev pub plan_fields : PlanLine → List ℕ → List (List ℕ)
@@ -80,15 +80,15 @@ IsLineLock RwLock limit bar = IsLimit limit
 IsLineLock Reentrant limit bar = IsLimit limit × (bar ≡ false)
 
 -- the word is one for reader-writer locks, or one for mutexes, and these have the call
-abbrev pub IsVerb : Bool → Act → Type 0
-IsVerb true act = IsTrue (is_of_kind RwLock act)
-IsVerb false act = IsTrue (is_of_kind Mutex act)
+abbrev pub IsVerb : Bool → LockStep → Type 0
+IsVerb true step = IsTrue (is_of_kind RwLock step)
+IsVerb false step = IsTrue (is_of_kind Mutex step)
 
 -- a line with these values can be written
 abbrev pub IsPlanLine : PlanLine → Type 0
 IsPlanLine (Lock lock) = IsLineLock lock.kind lock.limit lock.bar
 IsPlanLine (Party serves copies) = IsCopies copies
-IsPlanLine (Call is_rwlock act) = IsVerb is_rwlock act
+IsPlanLine (Call is_rwlock step) = IsVerb is_rwlock step
 
 -- the text is such a line, about this name
 pub record Says (text : List ℕ) (line : PlanLine) (name : List ℕ) : Type 0 where

@@ -1,9 +1,9 @@
 -- The steps of a trace, a line each.
 use Rattle.std.specs.Prelude.{ℕ, List, [], ◌∷◌, ◌++◌, codes, Option, Some, None}
 use Rattle.std.proofs.Common.{get_or}
+use Rattle.lock_base.specs.declared.machine.lock_step.LockStep.{LockStep}
+use Rattle.lock_base.specs.declared.machine.lock_step.LockStep.TheVariants.{Announce}
 use Rattle.lock_base.specs.Kind.{is_rwlock}
-use Rattle.lock_plan.specs.declared.call.Act.{Act}
-use Rattle.lock_plan.specs.declared.call.Act.TheVariants.{Announce}
 use Rattle.lock_plan.specs.declared.call.PlanCall.{PlanCall}
 use Rattle.lock_plan.specs.declared.lock.PlanLock.{PlanLock}
 use Rattle.lock_plan.specs.declared.turn.Turn.{Turn}
@@ -11,23 +11,23 @@ use Rattle.lock_plan.specs.declared.turn.Turn.TheVariants.{Goes, Announces, Wait
 use Rattle.lock_plan.specs.Worlds.{Stand, no_stand, no_lock, first_call, turn_of, world_step}
 use Rattle.lock_plan_text.specs.declared.names.Names.{Names}
 use Rattle.lock_plan_text.specs.Names.{name_of}
-use Rattle.lock_plan_text.specs.Words.{act_word}
+use Rattle.lock_plan_text.specs.Words.{step_word}
 
 -- a call: its word and its lock
 abbrev pub call_text : List PlanLock → Names → PlanCall → List ℕ
 call_text locks names call =
-    act_word (is_rwlock (get_or locks call.lock no_lock).kind) call.act ++ (codes " " ++ name_of names.locks.items call.lock)
+    step_word (is_rwlock (get_or locks call.lock no_lock).kind) call.step ++ (codes " " ++ name_of names.locks.items call.lock)
 
 -- what a step does: the call, or an announcement for it
-abbrev pub step_act : Option Turn → Act → Act
-step_act None act = act
-step_act (Some Goes) act = act
-step_act (Some Announces) act = Announce
-step_act (Some Waits) act = act
-step_act (Some Refused) act = act
+abbrev pub made_step : Option Turn → LockStep → LockStep
+made_step None step = step
+made_step (Some Goes) step = step
+made_step (Some Announces) step = Announce
+made_step (Some Waits) step = step
+made_step (Some Refused) step = step
 
 abbrev pub step_call : List PlanLock → List Stand → ℕ → PlanCall → PlanCall
-step_call locks w party call = record { lock = call.lock; act = step_act (turn_of locks w party) call.act }
+step_call locks w party call = record { lock = call.lock; step = made_step (turn_of locks w party) call.step }
 
 -- the line of a party's step
 abbrev pub step_line : List PlanLock → Names → List Stand → ℕ → Option PlanCall → List ℕ

@@ -3,15 +3,15 @@ ghost use Rattle.std.specs.Prelude.{◌≡◌, ◌∷◌, [], Some, None, IfOk, 
 ghost use Rattle.std.proofs.Common.{get_or};
 ghost use Rattle.lock_plan.specs.Worlds.{no_lock};
 ghost use Rattle.lock_plan_text.specs.declared.parser.plan_line.PlanLine.TheVariants as line;
-ghost use Rattle.lock_plan_text.specs.Drafts.{act_on, copy_names, no_draft, with_line, with_parties};
+ghost use Rattle.lock_plan_text.specs.Drafts.{step_on, copy_names, no_draft, with_line, with_parties};
 ghost use Rattle.lock_plan_text.specs.Drafted.{drafted};
 
 use crate::names::Names;
 use crate::parser::copies::copy_name;
 use crate::parser::place::{place_of, push_from};
 use crate::parser::plan_line::PlanLine;
-use lock_base::machine::{Kind, Mode, ModeStep};
-use lock_plan::{Act, PlanCall, PlanLock};
+use lock_base::machine::{Kind, LockStep, Mode, ModeStep};
+use lock_plan::{PlanCall, PlanLock};
 use std::alloc::{AllocError, Global};
 
 /// What the lines so far make: locks, the calls of each party, the number of each call's line, and names.
@@ -59,7 +59,7 @@ impl PlanDraft {
         match line {
             PlanLine::Lock(lock) => self.add_lock(alloc, lock, name),
             PlanLine::Party(is_server, copies) => self.add_parties(alloc, is_server, copies, name),
-            PlanLine::Call(is_rwlock, act) => self.add_call(number, is_rwlock, act, name),
+            PlanLine::Call(is_rwlock, step) => self.add_call(number, is_rwlock, step, name),
         }
     }
 
@@ -135,10 +135,10 @@ impl PlanDraft {
         &mut self,
         number: u64,
         is_rwlock: bool,
-        act: Act,
+        step: LockStep,
         name: &str,
     ) -> Result<bool, AllocError>
-        ensures { IfOk result (λ is_added. with_line (drafted self.old) number (line.Call is_rwlock act) name.now
+        ensures { IfOk result (λ is_added. with_line (drafted self.old) number (line.Call is_rwlock step) name.now
             ≡ (if is_added then Some (drafted self.new) else None)) }
     {
         let Some(lock) = place_of(self.names.locks.as_slice(), name) else {
@@ -147,8 +147,8 @@ impl PlanDraft {
         if self.parties.is_empty() {
             return Ok(false);
         }
-        let act = act_on(is_rwlock, act, self.kind(lock));
-        push_from(&mut self.parties, self.first, PlanCall { lock, act })?;
+        let step = step_on(is_rwlock, step, self.kind(lock));
+        push_from(&mut self.parties, self.first, PlanCall { lock, step })?;
         push_from(&mut self.numbers, self.first, number)?;
         Ok(true)
     }
@@ -164,13 +164,13 @@ impl PlanDraft {
     }
 }
 
-/// Returns what a call does on a lock of this kind. If its word is one for another kind, no kind has the act.
-fn act_on(is_rwlock: bool, act: Act, kind: Kind) -> Act
-    ensures { result ≡ act_on is_rwlock act kind }
+/// Returns what a call does on a lock of this kind. If its word is one for another kind, no kind has the step.
+fn step_on(is_rwlock: bool, step: LockStep, kind: Kind) -> LockStep
+    ensures { result ≡ step_on is_rwlock step kind }
 {
     if is_rwlock == kind.is_rwlock() {
-        act
+        step
     } else {
-        Act::Step(ModeStep::Change(Mode::Exclusive, Mode::Exclusive))
+        LockStep::Modes(ModeStep::Change(Mode::Exclusive, Mode::Exclusive))
     }
 }

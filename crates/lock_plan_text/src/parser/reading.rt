@@ -43,8 +43,8 @@ fn short_line(word: &str) -> Option<PlanLine>
         "party" => Some(PlanLine::Party(false, None)),
         "server" => Some(PlanLine::Party(true, None)),
         _ => {
-            let (is_rwlock, act) = verb(word)?;
-            Some(PlanLine::Call(is_rwlock, act))
+            let (is_rwlock, step) = verb(word)?;
+            Some(PlanLine::Call(is_rwlock, step))
         }
     }
 }

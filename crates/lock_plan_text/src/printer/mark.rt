@@ -3,7 +3,7 @@ ghost use Rattle.std.specs.Prelude.{◌≡◌, ◌++◌, OnOk, string_bytes};
 ghost use Rattle.lock_plan_text.specs.Marks.{mark_if, marks_of, mark_text, gap_text, marked_text, marks_text};
 
 use crate::names::write_name;
-use lock_plan::PlanHold;
+use lock_base::machine::Hold;
 use std::alloc::AllocError;
 
 /// A mode that is held, or an announcement.
@@ -35,7 +35,7 @@ pub(crate) enum Style {
 pub(crate) fn add_marks(
     marks: &mut Vec<Marked>,
     number: usize,
-    hold: PlanHold,
+    hold: Hold,
 ) -> Result<(), AllocError>
     ensures { OnOk result (marks.new.items ≡ marks.old.items ++ marks_of number hold) }
 {

@@ -4,11 +4,12 @@ ghost use Rattle.std.proofs.Common.{get_or};
 ghost use Rattle.lock_base.specs.Kind.{is_rwlock};
 ghost use Rattle.lock_plan.specs.Worlds.{no_lock, first_world};
 ghost use Rattle.lock_plan.specs.Stops.{calls_of, world_of};
-ghost use Rattle.lock_plan_text.specs.Steps.{call_text, step_text, steps_text, step_act, stepped, last_world};
+ghost use Rattle.lock_plan_text.specs.Steps.{call_text, step_text, steps_text, made_step, stepped, last_world};
 
 use crate::names::{Names, write_name};
-use crate::printer::words::act_word;
-use lock_plan::{Act, Plan, PlanCall, Turn};
+use crate::printer::words::step_word;
+use lock_base::machine::LockStep;
+use lock_plan::{Plan, PlanCall, Turn};
 use std::alloc::AllocError;
 
 /// Appends the steps of a trace, a line each.
@@ -70,20 +71,20 @@ fn write_step(
     let Some(call) = plan.call(node, party) else {
         return Ok(());
     };
-    let act = step_act(plan.turn(node, party), call.act);
+    let step = made_step(plan.turn(node, party), call.step);
     write_name(text, names.parties.as_slice(), party)?;
     text.push(' ')?;
-    write_call(text, plan, names, PlanCall { act, ..call })?;
+    write_call(text, plan, names, PlanCall { step, ..call })?;
     text.push('\n')
 }
 
 /// Returns what a step does: the call, or an announcement for it.
-fn step_act(turn: Option<Turn>, act: Act) -> Act
-    ensures { result ≡ step_act turn act }
+fn made_step(turn: Option<Turn>, step: LockStep) -> LockStep
+    ensures { result ≡ made_step turn step }
 {
     match turn {
-        Some(Turn::Announces) => Act::Announce,
-        _ => act,
+        Some(Turn::Announces) => LockStep::Announce,
+        _ => step,
     }
 }
 
@@ -96,7 +97,7 @@ pub(crate) fn write_call(
 ) -> Result<(), AllocError>
     ensures { OnOk result (string_bytes text.new ≡ string_bytes text.old ++ call_text plan.now.locks.items names.now call) }
 {
-    text.push_str(act_word(is_rwlock(plan, call.lock), call.act))?;
+    text.push_str(step_word(is_rwlock(plan, call.lock), call.step))?;
     text.push(' ')?;
     write_name(text, names.locks.as_slice(), call.lock)
 }
