@@ -2,21 +2,16 @@
 ghost use Rattle.std.specs.Prelude.{◌≡◌, ℕ, ◌<◌, ◌^◌, length, Option};
 ghost use Rattle.std.proofs.Common.{get_or};
 ghost use Rattle.lock_base.specs.Modes.{is_move, tokens};
-ghost use Rattle.lock_plan.specs.Holds.{no_hold};
-ghost use Rattle.lock_plan.specs.Checks.{is_of_kind, is_over, fault_on, call_fault};
+ghost use Rattle.lock_base.specs.Holds.{no_hold};
+ghost use Rattle.lock_plan.specs.Checks.{is_of_kind, is_over, lack_of, fault_on, call_fault};
 
-use crate::call::{Act, PlanCall};
+use crate::call::{PlanCall, is_write};
 use crate::fault::CallFault;
-use crate::hold::PlanHold;
 use crate::lock::PlanLock;
-use lock_base::machine::{Kind, Mode, ModeStep};
+use lock_base::machine::{Hold, Kind, LockStep, Mode, ModeStep};
 
 /// Returns why a call can never be made by a party with these holds.
-pub(crate) fn call_fault(
-    locks: &[PlanLock],
-    holds: &[PlanHold],
-    call: PlanCall,
-) -> Option<CallFault>
+pub(crate) fn call_fault(locks: &[PlanLock], holds: &[Hold], call: PlanCall) -> Option<CallFault>
     requires long { length holds.now ≡ length locks.now }
     requires few { (l : ℕ) → tokens (get_or holds.now l no_hold).bag < 2 ^ 64 }
     ensures { result ≡ call_fault locks.now holds.now call }
@@ -24,38 +19,46 @@ pub(crate) fn call_fault(
     if call.lock >= locks.len() {
         return Some(CallFault::UnknownLock);
     }
-    fault_on(locks[call.lock], holds[call.lock], call.act)
+    fault_on(locks[call.lock], holds[call.lock], call.step)
 }
 
 /// Returns why a call on this lock can never be made with this hold.
-fn fault_on(lock: PlanLock, own: PlanHold, act: Act) -> Option<CallFault>
+fn fault_on(lock: PlanLock, own: Hold, step: LockStep) -> Option<CallFault>
     requires { tokens own.bag < 2 ^ 64 }
-    ensures { result ≡ fault_on lock own act }
+    ensures { result ≡ fault_on lock own step }
 {
-    if !is_of_kind(lock.kind, act) {
+    if !is_of_kind(lock.kind, step) {
         Some(CallFault::WrongKind)
-    } else if !own.has(act) {
-        Some(CallFault::NotHeld)
-    } else if is_over(lock, own, act) {
+    } else if !own.has(step) {
+        Some(lack_of(step))
+    } else if is_over(lock, own, step) {
         Some(CallFault::TooManyLevels)
-    } else if act == Act::Announce && own.announced {
+    } else if step == LockStep::Announce && own.announced {
         Some(CallFault::AlreadyAnnounced)
-    } else if act == Act::Withdraw && !own.announced {
-        Some(CallFault::NotAnnounced)
     } else {
         None
     }
 }
 
-/// Returns whether locks of the kind have the call.
-fn is_of_kind(kind: Kind, act: Act) -> bool
-    ensures { result ≡ is_of_kind kind act }
+/// Returns the fault of a step that needs what the hold does not have.
+fn lack_of(step: LockStep) -> CallFault
+    ensures { result ≡ lack_of step }
 {
-    match act {
-        Act::Step(ModeStep::Acquire(mode)) => mode == Mode::Exclusive || kind.is_rwlock(),
-        Act::Step(ModeStep::Release(mode)) => mode == Mode::Exclusive || kind.is_rwlock(),
-        Act::Step(ModeStep::Change(from, to)) => is_move(from, to) && kind.is_rwlock(),
-        Act::Announce | Act::Withdraw => kind.is_rwlock(),
+    match step {
+        LockStep::Withdraw => CallFault::NotAnnounced,
+        LockStep::Modes(_) | LockStep::Announce => CallFault::NotHeld,
+    }
+}
+
+/// Returns whether locks of the kind have the call.
+fn is_of_kind(kind: Kind, step: LockStep) -> bool
+    ensures { result ≡ is_of_kind kind step }
+{
+    match step {
+        LockStep::Modes(ModeStep::Acquire(mode)) => mode == Mode::Exclusive || kind.is_rwlock(),
+        LockStep::Modes(ModeStep::Release(mode)) => mode == Mode::Exclusive || kind.is_rwlock(),
+        LockStep::Modes(ModeStep::Change(from, to)) => is_move(from, to) && kind.is_rwlock(),
+        LockStep::Announce | LockStep::Withdraw => kind.is_rwlock(),
     }
 }
 
@@ -71,9 +74,9 @@ fn is_move(from: Mode, to: Mode) -> bool
 }
 
 /// Returns whether the call acquires a level above the limit.
-fn is_over(lock: PlanLock, own: PlanHold, act: Act) -> bool
+fn is_over(lock: PlanLock, own: Hold, step: LockStep) -> bool
     requires { tokens own.bag < 2 ^ 64 }
-    ensures { result ≡ is_over lock own act }
+    ensures { result ≡ is_over lock own step }
 {
-    act.is_write() && lock.kind.is_reentrant() && own.bag.tokens() >= lock.limit
+    is_write(step) && lock.kind.is_reentrant() && own.bag.tokens() >= lock.limit
 }

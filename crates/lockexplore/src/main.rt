@@ -1,11 +1,16 @@
 //! Reads a plan of lock calls from standard input, and prints whether it can deadlock.
 #![tactic(auto)]
 
+mod arguments;
+mod exploring;
 #[cfg(test)]
 mod tests;
+mod verdict;
 
-use lock_plan_run::{Verdict, explore_plan, is_drawn};
-use lock_plan_script::PlanTextFault;
+use crate::arguments::is_drawn;
+use crate::exploring::explore_plan;
+use crate::verdict::Verdict;
+use lock_plan_text::PlanTextFault;
 use std::process::ExitCode;
 use std::rt::Env;
 use std::{env, io};

@@ -1,6 +1,7 @@
 //! What no clause says: the answer where nothing fails, and what memory, a reader and a writer that fail leave.
-use lock_plan_run::{Verdict, explore_plan};
-use lock_plan_script::PlanTextFault;
+use crate::exploring::explore_plan;
+use crate::verdict::Verdict;
+use lock_plan_text::PlanTextFault;
 use std::io::{self, ErrorKind, Read};
 use std::test::Fail;
 

@@ -1,0 +1,11 @@
+//! Worlds of a plan are runs of machines.
+ghost use Rattle.lock_plan_laws.specs.Bridge.{RunsAreOfWorlds, WorldRunsAreOfMachines, StopsAreTheSame};
+
+use lock_base::machine::Op;
+
+/// The worlds of a plan are the runs of its parties' calls on machines of guards, and both have the same stops.
+pub fn worlds_are_runs_of_machines<T, O: Op<T>>()
+    ensures runs { RunsAreOfWorlds O.meaning }
+    ensures worlds { WorldRunsAreOfMachines O.meaning }
+    ensures stops { StopsAreTheSame O.meaning }
+{}

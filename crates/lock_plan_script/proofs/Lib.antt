@@ -1,8 +1,0 @@
-mod CopyNames
-mod FaultPlaces
-mod FitLocks
-mod LastFields
-mod OneDraft
-mod OneLine
-mod Origins
-mod Ties

@@ -1,9 +1,0 @@
-use Rattle.lock_plan_script.proofs.FaultPlaces.{faults_have_lines}
-use Rattle.lock_plan_script.proofs.Origins.{calls_have_lines}
-use Rattle.lock_plan_script.proofs.meaning.calls_have_lines.Goals as goal
-
-pub returns-clause-calls : goal.returns-clause-calls
-returns-clause-calls c = calls_have_lines
-
-pub returns-clause-faults : goal.returns-clause-faults
-returns-clause-faults c = faults_have_lines

@@ -1,0 +1,73 @@
+-- The fields after a lock's name, by the text after the name.
+use Rattle.std.proofs.Common.{◌≡◌, ℕ, Bool, true, false, Some, None, decimal, List, [], ◌∷◌, length, ◌==◌, codes, sym, ap, arith}
+use Rattle.std.specs.Prelude.{bytes_eq}
+use Rattle.std.proofs.lemmas.Bool.{false≢true}
+use Rattle.std.proofs.lemmas.List.Splits.{length-slice_split}
+use Rattle.lock_base.specs.declared.machine.kind.Kind.{Kind}
+use Rattle.lock_base.specs.declared.machine.kind.Kind.TheVariants.{Mutex, RwLock, Reentrant}
+use Rattle.lock_base.specs.declared.machine.lock_step.LockStep.{LockStep}
+use Rattle.lock_plan_text.specs.Words.{step_word}
+use Rattle.lock_script.specs.Lines.{fields_of}
+use Rattle.lock_script.proofs.NumberTexts.{line-one_field}
+use Rattle.lock_plan_text.specs.declared.parser.plan_line.PlanLine.{PlanLine}
+use Rattle.lock_plan_text.specs.declared.parser.plan_line.PlanLine.TheVariants.{Lock, Party, Call}
+use Rattle.lock_plan_text.specs.PlanLines.{IsCount, IsPlanLine, IsVerb, kind_word, last_fields, limit_fields, line_word, party_word}
+
+-- each text has a field
+pub has_field : (text : List ℕ) → [] ≡ fields_of text → ⊥
+has_field text none =
+    let count = length-slice_split (λ byte. byte == 32) text in omega (arith, count, ap length none)
+
+-- a field and a text, which is not `bar`
+pub other_flag : (field flag : List ℕ) (limit : ℕ) (bar : Bool) → (flag ≡ codes "bar" → ⊥)
+    → limit_fields RwLock limit bar ≡ field ∷ fields_of flag → ⊥
+other_flag field flag limit true wrong is =
+    let one : fields_of flag ≡ codes "bar" ∷ [] = cc in wrong (sym (line-one_field flag (codes "bar") one))
+other_flag field flag limit false wrong is = let none : [] ≡ fields_of flag = cc in has_field flag none
+
+long_kind : (word last : List ℕ) → (word ≡ codes "rwlock" → ⊥) → (word ≡ codes "reentrant" → ⊥)
+    → (kind : Kind) (limit : ℕ) (bar : Bool) → kind_word kind ≡ word → limit_fields kind limit bar ≡ fields_of last → ⊥
+long_kind word last rwlock reentrant Mutex limit bar same is = has_field last is
+long_kind word last rwlock reentrant RwLock limit bar same is = rwlock (sym same)
+long_kind word last rwlock reentrant Reentrant limit bar same is = reentrant (sym same)
+
+-- a line with fields after the name is one of a lock with a limit
+pub long_line : (word last : List ℕ) → (word ≡ codes "rwlock" → ⊥) → (word ≡ codes "reentrant" → ⊥) → (word ≡ codes "party" → ⊥)
+    → (word ≡ codes "server" → ⊥)
+    → (line : PlanLine) → line_word line ≡ word → last_fields line ≡ fields_of last → ⊥
+long_line word last rwlock reentrant party server (Lock lock) same is =
+    long_kind word last rwlock reentrant lock.kind lock.limit lock.bar same is
+long_line word last rwlock reentrant party server (Party false copies) same is = party (sym same)
+long_line word last rwlock reentrant party server (Party true copies) same is = server (sym same)
+long_line word last rwlock reentrant party server (Call is_rwlock step) same is = has_field last is
+
+no_lock_line : (last : List ℕ) (kind : Kind) (limit : ℕ) (bar serves : Bool) → kind_word kind ≡ party_word serves
+    → limit_fields kind limit bar ≡ fields_of last → ⊥
+no_lock_line last Mutex limit bar serves same is = has_field last is
+no_lock_line last RwLock limit bar true same is = false≢true (ap (λ word. bytes_eq word (codes "server")) same)
+no_lock_line last RwLock limit bar false same is = false≢true (ap (λ word. bytes_eq word (codes "party")) same)
+no_lock_line last Reentrant limit bar true same is = false≢true (ap (λ word. bytes_eq word (codes "server")) same)
+no_lock_line last Reentrant limit bar false same is = false≢true (ap (λ word. bytes_eq word (codes "party")) same)
+
+-- a line of a party with a field after the name has copies
+pub copies_line : (last : List ℕ) → ((count : ℕ) → IsCount count → decimal count ∷ [] ≡ fields_of last → ⊥)
+    → (serves : Bool) (line : PlanLine) → IsPlanLine line → line_word line ≡ party_word serves → last_fields line ≡ fields_of last → ⊥
+copies_line last none serves (Lock lock) ok same is = no_lock_line last lock.kind lock.limit lock.bar serves same is
+copies_line last none serves (Party any None) ok same is = has_field last is
+copies_line last none serves (Party any (Some count)) ok same is = none count ok is
+copies_line last none serves (Call is_rwlock step) ok same is = has_field last is
+
+short_kind : (word : List ℕ) → (word ≡ codes "mutex" → ⊥) → (kind : Kind) (limit : ℕ) (bar : Bool) → kind_word kind ≡ word
+    → limit_fields kind limit bar ≡ [] → ⊥
+short_kind word mutex Mutex limit bar same is = mutex (sym same)
+short_kind word mutex RwLock limit bar same is = cc
+short_kind word mutex Reentrant limit bar same is = cc
+
+-- a line with no field after the name is one of a mutex, a party or a call
+pub short_line : (word : List ℕ) → (word ≡ codes "mutex" → ⊥) → (word ≡ codes "party" → ⊥) → (word ≡ codes "server" → ⊥)
+    → ((is_rwlock : Bool) (step : LockStep) → IsVerb is_rwlock step → step_word is_rwlock step ≡ word → ⊥)
+    → (line : PlanLine) → IsPlanLine line → line_word line ≡ word → last_fields line ≡ [] → ⊥
+short_line word mutex party server verb (Lock lock) ok same is = short_kind word mutex lock.kind lock.limit lock.bar same is
+short_line word mutex party server verb (Party false copies) ok same is = party (sym same)
+short_line word mutex party server verb (Party true copies) ok same is = server (sym same)
+short_line word mutex party server verb (Call is_rwlock step) ok same is = verb is_rwlock step ok same

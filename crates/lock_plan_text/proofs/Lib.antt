@@ -1,0 +1,10 @@
+mod CopyNames
+mod FaultPlaces
+mod FitLocks
+mod LastFields
+mod OneDraft
+mod OneLine
+mod Origins
+mod Past
+mod Rows
+mod Ties

@@ -1,0 +1,51 @@
+-- Rows of a drawing, one after another.
+use Rattle.std.proofs.Common.{◌≡◌, ◌∙◌, ℕ, suc, ◌+◌, Bool, List, ◌++◌, length, codes, Option, Some, Vec, Global, sym, ap, add-one, append_assoc}
+use Rattle.lock_plan.specs.declared.call.PlanCall.{PlanCall}
+use Rattle.lock_plan.specs.declared.lock.PlanLock.{PlanLock}
+use Rattle.lock_plan.specs.Worlds.{Stand, is_refused, first_world}
+use Rattle.lock_plan_text.specs.declared.names.Names.{Names}
+use Rattle.lock_plan_text.specs.Names.{name_of}
+use Rattle.lock_plan_text.specs.Steps.{last_world}
+use Rattle.lock_plan_text.specs.Lanes.{padded, cells_text, row_text, stop_cell, step_rows, lanes_text, drawing_text}
+
+pub cells_more : (f : ℕ → List ℕ) (n : ℕ) (old before now : List ℕ) → before ≡ old ++ cells_text f n
+    → now ≡ before ++ padded (f n) → now ≡ old ++ cells_text f (n + 1)
+cells_more f n old before now was is =
+    is
+    ∙ ap (λ (xs : List ℕ). xs ++ padded (f n)) was
+    ∙ append_assoc old (cells_text f n) (padded (f n))
+    ∙ ap (λ (k : ℕ). old ++ cells_text f k) (sym (add-one n))
+
+pub row_end : (f : ℕ → List ℕ) (n parties : ℕ) (old before cell now : List ℕ) → before ≡ old ++ cells_text f n
+    → cell ≡ before ++ f n → now ≡ cell ++ codes "\n" → parties ≡ suc n → now ≡ old ++ row_text f parties
+row_end f n parties old before cell now is_before is_cell is_now are =
+    is_now
+    ∙ ap (λ (xs : List ℕ). xs ++ codes "\n") (is_cell ∙ ap (λ (xs : List ℕ). xs ++ f n) is_before)
+    ∙ append_assoc (old ++ cells_text f n) (f n) (codes "\n")
+    ∙ append_assoc old (cells_text f n) (f n ++ codes "\n")
+    ∙ ap (λ (k : ℕ). old ++ row_text f k) (sym are)
+
+pub lanes_end : (locks : List PlanLock) (names : Names) (k : ℕ) (w v : List Stand) (refused : Bool) (trace old first rows now : List ℕ)
+    → first ≡ old ++ row_text (name_of names.parties.items) k → rows ≡ first ++ step_rows locks names k w trace
+    → v ≡ last_world locks w trace → refused ≡ is_refused locks v → now ≡ rows ++ row_text (stop_cell locks names v refused) k
+    → now ≡ old ++ lanes_text locks names k w trace
+lanes_end locks names k w v refused trace old first rows now is_first are_rows is_v is_word is_now =
+    let head = row_text (name_of names.parties.items) k in
+    let body = step_rows locks names k w trace in
+    is_now
+    ∙ ap (λ (b : Bool). rows ++ row_text (stop_cell locks names v b) k) is_word
+    ∙ ap (λ (u : List Stand). rows ++ row_text (stop_cell locks names u (is_refused locks u)) k) is_v
+    ∙ ap (λ (xs : List ℕ). xs ++ row_text (stop_cell locks names (last_world locks w trace) (is_refused locks (last_world locks w trace))) k)
+    (are_rows ∙ ap (λ (xs : List ℕ). xs ++ body) is_first)
+    ∙ append_assoc (old ++ head) body _
+    ∙ append_assoc old head _
+
+pub drawing_end : (locks : List PlanLock) (parties : List (List PlanCall)) (names : Names) (k : ℕ) (trace : Vec ℕ Global) (o : Option (Vec ℕ Global)) (old first now : List ℕ)
+    → first ≡ old ++ codes "\n" → now ≡ first ++ lanes_text locks names k (first_world locks parties) trace.items
+    → length parties ≡ k → o ≡ Some trace → now ≡ old ++ drawing_text locks parties names o
+drawing_end locks parties names k trace o old first now is_first is_now are is_some =
+    is_now
+    ∙ ap (λ (xs : List ℕ). xs ++ lanes_text locks names k (first_world locks parties) trace.items) is_first
+    ∙ append_assoc old (codes "\n") _
+    ∙ ap (λ (n : ℕ). old ++ (codes "\n" ++ lanes_text locks names n (first_world locks parties) trace.items)) (sym are)
+    ∙ ap (λ (t : Option (Vec ℕ Global)). old ++ drawing_text locks parties names t) (sym is_some)

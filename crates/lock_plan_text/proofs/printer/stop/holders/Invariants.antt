@@ -1,0 +1,9 @@
+-- The marks so far, and those of the holds that are left, are the marks of all.
+use Rattle.std.proofs.Common.{◌≡◌, ◌++◌, drop}
+use Rattle.std.specs.List.{flat_map}
+use Rattle.lock_plan_text.specs.Marks.{marks_of}
+use Rattle.lock_plan_text.proofs.printer.stop.holders.Given as goal
+
+abbrev pub invariant-loop-it : goal.invariant-loop-it
+invariant-loop-it l =
+    l.marks.items ++ flat_map (λ h. marks_of h.party h.hold) (drop l.it-index l.it-items) ≡ flat_map (λ h. marks_of h.party h.hold) l.it-items

@@ -1,0 +1,35 @@
+-- What a draft in memory is, and the plan that is made of a draft.
+use Rattle.std.specs.Prelude.{◌≡◌, ℕ, IsTrue, List, map, None, string_bytes}
+use Rattle.lock_plan.specs.Checks.{fit_machines, plan_fault}
+use Rattle.lock_plan.specs.Stops.{calls_of}
+use Rattle.lock_plan_text.specs.declared.parser.draft.PlanDraft.{PlanDraft}
+use Rattle.lock_plan_text.specs.declared.parser.named_plan.NamedPlan.{NamedPlan}
+use Rattle.lock_plan_text.specs.Drafts.{Draft, IsDraftOf}
+
+abbrev pub drafted : PlanDraft → Draft
+drafted draft = record {
+  locks = draft.locks.items;
+  lock_names = map string_bytes draft.names.locks.items;
+  parties = map (λ v. v.items) draft.parties.items;
+  party_names = map string_bytes draft.names.parties.items;
+  servers = draft.servers.items;
+  first = draft.first;
+  numbers = map (λ v. v.items) draft.numbers.items;
+}
+
+-- the plan and the names are those of the draft, and each call can be made
+pub record IsMadeOf (draft : Draft) (named : NamedPlan) : Type 0 where
+  pub locks : named.plan.locks.items ≡ draft.locks
+  pub parties : calls_of named.plan ≡ draft.parties
+  pub servers : named.plan.servers.items ≡ draft.servers
+  pub lock_names : map string_bytes named.names.locks.items ≡ draft.lock_names
+  pub party_names : map string_bytes named.names.parties.items ≡ draft.party_names
+  pub right : plan_fault draft.locks draft.parties ≡ None
+
+-- the bytes are the text of the plan
+abbrev pub IsPlanOf : List ℕ → NamedPlan → Type 0
+IsPlanOf bytes named = (draft : Draft) × (IsDraftOf bytes draft × IsMadeOf draft named)
+
+-- machines of guards can be the locks of a text's plan
+abbrev pub TextsFitMachines : Type 0
+TextsFitMachines = (bytes : List ℕ) (named : NamedPlan) → IsPlanOf bytes named → IsTrue (fit_machines named.plan.locks.items)

@@ -1,0 +1,14 @@
+pub mod Names
+pub mod Words
+pub mod PlanLines
+pub mod Drafts
+pub mod PlanFaults
+pub mod Drafted
+pub mod Meanings
+pub mod CallOrigins
+pub mod FaultLines
+pub mod Marks
+pub mod Steps
+pub mod Stops
+pub mod Answers
+pub mod Lanes

@@ -1,0 +1,22 @@
+-- A text has one meaning.
+use Rattle.std.specs.Prelude.{◌≡◌, ℕ, List}
+use Rattle.lock_plan_text.specs.declared.parser.plan_line.PlanLine.{PlanLine}
+use Rattle.lock_plan_text.specs.Drafts.{Draft, IsDraftOf, IsFirstBadLine}
+use Rattle.lock_plan_text.specs.PlanLines.{Says}
+
+-- a text is at most one line, about one name
+abbrev pub SayOneLine : Type 0
+SayOneLine = (text : List ℕ) (line other : PlanLine) (name another : List ℕ) → Says text line name → Says text other another
+    → (line ≡ other) × (name ≡ another)
+
+-- bytes make at most one draft
+abbrev pub MakeOneDraft : Type 0
+MakeOneDraft = (bytes : List ℕ) (draft other : Draft) → IsDraftOf bytes draft → IsDraftOf bytes other → draft ≡ other
+
+-- bytes have at most one first bad line
+abbrev pub HaveOneBadLine : Type 0
+HaveOneBadLine = (bytes : List ℕ) (bad other : ℕ) → IsFirstBadLine bytes bad → IsFirstBadLine bytes other → bad ≡ other
+
+-- bytes that make a draft have no bad line
+abbrev pub DraftsAreGood : Type 0
+DraftsAreGood = (bytes : List ℕ) (draft : Draft) (bad : ℕ) → IsDraftOf bytes draft → IsFirstBadLine bytes bad → ⊥

@@ -1,0 +1,65 @@
+//! Why a text makes no plan.
+use lock_plan::CallFault;
+use lock_script::ReplayFault;
+use std::alloc::{AllocError, AllocFailed};
+use thiserror::Error;
+
+/// Why the answer to a plan ends early. The texts are those of the program.
+#[derive(Clone, Copy, Debug, PartialEq, Eq, Error)]
+pub enum PlanTextFault {
+    /// The first line, counted from 1, that is not in the format.
+    #[error("bad line {0}")]
+    BadLine(u64),
+    /// The line of the first call, party by party, that can never be made.
+    #[error("line {0}: {1}")]
+    Call(u64, CallFault),
+    #[error("too many states")]
+    TooLarge,
+    #[error("input too long")]
+    TooLong,
+    #[error("out of memory")]
+    OutOfMemory,
+    #[error("input failed")]
+    InputFailed,
+    #[error("output failed")]
+    OutputFailed,
+}
+
+impl From<ReplayFault> for PlanTextFault {
+    ghost use Rattle.std.specs.Prelude.{◌≡◌};
+    ghost use Rattle.lock_plan_text.specs.PlanFaults.{of_script};
+
+    ghost from_gives = { λ from fault. fault ≡ of_script from };
+
+    fn from(fault: ReplayFault) -> PlanTextFault {
+        match fault {
+            ReplayFault::BadLine(number) => PlanTextFault::BadLine(number),
+            ReplayFault::TooLong => PlanTextFault::TooLong,
+            ReplayFault::OutOfMemory => PlanTextFault::OutOfMemory,
+            ReplayFault::InputFailed => PlanTextFault::InputFailed,
+            ReplayFault::OutputFailed => PlanTextFault::OutputFailed,
+        }
+    }
+}
+
+impl From<AllocError> for PlanTextFault {
+    ghost use Rattle.std.specs.Prelude.{◌≡◌};
+    ghost use Rattle.lock_plan_text.specs.declared.parser.fault.PlanTextFault.TheVariants.{OutOfMemory};
+
+    ghost from_gives = { λ _ fault. fault ≡ OutOfMemory };
+
+    fn from(_fault: AllocError) -> PlanTextFault {
+        PlanTextFault::OutOfMemory
+    }
+}
+
+impl<T: Drop> From<AllocFailed<T>> for PlanTextFault {
+    ghost use Rattle.std.specs.Prelude.{◌≡◌};
+    ghost use Rattle.lock_plan_text.specs.declared.parser.fault.PlanTextFault.TheVariants.{OutOfMemory};
+
+    ghost from_gives = { λ _ fault. fault ≡ OutOfMemory };
+
+    fn from(_fault: AllocFailed<T>) -> PlanTextFault {
+        PlanTextFault::OutOfMemory
+    }
+}

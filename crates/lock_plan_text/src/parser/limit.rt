@@ -1,0 +1,67 @@
+//! Locks with a limit.
+ghost use Rattle.std.specs.Prelude.{◌≡◌, ◌↔◌, ◌∷◌, [], ℕ, Bool, false, IfNone, IfSome, IsSome, decimal};
+ghost use Rattle.lock_base.specs.declared.machine.kind.Kind.TheVariants.{RwLock, Reentrant};
+ghost use Rattle.lock_base.specs.Limits.{IsLimit};
+ghost use Rattle.lock_script.specs.Lines.{fields_of};
+ghost use Rattle.lock_plan_text.specs.PlanLines.{IsLimitField, IsLineLock, limit_fields};
+
+use lock_base::machine::Kind;
+use lock_plan::PlanLock;
+use lock_script::{first_field, unsigned};
+
+/// Reads a reader-writer lock from the fields after its name.
+pub(crate) fn rwlock(last: &str) -> Option<PlanLock>
+    ensures lock { IfSome result (λ lock. (lock.kind ≡ RwLock)
+        × (IsLimit lock.limit × (limit_fields RwLock lock.limit lock.bar ≡ fields_of last.now))) }
+    ensures bad { IfNone result ((limit : ℕ) (bar : Bool) → IsLimit limit → limit_fields RwLock limit bar ≡ fields_of last.now → ⊥) }
+{
+    let Some((field, flag)) = first_field(last) else {
+        let limit = limit(last)?;
+        return Some(rwlock_of(limit, false));
+    };
+    if flag != "bar" {
+        return None;
+    }
+    let limit = limit(field)?;
+    Some(rwlock_of(limit, true))
+}
+
+/// Makes a reader-writer lock.
+fn rwlock_of(limit: u64, bar: bool) -> PlanLock
+    ensures { result ≡ record { kind = RwLock; limit = limit; bar = bar } }
+{
+    PlanLock {
+        kind: Kind::RwLock,
+        limit,
+        bar,
+    }
+}
+
+/// Reads a reentrant lock from the field after its name.
+pub(crate) fn reentrant(last: &str) -> Option<PlanLock>
+    ensures lock { IfSome result (λ lock. (lock.kind ≡ Reentrant)
+        × ((lock.bar ≡ false) × (IsLimit lock.limit × (decimal lock.limit ∷ [] ≡ fields_of last.now)))) }
+    ensures bad { IfNone result ((limit : ℕ) → IsLimit limit → decimal limit ∷ [] ≡ fields_of last.now → ⊥) }
+{
+    let None = first_field(last) else {
+        return None;
+    };
+    let limit = limit(last)?;
+    Some(PlanLock {
+        kind: Kind::Reentrant,
+        limit,
+        bar: false,
+    })
+}
+
+/// Reads a limit.
+fn limit(field: &str) -> Option<u64>
+    ensures text { IfSome result (λ limit. IsLimit limit × (decimal limit ≡ field.now)) }
+    ensures some { IsSome result ↔ IsLimitField field.now }
+{
+    let limit = unsigned(field)?;
+    if limit == 0 || limit > u64::from(u32::MAX) {
+        return None;
+    }
+    Some(limit)
+}

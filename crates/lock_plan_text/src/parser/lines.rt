@@ -1,0 +1,55 @@
+//! Parsing the lines of a plan.
+ghost use Rattle.std.specs.Prelude.{◌≡◌, IfErr, IfOk};
+ghost use Rattle.std.specs.Bool.{MatchBool};
+ghost use Rattle.lock_script.specs.Parts.{bytes_of};
+ghost use Rattle.lock_plan_text.specs.Drafts.{Adds, IsBad, IsDraftOf};
+ghost use Rattle.lock_plan_text.specs.Drafted.{drafted};
+ghost use Rattle.lock_plan_text.specs.PlanFaults.{IsLineFault};
+
+use crate::parser::draft::PlanDraft;
+use crate::parser::fault::PlanTextFault;
+use crate::parser::reading::read_plan_line;
+use lock_script::Part;
+use std::alloc::{AllocError, Global};
+
+/// Parses the lines of a plan into a draft.
+///
+/// # Errors
+///
+/// `BadLine` with the number of the first bad line, counted from 1. `OutOfMemory`.
+pub(crate) fn parse_lines(alloc: Global, bytes: &[u8]) -> Result<PlanDraft, PlanTextFault>
+    ensures draft { IfOk result (λ draft. IsDraftOf bytes.now (drafted draft)) }
+    ensures fault { IfErr result (IsLineFault bytes.now) }
+{
+    let mut draft = PlanDraft::new(alloc);
+    let mut rest = Part::of(bytes);
+    if rest.bytes().is_empty() {
+        return Err(PlanTextFault::BadLine(1));
+    }
+    let mut number = 1u64;
+    while !rest.bytes().is_empty() {
+        let (text, after) = rest.first_line();
+        if !add_text(&mut draft, alloc, number, text)? {
+            return Err(PlanTextFault::BadLine(number));
+        }
+        rest = after;
+        number += 1;
+    }
+    Ok(draft)
+}
+
+/// Adds a line to a draft, and returns whether it is a line that the draft takes.
+fn add_text(
+    draft: &mut PlanDraft,
+    alloc: Global,
+    number: u64,
+    text: Part,
+) -> Result<bool, AllocError>
+    ensures { IfOk result (λ is_added. MatchBool is_added
+        (Adds (drafted draft.old) number (bytes_of text.entry) (drafted draft.new)) (IsBad (drafted draft.old) number (bytes_of text.entry))) }
+{
+    match read_plan_line(text) {
+        Some((line, name)) => draft.add(alloc, number, line, name),
+        None => Ok(false),
+    }
+}

@@ -1,0 +1,24 @@
+//! What texts of plans are: each has one draft, each call has its line, and machines can be the locks.
+ghost use Rattle.lock_plan_text.specs.CallOrigins.{CallsHaveLines};
+ghost use Rattle.lock_plan_text.specs.Drafted.{TextsFitMachines};
+ghost use Rattle.lock_plan_text.specs.FaultLines.{FaultsHaveLines};
+ghost use Rattle.lock_plan_text.specs.Meanings.{DraftsAreGood, HaveOneBadLine, MakeOneDraft, SayOneLine};
+
+/// Each line of a plan says one thing at most. All lines make one draft at most, or have one first bad line.
+pub fn texts_have_one_meaning()
+    ensures line { SayOneLine }
+    ensures draft { MakeOneDraft }
+    ensures bad { HaveOneBadLine }
+    ensures good { DraftsAreGood }
+{}
+
+/// Each call of a draft is what the line with its number says. A call that can never be made is told by that line.
+pub fn calls_have_lines()
+    ensures calls { CallsHaveLines }
+    ensures faults { FaultsHaveLines }
+{}
+
+/// Machines of guards can be the locks of a text's plan, as `machines_stop_as_explored` of `lock_plan_laws` requires.
+pub fn texts_fit_machines()
+    ensures { TextsFitMachines }
+{}

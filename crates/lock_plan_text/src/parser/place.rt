@@ -1,0 +1,26 @@
+//! Finding names, and adding to the last of several lists.
+ghost use Rattle.std.specs.Prelude.{◌≡◌, map, string_bytes, OnOk};
+ghost use Rattle.lock_plan_text.specs.Drafts.{onto_from, place_of};
+
+use std::alloc::AllocError;
+
+/// Finds a name.
+pub(crate) fn place_of(names: &[String], name: &str) -> Option<usize>
+    ensures { result ≡ place_of (map string_bytes names.now) name.now }
+{
+    names.iter().position(|other| other.as_str() == name)
+}
+
+/// Adds an item to each list from this place on.
+pub(crate) fn push_from<T: Copy + Drop>(
+    lists: &mut Vec<Vec<T>>,
+    first: usize,
+    item: T,
+) -> Result<(), AllocError>
+    ensures { OnOk result (map (λ v. v.items) lists.new.items ≡ onto_from first (map (λ v. v.items) lists.old.items) item) }
+{
+    for place in first..lists.len() {
+        lists[place].push(item)?;
+    }
+    Ok(())
+}

@@ -1,0 +1,133 @@
+//! Drawings: a column for each party.
+ghost use Rattle.std.specs.Prelude.{◌≡◌, ◌<◌, ◌++◌, length, replicate, OnOk, string_bytes};
+ghost use Rattle.lock_plan.specs.Worlds.{first_world};
+ghost use Rattle.lock_plan.specs.Stops.{calls_of};
+ghost use Rattle.lock_plan_text.specs.Lanes.{padded, row_text, cell_of, step_rows, lanes_text, drawing_text};
+
+use crate::names::Names;
+use crate::printer::cell::{Row, write_cell};
+use crate::printer::step::{last_node, step};
+use crate::printer::stop::is_refused;
+use lock_plan::Plan;
+use std::alloc::{AllocError, Global};
+use step_search::Searched;
+
+/// The width of a column, with the space after it.
+const WIDTH: usize = 20;
+
+/// Appends an empty line and the drawing of the steps into a stop, or nothing where nothing stops.
+pub fn write_drawing(
+    alloc: Global,
+    text: &mut String,
+    plan: &Plan,
+    names: &Names,
+    searched: &Searched,
+) -> Result<(), AllocError>
+    ensures { OnOk result (string_bytes text.new ≡ string_bytes text.old
+        ++ drawing_text plan.now.locks.items (calls_of plan.now) names.now searched.now.trace) }
+{
+    match &searched.trace {
+        None => Ok(()),
+        Some(trace) => {
+            text.push('\n')?;
+            write_lanes(alloc, text, plan, names, trace.as_slice())?;
+            Ok(())
+        }
+    }
+}
+
+/// Appends the drawing of a trace.
+fn write_lanes(
+    alloc: Global,
+    text: &mut String,
+    plan: &Plan,
+    names: &Names,
+    trace: &[usize],
+) -> Result<(), AllocError>
+    ensures { OnOk result (string_bytes text.new ≡ string_bytes text.old
+        ++ lanes_text plan.now.locks.items names.now (length plan.now.parties.items)
+        (first_world plan.now.locks.items (calls_of plan.now)) trace.now) }
+{
+    write_row(alloc, text, plan, names, Row::Parties)?;
+    write_step_rows(alloc, text, plan, names, trace)?;
+    let node = last_node(plan, trace);
+    write_row(
+        alloc,
+        text,
+        plan,
+        names,
+        Row::Stop(node, is_refused(plan, node)),
+    )?;
+    Ok(())
+}
+
+/// Appends a row after each step of a trace.
+fn write_step_rows(
+    alloc: Global,
+    text: &mut String,
+    plan: &Plan,
+    names: &Names,
+    trace: &[usize],
+) -> Result<(), AllocError>
+    ensures { OnOk result (string_bytes text.new ≡ string_bytes text.old
+        ++ step_rows plan.now.locks.items names.now (length plan.now.parties.items)
+        (first_world plan.now.locks.items (calls_of plan.now)) trace.now) }
+{
+    let mut node = plan.start();
+    for party in trace {
+        node = step(plan, node, *party);
+        write_row(alloc, text, plan, names, Row::Step(node, *party))?;
+    }
+    Ok(())
+}
+
+/// Appends a row.
+fn write_row(
+    alloc: Global,
+    text: &mut String,
+    plan: &Plan,
+    names: &Names,
+    row: Row,
+) -> Result<(), AllocError>
+    ensures { OnOk result (string_bytes text.new ≡ string_bytes text.old
+        ++ row_text (cell_of plan.now names.now row) (length plan.now.parties.items)) }
+{
+    let Some(last) = plan.parties().checked_sub(1) else {
+        return text.push('\n');
+    };
+    for party in 0..last {
+        write_padded(alloc, text, plan, names, row, party)?;
+    }
+    write_cell(alloc, text, plan, names, row, last)?;
+    text.push('\n')?;
+    Ok(())
+}
+
+/// Appends the cell of a party, and spaces up to the width of a column.
+fn write_padded(
+    alloc: Global,
+    text: &mut String,
+    plan: &Plan,
+    names: &Names,
+    row: Row,
+    party: usize,
+) -> Result<(), AllocError>
+    requires { party < length plan.now.parties.items }
+    ensures { OnOk result (string_bytes text.new ≡ string_bytes text.old ++ padded (cell_of plan.now names.now row party)) }
+{
+    let start = text.len();
+    write_cell(alloc, text, plan, names, row, party)?;
+    let spaces = (WIDTH - 1).saturating_sub(text.len() - start);
+    text.push(' ')?;
+    write_spaces(text, spaces)
+}
+
+/// Appends spaces.
+fn write_spaces(text: &mut String, count: usize) -> Result<(), AllocError>
+    ensures { OnOk result (string_bytes text.new ≡ string_bytes text.old ++ replicate count 32) }
+{
+    for _space in 0..count {
+        text.push(' ')?;
+    }
+    Ok(())
+}
