@@ -68,8 +68,8 @@ pub use Rattle.lock_ruled.specs.InOrder
 pub use Rattle.lock_ruled.specs.Permits
 pub use Rattle.lock_ruled.specs.With
 pub use Rattle.lock_permits.specs.Accounts
-pub use Rattle.lock_sleepers.specs.EventCounts
-pub use Rattle.lock_sleepers.specs.EventCalls
+pub use Rattle.lock_wake.specs.EventCounts
+pub use Rattle.lock_wake.specs.EventCalls
 pub use Rattle.lock_desk.specs.Closures
 pub use Rattle.lock_mutex.specs.Mutex
 pub use Rattle.lock_mutex.specs.MutexGuard

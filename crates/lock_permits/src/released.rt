@@ -3,7 +3,7 @@ ghost use Rattle.std.specs.Prelude.{◌≡◌, true};
 
 use crate::rule::PermitView;
 use atomic_table::Seat;
-use lock_sleepers::Notified;
+use lock_wake::Notified;
 use std::marker::Model;
 
 /// A party that released all its permits. It cannot be dropped, so each release notifies all waiters, and does so after it.

@@ -9,7 +9,7 @@ use crate::rule::{PermitRule, PermitView};
 use crate::token::PermitToken;
 use atomic_table::Table;
 use lock_base::raw::Fault;
-use lock_sleepers::{EventCount, time_left};
+use lock_wake::{EventCount, time_left};
 use std::alloc::Global;
 use std::marker::Model;
 use std::sync::Wait;

@@ -8,7 +8,7 @@ use crate::mutex::RuledMutex;
 use crate::plays::Stay;
 use crate::rule::MutexRule;
 use crate::user::User;
-use lock_sleepers::time_left;
+use lock_wake::time_left;
 use std::sync::Wait;
 use std::time::{Clock, Instant};
 

@@ -12,7 +12,7 @@ use crate::user::User;
 use atomic_table::{Join, Seat, Split, Table};
 use crossbeam_utils::Backoff;
 use lock_base::raw::Fault;
-use lock_sleepers::EventCount;
+use lock_wake::EventCount;
 use std::alloc::Global;
 use std::marker::Model;
 use std::sync::Wait;

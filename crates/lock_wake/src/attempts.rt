@@ -9,10 +9,10 @@ ghost use Rattle.lock_word.specs.Wakes.{may_want};
 ghost use Rattle.lock_wake.specs.Calls.{ComesTo, MayBeAnnounced, Tried, won};
 
 use crate::call::Call;
+use crate::deadline::time_left;
 use crate::word_lock::WordLock;
 use crossbeam_utils::Backoff;
 use lock_seated::Attempt;
-use lock_sleepers::time_left;
 use lock_word::ExWant;
 use std::sync::Wait;
 use std::time::{Clock, Instant};

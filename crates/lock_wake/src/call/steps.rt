@@ -15,14 +15,12 @@ use crate::plays::{
     CloseCount, CountIn, CountOut, EndEpoch, Exchange, LoadWord, LookForSleepers, NoteEpoch,
     OpenCount, RestartEpochs, Take, WatchEpoch,
 };
+use crate::sleepers::CLOSED_COUNT;
 use crate::word_lock::{COUNT, EPOCH, WORD, WordLock};
 use lock_seated::Attempt;
 use lock_word::{Down, ExWant};
 use std::sync::Wait;
 use std::time::Duration;
-
-/// The count while the epochs begin anew.
-const CLOSED_COUNT: u64 = 9_223_372_036_854_775_808;
 
 impl WordLock {
     /// Begins a call, by a load of the word.
