@@ -67,7 +67,7 @@ pub use Rattle.lock_ruled.specs.Bounds
 pub use Rattle.lock_ruled.specs.InOrder
 pub use Rattle.lock_ruled.specs.Permits
 pub use Rattle.lock_ruled.specs.With
-pub use Rattle.lock_permits.specs.Accounts
+pub use Rattle.lock_ruled.specs.Accounts
 pub use Rattle.lock_wake.specs.EventCounts
 pub use Rattle.lock_wake.specs.EventCalls
 pub use Rattle.lock_desk.specs.Closures

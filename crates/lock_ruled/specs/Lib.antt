@@ -14,3 +14,5 @@ pub mod InOrder
 pub mod InOrders
 pub mod Permits
 pub mod With
+pub mod Accounts
+pub mod PermitPlays

@@ -1,19 +1,27 @@
-//! The semaphore.
+//! A semaphore that threads share by reference or in an `Arc`. Its permits are all accounted for: those that are free, and
+//! those of all tokens.
 ghost use Rattle.std.specs.Prelude.{◌≡◌, ◌≤◌, IfOk, IfErr, IfSome};
 ghost use Rattle.lock_base.specs.declared.raw.fault.Fault.TheVariants as fault;
-ghost use Rattle.lock_permits.specs.Accounts.{token_of};
+ghost use Rattle.lock_ruled.specs.Accounts.{token_of};
 
-use crate::plays::{Give, Look, Take};
-use crate::released::Released;
-use crate::rule::{PermitRule, PermitView};
-use crate::token::PermitToken;
+mod guard;
+mod plays;
+mod released;
+mod rule;
+mod token;
+
+use crate::shared_semaphore::plays::{Give, Look, Take};
+use crate::shared_semaphore::released::ReleasedPermits;
 use atomic_table::Table;
+pub use guard::{ArcPermitGuard, PermitGuard};
 use lock_base::raw::Fault;
 use lock_wake::{EventCount, time_left};
+pub use rule::{PermitRule, PermitView};
 use std::alloc::Global;
 use std::marker::Model;
 use std::sync::Wait;
 use std::time::{Clock, Duration, Instant};
+pub use token::PermitToken;
 
 /// The number of free permits.
 const FREE: usize = 0;
@@ -31,7 +39,7 @@ pub struct SharedSemaphore {
 
 impl Model for SharedSemaphore {
     ghost use Rattle.std.specs.Prelude.{◌≡◌};
-    ghost use Rattle.lock_permits.specs.Accounts.{SemaphoreView};
+    ghost use Rattle.lock_ruled.specs.Accounts.{SemaphoreView};
 
     ghost Value = { SemaphoreView };
 
@@ -152,14 +160,14 @@ impl SharedSemaphore {
     }
 
     /// Adds the permits of the token to those that are free.
-    fn give_back(&self, token: PermitToken) -> Released
+    fn give_back(&self, token: PermitToken) -> ReleasedPermits
         requires { token.semaphore ≡ self.now }
     {
         let PermitToken { mut seat, permits } = token;
         self.table
             .shared
             .fetch_add::<Give>(&mut seat, FREE, permits);
-        Released { seat }
+        ReleasedPermits { seat }
     }
 
     /// Runs `f` while it holds this many permits. It acquires them before, as `acquire` does, and releases them after.

@@ -1,5 +1,5 @@
 //! The token of one acquisition.
-use crate::rule::PermitView;
+use crate::shared_semaphore::rule::PermitView;
 use atomic_table::Seat;
 use std::marker::Model;
 
@@ -13,7 +13,7 @@ pub struct PermitToken {
 
 impl Model for PermitToken {
     ghost use Rattle.std.specs.Prelude.{◌≡◌, []};
-    ghost use Rattle.lock_permits.specs.Accounts.{TokenView};
+    ghost use Rattle.lock_ruled.specs.Accounts.{TokenView};
 
     ghost Value = { TokenView };
 

@@ -5,9 +5,9 @@ use lib.ListN.{get_elem?}
 use prog.Atomic.{either}
 use Rattle.atomic_table.specs.Table.{Act, step, keeps, stepped, carried_after, Valid, Allows, Enters}
 use Rattle.atomic_table.proofs.Lists.{at_set, at_snoc, exchanged}
-use Rattle.lock_permits.specs.declared.rule.PermitView.{PermitView}
-use Rattle.lock_permits.specs.Accounts.{newcomer, Table, free_in, held_of, IsAccounted}
-use Rattle.lock_permits.specs.Plays.{Self, Looks, Takes, Gives}
+use Rattle.lock_ruled.specs.declared.shared_semaphore.rule.PermitView.{PermitView}
+use Rattle.lock_ruled.specs.Accounts.{newcomer, Table, free_in, held_of, IsAccounted}
+use Rattle.lock_ruled.specs.PermitPlays.{Self, Looks, Takes, Gives}
 
 abbrev own_of : PermitView → ℕ
 own_of v = v.own

@@ -1,7 +1,7 @@
 -- What each kind of step tells the party that makes it.
 use Rattle.std.specs.Prelude.{◌≡◌, ◌≢◌, ℕ, ◌+◌, ◌-◌, ◌≤◌}
 use Rattle.atomic_table.specs.Table.{Me, Step}
-use Rattle.lock_permits.specs.declared.rule.PermitView.{PermitView}
+use Rattle.lock_ruled.specs.declared.shared_semaphore.rule.PermitView.{PermitView}
 
 -- a party's view, and the slots that it holds: none
 abbrev pub Self : Type 0

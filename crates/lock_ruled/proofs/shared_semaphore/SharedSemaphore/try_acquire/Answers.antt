@@ -1,6 +1,6 @@
 use Rattle.std.proofs.Common.{rules}
-use Rattle.lock_permits.proofs.Keeps.{enters, takes}
-use Rattle.lock_permits.proofs.semaphore.SharedSemaphore.try_acquire.Goals as goal
+use Rattle.lock_ruled.proofs.PermitKeeps.{enters, takes}
+use Rattle.lock_ruled.proofs.shared_semaphore.SharedSemaphore.try_acquire.Goals as goal
 
 pub load_new_seat-free-requires : goal.load_new_seat-free-requires
 load_new_seat-free-requires g c = (search rules, enters _ _)

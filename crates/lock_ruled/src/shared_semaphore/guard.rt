@@ -2,10 +2,10 @@
 ghost use Rattle.std.specs.Prelude.{◌≡◌, IfSome, IfOk, IfErr};
 ghost use Rattle.std.specs.Arc.{arc_value};
 ghost use Rattle.lock_base.specs.declared.raw.fault.Fault.TheVariants as fault;
-ghost use Rattle.lock_permits.specs.Accounts.{token_of};
+ghost use Rattle.lock_ruled.specs.Accounts.{token_of};
 
-use crate::semaphore::SharedSemaphore;
-use crate::token::PermitToken;
+use crate::shared_semaphore::SharedSemaphore;
+use crate::shared_semaphore::token::PermitToken;
 use lock_base::raw::Fault;
 use std::clone::Clone;
 use std::marker::Model;
@@ -20,7 +20,7 @@ pub struct PermitGuard<'a> {
 
 impl<'a> Model for PermitGuard<'a> {
     ghost use Rattle.std.specs.Prelude.{◌≡◌};
-    ghost use Rattle.lock_permits.specs.Accounts.{TokenView};
+    ghost use Rattle.lock_ruled.specs.Accounts.{TokenView};
 
     ghost Value = { TokenView };
 
@@ -45,7 +45,7 @@ pub struct ArcPermitGuard {
 impl Model for ArcPermitGuard {
     ghost use Rattle.std.specs.Prelude.{◌≡◌};
     ghost use Rattle.std.specs.Arc.{arc_value};
-    ghost use Rattle.lock_permits.specs.Accounts.{TokenView};
+    ghost use Rattle.lock_ruled.specs.Accounts.{TokenView};
 
     ghost Value = { TokenView };
 

@@ -1,7 +1,7 @@
 //! The kinds of step on the number of free permits, and what each tells the party that makes it.
-ghost use Rattle.lock_permits.specs.Plays.{Looks, Takes, Gives};
+ghost use Rattle.lock_ruled.specs.PermitPlays.{Looks, Takes, Gives};
 
-use crate::rule::PermitView;
+use crate::shared_semaphore::rule::PermitView;
 use atomic_table::Play;
 
 /// A load.

@@ -14,7 +14,7 @@ pub struct PermitView {
 pub struct PermitRule;
 
 impl TableRule<(), PermitView, u64> for PermitRule {
-    ghost use Rattle.lock_permits.specs.Accounts.{IsAccounted, newcomer};
+    ghost use Rattle.lock_ruled.specs.Accounts.{IsAccounted, newcomer};
 
     ghost holds = { IsAccounted };
 

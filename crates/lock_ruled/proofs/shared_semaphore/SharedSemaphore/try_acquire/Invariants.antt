@@ -1,5 +1,5 @@
 use Rattle.std.proofs.Common.{◌≡◌, ◌≤◌}
-use Rattle.lock_permits.proofs.semaphore.SharedSemaphore.try_acquire.Given as goal
+use Rattle.lock_ruled.proofs.shared_semaphore.SharedSemaphore.try_acquire.Given as goal
 
 abbrev pub invariant-loop : goal.invariant-loop
 invariant-loop g l =

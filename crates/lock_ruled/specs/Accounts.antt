@@ -4,7 +4,7 @@ use mathlib.Core.Option.{some}
 use lib.ListN.{get_elem?}
 use Rattle.atomic_table.specs.Table.{State}
 use Rattle.atomic_table.specs.Seated.{TableId}
-use Rattle.lock_permits.specs.declared.rule.PermitView.{PermitView}
+use Rattle.lock_ruled.specs.declared.shared_semaphore.rule.PermitView.{PermitView}
 
 -- a semaphore: its identity, and the number of all permits
 pub record SemaphoreView : Type 0 where
