@@ -88,8 +88,8 @@ pub use Rattle.lock_raws.specs.TokenArbiter
 pub use Rattle.lock_raws.specs.Waking
 pub use Rattle.lock_raws.specs.Journal
 pub use Rattle.lock_raws.specs.Recording
-pub use Rattle.lock_line.specs.Tickets
-pub use Rattle.lock_line.specs.LineLaws
+pub use Rattle.lock_raws_fair.specs.Tickets
+pub use Rattle.lock_raws_fair.specs.LineLaws
 pub use Rattle.lock_raws_fair.specs.FairState
 pub use Rattle.lock_raws_fair.specs.FairLaws
 pub use Rattle.lock_raws_fair.specs.FairWaking
