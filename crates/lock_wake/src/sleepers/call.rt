@@ -3,7 +3,7 @@ use crate::sleepers::stage::CallStage;
 use atomic_table::Seat;
 use std::marker::Model;
 
-/// A call that has not ended. It cannot be dropped: `end` ends a wait, and `EventCount::wake_one`, `wake_all` or
+/// A call that has not ended. It cannot be dropped: `end` ends a wait, and `EventCount::wake` or
 /// `found_none` a notification.
 pub(crate) struct EventCall {
     pub(crate) seat: Seat<(), CallStage>,

@@ -1,5 +1,5 @@
 //! A notification that has ended.
-ghost use Rattle.std.specs.Prelude.{◌≡◌, true, false};
+ghost use Rattle.std.specs.Prelude.{◌≡◌, true};
 ghost use Rattle.lock_wake.specs.declared.sleepers.stage.CallStage.TheVariants.{Over};
 
 use crate::sleepers::CLOSED_COUNT;
@@ -55,33 +55,18 @@ impl EventCount {
         }
     }
 
-    /// Wakes one thread, after the notification ended the epoch.
-    pub(crate) fn wake_one(&self, call: EventCall, waits: u64) -> Notified
+    /// Wakes one thread or all, after the notification ended the epoch.
+    pub(crate) fn wake(&self, call: EventCall, waits: u64, all: bool) -> Notified
         requires events { call.events ≡ self.now }
         requires over { call.stage ≡ Over waits }
-        ensures { result ≡ record { events = self.now; number = call.number; waits = waits; all = false } }
+        ensures { result ≡ record { events = self.now; number = call.number; waits = waits; all = all } }
     {
-        self.table.shared.wake_one(EPOCH);
-        let EventCall { seat } = call;
-        Notified {
-            seat,
-            waits,
-            all: false,
+        if all {
+            self.table.shared.wake_all(EPOCH);
+        } else {
+            self.table.shared.wake_one(EPOCH);
         }
-    }
-
-    /// Wakes all threads, after the notification ended the epoch.
-    pub(crate) fn wake_all(&self, call: EventCall, waits: u64) -> Notified
-        requires events { call.events ≡ self.now }
-        requires over { call.stage ≡ Over waits }
-        ensures { result ≡ record { events = self.now; number = call.number; waits = waits; all = true } }
-    {
-        self.table.shared.wake_all(EPOCH);
         let EventCall { seat } = call;
-        Notified {
-            seat,
-            waits,
-            all: true,
-        }
+        Notified { seat, waits, all }
     }
 }

@@ -18,7 +18,7 @@ impl EventCount {
             return self.found_none(call);
         }
         self.end_epoch(&mut call, waits);
-        self.wake_one(call, waits)
+        self.wake(call, waits, false)
     }
 
     /// Ends the epoch if a wait is registered, and wakes all threads that sleep. One load if none is registered.
@@ -31,7 +31,7 @@ impl EventCount {
             return self.found_none(call);
         }
         self.end_epoch(&mut call, waits);
-        self.wake_all(call, waits)
+        self.wake(call, waits, true)
     }
 
     /// Begins a notification, by a load of the count.
