@@ -125,6 +125,11 @@ nobody epoch calls awake wait before notification stage h less there is = absurd
 abbrev After : Table → ℕ → ℕ → ℕ → CallStage → Table
 After s i n id w = record { words = slice_set s.words i n; homes = s.homes; views = slice_set s.views id w }
 
+-- what a step on the word i owes, which leaves n there: a new stage of the call, under the rule, of which `then` holds
+abbrev Done : ℕ → ℕ → Table → Self → ℕ → (Self → Type 0) → Type 0
+Done i id s me n then =
+    (w : CallStage) × (a : Act (Unit {0})) × Valid s.homes me.1 a × IsKept (stepped s i n id me.1 w a) × then (w, carried_after me.1 a)
+
 on_count : (id n : ℕ) (s : Table) (u w : CallStage) → IsKept s → get_elem? s.views id ≡ some u
     → Keeps id s u w n (epoch_in s) → IsKept (After s 0 n id w)
 on_count id n s u w kept at by =
@@ -175,14 +180,17 @@ moved id count s u w kept at counted other alone own_alone notifies due =
 
 -- steps on the count
 
+count_stays : (id : ℕ) (s : Table) (me : Self) (then : Self → Type 0) → IsKept s → get_elem? s.views id ≡ some me.0 → then me
+    → Done 0 id s me (count_in s) then
+count_stays id s me then kept at is = (me.0, keeps, tt, on_count id (count_in s) s me.0 me.0 kept at (unmoved id s me.0 kept at), is)
+
 pub counts_in : (slots id : ℕ) (me : Self) (old new : ℕ) → me.0 ≡ Away → old + 1 < closed_count → new ≡ old + 1
     → Allows IsKept slots id me 0 (λ n. either (eqb n old) new n) (CountsIn (step slots 0 old new none) me)
 counts_in slots id me old new away few is s kept same at small =
     let count = count_in s in
     let zero_of = ap count_of away in
-    exchanged count old new
-    (λ n. (w : CallStage) × (a : Act (Unit {0})) × Valid s.homes me.1 a × IsKept (stepped s 0 n id me.1 w a)
-    × CountsIn (step slots 0 old new none) me count (w, carried_after me.1 a))
+    let then = CountsIn (step slots 0 old new none) me count in
+    exchanged count old new (λ n. Done 0 id s me n then)
     (λ hit. (
       Counted,
       keeps,
@@ -192,13 +200,7 @@ counts_in slots id me old new away few is s kept same at small =
           (λ due. absurd (subst (IsDue (epoch_in s)) away due))),
       ((λ h. refl), (λ miss. absurd (miss hit))),
     ))
-    (λ miss. (
-      me.0,
-      keeps,
-      tt,
-      on_count id count s me.0 me.0 kept at (unmoved id s me.0 kept at),
-      ((λ hit. absurd (miss hit)), (λ h. refl)),
-    ))
+    (λ miss. count_stays id s me then kept at ((λ hit. absurd (miss hit)), (λ h. refl)))
 
 -- a counted call counts for 1, so it is no notification
 no_notification : (stage : CallStage) (epoch : ℕ) → 0 < count_of stage → IsDue epoch stage → ⊥
@@ -232,9 +234,8 @@ pub closes : (slots id : ℕ) (me : Self) → me.0 ≡ Away
 closes slots id me away s kept same at small =
     let count = count_in s in
     let zero_of = ap count_of away in
-    exchanged count 0 closed_count
-    (λ n. (w : CallStage) × (a : Act (Unit {0})) × Valid s.homes me.1 a × IsKept (stepped s 0 n id me.1 w a)
-    × Closes me count (w, carried_after me.1 a))
+    let then = Closes me count in
+    exchanged count 0 closed_count (λ n. Done 0 id s me n then)
     (λ hit. (
       Restarts,
       keeps,
@@ -243,13 +244,7 @@ closes slots id me away s kept same at small =
           (λ k apart h. refl) (λ e. refl) (λ n. absurd n) (λ due. absurd (subst (IsDue (epoch_in s)) away due))),
       ((λ h. refl), (λ miss. absurd (miss hit))),
     ))
-    (λ miss. (
-      me.0,
-      keeps,
-      tt,
-      on_count id count s me.0 me.0 kept at (unmoved id s me.0 kept at),
-      ((λ hit. absurd (miss hit)), (λ h. refl)),
-    ))
+    (λ miss. count_stays id s me then kept at ((λ hit. absurd (miss hit)), (λ h. refl)))
 
 pub opens : (slots id : ℕ) (me : Self) → me.0 ≡ Restarts
     → Allows IsKept slots id me 0 (λ n. (n + (2 ^ 64 - closed_count)) % 2 ^ 64) (CountsOut me)
@@ -382,9 +377,7 @@ ends slots id me waits old new owes is s kept same at small =
     let epoch = epoch_in s in
     let over = Over (waits_of me.0) in
     let weighs = ap count_of owes in
-    exchanged epoch old new
-    (λ n. (w : CallStage) × (a : Act (Unit {0})) × Valid s.homes me.1 a × IsKept (stepped s 1 n id me.1 w a)
-    × Ends me epoch (w, carried_after me.1 a))
+    exchanged epoch old new (λ n. Done 1 id s me n (Ends me epoch))
     (λ hit. (
       over,
       keeps,
