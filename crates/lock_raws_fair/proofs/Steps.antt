@@ -6,7 +6,7 @@ use Rattle.std.proofs.lemmas.Bool.{false≢true}
 use Rattle.std.proofs.lemmas.Bool.Decides.{nat_tests}
 use Rattle.std.proofs.lemmas.Nat.Bits.{bit_at-lt}
 use Rattle.lock_raws_fair.specs.declared.line.step.LineStep.TheVariants.{Arrive, Enter, Leave}
-use Rattle.lock_raws_fair.specs.Tickets.{Line, Makes, staying, without, is_among, leads, first_of, may_leave}
+use Rattle.lock_raws_fair.specs.Tickets.{Line, Makes, staying, without, is_among, is_first, leads, first_of, may_leave}
 use Rattle.lock_raws_fair.proofs.Staying.{staying_more, staying_first, staying_marked, low_stays, among, earlier_not_among, without_earlier}
 
 and_false : (b : Bool) → (b && false) ≡ false
@@ -24,6 +24,10 @@ arrives next first left within none =
     let more : staying ((next + 1) - first) first left ≡ staying (next - first) first left ++ next ∷ [] =
     rw e (staying_more (next - first) first left none ∙ ap (λ k. staying (next - first) first left ++ k ∷ []) last) in
     record { permitted = refl; after = ap (λ (ws : List ℕ). record { waiting = ws; issued = next + 1 }) more }
+
+-- the ticket that a call finds first leads those that wait
+pub led : {line old : Line} {found : Bool} (t : ℕ) → line ≡ old → found ≡ is_first old t → found ≡ true → leads line.waiting t ≡ true
+led t same is first = ap (λ (l : Line). is_first l t) same ∙ (sym is ∙ first)
 
 pub leads_is : (n first left t : ℕ) → bit_at left 0 ≡ 0 → leads (staying n first left) t ≡ true → (first == t) ≡ true × 0 < n
 leads_is zero first left t stays leading = absurd (false≢true leading)
