@@ -67,9 +67,9 @@ pub use Rattle.lock_ruled.specs.Bounds
 pub use Rattle.lock_ruled.specs.InOrder
 pub use Rattle.lock_ruled.specs.Permits
 pub use Rattle.lock_ruled.specs.With
-pub use Rattle.lock_permits.specs.Accounts
-pub use Rattle.lock_sleepers.specs.EventCounts
-pub use Rattle.lock_sleepers.specs.EventCalls
+pub use Rattle.lock_ruled.specs.Accounts
+pub use Rattle.lock_wake.specs.EventCounts
+pub use Rattle.lock_wake.specs.EventCalls
 pub use Rattle.lock_desk.specs.Closures
 pub use Rattle.lock_mutex.specs.Mutex
 pub use Rattle.lock_mutex.specs.MutexGuard
@@ -88,8 +88,8 @@ pub use Rattle.lock_raws.specs.TokenArbiter
 pub use Rattle.lock_raws.specs.Waking
 pub use Rattle.lock_raws.specs.Journal
 pub use Rattle.lock_raws.specs.Recording
-pub use Rattle.lock_line.specs.Tickets
-pub use Rattle.lock_line.specs.LineLaws
+pub use Rattle.lock_raws_fair.specs.Tickets
+pub use Rattle.lock_raws_fair.specs.LineLaws
 pub use Rattle.lock_raws_fair.specs.FairState
 pub use Rattle.lock_raws_fair.specs.FairLaws
 pub use Rattle.lock_raws_fair.specs.FairWaking

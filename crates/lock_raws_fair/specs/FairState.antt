@@ -4,7 +4,7 @@ use Rattle.lock_base.specs.declared.machine.mode.Mode.{Mode}
 use Rattle.lock_base.specs.declared.machine.bag.Bag.{Bag}
 use Rattle.lock_base.specs.Modes.{admits}
 use Rattle.lock_base.specs.Tokens.{bag_of_tokens}
-use Rattle.lock_line.specs.Tickets.{Line, is_empty, is_first}
+use Rattle.lock_raws_fair.specs.Tickets.{Line, is_empty, is_first}
 
 -- the held tokens, whether an upgrade waits, the readers' limit, and the tickets that wait
 pub record FairState (K : Type 0) : Type 0 where

@@ -3,7 +3,7 @@ use Rattle.std.specs.Prelude.{◌≡◌, ℕ, Bool, true, false, not, ◌&&◌, 
 use Rattle.lock_base.specs.declared.machine.mode.Mode.{Mode}
 use Rattle.lock_base.specs.declared.machine.bag.Bag.{Bag}
 use Rattle.lock_word.specs.Unblocking.{occupancy, unblocks}
-use Rattle.lock_line.specs.Tickets.{Line, is_empty, is_first, span}
+use Rattle.lock_raws_fair.specs.Tickets.{Line, is_empty, is_first, span}
 use Rattle.lock_raws_fair.specs.declared.fair_wake.FairWake.{FairWake}
 use Rattle.lock_raws_fair.specs.FairState.{fits}
 

@@ -1,3 +1,5 @@
+pub mod Tickets
+pub mod LineLaws
 pub mod FairState
 pub mod FairLaws
 pub mod FairWaking

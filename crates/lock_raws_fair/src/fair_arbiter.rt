@@ -1,7 +1,7 @@
 //! An arbiter that admits in the order of arrival.
+use crate::line::Line;
 use lock_base::machine::{Bag, Mode};
 use lock_base::raw::Fault;
-use lock_line::Line;
 use lock_raws::{Arbiter, Unchanged};
 use std::alloc::Global;
 use std::marker::Model;
@@ -40,10 +40,10 @@ impl<A: Arbiter> FairArbiter<A> {
     ghost use Rattle.lock_base.specs.Modes.{tokens, AreCompatible, may_become, is_move};
     ghost use Rattle.lock_base.specs.Tokens.{bag_of_tokens, Adds, Removes, Replaces, IsOutAs};
     ghost use Rattle.lock_base.specs.Limits.{IsLimit, IsMakerFault};
-    ghost use Rattle.lock_line.specs.declared.step.LineStep.TheVariants.{Arrive, Enter, Leave, Pass};
-    ghost use Rattle.lock_line.specs.declared.line.TheConstants.{TIMED_SPAN};
-    ghost use Rattle.lock_line.specs.Tickets.{Makes, empty_line, span, may_leave};
-    ghost use Rattle.lock_line.specs.LineLaws.{IsReached, IsEarliest};
+    ghost use Rattle.lock_raws_fair.specs.declared.line.step.LineStep.TheVariants.{Arrive, Enter, Leave, Pass};
+    ghost use Rattle.lock_raws_fair.specs.declared.line.TheConstants.{TIMED_SPAN};
+    ghost use Rattle.lock_raws_fair.specs.Tickets.{Makes, empty_line, span, may_leave};
+    ghost use Rattle.lock_raws_fair.specs.LineLaws.{IsReached, IsEarliest};
     ghost use Rattle.lock_raws_fair.specs.FairState.{FairState, may_pass, may_enter, KeepsTokens, KeepsLine};
 
     /// Makes an arbiter without tokens and with an empty line.

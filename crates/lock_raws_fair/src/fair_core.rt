@@ -12,7 +12,7 @@ use lock_base::raw::Fault;
 use lock_guard::lock_std;
 use lock_raws::{Arbiter, LockCore, RawLock, TableArbiter, upgraded};
 use lock_raws_word::{NoTime, RealTime};
-use lock_sleepers::{EventCount, Registered};
+use lock_wake::{EventCount, Registered};
 use std::alloc::Global;
 use std::clone::Clone;
 use std::marker::PhantomData;

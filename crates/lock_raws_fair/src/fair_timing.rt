@@ -2,7 +2,7 @@
 ghost use Rattle.std.specs.Prelude.{◌≡◌};
 
 use lock_raws_word::{NoTime, RealTime, Timing};
-use lock_sleepers::{EventCount, Registered, time_left};
+use lock_wake::{EventCount, Registered, time_left};
 use std::sync::Wait;
 use std::time::{Clock, Instant};
 

@@ -2,12 +2,12 @@
 ghost use Rattle.std.specs.Prelude.{◌≡◌, ◌<◌, ◌^◌, ◌&&◌, ◌==◌, false};
 ghost use Rattle.lock_base.specs.Modes.{tokens};
 ghost use Rattle.lock_base.specs.Tokens.{bag_of_tokens};
-ghost use Rattle.lock_line.specs.declared.line.TheConstants.{TIMED_SPAN};
+ghost use Rattle.lock_raws_fair.specs.declared.line.TheConstants.{TIMED_SPAN};
 ghost use Rattle.lock_raws_fair.specs.FairWaking.{Wakes, wakes_next, wakes_first};
 
 use crate::fair_arbiter::FairArbiter;
+use crate::line::TIMED_SPAN;
 use lock_base::machine::Bag;
-use lock_line::TIMED_SPAN;
 use lock_raws::Arbiter;
 use lock_word::{Occupancy, unblocks};
 

@@ -1,7 +1,7 @@
 //! Raw locks that admit in the order of arrival.
 //!
-//! `FairArbiter` is an arbiter with a line of tickets. `FairCore` is a `LockCore`: a std `Mutex` around it, and event counts
-//! on which waiters sleep.
+//! A `Line` has numbered tickets that wait, and its laws say that nobody is overtaken. `FairArbiter` is an arbiter with a
+//! line. `FairCore` is a `LockCore`: a std `Mutex` around it, and event counts on which waiters sleep.
 #![tactic(auto)]
 
 mod fair_arbiter;
@@ -9,10 +9,15 @@ mod fair_core;
 mod fair_timing;
 mod fair_wake;
 mod laws;
+mod line;
 mod turn;
 
 pub use fair_arbiter::FairArbiter;
 pub use fair_core::{FairCore, FairRaw, TimedFairRaw};
 pub use fair_timing::FairTiming;
 pub use fair_wake::FairWake;
-pub use laws::{nobody_is_stuck, nobody_passes_an_upgrade, wakes_miss_nobody};
+pub use laws::{
+    nobody_is_overtaken, nobody_is_stuck, nobody_passes_an_upgrade, overtaking_is_bounded,
+    timed_tickets_may_leave, wakes_miss_nobody,
+};
+pub use line::{Line, LineStep, TIMED_SPAN};

@@ -1,7 +1,7 @@
 //! A condition variable whose waiters sleep.
 use lock_base::raw::Fault;
 use lock_guard::raw::{RawCondvar, RawCondvarTimed, RawMutex, RawMutexTimed};
-use lock_sleepers::{EventCount, time_left};
+use lock_wake::{EventCount, time_left};
 use std::alloc::Global;
 use std::marker::PhantomData;
 use std::time::{Clock, Duration, Instant};

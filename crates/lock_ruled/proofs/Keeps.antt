@@ -15,11 +15,11 @@ use Rattle.atomic_table.proofs.Lists.{at_set, at_snoc, at_longer, set_else, set_
 use Rattle.lock_ruled.specs.declared.rule.UserStage.{UserStage}
 use Rattle.lock_ruled.specs.declared.rule.UserStage.TheVariants.{Free, Opens, Holds, Watches, Sleeps, Owes, OwesAt}
 use Rattle.lock_ruled.specs.declared.rule.UserView.{UserView}
-use Rattle.lock_ruled.specs.Ruled.{all_parts, Meets, Keeps}
+use Rattle.lock_ruled.specs.Ruled.{UserState, Taken, all_parts, HasLocked, Meets, Keeps}
 use Rattle.lock_ruled.specs.Ruled as asked
 use Rattle.lock_ruled.specs.SleepingUsers.{awaited, last_epoch, IsAsleep, IsDue, watched, KeepsWakes}
 use Rattle.lock_ruled.specs.Slots.{Fits, IsAway, IsHolding, IsOut, IsRuled, word_in, epoch_in, EveryStateForgetsNoUser, taken_value, known_if, known_views, opener, one_fewer, one_part, both_of, spent_view}
-use Rattle.lock_ruled.specs.Plays.{Self, HasAcquired, Carries, IsIdle, stage_after_release, AcquiresValue, MarksAwaited, ReleasesValue, OpensMutex, WatchesEpoch, Leaves, NotesEpoch, EndsEpoch}
+use Rattle.lock_ruled.specs.Plays.{Self, at_stage, HasAcquired, Carries, IsIdle, stage_after_release, AcquiresValue, MarksAwaited, ReleasesValue, OpensMutex, WatchesEpoch, Leaves, NotesEpoch, EndsEpoch}
 use Rattle.lock_ruled.proofs.Wakes.{changes, moves, frees, ends, finds_last, newcomer, forgets_no_user}
 use Rattle.lock_ruled.proofs.Views.{known_of, known_one, known_append, parts_append, around, both_around, two_parts, alone, set_at}
 
@@ -83,6 +83,14 @@ module _ {T V : Type 0} (rule : T → List V → Type 0) (me after : Self T V) w
   -- and the rule holds of it, with the view that contracts see
   pub has_met : (took : HasAcquired rule me after) (taken : T) (view : V) → taken ≡ took.0 → me.0.own ≡ view → Meets rule taken view
   has_met took taken view same is = subst (λ (z : T × V). Meets rule z.0 z.1) (λ i. (sym same i, is i)) took.2
+
+  -- so a guard of that value has what contracts say of a new guard
+  pub has_locked : IsIdle me → (took : HasAcquired rule me after) (own : UserState V) (guard : Taken T V)
+      → ((value : T) → Carries after value value → (guard.taken ≡ value) × (guard.value ≡ value)) → guard.user ≡ own → me.0.own ≡ own.view
+      → HasLocked rule own guard
+  has_locked idle took own guard value_of user view =
+      let is = value_of took.0 (has_out idle took) in
+      record { user = user; value = is.1 ∙ sym is.0; met = has_met took guard.taken own.view is.0 view }
 
 -- a guard's value, put into its slot
 pub refilled : {T V : Type 0} (me now : Self T V) (value : T) → now ≡ (me.0, (0, Some value) ∷ rest me.1)
@@ -163,11 +171,11 @@ module _ {T V : Type 0} (rule : T → List V → Type 0) where
   After s id me n then = (w : UserView T V) × (a : Act (std.Option T)) × Valid s.homes me.1 a × IsRuled rule (stepped s 0 n id me.1 w a)
       × then (word_in s) (w, carried_after me.1 a)
 
-  -- a step that finds the mutex free acquires the value
-  acquires : (s : State (std.Option T) (UserView T V)) (r : IsRuled rule s) (id n : ℕ) (me : Self T V) → get_elem? s.views id ≡ some me.0
+  -- a step that finds the mutex free acquires the value, whatever it does to a mutex that is held
+  acquires : (otherwise : Self T V → Type 0) (s : State (std.Option T) (UserView T V)) (r : IsRuled rule s) (id n : ℕ) (me : Self T V) → get_elem? s.views id ≡ some me.0
       → word_in s ≡ 0 → n ≢ 0 → 0 < me.0.parts → (IsDue (epoch_in s) me.0.stage → ⊥)
-      → After s id me n (λ found. HasAcquired rule me)
-  acquires s r id n me at hit away some_part not_due =
+      → After s id me n (λ found after. (found ≡ 0 → HasAcquired rule me after) × (found ≢ 0 → otherwise after))
+  acquires otherwise s r id n me at hit away some_part not_due =
       let about = around s.views id me.0 at in
       let y = r.value in
       let w : UserView T V = record me.0 { stage = Holds y } in
@@ -185,21 +193,14 @@ module _ {T V : Type 0} (rule : T → List V → Type 0) where
             (λ k x apart e. is_free x.stage (word_in s) r.holder k n id s.homes (set s.homes 0 none) y y (λ _ nonzero. nonzero hit) (r.each k x e))
             (changes (word_in s) n (epoch_in s) s.views id me.0 w at r.wakes (omega arith) (λ due. absurd (not_due due))
             (λ asleep. let e = asleep.0 in cc) (λ is. absurd (suc-ne-zero 1 (sym is ∙ hit)))),
-        (y, refl, (about.before, about.after, subst (rule y) mine r.kept)),
+        ((λ _. (y, refl, (about.before, about.after, subst (rule y) mine r.kept))), (λ miss. absurd (miss hit))),
       )
 
   pub takes_value : (slots id : ℕ) (me : Self T V) → me.0.stage ≡ Free → 0 < me.0.parts
       → Allows (IsRuled rule) slots id me 0 (λ n. either (eqb n 0) 1 n) (AcquiresValue rule me)
   takes_value slots id me free some_part s r same at small =
       exchanged (word_in s) 0 1 (λ n. After s id me n (AcquiresValue rule me))
-      (λ hit.
-      let took = acquires s r id 1 me at hit (λ e. suc-ne-zero 0 e) some_part (λ due. subst (IsDue (epoch_in s)) free due) in (
-        took.0,
-        took.1,
-        took.2,
-        took.3,
-        ((λ _. took.4), (λ miss. absurd (miss hit))),
-      ))
+      (λ hit. acquires (λ after. after ≡ me) s r id 1 me at hit (λ e. suc-ne-zero 0 e) some_part (λ due. subst (IsDue (epoch_in s)) free due))
       (λ miss.
       let again = set_again s.views id me.0 at in (
         me.0,
@@ -219,14 +220,7 @@ module _ {T V : Type 0} (rule : T → List V → Type 0) where
       let away : awaited ≢ 0 = λ e. suc-ne-zero 1 e in
       let not_due = λ (due : IsDue (epoch_in s) me.0.stage). subst (IsDue (epoch_in s)) watches due in
       dite (ℕ_discrete (word_in s) 0)
-      (λ hit.
-      let took = acquires s r id awaited me at hit away some_part not_due in (
-        took.0,
-        took.1,
-        took.2,
-        took.3,
-        ((λ _. took.4), (λ miss. absurd (miss hit))),
-      ))
+      (λ hit. acquires (λ after. (e : ℕ) → me.0.stage ≡ Watches e → after ≡ at_stage me (Sleeps e)) s r id awaited me at hit away some_part not_due)
       (λ miss.
       let w : UserView T V = record me.0 { stage = Sleeps epoch } in
       let about = around s.views id me.0 at in

@@ -1,3 +1,4 @@
 pub mod Views
 pub mod Wakes
 pub mod Keeps
+pub mod PermitKeeps

@@ -2,6 +2,7 @@ pub mod Ruled
 pub mod SleepingUsers
 pub mod Slots
 pub mod Plays
+pub mod Acquiring
 pub mod EachView
 pub mod EachViews
 pub mod Sums
@@ -14,3 +15,5 @@ pub mod InOrder
 pub mod InOrders
 pub mod Permits
 pub mod With
+pub mod Accounts
+pub mod PermitPlays

@@ -1,5 +1,5 @@
 -- What contracts see of a user and of a guard, and what a rule must keep.
-use Rattle.std.specs.Prelude.{ℕ, ◌^◌, List, [], ◌∷◌, ◌++◌}
+use Rattle.std.specs.Prelude.{◌≡◌, ℕ, ◌^◌, List, [], ◌∷◌, ◌++◌}
 use Rattle.atomic_table.specs.Seated.{TableId}
 
 -- a user: its mutex, the number of its parts, and its view
@@ -25,6 +25,12 @@ module _ {T V : Type 0} (rule : T → List V → Type 0) where
   -- the rule holds of the value and of some views, this one among them
   abbrev pub Meets : T → V → Type 0
   Meets value view = (before : List V) × (after : List V) × rule value (before ++ view ∷ after)
+
+  -- the guard is held by this user, its value is the acquired one, and the rule holds of that
+  pub record HasLocked (own : UserState V) (guard : Taken T V) : Type 0 where
+    pub user : guard.user ≡ own
+    pub value : guard.value ≡ guard.taken
+    pub met : Meets guard.taken own.view
 
   -- the new rule follows from the old one, whatever the other views are
   abbrev pub Keeps : T → V → T → V → Type 0

@@ -1,14 +1,14 @@
 //! Waiting until the value meets a condition.
-ghost use Rattle.std.specs.Prelude.{◌≡◌, true, IfOk, IfErr};
+ghost use Rattle.std.specs.Prelude.{◌≡◌, true, IfOk, MatchResult};
 ghost use Rattle.std.specs.Fn.{FnReturnsAt};
-ghost use Rattle.lock_ruled.specs.Ruled.{Meets};
+ghost use Rattle.lock_ruled.specs.Ruled.{HasLocked};
 
 use crate::guard::RuledGuard;
 use crate::mutex::RuledMutex;
 use crate::plays::Stay;
 use crate::rule::MutexRule;
 use crate::user::User;
-use lock_sleepers::time_left;
+use lock_wake::time_left;
 use std::sync::Wait;
 use std::time::{Clock, Instant};
 
@@ -25,9 +25,7 @@ impl<T: Drop, V, P: MutexRule<T, V>> RuledMutex<T, V, P> {
     ) -> RuledGuard<T, V>
         requires mutex { user.mutex ≡ self.now }
         requires condition { F.IsAlwaysCallable condition }
-        ensures user { result.user ≡ user }
-        ensures value { result.value ≡ result.taken }
-        ensures rule { Meets P.rule result.taken user.view }
+        ensures locked { HasLocked P.rule user result }
         ensures condition { FnReturnsAt F.Fn condition result.value true }
     {
         let mut user = user;
@@ -57,11 +55,8 @@ impl<T: Drop, V, P: MutexRule<T, V>> RuledMutex<T, V, P> {
     ) -> Result<RuledGuard<T, V>, User<T, V>>
         requires mutex { user.mutex ≡ self.now }
         requires condition { F.IsAlwaysCallable condition }
-        ensures user { IfOk result (λ guard. guard.user ≡ user) }
-        ensures value { IfOk result (λ guard. guard.value ≡ guard.taken) }
-        ensures rule { IfOk result (λ guard. Meets P.rule guard.taken user.view) }
+        ensures locked { MatchResult result (HasLocked P.rule user) (λ same. same ≡ user) }
         ensures condition { IfOk result (λ guard. FnReturnsAt F.Fn condition guard.value true) }
-        ensures refused { IfErr result (λ same. same ≡ user) }
     {
         let mut user = user;
         for _ in rt.forever() {

@@ -1,7 +1,9 @@
-//! What the rule of the table means. Each law is the contract of a function with an empty body.
+//! What the rules of the tables mean. Each law is the contract of a function with an empty body.
 ghost use Rattle.lock_ruled.specs.Slots.{EveryStateIsRuled, EveryStateForgetsNoUser};
+ghost use Rattle.lock_ruled.specs.Accounts.{EveryStateAccounts};
 
 use crate::rule::{MutexRule, SlotRule, UserView};
+use crate::shared_semaphore::{PermitRule, PermitView};
 use atomic_table::TableRule;
 
 /// Between any two steps of any threads, the rule of the mutex holds of one value and of the views of all users with a
@@ -15,4 +17,10 @@ pub fn every_state_is_ruled<T, V, P: MutexRule<T, V>>()
 /// which the user sleeps. So no user sleeps while the mutex is free and no call is in progress.
 pub fn every_state_forgets_no_user<T, V, P: MutexRule<T, V>>()
     ensures { EveryStateForgetsNoUser ⟦<SlotRule<P> as TableRule<Option<T>, UserView<T, V>, T>>⟧.holds }
+{}
+
+/// Between any two steps of any threads, the permits of a `SharedSemaphore` that are free and those of all tokens are all
+/// permits.
+pub fn every_state_accounts_for_permits()
+    ensures { EveryStateAccounts ⟦<PermitRule as TableRule<(), PermitView, u64>>⟧.holds }
 {}

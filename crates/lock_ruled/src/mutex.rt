@@ -1,8 +1,9 @@
 //! The mutex under a rule.
-ghost use Rattle.std.specs.Prelude.{◌≡◌, ◌-◌, ◌+◌, ◌<◌, [], ◌∷◌, ℕ, true, false, IfOk, IfErr};
+ghost use Rattle.std.specs.Prelude.{◌≡◌, ◌-◌, ◌+◌, ◌<◌, [], ◌∷◌, ℕ, true, IfOk, IfErr, MatchResult};
 ghost use Rattle.lock_base.specs.declared.raw.fault.Fault.TheVariants as fault;
-ghost use Rattle.lock_ruled.specs.Ruled.{all_parts, first_user, Meets, Keeps, Splits, Joins};
-ghost use Rattle.lock_ruled.specs.Plays.{HasAcquired, Carries, IsIdle, stage_after_release};
+ghost use Rattle.lock_ruled.specs.Ruled.{all_parts, first_user, HasLocked, Keeps, Splits, Joins};
+ghost use Rattle.lock_ruled.specs.Plays.{Carries, stage_after_release};
+ghost use Rattle.lock_ruled.specs.Acquiring.{MayAcquire, Acquired, MayHaveAcquired};
 
 use crate::guard::RuledGuard;
 use crate::plays::{JoinParts, Open, SplitParts, Stay, TryLock, Unlock};
@@ -12,7 +13,7 @@ use crate::user::User;
 use atomic_table::{Join, Seat, Split, Table};
 use crossbeam_utils::Backoff;
 use lock_base::raw::Fault;
-use lock_sleepers::EventCount;
+use lock_wake::EventCount;
 use std::alloc::Global;
 use std::marker::Model;
 use std::sync::Wait;
@@ -107,9 +108,7 @@ impl<T: Drop, V, P: MutexRule<T, V>> RuledMutex<T, V, P> {
     /// Acquires the mutex, blocking until it is available. After a few tries it sleeps.
     pub fn lock<R: Wait>(&self, rt: &R, user: User<T, V>) -> RuledGuard<T, V>
         requires { user.mutex ≡ self.now }
-        ensures user { result.user ≡ user }
-        ensures value { result.value ≡ result.taken }
-        ensures rule { Meets P.rule result.taken user.view }
+        ensures { HasLocked P.rule user result }
     {
         let mut seat = user.seat;
         self.acquire(rt, &mut seat);
@@ -119,10 +118,7 @@ impl<T: Drop, V, P: MutexRule<T, V>> RuledMutex<T, V, P> {
     /// Acquires the mutex by one exchange without blocking, or returns the user if the mutex is held.
     pub fn try_lock(&self, user: User<T, V>) -> Result<RuledGuard<T, V>, User<T, V>>
         requires { user.mutex ≡ self.now }
-        ensures user { IfOk result (λ guard. guard.user ≡ user) }
-        ensures value { IfOk result (λ guard. guard.value ≡ guard.taken) }
-        ensures rule { IfOk result (λ guard. Meets P.rule guard.taken user.view) }
-        ensures refused { IfErr result (λ same. same ≡ user) }
+        ensures { MatchResult result (HasLocked P.rule user) (λ same. same ≡ user) }
     {
         let mut seat = user.seat;
         if self.try_acquire(&mut seat) {
@@ -214,10 +210,8 @@ impl<T: Drop, V, P: MutexRule<T, V>> RuledMutex<T, V, P> {
 
     /// Tries, and then sleeps between tries.
     fn acquire<R: Wait>(&self, rt: &R, seat: &mut Seat<Option<T>, UserView<T, V>>)
-        requires mutex { seat.old.table_id ≡ self.now }
-        requires idle { IsIdle seat.old.me }
-        ensures seat { seat.new.table_id ≡ seat.old.table_id }
-        ensures taken { HasAcquired P.rule seat.old.me seat.new.me }
+        requires { MayAcquire self.now seat.old }
+        ensures { Acquired P.rule seat.old seat.new }
     {
         if !self.try_acquire(seat) && !self.try_with_backoff(seat) {
             self.block(rt, seat);
@@ -226,11 +220,8 @@ impl<T: Drop, V, P: MutexRule<T, V>> RuledMutex<T, V, P> {
 
     /// Tries to acquire, by one exchange.
     pub(crate) fn try_acquire(&self, seat: &mut Seat<Option<T>, UserView<T, V>>) -> bool
-        requires mutex { seat.old.table_id ≡ self.now }
-        requires idle { IsIdle seat.old.me }
-        ensures seat { seat.new.table_id ≡ seat.old.table_id }
-        ensures taken { result ≡ true → HasAcquired P.rule seat.old.me seat.new.me }
-        ensures refused { result ≡ false → seat.new.me ≡ seat.old.me }
+        requires { MayAcquire self.now seat.old }
+        ensures { MayHaveAcquired P.rule result seat.old seat.new }
     {
         self.table
             .shared
@@ -240,11 +231,8 @@ impl<T: Drop, V, P: MutexRule<T, V>> RuledMutex<T, V, P> {
 
     /// Tries a few times, with growing pauses.
     pub(crate) fn try_with_backoff(&self, seat: &mut Seat<Option<T>, UserView<T, V>>) -> bool
-        requires mutex { seat.old.table_id ≡ self.now }
-        requires idle { IsIdle seat.old.me }
-        ensures seat { seat.new.table_id ≡ seat.old.table_id }
-        ensures taken { result ≡ true → HasAcquired P.rule seat.old.me seat.new.me }
-        ensures refused { result ≡ false → seat.new.me ≡ seat.old.me }
+        requires { MayAcquire self.now seat.old }
+        ensures { MayHaveAcquired P.rule result seat.old seat.new }
     {
         let backoff = Backoff::new();
         for _ in 0..TRIES {

@@ -2,7 +2,7 @@
 ghost use Rattle.std.specs.Prelude.{◌≡◌, true};
 
 use crate::user::User;
-use lock_sleepers::{Notified, Registered};
+use lock_wake::{Notified, Registered};
 use std::marker::Model;
 
 /// A user that released the mutex. It cannot be dropped, so a release either notifies all users that wait for a condition,

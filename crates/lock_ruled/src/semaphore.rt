@@ -1,6 +1,6 @@
 //! A semaphore whose permits are all accounted for: those that are free, and those that each holder has, are always as
 //! many as it was made with.
-ghost use Rattle.std.specs.Prelude.{◌≡◌, ◌-◌, ◌+◌, ◌<◌, ◌≤◌, IfOk, IfErr};
+ghost use Rattle.std.specs.Prelude.{◌≡◌, ◌-◌, ◌+◌, ◌<◌, ◌≤◌, IfOk, IfErr, MatchResult};
 ghost use Rattle.lock_base.specs.declared.raw.fault.Fault.TheVariants as fault;
 ghost use Rattle.lock_ruled.specs.Ruled.{all_parts, first_user};
 ghost use Rattle.lock_ruled.specs.Permits.{with_more, with_fewer, HasFew};
@@ -62,8 +62,7 @@ impl Semaphore {
         permits: u64,
     ) -> Result<Holder, Holder>
         requires semaphore { holder.mutex ≡ self.now }
-        ensures acquired { IfOk result (λ after. after ≡ with_more holder permits) }
-        ensures refused { IfErr result (λ same. same ≡ holder) }
+        ensures acquired { MatchResult result (λ after. after ≡ with_more holder permits) (λ same. same ≡ holder) }
         // Fewer permits were free than it wants.
         ensures few { IfErr result (λ same. HasFew holder permits) }
     {
@@ -89,8 +88,7 @@ impl Semaphore {
         deadline: Instant,
     ) -> Result<Holder, Holder>
         requires semaphore { holder.mutex ≡ self.now }
-        ensures acquired { IfOk result (λ after. after ≡ with_more holder permits) }
-        ensures refused { IfErr result (λ same. same ≡ holder) }
+        ensures { MatchResult result (λ after. after ≡ with_more holder permits) (λ same. same ≡ holder) }
     {
         let enough = move |free: &u64| *free >= permits;
         match self.free.lock_when_until(rt, holder.user, enough, deadline) {

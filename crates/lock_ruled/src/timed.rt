@@ -1,14 +1,14 @@
 //! Acquiring the mutex until a deadline.
-ghost use Rattle.std.specs.Prelude.{◌≡◌, true, false, IfOk, IfErr};
-ghost use Rattle.lock_ruled.specs.Ruled.{Meets};
-ghost use Rattle.lock_ruled.specs.Plays.{HasAcquired, IsIdle};
+ghost use Rattle.std.specs.Prelude.{◌≡◌, MatchResult};
+ghost use Rattle.lock_ruled.specs.Ruled.{HasLocked};
+ghost use Rattle.lock_ruled.specs.Acquiring.{MayAcquire, MayHaveAcquired};
 
 use crate::guard::RuledGuard;
 use crate::mutex::RuledMutex;
 use crate::rule::{MutexRule, UserView};
 use crate::user::User;
 use atomic_table::Seat;
-use lock_sleepers::time_left;
+use lock_wake::time_left;
 use std::sync::Wait;
 use std::time::{Clock, Instant};
 
@@ -21,10 +21,7 @@ impl<T: Drop, V, P: MutexRule<T, V>> RuledMutex<T, V, P> {
         deadline: Instant,
     ) -> Result<RuledGuard<T, V>, User<T, V>>
         requires { user.mutex ≡ self.now }
-        ensures user { IfOk result (λ guard. guard.user ≡ user) }
-        ensures value { IfOk result (λ guard. guard.value ≡ guard.taken) }
-        ensures rule { IfOk result (λ guard. Meets P.rule guard.taken user.view) }
-        ensures refused { IfErr result (λ same. same ≡ user) }
+        ensures { MatchResult result (HasLocked P.rule user) (λ same. same ≡ user) }
     {
         let mut seat = user.seat;
         if self.acquire_until(rt, &mut seat, deadline) {
@@ -34,37 +31,19 @@ impl<T: Drop, V, P: MutexRule<T, V>> RuledMutex<T, V, P> {
         }
     }
 
-    /// Tries, and then sleeps between tries, until the deadline.
+    /// Tries, and then sleeps between tries, until the deadline. After the deadline the mutex stays marked as awaited.
     fn acquire_until<R: Wait + Clock>(
         &self,
         rt: &R,
         seat: &mut Seat<Option<T>, UserView<T, V>>,
         deadline: Instant,
     ) -> bool
-        requires mutex { seat.old.table_id ≡ self.now }
-        requires idle { IsIdle seat.old.me }
-        ensures seat { seat.new.table_id ≡ seat.old.table_id }
-        ensures taken { result ≡ true → HasAcquired P.rule seat.old.me seat.new.me }
-        ensures refused { result ≡ false → seat.new.me ≡ seat.old.me }
+        requires { MayAcquire self.now seat.old }
+        ensures { MayHaveAcquired P.rule result seat.old seat.new }
     {
-        self.try_acquire(seat)
-            || self.try_with_backoff(seat)
-            || self.block_until(rt, seat, deadline)
-    }
-
-    /// Blocks as `block` does, until the deadline. It leaves the mutex marked as awaited.
-    fn block_until<R: Wait + Clock>(
-        &self,
-        rt: &R,
-        seat: &mut Seat<Option<T>, UserView<T, V>>,
-        deadline: Instant,
-    ) -> bool
-        requires mutex { seat.old.table_id ≡ self.now }
-        requires idle { IsIdle seat.old.me }
-        ensures seat { seat.new.table_id ≡ seat.old.table_id }
-        ensures taken { result ≡ true → HasAcquired P.rule seat.old.me seat.new.me }
-        ensures refused { result ≡ false → seat.new.me ≡ seat.old.me }
-    {
+        if self.try_acquire(seat) || self.try_with_backoff(seat) {
+            return true;
+        }
         for _ in rt.forever() {
             let Some(epoch) = self.mark(seat) else {
                 return true;

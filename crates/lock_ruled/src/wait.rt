@@ -2,7 +2,8 @@
 ghost use Rattle.std.specs.Prelude.{◌≡◌, ◌%◌, ◌^◌, ℕ, None, IfSome};
 ghost use Rattle.lock_ruled.specs.declared.rule.UserStage.TheVariants.{Sleeps, Free};
 ghost use Rattle.lock_ruled.specs.SleepingUsers.{IsAsleep};
-ghost use Rattle.lock_ruled.specs.Plays.{HasAcquired, IsIdle, at_stage};
+ghost use Rattle.lock_ruled.specs.Plays.{HasAcquired, at_stage};
+ghost use Rattle.lock_ruled.specs.Acquiring.{MayAcquire, Acquired};
 
 use crate::mutex::{AWAITED, EPOCH, FREE, LAST_EPOCH, RuledMutex, WORD};
 use crate::plays::{Leave, MarkAwaited, WatchEpoch};
@@ -15,10 +16,8 @@ use std::time::Duration;
 impl<T: Drop, V, P: MutexRule<T, V>> RuledMutex<T, V, P> {
     /// Blocks until it acquires.
     pub(crate) fn block<R: Wait>(&self, rt: &R, seat: &mut Seat<Option<T>, UserView<T, V>>)
-        requires mutex { seat.old.table_id ≡ self.now }
-        requires idle { IsIdle seat.old.me }
-        ensures seat { seat.new.table_id ≡ seat.old.table_id }
-        ensures taken { HasAcquired P.rule seat.old.me seat.new.me }
+        requires { MayAcquire self.now seat.old }
+        ensures { Acquired P.rule seat.old seat.new }
     {
         for _ in rt.forever() {
             let Some(epoch) = self.mark(seat) else {
@@ -32,8 +31,7 @@ impl<T: Drop, V, P: MutexRule<T, V>> RuledMutex<T, V, P> {
     /// Loads the epoch, and then marks the mutex as awaited by an exchange, which acquires the mutex if it was free.
     /// Returns the epoch for which the user has to sleep, or `None` if it acquired.
     pub(crate) fn mark(&self, seat: &mut Seat<Option<T>, UserView<T, V>>) -> Option<u64>
-        requires mutex { seat.old.table_id ≡ self.now }
-        requires idle { IsIdle seat.old.me }
+        requires { MayAcquire self.now seat.old }
         ensures seat { seat.new.table_id ≡ seat.old.table_id }
         ensures taken { result ≡ None → HasAcquired P.rule seat.old.me seat.new.me }
         ensures held { IfSome result (λ epoch. seat.new.me ≡ at_stage seat.old.me (Sleeps epoch)) }

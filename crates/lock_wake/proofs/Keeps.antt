@@ -17,7 +17,7 @@ use Rattle.lock_word.specs.declared.sleeper.Debt.TheVariants.{Nothing, Owes, Owe
 use Rattle.lock_word.specs.declared.sleeper.SleeperView.{SleeperView}
 use Rattle.lock_word.specs.Word.{guards_of_word, word_admits, word_after, amount, step_of_want, step_of_down}
 use Rattle.lock_word.specs.Sleepers.{changes_of, closed_count, count_of_watch}
-use Rattle.lock_word.specs.Wakes.{KeepsWakes, EachStepKeeps, may_want, view_after_take}
+use Rattle.lock_word.specs.Wakes.{KeepsWakes, EachStepKeeps, may_want, with_watch, with_debt, view_after_take, view_after_epoch, view_after_sleep}
 use Rattle.lock_word.proofs.Holders.{le-sum_by}
 use Rattle.lock_word.proofs.Bars.{bar_of_rule}
 use Rattle.lock_word.proofs.Distinct.{same_exchange, same_take}
@@ -27,7 +27,7 @@ use Rattle.lock_word.proofs.Wakes.{state_at, each_step, at_rest, one_wakes}
 use Rattle.lock_seated.proofs.Keeps.{seat_at, still_guarded, subtracted, announced_before, few_held}
 use Rattle.lock_wake.specs.declared.rule.WakeView.{WakeView}
 use Rattle.lock_wake.specs.WakeSeats.{sleepers_of, parties_of, Table, word_in, count_in, epoch_in, IsGuarded, IsKept, EveryStateForgetsNone}
-use Rattle.lock_wake.specs.Plays.{Self, self_after_load, self_after_win, self_after_loss, self_after_take, self_after_epoch, self_watching, self_owing, self_after_sleep, self_after_end, Loads, Exchanges, Takes, CountsIn, CountsOut, LooksForSleepers, Closes, Opens, Watches, Notes, Ends, BeginsAnew}
+use Rattle.lock_wake.specs.Plays.{Self, self_after_load, self_after_win, self_after_loss, self_after_take, with_sleeper, Loads, Exchanges, Takes, CountsIn, CountsOut, LooksForSleepers, Closes, Opens, Watches, Notes, Ends, BeginsAnew}
 
 sleeper_at : (views : List WakeView) (k : ℕ) (v : WakeView) → get_elem? views k ≡ some v → slice_get (sleepers_of views) k ≡ Some v.sleeper
 sleeper_at views k v h = rw (slice_get-map (λ (x : WakeView). x.sleeper) views k, seat_at views k v h)
@@ -73,6 +73,11 @@ left limits id s words v three kept by =
 
 abbrev After : Table → ℕ → ℕ → ℕ → WakeView → Table
 After s i n id v = record { words = slice_set s.words i n; homes = s.homes; views = slice_set s.views id v }
+
+-- what a step on the word i owes, which leaves n there: a new view of the seat, under the rule, of which `then` holds
+abbrev Done : WakeLimits → ℕ → ℕ → Table → Self → ℕ → (Self → Type 0) → Type 0
+Done limits i id s me n then = (w : WakeView) × (a : Act (Unit {0})) × Valid s.homes me.1 a × IsKept limits (stepped s i n id me.1 w a)
+    × then (w, carried_after me.1 a)
 
 on_word : (limits : WakeLimits) (id n : ℕ) (s : Table) (v : WakeView) → IsKept limits s
     → Keeps limits id s v n (count_in s) (epoch_in s) → IsKept limits (After s 0 n id v)
@@ -193,9 +198,7 @@ exchanges limits known slots id me want old new same_limit is_open is_last holds
     let word = word_in s in
     let by = by_step limits id s me.0 kept at in
     let announced = me.0.sleeper.state.held.announced in
-    exchanged word old new
-    (λ n. (w : WakeView) × (a : Act (Unit {0})) × Valid s.homes me.1 a × IsKept limits (stepped s 0 n id me.1 w a)
-    × Exchanges (step slots 0 old new none) me word (w, carried_after me.1 a))
+    exchanged word old new (λ n. Done limits 0 id s me n (Exchanges (step slots 0 old new none) me word))
     (λ hit.
     let v = (self_after_win me want).0 in
     let here : IsTrue (word_admits announced limits.readers word want)
@@ -269,143 +272,110 @@ takes limits slots id me down k holds is s kept same at small =
 
 -- steps on the count
 
+-- the step leaves n on the count, and the seat at this point of its way to sleep
+counted : (limits : WakeLimits) (id n : ℕ) (s : Table) (me : Self) (you : SleeperView) (then : Self → Type 0) → IsKept limits s
+    → get_elem? s.views id ≡ some me.0 → you.state.held ≡ me.0.sleeper.state.held
+    → KeepsWakes limits (word_in s) n (epoch_in s) (slice_set (sleepers_of s.views) id you)
+    → then (with_sleeper me you) → Done limits 1 id s me n then
+counted limits id n s me you then kept at held wakes is =
+    let v = (with_sleeper me you).0 in
+    (v, keeps, tt, on_count limits id n s v kept (aside limits id n (epoch_in s) s me.0 you kept at held wakes), is)
+
+count_stays : (limits : WakeLimits) (id : ℕ) (s : Table) (me : Self) (then : Self → Type 0) → IsKept limits s
+    → get_elem? s.views id ≡ some me.0 → then me → Done limits 1 id s me (count_in s) then
+count_stays limits id s me then kept at is =
+    (me.0, keeps, tt, on_count limits id (count_in s) s me.0 kept (unmoved limits id s me.0 kept at), is)
+
 pub counts_in : (limits : WakeLimits) (slots id : ℕ) (me : Self) (old new : ℕ) → me.0.sleeper.watch ≡ Away
     → old + 1 < closed_count → new ≡ old + 1
     → Allows (IsKept limits) slots id me 1 (λ n. either (eqb n old) new n) (CountsIn (step slots 1 old new none) me)
 counts_in limits slots id me old new away few is s kept same at small =
     let count = count_in s in
     let by = by_step limits id s me.0 kept at in
-    exchanged count old new
-    (λ n. (w : WakeView) × (a : Act (Unit {0})) × Valid s.homes me.1 a × IsKept limits (stepped s 1 n id me.1 w a)
-    × CountsIn (step slots 1 old new none) me count (w, carried_after me.1 a))
+    let then = CountsIn (step slots 1 old new none) me count in
+    exchanged count old new (λ n. Done limits 1 id s me n then)
     (λ hit.
-    let v = (self_watching me Counted).0 in
-    let next : count + 1 ≡ new = ap (λ n. n + 1) hit ∙ sym is in (
-      v,
-      keeps,
-      tt,
-      on_count limits id new s v kept (aside limits id new (epoch_in s) s me.0 v.sleeper kept at refl
-          (subst (λ n. KeepsWakes limits (word_in s) n (epoch_in s) (slice_set (sleepers_of s.views) id v.sleeper)) next
-          (by.counts_in away (omega arith)))),
-      ((λ h. refl), (λ miss. absurd (miss hit))),
-    ))
-    (λ miss. (
-      me.0,
-      keeps,
-      tt,
-      on_count limits id count s me.0 kept (unmoved limits id s me.0 kept at),
-      ((λ hit. absurd (miss hit)), (λ h. refl)),
-    ))
+    let you = with_watch me.0.sleeper Counted in
+    let next : count + 1 ≡ new = ap (λ n. n + 1) hit ∙ sym is in
+    let wakes : KeepsWakes limits (word_in s) new (epoch_in s) (slice_set (sleepers_of s.views) id you)
+    = subst (λ n. KeepsWakes limits (word_in s) n (epoch_in s) (slice_set (sleepers_of s.views) id you)) next
+    (by.counts_in away (omega arith)) in
+    counted limits id new s me you then kept at refl wakes ((λ h. refl), (λ miss. absurd (miss hit))))
+    (λ miss. count_stays limits id s me then kept at ((λ hit. absurd (miss hit)), (λ h. refl)))
 
 pub counts_out : (limits : WakeLimits) (slots id : ℕ) (me : Self) → count_of_watch me.0.sleeper.watch ≡ 1
     → Allows (IsKept limits) slots id me 1 (λ n. (n + (2 ^ 64 - 1)) % 2 ^ 64) (CountsOut me)
-counts_out limits slots id me counted s kept same at small =
+counts_out limits slots id me some_count s kept same at small =
     let count = count_in s in
     let changes = changes_of (sleepers_of s.views) in
-    let v = (self_after_sleep me changes).0 in
+    let you = view_after_sleep changes me.0.sleeper in
     let all = le-sum_by (λ (w : SleeperView). count_of_watch w.watch) (sleepers_of s.views) id me.0.sleeper (sleeper_at s.views id me.0 at) in
-    let sum = kept.kept.counted in (
-      v,
-      keeps,
-      tt,
-      on_count limits id ((count + (2 ^ 64 - 1)) % 2 ^ 64) s v kept
-          (aside limits id ((count + (2 ^ 64 - 1)) % 2 ^ 64) (epoch_in s) s me.0 v.sleeper kept at refl
-          (subst (λ n. KeepsWakes limits (word_in s) n (epoch_in s) (slice_set (sleepers_of s.views) id v.sleeper))
-          (subtracted count 1 (omega arith) small) ((by_step limits id s me.0 kept at).counts_out counted))),
-      (changes, refl),
-    )
+    let sum = kept.kept.counted in
+    counted limits id ((count + (2 ^ 64 - 1)) % 2 ^ 64) s me you (CountsOut me count) kept at refl
+    (subst (λ n. KeepsWakes limits (word_in s) n (epoch_in s) (slice_set (sleepers_of s.views) id you))
+    (subtracted count 1 (omega arith) small) ((by_step limits id s me.0 kept at).counts_out some_count))
+    (changes, refl)
 
 pub looks_for_sleepers : (limits : WakeLimits) (slots id : ℕ) (me : Self)
     → Allows (IsKept limits) slots id me 1 (λ n. n) (LooksForSleepers me)
 looks_for_sleepers limits slots id me s kept same at small =
     let count = count_in s in
+    let then = LooksForSleepers me count in
     elim (cases_eq count 0) [
       | inl none_counted ↦
-          (let v = (self_owing me Nothing).0 in (
-            v,
-            keeps,
-            tt,
-            on_count limits id count s v kept (aside limits id count (epoch_in s) s me.0 v.sleeper kept at refl
-                ((by_step limits id s me.0 kept at).finds_none none_counted)),
-            ((λ h. refl), (λ h. absurd (h none_counted))),
-          ))
-      | inr counted ↦ (
-        me.0,
-        keeps,
-        tt,
-        on_count limits id count s me.0 kept (unmoved limits id s me.0 kept at),
-        ((λ h. absurd (counted h)), (λ h. refl)),
-      )
+          counted limits id count s me (with_debt me.0.sleeper Nothing) then kept at refl
+          ((by_step limits id s me.0 kept at).finds_none none_counted) ((λ h. refl), (λ h. absurd (h none_counted)))
+      | inr some_count ↦ count_stays limits id s me then kept at ((λ h. absurd (some_count h)), (λ h. refl))
     ]
 
 pub closes : (limits : WakeLimits) (slots id : ℕ) (me : Self) → me.0.sleeper.watch ≡ Away
     → Allows (IsKept limits) slots id me 1 (λ n. either (eqb n 0) closed_count n) (Closes me)
 closes limits slots id me away s kept same at small =
     let count = count_in s in
-    let by = by_step limits id s me.0 kept at in
-    exchanged count 0 closed_count
-    (λ n. (w : WakeView) × (a : Act (Unit {0})) × Valid s.homes me.1 a × IsKept limits (stepped s 1 n id me.1 w a)
-    × Closes me count (w, carried_after me.1 a))
+    let then = Closes me count in
+    exchanged count 0 closed_count (λ n. Done limits 1 id s me n then)
     (λ hit.
-    let v = (self_watching me Restarts).0 in (
-      v,
-      keeps,
-      tt,
-      on_count limits id closed_count s v kept (aside limits id closed_count (epoch_in s) s me.0 v.sleeper kept at refl (by.closes away hit)),
-      ((λ h. refl), (λ miss. absurd (miss hit))),
-    ))
-    (λ miss. (
-      me.0,
-      keeps,
-      tt,
-      on_count limits id count s me.0 kept (unmoved limits id s me.0 kept at),
-      ((λ hit. absurd (miss hit)), (λ h. refl)),
-    ))
+    counted limits id closed_count s me (with_watch me.0.sleeper Restarts) then kept at refl
+    ((by_step limits id s me.0 kept at).closes away hit) ((λ h. refl), (λ miss. absurd (miss hit))))
+    (λ miss. count_stays limits id s me then kept at ((λ hit. absurd (miss hit)), (λ h. refl)))
 
 pub opens : (limits : WakeLimits) (slots id : ℕ) (me : Self) → me.0.sleeper.watch ≡ Restarts
     → Allows (IsKept limits) slots id me 1 (λ n. (n + (2 ^ 64 - closed_count)) % 2 ^ 64) (Opens me)
 opens limits slots id me restarts s kept same at small =
     let count = count_in s in
-    let v = (self_watching me Away).0 in
-    let closed = kept.kept.alone id me.0.sleeper (sleeper_at s.views id me.0 at) restarts in (
-      v,
-      keeps,
-      tt,
-      on_count limits id ((count + (2 ^ 64 - closed_count)) % 2 ^ 64) s v kept
-          (aside limits id ((count + (2 ^ 64 - closed_count)) % 2 ^ 64) (epoch_in s) s me.0 v.sleeper kept at refl
-          (subst (λ n. KeepsWakes limits (word_in s) n (epoch_in s) (slice_set (sleepers_of s.views) id v.sleeper))
-          (subtracted count closed_count (omega arith) small) ((by_step limits id s me.0 kept at).opens restarts))),
-      refl,
-    )
+    let you = with_watch me.0.sleeper Away in
+    let closed = kept.kept.alone id me.0.sleeper (sleeper_at s.views id me.0 at) restarts in
+    counted limits id ((count + (2 ^ 64 - closed_count)) % 2 ^ 64) s me you (Opens me count) kept at refl
+    (subst (λ n. KeepsWakes limits (word_in s) n (epoch_in s) (slice_set (sleepers_of s.views) id you))
+    (subtracted count closed_count (omega arith) small) ((by_step limits id s me.0 kept at).opens restarts))
+    refl
 
 -- steps on the epoch
 
+-- the step leaves n on the epoch, and the seat with this view
+at_epoch : (limits : WakeLimits) (id n : ℕ) (s : Table) (me : Self) (you : SleeperView) (then : Self → Type 0) → IsKept limits s
+    → get_elem? s.views id ≡ some me.0 → you.state.held ≡ me.0.sleeper.state.held
+    → KeepsWakes limits (word_in s) (count_in s) n (slice_set (sleepers_of s.views) id you)
+    → then (with_sleeper me you) → Done limits 2 id s me n then
+at_epoch limits id n s me you then kept at held wakes is =
+    let v = (with_sleeper me you).0 in
+    (v, keeps, tt, on_epoch limits id n s v kept (aside limits id (count_in s) n s me.0 you kept at held wakes), is)
+
 pub begins_anew : (limits : WakeLimits) (slots id : ℕ) (me : Self) → me.0.sleeper.watch ≡ Restarts
     → Allows (IsKept limits) slots id me 2 (λ _. 0) (λ _. BeginsAnew me 0)
-begins_anew limits slots id me restarts s kept same at small = (
-  me.0,
-  keeps,
-  tt,
-  on_epoch limits id 0 s me.0 kept (aside limits id (count_in s) 0 s me.0 me.0.sleeper kept at refl
-      ((by_step limits id s me.0 kept at).restarts restarts)),
-  refl,
-)
+begins_anew limits slots id me restarts s kept same at small =
+    at_epoch limits id 0 s me me.0.sleeper (BeginsAnew me 0) kept at refl ((by_step limits id s me.0 kept at).restarts restarts) refl
 
 pub watches : (limits : WakeLimits) (slots id : ℕ) (me : Self) → count_of_watch me.0.sleeper.watch ≡ 1
     → Allows (IsKept limits) slots id me 2 (λ n. n) (Watches me)
-watches limits slots id me counted s kept same at small =
+watches limits slots id me some_count s kept same at small =
     let epoch = epoch_in s in
     let known = ap (λ (l : WakeLimits). l.last_epoch) (kept.known id me.0 at) in
+    let then = Watches me epoch in
     elim (cases_lt epoch limits.last_epoch) [
       | inl early ↦
-          (let v = (self_after_epoch me epoch).0 in (
-            v,
-            keeps,
-            tt,
-            on_epoch limits id epoch s v kept (aside limits id (count_in s) epoch s me.0 v.sleeper kept at refl
-                ((by_step limits id s me.0 kept at).watches counted early)),
-            ((λ h. refl), (λ late. absurd (omega arith))),
-          ))
+          at_epoch limits id epoch s me (view_after_epoch epoch me.0.sleeper) then kept at refl
+          ((by_step limits id s me.0 kept at).watches some_count early) ((λ h. refl), (λ late. absurd (omega arith)))
       | inr late ↦ (
         me.0,
         keeps,
@@ -423,25 +393,15 @@ pub notes : (limits : WakeLimits) (slots id : ℕ) (me : Self) → me.0.sleeper.
 notes limits slots id me owes s kept same at small =
     let epoch = epoch_in s in
     let known = ap (λ (l : WakeLimits). l.last_epoch) (kept.known id me.0 at) in
+    let by = by_step limits id s me.0 kept at in
+    let then = Notes me epoch in
     elim (cases_lt epoch limits.last_epoch) [
       | inl early ↦
-          (let v = (self_owing me (OwesAt epoch)).0 in (
-            v,
-            keeps,
-            tt,
-            on_epoch limits id epoch s v kept (aside limits id (count_in s) epoch s me.0 v.sleeper kept at refl
-                ((by_step limits id s me.0 kept at).notes owes)),
-            ((λ h. refl), (λ late. absurd (omega arith))),
-          ))
+          at_epoch limits id epoch s me (with_debt me.0.sleeper (OwesAt epoch)) then kept at refl (by.notes owes)
+          ((λ h. refl), (λ late. absurd (omega arith)))
       | inr late ↦
-          (let v = (self_owing me Nothing).0 in (
-            v,
-            keeps,
-            tt,
-            on_epoch limits id epoch s v kept (aside limits id (count_in s) epoch s me.0 v.sleeper kept at refl
-                ((by_step limits id s me.0 kept at).finds_last late)),
-            ((λ early. absurd (omega arith)), (λ h. refl)),
-          ))
+          at_epoch limits id epoch s me (with_debt me.0.sleeper Nothing) then kept at refl (by.finds_last late)
+          ((λ early. absurd (omega arith)), (λ h. refl))
     ]
 
 pub ends : (limits : WakeLimits) (slots id : ℕ) (me : Self) (old new : ℕ) → me.0.sleeper.debt ≡ OwesAt old → new ≡ old + 1
@@ -450,24 +410,12 @@ ends limits slots id me old new owes is s kept same at small =
     let epoch = epoch_in s in
     let by = by_step limits id s me.0 kept at in
     let note = Some (changes_of (sleepers_of s.views)) in
-    let v = (self_after_end me note).0 in
-    let w = (self_owing me Nothing).0 in
-    exchanged epoch old new
-    (λ n. (w : WakeView) × (a : Act (Unit {0})) × Valid s.homes me.1 a × IsKept limits (stepped s 2 n id me.1 w a)
-    × Ends me epoch (w, carried_after me.1 a))
+    let then = Ends me epoch in
+    exchanged epoch old new (λ n. Done limits 2 id s me n then)
     (λ hit.
-    let next : epoch + 1 ≡ new = ap (λ n. n + 1) hit ∙ sym is in (
-      v,
-      keeps,
-      tt,
-      on_epoch limits id new s v kept (aside limits id (count_in s) new s me.0 v.sleeper kept at refl
-          (subst (λ n. KeepsWakes limits (word_in s) (count_in s) n (slice_set (sleepers_of s.views) id v.sleeper)) next by.ends)),
-      (note, refl),
-    ))
-    (λ miss. (
-      w,
-      keeps,
-      tt,
-      on_epoch limits id epoch s w kept (aside limits id (count_in s) epoch s me.0 w.sleeper kept at refl (by.finds_ended old owes miss)),
-      (me.0.sleeper.ended_at, refl),
-    ))
+    let you : SleeperView = record me.0.sleeper { debt = Nothing; ended_at = note } in
+    let next : epoch + 1 ≡ new = ap (λ n. n + 1) hit ∙ sym is in
+    at_epoch limits id new s me you then kept at refl
+    (subst (λ n. KeepsWakes limits (word_in s) (count_in s) n (slice_set (sleepers_of s.views) id you)) next by.ends) (note, refl))
+    (λ miss.
+    at_epoch limits id epoch s me (with_debt me.0.sleeper Nothing) then kept at refl (by.finds_ended old owes miss) (me.0.sleeper.ended_at, refl))

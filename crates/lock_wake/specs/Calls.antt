@@ -1,19 +1,19 @@
 -- A call on a word lock, and the token of an acquisition, as contracts see them.
-use Rattle.std.specs.Prelude.{◌≡◌, ℕ, false, [], None, ◌⊎◌}
+use Rattle.std.specs.Prelude.{◌≡◌, ℕ, Bool, true, false, [], None, ◌⊎◌, IsTrue}
 use Rattle.atomic_table.specs.Seated.{TableId}
 use Rattle.atomic_table.specs.Table.{Me}
 use Rattle.lock_base.specs.declared.machine.mode.Mode.{Mode}
 use Rattle.lock_base.specs.declared.machine.hold.Hold.{Hold}
 use Rattle.lock_base.specs.Modes.{empty_bag, one_more}
-use Rattle.lock_base.specs.Holds.{no_hold, hold_after}
 use Rattle.lock_word.specs.declared.want.ExWant.{ExWant}
 use Rattle.lock_word.specs.declared.want.ExWant.TheVariants.{Announce}
 use Rattle.lock_word.specs.declared.sleeper.SleeperView.{SleeperView}
 use Rattle.lock_word.specs.declared.sleeper.WakeLimits.{WakeLimits}
 use Rattle.lock_word.specs.declared.sleeper.Watch.TheVariants.{Away}
 use Rattle.lock_word.specs.declared.sleeper.Debt.TheVariants.{Nothing}
+use Rattle.lock_base.specs.Holds.{no_hold, hold_has, hold_after}
 use Rattle.lock_word.specs.Word.{step_of_want}
-use Rattle.lock_word.specs.Sleepers.{admits_to}
+use Rattle.lock_word.specs.Sleepers.{is_awaited, admits_to}
 use Rattle.lock_word.specs.Turns.{idle, with_load}
 use Rattle.lock_word.specs.Wakes.{with_watch, new_sleeper, after_exchange, view_after_load, watch_after_sleep}
 use Rattle.lock_seated.specs.declared.attempt.Attempt.{Attempt}
@@ -84,6 +84,23 @@ pub record ComesTo (hold : Hold) (before after : CallView) : Type 0 where
 -- the hold after an exchange for this
 abbrev pub won : ExWant → CallView → Hold
 won want call = hold_after call.sleeper.state.held (step_of_want want)
+
+-- the call may attempt this on the lock `own`: it holds what the exchange takes, and it is announced or not, as said
+pub record MayAttempt (own : WordLockView) (want : ExWant) (announced : Bool) (call : CallView) : Type 0 where
+  pub lock : call.lock ≡ own
+  pub has : IsTrue (hold_has call.sleeper.state.held (step_of_want want))
+  pub bar : announced ≡ call.sleeper.state.held.announced
+
+-- the call may wait for this: sleepers wait for it, and the call is not counted as one
+pub record MayWait (own : WordLockView) (want : ExWant) (announced : Bool) (call : CallView) : Type 0 where
+  pub attempt : MayAttempt own want announced call
+  pub awaited : IsTrue (is_awaited want)
+  pub away : call.sleeper.watch ≡ Away
+
+-- the call acquired this, or holds what it held before
+pub record Waited (want : ExWant) (won_it : Bool) (before after : CallView) : Type 0 where
+  pub acquired : won_it ≡ true → ComesTo (won want before) before after
+  pub refused : won_it ≡ false → ComesTo before.sleeper.state.held before after
 
 -- an attempt on a word that the call loaded: it exchanged the word, or the word refuses, or the exchange found another
 abbrev pub Attempted : ExWant → ℕ → CallView → Attempt → CallView → Type 0

@@ -2,3 +2,6 @@ pub mod WakeSeats
 pub mod Plays
 pub mod Calls
 pub mod Own
+pub mod EventCounts
+pub mod EventPlays
+pub mod EventCalls

@@ -1,18 +1,16 @@
 //! How a call acquires: it attempts until it succeeds.
-ghost use Rattle.std.specs.Prelude.{◌≡◌, true, false, IsTrue};
+ghost use Rattle.std.specs.Prelude.{◌≡◌, false, IsTrue};
 ghost use Rattle.lock_word.specs.declared.want.ExWant.TheVariants.{Exclusive, Announce};
 ghost use Rattle.lock_word.specs.declared.sleeper.Watch.TheVariants.{Away};
-ghost use Rattle.lock_base.specs.Holds.{hold_has};
-ghost use Rattle.lock_word.specs.Word.{step_of_want};
-ghost use Rattle.lock_word.specs.Sleepers.{is_awaited};
 ghost use Rattle.lock_word.specs.Wakes.{may_want};
-ghost use Rattle.lock_wake.specs.Calls.{ComesTo, MayBeAnnounced, Tried, won};
+ghost use Rattle.lock_wake.specs.Calls.{ComesTo, MayAttempt, MayBeAnnounced, MayWait, Tried, Waited, won};
 
 use crate::call::Call;
+use crate::deadline::time_left;
+use crate::waits::Round;
 use crate::word_lock::WordLock;
 use crossbeam_utils::Backoff;
 use lock_seated::Attempt;
-use lock_sleepers::time_left;
 use lock_word::ExWant;
 use std::sync::Wait;
 use std::time::{Clock, Instant};
@@ -20,9 +18,7 @@ use std::time::{Clock, Instant};
 impl WordLock {
     /// Loads the word, and then exchanges it at most once.
     pub(crate) fn attempt(&self, call: &mut Call, announced: bool, want: ExWant) -> Attempt
-        requires lock { call.old.lock ≡ self.now }
-        requires has { IsTrue (hold_has call.old.sleeper.state.held (step_of_want want)) }
-        requires bar { announced ≡ call.old.sleeper.state.held.announced }
+        requires attempt { MayAttempt self.now want announced call.old }
         requires may { IsTrue (may_want self.now.limits want) }
         ensures { Tried want call.old result call.new }
     {
@@ -36,17 +32,14 @@ impl WordLock {
     #[cold]
     #[inline(never)]
     pub(crate) fn win<R: Wait>(&self, rt: &R, call: &mut Call, want: ExWant)
-        requires lock { call.old.lock ≡ self.now }
-        requires has { IsTrue (hold_has call.old.sleeper.state.held (step_of_want want)) }
-        requires bar { call.old.sleeper.state.held.announced ≡ false }
-        requires awaited { IsTrue (is_awaited want) }
-        requires away { call.old.sleeper.watch ≡ Away }
+        requires { MayWait self.now want false call.old }
         ensures { ComesTo (won want call.old) call.old call.new }
     {
+        let round = Round::new(want, false, None);
         let backoff = Backoff::new();
         for _ in rt.forever() {
             if backoff.is_completed() {
-                if self.wait_once(rt, call, false, want, None) {
+                if self.wait_once(rt, call, &round) {
                     return;
                 }
                 continue;
@@ -69,13 +62,8 @@ impl WordLock {
         want: ExWant,
         deadline: Instant,
     ) -> bool
-        requires lock { call.old.lock ≡ self.now }
-        requires has { IsTrue (hold_has call.old.sleeper.state.held (step_of_want want)) }
-        requires bar { call.old.sleeper.state.held.announced ≡ false }
-        requires awaited { IsTrue (is_awaited want) }
-        requires away { call.old.sleeper.watch ≡ Away }
-        ensures acquired { result ≡ true → ComesTo (won want call.old) call.old call.new }
-        ensures refused { result ≡ false → ComesTo call.old.sleeper.state.held call.old call.new }
+        requires { MayWait self.now want false call.old }
+        ensures { Waited want result call.old call.new }
     {
         let backoff = Backoff::new();
         for _ in rt.forever() {
@@ -89,7 +77,7 @@ impl WordLock {
             let Some(left) = time_left(rt, deadline) else {
                 return false;
             };
-            if self.wait_once(rt, call, false, want, Some(left)) {
+            if self.wait_once(rt, call, &Round::new(want, false, Some(left))) {
                 return true;
             }
         }
@@ -100,9 +88,7 @@ impl WordLock {
     #[cold]
     #[inline(never)]
     pub(crate) fn win_announced<R: Wait>(&self, rt: &R, call: &mut Call)
-        requires lock { call.old.lock ≡ self.now }
-        requires bar { call.old.sleeper.state.held.announced ≡ false }
-        requires away { call.old.sleeper.watch ≡ Away }
+        requires { MayWait self.now Exclusive false call.old }
         ensures { ComesTo (won Exclusive call.old) call.old call.new }
     {
         let mut announced = false;
@@ -116,7 +102,7 @@ impl WordLock {
                 continue;
             }
             announced = self.announce(call, announced);
-            if self.wait_once(rt, call, announced, ExWant::Exclusive, None) {
+            if self.wait_once(rt, call, &Round::new(ExWant::Exclusive, announced, None)) {
                 return;
             }
         }
@@ -126,8 +112,7 @@ impl WordLock {
     /// Announces the call if it is not announced and no bar is set. A lock that wakes one has no bar. Returns whether the
     /// call is announced now.
     fn announce(&self, call: &mut Call, announced: bool) -> bool
-        requires lock { call.old.lock ≡ self.now }
-        requires bar { announced ≡ call.old.sleeper.state.held.announced }
+        requires attempt { MayAttempt self.now Announce announced call.old }
         requires away { call.old.sleeper.watch ≡ Away }
         ensures bar { result ≡ call.new.sleeper.state.held.announced }
         ensures tried { MayBeAnnounced call.old call.new }

@@ -1,7 +1,9 @@
-//! What the rule of the table means. The law is the contract of a function with an empty body.
+//! What the rules of the tables mean. Each law is the contract of a function with an empty body.
 ghost use Rattle.lock_wake.specs.WakeSeats.{EveryStateForgetsNone};
+ghost use Rattle.lock_wake.specs.EventCounts.{EveryStateWakesTheRegistered};
 
 use crate::rule::{WakeRule, WakeView};
+use crate::sleepers::{CallStage, CountRule};
 use atomic_table::TableRule;
 use lock_word::WakeLimits;
 
@@ -18,4 +20,12 @@ use lock_word::WakeLimits;
 /// changed: the wake-up of one sleeper follows. No party that left its sleep since then has done anything but look.
 pub fn every_state_forgets_none()
     ensures { EveryStateForgetsNone ⟦<WakeRule as TableRule<(), WakeView, WakeLimits>>⟧.holds }
+{}
+
+/// The law of every `EventCount`, between any two steps of any threads.
+///
+/// No notification is lost to a registered wait. If a wait may sleep at the present epoch, each notification that has
+/// ended began before the wait registered.
+pub fn every_state_wakes_the_registered()
+    ensures { EveryStateWakesTheRegistered ⟦<CountRule as TableRule<(), CallStage, ()>>⟧.holds }
 {}

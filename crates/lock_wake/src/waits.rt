@@ -1,10 +1,8 @@
 //! How a call waits: it counts itself as a sleeper, looks once more, and sleeps until the epoch ends.
 ghost use Rattle.std.specs.Prelude.{◌≡◌, true, false, None, IsTrue};
-ghost use Rattle.lock_word.specs.declared.sleeper.Watch.TheVariants.{Away, Counted};
-ghost use Rattle.lock_base.specs.Holds.{hold_has};
-ghost use Rattle.lock_word.specs.Word.{step_of_want};
+ghost use Rattle.lock_word.specs.declared.sleeper.Watch.TheVariants.{Counted};
 ghost use Rattle.lock_word.specs.Sleepers.{count_of_watch, is_awaited};
-ghost use Rattle.lock_wake.specs.Calls.{ComesTo, CameBack, away, won};
+ghost use Rattle.lock_wake.specs.Calls.{CameBack, ComesTo, MayAttempt, MayWait, Waited, away, won};
 
 use crate::call::Call;
 use crate::word_lock::WordLock;
@@ -14,28 +12,39 @@ use std::sync::Wait;
 use std::thread;
 use std::time::Duration;
 
+/// What a waiter does in one round.
+#[derive(Drop)]
+pub(crate) struct Round {
+    /// What it wants.
+    want: ExWant,
+    /// Whether it is announced.
+    announced: bool,
+    /// How long it sleeps at most.
+    left: Option<Duration>,
+}
+
+impl Round {
+    pub(crate) fn new(want: ExWant, announced: bool, left: Option<Duration>) -> Round
+        ensures { result ≡ record { want = want; announced = announced; left = left } }
+    {
+        Round {
+            want,
+            announced,
+            left,
+        }
+    }
+}
+
 impl WordLock {
     /// One round of a waiter. A woken call looks at the word before it does anything else. Returns whether it acquired.
-    pub(crate) fn wait_once<R: Wait>(
-        &self,
-        rt: &R,
-        call: &mut Call,
-        announced: bool,
-        want: ExWant,
-        left: Option<Duration>,
-    ) -> bool
-        requires lock { call.old.lock ≡ self.now }
-        requires has { IsTrue (hold_has call.old.sleeper.state.held (step_of_want want)) }
-        requires bar { announced ≡ call.old.sleeper.state.held.announced }
-        requires awaited { IsTrue (is_awaited want) }
-        requires away { call.old.sleeper.watch ≡ Away }
-        ensures acquired { result ≡ true → ComesTo (won want call.old) call.old call.new }
-        ensures refused { result ≡ false → ComesTo call.old.sleeper.state.held call.old call.new }
+    pub(crate) fn wait_once<R: Wait>(&self, rt: &R, call: &mut Call, round: &Round) -> bool
+        requires { MayWait self.now round.now.want round.now.announced call.old }
+        ensures { Waited round.now.want result call.old call.new }
     {
-        if self.sleep_once(rt, call, announced, want, left) {
+        if self.sleep_once(rt, call, round) {
             return true;
         }
-        if let Attempt::Done = self.attempt(call, announced, want) {
+        if let Attempt::Done = self.attempt(call, round.announced, round.want) {
             return true;
         }
         self.restart_if_last(call);
@@ -43,59 +52,39 @@ impl WordLock {
     }
 
     /// Counts the call as a sleeper, tries again, and sleeps if the word refuses. Returns whether it acquired.
-    fn sleep_once<R: Wait>(
-        &self,
-        rt: &R,
-        call: &mut Call,
-        announced: bool,
-        want: ExWant,
-        left: Option<Duration>,
-    ) -> bool
-        requires lock { call.old.lock ≡ self.now }
-        requires has { IsTrue (hold_has call.old.sleeper.state.held (step_of_want want)) }
-        requires bar { announced ≡ call.old.sleeper.state.held.announced }
-        requires awaited { IsTrue (is_awaited want) }
-        requires away { call.old.sleeper.watch ≡ Away }
-        ensures acquired { result ≡ true → ComesTo (won want call.old) call.old call.new }
+    fn sleep_once<R: Wait>(&self, rt: &R, call: &mut Call, round: &Round) -> bool
+        requires { MayWait self.now round.now.want round.now.announced call.old }
+        ensures acquired { result ≡ true → ComesTo (won round.now.want call.old) call.old call.new }
         ensures refused { result ≡ false → CameBack call.old call.new }
     {
         if !self.count_in(call) {
             thread::yield_now();
             return false;
         }
-        let acquired = self.try_or_sleep(rt, call, announced, want, left);
+        let acquired = self.try_or_sleep(rt, call, round);
         self.count_out(call);
         acquired
     }
 
     /// Loads the epoch, tries again, and if the word refuses, sleeps until the epoch ends.
-    fn try_or_sleep<R: Wait>(
-        &self,
-        rt: &R,
-        call: &mut Call,
-        announced: bool,
-        want: ExWant,
-        left: Option<Duration>,
-    ) -> bool
-        requires lock { call.old.lock ≡ self.now }
-        requires has { IsTrue (hold_has call.old.sleeper.state.held (step_of_want want)) }
-        requires bar { announced ≡ call.old.sleeper.state.held.announced }
-        requires awaited { IsTrue (is_awaited want) }
+    fn try_or_sleep<R: Wait>(&self, rt: &R, call: &mut Call, round: &Round) -> bool
+        requires attempt { MayAttempt self.now round.now.want round.now.announced call.old }
+        requires awaited { IsTrue (is_awaited round.now.want) }
         requires counted { call.old.sleeper.watch ≡ Counted }
         ensures counted { count_of_watch call.new.sleeper.watch ≡ 1 }
-        ensures acquired { result ≡ true → ComesTo (won want call.old) (away call.old) (away call.new) × (call.new.sleeper.state.loaded ≡ None) }
-        ensures refused { result ≡ false → ComesTo call.old.sleeper.state.held (away call.old) (away call.new) }
+        ensures tried { Waited round.now.want result (away call.old) (away call.new) }
+        ensures looked { result ≡ true → call.new.sleeper.state.loaded ≡ None }
     {
         let epoch = self.watch_epoch(call);
         if self.limits.last_epoch <= epoch {
             thread::yield_now();
             return false;
         }
-        match self.attempt(call, announced, want) {
+        match self.attempt(call, round.announced, round.want) {
             Attempt::Done => true,
             Attempt::Changed => false,
             Attempt::NotAdmitted(_) => {
-                self.sleep(rt, call, epoch, want, left);
+                self.sleep(rt, call, epoch, round.want, round.left);
                 false
             }
         }

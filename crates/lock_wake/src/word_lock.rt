@@ -3,6 +3,7 @@ ghost use Rattle.std.specs.Prelude.{◌≡◌, ◌↔◌, ◌<◌, ◌^◌, IfOk
 ghost use Rattle.lock_base.specs.Limits.{IsLimit, IsMakerFault};
 
 use crate::rule::{WakeRule, WakeView};
+use crate::sleepers::LAST_EPOCH;
 use atomic_table::Table;
 use lock_base::raw::{Fault, is_limit};
 use lock_word::{WakeLimits, has_exclusive, has_tokens};
@@ -17,9 +18,6 @@ pub(crate) const COUNT: usize = 1;
 
 /// The epoch.
 pub(crate) const EPOCH: usize = 2;
-
-/// The last epoch of a lock by `new`. A thread that parks compares 32 bits, and an epoch never has more.
-const LAST_EPOCH: u64 = 4_294_967_295;
 
 /// A reader-writer lock in one packed word, on which waiters sleep.
 ///

@@ -3,26 +3,24 @@ ghost use Rattle.std.specs.Prelude.{◌≡◌, ◌<◌, ◌≤◌, ◌^◌, true
 ghost use Rattle.lock_word.specs.declared.sleeper.Watch.TheVariants.{Away, Counted, Woken};
 ghost use Rattle.lock_word.specs.declared.sleeper.Debt.TheVariants.{Nothing, Owes};
 ghost use Rattle.lock_base.specs.Holds.{hold_has};
-ghost use Rattle.lock_word.specs.Word.{amount, step_of_want, step_of_down};
+ghost use Rattle.lock_word.specs.Word.{amount, step_of_down};
 ghost use Rattle.lock_word.specs.Rule.{WordShows};
 ghost use Rattle.lock_word.specs.Sleepers.{count_of_watch, Sleeps};
 ghost use Rattle.lock_word.specs.Wakes.{may_want, with_watch, with_debt, view_after_take, view_after_epoch};
 ghost use Rattle.lock_wake.specs.WakeSeats.{StandsUnderLaw};
-ghost use Rattle.lock_wake.specs.Calls.{Attempted, with_sleeper, after_load, after_sleep, entered};
+ghost use Rattle.lock_wake.specs.Calls.{Attempted, MayAttempt, with_sleeper, after_load, after_sleep, entered};
 
 use crate::call::Call;
 use crate::plays::{
     CloseCount, CountIn, CountOut, EndEpoch, Exchange, LoadWord, LookForSleepers, NoteEpoch,
     OpenCount, RestartEpochs, Take, WatchEpoch,
 };
+use crate::sleepers::CLOSED_COUNT;
 use crate::word_lock::{COUNT, EPOCH, WORD, WordLock};
 use lock_seated::Attempt;
 use lock_word::{Down, ExWant};
 use std::sync::Wait;
 use std::time::Duration;
-
-/// The count while the epochs begin anew.
-const CLOSED_COUNT: u64 = 9_223_372_036_854_775_808;
 
 impl WordLock {
     /// Begins a call, by a load of the word.
@@ -51,10 +49,8 @@ impl WordLock {
         announced: bool,
         want: ExWant,
     ) -> Attempt
-        requires lock { call.old.lock ≡ self.now }
+        requires attempt { MayAttempt self.now want announced call.old }
         requires loaded { (call.old.sleeper.state.loaded ≡ Some word) × (call.old.last ≡ word) }
-        requires has { IsTrue (hold_has call.old.sleeper.state.held (step_of_want want)) }
-        requires bar { announced ≡ call.old.sleeper.state.held.announced }
         requires may { IsTrue (may_want self.now.limits want) }
         requires woken { call.old.sleeper.watch ≡ Woken → word ≡ 0 }
         ensures { Attempted want word call.old result call.new }

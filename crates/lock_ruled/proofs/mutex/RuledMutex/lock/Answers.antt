@@ -1,11 +1,9 @@
-use Rattle.std.proofs.Common.{ap}
+use Rattle.std.proofs.Common.{rules, ap}
 use Rattle.lock_ruled.specs.Ruled.{UserState}
-use Rattle.lock_ruled.proofs.Keeps.{has_out, has_met}
+use Rattle.lock_ruled.proofs.Keeps.{has_locked}
 use Rattle.lock_ruled.proofs.mutex.RuledMutex.lock.Goals as goal
 
-pub returns-clause-rule : goal.returns-clause-rule
-returns-clause-rule g c =
-    let rule = g.P.MutexRule.rule in
-    let took = c.acquire.ensures.taken in
-    let out = has_out rule c.user.inside.seat.me c.acquire.new.seat.me c.user.invariant took in
-    has_met rule c.user.inside.seat.me _ took _ _ (c.guard_of.ensures.value took.0 out).0 (ap (λ (u : UserState g.row.V.Denot). u.view) c.user.view_is)
+pub returns : goal.returns
+returns g c =
+    let view = ap (λ (u : UserState g.row.V.Denot). u.view) c.user.view_is in
+    has_locked g.P.MutexRule.rule _ _ c.user.invariant c.acquire.ensures.taken _ _ c.guard_of.ensures.value (search rules) view

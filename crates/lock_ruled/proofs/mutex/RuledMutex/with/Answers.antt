@@ -8,7 +8,7 @@ unlock_ready-requires-clause-update g c =
     let taken = c.lock-guard.result.taken in
     let value = c.f-answer.new.arg2 in
     subst (λ (v : g.row.V.Denot). g.P.ReadyRule.updates taken v value (g.M.ViewUpdate.next taken v value)) (sym view)
-    (c.requires.update taken c.f-answer.result value c.lock-guard.ensures.rule record {
+    (c.requires.update taken c.f-answer.result value c.lock-guard.ensures.met record {
       shown = c.deref_mut.result;
       shows = c.deref_mut.ensures.value ∙ c.lock-guard.ensures.value;
       left = _;
@@ -22,7 +22,7 @@ returns g c =
     let value = c.f-answer.new.arg2 in (
       taken,
       value,
-      c.lock-guard.ensures.rule,
+      c.lock-guard.ensures.met,
       record {
         shown = c.deref_mut.result;
         shows = c.deref_mut.ensures.value ∙ c.lock-guard.ensures.value;

@@ -1,6 +1,0 @@
-use Rattle.std.proofs.Common.{rules}
-use Rattle.lock_permits.proofs.Keeps.{enters}
-use Rattle.lock_permits.proofs.semaphore.SharedSemaphore.available_permits.Goals as goal
-
-pub load_new_seat-requires : goal.load_new_seat-requires
-load_new_seat-requires c = (search rules, enters _ _)

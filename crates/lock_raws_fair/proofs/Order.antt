@@ -1,0 +1,145 @@
+-- The tickets that wait rise, and each other issued ticket was removed.
+use Rattle.std.proofs.Common.{◌≡◌, ℕ, ◌+◌, ◌<◌, ◌≤◌, Bool, true, false, ◌||◌, List, [], ◌∷◌, ◌++◌, refl, sym, ap, ◌∙◌, arith}
+use Rattle.std.specs.Prelude.{◌≢◌, ◌==◌, if◌then◌else◌, IsTrue, ⊤}
+use Rattle.std.proofs.lemmas.Bool.{false≢true}
+use Rattle.std.proofs.lemmas.Bool.Decides.{nat_tests}
+use Rattle.lock_raws_fair.specs.declared.line.step.LineStep.{LineStep}
+use Rattle.lock_raws_fair.specs.declared.line.step.LineStep.TheVariants.{Arrive, Enter, Leave, Pass}
+use Rattle.lock_raws_fair.specs.Tickets.{Line, empty_line, leads, is_among, without, permits, line_after}
+use Rattle.lock_raws_fair.specs.LineLaws.{removes}
+
+or_right : (a b : Bool) → b ≡ true → (a || b) ≡ true
+or_right true b is = refl
+or_right false b is = is
+
+or_more : (a b c : Bool) → (b ≡ true → c ≡ true) → (a || b) ≡ true → (a || c) ≡ true
+or_more true b c more is = refl
+or_more false b c more is = more is
+
+pub or_left : (a b : Bool) → a ≡ true → (a || b) ≡ true
+or_left true b is = refl
+or_left false b is = absurd (false≢true is)
+
+pub or_none : (a b : Bool) → (a || b) ≡ false → (a ≡ false) × (b ≡ false)
+or_none true b is = absurd (false≢true (sym is))
+or_none false b is = (refl, is)
+
+abbrev pub IsRising : ℕ → List ℕ → Type 0
+IsRising n [] = ⊤
+IsRising n (x ∷ xs) = (n ≤ x) × IsRising (x + 1) xs
+
+pub rising_least : (n : ℕ) (xs : List ℕ) (s : ℕ) → IsRising n xs → is_among xs s ≡ true → n ≤ s
+rising_least n [] s rising among = absurd (false≢true among)
+rising_least n (x ∷ xs) s rising among =
+    let rest : is_among xs s ≡ true → x + 1 ≤ s = λ (a : is_among xs s ≡ true). rising_least (x + 1) xs s rising.1 a in
+    let lower = rising.0 in
+    grind (arith, nat_tests)
+
+pub rising_first : (n : ℕ) (xs : List ℕ) (t s : ℕ) → IsRising n xs → leads xs t ≡ true → is_among xs s ≡ true → t ≤ s
+rising_first n [] t s rising leading among = absurd (false≢true leading)
+rising_first n (x ∷ xs) t s rising leading among =
+    let rest : is_among xs s ≡ true → x + 1 ≤ s = λ (a : is_among xs s ≡ true). rising_least (x + 1) xs s rising.1 a in
+    grind (arith, nat_tests)
+
+pub leads_among : (xs : List ℕ) (t : ℕ) → leads xs t ≡ true → is_among xs t ≡ true
+leads_among [] t leading = leading
+leads_among (x ∷ xs) t leading = rw leading refl
+
+pub rising_lower : (m n : ℕ) (xs : List ℕ) → m ≤ n → IsRising n xs → IsRising m xs
+rising_lower m n [] below rising = rising
+rising_lower m n (x ∷ xs) below rising = (omega (arith, rising.0), rising.1)
+
+pub rising_without : (n t : ℕ) (xs : List ℕ) → IsRising n xs → IsRising n (without t xs)
+rising_without n t [] rising = rising
+rising_without n t (x ∷ xs) rising =
+    let rest = rising_without (x + 1) t xs rising.1 in
+    elim (x == t) as (λ (b : Bool). IsRising n (if b then without t xs else x ∷ without t xs))
+    [ true ↦ rising_lower n (x + 1) (without t xs) (omega (arith, rising.0)) rest | false ↦ (rising.0, rest) ]
+
+pub rising_more : (n k : ℕ) (xs : List ℕ) → n ≤ k → IsRising n xs → ((s : ℕ) → is_among xs s ≡ true → s < k) → IsRising n (xs ++ k ∷ [])
+rising_more n k [] below rising under = (below, tt)
+rising_more n k (x ∷ xs) below rising under =
+    let here : (x == x) ≡ true = grind (arith, nat_tests) in
+    let first : is_among (x ∷ xs) x ≡ true = rw here refl in
+    let less : x < k = under x first in
+    (rising.0, rising_more (x + 1) k xs (omega arith) rising.1 (λ s a. under s (or_right (x == s) (is_among xs s) a)))
+
+pub among_append : (xs ys : List ℕ) (s : ℕ) → is_among (xs ++ ys) s ≡ (is_among xs s || is_among ys s)
+among_append [] ys s = refl
+among_append (x ∷ xs) ys s =
+    let rest = among_append xs ys s in
+    elim (x == s) as (λ (b : Bool). (b || is_among (xs ++ ys) s) ≡ ((b || is_among xs s) || is_among ys s))
+    [ true ↦ refl | false ↦ rest ]
+
+-- a ticket that is still among them without t
+pub among_without : (xs : List ℕ) (t s : ℕ) → is_among (without t xs) s ≡ true → is_among xs s ≡ true
+among_without [] t s among = among
+among_without (x ∷ xs) t s among =
+    (elim (x == t) as (λ (b : Bool). is_among (if b then without t xs else x ∷ without t xs) s ≡ true → is_among (x ∷ xs) s ≡ true) [
+      | true ↦ (λ a. or_right (x == s) (is_among xs s) (among_without xs t s a))
+      | false ↦ (λ a. or_more (x == s) (is_among (without t xs) s) (is_among xs s) (among_without xs t s) a)
+    ]) among
+
+pub not_among_without : (xs : List ℕ) (t s : ℕ) → s ≢ t → is_among (without t xs) s ≡ is_among xs s
+not_among_without [] t s other = refl
+not_among_without (x ∷ xs) t s other =
+    let rest = not_among_without xs t s other in
+    let both : (x == t) ≡ true → (x == s) ≡ false = λ (e : (x == t) ≡ true). grind (arith, nat_tests) in
+    (elim (x == t) as (λ (b : Bool). (b ≡ true → (x == s) ≡ false) → is_among (if b then without t xs else x ∷ without t xs) s ≡ is_among (x ∷ xs) s)
+    [ true ↦ (λ apart. rw (apart refl) rest) | false ↦ (λ apart. ap (λ (b : Bool). (x == s) || b) rest) ]) both
+
+-- the tickets that wait rise and are below the next ticket; each other ticket below it was removed
+pub record IsInOrder (line : Line) (removed : ℕ → Bool) : Type 0 where
+  pub rises : IsRising 0 line.waiting
+  pub under : (s : ℕ) → is_among line.waiting s ≡ true → s < line.issued
+  pub known : (s : ℕ) → s < line.issued → is_among line.waiting s ≡ false → removed s ≡ true
+
+pub in_order_map : {line : Line} (before after : ℕ → Bool) → ((s : ℕ) → before s ≡ true → after s ≡ true) → IsInOrder line before → IsInOrder line after
+in_order_map before after more kept = record { rises = kept.rises; under = kept.under; known = λ s below gone. more s (kept.known s below gone) }
+
+-- a ticket that enters or leaves
+gone_in_order : (line : Line) (t : ℕ) (removed : ℕ → Bool) → IsInOrder line removed
+    → IsInOrder (record line { waiting = without t line.waiting }) (λ s. removed s || (t == s))
+gone_in_order line t removed kept = record {
+  rises = rising_without 0 t line.waiting kept.rises;
+  under = λ s among. kept.under s (among_without line.waiting t s among);
+  known = λ s below gone. elim (t == s) as (λ (b : Bool). (t == s) ≡ b → (removed s || b) ≡ true) [
+    | true ↦ (λ is. or_right (removed s) true refl)
+    | false ↦ (λ is. let other : s ≢ t = λ (e : s ≡ t). grind (arith, nat_tests) in
+        or_left (removed s) false (kept.known s below (sym (not_among_without line.waiting t s other) ∙ gone)))
+  ] refl;
+}
+
+arrived_under : (line : Line) (s : ℕ) → (is_among line.waiting s ≡ true → s < line.issued)
+    → (is_among line.waiting s || ((line.issued == s) || false)) ≡ true → s < line.issued + 1
+arrived_under line s under among =
+    (elim (is_among line.waiting s) as (λ (b : Bool). (b ≡ true → s < line.issued) → (b || ((line.issued == s) || false)) ≡ true → s < line.issued + 1)
+    [ true ↦ (λ u a. omega (arith, u refl)) | false ↦ (λ u a. grind (arith, nat_tests)) ]) under among
+
+arrived_known : (line : Line) (s : ℕ) (known : Bool) → (s < line.issued → is_among line.waiting s ≡ false → known ≡ true)
+    → s < line.issued + 1 → (is_among line.waiting s || ((line.issued == s) || false)) ≡ false → known ≡ true
+arrived_known line s known was below gone =
+    let parts = or_none (is_among line.waiting s) ((line.issued == s) || false) gone in
+    let other = or_none (line.issued == s) false parts.1 in
+    let not_last : (line.issued == s) ≡ false = other.0 in
+    let earlier : s < line.issued = grind (arith, nat_tests) in
+    was earlier parts.0
+
+-- each step keeps the order
+pub step_in_order : (line : Line) (step : LineStep) (removed : ℕ → Bool) → IsInOrder line removed → IsTrue (permits line step)
+    → IsInOrder (line_after line step) (λ s. removed s || removes step s)
+step_in_order line Arrive removed kept permitted = record {
+  rises = rising_more 0 line.issued line.waiting (omega arith) kept.rises kept.under;
+  under = λ s among. arrived_under line s (kept.under s) (sym (among_append line.waiting (line.issued ∷ []) s) ∙ among);
+  known = λ s below gone. or_left (removed s) false (arrived_known line s (removed s) (kept.known s) below (sym (among_append line.waiting (line.issued ∷ []) s) ∙ gone));
+}
+step_in_order line (Enter t) removed kept permitted = gone_in_order line t removed kept
+step_in_order line (Leave t) removed kept permitted = gone_in_order line t removed kept
+step_in_order line Pass removed kept permitted = in_order_map removed (λ s. removed s || false) (λ s. or_left (removed s) false) kept
+
+pub empty_in_order : IsInOrder empty_line (λ s. false)
+empty_in_order = record {
+  rises = tt;
+  under = λ s among. absurd (false≢true among);
+  known = λ s below gone. let no : ⊥ = omega arith in absurd no;
+}

@@ -1,0 +1,130 @@
+-- No run admits a later ticket before an earlier one.
+use Rattle.std.proofs.Common.{◌≡◌, ℕ, ◌+◌, ◌<◌, ◌≤◌, Bool, true, false, ◌||◌, List, [], ◌∷◌, ◌++◌, refl, sym, ap, ◌∙◌, arith}
+use Rattle.std.specs.Prelude.{◌≢◌, ◌==◌, if◌then◌else◌, IsTrue}
+use Rattle.std.proofs.lemmas.Bool.{false≢true}
+use Rattle.std.proofs.lemmas.Bool.Decides.{nat_tests}
+use Rattle.lock_raws_fair.specs.declared.line.step.LineStep.{LineStep}
+use Rattle.lock_raws_fair.specs.declared.line.step.LineStep.TheVariants.{Arrive, Enter, Leave, Pass}
+use Rattle.lock_raws_fair.specs.Tickets.{Line, empty_line, is_nobody, leads, is_among, without, permits, line_after}
+use Rattle.lock_raws_fair.specs.LineLaws.{IsLineRun, removes, is_removed, arrivals, admissions, place_of, NobodyIsOvertaken}
+use Rattle.lock_raws_fair.proofs.Order.{rising_first, leads_among, IsInOrder, in_order_map, step_in_order, empty_in_order, or_left, or_none, not_among_without, among_append}
+
+-- the line where a step of a run is made
+record IsAt (line : Line) (removed : ℕ → Bool) (before : List LineStep) (step : LineStep) (here : Line) : Type 0 where
+  order : IsInOrder here (λ s. removed s || is_removed before s)
+  permitted : IsTrue (permits here step)
+  issued : here.issued ≡ line.issued + arrivals before
+
+or_assoc : (a b c : Bool) → ((a || b) || c) ≡ true → (a || (b || c)) ≡ true
+or_assoc true b c is = refl
+or_assoc false b c is = is
+
+issued_after : (line : Line) (step : LineStep) (before : List LineStep) → (line_after line step).issued + arrivals before ≡ line.issued + arrivals (step ∷ before)
+issued_after line Arrive before = omega arith
+issued_after line (Enter t) before = refl
+issued_after line (Leave t) before = refl
+issued_after line Pass before = refl
+
+reached : (line : Line) (removed : ℕ → Bool) (before after : List LineStep) (step : LineStep) (last : Line)
+    → IsInOrder line removed → IsLineRun line (before ++ step ∷ after) last → (here : Line) × IsAt line removed before step here
+reached line removed [] after step last kept run = (
+  line,
+  record {
+    order = in_order_map removed (λ s. removed s || false) (λ s. or_left (removed s) false) kept;
+    permitted = run.0;
+    issued = omega arith;
+  },
+)
+reached line removed (first ∷ before) after step last kept run =
+    let next = line_after line first in
+    let found = reached next (λ s. removed s || removes first s) before after step last (step_in_order line first removed kept run.0) run.1 in (
+      found.0,
+      record {
+        order = in_order_map (λ s. (removed s || removes first s) || is_removed before s) (λ s. removed s || (removes first s || is_removed before s))
+            (λ s. or_assoc (removed s) (removes first s) (is_removed before s)) found.1.order;
+        permitted = found.1.permitted;
+        issued = found.1.issued ∙ issued_after line first before;
+      },
+    )
+
+not_true : (b : Bool) → (b ≡ true → ⊥) → b ≡ false
+not_true true refuted = absurd (refuted refl)
+not_true false refuted = refl
+
+nobody_among : (xs : List ℕ) (s : ℕ) → is_nobody xs ≡ true → is_among xs s ≡ false
+nobody_among [] s none = refl
+nobody_among (x ∷ xs) s none = absurd (false≢true none)
+
+pub nobody_is_overtaken_law : NobodyIsOvertaken
+nobody_is_overtaken_law = record {
+  enters = λ before after t last run s earlier.
+      let found = reached empty_line (λ _. false) before after (Enter t) last empty_in_order run in
+      let here = found.0 in
+      let order = found.1.order in
+      let leading : leads here.waiting t ≡ true = found.1.permitted in
+      let below : t < here.issued = order.under t (leads_among here.waiting t leading) in
+      order.known s (omega arith) (not_true (is_among here.waiting s) (λ (among : is_among here.waiting s ≡ true).
+      let later : t ≤ s = rising_first 0 here.waiting t s order.rises leading among in omega arith));
+  passes = λ before after last run s arrived.
+      let found = reached empty_line (λ _. false) before after Pass last empty_in_order run in
+      let here = found.0 in
+      let issued : here.issued ≡ 0 + arrivals before = found.1.issued in
+      found.1.order.known s (omega arith) (nobody_among here.waiting s found.1.permitted);
+}
+
+place_without : (ws : List ℕ) (s t : ℕ) → s ≢ t → place_of (without s ws) t ≤ place_of ws t
+place_without [] s t other = omega arith
+place_without (x ∷ ws) s t other =
+    let rest = place_without ws s t other in
+    let both : (x == s) ≡ true → (x == t) ≡ false = λ (e : (x == s) ≡ true). grind (arith, nat_tests) in
+    (elim (x == s) as (λ (b : Bool). (b ≡ true → (x == t) ≡ false) → place_of (if b then without s ws else x ∷ without s ws) t ≤ place_of (x ∷ ws) t) [
+      | true ↦ (λ apart. rw (apart refl) (omega arith))
+      | false ↦ (λ apart. elim (x == t) as (λ (c : Bool). (if c then 0 else place_of (without s ws) t + 1) ≤ (if c then 0 else place_of ws t + 1))
+          [ true ↦ omega arith | false ↦ omega arith ])
+    ]) both
+
+place_append : (ws ys : List ℕ) (t : ℕ) → is_among ws t ≡ true → place_of (ws ++ ys) t ≡ place_of ws t
+place_append [] ys t among = absurd (false≢true among)
+place_append (x ∷ ws) ys t among =
+    (elim (x == t) as (λ (b : Bool). (b || is_among ws t) ≡ true → (if b then 0 else place_of (ws ++ ys) t + 1) ≡ (if b then 0 else place_of ws t + 1))
+    [ true ↦ (λ a. refl) | false ↦ (λ a. ap (λ k. k + 1) (place_append ws ys t a)) ]) among
+
+-- when the first enters, each other ticket is one place nearer
+place_entered : (ws : List ℕ) (s t : ℕ) → s ≢ t → leads ws s ≡ true → place_of (without s ws) t + 1 ≤ place_of ws t
+place_entered [] s t other leading = absurd (false≢true leading)
+place_entered (x ∷ ws) s t other leading =
+    let rest = place_without ws s t other in
+    let here : (x == s) ≡ true = leading in
+    let apart : (x == t) ≡ false = grind (arith, nat_tests) in
+    rw (here, apart) (omega arith)
+
+differ : (s t : ℕ) → (s == t) ≡ false → s ≢ t
+differ s t apart is = grind (arith, nat_tests)
+
+still : (ws : List ℕ) (s t : ℕ) → s ≢ t → is_among ws t ≡ true → is_among (without s ws) t ≡ true
+still ws s t other among = not_among_without ws s t (λ (e : t ≡ s). other (sym e)) ∙ among
+
+pub overtaking_is_bounded_law : (steps : List LineStep) (old new : Line) (t : ℕ)
+    → IsTrue (is_among old.waiting t) → IsLineRun old steps new → (is_removed steps t ≡ false)
+    → admissions steps + place_of new.waiting t ≤ place_of old.waiting t
+overtaking_is_bounded_law [] old new t among run unremoved =
+    let same : place_of old.waiting t ≡ place_of new.waiting t = ap (λ (line : Line). place_of line.waiting t) run in omega arith
+overtaking_is_bounded_law (Arrive ∷ steps) old new t among run unremoved =
+    let same = place_append old.waiting (old.issued ∷ []) t among in
+    let among' : is_among (old.waiting ++ old.issued ∷ []) t ≡ true = among_append old.waiting (old.issued ∷ []) t ∙ rw among refl in
+    let rest = overtaking_is_bounded_law steps (line_after old Arrive) new t among' run.1 unremoved in
+    omega arith
+overtaking_is_bounded_law (Enter s ∷ steps) old new t among run unremoved =
+    let parts = or_none (s == t) (is_removed steps t) unremoved in
+    let other = differ s t parts.0 in
+    let nearer = place_entered old.waiting s t other run.0 in
+    let rest = overtaking_is_bounded_law steps (line_after old (Enter s)) new t (still old.waiting s t other among) run.1 parts.1 in
+    omega arith
+overtaking_is_bounded_law (Leave s ∷ steps) old new t among run unremoved =
+    let parts = or_none (s == t) (is_removed steps t) unremoved in
+    let other = differ s t parts.0 in
+    let nearer = place_without old.waiting s t other in
+    let rest = overtaking_is_bounded_law steps (line_after old (Leave s)) new t (still old.waiting s t other among) run.1 parts.1 in
+    omega arith
+overtaking_is_bounded_law (Pass ∷ steps) old new t among run unremoved =
+    absurd (false≢true (sym (nobody_among old.waiting t run.0) ∙ among))

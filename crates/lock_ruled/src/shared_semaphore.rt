@@ -1,0 +1,191 @@
+//! A semaphore that threads share by reference or in an `Arc`. Its permits are all accounted for: those that are free, and
+//! those of all tokens.
+ghost use Rattle.std.specs.Prelude.{◌≡◌, ◌≤◌, IfOk, IfErr, IfSome};
+ghost use Rattle.lock_base.specs.declared.raw.fault.Fault.TheVariants as fault;
+ghost use Rattle.lock_ruled.specs.Accounts.{token_of};
+
+mod guard;
+mod plays;
+mod released;
+mod rule;
+mod token;
+
+use crate::shared_semaphore::plays::{Give, Look, Take};
+use crate::shared_semaphore::released::ReleasedPermits;
+use atomic_table::Table;
+pub use guard::{ArcPermitGuard, PermitGuard};
+use lock_base::raw::Fault;
+use lock_wake::{EventCount, time_left};
+pub use rule::{PermitRule, PermitView};
+use std::alloc::Global;
+use std::marker::Model;
+use std::sync::Wait;
+use std::time::{Clock, Duration, Instant};
+pub use token::PermitToken;
+
+/// The number of free permits.
+const FREE: usize = 0;
+
+/// A semaphore that threads share by reference or in an `Arc`. A call takes no holder: each acquisition returns a token, and a
+/// release consumes it. Contracts see which semaphore it is, and the number of all permits.
+///
+/// A waiter sleeps until permits are released. An acquisition of few permits may overtake one that waits for many.
+#[derive(Drop)]
+pub struct SharedSemaphore {
+    table: Table<(), PermitView, u64, PermitRule, Global>,
+    /// On which waiters sleep until permits are released.
+    released: EventCount,
+}
+
+impl Model for SharedSemaphore {
+    ghost use Rattle.std.specs.Prelude.{◌≡◌};
+    ghost use Rattle.lock_ruled.specs.Accounts.{SemaphoreView};
+
+    ghost Value = { SemaphoreView };
+
+    ghost view = { λ s. record { id = s.table.shared.table_id; permits = s.table.shared.key } };
+
+    ghost invariant = { λ s. s.table.shared.table_id.words ≡ 1 };
+}
+
+impl SharedSemaphore {
+    /// Makes a semaphore with this many permits, all of them free. No other call allocates.
+    pub fn new(alloc: Global, permits: u64) -> Result<SharedSemaphore, Fault>
+        ensures permits { IfOk result (λ made. made.permits ≡ permits) }
+        ensures fault { IfErr result (λ error. error ≡ fault.OutOfMemory) }
+    {
+        let released = EventCount::new(alloc)?;
+        match Table::of_words(alloc, &[permits], &permits) {
+            Ok((table, _)) => Ok(SharedSemaphore { table, released }),
+            Err(_) => Err(Fault::OutOfMemory),
+        }
+    }
+
+    /// Acquires this many permits, or returns `None` if fewer are free. It repeats an exchange that another thread
+    /// disturbed.
+    pub fn try_acquire<R: Wait>(&self, rt: &R, permits: u64) -> Option<PermitToken>
+        ensures token { IfSome result (λ token. token ≡ token_of self.now permits) }
+        ensures within { IfSome result (λ _. permits ≤ self.now.permits) }
+    {
+        let (mut free, mut seat) = self.table.shared.load_new_seat::<Look>(FREE);
+        for _ in rt.forever() {
+            if free < permits {
+                return None;
+            }
+            let found = self
+                .table
+                .shared
+                .compare_exchange::<Take>(&mut seat, FREE, free, free - permits);
+            if found == free {
+                return Some(PermitToken { seat, permits });
+            }
+            free = found;
+        }
+        unreachable!()
+    }
+
+    /// Acquires this many permits, blocking until they are free. A call for more than all permits blocks for ever.
+    pub fn acquire<R: Wait>(&self, rt: &R, permits: u64) -> PermitToken
+        ensures token { result ≡ token_of self.now permits }
+        ensures within { permits ≤ self.now.permits }
+    {
+        if let Some(token) = self.try_acquire(rt, permits) {
+            return token;
+        }
+        for _ in rt.forever() {
+            if let Some(token) = self.wait_once(rt, permits, None) {
+                return token;
+            }
+        }
+        unreachable!()
+    }
+
+    /// Acquires this many permits, blocking until they are free, or returns `None` at `deadline`.
+    pub fn acquire_until<R: Wait + Clock>(
+        &self,
+        rt: &R,
+        permits: u64,
+        deadline: Instant,
+    ) -> Option<PermitToken>
+        ensures token { IfSome result (λ token. token ≡ token_of self.now permits) }
+        ensures within { IfSome result (λ _. permits ≤ self.now.permits) }
+    {
+        for _ in rt.forever() {
+            if let Some(token) = self.try_acquire(rt, permits) {
+                return Some(token);
+            }
+            let left = time_left(rt, deadline)?;
+            if let Some(token) = self.wait_once(rt, permits, Some(left)) {
+                return Some(token);
+            }
+        }
+        unreachable!()
+    }
+
+    /// Registers a wait, and tries again. If it is refused, it sleeps until permits are released, or for the time that is
+    /// left. In the other order, a release between the try and the sleep would be lost.
+    #[cold]
+    #[inline(never)]
+    fn wait_once<R: Wait>(
+        &self,
+        rt: &R,
+        permits: u64,
+        left: Option<Duration>,
+    ) -> Option<PermitToken>
+        ensures token { IfSome result (λ token. token ≡ token_of self.now permits) }
+        ensures within { IfSome result (λ _. permits ≤ self.now.permits) }
+    {
+        let registered = self.released.register(rt);
+        match (self.try_acquire(rt, permits), left) {
+            (Some(token), _) => {
+                self.released.leave(registered);
+                Some(token)
+            }
+            (None, Some(left)) => {
+                self.released.sleep_for(rt, registered, left);
+                None
+            }
+            (None, None) => {
+                self.released.sleep(rt, registered);
+                None
+            }
+        }
+    }
+
+    /// Releases the permits of the token, and wakes all waiters.
+    pub fn release(&self, token: PermitToken)
+        requires { token.semaphore ≡ self.now }
+    {
+        self.give_back(token).told(&self.released.notify_all());
+    }
+
+    /// Adds the permits of the token to those that are free.
+    fn give_back(&self, token: PermitToken) -> ReleasedPermits
+        requires { token.semaphore ≡ self.now }
+    {
+        let PermitToken { mut seat, permits } = token;
+        self.table
+            .shared
+            .fetch_add::<Give>(&mut seat, FREE, permits);
+        ReleasedPermits { seat }
+    }
+
+    /// Runs `f` while it holds this many permits. It acquires them before, as `acquire` does, and releases them after.
+    pub fn with_permits<R: Wait, U, F: FnOnce() -> U>(&self, rt: &R, permits: u64, f: F) -> U
+        requires { F.pre f }
+        ensures answer { F.post f result }
+        ensures within { permits ≤ self.now.permits }
+    {
+        let token = self.acquire(rt, permits);
+        let answer = f();
+        self.release(token);
+        answer
+    }
+
+    /// Returns how many permits are free. The number may be outdated at once.
+    pub fn available_permits(&self) -> u64
+        ensures { result ≤ self.now.permits }
+    {
+        self.table.shared.load_new_seat::<Look>(FREE).0
+    }
+}

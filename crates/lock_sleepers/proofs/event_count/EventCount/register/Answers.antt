@@ -1,6 +1,0 @@
-use Rattle.std.proofs.Common.{rules}
-use Rattle.lock_sleepers.proofs.Keeps.{arrives}
-use Rattle.lock_sleepers.proofs.event_count.EventCount.register.Goals as goal
-
-pub load_new_seat-count-requires : goal.load_new_seat-count-requires
-load_new_seat-count-requires g c = (search rules, arrives _)

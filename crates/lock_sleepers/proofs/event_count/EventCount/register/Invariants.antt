@@ -1,6 +1,0 @@
-use Rattle.std.specs.Prelude.{◌≡◌}
-use Rattle.lock_sleepers.specs.declared.stage.CallStage.TheVariants.{Away}
-use Rattle.lock_sleepers.proofs.event_count.EventCount.register.Given as goal
-
-abbrev pub invariant-loop : goal.invariant-loop
-invariant-loop g l = (l.call.events ≡ l.initial.self) × (l.call.stage ≡ Away)

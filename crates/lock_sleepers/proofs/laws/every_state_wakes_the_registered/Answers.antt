@@ -1,5 +1,0 @@
-use Rattle.lock_sleepers.proofs.Keeps.{every_state_wakes_the_registered}
-use Rattle.lock_sleepers.proofs.laws.every_state_wakes_the_registered.Goals as goal
-
-pub returns : goal.returns
-returns c = every_state_wakes_the_registered

@@ -1,3 +1,0 @@
-pub mod EventCounts
-pub mod Plays
-pub mod EventCalls

@@ -1,0 +1,31 @@
+//! A call that has not ended.
+use crate::sleepers::stage::CallStage;
+use atomic_table::Seat;
+use std::marker::Model;
+
+/// A call that has not ended. It cannot be dropped: `end` ends a wait, and `EventCount::wake` or
+/// `found_none` a notification.
+pub(crate) struct EventCall {
+    pub(crate) seat: Seat<(), CallStage>,
+}
+
+impl Model for EventCall {
+    ghost use Rattle.lock_wake.specs.EventCalls.{Call};
+
+    ghost Value = { Call };
+
+    ghost view = { λ c. record { events = c.seat.table_id; number = c.seat.id; stage = c.seat.me.0 } };
+}
+
+impl EventCall {
+    ghost use Rattle.std.specs.Prelude.{◌≡◌};
+    ghost use Rattle.lock_wake.specs.declared.sleepers.stage.CallStage.TheVariants.{Away};
+
+    /// Ends a wait that is no longer counted.
+    pub(crate) fn end(self)
+        requires { self.stage ≡ Away }
+    {
+        let EventCall { seat } = self;
+        drop(seat);
+    }
+}

@@ -1,0 +1,55 @@
+//! The event count.
+ghost use Rattle.std.specs.Prelude.{◌≡◌, IfErr};
+ghost use Rattle.lock_base.specs.declared.raw.fault.Fault.TheVariants as fault;
+
+use crate::sleepers::stage::{CallStage, CountRule};
+use atomic_table::Table;
+use lock_base::raw::Fault;
+use std::alloc::Global;
+use std::marker::Model;
+
+/// How many waits are counted.
+pub(crate) const COUNT: usize = 0;
+
+/// The epoch, which a notification ends.
+pub(crate) const EPOCH: usize = 1;
+
+/// An event count: threads that sleep until a notification.
+///
+/// A thread first registers, then checks again whether it has to sleep, and then sleeps or leaves. In the other order, a
+/// notification between the check and the sleep would be lost. None is lost to a registered wait: see
+/// `every_state_wakes_the_registered`.
+#[derive(Drop)]
+pub struct EventCount {
+    pub(crate) table: Table<(), CallStage, (), CountRule, Global>,
+}
+
+impl Model for EventCount {
+    ghost use Rattle.std.specs.Prelude.{◌≡◌};
+    ghost use Rattle.atomic_table.specs.Seated.{TableId};
+
+    ghost Value = { TableId };
+
+    ghost view = { λ e. e.table.shared.table_id };
+
+    ghost invariant = { λ e. e.table.shared.table_id.words ≡ 2 };
+}
+
+impl EventCount {
+    /// Makes an event count without waits. No other call allocates.
+    pub fn new(alloc: Global) -> Result<EventCount, Fault>
+        ensures { IfErr result (λ error. error ≡ fault.OutOfMemory) }
+    {
+        EventCount::at_epoch(alloc, 0)
+    }
+
+    /// Makes an event count at this epoch. A test reaches the last epoch, after which the epochs begin anew.
+    pub fn at_epoch(alloc: Global, epoch: u32) -> Result<EventCount, Fault>
+        ensures { IfErr result (λ error. error ≡ fault.OutOfMemory) }
+    {
+        match Table::of_words(alloc, &[0, epoch as u64], &()) {
+            Ok((table, _)) => Ok(EventCount { table }),
+            Err(_) => Err(Fault::OutOfMemory),
+        }
+    }
+}
