@@ -1,12 +1,9 @@
 mod conform;
-mod deadlines;
 mod desk;
-mod events;
 mod first_lock;
 mod gate;
 mod in_threads;
 mod parts;
-mod permits;
 mod pool;
 mod queue;
 mod registry;
@@ -14,5 +11,4 @@ mod ruled;
 mod seated;
 mod shared_permits;
 mod shelf;
-mod sleeper;
 mod spin_lock;

@@ -1,6 +1,11 @@
+mod counter;
+mod deadlines;
+mod events;
+mod permits;
 mod refused_memory;
 mod seated;
-mod table;
+mod shared_permits;
+mod sleeper;
 mod threads;
 mod word_lock;
 mod world;
