@@ -1,8 +1,11 @@
+//! The examples on threads, and with ample memory.
 mod conform;
 mod desk;
 mod first_lock;
+mod full_raw_lock;
 mod gate;
 mod in_threads;
+mod named;
 mod parts;
 mod pool;
 mod queue;
@@ -12,3 +15,6 @@ mod seated;
 mod shared_permits;
 mod shelf;
 mod spin_lock;
+
+/// The word while a writer holds the lock and none waits: the exclusive bit alone.
+const WRITER_ALONE: u64 = 1 << 33;
