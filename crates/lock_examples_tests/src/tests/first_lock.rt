@@ -1,5 +1,8 @@
 //! The first locks, by names that fix their raw lock.
-use lock_api::{FairMutex, RwLockUpgradableReadGuard, WordMutex, WordRwLock};
+use lock_api::{
+    FairMutex, RawRwLock, RawRwLockUpgradeDowngrade, RwLock, RwLockUpgradableReadGuard, WordMutex,
+    WordRwLock,
+};
 use std::test::Fail;
 use std::thread;
 
@@ -39,27 +42,39 @@ fn two_threads_share_a_fair_mutex(rt: HostRuntime) -> Result<(), Fail> {
     Ok(())
 }
 
+/// What readers see of a lock of 7 beside another reader, and after a write of 8.
+fn seen_around_a_write<R: RawRwLock>(lock: &RwLock<R, u64>) -> [u64; 2] {
+    let reader = lock.read();
+    let before = lock.with_read(|value| *value);
+    drop(reader);
+    lock.with_write(|value| *value = 8);
+    [before, lock.with_read(|value| *value)]
+}
+
 #[test]
 fn readers_and_a_writer_run_closures(rt: HostRuntime) -> Result<(), Fail> {
     let lock = WordRwLock::new(rt.alloc(), rt, 7u64)?;
-    let reader = lock.read();
-    assert_eq!(rt; lock.with_read(|value| *value), 7);
-    drop(reader);
-    lock.with_write(|value| *value = 8);
-    assert_eq!(rt; lock.with_read(|value| *value), 8);
+    assert_eq!(rt; seen_around_a_write(&lock), [7, 8]);
     assert!(rt; !lock.is_locked());
     Ok(())
+}
+
+/// What a downgraded guard reads. Then whether a writer and an upgradable reader are admitted beside it, and whether a
+/// writer is once it has ended.
+fn beside_a_downgraded_guard<R: RawRwLockUpgradeDowngrade>(
+    lock: &RwLock<R, u64>,
+) -> (u64, [bool; 3]) {
+    let reader = RwLockUpgradableReadGuard::downgrade(lock.upgradable_read());
+    let writes = lock.try_write().is_some();
+    let upgrades = lock.try_upgradable_read().is_some();
+    let value = *reader;
+    drop(reader);
+    (value, [writes, upgrades, lock.try_write().is_some()])
 }
 
 #[test]
 fn a_downgraded_guard_shows_the_value(rt: HostRuntime) -> Result<(), Fail> {
     let lock = WordRwLock::new(rt.alloc(), rt, 7u64)?;
-    let upgradable = lock.upgradable_read();
-    let reader = RwLockUpgradableReadGuard::downgrade(upgradable);
-    assert_eq!(rt; *reader, 7);
-    assert!(rt; lock.try_write().is_none());
-    assert!(rt; lock.try_upgradable_read().is_some());
-    drop(reader);
-    assert!(rt; lock.try_write().is_some());
+    assert_eq!(rt; beside_a_downgraded_guard(&lock), (7, [false, true, true]));
     Ok(())
 }
