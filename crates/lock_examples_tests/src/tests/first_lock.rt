@@ -1,4 +1,5 @@
 //! The first locks, by names that fix their raw lock.
+use crate::tests::in_threads::twice;
 use lock_api::{
     FairMutex, RawRwLock, RawRwLockUpgradeDowngrade, RwLock, RwLockUpgradableReadGuard, WordMutex,
     WordRwLock,
@@ -29,16 +30,11 @@ fn two_threads_share_a_mutex(rt: HostRuntime) -> Result<(), Fail> {
     Ok(())
 }
 
-/// The same over another raw lock: only the name of the type differs.
 #[test]
 fn two_threads_share_a_fair_mutex(rt: HostRuntime) -> Result<(), Fail> {
     let count = FairMutex::new(rt.alloc(), rt, 0u64)?;
-    thread::join(
-        &rt,
-        || count.with(|value| *value = value.wrapping_add(2)),
-        || count.with(|value| *value = value.wrapping_add(3)),
-    );
-    assert_eq!(rt; count.with(|value| *value), 5);
+    assert_eq!(rt; twice(&rt, &count), (1_000, 1_000));
+    assert_eq!(rt; count.into_inner(), 2_000);
     Ok(())
 }
 
