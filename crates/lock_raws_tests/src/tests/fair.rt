@@ -19,7 +19,7 @@ use std::time::Duration;
 fn actor(arrived: u64, act: Act, digit: u64) -> Actor {
     Actor {
         arrived,
-        gone: 0,
+        timed_out: 0,
         act,
         digit,
     }
@@ -67,16 +67,16 @@ fn scenes(rt: HostRuntime) -> Result<(), Fail> {
             12,
         ),
         (
-            "two of four give up",
+            "two of four time out",
             50,
             [
-                actor(0, Act::GiveUp, 1),
+                actor(0, Act::TimedWrite, 1),
                 actor(1, Act::Write, 2),
-                actor(2, Act::GiveUp, 3),
+                actor(2, Act::TimedWrite, 3),
                 actor(3, Act::Write, 4),
                 Actor {
                     arrived: 4,
-                    gone: 2,
+                    timed_out: 2,
                     act: free,
                     digit: 0,
                 },

@@ -19,7 +19,7 @@ pub enum Act {
     /// Acquires exclusively, and releases.
     Write,
     /// Acquires exclusively for at most a millisecond.
-    GiveUp,
+    TimedWrite,
     /// Releases a hold of this mode.
     Release(Mode),
     /// Releases an exclusive hold, and acquires exclusively at once.
@@ -34,8 +34,8 @@ pub enum Act {
 pub struct Actor {
     /// How many threads must have arrived before it acts.
     pub arrived: u64,
-    /// How many timed calls must have been refused before it acts.
-    pub gone: u64,
+    /// How many timed calls must have timed out before it acts.
+    pub timed_out: u64,
     /// What it does.
     pub act: Act,
     /// The digit that it appends to the order of admission while it holds the lock exclusively.
@@ -47,7 +47,7 @@ impl Actor {
     pub fn idle() -> Actor {
         Actor {
             arrived: 0,
-            gone: 0,
+            timed_out: 0,
             act: Act::Nothing,
             digit: 0,
         }
@@ -60,8 +60,8 @@ struct Scene<W: Wait + Clock + Clone + Drop> {
     core: FairCore<TableArbiter, W, RealTime>,
     /// The digits of the threads, in the order of admission.
     admitted: AtomicU64,
-    /// How many timed calls were refused.
-    gone: AtomicU64,
+    /// How many calls timed out.
+    timed_out: AtomicU64,
 }
 
 impl<W: Wait + Clock + Clone + Drop> Scene<W> {
@@ -79,7 +79,7 @@ impl<W: Wait + Clock + Clone + Drop> Scene<W> {
         wait_until(waiter, || self.has_come_to(actor));
         match (actor.act, held) {
             (Act::Write, _) => self.note(self.core.acquire(Mode::Exclusive), actor.digit),
-            (Act::GiveUp, _) => self.give_up(actor.digit),
+            (Act::TimedWrite, _) => self.timed_write(actor.digit),
             (Act::Release(mode), Some(token)) => self.core.release(token, mode),
             (Act::Pass, Some(token)) => {
                 self.core.release(token, Mode::Exclusive);
@@ -91,7 +91,8 @@ impl<W: Wait + Clock + Clone + Drop> Scene<W> {
     }
 
     fn has_come_to(&self, actor: Actor) -> bool {
-        self.core.arrivals() >= actor.arrived && self.gone.load(Ordering::SeqCst) >= actor.gone
+        self.core.arrivals() >= actor.arrived
+            && self.timed_out.load(Ordering::SeqCst) >= actor.timed_out
     }
 
     /// Appends the digit, and releases.
@@ -104,14 +105,14 @@ impl<W: Wait + Clock + Clone + Drop> Scene<W> {
         self.core.release(token, Mode::Exclusive);
     }
 
-    fn give_up(&self, digit: u64) {
+    fn timed_write(&self, digit: u64) {
         let Some(deadline) = self.core.instant_after(Duration::from_millis(1)) else {
             return;
         };
         match self.core.try_acquire_until(Mode::Exclusive, deadline) {
             Some(token) => self.note(token, digit),
             None => {
-                self.gone.fetch_add(1, Ordering::SeqCst);
+                self.timed_out.fetch_add(1, Ordering::SeqCst);
             }
         }
     }
@@ -126,7 +127,7 @@ pub fn play<R: Wait + Clock + Threads + Sync + Copy + Drop>(
     let scene = Scene {
         core: LockCore::new(alloc, *rt, 4)?,
         admitted: AtomicU64::new(0),
-        gone: AtomicU64::new(0),
+        timed_out: AtomicU64::new(0),
     };
     let [a, b, c, d, e] = actors;
     let (at_a, at_b, at_c) = (scene.start(a), scene.start(b), scene.start(c));
