@@ -1,12 +1,12 @@
+//! The examples on threads, and with ample memory.
 mod conform;
-mod deadlines;
 mod desk;
-mod events;
 mod first_lock;
+mod full_raw_lock;
 mod gate;
 mod in_threads;
+mod named;
 mod parts;
-mod permits;
 mod pool;
 mod queue;
 mod registry;
@@ -14,5 +14,7 @@ mod ruled;
 mod seated;
 mod shared_permits;
 mod shelf;
-mod sleeper;
 mod spin_lock;
+
+/// The word while a writer holds the lock and none waits: the exclusive bit alone.
+const WRITER_ALONE: u64 = 1 << 33;

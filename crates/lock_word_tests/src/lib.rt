@@ -1,5 +1,5 @@
-//! The packed word in a `World` and under threads: callers that prove what they load, and tests. Also tests of the
-//! table of tokens.
+//! The packed word in a `World` and under threads, callers that prove what they load, and tests of what sleeps on words:
+//! word locks, event counts, mutexes under a rule and semaphores.
 #![tactic(auto)]
 
 pub mod callers;

@@ -1,4 +1,5 @@
 //! Visitors that sleep at a gate are woken. A lost wake-up makes the test hang.
+use crate::tests::WRITER_ALONE;
 use lock_api::Fault;
 use lock_examples::gate::open_for_two;
 use std::test::Fail;
@@ -9,7 +10,7 @@ fn opened_gate_wakes_all_that_wait(rt: HostRuntime) -> Result<(), Fail> {
     for run in 0..300u64 {
         let places = 2 + run % 2;
         let seen = open_for_two(&rt, rt.alloc(), places)?;
-        assert_eq!(rt; seen.closed, 1 << 33);
+        assert_eq!(rt; seen.closed, WRITER_ALONE);
         let (first, second) = seen.inside;
         assert!(rt; 2 <= first && first <= places && 2 <= second && second <= places);
     }

@@ -1,4 +1,5 @@
 //! What two threads count on what they share.
+use lock_api::{Mutex, RawMutex};
 use std::sync::Wait;
 use std::thread::{self, Threads};
 
@@ -14,4 +15,16 @@ pub trait Counts {
 /// What each of two threads counts.
 pub fn twice<T: Threads, S: Counts + Sync>(rt: &T, shared: &S) -> (u64, u64) {
     thread::join(rt, || shared.count(), || shared.count())
+}
+
+impl<R: RawMutex> Counts for Mutex<R, u64> {
+    type Waiter = R::Waiter;
+
+    fn count(&self) -> u64 {
+        for _ in 0..1_000 {
+            let mut count = self.lock();
+            *count = count.wrapping_add(1);
+        }
+        1_000
+    }
 }

@@ -1,37 +1,45 @@
 //! Guards of a variant's value, and of an element of a list.
-use lock_api::{MappedMutexGuard, MutexGuard, WordMutex};
+use lock_api::{MappedMutexGuard, Mutex, MutexGuard, RawMutex, WordMutex};
 use lock_examples::{Job, Nth, Progress};
 use std::test::Fail;
 
-#[test]
-fn progress_of_a_running_job_is_written(rt: HostRuntime) -> Result<(), Fail> {
-    let job = WordMutex::new(rt.alloc(), rt, Job::Waiting)?;
-    assert!(rt; MutexGuard::try_map(job.lock(), Progress).is_err());
+/// Whether a waiting job has no progress, and the progress of a running one, after 2 is written to it.
+fn write_progress<R: RawMutex>(job: &Mutex<R, Job>) -> (bool, Option<u64>) {
+    let has_none = MutexGuard::try_map(job.lock(), Progress).is_err();
     *job.lock() = Job::Running(1);
     let Ok(mut progress) = MutexGuard::try_map(job.lock(), Progress) else {
-        panic!(rt; "the job runs");
+        return (has_none, None);
     };
     if let Some(number) = MappedMutexGuard::get_mut(&mut progress) {
         *number = 2;
     }
-    assert_eq!(rt; MappedMutexGuard::get(&progress), Some(&2));
-    drop(progress);
+    (has_none, MappedMutexGuard::get(&progress).copied())
+}
+
+#[test]
+fn progress_of_a_running_job_is_written(rt: HostRuntime) -> Result<(), Fail> {
+    let job = WordMutex::new(rt.alloc(), rt, Job::Waiting)?;
+    assert_eq!(rt; write_progress(&job), (true, Some(2)));
     assert!(rt; matches!(job.into_inner(), Job::Running(2)));
     Ok(())
+}
+
+/// The element of a list at the first index, and the second index if the list has no element there.
+fn find<R: RawMutex>(list: &Mutex<R, Vec<u64>>, at: [usize; 2]) -> (Option<u64>, Option<usize>) {
+    let found = match MutexGuard::try_map(list.lock(), Nth(at[0])) {
+        Ok(element) => MappedMutexGuard::get(&element).copied(),
+        Err(_) => None,
+    };
+    let missed = match MutexGuard::try_map_or_err(list.lock(), Nth(at[1])) {
+        Ok(_) => None,
+        Err((_, missed)) => Some(missed),
+    };
+    (found, missed)
 }
 
 #[test]
 fn an_element_of_a_list_is_read(rt: HostRuntime) -> Result<(), Fail> {
     let list = WordMutex::new(rt.alloc(), rt, vec![in rt.alloc(); 5u64, 6]?)?;
-    let Ok(second) = MutexGuard::try_map(list.lock(), Nth(1)) else {
-        panic!(rt; "the list has two elements");
-    };
-    assert_eq!(rt; MappedMutexGuard::get(&second), Some(&6));
-    drop(second);
-    let Err((guard, at)) = MutexGuard::try_map_or_err(list.lock(), Nth(2)) else {
-        panic!(rt; "the list has two elements");
-    };
-    drop(guard);
-    assert_eq!(rt; at, 2);
+    assert_eq!(rt; find(&list, [1, 2]), (Some(6), Some(2)));
     Ok(())
 }

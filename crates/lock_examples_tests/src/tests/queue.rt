@@ -1,5 +1,8 @@
 //! Producers and consumers on threads.
-use lock_api::{RawCondvar, RawMutex, SleepingCondvar, SpuriousCondvar, TokenRaw, WordRaw};
+use lock_api::{
+    RawCondvar, RawCondvarTimed, RawMutex, RawMutexTimed, SleepingCondvar, SpuriousCondvar,
+    TokenRaw, WordRaw,
+};
 use lock_examples::Queue;
 use std::alloc::{AllocError, Global};
 use std::sync::Wait;
@@ -80,17 +83,23 @@ fn each_item_arrives_once(rt: HostRuntime) -> Result<(), Fail> {
     Ok(())
 }
 
+/// What a queue of two places answers to pushes of 2 to 5, after one of 1, and to four pops. The first pop makes room for 5.
+fn fill<C: RawCondvarTimed>(queue: &Queue<C, u64>) -> ([Result<(), u64>; 4], [Option<u64>; 4])
+where
+    C::RawMutex: RawMutexTimed<Duration = ()>,
+{
+    queue.push(1);
+    let full = [queue.try_push(2), queue.try_push(3), queue.push_for(4, ())];
+    let first = Some(queue.pop());
+    let last = queue.push_for(5, ());
+    let popped = [first, queue.try_pop(), queue.try_pop(), queue.try_pop()];
+    ([full[0], full[1], full[2], last], popped)
+}
+
 #[test]
 fn a_full_queue_gives_the_item_back(rt: HostRuntime) -> Result<(), Fail> {
     let queue: Queue<SpuriousCondvar<TokenRaw<HostRuntime>>, u64> = Queue::new(rt.alloc(), rt, 2)?;
-    queue.push(1);
-    assert_eq!(rt; queue.try_push(2), Ok(()));
-    assert_eq!(rt; queue.try_push(3), Err(3));
-    assert_eq!(rt; queue.push_for(4, ()), Err(4));
-    assert_eq!(rt; queue.pop(), 1);
-    assert_eq!(rt; queue.push_for(5, ()), Ok(()));
-    assert_eq!(rt; queue.try_pop(), Some(2));
-    assert_eq!(rt; queue.try_pop(), Some(5));
-    assert_eq!(rt; queue.try_pop(), None);
+    let pushed = [Ok(()), Err(3), Err(4), Ok(())];
+    assert_eq!(rt; fill(&queue), (pushed, [Some(1), Some(2), Some(5), None]));
     Ok(())
 }

@@ -1,19 +1,29 @@
 //! A shelf lends objects, and gets each back at the end of its loan.
-use lock_api::WordRaw;
-use lock_examples::Shelf;
+use lock_api::{RawMutex, WordRaw};
+use lock_examples::{Loan, Shelf};
 use std::test::Fail;
+
+/// The object of a loan.
+fn object<R: RawMutex>(loan: &Option<Loan<'_, R, u64>>) -> Option<u64> {
+    match loan {
+        Some(loan) => Some(loan.object),
+        None => None,
+    }
+}
+
+/// What three loans of two objects lend at a time, and what another lends once the second has ended.
+fn borrowed<R: RawMutex>(shelf: &Shelf<R, u64>) -> Result<([Option<u64>; 3], Option<u64>), Fail> {
+    shelf.put(3)?;
+    shelf.put(4)?;
+    let (first, second, third) = (shelf.borrow(), shelf.borrow(), shelf.borrow());
+    let at_a_time = [object(&first), object(&second), object(&third)];
+    drop(second);
+    Ok((at_a_time, object(&shelf.borrow())))
+}
 
 #[test]
 fn a_loan_returns_its_object(rt: HostRuntime) -> Result<(), Fail> {
     let shelf: Shelf<WordRaw<HostRuntime>, u64> = Shelf::new(rt.alloc(), rt)?;
-    shelf.put(3)?;
-    shelf.put(4)?;
-    let first = shelf.borrow().expect(&rt, "a loan");
-    let second = shelf.borrow().expect(&rt, "a loan");
-    assert!(rt; first.object == 3 && second.object == 4);
-    assert!(rt; shelf.borrow().is_none());
-    drop(second);
-    assert!(rt; shelf.borrow().expect(&rt, "a loan").object == 4);
-    drop(first);
+    assert_eq!(rt; borrowed(&shelf)?, ([Some(3), Some(4), None], Some(4)));
     Ok(())
 }

@@ -1,22 +1,10 @@
 //! The raw lock that spins, under both locks.
-use crate::tests::in_threads::{Counts, twice};
+use crate::tests::in_threads::twice;
 use lock_api::{Mutex, RawMutex, RawRwLock, RwLock};
 use lock_examples::SpinLock;
 use std::test::Fail;
 
 type Spin = SpinLock<HostRuntime>;
-
-impl<R: RawMutex> Counts for Mutex<R, u64> {
-    type Waiter = R::Waiter;
-
-    fn count(&self) -> u64 {
-        for _ in 0..1_000 {
-            let mut count = self.lock();
-            *count = count.wrapping_add(1);
-        }
-        1_000
-    }
-}
 
 #[test]
 fn two_threads_count_under_a_mutex(rt: HostRuntime) -> Result<(), Fail> {

@@ -1,4 +1,5 @@
 //! Each call that allocates, with an allocation refused.
+use crate::tests::WRITER;
 use lock_base::raw::Fault;
 use lock_seated::{Attempt, ExWant, SeatedLock};
 use lock_states::world::World;
@@ -21,7 +22,7 @@ fn refused_memory_world(rt: HostRuntime) -> Result<(), Fail> {
     match world.run(rt.alloc(), &steps) {
         Ok(made) => {
             assert!(rt; made.as_slice() == [Outcome::Loaded(0), Outcome::Done].as_slice());
-            assert!(rt; world.word() == 8_589_934_592);
+            assert!(rt; world.word() == WRITER);
         }
         Err(fault) => {
             assert!(rt; fault == Fault::OutOfMemory && world.word() == 0);
@@ -36,7 +37,7 @@ fn refused_memory_seated_lock(rt: HostRuntime) {
     match SeatedLock::new(rt.alloc(), 1) {
         Ok((lock, mut party)) => {
             assert!(rt; lock.attempt(&mut party, ExWant::Exclusive) == Attempt::Done);
-            assert!(rt; lock.load(&mut party) == 8_589_934_592);
+            assert!(rt; lock.load(&mut party) == WRITER);
         }
         Err(fault) => assert!(rt; fault == Fault::OutOfMemory),
     }

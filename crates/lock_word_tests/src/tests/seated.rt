@@ -2,6 +2,7 @@
 use crate::callers::{
     loaded_alone, loaded_beside_readers, loaded_under_own_bar, refused_beside_readers,
 };
+use crate::tests::{BAR, UPGRADER, WRITER};
 use lock_base::machine::Mode;
 use lock_seated::{Attempt, ExWant, SeatedLock};
 use std::test::Fail;
@@ -17,8 +18,8 @@ fn load_is_fresh(rt: HostRuntime) -> Result<(), Fail> {
     assert!(rt; b.holds(Mode::Shared) == 1);
     lock.release(&mut b, Mode::Shared);
     assert!(rt; lock.attempt(&mut a, ExWant::Exclusive) == Attempt::Done);
-    assert!(rt; lock.load(&mut a) == 8_589_934_592);
-    assert!(rt; lock.attempt(&mut b, ExWant::Shared) == Attempt::NotAdmitted(8_589_934_592));
+    assert!(rt; lock.load(&mut a) == WRITER);
+    assert!(rt; lock.attempt(&mut b, ExWant::Shared) == Attempt::NotAdmitted(WRITER));
     Ok(())
 }
 
@@ -27,18 +28,18 @@ fn upgradable_holds_move(rt: HostRuntime) -> Result<(), Fail> {
     let (lock, party) = SeatedLock::new(rt.alloc(), 2)?;
     let (mut a, mut b) = lock.split(party);
     assert!(rt; lock.attempt(&mut a, ExWant::Upgradable) == Attempt::Done);
-    assert!(rt; lock.load(&mut a) == 4_294_967_297);
-    assert!(rt; lock.attempt(&mut b, ExWant::Upgradable) == Attempt::NotAdmitted(4_294_967_297));
+    assert!(rt; lock.load(&mut a) == UPGRADER);
+    assert!(rt; lock.attempt(&mut b, ExWant::Upgradable) == Attempt::NotAdmitted(UPGRADER));
     assert!(rt; lock.attempt(&mut b, ExWant::Shared) == Attempt::Done);
     assert!(rt; a.holds(Mode::Upgradable) == 1);
-    assert!(rt; lock.attempt(&mut a, ExWant::Upgrade) == Attempt::NotAdmitted(4_294_967_298));
+    assert!(rt; lock.attempt(&mut a, ExWant::Upgrade) == Attempt::NotAdmitted(UPGRADER + 1));
     assert!(rt; b.holds(Mode::Shared) == 1);
     lock.release(&mut b, Mode::Shared);
     assert!(rt; lock.attempt(&mut a, ExWant::Upgrade) == Attempt::Done);
-    assert!(rt; lock.load(&mut a) == 8_589_934_592);
+    assert!(rt; lock.load(&mut a) == WRITER);
     assert!(rt; a.holds(Mode::Exclusive) == 1);
     lock.downgrade_to_upgradable(&mut a);
-    assert!(rt; lock.load(&mut a) == 4_294_967_297);
+    assert!(rt; lock.load(&mut a) == UPGRADER);
     lock.downgrade_upgradable(&mut a);
     assert!(rt; lock.load(&mut a) == 1);
     assert!(rt; lock.attempt(&mut a, ExWant::Exclusive) == Attempt::NotAdmitted(1));
@@ -56,7 +57,7 @@ fn holders_are_told_the_word(rt: HostRuntime) -> Result<(), Fail> {
     let (lock, mut party) = SeatedLock::new(rt.alloc(), 2)?;
     assert!(rt; lock.attempt(&mut party, ExWant::Exclusive) == Attempt::Done);
     assert!(rt; party.holds(Mode::Exclusive) == 1);
-    assert!(rt; loaded_alone(&lock, &mut party) == 8_589_934_592);
+    assert!(rt; loaded_alone(&lock, &mut party) == WRITER);
     lock.downgrade(&mut party);
     assert!(rt; party.holds(Mode::Shared) == 1);
     assert!(rt; loaded_beside_readers(&lock, &mut party) == 1);
@@ -70,10 +71,10 @@ fn a_bar_keeps_others_out(rt: HostRuntime) -> Result<(), Fail> {
     let (lock, party) = SeatedLock::new(rt.alloc(), 2)?;
     let (mut a, mut b) = lock.split(party);
     assert!(rt; lock.attempt(&mut a, ExWant::Announce) == Attempt::Done);
-    assert!(rt; lock.attempt(&mut b, ExWant::Shared) == Attempt::NotAdmitted(17_179_869_184));
-    assert!(rt; lock.attempt(&mut b, ExWant::Announce) == Attempt::NotAdmitted(17_179_869_184));
+    assert!(rt; lock.attempt(&mut b, ExWant::Shared) == Attempt::NotAdmitted(BAR));
+    assert!(rt; lock.attempt(&mut b, ExWant::Announce) == Attempt::NotAdmitted(BAR));
     assert!(rt; lock.attempt(&mut a, ExWant::Exclusive) == Attempt::Done);
-    assert!(rt; lock.load(&mut a) == 8_589_934_592);
+    assert!(rt; lock.load(&mut a) == WRITER);
     assert!(rt; a.holds(Mode::Exclusive) == 1);
     lock.release(&mut a, Mode::Exclusive);
     assert!(rt; lock.attempt(&mut b, ExWant::Shared) == Attempt::Done);
@@ -86,9 +87,9 @@ fn an_announced_party_withdraws(rt: HostRuntime) -> Result<(), Fail> {
     let (mut a, mut b) = lock.split(party);
     assert!(rt; lock.attempt(&mut b, ExWant::Shared) == Attempt::Done);
     assert!(rt; lock.attempt(&mut a, ExWant::Announce) == Attempt::Done);
-    assert!(rt; lock.attempt(&mut b, ExWant::Shared) == Attempt::NotAdmitted(17_179_869_185));
+    assert!(rt; lock.attempt(&mut b, ExWant::Shared) == Attempt::NotAdmitted(BAR + 1));
     assert!(rt; a.announced() && !b.announced());
-    assert!(rt; loaded_under_own_bar(&lock, &mut a) == 17_179_869_185);
+    assert!(rt; loaded_under_own_bar(&lock, &mut a) == BAR + 1);
     assert!(rt; a.announced());
     lock.withdraw(&mut a);
     assert!(rt; lock.attempt(&mut a, ExWant::Shared) == Attempt::Done);

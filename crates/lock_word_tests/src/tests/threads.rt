@@ -1,6 +1,7 @@
 //! Parties of a seated lock, each on its thread.
 ghost use Rattle.std.specs.Prelude.{◌≡◌};
 
+use crate::tests::WRITER;
 use lock_base::machine::Mode;
 use lock_seated::{Attempt, ExWant, Party, SeatedLock};
 use std::hint::spin_loop;
@@ -47,7 +48,7 @@ fn two_readers_meet(rt: HostRuntime) -> Result<(), Fail> {
     );
     assert!(rt; saw_second && saw_first);
     lock.acquire(&rt, &mut a, ExWant::Exclusive);
-    assert!(rt; lock.load(&mut a) == 8_589_934_592);
+    assert!(rt; lock.load(&mut a) == WRITER);
     assert!(rt; a.holds(Mode::Exclusive) == 1);
     lock.release(&mut a, Mode::Exclusive);
     assert!(rt; lock.load(&mut a) == 0);

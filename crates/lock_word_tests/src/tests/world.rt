@@ -1,4 +1,5 @@
 //! Interleavings, each as one list of steps with the expected outcomes.
+use crate::tests::{BAR, UPGRADER, WRITER};
 use lock_base::machine::Mode;
 use lock_base::raw::Fault;
 use lock_states::world::World;
@@ -105,7 +106,7 @@ fn one_party_and_each_refusal(rt: HostRuntime) -> Result<(), Fail> {
         Loaded(0),
         Done,
         Done,
-        Loaded(4_294_967_297),
+        Loaded(UPGRADER),
         Done,
         Refused(Fault::WrongMode),
         Done,
@@ -130,7 +131,7 @@ fn upgradable_token_is_a_reader(rt: HostRuntime) -> Result<(), Fail> {
     let outcomes = [
         Loaded(0),
         Done,
-        Loaded(4_294_967_297),
+        Loaded(UPGRADER),
         NotAdmitted,
         Refused(Fault::NoLoad),
         Done,
@@ -164,18 +165,18 @@ fn a_bar_keeps_others_out(rt: HostRuntime) -> Result<(), Fail> {
         Done,
         Loaded(1),
         Done,
-        Loaded(17_179_869_185),
+        Loaded(BAR + 1),
         NotAdmitted,
         Refused(Fault::NoLoad),
         Refused(Fault::WrongMode),
         Done,
-        Loaded(17_179_869_184),
+        Loaded(BAR),
         NotAdmitted,
-        Loaded(17_179_869_184),
+        Loaded(BAR),
         Done,
     ];
     let world = led_to(rt.alloc(), 2, 3, &steps, &outcomes)?.ok_or("other outcomes")?;
-    assert!(rt; world.announced(2) == Ok(false) && world.word() == 8_589_934_592);
+    assert!(rt; world.announced(2) == Ok(false) && world.word() == WRITER);
     assert!(rt; world.announced(3) == Err(Fault::UnknownParty));
     Ok(())
 }
@@ -193,13 +194,13 @@ fn a_bar_stands_beside_an_upgrade(rt: HostRuntime) -> Result<(), Fail> {
     let outcomes = [
         Loaded(0),
         Done,
-        Loaded(4_294_967_297),
+        Loaded(UPGRADER),
         Done,
-        Loaded(21_474_836_481),
+        Loaded(BAR + UPGRADER),
         Done,
     ];
     let mut world = led_to(rt.alloc(), 2, 1, &steps, &outcomes)?.ok_or("other outcomes")?;
-    assert!(rt; world.word() == 25_769_803_776 && world.announced(2) == Ok(true));
+    assert!(rt; world.word() == BAR + WRITER && world.announced(2) == Ok(true));
     let made = world.run(
         rt.alloc(),
         &[Take(1, Down::Exclusive), Take(2, Down::Withdraw)],

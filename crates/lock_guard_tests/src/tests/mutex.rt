@@ -1,0 +1,7 @@
+//! The mutex and its guards.
+pub mod gated;
+pub mod makers;
+mod order;
+mod parts;
+mod raw_calls;
+mod threads;

@@ -1,0 +1,51 @@
+//! Guards of a part of a mutex's value.
+use crate::tests::Table;
+use lock_base::machine::Mode::Exclusive;
+use lock_guard::raw::{RawMutex, RawMutexFair};
+use lock_mutex::{MappedMutexGuard, Mutex, MutexGuard};
+use lock_raws::RawLock;
+use lock_test_support::answer::equal;
+use lock_test_support::project::{Item0, Item1, Nested, Nth};
+use lock_test_support::raw_lock::RawCall::{Lock, Unlock, UnlockFair};
+use lock_test_support::raw_lock::{MockRaw, Watch};
+use std::alloc::Global;
+use std::test::Fail;
+
+/// Writes 9 to the second item of the first pair, through two maps.
+fn write_inner<R: RawMutexFair>(mutex: &Mutex<R, Nested>) {
+    let first = MutexGuard::map(mutex.lock(), Item0);
+    let mut second = MappedMutexGuard::map(first, Item1);
+    *second = 9;
+    MappedMutexGuard::unlock_fair(second);
+}
+
+/// Misses a third and a sixth item, and writes 8 to the second one. Returns the last miss.
+fn miss_and_write<R: RawMutex>(mutex: &Mutex<R, (u64, u64)>) -> Option<usize> {
+    let guard = MutexGuard::try_map(mutex.lock(), Nth(2)).err()?;
+    let (guard, missed) = MutexGuard::try_map_or_err(guard, Nth(5)).err()?;
+    let mut second = MutexGuard::try_map(guard, Nth(1)).ok()?;
+    *MappedMutexGuard::get_mut(&mut second)? = 8;
+    Some(missed)
+}
+
+fn check<R: RawMutexFair + Drop>(alloc: Global, waiter: R::Waiter) -> Result<(), Fail> {
+    let raw: MockRaw<R> = RawMutex::new(alloc, waiter)?;
+    let mut watch = Watch::new(raw.calls()?);
+    let mut mutex = Mutex::from_raw(raw, ((0, 0), 0))?;
+    *mutex.get_mut() = ((1, 2), 3);
+    write_inner(&mutex);
+    watch.saw(&[Lock(Exclusive), UnlockFair(Exclusive)]);
+    let (raw, value) = mutex.into_inner_with_raw();
+    equal(value, ((1, 9), 3))?;
+    let mutex = Mutex::from_raw(raw, value.0)?;
+    equal(miss_and_write(&mutex), Some(5))?;
+    watch.saw(&[Lock(Exclusive), Unlock(Exclusive)]);
+    equal(mutex.into_inner(), (1, 8))?;
+    watch.saw(&[]);
+    watch.verdict()
+}
+
+#[test]
+fn guards_write_and_miss_parts(rt: HostRuntime) -> Result<(), Fail> {
+    check::<RawLock<Table>>(rt.alloc(), rt)
+}

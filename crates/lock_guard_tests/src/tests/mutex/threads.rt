@@ -1,0 +1,58 @@
+//! Threads that count behind a mutex, and wait for each other.
+use crate::tests::Word;
+use lock_guard::raw::RawMutex;
+use lock_mutex::{Condvar, Mutex};
+use lock_raws::{RawLock, SpuriousCondvar};
+use lock_test_support::raw_lock::AdmitsAll;
+use lock_test_support::{Count, add_in_four_threads};
+use std::test::Fail;
+use std::thread;
+
+/// A mutex that threads count behind.
+#[derive(Drop)]
+struct Counted<'a, R>(&'a Mutex<R, u64>);
+
+impl<R: RawMutex> Count for Counted<'_, R> {
+    type Waiter = R::Waiter;
+
+    fn add_one(&self) {
+        let mut count = self.0.lock();
+        *count = count.wrapping_add(1);
+    }
+}
+
+/// Waits until all threads came. Of two threads that wait for each other none ends if a wait holds the mutex.
+fn come_and_wait<R: RawMutex>(
+    mutex: &Mutex<R, u64>,
+    condvar: &Condvar<SpuriousCondvar<R>>,
+    all: u64,
+) {
+    let mut guard = mutex.lock();
+    *guard = guard.wrapping_add(1);
+    condvar.wait_while(&mut guard, |come| *come < all);
+}
+
+/// Over a raw lock that admits everyone, so that only the value's lock excludes the threads.
+#[test]
+fn four_threads_count_and_two_wait_for_each_other(rt: HostRuntime) -> Result<(), Fail> {
+    let counter: Mutex<AdmitsAll<HostRuntime>, u64> = Mutex::new(rt.alloc(), rt, 0)?;
+    add_in_four_threads(&rt, &Counted(&counter));
+    let condvar: Condvar<SpuriousCondvar<AdmitsAll<HostRuntime>>> = Condvar::new(rt.alloc())?;
+    thread::join(
+        &rt,
+        || come_and_wait(&counter, &condvar, 4_002),
+        || come_and_wait(&counter, &condvar, 4_002),
+    );
+    assert_eq!(rt; counter.into_inner(), 4_002);
+    Ok(())
+}
+
+#[test]
+fn four_threads_count_behind_a_word(rt: HostRuntime) -> Result<(), Fail> {
+    let counter: Mutex<RawLock<Word>, u64> = Mutex::new(rt.alloc(), rt, 0)?;
+    for _ in 0..10 {
+        add_in_four_threads(&rt, &Counted(&counter));
+    }
+    assert_eq!(rt; counter.into_inner(), 40_000);
+    Ok(())
+}

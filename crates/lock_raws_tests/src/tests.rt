@@ -1,0 +1,47 @@
+//! What no contract says of the raw locks.
+mod actions;
+mod cases;
+mod fair;
+mod foreign_tokens;
+mod held;
+mod markers;
+mod meeting;
+mod queue;
+mod real_time;
+mod recording;
+
+use lock_base::raw::Fault;
+use lock_guard::raw::RawRwLock;
+use lock_raws::{LockCore, Monitor, RawLock, TableArbiter};
+use lock_raws_word::{NoTime, WordCore};
+use std::alloc::Global;
+use std::test::Fail;
+
+/// The core of the raw lock over a table.
+type Table = Monitor<TableArbiter, HostRuntime>;
+
+/// The core of the raw lock on a word.
+type Word = WordCore<HostRuntime, NoTime>;
+
+/// A raw reader-writer lock, through the trait.
+pub fn raw_rwlock<C: LockCore>(
+    alloc: Global,
+    waiter: C::Waiter,
+    readers: u64,
+) -> Result<RawLock<C>, Fault> {
+    RawRwLock::new(alloc, waiter, readers)
+}
+
+#[test]
+fn threads_share_a_table(rt: HostRuntime) -> Result<(), Fail> {
+    let four = raw_rwlock::<Table>(rt.alloc(), rt, 4)?;
+    let one = raw_rwlock::<Table>(rt.alloc(), rt, 1)?;
+    cases::check(&rt, &four, &one)
+}
+
+#[test]
+fn threads_share_a_word(rt: HostRuntime) -> Result<(), Fail> {
+    let four = raw_rwlock::<Word>(rt.alloc(), rt, 4)?;
+    let one = raw_rwlock::<Word>(rt.alloc(), rt, 1)?;
+    cases::check(&rt, &four, &one)
+}

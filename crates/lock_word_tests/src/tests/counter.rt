@@ -1,0 +1,15 @@
+//! A counter behind a mutex under a rule.
+use lock_ruled::{Measure, RuledMutex, Tally, User};
+
+/// The measure of a counter: its value, which is what all users added.
+pub struct Count;
+
+impl Measure<u64> for Count {
+    ghost measure = { λ count. count };
+}
+
+/// A counter.
+pub type Counter = RuledMutex<u64, u64, Tally<Count>>;
+
+/// A user of a counter.
+pub type Adder = User<u64, u64>;
