@@ -26,7 +26,7 @@ try() {
 
 # wrong words get the usage line of the program, and compile nothing
 case "$name:$#:${1-}" in
-    lockreplay:1:table | lockreplay:1:word | lockreplay:1:steps | lockexplore:0: | lockexplore:1:lanes) ;;
+    lockreplay:1:table | lockreplay:1:word | lockreplay:1:steps | lockexplore:0: | lockexplore:1:lanes | lockexplore:1:svg) ;;
     *)
         sed -n 's/^const USAGE: &str = "\(.*\)";$/\1/p' "$root/crates/$name/src/main.rt" >&2
         exit 2

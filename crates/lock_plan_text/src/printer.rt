@@ -1,11 +1,13 @@
-//! From what a search found to the text of the answer, and to the drawing.
+//! From what a search found to the text of the answer, to the drawing, and to the picture.
 mod answer;
 mod cell;
 mod lanes;
 mod mark;
+mod picture;
 mod step;
 mod stop;
 mod words;
 
 pub use answer::write_answer;
 pub use lanes::write_drawing;
+pub use picture::picture;

@@ -3,18 +3,19 @@ ghost use Rattle.std.specs.Prelude.{◌≡◌, IfErr, IfOk, string_bytes};
 ghost use Rattle.std.specs.Io.KnownBytes.{Keeps};
 ghost use Rattle.lock_script.specs.Replays.{ReadsScript};
 ghost use Rattle.lock_plan_text.specs.PlanFaults.{IsPlanTextFault};
-ghost use Rattle.lockexplore.specs.PlanAnswers.{IsPlanAnswer, whole_text};
+ghost use Rattle.lockexplore.specs.PlanAnswers.{IsPlanAnswer, IsTextIn};
 ghost use Rattle.lockexplore.specs.Explorations.{AppendsPlanAnswer, ExplainsPlanFault, IsBeforePlanAnswer};
 
+use crate::arguments::Form;
 use crate::verdict::Verdict;
 use lock_plan::explore;
-use lock_plan_text::{NamedPlan, PlanTextFault, parse_plan, write_answer, write_drawing};
+use lock_plan_text::{NamedPlan, PlanTextFault, parse_plan, picture, write_answer, write_drawing};
 use lock_script::{put, read_script};
 use std::alloc::{AllocError, Global};
 use std::io::{Read, Write};
 use step_search::Searched;
 
-/// Reads a plan to its end, searches all its interleavings, and then writes the answer, and the drawing where asked.
+/// Reads a plan to its end, searches all its interleavings, and then writes the answer in this form.
 ///
 /// # Errors
 ///
@@ -23,19 +24,19 @@ use step_search::Searched;
 /// only of the bytes that it gave.
 pub(crate) fn explore_plan<R: Read, W: Write>(
     alloc: Global,
-    is_drawn: bool,
+    form: Form,
     reader: &mut R,
     writer: &mut W,
 ) -> Result<Verdict, PlanTextFault>
     ensures answered { IfOk result (λ verdict. ReadsScript (R.remaining reader.old) (R.remaining reader.new)
-        (λ script. AppendsPlanAnswer is_drawn script verdict (W.contents writer.old) (W.contents writer.new))) }
-    ensures told { IfErr result (ExplainsPlanFault is_drawn
+        (λ script. AppendsPlanAnswer form script verdict (W.contents writer.old) (W.contents writer.new))) }
+    ensures told { IfErr result (ExplainsPlanFault form
         (R.remaining reader.old) (R.remaining reader.new) (W.contents writer.old) (W.contents writer.new)) }
     ensures unwritten { IfErr result (λ fault.
         IsBeforePlanAnswer fault → Keeps (W.contents writer.old) (W.contents writer.new)) }
 {
     let script = read_script(alloc, reader)?;
-    let (verdict, text) = plan_answer(alloc, is_drawn, script.as_slice())?;
+    let (verdict, text) = plan_answer(alloc, form, script.as_slice())?;
     match put(text.as_str(), writer) {
         Ok(()) => Ok(verdict),
         Err(_) => Err(PlanTextFault::OutputFailed),
@@ -47,32 +48,31 @@ pub(crate) fn explore_plan<R: Read, W: Write>(
 /// # Errors
 ///
 /// Those of [`parse_plan`], then `OutOfMemory`.
-fn plan_answer(
-    alloc: Global,
-    is_drawn: bool,
-    script: &[u8],
-) -> Result<(Verdict, String), PlanTextFault>
-    ensures answer { IfOk result (λ answer. IsPlanAnswer is_drawn script.now answer.0 (string_bytes answer.1)) }
+fn plan_answer(alloc: Global, form: Form, script: &[u8]) -> Result<(Verdict, String), PlanTextFault>
+    ensures answer { IfOk result (λ answer. IsPlanAnswer form script.now answer.0 (string_bytes answer.1)) }
     ensures fault { IfErr result (IsPlanTextFault script.now) }
 {
     let named = parse_plan(alloc, script)?;
     let searched = explore(alloc, &named.plan)?;
-    let text = answer_of(alloc, is_drawn, &named, &searched)?;
+    let text = answer_of(alloc, form, &named, &searched)?;
     Ok((Verdict::of(&searched), text))
 }
 
-/// Returns the text of the answer to a plan, of what a search found.
+/// Returns the answer to a plan in a form, of what a search found.
 fn answer_of(
     alloc: Global,
-    is_drawn: bool,
+    form: Form,
     named: &NamedPlan,
     searched: &Searched,
 ) -> Result<String, AllocError>
-    ensures { IfOk result (λ text. string_bytes text ≡ whole_text is_drawn named.now searched.now.trace searched.now.visited) }
+    ensures { IfOk result (λ text. IsTextIn form named.now searched.now.trace searched.now.visited (string_bytes text)) }
 {
+    if form == Form::Svg {
+        return picture(alloc, &named.plan, &named.names, searched);
+    }
     let mut text = String::new(alloc);
     write_answer(alloc, &mut text, &named.plan, &named.names, searched)?;
-    if is_drawn {
+    if form == Form::Lanes {
         write_drawing(alloc, &mut text, &named.plan, &named.names, searched)?;
     }
     Ok(text)

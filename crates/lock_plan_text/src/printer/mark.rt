@@ -15,6 +15,36 @@ pub(crate) enum Mark {
     Announced,
 }
 
+impl Mark {
+    /// All marks.
+    pub(crate) const ALL: [Mark; 4] = [
+        Mark::Shared,
+        Mark::Exclusive,
+        Mark::Upgradable,
+        Mark::Announced,
+    ];
+
+    /// Returns the mark's word.
+    pub(crate) fn word(self) -> &'static str {
+        match self {
+            Mark::Shared => "shared",
+            Mark::Exclusive => "exclusive",
+            Mark::Upgradable => "upgradable",
+            Mark::Announced => "announced",
+        }
+    }
+
+    /// Returns whether a hold has the mark.
+    pub(crate) fn is_of(self, hold: Hold) -> bool {
+        match self {
+            Mark::Shared => hold.bag.shared > 0,
+            Mark::Exclusive => hold.bag.exclusive > 0,
+            Mark::Upgradable => hold.bag.upgradable > 0,
+            Mark::Announced => hold.announced,
+        }
+    }
+}
+
 /// A party that holds a lock, or a lock that a party holds, with the mode.
 #[derive(Clone, Copy)]
 pub(crate) struct Marked {

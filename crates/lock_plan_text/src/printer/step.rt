@@ -79,7 +79,7 @@ fn write_step(
 }
 
 /// Returns what a step does: the call, or an announcement for it.
-fn made_step(turn: Option<Turn>, step: LockStep) -> LockStep
+pub(crate) fn made_step(turn: Option<Turn>, step: LockStep) -> LockStep
     ensures { result ≡ made_step turn step }
 {
     match turn {
@@ -103,7 +103,7 @@ pub(crate) fn write_call(
 }
 
 /// Returns whether the lock with this number is a reader-writer lock.
-fn is_rwlock(plan: &Plan, lock: usize) -> bool
+pub(crate) fn is_rwlock(plan: &Plan, lock: usize) -> bool
     ensures { result ≡ is_rwlock (get_or plan.now.locks.items lock no_lock).kind }
 {
     match plan.locks().get(lock) {

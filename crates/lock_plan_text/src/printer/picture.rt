@@ -1,0 +1,158 @@
+//! Pictures: a column for each party, time downward, and a bar for each hold, as SVG.
+
+mod bars;
+mod layout;
+mod svg;
+mod waits;
+
+use crate::names::{Names, write_name};
+use crate::printer::mark::Mark;
+use crate::printer::step::{made_step, step, write_call};
+use crate::printer::stop::{is_refused, stop_word};
+use bars::write_bars;
+use itoa::Buffer;
+use layout::Layout;
+use lock_plan::{Plan, PlanCall};
+use std::alloc::{AllocError, Global};
+use step_search::Searched;
+use svg::{Spot, Svg};
+use waits::{draw_waits, write_stopped};
+
+/// Returns the answer to a plan as a picture in SVG.
+///
+/// It shows what [`write_answer`](crate::write_answer) says. A dot marks each step, a bar each hold from the step that
+/// acquires it, in a color of its mode. Below the last step, an arrow leads from each party that waits to each holder of
+/// the lock. The arrows of a circle of waiting parties are heavier. Names are expected to have no character that SVG
+/// reserves; those of [`parse_plan`](crate::parse_plan) have none. No contract names the bytes.
+pub fn picture(
+    alloc: Global,
+    plan: &Plan,
+    names: &Names,
+    searched: &Searched,
+) -> Result<String, AllocError> {
+    match &searched.trace {
+        None => picture_of_none(alloc, searched.visited),
+        Some(trace) => picture_of_run(plan, names, &Run::new(alloc, plan, trace.as_slice())?),
+    }
+}
+
+/// A run into a stop.
+#[derive(Drop)]
+pub(crate) struct Run<'a> {
+    alloc: Global,
+    /// The party of each step.
+    trace: &'a [usize],
+    /// The node before each step.
+    before: Vec<usize>,
+    /// The node after the last step.
+    last: usize,
+}
+
+impl<'a> Run<'a> {
+    ghost use Rattle.std.specs.Prelude.{◌≡◌};
+
+    fn new(alloc: Global, plan: &Plan, trace: &'a [usize]) -> Result<Run<'a>, AllocError> {
+        let mut before = Vec::new(alloc);
+        let mut node = plan.start();
+        for party in trace {
+            before.push(node)?;
+            node = step(plan, node, *party);
+        }
+        Ok(Run {
+            alloc,
+            trace,
+            before,
+            last: node,
+        })
+    }
+}
+
+/// The picture where nothing stops: its one line is the answer.
+fn picture_of_none(alloc: Global, visited: usize) -> Result<String, AllocError> {
+    let layout = Layout::of_none();
+    let mut svg = Svg::new(alloc, layout.width(), layout.height())?;
+    svg.open_text("name", layout.title())?;
+    svg.push_str("no deadlock, ")?;
+    svg.push_str(Buffer::new().format(visited))?;
+    svg.push_str(" states")?;
+    svg.close_text()?;
+    svg.finish()
+}
+
+fn picture_of_run(plan: &Plan, names: &Names, run: &Run) -> Result<String, AllocError> {
+    let layout = Layout::of_run(plan, names, run);
+    let mut svg = Svg::new(run.alloc, layout.width(), layout.height())?;
+    svg.text(
+        "name",
+        layout.title(),
+        stop_word(is_refused(plan, run.last)),
+    )?;
+    write_legend(&mut svg, &layout)?;
+    for party in 0..plan.parties() {
+        write_column(&mut svg, names, &layout, party)?;
+        write_bars(&mut svg, plan, names, run, &layout, party)?;
+    }
+    write_steps(&mut svg, plan, names, run, &layout)?;
+    for stopped in &plan.stopped(run.alloc, run.last)? {
+        write_stopped(&mut svg, plan, names, &layout, stopped)?;
+    }
+    draw_waits(&mut svg, plan, run, &layout)?;
+    svg.finish()
+}
+
+/// The name of a party, and its line.
+fn write_column(
+    svg: &mut Svg,
+    names: &Names,
+    layout: &Layout,
+    party: usize,
+) -> Result<(), AllocError> {
+    svg.line("life", layout.life(party, 0), layout.end(party))?;
+    svg.open_text("name", layout.head(party))?;
+    write_name(svg.inner(), names.parties.as_slice(), party)?;
+    svg.close_text()
+}
+
+/// A dot for each step, and the call beside it.
+fn write_steps(
+    svg: &mut Svg,
+    plan: &Plan,
+    names: &Names,
+    run: &Run,
+    layout: &Layout,
+) -> Result<(), AllocError> {
+    for (row, (node, party)) in run.before.iter().zip(run.trace).enumerate() {
+        if let Some(call) = call_of_step(plan, *node, *party) {
+            let row = row.saturating_add(1);
+            svg.dot(layout.life(*party, row))?;
+            svg.open_text("call", layout.beside(*party, row))?;
+            write_call(svg.inner(), plan, names, call)?;
+            svg.close_text()?;
+        }
+    }
+    Ok(())
+}
+
+/// Returns what the next step of a party does at a node: its call, or an announcement for it.
+fn call_of_step(plan: &Plan, node: usize, party: usize) -> Option<PlanCall> {
+    if party >= plan.parties() {
+        return None;
+    }
+    let call = plan.call(node, party)?;
+    let step = made_step(plan.turn(node, party), call.step);
+    Some(PlanCall { step, ..call })
+}
+
+/// What the colors mean.
+fn write_legend(svg: &mut Svg, layout: &Layout) -> Result<(), AllocError> {
+    for (place, mark) in Mark::ALL.iter().enumerate() {
+        let spot = layout.legend(place);
+        svg.rect(mark.word(), spot, Layout::BAR, Layout::BAR)?;
+        let beside = Spot {
+            x: spot.x.saturating_add(Layout::SLOT),
+            y: spot.y.saturating_add(Layout::BAR),
+        };
+        svg.text("call", beside, mark.word())?;
+    }
+    Ok(())
+}

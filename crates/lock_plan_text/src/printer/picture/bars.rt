@@ -1,0 +1,106 @@
+//! A bar for each hold.
+use crate::names::{Names, write_name};
+use crate::printer::mark::Mark;
+use crate::printer::picture::Run;
+use crate::printer::picture::layout::Layout;
+use crate::printer::picture::svg::{Spot, Svg};
+use lock_plan::Plan;
+use std::alloc::AllocError;
+
+/// Draws what a party holds, lock by lock and mode by mode.
+pub(crate) fn write_bars(
+    svg: &mut Svg,
+    plan: &Plan,
+    names: &Names,
+    run: &Run,
+    layout: &Layout,
+    party: usize,
+) -> Result<(), AllocError>
+    requires { party < length plan.now.parties.items }
+{
+    for lock in 0..plan.locks().len() {
+        for mark in &Mark::ALL {
+            write_bars_of(
+                svg,
+                plan,
+                names,
+                run,
+                layout,
+                Held {
+                    party,
+                    lock,
+                    mark: *mark,
+                },
+            )?;
+        }
+    }
+    Ok(())
+}
+
+/// What a bar stands for.
+#[derive(Clone, Copy)]
+struct Held {
+    party: usize,
+    lock: usize,
+    mark: Mark,
+}
+
+/// Draws a bar for each time in which a party holds a lock in a mode.
+fn write_bars_of(
+    svg: &mut Svg,
+    plan: &Plan,
+    names: &Names,
+    run: &Run,
+    layout: &Layout,
+    held: Held,
+) -> Result<(), AllocError>
+    requires { held.party < length plan.now.parties.items }
+{
+    let mut since = None;
+    for (row, node) in run.before.iter().enumerate() {
+        let is_held = held.mark.is_of(plan.hold(*node, held.party, held.lock));
+        match since {
+            None if is_held => since = Some(row),
+            Some(first) if !is_held => {
+                write_bar(svg, names, layout, held, first, row)?;
+                since = None;
+            }
+            _ => {}
+        }
+    }
+    let is_held = held.mark.is_of(plan.hold(run.last, held.party, held.lock));
+    let steps = run.before.len();
+    match since {
+        Some(first) if is_held => write_bar(svg, names, layout, held, first, layout.last_row()),
+        Some(first) => write_bar(svg, names, layout, held, first, steps),
+        None if is_held => write_bar(svg, names, layout, held, steps, layout.last_row()),
+        None => Ok(()),
+    }
+}
+
+/// Draws a bar between two rows, and the name of its lock where there is room.
+fn write_bar(
+    svg: &mut Svg,
+    names: &Names,
+    layout: &Layout,
+    held: Held,
+    first: usize,
+    end: usize,
+) -> Result<(), AllocError> {
+    let height = Layout::bar_height(end.saturating_sub(first));
+    let spot = layout.bar(held.party, held.lock, first);
+    svg.rect(held.mark.word(), spot, Layout::BAR, height)?;
+    let Some(name) = names.locks.get(held.lock) else {
+        return Ok(());
+    };
+    if name.len().saturating_mul(Layout::LETTER) > height {
+        return Ok(());
+    }
+    let start = Spot {
+        x: spot.x.saturating_add(3),
+        y: spot.y.saturating_add(4),
+    };
+    svg.open_text_down("lock", start)?;
+    write_name(svg.inner(), names.locks.as_slice(), held.lock)?;
+    svg.close_text()
+}
