@@ -1,7 +1,7 @@
 -- Each call keeps the held tokens compatible.
 use Rattle.std.proofs.Common.{◌≡◌, ◌↔◌, ℕ, ◌<◌, ◌≤◌, Bool, true, false, ◌&&◌, List, length, refl, sym, subst, ◌∙◌, arith, Option, Some, None, Result, Ok, Err}
 use Rattle.std.proofs.lemmas.Bool.{and_parts}
-use Rattle.std.specs.Prelude.{IsTrue, not, is_some, is_ok, IfSome, IfNone, IfOk, OnErr}
+use Rattle.std.specs.Prelude.{IsTrue, is_some, is_ok, IfSome, IfNone, IfOk, OnErr}
 use Rattle.lock_base.specs.declared.machine.mode.Mode.{Mode}
 use Rattle.lock_base.specs.declared.machine.mode_step.ModeStep.{ModeStep}
 use Rattle.lock_base.specs.declared.machine.bag.Bag.{Bag}
@@ -24,12 +24,12 @@ not_true false refuted = refl
 module _ {K : Type 0} where
   -- without room nothing is admitted
   pub full_admits_none : {ts : List (K × Mode)} {capacity readers : ℕ} {room : Bool} (mode : Mode) → IsLegalState ts capacity readers
-      → (IsTrue room ↔ (length ts < capacity)) → room ≡ false → (bar : Bool)
-      → false ≡ (not bar && admits readers (bag_of_tokens ts) mode)
-  full_admits_none {ts} {capacity} {readers} {room} mode legal fits full bar =
+      → (IsTrue room ↔ (length ts < capacity)) → room ≡ false → (passes : Bool)
+      → false ≡ (passes && admits readers (bag_of_tokens ts) mode)
+  full_admits_none {ts} {capacity} {readers} {room} mode legal fits full passes =
       let bag = bag_of_tokens ts in
-      not_true (not bar && admits readers bag mode) (λ passed.
-      let admitted = (and_parts (not bar) (admits readers bag mode) passed).1 in
+      not_true (passes && admits readers bag mode) (λ passed.
+      let admitted = (and_parts passes (admits readers bag mode) passed).1 in
       let one_more_legal = compatible_acquired readers bag mode legal.compatible admitted in
       let bound = compatible_within readers (one_more bag mode) legal.lawful.0 one_more_legal in
       let within : length ts < capacity = omega (arith, bound, tokens-one_more bag mode, tokens-bag_of_tokens ts, legal.as_many) in
@@ -56,16 +56,16 @@ module _ {K : Type 0} where
     lawful = subst IsLimit (sym limit) legal.lawful;
   }
 
-  pub admitted_legal : {old new : List (K × Mode)} {capacity capacity' readers readers' : ℕ} (bar : Bool) (mode : Mode) (result : Option K)
+  pub admitted_legal : {old new : List (K × Mode)} {capacity capacity' readers readers' : ℕ} (passes : Bool) (mode : Mode) (result : Option K)
       → IsLegalState old capacity readers
-      → is_some result ≡ (not bar && admits readers (bag_of_tokens old) mode)
+      → is_some result ≡ (passes && admits readers (bag_of_tokens old) mode)
       → IfSome result (λ token. Adds old new token mode) → IfNone result (new ≡ old)
       → capacity' ≡ capacity → readers' ≡ readers
       → IsLegalState new capacity' readers'
-  admitted_legal {old} {readers = readers} bar mode (Some token) legal admitted added same as_many limit =
-      let passed = and_parts (not bar) (admits readers (bag_of_tokens old) mode) (sym admitted) in
+  admitted_legal {old} {readers = readers} passes mode (Some token) legal admitted added same as_many limit =
+      let passed = and_parts passes (admits readers (bag_of_tokens old) mode) (sym admitted) in
       stepped legal (acquires readers mode passed.1 added) as_many limit
-  admitted_legal bar mode None legal admitted added same as_many limit = kept legal same as_many limit
+  admitted_legal passes mode None legal admitted added same as_many limit = kept legal same as_many limit
 
   -- where a token was looked for, which changed nothing, and given back
   pub given_back_legal : {first old new : List (K × Mode)} {capacity capacity' capacity'' readers readers' readers'' : ℕ} {token : K} (mode : Mode)

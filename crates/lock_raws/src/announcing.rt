@@ -1,5 +1,6 @@
 //! A waiting writer that keeps other threads out.
 ghost use Rattle.std.specs.Prelude.{◌≡◌, ◌&&◌, ◌||◌, not, false, is_some, IfSome, IfNone};
+ghost use Rattle.lock_base.specs.Bar.{passes_bar};
 ghost use Rattle.lock_base.specs.Modes.{admits};
 ghost use Rattle.lock_base.specs.declared.machine.mode.Mode.TheVariants.{Exclusive};
 ghost use Rattle.lock_base.specs.Tokens.{bag_of_tokens};
@@ -13,20 +14,21 @@ pub(crate) fn admit_or_announce<A: Arbiter>(
     arbiter: &mut A,
     announced: &mut bool,
 ) -> Option<A::Token>
-    ensures admitted { is_some result ≡ ((announced.old || not (A.bar arbiter.old))
+    ensures admitted { is_some result ≡ (passes_bar (A.bar arbiter.old) announced.old Exclusive
         && admits (A.reader_limit arbiter.old) (bag_of_tokens (A.tokens_out arbiter.old)) Exclusive) }
     ensures bar_ends { IfSome result (λ _. A.bar arbiter.new ≡ false) }
     ensures bar_stands { IfNone result
-        (A.bar arbiter.new ≡ (A.has_bars || (not announced.old && A.bar arbiter.old))) }
+        (A.bar arbiter.new ≡ (A.has_bars || A.bar arbiter.old)) }
     ensures same_caller { IfSome result (λ _. announced.new ≡ announced.old) }
     ensures announces { IfNone result
         (announced.new ≡ (announced.old || (A.has_bars && not (A.bar arbiter.old)))) }
 {
-    if *announced {
-        arbiter.withdraw();
-    }
-    let token = arbiter.admit(Mode::Exclusive);
-    if token.is_none() && arbiter.announce() {
+    let token = arbiter.admit_as(Mode::Exclusive, *announced);
+    if token.is_some() {
+        if *announced {
+            arbiter.withdraw();
+        }
+    } else if arbiter.announce() {
         *announced = true;
     }
     token

@@ -3,6 +3,7 @@ ghost use Rattle.std.specs.Prelude.{◌≡◌, ℕ, Bool, false, not, ◌&&◌, 
 ghost use Rattle.std.specs.Bool.{OnTrue, OnFalse};
 ghost use Rattle.lock_base.specs.declared.machine.mode.Mode.{Mode};
 ghost use Rattle.lock_base.specs.declared.machine.mode_step.ModeStep.{ModeStep};
+ghost use Rattle.lock_base.specs.Bar.{passes_bar};
 ghost use Rattle.lock_base.specs.Modes.{tokens, admits, may_become, is_move, AreCompatible};
 ghost use Rattle.lock_base.specs.Tokens.{bag_of_tokens, IsOutAs, Adds, Removes, Replaces};
 ghost use Rattle.lock_base.specs.Limits.{IsLimit, IsMakerFault};
@@ -105,15 +106,29 @@ pub trait Arbiter: Sized + Drop {
         ensures limit_kept { reader_limit self.new ≡ reader_limit self.old }
         ensures recorded { records self.old self.new None };
 
-    /// Acquires a token of the mode, if the mode is admitted and no bar is set.
-    fn admit(&mut self, mode: Mode) -> Option<Self::Token>
+    /// Acquires a token of the mode, if the mode is admitted and the bar lets the party pass. `is_own` says whether the
+    /// party set the bar.
+    fn admit_as(&mut self, mode: Mode, is_own: bool) -> Option<Self::Token>
         ensures admitted { is_some result
-            ≡ (not (bar self.old) && admits (reader_limit self.old) (bag_of_tokens (tokens_out self.old)) mode) }
+            ≡ (passes_bar (bar self.old) is_own mode && admits (reader_limit self.old) (bag_of_tokens (tokens_out self.old)) mode) }
         ensures added { IfSome result (λ token. Adds (tokens_out self.old) (tokens_out self.new) token mode) }
         ensures refused { IfNone result (tokens_out self.new ≡ tokens_out self.old) }
         ensures bar_kept { bar self.new ≡ bar self.old }
         ensures limit_kept { reader_limit self.new ≡ reader_limit self.old }
         ensures recorded { records self.old self.new (if is_some result then Some (ModeStep.Acquire mode) else None) };
+
+    /// Acquires a token of the mode, if the mode is admitted and no bar is set.
+    fn admit(&mut self, mode: Mode) -> Option<Self::Token>
+        ensures admitted { is_some result
+            ≡ (passes_bar (bar self.old) false mode && admits (reader_limit self.old) (bag_of_tokens (tokens_out self.old)) mode) }
+        ensures added { IfSome result (λ token. Adds (tokens_out self.old) (tokens_out self.new) token mode) }
+        ensures refused { IfNone result (tokens_out self.new ≡ tokens_out self.old) }
+        ensures bar_kept { bar self.new ≡ bar self.old }
+        ensures limit_kept { reader_limit self.new ≡ reader_limit self.old }
+        ensures recorded { records self.old self.new (if is_some result then Some (ModeStep.Acquire mode) else None) }
+    {
+        self.admit_as(mode, false)
+    }
 
     /// Releases a token. Returns whether it was held in the mode.
     fn give_back(&mut self, token: Self::Token, mode: Mode) -> bool

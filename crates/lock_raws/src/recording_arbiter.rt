@@ -120,8 +120,8 @@ impl<A: Arbiter> Arbiter for RecordingArbiter<A> {
         self.arbiter.withdraw();
     }
 
-    fn admit(&mut self, mode: Mode) -> Option<A::Token> {
-        let token = self.arbiter.admit(mode)?;
+    fn admit_as(&mut self, mode: Mode, is_own: bool) -> Option<A::Token> {
+        let token = self.arbiter.admit_as(mode, is_own)?;
         self.journal.write(ModeStep::Acquire(mode));
         Some(token)
     }

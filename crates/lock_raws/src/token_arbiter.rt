@@ -72,11 +72,11 @@ impl<S: ObservableState> Arbiter for TokenArbiter<S> {
         self.state.set_bar(false);
     }
 
-    fn admit(&mut self, mode: Mode) -> Option<S::Token> {
+    fn admit_as(&mut self, mode: Mode, is_own: bool) -> Option<S::Token> {
         if !self.state.room() {
             return None;
         }
-        self.state.admit(mode)
+        self.state.admit_as(mode, is_own)
     }
 
     fn give_back(&mut self, token: S::Token, mode: Mode) -> bool {

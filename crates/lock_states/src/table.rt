@@ -1,6 +1,5 @@
 //! A table of places, each free or taken in a mode.
 ghost use Rattle.std.specs.Prelude.{◌≡◌, ◌+◌, ◌<◌, ◌≤◌, ◌^◌, ◌&&◌, not, length, ◌↔◌, IsTrue, IfOk, IfErr, IfSome, IfNone, OnErr, is_some, is_ok};
-ghost use Rattle.lock_base.specs.Bar.{passes_bar};
 ghost use Rattle.lock_base.specs.Modes.{tokens, admits, may_become};
 ghost use Rattle.lock_base.specs.Tokens.{bag_of_tokens, IsOut, IsOutAs, Adds, Removes, CanChange, Replaces};
 ghost use Rattle.lock_states.specs.TableState.{tokens_of, KeepsLimits};
@@ -88,10 +87,9 @@ impl RawState for TokenTable {
         })
     }
 
-    fn admit_as(&mut self, mode: Mode, is_own: bool) -> Option<TableToken>
+    fn admit_ignoring_bar(&mut self, mode: Mode) -> Option<TableToken>
         requires { length (tokens_of self.old.places) < length self.old.places }
-        ensures admitted { is_some result
-            ≡ (passes_bar self.old.bar is_own mode && admits self.old.readers (bag_of_tokens (tokens_of self.old.places)) mode) }
+        ensures admitted { is_some result ≡ admits self.old.readers (bag_of_tokens (tokens_of self.old.places)) mode }
         ensures added { IfSome result (λ token.
             Adds (tokens_of self.old.places) (tokens_of self.new.places) token mode) }
         ensures refused { IfNone result (self.new ≡ self.old) }
@@ -99,7 +97,7 @@ impl RawState for TokenTable {
         ensures bar { self.new.bar ≡ self.old.bar }
         ensures count { self.new.count ≤ self.old.count + 3 }
     {
-        if !mode.passes_bar(self.bar, is_own) || !self.tally().admits(self.readers, mode) {
+        if !self.tally().admits(self.readers, mode) {
             return None;
         }
         let Some(place) = self.free else {

@@ -1,7 +1,6 @@
 //! A raw state in one number.
 ghost use Rattle.std.specs.Prelude.{◌≡◌, ◌↔◌, ◌<◌, ◌&&◌, false, not, IfOk, IfErr, IsOk, IsTrue, if◌then◌else◌};
 ghost use Rattle.lock_base.specs.Limits.{IsLimit};
-ghost use Rattle.lock_base.specs.Bar.{passes_bar};
 ghost use Rattle.lock_base.specs.Modes.{empty_bag, count_of, one_more, one_less, admits, may_become, is_move};
 
 use lock_base::machine::Mode;
@@ -44,12 +43,16 @@ impl Model for PackedWord {
 }
 
 impl PackedWord {
-    /// Acquires the mode, if it is admitted and the bar lets the party pass. The bar stays as it is.
-    fn acquire(&mut self, mode: Mode, is_own: bool) -> bool
-        ensures admitted { result ≡ (passes_bar self.old.bar is_own mode && admits self.old.readers self.old.bag mode) }
+    /// Acquires the mode, if it is admitted. The bar is ignored, and stays as it is.
+    fn acquire(&mut self, mode: Mode) -> bool
+        ensures admitted { result ≡ admits self.old.readers self.old.bag mode }
         ensures after { self.new ≡ if result then record self.old { bag = one_more self.old.bag mode } else self.old }
     {
-        let Some(next) = ExWant::of_mode(mode).exchanged(is_own, self.readers, self.word) else {
+        let Some(next) = ExWant::of_mode(mode).exchanged(
+            false,
+            self.readers,
+            with_bar(self.word, false),
+        ) else {
             return false;
         };
         self.word = with_bar(next, has_bar(self.word));
@@ -118,8 +121,8 @@ impl RawState for PackedWord {
     }
 
     #[tactic(auto, using(crate::proofs::PackedTokens::bag_of_tokens_in))]
-    fn admit_as(&mut self, mode: Mode, is_own: bool) -> Option<PackedToken> {
-        if !self.acquire(mode, is_own) {
+    fn admit_ignoring_bar(&mut self, mode: Mode) -> Option<PackedToken> {
+        if !self.acquire(mode) {
             return None;
         }
         Some(PackedToken { mode })

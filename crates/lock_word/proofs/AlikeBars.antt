@@ -12,10 +12,7 @@ use Rattle.lock_word.specs.BarLaws.{BarEncodingsAgree}
 -- where a bar stands, which is one's own or is not
 
 lets_own_pass : (own : Bool) (mode : Mode) → IsTrue (is_exclusive mode && own) ↔ StepPassesBar own 1 (Acquire mode)
-lets_own_pass true Exclusive = ((λ h. refl), (λ e. refl))
-lets_own_pass false Exclusive = ((λ h. cc), (λ e. cc))
-lets_own_pass own Shared = ((λ h. cc), (λ e. cc))
-lets_own_pass own Upgradable = ((λ h. cc), (λ e. cc))
+lets_own_pass own mode = ((λ h. h), (λ e. e))
 
 leaves_none : (announced : ℕ) (own : Bool) (mode : Mode) → IsTrue (is_exclusive mode && own)
     → 1 - bars_of (is_exclusive mode && own) ≡ bars_of (is_some (bar_after (Some announced) mode))

@@ -31,15 +31,11 @@ guards_of_bag limit all fits stands =
 abbrev pub GainsNoneOrUnbarred : ℕ → ℕ → Type 0
 GainsNoneOrUnbarred word new = (guards_of_word new ≤ guards_of_word word) ⊎ (new < 2 ^ 34)
 
-guards_after_want : (announced : Bool) (limit : ℕ) (all : BarredBag) (want : ExWant)
+guards_after_want : (announced : Bool) (limit : ℕ) (all : BarredBag) (want : ExWant) → IsLegalBarredBag limit all
     → PermitsLockStep announced limit all (step_of_want want)
     → (guards (barred_after announced all (step_of_want want)) ≤ guards all)
     ⊎ ((barred_after announced all (step_of_want want)).bars ≡ 0)
-guards_after_want announced limit all Shared p = let none = p.1 in inr (omega arith)
-guards_after_want announced limit all Exclusive p = let own = p.1 in inr (omega arith)
-guards_after_want announced limit all Upgradable p = let none = p.1 in inr (omega arith)
-guards_after_want announced limit all Upgrade p = let some = p.0.0 in inl (omega arith)
-guards_after_want announced limit all Announce p = inl (omega arith)
+guards_after_want x0 x1 x2 x3 x4 x5 = grind arith
 
 guards_after_down : (announced : Bool) (all : BarredBag) (d : Down) → Has all (step_of_down d)
     → guards (barred_after announced all (step_of_down d)) ≤ guards all
@@ -61,13 +57,13 @@ guards_of_exchange limit word ps k me want range rule at admits =
     let permitted = permits_of_rule limit word ps k me want range rule at admits in
     let stands = stands_after announced limit all (step_of_want want) range.0 rule.legal permitted in
     let new : word_after word want ≡ word_of after
-    = ap (λ w. word_after w want) rule.coded ∙ word_after_want announced limit all want permitted in
+    = ap (λ w. word_after w want) rule.coded ∙ word_after_want announced limit all want rule.legal permitted in
     let before : guards_of_word word ≡ guards all
     = ap guards_of_word rule.coded ∙ guards_of_bag limit all range.1 rule.legal in
     let now : guards_of_word (word_after word want) ≡ guards after
     = ap guards_of_word new ∙ guards_of_bag limit after range.1 stands in
     let bars = (parts_of_word limit after range.1 stands).bars in
-    elim (guards_after_want announced limit all want permitted) [
+    elim (guards_after_want announced limit all want rule.legal permitted) [
       | inl fewer ↦ inl (omega arith)
       | inr none ↦ inr (omega arith)
     ]

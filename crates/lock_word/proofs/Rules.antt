@@ -174,7 +174,7 @@ pub keeps_exchange : (limit word : ℕ) (ps : List WorldParty) (k : ℕ) (me : W
 keeps_exchange limit word ps k me want range rule at has admits =
     let permitted = permits_of_rule limit word ps k me want range rule at admits in
     keeps_won limit word (word_after word want) ps k me (step_of_want want) range.0 rule at has permitted
-    (ap (λ w. word_after w want) rule.coded ∙ word_after_want me.held.announced limit (held_by_all ps) want permitted)
+    (ap (λ w. word_after w want) rule.coded ∙ word_after_want me.held.announced limit (held_by_all ps) want rule.legal permitted)
 
 -- the sum of all holds has what one party has
 pub has_of_all : (ps : List WorldParty) (k : ℕ) (me : WorldParty) (s : LockStep) → slice_get ps k ≡ Some me

@@ -5,6 +5,7 @@ use Rattle.lock_base.specs.declared.machine.mode.Mode.{Mode}
 use Rattle.lock_base.specs.declared.machine.mode.Mode.TheVariants as mode
 use Rattle.lock_base.specs.Limits.{IsLimit}
 use Rattle.lock_base.specs.Modes.{tokens, admits}
+use Rattle.lock_base.specs.Bar.{passes_bar}
 use Rattle.lock_word.specs.declared.occupancy.Occupancy.{Occupancy}
 use Rattle.lock_word.specs.declared.want.ExWant.{ExWant}
 use Rattle.lock_word.specs.declared.want.ExWant.TheVariants.{Shared, Exclusive, Upgradable, Upgrade, Announce}
@@ -28,47 +29,26 @@ exchanges_unblock_nobody a limit word want own other range seen h awaited has af
 
 -- the four tests of `unblocks`, on a packed word
 
-or_false : (b : Bool) → (b || false) ≡ b
-or_false true = refl
-or_false false = refl
-
-or_true : (b : Bool) → (b || true) ≡ true
-or_true true = refl
-or_true false = refl
-
--- a reader may proceed if the word admits it
-reader_test : (limit word : ℕ) (m : Mode) → IsLimit limit → IsPacked limit word
-    → word_admits false limit word (want_of_mode m) ≡ ((not (is_barred (barred_bag_of_word word)) || false) && admits limit (barred_bag_of_word word).bag m)
-reader_test limit word m range p =
-    let all = barred_bag_of_word word in
-    ap (λ w. word_admits false limit w (want_of_mode m)) p.coded
-    ∙ (word_admits_mode limit all m range.1 p.legal ∙ ap (λ x. x && admits limit all.bag m) (sym (or_false (not (is_barred all)))))
+-- a party may proceed if the word admits the mode to it
+mode_test : (announced : Bool) (limit word : ℕ) (m : Mode) → IsLimit limit → IsPacked limit word
+    → word_admits announced limit word (want_of_mode m)
+    ≡ (passes_bar (is_barred (barred_bag_of_word word)) announced m && admits limit (barred_bag_of_word word).bag m)
+mode_test announced limit word m range p =
+    ap (λ w. word_admits announced limit w (want_of_mode m)) p.coded
+    ∙ word_admits_mode announced limit (barred_bag_of_word word) m range.1 p.legal
 
 shared_test : (limit word : ℕ) → IsLimit limit → IsPacked limit word
     → word_admits false limit word Shared ≡ may_proceed limit (occupancy_of_word word) mode.Shared
-shared_test limit word range p = reader_test limit word mode.Shared range p
+shared_test limit word range p = mode_test false limit word mode.Shared range p
 
 upgradable_test : (limit word : ℕ) → IsLimit limit → IsPacked limit word
     → word_admits false limit word Upgradable ≡ may_proceed limit (occupancy_of_word word) mode.Upgradable
-upgradable_test limit word range p = reader_test limit word mode.Upgradable range p
+upgradable_test limit word range p = mode_test false limit word mode.Upgradable range p
 
 -- a writer may proceed if the word admits it or would under the writer's own bar
 writer_test : (limit word : ℕ) → IsLimit limit → IsPacked limit word
     → word_admits true limit word Exclusive ≡ may_proceed limit (occupancy_of_word word) mode.Exclusive
-writer_test limit word range p =
-    let all = barred_bag_of_word word in
-    let coded = p.coded in
-    let one = p.legal.one_bar in
-    let same : word_admits true limit word Exclusive ≡ (tokens all.bag == 0)
-    = same_tests (word_admits true limit word Exclusive) (tokens all.bag == 0)
-    (λ h. elim (one_of word 0 (2 ^ 34) h) [
-      | inl e ↦ eq-eqb (tokens all.bag) 0 (omega arith)
-      | inr e ↦ eq-eqb (tokens all.bag) 0 (omega arith)
-    ])
-    (λ h.
-    let none = eqb-true (tokens all.bag) 0 h in
-    is_one_of word 0 (2 ^ 34) (elim (eq-zero-or-pos all.bars) [ inl free ↦ inl (omega arith) | inr barred ↦ inr (omega arith) ])) in
-    same ∙ ap (λ x. x && (tokens all.bag == 0)) (sym (or_true (not (is_barred all))))
+writer_test limit word range p = mode_test true limit word mode.Exclusive range p
 
 upgrade_test : (limit word : ℕ) → IsLimit limit → IsPacked limit word
     → word_admits false limit word Upgrade ≡ may_upgrade (occupancy_of_word word)

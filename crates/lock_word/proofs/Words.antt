@@ -5,6 +5,7 @@ use Rattle.lock_base.specs.declared.machine.bag.Bag.{Bag}
 use Rattle.lock_base.specs.declared.machine.mode.Mode.{Mode}
 use Rattle.lock_base.specs.declared.machine.lock_step.LockStep.{LockStep}
 use Rattle.lock_base.specs.Modes.{readers, tokens, admits, AreCompatible}
+use Rattle.lock_base.specs.Bar.{passes_bar}
 use Rattle.lock_word.specs.BarredBags.{BarredBag, is_barred, IsLegalBarredBag, bars_of, PermitsLockStep, barred_after}
 use Rattle.lock_word.specs.declared.want.ExWant.{ExWant}
 use Rattle.lock_word.specs.declared.down.Down.{Down}
@@ -52,11 +53,6 @@ one_of w a b h =
 pub is_one_of : (w a b : ℕ) → (w ≡ a) ⊎ (w ≡ b) → ((w == a) || (w == b)) ≡ true
 is_one_of x0 x1 x2 x3 = grind arith
 
--- an exclusive hold is admitted if nothing is held, with no bar but the party's own
-record IsFreeFor (announced : Bool) (all : BarredBag) : Type 0 where
-  none : tokens all.bag ≡ 0
-  own_bar : all.bars ≡ bars_of announced
-
 -- what the word admits is permitted
 pub permits_of_word : (announced : Bool) (limit : ℕ) (all : BarredBag) (want : ExWant) → limit < 2 ^ 32 → IsLegalBarredBag limit all
     → bars_of announced ≤ all.bars → IsTrue (word_admits announced limit (word_of all) want)
@@ -69,10 +65,10 @@ pub word_of_permits : (announced : Bool) (limit : ℕ) (all : BarredBag) (want :
 word_of_permits x0 x1 x2 x3 x4 x5 x6 = grind arith
 
 -- the word that the exchange puts encodes the state after the step
-pub word_after_want : (announced : Bool) (limit : ℕ) (all : BarredBag) (want : ExWant)
+pub word_after_want : (announced : Bool) (limit : ℕ) (all : BarredBag) (want : ExWant) → IsLegalBarredBag limit all
     → PermitsLockStep announced limit all (step_of_want want)
     → word_after (word_of all) want ≡ word_of (barred_after announced all (step_of_want want))
-word_after_want x0 x1 x2 x3 x4 = grind arith
+word_after_want x0 x1 x2 x3 x4 x5 = grind arith
 
 -- subtractions
 
@@ -98,15 +94,19 @@ same_tests true b f g = sym (f refl)
 same_tests false true f g = g refl
 same_tests false false f g = refl
 
--- to a party that has not announced itself, the word admits a mode if no bar is set and the bag admits it
-pub word_admits_mode : (limit : ℕ) (all : BarredBag) (m : Mode) → limit < 2 ^ 32 → IsLegalBarredBag limit all
-    → word_admits false limit (word_of all) (want_of_mode m) ≡ (not (is_barred all) && admits limit all.bag m)
-word_admits_mode x0 x1 x2 x3 x4 = grind arith
+-- the word admits a mode if the bar lets the party pass and the bag admits the mode
+pub word_admits_mode : (announced : Bool) (limit : ℕ) (all : BarredBag) (m : Mode) → limit < 2 ^ 32 → IsLegalBarredBag limit all
+    → word_admits announced limit (word_of all) (want_of_mode m) ≡ (passes_bar (is_barred all) announced m && admits limit all.bag m)
+word_admits_mode x0 x1 x2 x3 x4 x5 = grind arith
 
 -- laws
 
 pub exchanges_refine_steps : ExchangesRefineSteps
-exchanges_refine_steps x0 x1 x2 x3 x4 x5 x6 = grind arith
+exchanges_refine_steps announced limit all want range legal own =
+    record {
+      admits = (permits_of_word announced limit all want range.1 legal own, word_of_permits announced limit all want range.1 legal);
+      puts = word_after_want announced limit all want legal;
+    }
 
 pub subtractions_refine_steps : SubtractionsRefineSteps
 subtractions_refine_steps own all d part h =

@@ -1,6 +1,5 @@
 -- Bags with bars: what all parties hold together, and what each step needs and does.
-use Rattle.std.specs.Prelude.{◌≡◌, ℕ, ◌+◌, ◌-◌, ◌<◌, ◌≤◌, Bool, ◌&&◌, nat_lt, if◌then◌else◌, ⊤}
-use Rattle.lock_base.specs.declared.machine.mode.Mode.TheVariants.{Shared, Exclusive, Upgradable}
+use Rattle.std.specs.Prelude.{◌≡◌, ℕ, ◌+◌, ◌-◌, ◌<◌, ◌≤◌, Bool, ◌&&◌, nat_lt, if◌then◌else◌, IsTrue, ⊤}
 use Rattle.lock_base.specs.declared.machine.mode_step.ModeStep.{ModeStep}
 use Rattle.lock_base.specs.declared.machine.mode_step.ModeStep.TheVariants.{Acquire, Release, Change}
 use Rattle.lock_base.specs.declared.machine.bag.Bag.{Bag}
@@ -8,6 +7,7 @@ use Rattle.lock_base.specs.declared.machine.lock_step.LockStep.{LockStep}
 use Rattle.lock_base.specs.declared.machine.lock_step.LockStep.TheVariants.{Modes, Announce, Withdraw}
 use Rattle.lock_base.specs.Modes.{AreCompatible}
 use Rattle.lock_base.specs.ModeRuns.{Permits, bag_after}
+use Rattle.lock_base.specs.Bar.{passes_bar}
 use Rattle.lock_base.specs.Holds.{ends_bar}
 
 -- what all parties hold together, and how many of them have announced themselves
@@ -33,9 +33,7 @@ pub record IsLegalBarredBag (limit : ℕ) (all : BarredBag) : Type 0 where
 
 -- the bars let the step pass: a reader if none is set, a writer if none is set but its own
 abbrev pub StepPassesBar : Bool → ℕ → ModeStep → Type 0
-StepPassesBar announced bars (Acquire Shared) = bars ≡ 0
-StepPassesBar announced bars (Acquire Exclusive) = bars ≡ bars_of announced
-StepPassesBar announced bars (Acquire Upgradable) = bars ≡ 0
+StepPassesBar announced bars (Acquire mode) = IsTrue (passes_bar (nat_lt 0 bars) announced mode)
 StepPassesBar announced bars (Release mode) = ⊤
 StepPassesBar announced bars (Change from to) = ⊤
 

@@ -1,11 +1,12 @@
 -- Which waiters a step unblocks.
-use Rattle.std.specs.Prelude.{ℕ, Bool, not, ◌&&◌, ◌||◌}
+use Rattle.std.specs.Prelude.{ℕ, Bool, true, not, ◌&&◌, ◌||◌}
 use Rattle.lock_base.specs.declared.machine.mode.Mode.{Mode}
 use Rattle.lock_base.specs.declared.machine.mode.Mode.TheVariants.{Shared, Exclusive, Upgradable}
 use Rattle.lock_base.specs.declared.machine.mode_step.ModeStep.TheVariants.{Change}
 use Rattle.lock_base.specs.declared.machine.bag.Bag.{Bag}
-use Rattle.lock_base.specs.Modes.{admits, may_become, is_exclusive}
+use Rattle.lock_base.specs.Modes.{admits, may_become}
 use Rattle.lock_base.specs.ModeRuns.{has}
+use Rattle.lock_base.specs.Bar.{passes_bar}
 use Rattle.lock_word.specs.declared.occupancy.Occupancy.{Occupancy}
 use Rattle.lock_word.specs.BarredBags.{is_barred}
 use Rattle.lock_word.specs.Word.{bag_of_word, barred_bag_of_word}
@@ -20,7 +21,7 @@ occupancy_of_word word = occupancy (is_barred (barred_bag_of_word word)) (bag_of
 
 -- a waiter for the mode may proceed: under the bar only the writer that set it
 abbrev pub may_proceed : ℕ → Occupancy → Mode → Bool
-may_proceed limit now mode = (not now.barred || is_exclusive mode) && admits limit now.bag mode
+may_proceed limit now mode = passes_bar now.barred true mode && admits limit now.bag mode
 
 -- an upgradable token is held that may become exclusive
 abbrev pub may_upgrade : Occupancy → Bool

@@ -36,7 +36,7 @@ impl Occupancy {
         requires { tokens self.bag < 2 ^ 64 }
         ensures { result ≡ may_proceed readers self mode }
     {
-        (!self.barred || mode == Mode::Exclusive) && self.bag.admits(readers, mode)
+        mode.passes_bar(self.barred, true) && self.bag.admits(readers, mode)
     }
 
     /// Returns whether a waiter for an upgrade may proceed.

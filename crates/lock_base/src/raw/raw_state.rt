@@ -40,6 +40,17 @@ pub trait RawState: Sized + Drop {
         ensures capacity_kept { IfOk result (λ state. capacity state ≡ places) }
         ensures limit_kept { IfOk result (λ state. reader_limit state ≡ readers) };
 
+    /// Acquires a token of the mode, if the mode is admitted. The bar is ignored: the caller has decided whether it lets
+    /// the party pass.
+    fn admit_ignoring_bar(&mut self, mode: Mode) -> Option<Self::Token>
+        requires { length (tokens self.old) < capacity self.old }
+        ensures admitted { is_some result ≡ admits (reader_limit self.old) (bag_of_tokens (tokens self.old)) mode }
+        ensures added { IfSome result (λ token. Adds (tokens self.old) (tokens self.new) token mode) }
+        ensures refused { IfNone result (tokens self.new ≡ tokens self.old) }
+        ensures bar_kept { bar self.new ≡ bar self.old }
+        ensures capacity_kept { capacity self.new ≡ capacity self.old }
+        ensures limit_kept { reader_limit self.new ≡ reader_limit self.old };
+
     /// Acquires a token of the mode, if the mode is admitted and the bar lets the party pass. `is_own` says whether the
     /// party set the bar.
     fn admit_as(&mut self, mode: Mode, is_own: bool) -> Option<Self::Token>
@@ -50,7 +61,13 @@ pub trait RawState: Sized + Drop {
         ensures refused { IfNone result (tokens self.new ≡ tokens self.old) }
         ensures bar_kept { bar self.new ≡ bar self.old }
         ensures capacity_kept { capacity self.new ≡ capacity self.old }
-        ensures limit_kept { reader_limit self.new ≡ reader_limit self.old };
+        ensures limit_kept { reader_limit self.new ≡ reader_limit self.old }
+    {
+        if !mode.passes_bar(self.barred(), is_own) {
+            return None;
+        }
+        self.admit_ignoring_bar(mode)
+    }
 
     /// Acquires a token of the mode, if the mode is admitted and no bar is set.
     fn admit(&mut self, mode: Mode) -> Option<Self::Token>

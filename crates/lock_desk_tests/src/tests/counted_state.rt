@@ -32,8 +32,8 @@ impl<R: RawState> RawState for CountedState<R> {
         Ok(CountedState { raw, given_back: 0 })
     }
 
-    fn admit_as(&mut self, mode: Mode, is_own: bool) -> Option<R::Token> {
-        self.raw.admit_as(mode, is_own)
+    fn admit_ignoring_bar(&mut self, mode: Mode) -> Option<R::Token> {
+        self.raw.admit_ignoring_bar(mode)
     }
 
     fn give_back(&mut self, token: R::Token) {

@@ -29,8 +29,8 @@ returns-else-add_level-clause-admitted g c = λ places last slots b.
     let nested = sym (ap (λ t. is_reentrant t.kind) c.self.view_is) ∙ sym c.is_reentrant.ensures ∙ c.if-is_reentrant.true in
     admitted_level _ (id_of c.args.party) c.args.mode places last slots _ nested (sym c.if-add_level.false ∙ c.add_level.ensures.admitted) b
 
-pub admit_past_bar-requires : goal.admit_past_bar-requires
-admit_past_bar-requires g c =
+pub admit_ignoring_bar-requires : goal.admit_ignoring_bar-requires
+admit_ignoring_bar-requires g c =
     room_fits _ (sym c.is_reentrant.ensures ∙ c.if-is_reentrant.false) (subst (λ t. HasRoom t) (sym c.self.view_is) c.requires.room)
 
 pub returns-in_err-token-clause-admitted : goal.returns-in_err-token-clause-admitted
@@ -55,5 +55,5 @@ returns-clause-taken g c =
     let granted = c.in_ok-token.ensures.admitted
     ∙ ap (λ n. admits n (bag_of_tokens (g.R.RawState.tokens c.self.inside.raw)) c.args.mode) c.self.invariant in
     serves_token (id_of c.args.party) c.args.mode _ _ _ _ c.self.view_is alone
-    (record { kind = refl; limit = refl; capacity = c.admit_past_bar.ensures.capacity_kept; barred = c.admit_past_bar.ensures.bar_kept }) refl
+    (record { kind = refl; limit = refl; capacity = c.admit_ignoring_bar.ensures.capacity_kept; barred = c.admit_ignoring_bar.ensures.bar_kept }) refl
     (sym granted) c.in_ok-token.ensures.added

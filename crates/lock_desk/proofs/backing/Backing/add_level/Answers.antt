@@ -14,8 +14,8 @@ returns-then-is_owned-clause-admitted g c =
     c.again.ensures.more
     ∙ ap (λ t. may_add_level t.levels.limit (id_of c.args.party) t.levels.owner) c.self.view_is
 
-pub admit_past_bar-requires : goal.admit_past_bar-requires
-admit_past_bar-requires g c =
+pub admit_ignoring_bar-requires : goal.admit_ignoring_bar-requires
+admit_ignoring_bar-requires g c =
     let backed = subst (λ t. SameBag t.tokens (token_of_owner t.levels.owner)) (sym c.self.view_is) c.requires.backed in
     let none = no_owner _ _ (not_some c.self.inside.levels.owner (rw c.if-is_owned.false at c.is_owned.ensures.owned.1)) backed in
     rw none (subst (λ t. 0 < t.capacity) (sym c.self.view_is) c.requires.room)

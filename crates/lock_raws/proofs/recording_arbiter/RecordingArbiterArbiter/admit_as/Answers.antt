@@ -3,7 +3,7 @@ use Rattle.std.proofs.lemmas.Bool.{and_parts}
 use Rattle.lock_base.specs.declared.machine.mode_step.ModeStep.TheVariants.{Acquire}
 use Rattle.lock_base.proofs.TokenSteps.{acquires}
 use Rattle.lock_raws.proofs.JournalLemmas.{recording_stepped}
-use Rattle.lock_raws.proofs.recording_arbiter.RecordingArbiterArbiter.admit.Goals as goal
+use Rattle.lock_raws.proofs.recording_arbiter.RecordingArbiterArbiter.admit_as.Goals as goal
 
 pub invariant_of-self-2 : goal.invariant_of-self-2
 invariant_of-self-2 g c =
