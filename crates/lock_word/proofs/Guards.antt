@@ -4,7 +4,6 @@ use Rattle.lock_base.specs.Limits.{IsLimit}
 use Rattle.lock_base.specs.Modes.{readers}
 use Rattle.lock_base.specs.Holds.{hold_has}
 use Rattle.lock_word.specs.declared.want.ExWant.{ExWant}
-use Rattle.lock_word.specs.declared.want.ExWant.TheVariants.{Shared, Exclusive, Upgradable, Upgrade, Announce}
 use Rattle.lock_word.specs.declared.down.Down.{Down}
 use Rattle.lock_word.specs.declared.down.Down.TheVariants as down
 use Rattle.lock_word.specs.declared.party.WorldParty.{WorldParty}

@@ -1,5 +1,5 @@
 -- Which waiters a step unblocks: an exchange nobody, and a take nobody that `unblocks` does not find.
-use Rattle.std.proofs.Common.{◌≡◌, ℕ, not, ◌^◌, Bool, true, false, ◌&&◌, ◌||◌, ◌==◌, ◌⊎◌, inl, inr, IsTrue, refl, sym, ap, ◌∙◌, arith, eqb-true, ltb-true, lt-ltb, eq-eqb, nat_lt, eq-zero-or-pos}
+use Rattle.std.proofs.Common.{◌≡◌, ℕ, not, ◌^◌, Bool, true, false, ◌&&◌, ◌||◌, ◌==◌, ◌⊎◌, inl, inr, IsTrue, refl, sym, ap, ◌∙◌, arith, eqb-true, ltb-true, lt-ltb, eq-eqb, nat_lt}
 use Rattle.std.proofs.lemmas.Bool.{and_parts, and_from, or_parts, or_cases, or_left, false≢true}
 use Rattle.lock_base.specs.declared.machine.mode.Mode.{Mode}
 use Rattle.lock_base.specs.declared.machine.mode.Mode.TheVariants as mode

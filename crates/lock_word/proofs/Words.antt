@@ -1,5 +1,5 @@
 -- The word of a bag with a bar: it admits what they permit, and each step on it is the same step on them.
-use Rattle.std.proofs.Common.{◌≡◌, ℕ, not, ◌+◌, ◌%◌, ◌/◌, ◌^◌, ◌<◌, ◌≤◌, Bool, true, false, ◌&&◌, ◌||◌, ◌==◌, ◌⊎◌, inl, inr, IsTrue, refl, sym, ap, ◌∙◌, arith, eqb-true, ltb-true, lt-ltb, nat_lt, eq-zero-or-pos}
+use Rattle.std.proofs.Common.{◌≡◌, ℕ, ◌+◌, ◌%◌, ◌/◌, ◌^◌, ◌<◌, ◌≤◌, Bool, true, false, ◌&&◌, ◌||◌, ◌==◌, ◌⊎◌, inl, inr, IsTrue, refl, sym, ap, ◌∙◌, arith, eqb-true, ltb-true, lt-ltb, nat_lt, eq-zero-or-pos}
 use Rattle.std.proofs.lemmas.Bool.{and_parts, and_from}
 use Rattle.lock_base.specs.declared.machine.bag.Bag.{Bag}
 use Rattle.lock_base.specs.declared.machine.mode.Mode.{Mode}
