@@ -11,9 +11,9 @@ ghost use Rattle.lock_wake.specs.Calls.{ComesTo, MayBeAnnounced, Tried, won};
 use crate::call::Call;
 use crate::word_lock::WordLock;
 use crossbeam_utils::Backoff;
-use lock_seated::Attempt;
 use lock_sleepers::time_left;
 use lock_word::ExWant;
+use lock_word::seated::Attempt;
 use std::sync::Wait;
 use std::time::{Clock, Instant};
 

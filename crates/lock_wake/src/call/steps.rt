@@ -16,7 +16,7 @@ use crate::plays::{
     OpenCount, RestartEpochs, Take, WatchEpoch,
 };
 use crate::word_lock::{COUNT, EPOCH, WORD, WordLock};
-use lock_seated::Attempt;
+use lock_word::seated::Attempt;
 use lock_word::{Down, ExWant};
 use std::sync::Wait;
 use std::time::Duration;

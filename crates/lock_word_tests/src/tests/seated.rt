@@ -3,7 +3,8 @@ use crate::callers::{
     loaded_alone, loaded_beside_readers, loaded_under_own_bar, refused_beside_readers,
 };
 use lock_base::machine::Mode;
-use lock_seated::{Attempt, ExWant, SeatedLock};
+use lock_word::ExWant;
+use lock_word::seated::{Attempt, SeatedLock};
 use std::test::Fail;
 
 #[test]
