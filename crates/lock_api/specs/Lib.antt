@@ -51,9 +51,9 @@ pub use Rattle.lock_word.specs.Wakes
 pub use Rattle.lock_word.specs.WakeLaws
 pub use Rattle.lock_states.specs.TableState
 pub use Rattle.lock_states.specs.Packed
-pub use Rattle.lock_seated.specs.Seats
-pub use Rattle.lock_seated.specs.CallerView
-pub use Rattle.lock_seated.specs.Attempts
+pub use Rattle.lock_word.specs.Seats
+pub use Rattle.lock_word.specs.CallerView
+pub use Rattle.lock_word.specs.Attempts
 pub use Rattle.lock_wake.specs.WakeSeats
 pub use Rattle.lock_wake.specs.Calls as WordCalls
 pub use Rattle.lock_wake.specs.Own

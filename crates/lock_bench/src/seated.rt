@@ -6,7 +6,8 @@ ghost use Rattle.std.specs.Prelude.{◌≡◌};
 
 use crate::locks::{READERS, line};
 use lock_base::machine::Mode;
-use lock_seated::{Attempt, ExWant, Party, SeatedLock};
+use lock_word::ExWant;
+use lock_word::seated::{Attempt, Party, SeatedLock};
 use std::alloc::Global;
 use std::io;
 use std::sync::Wait;

@@ -24,7 +24,7 @@ use Rattle.lock_word.proofs.Distinct.{same_exchange, same_take}
 use Rattle.lock_word.proofs.Guards.{GainsNoneOrUnbarred, guards_of_exchange, guards_of_take}
 use Rattle.lock_word.proofs.Rules.{slice_set_same, amount_within, shows, fails_bounded}
 use Rattle.lock_word.proofs.Wakes.{state_at, each_step, at_rest, one_wakes}
-use Rattle.lock_seated.proofs.Keeps.{seat_at, still_guarded, subtracted, announced_before, few_held}
+use Rattle.lock_word.proofs.SeatKeeps.{seat_at, still_guarded, subtracted, announced_before, few_held}
 use Rattle.lock_wake.specs.declared.rule.WakeView.{WakeView}
 use Rattle.lock_wake.specs.WakeSeats.{sleepers_of, parties_of, Table, word_in, count_in, epoch_in, IsGuarded, IsKept, EveryStateForgetsNone}
 use Rattle.lock_wake.specs.Plays.{Self, self_after_load, self_after_win, self_after_loss, self_after_take, with_sleeper, Loads, Exchanges, Takes, CountsIn, CountsOut, LooksForSleepers, Closes, Opens, Watches, Notes, Ends, BeginsAnew}

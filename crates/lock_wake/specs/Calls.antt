@@ -16,8 +16,8 @@ use Rattle.lock_word.specs.Word.{step_of_want}
 use Rattle.lock_word.specs.Sleepers.{is_awaited, admits_to}
 use Rattle.lock_word.specs.Turns.{idle, with_load}
 use Rattle.lock_word.specs.Wakes.{with_watch, new_sleeper, after_exchange, view_after_load, watch_after_sleep}
-use Rattle.lock_seated.specs.declared.attempt.Attempt.{Attempt}
-use Rattle.lock_seated.specs.declared.attempt.Attempt.TheVariants.{Done, NotAdmitted, Changed}
+use Rattle.lock_word.specs.declared.seated.attempt.Attempt.{Attempt}
+use Rattle.lock_word.specs.declared.seated.attempt.Attempt.TheVariants.{Done, NotAdmitted, Changed}
 use Rattle.lock_wake.specs.declared.rule.WakeView.{WakeView}
 
 -- a word lock: its identity, and its limits

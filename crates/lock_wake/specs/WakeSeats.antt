@@ -12,7 +12,7 @@ use Rattle.lock_word.specs.Rule.{KeepsRule}
 use Rattle.lock_word.specs.Claims.{FailsAreBounded, BarIsOfOne}
 use Rattle.lock_word.specs.Sleepers.{states_of, NoneIsForgotten, IsAtRest, HaveLooked, SleepersAreRefused, FreeWordWakesOne}
 use Rattle.lock_word.specs.Wakes.{KeepsWakes, new_sleeper}
-use Rattle.lock_seated.specs.Seats.{GuardsDoNotGrow}
+use Rattle.lock_word.specs.Seats.{GuardsDoNotGrow}
 use Rattle.lock_wake.specs.declared.rule.WakeView.{WakeView}
 
 -- the view of a party that has done nothing yet

@@ -6,8 +6,8 @@ ghost use Rattle.lock_wake.specs.Calls.{IsTokenOf};
 use crate::call::WordToken;
 use crate::word_lock::WordLock;
 use lock_base::machine::Mode;
-use lock_seated::Attempt;
 use lock_word::ExWant;
+use lock_word::seated::Attempt;
 use std::sync::Wait;
 use std::time::{Clock, Instant};
 

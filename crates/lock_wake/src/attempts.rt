@@ -10,8 +10,9 @@ use crate::deadline::time_left;
 use crate::waits::Round;
 use crate::word_lock::WordLock;
 use crossbeam_utils::Backoff;
-use lock_seated::Attempt;
+use lock_word::seated::Attempt;
 use lock_word::ExWant;
+use lock_word::seated::Attempt;
 use std::sync::Wait;
 use std::time::{Clock, Instant};
 

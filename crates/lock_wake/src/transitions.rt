@@ -8,7 +8,7 @@ ghost use Rattle.lock_wake.specs.WakeSeats.{StandsUnderLaw};
 use crate::call::WordToken;
 use crate::word_lock::WordLock;
 use lock_base::machine::Mode;
-use lock_seated::Attempt;
+use lock_word::seated::Attempt;
 use lock_word::{Down, ExWant};
 use std::sync::Wait;
 use std::time::{Clock, Instant};

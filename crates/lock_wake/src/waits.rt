@@ -6,8 +6,8 @@ ghost use Rattle.lock_wake.specs.Calls.{CameBack, ComesTo, MayAttempt, MayWait, 
 
 use crate::call::Call;
 use crate::word_lock::WordLock;
-use lock_seated::Attempt;
 use lock_word::ExWant;
+use lock_word::seated::Attempt;
 use std::sync::Wait;
 use std::thread;
 use std::time::Duration;

@@ -12,3 +12,4 @@ pub mod Unblocking
 pub mod Mutex
 pub mod Wakes
 pub mod Distinct
+pub mod SeatKeeps

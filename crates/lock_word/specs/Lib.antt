@@ -11,3 +11,7 @@ pub mod Claims
 pub mod Sleepers
 pub mod Wakes
 pub mod WakeLaws
+pub mod Seats
+pub mod Plays
+pub mod CallerView
+pub mod Attempts

@@ -1,10 +1,12 @@
-//! The packed word: the modes that are held and the bar, in one number, with the atomic steps of parties on it.
+//! The packed word: the modes that are held and the bar, in one number, with the atomic steps of parties on it, and a
+//! lock of threads on one word (`seated`).
 #![tactic(auto)]
 
 mod down;
 mod laws;
 mod occupancy;
 mod party;
+pub mod seated;
 mod sleeper;
 mod step;
 mod want;

@@ -2,7 +2,8 @@
 ghost use Rattle.std.specs.Prelude.{◌≡◌, ◌+◌, ◌%◌, ◌<◌, ◌≤◌, ◌^◌, ◌⊎◌, true};
 ghost use Rattle.lock_word.specs.Word.{guards_of_word, readers_of_word};
 
-use lock_seated::{Attempt, ExWant, Party, SeatedLock};
+use lock_word::ExWant;
+use lock_word::seated::{Attempt, Party, SeatedLock};
 
 /// The word that an exclusive holder loads.
 pub fn loaded_alone(lock: &SeatedLock, party: &mut Party) -> u64

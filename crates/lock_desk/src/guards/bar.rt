@@ -41,10 +41,7 @@ impl<R: RawState> Guards<R> {
     pub(super) fn bar_lets_pass(&self, party: PartyId, mode: Mode) -> bool
         ensures { result ≡ bar_lets_pass self.now.bar (id_of party) mode }
     {
-        match self.bar {
-            Some(announced) => mode == Mode::Exclusive && announced == party,
-            None => true,
-        }
+        mode.passes_bar(self.is_barred(), self.has_announced(party))
     }
 
     // Clears the bar after an admitted exclusive acquisition.

@@ -1,10 +1,10 @@
 //! Every public type of the packed word, and of the locks on one, in a signature.
 use lock_api::{
-    AtomicStep, Attempt, CallStage, CountRule, Debt, Down, EventCount, ExWant, Hold, NoTime,
-    Notified, Occupancy, Outcome, PackedToken, PackedWord, Party, Place, Places, RealTime,
+    AtomicStep, Attempt, CallStage, CountRule, Debt, Down, EventCount, ExWant, Hold, LockStep,
+    NoTime, Notified, Occupancy, Outcome, PackedToken, PackedWord, Party, Place, Places, RealTime,
     Registered, SeatView, SeatedLock, SleeperView, SleepingCondvar, TimedCondvar, TimedRaw, Timing,
-    Wake, WakeLimits, WakeRule, WakeView, Watch, WordCore, WordLock, WordRaw, WordRule, LockStep,
-    WordToken, World, WorldParty,
+    Wake, WakeLimits, WakeRule, WakeView, Watch, WordCore, WordLock, WordRaw, WordRule, WordToken,
+    World, WorldParty,
 };
 use std::clone::Clone;
 use std::sync::Wait;

@@ -17,7 +17,7 @@ use crate::plays::{
 };
 use crate::sleepers::CLOSED_COUNT;
 use crate::word_lock::{COUNT, EPOCH, WORD, WordLock};
-use lock_seated::Attempt;
+use lock_word::seated::Attempt;
 use lock_word::{Down, ExWant};
 use std::sync::Wait;
 use std::time::Duration;

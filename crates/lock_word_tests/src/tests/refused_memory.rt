@@ -1,9 +1,9 @@
 //! Each call that allocates, with an allocation refused.
 use crate::tests::WRITER;
 use lock_base::raw::Fault;
-use lock_seated::{Attempt, ExWant, SeatedLock};
 use lock_states::world::World;
-use lock_word::{AtomicStep, ExWant as Wanted, Outcome};
+use lock_word::seated::{Attempt, SeatedLock};
+use lock_word::{AtomicStep, ExWant, ExWant as Wanted, Outcome};
 use std::test::Fail;
 
 #[test]

@@ -4,7 +4,8 @@ use crate::callers::{
 };
 use crate::tests::{BAR, UPGRADER, WRITER};
 use lock_base::machine::Mode;
-use lock_seated::{Attempt, ExWant, SeatedLock};
+use lock_word::ExWant;
+use lock_word::seated::{Attempt, SeatedLock};
 use std::test::Fail;
 
 #[test]

@@ -3,7 +3,8 @@ ghost use Rattle.std.specs.Prelude.{◌≡◌};
 
 use crate::tests::WRITER;
 use lock_base::machine::Mode;
-use lock_seated::{Attempt, ExWant, Party, SeatedLock};
+use lock_word::ExWant;
+use lock_word::seated::{Attempt, Party, SeatedLock};
 use std::hint::spin_loop;
 use std::sync::Wait;
 use std::sync::atomic::{AtomicBool, Ordering};

@@ -1,4 +1,0 @@
-pub mod Seats
-pub mod Plays
-pub mod CallerView
-pub mod Attempts
