@@ -1,6 +1,7 @@
 //! Scripts of calls, made on the shared locks over any raw lock and compared with the `Desk`.
 #![tactic(auto)]
 
+mod arc;
 mod call_log;
 mod comparison;
 mod deadline;
@@ -25,6 +26,7 @@ mod rw_guard;
 mod rwlock;
 mod script_run;
 
+pub use arc::{run_arc_mutex, run_arc_reentrant, run_arc_rwlock};
 pub use call_log::CallLog;
 pub use deadline::Deadline;
 pub use difference::Difference;

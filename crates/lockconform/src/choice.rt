@@ -1,6 +1,6 @@
 //! The words after the program's name.
 ghost use Rattle.std.specs.Prelude.{◌≡◌, ◌≢◌, ◌↔◌, IfNone, IfSome, codes};
-ghost use Rattle.lock_conform_run.specs.Choices.{HasWord, mistake_word};
+ghost use Rattle.lockconform.specs.Choices.{HasWord, mistake_word};
 
 use crate::words::{are_options, has};
 use lock_conform::ParkBy;
@@ -28,7 +28,7 @@ pub struct Choice {
 }
 
 impl Choice {
-    ghost use Rattle.lock_conform_run.specs.Choices.{IsChoice};
+    ghost use Rattle.lockconform.specs.Choices.{IsChoice};
 
     /// Returns what the words choose, or `None` for the usage line.
     pub fn of_words(words: &[String]) -> Option<Choice>
@@ -50,7 +50,7 @@ impl Choice {
 }
 
 impl RawChoice {
-    ghost use Rattle.lock_conform_run.specs.Choices.{raw_word};
+    ghost use Rattle.lockconform.specs.Choices.{raw_word};
 
     /// Returns the raw lock of a word.
     fn of_word(word: &str) -> Option<RawChoice>

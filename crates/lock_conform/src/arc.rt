@@ -1,6 +1,4 @@
-//! Scripts of calls, made on the shared locks by guards that own a reference to their lock.
-#![tactic(auto)]
-
+//! Scripts of calls, made by guards that own a reference to their lock.
 mod mutex;
 mod reentrant;
 mod rwlock;

@@ -1,7 +1,7 @@
 //! The line on a difference.
 ghost use Rattle.std.specs.Prelude.{◌≡◌, IfOk, string_bytes};
 ghost use Rattle.lock_script.specs.Answers.{reply_text};
-ghost use Rattle.lock_conform_run.specs.Differences.{difference_text};
+ghost use Rattle.lockconform.specs.Differences.{difference_text};
 
 use lock_base::machine::Reply;
 use lock_conform::Difference;

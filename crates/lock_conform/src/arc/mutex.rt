@@ -4,11 +4,17 @@ ghost use Rattle.lock_script.specs.Session.{HasLimits, replies_to};
 ghost use Rattle.lock_conform.specs.Makers.{IsRunFault, kind_of};
 ghost use Rattle.lock_conform.specs.Reports.{IsReport};
 
+use crate::call_log::CallLog;
+use crate::deadline::Deadline;
+use crate::driven::Driven;
+use crate::lines::Lines;
+use crate::operation::{ask, change};
+use crate::park_by::ParkBy;
+use crate::parts::run_parts;
+use crate::report::Report;
+use crate::script_run::run_on;
 use lock_base::machine::{Form, Kind, PartyId, Want, Way};
 use lock_base::raw::Fault;
-use lock_conform::{
-    CallLog, Deadline, Driven, Lines, ParkBy, Report, ask, change, run_on, run_parts,
-};
 use lock_guard::raw::{RawMutex, RawMutexFair, RawMutexTimed};
 use lock_mutex::{ArcMutexGuard, Mutex};
 use lock_script::{DeskScript, Pair, PairOp};

@@ -5,8 +5,10 @@ ghost use Rattle.lock_conform.specs.Reports.{IsReport};
 
 use crate::choice::{Choice, RawChoice};
 use lock_base::raw::{Fault, MAX_LIMIT};
-use lock_conform::{Deadline, Report, run_mutex, run_reentrant, run_rwlock};
-use lock_conform_arc::{run_arc_mutex, run_arc_reentrant, run_arc_rwlock};
+use lock_conform::{
+    Deadline, Report, run_arc_mutex, run_arc_reentrant, run_arc_rwlock, run_mutex, run_reentrant,
+    run_rwlock,
+};
 use lock_guard::raw::{
     RawMutex, RawMutexFair, RawMutexTimed, RawRwLock, RawRwLockTimed, RawRwLockUpgradeDowngrade,
     RawRwLockUpgradeFair, RawRwLockUpgradeTimed,

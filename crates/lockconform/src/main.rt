@@ -17,7 +17,7 @@ use std::rt::Env;
 use std::{env, io};
 
 const USAGE: &str =
-    "usage: lock_conform_run word|table|timed|recording|fair|timed_fair|MISTAKE [within] [arc] [calls]";
+    "usage: lockconform word|table|timed|recording|fair|timed_fair|MISTAKE [within] [arc] [calls]";
 
 fn main(rt: HostRuntime) -> ExitCode {
     let choice = match chosen(&rt) {
