@@ -13,7 +13,7 @@ pub enum Mistake {
     KeptToken,
     /// A fair release keeps the token.
     FairKeptToken,
-    /// A bump of an exclusive token is only a release.
+    /// A bump of an exclusive token is only a release, and one of a shared token only an acquisition.
     HalfBump,
     /// A timed try is refused.
     TimedRefusal,

@@ -23,6 +23,14 @@ impl<R> WrongRaw<R> {
     pub(crate) fn makes(&self, mistake: Mistake) -> bool {
         self.mistake == mistake
     }
+
+    /// Returns `None` if the mistake is to refuse timed tries.
+    pub(crate) fn takes_timed_tries(&self) -> Option<()> {
+        if self.makes(Mistake::TimedRefusal) {
+            return None;
+        }
+        Some(())
+    }
 }
 
 impl<R: RawMutex> RawMutex for WrongRaw<R>
@@ -96,16 +104,12 @@ where
     type Instant = R::Instant;
 
     fn try_lock_for(&self, timeout: R::Duration) -> Option<Option<R::Guard>> {
-        if self.makes(Mistake::TimedRefusal) {
-            return None;
-        }
+        self.takes_timed_tries()?;
         Some(Some(self.raw.try_lock_for(timeout)?))
     }
 
     fn try_lock_until(&self, deadline: R::Instant) -> Option<Option<R::Guard>> {
-        if self.makes(Mistake::TimedRefusal) {
-            return None;
-        }
+        self.takes_timed_tries()?;
         Some(Some(self.raw.try_lock_until(deadline)?))
     }
 }

@@ -97,6 +97,10 @@ where
     }
 
     fn bump_shared(&self, token: R::SharedGuard) -> R::SharedGuard {
+        if self.makes(Mistake::HalfBump) {
+            drop(token);
+            return self.raw.lock_shared();
+        }
         self.raw.bump_shared(token)
     }
 
@@ -133,24 +137,22 @@ where
     type Instant = R::Instant;
 
     fn try_lock_shared_for(&self, timeout: R::Duration) -> Option<R::SharedGuard> {
-        if self.makes(Mistake::TimedRefusal) {
-            return None;
-        }
+        self.takes_timed_tries()?;
         self.raw.try_lock_shared_for(timeout)
     }
 
     fn try_lock_shared_until(&self, deadline: R::Instant) -> Option<R::SharedGuard> {
-        if self.makes(Mistake::TimedRefusal) {
-            return None;
-        }
+        self.takes_timed_tries()?;
         self.raw.try_lock_shared_until(deadline)
     }
 
     fn try_lock_exclusive_for(&self, timeout: R::Duration) -> Option<Option<R::ExclusiveGuard>> {
+        self.takes_timed_tries()?;
         Some(Some(self.raw.try_lock_exclusive_for(timeout)?))
     }
 
     fn try_lock_exclusive_until(&self, deadline: R::Instant) -> Option<Option<R::ExclusiveGuard>> {
+        self.takes_timed_tries()?;
         Some(Some(self.raw.try_lock_exclusive_until(deadline)?))
     }
 }
@@ -199,9 +201,12 @@ impl<R: RawRwLockUpgradeFair> RawRwLockUpgradeFair for WrongRaw<R>
 where
     R::SharedGuard: Drop,
     R::ExclusiveGuard: Drop,
+    R::UpgradableGuard: Drop,
 {
     fn unlock_upgradable_fair(&self, token: R::UpgradableGuard) {
-        self.raw.unlock_upgradable_fair(token);
+        if !self.makes(Mistake::FairKeptToken) {
+            self.raw.unlock_upgradable_fair(token);
+        }
     }
 
     fn bump_upgradable(&self, token: R::UpgradableGuard) -> R::UpgradableGuard {
@@ -232,10 +237,12 @@ where
     R::ExclusiveGuard: Drop,
 {
     fn try_lock_upgradable_for(&self, timeout: R::Duration) -> Option<R::UpgradableGuard> {
+        self.takes_timed_tries()?;
         self.raw.try_lock_upgradable_for(timeout)
     }
 
     fn try_lock_upgradable_until(&self, deadline: R::Instant) -> Option<R::UpgradableGuard> {
+        self.takes_timed_tries()?;
         self.raw.try_lock_upgradable_until(deadline)
     }
 
@@ -244,6 +251,9 @@ where
         token: R::UpgradableGuard,
         timeout: R::Duration,
     ) -> Result<Option<R::ExclusiveGuard>, R::UpgradableGuard> {
+        if self.makes(Mistake::TimedRefusal) {
+            return Err(token);
+        }
         Ok(Some(self.raw.try_upgrade_for(token, timeout)?))
     }
 
@@ -252,6 +262,9 @@ where
         token: R::UpgradableGuard,
         deadline: R::Instant,
     ) -> Result<Option<R::ExclusiveGuard>, R::UpgradableGuard> {
+        if self.makes(Mistake::TimedRefusal) {
+            return Err(token);
+        }
         Ok(Some(self.raw.try_upgrade_until(token, deadline)?))
     }
 }
