@@ -10,8 +10,9 @@ use crate::line::Line;
 use crate::lines::Lines;
 use crate::park_by::ParkBy;
 use crate::report::Report;
-use lock_base::machine::{Call, Form, PartyId, Reply, Way};
+use lock_base::machine::{Call, Form, PartyId, Reply, Want, Way};
 use lock_base::raw::Fault;
+use lock_script::PairOp;
 use std::alloc::{AllocError, Global};
 
 #[tactic(auto, using(crate::proofs::Answered::all_answered))]
@@ -180,19 +181,16 @@ fn make_line<D: Driven>(
     guards: &mut Guards<D::Guard>,
     line: Line,
 ) -> Result<Reply<i64>, AllocError> {
-    match line.call {
-        Call::Acquire(want, form, party) => match driven.acquire(want, line.form(form), party) {
-            Some(guard) => Ok(Reply::Guard(guards.add(guard)?)),
-            None => Ok(line.not_admitted()),
+    let reply = match line.made() {
+        Call::Acquire(want, form, party) => match acquire(driven, want, form, party)? {
+            Some(guard) => Reply::Guard(guards.add(guard)?),
+            None => Reply::NoGuard,
         },
-        Call::Resume(party, number) => Ok(resume(driven, guards, line, party, number)),
+        Call::Resume(party, number) => resume(driven, guards, line.resume_form(), party, number)?,
         Call::Abandon(_, number) => {
             guards.take(number);
-            Ok(Reply::Done)
+            Reply::Done
         }
-        Call::IsLocked => Ok(Reply::Bool(driven.is_locked())),
-        Call::IsLockedExclusive => Ok(Reply::Bool(driven.is_locked_exclusive())),
-        Call::IsOwnedBy(party) => Ok(Reply::Bool(driven.is_owned_by(party))),
         Call::Unlock(_, number, _)
         | Call::Park(_, number)
         | Call::ParkFair(_, number)
@@ -202,10 +200,23 @@ fn make_line<D: Driven>(
         | Call::DowngradeToUpgradable(_, number)
         | Call::WithUpgraded(_, _, number, _)
         | Call::Get(_, number, _)
-        | Call::Change(_, number, _) => Ok(make_on_guard(driven, guards, line, number)),
-        Call::Announce(_) | Call::Withdraw(_) | Call::IsBarred | Call::Spent => {
-            Ok(Reply::Refused(Fault::WrongKind))
-        }
+        | Call::Change(_, number, _) => make_on_guard(driven, guards, line.made(), number),
+        call => driven.call_lock(call),
+    };
+    Ok(line.told(reply))
+}
+
+/// Acquires the lock, or returns `None` if the lock refuses.
+fn acquire<D: Driven>(
+    driven: &D,
+    want: Want,
+    form: Form,
+    party: PartyId,
+) -> Result<Option<D::Guard>, AllocError> {
+    match driven.acquire(want, form, party) {
+        Ok(guard) => Ok(Some(guard)),
+        Err(Fault::OutOfMemory) => Err(AllocError),
+        Err(_) => Ok(None),
     }
 }
 
@@ -213,21 +224,21 @@ fn make_line<D: Driven>(
 fn resume<D: Driven>(
     driven: &D,
     guards: &mut Guards<D::Guard>,
-    line: Line,
+    form: Form,
     party: PartyId,
     number: u64,
-) -> Reply<i64> {
+) -> Result<Reply<i64>, AllocError> {
     let Slot::Parked(want) = guards.take(number) else {
-        return Reply::Refused(Fault::UnknownGuard);
+        return Ok(Reply::Refused(Fault::UnknownGuard));
     };
-    match driven.acquire(want, line.form(Form::Block), party) {
+    match acquire(driven, want, form, party)? {
         Some(guard) => {
             guards.put(number, Slot::Held(guard));
-            Reply::Done
+            Ok(Reply::Done)
         }
         None => {
             guards.put(number, Slot::Parked(want));
-            line.not_admitted()
+            Ok(Reply::NoGuard)
         }
     }
 }
@@ -236,59 +247,26 @@ fn resume<D: Driven>(
 fn make_on_guard<D: Driven>(
     driven: &D,
     guards: &mut Guards<D::Guard>,
-    line: Line,
+    call: Call<PairOp>,
     number: u64,
 ) -> Reply<i64> {
     let Some(guard) = guards.take_held(number) else {
         return Reply::Refused(Fault::UnknownGuard);
     };
-    let (slot, reply) = on_guard(driven, guard, line);
-    guards.put(number, slot);
-    reply
-}
-
-/// Makes a call on a guard, and returns what became of the guard, and the reply.
-fn on_guard<D: Driven>(driven: &D, guard: D::Guard, line: Line) -> (Slot<D::Guard>, Reply<i64>) {
-    match line.call {
+    let (slot, reply) = match call {
         Call::Unlock(_, _, way) => {
             driven.release(guard, way);
             (Slot::Gone, Reply::Done)
         }
         Call::Park(_, _) => (park(driven, guard, Way::Plain), Reply::Done),
         Call::ParkFair(_, _) => (park(driven, guard, Way::Fair), Reply::Done),
-        Call::Bump(_, _) => (Slot::Held(driven.bump(guard)), Reply::Done),
-        Call::Upgrade(form, _, _) => {
-            let (guard, is_upgraded) = driven.upgrade(line.form(form), guard);
-            let reply = if is_upgraded {
-                Reply::Done
-            } else {
-                line.not_admitted()
-            };
+        call => {
+            let (guard, reply) = driven.call_guard(guard, call);
             (Slot::Held(guard), reply)
         }
-        Call::Downgrade(_, _) => (Slot::Held(driven.downgrade(guard)), Reply::Done),
-        Call::DowngradeToUpgradable(_, _) => (
-            Slot::Held(driven.downgrade_to_upgradable(guard)),
-            Reply::Done,
-        ),
-        Call::WithUpgraded(form, _, _, operation) => {
-            let (guard, answer) = driven.with_upgraded(line.form(form), guard, operation);
-            let reply = match answer {
-                Some(item) => item_reply(item),
-                None => line.not_admitted(),
-            };
-            (Slot::Held(guard), reply)
-        }
-        Call::Get(_, _, operation) => {
-            let (guard, item) = driven.get(guard, operation);
-            (Slot::Held(guard), item_reply(item))
-        }
-        Call::Change(_, _, operation) => {
-            let (guard, item) = driven.change(guard, operation);
-            (Slot::Held(guard), item_reply(item))
-        }
-        _ => (Slot::Held(guard), Reply::Refused(Fault::WrongKind)),
-    }
+    };
+    guards.put(number, slot);
+    reply
 }
 
 /// Releases a guard that is acquired again later.
@@ -296,12 +274,4 @@ fn park<D: Driven>(driven: &D, guard: D::Guard, way: Way) -> Slot<D::Guard> {
     let want = driven.want(&guard);
     driven.release(guard, way);
     Slot::Parked(want)
-}
-
-/// Returns the reply of an operation, which may not fit.
-fn item_reply(item: Option<i64>) -> Reply<i64> {
-    match item {
-        Some(item) => Reply::Answer(item),
-        None => Reply::Refused(Fault::NoFocus),
-    }
 }
