@@ -8,7 +8,7 @@ use crate::deadline::Deadline;
 use crate::driven::{Driven, unlocked};
 use crate::operation::{ask, change};
 use crate::park_by::ParkBy;
-use crate::parts::{RunParts, run_parts};
+use crate::parts::run_parts;
 use crate::report::Report;
 use crate::script_run::run_on;
 use lock_base::machine::{Call, Form, Kind, PartyId, Reply, Want, Way};
@@ -35,14 +35,15 @@ where
     ensures report { IfOk result
         (IsReport script.calls.items (replies_to script.maker script.calls.items)) }
 {
-    let RunParts {
-        raw,
-        pair,
-        log,
-        lines,
-    } = run_parts(alloc, Kind::Mutex, raw, script)?;
-    let lock = Mutex::from_raw(raw, pair)?;
-    let report = run_on(alloc, &BorrowingMutex { lock: &lock }, log, lines, park_by)?;
+    let parts = run_parts(alloc, Kind::Mutex, raw, script)?;
+    let lock = Mutex::from_raw(parts.raw, parts.pair)?;
+    let report = run_on(
+        alloc,
+        &BorrowingMutex { lock: &lock },
+        parts.log,
+        parts.lines,
+        park_by,
+    )?;
     Ok(report)
 }
 

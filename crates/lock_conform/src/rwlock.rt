@@ -8,7 +8,7 @@ use crate::deadline::Deadline;
 use crate::driven::{Driven, unlocked};
 use crate::operation::{ask, change};
 use crate::park_by::ParkBy;
-use crate::parts::{RunParts, run_parts};
+use crate::parts::run_parts;
 use crate::report::Report;
 use crate::rw_guard::{RwGuard, in_each_mode};
 use crate::script_run::run_on;
@@ -41,14 +41,15 @@ where
     ensures report { IfOk result
         (IsReport script.calls.items (replies_to script.maker script.calls.items)) }
 {
-    let RunParts {
-        raw,
-        pair,
-        log,
-        lines,
-    } = run_parts(alloc, Kind::RwLock, raw, script)?;
-    let lock = RwLock::from_raw(raw, pair)?;
-    let report = run_on(alloc, &BorrowingRwLock { lock: &lock }, log, lines, park_by)?;
+    let parts = run_parts(alloc, Kind::RwLock, raw, script)?;
+    let lock = RwLock::from_raw(parts.raw, parts.pair)?;
+    let report = run_on(
+        alloc,
+        &BorrowingRwLock { lock: &lock },
+        parts.log,
+        parts.lines,
+        park_by,
+    )?;
     Ok(report)
 }
 

@@ -10,7 +10,7 @@ use crate::driven::{Driven, unlocked};
 use crate::lines::Lines;
 use crate::operation::{ask, change};
 use crate::park_by::ParkBy;
-use crate::parts::{RunParts, run_parts};
+use crate::parts::run_parts;
 use crate::report::Report;
 use crate::script_run::run_on;
 use lock_base::machine::{Call, Form, Kind, PartyId, Reply, Want, Way};
@@ -38,17 +38,12 @@ where
     ensures report { IfOk result
         (IsReport script.calls.items (replies_to script.maker script.calls.items)) }
 {
-    let RunParts {
-        raw,
-        pair,
-        log,
-        lines,
-    } = run_parts(alloc, Kind::Mutex, raw, script)?;
-    let lock = Mutex::from_raw(raw, pair)?;
+    let parts = run_parts(alloc, Kind::Mutex, raw, script)?;
+    let lock = Mutex::from_raw(parts.raw, parts.pair)?;
     let Ok(lock) = Arc::new(alloc, lock) else {
         return Err(Fault::OutOfMemory);
     };
-    let report = OwningMutex { lock }.run(alloc, log, lines, park_by)?;
+    let report = OwningMutex { lock }.run(alloc, parts.log, parts.lines, park_by)?;
     Ok(report)
 }
 

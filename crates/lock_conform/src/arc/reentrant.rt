@@ -8,7 +8,7 @@ use crate::deadline::Deadline;
 use crate::driven::Driven;
 use crate::operation::ask;
 use crate::park_by::ParkBy;
-use crate::parts::{RunParts, run_parts};
+use crate::parts::run_parts;
 use crate::report::Report;
 use crate::script_run::run_on;
 use lock_base::machine::{Call, Form, Kind, PartyId, Reply, Want, Way};
@@ -37,17 +37,18 @@ where
     ensures report { IfOk result
         (IsReport script.calls.items (replies_to script.maker script.calls.items)) }
 {
-    let RunParts {
-        raw,
-        pair,
-        log,
-        lines,
-    } = run_parts(alloc, Kind::Reentrant, raw, script)?;
-    let lock = ReentrantMutex::from_raw(alloc, raw, pair)?;
+    let parts = run_parts(alloc, Kind::Reentrant, raw, script)?;
+    let lock = ReentrantMutex::from_raw(alloc, parts.raw, parts.pair)?;
     let Ok(lock) = Arc::new(alloc, lock) else {
         return Err(Fault::OutOfMemory);
     };
-    let report = run_on(alloc, &OwningReentrant { lock }, log, lines, park_by)?;
+    let report = run_on(
+        alloc,
+        &OwningReentrant { lock },
+        parts.log,
+        parts.lines,
+        park_by,
+    )?;
     Ok(report)
 }
 

@@ -10,7 +10,7 @@ use crate::driven::{Driven, unlocked};
 use crate::lines::Lines;
 use crate::operation::{ask, change};
 use crate::park_by::ParkBy;
-use crate::parts::{RunParts, run_parts};
+use crate::parts::run_parts;
 use crate::report::Report;
 use crate::rw_guard::{RwGuard, in_each_mode};
 use crate::script_run::run_on;
@@ -45,17 +45,12 @@ where
     ensures report { IfOk result
         (IsReport script.calls.items (replies_to script.maker script.calls.items)) }
 {
-    let RunParts {
-        raw,
-        pair,
-        log,
-        lines,
-    } = run_parts(alloc, Kind::RwLock, raw, script)?;
-    let lock = RwLock::from_raw(raw, pair)?;
+    let parts = run_parts(alloc, Kind::RwLock, raw, script)?;
+    let lock = RwLock::from_raw(parts.raw, parts.pair)?;
     let Ok(lock) = Arc::new(alloc, lock) else {
         return Err(Fault::OutOfMemory);
     };
-    let report = OwningRwLock { lock }.run(alloc, log, lines, park_by)?;
+    let report = OwningRwLock { lock }.run(alloc, parts.log, parts.lines, park_by)?;
     Ok(report)
 }
 
