@@ -74,26 +74,27 @@ where
     type Guard = Guard<'a, R>;
 
     fn acquire(&self, want: Want, form: Form, _party: PartyId) -> Result<Self::Guard, Fault> {
-        Ok(match (want, form) {
-            (Want::Lock, _) => return Err(Fault::WrongKind),
-            (Want::Read, Form::Block) => RwGuard::Reader(self.lock.read()),
-            (Want::Read, Form::Try) => RwGuard::Reader(got(self.lock.try_read())?),
-            (Want::Read, Form::For) => RwGuard::Reader(got(self.lock.try_read_for(()))?),
-            (Want::Read, Form::Until) => RwGuard::Reader(got(self.lock.try_read_until(()))?),
-            (Want::Write, Form::Block) => RwGuard::Writer(self.lock.write()),
-            (Want::Write, Form::Try) => RwGuard::Writer(got(self.lock.try_write())?),
-            (Want::Write, Form::For) => RwGuard::Writer(got(self.lock.try_write_for(()))?),
-            (Want::Write, Form::Until) => RwGuard::Writer(got(self.lock.try_write_until(()))?),
-            (Want::UpgradableRead, Form::Block) => RwGuard::Upgradable(self.lock.upgradable_read()),
-            (Want::UpgradableRead, Form::Try) => RwGuard::Upgradable(got(
-                self.lock.try_upgradable_read(),
-            )?),
-            (Want::UpgradableRead, Form::For) => RwGuard::Upgradable(got(
-                self.lock.try_upgradable_read_for(()),
-            )?),
-            (Want::UpgradableRead, Form::Until) => RwGuard::Upgradable(got(
-                self.lock.try_upgradable_read_until(()),
-            )?),
+        let lock = self.lock;
+        Ok(match want {
+            Want::Lock => return Err(Fault::WrongKind),
+            Want::Read => RwGuard::Reader(match form {
+                Form::Block => lock.read(),
+                Form::Try => got(lock.try_read())?,
+                Form::For => got(lock.try_read_for(()))?,
+                Form::Until => got(lock.try_read_until(()))?,
+            }),
+            Want::Write => RwGuard::Writer(match form {
+                Form::Block => lock.write(),
+                Form::Try => got(lock.try_write())?,
+                Form::For => got(lock.try_write_for(()))?,
+                Form::Until => got(lock.try_write_until(()))?,
+            }),
+            Want::UpgradableRead => RwGuard::Upgradable(match form {
+                Form::Block => lock.upgradable_read(),
+                Form::Try => got(lock.try_upgradable_read())?,
+                Form::For => got(lock.try_upgradable_read_for(()))?,
+                Form::Until => got(lock.try_upgradable_read_until(()))?,
+            }),
         })
     }
 

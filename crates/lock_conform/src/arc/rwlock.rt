@@ -98,40 +98,27 @@ where
     type Guard = Guard<R>;
 
     fn acquire(&self, want: Want, form: Form, _party: PartyId) -> Result<Self::Guard, Fault> {
-        Ok(match (want, form) {
-            (Want::Lock, _) => return Err(Fault::WrongKind),
-            (Want::Read, Form::Block) => RwGuard::Reader(RwLock::read_arc(&self.lock)?),
-            (Want::Read, Form::Try) => RwGuard::Reader(got(RwLock::try_read_arc(&self.lock))?),
-            (Want::Read, Form::For) => RwGuard::Reader(got(RwLock::try_read_arc_for(
-                &self.lock,
-                (),
-            ))?),
-            (Want::Read, Form::Until) => RwGuard::Reader(got(RwLock::try_read_arc_until(
-                &self.lock,
-                (),
-            ))?),
-            (Want::Write, Form::Block) => RwGuard::Writer(RwLock::write_arc(&self.lock)?),
-            (Want::Write, Form::Try) => RwGuard::Writer(got(RwLock::try_write_arc(&self.lock))?),
-            (Want::Write, Form::For) => RwGuard::Writer(got(RwLock::try_write_arc_for(
-                &self.lock,
-                (),
-            ))?),
-            (Want::Write, Form::Until) => RwGuard::Writer(got(RwLock::try_write_arc_until(
-                &self.lock,
-                (),
-            ))?),
-            (Want::UpgradableRead, Form::Block) => RwGuard::Upgradable(RwLock::upgradable_read_arc(
-                &self.lock,
-            )?),
-            (Want::UpgradableRead, Form::Try) => RwGuard::Upgradable(got(
-                RwLock::try_upgradable_read_arc(&self.lock),
-            )?),
-            (Want::UpgradableRead, Form::For) => RwGuard::Upgradable(got(
-                RwLock::try_upgradable_read_arc_for(&self.lock, ()),
-            )?),
-            (Want::UpgradableRead, Form::Until) => RwGuard::Upgradable(got(
-                RwLock::try_upgradable_read_arc_until(&self.lock, ()),
-            )?),
+        let lock = &self.lock;
+        Ok(match want {
+            Want::Lock => return Err(Fault::WrongKind),
+            Want::Read => RwGuard::Reader(match form {
+                Form::Block => RwLock::read_arc(lock)?,
+                Form::Try => got(RwLock::try_read_arc(lock))?,
+                Form::For => got(RwLock::try_read_arc_for(lock, ()))?,
+                Form::Until => got(RwLock::try_read_arc_until(lock, ()))?,
+            }),
+            Want::Write => RwGuard::Writer(match form {
+                Form::Block => RwLock::write_arc(lock)?,
+                Form::Try => got(RwLock::try_write_arc(lock))?,
+                Form::For => got(RwLock::try_write_arc_for(lock, ()))?,
+                Form::Until => got(RwLock::try_write_arc_until(lock, ()))?,
+            }),
+            Want::UpgradableRead => RwGuard::Upgradable(match form {
+                Form::Block => RwLock::upgradable_read_arc(lock)?,
+                Form::Try => got(RwLock::try_upgradable_read_arc(lock))?,
+                Form::For => got(RwLock::try_upgradable_read_arc_for(lock, ()))?,
+                Form::Until => got(RwLock::try_upgradable_read_arc_until(lock, ()))?,
+            }),
         })
     }
 
