@@ -1,5 +1,7 @@
 //! A script's lines, made on a lock.
-ghost use Rattle.std.specs.Prelude.{◌≡◌, ◌≤◌, None, IfOk, min, length};
+ghost use Rattle.std.specs.Prelude.{◌≡◌, ◌<◌, ◌≤◌, IfOk, min, length};
+ghost use Rattle.lock_conform.specs.Done.{lines_done};
+ghost use Rattle.lock_conform.specs.Refusals.{IsOutright};
 ghost use Rattle.lock_conform.specs.Reports.{IsReport};
 
 use crate::call_log::CallLog;
@@ -15,7 +17,6 @@ use lock_base::raw::Fault;
 use lock_script::PairOp;
 use std::alloc::{AllocError, Global};
 
-#[tactic(auto, using(crate::proofs::Answered::all_answered))]
 /// Makes the lines of a script on a lock, whose raw calls the log records.
 pub fn run_on<D: Driven>(
     alloc: Global,
@@ -47,17 +48,16 @@ fn make_lines<D: Driven>(
     end: usize,
 ) -> Result<Comparison, AllocError>
     ensures lines { IfOk result (λ made. made.lines ≡ comparison.lines) }
-    ensures ended { IfOk result (λ made. made.difference ≡ None
-        → min end (length made.lines.replies.items) ≤ length made.entries.items) }
+    ensures ended { IfOk result (λ made. min end (length made.lines.replies.items) ≤ lines_done made) }
+    ensures kept { IfOk result (λ made. lines_done comparison ≤ lines_done made) }
 {
-    for _ in 0..u64::MAX {
-        let Some(line) = comparison.next_made(end)? else {
-            return Ok(comparison);
-        };
-        let reply = make_line(driven, guards, line)?;
-        comparison.answer(reply)?;
+    let last = end.min(comparison.lines().len());
+    for at in 0..last {
+        if comparison.done() <= at {
+            comparison = make_next(driven, guards, comparison)?;
+        }
     }
-    Err(AllocError)
+    Ok(comparison)
 }
 
 /// Makes all lines. Those until a parked guard is resumed are made in a closure of `unlocked`.
@@ -67,25 +67,37 @@ fn make_lines_unlocked<D: Driven>(
     mut comparison: Comparison,
 ) -> Result<Comparison, AllocError>
     ensures lines { IfOk result (λ made. made.lines ≡ comparison.lines) }
-    ensures ended { IfOk result (λ made. made.difference ≡ None
-        → length made.lines.replies.items ≤ length made.entries.items) }
+    ensures ended { IfOk result (λ made. length made.lines.replies.items ≤ lines_done made) }
 {
-    for _ in 0..u64::MAX {
-        let end = comparison.lines().len();
-        let Some(line) = comparison.next_made(end)? else {
-            return Ok(comparison);
-        };
-        match parked_until(comparison.lines(), comparison.answered(), line) {
-            Some(parked) => {
-                comparison = park_unlocked(driven, guards, comparison, parked)?;
-            }
-            None => {
-                let reply = make_line(driven, guards, line)?;
-                comparison.answer(reply)?;
-            }
+    let all = comparison.lines().len();
+    for at in 0..all {
+        if comparison.done() <= at {
+            comparison = match parked_until(&comparison) {
+                Some(parked) => park_unlocked(driven, guards, comparison, parked)?,
+                None => make_next(driven, guards, comparison)?,
+            };
         }
     }
-    Err(AllocError)
+    Ok(comparison)
+}
+
+/// Answers the next line by the lock's reply, or by the `Desk`'s if the line is not made.
+fn make_next<D: Driven>(
+    driven: &D,
+    guards: &mut Guards<D::Guard>,
+    comparison: Comparison,
+) -> Result<Comparison, AllocError>
+    requires { lines_done comparison < length comparison.lines.replies.items }
+    ensures lines { IfOk result (λ made. made.lines ≡ comparison.lines) }
+    ensures next { IfOk result (λ made. lines_done comparison < lines_done made) }
+{
+    let line = comparison.next();
+    let reply = if comparison.makes(line) {
+        make_line(driven, guards, line)?
+    } else {
+        line.wanted
+    };
+    answered(comparison, reply)
 }
 
 /// A guard that is parked until a later line resumes it.
@@ -97,14 +109,18 @@ struct ParkedUntil {
     end: usize,
 }
 
-/// Returns the guard that the line parks, if a line from `from` on resumes it.
-fn parked_until(lines: &Lines, from: usize, line: Line) -> Option<ParkedUntil> {
+/// Returns the guard that the next line parks, if a later line resumes it.
+fn parked_until(comparison: &Comparison) -> Option<ParkedUntil>
+    requires { lines_done comparison.now < length comparison.now.lines.replies.items }
+{
+    let line = comparison.next();
     let (number, is_fair) = match line.call {
-        Call::Park(_, number) => (number, false),
-        Call::ParkFair(_, number) => (number, true),
+        Call::Park(_, number) if comparison.makes(line) => (number, false),
+        Call::ParkFair(_, number) if comparison.makes(line) => (number, true),
         _ => return None,
     };
-    for end in from..lines.len() {
+    let lines = comparison.lines();
+    for end in comparison.done()..lines.len() {
         let line = lines.line(end);
         match line.call {
             Call::Resume(_, resumed) if resumed == number && line.wanted == Reply::Done => {
@@ -130,7 +146,9 @@ fn park_unlocked<D: Driven>(
     comparison: Comparison,
     parked: ParkedUntil,
 ) -> Result<Comparison, AllocError>
-    ensures { IfOk result (λ made. made.lines ≡ comparison.lines) }
+    ensures lines { IfOk result (λ made. made.lines ≡ comparison.lines) }
+    ensures next { IfOk result (λ made. lines_done comparison < length comparison.lines.replies.items
+        → lines_done comparison < lines_done made) }
 {
     let Some(guard) = guards.take_held(parked.number) else {
         return answered(comparison, Reply::Refused(Fault::UnknownGuard));
@@ -151,7 +169,9 @@ fn make_lines_within<D: Driven>(
     comparison: Comparison,
     end: usize,
 ) -> Result<Comparison, AllocError>
-    ensures { IfOk result (λ made. made.lines ≡ comparison.lines) }
+    ensures lines { IfOk result (λ made. made.lines ≡ comparison.lines) }
+    ensures next { IfOk result (λ made. lines_done comparison < length comparison.lines.replies.items
+        → lines_done comparison < lines_done made) }
 {
     let made = match answered(comparison, Reply::Done) {
         Ok(comparison) => make_lines(driven, guards, comparison, end),
@@ -169,7 +189,10 @@ fn make_lines_within<D: Driven>(
 
 /// Answers the next line.
 fn answered(mut comparison: Comparison, reply: Reply<i64>) -> Result<Comparison, AllocError>
-    ensures { IfOk result (λ answered. answered.lines ≡ comparison.lines) }
+    ensures lines { IfOk result (λ answered. answered.lines ≡ comparison.lines) }
+    ensures done { IfOk result (λ answered. lines_done comparison ≤ lines_done answered) }
+    ensures next { IfOk result (λ answered. lines_done comparison < length comparison.lines.replies.items
+        → lines_done comparison < lines_done answered) }
 {
     comparison.answer(reply)?;
     Ok(comparison)
@@ -180,7 +203,9 @@ fn make_line<D: Driven>(
     driven: &D,
     guards: &mut Guards<D::Guard>,
     line: Line,
-) -> Result<Reply<i64>, AllocError> {
+) -> Result<Reply<i64>, AllocError>
+    requires { ¬ IsOutright line.wanted }
+{
     let reply = match line.made() {
         Call::Acquire(want, form, party) => match acquire(driven, want, form, party)? {
             Some(guard) => Reply::Guard(guards.add(guard)?),
