@@ -5,8 +5,10 @@ use Rattle.std.specs.List.{slice_get}
 use Rattle.std.proofs.lemmas.List.{take_more, take_all, map-append, length_push}
 use Rattle.std.proofs.lemmas.Option.{slice_get_within, get_or_from_slice_get}
 use Rattle.lock_base.specs.declared.machine.reply.Reply.{Reply}
+use Rattle.lock_conform.specs.declared.comparison.Comparison.{Comparison}
 use Rattle.lock_conform.specs.declared.difference.Difference.{Difference}
 use Rattle.lock_conform.specs.declared.entry.Entry.{Entry}
+use Rattle.lock_conform.specs.Done.{lines_done}
 use Rattle.lock_conform.specs.Entries.{replies_of, IsSilentIfRefused}
 
 -- so they are with the next reply
@@ -45,3 +47,15 @@ one_more_if false entries new replies entry pushed first next = rw pushed first
 pub no_difference : (found : Option Difference) (P : Difference → Type 0) → is_some found ≡ false → ∥ IfSome found P ∥₁
 no_difference None P none = ∣ tt ∣₁
 no_difference (Some difference) P none = search rules
+
+-- without a difference the lines that are done are answered
+pub done_if_none : (found : Option Difference) (n all answered : ℕ) → n ≤ (if is_some found then all else answered)
+    → found ≡ None → n ≤ answered
+done_if_none None n all answered done none = done
+done_if_none (Some difference) n all answered done none = let same : Some difference ≡ None = none in cc
+
+-- if all lines are done without a difference, the answers are all the replies
+pub all_done : (c : Comparison) → length c.lines.replies.items ≤ lines_done c → c.difference ≡ None
+    → replies_of c.entries.items ≡ c.lines.replies.items
+all_done c done none = all_answered c.entries.items c.lines.replies.items c.first
+    (done_if_none c.difference (length c.lines.replies.items) (length c.lines.replies.items) (length c.entries.items) done none)

@@ -1,4 +1,5 @@
 pub mod Differences
+pub mod Done
 pub mod Entries
 pub mod Makers
 pub mod ModeWords

@@ -27,8 +27,9 @@ pub struct Comparison {
 }
 
 impl Comparison {
-    ghost use Rattle.std.specs.Prelude.{◌≢◌, ◌<◌, ◌≤◌, IfOk, IsSome, IsTrue, min, All};
+    ghost use Rattle.std.specs.Prelude.{◌≢◌, ◌<◌, ◌≤◌, IfOk, IsSome, IsTrue, All};
     ghost use Rattle.std.specs.List.{slice_get};
+    ghost use Rattle.lock_conform.specs.Done.{lines_done};
     ghost use Rattle.lock_conform.specs.Entries.{IsSilentIfRefused};
     ghost use Rattle.lock_conform.specs.Refusals.{IsOutright};
 
@@ -53,11 +54,22 @@ impl Comparison {
         &self.lines
     }
 
-    /// Returns how many lines are answered.
-    pub fn answered(&self) -> usize
-        ensures { result ≡ length self.now.entries.items }
+    /// Returns how many lines are done: the answered ones, or all after a difference.
+    pub fn done(&self) -> usize
+        ensures { result ≡ lines_done self.now }
     {
-        self.entries.len()
+        if self.difference.is_some() {
+            self.lines.len()
+        } else {
+            self.entries.len()
+        }
+    }
+
+    /// Returns the next line.
+    pub fn next(&self) -> Line
+        requires { lines_done self.now < length self.now.lines.replies.items }
+    {
+        self.lines.line(self.entries.len())
     }
 
     /// Returns whether an answer differed.
@@ -65,31 +77,8 @@ impl Comparison {
         self.difference.is_some()
     }
 
-    /// Answers the lines that are not made on a lock by the reply of the `Desk`, and returns the next one that is made,
-    /// or `None` at the line `end` or after a difference.
-    pub fn next_made(&mut self, end: usize) -> Result<Option<Line>, AllocError>
-        ensures lines { self.new.lines ≡ self.old.lines }
-        ensures made { IfOk result (λ next. IfSome next (λ line. ¬ IsOutright line.wanted)) }
-        ensures ended { IfOk result (λ next. next ≡ None → self.new.difference ≡ None
-            → min end (length self.new.lines.replies.items) ≤ length self.new.entries.items) }
-    {
-        let last = end.min(self.lines.len());
-        for _ in 0..u64::MAX {
-            if last <= self.entries.len() || self.difference.is_some() {
-                return Ok(None);
-            }
-            let line = self.lines.line(self.entries.len());
-            if self.makes(line) {
-                return Ok(Some(line));
-            }
-            self.is_barred = self.is_barred || line.sets_bar();
-            self.answer(line.wanted)?;
-        }
-        Err(AllocError)
-    }
-
-    /// Returns whether the line is made on the lock.
-    fn makes(&self, line: Line) -> bool
+    /// Returns whether the line is made on the lock. After an announcement, which the shared locks lack, no line is.
+    pub fn makes(&self, line: Line) -> bool
         ensures { IsTrue result → ¬ IsOutright line.wanted }
     {
         line.is_made() && !self.is_barred
@@ -101,6 +90,9 @@ impl Comparison {
         ensures told { self.old.difference ≡ None → length self.old.entries.items < length self.old.lines.replies.items
             → slice_get self.old.lines.replies.items (length self.old.entries.items) ≢ Some found
             → IsSome self.new.difference }
+        ensures done { lines_done self.old ≤ lines_done self.new }
+        ensures next { IfOk result (λ _. lines_done self.old < length self.old.lines.replies.items
+            → lines_done self.old < lines_done self.new) }
     {
         let at = self.entries.len();
         if self.difference.is_some() || self.lines.len() <= at {
@@ -126,16 +118,19 @@ impl Comparison {
             raw_calls,
         };
         self.entries.push(entry)?;
+        self.is_barred = self.is_barred || line.sets_bar();
         Ok(())
     }
 
-    #[tactic(auto, using(crate::proofs::Answered::all_silent))]
+    #[tactic(auto, using(crate::proofs::Answered::all_silent, crate::proofs::Answered::all_done))]
     /// Returns the answers, with the raw calls after them.
     pub fn into_report(self) -> Report
         ensures entries { result.entries ≡ self.entries }
         ensures difference { result.difference ≡ self.difference }
         ensures first { replies_of result.entries.items
             ≡ take (length result.entries.items) self.lines.replies.items }
+        ensures all { length self.lines.replies.items ≤ lines_done self → result.difference ≡ None
+            → replies_of result.entries.items ≡ self.lines.replies.items }
         ensures differs { ∥ IfSome result.difference
             (IsAt self.lines.calls.items self.lines.replies.items (length result.entries.items)) ∥₁ }
         ensures silent { All IsSilentIfRefused result.entries.items }

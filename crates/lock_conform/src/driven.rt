@@ -1,23 +1,24 @@
 //! A lock that a script's calls are made on.
-use lock_base::machine::{Form, PartyId, Want, Way};
+use lock_base::machine::{Call, Form, PartyId, Reply, Want, Way};
+use lock_base::raw::Fault;
 use lock_script::PairOp;
 
 /// A shared lock over a pair, with one type for its guards of all modes. Each call takes a guard and returns it.
-///
-/// A call that this kind of lock lacks, or that the guard's mode lacks, answers `None` or returns the same guard.
 pub trait Driven {
     type Guard: Drop;
 
-    /// Acquires the lock, or returns `None` if the lock refuses or memory is refused.
-    fn acquire(&self, want: Want, form: Form, party: PartyId) -> Option<Self::Guard>;
+    /// Acquires the lock.
+    ///
+    /// # Errors
+    ///
+    /// `OutOfMemory` if memory is refused, and another fault if the lock refuses.
+    fn acquire(&self, want: Want, form: Form, party: PartyId) -> Result<Self::Guard, Fault>;
 
     /// Returns what an acquisition of such a guard asks for.
     fn want(&self, guard: &Self::Guard) -> Want;
 
     /// Releases the guard.
     fn release(&self, guard: Self::Guard, way: Way);
-
-    fn bump(&self, guard: Self::Guard) -> Self::Guard;
 
     /// Releases the lock, runs `f`, and acquires the lock again.
     fn unlocked<U, F: FnOnce() -> U>(
@@ -29,31 +30,26 @@ pub trait Driven {
         requires { F.IsAlwaysCallable f }
         ensures { F.post f result.1 };
 
-    /// Upgrades the guard, and returns whether it was upgraded.
-    fn upgrade(&self, form: Form, guard: Self::Guard) -> (Self::Guard, bool);
+    /// Makes a call that keeps the guard. The reply is `NoGuard` if the lock refuses it, and `WrongKind` if the guard
+    /// has no such call.
+    fn call_guard(&self, guard: Self::Guard, call: Call<PairOp>) -> (Self::Guard, Reply<i64>);
 
-    fn downgrade(&self, guard: Self::Guard) -> Self::Guard;
-
-    fn downgrade_to_upgradable(&self, guard: Self::Guard) -> Self::Guard;
-
-    /// Changes the pair by an upgrade, or answers `None` if the lock refuses. The inner answer is `None` if the
-    /// operation does not fit.
-    fn with_upgraded(
-        &self,
-        form: Form,
-        guard: Self::Guard,
-        operation: PairOp,
-    ) -> (Self::Guard, Option<Option<i64>>);
-
-    /// Reads the pair, or answers `None` if the operation does not fit.
-    fn get(&self, guard: Self::Guard, operation: PairOp) -> (Self::Guard, Option<i64>);
-
-    /// Changes the pair, or answers `None` if the operation does not fit.
-    fn change(&self, guard: Self::Guard, operation: PairOp) -> (Self::Guard, Option<i64>);
-
-    fn is_locked(&self) -> bool;
-
-    fn is_locked_exclusive(&self) -> bool;
-
-    fn is_owned_by(&self, party: PartyId) -> bool;
+    /// Makes a call that needs no guard. The reply is `WrongKind` if the lock has no such call.
+    fn call_lock(&self, call: Call<PairOp>) -> Reply<i64>;
 }
+
+/// Releases a guard for the length of a closure, by a fair release if `$is_fair` is set. It gives the guard with the
+/// closure's answer.
+macro_rules! unlocked {
+    ($type:ident, $guard:expr, $is_fair:expr, $f:expr) => {{
+        let mut guard = $guard;
+        let done = if $is_fair {
+            $type::unlocked_fair(&mut guard, $f)
+        } else {
+            $type::unlocked(&mut guard, $f)
+        };
+        (guard, done)
+    }};
+}
+
+pub(crate) use unlocked;

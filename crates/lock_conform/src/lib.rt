@@ -37,7 +37,7 @@ pub use lock_script::{DeskScript, parse};
 pub use mutex::run_mutex;
 pub use operation::{ask, change};
 pub use park_by::ParkBy;
-pub use parts::run_parts;
+pub use parts::{RunParts, run_parts};
 pub use plain_raw::PlainRaw;
 pub use raw_call::RawCall;
 pub use recorder::Recorder;

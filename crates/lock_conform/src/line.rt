@@ -33,22 +33,41 @@ impl Line {
         self.wanted == Reply::Done && matches!(self.call, Call::Announce(_))
     }
 
-    /// Returns whether the `Desk` says that the call would block.
-    pub fn would_wait(self) -> bool {
-        self.wanted == Reply::Refused(Fault::WouldWait)
+    /// Returns the call as it is made on a lock: one that would block is made as a try.
+    pub fn made(self) -> Call<PairOp> {
+        if !self.would_wait() {
+            return self.call;
+        }
+        match self.call {
+            Call::Acquire(want, _, party) => Call::Acquire(want, Form::Try, party),
+            Call::Upgrade(_, party, number) => Call::Upgrade(Form::Try, party, number),
+            Call::WithUpgraded(_, party, number, operation) => {
+                Call::WithUpgraded(Form::Try, party, number, operation)
+            }
+            call => call,
+        }
     }
 
-    /// Returns the form in which the lock is asked. A call that would block is made as a try.
-    pub fn form(self, form: Form) -> Form {
-        if self.would_wait() { Form::Try } else { form }
-    }
-
-    /// Returns the reply if the lock admits nothing.
-    pub fn not_admitted(self) -> Reply<i64> {
+    /// Returns the form in which a parked guard is acquired again.
+    pub fn resume_form(self) -> Form {
         if self.would_wait() {
+            Form::Try
+        } else {
+            Form::Block
+        }
+    }
+
+    /// Returns the reply as the `Desk` gives it: a refused try of a call that would block is that refusal.
+    pub fn told(self, reply: Reply<i64>) -> Reply<i64> {
+        if self.would_wait() && reply == Reply::NoGuard {
             Reply::Refused(Fault::WouldWait)
         } else {
-            Reply::NoGuard
+            reply
         }
+    }
+
+    /// Returns whether the `Desk` says that the call would block.
+    fn would_wait(self) -> bool {
+        self.wanted == Reply::Refused(Fault::WouldWait)
     }
 }

@@ -5,13 +5,13 @@ ghost use Rattle.lock_conform.specs.Makers.{IsRunFault, kind_of};
 ghost use Rattle.lock_conform.specs.Reports.{IsReport};
 
 use crate::deadline::Deadline;
-use crate::driven::Driven;
+use crate::driven::{Driven, unlocked};
 use crate::operation::{ask, change};
 use crate::park_by::ParkBy;
 use crate::parts::run_parts;
 use crate::report::Report;
 use crate::script_run::run_on;
-use lock_base::machine::{Form, Kind, PartyId, Want, Way};
+use lock_base::machine::{Call, Form, Kind, PartyId, Reply, Want, Way};
 use lock_base::raw::Fault;
 use lock_guard::raw::{RawMutexFair, RawMutexTimed};
 use lock_mutex::{Mutex, MutexGuard};
@@ -35,9 +35,15 @@ where
     ensures report { IfOk result
         (IsReport script.calls.items (replies_to script.maker script.calls.items)) }
 {
-    let (raw, pair, log, lines) = run_parts(alloc, Kind::Mutex, raw, script)?;
-    let lock = Mutex::from_raw(raw, pair)?;
-    let report = run_on(alloc, &BorrowingMutex { lock: &lock }, log, lines, park_by)?;
+    let parts = run_parts(alloc, Kind::Mutex, raw, script)?;
+    let lock = Mutex::from_raw(parts.raw, parts.pair)?;
+    let report = run_on(
+        alloc,
+        &BorrowingMutex { lock: &lock },
+        parts.log,
+        parts.lines,
+        park_by,
+    )?;
     Ok(report)
 }
 
@@ -53,100 +59,54 @@ where
 {
     type Guard = MutexGuard<'a, R, Pair>;
 
-    fn acquire(&self, _want: Want, form: Form, _party: PartyId) -> Option<MutexGuard<'a, R, Pair>> {
-        match form {
+    fn acquire(&self, _want: Want, form: Form, _party: PartyId) -> Result<Self::Guard, Fault> {
+        let tried = match form {
             Form::Block => Some(self.lock.lock()),
             Form::Try => self.lock.try_lock(),
             Form::For => self.lock.try_lock_for(()),
             Form::Until => self.lock.try_lock_until(()),
-        }
+        };
+        tried.ok_or(Fault::WouldWait)
     }
 
-    fn want(&self, _guard: &MutexGuard<'a, R, Pair>) -> Want {
+    fn want(&self, _guard: &Self::Guard) -> Want {
         Want::Lock
     }
 
-    fn release(&self, guard: MutexGuard<'a, R, Pair>, way: Way) {
+    fn release(&self, guard: Self::Guard, way: Way) {
         match way {
             Way::Plain | Way::IntoArc => drop(guard),
             Way::Fair | Way::IntoArcFair => MutexGuard::unlock_fair(guard),
         }
     }
 
-    fn bump(&self, guard: MutexGuard<'a, R, Pair>) -> MutexGuard<'a, R, Pair> {
-        let mut guard = guard;
-        MutexGuard::bump(&mut guard);
-        guard
-    }
-
     fn unlocked<U, F: FnOnce() -> U>(
         &self,
-        guard: MutexGuard<'a, R, Pair>,
+        guard: Self::Guard,
         is_fair: bool,
         f: F,
-    ) -> (MutexGuard<'a, R, Pair>, U) {
+    ) -> (Self::Guard, U) {
+        unlocked!(MutexGuard, guard, is_fair, f)
+    }
+
+    fn call_guard(&self, guard: Self::Guard, call: Call<PairOp>) -> (Self::Guard, Reply<i64>) {
         let mut guard = guard;
-        let done = if is_fair {
-            MutexGuard::unlocked_fair(&mut guard, f)
-        } else {
-            MutexGuard::unlocked(&mut guard, f)
+        let reply = match call {
+            Call::Bump(_, _) => {
+                MutexGuard::bump(&mut guard);
+                Reply::Done
+            }
+            Call::Get(_, _, operation) => ask(operation, &guard),
+            Call::Change(_, _, operation) => change(operation, &mut guard),
+            _ => Reply::Refused(Fault::WrongKind),
         };
-        (guard, done)
+        (guard, reply)
     }
 
-    fn upgrade(
-        &self,
-        _form: Form,
-        guard: MutexGuard<'a, R, Pair>,
-    ) -> (MutexGuard<'a, R, Pair>, bool) {
-        (guard, false)
-    }
-
-    fn downgrade(&self, guard: MutexGuard<'a, R, Pair>) -> MutexGuard<'a, R, Pair> {
-        guard
-    }
-
-    fn downgrade_to_upgradable(&self, guard: MutexGuard<'a, R, Pair>) -> MutexGuard<'a, R, Pair> {
-        guard
-    }
-
-    fn with_upgraded(
-        &self,
-        _form: Form,
-        guard: MutexGuard<'a, R, Pair>,
-        _operation: PairOp,
-    ) -> (MutexGuard<'a, R, Pair>, Option<Option<i64>>) {
-        (guard, None)
-    }
-
-    fn get(
-        &self,
-        guard: MutexGuard<'a, R, Pair>,
-        operation: PairOp,
-    ) -> (MutexGuard<'a, R, Pair>, Option<i64>) {
-        let item = ask(operation, &guard);
-        (guard, item)
-    }
-
-    fn change(
-        &self,
-        guard: MutexGuard<'a, R, Pair>,
-        operation: PairOp,
-    ) -> (MutexGuard<'a, R, Pair>, Option<i64>) {
-        let mut guard = guard;
-        let item = change(operation, &mut guard);
-        (guard, item)
-    }
-
-    fn is_locked(&self) -> bool {
-        self.lock.is_locked()
-    }
-
-    fn is_locked_exclusive(&self) -> bool {
-        self.lock.is_locked()
-    }
-
-    fn is_owned_by(&self, _party: PartyId) -> bool {
-        false
+    fn call_lock(&self, call: Call<PairOp>) -> Reply<i64> {
+        match call {
+            Call::IsLocked | Call::IsLockedExclusive => Reply::Bool(self.lock.is_locked()),
+            _ => Reply::Refused(Fault::WrongKind),
+        }
     }
 }

@@ -11,20 +11,31 @@ use lock_base::raw::Fault;
 use lock_script::{DeskScript, Maker, Pair};
 use std::alloc::Global;
 
-/// Returns what a run of the script on a lock of that kind needs: the raw lock with a record of its calls, the first
-/// value, the record, and the lines.
+/// What a run of a script on a lock needs.
+#[derive(Drop)]
+pub struct RunParts<R: Drop> {
+    /// The raw lock.
+    pub raw: Recorder<R>,
+    /// The first value.
+    pub pair: Pair,
+    /// The record of the raw lock's calls.
+    pub log: CallLog,
+    pub lines: Lines,
+}
+
+/// Returns what a run of the script on a lock of that kind needs.
 pub fn run_parts<R: Drop>(
     alloc: Global,
     kind: Kind,
     raw: R,
     script: DeskScript,
-) -> Result<(Recorder<R>, Pair, CallLog, Lines), Fault>
+) -> Result<RunParts<R>, Fault>
     ensures kind { (result ≡ Err Fault.WrongKind) ↔ ¬ (kind_of script.maker ≡ kind) }
     ensures limits { (result ≡ Err Fault.BadLimits) ↔ ((kind_of script.maker ≡ kind) × ¬ HasLimits script.maker) }
     ensures fault { IfErr result IsRunFault }
-    ensures calls { IfOk result (λ made. made.3.calls.items ≡ script.calls.items) }
+    ensures calls { IfOk result (λ made. made.lines.calls.items ≡ script.calls.items) }
     ensures replies { IfOk result (λ made.
-        made.3.replies.items ≡ replies_to script.maker script.calls.items) }
+        made.lines.replies.items ≡ replies_to script.maker script.calls.items) }
 {
     let (made, pair) = kind_and_pair(script.maker);
     if made != kind {
@@ -33,7 +44,12 @@ pub fn run_parts<R: Drop>(
     let lines = Lines::of_script(alloc, script)?;
     let raw = Recorder::over(alloc, raw)?;
     let log = raw.log()?;
-    Ok((raw, pair, log, lines))
+    Ok(RunParts {
+        raw,
+        pair,
+        log,
+        lines,
+    })
 }
 
 /// Returns the kind of a script's lock, and its first value.

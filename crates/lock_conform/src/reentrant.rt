@@ -11,7 +11,7 @@ use crate::park_by::ParkBy;
 use crate::parts::run_parts;
 use crate::report::Report;
 use crate::script_run::run_on;
-use lock_base::machine::{Form, Kind, PartyId, Want, Way};
+use lock_base::machine::{Call, Form, Kind, PartyId, Reply, Want, Way};
 use lock_base::raw::Fault;
 use lock_guard::raw::{RawMutexFair, RawMutexTimed};
 use lock_remutex::{ReentrantMutex, ReentrantMutexGuard};
@@ -37,13 +37,13 @@ where
     ensures report { IfOk result
         (IsReport script.calls.items (replies_to script.maker script.calls.items)) }
 {
-    let (raw, pair, log, lines) = run_parts(alloc, Kind::Reentrant, raw, script)?;
-    let lock = ReentrantMutex::from_raw(alloc, raw, pair)?;
+    let parts = run_parts(alloc, Kind::Reentrant, raw, script)?;
+    let lock = ReentrantMutex::from_raw(alloc, parts.raw, parts.pair)?;
     let report = run_on(
         alloc,
         &BorrowingReentrant { lock: &lock },
-        log,
-        lines,
+        parts.log,
+        parts.lines,
         park_by,
     )?;
     Ok(report)
@@ -68,35 +68,28 @@ where
 {
     type Guard = Guard<'a, R>;
 
-    fn acquire(&self, _want: Want, form: Form, party: PartyId) -> Option<Guard<'a, R>> {
-        let guard = match form {
-            Form::Block => self.lock.lock(party).ok()?,
-            Form::Try => self.lock.try_lock(party).ok()??,
-            Form::For => self.lock.try_lock_for(party, ()).ok()??,
-            Form::Until => self.lock.try_lock_until(party, ()).ok()??,
+    fn acquire(&self, _want: Want, form: Form, party: PartyId) -> Result<Self::Guard, Fault> {
+        let tried = match form {
+            Form::Block => Some(self.lock.lock(party)?),
+            Form::Try => self.lock.try_lock(party)?,
+            Form::For => self.lock.try_lock_for(party, ())?,
+            Form::Until => self.lock.try_lock_until(party, ())?,
         };
-        Some(Some(guard))
+        Ok(Some(tried.ok_or(Fault::WouldWait)?))
     }
 
-    fn want(&self, _guard: &Guard<'a, R>) -> Want {
+    fn want(&self, _guard: &Self::Guard) -> Want {
         Want::Lock
     }
 
-    fn release(&self, guard: Guard<'a, R>, way: Way) {
+    fn release(&self, guard: Self::Guard, way: Way) {
+        let Some(guard) = guard else {
+            return;
+        };
         match way {
             Way::Plain | Way::IntoArc => drop(guard),
-            Way::Fair | Way::IntoArcFair => {
-                if let Some(guard) = guard {
-                    ReentrantMutexGuard::unlock_fair(guard);
-                }
-            }
+            Way::Fair | Way::IntoArcFair => ReentrantMutexGuard::unlock_fair(guard),
         }
-    }
-
-    fn bump(&self, guard: Guard<'a, R>) -> Guard<'a, R> {
-        let mut guard = guard?;
-        ReentrantMutexGuard::bump(&mut guard);
-        Some(guard)
     }
 
     fn unlocked<U, F: FnOnce() -> U>(
@@ -119,48 +112,27 @@ where
         }
     }
 
-    fn upgrade(&self, _form: Form, guard: Guard<'a, R>) -> (Guard<'a, R>, bool) {
-        (guard, false)
-    }
-
-    fn downgrade(&self, guard: Guard<'a, R>) -> Guard<'a, R> {
-        guard
-    }
-
-    fn downgrade_to_upgradable(&self, guard: Guard<'a, R>) -> Guard<'a, R> {
-        guard
-    }
-
-    fn with_upgraded(
-        &self,
-        _form: Form,
-        guard: Guard<'a, R>,
-        _operation: PairOp,
-    ) -> (Guard<'a, R>, Option<Option<i64>>) {
-        (guard, None)
-    }
-
-    fn get(&self, guard: Guard<'a, R>, operation: PairOp) -> (Guard<'a, R>, Option<i64>) {
+    fn call_guard(&self, guard: Self::Guard, call: Call<PairOp>) -> (Self::Guard, Reply<i64>) {
         let Some(guard) = guard else {
-            return (None, None);
+            return (None, Reply::Refused(Fault::UnknownGuard));
         };
-        let item = ask(operation, &guard);
-        (Some(guard), item)
+        let mut guard = guard;
+        let reply = match call {
+            Call::Bump(_, _) => {
+                ReentrantMutexGuard::bump(&mut guard);
+                Reply::Done
+            }
+            Call::Get(_, _, operation) => ask(operation, &guard),
+            _ => Reply::Refused(Fault::WrongKind),
+        };
+        (Some(guard), reply)
     }
 
-    fn change(&self, guard: Guard<'a, R>, _operation: PairOp) -> (Guard<'a, R>, Option<i64>) {
-        (guard, None)
-    }
-
-    fn is_locked(&self) -> bool {
-        self.lock.is_locked()
-    }
-
-    fn is_locked_exclusive(&self) -> bool {
-        self.lock.is_locked()
-    }
-
-    fn is_owned_by(&self, party: PartyId) -> bool {
-        self.lock.is_owned_by_current_thread(party)
+    fn call_lock(&self, call: Call<PairOp>) -> Reply<i64> {
+        match call {
+            Call::IsLocked | Call::IsLockedExclusive => Reply::Bool(self.lock.is_locked()),
+            Call::IsOwnedBy(party) => Reply::Bool(self.lock.is_owned_by_current_thread(party)),
+            _ => Reply::Refused(Fault::WrongKind),
+        }
     }
 }

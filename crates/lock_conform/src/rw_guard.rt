@@ -24,3 +24,25 @@ impl<A, B, C> RwGuard<A, B, C> {
         }
     }
 }
+
+/// Runs an expression on the guard, whatever its mode. The expression gives the guard with an answer, and so does this.
+macro_rules! in_each_mode {
+    ($guard:expr, $held:ident => $answer:expr) => {
+        match $guard {
+            RwGuard::Reader($held) => {
+                let ($held, answer) = $answer;
+                (RwGuard::Reader($held), answer)
+            }
+            RwGuard::Writer($held) => {
+                let ($held, answer) = $answer;
+                (RwGuard::Writer($held), answer)
+            }
+            RwGuard::Upgradable($held) => {
+                let ($held, answer) = $answer;
+                (RwGuard::Upgradable($held), answer)
+            }
+        }
+    };
+}
+
+pub(crate) use in_each_mode;

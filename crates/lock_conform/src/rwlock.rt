@@ -5,14 +5,14 @@ ghost use Rattle.lock_conform.specs.Makers.{IsRunFault, kind_of};
 ghost use Rattle.lock_conform.specs.Reports.{IsReport};
 
 use crate::deadline::Deadline;
-use crate::driven::Driven;
+use crate::driven::{Driven, unlocked};
 use crate::operation::{ask, change};
 use crate::park_by::ParkBy;
 use crate::parts::run_parts;
 use crate::report::Report;
-use crate::rw_guard::RwGuard;
+use crate::rw_guard::{RwGuard, in_each_mode};
 use crate::script_run::run_on;
-use lock_base::machine::{Form, Kind, PartyId, Want, Way};
+use lock_base::machine::{Call, Form, Kind, PartyId, Reply, Want, Way};
 use lock_base::raw::Fault;
 use lock_guard::guard::AcquireFair;
 use lock_guard::raw::{
@@ -41,9 +41,15 @@ where
     ensures report { IfOk result
         (IsReport script.calls.items (replies_to script.maker script.calls.items)) }
 {
-    let (raw, pair, log, lines) = run_parts(alloc, Kind::RwLock, raw, script)?;
-    let lock = RwLock::from_raw(raw, pair)?;
-    let report = run_on(alloc, &BorrowingRwLock { lock: &lock }, log, lines, park_by)?;
+    let parts = run_parts(alloc, Kind::RwLock, raw, script)?;
+    let lock = RwLock::from_raw(parts.raw, parts.pair)?;
+    let report = run_on(
+        alloc,
+        &BorrowingRwLock { lock: &lock },
+        parts.log,
+        parts.lines,
+        park_by,
+    )?;
     Ok(report)
 }
 
@@ -67,190 +73,108 @@ where
 {
     type Guard = Guard<'a, R>;
 
-    fn acquire(&self, want: Want, form: Form, _party: PartyId) -> Option<Guard<'a, R>> {
-        match want {
-            Want::Lock => None,
-            Want::Read => Some(RwGuard::Reader(read(self.lock, form)?)),
-            Want::Write => Some(RwGuard::Writer(write(self.lock, form)?)),
-            Want::UpgradableRead => Some(RwGuard::Upgradable(upgradable_read(self.lock, form)?)),
-        }
+    fn acquire(&self, want: Want, form: Form, _party: PartyId) -> Result<Self::Guard, Fault> {
+        let lock = self.lock;
+        Ok(match want {
+            Want::Lock => return Err(Fault::WrongKind),
+            Want::Read => RwGuard::Reader(match form {
+                Form::Block => lock.read(),
+                Form::Try => got(lock.try_read())?,
+                Form::For => got(lock.try_read_for(()))?,
+                Form::Until => got(lock.try_read_until(()))?,
+            }),
+            Want::Write => RwGuard::Writer(match form {
+                Form::Block => lock.write(),
+                Form::Try => got(lock.try_write())?,
+                Form::For => got(lock.try_write_for(()))?,
+                Form::Until => got(lock.try_write_until(()))?,
+            }),
+            Want::UpgradableRead => RwGuard::Upgradable(match form {
+                Form::Block => lock.upgradable_read(),
+                Form::Try => got(lock.try_upgradable_read())?,
+                Form::For => got(lock.try_upgradable_read_for(()))?,
+                Form::Until => got(lock.try_upgradable_read_until(()))?,
+            }),
+        })
     }
 
-    fn want(&self, guard: &Guard<'a, R>) -> Want {
+    fn want(&self, guard: &Self::Guard) -> Want {
         guard.want()
     }
 
-    fn release(&self, guard: Guard<'a, R>, way: Way) {
-        match way {
-            Way::Plain | Way::IntoArc => drop(guard),
-            Way::Fair | Way::IntoArcFair => match guard {
-                RwGuard::Reader(guard) => RwLockGuard::unlock_fair(guard),
-                RwGuard::Writer(guard) => RwLockGuard::unlock_fair(guard),
-                RwGuard::Upgradable(guard) => RwLockGuard::unlock_fair(guard),
-            },
-        }
-    }
-
-    fn bump(&self, guard: Guard<'a, R>) -> Guard<'a, R> {
+    fn release(&self, guard: Self::Guard, way: Way) {
         match guard {
-            RwGuard::Reader(mut guard) => {
-                RwLockGuard::bump(&mut guard);
-                RwGuard::Reader(guard)
-            }
-            RwGuard::Writer(mut guard) => {
-                RwLockGuard::bump(&mut guard);
-                RwGuard::Writer(guard)
-            }
-            RwGuard::Upgradable(mut guard) => {
-                RwLockGuard::bump(&mut guard);
-                RwGuard::Upgradable(guard)
-            }
+            RwGuard::Reader(guard) => end(guard, way),
+            RwGuard::Writer(guard) => end(guard, way),
+            RwGuard::Upgradable(guard) => end(guard, way),
         }
     }
 
     fn unlocked<U, F: FnOnce() -> U>(
         &self,
-        guard: Guard<'a, R>,
+        guard: Self::Guard,
         is_fair: bool,
         f: F,
-    ) -> (Guard<'a, R>, U) {
-        match guard {
-            RwGuard::Reader(guard) => {
-                let (guard, done) = unlocked(guard, is_fair, f);
-                (RwGuard::Reader(guard), done)
+    ) -> (Self::Guard, U) {
+        in_each_mode!(guard, guard => unlocked!(RwLockGuard, guard, is_fair, f))
+    }
+
+    fn call_guard(&self, guard: Self::Guard, call: Call<PairOp>) -> (Self::Guard, Reply<i64>) {
+        match (call, guard) {
+            (Call::Bump(_, _), guard) => in_each_mode!(guard, guard => {
+                let mut guard = guard;
+                RwLockGuard::bump(&mut guard);
+                (guard, Reply::Done)
+            }),
+            (Call::Get(_, _, operation), guard) => in_each_mode!(guard, guard => {
+                let reply = ask(operation, &guard);
+                (guard, reply)
+            }),
+            (Call::Change(_, _, operation), RwGuard::Writer(guard)) => {
+                let mut guard = guard;
+                let reply = change(operation, &mut guard);
+                (RwGuard::Writer(guard), reply)
             }
-            RwGuard::Writer(guard) => {
-                let (guard, done) = unlocked(guard, is_fair, f);
-                (RwGuard::Writer(guard), done)
+            (Call::Upgrade(form, _, _), RwGuard::Upgradable(guard)) => match upgrade(form, guard) {
+                Ok(guard) => (RwGuard::Writer(guard), Reply::Done),
+                Err(guard) => (RwGuard::Upgradable(guard), Reply::NoGuard),
+            },
+            (Call::WithUpgraded(form, _, _, operation), RwGuard::Upgradable(guard)) => {
+                let (guard, reply) = with_upgraded(form, guard, operation);
+                (RwGuard::Upgradable(guard), reply)
             }
-            RwGuard::Upgradable(guard) => {
-                let (guard, done) = unlocked(guard, is_fair, f);
-                (RwGuard::Upgradable(guard), done)
+            (Call::Downgrade(_, _), RwGuard::Writer(guard)) => {
+                (
+                    RwGuard::Reader(RwLockWriteGuard::downgrade(guard)),
+                    Reply::Done,
+                )
             }
+            (Call::Downgrade(_, _), RwGuard::Upgradable(guard)) => {
+                (
+                    RwGuard::Reader(RwLockUpgradableReadGuard::downgrade(guard)),
+                    Reply::Done,
+                )
+            }
+            (Call::DowngradeToUpgradable(_, _), RwGuard::Writer(guard)) => {
+                let guard = RwLockWriteGuard::downgrade_to_upgradable(guard);
+                (RwGuard::Upgradable(guard), Reply::Done)
+            }
+            (_, guard) => (guard, Reply::Refused(Fault::WrongKind)),
         }
     }
 
-    fn upgrade(&self, form: Form, guard: Guard<'a, R>) -> (Guard<'a, R>, bool) {
-        let RwGuard::Upgradable(guard) = guard else {
-            return (guard, false);
-        };
-        match upgrade(form, guard) {
-            Ok(guard) => (RwGuard::Writer(guard), true),
-            Err(guard) => (RwGuard::Upgradable(guard), false),
+    fn call_lock(&self, call: Call<PairOp>) -> Reply<i64> {
+        match call {
+            Call::IsLocked => Reply::Bool(self.lock.is_locked()),
+            Call::IsLockedExclusive => Reply::Bool(self.lock.is_locked_exclusive()),
+            _ => Reply::Refused(Fault::WrongKind),
         }
-    }
-
-    fn downgrade(&self, guard: Guard<'a, R>) -> Guard<'a, R> {
-        match guard {
-            RwGuard::Writer(guard) => RwGuard::Reader(RwLockWriteGuard::downgrade(guard)),
-            RwGuard::Upgradable(guard) => {
-                RwGuard::Reader(RwLockUpgradableReadGuard::downgrade(guard))
-            }
-            RwGuard::Reader(guard) => RwGuard::Reader(guard),
-        }
-    }
-
-    fn downgrade_to_upgradable(&self, guard: Guard<'a, R>) -> Guard<'a, R> {
-        match guard {
-            RwGuard::Writer(guard) => {
-                RwGuard::Upgradable(RwLockWriteGuard::downgrade_to_upgradable(guard))
-            }
-            _ => guard,
-        }
-    }
-
-    fn with_upgraded(
-        &self,
-        form: Form,
-        guard: Guard<'a, R>,
-        operation: PairOp,
-    ) -> (Guard<'a, R>, Option<Option<i64>>) {
-        match guard {
-            RwGuard::Upgradable(guard) => {
-                let (guard, item) = with_upgraded(form, guard, operation);
-                (RwGuard::Upgradable(guard), item)
-            }
-            _ => (guard, None),
-        }
-    }
-
-    fn get(&self, guard: Guard<'a, R>, operation: PairOp) -> (Guard<'a, R>, Option<i64>) {
-        match guard {
-            RwGuard::Reader(guard) => {
-                let item = ask(operation, &guard);
-                (RwGuard::Reader(guard), item)
-            }
-            RwGuard::Writer(guard) => {
-                let item = ask(operation, &guard);
-                (RwGuard::Writer(guard), item)
-            }
-            RwGuard::Upgradable(guard) => {
-                let item = ask(operation, &guard);
-                (RwGuard::Upgradable(guard), item)
-            }
-        }
-    }
-
-    fn change(&self, guard: Guard<'a, R>, operation: PairOp) -> (Guard<'a, R>, Option<i64>) {
-        match guard {
-            RwGuard::Writer(mut guard) => {
-                let item = change(operation, &mut guard);
-                (RwGuard::Writer(guard), item)
-            }
-            _ => (guard, None),
-        }
-    }
-
-    fn is_locked(&self) -> bool {
-        self.lock.is_locked()
-    }
-
-    fn is_locked_exclusive(&self) -> bool {
-        self.lock.is_locked_exclusive()
-    }
-
-    fn is_owned_by(&self, _party: PartyId) -> bool {
-        false
     }
 }
 
-fn read<'a, R>(lock: &'a RwLock<R, Pair>, form: Form) -> Option<RwLockReadGuard<'a, R, Pair>>
-where
-    R: RawRwLockUpgradeTimed<Duration = (), Instant = ()>,
-{
-    match form {
-        Form::Block => Some(lock.read()),
-        Form::Try => lock.try_read(),
-        Form::For => lock.try_read_for(()),
-        Form::Until => lock.try_read_until(()),
-    }
-}
-
-fn write<'a, R>(lock: &'a RwLock<R, Pair>, form: Form) -> Option<RwLockWriteGuard<'a, R, Pair>>
-where
-    R: RawRwLockUpgradeTimed<Duration = (), Instant = ()>,
-{
-    match form {
-        Form::Block => Some(lock.write()),
-        Form::Try => lock.try_write(),
-        Form::For => lock.try_write_for(()),
-        Form::Until => lock.try_write_until(()),
-    }
-}
-
-fn upgradable_read<'a, R>(
-    lock: &'a RwLock<R, Pair>,
-    form: Form,
-) -> Option<RwLockUpgradableReadGuard<'a, R, Pair>>
-where
-    R: RawRwLockUpgradeTimed<Duration = (), Instant = ()>,
-{
-    match form {
-        Form::Block => Some(lock.upgradable_read()),
-        Form::Try => lock.try_upgradable_read(),
-        Form::For => lock.try_upgradable_read_for(()),
-        Form::Until => lock.try_upgradable_read_until(()),
-    }
+/// Returns the guard of a try, or `WouldWait` if the lock refused.
+fn got<G>(tried: Option<G>) -> Result<G, Fault> {
+    tried.ok_or(Fault::WouldWait)
 }
 
 fn upgrade<'a, R>(
@@ -272,34 +196,24 @@ fn with_upgraded<'a, R>(
     form: Form,
     guard: RwLockUpgradableReadGuard<'a, R, Pair>,
     operation: PairOp,
-) -> (RwLockUpgradableReadGuard<'a, R, Pair>, Option<Option<i64>>)
+) -> (RwLockUpgradableReadGuard<'a, R, Pair>, Reply<i64>)
 where
     R: RawRwLockUpgradeTimed<Duration = (), Instant = ()> + RawRwLockUpgradeDowngrade,
 {
     let mut guard = guard;
     let put = |pair: &mut Pair| change(operation, pair);
-    let item = match form {
+    let tried = match form {
         Form::Block => Some(guard.with_upgraded(put)),
         Form::Try => guard.try_with_upgraded(put),
         Form::For => guard.try_with_upgraded_for((), put),
         Form::Until => guard.try_with_upgraded_until((), put),
     };
-    (guard, item)
+    (guard, tried.unwrap_or(Reply::NoGuard))
 }
 
-fn unlocked<L: AcquireFair, U, F: FnOnce() -> U>(
-    guard: RwLockGuard<L>,
-    is_fair: bool,
-    f: F,
-) -> (RwLockGuard<L>, U)
-    requires { F.IsAlwaysCallable f }
-    ensures { F.post f result.1 }
-{
-    let mut guard = guard;
-    let done = if is_fair {
-        RwLockGuard::unlocked_fair(&mut guard, f)
-    } else {
-        RwLockGuard::unlocked(&mut guard, f)
-    };
-    (guard, done)
+fn end<L: AcquireFair>(guard: RwLockGuard<L>, way: Way) {
+    match way {
+        Way::Plain | Way::IntoArc => drop(guard),
+        Way::Fair | Way::IntoArcFair => RwLockGuard::unlock_fair(guard),
+    }
 }

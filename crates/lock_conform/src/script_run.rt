@@ -1,5 +1,7 @@
 //! A script's lines, made on a lock.
-ghost use Rattle.std.specs.Prelude.{◌≡◌, ◌≤◌, None, IfOk, min, length};
+ghost use Rattle.std.specs.Prelude.{◌≡◌, ◌<◌, ◌≤◌, IfOk, min, length};
+ghost use Rattle.lock_conform.specs.Done.{lines_done};
+ghost use Rattle.lock_conform.specs.Refusals.{IsOutright};
 ghost use Rattle.lock_conform.specs.Reports.{IsReport};
 
 use crate::call_log::CallLog;
@@ -10,11 +12,11 @@ use crate::line::Line;
 use crate::lines::Lines;
 use crate::park_by::ParkBy;
 use crate::report::Report;
-use lock_base::machine::{Call, Form, PartyId, Reply, Way};
+use lock_base::machine::{Call, Form, PartyId, Reply, Want, Way};
 use lock_base::raw::Fault;
+use lock_script::PairOp;
 use std::alloc::{AllocError, Global};
 
-#[tactic(auto, using(crate::proofs::Answered::all_answered))]
 /// Makes the lines of a script on a lock, whose raw calls the log records.
 pub fn run_on<D: Driven>(
     alloc: Global,
@@ -46,17 +48,16 @@ fn make_lines<D: Driven>(
     end: usize,
 ) -> Result<Comparison, AllocError>
     ensures lines { IfOk result (λ made. made.lines ≡ comparison.lines) }
-    ensures ended { IfOk result (λ made. made.difference ≡ None
-        → min end (length made.lines.replies.items) ≤ length made.entries.items) }
+    ensures ended { IfOk result (λ made. min end (length made.lines.replies.items) ≤ lines_done made) }
+    ensures kept { IfOk result (λ made. lines_done comparison ≤ lines_done made) }
 {
-    for _ in 0..u64::MAX {
-        let Some(line) = comparison.next_made(end)? else {
-            return Ok(comparison);
-        };
-        let reply = make_line(driven, guards, line)?;
-        comparison.answer(reply)?;
+    let last = end.min(comparison.lines().len());
+    for at in 0..last {
+        if comparison.done() <= at {
+            comparison = make_next(driven, guards, comparison)?;
+        }
     }
-    Err(AllocError)
+    Ok(comparison)
 }
 
 /// Makes all lines. Those until a parked guard is resumed are made in a closure of `unlocked`.
@@ -66,25 +67,37 @@ fn make_lines_unlocked<D: Driven>(
     mut comparison: Comparison,
 ) -> Result<Comparison, AllocError>
     ensures lines { IfOk result (λ made. made.lines ≡ comparison.lines) }
-    ensures ended { IfOk result (λ made. made.difference ≡ None
-        → length made.lines.replies.items ≤ length made.entries.items) }
+    ensures ended { IfOk result (λ made. length made.lines.replies.items ≤ lines_done made) }
 {
-    for _ in 0..u64::MAX {
-        let end = comparison.lines().len();
-        let Some(line) = comparison.next_made(end)? else {
-            return Ok(comparison);
-        };
-        match parked_until(comparison.lines(), comparison.answered(), line) {
-            Some(parked) => {
-                comparison = park_unlocked(driven, guards, comparison, parked)?;
-            }
-            None => {
-                let reply = make_line(driven, guards, line)?;
-                comparison.answer(reply)?;
-            }
+    let all = comparison.lines().len();
+    for at in 0..all {
+        if comparison.done() <= at {
+            comparison = match parked_until(&comparison) {
+                Some(parked) => park_unlocked(driven, guards, comparison, parked)?,
+                None => make_next(driven, guards, comparison)?,
+            };
         }
     }
-    Err(AllocError)
+    Ok(comparison)
+}
+
+/// Answers the next line by the lock's reply, or by the `Desk`'s if the line is not made.
+fn make_next<D: Driven>(
+    driven: &D,
+    guards: &mut Guards<D::Guard>,
+    comparison: Comparison,
+) -> Result<Comparison, AllocError>
+    requires { lines_done comparison < length comparison.lines.replies.items }
+    ensures lines { IfOk result (λ made. made.lines ≡ comparison.lines) }
+    ensures next { IfOk result (λ made. lines_done comparison < lines_done made) }
+{
+    let line = comparison.next();
+    let reply = if comparison.makes(line) {
+        make_line(driven, guards, line)?
+    } else {
+        line.wanted
+    };
+    answered(comparison, reply)
 }
 
 /// A guard that is parked until a later line resumes it.
@@ -96,14 +109,18 @@ struct ParkedUntil {
     end: usize,
 }
 
-/// Returns the guard that the line parks, if a line from `from` on resumes it.
-fn parked_until(lines: &Lines, from: usize, line: Line) -> Option<ParkedUntil> {
+/// Returns the guard that the next line parks, if a later line resumes it.
+fn parked_until(comparison: &Comparison) -> Option<ParkedUntil>
+    requires { lines_done comparison.now < length comparison.now.lines.replies.items }
+{
+    let line = comparison.next();
     let (number, is_fair) = match line.call {
-        Call::Park(_, number) => (number, false),
-        Call::ParkFair(_, number) => (number, true),
+        Call::Park(_, number) if comparison.makes(line) => (number, false),
+        Call::ParkFair(_, number) if comparison.makes(line) => (number, true),
         _ => return None,
     };
-    for end in from..lines.len() {
+    let lines = comparison.lines();
+    for end in comparison.done()..lines.len() {
         let line = lines.line(end);
         match line.call {
             Call::Resume(_, resumed) if resumed == number && line.wanted == Reply::Done => {
@@ -129,7 +146,9 @@ fn park_unlocked<D: Driven>(
     comparison: Comparison,
     parked: ParkedUntil,
 ) -> Result<Comparison, AllocError>
-    ensures { IfOk result (λ made. made.lines ≡ comparison.lines) }
+    ensures lines { IfOk result (λ made. made.lines ≡ comparison.lines) }
+    ensures next { IfOk result (λ made. lines_done comparison < length comparison.lines.replies.items
+        → lines_done comparison < lines_done made) }
 {
     let Some(guard) = guards.take_held(parked.number) else {
         return answered(comparison, Reply::Refused(Fault::UnknownGuard));
@@ -150,7 +169,9 @@ fn make_lines_within<D: Driven>(
     comparison: Comparison,
     end: usize,
 ) -> Result<Comparison, AllocError>
-    ensures { IfOk result (λ made. made.lines ≡ comparison.lines) }
+    ensures lines { IfOk result (λ made. made.lines ≡ comparison.lines) }
+    ensures next { IfOk result (λ made. lines_done comparison < length comparison.lines.replies.items
+        → lines_done comparison < lines_done made) }
 {
     let made = match answered(comparison, Reply::Done) {
         Ok(comparison) => make_lines(driven, guards, comparison, end),
@@ -168,7 +189,10 @@ fn make_lines_within<D: Driven>(
 
 /// Answers the next line.
 fn answered(mut comparison: Comparison, reply: Reply<i64>) -> Result<Comparison, AllocError>
-    ensures { IfOk result (λ answered. answered.lines ≡ comparison.lines) }
+    ensures lines { IfOk result (λ answered. answered.lines ≡ comparison.lines) }
+    ensures done { IfOk result (λ answered. lines_done comparison ≤ lines_done answered) }
+    ensures next { IfOk result (λ answered. lines_done comparison < length comparison.lines.replies.items
+        → lines_done comparison < lines_done answered) }
 {
     comparison.answer(reply)?;
     Ok(comparison)
@@ -179,20 +203,19 @@ fn make_line<D: Driven>(
     driven: &D,
     guards: &mut Guards<D::Guard>,
     line: Line,
-) -> Result<Reply<i64>, AllocError> {
-    match line.call {
-        Call::Acquire(want, form, party) => match driven.acquire(want, line.form(form), party) {
-            Some(guard) => Ok(Reply::Guard(guards.add(guard)?)),
-            None => Ok(line.not_admitted()),
+) -> Result<Reply<i64>, AllocError>
+    requires { ¬ IsOutright line.wanted }
+{
+    let reply = match line.made() {
+        Call::Acquire(want, form, party) => match acquire(driven, want, form, party)? {
+            Some(guard) => Reply::Guard(guards.add(guard)?),
+            None => Reply::NoGuard,
         },
-        Call::Resume(party, number) => Ok(resume(driven, guards, line, party, number)),
+        Call::Resume(party, number) => resume(driven, guards, line.resume_form(), party, number)?,
         Call::Abandon(_, number) => {
             guards.take(number);
-            Ok(Reply::Done)
+            Reply::Done
         }
-        Call::IsLocked => Ok(Reply::Bool(driven.is_locked())),
-        Call::IsLockedExclusive => Ok(Reply::Bool(driven.is_locked_exclusive())),
-        Call::IsOwnedBy(party) => Ok(Reply::Bool(driven.is_owned_by(party))),
         Call::Unlock(_, number, _)
         | Call::Park(_, number)
         | Call::ParkFair(_, number)
@@ -202,10 +225,23 @@ fn make_line<D: Driven>(
         | Call::DowngradeToUpgradable(_, number)
         | Call::WithUpgraded(_, _, number, _)
         | Call::Get(_, number, _)
-        | Call::Change(_, number, _) => Ok(make_on_guard(driven, guards, line, number)),
-        Call::Announce(_) | Call::Withdraw(_) | Call::IsBarred | Call::Spent => {
-            Ok(Reply::Refused(Fault::WrongKind))
-        }
+        | Call::Change(_, number, _) => make_on_guard(driven, guards, line.made(), number),
+        call => driven.call_lock(call),
+    };
+    Ok(line.told(reply))
+}
+
+/// Acquires the lock, or returns `None` if the lock refuses.
+fn acquire<D: Driven>(
+    driven: &D,
+    want: Want,
+    form: Form,
+    party: PartyId,
+) -> Result<Option<D::Guard>, AllocError> {
+    match driven.acquire(want, form, party) {
+        Ok(guard) => Ok(Some(guard)),
+        Err(Fault::OutOfMemory) => Err(AllocError),
+        Err(_) => Ok(None),
     }
 }
 
@@ -213,21 +249,21 @@ fn make_line<D: Driven>(
 fn resume<D: Driven>(
     driven: &D,
     guards: &mut Guards<D::Guard>,
-    line: Line,
+    form: Form,
     party: PartyId,
     number: u64,
-) -> Reply<i64> {
+) -> Result<Reply<i64>, AllocError> {
     let Slot::Parked(want) = guards.take(number) else {
-        return Reply::Refused(Fault::UnknownGuard);
+        return Ok(Reply::Refused(Fault::UnknownGuard));
     };
-    match driven.acquire(want, line.form(Form::Block), party) {
+    match acquire(driven, want, form, party)? {
         Some(guard) => {
             guards.put(number, Slot::Held(guard));
-            Reply::Done
+            Ok(Reply::Done)
         }
         None => {
             guards.put(number, Slot::Parked(want));
-            line.not_admitted()
+            Ok(Reply::NoGuard)
         }
     }
 }
@@ -236,59 +272,26 @@ fn resume<D: Driven>(
 fn make_on_guard<D: Driven>(
     driven: &D,
     guards: &mut Guards<D::Guard>,
-    line: Line,
+    call: Call<PairOp>,
     number: u64,
 ) -> Reply<i64> {
     let Some(guard) = guards.take_held(number) else {
         return Reply::Refused(Fault::UnknownGuard);
     };
-    let (slot, reply) = on_guard(driven, guard, line);
-    guards.put(number, slot);
-    reply
-}
-
-/// Makes a call on a guard, and returns what became of the guard, and the reply.
-fn on_guard<D: Driven>(driven: &D, guard: D::Guard, line: Line) -> (Slot<D::Guard>, Reply<i64>) {
-    match line.call {
+    let (slot, reply) = match call {
         Call::Unlock(_, _, way) => {
             driven.release(guard, way);
             (Slot::Gone, Reply::Done)
         }
         Call::Park(_, _) => (park(driven, guard, Way::Plain), Reply::Done),
         Call::ParkFair(_, _) => (park(driven, guard, Way::Fair), Reply::Done),
-        Call::Bump(_, _) => (Slot::Held(driven.bump(guard)), Reply::Done),
-        Call::Upgrade(form, _, _) => {
-            let (guard, is_upgraded) = driven.upgrade(line.form(form), guard);
-            let reply = if is_upgraded {
-                Reply::Done
-            } else {
-                line.not_admitted()
-            };
+        call => {
+            let (guard, reply) = driven.call_guard(guard, call);
             (Slot::Held(guard), reply)
         }
-        Call::Downgrade(_, _) => (Slot::Held(driven.downgrade(guard)), Reply::Done),
-        Call::DowngradeToUpgradable(_, _) => (
-            Slot::Held(driven.downgrade_to_upgradable(guard)),
-            Reply::Done,
-        ),
-        Call::WithUpgraded(form, _, _, operation) => {
-            let (guard, answer) = driven.with_upgraded(line.form(form), guard, operation);
-            let reply = match answer {
-                Some(item) => item_reply(item),
-                None => line.not_admitted(),
-            };
-            (Slot::Held(guard), reply)
-        }
-        Call::Get(_, _, operation) => {
-            let (guard, item) = driven.get(guard, operation);
-            (Slot::Held(guard), item_reply(item))
-        }
-        Call::Change(_, _, operation) => {
-            let (guard, item) = driven.change(guard, operation);
-            (Slot::Held(guard), item_reply(item))
-        }
-        _ => (Slot::Held(guard), Reply::Refused(Fault::WrongKind)),
-    }
+    };
+    guards.put(number, slot);
+    reply
 }
 
 /// Releases a guard that is acquired again later.
@@ -296,12 +299,4 @@ fn park<D: Driven>(driven: &D, guard: D::Guard, way: Way) -> Slot<D::Guard> {
     let want = driven.want(&guard);
     driven.release(guard, way);
     Slot::Parked(want)
-}
-
-/// Returns the reply of an operation, which may not fit.
-fn item_reply(item: Option<i64>) -> Reply<i64> {
-    match item {
-        Some(item) => Reply::Answer(item),
-        None => Reply::Refused(Fault::NoFocus),
-    }
 }

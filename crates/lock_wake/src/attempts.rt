@@ -10,7 +10,6 @@ use crate::deadline::time_left;
 use crate::waits::Round;
 use crate::word_lock::WordLock;
 use crossbeam_utils::Backoff;
-use lock_word::seated::Attempt;
 use lock_word::ExWant;
 use lock_word::seated::Attempt;
 use std::sync::Wait;

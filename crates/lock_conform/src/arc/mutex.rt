@@ -6,14 +6,14 @@ ghost use Rattle.lock_conform.specs.Reports.{IsReport};
 
 use crate::call_log::CallLog;
 use crate::deadline::Deadline;
-use crate::driven::Driven;
+use crate::driven::{Driven, unlocked};
 use crate::lines::Lines;
 use crate::operation::{ask, change};
 use crate::park_by::ParkBy;
 use crate::parts::run_parts;
 use crate::report::Report;
 use crate::script_run::run_on;
-use lock_base::machine::{Form, Kind, PartyId, Want, Way};
+use lock_base::machine::{Call, Form, Kind, PartyId, Reply, Want, Way};
 use lock_base::raw::Fault;
 use lock_guard::raw::{RawMutex, RawMutexFair, RawMutexTimed};
 use lock_mutex::{ArcMutexGuard, Mutex};
@@ -38,12 +38,12 @@ where
     ensures report { IfOk result
         (IsReport script.calls.items (replies_to script.maker script.calls.items)) }
 {
-    let (raw, pair, log, lines) = run_parts(alloc, Kind::Mutex, raw, script)?;
-    let lock = Mutex::from_raw(raw, pair)?;
+    let parts = run_parts(alloc, Kind::Mutex, raw, script)?;
+    let lock = Mutex::from_raw(parts.raw, parts.pair)?;
     let Ok(lock) = Arc::new(alloc, lock) else {
         return Err(Fault::OutOfMemory);
     };
-    let report = OwningMutex { lock }.run(alloc, log, lines, park_by)?;
+    let report = OwningMutex { lock }.run(alloc, parts.log, parts.lines, park_by)?;
     Ok(report)
 }
 
@@ -78,20 +78,21 @@ where
 {
     type Guard = ArcMutexGuard<R, Pair>;
 
-    fn acquire(&self, _want: Want, form: Form, _party: PartyId) -> Option<ArcMutexGuard<R, Pair>> {
-        match form {
-            Form::Block => Mutex::lock_arc(&self.lock).ok(),
-            Form::Try => Mutex::try_lock_arc(&self.lock).ok()?,
-            Form::For => Mutex::try_lock_arc_for(&self.lock, ()).ok()?,
-            Form::Until => Mutex::try_lock_arc_until(&self.lock, ()).ok()?,
-        }
+    fn acquire(&self, _want: Want, form: Form, _party: PartyId) -> Result<Self::Guard, Fault> {
+        let tried = match form {
+            Form::Block => Some(Mutex::lock_arc(&self.lock)?),
+            Form::Try => Mutex::try_lock_arc(&self.lock)?,
+            Form::For => Mutex::try_lock_arc_for(&self.lock, ())?,
+            Form::Until => Mutex::try_lock_arc_until(&self.lock, ())?,
+        };
+        tried.ok_or(Fault::WouldWait)
     }
 
-    fn want(&self, _guard: &ArcMutexGuard<R, Pair>) -> Want {
+    fn want(&self, _guard: &Self::Guard) -> Want {
         Want::Lock
     }
 
-    fn release(&self, guard: ArcMutexGuard<R, Pair>, way: Way) {
+    fn release(&self, guard: Self::Guard, way: Way) {
         match way {
             Way::Plain => drop(guard),
             Way::Fair => ArcMutexGuard::unlock_fair(guard),
@@ -100,80 +101,37 @@ where
         }
     }
 
-    fn bump(&self, guard: ArcMutexGuard<R, Pair>) -> ArcMutexGuard<R, Pair> {
-        let mut guard = guard;
-        ArcMutexGuard::bump(&mut guard);
-        guard
-    }
-
     fn unlocked<U, F: FnOnce() -> U>(
         &self,
-        guard: ArcMutexGuard<R, Pair>,
+        guard: Self::Guard,
         is_fair: bool,
         f: F,
-    ) -> (ArcMutexGuard<R, Pair>, U) {
+    ) -> (Self::Guard, U) {
+        unlocked!(ArcMutexGuard, guard, is_fair, f)
+    }
+
+    fn call_guard(&self, guard: Self::Guard, call: Call<PairOp>) -> (Self::Guard, Reply<i64>) {
         let mut guard = guard;
-        let done = if is_fair {
-            ArcMutexGuard::unlocked_fair(&mut guard, f)
-        } else {
-            ArcMutexGuard::unlocked(&mut guard, f)
+        let reply = match call {
+            Call::Bump(_, _) => {
+                ArcMutexGuard::bump(&mut guard);
+                Reply::Done
+            }
+            Call::Get(_, _, operation) => {
+                ArcMutexGuard::with(&guard, |pair: &Pair| ask(operation, pair))
+            }
+            Call::Change(_, _, operation) => {
+                ArcMutexGuard::with_mut(&mut guard, |pair: &mut Pair| change(operation, pair))
+            }
+            _ => Reply::Refused(Fault::WrongKind),
         };
-        (guard, done)
+        (guard, reply)
     }
 
-    fn upgrade(
-        &self,
-        _form: Form,
-        guard: ArcMutexGuard<R, Pair>,
-    ) -> (ArcMutexGuard<R, Pair>, bool) {
-        (guard, false)
-    }
-
-    fn downgrade(&self, guard: ArcMutexGuard<R, Pair>) -> ArcMutexGuard<R, Pair> {
-        guard
-    }
-
-    fn downgrade_to_upgradable(&self, guard: ArcMutexGuard<R, Pair>) -> ArcMutexGuard<R, Pair> {
-        guard
-    }
-
-    fn with_upgraded(
-        &self,
-        _form: Form,
-        guard: ArcMutexGuard<R, Pair>,
-        _operation: PairOp,
-    ) -> (ArcMutexGuard<R, Pair>, Option<Option<i64>>) {
-        (guard, None)
-    }
-
-    fn get(
-        &self,
-        guard: ArcMutexGuard<R, Pair>,
-        operation: PairOp,
-    ) -> (ArcMutexGuard<R, Pair>, Option<i64>) {
-        let item = ArcMutexGuard::with(&guard, |pair: &Pair| ask(operation, pair));
-        (guard, item)
-    }
-
-    fn change(
-        &self,
-        guard: ArcMutexGuard<R, Pair>,
-        operation: PairOp,
-    ) -> (ArcMutexGuard<R, Pair>, Option<i64>) {
-        let mut guard = guard;
-        let item = ArcMutexGuard::with_mut(&mut guard, |pair: &mut Pair| change(operation, pair));
-        (guard, item)
-    }
-
-    fn is_locked(&self) -> bool {
-        self.lock.is_locked()
-    }
-
-    fn is_locked_exclusive(&self) -> bool {
-        self.lock.is_locked()
-    }
-
-    fn is_owned_by(&self, _party: PartyId) -> bool {
-        false
+    fn call_lock(&self, call: Call<PairOp>) -> Reply<i64> {
+        match call {
+            Call::IsLocked | Call::IsLockedExclusive => Reply::Bool(self.lock.is_locked()),
+            _ => Reply::Refused(Fault::WrongKind),
+        }
     }
 }

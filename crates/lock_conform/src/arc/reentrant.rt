@@ -11,7 +11,7 @@ use crate::park_by::ParkBy;
 use crate::parts::run_parts;
 use crate::report::Report;
 use crate::script_run::run_on;
-use lock_base::machine::{Form, Kind, PartyId, Want, Way};
+use lock_base::machine::{Call, Form, Kind, PartyId, Reply, Want, Way};
 use lock_base::raw::Fault;
 use lock_guard::raw::{RawMutex, RawMutexFair, RawMutexTimed};
 use lock_remutex::{ArcReentrantMutexGuard, ReentrantMutex};
@@ -37,12 +37,18 @@ where
     ensures report { IfOk result
         (IsReport script.calls.items (replies_to script.maker script.calls.items)) }
 {
-    let (raw, pair, log, lines) = run_parts(alloc, Kind::Reentrant, raw, script)?;
-    let lock = ReentrantMutex::from_raw(alloc, raw, pair)?;
+    let parts = run_parts(alloc, Kind::Reentrant, raw, script)?;
+    let lock = ReentrantMutex::from_raw(alloc, parts.raw, parts.pair)?;
     let Ok(lock) = Arc::new(alloc, lock) else {
         return Err(Fault::OutOfMemory);
     };
-    let report = run_on(alloc, &OwningReentrant { lock }, log, lines, park_by)?;
+    let report = run_on(
+        alloc,
+        &OwningReentrant { lock },
+        parts.log,
+        parts.lines,
+        park_by,
+    )?;
     Ok(report)
 }
 
@@ -65,21 +71,21 @@ where
 {
     type Guard = Guard<R>;
 
-    fn acquire(&self, _want: Want, form: Form, party: PartyId) -> Option<Guard<R>> {
-        let guard = match form {
-            Form::Block => ReentrantMutex::lock_arc(&self.lock, party).ok()?,
-            Form::Try => ReentrantMutex::try_lock_arc(&self.lock, party).ok()??,
-            Form::For => ReentrantMutex::try_lock_arc_for(&self.lock, party, ()).ok()??,
-            Form::Until => ReentrantMutex::try_lock_arc_until(&self.lock, party, ()).ok()??,
+    fn acquire(&self, _want: Want, form: Form, party: PartyId) -> Result<Self::Guard, Fault> {
+        let tried = match form {
+            Form::Block => Some(ReentrantMutex::lock_arc(&self.lock, party)?),
+            Form::Try => ReentrantMutex::try_lock_arc(&self.lock, party)?,
+            Form::For => ReentrantMutex::try_lock_arc_for(&self.lock, party, ())?,
+            Form::Until => ReentrantMutex::try_lock_arc_until(&self.lock, party, ())?,
         };
-        Some(Some(guard))
+        Ok(Some(tried.ok_or(Fault::WouldWait)?))
     }
 
-    fn want(&self, _guard: &Guard<R>) -> Want {
+    fn want(&self, _guard: &Self::Guard) -> Want {
         Want::Lock
     }
 
-    fn release(&self, guard: Guard<R>, way: Way) {
+    fn release(&self, guard: Self::Guard, way: Way) {
         let Some(guard) = guard else {
             return;
         };
@@ -89,12 +95,6 @@ where
             Way::IntoArc => drop(ArcReentrantMutexGuard::into_arc(guard)),
             Way::IntoArcFair => drop(ArcReentrantMutexGuard::into_arc_fair(guard)),
         }
-    }
-
-    fn bump(&self, guard: Guard<R>) -> Guard<R> {
-        let mut guard = guard?;
-        ArcReentrantMutexGuard::bump(&mut guard);
-        Some(guard)
     }
 
     fn unlocked<U, F: FnOnce() -> U>(&self, guard: Guard<R>, is_fair: bool, f: F) -> (Guard<R>, U) {
@@ -112,48 +112,27 @@ where
         }
     }
 
-    fn upgrade(&self, _form: Form, guard: Guard<R>) -> (Guard<R>, bool) {
-        (guard, false)
-    }
-
-    fn downgrade(&self, guard: Guard<R>) -> Guard<R> {
-        guard
-    }
-
-    fn downgrade_to_upgradable(&self, guard: Guard<R>) -> Guard<R> {
-        guard
-    }
-
-    fn with_upgraded(
-        &self,
-        _form: Form,
-        guard: Guard<R>,
-        _operation: PairOp,
-    ) -> (Guard<R>, Option<Option<i64>>) {
-        (guard, None)
-    }
-
-    fn get(&self, guard: Guard<R>, operation: PairOp) -> (Guard<R>, Option<i64>) {
+    fn call_guard(&self, guard: Self::Guard, call: Call<PairOp>) -> (Self::Guard, Reply<i64>) {
         let Some(guard) = guard else {
-            return (None, None);
+            return (None, Reply::Refused(Fault::UnknownGuard));
         };
-        let item = ask(operation, &guard);
-        (Some(guard), item)
+        let mut guard = guard;
+        let reply = match call {
+            Call::Bump(_, _) => {
+                ArcReentrantMutexGuard::bump(&mut guard);
+                Reply::Done
+            }
+            Call::Get(_, _, operation) => ask(operation, &guard),
+            _ => Reply::Refused(Fault::WrongKind),
+        };
+        (Some(guard), reply)
     }
 
-    fn change(&self, guard: Guard<R>, _operation: PairOp) -> (Guard<R>, Option<i64>) {
-        (guard, None)
-    }
-
-    fn is_locked(&self) -> bool {
-        self.lock.is_locked()
-    }
-
-    fn is_locked_exclusive(&self) -> bool {
-        self.lock.is_locked()
-    }
-
-    fn is_owned_by(&self, party: PartyId) -> bool {
-        self.lock.is_owned_by_current_thread(party)
+    fn call_lock(&self, call: Call<PairOp>) -> Reply<i64> {
+        match call {
+            Call::IsLocked | Call::IsLockedExclusive => Reply::Bool(self.lock.is_locked()),
+            Call::IsOwnedBy(party) => Reply::Bool(self.lock.is_owned_by_current_thread(party)),
+            _ => Reply::Refused(Fault::WrongKind),
+        }
     }
 }

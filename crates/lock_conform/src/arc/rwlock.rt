@@ -6,15 +6,15 @@ ghost use Rattle.lock_conform.specs.Reports.{IsReport};
 
 use crate::call_log::CallLog;
 use crate::deadline::Deadline;
-use crate::driven::Driven;
+use crate::driven::{Driven, unlocked};
 use crate::lines::Lines;
 use crate::operation::{ask, change};
 use crate::park_by::ParkBy;
 use crate::parts::run_parts;
 use crate::report::Report;
-use crate::rw_guard::RwGuard;
+use crate::rw_guard::{RwGuard, in_each_mode};
 use crate::script_run::run_on;
-use lock_base::machine::{Form, Kind, PartyId, Want, Way};
+use lock_base::machine::{Call, Form, Kind, PartyId, Reply, Want, Way};
 use lock_base::raw::Fault;
 use lock_guard::raw::{
     RawRwLock, RawRwLockUpgradeDowngrade, RawRwLockUpgradeFair, RawRwLockUpgradeTimed,
@@ -45,12 +45,12 @@ where
     ensures report { IfOk result
         (IsReport script.calls.items (replies_to script.maker script.calls.items)) }
 {
-    let (raw, pair, log, lines) = run_parts(alloc, Kind::RwLock, raw, script)?;
-    let lock = RwLock::from_raw(raw, pair)?;
+    let parts = run_parts(alloc, Kind::RwLock, raw, script)?;
+    let lock = RwLock::from_raw(parts.raw, parts.pair)?;
     let Ok(lock) = Arc::new(alloc, lock) else {
         return Err(Fault::OutOfMemory);
     };
-    let report = OwningRwLock { lock }.run(alloc, log, lines, park_by)?;
+    let report = OwningRwLock { lock }.run(alloc, parts.log, parts.lines, park_by)?;
     Ok(report)
 }
 
@@ -97,20 +97,36 @@ where
 {
     type Guard = Guard<R>;
 
-    fn acquire(&self, want: Want, form: Form, _party: PartyId) -> Option<Guard<R>> {
-        match want {
-            Want::Lock => None,
-            Want::Read => Some(RwGuard::Reader(read(&self.lock, form)?)),
-            Want::Write => Some(RwGuard::Writer(write(&self.lock, form)?)),
-            Want::UpgradableRead => Some(RwGuard::Upgradable(upgradable_read(&self.lock, form)?)),
-        }
+    fn acquire(&self, want: Want, form: Form, _party: PartyId) -> Result<Self::Guard, Fault> {
+        let lock = &self.lock;
+        Ok(match want {
+            Want::Lock => return Err(Fault::WrongKind),
+            Want::Read => RwGuard::Reader(match form {
+                Form::Block => RwLock::read_arc(lock)?,
+                Form::Try => got(RwLock::try_read_arc(lock))?,
+                Form::For => got(RwLock::try_read_arc_for(lock, ()))?,
+                Form::Until => got(RwLock::try_read_arc_until(lock, ()))?,
+            }),
+            Want::Write => RwGuard::Writer(match form {
+                Form::Block => RwLock::write_arc(lock)?,
+                Form::Try => got(RwLock::try_write_arc(lock))?,
+                Form::For => got(RwLock::try_write_arc_for(lock, ()))?,
+                Form::Until => got(RwLock::try_write_arc_until(lock, ()))?,
+            }),
+            Want::UpgradableRead => RwGuard::Upgradable(match form {
+                Form::Block => RwLock::upgradable_read_arc(lock)?,
+                Form::Try => got(RwLock::try_upgradable_read_arc(lock))?,
+                Form::For => got(RwLock::try_upgradable_read_arc_for(lock, ()))?,
+                Form::Until => got(RwLock::try_upgradable_read_arc_until(lock, ()))?,
+            }),
+        })
     }
 
-    fn want(&self, guard: &Guard<R>) -> Want {
+    fn want(&self, guard: &Self::Guard) -> Want {
         guard.want()
     }
 
-    fn release(&self, guard: Guard<R>, way: Way) {
+    fn release(&self, guard: Self::Guard, way: Way) {
         match guard {
             RwGuard::Reader(guard) => end(guard, way),
             RwGuard::Writer(guard) => end(guard, way),
@@ -118,164 +134,74 @@ where
         }
     }
 
-    fn bump(&self, guard: Guard<R>) -> Guard<R> {
-        match guard {
-            RwGuard::Reader(mut guard) => {
-                ArcRwLockGuard::bump(&mut guard);
-                RwGuard::Reader(guard)
-            }
-            RwGuard::Writer(mut guard) => {
-                ArcRwLockGuard::bump(&mut guard);
-                RwGuard::Writer(guard)
-            }
-            RwGuard::Upgradable(mut guard) => {
-                ArcRwLockGuard::bump(&mut guard);
-                RwGuard::Upgradable(guard)
-            }
-        }
-    }
-
-    fn unlocked<U, F: FnOnce() -> U>(&self, guard: Guard<R>, is_fair: bool, f: F) -> (Guard<R>, U) {
-        match guard {
-            RwGuard::Reader(guard) => {
-                let (guard, done) = unlocked(guard, is_fair, f);
-                (RwGuard::Reader(guard), done)
-            }
-            RwGuard::Writer(guard) => {
-                let (guard, done) = unlocked(guard, is_fair, f);
-                (RwGuard::Writer(guard), done)
-            }
-            RwGuard::Upgradable(guard) => {
-                let (guard, done) = unlocked(guard, is_fair, f);
-                (RwGuard::Upgradable(guard), done)
-            }
-        }
-    }
-
-    fn upgrade(&self, form: Form, guard: Guard<R>) -> (Guard<R>, bool) {
-        let RwGuard::Upgradable(guard) = guard else {
-            return (guard, false);
-        };
-        match upgrade(form, guard) {
-            Ok(guard) => (RwGuard::Writer(guard), true),
-            Err(guard) => (RwGuard::Upgradable(guard), false),
-        }
-    }
-
-    fn downgrade(&self, guard: Guard<R>) -> Guard<R> {
-        match guard {
-            RwGuard::Writer(guard) => RwGuard::Reader(ArcRwLockWriteGuard::downgrade(guard)),
-            RwGuard::Upgradable(guard) => {
-                RwGuard::Reader(ArcRwLockUpgradableReadGuard::downgrade(guard))
-            }
-            RwGuard::Reader(guard) => RwGuard::Reader(guard),
-        }
-    }
-
-    fn downgrade_to_upgradable(&self, guard: Guard<R>) -> Guard<R> {
-        match guard {
-            RwGuard::Writer(guard) => {
-                RwGuard::Upgradable(ArcRwLockWriteGuard::downgrade_to_upgradable(guard))
-            }
-            _ => guard,
-        }
-    }
-
-    fn with_upgraded(
+    fn unlocked<U, F: FnOnce() -> U>(
         &self,
-        form: Form,
-        guard: Guard<R>,
-        operation: PairOp,
-    ) -> (Guard<R>, Option<Option<i64>>) {
-        match guard {
-            RwGuard::Upgradable(guard) => {
-                let (guard, item) = with_upgraded(form, guard, operation);
-                (RwGuard::Upgradable(guard), item)
-            }
-            _ => (guard, None),
-        }
+        guard: Self::Guard,
+        is_fair: bool,
+        f: F,
+    ) -> (Self::Guard, U) {
+        in_each_mode!(guard, guard => unlocked!(ArcRwLockGuard, guard, is_fair, f))
     }
 
-    fn get(&self, guard: Guard<R>, operation: PairOp) -> (Guard<R>, Option<i64>) {
-        match guard {
-            RwGuard::Reader(guard) => {
-                let item = ArcRwLockGuard::with(&guard, |pair: &Pair| ask(operation, pair));
-                (RwGuard::Reader(guard), item)
-            }
-            RwGuard::Writer(guard) => {
-                let item = ArcRwLockGuard::with(&guard, |pair: &Pair| ask(operation, pair));
-                (RwGuard::Writer(guard), item)
-            }
-            RwGuard::Upgradable(guard) => {
-                let item = ArcRwLockGuard::with(&guard, |pair: &Pair| ask(operation, pair));
-                (RwGuard::Upgradable(guard), item)
-            }
-        }
-    }
-
-    fn change(&self, guard: Guard<R>, operation: PairOp) -> (Guard<R>, Option<i64>) {
-        match guard {
-            RwGuard::Writer(mut guard) => {
-                let item = ArcRwLockGuard::with_mut(
+    fn call_guard(&self, guard: Self::Guard, call: Call<PairOp>) -> (Self::Guard, Reply<i64>) {
+        match (call, guard) {
+            (Call::Bump(_, _), guard) => in_each_mode!(guard, guard => {
+                let mut guard = guard;
+                ArcRwLockGuard::bump(&mut guard);
+                (guard, Reply::Done)
+            }),
+            (Call::Get(_, _, operation), guard) => in_each_mode!(guard, guard => {
+                let reply = ArcRwLockGuard::with(&guard, |pair: &Pair| ask(operation, pair));
+                (guard, reply)
+            }),
+            (Call::Change(_, _, operation), RwGuard::Writer(guard)) => {
+                let mut guard = guard;
+                let reply = ArcRwLockGuard::with_mut(
                     &mut guard,
                     |pair: &mut Pair| change(operation, pair),
                 );
-                (RwGuard::Writer(guard), item)
+                (RwGuard::Writer(guard), reply)
             }
-            _ => (guard, None),
+            (Call::Upgrade(form, _, _), RwGuard::Upgradable(guard)) => match upgrade(form, guard) {
+                Ok(guard) => (RwGuard::Writer(guard), Reply::Done),
+                Err(guard) => (RwGuard::Upgradable(guard), Reply::NoGuard),
+            },
+            (Call::WithUpgraded(form, _, _, operation), RwGuard::Upgradable(guard)) => {
+                let (guard, reply) = with_upgraded(form, guard, operation);
+                (RwGuard::Upgradable(guard), reply)
+            }
+            (Call::Downgrade(_, _), RwGuard::Writer(guard)) => {
+                (
+                    RwGuard::Reader(ArcRwLockWriteGuard::downgrade(guard)),
+                    Reply::Done,
+                )
+            }
+            (Call::Downgrade(_, _), RwGuard::Upgradable(guard)) => {
+                (
+                    RwGuard::Reader(ArcRwLockUpgradableReadGuard::downgrade(guard)),
+                    Reply::Done,
+                )
+            }
+            (Call::DowngradeToUpgradable(_, _), RwGuard::Writer(guard)) => {
+                let guard = ArcRwLockWriteGuard::downgrade_to_upgradable(guard);
+                (RwGuard::Upgradable(guard), Reply::Done)
+            }
+            (_, guard) => (guard, Reply::Refused(Fault::WrongKind)),
         }
     }
 
-    fn is_locked(&self) -> bool {
-        self.lock.is_locked()
-    }
-
-    fn is_locked_exclusive(&self) -> bool {
-        self.lock.is_locked_exclusive()
-    }
-
-    fn is_owned_by(&self, _party: PartyId) -> bool {
-        false
+    fn call_lock(&self, call: Call<PairOp>) -> Reply<i64> {
+        match call {
+            Call::IsLocked => Reply::Bool(self.lock.is_locked()),
+            Call::IsLockedExclusive => Reply::Bool(self.lock.is_locked_exclusive()),
+            _ => Reply::Refused(Fault::WrongKind),
+        }
     }
 }
 
-fn read<R>(lock: &Arc<RwLock<R, Pair>>, form: Form) -> Option<ArcRwLockReadGuard<R, Pair>>
-where
-    R: RawRwLockUpgradeTimed<Duration = (), Instant = ()> + Drop,
-{
-    match form {
-        Form::Block => RwLock::read_arc(lock).ok(),
-        Form::Try => RwLock::try_read_arc(lock).ok()?,
-        Form::For => RwLock::try_read_arc_for(lock, ()).ok()?,
-        Form::Until => RwLock::try_read_arc_until(lock, ()).ok()?,
-    }
-}
-
-fn write<R>(lock: &Arc<RwLock<R, Pair>>, form: Form) -> Option<ArcRwLockWriteGuard<R, Pair>>
-where
-    R: RawRwLockUpgradeTimed<Duration = (), Instant = ()> + Drop,
-{
-    match form {
-        Form::Block => RwLock::write_arc(lock).ok(),
-        Form::Try => RwLock::try_write_arc(lock).ok()?,
-        Form::For => RwLock::try_write_arc_for(lock, ()).ok()?,
-        Form::Until => RwLock::try_write_arc_until(lock, ()).ok()?,
-    }
-}
-
-fn upgradable_read<R>(
-    lock: &Arc<RwLock<R, Pair>>,
-    form: Form,
-) -> Option<ArcRwLockUpgradableReadGuard<R, Pair>>
-where
-    R: RawRwLockUpgradeTimed<Duration = (), Instant = ()> + Drop,
-{
-    match form {
-        Form::Block => RwLock::upgradable_read_arc(lock).ok(),
-        Form::Try => RwLock::try_upgradable_read_arc(lock).ok()?,
-        Form::For => RwLock::try_upgradable_read_arc_for(lock, ()).ok()?,
-        Form::Until => RwLock::try_upgradable_read_arc_until(lock, ()).ok()?,
-    }
+/// Returns the guard of a try, or `WouldWait` if the lock refused.
+fn got<G>(tried: Result<Option<G>, Fault>) -> Result<G, Fault> {
+    tried?.ok_or(Fault::WouldWait)
 }
 
 fn upgrade<R>(
@@ -297,19 +223,19 @@ fn with_upgraded<R>(
     form: Form,
     guard: ArcRwLockUpgradableReadGuard<R, Pair>,
     operation: PairOp,
-) -> (ArcRwLockUpgradableReadGuard<R, Pair>, Option<Option<i64>>)
+) -> (ArcRwLockUpgradableReadGuard<R, Pair>, Reply<i64>)
 where
     R: RawRwLockUpgradeTimed<Duration = (), Instant = ()> + RawRwLockUpgradeDowngrade + Drop,
 {
     let mut guard = guard;
     let put = |pair: &mut Pair| change(operation, pair);
-    let item = match form {
+    let tried = match form {
         Form::Block => Some(guard.with_upgraded(put)),
         Form::Try => guard.try_with_upgraded(put),
         Form::For => guard.try_with_upgraded_for((), put),
         Form::Until => guard.try_with_upgraded_until((), put),
     };
-    (guard, item)
+    (guard, tried.unwrap_or(Reply::NoGuard))
 }
 
 fn end<M: FairMode<R>, R: RawRwLock + Drop>(guard: ArcRwLockGuard<M, R, Pair>, way: Way) {
@@ -319,21 +245,4 @@ fn end<M: FairMode<R>, R: RawRwLock + Drop>(guard: ArcRwLockGuard<M, R, Pair>, w
         Way::IntoArc => drop(ArcRwLockGuard::into_arc(guard)),
         Way::IntoArcFair => drop(ArcRwLockGuard::into_arc_fair(guard)),
     }
-}
-
-fn unlocked<M: FairMode<R>, R: RawRwLock + Drop, U, F: FnOnce() -> U>(
-    guard: ArcRwLockGuard<M, R, Pair>,
-    is_fair: bool,
-    f: F,
-) -> (ArcRwLockGuard<M, R, Pair>, U)
-    requires { F.IsAlwaysCallable f }
-    ensures { F.post f result.1 }
-{
-    let mut guard = guard;
-    let done = if is_fair {
-        ArcRwLockGuard::unlocked_fair(&mut guard, f)
-    } else {
-        ArcRwLockGuard::unlocked(&mut guard, f)
-    };
-    (guard, done)
 }
