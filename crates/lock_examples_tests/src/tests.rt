@@ -16,5 +16,5 @@ mod shared_permits;
 mod shelf;
 mod spin_lock;
 
-/// The word while a writer holds the lock and none waits: the exclusive bit alone.
-const WRITER_ALONE: u64 = 1 << 33;
+/// The word while a writer holds the lock and none waits: bit 33 alone.
+const WRITER_ALONE: u64 = 8_589_934_592;

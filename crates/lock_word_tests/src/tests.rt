@@ -11,11 +11,11 @@ mod threads;
 mod word_lock;
 mod world;
 
-/// The word of a writer: the exclusive bit alone.
-const WRITER: u64 = 1 << 33;
+/// The word of a writer: bit 33 alone.
+const WRITER: u64 = 8_589_934_592;
 
-/// The word of an upgradable reader: its bit, and one reader.
-const UPGRADER: u64 = (1 << 32) + 1;
+/// The word of an upgradable reader: bit 32, and one reader.
+const UPGRADER: u64 = 4_294_967_297;
 
-/// The word of an announced party: the bar alone.
-const BAR: u64 = 1 << 34;
+/// The word of an announced party: the bar alone, which is bit 34.
+const BAR: u64 = 17_179_869_184;

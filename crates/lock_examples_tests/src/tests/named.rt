@@ -28,7 +28,9 @@ fn party() -> Result<PartyId, Fail> {
 
 /// What the three locks hold. The condition variable waits while the mutex holds another value than 1.
 fn held<R: FullRawLock>(made: Made<R>) -> Result<[u64; 3], Fail> {
-    let (mutex, condvar, lock, reentrant) = (made.0?, made.1?, made.2?, made.3?);
+    let (mutex, condvar, lock, reentrant) = made;
+    let (mutex, condvar) = (mutex?, condvar?);
+    let (lock, reentrant) = (lock?, reentrant?);
     let mut guard = mutex.lock();
     condvar.wait_while(&mut guard, |value| *value != 1);
     let reader = lock.read();
@@ -44,7 +46,9 @@ where
         + RawRwLockTimed<Duration = Duration, Instant = Instant>,
     WaiterOf<R>: Clock,
 {
-    let (mutex, condvar, lock, reentrant) = (made.0?, made.1?, made.2?, made.3?);
+    let (mutex, condvar, lock, reentrant) = made;
+    let (mutex, condvar) = (mutex?, condvar?);
+    let (lock, reentrant) = (lock?, reentrant?);
     let short = Duration::from_millis(1);
     let mut guard = mutex.lock();
     let waited = condvar.wait_while_for(&mut guard, |value| *value == 1, short);
