@@ -10,4 +10,4 @@ mod words;
 
 pub use answer::write_answer;
 pub use lanes::write_drawing;
-pub use picture::picture;
+pub use picture::draw_picture;

@@ -9,7 +9,9 @@ ghost use Rattle.lockexplore.specs.Explorations.{AppendsPlanAnswer, ExplainsPlan
 use crate::arguments::Form;
 use crate::verdict::Verdict;
 use lock_plan::explore;
-use lock_plan_text::{NamedPlan, PlanTextFault, parse_plan, picture, write_answer, write_drawing};
+use lock_plan_text::{
+    NamedPlan, PlanTextFault, draw_picture, parse_plan, write_answer, write_drawing,
+};
 use lock_script::{put, read_script};
 use std::alloc::{AllocError, Global};
 use std::io::{Read, Write};
@@ -68,7 +70,7 @@ fn answer_of(
     ensures { IfOk result (λ text. IsTextIn form named.now searched.now.trace searched.now.visited (string_bytes text)) }
 {
     if form == Form::Svg {
-        return picture(alloc, &named.plan, &named.names, searched);
+        return draw_picture(alloc, &named.plan, &named.names, searched);
     }
     let mut text = String::new(alloc);
     write_answer(alloc, &mut text, &named.plan, &named.names, searched)?;

@@ -24,7 +24,7 @@ use waits::{draw_waits, write_stopped};
 /// acquires it, in a color of its mode. Below the last step, an arrow leads from each party that waits to each holder of
 /// the lock. The arrows of a circle of waiting parties are heavier. Names are expected to have no character that SVG
 /// reserves; those of [`parse_plan`](crate::parse_plan) have none. No contract names the bytes.
-pub fn picture(
+pub fn draw_picture(
     alloc: Global,
     plan: &Plan,
     names: &Names,

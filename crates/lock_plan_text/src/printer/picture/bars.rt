@@ -1,4 +1,6 @@
 //! A bar for each hold.
+ghost use Rattle.std.specs.Prelude.{◌<◌, length};
+
 use crate::names::{Names, write_name};
 use crate::printer::mark::Mark;
 use crate::printer::picture::Run;
