@@ -16,7 +16,7 @@ use lock_plan::{Plan, PlanCall};
 use std::alloc::{AllocError, Global};
 use step_search::Searched;
 use svg::{Spot, Svg};
-use waits::{draw_waits, write_stopped};
+use waits::{draw_waits, stopped_of, write_stopped};
 
 /// Returns the answer to a plan as a picture in SVG.
 ///
@@ -42,26 +42,25 @@ pub(crate) struct Run<'a> {
     alloc: Global,
     /// The party of each step.
     trace: &'a [usize],
-    /// The node before each step.
-    before: Vec<usize>,
+    /// The node before each step, and the last one.
+    nodes: Vec<usize>,
     /// The node after the last step.
     last: usize,
 }
 
 impl<'a> Run<'a> {
-    ghost use Rattle.std.specs.Prelude.{◌≡◌};
-
     fn new(alloc: Global, plan: &Plan, trace: &'a [usize]) -> Result<Run<'a>, AllocError> {
-        let mut before = Vec::new(alloc);
+        let mut nodes = Vec::new(alloc);
         let mut node = plan.start();
         for party in trace {
-            before.push(node)?;
+            nodes.push(node)?;
             node = step(plan, node, *party);
         }
+        nodes.push(node)?;
         Ok(Run {
             alloc,
             trace,
-            before,
+            nodes,
             last: node,
         })
     }
@@ -93,10 +92,11 @@ fn picture_of_run(plan: &Plan, names: &Names, run: &Run) -> Result<String, Alloc
         write_bars(&mut svg, plan, names, run, &layout, party)?;
     }
     write_steps(&mut svg, plan, names, run, &layout)?;
-    for stopped in &plan.stopped(run.alloc, run.last)? {
+    let list = stopped_of(run.alloc, plan, run.last)?;
+    for stopped in &list {
         write_stopped(&mut svg, plan, names, &layout, stopped)?;
     }
-    draw_waits(&mut svg, plan, run, &layout)?;
+    draw_waits(&mut svg, plan, run, &layout, list.as_slice())?;
     svg.finish()
 }
 
@@ -113,7 +113,7 @@ fn write_column(
     svg.close_text()
 }
 
-/// A dot for each step, and the call beside it.
+/// A dot for each step, with its call.
 fn write_steps(
     svg: &mut Svg,
     plan: &Plan,
@@ -121,7 +121,7 @@ fn write_steps(
     run: &Run,
     layout: &Layout,
 ) -> Result<(), AllocError> {
-    for (row, (node, party)) in run.before.iter().zip(run.trace).enumerate() {
+    for (row, (node, party)) in run.nodes.iter().zip(run.trace).enumerate() {
         if let Some(call) = call_of_step(plan, *node, *party) {
             let row = row.saturating_add(1);
             svg.dot(layout.life(*party, row))?;

@@ -51,7 +51,7 @@ pub(crate) fn write_stop_lines(
 }
 
 /// Returns whether a stop is about the party: where a call is refused, about refused calls alone.
-fn is_about(is_refused: bool, stopped: &Stopped) -> bool
+pub(crate) fn is_about(is_refused: bool, stopped: &Stopped) -> bool
     ensures { result ≡ is_about is_refused stopped.now }
 {
     !is_refused || stopped.is_refused

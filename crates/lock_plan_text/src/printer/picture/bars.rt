@@ -39,7 +39,7 @@ pub(crate) fn write_bars(
     Ok(())
 }
 
-/// What a bar stands for.
+/// What a bar shows.
 #[derive(Clone, Copy)]
 struct Held {
     party: usize,
@@ -59,7 +59,7 @@ fn write_bars_of(
     requires { held.party < length plan.now.parties.items }
 {
     let mut since = None;
-    for (row, node) in run.before.iter().enumerate() {
+    for (row, node) in run.nodes.iter().enumerate() {
         let is_held = held.mark.is_of(plan.hold(*node, held.party, held.lock));
         match since {
             None if is_held => since = Some(row),
@@ -70,12 +70,8 @@ fn write_bars_of(
             _ => {}
         }
     }
-    let is_held = held.mark.is_of(plan.hold(run.last, held.party, held.lock));
-    let steps = run.before.len();
     match since {
-        Some(first) if is_held => write_bar(svg, names, layout, held, first, layout.last_row()),
-        Some(first) => write_bar(svg, names, layout, held, first, steps),
-        None if is_held => write_bar(svg, names, layout, held, steps, layout.last_row()),
+        Some(first) => write_bar(svg, names, layout, held, first, layout.last_row()),
         None => Ok(()),
     }
 }
@@ -91,6 +87,14 @@ fn write_bar(
 ) -> Result<(), AllocError> {
     let height = Layout::bar_height(end.saturating_sub(first));
     let spot = layout.bar(held.party, held.lock, first);
+    // A party can hold a lock shared and upgradable.
+    let spot = match held.mark {
+        Mark::Upgradable => Spot {
+            x: spot.x.saturating_add(4),
+            ..spot
+        },
+        _ => spot,
+    };
     svg.rect(held.mark.word(), spot, Layout::BAR, height)?;
     let Some(name) = names.locks.get(held.lock) else {
         return Ok(());

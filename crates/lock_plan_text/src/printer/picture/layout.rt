@@ -20,7 +20,7 @@ pub(crate) struct Layout {
 impl Layout {
     /// The width of a bar.
     pub(crate) const BAR: usize = 12;
-    /// The width of a bar and the space beside it.
+    /// The width of a bar and of the space at its right.
     pub(crate) const SLOT: usize = 16;
     /// The width of a letter.
     pub(crate) const LETTER: usize = 8;
@@ -51,7 +51,7 @@ impl Layout {
         for name in &names.parties {
             letters = letters.max(name.len());
         }
-        for (node, party) in run.before.iter().zip(run.trace) {
+        for (node, party) in run.nodes.iter().zip(run.trace) {
             if let Some(call) = call_of_step(plan, *node, *party) {
                 letters = letters.max(letters_of(plan, names, call));
             }

@@ -1,11 +1,28 @@
-//! Who waits for whom.
+//! The parties that a stop is about, and an arrow from each to the holders of its lock.
 use crate::names::Names;
 use crate::printer::picture::Run;
 use crate::printer::picture::layout::Layout;
 use crate::printer::picture::svg::{Spot, Svg};
 use crate::printer::step::write_call;
+use crate::printer::stop::{is_about, is_refused};
 use lock_plan::{Plan, Stopped};
 use std::alloc::{AllocError, Global};
+
+/// Returns the parties that the stop at a node is about.
+pub(crate) fn stopped_of(
+    alloc: Global,
+    plan: &Plan,
+    node: usize,
+) -> Result<Vec<Stopped>, AllocError> {
+    let is_refused = is_refused(plan, node);
+    let mut list = Vec::new(alloc);
+    for stopped in &plan.stopped(alloc, node)? {
+        if is_about(is_refused, stopped) {
+            list.push(*stopped)?;
+        }
+    }
+    Ok(list)
+}
 
 /// Writes the call of a stopped party below its line.
 pub(crate) fn write_stopped(
@@ -48,8 +65,9 @@ pub(crate) fn draw_waits(
     plan: &Plan,
     run: &Run,
     layout: &Layout,
+    list: &[Stopped],
 ) -> Result<(), AllocError> {
-    let edges = edges_of(run.alloc, plan, run.last)?;
+    let edges = edges_of(run.alloc, plan, run.last, list)?;
     for edge in &edges {
         let is_circle = reaches(
             run.alloc,
@@ -68,9 +86,14 @@ pub(crate) fn draw_waits(
 }
 
 /// Returns who waits for whom at a node. A party waits for itself only where nobody else holds the lock.
-fn edges_of(alloc: Global, plan: &Plan, node: usize) -> Result<Vec<Edge>, AllocError> {
+fn edges_of(
+    alloc: Global,
+    plan: &Plan,
+    node: usize,
+    list: &[Stopped],
+) -> Result<Vec<Edge>, AllocError> {
     let mut edges = Vec::new(alloc);
-    for stopped in &plan.stopped(alloc, node)? {
+    for stopped in list {
         let lock = stopped.call.lock;
         let holds = plan.holds_of(alloc, node, lock)?;
         for it in &holds {
