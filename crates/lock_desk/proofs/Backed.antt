@@ -28,7 +28,7 @@ use Rattle.lock_desk.specs.Owners.{OwnsLevels, token_of_owner, one_level_less, m
 use Rattle.lock_desk.specs.Backing.{Backing, register_of, KeepsLimits, bumps, held_of, Differs, AreHeldBy, AreBacked, BacksSlot, HasRoom, IsHeldIn, Releases, ReturnsToken, HasChangeable, HasExchanged}
 use Rattle.lock_desk.proofs.Entries.{entry_found}
 use Rattle.lock_desk.proofs.Owned.{owns_same, owns_less, owns_more, holder_owns, may_add_level-held, levels_of_held, full_of_held, none_held}
-use Rattle.lock_desk.proofs.Slots.{differs_found, differs_put, parked_held, parked_party, level_held, level_party, no_tokens, modes_of-tokens_in, same_put}
+use Rattle.lock_desk.proofs.Slots.{differs_found, differs_put, parked_held, parked_party, held_slot, held_party, no_tokens, modes_of-tokens_in, same_put}
 
 module _ {K : Type 0} where
   -- the tokens of all slots and the owner, by count
@@ -230,10 +230,10 @@ module _ {K : Type 0} where
       → (0 < level_of t.levels party) × SameBag t.tokens (token_of_owner t.levels.owner)
   held_level party t hold is (s, ss, others, d, e, q, b) =
       let held = of_reentrant ss t (reentrant_of_level s ss others t d (e ∙ is) b) b in
-      let some : 0 < length (held_of ss) = omega (arith, level_held s ss others d (e ∙ is)) in
+      let some : 0 < length (held_of ss) = omega (arith, held_slot s ss others d (ap is_held (e ∙ is))) in
       let count : level_of t.levels (id_of s.party) ≡ length (held_of ss)
       = holder_owns t.levels.owner (id_of s.party) (held_of ss) (held_of others) held.1 some
-      (level_party s ss others d (e ∙ is)) in
+      (held_party s ss others d (ap is_held (e ∙ is))) in
       (subst (λ p. 0 < level_of t.levels p) q (omega (arith, count, some)), bag_of_owner ss t held.0 b)
 
   pub releases_level : (hold : GuardHold K) (old new : Backing K) → hold ≡ Level → KeepsLimits old new
@@ -244,8 +244,8 @@ module _ {K : Type 0} where
       let held = of_reentrant ss old n b in
       owner_backs others new (same_nesting old new keeps ∙ n) (still_positive old new keeps b.positive) (d.less is_token held.0).1
       (subst (λ w. OwnsLevels w (held_of others)) (sym left)
-      (owns_less old.levels.owner (id_of s.party) _ _ held.1 (level_held s ss others d (e ∙ is))
-      (level_party s ss others d (e ∙ is)))) p
+      (owns_less old.levels.owner (id_of s.party) _ _ held.1 (held_slot s ss others d (ap is_held (e ∙ is)))
+      (held_party s ss others d (ap is_held (e ∙ is))))) p
 
   pub serves_level : (party : ℕ) (mode : Mode) (old new : Backing K) → is_reentrant old.kind ≡ true
       → KeepsLimits old new → may_add_level old.levels.limit party old.levels.owner ≡ true
@@ -254,9 +254,9 @@ module _ {K : Type 0} where
   serves_level party mode old new n keeps may entered p s ss others d e q m b =
       let held = of_reentrant others old n b in
       let of_party : (r : ℕ) → all_of_party r (held_of ss) ≡ nat_eq party r && all_of_party r (held_of others)
-      = λ r. level_party s ss others d e r ∙ ap (λ w. nat_eq w r && all_of_party r (held_of others)) q in
+      = λ r. held_party s ss others d (ap is_held e) r ∙ ap (λ w. nat_eq w r && all_of_party r (held_of others)) q in
       owner_backs ss new (same_nesting old new keeps ∙ n) (still_positive old new keeps b.positive) (d.more is_token (ap is_token e) held.0)
-      (owns_more old.levels.limit party old.levels.owner new.levels.owner _ _ held.1 may entered (level_held s ss others d e) of_party) p
+      (owns_more old.levels.limit party old.levels.owner new.levels.owner _ _ held.1 may entered (held_slot s ss others d (ap is_held e)) of_party) p
 
   -- What is admitted
 
@@ -500,16 +500,6 @@ module _ {K : Type 0} where
   shown_after_change false ts us s t mode done held = tt
 
   -- What is admitted again
-
-  held_slot : (s : Slot K) (ss others : List (ℕ × Slot K)) → Differs s ss others → is_held s.hold ≡ true
-      → length (held_of ss) ≡ 1 + length (held_of others)
-  held_slot s ss others d e = omega (arith, d.held, ap {B = ℕ} (λ h. cond h 1 0) e)
-
-  held_party : (s : Slot K) (ss others : List (ℕ × Slot K)) → Differs s ss others → is_held s.hold ≡ true → (p : ℕ)
-      → all_of_party p (held_of ss) ≡ nat_eq (id_of s.party) p && all_of_party p (held_of others)
-  held_party s ss others d e p =
-      d.party p ∙ ap (λ h. cond h (nat_eq (id_of s.party) p && all_of_party p (held_of others))
-      (all_of_party p (held_of others))) e
 
   -- the party of a held slot has the levels of all held slots
   held_levels : (s : Slot K) (ss others : List (ℕ × Slot K)) (t : Backing K) → is_reentrant t.kind ≡ true

@@ -1,11 +1,12 @@
 -- The last fields of good lines.
 use Rattle.std.proofs.Common.{◌≡◌, ◌==◌, ℕ, List, [], ◌∷◌, length, subst, ap, refl, inl, inr, arith}
 use Rattle.std.specs.Prelude.{◌⊎◌}
+use Rattle.std.specs.List.{AllByRecursion}
 use Rattle.std.proofs.lemmas.List.Splits.{length-slice_split}
 use Rattle.lock_script.specs.Lines.{fields_of}
-use Rattle.lock_script.specs.Numbers.{IsSigned, IsUnsigned}
-use Rattle.lock_script.specs.Words.{ArePair, IsCall, IsOneOf, number_words}
-use Rattle.lock_script.specs.WorldLines.{AreLimits, IsChange, IsWorldCall, down_words, want_words}
+use Rattle.lock_script.specs.Numbers.{AreTwo, IsSigned, IsUnsigned}
+use Rattle.lock_script.specs.Words.{IsCall, IsOneOf, number_words}
+use Rattle.lock_script.specs.WorldLines.{IsChange, IsWorldCall, down_words, want_words}
 use Rattle.lock_script.proofs.NumberTexts.{line-one_field}
 
 -- the line is one field, or falls into several
@@ -32,40 +33,24 @@ number_of_call word id guard item number call =
       | inr many ↦ absurd (rw many.1.1.1 at call)
     ]
 
--- the two numbers of a pair
-pub numbers_of_pair : (first second : List ℕ) → ArePair (first ∷ fields_of second) → IsSigned first × IsSigned second
-numbers_of_pair first second pair =
-    elim (one_or_more second) [ inl one ↦ rw one at pair | inr many ↦ absurd (rw many.1.1.1 at pair) ]
-
--- the two limits of a world
-pub numbers_of_limits : (parties readers : List ℕ) → AreLimits (parties ∷ fields_of readers) → IsUnsigned parties × IsUnsigned readers
-numbers_of_limits parties readers limits =
-    elim (one_or_more readers) [ inl one ↦ rw one at limits | inr many ↦ absurd (rw many.1.1.1 at limits) ]
+-- the two fields of a pair or of two limits
+pub fields_of_two : (IsField : List ℕ → Type 0) (first second : List ℕ) → AreTwo IsField (first ∷ fields_of second) → IsField first × IsField second
+fields_of_two IsField first second two =
+    elim (one_or_more second) [ inl one ↦ rw one at two | inr many ↦ absurd (rw many.1.1.1 at two) ]
 
 -- the change of a line of three fields
 pub change_of_call : (word party change : List ℕ) → IsWorldCall (word ∷ party ∷ fields_of change) → IsUnsigned party × IsChange word change
 change_of_call word party change call =
     elim (one_or_more change) [ inl one ↦ rw one at call | inr many ↦ absurd (rw many.1.1.1 at call) ]
 
-want-one_field : (word : List ℕ) → IsOneOf want_words word → fields_of word ≡ word ∷ []
-want-one_field word (inl is) = rw is refl
-want-one_field word (inr (inl is)) = rw is refl
-want-one_field word (inr (inr (inl is))) = rw is refl
-want-one_field word (inr (inr (inr (inl is)))) = rw is refl
-want-one_field word (inr (inr (inr (inr (inl is))))) = rw is refl
-want-one_field word (inr (inr (inr (inr (inr none))))) = absurd none
-
-down-one_field : (word : List ℕ) → IsOneOf down_words word → fields_of word ≡ word ∷ []
-down-one_field word (inl is) = rw is refl
-down-one_field word (inr (inl is)) = rw is refl
-down-one_field word (inr (inr (inl is))) = rw is refl
-down-one_field word (inr (inr (inr (inl is)))) = rw is refl
-down-one_field word (inr (inr (inr (inr (inl is))))) = rw is refl
-down-one_field word (inr (inr (inr (inr (inr (inl is)))))) = rw is refl
-down-one_field word (inr (inr (inr (inr (inr (inr (inl is))))))) = rw is refl
-down-one_field word (inr (inr (inr (inr (inr (inr (inr none))))))) = absurd none
+-- a word is one field, if each of the words is
+one_field_of : (words : List (List ℕ)) (word : List ℕ) → AllByRecursion (λ w. fields_of w ≡ w ∷ []) words
+    → IsOneOf words word → fields_of word ≡ word ∷ []
+one_field_of [] word each none = absurd none
+one_field_of (w ∷ words) word each (inl is) = rw is each.0
+one_field_of (w ∷ words) word each (inr other) = one_field_of words word each.1 other
 
 -- a change is one field
 pub fields_of-change : (word change : List ℕ) → IsChange word change → fields_of change ≡ change ∷ []
-fields_of-change word change (inl found) = want-one_field change found.1
-fields_of-change word change (inr found) = down-one_field change found.1
+fields_of-change word change (inl found) = one_field_of want_words change (refl, (refl, (refl, (refl, (refl, tt))))) found.1
+fields_of-change word change (inr found) = one_field_of down_words change (refl, (refl, (refl, (refl, (refl, (refl, (refl, tt))))))) found.1

@@ -1,12 +1,13 @@
 -- The first line by the place of the first line feed.
-use Rattle.std.proofs.Common.{◌≡◌, ◌==◌, ℕ, suc, ◌+◌, ◌<◌, Bool, true, false, not, cond, List, [], ◌∷◌, length, take, drop, ◌-◌, None, Some, subst, refl, ap, arith}
-use Rattle.std.specs.Prelude.{position, nat_lt}
+use Rattle.std.proofs.Common.{◌≡◌, ◌==◌, ℕ, suc, ◌+◌, ◌<◌, Bool, true, false, not, cond, List, [], ◌∷◌, length, take, drop, ◌-◌, Some, subst, refl, ap, arith}
+use Rattle.std.specs.Prelude.{position}
 use Rattle.std.proofs.Common.{add-one, take_all, length-drop, le_refl}
 use Rattle.std.proofs.Math.Numerals.{one-add}
 use Rattle.std.proofs.lemmas.List.Quantifiers.{position-Some}
 use Rattle.std.specs.List.{position_or_len}
 use Rattle.std.specs.List.{onto_first}
 use Rattle.lock_script.specs.Lines.{lines_of}
+use Rattle.lock_script.proofs.Cuts.{place_found}
 
 -- one more byte in front, where t says whether it is a line feed
 lines_of-step : (t : Bool) (x : ℕ) (rest : List ℕ) (m : ℕ) → lines_of rest ≡ take m rest ∷ lines_of (drop (suc m) rest)
@@ -24,16 +25,12 @@ lines_of-first [] h = absurd (omega arith)
 lines_of-first (x ∷ []) h = lines_of-one (x == 10) x
 lines_of-first (x ∷ y ∷ ys) h = lines_of-step (x == 10) x (y ∷ ys) _ (lines_of-first (y ∷ ys) (omega arith))
 
-some_of-choice : (t : Bool) (n at : ℕ) → cond t (Some n) None ≡ Some at → n ≡ at
-some_of-choice true n at h = cc
-some_of-choice false n at h = cc
-
 -- the same by the place that a search for the first line feed found
 pub lines_of-at : (xs : List ℕ) (at : ℕ) → position (λ b. b == 10) xs ≡ Some at → lines_of xs ≡ take at xs ∷ lines_of (drop (at + 1) xs)
 lines_of-at xs at found =
     let within : at < length xs = (position-Some (λ b. b == 10) xs at 0 found).0 in
     let n = position_or_len (λ b. b == 10) xs in
-    let same : n ≡ at = some_of-choice (nat_lt n (length xs)) n at found in
+    let same : n ≡ at = place_found (λ b. b == 10) xs at found in
     rw add-one (subst (λ k. lines_of xs ≡ take k xs ∷ lines_of (drop (suc k) xs)) same (lines_of-first xs (omega arith)))
 
 -- where what stands after it is taken to the end

@@ -15,6 +15,13 @@ IsParty field = (number : ℕ) × ((0 < number) × ((number < 2 ^ 64) × (decima
 abbrev pub IsSigned : List ℕ → Type 0
 IsSigned field = (number : ℤ) × (FitsSigned w64 number × (signed_decimal number ≡ field))
 
+-- two fields of this kind
+abbrev pub AreTwo : (List ℕ → Type 0) → List (List ℕ) → Type 0
+AreTwo IsField [] = ⊥
+AreTwo IsField (first ∷ []) = ⊥
+AreTwo IsField (first ∷ second ∷ []) = IsField first × IsField second
+AreTwo IsField (first ∷ second ∷ more ∷ others) = ⊥
+
 -- the first byte is a digit from 1 to 9
 abbrev pub BeginsAbove0 : List ℕ → Type 0
 BeginsAbove0 [] = ⊥

@@ -1,7 +1,7 @@
 -- The words of lines, by the number of their fields.
 use Rattle.std.specs.Prelude.{◌≡◌, ℕ, List, [], ◌∷◌, ◌++◌, codes, ◌⊎◌}
 use Rattle.lock_base.specs.declared.machine.call.Form.TheVariants.{Block, Try, For, Until}
-use Rattle.lock_script.specs.Numbers.{IsParty, IsSigned, IsUnsigned}
+use Rattle.lock_script.specs.Numbers.{AreTwo, IsParty, IsSigned, IsUnsigned}
 use Rattle.lock_script.specs.CallLines.{in_form}
 
 -- the word is one of these
@@ -51,17 +51,10 @@ IsCall (word ∷ party ∷ guard ∷ item ∷ number ∷ []) =
     IsOneOf number_words word × (IsParty party × (IsUnsigned guard × (IsUnsigned item × IsSigned number)))
 IsCall (word ∷ party ∷ guard ∷ item ∷ number ∷ more ∷ others) = ⊥
 
--- two signed numbers
-abbrev pub ArePair : List (List ℕ) → Type 0
-ArePair [] = ⊥
-ArePair (first ∷ []) = ⊥
-ArePair (first ∷ second ∷ []) = IsSigned first × IsSigned second
-ArePair (first ∷ second ∷ more ∷ others) = ⊥
-
 -- a limit, and two signed numbers
 abbrev pub AreLimitAndPair : List (List ℕ) → Type 0
 AreLimitAndPair [] = ⊥
-AreLimitAndPair (limit ∷ numbers) = IsUnsigned limit × ArePair numbers
+AreLimitAndPair (limit ∷ numbers) = IsUnsigned limit × AreTwo IsSigned numbers
 
 -- the fields are those of a first line
 abbrev pub IsMaker : List (List ℕ) → Type 0
@@ -69,4 +62,4 @@ IsMaker [] = ⊥
 IsMaker (word ∷ []) = ⊥
 IsMaker (word ∷ places ∷ others) =
     IsUnsigned places
-    × (((word ≡ codes "mutex") × ArePair others) ⊎ (IsOneOf limit_words word × AreLimitAndPair others))
+    × (((word ≡ codes "mutex") × AreTwo IsSigned others) ⊎ (IsOneOf limit_words word × AreLimitAndPair others))

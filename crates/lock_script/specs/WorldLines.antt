@@ -7,7 +7,7 @@ use Rattle.lock_word.specs.declared.want.ExWant.TheVariants as want
 use Rattle.lock_word.specs.declared.step.AtomicStep.TheVariants.{Load, Exchange, Take}
 use Rattle.lock_script.specs.declared.world_call.WorldCall.{WorldCall}
 use Rattle.lock_script.specs.declared.world_maker.WorldMaker.{WorldMaker}
-use Rattle.lock_script.specs.Numbers.{IsUnsigned}
+use Rattle.lock_script.specs.Numbers.{AreTwo, IsUnsigned}
 use Rattle.lock_script.specs.Words.{IsOneOf}
 
 -- the word of what an exchange acquires or sets
@@ -64,17 +64,10 @@ abbrev pub IsChange : List ℕ → List ℕ → Type 0
 IsChange word change =
     ((word ≡ codes "exchange") × IsOneOf want_words change) ⊎ ((word ≡ codes "take") × IsOneOf down_words change)
 
--- the number of parties, and the readers' limit
-abbrev pub AreLimits : List (List ℕ) → Type 0
-AreLimits [] = ⊥
-AreLimits (parties ∷ []) = ⊥
-AreLimits (parties ∷ readers ∷ []) = IsUnsigned parties × IsUnsigned readers
-AreLimits (parties ∷ readers ∷ more ∷ others) = ⊥
-
--- the fields are those of a world
+-- the fields are those of a world: the number of parties, and the readers' limit
 abbrev pub IsWorldMaker : List (List ℕ) → Type 0
 IsWorldMaker [] = ⊥
-IsWorldMaker (word ∷ limits) = (word ≡ codes "world") × AreLimits limits
+IsWorldMaker (word ∷ limits) = (word ≡ codes "world") × AreTwo IsUnsigned limits
 
 -- the fields are those of a step or a question
 abbrev pub IsWorldCall : List (List ℕ) → Type 0

@@ -1,4 +1,7 @@
 //! Why a replay ends early.
+ghost use Rattle.std.specs.Prelude.{◌≡◌};
+ghost use Rattle.lock_script.specs.declared.fault.ReplayFault.TheVariants.{OutOfMemory};
+
 use std::alloc::{AllocError, AllocFailed};
 use thiserror::Error;
 
@@ -19,9 +22,6 @@ pub enum ReplayFault {
 }
 
 impl From<AllocError> for ReplayFault {
-    ghost use Rattle.std.specs.Prelude.{◌≡◌};
-    ghost use Rattle.lock_script.specs.declared.fault.ReplayFault.TheVariants.{OutOfMemory};
-
     ghost from_gives = { λ _ fault. fault ≡ OutOfMemory };
 
     fn from(_fault: AllocError) -> ReplayFault {
@@ -30,9 +30,6 @@ impl From<AllocError> for ReplayFault {
 }
 
 impl<T: Drop> From<AllocFailed<T>> for ReplayFault {
-    ghost use Rattle.std.specs.Prelude.{◌≡◌};
-    ghost use Rattle.lock_script.specs.declared.fault.ReplayFault.TheVariants.{OutOfMemory};
-
     ghost from_gives = { λ _ fault. fault ≡ OutOfMemory };
 
     fn from(_fault: AllocFailed<T>) -> ReplayFault {

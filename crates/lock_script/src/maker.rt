@@ -2,7 +2,8 @@
 ghost use Rattle.std.specs.Prelude.{◌≡◌, ◌↔◌, ◌∷◌, IfSome, IsSome, decimal};
 ghost use Rattle.lock_script.specs.Lines.{fields_of};
 ghost use Rattle.lock_script.specs.CallLines.{pair_fields};
-ghost use Rattle.lock_script.specs.Words.{AreLimitAndPair, ArePair};
+ghost use Rattle.lock_script.specs.Numbers.{AreTwo, IsSigned};
+ghost use Rattle.lock_script.specs.Words.{AreLimitAndPair};
 
 use crate::line::{Line, first_field};
 use crate::number::{signed, unsigned};
@@ -54,7 +55,7 @@ fn limit_and_pair(fields: &str) -> Option<(u64, Pair)>
 
 /// Reads a pair from two fields.
 fn pair(fields: &str) -> Option<Pair>
-    ensures some { IsSome result ↔ ArePair (fields_of fields.now) }
+    ensures some { IsSome result ↔ AreTwo IsSigned (fields_of fields.now) }
     ensures texts { IfSome result (λ pair. pair_fields pair ≡ fields_of fields.now) }
 {
     let (first, second) = first_field(fields)?;

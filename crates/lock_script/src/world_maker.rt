@@ -1,7 +1,8 @@
 //! The first line of a script of steps.
 ghost use Rattle.std.specs.Prelude.{◌≡◌, ◌↔◌, IfSome, IsSome};
 ghost use Rattle.lock_script.specs.Lines.{fields_of};
-ghost use Rattle.lock_script.specs.WorldLines.{AreLimits, limit_fields};
+ghost use Rattle.lock_script.specs.Numbers.{AreTwo, IsUnsigned};
+ghost use Rattle.lock_script.specs.WorldLines.{limit_fields};
 
 use crate::line::{Line, first_field};
 use crate::number::unsigned;
@@ -31,7 +32,7 @@ impl Line for WorldMaker {
 
 /// Reads the limits of a world from two fields.
 fn limits(fields: &str) -> Option<WorldMaker>
-    ensures some { IsSome result ↔ AreLimits (fields_of fields.now) }
+    ensures some { IsSome result ↔ AreTwo IsUnsigned (fields_of fields.now) }
     ensures texts { IfSome result (λ maker. limit_fields maker ≡ fields_of fields.now) }
 {
     let (parties, readers) = first_field(fields)?;

@@ -1,11 +1,11 @@
 -- Numbered slots after a push, a take and a write.
-use Rattle.std.proofs.Common.{◌≡◌, ℕ, ◌+◌, ◌-◌, ◌<◌, List, [], ◌∷◌, ◌++◌, length, set, get_or, is_some, true, refl, sym, ap, subst, ◌∙◌, Option, None, Some, arith, length-append}
+use Rattle.std.proofs.Common.{◌≡◌, ℕ, ◌+◌, ◌-◌, ◌<◌, List, [], ◌∷◌, ◌++◌, length, set, get_or, is_some, true, refl, sym, ap, ◌∙◌, Option, None, Some, arith, length-append}
 use Rattle.std.specs.Prelude.{IsSome}
 use Rattle.lock_slots.specs.declared.row.Row.{Row}
 use Rattle.lock_slots.specs.Items.{find}
 use Rattle.lock_slots.specs.Rows.{items_of, AreRising, IsRow, with_item}
 use Rattle.lock_slots.specs.NumberedItems.{AreSlotRows, NumberedItems}
-use Rattle.lock_slots.proofs.Rising.{rising_push, items_of-push, rising_set, number_at_or, find_row, without_row, put_row, length-without, length-put}
+use Rattle.lock_slots.proofs.Rising.{rising_push, items_of-push, rising_set, number_at-get, find_row, without_row, put_row, length-without, length-put}
 
 module _ {X : Type 0} where
   pub pushed : (rows fresh : List (Row X)) (items capacity last room : ℕ) (item : X)
@@ -24,16 +24,15 @@ module _ {X : Type 0} where
         reserved = h.reserved;
       }
 
-  pub taken : (rows : List (Row X)) (items capacity last room i n : ℕ) (r : Row X) (item : X) (gone : Row X)
+  pub taken : (rows : List (Row X)) (items capacity last room i n : ℕ) (r gone : Row X) (item : X)
       → AreSlotRows rows items capacity last room → IsRow n rows i → r ≡ get_or rows i r → r.item ≡ Some item
-      → gone.number ≡ r.number → gone.item ≡ None → AreSlotRows (set rows i gone) (items - 1) capacity last room
-  taken rows items capacity last room i n r item gone h at e some same none =
-      let here = sym (ap (λ (w : Row X). w.item) e) ∙ some in
-      let found = find_row 0 last rows h.rising n i r at ∙ here in
+      → gone ≡ record r { item = None } → AreSlotRows (set rows i gone) (items - 1) capacity last room
+  taken rows items capacity last room i n r gone item h at e some left =
+      let found = find_row 0 last rows h.rising n i r at e ∙ some in
       let is_there : is_some (find n (items_of rows)) ≡ true = ap is_some found in
       let fewer = length-without n (items_of rows) is_there in
-      let rest = ap length (without_row 0 last rows h.rising n i r item at here gone none) in
-      let number = number_at_or rows i r at.inside ∙ sym (ap (λ (w : Row X). w.number) e) ∙ sym same in
+      let rest = ap length (without_row 0 last rows h.rising n i r gone item at e some (ap (λ (w : Row X). w.item) left)) in
+      let number = number_at-get rows i r at.inside e ∙ sym (ap (λ (w : Row X). w.number) left) in
       record {
         rising = rising_set 0 last rows i gone h.rising number;
         counted = omega (arith, fewer, rest, h.counted);
@@ -46,7 +45,7 @@ module _ {X : Type 0} where
       → AreSlotRows rows items capacity last room → IsRow n rows i → r ≡ get_or rows i r → r.item ≡ Some item
       → AreSlotRows (set rows i (with_item r new)) items capacity last room
   written rows items capacity last room i n r item new h at e some =
-      let number = number_at_or rows i r at.inside ∙ sym (ap (λ (w : Row X). w.number) e) in
+      let number = number_at-get rows i r at.inside e in
       record {
         rising = rising_set 0 last rows i (with_item r new) h.rising number;
         counted = h.counted ∙ sym (ap length (put_row 0 last rows h.rising n i r item new at e some) ∙ length-put n new (items_of rows));
@@ -55,24 +54,6 @@ module _ {X : Type 0} where
         reserved = h.reserved;
       }
 
-  -- the row that was found for a number with an item
-
-  pub found_at : (slice rows : List (Row X)) (items : List (ℕ × X)) (n i : ℕ) (r : Row X) → slice ≡ rows
-      → items_of rows ≡ items → find n (items_of slice) ≡ (get_or slice i r).item → r ≡ get_or rows i r
-      → find n items ≡ r.item
-  found_at slice rows items n i r s e f at =
-      ap (find n) (sym e) ∙ ap (λ w. find n (items_of w)) (sym s) ∙ f ∙ ap (λ w. (get_or w i r).item) s ∙ ap (λ (w : Row X). w.item) (sym at)
-
-  pub still_some : (slice rows : List (Row X)) (items : List (ℕ × X)) (n : ℕ) → slice ≡ rows → items_of rows ≡ items
-      → IsSome (find n items) → IsSome (find n (items_of slice))
-  still_some slice rows items n s e h = subst (λ w. IsSome (find n (items_of w))) (sym s) (subst (λ w. IsSome (find n w)) (sym e) h)
-
-  pub rising_too : (slice rows : List (Row X)) (last : ℕ) → slice ≡ rows → AreRising 0 rows last → AreRising 0 slice last
-  rising_too slice rows last s h = subst (λ w. AreRising 0 w last) (sym s) h
-
-  pub row_too : (slice rows : List (Row X)) (n i : ℕ) → slice ≡ rows → IsRow n slice i → IsRow n rows i
-  row_too slice rows n i s h = subst (λ w. IsRow n w i) s h
-
   pub no_none : (o : Option X) → IsSome o → o ≡ None → ⊥
   no_none None h e = cc
   no_none (Some x) h e = cc
@@ -80,6 +61,15 @@ module _ {X : Type 0} where
   pub some_is : (o p : Option X) → o ≡ p → is_some p ≡ true → IsSome o
   some_is o None e h = cc
   some_is o (Some x) e h = rw e refl
+
+  -- an instance with other items
+  pub with_items : (change : List (ℕ × X) → List (ℕ × X)) (items rest : List (ℕ × X)) (capacity last : ℕ) (seen : NumberedItems X)
+      → rest ≡ change items → record { items = items; capacity = capacity; last = last } ≡ seen
+      → record { items = rest; capacity = capacity; last = last } ≡ record seen { items = change seen.items }
+  with_items change items rest capacity last seen e view =
+      let view_of : List (ℕ × X) → NumberedItems X = λ es. record { items = es; capacity = capacity; last = last } in
+      let changed : NumberedItems X → NumberedItems X = λ s. record s { items = change s.items } in
+      ap view_of e ∙ ap changed view
 
   pub pushed_view : (items old : List (ℕ × X)) (last before capacity room : ℕ) (item : X)
       → items ≡ old ++ (last + 1, item) ∷ [] → last ≡ before → capacity ≡ room

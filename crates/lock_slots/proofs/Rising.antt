@@ -7,15 +7,13 @@ use Rattle.lock_slots.specs.Items.{find, without, put}
 use Rattle.lock_slots.specs.Rows.{item_under, items_of, AreRising, number_at, NoRow, IsRow, with_item}
 
 module _ {X : Type 0} where
-  pub number_at-get : (rows : List (Row X)) (i : ℕ) (r : Row X) → i < length rows → r ≡ get_or rows i r → number_at rows i ≡ r.number
-  number_at-get [] i r l e = absurd (omega arith)
-  number_at-get (q ∷ rows) zero r l e = sym (ap (λ (w : Row X). w.number) e)
-  number_at-get (q ∷ rows) (suc i) r l e = number_at-get rows i r (omega arith) e
-
   pub number_at_or : (rows : List (Row X)) (i : ℕ) (r : Row X) → i < length rows → number_at rows i ≡ (get_or rows i r).number
   number_at_or [] i r l = absurd (omega arith)
   number_at_or (q ∷ rows) zero r l = refl
   number_at_or (q ∷ rows) (suc i) r l = number_at_or rows i r (omega arith)
+
+  pub number_at-get : (rows : List (Row X)) (i : ℕ) (r : Row X) → i < length rows → r ≡ get_or rows i r → number_at rows i ≡ r.number
+  number_at-get rows i r l e = number_at_or rows i r l ∙ sym (ap (λ (w : Row X). w.number) e)
 
   pub above_low : (low high : ℕ) (rows : List (Row X)) → AreRising low rows high → (i : ℕ) → i < length rows → low < number_at rows i
   above_low low high [] h i l = absurd (omega arith)
@@ -28,13 +26,6 @@ module _ {X : Type 0} where
   rises low high (r ∷ rows) h i zero l m = absurd (omega arith)
   rises low high (r ∷ rows) h zero (suc j) l m = above_low r.number high rows h.1 j (omega arith)
   rises low high (r ∷ rows) h (suc i) (suc j) l m = rises r.number high rows h.1 i j (omega arith) (omega arith)
-
-  pub none_beside : (low high : ℕ) (rows : List (Row X)) → AreRising low rows high → (n i : ℕ) → i < length rows
-      → number_at rows i ≡ n → (k : ℕ) → k < length rows → number_at rows k ≡ n → k ≡ i
-  none_beside low high rows h n i l e k m f =
-      let up : k < i → number_at rows k < number_at rows i = λ lt. rises low high rows h k i lt l in
-      let down : i < k → number_at rows i < number_at rows k = λ lt. rises low high rows h i k lt m in
-      grind (arith, up, down)
 
   pub below_middle : (low high : ℕ) (rows : List (Row X)) → AreRising low rows high → (n i : ℕ) → i < length rows
       → number_at rows i < n → (k : ℕ) → k < i + 1 → number_at rows k < n
@@ -49,10 +40,6 @@ module _ {X : Type 0} where
       let up : i < k → number_at rows i < number_at rows k = λ lt. rises low high rows h i k lt b in
       let same : k ≡ i → number_at rows k ≡ number_at rows i = λ eq. ap (number_at rows) eq in
       grind (arith, up, same)
-
-  some_by : (item : Option X) → is_some item ≡ true → (x : X) × (item ≡ Some x)
-  some_by None e = cc
-  some_by (Some x) e = (x, refl)
 
   pub none_by : (item : Option X) → is_some item ≡ false → item ≡ None
   none_by None e = refl
@@ -134,17 +121,18 @@ module _ {X : Type 0} where
 
   -- the item of a row is the one under its number
   pub find_row : (low high : ℕ) (rows : List (Row X)) → AreRising low rows high → (n i : ℕ) (r : Row X)
-      → IsRow n rows i → find n (items_of rows) ≡ (get_or rows i r).item
-  find_row low high [] h n i r at = absurd (let l = at.inside in omega arith)
-  find_row low high (q ∷ rows) h n zero r at =
+      → IsRow n rows i → r ≡ get_or rows i r → find n (items_of rows) ≡ r.item
+  find_row low high [] h n i r at e = absurd (let l = at.inside in omega arith)
+  find_row low high (q ∷ rows) h n zero r at e =
       find_here n q.number q.item (items_of rows) at.number_is
       (find_none n rows (λ k l f. let up = above_low q.number high rows h.1 k l in absurd (omega (arith, at.number_is))))
-  find_row low high (q ∷ rows) h n (suc i) r at =
+      ∙ ap (λ (w : Row X). w.item) (sym e)
+  find_row low high (q ∷ rows) h n (suc i) r at e =
       let l : i < length rows = let m = at.inside in omega arith in
       let up = above_low q.number high rows h.1 i l in
       let is = at.number_is in
       find_other n q.number q.item (items_of rows) (λ f. absurd (omega arith))
-      ∙ find_row q.number high rows h.1 n i r (record { inside = l; number_is = is })
+      ∙ find_row q.number high rows h.1 n i r (record { inside = l; number_is = is }) e
 
   without_other : (n number : ℕ) (item : Option X) (es : List (ℕ × X)) → number ≢ n
       → without n (item_under number item ++ es) ≡ item_under number item ++ without n es
@@ -157,17 +145,18 @@ module _ {X : Type 0} where
   put_other n number (Some x) new es d = rw (ne_eqb number n d) refl
 
   -- the row of a number is removed
-  pub without_row : (low high : ℕ) (rows : List (Row X)) → AreRising low rows high → (n i : ℕ) (r : Row X) (item : X)
-      → IsRow n rows i → (get_or rows i r).item ≡ Some item → (gone : Row X) → gone.item ≡ None
+  pub without_row : (low high : ℕ) (rows : List (Row X)) → AreRising low rows high → (n i : ℕ) (r gone : Row X) (item : X)
+      → IsRow n rows i → r ≡ get_or rows i r → r.item ≡ Some item → gone.item ≡ None
       → items_of (set rows i gone) ≡ without n (items_of rows)
-  without_row low high [] h n i r item at some gone none = absurd (let l = at.inside in omega arith)
-  without_row low high (q ∷ rows) h n zero r item at some gone none =
-      rw (none, some, eq-eqb q.number n at.number_is) refl
-  without_row low high (q ∷ rows) h n (suc i) r item at some gone none =
+  without_row low high [] h n i r gone item at e some none = absurd (let l = at.inside in omega arith)
+  without_row low high (q ∷ rows) h n zero r gone item at e some none =
+      let here : q.item ≡ Some item = ap (λ (w : Row X). w.item) (sym e) ∙ some in
+      rw (none, here, eq-eqb q.number n at.number_is) refl
+  without_row low high (q ∷ rows) h n (suc i) r gone item at e some none =
       let l : i < length rows = let m = at.inside in omega arith in
       let up = above_low q.number high rows h.1 i l in
       let is = at.number_is in
-      ap (λ w. item_under q.number q.item ++ w) (without_row q.number high rows h.1 n i r item (record { inside = l; number_is = is }) some gone none)
+      ap (λ w. item_under q.number q.item ++ w) (without_row q.number high rows h.1 n i r gone item (record { inside = l; number_is = is }) e some none)
       ∙ sym (without_other n q.number q.item (items_of rows) (λ f. absurd (omega arith)))
 
   -- the row of a number has another item

@@ -80,7 +80,7 @@ impl<X> NumberedSlots<X> {
         ensures { MatchOption result (find number self.now.items ≡ None)
             (λ b. (b.number ≡ number) × IsSome (find number self.now.items)) }
     {
-        let row = row_of(self.rows.as_slice(), number, self.hints.guess(number))?;
+        let row = row_of(&self.rows, number, self.hints.guess(number))?;
         if self.rows[row].has_item() {
             Some(Bookmark { number, row })
         } else {
@@ -93,11 +93,8 @@ impl<X> NumberedSlots<X> {
         requires { IsSome (find bookmark.number self.now.items) }
         ensures { find bookmark.number self.now.items ≡ Some result.now }
     {
-        let row = marked_row(self.rows.as_slice(), bookmark);
-        let Some(item) = &self.rows[row].item else {
-            unreachable!()
-        };
-        item
+        let row = marked_row(&self.rows, bookmark);
+        self.rows[row].item()
     }
 
     /// Returns the item at a bookmark for writing.
@@ -106,7 +103,7 @@ impl<X> NumberedSlots<X> {
         ensures* writes_back { sem 𝓛 (lends_item X.row self.entry bookmark.number result) }
         ensures item { find bookmark.number self.old.items ≡ Some result.now }
     {
-        let row = marked_row(self.rows.as_slice(), bookmark);
+        let row = marked_row(&self.rows, bookmark);
         self.rows[row].item_mut()
     }
 
@@ -168,10 +165,8 @@ impl<X: Drop> NumberedSlots<X> {
         ensures item { find bookmark.number self.old.items ≡ Some result }
         ensures taken { self.new ≡ record self.old { items = without bookmark.number self.old.items } }
     {
-        let row = marked_row(self.rows.as_slice(), bookmark);
-        let Some(item) = self.rows[row].item.take() else {
-            unreachable!()
-        };
+        let row = marked_row(&self.rows, bookmark);
+        let item = self.rows[row].take();
         self.items -= 1;
         item
     }
@@ -203,11 +198,11 @@ fn note_all<X>(rows: &[Row<X>], hints: &mut Hints) {
 }
 
 // Returns the row of a bookmark.
-fn marked_row<X>(rows: &[Row<X>], bookmark: Bookmark) -> usize
-    requires rising { (last : ℕ) × AreRising 0 rows.now last }
-    requires item { IsSome (find bookmark.number (items_of rows.now)) }
-    ensures row { IsRow bookmark.number rows.now result }
-    ensures found { (r : _) → find bookmark.number (items_of rows.now) ≡ (slice_index_or rows.now result r).item }
+fn marked_row<X>(rows: &Vec<Row<X>>, bookmark: Bookmark) -> usize
+    requires rising { (last : ℕ) × AreRising 0 rows.now.items last }
+    requires item { IsSome (find bookmark.number (items_of rows.now.items)) }
+    ensures row { IsRow bookmark.number rows.now.items result }
+    ensures found { (r : _) → r ≡ slice_index_or rows.now.items result r → find bookmark.number (items_of rows.now.items) ≡ r.item }
 {
     let Some(row) = row_of(rows, bookmark.number, bookmark.row) else {
         unreachable!()
@@ -216,14 +211,14 @@ fn marked_row<X>(rows: &[Row<X>], bookmark: Bookmark) -> usize
 }
 
 // Finds the row of a number, by a guess, and by binary search if the guess is wrong.
-fn row_of<X>(rows: &[Row<X>], number: u64, guess: usize) -> Option<usize>
-    requires { (last : ℕ) × AreRising 0 rows.now last }
-    ensures { MatchOption result (NoRow number rows.now) (IsRow number rows.now) }
+fn row_of<X>(rows: &Vec<Row<X>>, number: u64, guess: usize) -> Option<usize>
+    requires { (last : ℕ) × AreRising 0 rows.now.items last }
+    ensures { MatchOption result (NoRow number rows.now.items) (IsRow number rows.now.items) }
 {
     if guess < rows.len() && rows[guess].number == number {
         Some(guess)
     } else {
-        halve(rows, number)
+        halve(rows.as_slice(), number)
     }
 }
 

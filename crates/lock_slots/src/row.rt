@@ -19,6 +19,16 @@ impl<X> Row<X> {
         self.item.is_some()
     }
 
+    pub(crate) fn item(&self) -> &X
+        requires { IsSome self.now.item }
+        ensures { self.now.item ≡ Some result.now }
+    {
+        match &self.item {
+            Some(item) => item,
+            None => unreachable!(),
+        }
+    }
+
     pub(crate) fn item_mut(&mut self) -> &mut X
         requires { IsSome self.old.item }
         ensures* writes_back { sem 𝓛 (Lends (the_row X.row) X.row self.entry result (with_item self.old)) }
@@ -28,5 +38,17 @@ impl<X> Row<X> {
             Some(item) => item,
             None => unreachable!(),
         }
+    }
+
+    /// Removes and returns the item.
+    pub(crate) fn take(&mut self) -> X
+        requires { IsSome self.old.item }
+        ensures item { self.old.item ≡ Some result }
+        ensures left { self.new ≡ record self.old { item = None } }
+    {
+        let Some(item) = self.item.take() else {
+            unreachable!()
+        };
+        item
     }
 }

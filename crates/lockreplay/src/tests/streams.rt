@@ -76,6 +76,11 @@ fn failing(at: u64, kind: ErrorKind) -> Fails {
     Fails { calls: 0, at, kind }
 }
 
+/// A call that never fails.
+fn never() -> Fails {
+    failing(u64::MAX, ErrorKind::TimedOut)
+}
+
 /// What a replay of this script told, with the writer, of at most so many bytes a write, that it wrote to.
 fn replayed<R: Read>(
     alloc: Global,
@@ -93,9 +98,6 @@ fn replayed<R: Read>(
     (told, writer)
 }
 
-/// A call number that is never reached.
-const NEVER: u64 = u64::MAX;
-
 /// Of 38 bytes.
 const SCRIPT: &[u8] = b"mutex 4 0 0\nlock 1\npark 1 1\nis_locked\n";
 
@@ -109,12 +111,7 @@ fn a_failing_reader_is_told(rt: HostRuntime) -> Result<(), Fail> {
             left: SCRIPT,
             most: 10,
         };
-        let (told, writer) = replayed(
-            rt.alloc(),
-            &mut reader,
-            failing(NEVER, ErrorKind::TimedOut),
-            4,
-        );
+        let (told, writer) = replayed(rt.alloc(), &mut reader, never(), 4);
         assert_eq!(rt; told, Err(ReplayFault::InputFailed), "at {at}");
         assert!(rt; writer.asked.is_empty(), "at {at}");
     }
@@ -166,16 +163,11 @@ fn interrupted_calls_are_made_again(rt: HostRuntime) -> Result<(), Fail> {
 #[test]
 fn a_byte_at_a_time_is_read_and_written(rt: HostRuntime) -> Result<(), Fail> {
     let mut reader = Slow {
-        fails: failing(NEVER, ErrorKind::TimedOut),
+        fails: never(),
         left: SCRIPT,
         most: 1,
     };
-    let (told, writer) = replayed(
-        rt.alloc(),
-        &mut reader,
-        failing(NEVER, ErrorKind::TimedOut),
-        1,
-    );
+    let (told, writer) = replayed(rt.alloc(), &mut reader, never(), 1);
     assert_eq!(rt; told, Ok(()));
     assert_eq!(rt; writer.kept.as_slice(), ANSWERS);
     assert_eq!(rt; writer.asked.len(), ANSWERS.len() + 1);
@@ -185,12 +177,7 @@ fn a_byte_at_a_time_is_read_and_written(rt: HostRuntime) -> Result<(), Fail> {
 #[test]
 fn a_bad_script_writes_nothing(rt: HostRuntime) -> Result<(), Fail> {
     let mut script: &[u8] = b"mutex 4 0 0\nlock 1\nlock\n";
-    let (told, writer) = replayed(
-        rt.alloc(),
-        &mut script,
-        failing(NEVER, ErrorKind::TimedOut),
-        4,
-    );
+    let (told, writer) = replayed(rt.alloc(), &mut script, never(), 4);
     assert_eq!(rt; told, Err(ReplayFault::BadLine(3)));
     assert!(rt; writer.asked.is_empty());
     Ok(())
@@ -206,12 +193,7 @@ fn a_script_is_read_to_the_first_byte_past_the_limit(rt: HostRuntime) -> Result<
     ] {
         let script = vec![in rt.alloc(); b'x'; length]?;
         let mut reader = script.as_slice();
-        let (told, writer) = replayed(
-            rt.alloc(),
-            &mut reader,
-            failing(NEVER, ErrorKind::TimedOut),
-            4,
-        );
+        let (told, writer) = replayed(rt.alloc(), &mut reader, never(), 4);
         assert_eq!(rt; told, Err(want), "of {length}");
         assert_eq!(rt; reader.len(), left, "of {length}");
         assert!(rt; writer.asked.is_empty(), "of {length}");
@@ -257,12 +239,7 @@ fn lines_decide_up_to_the_limit_and_not_past_it(rt: HostRuntime) -> Result<(), F
 #[test]
 fn the_last_line_may_lack_its_end(rt: HostRuntime) -> Result<(), Fail> {
     let mut script: &[u8] = b"mutex 4 -9223372036854775808 0\nlock 1\nget 1 1 0";
-    let (told, writer) = replayed(
-        rt.alloc(),
-        &mut script,
-        failing(NEVER, ErrorKind::TimedOut),
-        4,
-    );
+    let (told, writer) = replayed(rt.alloc(), &mut script, never(), 4);
     assert_eq!(rt; told, Ok(()));
     assert_eq!(rt;
         writer.kept.as_slice(),

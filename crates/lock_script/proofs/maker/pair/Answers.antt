@@ -1,12 +1,13 @@
 use Rattle.std.proofs.Common.{rules, refl}
-use Rattle.lock_script.proofs.LineFields.{numbers_of_pair}
+use Rattle.lock_script.specs.Numbers.{IsSigned}
+use Rattle.lock_script.proofs.LineFields.{fields_of_two}
 use Rattle.lock_script.proofs.NumberTexts.{fields_of-signed}
 use Rattle.lock_script.proofs.maker.pair.Goals as goal
 
 pub returns-in_err-second-clause-some : goal.returns-in_err-second-clause-some
 returns-in_err-second-clause-some c = rw (c.from_residual-in_err-second.ensures, c.in_ok-first.ensures.more) (
   (λ some. cc),
-  λ pair. c.in_err-second.ensures.some.1 (numbers_of_pair c.in_ok-first.first.now c.in_ok-first.second.now pair).1,
+  λ pair. c.in_err-second.ensures.some.1 (fields_of_two IsSigned c.in_ok-first.first.now c.in_ok-first.second.now pair).1,
 )
 
 pub returns-clause-some : goal.returns-clause-some

@@ -1,12 +1,13 @@
 use Rattle.std.proofs.Common.{rules, refl}
-use Rattle.lock_script.proofs.LineFields.{numbers_of_limits}
+use Rattle.lock_script.specs.Numbers.{IsUnsigned}
+use Rattle.lock_script.proofs.LineFields.{fields_of_two}
 use Rattle.lock_script.proofs.NumberTexts.{fields_of-unsigned}
 use Rattle.lock_script.proofs.world_maker.limits.Goals as goal
 
 pub returns-in_err-readers-clause-some : goal.returns-in_err-readers-clause-some
 returns-in_err-readers-clause-some c = rw (c.from_residual-in_err-readers.ensures, c.in_ok-parties.ensures.more) (
   (λ some. cc),
-  λ limits. c.in_err-readers.ensures.some.1 (numbers_of_limits c.in_ok-parties.parties.now c.in_ok-parties.readers.now limits).1,
+  λ limits. c.in_err-readers.ensures.some.1 (fields_of_two IsUnsigned c.in_ok-parties.parties.now c.in_ok-parties.readers.now limits).1,
 )
 
 pub returns-clause-some : goal.returns-clause-some

@@ -1,10 +1,11 @@
-use Rattle.std.proofs.Common.{◌∙◌}
-use Rattle.lock_slots.proofs.Rising.{number_at_or}
+use Rattle.std.proofs.Common.{◌<◌, length, arith, ◌∙◌}
+use Rattle.lock_slots.proofs.Rising.{number_at-get}
 use Rattle.lock_slots.proofs.numbered_slots.row_of.Goals as goal
 
-pub returns-then-rows-guess : goal.returns-then-rows-guess
-returns-then-rows-guess g c =
+pub returns-then-index-number : goal.returns-then-index-number
+returns-then-index-number g c =
+    let inside : c.args.guess < length c.args.rows.now.items = omega arith in
     record {
-      inside = c.if-guess-rows.true;
-      number_is = number_at_or c.args.rows.now c.args.guess c.index-rows-guess.result c.if-guess-rows.true ∙ c.if-rows-guess.true;
+      inside = inside;
+      number_is = number_at-get c.args.rows.now.items c.args.guess c.index.result.now inside c.index.ensures ∙ c.if-index-number.true;
     }

@@ -1,4 +1,4 @@
-use Rattle.std.proofs.Common.{arith, ap, sym, subst, refl, is_some, ◌∙◌}
+use Rattle.std.proofs.Common.{arith, ap, sym, subst, refl, ◌∙◌}
 use Rattle.lock_slots.specs.Items as items
 use Rattle.lock_base.specs.Entries.{resumed_entry, update}
 use Rattle.lock_base.specs.Party.{id_of}
@@ -7,7 +7,7 @@ use Rattle.lock_base.specs.Sound.{IsSound}
 use Rattle.lock_base.proofs.Splices.{splice}
 use Rattle.lock_base.proofs.SoundRegisters.{resumed_sound}
 use Rattle.lock_desk.specs.Slots.{entry_of}
-use Rattle.lock_desk.proofs.Entries.{slot_found, slot_is, some_entry, view_after, entries_of-put, length-put, length-without, is_true}
+use Rattle.lock_desk.proofs.Entries.{slot_found, has_slot, slot_is, view_after, entries_of-put, length-put, length-without, is_true}
 use Rattle.lock_desk.proofs.Slots.{differs_found, differs_put, shows_parked}
 use Rattle.lock_desk.proofs.Backed.{drop_parked}
 use Rattle.lock_desk.proofs.guards.Guards.resume_ignoring_bar.Goals as goal
@@ -17,7 +17,7 @@ acquire-requires g c =
     let ss = c.self.inside.slots.items in
     let n = c.args.found.bookmark.number in
     let entries = ap (λ h. h.entries) c.self.view_is in
-    let s = slot_found n ss _ entries (some_entry c.args.found.bookmark.number c.args.self.now.entries _ c.requires.at) in
+    let s = slot_found n ss _ _ entries c.requires.at in
     let shows = slot_is n ss _ s.0 _ entries c.requires.at s.1 in
     let parked = shows_parked _ (ap (λ e. e.held) shows ∙ c.requires.parked) in
     let others = drop_parked _ _ _ _ (differs_found n ss s.0 s.1) parked c.self.invariant.backed in
@@ -25,9 +25,7 @@ acquire-requires g c =
 
 pub item_mut-slot-requires : goal.item_mut-slot-requires
 item_mut-slot-requires g c =
-    ap is_some (slot_found c.args.found.bookmark.number c.self.inside.slots.items _
-    (ap (λ h. h.entries) c.self.view_is)
-    (some_entry c.args.found.bookmark.number c.args.self.now.entries _ c.requires.at)).1
+    has_slot c.args.found.bookmark.number c.self.inside.slots.items _ _ (ap (λ h. h.entries) c.self.view_is) c.requires.at
 
 pub invariant_of-self-2 : goal.invariant_of-self-2
 invariant_of-self-2 g c =

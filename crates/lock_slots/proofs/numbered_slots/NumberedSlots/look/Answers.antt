@@ -1,27 +1,20 @@
-use Rattle.std.proofs.Common.{List, ap, sym, subst, refl, ◌∙◌}
-use Rattle.lock_slots.specs.declared.row.Row.{Row}
+use Rattle.std.proofs.Common.{ap, sym, refl, ◌∙◌}
 use Rattle.lock_slots.specs.Items.{find}
-use Rattle.lock_slots.specs.Rows.{NoRow, IsRow}
 use Rattle.lock_slots.proofs.Rising.{find_none, find_row, none_by}
 use Rattle.lock_slots.proofs.Kept.{some_is}
 use Rattle.lock_slots.proofs.numbered_slots.NumberedSlots.look.Goals as goal
 
 pub returns-in_err-row : goal.returns-in_err-row
 returns-in_err-row g c =
-    let none = subst (λ (w : List (Row g.row.X.Denot)). NoRow c.args.number w) c.as_slice.ensures.value c.in_err-row.ensures in
-    rw c.from_residual.ensures (ap (λ r. find c.args.number r.items) (sym c.self.view_is) ∙ find_none c.args.number c.self.inside.rows.items none)
+    rw c.from_residual.ensures (ap (λ r. find c.args.number r.items) (sym c.self.view_is) ∙ find_none c.args.number c.self.inside.rows.items c.in_err-row.ensures)
 
 pub returns-then-has_item : goal.returns-then-has_item
 returns-then-has_item g c =
-    let at = subst (λ (w : List (Row g.row.X.Denot)). IsRow c.args.number w c.in_ok-row.row) c.as_slice.ensures.value c.in_ok-row.ensures in
-    let found = find_row _ _ c.self.inside.rows.items c.self.invariant.rising _ _ c.index.result.now at in
-    let item = ap (λ r. find c.args.number r.items) (sym c.self.view_is) ∙ found ∙ ap (λ (r : Row g.row.X.Denot). r.item) (sym c.index.ensures) in
+    let found = find_row _ _ c.self.inside.rows.items c.self.invariant.rising _ _ c.index.result.now c.in_ok-row.ensures c.index.ensures in
+    let item = ap (λ r. find c.args.number r.items) (sym c.self.view_is) ∙ found in
     (refl, some_is _ _ item (sym c.has_item.ensures ∙ c.if-has_item.true))
 
 pub returns-else-has_item : goal.returns-else-has_item
 returns-else-has_item g c =
-    let at = subst (λ (w : List (Row g.row.X.Denot)). IsRow c.args.number w c.in_ok-row.row) c.as_slice.ensures.value c.in_ok-row.ensures in
-    let found = find_row _ _ c.self.inside.rows.items c.self.invariant.rising _ _ c.index.result.now at in
-    ap (λ r. find c.args.number r.items) (sym c.self.view_is) ∙ found
-    ∙ ap (λ (r : Row g.row.X.Denot). r.item) (sym c.index.ensures)
-    ∙ none_by _ (sym c.has_item.ensures ∙ c.if-has_item.false)
+    let found = find_row _ _ c.self.inside.rows.items c.self.invariant.rising _ _ c.index.result.now c.in_ok-row.ensures c.index.ensures in
+    ap (λ r. find c.args.number r.items) (sym c.self.view_is) ∙ found ∙ none_by _ (sym c.has_item.ensures ∙ c.if-has_item.false)
