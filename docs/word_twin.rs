@@ -1,7 +1,7 @@
 //! The locks over one packed word with no proof, in Rust: what `lock_bench locks ROUNDS` is compared with.
 //!
-//! Of the same shape: the value lies in a std lock that is taken after the word admits and given back before it, a try is one
-//! load and one exchange, a release one subtraction and one load of the count of those that sleep.
+//! It has the same shape. The value lies in a std lock that is acquired after the word admits and released before the word. A try
+//! is one load and one exchange, a release one subtraction and one load of the count of sleepers.
 //!
 //! `rustc -O word_twin.rs && ./word_twin ROUNDS`
 
@@ -15,7 +15,7 @@ const UPGRADABLE: u64 = 1 << 32;
 const EXCLUSIVE: u64 = 1 << 33;
 const BAR: u64 = 1 << 34;
 
-/// The word, and those that sleep until it changes.
+/// The word, and the threads that sleep until it changes.
 struct Raw {
     word: AtomicU64,
     readers: u64,
