@@ -25,7 +25,7 @@ use Rattle.lock_desk.specs.declared.slot.GuardHold.TheVariants.{Parked, Token, L
 use Rattle.lock_desk.specs.declared.slot.Slot.{Slot}
 use Rattle.lock_desk.specs.Slots.{entries_of, slot_entry, tokens_in, token_in, is_held, is_level, is_token, NoHold}
 use Rattle.lock_desk.specs.Owners.{OwnsLevels, token_of_owner, one_level_less, may_add_level, HasAddedLevel}
-use Rattle.lock_desk.specs.Backing.{Backing, register_of, KeepsLimits, bumps, held_of, Differs, AreHeldBy, AreBacked, BacksSlot, HasRoom, IsHeldIn, Releases, ReturnsToken, HasChangeable, HasExchanged}
+use Rattle.lock_desk.specs.Backing.{Backing, register_of, KeepsLimits, HasTokenOfOwner, bumps, held_of, Differs, AreHeldBy, AreBacked, BacksSlot, HasRoom, IsHeldIn, Releases, ReturnsToken, HasChangeable, HasExchanged}
 use Rattle.lock_desk.proofs.Entries.{entry_found}
 use Rattle.lock_desk.proofs.Owned.{owns_same, owns_less, owns_more, holder_owns, may_add_level-held, levels_of_held, full_of_held, none_held}
 use Rattle.lock_desk.proofs.Slots.{differs_found, differs_put, parked_held, parked_party, held_slot, held_party, no_tokens, modes_of-tokens_in, same_put}
@@ -191,7 +191,7 @@ module _ {K : Type 0} where
 
   -- Levels
 
-  bag_of_owner : (ss : List (ℕ × Slot K)) (t : Backing K) → NoHold is_token ss → AreBacked ss t → SameBag t.tokens (token_of_owner t.levels.owner)
+  bag_of_owner : (ss : List (ℕ × Slot K)) (t : Backing K) → NoHold is_token ss → AreBacked ss t → HasTokenOfOwner t
   bag_of_owner ss t none b = rw (no_tokens ss none) at b.bag
 
   -- an owner may hold its one token
@@ -205,7 +205,7 @@ module _ {K : Type 0} where
 
   -- an owner's levels are backed by its token
   owner_backs : (ss : List (ℕ × Slot K)) (t : Backing K) → is_reentrant t.kind ≡ true → 0 < t.levels.limit
-      → NoHold is_token ss → OwnsLevels t.levels.owner (held_of ss) → SameBag t.tokens (token_of_owner t.levels.owner)
+      → NoHold is_token ss → OwnsLevels t.levels.owner (held_of ss) → HasTokenOfOwner t
       → AreBacked ss t
   owner_backs ss t n positive none owns p = record {
     bag = rw (no_tokens ss none) p;
@@ -227,7 +227,7 @@ module _ {K : Type 0} where
       by_nesting false h = let f = (d.less is_level h.0).0 in let u = ap is_level e in cc
 
   pub held_level : (party : ℕ) (t : Backing K) (hold : GuardHold K) → hold ≡ Level → IsHeldIn party hold t
-      → (0 < level_of t.levels party) × SameBag t.tokens (token_of_owner t.levels.owner)
+      → (0 < level_of t.levels party) × HasTokenOfOwner t
   held_level party t hold is (s, ss, others, d, e, q, b) =
       let held = of_reentrant ss t (reentrant_of_level s ss others t d (e ∙ is) b) b in
       let some : 0 < length (held_of ss) = omega (arith, held_slot s ss others d (ap is_held (e ∙ is))) in
@@ -237,7 +237,7 @@ module _ {K : Type 0} where
       (subst (λ p. 0 < level_of t.levels p) q (omega (arith, count, some)), bag_of_owner ss t held.0 b)
 
   pub releases_level : (hold : GuardHold K) (old new : Backing K) → hold ≡ Level → KeepsLimits old new
-      → new.levels.owner ≡ one_level_less old.levels.owner → SameBag new.tokens (token_of_owner new.levels.owner)
+      → new.levels.owner ≡ one_level_less old.levels.owner → HasTokenOfOwner new
       → Releases hold old new
   releases_level hold old new is keeps left p s ss others d e b =
       let n = reentrant_of_level s ss others old d (e ∙ is) b in
@@ -249,7 +249,7 @@ module _ {K : Type 0} where
 
   pub serves_level : (party : ℕ) (mode : Mode) (old new : Backing K) → is_reentrant old.kind ≡ true
       → KeepsLimits old new → may_add_level old.levels.limit party old.levels.owner ≡ true
-      → HasAddedLevel party old.levels.owner new.levels.owner → SameBag new.tokens (token_of_owner new.levels.owner)
+      → HasAddedLevel party old.levels.owner new.levels.owner → HasTokenOfOwner new
       → BacksSlot party mode Level old new
   serves_level party mode old new n keeps may entered p s ss others d e q m b =
       let held = of_reentrant others old n b in
@@ -334,7 +334,7 @@ module _ {K : Type 0} where
       fit_one (Token k) mode n us l = omega arith
       fit_one Level mode n us l = omega arith
 
-  pub room_bag : (t : Backing K) → is_reentrant t.kind ≡ true → HasRoom t → SameBag t.tokens (token_of_owner t.levels.owner)
+  pub room_bag : (t : Backing K) → is_reentrant t.kind ≡ true → HasRoom t → HasTokenOfOwner t
   room_bag t n (ss, b, l) = bag_of_owner ss t (of_reentrant ss t n b).0 b
 
   pub room_fits : (t : Backing K) → is_reentrant t.kind ≡ false → HasRoom t → length t.tokens < t.capacity
@@ -366,7 +366,7 @@ module _ {K : Type 0} where
       by_nesting false h = refl
 
   pub tells_level : (back : Bool) (hold : GuardHold K) (old new : Backing K) → hold ≡ Level → KeepsLimits old new
-      → new.levels.owner ≡ one_level_less old.levels.owner → SameBag new.tokens (token_of_owner new.levels.owner)
+      → new.levels.owner ≡ one_level_less old.levels.owner → HasTokenOfOwner new
       → back ≡ is_none new.levels.owner → ReturnsToken back hold old
   tells_level back hold old new is keeps left p none places last s ss others d e b =
       let nested : is_reentrant old.kind ≡ true = reentrant_of_level s ss others old d (e ∙ is) b in
