@@ -110,10 +110,10 @@ where
         return Ok(());
     };
     let start = Instant::now(rt)?;
-    let _ = one_level(lock, party, rounds);
+    let _ = levels(lock, party, rounds, 0);
     line(rt, name, "ReentrantMutex, one level", start, rounds)?;
     let start = Instant::now(rt)?;
-    let _ = two_levels(lock, party, rounds);
+    let _ = levels(lock, party, rounds, 1);
     line(rt, name, "ReentrantMutex, two levels", start, rounds)
 }
 
@@ -174,27 +174,14 @@ fn walk<R: RawRwLockUpgradeDowngrade>(lock: &RwLock<R, u64>, rounds: u64) -> u64
     sum
 }
 
-fn one_level<C: LockCore>(
+/// Acquires a level in each round, and `inner` levels under it, one after another. Inlined, since `inner` is a constant
+/// at each call.
+#[inline(always)]
+fn levels<C: LockCore>(
     lock: &ReentrantMutex<RawLock<C>, u64>,
     party: PartyId,
     rounds: u64,
-) -> u64
-where
-    C::Token: Send,
-{
-    let mut sum: u64 = 0;
-    for _ in 0..rounds {
-        if let Ok(guard) = lock.lock(party) {
-            sum = sum.wrapping_add(*guard);
-        }
-    }
-    sum
-}
-
-fn two_levels<C: LockCore>(
-    lock: &ReentrantMutex<RawLock<C>, u64>,
-    party: PartyId,
-    rounds: u64,
+    inner: u64,
 ) -> u64
 where
     C::Token: Send,
@@ -202,9 +189,12 @@ where
     let mut sum: u64 = 0;
     for _ in 0..rounds {
         if let Ok(outer) = lock.lock(party) {
-            sum = sum
-                .wrapping_add(one_level(lock, party, 1))
-                .wrapping_add(*outer);
+            for _ in 0..inner {
+                if let Ok(guard) = lock.lock(party) {
+                    sum = sum.wrapping_add(*guard);
+                }
+            }
+            sum = sum.wrapping_add(*outer);
         }
     }
     sum

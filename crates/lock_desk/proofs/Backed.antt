@@ -25,7 +25,7 @@ use Rattle.lock_desk.specs.declared.slot.GuardHold.TheVariants.{Parked, Token, L
 use Rattle.lock_desk.specs.declared.slot.Slot.{Slot}
 use Rattle.lock_desk.specs.Slots.{entries_of, slot_entry, tokens_in, token_in, is_held, is_level, is_token, NoHold}
 use Rattle.lock_desk.specs.Owners.{OwnsLevels, token_of_owner, one_level_less, may_add_level, HasAddedLevel}
-use Rattle.lock_desk.specs.Backing.{Backing, register_of, KeepsLimits, bumps, held_of, Differs, AreHeldBy, AreBacked, BacksSlot, HasRoom, IsHeldIn, Releases, ReturnsToken, HasChangeable, HasExchanged}
+use Rattle.lock_desk.specs.Backing.{Backing, register_of, KeepsLimits, HasTokenOfOwner, bumps, held_of, Differs, AreHeldBy, AreBacked, BacksSlot, HasRoom, IsHeldIn, Releases, ReturnsToken, HasChangeable, HasExchanged}
 use Rattle.lock_desk.proofs.Entries.{entry_found}
 use Rattle.lock_desk.proofs.Owned.{owns_same, owns_less, owns_more, holder_owns, may_add_level-held, levels_of_held, full_of_held, none_held}
 use Rattle.lock_desk.proofs.Slots.{differs_found, differs_put, parked_held, parked_party, held_slot, held_party, no_tokens, modes_of-tokens_in, same_put}
@@ -52,6 +52,23 @@ module _ {K : Type 0} where
 
   still_positive : (old new : Backing K) → KeepsLimits old new → 0 < old.levels.limit → 0 < new.levels.limit
   still_positive old new k p = subst (λ n. 0 < n) (sym k.limit) p
+
+  -- slots of which the tokens are these are backed, if the owner stays
+  same_owner : (ss : List (ℕ × Slot K)) (old new : Backing K) (tokens : List (K × Mode)) → KeepsLimits old new
+      → new.levels.owner ≡ old.levels.owner → 0 < old.levels.limit → SameBag new.tokens tokens
+      → ((test : K × Mode → Bool) → count test tokens ≡ count test (tokens_in ss) + count test (token_of_owner old.levels.owner))
+      → AreHeldBy (is_reentrant old.kind) ss old.levels.owner
+      → AreCompatible (token_limit old.kind old.levels.limit) (bag_of_tokens tokens) → AreBacked ss new
+  same_owner ss old new tokens keeps owner positive same counts held compatible = record {
+    bag = subst (λ o. SameBag new.tokens (tokens_in ss ++ token_of_owner o)) (sym owner) (record {
+      counts = λ test. omega (arith, same.counts test, counts test, count-append test (tokens_in ss) (token_of_owner old.levels.owner));
+    });
+    holders = subst (λ o. AreHeldBy (is_reentrant new.kind) ss o) (sym owner)
+        (subst (λ n. AreHeldBy n ss old.levels.owner) (sym (same_nesting old new keeps)) held);
+    compatible = subst (λ n. AreCompatible n (bag_of_tokens new.tokens)) (sym (same_behind old new keeps))
+        (subst (λ g. AreCompatible (token_limit old.kind old.levels.limit) g) (sym (bag_of_same new.tokens tokens same)) compatible);
+    positive = still_positive old new keeps positive;
+  }
 
   -- without tokens nothing is backed
   pub nothing_backed : (kind : Kind) (limit places : ℕ) → 0 < limit
@@ -146,16 +163,9 @@ module _ {K : Type 0} where
       let readers = token_limit old.kind old.levels.limit in
       let before : AreCompatible readers (bag_of_tokens ((k, s.mode) ∷ rest))
       = subst (λ g. AreCompatible readers g) (bag_of_same old.tokens ((k, s.mode) ∷ rest) beside) b.compatible in
-      record {
-        bag = subst (λ o. SameBag new.tokens (tokens_in others ++ token_of_owner o)) (sym owner) left;
-        holders = subst (λ o. AreHeldBy (is_reentrant new.kind) others o) (sym owner)
-            (subst (λ n. AreHeldBy n others old.levels.owner) (sym (same_nesting old new keeps))
-            (holders_by (is_reentrant old.kind) b.holders));
-        compatible = subst (λ n. AreCompatible n (bag_of_tokens new.tokens)) (sym (same_behind old new keeps))
-            (subst (λ g. AreCompatible readers g) (sym (bag_of_same new.tokens rest left))
-            (compatible_released readers (bag_of_tokens rest) s.mode before));
-        positive = still_positive old new keeps b.positive;
-      }
+      same_owner others old new rest keeps owner b.positive left
+      (λ test. count-append test (tokens_in others) (token_of_owner old.levels.owner)) (holders_by (is_reentrant old.kind) b.holders)
+      (compatible_released readers (bag_of_tokens rest) s.mode before)
     where
       holders_by : (n : Bool) → AreHeldBy n ss old.levels.owner → AreHeldBy n others old.levels.owner
       holders_by true h = let t = (d.less is_token h.0).0 in let u = ap is_token (e ∙ is) in cc
@@ -168,30 +178,20 @@ module _ {K : Type 0} where
   serves_own party mode k old new n keeps owner admits added s ss others d e q m b =
       let held = of_others others old n b in
       let readers = token_limit old.kind old.levels.limit in
-      record {
-        bag = subst (λ o. SameBag new.tokens (tokens_in ss ++ token_of_owner o)) (sym owner)
-            (record {
-              counts = λ test. omega (
-                arith,
-                added.counts test,
-                bag_count test others old b,
-                d.tokens test,
-                ap (λ h. count test (token_in h s.mode)) e,
-                ap (λ w. count test (token_in (Token k) w)) m,
-                count-append test (tokens_in ss) (token_of_owner old.levels.owner),
-              );
-            });
-        holders = subst (λ o. AreHeldBy (is_reentrant new.kind) ss o) (sym owner)
-            (subst (λ w. AreHeldBy w ss old.levels.owner) (sym (same_nesting old new keeps ∙ n)) (d.more is_level (ap is_level e) held.0, held.1));
-        compatible = subst (λ w. AreCompatible w (bag_of_tokens new.tokens)) (sym (same_behind old new keeps))
-            (subst (λ g. AreCompatible readers g) (sym (bag_of_same new.tokens ((k, mode) ∷ old.tokens) added))
-            (compatible_acquired readers (bag_of_tokens old.tokens) mode b.compatible admits));
-        positive = still_positive old new keeps b.positive;
-      }
+      same_owner ss old new ((k, mode) ∷ old.tokens) keeps owner b.positive added
+      (λ test. omega (
+        arith,
+        bag_count test others old b,
+        d.tokens test,
+        ap (λ h. count test (token_in h s.mode)) e,
+        ap (λ w. count test (token_in (Token k) w)) m,
+      ))
+      (subst (λ w. AreHeldBy w ss old.levels.owner) (sym n) (d.more is_level (ap is_level e) held.0, held.1))
+      (compatible_acquired readers (bag_of_tokens old.tokens) mode b.compatible admits)
 
   -- Levels
 
-  bag_of_owner : (ss : List (ℕ × Slot K)) (t : Backing K) → NoHold is_token ss → AreBacked ss t → SameBag t.tokens (token_of_owner t.levels.owner)
+  bag_of_owner : (ss : List (ℕ × Slot K)) (t : Backing K) → NoHold is_token ss → AreBacked ss t → HasTokenOfOwner t
   bag_of_owner ss t none b = rw (no_tokens ss none) at b.bag
 
   -- an owner may hold its one token
@@ -205,7 +205,7 @@ module _ {K : Type 0} where
 
   -- an owner's levels are backed by its token
   owner_backs : (ss : List (ℕ × Slot K)) (t : Backing K) → is_reentrant t.kind ≡ true → 0 < t.levels.limit
-      → NoHold is_token ss → OwnsLevels t.levels.owner (held_of ss) → SameBag t.tokens (token_of_owner t.levels.owner)
+      → NoHold is_token ss → OwnsLevels t.levels.owner (held_of ss) → HasTokenOfOwner t
       → AreBacked ss t
   owner_backs ss t n positive none owns p = record {
     bag = rw (no_tokens ss none) p;
@@ -227,7 +227,7 @@ module _ {K : Type 0} where
       by_nesting false h = let f = (d.less is_level h.0).0 in let u = ap is_level e in cc
 
   pub held_level : (party : ℕ) (t : Backing K) (hold : GuardHold K) → hold ≡ Level → IsHeldIn party hold t
-      → (0 < level_of t.levels party) × SameBag t.tokens (token_of_owner t.levels.owner)
+      → (0 < level_of t.levels party) × HasTokenOfOwner t
   held_level party t hold is (s, ss, others, d, e, q, b) =
       let held = of_reentrant ss t (reentrant_of_level s ss others t d (e ∙ is) b) b in
       let some : 0 < length (held_of ss) = omega (arith, held_slot s ss others d (ap is_held (e ∙ is))) in
@@ -237,7 +237,7 @@ module _ {K : Type 0} where
       (subst (λ p. 0 < level_of t.levels p) q (omega (arith, count, some)), bag_of_owner ss t held.0 b)
 
   pub releases_level : (hold : GuardHold K) (old new : Backing K) → hold ≡ Level → KeepsLimits old new
-      → new.levels.owner ≡ one_level_less old.levels.owner → SameBag new.tokens (token_of_owner new.levels.owner)
+      → new.levels.owner ≡ one_level_less old.levels.owner → HasTokenOfOwner new
       → Releases hold old new
   releases_level hold old new is keeps left p s ss others d e b =
       let n = reentrant_of_level s ss others old d (e ∙ is) b in
@@ -249,7 +249,7 @@ module _ {K : Type 0} where
 
   pub serves_level : (party : ℕ) (mode : Mode) (old new : Backing K) → is_reentrant old.kind ≡ true
       → KeepsLimits old new → may_add_level old.levels.limit party old.levels.owner ≡ true
-      → HasAddedLevel party old.levels.owner new.levels.owner → SameBag new.tokens (token_of_owner new.levels.owner)
+      → HasAddedLevel party old.levels.owner new.levels.owner → HasTokenOfOwner new
       → BacksSlot party mode Level old new
   serves_level party mode old new n keeps may entered p s ss others d e q m b =
       let held = of_reentrant others old n b in
@@ -334,7 +334,7 @@ module _ {K : Type 0} where
       fit_one (Token k) mode n us l = omega arith
       fit_one Level mode n us l = omega arith
 
-  pub room_bag : (t : Backing K) → is_reentrant t.kind ≡ true → HasRoom t → SameBag t.tokens (token_of_owner t.levels.owner)
+  pub room_bag : (t : Backing K) → is_reentrant t.kind ≡ true → HasRoom t → HasTokenOfOwner t
   room_bag t n (ss, b, l) = bag_of_owner ss t (of_reentrant ss t n b).0 b
 
   pub room_fits : (t : Backing K) → is_reentrant t.kind ≡ false → HasRoom t → length t.tokens < t.capacity
@@ -366,7 +366,7 @@ module _ {K : Type 0} where
       by_nesting false h = refl
 
   pub tells_level : (back : Bool) (hold : GuardHold K) (old new : Backing K) → hold ≡ Level → KeepsLimits old new
-      → new.levels.owner ≡ one_level_less old.levels.owner → SameBag new.tokens (token_of_owner new.levels.owner)
+      → new.levels.owner ≡ one_level_less old.levels.owner → HasTokenOfOwner new
       → back ≡ is_none new.levels.owner → ReturnsToken back hold old
   tells_level back hold old new is keeps left p none places last s ss others d e b =
       let nested : is_reentrant old.kind ≡ true = reentrant_of_level s ss others old d (e ∙ is) b in
@@ -457,26 +457,16 @@ module _ {K : Type 0} where
       let after : AreCompatible old.levels.limit (bag_of_tokens ((l, mode) ∷ rest))
       = compatible_changed old.levels.limit (bag_of_tokens rest) s.mode mode b.positive moves
       (subst (λ g. IsTrue (may_become g mode)) was may) before in
-      record {
-        bag = subst (λ o. SameBag new.tokens (tokens_in us ++ token_of_owner o)) (sym owner)
-            (record {
-              counts = λ test. omega (
-                arith,
-                now.counts test,
-                f.tokens test,
-                ap (λ w. count test (token_in w u.mode)) hold,
-                ap (λ w. count test (token_in (Token l) w)) to,
-                count-append test (tokens_in us) (token_of_owner old.levels.owner),
-                count-append test (tokens_in others) (token_of_owner old.levels.owner),
-              );
-            });
-        holders = subst (λ o. AreHeldBy (is_reentrant new.kind) us o) (sym owner)
-            (subst (λ w. AreHeldBy w us old.levels.owner) (sym (same_nesting old new keeps ∙ n))
-            (f.more is_level (ap is_level hold) (d.less is_level held.0).1, held.1));
-        compatible = subst (λ w. AreCompatible w (bag_of_tokens new.tokens)) (sym (same_behind old new keeps ∙ behind))
-            (subst (λ g. AreCompatible old.levels.limit g) (sym (bag_of_same new.tokens ((l, mode) ∷ rest) now)) after);
-        positive = still_positive old new keeps b.positive;
-      }
+      same_owner us old new ((l, mode) ∷ rest) keeps owner b.positive now
+      (λ test. omega (
+        arith,
+        f.tokens test,
+        ap (λ w. count test (token_in w u.mode)) hold,
+        ap (λ w. count test (token_in (Token l) w)) to,
+        count-append test (tokens_in others) (token_of_owner old.levels.owner),
+      ))
+      (subst (λ w. AreHeldBy w us old.levels.owner) (sym n) (f.more is_level (ap is_level hold) (d.less is_level held.0).1, held.1))
+      (subst (λ w. AreCompatible w (bag_of_tokens ((l, mode) ∷ rest))) (sym behind) after)
 
   pub backed_after_change : (r : Bool) (n : ℕ) (ss : List (ℕ × Slot K)) (s u : Slot K) (old new : Backing K)
       (mode : Mode) → items.find n ss ≡ Some s → is_reentrant old.kind ≡ false → KeepsLimits old new
