@@ -1,4 +1,4 @@
--- Where a text may be cut: before and after an ASCII byte that a search found.
+-- The place that a search found, and where a text may be cut: before and after an ASCII byte at that place.
 use Rattle.std.proofs.Common.{◌≡◌, ◌==◌, ℕ, ◌<◌, ◌+◌, List, length, Bool, true, false, cond, Some, None, arith, get_or}
 use Rattle.std.specs.Prelude.{position, nat_lt}
 use Rattle.std.specs.List.{position_or_len}

@@ -4,8 +4,7 @@ use Rattle.std.specs.Prelude.{position}
 use Rattle.std.proofs.Common.{add-one, take_all, length-drop, le_refl}
 use Rattle.std.proofs.Math.Numerals.{one-add}
 use Rattle.std.proofs.lemmas.List.Quantifiers.{position-Some}
-use Rattle.std.specs.List.{position_or_len}
-use Rattle.std.specs.List.{onto_first}
+use Rattle.std.specs.List.{onto_first, position_or_len}
 use Rattle.lock_script.specs.Lines.{lines_of}
 use Rattle.lock_script.proofs.Cuts.{place_found}
 
