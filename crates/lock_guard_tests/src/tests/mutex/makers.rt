@@ -4,8 +4,8 @@ use lock_base::raw::Fault;
 use lock_guard::raw::RawMutex;
 use lock_mutex::Mutex;
 use lock_raws::RawLock;
+use lock_recorder::Recorder;
 use lock_test_support::answer::equal;
-use lock_test_support::raw_lock::MockRaw;
 use std::alloc::Global;
 use std::test::Fail;
 
@@ -22,7 +22,7 @@ pub enum Maker {
 /// A maker, the value of its mutex, and whether the raw lock is free and got no call.
 type Made = (Maker, u64, bool);
 
-fn consumed<R: RawMutex + Drop>(maker: Maker, mutex: Mutex<MockRaw<R>, u64>) -> Made {
+fn consumed<R: RawMutex + Drop>(maker: Maker, mutex: Mutex<Recorder<R>, u64>) -> Made {
     let (raw, value) = mutex.into_inner_with_raw();
     (maker, value, raw.has_no_calls() && !raw.is_locked())
 }

@@ -6,11 +6,12 @@ use lock_base::machine::PartyId;
 use lock_base::raw::Fault;
 use lock_guard::raw::RawMutex;
 use lock_raws::RawLock;
+use lock_recorder::RawCall::Lock;
+use lock_recorder::Recorder;
 use lock_remutex::ReentrantMutex;
 use lock_test_support::answer::equal;
 use lock_test_support::party;
-use lock_test_support::raw_lock::RawCall::Lock;
-use lock_test_support::raw_lock::{MockRaw, Watch};
+use lock_test_support::raw_lock::Watch;
 use std::alloc::Global;
 use std::mem;
 use std::test::Fail;
@@ -35,7 +36,7 @@ where
 /// Acquires levels of a new lock, and consumes it.
 fn consumed<R: RawMutex + Drop>(
     maker: Maker,
-    lock: ReentrantMutex<MockRaw<R>, u8>,
+    lock: ReentrantMutex<Recorder<R>, u8>,
     party: PartyId,
 ) -> Result<Made, Fault>
 where
@@ -43,7 +44,7 @@ where
 {
     let levels = levels(&lock, party);
     let (raw, value) = lock.into_inner_with_raw();
-    let mut watch = Watch::new(raw.calls()?);
+    let mut watch = Watch::new(raw.log()?);
     watch.saw(&[Lock(Exclusive)]);
     Ok((maker, value, levels, watch.is_right()))
 }
@@ -57,7 +58,7 @@ where
     R::Guard: Send + Drop,
 {
     let [first, second, third, fourth, fifth] = waiters;
-    let raw: MockRaw<R> = RawMutex::new(alloc, fifth)?;
+    let raw: Recorder<R> = RawMutex::new(alloc, fifth)?;
     Ok([
         consumed::<R>(Maker::New, ReentrantMutex::new(alloc, first, 5)?, one)?,
         consumed::<R>(Maker::From, ReentrantMutex::from(alloc, second, 6)?, one)?,

@@ -2,9 +2,9 @@
 use lock_base::machine::Mode::Exclusive;
 use lock_base::raw::Fault::{self, Foreign};
 use lock_guard::raw::RawMutex;
+use lock_recorder::RawCall::{Lock, TryLock, Unlock, UnlockFair};
 use lock_remutex::RawReentrantMutex;
 use lock_test_support::answer::equal;
-use lock_test_support::raw_lock::RawCall::{Lock, TryLock, Unlock, UnlockFair};
 use lock_test_support::raw_lock::{AdmitsAll, Watch};
 use lock_test_support::two_parties;
 use std::test::Fail;
@@ -32,7 +32,7 @@ const WANTED: [Answered; 11] = [
 fn a_raw_lock_that_lies_makes_no_second_owner(rt: HostRuntime) -> Result<(), Fail> {
     let (one, two) = two_parties()?;
     let raw: AdmitsAll<HostRuntime> = RawMutex::new(rt.alloc(), rt)?;
-    let mut watch = Watch::new(raw.calls()?);
+    let mut watch = Watch::new(raw.log()?);
     let lock = RawReentrantMutex::from_raw(rt.alloc(), raw)?;
     let done = |call, answer: Result<(), Fault>| {
         (
