@@ -62,7 +62,7 @@ fn the_raw_lock_is_asked_before_the_value_is_taken(rt: HostRuntime) -> Result<()
 }
 
 /// How a guard releases its mutex.
-#[derive(Clone, Copy, Debug)]
+#[derive(Clone, Copy)]
 enum End {
     Drop,
     UnlockFair,
@@ -96,7 +96,11 @@ fn read_before_release<W: Wait, R: RawMutex>(
 /// It ends only if a guard's drop, and a bump, release the value's lock before the raw lock.
 #[test]
 fn the_value_is_given_back_before_the_raw_lock(rt: HostRuntime) -> Result<(), Fail> {
-    for end in [End::Drop, End::UnlockFair, End::Bump] {
+    for (name, end) in [
+        ("drop", End::Drop),
+        ("unlock_fair", End::UnlockFair),
+        ("bump", End::Bump),
+    ] {
         let mutex: Mutex<Gated<HostRuntime>, u64> = Mutex::new(rt.alloc(), rt, 0)?;
         let is_held = AtomicBool::new(false);
         let ((), read) = thread::join(
@@ -104,7 +108,7 @@ fn the_value_is_given_back_before_the_raw_lock(rt: HostRuntime) -> Result<(), Fa
             || write_and_end(&mutex, &is_held, end),
             || read_before_release(&mutex, &rt, &is_held),
         );
-        assert_eq!(rt; read, 5, "{end:?}");
+        assert_eq!(rt; read, 5, "{name}");
     }
     Ok(())
 }
