@@ -2,9 +2,7 @@ pub mod Differences
 pub mod Done
 pub mod Entries
 pub mod Makers
-pub mod ModeWords
 pub mod PlainRaws
 pub mod Refusals
 pub mod Reports
-pub mod RwGuards
 pub mod Texts

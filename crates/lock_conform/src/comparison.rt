@@ -3,13 +3,13 @@ ghost use Rattle.std.specs.Prelude.{◌≡◌, length, take, IfSome};
 ghost use Rattle.lock_conform.specs.Differences.{IsAt};
 ghost use Rattle.lock_conform.specs.Entries.{replies_of};
 
-use crate::call_log::CallLog;
 use crate::difference::Difference;
 use crate::entry::Entry;
 use crate::line::Line;
 use crate::lines::Lines;
 use crate::report::Report;
 use lock_base::machine::Reply;
+use lock_recorder::CallLog;
 use std::alloc::{AllocError, Global};
 
 /// The lines of a script, and the answers of a lock so far: the first replies of the `Desk`, up to a difference.
@@ -109,7 +109,7 @@ impl Comparison {
             return Ok(());
         }
         let raw_calls = if self.makes(line) {
-            self.log.take()
+            self.log.take().unwrap_or(Vec::new(self.alloc))
         } else {
             Vec::new(self.alloc)
         };
@@ -136,7 +136,7 @@ impl Comparison {
         ensures silent { All IsSilentIfRefused result.entries.items }
     {
         let Comparison {
-            alloc: _,
+            alloc,
             lines: _,
             entries,
             difference,
@@ -146,7 +146,7 @@ impl Comparison {
         Report {
             entries,
             difference,
-            last_calls: log.take(),
+            last_calls: log.take().unwrap_or(Vec::new(alloc)),
         }
     }
 }

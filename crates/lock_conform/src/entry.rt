@@ -2,8 +2,8 @@
 ghost use Rattle.std.specs.Prelude.{◌≡◌, []};
 ghost use Rattle.lock_conform.specs.Refusals.{IsOutright};
 
-use crate::raw_call::RawCall;
 use lock_base::machine::Reply;
+use lock_recorder::RawCall;
 
 /// The answer to a line of a script, and the raw calls that the line made. A call that the `Desk` refuses makes none,
 /// unless it is refused because it would block.

@@ -3,10 +3,10 @@ use lock_base::machine::Want;
 use std::alloc::{AllocError, Global};
 use std::mem;
 
-/// What became of a guard.
+/// What became of a guard. `Want` is what an acquisition of such a guard asks for.
 #[derive(Drop)]
 pub enum Slot<G> {
-    Held(G),
+    Held(Want, G),
     /// It was released, to be acquired again.
     Parked(Want),
     Gone,
@@ -27,8 +27,8 @@ impl<G: Drop> Guards<G> {
     }
 
     /// Appends a guard, and returns its number.
-    pub fn add(&mut self, guard: G) -> Result<u64, AllocError> {
-        self.slots.push(Slot::Held(guard))?;
+    pub fn add(&mut self, want: Want, guard: G) -> Result<u64, AllocError> {
+        self.slots.push(Slot::Held(want, guard))?;
         Ok(self.slots.len() as u64)
     }
 
@@ -41,9 +41,9 @@ impl<G: Drop> Guards<G> {
     }
 
     /// Takes the guard, if it is held.
-    pub fn take_held(&mut self, number: u64) -> Option<G> {
+    pub fn take_held(&mut self, number: u64) -> Option<(Want, G)> {
         match self.take(number) {
-            Slot::Held(guard) => Some(guard),
+            Slot::Held(want, guard) => Some((want, guard)),
             Slot::Parked(_) | Slot::Gone => None,
         }
     }

@@ -1,29 +1,30 @@
-//! A mutex by guards that borrow it.
-ghost use Rattle.std.specs.Prelude.{◌≡◌, ◌↔◌, IfOk, IfErr};
+//! Scripts on a mutex.
+ghost use Rattle.std.specs.Prelude.{◌≡◌, ◌↔◌, IfOk, IfErr, IsOkUnless};
 ghost use Rattle.lock_script.specs.Session.{HasLimits, replies_to};
 ghost use Rattle.lock_conform.specs.Makers.{IsRunFault, kind_of};
 ghost use Rattle.lock_conform.specs.Reports.{IsReport};
 
-use crate::deadline::Deadline;
-use crate::driven::{Driven, unlocked};
+use crate::driven::{After, Driven, call_any, unlocked};
+use crate::manner::Manner;
 use crate::operation::{ask, change};
-use crate::park_by::ParkBy;
-use crate::parts::run_parts;
+use crate::parts::{RunParts, run_parts, shared};
 use crate::report::Report;
 use crate::script_run::run_on;
 use lock_base::machine::{Call, Form, Kind, PartyId, Reply, Want, Way};
 use lock_base::raw::Fault;
 use lock_guard::raw::{RawMutexFair, RawMutexTimed};
-use lock_mutex::{Mutex, MutexGuard};
+use lock_mutex::{ArcMutexGuard, Mutex, MutexGuard};
+use lock_recorder::Deadline;
 use lock_script::{DeskScript, Pair, PairOp};
 use std::alloc::Global;
+use std::sync::Arc;
 
-/// Runs a script of a mutex over the raw lock, by guards that borrow the mutex.
+/// Runs a script of a mutex over the raw lock.
 pub fn run_mutex<R>(
     alloc: Global,
     raw: R,
     script: DeskScript,
-    park_by: ParkBy,
+    manner: Manner,
 ) -> Result<Report, Fault>
 where
     R: RawMutexFair + RawMutexTimed + Drop,
@@ -36,77 +37,102 @@ where
         (IsReport script.calls.items (replies_to script.maker script.calls.items)) }
 {
     let parts = run_parts(alloc, Kind::Mutex, raw, script)?;
-    let lock = Mutex::from_raw(parts.raw, parts.pair)?;
-    let report = run_on(
-        alloc,
-        &BorrowingMutex { lock: &lock },
-        parts.log,
-        parts.lines,
-        park_by,
-    )?;
+    let report = run_lines(alloc, parts, manner)?;
     Ok(report)
 }
 
-/// A mutex by guards that borrow it.
-#[derive(Drop)]
-struct BorrowingMutex<'a, R> {
-    lock: &'a Mutex<R, Pair>,
+/// Makes the lines of a script on a mutex. Its raw lock is a type parameter: over a raw lock of a known type, the drop of
+/// a guard that owns an `Arc` gets no proof.
+fn run_lines<R>(alloc: Global, parts: RunParts<R>, manner: Manner) -> Result<Report, Fault>
+where
+    R: RawMutexFair + RawMutexTimed<Duration = u64, Instant = u64> + Drop,
+    ensures fault { IsOkUnless result Fault.OutOfMemory }
+    ensures report { IfOk result (IsReport parts.lines.calls.items parts.lines.replies.items) }
+{
+    let lock = Mutex::from_raw(parts.raw, parts.pair)?;
+    if !manner.is_arc {
+        return Ok(run_on(alloc, &&lock, parts.log, parts.lines, manner.park_by)?);
+    }
+    let lock = shared(alloc, lock)?;
+    Ok(run_on(alloc, &lock, parts.log, parts.lines, manner.park_by)?)
 }
 
-impl<'a, R> Driven for BorrowingMutex<'a, R>
+impl<'a, R> Driven for &'a Mutex<R, Pair>
 where
-    R: RawMutexFair + RawMutexTimed<Duration = (), Instant = ()>,
+    R: RawMutexFair + RawMutexTimed<Duration = u64, Instant = u64>,
 {
     type Guard = MutexGuard<'a, R, Pair>;
 
     fn acquire(&self, _want: Want, form: Form, _party: PartyId) -> Result<Self::Guard, Fault> {
+        let lock: &'a Mutex<R, Pair> = self;
         let tried = match form {
-            Form::Block => Some(self.lock.lock()),
-            Form::Try => self.lock.try_lock(),
-            Form::For => self.lock.try_lock_for(()),
-            Form::Until => self.lock.try_lock_until(()),
+            Form::Block => Some(lock.lock()),
+            Form::Try => lock.try_lock(),
+            Form::For => lock.try_lock_for(0),
+            Form::Until => lock.try_lock_until(0),
         };
         tried.ok_or(Fault::WouldWait)
     }
 
-    fn want(&self, _guard: &Self::Guard) -> Want {
-        Want::Lock
+    fn unlocked<U, F: FnOnce() -> U>(guard: Self::Guard, way: Way, f: F) -> After<Self::Guard, U> {
+        unlocked!(MutexGuard, guard, way, f)
     }
 
-    fn release(&self, guard: Self::Guard, way: Way) {
-        match way {
-            Way::Plain | Way::IntoArc => drop(guard),
-            Way::Fair | Way::IntoArcFair => MutexGuard::unlock_fair(guard),
-        }
-    }
-
-    fn unlocked<U, F: FnOnce() -> U>(
-        &self,
-        guard: Self::Guard,
-        is_fair: bool,
-        f: F,
-    ) -> (Self::Guard, U) {
-        unlocked!(MutexGuard, guard, is_fair, f)
-    }
-
-    fn call_guard(&self, guard: Self::Guard, call: Call<PairOp>) -> (Self::Guard, Reply<i64>) {
+    fn call_guard(guard: Self::Guard, call: Call<PairOp>) -> After<Self::Guard, Reply<i64>> {
         let mut guard = guard;
-        let reply = match call {
-            Call::Bump(_, _) => {
-                MutexGuard::bump(&mut guard);
-                Reply::Done
-            }
-            Call::Get(_, _, operation) => ask(operation, &guard),
-            Call::Change(_, _, operation) => change(operation, &mut guard),
-            _ => Reply::Refused(Fault::WrongKind),
-        };
-        (guard, reply)
+        if let Call::Change(_, _, operation) = call {
+            let reply = change(operation, &mut guard);
+            return (Some(guard), reply);
+        }
+        call_any!(borrowing MutexGuard, guard, call, operation => ask(operation, &guard))
     }
 
     fn call_lock(&self, call: Call<PairOp>) -> Reply<i64> {
-        match call {
-            Call::IsLocked | Call::IsLockedExclusive => Reply::Bool(self.lock.is_locked()),
-            _ => Reply::Refused(Fault::WrongKind),
+        call_mutex(self, call)
+    }
+}
+
+impl<R> Driven for Arc<Mutex<R, Pair>>
+where
+    R: RawMutexFair + RawMutexTimed<Duration = u64, Instant = u64> + Drop,
+{
+    type Guard = ArcMutexGuard<R, Pair>;
+
+    fn acquire(&self, _want: Want, form: Form, _party: PartyId) -> Result<Self::Guard, Fault> {
+        let tried = match form {
+            Form::Block => Some(Mutex::lock_arc(self)?),
+            Form::Try => Mutex::try_lock_arc(self)?,
+            Form::For => Mutex::try_lock_arc_for(self, 0)?,
+            Form::Until => Mutex::try_lock_arc_until(self, 0)?,
+        };
+        tried.ok_or(Fault::WouldWait)
+    }
+
+    fn unlocked<U, F: FnOnce() -> U>(guard: Self::Guard, way: Way, f: F) -> After<Self::Guard, U> {
+        unlocked!(ArcMutexGuard, guard, way, f)
+    }
+
+    fn call_guard(guard: Self::Guard, call: Call<PairOp>) -> After<Self::Guard, Reply<i64>> {
+        let mut guard = guard;
+        if let Call::Change(_, _, operation) = call {
+            let put = |pair: &mut Pair| change(operation, pair);
+            let reply = ArcMutexGuard::with_mut(&mut guard, put);
+            return (Some(guard), reply);
         }
+        call_any!(owning ArcMutexGuard, guard, call, operation => {
+            ArcMutexGuard::with(&guard, |pair: &Pair| ask(operation, pair))
+        })
+    }
+
+    fn call_lock(&self, call: Call<PairOp>) -> Reply<i64> {
+        call_mutex(self, call)
+    }
+}
+
+/// Makes a call that needs no guard.
+fn call_mutex<R: RawMutexFair>(lock: &Mutex<R, Pair>, call: Call<PairOp>) -> Reply<i64> {
+    match call {
+        Call::IsLocked | Call::IsLockedExclusive => Reply::Bool(lock.is_locked()),
+        _ => Reply::Refused(Fault::WrongKind),
     }
 }

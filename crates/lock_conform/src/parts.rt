@@ -1,21 +1,21 @@
 //! What a run of a script needs.
-ghost use Rattle.std.specs.Prelude.{◌≡◌, ◌↔◌, IfOk, IfErr};
+ghost use Rattle.std.specs.Prelude.{◌≡◌, ◌↔◌, IfOk, IfErr, IsOkUnless};
 ghost use Rattle.lock_script.specs.Session.{HasLimits, replies_to};
 ghost use Rattle.lock_conform.specs.Makers.{IsRunFault, kind_of};
 
-use crate::call_log::CallLog;
 use crate::lines::Lines;
-use crate::recorder::Recorder;
 use lock_base::machine::Kind;
 use lock_base::raw::Fault;
+use lock_recorder::{CallLog, Recorder};
 use lock_script::{DeskScript, Maker, Pair};
 use std::alloc::Global;
+use std::sync::Arc;
 
 /// What a run of a script on a lock needs.
 #[derive(Drop)]
-pub struct RunParts<R: Drop> {
+pub struct RunParts<R> {
     /// The raw lock.
-    pub raw: Recorder<R>,
+    pub raw: R,
     /// The first value.
     pub pair: Pair,
     /// The record of the raw lock's calls.
@@ -29,7 +29,7 @@ pub fn run_parts<R: Drop>(
     kind: Kind,
     raw: R,
     script: DeskScript,
-) -> Result<RunParts<R>, Fault>
+) -> Result<RunParts<Recorder<R>>, Fault>
     ensures kind { (result ≡ Err Fault.WrongKind) ↔ ¬ (kind_of script.maker ≡ kind) }
     ensures limits { (result ≡ Err Fault.BadLimits) ↔ ((kind_of script.maker ≡ kind) × ¬ HasLimits script.maker) }
     ensures fault { IfErr result IsRunFault }
@@ -50,6 +50,16 @@ pub fn run_parts<R: Drop>(
         log,
         lines,
     })
+}
+
+/// Returns an `Arc` of the lock.
+pub fn shared<L: Drop>(alloc: Global, lock: L) -> Result<Arc<L>, Fault>
+    ensures { IsOkUnless result Fault.OutOfMemory }
+{
+    match Arc::new(alloc, lock) {
+        Ok(lock) => Ok(lock),
+        Err(_) => Err(Fault::OutOfMemory),
+    }
 }
 
 /// Returns the kind of a script's lock, and its first value.

@@ -1,7 +1,7 @@
 //! What came of a script.
 use crate::difference::Difference;
 use crate::entry::Entry;
-use crate::raw_call::RawCall;
+use lock_recorder::RawCall;
 
 /// What came of a script on a lock.
 #[derive(Drop)]

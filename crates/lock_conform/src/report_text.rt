@@ -4,9 +4,9 @@ ghost use Rattle.std.specs.List.{flat_map};
 ghost use Rattle.lock_conform.specs.Texts.{entry_text, raw_call_lines, report_text};
 
 use crate::entry::Entry;
-use crate::raw_call::RawCall;
 use crate::report::Report;
 use lock_base::machine::Reply;
+use lock_recorder::RawCall;
 use lock_script::{Answer, write_answer};
 use std::alloc::{AllocError, Global};
 

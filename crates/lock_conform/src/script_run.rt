@@ -4,16 +4,16 @@ ghost use Rattle.lock_conform.specs.Done.{lines_done};
 ghost use Rattle.lock_conform.specs.Refusals.{IsOutright};
 ghost use Rattle.lock_conform.specs.Reports.{IsReport};
 
-use crate::call_log::CallLog;
 use crate::comparison::Comparison;
 use crate::driven::Driven;
 use crate::guards::{Guards, Slot};
 use crate::line::Line;
 use crate::lines::Lines;
-use crate::park_by::ParkBy;
+use crate::manner::ParkBy;
 use crate::report::Report;
 use lock_base::machine::{Call, Form, PartyId, Reply, Want, Way};
 use lock_base::raw::Fault;
+use lock_recorder::CallLog;
 use lock_script::PairOp;
 use std::alloc::{AllocError, Global};
 
@@ -104,7 +104,7 @@ fn make_next<D: Driven>(
 #[derive(Clone, Copy)]
 struct ParkedUntil {
     number: u64,
-    is_fair: bool,
+    way: Way,
     /// The line that resumes it.
     end: usize,
 }
@@ -114,9 +114,9 @@ fn parked_until(comparison: &Comparison) -> Option<ParkedUntil>
     requires { lines_done comparison.now < length comparison.now.lines.replies.items }
 {
     let line = comparison.next();
-    let (number, is_fair) = match line.call {
-        Call::Park(_, number) if comparison.makes(line) => (number, false),
-        Call::ParkFair(_, number) if comparison.makes(line) => (number, true),
+    let (number, way) = match line.call {
+        Call::Park(_, number) if comparison.makes(line) => (number, Way::Plain),
+        Call::ParkFair(_, number) if comparison.makes(line) => (number, Way::Fair),
         _ => return None,
     };
     let lines = comparison.lines();
@@ -124,11 +124,7 @@ fn parked_until(comparison: &Comparison) -> Option<ParkedUntil>
         let line = lines.line(end);
         match line.call {
             Call::Resume(_, resumed) if resumed == number && line.wanted == Reply::Done => {
-                return Some(ParkedUntil {
-                    number,
-                    is_fair,
-                    end,
-                });
+                return Some(ParkedUntil { number, way, end });
             }
             Call::Abandon(_, ended) if ended == number && line.wanted == Reply::Done => {
                 return None;
@@ -150,14 +146,18 @@ fn park_unlocked<D: Driven>(
     ensures next { IfOk result (λ made. lines_done comparison < length comparison.lines.replies.items
         → lines_done comparison < lines_done made) }
 {
-    let Some(guard) = guards.take_held(parked.number) else {
+    let Some((want, guard)) = guards.take_held(parked.number) else {
         return answered(comparison, Reply::Refused(Fault::UnknownGuard));
     };
-    guards.put(parked.number, Slot::Parked(driven.want(&guard)));
-    let (guard, made) = driven.unlocked(guard, parked.is_fair, || {
+    guards.put(parked.number, Slot::Parked(want));
+    let (guard, made) = D::unlocked(guard, parked.way, || {
         make_lines_within(driven, guards, comparison, parked.end)
     });
-    guards.put(parked.number, Slot::Held(guard));
+    let slot = match guard {
+        Some(guard) => Slot::Held(want, guard),
+        None => Slot::Gone,
+    };
+    guards.put(parked.number, slot);
     answered(made?, Reply::Done)
 }
 
@@ -208,7 +208,7 @@ fn make_line<D: Driven>(
 {
     let reply = match line.made() {
         Call::Acquire(want, form, party) => match acquire(driven, want, form, party)? {
-            Some(guard) => Reply::Guard(guards.add(guard)?),
+            Some(guard) => Reply::Guard(guards.add(want, guard)?),
             None => Reply::NoGuard,
         },
         Call::Resume(party, number) => resume(driven, guards, line.resume_form(), party, number)?,
@@ -225,7 +225,7 @@ fn make_line<D: Driven>(
         | Call::DowngradeToUpgradable(_, number)
         | Call::WithUpgraded(_, _, number, _)
         | Call::Get(_, number, _)
-        | Call::Change(_, number, _) => make_on_guard(driven, guards, line.made(), number),
+        | Call::Change(_, number, _) => make_on_guard::<D>(guards, line.made(), number),
         call => driven.call_lock(call),
     };
     Ok(line.told(reply))
@@ -258,7 +258,7 @@ fn resume<D: Driven>(
     };
     match acquire(driven, want, form, party)? {
         Some(guard) => {
-            guards.put(number, Slot::Held(guard));
+            guards.put(number, Slot::Held(want, guard));
             Ok(Reply::Done)
         }
         None => {
@@ -268,35 +268,36 @@ fn resume<D: Driven>(
     }
 }
 
-/// Makes a call on a held guard.
+/// Makes a call on a held guard. A guard that is parked is released.
 fn make_on_guard<D: Driven>(
-    driven: &D,
     guards: &mut Guards<D::Guard>,
     call: Call<PairOp>,
     number: u64,
 ) -> Reply<i64> {
-    let Some(guard) = guards.take_held(number) else {
+    let Some((want, guard)) = guards.take_held(number) else {
         return Reply::Refused(Fault::UnknownGuard);
     };
-    let (slot, reply) = match call {
-        Call::Unlock(_, _, way) => {
-            driven.release(guard, way);
-            (Slot::Gone, Reply::Done)
-        }
-        Call::Park(_, _) => (park(driven, guard, Way::Plain), Reply::Done),
-        Call::ParkFair(_, _) => (park(driven, guard, Way::Fair), Reply::Done),
-        call => {
-            let (guard, reply) = driven.call_guard(guard, call);
-            (Slot::Held(guard), reply)
-        }
+    let (call, released) = match call {
+        Call::Park(party, _) => (Call::Unlock(party, number, Way::Plain), Slot::Parked(want)),
+        Call::ParkFair(party, _) => (Call::Unlock(party, number, Way::Fair), Slot::Parked(want)),
+        call => (call, Slot::Gone),
+    };
+    let (guard, reply) = D::call_guard(guard, call);
+    let slot = match guard {
+        Some(guard) if reply == Reply::Done => Slot::Held(want_after(call, want), guard),
+        Some(guard) => Slot::Held(want, guard),
+        None => released,
     };
     guards.put(number, slot);
     reply
 }
 
-/// Releases a guard that is acquired again later.
-fn park<D: Driven>(driven: &D, guard: D::Guard, way: Way) -> Slot<D::Guard> {
-    let want = driven.want(&guard);
-    driven.release(guard, way);
-    Slot::Parked(want)
+/// Returns what an acquisition of a guard asks for, once the call on the guard is made.
+fn want_after(call: Call<PairOp>, want: Want) -> Want {
+    match call {
+        Call::Upgrade(_, _, _) => Want::Write,
+        Call::Downgrade(_, _) => Want::Read,
+        Call::DowngradeToUpgradable(_, _) => Want::UpgradableRead,
+        _ => want,
+    }
 }

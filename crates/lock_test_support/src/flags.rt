@@ -2,6 +2,7 @@
 ghost use Rattle.std.specs.Prelude.{true};
 ghost use Rattle.std.specs.Fn.{FnReturns};
 
+use lock_recorder::CallLog;
 use std::sync::Wait;
 use std::sync::atomic::{AtomicBool, Ordering};
 use std::thread;
@@ -23,4 +24,9 @@ pub fn wait_until<W: Wait, F: Fn() -> bool>(waiter: &W, condition: F)
 /// Blocks until another thread raises the flag.
 pub fn wait_for_flag<W: Wait>(waiter: &W, flag: &AtomicBool) {
     wait_until(waiter, || flag.load(Ordering::SeqCst));
+}
+
+/// Blocks until a raw lock has recorded so many calls.
+pub fn wait_for_calls<W: Wait>(waiter: &W, log: &CallLog, least: usize) {
+    wait_until(waiter, || log.count(waiter) >= least);
 }

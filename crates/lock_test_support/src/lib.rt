@@ -1,4 +1,4 @@
-//! What the tests of the locks share: raw locks that record their calls, or admit too much; projections of pairs, flags
+//! What the tests of the locks share: raw locks that admit too much, a watch over raw calls; projections of pairs, flags
 //! between threads, and checks of answers.
 #![tactic(auto)]
 
@@ -9,6 +9,6 @@ mod parties;
 pub mod project;
 pub mod raw_lock;
 
-pub use flags::{wait_for_flag, wait_until};
+pub use flags::{wait_for_calls, wait_for_flag, wait_until};
 pub use four_threads::{Count, add_in_four_threads};
 pub use parties::{party, two_parties};

@@ -6,7 +6,7 @@ use Rattle.lockconform.specs.declared.choice.RawChoice.{RawChoice}
 use Rattle.lockconform.specs.declared.choice.RawChoice.TheVariants.{Word, Table, Timed, Recording, Fair, TimedFair, Wrong}
 use Rattle.lock_test_support.specs.declared.raw_lock.mistake.Mistake.{Mistake}
 use Rattle.lock_test_support.specs.declared.raw_lock.mistake.Mistake.TheVariants.{ExtraReader, UpgradeAmongReaders, RefusalAdmits, KeptToken, FairKeptToken, HalfBump, TimedRefusal}
-use Rattle.lock_conform.specs.declared.park_by.ParkBy.TheVariants.{Unlocked}
+use Rattle.lock_conform.specs.declared.manner.ParkBy.TheVariants.{Unlocked}
 
 -- the word of a mistake
 abbrev pub mistake_word : Mistake → List ℕ
@@ -39,8 +39,8 @@ HasWord words word = ¬ All (λ it. string_bytes it ≢ word) words
 pub record IsChosen (first : List ℕ) (options : List (String Global)) (choice : Choice) : Type 0 where
   pub raw : first ≡ raw_word choice.raw
   pub known : All (λ it. IsOption (string_bytes it)) options
-  pub within : (choice.park_by ≡ Unlocked) ↔ HasWord options (codes "within")
-  pub arc : IsTrue choice.is_arc ↔ HasWord options (codes "arc")
+  pub within : (choice.manner.park_by ≡ Unlocked) ↔ HasWord options (codes "within")
+  pub arc : IsTrue choice.manner.is_arc ↔ HasWord options (codes "arc")
   pub calls : IsTrue choice.prints_calls ↔ HasWord options (codes "calls")
 
 abbrev pub IsChoice : List (String Global) → Choice → Type 0

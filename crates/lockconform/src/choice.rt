@@ -3,7 +3,7 @@ ghost use Rattle.std.specs.Prelude.{◌≡◌, ◌≢◌, ◌↔◌, IfNone, IfS
 ghost use Rattle.lockconform.specs.Choices.{HasWord, mistake_word};
 
 use crate::words::{are_options, has};
-use lock_conform::ParkBy;
+use lock_conform::{Manner, ParkBy};
 use lock_test_support::raw_lock::Mistake;
 
 /// A raw lock of the library, or one that makes a mistake.
@@ -18,12 +18,11 @@ pub enum RawChoice {
     Wrong(Mistake),
 }
 
-/// How a script is run.
+/// How a script is run, and what is printed.
 #[derive(Clone, Copy, PartialEq, Eq, Debug)]
 pub struct Choice {
     pub raw: RawChoice,
-    pub park_by: ParkBy,
-    pub is_arc: bool,
+    pub manner: Manner,
     pub prints_calls: bool,
 }
 
@@ -42,8 +41,10 @@ impl Choice {
         }
         Some(Choice {
             raw,
-            park_by: park_by(options),
-            is_arc: has(options, "arc"),
+            manner: Manner {
+                park_by: park_by(options),
+                is_arc: has(options, "arc"),
+            },
             prints_calls: has(options, "calls"),
         })
     }

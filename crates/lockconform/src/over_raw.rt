@@ -3,12 +3,9 @@ ghost use Rattle.std.specs.Prelude.{◌≡◌, ◌≤◌, IfOk, OnOk};
 ghost use Rattle.lock_script.specs.Session.{HasLimits, replies_to};
 ghost use Rattle.lock_conform.specs.Reports.{IsReport};
 
-use crate::choice::{Choice, RawChoice};
+use crate::choice::RawChoice;
 use lock_base::raw::{Fault, MAX_LIMIT};
-use lock_conform::{
-    Deadline, Report, run_arc_mutex, run_arc_reentrant, run_arc_rwlock, run_mutex, run_reentrant,
-    run_rwlock,
-};
+use lock_conform::{Deadline, Manner, Report, run_mutex, run_reentrant, run_rwlock};
 use lock_guard::raw::{
     RawMutex, RawMutexFair, RawMutexTimed, RawRwLock, RawRwLockTimed, RawRwLockUpgradeDowngrade,
     RawRwLockUpgradeFair, RawRwLockUpgradeTimed,
@@ -30,7 +27,8 @@ type Fair<W, T> = FairCore<TableArbiter, W, T>;
 pub fn run_chosen<W: Wait + Clock + Clone + Drop>(
     alloc: Global,
     waiter: W,
-    choice: Choice,
+    raw: RawChoice,
+    manner: Manner,
     script: DeskScript,
 ) -> Result<Report, Fault>
     ensures limits { result ≡ Err Fault.BadLimits → ¬ HasLimits script.maker }
@@ -38,14 +36,14 @@ pub fn run_chosen<W: Wait + Clock + Clone + Drop>(
     ensures report { IfOk result
         (IsReport script.calls.items (replies_to script.maker script.calls.items)) }
 {
-    match choice.raw {
-        RawChoice::Word => over_core::<WordCore<W, NoTime>>(alloc, waiter, choice, script),
-        RawChoice::Table => over_core::<Monitor<TableArbiter, W>>(alloc, waiter, choice, script),
-        RawChoice::Timed => over_core::<WordCore<W, RealTime>>(alloc, waiter, choice, script),
-        RawChoice::Recording => over_core::<Monitor<Recorded, W>>(alloc, waiter, choice, script),
-        RawChoice::Fair => over_core::<Fair<W, NoTime>>(alloc, waiter, choice, script),
-        RawChoice::TimedFair => over_core::<Fair<W, RealTime>>(alloc, waiter, choice, script),
-        RawChoice::Wrong(mistake) => over_wrong(alloc, waiter, mistake, choice, script),
+    match raw {
+        RawChoice::Word => over_core::<WordCore<W, NoTime>>(alloc, waiter, manner, script),
+        RawChoice::Table => over_core::<Monitor<TableArbiter, W>>(alloc, waiter, manner, script),
+        RawChoice::Timed => over_core::<WordCore<W, RealTime>>(alloc, waiter, manner, script),
+        RawChoice::Recording => over_core::<Monitor<Recorded, W>>(alloc, waiter, manner, script),
+        RawChoice::Fair => over_core::<Fair<W, NoTime>>(alloc, waiter, manner, script),
+        RawChoice::TimedFair => over_core::<Fair<W, RealTime>>(alloc, waiter, manner, script),
+        RawChoice::Wrong(mistake) => over_wrong(alloc, waiter, mistake, manner, script),
     }
 }
 
@@ -53,7 +51,7 @@ pub fn run_chosen<W: Wait + Clock + Clone + Drop>(
 fn over_core<C: LockCore>(
     alloc: Global,
     waiter: C::Waiter,
-    choice: Choice,
+    manner: Manner,
     script: DeskScript,
 ) -> Result<Report, Fault>
 where
@@ -66,7 +64,7 @@ where
         (IsReport script.calls.items (replies_to script.maker script.calls.items)) }
 {
     let raw: RawLock<C> = made_for(alloc, waiter, script.maker, 0)?;
-    over_raw(alloc, raw, choice, script)
+    over_raw(alloc, raw, manner, script)
 }
 
 /// Runs the script over a `WordRaw` with that mistake.
@@ -74,7 +72,7 @@ fn over_wrong<W: Wait + Clone + Drop>(
     alloc: Global,
     waiter: W,
     mistake: Mistake,
-    choice: Choice,
+    manner: Manner,
     script: DeskScript,
 ) -> Result<Report, Fault>
     ensures limits { result ≡ Err Fault.BadLimits → ¬ HasLimits script.maker }
@@ -88,7 +86,7 @@ fn over_wrong<W: Wait + Clone + Drop>(
         0
     };
     let raw: RawLock<WordCore<W, NoTime>> = made_for(alloc, waiter, script.maker, more)?;
-    over_raw(alloc, WrongRaw::over(raw, mistake), choice, script)
+    over_raw(alloc, WrongRaw::over(raw, mistake), manner, script)
 }
 
 /// Makes a raw lock for a script. A table has a place for each reader, so the lock is made with no more readers than the
@@ -112,7 +110,7 @@ fn made_for<C: LockCore>(
 }
 
 /// Runs the script over the raw lock.
-fn over_raw<R>(alloc: Global, raw: R, choice: Choice, script: DeskScript) -> Result<Report, Fault>
+fn over_raw<R>(alloc: Global, raw: R, manner: Manner, script: DeskScript) -> Result<Report, Fault>
 where
     R: RawMutexFair + RawMutexTimed + Drop,
     R: RawRwLockUpgradeFair + RawRwLockUpgradeDowngrade + RawRwLockUpgradeTimed,
@@ -126,15 +124,9 @@ where
     ensures report { IfOk result
         (IsReport script.calls.items (replies_to script.maker script.calls.items)) }
 {
-    let park_by = choice.park_by;
     match script.maker {
-        Maker::Mutex(_, _) if choice.is_arc => run_arc_mutex(alloc, raw, script, park_by),
-        Maker::Mutex(_, _) => run_mutex(alloc, raw, script, park_by),
-        Maker::RwLock(_, _, _) if choice.is_arc => run_arc_rwlock(alloc, raw, script, park_by),
-        Maker::RwLock(_, _, _) => run_rwlock(alloc, raw, script, park_by),
-        Maker::Reentrant(_, _, _) if choice.is_arc => {
-            run_arc_reentrant(alloc, raw, script, park_by)
-        }
-        Maker::Reentrant(_, _, _) => run_reentrant(alloc, raw, script, park_by),
+        Maker::Mutex(_, _) => run_mutex(alloc, raw, script, manner),
+        Maker::RwLock(_, _, _) => run_rwlock(alloc, raw, script, manner),
+        Maker::Reentrant(_, _, _) => run_reentrant(alloc, raw, script, manner),
     }
 }

@@ -30,7 +30,7 @@ impl ScriptAnswer {
         bytes: &[u8],
     ) -> Result<ScriptAnswer, ReplayFault> {
         let script: DeskScript = parse(alloc, bytes)?;
-        match run_chosen(alloc, waiter, choice, script) {
+        match run_chosen(alloc, waiter, choice.raw, choice.manner, script) {
             Ok(report) => {
                 let text = write_report(alloc, &report, choice.prints_calls)?;
                 let difference = match &report.difference {

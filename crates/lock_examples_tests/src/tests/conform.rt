@@ -1,6 +1,6 @@
 //! The raw lock that spins, tested by a script.
 use lock_api::RawMutex;
-use lock_conform::{ParkBy, PlainRaw, parse, run_mutex};
+use lock_conform::{Manner, ParkBy, PlainRaw, parse, run_mutex};
 use lock_examples::SpinLock;
 use std::test::Fail;
 
@@ -25,7 +25,11 @@ fn a_spin_lock_answers_as_the_desk(rt: HostRuntime) -> Result<(), Fail> {
     for park_by in [ParkBy::Release, ParkBy::Unlocked] {
         let raw: SpinLock<HostRuntime> = RawMutex::new(rt.alloc(), rt)?;
         let script = parse(rt.alloc(), SCRIPT.as_bytes())?;
-        let report = run_mutex(rt.alloc(), PlainRaw::over(raw), script, park_by)?;
+        let manner = Manner {
+            park_by,
+            is_arc: false,
+        };
+        let report = run_mutex(rt.alloc(), PlainRaw::over(raw), script, manner)?;
         assert_eq!(rt; report.difference, None);
         assert_eq!(rt; report.entries.len(), 12);
     }

@@ -6,9 +6,10 @@ use lock_base::machine::Mode::Exclusive;
 use lock_guard::raw::{RawMutex, RawMutexTimed};
 use lock_mutex::{Condvar, Mutex, MutexGuard};
 use lock_raws::{RawLock, SpuriousCondvar};
+use lock_recorder::RawCall::{Lock, Unlock};
+use lock_recorder::{Deadline, Recorder};
 use lock_test_support::answer::equal;
-use lock_test_support::raw_lock::RawCall::{Lock, Unlock};
-use lock_test_support::raw_lock::{MockRaw, Watch};
+use lock_test_support::raw_lock::Watch;
 use mock::CondvarCall::{self, NotifyAll, NotifyOne, Wait, WaitUntil};
 use mock::{ENDLESS, LATE, MockCondvar};
 use std::alloc::Global;
@@ -119,10 +120,14 @@ fn check_notifications<R: RawMutex>(condvar: &Condvar<MockCondvar<R>>) -> Result
 }
 
 /// Waits and notifications over the raw lock. Since these waits do not release the mutex, the guard alone calls it.
-fn check_calls<R: RawMutex + Drop>(alloc: Global, waiter: R::Waiter) -> Result<(), Fail> {
-    let raw: MockRaw<R> = RawMutex::new(alloc, waiter)?;
-    let mut watch = Watch::new(raw.calls()?);
-    let condvar: Condvar<MockCondvar<MockRaw<R>>> = Condvar::new(alloc)?;
+fn check_calls<R: RawMutexTimed + Drop>(alloc: Global, waiter: R::Waiter) -> Result<(), Fail>
+where
+    R::Duration: Default,
+    R::Instant: Deadline<R::Waiter>,
+{
+    let raw: Recorder<R> = RawMutex::new(alloc, waiter)?;
+    let mut watch = Watch::new(raw.log()?);
+    let condvar: Condvar<MockCondvar<Recorder<R>>> = Condvar::new(alloc)?;
     check_waits(&condvar, &Mutex::from_raw(raw, 0)?)?;
     watch.saw(&[Lock(Exclusive), Unlock(Exclusive)]);
     check_notifications(&condvar)?;

@@ -7,22 +7,25 @@ mod texts;
 mod threads;
 
 use crate::tests::Table;
-use lock_guard::raw::{RawRwLock, RawRwLockUpgradeDowngrade, RawRwLockUpgradeFair};
+use lock_guard::raw::{RawRwLock, RawRwLockFair, RawRwLockUpgradeDowngrade, RawRwLockUpgradeTimed};
 use lock_raws::RawLock;
+use lock_recorder::{Deadline, Recorder};
 use lock_rwlock::RwLock;
 use lock_test_support::answer::equal;
-use lock_test_support::raw_lock::{MockRaw, Watch};
+use lock_test_support::raw_lock::Watch;
 use std::alloc::Global;
 use std::sync::Arc;
 use std::test::Fail;
 
 /// Guards of a pair in a pair, and the end of a lock.
-fn check_pair<R: RawRwLockUpgradeFair + RawRwLockUpgradeDowngrade + Drop>(
-    alloc: Global,
-    waiter: R::Waiter,
-) -> Result<(), Fail> {
-    let raw: MockRaw<R> = RawRwLock::new(alloc, waiter, 8)?;
-    let mut watch = Watch::new(raw.calls()?);
+fn check_pair<R>(alloc: Global, waiter: R::Waiter) -> Result<(), Fail>
+where
+    R: RawRwLockFair + RawRwLockUpgradeDowngrade + RawRwLockUpgradeTimed + Drop,
+    R::Duration: Default,
+    R::Instant: Deadline<R::Waiter>,
+{
+    let raw: Recorder<R> = RawRwLock::new(alloc, waiter, 8)?;
+    let mut watch = Watch::new(raw.log()?);
     let mut lock = RwLock::from_raw(raw, ((0, 0), 0))?;
     texts::check_parts(alloc, &lock, &mut watch)?;
     raw_calls::check(&lock, &mut watch);
@@ -35,12 +38,14 @@ fn check_pair<R: RawRwLockUpgradeFair + RawRwLockUpgradeDowngrade + Drop>(
 }
 
 /// Guards of a number, `Arc` guards among them, and the end of the last reference.
-fn check_number<R: RawRwLockUpgradeFair + RawRwLockUpgradeDowngrade + Drop>(
-    alloc: Global,
-    waiter: R::Waiter,
-) -> Result<(), Fail> {
-    let raw: MockRaw<R> = RawRwLock::new(alloc, waiter, 8)?;
-    let mut watch = Watch::new(raw.calls()?);
+fn check_number<R>(alloc: Global, waiter: R::Waiter) -> Result<(), Fail>
+where
+    R: RawRwLockUpgradeDowngrade + RawRwLockUpgradeTimed + Drop,
+    R::Duration: Default,
+    R::Instant: Deadline<R::Waiter>,
+{
+    let raw: Recorder<R> = RawRwLock::new(alloc, waiter, 8)?;
+    let mut watch = Watch::new(raw.log()?);
     let lock = Arc::new(alloc, RwLock::from_raw(raw, 5)?)?;
     texts::check(alloc, &lock, &mut watch)?;
     arc::check(&lock, &mut watch)?;
@@ -50,12 +55,12 @@ fn check_number<R: RawRwLockUpgradeFair + RawRwLockUpgradeDowngrade + Drop>(
     watch.verdict()
 }
 
-fn check<R: RawRwLockUpgradeFair + RawRwLockUpgradeDowngrade + Drop>(
-    alloc: Global,
-    waiters: ([R::Waiter; 4], [R::Waiter; 2]),
-) -> Result<(), Fail>
+fn check<R>(alloc: Global, waiters: ([R::Waiter; 4], [R::Waiter; 2])) -> Result<(), Fail>
 where
+    R: RawRwLockFair + RawRwLockUpgradeDowngrade + RawRwLockUpgradeTimed + Drop,
     R::SharedGuard: Drop,
+    R::Duration: Default,
+    R::Instant: Deadline<R::Waiter>,
 {
     let (of_makers, [first, last]) = waiters;
     makers::check::<R>(alloc, of_makers)?;

@@ -1,9 +1,8 @@
 //! A raw lock that admits everything.
-use crate::raw_lock::calls::Calls;
-use crate::raw_lock::raw_call::RawCall;
 use lock_base::machine::Mode;
 use lock_base::raw::Fault;
 use lock_guard::raw::{GuardSend, RawMutex, RawMutexFair};
+use lock_recorder::{CallLog, RawCall};
 use std::alloc::Global;
 use std::clone::Clone;
 use std::sync::Wait;
@@ -12,17 +11,17 @@ use std::sync::Wait;
 #[derive(Drop)]
 pub struct AdmitsAll<W: Wait + Clone + Drop> {
     waiter: W,
-    calls: Calls,
+    log: CallLog,
 }
 
 impl<W: Wait + Clone + Drop> AdmitsAll<W> {
-    /// Returns the recorded calls.
-    pub fn calls(&self) -> Result<Calls, Fault> {
-        self.calls.another()
+    /// Returns the list of the calls.
+    pub fn log(&self) -> Result<CallLog, Fault> {
+        self.log.another()
     }
 
     pub(crate) fn asked(&self, call: RawCall) {
-        self.calls.add(&self.waiter, call);
+        self.log.add(&self.waiter, call);
     }
 
     /// Returns what a try in the mode answers.
@@ -38,8 +37,8 @@ impl<W: Wait + Clone + Drop> RawMutex for AdmitsAll<W> {
     type Waiter = W;
 
     fn new(alloc: Global, waiter: W) -> Result<AdmitsAll<W>, Fault> {
-        let calls = Calls::new(alloc)?;
-        Ok(AdmitsAll { waiter, calls })
+        let log = CallLog::new(alloc)?;
+        Ok(AdmitsAll { waiter, log })
     }
 
     fn waiter(&self) -> &W {

@@ -1,9 +1,9 @@
 //! What guards of a part ask the raw lock, whatever the lock. Each guard was just acquired in the mode.
-use crate::raw_lock::raw_call::RawCall::{Lock, UnlockFair};
 use crate::raw_lock::watch::Watch;
 use lock_base::machine::Mode;
 use lock_base::project::{Project, TryView};
 use lock_guard::guard::{LockGuardFair, LockGuardMut, Mapped};
+use lock_recorder::RawCall::{Lock, UnlockFair};
 
 /// It is read, and ends by a fair release.
 pub fn watch_fair_end<G: LockGuardFair, P: TryView<G::Value>>(

@@ -1,24 +1,23 @@
 //! A look at the calls that came, one after another.
 ghost use Rattle.std.specs.Prelude.{◌≡◌, None, IsSome, MatchBool, MatchResult};
 
-use crate::raw_lock::calls::Calls;
-use crate::raw_lock::raw_call::RawCall;
 use lock_base::machine::Mode;
+use lock_recorder::{CallLog, RawCall};
 use std::test::Fail;
 
 /// Compares the calls that came since the look before with those that are wanted, and remembers where they first
 /// differed.
 #[derive(Drop)]
 pub struct Watch {
-    calls: Calls,
+    log: CallLog,
     looks: u64,
     wrong: Option<(u64, Option<Vec<RawCall>>)>,
 }
 
 impl Watch {
-    pub fn new(calls: Calls) -> Watch {
+    pub fn new(log: CallLog) -> Watch {
         Watch {
-            calls,
+            log,
             looks: 0,
             wrong: None,
         }
@@ -27,7 +26,7 @@ impl Watch {
     /// Just these calls came since the look before, and none is being written down.
     pub fn saw(&mut self, wanted: &[RawCall]) {
         self.looks = self.looks.wrapping_add(1);
-        let came = self.calls.take();
+        let came = self.log.take();
         if self.wrong.is_none() && came.as_deref() != Some(wanted) {
             self.wrong = Some((self.looks, came));
         }
@@ -45,7 +44,7 @@ impl Watch {
         ensures { MatchResult result (λ _. self.wrong ≡ None) (λ _. IsSome self.wrong) }
     {
         let Watch {
-            calls: _,
+            log: _,
             looks: _,
             wrong,
         } = self;

@@ -2,8 +2,9 @@
 use super::gated::Gated;
 use lock_guard::raw::{RawMutex, RawMutexFair};
 use lock_mutex::{Mutex, MutexGuard};
-use lock_test_support::raw_lock::{AdmitsAll, Calls};
-use lock_test_support::{wait_for_flag, wait_until};
+use lock_recorder::CallLog;
+use lock_test_support::raw_lock::AdmitsAll;
+use lock_test_support::{wait_for_calls, wait_for_flag};
 use std::sync::Wait;
 use std::sync::atomic::{AtomicBool, Ordering};
 use std::test::Fail;
@@ -13,14 +14,14 @@ use std::thread;
 fn write_once_another_asked<W: Wait, R: RawMutex>(
     mutex: &Mutex<R, u64>,
     waiter: &W,
-    calls: &Calls,
+    calls: &CallLog,
     is_held: &AtomicBool,
     before: usize,
 ) {
-    wait_until(waiter, || calls.count(waiter) >= before);
+    wait_for_calls(waiter, calls, before);
     let mut guard = mutex.lock();
     is_held.store(true, Ordering::SeqCst);
-    wait_until(waiter, || calls.count(waiter) >= before.wrapping_add(2));
+    wait_for_calls(waiter, calls, before.wrapping_add(2));
     *guard = 5;
 }
 
@@ -47,7 +48,7 @@ fn the_raw_lock_is_asked_before_the_value_is_taken(rt: HostRuntime) -> Result<()
     // by `unlocked`, the reader made two calls before
     for (is_again, before) in [(false, 0), (true, 2)] {
         let raw: AdmitsAll<HostRuntime> = RawMutex::new(rt.alloc(), rt)?;
-        let calls = raw.calls()?;
+        let calls = raw.log()?;
         let mutex = Mutex::from_raw(raw, 0)?;
         let is_held = AtomicBool::new(false);
         let ((), read) = thread::join(
@@ -61,7 +62,7 @@ fn the_raw_lock_is_asked_before_the_value_is_taken(rt: HostRuntime) -> Result<()
 }
 
 /// How a guard releases its mutex.
-#[derive(Clone, Copy, Debug)]
+#[derive(Clone, Copy)]
 enum End {
     Drop,
     UnlockFair,
@@ -95,7 +96,11 @@ fn read_before_release<W: Wait, R: RawMutex>(
 /// It ends only if a guard's drop, and a bump, release the value's lock before the raw lock.
 #[test]
 fn the_value_is_given_back_before_the_raw_lock(rt: HostRuntime) -> Result<(), Fail> {
-    for end in [End::Drop, End::UnlockFair, End::Bump] {
+    for (name, end) in [
+        ("drop", End::Drop),
+        ("unlock_fair", End::UnlockFair),
+        ("bump", End::Bump),
+    ] {
         let mutex: Mutex<Gated<HostRuntime>, u64> = Mutex::new(rt.alloc(), rt, 0)?;
         let is_held = AtomicBool::new(false);
         let ((), read) = thread::join(
@@ -103,7 +108,7 @@ fn the_value_is_given_back_before_the_raw_lock(rt: HostRuntime) -> Result<(), Fa
             || write_and_end(&mutex, &is_held, end),
             || read_before_release(&mutex, &rt, &is_held),
         );
-        assert_eq!(rt; read, 5, "{end:?}");
+        assert_eq!(rt; read, 5, "{name}");
     }
     Ok(())
 }

@@ -4,10 +4,11 @@ use lock_base::machine::Mode::Exclusive;
 use lock_guard::raw::{RawMutex, RawMutexFair};
 use lock_mutex::{MappedMutexGuard, Mutex, MutexGuard};
 use lock_raws::RawLock;
+use lock_recorder::RawCall::{Lock, Unlock, UnlockFair};
+use lock_recorder::Recorder;
 use lock_test_support::answer::equal;
 use lock_test_support::project::{Item0, Item1, Nested, Nth};
-use lock_test_support::raw_lock::RawCall::{Lock, Unlock, UnlockFair};
-use lock_test_support::raw_lock::{MockRaw, Watch};
+use lock_test_support::raw_lock::Watch;
 use std::alloc::Global;
 use std::test::Fail;
 
@@ -29,8 +30,8 @@ fn miss_and_write<R: RawMutex>(mutex: &Mutex<R, (u64, u64)>) -> Option<usize> {
 }
 
 fn check<R: RawMutexFair + Drop>(alloc: Global, waiter: R::Waiter) -> Result<(), Fail> {
-    let raw: MockRaw<R> = RawMutex::new(alloc, waiter)?;
-    let mut watch = Watch::new(raw.calls()?);
+    let raw: Recorder<R> = RawMutex::new(alloc, waiter)?;
+    let mut watch = Watch::new(raw.log()?);
     let mut mutex = Mutex::from_raw(raw, ((0, 0), 0))?;
     *mutex.get_mut() = ((1, 2), 3);
     write_inner(&mutex);

@@ -1,13 +1,14 @@
 //! The calls that raw locks get by default bodies, and the record of them.
 use lock_base::machine::Mode::Exclusive;
 use lock_guard::raw::{RawMutex, RawMutexFair};
+use lock_recorder::CallLog;
+use lock_recorder::RawCall::{self, Lock, Unlock, UnlockFair};
 use lock_test_support::answer::equal;
-use lock_test_support::raw_lock::RawCall::{self, Lock, Unlock, UnlockFair};
-use lock_test_support::raw_lock::{AdmitsAll, Calls, Watch};
+use lock_test_support::raw_lock::{AdmitsAll, Watch};
 use std::test::Fail;
 
 /// Whether a look at a raw lock that was locked and unlocked sees these calls, and whether the look after it sees none.
-fn looks<R: RawMutex>(raw: &R, calls: Calls, wanted: &[RawCall]) -> (bool, bool) {
+fn looks<R: RawMutex>(raw: &R, calls: CallLog, wanted: &[RawCall]) -> (bool, bool) {
     let mut watch = Watch::new(calls);
     raw.unlock(raw.lock());
     watch.saw(wanted);
@@ -27,10 +28,10 @@ fn a_watch_tells_of_other_calls(rt: HostRuntime) -> Result<(), Fail> {
         (&[], false),
     ];
     for (wanted, is_right) in looked {
-        let seen = looks(&raw, raw.calls()?, wanted);
+        let seen = looks(&raw, raw.log()?, wanted);
         assert_eq!(rt; seen, (is_right, is_right), "{wanted:?}");
     }
-    let calls = raw.calls()?;
+    let calls = raw.log()?;
     let was_empty = calls.is_empty();
     raw.unlock(RawMutex::lock(&raw));
     equal((was_empty, calls.is_empty()), (true, false))
@@ -39,7 +40,7 @@ fn a_watch_tells_of_other_calls(rt: HostRuntime) -> Result<(), Fail> {
 #[test]
 fn a_bump_by_default_is_a_fair_unlock_and_a_lock(rt: HostRuntime) -> Result<(), Fail> {
     let raw: AdmitsAll<HostRuntime> = RawMutex::new(rt.alloc(), rt)?;
-    let mut watch = Watch::new(raw.calls()?);
+    let mut watch = Watch::new(raw.log()?);
     raw.unlock(RawMutexFair::bump(&raw, RawMutex::lock(&raw)));
     watch.saw(&[
         Lock(Exclusive),

@@ -5,13 +5,14 @@ use lock_base::machine::PartyId;
 use lock_base::raw::Fault;
 use lock_guard::raw::{RawMutex, RawMutexFair};
 use lock_raws::RawLock;
+use lock_recorder::Recorder;
 use lock_remutex::{
     ArcReentrantMutexGuard, MappedReentrantMutexGuard, ReentrantMutex, ReentrantMutexGuard,
 };
 use lock_test_support::answer::equal;
 use lock_test_support::party;
 use lock_test_support::project::{Item0, Item1, Nth};
-use lock_test_support::raw_lock::{MockRaw, Watch, watch_fair_end};
+use lock_test_support::raw_lock::{Watch, watch_fair_end};
 use std::alloc::Global;
 use std::sync::Arc;
 use std::test::Fail;
@@ -89,8 +90,8 @@ where
     R::Guard: Send + Drop,
 {
     let one = party(1)?;
-    let raw: MockRaw<R> = RawMutex::new(alloc, waiter)?;
-    let mut watch = Watch::new(raw.calls()?);
+    let raw: Recorder<R> = RawMutex::new(alloc, waiter)?;
+    let mut watch = Watch::new(raw.log()?);
     let mut lock = ReentrantMutex::from_raw(alloc, raw, (1, 2))?;
     maps(&lock, &mut watch, one)?;
     equal(inner_maps(&lock, &mut watch, one), Some((5, 2)))?;

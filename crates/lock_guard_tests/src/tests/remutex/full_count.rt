@@ -5,11 +5,12 @@ use lock_base::machine::PartyId;
 use lock_base::raw::Fault::{self, FullCount};
 use lock_guard::raw::{RawMutex, RawMutexTimed};
 use lock_raws::RawLock;
+use lock_recorder::RawCall::{Lock, Unlock};
+use lock_recorder::{Deadline, Recorder};
 use lock_remutex::{ReentrantMutex, ReentrantMutexGuard};
 use lock_test_support::answer::equal;
 use lock_test_support::party;
-use lock_test_support::raw_lock::RawCall::{Lock, Unlock};
-use lock_test_support::raw_lock::{MockRaw, Watch};
+use lock_test_support::raw_lock::Watch;
 use std::alloc::Global;
 use std::sync::Arc;
 use std::test::Fail;
@@ -72,18 +73,20 @@ where
 }
 
 /// The refusals by guards that borrow, and the raw calls that they make. Returns the value.
-fn check_borrowed<R: RawMutex + Drop>(alloc: Global, waiter: R::Waiter) -> Result<u8, Fail>
+fn check_borrowed<R: RawMutexTimed + Drop>(alloc: Global, waiter: R::Waiter) -> Result<u8, Fail>
 where
     R::Guard: Send + Drop,
+    R::Duration: Default,
+    R::Instant: Deadline<R::Waiter>,
 {
     let one = party(1)?;
-    let lock: ReentrantMutex<MockRaw<R>, u8> = ReentrantMutex::with_levels(alloc, waiter, 1, 7)?;
+    let lock: ReentrantMutex<Recorder<R>, u8> = ReentrantMutex::with_levels(alloc, waiter, 1, 7)?;
     let guard = lock.lock(one)?;
     for (call, fault) in refused(guard, one) {
         equal((call, fault), (call, Some(FullCount)))?;
     }
     let (raw, value) = lock.into_inner_with_raw();
-    let mut watch = Watch::new(raw.calls()?);
+    let mut watch = Watch::new(raw.log()?);
     watch.saw(&[
         Lock(Exclusive),
         Unlock(Exclusive),
@@ -95,12 +98,18 @@ where
 }
 
 /// The refusals by guards that own a reference to the lock.
-fn check_arc<R: RawMutex + Drop>(alloc: Global, waiter: R::Waiter, value: u8) -> Result<(), Fail>
+fn check_arc<R: RawMutexTimed + Drop>(
+    alloc: Global,
+    waiter: R::Waiter,
+    value: u8,
+) -> Result<(), Fail>
 where
     R::Guard: Send + Drop,
+    R::Duration: Default,
+    R::Instant: Deadline<R::Waiter>,
 {
     let one = party(1)?;
-    let lock: ReentrantMutex<MockRaw<R>, u8> = ReentrantMutex::with_levels(
+    let lock: ReentrantMutex<Recorder<R>, u8> = ReentrantMutex::with_levels(
         alloc, waiter, 1, value,
     )?;
     let lock = Arc::new(alloc, lock)?;

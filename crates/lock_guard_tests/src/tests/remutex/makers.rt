@@ -1,22 +1,22 @@
 //! The makers of a reentrant lock, and what a consumed lock returns.
 use crate::tests::Table;
-use crate::tests::mutex::makers::Maker;
 use lock_base::machine::Mode::Exclusive;
 use lock_base::machine::PartyId;
 use lock_base::raw::Fault;
 use lock_guard::raw::RawMutex;
 use lock_raws::RawLock;
+use lock_recorder::RawCall::Lock;
+use lock_recorder::Recorder;
 use lock_remutex::ReentrantMutex;
 use lock_test_support::answer::equal;
 use lock_test_support::party;
-use lock_test_support::raw_lock::RawCall::Lock;
-use lock_test_support::raw_lock::{MockRaw, Watch};
+use lock_test_support::raw_lock::Watch;
 use std::alloc::Global;
 use std::mem;
 use std::test::Fail;
 
 /// A maker, the value of its lock, how many of a hundred levels a party gets, and whether they are one raw call.
-type Made = (Maker, u8, u8, bool);
+type Made = (&'static str, u8, u8, bool);
 
 /// How many of a hundred levels the party gets. They stay held.
 fn levels<R: RawMutex>(lock: &ReentrantMutex<R, u8>, party: PartyId) -> u8
@@ -34,8 +34,8 @@ where
 
 /// Acquires levels of a new lock, and consumes it.
 fn consumed<R: RawMutex + Drop>(
-    maker: Maker,
-    lock: ReentrantMutex<MockRaw<R>, u8>,
+    maker: &'static str,
+    lock: ReentrantMutex<Recorder<R>, u8>,
     party: PartyId,
 ) -> Result<Made, Fault>
 where
@@ -43,7 +43,7 @@ where
 {
     let levels = levels(&lock, party);
     let (raw, value) = lock.into_inner_with_raw();
-    let mut watch = Watch::new(raw.calls()?);
+    let mut watch = Watch::new(raw.log()?);
     watch.saw(&[Lock(Exclusive)]);
     Ok((maker, value, levels, watch.is_right()))
 }
@@ -57,30 +57,26 @@ where
     R::Guard: Send + Drop,
 {
     let [first, second, third, fourth, fifth] = waiters;
-    let raw: MockRaw<R> = RawMutex::new(alloc, fifth)?;
+    let raw: Recorder<R> = RawMutex::new(alloc, fifth)?;
     Ok([
-        consumed::<R>(Maker::New, ReentrantMutex::new(alloc, first, 5)?, one)?,
-        consumed::<R>(Maker::From, ReentrantMutex::from(alloc, second, 6)?, one)?,
-        consumed::<R>(Maker::Default, ReentrantMutex::default(alloc, third)?, one)?,
+        consumed::<R>("new", ReentrantMutex::new(alloc, first, 5)?, one)?,
+        consumed::<R>("from", ReentrantMutex::from(alloc, second, 6)?, one)?,
+        consumed::<R>("default", ReentrantMutex::default(alloc, third)?, one)?,
         consumed::<R>(
-            Maker::WithLevels,
+            "with_levels",
             ReentrantMutex::with_levels(alloc, fourth, 3, 7)?,
             one,
         )?,
-        consumed::<R>(
-            Maker::FromRaw,
-            ReentrantMutex::from_raw(alloc, raw, 8)?,
-            one,
-        )?,
+        consumed::<R>("from_raw", ReentrantMutex::from_raw(alloc, raw, 8)?, one)?,
     ])
 }
 
 const WANTED: [Made; 5] = [
-    (Maker::New, 5, 100, true),
-    (Maker::From, 6, 100, true),
-    (Maker::Default, 0, 100, true),
-    (Maker::WithLevels, 7, 3, true),
-    (Maker::FromRaw, 8, 100, true),
+    ("new", 5, 100, true),
+    ("from", 6, 100, true),
+    ("default", 0, 100, true),
+    ("with_levels", 7, 3, true),
+    ("from_raw", 8, 100, true),
 ];
 
 #[test]

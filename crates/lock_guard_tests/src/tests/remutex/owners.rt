@@ -1,61 +1,87 @@
 //! Calls of an owner and of another party, over a raw lock that admits everything.
 use lock_base::machine::Mode::Exclusive;
+use lock_base::machine::PartyId;
 use lock_base::raw::Fault::{self, Foreign};
-use lock_guard::raw::RawMutex;
+use lock_guard::raw::{RawMutex, RawMutexFair};
+use lock_recorder::RawCall::{Lock, TryLock, Unlock, UnlockFair};
 use lock_remutex::RawReentrantMutex;
 use lock_test_support::answer::equal;
-use lock_test_support::raw_lock::RawCall::{Lock, TryLock, Unlock, UnlockFair};
 use lock_test_support::raw_lock::{AdmitsAll, Watch};
 use lock_test_support::two_parties;
 use std::test::Fail;
 
-/// A call, its answer, and whether the first party owns the lock then.
-type Answered = (&'static str, Result<bool, Fault>, bool);
+/// A call of a party.
+#[derive(Clone, Copy)]
+enum Act {
+    Lock,
+    TryLock,
+    Unlock,
+    UnlockFair,
+    Bump,
+}
+
+/// A call, whether the first party makes it, its answer, and whether the first party owns the lock then.
+type Answered = (&'static str, Act, bool, Result<bool, Fault>, bool);
 
 /// The first party acquires two levels and releases them.
-const WANTED: [Answered; 11] = [
-    ("lock", Ok(true), true),
-    ("try_lock", Ok(true), true),
-    ("another's try_lock", Ok(false), true),
-    ("another's unlock", Err(Foreign), true),
-    ("another's unlock_fair", Err(Foreign), true),
-    ("another's bump", Err(Foreign), true),
-    ("unlock", Ok(true), true),
-    ("bump", Ok(true), true),
-    ("unlock_fair", Ok(true), false),
-    ("unlock once more", Err(Foreign), false),
-    ("another's lock", Ok(true), false),
+const ANSWERED: [Answered; 11] = [
+    ("lock", Act::Lock, true, Ok(true), true),
+    ("try_lock", Act::TryLock, true, Ok(true), true),
+    ("another's try_lock", Act::TryLock, false, Ok(false), true),
+    ("another's unlock", Act::Unlock, false, Err(Foreign), true),
+    (
+        "another's unlock_fair",
+        Act::UnlockFair,
+        false,
+        Err(Foreign),
+        true,
+    ),
+    ("another's bump", Act::Bump, false, Err(Foreign), true),
+    ("unlock", Act::Unlock, true, Ok(true), true),
+    ("bump", Act::Bump, true, Ok(true), true),
+    ("unlock_fair", Act::UnlockFair, true, Ok(true), false),
+    ("unlock once more", Act::Unlock, true, Err(Foreign), false),
+    ("another's lock", Act::Lock, false, Ok(true), false),
 ];
+
+/// Makes the call. Its answer is whether the lock was acquired, or true.
+fn answer<R: RawMutexFair>(
+    lock: &RawReentrantMutex<R>,
+    act: Act,
+    party: PartyId,
+) -> Result<bool, Fault>
+where
+    R::Guard: Drop,
+{
+    match act {
+        Act::Lock => lock.lock(party)?,
+        Act::TryLock => return lock.try_lock(party),
+        Act::Unlock => lock.unlock(party)?,
+        Act::UnlockFair => lock.unlock_fair(party)?,
+        Act::Bump => lock.bump(party)?,
+    }
+    Ok(true)
+}
+
+fn check<R: RawMutexFair>(lock: &RawReentrantMutex<R>) -> Result<(), Fail>
+where
+    R::Guard: Drop,
+{
+    let (one, two) = two_parties()?;
+    for (call, act, is_first, wanted, is_owned) in ANSWERED {
+        let found = answer(lock, act, if is_first { one } else { two });
+        let owned = lock.is_owned_by_current_thread(one);
+        equal((call, found, owned), (call, wanted, is_owned))?;
+    }
+    Ok(())
+}
 
 /// Another party's token is released at once, since it came too early.
 #[test]
 fn a_raw_lock_that_lies_makes_no_second_owner(rt: HostRuntime) -> Result<(), Fail> {
-    let (one, two) = two_parties()?;
     let raw: AdmitsAll<HostRuntime> = RawMutex::new(rt.alloc(), rt)?;
-    let mut watch = Watch::new(raw.calls()?);
-    let lock = RawReentrantMutex::from_raw(rt.alloc(), raw)?;
-    let done = |call, answer: Result<(), Fault>| {
-        (
-            call,
-            answer.map(|()| true),
-            lock.is_owned_by_current_thread(one),
-        )
-    };
-    let tried = |call, answer| (call, answer, lock.is_owned_by_current_thread(one));
-    let answered = [
-        done("lock", lock.lock(one)),
-        tried("try_lock", lock.try_lock(one)),
-        tried("another's try_lock", lock.try_lock(two)),
-        done("another's unlock", lock.unlock(two)),
-        done("another's unlock_fair", lock.unlock_fair(two)),
-        done("another's bump", lock.bump(two)),
-        done("unlock", lock.unlock(one)),
-        done("bump", lock.bump(one)),
-        done("unlock_fair", lock.unlock_fair(one)),
-        done("unlock once more", lock.unlock(one)),
-        done("another's lock", lock.lock(two)),
-    ];
-    equal(answered, WANTED)?;
+    let mut watch = Watch::new(raw.log()?);
+    check(&RawReentrantMutex::from_raw(rt.alloc(), raw)?)?;
     watch.saw(&[
         Lock(Exclusive),
         TryLock(Exclusive),

@@ -5,10 +5,11 @@ use lock_base::machine::PartyId;
 use lock_base::raw::Fault;
 use lock_guard::raw::{RawMutex, RawMutexFair};
 use lock_raws::RawLock;
+use lock_recorder::CallLog;
 use lock_remutex::{ReentrantMutex, ReentrantMutexGuard};
 use lock_test_support::answer::equal;
-use lock_test_support::raw_lock::{AdmitsAll, Calls};
-use lock_test_support::{party, two_parties, wait_for_flag, wait_until};
+use lock_test_support::raw_lock::AdmitsAll;
+use lock_test_support::{party, two_parties, wait_for_calls, wait_for_flag, wait_until};
 use std::sync::Wait;
 use std::sync::atomic::{AtomicBool, AtomicU64, Ordering};
 use std::test::Fail;
@@ -50,7 +51,7 @@ fn own_for_six_calls<W: Wait, R: RawMutex>(
     lock: &ReentrantMutex<R, u8>,
     party: PartyId,
     waiter: &W,
-    calls: &Calls,
+    calls: &CallLog,
     is_owned: &AtomicBool,
 ) -> Result<(), Fault>
 where
@@ -58,7 +59,7 @@ where
 {
     let _guard = lock.lock(party)?;
     is_owned.store(true, Ordering::SeqCst);
-    wait_until(waiter, || calls.count(waiter) >= 6);
+    wait_for_calls(waiter, calls, 6);
     Ok(())
 }
 
@@ -82,7 +83,7 @@ where
 fn lock_asks_again_while_another_owns(rt: HostRuntime) -> Result<(), Fail> {
     let (one, two) = two_parties()?;
     let raw: AdmitsAll<HostRuntime> = RawMutex::new(rt.alloc(), rt)?;
-    let calls = raw.calls()?;
+    let calls = raw.log()?;
     let lock = ReentrantMutex::from_raw(rt.alloc(), raw, 0u8)?;
     let is_owned = AtomicBool::new(false);
     let ends = thread::join(

@@ -3,10 +3,10 @@ use super::raw_calls::UNDER_AN_UPGRADE;
 use lock_base::machine::Mode::Shared;
 use lock_base::raw::Fault;
 use lock_guard::raw::{RawRwLock, RawRwLockUpgradeDowngrade, RawRwLockUpgradeTimed};
+use lock_recorder::RawCall::{Lock, Unlock};
 use lock_rwlock::RwLock;
 use lock_rwlock_arc::{ArcRwLockGuard, ArcRwLockReadGuard, RwLockArc, RwLockArcUpgrade};
 use lock_test_support::answer::equal;
-use lock_test_support::raw_lock::RawCall::{Lock, Unlock};
 use lock_test_support::raw_lock::Watch;
 use std::sync::Arc;
 use std::test::Fail;
@@ -36,10 +36,11 @@ fn calls_under_an_upgrade<
 >(lock: &Owned<R>) -> Result<(), Fault> {
     let mut guard = RwLock::upgradable_read_arc(lock)?;
     ArcRwLockGuard::rwlock(&guard);
-    guard.with_upgraded(|_| lock.is_locked());
-    guard.try_with_upgraded(|_| lock.is_locked());
-    guard.try_with_upgraded_for(3, |_| lock.is_locked());
-    guard.try_with_upgraded_until(4, |_| lock.is_locked());
+    let looks = |_: &mut u64| lock.is_locked();
+    guard.with_upgraded(looks);
+    guard.try_with_upgraded(looks);
+    guard.try_with_upgraded_for(3, looks);
+    guard.try_with_upgraded_until(4, looks);
     Ok(())
 }
 

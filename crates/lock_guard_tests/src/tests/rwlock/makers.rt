@@ -3,9 +3,9 @@ use crate::tests::Table;
 use lock_base::raw::Fault;
 use lock_guard::raw::RawRwLock;
 use lock_raws::{LockCore, RawLock};
+use lock_recorder::Recorder;
 use lock_rwlock::RwLock;
 use lock_test_support::answer::{equal, holds_or_lacks_memory};
-use lock_test_support::raw_lock::MockRaw;
 use std::alloc::Global;
 use std::test::Fail;
 
@@ -46,7 +46,7 @@ where
 }
 
 /// Checks a lock, and that its maker made no raw call.
-fn check_made<R: RawRwLock + Drop>(made: Made<MockRaw<R>>) -> Result<(), Fail>
+fn check_made<R: RawRwLock + Drop>(made: Made<Recorder<R>>) -> Result<(), Fail>
 where
     R::SharedGuard: Drop,
 {
@@ -63,7 +63,7 @@ pub fn check<R: RawRwLock + Drop>(alloc: Global, waiters: [R::Waiter; 4]) -> Res
 where
     R::SharedGuard: Drop,
 {
-    let (new, from, default, with_readers) = made::<MockRaw<R>>(alloc, waiters);
+    let (new, from, default, with_readers) = made::<Recorder<R>>(alloc, waiters);
     check_made(new)?;
     check_made(from)?;
     check_made(default)?;

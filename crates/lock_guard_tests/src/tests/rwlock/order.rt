@@ -2,11 +2,12 @@
 use lock_base::machine::Mode::{self, Exclusive, Shared, Upgradable};
 use lock_guard::guard::Acquire;
 use lock_guard::raw::{RawRwLock, RawRwLockUpgrade};
+use lock_recorder::CallLog;
+use lock_recorder::RawCall::{Lock, Unlock};
 use lock_rwlock::{RwLock, RwLockGuard};
 use lock_test_support::answer::equal;
-use lock_test_support::raw_lock::RawCall::{Lock, Unlock};
-use lock_test_support::raw_lock::{AdmitsAll, Calls, Watch};
-use lock_test_support::wait_for_flag;
+use lock_test_support::raw_lock::{AdmitsAll, Watch};
+use lock_test_support::{wait_for_calls, wait_for_flag};
 use std::sync::Wait;
 use std::sync::atomic::{AtomicBool, Ordering};
 use std::test::Fail;
@@ -45,17 +46,12 @@ pub fn check<R: RawRwLockUpgrade>(lock: &RwLock<R, u64>, watch: &mut Watch) -> R
 fn write_once_another_asked<W: Wait, R: RawRwLock>(
     lock: &RwLock<R, u64>,
     waiter: &W,
-    calls: &Calls,
+    calls: &CallLog,
     is_held: &AtomicBool,
 ) {
     let mut guard = lock.write();
     is_held.store(true, Ordering::SeqCst);
-    for _ in waiter.forever() {
-        if calls.count(waiter) >= 2 {
-            break;
-        }
-        thread::yield_now();
-    }
+    wait_for_calls(waiter, calls, 2);
     *guard = 5;
 }
 
@@ -73,7 +69,7 @@ fn find_once_held<W: Wait, R: RawRwLock>(
 #[test]
 fn the_raw_lock_is_asked_before_the_value_is_taken(rt: HostRuntime) -> Result<(), Fail> {
     let raw: AdmitsAll<HostRuntime> = RawRwLock::new(rt.alloc(), rt, 1)?;
-    let calls = raw.calls()?;
+    let calls = raw.log()?;
     let is_held = AtomicBool::new(false);
     let lock = RwLock::from_raw(raw, 0)?;
     let ((), found) = thread::join(

@@ -4,12 +4,12 @@ use lock_guard::raw::{
     RawRwLock, RawRwLockFair, RawRwLockUpgrade, RawRwLockUpgradeDowngrade, RawRwLockUpgradeFair,
     RawRwLockUpgradeTimed,
 };
-use lock_rwlock::{RwLock, RwLockReadGuard, RwLockUpgradableReadGuard, RwLockWriteGuard};
-use lock_test_support::project::{Item0, Nested, inner_item};
-use lock_test_support::raw_lock::RawCall::{
+use lock_recorder::RawCall::{
     self, DowngradeToUpgradable, IsLocked, Lock, TryUpgrade, TryUpgradeFor, TryUpgradeUntil,
     Unlock, UnlockFair, Upgrade,
 };
+use lock_rwlock::{RwLock, RwLockReadGuard, RwLockUpgradableReadGuard, RwLockWriteGuard};
+use lock_test_support::project::{Item0, Nested, inner_item};
 use lock_test_support::raw_lock::{AdmitsAll, Watch, watch_fair_end, watch_write};
 use std::test::Fail;
 
@@ -46,10 +46,11 @@ fn calls_under_an_upgrade<
 >(lock: &Paired<R>) {
     let mut guard = lock.upgradable_read();
     RwLockUpgradableReadGuard::rwlock(&guard);
-    guard.with_upgraded(|_| lock.is_locked());
-    guard.try_with_upgraded(|_| lock.is_locked());
-    guard.try_with_upgraded_for(3, |_| lock.is_locked());
-    guard.try_with_upgraded_until(4, |_| lock.is_locked());
+    let looks = |_: &mut Nested| lock.is_locked();
+    guard.with_upgraded(looks);
+    guard.try_with_upgraded(looks);
+    guard.try_with_upgraded_for(3, looks);
+    guard.try_with_upgraded_until(4, looks);
 }
 
 /// The raw calls of a guard and its calls under an upgrade, each of which looks at the raw lock.
@@ -99,7 +100,7 @@ fn bumps_by_default<R: RawRwLockUpgradeFair>(raw: &R, watch: &mut Watch) {
 #[test]
 fn a_bump_by_default_is_a_fair_unlock_and_a_lock(rt: HostRuntime) -> Result<(), Fail> {
     let raw: AdmitsAll<HostRuntime> = RawRwLock::new(rt.alloc(), rt, 1)?;
-    let mut watch = Watch::new(raw.calls()?);
+    let mut watch = Watch::new(raw.log()?);
     bumps_by_default(&raw, &mut watch);
     watch.verdict()
 }

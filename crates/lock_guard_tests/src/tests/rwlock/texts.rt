@@ -1,11 +1,11 @@
 //! How a lock and its guards print, and the raw calls that this makes.
 use lock_base::machine::Mode::{self, Exclusive, Shared, Upgradable};
 use lock_guard::raw::{RawRwLock, RawRwLockUpgrade};
+use lock_recorder::RawCall::{Lock, TryLock, Unlock};
 use lock_rwlock::{RwLock, RwLockReadGuard, RwLockWriteGuard};
 use lock_rwlock_arc::{RwLockArc, RwLockArcUpgrade};
 use lock_test_support::answer::{debug_is, equal, texts_are};
 use lock_test_support::project::{Item1, Nested};
-use lock_test_support::raw_lock::RawCall::{Lock, TryLock, Unlock};
 use lock_test_support::raw_lock::Watch;
 use std::alloc::Global;
 use std::fmt::{Debug, Display};

@@ -5,19 +5,10 @@ use Rattle.lockconform.proofs.InRange.{ok_in_range}
 use Rattle.lockconform.proofs.over_raw.over_raw.Goals as goal
 
 pub returns-in-Mutex-clause-in_range : goal.returns-in-Mutex-clause-in_range
-returns-in-Mutex-clause-in_range g c = ok_in_range c.run_arc_mutex.result c.run_arc_mutex.ensures.limits (ap kind_of c.in-Mutex.is)
-
-pub returns-in-Mutex-2-clause-in_range : goal.returns-in-Mutex-2-clause-in_range
-returns-in-Mutex-2-clause-in_range g c = ok_in_range c.run_mutex.result c.run_mutex.ensures.limits (ap kind_of c.in-Mutex.is)
+returns-in-Mutex-clause-in_range g c = ok_in_range c.run_mutex.result c.run_mutex.ensures.limits (ap kind_of c.in-Mutex.is)
 
 pub returns-in-RwLock-clause-in_range : goal.returns-in-RwLock-clause-in_range
-returns-in-RwLock-clause-in_range g c = ok_in_range c.run_arc_rwlock.result c.run_arc_rwlock.ensures.limits (ap kind_of c.in-RwLock.is)
-
-pub returns-in-RwLock-2-clause-in_range : goal.returns-in-RwLock-2-clause-in_range
-returns-in-RwLock-2-clause-in_range g c = ok_in_range c.run_rwlock.result c.run_rwlock.ensures.limits (ap kind_of c.in-RwLock.is)
+returns-in-RwLock-clause-in_range g c = ok_in_range c.run_rwlock.result c.run_rwlock.ensures.limits (ap kind_of c.in-RwLock.is)
 
 pub returns-in-Reentrant-clause-in_range : goal.returns-in-Reentrant-clause-in_range
-returns-in-Reentrant-clause-in_range g c = ok_in_range c.run_arc_reentrant.result c.run_arc_reentrant.ensures.limits (ap kind_of c.in-Reentrant.is)
-
-pub returns-in-Reentrant-2-clause-in_range : goal.returns-in-Reentrant-2-clause-in_range
-returns-in-Reentrant-2-clause-in_range g c = ok_in_range c.run_reentrant.result c.run_reentrant.ensures.limits (ap kind_of c.in-Reentrant.is)
+returns-in-Reentrant-clause-in_range g c = ok_in_range c.run_reentrant.result c.run_reentrant.ensures.limits (ap kind_of c.in-Reentrant.is)

@@ -110,30 +110,30 @@ where
     R::Duration: Default,
     R::Instant: Deadline<R::Waiter>,
 {
-    type Duration = ();
+    type Duration = u64;
 
-    type Instant = ();
+    type Instant = u64;
 
-    fn try_lock_shared_for(&self, _timeout: ()) -> Option<R::SharedGuard> {
-        self.record_call(RawCall::TryLockFor(Mode::Shared));
+    fn try_lock_shared_for(&self, timeout: u64) -> Option<R::SharedGuard> {
+        self.record_call(RawCall::TryLockFor(Mode::Shared, timeout));
         self.raw.try_lock_shared_for(Default::default())
     }
 
-    fn try_lock_shared_until(&self, _deadline: ()) -> Option<R::SharedGuard> {
-        self.record_call(RawCall::TryLockUntil(Mode::Shared));
-        let deadline = Deadline::passed(self.raw.waiter())?;
-        self.raw.try_lock_shared_until(deadline)
+    fn try_lock_shared_until(&self, deadline: u64) -> Option<R::SharedGuard> {
+        self.record_call(RawCall::TryLockUntil(Mode::Shared, deadline));
+        self.raw
+            .try_lock_shared_until(Deadline::passed(self.raw.waiter())?)
     }
 
-    fn try_lock_exclusive_for(&self, _timeout: ()) -> Option<R::ExclusiveGuard> {
-        self.record_call(RawCall::TryLockFor(Mode::Exclusive));
+    fn try_lock_exclusive_for(&self, timeout: u64) -> Option<R::ExclusiveGuard> {
+        self.record_call(RawCall::TryLockFor(Mode::Exclusive, timeout));
         self.raw.try_lock_exclusive_for(Default::default())
     }
 
-    fn try_lock_exclusive_until(&self, _deadline: ()) -> Option<R::ExclusiveGuard> {
-        self.record_call(RawCall::TryLockUntil(Mode::Exclusive));
-        let deadline = Deadline::passed(self.raw.waiter())?;
-        self.raw.try_lock_exclusive_until(deadline)
+    fn try_lock_exclusive_until(&self, deadline: u64) -> Option<R::ExclusiveGuard> {
+        self.record_call(RawCall::TryLockUntil(Mode::Exclusive, deadline));
+        self.raw
+            .try_lock_exclusive_until(Deadline::passed(self.raw.waiter())?)
     }
 }
 
@@ -200,32 +200,32 @@ where
     R::Duration: Default,
     R::Instant: Deadline<R::Waiter>,
 {
-    fn try_lock_upgradable_for(&self, _timeout: ()) -> Option<R::UpgradableGuard> {
-        self.record_call(RawCall::TryLockFor(Mode::Upgradable));
+    fn try_lock_upgradable_for(&self, timeout: u64) -> Option<R::UpgradableGuard> {
+        self.record_call(RawCall::TryLockFor(Mode::Upgradable, timeout));
         self.raw.try_lock_upgradable_for(Default::default())
     }
 
-    fn try_lock_upgradable_until(&self, _deadline: ()) -> Option<R::UpgradableGuard> {
-        self.record_call(RawCall::TryLockUntil(Mode::Upgradable));
-        let deadline = Deadline::passed(self.raw.waiter())?;
-        self.raw.try_lock_upgradable_until(deadline)
+    fn try_lock_upgradable_until(&self, deadline: u64) -> Option<R::UpgradableGuard> {
+        self.record_call(RawCall::TryLockUntil(Mode::Upgradable, deadline));
+        self.raw
+            .try_lock_upgradable_until(Deadline::passed(self.raw.waiter())?)
     }
 
     fn try_upgrade_for(
         &self,
         token: R::UpgradableGuard,
-        _timeout: (),
+        timeout: u64,
     ) -> Result<R::ExclusiveGuard, R::UpgradableGuard> {
-        self.record_call(RawCall::TryUpgradeFor);
+        self.record_call(RawCall::TryUpgradeFor(timeout));
         self.raw.try_upgrade_for(token, Default::default())
     }
 
     fn try_upgrade_until(
         &self,
         token: R::UpgradableGuard,
-        _deadline: (),
+        deadline: u64,
     ) -> Result<R::ExclusiveGuard, R::UpgradableGuard> {
-        self.record_call(RawCall::TryUpgradeUntil);
+        self.record_call(RawCall::TryUpgradeUntil(deadline));
         match Deadline::passed(self.raw.waiter()) {
             Some(deadline) => self.raw.try_upgrade_until(token, deadline),
             None => Err(token),

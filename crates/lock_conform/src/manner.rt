@@ -1,4 +1,12 @@
-//! How a script's `park` is made on a lock.
+//! How a script is run on a lock.
+
+/// How a script's calls are made on a lock.
+#[derive(Clone, Copy, PartialEq, Eq, Debug)]
+pub struct Manner {
+    pub park_by: ParkBy,
+    /// Guards own an `Arc` of the lock. Otherwise they borrow it.
+    pub is_arc: bool,
+}
 
 /// How a script's `park` and `resume` are made on a lock.
 #[derive(Clone, Copy, PartialEq, Eq, Debug)]

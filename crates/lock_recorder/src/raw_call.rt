@@ -1,24 +1,24 @@
 //! The calls of a raw lock.
 ghost use Rattle.std.specs.Prelude.{◌≡◌, ⊤};
-ghost use Rattle.lock_conform.specs.ModeWords.{word_of};
+ghost use Rattle.lock_recorder.specs.ModeWords.{word_of};
 
 use lock_base::machine::Mode;
 use std::alloc::AllocError;
 
-/// A call of a raw lock. The tokens of a raw mutex count as exclusive.
+/// A call of a raw lock, with its time if it has one. The tokens of a raw mutex count as exclusive.
 #[derive(Copy, PartialEq, Eq, Debug)]
 pub enum RawCall {
     Lock(Mode),
     TryLock(Mode),
-    TryLockFor(Mode),
-    TryLockUntil(Mode),
+    TryLockFor(Mode, u64),
+    TryLockUntil(Mode, u64),
     Unlock(Mode),
     UnlockFair(Mode),
     Bump(Mode),
     Upgrade,
     TryUpgrade,
-    TryUpgradeFor,
-    TryUpgradeUntil,
+    TryUpgradeFor(u64),
+    TryUpgradeUntil(u64),
     Downgrade,
     DowngradeUpgradable,
     DowngradeToUpgradable,
@@ -38,9 +38,10 @@ impl Clone for RawCall {
 
 impl RawCall {
     ghost use Rattle.std.specs.Prelude.{◌++◌, OnOk, string_bytes};
-    ghost use Rattle.lock_conform.specs.Texts.{call_name, raw_call_line};
+    ghost use Rattle.lock_recorder.specs.RawCalls.{call_name, raw_call_line};
 
-    /// Appends the call's line: two spaces, and the name that the raw traits of a reader-writer lock give it.
+    /// Appends the call's line: two spaces, and the name that the raw traits of a reader-writer lock give it,
+    /// without its time.
     pub fn write_line(self, text: &mut String) -> Result<(), AllocError>
         ensures { OnOk result (string_bytes text.new ≡ string_bytes text.old ++ raw_call_line self) }
     {
@@ -59,15 +60,15 @@ impl RawCall {
         match self {
             RawCall::Lock(mode) => ("lock_", mode_word(mode), ""),
             RawCall::TryLock(mode) => ("try_lock_", mode_word(mode), ""),
-            RawCall::TryLockFor(mode) => ("try_lock_", mode_word(mode), "_for"),
-            RawCall::TryLockUntil(mode) => ("try_lock_", mode_word(mode), "_until"),
+            RawCall::TryLockFor(mode, _) => ("try_lock_", mode_word(mode), "_for"),
+            RawCall::TryLockUntil(mode, _) => ("try_lock_", mode_word(mode), "_until"),
             RawCall::Unlock(mode) => ("unlock_", mode_word(mode), ""),
             RawCall::UnlockFair(mode) => ("unlock_", mode_word(mode), "_fair"),
             RawCall::Bump(mode) => ("bump_", mode_word(mode), ""),
             RawCall::Upgrade => ("upgrade", "", ""),
             RawCall::TryUpgrade => ("try_upgrade", "", ""),
-            RawCall::TryUpgradeFor => ("try_upgrade_for", "", ""),
-            RawCall::TryUpgradeUntil => ("try_upgrade_until", "", ""),
+            RawCall::TryUpgradeFor(_) => ("try_upgrade_for", "", ""),
+            RawCall::TryUpgradeUntil(_) => ("try_upgrade_until", "", ""),
             RawCall::Downgrade => ("downgrade", "", ""),
             RawCall::DowngradeUpgradable => ("downgrade_upgradable", "", ""),
             RawCall::DowngradeToUpgradable => ("downgrade_to_upgradable", "", ""),

@@ -9,8 +9,8 @@ use std::alloc::Global;
 
 /// A raw lock with the calls made on it. Each call is recorded and then made on the raw lock.
 ///
-/// Its timed calls take no times: a timeout is zero, and a deadline has passed. So a script needs no clock, and a
-/// refused call returns at once.
+/// Its timed calls only record their times, which are numbers. On the raw lock a timeout is zero, and a deadline has
+/// passed. So no caller needs a clock, and a refused call returns at once.
 #[derive(Drop)]
 pub struct Recorder<R> {
     pub(crate) raw: R,
@@ -33,6 +33,11 @@ impl<R: Drop> Recorder<R> {
         ensures { IsOkUnless result Fault.OutOfMemory }
     {
         self.log.another()
+    }
+
+    /// Returns whether no call is recorded yet.
+    pub fn has_no_calls(&self) -> bool {
+        self.log.is_empty()
     }
 }
 
@@ -95,18 +100,18 @@ where
     R::Duration: Default,
     R::Instant: Deadline<R::Waiter>,
 {
-    type Duration = ();
+    type Duration = u64;
 
-    type Instant = ();
+    type Instant = u64;
 
-    fn try_lock_for(&self, _timeout: ()) -> Option<R::Guard> {
-        self.record(RawCall::TryLockFor(Mode::Exclusive));
+    fn try_lock_for(&self, timeout: u64) -> Option<R::Guard> {
+        self.record(RawCall::TryLockFor(Mode::Exclusive, timeout));
         self.raw.try_lock_for(Default::default())
     }
 
-    fn try_lock_until(&self, _deadline: ()) -> Option<R::Guard> {
-        self.record(RawCall::TryLockUntil(Mode::Exclusive));
-        let deadline = Deadline::passed(self.raw.waiter())?;
-        self.raw.try_lock_until(deadline)
+    fn try_lock_until(&self, deadline: u64) -> Option<R::Guard> {
+        self.record(RawCall::TryLockUntil(Mode::Exclusive, deadline));
+        self.raw
+            .try_lock_until(Deadline::passed(self.raw.waiter())?)
     }
 }

@@ -15,7 +15,7 @@ pub struct CallLog {
 }
 
 impl CallLog {
-    pub(crate) fn new(alloc: Global) -> Result<CallLog, Fault>
+    pub fn new(alloc: Global) -> Result<CallLog, Fault>
         ensures { IsOkUnless result Fault.OutOfMemory }
     {
         match Arc::new(alloc, Mutex::new(Vec::new(alloc))) {
@@ -25,7 +25,7 @@ impl CallLog {
     }
 
     /// Returns the same list again.
-    pub(crate) fn another(&self) -> Result<CallLog, Fault>
+    pub fn another(&self) -> Result<CallLog, Fault>
         ensures { IsOkUnless result Fault.OutOfMemory }
     {
         match Arc::try_clone(&self.list) {
@@ -38,15 +38,26 @@ impl CallLog {
     }
 
     /// Appends a call. Without memory it is left out.
-    pub(crate) fn add<W: Wait>(&self, waiter: &W, call: RawCall) {
+    pub fn add<W: Wait>(&self, waiter: &W, call: RawCall) {
         let _ = self.list.lock(waiter).push(call);
     }
 
-    /// Takes all calls out of the list, or none while another thread appends one.
-    pub(crate) fn take(&self) -> Vec<RawCall> {
+    /// Returns whether no call is recorded, or being recorded.
+    pub fn is_empty(&self) -> bool {
         match self.list.try_lock() {
-            Some(mut list) => mem::replace(&mut *list, Vec::new(self.alloc)),
-            None => Vec::new(self.alloc),
+            Some(list) => list.is_empty(),
+            None => false,
         }
+    }
+
+    /// Returns how many calls are recorded.
+    pub fn count<W: Wait>(&self, waiter: &W) -> usize {
+        self.list.lock(waiter).len()
+    }
+
+    /// Takes all calls out of the list, or returns `None` while another thread appends one.
+    pub fn take(&self) -> Option<Vec<RawCall>> {
+        let mut list = self.list.try_lock()?;
+        Some(mem::replace(&mut *list, Vec::new(self.alloc)))
     }
 }
