@@ -26,22 +26,23 @@ class Desk:
         self.script.append(line)
         self.answers.append(answer)
 
-    def call(self, does, party, word):
-        """Adds a call of a party, whose turn the model foretells."""
-        if does == "announces":
+    def call(self, does, party, word, is_tried):
+        """Adds a call of a party, whose turn the model foretells. A try does not announce its party."""
+        form = "try_" if is_tried else ""
+        if does == "announces" and not is_tried:
             self.add(f"{word} {party}", "refused 1")
             self.add(f"announce {party}", "ok")
         elif word in ("announce", "withdraw"):
             self.add(f"{word} {party}", "ok" if does == "goes" else "refused 17")
         elif word in plans.ACQUIRED:
             self.issued += does == "goes"
-            self.add(f"{word} {party}", f"guard {self.issued}" if does == "goes" else "refused 1")
+            self.add(f"{form}{word} {party}", f"guard {self.issued}" if does == "goes" else "refused 1")
             if does == "goes":
                 self.held(party, plans.ACQUIRED[word]).append(self.issued)
         else:
             before, after = plans.CHANGED.get(word) or (plans.RELEASED[word], None)
             guard = self.held(party, before)[-1]
-            self.add(f"{WORDS.get(word, word)} {party} {guard}", "ok" if does == "goes" else "refused 1")
+            self.add(f"{form}{WORDS.get(word, word)} {party} {guard}", "ok" if does == "goes" else "refused 1")
             if does == "goes":
                 self.held(party, before).pop()
                 self.held(party, after).append(guard)
@@ -53,24 +54,29 @@ class Desk:
 def desk_scripts(plan, rng):
     """The scripts and answers of a random interleaving, and of the trace to the first stop with each party's call there."""
     everyone = range(len(plan.parties))
-    schedules = [[rng.choice(everyone) for _ in range(LONGEST)] if everyone else []]
+    schedules = [[(rng.choice(everyone), None) for _ in range(LONGEST)] if everyone else []]
     stop, came_from = plans.explore(plan)
     if stop is not None:
-        schedules.append([*plans.trace_to(stop, came_from), *everyone])
+        trace = [(party, world) for party, _, world in plans.trace_to(stop, came_from)]
+        schedules.append(trace + [(party, None) for party in everyone])
     for schedule in schedules:
-        for desk in replayed(plan, schedule):
+        for desk in replayed(plan, schedule, rng):
             yield desk.script, desk.answers
 
 
-def replayed(plan, schedule):
-    """The desks of a plan's locks after the parties of the schedule have had their turns."""
+def replayed(plan, schedule, rng):
+    """The desks of a plan's locks after the turns of the schedule: each a party, and the world after its step or None for any."""
     desks = {name: Desk(name, lock) for name, lock in plan.locks.items()}
     world = plans.first_world(plan)
-    for party in schedule:
-        does, call = plans.turn(plan, world, party), plans.next_call(plan, world, party)
-        if does is None:
+    for party, chosen in schedule:
+        place = plans.next_place(plan, world, party)
+        if place is None:
             continue
-        desks[call.lock].call(does, party + 1, call.word)
-        stepped = plans.step(plan, world, party)
-        world = stepped[0] if stepped else world
+        call = place.line.call
+        if call is not None:
+            does = plans.reply(plan, world, party, call)
+            desks[call.lock].call(does, party + 1, call.word, place.line.word == "try")
+        found = [after for after, _ in plans.steps(plan, world, party)]
+        if found:
+            world = chosen or rng.choice(found)
     return desks.values()

@@ -1,6 +1,8 @@
 pub mod Holds
-pub mod Checks
 pub mod Worlds
+pub mod CallFaults
+pub mod Known
 pub mod Points
 pub mod Below
+pub mod Checks
 pub mod Stops

@@ -3,7 +3,7 @@ ghost use Rattle.std.specs.Prelude.{◌≡◌, ℕ, ◌<◌, ◌^◌, length, Op
 ghost use Rattle.std.proofs.Common.{get_or};
 ghost use Rattle.lock_base.specs.Modes.{is_move, tokens};
 ghost use Rattle.lock_base.specs.Holds.{no_hold};
-ghost use Rattle.lock_plan.specs.Checks.{is_of_kind, is_over, lack_of, fault_on, call_fault};
+ghost use Rattle.lock_plan.specs.CallFaults.{is_of_kind, is_over, lack_of, fault_on, call_fault};
 
 use crate::call::{PlanCall, is_write};
 use crate::fault::CallFault;

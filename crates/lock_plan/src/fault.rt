@@ -2,7 +2,7 @@
 use std::alloc::{AllocError, AllocFailed};
 use std::fmt;
 
-/// Why a call of a plan can never be made.
+/// Why an act of a plan is wrong.
 #[derive(Clone, Copy, PartialEq, Eq, Debug)]
 pub enum CallFault {
     /// No lock has that number.
@@ -17,6 +17,10 @@ pub enum CallFault {
     AlreadyAnnounced,
     /// The party has not announced itself.
     NotAnnounced,
+    /// Two ways lead to the next place, and the party holds something else by each.
+    HoldsDiffer,
+    /// No earlier place leads to this one.
+    Unreached,
 }
 
 impl fmt::Display for CallFault {
@@ -28,6 +32,8 @@ impl fmt::Display for CallFault {
             CallFault::TooManyLevels => "too many levels",
             CallFault::AlreadyAnnounced => "announced already",
             CallFault::NotAnnounced => "not announced",
+            CallFault::HoldsDiffer => "holds differ",
+            CallFault::Unreached => "unreached",
         })
     }
 }
@@ -35,7 +41,7 @@ impl fmt::Display for CallFault {
 /// Why there is no plan.
 #[derive(Clone, Copy, PartialEq, Eq, Debug)]
 pub enum PlanFault {
-    /// This call of this party, both counted from 0, can never be made. It is the first such call.
+    /// The act at this place of this party, both counted from 0, is wrong. It is the first such act.
     Call(usize, usize, CallFault),
     /// The plan has more nodes than a number can count.
     TooLarge,

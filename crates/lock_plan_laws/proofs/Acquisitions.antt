@@ -1,5 +1,5 @@
 -- An acquisition of a plan is refused by no machine, and is admitted where the world admits it.
-use Rattle.std.proofs.Common.{◌≡◌, ℕ, ◌-◌, ◌<◌, ◌^◌, Bool, true, false, not, ◌&&◌, ◌||◌, ◌==◌, nat_lt, if◌then◌else◌, List, [], ◌∷◌, length, Option, Some, None, option_map, refl, ap, sym, ◌∙◌, subst, arith, eqb-true, eq-eqb, ltb-true, lt-ltb}
+use Rattle.std.proofs.Common.{◌≡◌, ℕ, ◌+◌, ◌-◌, ◌<◌, ◌^◌, Bool, true, false, not, ◌&&◌, ◌||◌, ◌==◌, nat_lt, if◌then◌else◌, List, [], ◌∷◌, length, Option, Some, None, option_map, refl, ap, sym, ◌∙◌, subst, arith, eqb-true, eq-eqb, ltb-true, lt-ltb}
 use Rattle.std.proofs.lemmas.Bool.{ne_eqb, eqb-false, and_parts, not-false}
 use Rattle.lock_base.specs.declared.machine.mode.Mode.{Mode}
 use Rattle.lock_base.specs.declared.machine.mode.Mode.TheVariants.{Shared, Exclusive, Upgradable}
@@ -23,9 +23,10 @@ use Rattle.lock_base_laws.proofs.CallEffects.{refusal-none}
 use Rattle.lock_plan.specs.declared.lock.PlanLock.{PlanLock}
 use Rattle.lock_plan.specs.Worlds.{bag_on, bar_from, lock_holds}
 use Rattle.lock_plan.specs.Holds.{admits_step}
-use Rattle.lock_plan_laws.specs.Scenes.{want_for, limit_for}
+use Rattle.lock_plan_laws.specs.MachineTurns.{want_for}
+use Rattle.lock_plan_laws.specs.Scenes.{limit_for}
 use Rattle.lock_plan_laws.specs.Bridge.{of_party, AreDistinct}
-use Rattle.lock_plan_laws.proofs.PartyBags.{tokens-held, tokens-own, all_of_party-count, numbered_long}
+use Rattle.lock_plan_laws.proofs.PartyBags.{tokens-held, tokens-own, all_of_party-count}
 use Rattle.lock_plan_laws.proofs.Columns.{hold_of}
 use Rattle.lock_plan_laws.proofs.Moves.{IsSeen}
 
@@ -77,8 +78,13 @@ or_right : (a : Bool) → (a || false) ≡ true → a ≡ true
 or_right true h = refl
 or_right false h = cc
 
-module _ {T : Type 0} (ids : ℕ → PartyId) (distinct : AreDistinct ids) (lock : PlanLock) (m : Machine T) (hss : List (List Hold)) (p l : ℕ) (left : ℕ)
-    (seen : IsSeen ids lock m hss p l left) (mode : Mode)
+-- one guard more has a place and a number
+pub record HasRoom {T : Type 0} (m : Machine T) : Type 0 where
+  pub room : length m.entries < m.places
+  pub number : m.last + 1 < 2 ^ 64
+
+module _ {T : Type 0} (ids : ℕ → PartyId) (distinct : AreDistinct ids) (lock : PlanLock) (m : Machine T) (hss : List (List Hold)) (p l : ℕ)
+    (seen : IsSeen ids lock m hss p l) (mode : Mode)
     (of_kind : (is_exclusive mode || is_rwlock lock.kind) ≡ true)
     (not_over : (is_exclusive mode && (is_reentrant lock.kind && not (nat_lt (tokens (hold_of hss p l).bag) lock.limit))) ≡ false) where
   abbrev x : ℕ
@@ -127,16 +133,15 @@ module _ {T : Type 0} (ids : ℕ → PartyId) (distinct : AreDistinct ids) (lock
       absurd (omega (arith, few, same)))
 
   -- no acquisition of the plan is refused
-  pub none_refused : 0 < left → acquisition_refusal m.register (want_for lock.kind mode) x ≡ None
+  pub none_refused : HasRoom m → acquisition_refusal m.register (want_for lock.kind mode) x ≡ None
   none_refused more =
-      let long = numbered_long 0 m.last m.entries seen.sound.legal.numbered in
       let want = want_for lock.kind mode in
       refusal-none (not (has_want m.kind want)) (length m.entries == m.places) (m.last == 2 ^ 64 - 1) (is_full_count m.register x)
       fault.WrongKind fault.NoPlace fault.NumbersSpent fault.FullCount
       (record {
         first = ap (λ (k : Kind). not (has_want k want)) seen.kind ∙ ap not (wanted_by_kind lock.kind mode of_kind);
-        second = ne_eqb (length m.entries) m.places (λ same. let room = seen.room in omega arith);
-        third = ne_eqb m.last (2 ^ 64 - 1) (λ same. let numbers = seen.numbers in omega arith);
+        second = ne_eqb (length m.entries) m.places (λ same. let room = more.room in omega arith);
+        third = ne_eqb m.last (2 ^ 64 - 1) (λ same. let number = more.number in omega arith);
         fourth = not_full lock.kind refl;
       })
 

@@ -3,8 +3,14 @@ pub mod Columns
 pub mod Moves
 pub mod Acquisitions
 pub mod MachineTurns
+pub mod Tries
+pub mod KnownStands
 pub mod Ties
 pub mod Steps
+pub mod SceneSteps
+pub mod SceneStops
 pub mod Runs
 pub mod Fits
 pub mod MachineStops
+pub mod ShortWalks
+pub mod Traces

@@ -1,44 +1,49 @@
 -- What the answers of a search for a stop mean for machines.
-use Rattle.std.proofs.Common.{◌≡◌, ℕ, Bool, suc, ◌≤◌, false, List, [], ◌∷◌, length, sum_by, Some, refl, sym, ap, ◌∙◌, arith}
+use Rattle.std.proofs.Common.{◌≡◌, ℕ, Bool, suc, ◌+◌, ◌<◌, ◌≤◌, ◌^◌, false, List, [], ◌∷◌, length, sum_by, Some, refl, sym, ap, ◌∙◌, arith}
 use Rattle.std.proofs.lemmas.Bool.{false≢true}
 use Rattle.lock_base.specs.declared.machine.party.PartyId.{PartyId}
 use Rattle.lock_base.specs.Operation.{Operation}
-use Rattle.lock_plan.specs.declared.call.PlanCall.{PlanCall}
 use Rattle.lock_plan.specs.declared.lock.PlanLock.{PlanLock}
+use Rattle.lock_plan.specs.declared.program.Place.{Place}
+use Rattle.lock_plan.specs.declared.program.Step.{Step}
 use Rattle.lock_plan.specs.Worlds.{Stand, first_world, world_after, is_stop, NeverStops, IsShortestStop}
-use Rattle.lock_plan_laws.specs.Scenes.{Caller, parties_of, Scene, IsStopScene}
+use Rattle.lock_plan_laws.specs.Scenes.{Caller, steps_of, Scene, IsStopScene}
 use Rattle.lock_plan_laws.specs.Bridge.{FitsMachines}
 use Rattle.lock_plan_laws.specs.MachineStops.{LeadsInto, MachinesNeverStop, IsShortestStopOfMachines}
 use Rattle.lock_plan_laws.proofs.Runs.{runs_of_worlds, runs_of_machines, same_stops}
 
-as_many : (cs : List Caller) → length (parties_of cs) ≡ length cs
+as_many : (cs : List Caller) → length (steps_of cs) ≡ length cs
 as_many [] = refl
 as_many (c ∷ cs) = ap suc (as_many cs)
 
-module _ {O T A : Type 0} (meaning : O → Operation T A) (servers : List Bool) (locks : List PlanLock) (parties : List (List PlanCall))
-    (fit : (places : ℕ) → sum_by length parties ≤ places → FitsMachines locks parties places) where
-  no_stop : (ids : ℕ → PartyId) (values : ℕ → T) (places : ℕ) (cs : List Caller) (s : Scene T)
-      → ((w : List Stand) → world_after locks (first_world locks parties) (parties_of cs) ≡ Some w → is_stop servers locks w ≡ false)
-      → LeadsInto meaning locks parties ids values places cs s → IsStopScene meaning ids servers locks s → ⊥
-  no_stop ids values places cs s none into stops =
-      let fits = fit places into.room in
-      let r = runs_of_worlds meaning ids locks parties values places cs s into.distinct fits into.is_run in
-      let same = same_stops meaning ids locks parties values places cs s r.0 servers into.distinct fits into.is_run r.1 in
+module _ {O T A : Type 0} (meaning : O → Operation T A) (servers : List Bool) (locks : List PlanLock) (programs : List (List Place))
+    (fit : (room : ℕ) → sum_by length programs ≤ room → FitsMachines locks programs room) where
+  no_stop : (ids : ℕ → PartyId) (values : ℕ → T) (room : ℕ) (cs : List Caller) (s : Scene T)
+      → ((w : List Stand) → world_after locks (first_world locks programs) (steps_of cs) ≡ Some w → is_stop servers locks w ≡ false)
+      → LeadsInto meaning locks programs ids values room cs s → IsStopScene meaning ids locks programs servers s → ⊥
+  no_stop ids values room cs s none into stops =
+      let fits = fit room into.enough in
+      let few : length cs < 2 ^ 64 = omega (arith, into.numbers) in
+      let r = runs_of_worlds meaning ids locks programs values room cs s into.distinct fits few into.is_run in
+      let same = same_stops meaning ids locks programs values room cs s r.0 servers into.distinct fits into.numbers into.is_run r.1 in
       false≢true (sym (none r.0 r.1) ∙ same.0 stops)
 
-  pub never : NeverStops servers locks parties → MachinesNeverStop meaning servers locks parties
-  never none ids values places cs s into stops =
-      no_stop ids values places cs s (λ w e. none (parties_of cs) w e) into stops
+  pub never : NeverStops servers locks programs → MachinesNeverStop meaning servers locks programs
+  never none ids values room cs s into stops =
+      no_stop ids values room cs s (λ w e. none (steps_of cs) w e) into stops
 
-  pub shortest : (trace : List ℕ) → IsShortestStop servers locks parties trace → IsShortestStopOfMachines meaning servers locks parties trace
-  shortest trace stop = record {
-    stops = λ ids values places distinct room.
-        let fits = fit places room in
+  pub shortest : (trace : List Step) → length trace + 1 < 2 ^ 64 → IsShortestStop servers locks programs trace
+      → IsShortestStopOfMachines meaning servers locks programs trace
+  shortest trace few stop = record {
+    stops = λ ids values room distinct enough.
+        let fits = fit room enough in
         let w = stop.stops.0 in
-        let back = runs_of_machines meaning ids locks parties values places trace w distinct fits stop.stops.1 in
-        let there = ap (world_after locks (first_world locks parties)) back.2 ∙ stop.stops.1 in
-        let same = same_stops meaning ids locks parties values places back.0 back.1 w servers distinct fits back.3 there in
-        (back.0, back.1, back.2, record { distinct = distinct; room = room; is_run = back.3 }, same.1 stop.stops.2);
-    shortest = λ ids values places cs s less into stops.
-        no_stop ids values places cs s (λ w e. stop.shortest (parties_of cs) w (omega (arith, less, as_many cs)) e) into stops;
+        let back = runs_of_machines meaning ids locks programs values room trace w distinct fits (omega (arith, few)) stop.stops.1 in
+        let there = ap (world_after locks (first_world locks programs)) back.2 ∙ stop.stops.1 in
+        let long : length back.0 ≡ length trace = sym (as_many back.0) ∙ ap length back.2 in
+        let numbers : length back.0 + 1 < 2 ^ 64 = omega (arith, few, long) in
+        let same = same_stops meaning ids locks programs values room back.0 back.1 w servers distinct fits numbers back.3 there in
+        (back.0, back.1, back.2, record { distinct = distinct; enough = enough; numbers = numbers; is_run = back.3 }, same.1 stop.stops.2);
+    shortest = λ ids values room cs s less into stops.
+        no_stop ids values room cs s (λ w e. stop.shortest (steps_of cs) w (omega (arith, less, as_many cs)) e) into stops;
   }

@@ -1,5 +1,5 @@
 -- The turn of a party on its machine is its turn in the world, and changes what that turn changes.
-use Rattle.std.proofs.Common.{◌≡◌, ℕ, ◌+◌, ◌<◌, Bool, true, false, not, ◌&&◌, ◌||◌, nat_lt, if◌then◌else◌, List, Option, Some, None, option_map, is_some, IsTrue, refl, ap, sym, ◌∙◌, subst}
+use Rattle.std.proofs.Common.{◌≡◌, ℕ, ◌+◌, Bool, true, false, not, ◌&&◌, ◌||◌, nat_lt, if◌then◌else◌, List, Option, Some, None, option_map, is_some, IsTrue, refl, ap, sym, ◌∙◌, subst}
 use Rattle.std.proofs.lemmas.Bool.{and_parts}
 use Rattle.lock_base.specs.declared.machine.mode.Mode.{Mode}
 use Rattle.lock_base.specs.declared.machine.mode.Mode.TheVariants.{Shared, Exclusive, Upgradable}
@@ -31,13 +31,13 @@ use Rattle.lock_plan.specs.declared.lock.PlanLock.{PlanLock}
 use Rattle.lock_plan.specs.declared.turn.Turn.{Turn}
 use Rattle.lock_plan.specs.declared.turn.Turn.TheVariants.{Goes, Announces, Waits, Refused}
 use Rattle.lock_plan.specs.Holds.{turn_on, admits_step, announces_itself}
-use Rattle.lock_plan.specs.Checks.{fault_on, is_of_kind, is_over, is_again}
+use Rattle.lock_plan.specs.CallFaults.{fault_on, is_of_kind, is_over, is_again}
 use Rattle.lock_plan.specs.Worlds.{bag_on, bar_from, lock_holds}
-use Rattle.lock_plan_laws.specs.Scenes.{want_for, Names, MachineTurn, turn_of_reply, announced_turn, after_reply, machine_turn}
+use Rattle.lock_plan_laws.specs.MachineTurns.{want_for, Names, MachineTurn, turn_of_reply, announced_turn, after_reply, machine_turn}
 use Rattle.lock_plan_laws.specs.Bridge.{AreDistinct}
 use Rattle.lock_plan_laws.proofs.Columns.{hold_of}
 use Rattle.lock_plan_laws.proofs.Moves.{IsSeen, Moved, bag_after_step, none_announced, acquired, released, changed, announced, withdrawn}
-use Rattle.lock_plan_laws.proofs.Acquisitions.{mode_wanted, none_refused, same_admission}
+use Rattle.lock_plan_laws.proofs.Acquisitions.{HasRoom, mode_wanted, none_refused, same_admission}
 
 -- a call that is not wrong in itself
 pub record IsRight (lock : PlanLock) (h : Hold) (a : LockStep) : Type 0 where
@@ -76,8 +76,8 @@ ByTurn Refused goes announces = Unit {0}
 
 pub record Acts {T : Type 0} (t : MachineTurn T) (m : Machine T) (x : ℕ) (own : Hold) (all : Bag) (a : LockStep) (turn : Turn) : Type 0 where
   pub same : t.turn ≡ turn
-  pub moved : ByTurn turn (Moved m t.machine x (hold_after own a) (bag_after_step all a) 1)
-      (Moved m t.machine x (hold_after own lock_step.Announce) all 0)
+  pub moved : ByTurn turn (Moved m t.machine x (hold_after own a) (bag_after_step all a))
+      (Moved m t.machine x (hold_after own lock_step.Announce) all)
 
 and_false : (b : Bool) → (b && false) ≡ false
 and_false true = refl
@@ -103,7 +103,7 @@ exclusive_from Exclusive h = refl
 exclusive_from Upgradable h = cc
 
 module _ {O T A : Type 0} (meaning : O → Operation T A) (ids : ℕ → PartyId) (distinct : AreDistinct ids) (lock : PlanLock) (m : Machine T)
-    (hss : List (List Hold)) (p l left guard : ℕ) (seen : IsSeen ids lock m hss p l left) where
+    (hss : List (List Hold)) (p l guard : ℕ) (seen : IsSeen ids lock m hss p l) where
   abbrev x : ℕ
   x = id_of (ids p)
 
@@ -133,7 +133,7 @@ module _ {O T A : Type 0} (meaning : O → Operation T A) (ids : ℕ → PartyId
       record { found = found; on_kind = on_kind; own = λ reentrant. refl; held = held; in_mode = in_mode }
 
   release_acts : (mode : Mode) → find guard m.entries ≡ Some (record { party = x; mode = mode; held = true })
-      → Fits (lock_step.Modes (Release mode)) (machine_turn meaning ids lock m (record { party = p; guard = guard }) (lock_step.Modes (Release mode)))
+      → Fits (lock_step.Modes (Release mode)) (machine_turn meaning ids lock m p guard (lock_step.Modes (Release mode)))
       (turn_on lock (lock_holds hss p l) (lock_step.Modes (Release mode)))
   release_acts mode found =
       let e : Entry = record { party = x; mode = mode; held = true } in
@@ -142,7 +142,7 @@ module _ {O T A : Type 0} (meaning : O → Operation T A) (ids : ℕ → PartyId
       (ap (λ (effect : CallEffect (Unit {0}) T). after_reply meaning ids lock p (lock_step.Modes (Release mode)) (response_of done_reply effect))
       (on_guard-met m held_guard x guard (λ e'. give tt after) e (meets held_guard mode found refl refl refl)))
       refl
-      (record { same = refl; moved = released ids lock m hss p l left seen guard mode found })
+      (record { same = refl; moved = released ids lock m hss p l seen guard mode found })
 
   module _ (from : Mode) (found : find guard m.entries ≡ Some (record { party = x; mode = from; held = true }))
       (rwlock : is_rwlock lock.kind ≡ true) where
@@ -163,7 +163,7 @@ module _ {O T A : Type 0} (meaning : O → Operation T A) (ids : ℕ → PartyId
         (ap (λ (effect : CallEffect (Unit {0}) T). after_reply meaning ids lock p (lock_step.Modes (Change from to)) (response_of done_reply effect))
         (on_guard-met m demand x guard (λ e'. give tt (with_mode m guard to)) entry met))
         refl
-        (record { same = refl; moved = changed ids lock m hss p l left seen guard from found to })
+        (record { same = refl; moved = changed ids lock m hss p l seen guard from found to })
 
     abbrev upgraded : Bool → CallEffect (Option (Unit {0})) T
     upgraded b = if b then give (Some tt) (with_mode m guard Exclusive) else give None m
@@ -172,7 +172,7 @@ module _ {O T A : Type 0} (meaning : O → Operation T A) (ids : ℕ → PartyId
         → Fits (lock_step.Modes (Change from Exclusive))
         (after_reply meaning ids lock p (lock_step.Modes (Change from Exclusive)) (response_in_form Block done_reply (upgraded b)))
         (if b then Goes else (if (lock.bar && false) && not (is_some (bar_from 0 l hss)) then Announces else Waits))
-    upgrade_by true = record { same = refl; moved = changed ids lock m hss p l left seen guard from found Exclusive }
+    upgrade_by true = record { same = refl; moved = changed ids lock m hss p l seen guard from found Exclusive }
     upgrade_by false =
         fits_from (lock_step.Modes (Change from Exclusive)) _ (record { turn = Waits; machine = m }) _ Waits
         (ap (waiting_by (announce m x)) (and_false lock.bar))
@@ -181,7 +181,7 @@ module _ {O T A : Type 0} (meaning : O → Operation T A) (ids : ℕ → PartyId
 
     upgrade_acts : is_upgradable from ≡ true
         → Fits (lock_step.Modes (Change from Exclusive))
-        (machine_turn meaning ids lock m (record { party = p; guard = guard }) (lock_step.Modes (Change from Exclusive)))
+        (machine_turn meaning ids lock m p guard (lock_step.Modes (Change from Exclusive)))
         (turn_on lock (lock_holds hss p l) (lock_step.Modes (Change from Exclusive)))
     upgrade_acts upgradable =
         let sole = may_become (held_bag m.entries) Exclusive in
@@ -198,7 +198,7 @@ module _ {O T A : Type 0} (meaning : O → Operation T A) (ids : ℕ → PartyId
 
     change_acts : (to : Mode) → is_move from to ≡ true
         → Fits (lock_step.Modes (Change from to))
-        (machine_turn meaning ids lock m (record { party = p; guard = guard }) (lock_step.Modes (Change from to)))
+        (machine_turn meaning ids lock m p guard (lock_step.Modes (Change from to)))
         (turn_on lock (lock_holds hss p l) (lock_step.Modes (Change from to)))
     change_acts Shared move =
         downgrade_acts Shared unshared_guard refl
@@ -229,10 +229,10 @@ module _ {O T A : Type 0} (meaning : O → Operation T A) (ids : ℕ → PartyId
   announce_by : (d : Bool) → is_some (bar_from 0 l hss) ≡ d
       → Fits lock_step.Announce (after_reply meaning ids lock p lock_step.Announce (response_of done_reply (barred_by d))) (if d then Refused else Goes)
   announce_by true is = record { same = refl; moved = tt }
-  announce_by false is = record { same = refl; moved = announced ids lock m hss p l left seen 1 (bar_some ∙ is) }
+  announce_by false is = record { same = refl; moved = announced ids lock m hss p l seen (bar_some ∙ is) }
 
   announce_acts : is_rwlock lock.kind ≡ true
-      → Fits lock_step.Announce (machine_turn meaning ids lock m (record { party = p; guard = guard }) lock_step.Announce)
+      → Fits lock_step.Announce (machine_turn meaning ids lock m p guard lock_step.Announce)
       (turn_on lock (lock_holds hss p l) lock_step.Announce)
   announce_acts rwlock =
       fits_from lock_step.Announce _ (after_reply meaning ids lock p lock_step.Announce (response_of done_reply (barred_by (is_some (bar_from 0 l hss))))) _ _
@@ -241,7 +241,7 @@ module _ {O T A : Type 0} (meaning : O → Operation T A) (ids : ℕ → PartyId
       (announce_by (is_some (bar_from 0 l hss)) refl)
 
   withdraw_acts : is_rwlock lock.kind ≡ true → (hold_of hss p l).announced ≡ true
-      → Fits lock_step.Withdraw (machine_turn meaning ids lock m (record { party = p; guard = guard }) lock_step.Withdraw)
+      → Fits lock_step.Withdraw (machine_turn meaning ids lock m p guard lock_step.Withdraw)
       (turn_on lock (lock_holds hss p l) lock_step.Withdraw)
   withdraw_acts rwlock own =
       let after = with_register m (with_bar m.register None) in
@@ -252,7 +252,7 @@ module _ {O T A : Type 0} (meaning : O → Operation T A) (ids : ℕ → PartyId
       ∙ ap (λ (b : Bool). after_reply meaning ids lock p lock_step.Withdraw (response_of done_reply
       (unless (if not b then Some fault.NotAnnounced else None) m (give tt after)))) (seen.announced ∙ own))
       refl
-      (record { same = refl; moved = withdrawn ids lock m hss p l left seen (seen.announced ∙ own) })
+      (record { same = refl; moved = withdrawn ids lock m hss p l seen (seen.announced ∙ own) })
 
   -- acquisitions
 
@@ -276,7 +276,7 @@ module _ {O T A : Type 0} (meaning : O → Operation T A) (ids : ℕ → PartyId
         let none = bar_some ∙ is in
         fits_from a _ (record { turn = Announces; machine = with_register m (with_bar m.register (Some x)) }) _ Announces refl
         (ap (λ (b : Bool). if not b && true then Announces else Waits) (sym seen.announced ∙ sym (none_announced m.bar x none)))
-        (record { same = refl; moved = announced ids lock m hss p l left seen 0 none })
+        (record { same = refl; moved = announced ids lock m hss p l seen none })
 
     waits_by : (c : Bool) → (lock.bar && is_exclusive mode) ≡ c
         → Fits (lock_step.Modes (Acquire mode)) (waiting_by (announce m x) c) (if (c && not own.announced) && no_bar then Announces else Waits)
@@ -302,7 +302,7 @@ module _ {O T A : Type 0} (meaning : O → Operation T A) (ids : ℕ → PartyId
         (if b then Goes else (if announces_itself lock own a && no_bar then Announces else Waits))
     acquire_by true is = record {
       same = refl;
-      moved = acquired ids lock m hss p l left seen mode
+      moved = acquired ids lock m hss p l seen mode
           (and_parts (bar_lets_pass m.bar x mode) (admits_ignoring_bar m.register x mode) is).0;
     }
     acquire_by false is =
@@ -317,27 +317,27 @@ module _ {O T A : Type 0} (meaning : O → Operation T A) (ids : ℕ → PartyId
         then give (Some (m.last + 1)) (with_register m (after_admission (with_guard m.register x got) got))
         else give None m
 
-    acquire_acts : 0 < left → (is_exclusive mode || is_rwlock lock.kind) ≡ true
+    acquire_acts : HasRoom m → (is_exclusive mode || is_rwlock lock.kind) ≡ true
         → (is_exclusive mode && (is_reentrant lock.kind && not (nat_lt (tokens own.bag) lock.limit))) ≡ false
-        → Fits (lock_step.Modes (Acquire mode)) (machine_turn meaning ids lock m (record { party = p; guard = guard }) (lock_step.Modes (Acquire mode)))
+        → Fits (lock_step.Modes (Acquire mode)) (machine_turn meaning ids lock m p guard (lock_step.Modes (Acquire mode)))
         (turn_on lock (lock_holds hss p l) (lock_step.Modes (Acquire mode)))
     acquire_acts more of_kind not_over =
         let want = want_for lock.kind mode in
-        let same = same_admission ids distinct lock m hss p l left seen mode of_kind not_over in
+        let same = same_admission ids distinct lock m hss p l seen mode of_kind not_over in
         fits_from a _ (asked (let_in_by (admits_step lock (lock_holds hss p l) (Acquire mode)))) _ _
         (ap (λ (o : Option Fault). asked (unless o m (asked_in (mode_of want))))
-        (none_refused ids distinct lock m hss p l left seen mode of_kind not_over more)
+        (none_refused ids distinct lock m hss p l seen mode of_kind not_over more)
         ∙ ap (λ (got : Mode). asked (asked_in got)) (mode_wanted lock.kind mode)
         ∙ ap (λ (b : Bool). asked (let_in_by b)) same)
         refl
         (acquire_by (admits_step lock (lock_holds hss p l) (Acquire mode)) same)
 
   -- the turn on the machine is the turn in the world
-  pub acts : (a : LockStep) → 0 < left → IsRight lock (hold_of hss p l) a → (IsTrue lock.bar → IsTrue (is_rwlock lock.kind))
+  pub acts : (a : LockStep) → ((mode : Mode) → a ≡ lock_step.Modes (Acquire mode) → HasRoom m) → IsRight lock (hold_of hss p l) a → (IsTrue lock.bar → IsTrue (is_rwlock lock.kind))
       → Names m.entries x guard a
-      → Acts (machine_turn meaning ids lock m (record { party = p; guard = guard }) a) m (id_of (ids p)) (hold_of hss p l) (bag_on l hss) a
+      → Acts (machine_turn meaning ids lock m p guard a) m (id_of (ids p)) (hold_of hss p l) (bag_on l hss) a
       (turn_on lock (lock_holds hss p l) a)
-  acts (lock_step.Modes (Acquire mode)) more right bars names = acquire_acts mode bars more right.of_kind right.not_over
+  acts (lock_step.Modes (Acquire mode)) more right bars names = acquire_acts mode bars (more mode refl) right.of_kind right.not_over
   acts (lock_step.Modes (Release mode)) more right bars names = release_acts mode names
   acts (lock_step.Modes (Change from to)) more right bars names =
       let both = and_parts (is_move from to) (is_rwlock lock.kind) right.of_kind in

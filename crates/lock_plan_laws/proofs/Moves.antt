@@ -1,5 +1,5 @@
 -- What a call changes on a machine, as its party, the other parties and the bar see it.
-use Rattle.std.proofs.Common.{◌≡◌, ℕ, ◌+◌, ◌≤◌, ◌<◌, ◌^◌, Bool, true, false, not, ◌&&◌, ◌⊎◌, inl, inr, List, [], ◌∷◌, ◌++◌, Option, Some, None, option_map, is_some, refl, ap, sym, ◌∙◌, arith, eqb-true, eq-eqb}
+use Rattle.std.proofs.Common.{◌≡◌, ℕ, ◌+◌, ◌≤◌, Bool, true, false, not, ◌&&◌, ◌⊎◌, inl, inr, List, [], ◌∷◌, ◌++◌, length, append-nil, Option, Some, None, option_map, is_some, refl, ap, sym, ◌∙◌, arith, eqb-true, eq-eqb}
 use Rattle.std.proofs.lemmas.Bool.{ne_eqb}
 use Rattle.lock_base.specs.declared.machine.mode.Mode.{Mode}
 use Rattle.lock_base.specs.declared.machine.mode.Mode.TheVariants.{Shared, Exclusive, Upgradable}
@@ -13,14 +13,14 @@ use Rattle.lock_base.specs.Party.{id_of}
 use Rattle.lock_base.specs.Modes.{one_more, one_less, is_exclusive}
 use Rattle.lock_base.specs.ModeRuns.{bag_after}
 use Rattle.lock_base.specs.Bar.{has_announced, bar_lets_pass, bar_after}
-use Rattle.lock_base.specs.Entries.{Entry, find, without, update, in_mode, held_bag}
+use Rattle.lock_base.specs.Entries.{Entry, find, without, update, in_mode, held_bag, held_count}
 use Rattle.lock_base.specs.Register.{with_guard, without_guard, with_bar, after_admission}
 use Rattle.lock_base.specs.Machine.{Machine, after_release}
 use Rattle.lock_base.specs.Calls.{with_register, with_mode}
 use Rattle.lock_base.specs.Sound.{IsSound}
 use Rattle.lock_base.proofs.ModeLemmas.{one_less-one_more}
-use Rattle.lock_base.proofs.Splices.{splice}
-use Rattle.lock_base.proofs.HeldEntries.{HasOneMore, held_bag-more, more_than_rest, moved_is_more, issued_is_more}
+use Rattle.lock_base.proofs.Splices.{Splice, splice, length-middle}
+use Rattle.lock_base.proofs.HeldEntries.{HasOneMore, held_bag-more, held_count-more, more_than_rest, moved_is_more, issued_is_more}
 use Rattle.lock_base.specs.Holds.{hold_after}
 use Rattle.lock_plan.specs.declared.lock.PlanLock.{PlanLock}
 use Rattle.lock_plan.specs.Worlds.{bag_on, bar_from}
@@ -29,8 +29,8 @@ use Rattle.lock_plan_laws.specs.Bridge.{bag_held_by}
 use Rattle.lock_plan_laws.proofs.PartyBags.{own_more, other_more}
 use Rattle.lock_plan_laws.proofs.Columns.{hold_of}
 
--- the machine is what a party of the world sees, and has room for so many calls
-pub record IsSeen {T : Type 0} (ids : ℕ → PartyId) (lock : PlanLock) (m : Machine T) (hss : List (List Hold)) (p l : ℕ) (left : ℕ) : Type 0 where
+-- the machine is what a party of the world sees
+pub record IsSeen {T : Type 0} (ids : ℕ → PartyId) (lock : PlanLock) (m : Machine T) (hss : List (List Hold)) (p l : ℕ) : Type 0 where
   pub kind : m.kind ≡ lock.kind
   pub limit : m.limit ≡ limit_for lock.kind lock.limit
   pub sound : IsSound m.register
@@ -38,19 +38,21 @@ pub record IsSeen {T : Type 0} (ids : ℕ → PartyId) (lock : PlanLock) (m : Ma
   pub own : bag_held_by (id_of (ids p)) m.entries ≡ (hold_of hss p l).bag
   pub bar : m.bar ≡ option_map (λ q. id_of (ids q)) (bar_from 0 l hss)
   pub announced : has_announced m.bar (id_of (ids p)) ≡ (hold_of hss p l).announced
-  pub room : m.last + left ≤ m.places
-  pub numbers : m.last + left < 2 ^ 64
 
--- after it the party `x` has this hold, all have this bag, the other parties have what they had, and there are at most
--- so many guards more
-pub record Moved {T : Type 0} (m after : Machine T) (x : ℕ) (h : Hold) (bag : Bag) (more : ℕ) : Type 0 where
+-- each guard is held
+abbrev pub AreHeld : List (ℕ × Entry) → Type 0
+AreHeld entries = length entries ≡ held_count entries
+
+-- after it the party `x` has this hold, all have this bag, the other parties have what they had, and at most one guard is new
+pub record Moved {T : Type 0} (m after : Machine T) (x : ℕ) (h : Hold) (bag : Bag) : Type 0 where
   pub own : bag_held_by x after.entries ≡ h.bag
   pub others : (y : ℕ) → (x ≡ y → ⊥) → bag_held_by y after.entries ≡ bag_held_by y m.entries
   pub all : held_bag after.entries ≡ bag
   pub announced : has_announced after.bar x ≡ h.announced
   pub other_bars : (y : ℕ) → (x ≡ y → ⊥) → has_announced after.bar y ≡ has_announced m.bar y
   pub barred : (after.bar ≡ m.bar) ⊎ ((after.bar ≡ None) ⊎ (after.bar ≡ Some x))
-  pub last : after.last ≤ m.last + more
+  pub last : after.last ≤ m.last + 1
+  pub held : AreHeld m.entries → AreHeld after.entries
 
 -- the bag after a call
 abbrev pub bag_after_step : Bag → LockStep → Bag
@@ -87,15 +89,15 @@ bar_by bar x Shared = inl refl
 bar_by bar x Exclusive = inr (inl refl)
 bar_by bar x Upgradable = inl refl
 
-module _ {T : Type 0} (ids : ℕ → PartyId) (lock : PlanLock) (m : Machine T) (hss : List (List Hold)) (p l : ℕ) (left : ℕ)
-    (seen : IsSeen ids lock m hss p l left) where
+module _ {T : Type 0} (ids : ℕ → PartyId) (lock : PlanLock) (m : Machine T) (hss : List (List Hold)) (p l : ℕ)
+    (seen : IsSeen ids lock m hss p l) where
   abbrev x : ℕ
   x = id_of (ids p)
 
   -- an acquisition that the bar lets pass
   pub acquired : (mode : Mode) → bar_lets_pass m.bar x mode ≡ true
       → Moved m (with_register m (after_admission (with_guard m.register x mode) mode)) x
-      (hold_after (hold_of hss p l) (lock_step.Modes (Acquire mode))) (bag_after_step (bag_on l hss) (lock_step.Modes (Acquire mode))) 1
+      (hold_after (hold_of hss p l) (lock_step.Modes (Acquire mode))) (bag_after_step (bag_on l hss) (lock_step.Modes (Acquire mode)))
   acquired mode passes =
       let new : Entry = record { party = x; mode = mode; held = true } in
       let entries = m.entries ++ (m.last + 1, new) ∷ [] in
@@ -108,6 +110,10 @@ module _ {T : Type 0} (ids : ℕ → PartyId) (lock : PlanLock) (m : Machine T) 
         other_bars = λ y other. passed_other m.bar x y mode passes other;
         barred = bar_by m.bar x mode;
         last = omega arith;
+        held = λ all. (let counts = held_count-more new entries m.entries one in
+            let long = length-middle m.entries (m.last + 1, new) [] in
+            let same : length (m.entries ++ []) ≡ length m.entries = ap length (append-nil m.entries) in
+            omega (arith, all, counts, long, same));
       }
 
   -- the bags without a guard of the party
@@ -132,8 +138,14 @@ module _ {T : Type 0} (ids : ℕ → PartyId) (lock : PlanLock) (m : Machine T) 
     other_fewer : (y : ℕ) → (x ≡ y → ⊥) → bag_held_by y (without guard m.entries) ≡ bag_held_by y m.entries
     other_fewer y other = sym (other_more y e m.entries (without guard m.entries) one_fewer other)
 
+    parted : Splice guard (record { party = x; mode = mode; held = true }) m.entries
+    parted = splice guard (record { party = x; mode = mode; held = true }) m.entries found
+
+    long_here : length m.entries ≡ length (parted.before ++ parted.after) + 1
+    long_here = ap length parted.whole ∙ length-middle parted.before (guard, e) parted.after
+
     pub released : Moved m (after_release m (without_guard m.register guard)) x
-        (hold_after (hold_of hss p l) (lock_step.Modes (Release mode))) (bag_after_step (bag_on l hss) (lock_step.Modes (Release mode))) 1
+        (hold_after (hold_of hss p l) (lock_step.Modes (Release mode))) (bag_after_step (bag_on l hss) (lock_step.Modes (Release mode)))
     released = record {
       own = own_fewer;
       others = other_fewer;
@@ -142,10 +154,14 @@ module _ {T : Type 0} (ids : ℕ → PartyId) (lock : PlanLock) (m : Machine T) 
       other_bars = λ y other. refl;
       barred = inl refl;
       last = omega arith;
+      held = λ all. (let counts = held_count-more e m.entries (without guard m.entries) one_fewer in
+          let fewer = ap length parted.removed in
+          let long = long_here in
+          omega (arith, all, counts, fewer, long));
     }
 
     pub changed : (to : Mode) → Moved m (with_mode m guard to) x
-        (hold_after (hold_of hss p l) (lock_step.Modes (Change mode to))) (bag_after_step (bag_on l hss) (lock_step.Modes (Change mode to))) 1
+        (hold_after (hold_of hss p l) (lock_step.Modes (Change mode to))) (bag_after_step (bag_on l hss) (lock_step.Modes (Change mode to)))
     changed to =
         let entries = update guard (in_mode to) m.entries in
         let one : HasOneMore (in_mode to e) entries (without guard m.entries) =
@@ -158,11 +174,16 @@ module _ {T : Type 0} (ids : ℕ → PartyId) (lock : PlanLock) (m : Machine T) 
           other_bars = λ y other. refl;
           barred = inl refl;
           last = omega arith;
+          held = λ all. (let counts = held_count-more e m.entries (without guard m.entries) one_fewer in
+              let again = held_count-more (in_mode to e) entries (without guard m.entries) one in
+              let long = long_here in
+              let same = ap length (parted.updated (in_mode to)) ∙ length-middle parted.before (guard, in_mode to e) parted.after in
+              omega (arith, all, counts, again, long, same));
         }
 
-  pub announced : (more : ℕ) → is_some m.bar ≡ false
-      → Moved m (with_register m (with_bar m.register (Some x))) x (hold_after (hold_of hss p l) lock_step.Announce) (bag_on l hss) more
-  announced more none = record {
+  pub announced : is_some m.bar ≡ false
+      → Moved m (with_register m (with_bar m.register (Some x))) x (hold_after (hold_of hss p l) lock_step.Announce) (bag_on l hss)
+  announced none = record {
     own = seen.own;
     others = λ y other. refl;
     all = seen.all;
@@ -170,10 +191,11 @@ module _ {T : Type 0} (ids : ℕ → PartyId) (lock : PlanLock) (m : Machine T) 
     other_bars = λ y other. ne_eqb x y other ∙ none_announced m.bar y none;
     barred = inr (inr refl);
     last = omega arith;
+    held = λ all. all;
   }
 
   pub withdrawn : has_announced m.bar x ≡ true
-      → Moved m (with_register m (with_bar m.register None)) x (hold_after (hold_of hss p l) lock_step.Withdraw) (bag_on l hss) 1
+      → Moved m (with_register m (with_bar m.register None)) x (hold_after (hold_of hss p l) lock_step.Withdraw) (bag_on l hss)
   withdrawn own = record {
     own = seen.own;
     others = λ y other. refl;
@@ -182,4 +204,5 @@ module _ {T : Type 0} (ids : ℕ → PartyId) (lock : PlanLock) (m : Machine T) 
     other_bars = λ y other. other_announced m.bar x y own other;
     barred = inr (inl refl);
     last = omega arith;
+    held = λ all. all;
   }

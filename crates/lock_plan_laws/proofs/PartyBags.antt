@@ -1,5 +1,5 @@
 -- What one party holds of a machine, where a guard is added, removed or changed.
-use Rattle.std.proofs.Common.{◌≡◌, ℕ, suc, ◌+◌, ◌<◌, ◌≤◌, Bool, true, false, ◌&&◌, ◌==◌, if◌then◌else◌, List, [], ◌∷◌, ◌++◌, length, Some, IsTrue, refl, ap, sym, ◌∙◌, arith, eqb-true, eq-eqb}
+use Rattle.std.proofs.Common.{◌≡◌, ℕ, suc, ◌<◌, ◌≤◌, Bool, true, false, ◌&&◌, ◌==◌, if◌then◌else◌, List, [], ◌∷◌, ◌++◌, length, Some, IsTrue, refl, ap, sym, ◌∙◌, arith, eqb-true, eq-eqb}
 use Rattle.std.proofs.lemmas.Bool.{eqb-false, ne_eqb}
 use Rattle.lock_base.specs.declared.machine.mode.Mode.{Mode}
 use Rattle.lock_base.specs.declared.machine.mode.Mode.TheVariants.{Shared, Exclusive, Upgradable}
@@ -90,10 +90,6 @@ all_of_party-count q (h ∷ hs) = by_party (h.party == q) (all_of_party-count q 
         sym (ne_eqb (suc (length hs)) (length (of_party q hs)) (λ same. let few = of_party-fewer q hs in omega arith))
 
 -- numbers
-
-pub numbered_long : (low last : ℕ) (es : EntryMap) → AreNumbered low last es → low + length es ≤ last
-numbered_long low last [] h = omega arith
-numbered_long low last (e ∷ es) h = let rest = numbered_long e.0 last es h.1 in omega (arith, rest, h.0)
 
 numbered_found : (low last number : ℕ) (e : Entry) (es : EntryMap) → AreNumbered low last es → find number es ≡ Some e → low < number
 numbered_found low last number e [] h found = cc

@@ -1,13 +1,14 @@
--- Machines that are tied to a world stay so: each machine holds what the parties hold, and has room for the calls that are left.
-use Rattle.std.proofs.Common.{◌≡◌, ◌≢◌, ℕ, zero, suc, ◌+◌, ◌≤◌, ◌<◌, ◌^◌, Bool, true, false, ◌==◌, ◌⊎◌, inl, inr, if◌then◌else◌, List, [], ◌∷◌, length, map, get_or, set, replicate, sum_by, Some, None, refl, ap, sym, ◌∙◌, subst, arith, eqb-true}
+-- Machines that are tied to a world stay so: each machine holds what the parties hold, and has room for another guard.
+use Rattle.std.proofs.Common.{◌≡◌, ◌≢◌, ℕ, zero, suc, ◌+◌, ◌≤◌, ◌<◌, ◌^◌, Bool, true, false, ◌==◌, ◌⊎◌, inl, inr, if◌then◌else◌, List, [], ◌∷◌, length, map, get_or, set, replicate, sum_by, Some, None, Ok, refl, ap, sym, ◌∙◌, subst, arith, eqb-true}
 use Rattle.std.proofs.lemmas.Bool.{eqb-false, cases_eq}
-use Rattle.std.proofs.lemmas.List.{length-set, length-map, length-replicate, map-set, get_or-set_same, get_or-set_other}
+use Rattle.std.proofs.lemmas.List.{length-set, length-map, map-set, set-get_or, get_or-set_same, get_or-set_other}
+use Rattle.std.proofs.lemmas.List.Sums.{sum_by-cons}
 use Rattle.std.proofs.Math.ListN.{get_or-map}
 use Rattle.lock_base.specs.declared.machine.bag.Bag.{Bag}
 use Rattle.lock_base.specs.declared.machine.party.PartyId.{PartyId}
 use Rattle.lock_base.specs.declared.machine.hold.Hold.{Hold}
 use Rattle.lock_base.specs.Party.{id_of}
-use Rattle.lock_base.specs.Modes.{empty_bag}
+use Rattle.lock_base.specs.Modes.{empty_bag, tokens}
 use Rattle.lock_base.specs.Bar.{has_announced}
 use Rattle.lock_base.specs.Entries.{held_bag}
 use Rattle.lock_base.specs.Machine.{Machine}
@@ -15,16 +16,20 @@ use Rattle.lock_base.specs.Sound.{IsSound}
 use Rattle.lock_base.proofs.SoundRegisters.{empty_sound}
 use Rattle.lock_base.specs.Holds.{no_hold}
 use Rattle.lock_base_laws.specs.SoundRuns.{KeepsLimits}
-use Rattle.lock_plan.specs.declared.call.PlanCall.{PlanCall}
 use Rattle.lock_plan.specs.declared.lock.PlanLock.{PlanLock}
-use Rattle.lock_plan.specs.Worlds.{Stand, no_stand, no_lock, no_holds, joined, bag_on, first_world}
+use Rattle.lock_plan.specs.declared.program.Place.{Place}
+use Rattle.lock_plan.specs.Known.{Known, known_of}
+use Rattle.lock_plan.specs.Worlds.{Stand, no_stand, no_lock, joined, bag_on, at_place, first_world}
 use Rattle.lock_plan_laws.specs.Scenes.{Scene, scene_with, limit_for, first_scene}
-use Rattle.lock_plan_laws.specs.Bridge.{bag_held_by, AreCallable, FitsMachines, AreDistinct}
+use Rattle.lock_plan_laws.specs.Bridge.{bag_held_by, FitsMachines, AreDistinct}
+use Rattle.lock_plan_laws.proofs.PartyBags.{tokens-held}
 use Rattle.lock_plan_laws.proofs.Columns.{hold_of, Beside, beside, IsBarOf, bar_is}
-use Rattle.lock_plan_laws.proofs.Moves.{IsSeen, Moved}
+use Rattle.lock_plan_laws.proofs.Moves.{AreHeld, IsSeen, Moved}
+use Rattle.lock_plan_laws.proofs.Acquisitions.{HasRoom}
+use Rattle.lock_plan_laws.proofs.KnownStands.{IsKnownStand, is_held, known_first}
 
--- the machine of a lock holds what the parties hold of it, and has room for so many calls
-pub record IsLockTied {T : Type 0} (ids : ℕ → PartyId) (lock : PlanLock) (m : Machine T) (hss : List (List Hold)) (l left : ℕ) : Type 0 where
+-- the machine of a lock holds what the parties hold of it, has so many places at least, and has issued so many numbers at most
+pub record IsLockTied {T : Type 0} (ids : ℕ → PartyId) (lock : PlanLock) (m : Machine T) (hss : List (List Hold)) (l room used : ℕ) : Type 0 where
   pub kind : m.kind ≡ lock.kind
   pub limit : m.limit ≡ limit_for lock.kind lock.limit
   pub sound : IsSound m.register
@@ -32,22 +37,68 @@ pub record IsLockTied {T : Type 0} (ids : ℕ → PartyId) (lock : PlanLock) (m 
   pub own : (q : ℕ) → bag_held_by (id_of (ids q)) m.entries ≡ (hold_of hss q l).bag
   pub announced : (q : ℕ) → has_announced m.bar (id_of (ids q)) ≡ (hold_of hss q l).announced
   pub barred : IsBarOf (λ q. id_of (ids q)) 0 (length hss) m.bar
-  pub room : m.last + left ≤ m.places
-  pub numbers : m.last + left < 2 ^ 64
+  pub held : AreHeld m.entries
+  pub enough : room ≤ m.places
+  pub numbers : m.last ≤ used
 
 abbrev pub holds_in : List Stand → List (List Hold)
 holds_in w = map (λ stand. stand.holds) w
 
-abbrev pub calls_in : List Stand → List (List PlanCall)
-calls_in w = map (λ stand. stand.calls) w
-
--- the scene is tied to the world, and each party can make its calls
-pub record IsTied {T : Type 0} (ids : ℕ → PartyId) (locks : List PlanLock) (w : List Stand) (s : Scene T) : Type 0 where
-  pub calls : s.calls ≡ map (λ stand. stand.calls) w
-  pub long : (q : ℕ) → q < length w → length (get_or w q no_stand).holds ≡ length locks
-  pub callable : (q : ℕ) → AreCallable locks (get_or w q no_stand).calls (get_or w q no_stand).holds
+-- the scene is tied to the world after so many steps, and each party stands where its program leads
+pub record IsTied {T : Type 0} (ids : ℕ → PartyId) (locks : List PlanLock) (programs : List (List Place)) (w : List Stand) (s : Scene T)
+    (used : ℕ) : Type 0 where
+  pub programs_same : programs ≡ map (λ stand. stand.program) w
+  pub places : s.places ≡ map (λ stand. stand.place) w
+  pub known : (q : ℕ) → q < length w → IsKnownStand locks (get_or w q no_stand)
   pub at : (l : ℕ) → l < length locks
-      → IsLockTied ids (get_or locks l no_lock) (s.machines l) (map (λ stand. stand.holds) w) l (sum_by length s.calls)
+      → IsLockTied ids (get_or locks l no_lock) (s.machines l) (map (λ stand. stand.holds) w) l (sum_by length programs) used
+
+-- the guards of all parties are fewer than the places of their programs, if those of one party are
+
+abbrev held_by : ℕ → Stand → ℕ
+held_by l x = tokens (get_or x.holds l no_hold).bag
+
+tokens-joined : (a b : Bag) → tokens (joined a b) ≡ tokens a + tokens b
+tokens-joined a b = omega arith
+
+all_few : (l : ℕ) (w : List Stand) → ((q : ℕ) → q < length w → held_by l (get_or w q no_stand) ≤ length (get_or w q no_stand).program)
+    → tokens (bag_on l (map (λ x. x.holds) w)) ≤ sum_by length (map (λ x. x.program) w)
+all_few l [] few = omega arith
+all_few l (x ∷ w) few =
+    let here = few 0 (omega arith) in
+    let rest = all_few l w (λ q lt. few (suc q) (omega (arith, lt))) in
+    omega (
+      arith,
+      here,
+      rest,
+      tokens-joined (get_or x.holds l no_hold).bag (bag_on l (map (λ (y : Stand). y.holds) w)),
+      sum_by-cons length x.program (map (λ (y : Stand). y.program) w),
+    )
+
+pub all_fewer : (l : ℕ) (w : List Stand) (p : ℕ) → p < length w
+    → ((q : ℕ) → q < length w → tokens (get_or (get_or w q no_stand).holds l no_hold).bag ≤ length (get_or w q no_stand).program)
+    → tokens (get_or (get_or w p no_stand).holds l no_hold).bag < length (get_or w p no_stand).program
+    → tokens (bag_on l (map (λ x. x.holds) w)) < sum_by length (map (λ x. x.program) w)
+all_fewer l [] p lt few fewer = absurd (omega arith)
+all_fewer l (x ∷ w) zero lt few fewer =
+    let rest = all_few l w (λ q lt. few (suc q) (omega (arith, lt))) in
+    omega (
+      arith,
+      fewer,
+      rest,
+      tokens-joined (get_or x.holds l no_hold).bag (bag_on l (map (λ (y : Stand). y.holds) w)),
+      sum_by-cons length x.program (map (λ (y : Stand). y.program) w),
+    )
+all_fewer l (x ∷ w) (suc p) lt few fewer =
+    let here = few 0 (omega arith) in
+    let rest = all_fewer l w p (omega (arith, lt)) (λ q lt. few (suc q) (omega (arith, lt))) fewer in
+    omega (
+      arith,
+      here,
+      rest,
+      tokens-joined (get_or x.holds l no_hold).bag (bag_on l (map (λ (y : Stand). y.holds) w)),
+      sum_by-cons length x.program (map (λ (y : Stand). y.program) w),
+    )
 
 -- holds after those of one party changed at one lock
 module _ (hss : List (List Hold)) (p l : ℕ) (h : Hold) (known : p < length hss) where
@@ -84,9 +135,9 @@ module _ (hss : List (List Hold)) (p l : ℕ) (h : Hold) (known : p < length hss
       ∙ sym b.whole
 
 module _ {T : Type 0} (ids : ℕ → PartyId) (distinct : AreDistinct ids) where
-  pub seen_of : (lock : PlanLock) (m : Machine T) (hss : List (List Hold)) (p l left : ℕ) → IsLockTied ids lock m hss l left
-      → IsSeen ids lock m hss p l left
-  seen_of lock m hss p l left tied = record {
+  pub seen_of : (lock : PlanLock) (m : Machine T) (hss : List (List Hold)) (p l room used : ℕ) → IsLockTied ids lock m hss l room used
+      → IsSeen ids lock m hss p l
+  seen_of lock m hss p l room used tied = record {
     kind = tied.kind;
     limit = tied.limit;
     sound = tied.sound;
@@ -94,15 +145,13 @@ module _ {T : Type 0} (ids : ℕ → PartyId) (distinct : AreDistinct ids) where
     own = tied.own p;
     bar = bar_is (λ q. id_of (ids q)) distinct l hss m.bar tied.barred tied.announced;
     announced = tied.announced p;
-    room = tied.room;
-    numbers = tied.numbers;
   }
 
   module _ (hss : List (List Hold)) (p l : ℕ) (h : Hold) (known : p < length hss) where
     -- another lock
-    pub tied_elsewhere : (lock : PlanLock) (m : Machine T) (k left fewer : ℕ) → k ≢ l → fewer ≤ left
-        → IsLockTied ids lock m hss k left → IsLockTied ids lock m (set hss p (set (get_or hss p []) l h)) k fewer
-    tied_elsewhere lock m k left fewer other few tied = record {
+    pub tied_elsewhere : (lock : PlanLock) (m : Machine T) (k room used : ℕ) → k ≢ l
+        → IsLockTied ids lock m hss k room used → IsLockTied ids lock m (set hss p (set (get_or hss p []) l h)) k room (suc used)
+    tied_elsewhere lock m k room used other tied = record {
       kind = tied.kind;
       limit = tied.limit;
       sound = tied.sound;
@@ -110,14 +159,15 @@ module _ {T : Type 0} (ids : ℕ → PartyId) (distinct : AreDistinct ids) where
       own = λ q. tied.own q ∙ ap (λ (x : Hold). x.bag) (sym (elsewhere hss p l h known q k other));
       announced = λ q. tied.announced q ∙ ap (λ (x : Hold). x.announced) (sym (elsewhere hss p l h known q k other));
       barred = subst (λ (n : ℕ). IsBarOf (λ q. id_of (ids q)) 0 n m.bar) (sym (length-set hss p (set (get_or hss p []) l h))) tied.barred;
-      room = let room = tied.room in omega arith;
+      held = tied.held;
+      enough = tied.enough;
       numbers = let numbers = tied.numbers in omega arith;
     }
 
     -- this lock
-    module _ (lock : PlanLock) (m next : Machine T) (left fewer more : ℕ) (bag : Bag) (moved : Moved m next (id_of (ids p)) h bag more)
+    module _ (lock : PlanLock) (m next : Machine T) (room used : ℕ) (bag : Bag) (moved : Moved m next (id_of (ids p)) h bag)
         (bag_is : bag_on l (set hss p (set (get_or hss p []) l h)) ≡ bag) (within : l < length (get_or hss p []))
-        (tied : IsLockTied ids lock m hss l left) where
+        (tied : IsLockTied ids lock m hss l room used) where
       own_by : (q : ℕ) → (q ≡ p) ⊎ (q ≡ p → ⊥) → bag_held_by (id_of (ids q)) next.entries ≡ (hold_of (set hss p (set (get_or hss p []) l h)) q l).bag
       own_by q (inl same) =
           ap (λ (n : ℕ). bag_held_by (id_of (ids n)) next.entries) same ∙ moved.own
@@ -140,9 +190,9 @@ module _ {T : Type 0} (ids : ℕ → PartyId) (distinct : AreDistinct ids) where
       barred_by (inr (inl none)) = subst (IsBarOf (λ q. id_of (ids q)) 0 (length hss)) (sym none) tt
       barred_by (inr (inr own)) = subst (IsBarOf (λ q. id_of (ids q)) 0 (length hss)) (sym own) (p, omega arith, known, refl)
 
-      pub tied_here : IsSound next.register → KeepsLimits m.register next.register → fewer + more ≤ left
-          → IsLockTied ids lock next (set hss p (set (get_or hss p []) l h)) l fewer
-      tied_here sound limits few = record {
+      pub tied_here : IsSound next.register → KeepsLimits m.register next.register
+          → IsLockTied ids lock next (set hss p (set (get_or hss p []) l h)) l room (suc used)
+      tied_here sound limits = record {
         kind = limits.same_kind ∙ tied.kind;
         limit = limits.same_limit ∙ tied.limit;
         sound = sound;
@@ -151,89 +201,144 @@ module _ {T : Type 0} (ids : ℕ → PartyId) (distinct : AreDistinct ids) where
         announced = λ q. announced_by q (cases_eq q p);
         barred = subst (λ (n : ℕ). IsBarOf (λ q. id_of (ids q)) 0 n next.bar) (sym (length-set hss p (set (get_or hss p []) l h)))
             (barred_by moved.barred);
-        room = let room = tied.room in let last = moved.last in let places = limits.same_places in omega arith;
+        held = moved.held tied.held;
+        enough = let enough = tied.enough in let places = limits.same_places in omega arith;
         numbers = let numbers = tied.numbers in let last = moved.last in omega arith;
       }
 
-  -- a scene after a step of one party on one lock
-  module _ (locks : List PlanLock) (w : List Stand) (s : Scene T) (tied : IsTied ids locks w s) (p l : ℕ) (known : p < length w)
-      (within : l < length locks) (h : Hold) (calls : List PlanCall) (next : Machine T) (more : ℕ) (bag : Bag) where
-    abbrev stand : Stand
-    stand = get_or w p no_stand
+  module _ (locks : List PlanLock) (programs : List (List Place)) (w : List Stand) (s : Scene T) (used : ℕ)
+      (tied : IsTied ids locks programs w s used) where
+    abbrev room : ℕ
+    room = sum_by length programs
 
-    abbrev stand_after : Stand
-    stand_after = record { calls = calls; holds = set (get_or w p no_stand).holds l h }
+    pub held_few : (l q : ℕ) → q < length w → tokens (get_or (get_or w q no_stand).holds l no_hold).bag ≤ length (get_or w q no_stand).program
+    held_few l q lt = (is_held locks (get_or w q no_stand) (tied.known q lt)).few l
 
-    abbrev scene_after : Scene T
-    scene_after = scene_with s l next p calls
+    -- a machine has room for another guard of a party that has fewer than its program has places
+    pub has_room : (l p : ℕ) → l < length locks → p < length w → used + 1 < 2 ^ 64
+        → tokens (get_or (get_or w p no_stand).holds l no_hold).bag < length (get_or w p no_stand).program → HasRoom (s.machines l)
+    has_room l p within here few fewer =
+        let lock : IsLockTied ids (get_or locks l no_lock) (s.machines l) (holds_in w) l (sum_by length programs) used = tied.at l within in
+        let all = all_fewer l w p here (λ q lt. held_few l q lt) fewer in
+        let same : sum_by length programs ≡ sum_by length (map (λ x. x.program) w) = ap (sum_by length) tied.programs_same in
+        let count = sym (tokens-held (s.machines l).entries) ∙ ap tokens lock.all in
+        record {
+          room = omega (arith, all, same, count, lock.held, lock.enough);
+          number = omega (arith, lock.numbers, few);
+        }
 
-    holds_known : p < length (holds_in w)
-    holds_known = omega (arith, known, length-map w (λ (x : Stand). x.holds))
+    module _ (p place : ℕ) (known : p < length w) where
+      abbrev stand : Stand
+      stand = get_or w p no_stand
 
-    holds_at : get_or (holds_in w) p [] ≡ stand.holds
-    holds_at = get_or-map (λ (x : Stand). x.holds) w p no_stand
+      holds_at : get_or (holds_in w) p [] ≡ (get_or w p no_stand).holds
+      holds_at = get_or-map (λ (x : Stand). x.holds) w p no_stand
 
-    -- what the parties hold after it
-    pub holds_after : holds_in (set w p stand_after) ≡ set (holds_in w) p (set (get_or (holds_in w) p []) l h)
-    holds_after =
-        map-set (λ (x : Stand). x.holds) w p stand_after
-        ∙ ap (λ (hs : List Hold). set (holds_in w) p (set hs l h)) (sym holds_at)
+      known_by : (holds : List Hold) (q : ℕ) → q < length w → IsKnownStand locks (at_place (get_or w p no_stand) place holds) → (q ≡ p) ⊎ (q ≡ p → ⊥)
+          → IsKnownStand locks (get_or (set w p (at_place (get_or w p no_stand) place holds)) q no_stand)
+      known_by holds q lt stands (inl same) =
+          subst (IsKnownStand locks)
+          (sym (ap (λ (n : ℕ). get_or (set w p (at_place stand place holds)) n no_stand) same
+          ∙ get_or-set_same w p (at_place stand place holds) no_stand known)) stands
+      known_by holds q lt stands (inr apart) =
+          subst (IsKnownStand locks) (sym (get_or-set_other w p q (at_place stand place holds) no_stand apart)) (tied.known q lt)
 
-    long_by : (q : ℕ) → q < length w → (q ≡ p) ⊎ (q ≡ p → ⊥) → length (get_or (set w p stand_after) q no_stand).holds ≡ length locks
-    long_by q lt (inl same) =
-        ap (λ (n : ℕ). length (get_or (set w p stand_after) n no_stand).holds) same
-        ∙ ap (λ (x : Stand). length x.holds) (get_or-set_same w p stand_after no_stand known)
-        ∙ length-set stand.holds l h ∙ tied.long p known
-    long_by q lt (inr apart) =
-        ap (λ (x : Stand). length x.holds) (get_or-set_other w p q stand_after no_stand apart) ∙ tied.long q lt
+      -- the programs are the same, and the place is another
+      programs_after : (holds : List Hold) → programs ≡ map (λ x. x.program) (set w p (at_place (get_or w p no_stand) place holds))
+      programs_after holds =
+          tied.programs_same
+          ∙ sym (map-set (λ (x : Stand). x.program) w p (at_place stand place holds)
+          ∙ ap (set (map (λ (x : Stand). x.program) w) p) (sym (get_or-map (λ (x : Stand). x.program) w p no_stand))
+          ∙ set-get_or (map (λ (x : Stand). x.program) w) p [])
 
-    abbrev CanCall : Stand → Type 0
-    CanCall x = AreCallable locks x.calls x.holds
+      places_after : (holds : List Hold) → set s.places p place ≡ map (λ x. x.place) (set w p (at_place (get_or w p no_stand) place holds))
+      places_after holds =
+          ap (λ (ns : List ℕ). set ns p place) tied.places ∙ sym (map-set (λ (x : Stand). x.place) w p (at_place stand place holds))
 
-    callable_by : (q : ℕ) → AreCallable locks calls (set (get_or w p no_stand).holds l h) → (q ≡ p) ⊎ (q ≡ p → ⊥)
-        → AreCallable locks (get_or (set w p stand_after) q no_stand).calls (get_or (set w p stand_after) q no_stand).holds
-    callable_by q ok (inl same) =
-        subst CanCall (sym (ap (λ (n : ℕ). get_or (set w p stand_after) n no_stand) same ∙ get_or-set_same w p stand_after no_stand known)) ok
-    callable_by q ok (inr apart) =
-        subst CanCall (sym (get_or-set_other w p q stand_after no_stand apart)) (tied.callable q)
+      -- a scene after a step of one party on one lock
+      module _ (l : ℕ) (within : l < length locks) (h : Hold) (next : Machine T) (bag : Bag) where
+        abbrev stand_after : Stand
+        stand_after = at_place (get_or w p no_stand) place (set (get_or w p no_stand).holds l h)
 
-    abbrev left : ℕ
-    left = sum_by length s.calls
+        abbrev scene_after : Scene T
+        scene_after = scene_with s l next p place
 
-    abbrev fewer : ℕ
-    fewer = sum_by length (set s.calls p calls)
+        holds_known : p < length (holds_in w)
+        holds_known = omega (arith, known, length-map w (λ (x : Stand). x.holds))
 
-    pub tied_after : Moved (s.machines l) next (id_of (ids p)) h bag more
-        → bag_on l (set (map (λ x. x.holds) w) p (set (get_or (map (λ x. x.holds) w) p []) l h)) ≡ bag
-        → IsSound next.register → KeepsLimits (s.machines l).register next.register
-        → sum_by length (set s.calls p calls) + more ≤ sum_by length s.calls
-        → AreCallable locks calls (set (get_or w p no_stand).holds l h)
-        → IsTied ids locks (set w p stand_after) (scene_with s l next p calls)
-    tied_after moved bag_is sound limits few ok = record {
-      calls = ap (λ (cs : List (List PlanCall)). set cs p calls) tied.calls ∙ sym (map-set (λ (x : Stand). x.calls) w p stand_after);
-      long = λ q lt. long_by q (omega (arith, lt, length-set w p stand_after)) (cases_eq q p);
-      callable = λ q. callable_by q ok (cases_eq q p);
-      at = λ k lt. subst (λ (hss : List (List Hold)). IsLockTied ids (get_or locks k no_lock) (scene_after.machines k) hss k fewer)
-          (sym holds_after) (at_by k lt (k == l) refl);
-    }
-      where
-        at_by : (k : ℕ) → k < length locks → (b : Bool) → (k == l) ≡ b
-            → IsLockTied ids (get_or locks k no_lock) (if k == l then next else s.machines k)
-            (set (holds_in w) p (set (get_or (holds_in w) p []) l h)) k fewer
-        at_by k lt true is =
-            let same : l ≡ k = sym (eqb-true k l is) in
-            let inside : l < length (get_or (holds_in w) p []) = omega (arith, within, ap length holds_at, tied.long p known) in
-            subst (λ (b : Bool). IsLockTied ids (get_or locks k no_lock) (if b then next else s.machines k)
-            (set (holds_in w) p (set (get_or (holds_in w) p []) l h)) k fewer) (sym is)
-            (subst (λ (j : ℕ). IsLockTied ids (get_or locks j no_lock) next
-            (set (holds_in w) p (set (get_or (holds_in w) p []) l h)) j fewer) same
-            (tied_here (holds_in w) p l h holds_known (get_or locks l no_lock) (s.machines l) next left fewer more bag moved bag_is inside
-            (tied.at l within) sound limits few))
-        at_by k lt false is =
-            subst (λ (b : Bool). IsLockTied ids (get_or locks k no_lock) (if b then next else s.machines k)
-            (set (holds_in w) p (set (get_or (holds_in w) p []) l h)) k fewer) (sym is)
-            (tied_elsewhere (holds_in w) p l h holds_known (get_or locks k no_lock) (s.machines k) k left fewer (eqb-false k l is)
-            (omega arith) (tied.at k lt))
+        -- what the parties hold after it
+        holds_after : holds_in (set w p stand_after) ≡ set (holds_in w) p (set (get_or (holds_in w) p []) l h)
+        holds_after =
+            map-set (λ (x : Stand). x.holds) w p stand_after
+            ∙ ap (λ (hs : List Hold). set (holds_in w) p (set hs l h)) (sym holds_at)
+
+        pub tied_after : Moved (s.machines l) next (id_of (ids p)) h bag
+            → bag_on l (set (map (λ x. x.holds) w) p (set (get_or (map (λ x. x.holds) w) p []) l h)) ≡ bag
+            → IsSound next.register → KeepsLimits (s.machines l).register next.register
+            → IsKnownStand locks (at_place (get_or w p no_stand) place (set (get_or w p no_stand).holds l h))
+            → IsTied ids locks programs (set w p (at_place (get_or w p no_stand) place (set (get_or w p no_stand).holds l h)))
+            (scene_with s l next p place) (suc used)
+        tied_after moved bag_is sound limits stands = record {
+          programs_same = programs_after (set stand.holds l h);
+          places = places_after (set stand.holds l h);
+          known = λ q lt. known_by (set stand.holds l h) q (omega (arith, lt, length-set w p stand_after)) stands (cases_eq q p);
+          at = λ k lt. subst (λ (hss : List (List Hold)). IsLockTied ids (get_or locks k no_lock) (scene_after.machines k) hss k room (suc used))
+              (sym holds_after) (at_by k lt (k == l) refl);
+        }
+          where
+            at_by : (k : ℕ) → k < length locks → (b : Bool) → (k == l) ≡ b
+                → IsLockTied ids (get_or locks k no_lock) (if k == l then next else s.machines k)
+                (set (holds_in w) p (set (get_or (holds_in w) p []) l h)) k room (suc used)
+            at_by k lt true is =
+                let same : l ≡ k = sym (eqb-true k l is) in
+                let long = (is_held locks stand (tied.known p known)).long in
+                let inside : l < length (get_or (holds_in w) p []) = omega (arith, within, ap length holds_at, long) in
+                subst (λ (b : Bool). IsLockTied ids (get_or locks k no_lock) (if b then next else s.machines k)
+                (set (holds_in w) p (set (get_or (holds_in w) p []) l h)) k room (suc used)) (sym is)
+                (subst (λ (j : ℕ). IsLockTied ids (get_or locks j no_lock) next
+                (set (holds_in w) p (set (get_or (holds_in w) p []) l h)) j room (suc used)) same
+                (tied_here (holds_in w) p l h holds_known (get_or locks l no_lock) (s.machines l) next room used bag moved bag_is inside
+                (tied.at l within) sound limits))
+            at_by k lt false is =
+                subst (λ (b : Bool). IsLockTied ids (get_or locks k no_lock) (if b then next else s.machines k)
+                (set (holds_in w) p (set (get_or (holds_in w) p []) l h)) k room (suc used)) (sym is)
+                (tied_elsewhere (holds_in w) p l h holds_known (get_or locks k no_lock) (s.machines k) k room used (eqb-false k l is)
+                (tied.at k lt))
+
+      -- a scene in which one party goes to another place, and no machine changes
+      holds_still : holds_in (set w p (at_place (get_or w p no_stand) place (get_or w p no_stand).holds)) ≡ holds_in w
+      holds_still =
+          map-set (λ (x : Stand). x.holds) w p (at_place stand place stand.holds)
+          ∙ ap (set (holds_in w) p) (sym holds_at) ∙ set-get_or (holds_in w) p []
+
+      still_at : (lock : PlanLock) (m : Machine T) (k : ℕ) → IsLockTied ids lock m (holds_in w) k room used
+          → IsLockTied ids lock m (holds_in w) k room (suc used)
+      still_at lock m k at = record {
+        kind = at.kind;
+        limit = at.limit;
+        sound = at.sound;
+        all = at.all;
+        own = at.own;
+        announced = at.announced;
+        barred = at.barred;
+        held = at.held;
+        enough = at.enough;
+        numbers = let numbers = at.numbers in omega arith;
+      }
+
+      pub tied_still : (machines : ℕ → Machine T) → ((k : ℕ) → s.machines k ≡ machines k)
+          → IsKnownStand locks (at_place (get_or w p no_stand) place (get_or w p no_stand).holds)
+          → IsTied ids locks programs (set w p (at_place (get_or w p no_stand) place (get_or w p no_stand).holds))
+          (record { machines = machines; places = set s.places p place }) (suc used)
+      tied_still machines same stands = record {
+        programs_same = programs_after stand.holds;
+        places = places_after stand.holds;
+        known = λ q lt. known_by stand.holds q (omega (arith, lt, length-set w p (at_place stand place stand.holds))) stands (cases_eq q p);
+        at = λ k lt.
+            subst (λ (hss : List (List Hold)). IsLockTied ids (get_or locks k no_lock) (machines k) hss k room (suc used)) (sym holds_still)
+            (subst (λ (m : Machine T). IsLockTied ids (get_or locks k no_lock) m (holds_in w) k room (suc used)) (same k)
+            (still_at (get_or locks k no_lock) (s.machines k) k (tied.at k lt)));
+      }
 
 -- the first scene is tied to the first world
 
@@ -243,53 +348,49 @@ none_of (suc n) zero = refl
 none_of (suc n) (suc l) = none_of n l
 
 module _ (locks : List PlanLock) where
-  abbrev first_stand : List PlanCall → Stand
-  first_stand calls = record { calls = calls; holds = no_holds locks }
-
-  first_hold : (parties : List (List PlanCall)) (q l : ℕ) → hold_of (map (λ stand. stand.holds) (first_world locks parties)) q l ≡ no_hold
+  first_hold : (programs : List (List Place)) (q l : ℕ) → hold_of (map (λ stand. stand.holds) (first_world locks programs)) q l ≡ no_hold
   first_hold [] q l = refl
-  first_hold (calls ∷ parties) zero l = none_of (length locks) l
-  first_hold (calls ∷ parties) (suc q) l = first_hold parties q l
+  first_hold (program ∷ programs) zero l = none_of (length locks) l
+  first_hold (program ∷ programs) (suc q) l = first_hold programs q l
 
-  first_bag : (parties : List (List PlanCall)) (l : ℕ) → bag_on l (map (λ stand. stand.holds) (first_world locks parties)) ≡ empty_bag
+  first_bag : (programs : List (List Place)) (l : ℕ) → bag_on l (map (λ stand. stand.holds) (first_world locks programs)) ≡ empty_bag
   first_bag [] l = refl
-  first_bag (calls ∷ parties) l =
-      ap (λ (x : Hold). joined x.bag (bag_on l (map (λ stand. stand.holds) (first_world locks parties)))) (none_of (length locks) l)
-      ∙ ap (λ (b : Bag). joined empty_bag b) (first_bag parties l)
+  first_bag (program ∷ programs) l =
+      ap (λ (x : Hold). joined x.bag (bag_on l (map (λ stand. stand.holds) (first_world locks programs)))) (none_of (length locks) l)
+      ∙ ap (λ (b : Bag). joined empty_bag b) (first_bag programs l)
 
-  first_calls : (parties : List (List PlanCall)) → parties ≡ map (λ stand. stand.calls) (first_world locks parties)
-  first_calls [] = refl
-  first_calls (calls ∷ parties) = ap (λ (rest : List (List PlanCall)). calls ∷ rest) (first_calls parties)
+  first_programs : (programs : List (List Place)) → programs ≡ map (λ stand. stand.program) (first_world locks programs)
+  first_programs [] = refl
+  first_programs (program ∷ programs) = ap (λ (rest : List (List Place)). program ∷ rest) (first_programs programs)
 
-  first_long : (parties : List (List PlanCall)) (q : ℕ) → q < length (first_world locks parties)
-      → length (get_or (first_world locks parties) q no_stand).holds ≡ length (no_holds locks)
-  first_long [] q lt = absurd (omega arith)
-  first_long (calls ∷ parties) zero lt = refl
-  first_long (calls ∷ parties) (suc q) lt = first_long parties q (omega arith)
+  first_places : (programs : List (List Place)) → map (λ (program : List Place). 0) programs ≡ map (λ stand. stand.place) (first_world locks programs)
+  first_places [] = refl
+  first_places (program ∷ programs) = ap (λ (rest : List ℕ). 0 ∷ rest) (first_places programs)
 
-  first_callable : (parties : List (List PlanCall)) → ((q : ℕ) → AreCallable locks (get_or parties q []) (no_holds locks)) → (q : ℕ)
-      → AreCallable locks (get_or (first_world locks parties) q no_stand).calls (get_or (first_world locks parties) q no_stand).holds
-  first_callable [] ok q = tt
-  first_callable (calls ∷ parties) ok zero = ok zero
-  first_callable (calls ∷ parties) ok (suc q) = first_callable parties (λ r. ok (suc r)) q
+  first_known : (programs : List (List Place)) → ((q : ℕ) → (known : Known) × (known_of locks (get_or programs q []) ≡ Ok known)) → (q : ℕ)
+      → q < length (first_world locks programs) → IsKnownStand locks (get_or (first_world locks programs) q no_stand)
+  first_known [] right q lt = absurd (omega arith)
+  first_known (program ∷ programs) right zero lt = known_first locks program (right zero).0 (right zero).1
+  first_known (program ∷ programs) right (suc q) lt = first_known programs (λ r. right (suc r)) q (omega (arith, lt))
 
-  pub first_tied : {T : Type 0} (ids : ℕ → PartyId) (parties : List (List PlanCall)) (values : ℕ → T) (places : ℕ)
-      → FitsMachines locks parties places
-      → IsTied ids locks (first_world locks parties) (first_scene locks parties values places)
-  first_tied ids parties values places fits = record {
-    calls = first_calls parties;
-    long = λ q lt. first_long parties q lt ∙ length-replicate (length locks) no_hold;
-    callable = first_callable parties fits.callable;
+  pub first_tied : {T : Type 0} (ids : ℕ → PartyId) (programs : List (List Place)) (values : ℕ → T) (room : ℕ)
+      → FitsMachines locks programs room
+      → IsTied ids locks programs (first_world locks programs) (first_scene locks programs values room) 0
+  first_tied ids programs values room fits = record {
+    programs_same = first_programs programs;
+    places = first_places programs;
+    known = first_known programs fits.right;
     at = λ l lt. record {
       kind = refl;
       limit = refl;
-      sound = empty_sound (get_or locks l no_lock).kind places (limit_for (get_or locks l no_lock).kind (get_or locks l no_lock).limit)
+      sound = empty_sound (get_or locks l no_lock).kind room (limit_for (get_or locks l no_lock).kind (get_or locks l no_lock).limit)
           (fits.limits l lt);
-      all = sym (first_bag parties l);
-      own = λ q. ap (λ (x : Hold). x.bag) (sym (first_hold parties q l));
-      announced = λ q. ap (λ (x : Hold). x.announced) (sym (first_hold parties q l));
+      all = sym (first_bag programs l);
+      own = λ q. ap (λ (x : Hold). x.bag) (sym (first_hold programs q l));
+      announced = λ q. ap (λ (x : Hold). x.announced) (sym (first_hold programs q l));
       barred = tt;
-      room = let room = fits.room in omega arith;
-      numbers = let numbers = fits.numbers in omega arith;
+      held = refl;
+      enough = fits.enough;
+      numbers = omega arith;
     };
   }

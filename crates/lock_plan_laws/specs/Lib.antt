@@ -1,3 +1,4 @@
+pub mod MachineTurns
 pub mod Scenes
 pub mod Bridge
 pub mod MachineStops

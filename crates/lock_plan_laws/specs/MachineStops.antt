@@ -1,29 +1,33 @@
 -- The answers of a search for a stop, said of machines of guards.
-use Rattle.std.specs.Prelude.{◌≡◌, ℕ, Bool, ◌<◌, ◌≤◌, List, length, sum_by}
+use Rattle.std.specs.Prelude.{◌≡◌, ℕ, Bool, ◌+◌, ◌<◌, ◌≤◌, ◌^◌, List, length, sum_by}
 use Rattle.lock_base.specs.declared.machine.party.PartyId.{PartyId}
 use Rattle.lock_base.specs.Operation.{Operation}
-use Rattle.lock_plan.specs.declared.call.PlanCall.{PlanCall}
 use Rattle.lock_plan.specs.declared.lock.PlanLock.{PlanLock}
-use Rattle.lock_plan_laws.specs.Scenes.{Caller, parties_of, Scene, first_scene, IsRun, IsStopScene}
+use Rattle.lock_plan.specs.declared.program.Place.{Place}
+use Rattle.lock_plan.specs.declared.program.Step.{Step}
+use Rattle.lock_plan_laws.specs.Scenes.{Caller, steps_of, Scene, first_scene, IsRun, IsStopScene}
 use Rattle.lock_plan_laws.specs.Bridge.{AreDistinct}
 
-module _ {O T A : Type 0} (meaning : O → Operation T A) (locks : List PlanLock) (parties : List (List PlanCall)) where
-  -- the calls run from the first scene into this one: the ids differ, and each call can have a place
-  pub record LeadsInto (ids : ℕ → PartyId) (values : ℕ → T) (places : ℕ) (cs : List Caller) (s : Scene T) : Type 0 where
+module _ {O T A : Type 0} (meaning : O → Operation T A) (locks : List PlanLock) (programs : List (List Place)) where
+  -- the steps run from the first scene into this one: no two parties have one id, and each guard, the next one too, has room and a number
+  pub record LeadsInto (ids : ℕ → PartyId) (values : ℕ → T) (room : ℕ) (cs : List Caller) (s : Scene T) : Type 0 where
     pub distinct : AreDistinct ids
-    pub room : sum_by length parties ≤ places
-    pub is_run : IsRun meaning ids locks (first_scene locks parties values places) cs s
+    pub enough : sum_by length programs ≤ room
+    pub numbers : length cs + 1 < 2 ^ 64
+    pub is_run : IsRun meaning ids locks programs (first_scene locks programs values room) cs s
 
-module _ {O T A : Type 0} (meaning : O → Operation T A) (servers : List Bool) (locks : List PlanLock) (parties : List (List PlanCall)) where
+module _ {O T A : Type 0} (meaning : O → Operation T A) (servers : List Bool) (locks : List PlanLock) (programs : List (List Place)) where
   -- no run of the machines leads into a stop
   abbrev pub MachinesNeverStop : Type 0
   MachinesNeverStop =
-      (ids : ℕ → PartyId) (values : ℕ → T) (places : ℕ) (cs : List Caller) (s : Scene T)
-      → LeadsInto meaning locks parties ids values places cs s → IsStopScene meaning ids servers locks s → ⊥
+      (ids : ℕ → PartyId) (values : ℕ → T) (room : ℕ) (cs : List Caller) (s : Scene T)
+      → LeadsInto meaning locks programs ids values room cs s → IsStopScene meaning ids locks programs servers s → ⊥
 
-  -- these parties run the machines into a stop, and no fewer calls do
-  pub record IsShortestStopOfMachines (trace : List ℕ) : Type 0 where
-    pub stops : (ids : ℕ → PartyId) (values : ℕ → T) (places : ℕ) → AreDistinct ids → sum_by length parties ≤ places
-        → (cs : List Caller) × (s : Scene T) × (parties_of cs ≡ trace) × LeadsInto meaning locks parties ids values places cs s × IsStopScene meaning ids servers locks s
-    pub shortest : (ids : ℕ → PartyId) (values : ℕ → T) (places : ℕ) (cs : List Caller) (s : Scene T)
-        → length cs < length trace → LeadsInto meaning locks parties ids values places cs s → IsStopScene meaning ids servers locks s → ⊥
+  -- these steps run the machines into a stop, and no fewer steps do
+  pub record IsShortestStopOfMachines (trace : List Step) : Type 0 where
+    pub stops : (ids : ℕ → PartyId) (values : ℕ → T) (room : ℕ) → AreDistinct ids → sum_by length programs ≤ room
+        → (cs : List Caller) × (s : Scene T) × (steps_of cs ≡ trace) × LeadsInto meaning locks programs ids values room cs s
+        × IsStopScene meaning ids locks programs servers s
+    pub shortest : (ids : ℕ → PartyId) (values : ℕ → T) (room : ℕ) (cs : List Caller) (s : Scene T)
+        → length cs < length trace → LeadsInto meaning locks programs ids values room cs s
+        → IsStopScene meaning ids locks programs servers s → ⊥

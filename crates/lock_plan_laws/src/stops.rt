@@ -1,18 +1,20 @@
 //! Machines of guards stop under a plan as its worlds do.
-ghost use Rattle.std.specs.Prelude.{ℕ, List, IsTrue};
+ghost use Rattle.std.specs.Prelude.{List, IsTrue};
 ghost use Rattle.lock_plan.specs.Checks.{fit_machines};
-ghost use Rattle.lock_plan.specs.Stops.{calls_of};
+ghost use Rattle.lock_plan.specs.Stops.{programs_of};
 ghost use Rattle.lock_plan.specs.Worlds.{NeverStops, IsShortestStop};
 ghost use Rattle.lock_plan_laws.specs.MachineStops.{MachinesNeverStop, IsShortestStopOfMachines};
 
 use lock_base::machine::Op;
-use lock_plan::Plan;
+use lock_plan::{Plan, Step};
 
 /// What [`explore`](lock_plan::explore) answers about a plan holds of machines of guards.
+///
+/// Each machine has room for as many guards as the programs have places.
 pub fn machines_stop_as_explored<T, O: Op<T>>(plan: &Plan)
     requires { IsTrue (fit_machines plan.now.locks.items) }
-    ensures none { NeverStops plan.now.servers.items plan.now.locks.items (calls_of plan.now)
-        → MachinesNeverStop O.meaning plan.now.servers.items plan.now.locks.items (calls_of plan.now) }
-    ensures stop { (trace : List ℕ) → IsShortestStop plan.now.servers.items plan.now.locks.items (calls_of plan.now) trace
-        → IsShortestStopOfMachines O.meaning plan.now.servers.items plan.now.locks.items (calls_of plan.now) trace }
+    ensures none { NeverStops plan.now.servers.items plan.now.locks.items (programs_of plan.now)
+        → MachinesNeverStop O.meaning plan.now.servers.items plan.now.locks.items (programs_of plan.now) }
+    ensures stop { (trace : List Step) → IsShortestStop plan.now.servers.items plan.now.locks.items (programs_of plan.now) trace
+        → IsShortestStopOfMachines O.meaning plan.now.servers.items plan.now.locks.items (programs_of plan.now) trace }
 {}

@@ -1,5 +1,5 @@
 -- Copies of a party, one after another.
-use Rattle.std.proofs.Common.{◌≡◌, ◌∙◌, ℕ, suc, ◌+◌, ◌-◌, ◌<◌, Bool, true, false, List, [], ◌∷◌, Option, Some, None, cond, sym, ap, refl, arith}
+use Rattle.std.proofs.Common.{◌≡◌, ◌∙◌, ℕ, suc, ◌+◌, ◌-◌, ◌<◌, Bool, true, false, List, [], ◌∷◌, Some, None, cond, sym, ap, refl, arith}
 use Rattle.std.specs.Prelude.{is_some}
 use Rattle.lock_plan_text.specs.Drafts.{Draft, copy_name, copy_names, place_of, with_parties, with_party}
 

@@ -1,6 +1,6 @@
 -- The fields after a lock's name, by the text after the name.
-use Rattle.std.proofs.Common.{◌≡◌, ℕ, Bool, true, false, Some, None, decimal, List, [], ◌∷◌, length, ◌==◌, codes, sym, ap, arith}
-use Rattle.std.specs.Prelude.{bytes_eq}
+use Rattle.std.proofs.Common.{◌≡◌, ℕ, Bool, true, false, Option, Some, None, decimal, List, [], ◌∷◌, length, ◌==◌, codes, sym, ap, arith}
+use Rattle.std.specs.Prelude.{IfNone, bytes_eq}
 use Rattle.std.proofs.lemmas.Bool.{false≢true}
 use Rattle.std.proofs.lemmas.List.Splits.{length-slice_split}
 use Rattle.lock_base.specs.declared.machine.kind.Kind.{Kind}
@@ -71,3 +71,8 @@ short_line word mutex party server verb (Lock lock) ok same is = short_kind word
 short_line word mutex party server verb (Party false copies) ok same is = party (sym same)
 short_line word mutex party server verb (Party true copies) ok same is = server (sym same)
 short_line word mutex party server verb (Call is_rwlock step) ok same is = verb is_rwlock step ok same
+
+-- what always holds, holds of no value
+pub if_any : {A : Type 0} (o : Option A) (X : Type 0) → X → IfNone o X
+if_any None X x = x
+if_any (Some a) X x = tt

@@ -1,5 +1,7 @@
 mod CopyNames
 mod FaultPlaces
+mod KnownPlaces
+mod StepPlaces
 mod FitLocks
 mod LastFields
 mod OneDraft

@@ -1,17 +1,18 @@
 -- Lines make one draft at most, or have one first bad line.
 use Rattle.std.proofs.Common.{◌≡◌, ℕ, ◌+◌, List, [], ◌∷◌, Some, None, sym, ◌∙◌, inl, inr}
+use Rattle.std.proofs.lemmas.Bool.{false≢true}
 use Rattle.lock_plan_text.specs.Drafts.{Adds, Draft, IsBad, IsFirstBadFrom, Make, no_draft, texts_of, with_line}
 use Rattle.lock_plan_text.specs.Meanings.{DraftsAreGood, HaveOneBadLine, MakeOneDraft, SayOneLine}
 use Rattle.lock_plan_text.specs.PlanLines.{Says}
-use Rattle.lock_plan_text.specs.declared.parser.plan_line.PlanLine.{PlanLine}
+use Rattle.lock_plan_text.specs.declared.parser.text_line.TextLine.{TextLine}
 use Rattle.lock_plan_text.proofs.OneLine.{one_line}
 
 pub say_one_line : SayOneLine
 say_one_line text line other name another says tells =
-    one_line line other name another says.written tells.written (says.fields ∙ sym tells.fields)
+    one_line line other name another says.written tells.written says.named tells.named (says.fields ∙ sym tells.fields)
 
 -- one text gives a line the same outcome under both readings
-same_outcome : (draft : Draft) (number : ℕ) (text : List ℕ) (line other : PlanLine) (name another : List ℕ)
+same_outcome : (draft : Draft) (number : ℕ) (text : List ℕ) (line other : TextLine) (name another : List ℕ)
     → Says text line name → Says text other another → with_line draft number line name ≡ with_line draft number other another
 same_outcome draft number text line other name another says tells =
     let same = say_one_line text line other name another says tells in
@@ -31,13 +32,13 @@ added_is_good draft next number text adds (inr refused) =
     cc
 
 make_one : (draft end other : Draft) (number : ℕ) (texts : List (List ℕ)) → Make draft number texts end → Make draft number texts other → end ≡ other
-make_one draft end other number [] makes turns = sym makes ∙ turns
+make_one draft end other number [] makes turns = sym makes.0 ∙ turns.0
 make_one draft end other number (text ∷ texts) makes turns =
     let same : turns.0 ≡ makes.0 = adds_one draft turns.0 makes.0 number text turns.1.0 makes.1.0 in
     make_one makes.0 end other (number + 1) texts makes.1.1 (rw same at turns.1.1)
 
 made_is_good : (draft end : Draft) (number bad : ℕ) (texts : List (List ℕ)) → Make draft number texts end → IsFirstBadFrom draft number texts bad → ⊥
-made_is_good draft end number bad [] makes none = none
+made_is_good draft end number bad [] makes open_at_end = false≢true (sym makes.1 ∙ open_at_end.1)
 made_is_good draft end number bad (text ∷ texts) makes (inl here) = added_is_good draft makes.0 number text makes.1.0 here.1
 made_is_good draft end number bad (text ∷ texts) makes (inr later) =
     let same : later.0 ≡ makes.0 = adds_one draft later.0 makes.0 number text later.1.0 makes.1.0 in
@@ -45,7 +46,7 @@ made_is_good draft end number bad (text ∷ texts) makes (inr later) =
 
 one_bad : (draft : Draft) (number bad other : ℕ) (texts : List (List ℕ)) → IsFirstBadFrom draft number texts bad
     → IsFirstBadFrom draft number texts other → bad ≡ other
-one_bad draft number bad other [] is too = absurd is
+one_bad draft number bad other [] is too = is.0 ∙ sym too.0
 one_bad draft number bad other (text ∷ texts) (inl is) (inl too) = is.0 ∙ sym too.0
 one_bad draft number bad other (text ∷ texts) (inl is) (inr too) = absurd (added_is_good draft too.0 number text too.1.0 is.1)
 one_bad draft number bad other (text ∷ texts) (inr is) (inl too) = absurd (added_is_good draft is.0 number text is.1.0 too.1)

@@ -10,9 +10,13 @@ use Rattle.lock_base.specs.declared.machine.mode_step.ModeStep.TheVariants.{Acqu
 use Rattle.lock_base.specs.declared.machine.lock_step.LockStep.{LockStep}
 use Rattle.lock_base.specs.declared.machine.lock_step.LockStep.TheVariants.{Modes, Announce, Withdraw}
 use Rattle.lock_plan_text.specs.Words.{step_word}
+use Rattle.lock_plan_text.specs.declared.parser.block_line.BlockWord.{BlockWord}
+use Rattle.lock_plan_text.specs.declared.parser.block_line.BlockWord.TheVariants as block
 use Rattle.lock_plan_text.specs.declared.parser.plan_line.PlanLine.{PlanLine}
 use Rattle.lock_plan_text.specs.declared.parser.plan_line.PlanLine.TheVariants.{Lock, Party, Call}
-use Rattle.lock_plan_text.specs.PlanLines.{IsCopies, IsLineLock, IsPlanLine, IsVerb, copy_fields, kind_word, last_fields, limit_fields, line_word, party_word, plan_fields}
+use Rattle.lock_plan_text.specs.declared.parser.text_line.TextLine.{TextLine}
+use Rattle.lock_plan_text.specs.declared.parser.text_line.TextLine.TheVariants as text
+use Rattle.lock_plan_text.specs.PlanLines.{IsNamed, IsTextLine, block_word, text_fields, IsCopies, IsLineLock, IsPlanLine, IsVerb, copy_fields, kind_word, last_fields, limit_fields, line_word, party_word, plan_fields}
 
 -- a line without the limit of its lock
 abbrev of_kind : Kind → PlanLine
@@ -161,11 +165,68 @@ same_lines (Call is_rwlock step) (Lock other) is ok good same = cc
 same_lines (Call is_rwlock step) (Party serves copies) is ok good same = cc
 same_lines (Call is_rwlock step) (Call for_rwlock other) is ok good same = is
 
-pub one_line : (line other : PlanLine) (name another : List ℕ) → IsPlanLine line → IsPlanLine other
+one_plan_line : (line other : PlanLine) (name another : List ℕ) → IsPlanLine line → IsPlanLine other
     → plan_fields line name ≡ plan_fields other another → (line ≡ other) × (name ≡ another)
-one_line line other name another ok good same =
+one_plan_line line other name another ok good same =
     let words : line_word line ≡ line_word other = cc in
     let last : last_fields line ≡ last_fields other = cc in
     let known : Some (bare line) ≡ Some (bare other) = sym (line_by_word line ok) ∙ (ap by_word words ∙ line_by_word other good) in
     let bares : bare line ≡ bare other = cc in
     (same_lines line other bares ok good last, cc)
+
+-- the word of a block
+by_block_word : List ℕ → Option BlockWord
+by_block_word word =
+    cond (bytes_eq word (codes "repeat")) (Some block.Repeat)
+    (cond (bytes_eq word (codes "either")) (Some block.Either)
+    (cond (bytes_eq word (codes "else")) (Some block.Else)
+    (cond (bytes_eq word (codes "or")) (Some block.Or)
+    (cond (bytes_eq word (codes "end")) (Some block.End) None))))
+
+block_by_word : (word : BlockWord) → by_block_word (block_word word) ≡ Some word
+unfolding by_block_word
+block_by_word block.Repeat = refl
+block_by_word block.Either = refl
+block_by_word block.Else = refl
+block_by_word block.Or = refl
+block_by_word block.End = refl
+
+same_words : (word other : BlockWord) → block_word word ≡ block_word other → word ≡ other
+same_words word other is =
+    let known : Some word ≡ Some other = sym (block_by_word word) ∙ (ap by_block_word is ∙ block_by_word other) in cc
+
+no_try : by_word (codes "try") ≡ None
+unfolding by_word
+no_try = refl
+
+-- a line about a lock or party is no try
+not_tried : (line : PlanLine) → IsPlanLine line → line_word line ≡ codes "try" → ⊥
+not_tried line ok is = let known : Some (bare line) ≡ None = sym (line_by_word line ok) ∙ (ap by_word is ∙ no_try) in cc
+
+-- a word is that of one call
+one_verb : (is_rwlock for_rwlock : Bool) (step other : LockStep) → IsVerb is_rwlock step → IsVerb for_rwlock other
+    → step_word is_rwlock step ≡ step_word for_rwlock other → (is_rwlock ≡ for_rwlock) × (step ≡ other)
+one_verb is_rwlock for_rwlock step other ok good words =
+    let known : Some (Call is_rwlock step) ≡ Some (Call for_rwlock other)
+    = sym (step_by_word is_rwlock step ok) ∙ (ap by_word words ∙ step_by_word for_rwlock other good) in
+    (cc, cc)
+
+pub one_line : (line other : TextLine) (name another : List ℕ) → IsTextLine line → IsTextLine other → IsNamed line name
+    → IsNamed other another → text_fields line name ≡ text_fields other another → (line ≡ other) × (name ≡ another)
+one_line (text.Plan line) (text.Plan other) name another ok good named called same =
+    let both = one_plan_line line other name another ok good same in (ap text.Plan both.0, both.1)
+one_line (text.Plan line) (text.Try is_rwlock step) name another ok good named called same =
+    let word : line_word line ≡ codes "try" = cc in absurd (not_tried line ok word)
+one_line (text.Plan line) (text.Word word) name another ok good named called same = cc
+one_line (text.Try is_rwlock step) (text.Plan other) name another ok good named called same =
+    let word : line_word other ≡ codes "try" = cc in absurd (not_tried other good word)
+one_line (text.Try is_rwlock step) (text.Try for_rwlock other) name another ok good named called same =
+    let words : step_word is_rwlock step ≡ step_word for_rwlock other = cc in
+    let both = one_verb is_rwlock for_rwlock step other ok.0 good.0 words in
+    (ap (λ (b : Bool). text.Try b step) both.0 ∙ ap (text.Try for_rwlock) both.1, cc)
+one_line (text.Try is_rwlock step) (text.Word word) name another ok good named called same = cc
+one_line (text.Word word) (text.Plan other) name another ok good named called same = cc
+one_line (text.Word word) (text.Try is_rwlock step) name another ok good named called same = cc
+one_line (text.Word word) (text.Word other) name another ok good named called same =
+    let words : block_word word ≡ block_word other = cc in
+    (ap text.Word (same_words word other words), named ∙ sym called)

@@ -1,7 +1,8 @@
 -- Rows of a drawing, one after another.
 use Rattle.std.proofs.Common.{◌≡◌, ◌∙◌, ℕ, suc, ◌+◌, Bool, List, ◌++◌, length, codes, Option, Some, Vec, Global, sym, ap, add-one, append_assoc}
-use Rattle.lock_plan.specs.declared.call.PlanCall.{PlanCall}
 use Rattle.lock_plan.specs.declared.lock.PlanLock.{PlanLock}
+use Rattle.lock_plan.specs.declared.program.Place.{Place}
+use Rattle.lock_plan.specs.declared.program.Step.{Step}
 use Rattle.lock_plan.specs.Worlds.{Stand, is_refused, first_world}
 use Rattle.lock_plan_text.specs.declared.names.Names.{Names}
 use Rattle.lock_plan_text.specs.Names.{name_of}
@@ -25,7 +26,7 @@ row_end f n parties old before cell now is_before is_cell is_now are =
     ∙ append_assoc old (cells_text f n) (f n ++ codes "\n")
     ∙ ap (λ (k : ℕ). old ++ row_text f k) (sym are)
 
-pub lanes_end : (locks : List PlanLock) (names : Names) (k : ℕ) (w v : List Stand) (refused : Bool) (trace old first rows now : List ℕ)
+pub lanes_end : (locks : List PlanLock) (names : Names) (k : ℕ) (w v : List Stand) (refused : Bool) (trace : List Step) (old first rows now : List ℕ)
     → first ≡ old ++ row_text (name_of names.parties.items) k → rows ≡ first ++ step_rows locks names k w trace
     → v ≡ last_world locks w trace → refused ≡ is_refused locks v → now ≡ rows ++ row_text (stop_cell locks names v refused) k
     → now ≡ old ++ lanes_text locks names k w trace
@@ -40,12 +41,12 @@ lanes_end locks names k w v refused trace old first rows now is_first are_rows i
     ∙ append_assoc (old ++ head) body _
     ∙ append_assoc old head _
 
-pub drawing_end : (locks : List PlanLock) (parties : List (List PlanCall)) (names : Names) (k : ℕ) (trace : Vec ℕ Global) (o : Option (Vec ℕ Global)) (old first now : List ℕ)
-    → first ≡ old ++ codes "\n" → now ≡ first ++ lanes_text locks names k (first_world locks parties) trace.items
-    → length parties ≡ k → o ≡ Some trace → now ≡ old ++ drawing_text locks parties names o
-drawing_end locks parties names k trace o old first now is_first is_now are is_some =
+pub drawing_end : (locks : List PlanLock) (programs : List (List Place)) (names : Names) (k : ℕ) (trace : Vec Step Global) (o : Option (Vec Step Global)) (old first now : List ℕ)
+    → first ≡ old ++ codes "\n" → now ≡ first ++ lanes_text locks names k (first_world locks programs) trace.items
+    → length programs ≡ k → o ≡ Some trace → now ≡ old ++ drawing_text locks programs names o
+drawing_end locks programs names k trace o old first now is_first is_now are is_some =
     is_now
-    ∙ ap (λ (xs : List ℕ). xs ++ lanes_text locks names k (first_world locks parties) trace.items) is_first
+    ∙ ap (λ (xs : List ℕ). xs ++ lanes_text locks names k (first_world locks programs) trace.items) is_first
     ∙ append_assoc old (codes "\n") _
-    ∙ ap (λ (n : ℕ). old ++ (codes "\n" ++ lanes_text locks names n (first_world locks parties) trace.items)) (sym are)
-    ∙ ap (λ (t : Option (Vec ℕ Global)). old ++ drawing_text locks parties names t) (sym is_some)
+    ∙ ap (λ (n : ℕ). old ++ (codes "\n" ++ lanes_text locks names n (first_world locks programs) trace.items)) (sym are)
+    ∙ ap (λ (t : Option (Vec Step Global)). old ++ drawing_text locks programs names t) (sym is_some)

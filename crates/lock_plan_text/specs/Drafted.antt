@@ -1,10 +1,12 @@
 -- What a draft in memory is, and the plan that is made of a draft.
 use Rattle.std.specs.Prelude.{◌≡◌, ℕ, IsTrue, List, map, None, string_bytes}
 use Rattle.lock_plan.specs.Checks.{fit_machines, plan_fault}
-use Rattle.lock_plan.specs.Stops.{calls_of}
+use Rattle.lock_plan.specs.Stops.{programs_of}
 use Rattle.lock_plan_text.specs.declared.parser.draft.PlanDraft.{PlanDraft}
 use Rattle.lock_plan_text.specs.declared.parser.named_plan.NamedPlan.{NamedPlan}
 use Rattle.lock_plan_text.specs.Drafts.{Draft, IsDraftOf}
+use Rattle.lock_plan_text.specs.OpenBlocks.{opened}
+use Rattle.lock_plan_text.specs.PlanFaults.{programs_in}
 
 abbrev pub drafted : PlanDraft → Draft
 drafted draft = record {
@@ -15,16 +17,17 @@ drafted draft = record {
   servers = draft.servers.items;
   first = draft.first;
   numbers = map (λ v. v.items) draft.numbers.items;
+  blocks = opened draft.blocks;
 }
 
--- the plan and the names are those of the draft, and each call can be made
+-- the plan and the names are those of the draft, and each act can be made
 pub record IsMadeOf (draft : Draft) (named : NamedPlan) : Type 0 where
   pub locks : named.plan.locks.items ≡ draft.locks
-  pub parties : calls_of named.plan ≡ draft.parties
+  pub programs : programs_of named.plan ≡ programs_in draft
   pub servers : named.plan.servers.items ≡ draft.servers
   pub lock_names : map string_bytes named.names.locks.items ≡ draft.lock_names
   pub party_names : map string_bytes named.names.parties.items ≡ draft.party_names
-  pub right : plan_fault draft.locks draft.parties ≡ None
+  pub right : plan_fault draft.locks (programs_in draft) ≡ None
 
 -- the bytes are the text of the plan
 abbrev pub IsPlanOf : List ℕ → NamedPlan → Type 0

@@ -1,6 +1,8 @@
 pub mod Names
 pub mod Words
 pub mod PlanLines
+pub mod Blocks
+pub mod OpenBlocks
 pub mod Drafts
 pub mod PlanFaults
 pub mod Drafted

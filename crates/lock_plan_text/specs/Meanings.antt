@@ -1,12 +1,12 @@
 -- A text has one meaning.
 use Rattle.std.specs.Prelude.{◌≡◌, ℕ, List}
-use Rattle.lock_plan_text.specs.declared.parser.plan_line.PlanLine.{PlanLine}
+use Rattle.lock_plan_text.specs.declared.parser.text_line.TextLine.{TextLine}
 use Rattle.lock_plan_text.specs.Drafts.{Draft, IsDraftOf, IsFirstBadLine}
 use Rattle.lock_plan_text.specs.PlanLines.{Says}
 
 -- a text is at most one line, about one name
 abbrev pub SayOneLine : Type 0
-SayOneLine = (text : List ℕ) (line other : PlanLine) (name another : List ℕ) → Says text line name → Says text other another
+SayOneLine = (text : List ℕ) (line other : TextLine) (name another : List ℕ) → Says text line name → Says text other another
     → (line ≡ other) × (name ≡ another)
 
 -- bytes make at most one draft

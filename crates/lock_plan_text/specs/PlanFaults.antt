@@ -1,14 +1,16 @@
 -- Why a text makes no plan.
-use Rattle.std.specs.Prelude.{◌≡◌, ℕ, List, [], Option, Some, option_map}
+use Rattle.std.specs.Prelude.{◌≡◌, ℕ, List, [], map, Option, Some, option_map}
 use Rattle.std.specs.Bool.{⊤}
 use Rattle.std.proofs.Common.{get_or}
 use Rattle.lock_plan.specs.declared.fault.PlanFault.{PlanFault}
 use Rattle.lock_plan.specs.declared.fault.PlanFault.TheVariants as plan
+use Rattle.lock_plan.specs.declared.program.Place.{Place}
 use Rattle.lock_plan.specs.Checks.{plan_fault}
 use Rattle.lock_plan_text.specs.declared.parser.fault.PlanTextFault.{PlanTextFault}
 use Rattle.lock_plan_text.specs.declared.parser.fault.PlanTextFault.TheVariants.{BadLine, Call, TooLarge, TooLong, OutOfMemory, InputFailed, OutputFailed}
 use Rattle.lock_script.specs.declared.fault.ReplayFault.{ReplayFault}
 use Rattle.lock_script.specs.declared.fault.ReplayFault.TheVariants as script
+use Rattle.lock_plan_text.specs.Blocks.{program_of, step_numbers}
 use Rattle.lock_plan_text.specs.Drafts.{Draft, IsDraftOf, IsFirstBadLine}
 
 -- a fault of the lines of these bytes
@@ -21,19 +23,23 @@ IsLineFault bytes OutOfMemory = ⊤
 IsLineFault bytes InputFailed = ⊥
 IsLineFault bytes OutputFailed = ⊥
 
--- the number of the line of a party's call
-abbrev pub number_of : List (List ℕ) → ℕ → ℕ → ℕ
-number_of numbers party call = get_or (get_or numbers party []) call 0
+-- the programs of a draft
+abbrev pub programs_in : Draft → List (List Place)
+programs_in draft = map program_of draft.parties
+
+-- the number of the line of a party's place
+abbrev pub number_of : Draft → ℕ → ℕ → ℕ
+number_of draft party place = get_or (step_numbers (get_or draft.parties party []) (get_or draft.numbers party [])) place 0
 
 -- a fault of the plan, told by line
-abbrev pub by_line : List (List ℕ) → PlanFault → PlanTextFault
-by_line numbers (plan.Call party call fault) = Call (number_of numbers party call) fault
-by_line numbers plan.TooLarge = TooLarge
-by_line numbers plan.OutOfMemory = OutOfMemory
+abbrev pub by_line : Draft → PlanFault → PlanTextFault
+by_line draft (plan.Call party place fault) = Call (number_of draft party place) fault
+by_line draft plan.TooLarge = TooLarge
+by_line draft plan.OutOfMemory = OutOfMemory
 
 -- why a draft is no plan
 abbrev pub draft_fault : Draft → Option PlanTextFault
-draft_fault draft = option_map (by_line draft.numbers) (plan_fault draft.locks draft.parties)
+draft_fault draft = option_map (by_line draft) (plan_fault draft.locks (programs_in draft))
 
 -- the bytes make a draft with this fault
 abbrev pub HasFault : List ℕ → PlanTextFault → Type 0

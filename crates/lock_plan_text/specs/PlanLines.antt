@@ -6,12 +6,19 @@ use Rattle.std.specs.List.{list_all}
 use Rattle.std.specs.Str.{IsUtf8}
 use Rattle.lock_base.specs.declared.machine.kind.Kind.{Kind}
 use Rattle.lock_base.specs.declared.machine.kind.Kind.TheVariants.{Mutex, RwLock, Reentrant}
+use Rattle.lock_base.specs.declared.machine.mode.Mode.TheVariants.{Exclusive}
+use Rattle.lock_base.specs.declared.machine.mode_step.ModeStep.TheVariants.{Acquire, Change}
 use Rattle.lock_base.specs.declared.machine.lock_step.LockStep.{LockStep}
+use Rattle.lock_base.specs.declared.machine.lock_step.LockStep.TheVariants.{Modes}
 use Rattle.lock_base.specs.Limits.{IsLimit}
-use Rattle.lock_plan.specs.Checks.{is_of_kind}
+use Rattle.lock_plan.specs.CallFaults.{is_of_kind}
 use Rattle.lock_plan_text.specs.Words.{step_word}
+use Rattle.lock_plan_text.specs.declared.parser.block_line.BlockWord.{BlockWord}
+use Rattle.lock_plan_text.specs.declared.parser.block_line.BlockWord.TheVariants.{Repeat, Either, Else, Or, End}
 use Rattle.lock_plan_text.specs.declared.parser.plan_line.PlanLine.{PlanLine}
 use Rattle.lock_plan_text.specs.declared.parser.plan_line.PlanLine.TheVariants.{Lock, Party, Call}
+use Rattle.lock_plan_text.specs.declared.parser.text_line.TextLine.{TextLine}
+use Rattle.lock_plan_text.specs.declared.parser.text_line.TextLine.TheVariants.{Plan, Try, Word}
 use Rattle.lock_script.specs.Lines.{fields_of}
 
 -- a letter, a digit, `_`, `-` or `.`
@@ -84,15 +91,45 @@ abbrev pub IsVerb : Bool → LockStep → Type 0
 IsVerb true step = IsTrue (is_of_kind RwLock step)
 IsVerb false step = IsTrue (is_of_kind Mutex step)
 
--- a line with these values can be written
+-- a line about a lock or party with these values can be written
 abbrev pub IsPlanLine : PlanLine → Type 0
 IsPlanLine (Lock lock) = IsLineLock lock.kind lock.limit lock.bar
 IsPlanLine (Party serves copies) = IsCopies copies
 IsPlanLine (Call is_rwlock step) = IsVerb is_rwlock step
 
+abbrev pub block_word : BlockWord → List ℕ
+block_word Repeat = codes "repeat"
+block_word Either = codes "either"
+block_word Else = codes "else"
+block_word Or = codes "or"
+block_word End = codes "end"
+
+-- the fields of a line of the text; the line of a block names nothing
+abbrev pub text_fields : TextLine → List ℕ → List (List ℕ)
+text_fields (Plan line) name = plan_fields line name
+text_fields (Try is_rwlock step) name = codes "try" ∷ step_word is_rwlock step ∷ name ∷ []
+text_fields (Word word) name = block_word word ∷ []
+
+-- whether a call that does the step can be tried
+abbrev pub is_tried : LockStep → Bool
+is_tried (Modes (Acquire mode)) = true
+is_tried (Modes (Change from Exclusive)) = true
+is_tried step = false
+
+-- a line with these values can be written
+abbrev pub IsTextLine : TextLine → Type 0
+IsTextLine (Plan line) = IsPlanLine line
+IsTextLine (Try is_rwlock step) = IsVerb is_rwlock step × IsTrue (is_tried step)
+IsTextLine (Word word) = ⊤
+
+abbrev pub IsNamed : TextLine → List ℕ → Type 0
+IsNamed (Plan line) name = IsTrue (is_name name)
+IsNamed (Try is_rwlock step) name = IsTrue (is_name name)
+IsNamed (Word word) name = name ≡ []
+
 -- the text is such a line, about this name
-pub record Says (text : List ℕ) (line : PlanLine) (name : List ℕ) : Type 0 where
+pub record Says (text : List ℕ) (line : TextLine) (name : List ℕ) : Type 0 where
   pub utf8 : IsUtf8 text
-  pub named : IsTrue (is_name name)
-  pub written : IsPlanLine line
-  pub fields : plan_fields line name ≡ fields_of text
+  pub named : IsNamed line name
+  pub written : IsTextLine line
+  pub fields : text_fields line name ≡ fields_of text

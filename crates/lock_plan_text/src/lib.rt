@@ -1,8 +1,8 @@
 //! The texts of plans: the plan that a text says, and the answer to it.
 //!
 //! [`parse_plan`] parses bytes into a plan and its names, or returns the first fault. [`write_answer`] appends what
-//! [`explore`](lock_plan::explore) found, and [`write_drawing`] the drawing below it. A plan has a line for each lock,
-//! party and call: `PlanLines` of the specs says what a line says, and `Drafts` what the lines make.
+//! [`explore`](lock_plan::explore) found, and [`write_drawing`] the drawing below it. In the specs, `PlanLines` says what a
+//! line says, `Drafts` what the lines make, and `Blocks` the program of a party's lines.
 #![tactic(auto)]
 
 mod names;

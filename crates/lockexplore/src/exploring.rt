@@ -8,14 +8,13 @@ ghost use Rattle.lockexplore.specs.Explorations.{AppendsPlanAnswer, ExplainsPlan
 
 use crate::arguments::Form;
 use crate::verdict::Verdict;
-use lock_plan::explore;
+use lock_plan::{Explored, explore};
 use lock_plan_text::{
     NamedPlan, PlanTextFault, draw_picture, parse_plan, write_answer, write_drawing,
 };
 use lock_script::{put, read_script};
 use std::alloc::{AllocError, Global};
 use std::io::{Read, Write};
-use step_search::Searched;
 
 /// Reads a plan to its end, searches all its interleavings, and then writes the answer in this form.
 ///
@@ -55,9 +54,9 @@ fn plan_answer(alloc: Global, form: Form, script: &[u8]) -> Result<(Verdict, Str
     ensures fault { IfErr result (IsPlanTextFault script.now) }
 {
     let named = parse_plan(alloc, script)?;
-    let searched = explore(alloc, &named.plan)?;
-    let text = answer_of(alloc, form, &named, &searched)?;
-    Ok((Verdict::of(&searched), text))
+    let explored = explore(alloc, &named.plan)?;
+    let text = answer_of(alloc, form, &named, &explored)?;
+    Ok((Verdict::of(&explored), text))
 }
 
 /// Returns the answer to a plan in a form, of what a search found.
@@ -65,17 +64,17 @@ fn answer_of(
     alloc: Global,
     form: Form,
     named: &NamedPlan,
-    searched: &Searched,
+    explored: &Explored,
 ) -> Result<String, AllocError>
-    ensures { IfOk result (λ text. IsTextIn form named.now searched.now.trace searched.now.visited (string_bytes text)) }
+    ensures { IfOk result (λ text. IsTextIn form named.now explored.now.trace explored.now.visited (string_bytes text)) }
 {
     if form == Form::Svg {
-        return draw_picture(alloc, &named.plan, &named.names, searched);
+        return draw_picture(alloc, &named.plan, &named.names, explored);
     }
     let mut text = String::new(alloc);
-    write_answer(alloc, &mut text, &named.plan, &named.names, searched)?;
+    write_answer(alloc, &mut text, &named.plan, &named.names, explored)?;
     if form == Form::Lanes {
-        write_drawing(alloc, &mut text, &named.plan, &named.names, searched)?;
+        write_drawing(alloc, &mut text, &named.plan, &named.names, explored)?;
     }
     Ok(text)
 }

@@ -1,5 +1,5 @@
 //! Whether a plan stops.
-use step_search::Searched;
+use lock_plan::Explored;
 
 /// Whether some interleaving of a plan's calls leads into a stop.
 #[derive(Clone, Copy, PartialEq, Eq, Debug)]
@@ -13,10 +13,10 @@ impl Verdict {
     ghost use Rattle.lockexplore.specs.PlanAnswers.{verdict_of};
 
     /// Returns what a search found.
-    pub(crate) fn of(searched: &Searched) -> Verdict
-        ensures { result ≡ verdict_of searched.now.trace }
+    pub(crate) fn of(explored: &Explored) -> Verdict
+        ensures { result ≡ verdict_of explored.now.trace }
     {
-        match searched.trace {
+        match explored.trace {
             None => Verdict::NeverStops,
             Some(_) => Verdict::Stops,
         }

@@ -3,27 +3,33 @@ ghost use Rattle.std.specs.Prelude.{◌≡◌, ◌∷◌, [], Some, None, IfOk, 
 ghost use Rattle.std.proofs.Common.{get_or};
 ghost use Rattle.lock_plan.specs.Worlds.{no_lock};
 ghost use Rattle.lock_plan_text.specs.declared.parser.plan_line.PlanLine.TheVariants as line;
-ghost use Rattle.lock_plan_text.specs.Drafts.{step_on, copy_names, no_draft, with_line, with_parties};
+ghost use Rattle.lock_plan_text.specs.declared.parser.text_line.TextLine.TheVariants as text;
+ghost use Rattle.lock_plan_text.specs.Drafts.{step_on, copy_names, named_call, no_draft, with_line, with_own_line, with_parties};
 ghost use Rattle.lock_plan_text.specs.Drafted.{drafted};
 
 use crate::names::Names;
+use crate::parser::block_line::BlockLine;
 use crate::parser::copies::copy_name;
+use crate::parser::open_block::OpenBlocks;
 use crate::parser::place::{place_of, push_from};
 use crate::parser::plan_line::PlanLine;
+use crate::parser::text_line::TextLine;
 use lock_base::machine::{Kind, LockStep, Mode, ModeStep};
 use lock_plan::{PlanCall, PlanLock};
 use std::alloc::{AllocError, Global};
 
-/// What the lines so far make: locks, the calls of each party, the number of each call's line, and names.
+/// What the lines so far make: locks, the lines of each party, their numbers, the blocks that are open, and names.
 #[derive(Drop)]
 pub(crate) struct PlanDraft {
     pub(crate) locks: Vec<PlanLock>,
-    pub(crate) parties: Vec<Vec<PlanCall>>,
+    pub(crate) parties: Vec<Vec<BlockLine>>,
     /// Whether each party is a server.
     pub(crate) servers: Vec<bool>,
-    /// The first party of the last line of parties. A call is one of each party from there on.
+    /// The first party of the last line of parties. A line of a party is one of each party from there on.
     pub(crate) first: usize,
     pub(crate) numbers: Vec<Vec<u64>>,
+    /// The blocks of the last line of parties that are open.
+    pub(crate) blocks: OpenBlocks,
     pub(crate) names: Names,
 }
 
@@ -38,6 +44,7 @@ impl PlanDraft {
             servers: Vec::new(alloc),
             first: 0,
             numbers: Vec::new(alloc),
+            blocks: OpenBlocks::new(alloc),
             names: Names {
                 locks: Vec::new(alloc),
                 parties: Vec::new(alloc),
@@ -50,25 +57,37 @@ impl PlanDraft {
         &mut self,
         alloc: Global,
         number: u64,
-        line: PlanLine,
+        line: TextLine,
         name: &str,
     ) -> Result<bool, AllocError>
         ensures { IfOk result (λ is_added. with_line (drafted self.old) number line name.now
             ≡ (if is_added then Some (drafted self.new) else None)) }
     {
         match line {
-            PlanLine::Lock(lock) => self.add_lock(alloc, lock, name),
-            PlanLine::Party(is_server, copies) => self.add_parties(alloc, is_server, copies, name),
-            PlanLine::Call(is_rwlock, step) => self.add_call(number, is_rwlock, step, name),
+            TextLine::Plan(PlanLine::Lock(lock)) => self.add_lock(alloc, lock, name),
+            TextLine::Plan(PlanLine::Party(is_server, copies)) => {
+                self.add_parties(alloc, is_server, copies, name)
+            }
+            TextLine::Plan(PlanLine::Call(is_rwlock, step)) => {
+                match self.call(is_rwlock, step, name) {
+                    Some(call) => self.add_own(number, BlockLine::Call(call)),
+                    None => Ok(false),
+                }
+            }
+            TextLine::Try(is_rwlock, step) => match self.call(is_rwlock, step, name) {
+                Some(call) => self.add_own(number, BlockLine::Try(call)),
+                None => Ok(false),
+            },
+            TextLine::Word(word) => self.add_own(number, BlockLine::Word(word)),
         }
     }
 
-    /// Adds a lock, unless its name is there.
+    /// Adds a lock, unless its name is there or a block is open.
     fn add_lock(&mut self, alloc: Global, lock: PlanLock, name: &str) -> Result<bool, AllocError>
-        ensures { IfOk result (λ is_added. with_line (drafted self.old) 0 (line.Lock lock) name.now
+        ensures { IfOk result (λ is_added. with_line (drafted self.old) 0 (text.Plan (line.Lock lock)) name.now
             ≡ (if is_added then Some (drafted self.new) else None)) }
     {
-        if place_of(self.names.locks.as_slice(), name).is_some() {
+        if !self.blocks.are_none() || place_of(self.names.locks.as_slice(), name).is_some() {
             return Ok(false);
         }
         self.locks.push(lock)?;
@@ -76,7 +95,7 @@ impl PlanDraft {
         Ok(true)
     }
 
-    /// Adds a party, or copies of one, unless one of the names is there.
+    /// Adds a party, or copies of one, unless one of the names is there or a block is open.
     fn add_parties(
         &mut self,
         alloc: Global,
@@ -84,9 +103,12 @@ impl PlanDraft {
         copies: Option<u64>,
         name: &str,
     ) -> Result<bool, AllocError>
-        ensures { IfOk result (λ is_added. with_line (drafted self.old) 0 (line.Party is_server copies) name.now
+        ensures { IfOk result (λ is_added. with_line (drafted self.old) 0 (text.Plan (line.Party is_server copies)) name.now
             ≡ (if is_added then Some (drafted self.new) else None)) }
     {
+        if !self.blocks.are_none() {
+            return Ok(false);
+        }
         self.first = self.parties.len();
         match copies {
             None => self.add_party(alloc, is_server, name),
@@ -130,27 +152,26 @@ impl PlanDraft {
         Ok(true)
     }
 
-    /// Adds a call of the last line of parties, unless there is no such lock, or no party.
-    fn add_call(
-        &mut self,
-        number: u64,
-        is_rwlock: bool,
-        step: LockStep,
-        name: &str,
-    ) -> Result<bool, AllocError>
-        ensures { IfOk result (λ is_added. with_line (drafted self.old) number (line.Call is_rwlock step) name.now
+    /// Adds a line of the last line of parties, unless there is no party, or no block that fits is open.
+    fn add_own(&mut self, number: u64, line: BlockLine) -> Result<bool, AllocError>
+        ensures { IfOk result (λ is_added. with_own_line (drafted self.old) number line
             ≡ (if is_added then Some (drafted self.new) else None)) }
     {
-        let Some(lock) = place_of(self.names.locks.as_slice(), name) else {
-            return Ok(false);
-        };
-        if self.parties.is_empty() {
+        if self.parties.is_empty() || !self.blocks.turn(line)? {
             return Ok(false);
         }
-        let step = step_on(is_rwlock, step, self.kind(lock));
-        push_from(&mut self.parties, self.first, PlanCall { lock, step })?;
+        push_from(&mut self.parties, self.first, line)?;
         push_from(&mut self.numbers, self.first, number)?;
         Ok(true)
+    }
+
+    /// Returns the call with this word on the lock of this name, if there is such a lock.
+    fn call(&self, is_rwlock: bool, step: LockStep, name: &str) -> Option<PlanCall>
+        ensures { result ≡ named_call (drafted self.now) is_rwlock step name.now }
+    {
+        let lock = place_of(self.names.locks.as_slice(), name)?;
+        let step = step_on(is_rwlock, step, self.kind(lock));
+        Some(PlanCall { lock, step })
     }
 
     /// Returns the kind of the lock at a place.

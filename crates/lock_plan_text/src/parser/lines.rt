@@ -8,7 +8,7 @@ ghost use Rattle.lock_plan_text.specs.PlanFaults.{IsLineFault};
 
 use crate::parser::draft::PlanDraft;
 use crate::parser::fault::PlanTextFault;
-use crate::parser::reading::read_plan_line;
+use crate::parser::reading::read_line;
 use lock_script::Part;
 use std::alloc::{AllocError, Global};
 
@@ -16,7 +16,8 @@ use std::alloc::{AllocError, Global};
 ///
 /// # Errors
 ///
-/// `BadLine` with the number of the first bad line, counted from 1. `OutOfMemory`.
+/// `BadLine` with the number of the first bad line, counted from 1. With a block open at the end, that is the line after
+/// the last. `OutOfMemory`.
 pub(crate) fn parse_lines(alloc: Global, bytes: &[u8]) -> Result<PlanDraft, PlanTextFault>
     ensures draft { IfOk result (λ draft. IsDraftOf bytes.now (drafted draft)) }
     ensures fault { IfErr result (IsLineFault bytes.now) }
@@ -35,6 +36,9 @@ pub(crate) fn parse_lines(alloc: Global, bytes: &[u8]) -> Result<PlanDraft, Plan
         rest = after;
         number += 1;
     }
+    if !draft.blocks.are_none() {
+        return Err(PlanTextFault::BadLine(number));
+    }
     Ok(draft)
 }
 
@@ -48,7 +52,7 @@ fn add_text(
     ensures { IfOk result (λ is_added. MatchBool is_added
         (Adds (drafted draft.old) number (bytes_of text.entry) (drafted draft.new)) (IsBad (drafted draft.old) number (bytes_of text.entry))) }
 {
-    match read_plan_line(text) {
+    match read_line(text) {
         Some((line, name)) => draft.add(alloc, number, line, name),
         None => Ok(false),
     }

@@ -12,7 +12,7 @@ pub fn texts_have_one_meaning()
     ensures good { DraftsAreGood }
 {}
 
-/// Each call of a draft is what the line with its number says. A call that can never be made is told by that line.
+/// Each line of a draft is what the line of the text with its number says. An act that can never be made is told by it.
 pub fn calls_have_lines()
     ensures calls { CallsHaveLines }
     ensures faults { FaultsHaveLines }

@@ -1,24 +1,81 @@
 //! Reading a line of a plan.
-ghost use Rattle.std.specs.Prelude.{◌≡◌, ℕ, List, [], IfNone, IfSome};
+ghost use Rattle.std.specs.Prelude.{◌≡◌, ◌∷◌, ℕ, Bool, IsTrue, List, [], IfNone, IfSome};
 ghost use Rattle.lock_script.specs.Lines.{fields_of};
 ghost use Rattle.lock_script.specs.Parts.{bytes_of};
-ghost use Rattle.lock_plan_text.specs.PlanLines.{IsPlanLine, Says, last_fields, line_word, party_word};
+ghost use Rattle.lock_plan_text.specs.PlanLines.{IsPlanLine, IsVerb, Says, is_name, is_tried, last_fields, line_word, party_word, plan_fields};
+ghost use Rattle.lock_plan_text.specs.Words.{step_word};
 
+use crate::parser::block_word::block_word;
 use crate::parser::copies::copies;
 use crate::parser::limit::{reentrant, rwlock};
 use crate::parser::name::is_name;
 use crate::parser::plan_line::PlanLine;
+use crate::parser::text_line::TextLine;
 use crate::parser::verb::verb;
-use lock_base::machine::Kind;
+use lock_base::machine::{Kind, LockStep, Mode, ModeStep};
 use lock_plan::PlanLock;
 use lock_script::{Part, first_field};
 
-/// Reads a line and its name, or returns `None` for a bad one.
-pub(crate) fn read_plan_line(text: Part) -> Option<(PlanLine, &str)>
+/// Reads a line and its name, or returns `None` for a bad one. The line of a block has an empty name.
+pub(crate) fn read_line(text: Part) -> Option<(TextLine, &str)>
     ensures said { IfSome result (λ found. Says (bytes_of text.entry) found.0 found.1.now) }
-    ensures bad { IfNone result ((line : PlanLine) (name : List ℕ) → Says (bytes_of text.entry) line name → ⊥) }
+    ensures bad { IfNone result ((line : TextLine) (name : List ℕ) → Says (bytes_of text.entry) line name → ⊥) }
 {
-    let (word, rest) = first_field(text.text()?)?;
+    let text = text.text()?;
+    let Some((word, rest)) = first_field(text) else {
+        let word = block_word(text)?;
+        return Some((TextLine::Word(word), ""));
+    };
+    match word {
+        "try" => {
+            let (is_rwlock, step, name) = read_try(rest)?;
+            Some((TextLine::Try(is_rwlock, step), name))
+        }
+        _ => {
+            let (line, name) = read_plan_line(word, rest)?;
+            Some((TextLine::Plan(line), name))
+        }
+    }
+}
+
+/// Reads the call of a try and the name of its lock, by the fields after the first.
+fn read_try(rest: &str) -> Option<(bool, LockStep, &str)>
+    ensures said { IfSome result (λ found. IsVerb found.0 found.1 × (IsTrue (is_tried found.1) × (IsTrue (is_name found.2.now)
+        × (step_word found.0 found.1 ∷ found.2.now ∷ [] ≡ fields_of rest.now)))) }
+    ensures bad { IfNone result ((is_rwlock : Bool) (step : LockStep) (name : List ℕ) → IsVerb is_rwlock step → IsTrue (is_tried step)
+        → IsTrue (is_name name) → step_word is_rwlock step ∷ name ∷ [] ≡ fields_of rest.now → ⊥) }
+{
+    let (word, name) = first_field(rest)?;
+    let None = first_field(name) else {
+        return None;
+    };
+    let (is_rwlock, step) = verb(word)?;
+    if !is_tried(step) {
+        return None;
+    }
+    if !is_name(name) {
+        return None;
+    }
+    Some((is_rwlock, step, name))
+}
+
+/// Returns whether a call that does the step can be tried.
+fn is_tried(step: LockStep) -> bool
+    ensures { result ≡ is_tried step }
+{
+    matches!(
+        step,
+        LockStep::Modes(ModeStep::Acquire(_) | ModeStep::Change(_, Mode::Exclusive))
+    )
+}
+
+/// Reads a line about a lock or party, and its name, by the first field and the others.
+fn read_plan_line<'a>(word: &str, rest: &'a str) -> Option<(PlanLine, &'a str)>
+    ensures said { IfSome result (λ found. IsPlanLine found.0 × (IsTrue (is_name found.1.now)
+        × (plan_fields found.0 found.1.now ≡ word.now ∷ fields_of rest.now))) }
+    ensures bad { IfNone result ((line : PlanLine) (name : List ℕ) → IsPlanLine line → IsTrue (is_name name)
+        → plan_fields line name ≡ word.now ∷ fields_of rest.now → ⊥) }
+{
     let (line, name) = match first_field(rest) {
         None => (short_line(word)?, rest),
         Some((name, last)) => (long_line(word, last)?, name),

@@ -1,16 +1,15 @@
 //! Answers as text.
 ghost use Rattle.std.specs.Prelude.{◌≡◌, ◌++◌, OnOk, decimal, string_bytes};
 ghost use Rattle.lock_plan.specs.Worlds.{first_world};
-ghost use Rattle.lock_plan.specs.Stops.{calls_of};
+ghost use Rattle.lock_plan.specs.Stops.{programs_of};
 ghost use Rattle.lock_plan_text.specs.Answers.{none_text, trace_text, answer_text};
 
 use crate::names::Names;
 use crate::printer::step::{last_node, write_steps};
 use crate::printer::stop::{is_refused, stop_word, write_stop_lines};
 use itoa::Buffer;
-use lock_plan::Plan;
+use lock_plan::{Explored, Plan, Step};
 use std::alloc::{AllocError, Global};
-use step_search::Searched;
 
 /// Appends the answer to a plan: that nothing stops, or the steps into a stop and who waits there.
 pub fn write_answer(
@@ -18,13 +17,13 @@ pub fn write_answer(
     text: &mut String,
     plan: &Plan,
     names: &Names,
-    searched: &Searched,
+    explored: &Explored,
 ) -> Result<(), AllocError>
     ensures { OnOk result (string_bytes text.new ≡ string_bytes text.old
-        ++ answer_text plan.now.locks.items (calls_of plan.now) names.now searched.now.trace searched.now.visited) }
+        ++ answer_text plan.now.locks.items (programs_of plan.now) names.now explored.now.trace explored.now.visited) }
 {
-    match &searched.trace {
-        None => write_none(text, searched.visited),
+    match &explored.trace {
+        None => write_none(text, explored.visited),
         Some(trace) => write_trace(alloc, text, plan, names, trace.as_slice()),
     }
 }
@@ -57,10 +56,10 @@ fn write_trace(
     text: &mut String,
     plan: &Plan,
     names: &Names,
-    trace: &[usize],
+    trace: &[Step],
 ) -> Result<(), AllocError>
     ensures { OnOk result (string_bytes text.new ≡ string_bytes text.old
-        ++ trace_text plan.now.locks.items names.now (first_world plan.now.locks.items (calls_of plan.now)) trace.now) }
+        ++ trace_text plan.now.locks.items names.now (first_world plan.now.locks.items (programs_of plan.now)) trace.now) }
 {
     let node = last_node(plan, trace);
     text.push_str(stop_word(is_refused(plan, node)))?;

@@ -8,7 +8,7 @@ ghost use Rattle.lock_plan_text.specs.Lanes.{held_text, step_cell, is_stop_turn,
 
 use crate::names::{Names, write_name};
 use crate::printer::mark::{Marked, Style, add_marks, write_marks};
-use lock_plan::{Plan, Turn};
+use lock_plan::{Act, Plan, Turn};
 use std::alloc::{AllocError, Global};
 
 /// A row of a drawing.
@@ -17,7 +17,7 @@ pub(crate) enum Row {
     /// The names of the parties.
     Parties,
     /// What the parties hold at a node, after a step of this party.
-    Step(usize, usize),
+    After(usize, usize),
     /// What the parties wait for at a node, in which a call is refused or not.
     Stop(usize, bool),
 }
@@ -31,12 +31,12 @@ pub(crate) fn write_cell(
     row: Row,
     party: usize,
 ) -> Result<(), AllocError>
-    requires { party < length plan.now.parties.items }
+    requires { party < length plan.now.programs.items }
     ensures { OnOk result (string_bytes text.new ≡ string_bytes text.old ++ cell_of plan.now names.now row party) }
 {
     match row {
         Row::Parties => write_name(text, names.parties.as_slice(), party),
-        Row::Step(node, mover) => write_step_cell(alloc, text, plan, names, node, mover, party),
+        Row::After(node, mover) => write_step_cell(alloc, text, plan, names, node, mover, party),
         Row::Stop(node, is_refused) => {
             write_stop_cell(text, plan, names, node, is_refused, party)
         }
@@ -53,7 +53,7 @@ fn write_step_cell(
     mover: usize,
     party: usize,
 ) -> Result<(), AllocError>
-    requires { party < length plan.now.parties.items }
+    requires { party < length plan.now.programs.items }
     ensures { OnOk result (string_bytes text.new ≡ string_bytes text.old
         ++ step_cell plan.now.locks.items names.now (world_of plan.now node) mover party) }
 {
@@ -80,7 +80,7 @@ fn locks_held(
     node: usize,
     party: usize,
 ) -> Result<Vec<Marked>, AllocError>
-    requires { party < length plan.now.parties.items }
+    requires { party < length plan.now.programs.items }
     ensures { IfOk result (λ marks. marks.items
         ≡ locks_held (get_or (world_of plan.now node) party no_stand).holds (length plan.now.locks.items)) }
 {
@@ -100,18 +100,16 @@ fn write_stop_cell(
     is_refused: bool,
     party: usize,
 ) -> Result<(), AllocError>
-    requires { party < length plan.now.parties.items }
+    requires { party < length plan.now.programs.items }
     ensures { OnOk result (string_bytes text.new ≡ string_bytes text.old
         ++ stop_cell plan.now.locks.items names.now (world_of plan.now node) is_refused party) }
 {
-    let Some(call) = plan.call(node, party) else {
-        return text.push('.');
-    };
-    if is_stop_turn(is_refused, plan.turn(node, party)) {
-        text.push_str("-> ")?;
-        write_name(text, names.locks.as_slice(), call.lock)
-    } else {
-        text.push('.')
+    match plan.act(node, party) {
+        Some(Act::Call(call)) if is_stop_turn(is_refused, plan.turn(node, party)) => {
+            text.push_str("-> ")?;
+            write_name(text, names.locks.as_slice(), call.lock)
+        }
+        _ => text.push('.'),
     }
 }
 

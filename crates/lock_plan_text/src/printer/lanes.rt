@@ -1,16 +1,15 @@
 //! Drawings: a column for each party.
 ghost use Rattle.std.specs.Prelude.{◌≡◌, ◌<◌, ◌++◌, length, replicate, OnOk, string_bytes};
 ghost use Rattle.lock_plan.specs.Worlds.{first_world};
-ghost use Rattle.lock_plan.specs.Stops.{calls_of};
+ghost use Rattle.lock_plan.specs.Stops.{programs_of};
 ghost use Rattle.lock_plan_text.specs.Lanes.{padded, row_text, cell_of, step_rows, lanes_text, drawing_text};
 
 use crate::names::Names;
 use crate::printer::cell::{Row, write_cell};
-use crate::printer::step::{last_node, step};
+use crate::printer::step::{last_node, stepped};
 use crate::printer::stop::is_refused;
-use lock_plan::Plan;
+use lock_plan::{Explored, Plan, Step};
 use std::alloc::{AllocError, Global};
-use step_search::Searched;
 
 /// The width of a column, with the space after it.
 const WIDTH: usize = 20;
@@ -21,12 +20,12 @@ pub fn write_drawing(
     text: &mut String,
     plan: &Plan,
     names: &Names,
-    searched: &Searched,
+    explored: &Explored,
 ) -> Result<(), AllocError>
     ensures { OnOk result (string_bytes text.new ≡ string_bytes text.old
-        ++ drawing_text plan.now.locks.items (calls_of plan.now) names.now searched.now.trace) }
+        ++ drawing_text plan.now.locks.items (programs_of plan.now) names.now explored.now.trace) }
 {
-    match &searched.trace {
+    match &explored.trace {
         None => Ok(()),
         Some(trace) => {
             text.push('\n')?;
@@ -42,11 +41,11 @@ fn write_lanes(
     text: &mut String,
     plan: &Plan,
     names: &Names,
-    trace: &[usize],
+    trace: &[Step],
 ) -> Result<(), AllocError>
     ensures { OnOk result (string_bytes text.new ≡ string_bytes text.old
-        ++ lanes_text plan.now.locks.items names.now (length plan.now.parties.items)
-        (first_world plan.now.locks.items (calls_of plan.now)) trace.now) }
+        ++ lanes_text plan.now.locks.items names.now (length plan.now.programs.items)
+        (first_world plan.now.locks.items (programs_of plan.now)) trace.now) }
 {
     write_row(alloc, text, plan, names, Row::Parties)?;
     write_step_rows(alloc, text, plan, names, trace)?;
@@ -67,16 +66,16 @@ fn write_step_rows(
     text: &mut String,
     plan: &Plan,
     names: &Names,
-    trace: &[usize],
+    trace: &[Step],
 ) -> Result<(), AllocError>
     ensures { OnOk result (string_bytes text.new ≡ string_bytes text.old
-        ++ step_rows plan.now.locks.items names.now (length plan.now.parties.items)
-        (first_world plan.now.locks.items (calls_of plan.now)) trace.now) }
+        ++ step_rows plan.now.locks.items names.now (length plan.now.programs.items)
+        (first_world plan.now.locks.items (programs_of plan.now)) trace.now) }
 {
     let mut node = plan.start();
-    for party in trace {
-        node = step(plan, node, *party);
-        write_row(alloc, text, plan, names, Row::Step(node, *party))?;
+    for step in trace {
+        node = stepped(plan, node, *step);
+        write_row(alloc, text, plan, names, Row::After(node, step.party))?;
     }
     Ok(())
 }
@@ -90,7 +89,7 @@ fn write_row(
     row: Row,
 ) -> Result<(), AllocError>
     ensures { OnOk result (string_bytes text.new ≡ string_bytes text.old
-        ++ row_text (cell_of plan.now names.now row) (length plan.now.parties.items)) }
+        ++ row_text (cell_of plan.now names.now row) (length plan.now.programs.items)) }
 {
     let Some(last) = plan.parties().checked_sub(1) else {
         return text.push('\n');
@@ -112,7 +111,7 @@ fn write_padded(
     row: Row,
     party: usize,
 ) -> Result<(), AllocError>
-    requires { party < length plan.now.parties.items }
+    requires { party < length plan.now.programs.items }
     ensures { OnOk result (string_bytes text.new ≡ string_bytes text.old ++ padded (cell_of plan.now names.now row party)) }
 {
     let start = text.len();

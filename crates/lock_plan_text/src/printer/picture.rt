@@ -7,14 +7,13 @@ mod waits;
 
 use crate::names::{Names, write_name};
 use crate::printer::mark::Mark;
-use crate::printer::step::{made_step, step, write_call};
+use crate::printer::step::{stepped, write_made};
 use crate::printer::stop::{is_refused, stop_word};
 use bars::write_bars;
 use itoa::Buffer;
 use layout::Layout;
-use lock_plan::{Plan, PlanCall};
+use lock_plan::{Explored, Plan, Step};
 use std::alloc::{AllocError, Global};
-use step_search::Searched;
 use svg::{Spot, Svg};
 use waits::{draw_waits, stopped_of, write_stopped};
 
@@ -28,10 +27,10 @@ pub fn draw_picture(
     alloc: Global,
     plan: &Plan,
     names: &Names,
-    searched: &Searched,
+    explored: &Explored,
 ) -> Result<String, AllocError> {
-    match &searched.trace {
-        None => picture_of_none(alloc, searched.visited),
+    match &explored.trace {
+        None => picture_of_none(alloc, explored.visited),
         Some(trace) => picture_of_run(plan, names, &Run::new(alloc, plan, trace.as_slice())?),
     }
 }
@@ -40,8 +39,7 @@ pub fn draw_picture(
 #[derive(Drop)]
 pub(crate) struct Run<'a> {
     alloc: Global,
-    /// The party of each step.
-    trace: &'a [usize],
+    trace: &'a [Step],
     /// The node before each step, and the last one.
     nodes: Vec<usize>,
     /// The node after the last step.
@@ -49,12 +47,12 @@ pub(crate) struct Run<'a> {
 }
 
 impl<'a> Run<'a> {
-    fn new(alloc: Global, plan: &Plan, trace: &'a [usize]) -> Result<Run<'a>, AllocError> {
+    fn new(alloc: Global, plan: &Plan, trace: &'a [Step]) -> Result<Run<'a>, AllocError> {
         let mut nodes = Vec::new(alloc);
         let mut node = plan.start();
-        for party in trace {
+        for step in trace {
             nodes.push(node)?;
-            node = step(plan, node, *party);
+            node = stepped(plan, node, *step);
         }
         nodes.push(node)?;
         Ok(Run {
@@ -79,7 +77,7 @@ fn picture_of_none(alloc: Global, visited: usize) -> Result<String, AllocError> 
 }
 
 fn picture_of_run(plan: &Plan, names: &Names, run: &Run) -> Result<String, AllocError> {
-    let layout = Layout::of_run(plan, names, run);
+    let layout = Layout::of_run(plan, names, run)?;
     let mut svg = Svg::new(run.alloc, layout.width(), layout.height())?;
     svg.text(
         "name",
@@ -113,7 +111,7 @@ fn write_column(
     svg.close_text()
 }
 
-/// A dot for each step, with its call.
+/// A dot for each step, and what it does.
 fn write_steps(
     svg: &mut Svg,
     plan: &Plan,
@@ -121,26 +119,14 @@ fn write_steps(
     run: &Run,
     layout: &Layout,
 ) -> Result<(), AllocError> {
-    for (row, (node, party)) in run.nodes.iter().zip(run.trace).enumerate() {
-        if let Some(call) = call_of_step(plan, *node, *party) {
-            let row = row.saturating_add(1);
-            svg.dot(layout.life(*party, row))?;
-            svg.open_text("call", layout.beside(*party, row))?;
-            write_call(svg.inner(), plan, names, call)?;
-            svg.close_text()?;
-        }
+    for (row, (node, step)) in run.nodes.iter().zip(run.trace).enumerate() {
+        let row = row.saturating_add(1);
+        svg.dot(layout.life(step.party, row))?;
+        svg.open_text("call", layout.beside(step.party, row))?;
+        write_made(svg.inner(), plan, names, *node, *step)?;
+        svg.close_text()?;
     }
     Ok(())
-}
-
-/// Returns what the next step of a party does at a node: its call, or an announcement for it.
-fn call_of_step(plan: &Plan, node: usize, party: usize) -> Option<PlanCall> {
-    if party >= plan.parties() {
-        return None;
-    }
-    let call = plan.call(node, party)?;
-    let step = made_step(plan.turn(node, party), call.step);
-    Some(PlanCall { step, ..call })
 }
 
 /// What the colors mean.

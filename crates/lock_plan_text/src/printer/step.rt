@@ -3,13 +3,13 @@ ghost use Rattle.std.specs.Prelude.{◌≡◌, ◌<◌, ◌++◌, OnOk, string_b
 ghost use Rattle.std.proofs.Common.{get_or};
 ghost use Rattle.lock_base.specs.Kind.{is_rwlock};
 ghost use Rattle.lock_plan.specs.Worlds.{no_lock, first_world};
-ghost use Rattle.lock_plan.specs.Stops.{calls_of, world_of};
-ghost use Rattle.lock_plan_text.specs.Steps.{call_text, step_text, steps_text, made_step, stepped, last_world};
+ghost use Rattle.lock_plan.specs.Stops.{programs_of, world_of};
+ghost use Rattle.lock_plan_text.specs.Steps.{act_text, call_text, made_text, step_text, steps_text, made_step, stepped, last_world};
 
 use crate::names::{Names, write_name};
-use crate::printer::words::step_word;
+use crate::printer::words::{choice_word, step_word};
 use lock_base::machine::LockStep;
-use lock_plan::{Plan, PlanCall, Turn};
+use lock_plan::{Act, Plan, PlanCall, Step, Turn};
 use std::alloc::AllocError;
 
 /// Appends the steps of a trace, a line each.
@@ -17,65 +17,110 @@ pub(crate) fn write_steps(
     text: &mut String,
     plan: &Plan,
     names: &Names,
-    trace: &[usize],
+    trace: &[Step],
 ) -> Result<(), AllocError>
     ensures { OnOk result (string_bytes text.new ≡ string_bytes text.old
-        ++ steps_text plan.now.locks.items names.now (first_world plan.now.locks.items (calls_of plan.now)) trace.now) }
+        ++ steps_text plan.now.locks.items names.now (first_world plan.now.locks.items (programs_of plan.now)) trace.now) }
 {
     let mut node = plan.start();
-    for party in trace {
-        write_step(text, plan, names, node, *party)?;
-        node = step(plan, node, *party);
+    for step in trace {
+        write_step(text, plan, names, node, *step)?;
+        node = stepped(plan, node, *step);
     }
     Ok(())
 }
 
 /// Returns the node of the world after a trace.
-pub(crate) fn last_node(plan: &Plan, trace: &[usize]) -> usize
+pub(crate) fn last_node(plan: &Plan, trace: &[Step]) -> usize
     ensures { world_of plan.now result
-        ≡ last_world plan.now.locks.items (first_world plan.now.locks.items (calls_of plan.now)) trace.now }
+        ≡ last_world plan.now.locks.items (first_world plan.now.locks.items (programs_of plan.now)) trace.now }
 {
     let mut node = plan.start();
-    for party in trace {
-        node = step(plan, node, *party);
+    for step in trace {
+        node = stepped(plan, node, *step);
     }
     node
 }
 
-/// Returns the node after a step of a party, or the same node where the party has no step.
-pub(crate) fn step(plan: &Plan, node: usize, party: usize) -> usize
+/// Returns the node after a step, or the same node where its party does not have the step.
+pub(crate) fn stepped(plan: &Plan, node: usize, step: Step) -> usize
     requires { node < plan.now.nodes }
-    ensures world { world_of plan.now result ≡ stepped plan.now.locks.items (world_of plan.now node) party }
+    ensures world { world_of plan.now result ≡ stepped plan.now.locks.items (world_of plan.now node) step }
     ensures within { result < plan.now.nodes }
 {
-    if party >= plan.parties() {
+    if step.party >= plan.parties() {
         return node;
     }
-    plan.after(node, party).unwrap_or(node)
+    plan.after(node, step).unwrap_or(node)
 }
 
-/// Appends the line of a party's step.
+/// Appends the line of a step.
 fn write_step(
     text: &mut String,
     plan: &Plan,
     names: &Names,
     node: usize,
-    party: usize,
+    step: Step,
 ) -> Result<(), AllocError>
     ensures { OnOk result (string_bytes text.new ≡ string_bytes text.old
-        ++ step_text plan.now.locks.items names.now (world_of plan.now node) party) }
+        ++ step_text plan.now.locks.items names.now (world_of plan.now node) step) }
 {
-    if party >= plan.parties() {
+    write_name(text, names.parties.as_slice(), step.party)?;
+    text.push(' ')?;
+    write_made(text, plan, names, node, step)?;
+    text.push('\n')
+}
+
+/// Appends what a step does, or nothing where its party has ended.
+pub(crate) fn write_made(
+    text: &mut String,
+    plan: &Plan,
+    names: &Names,
+    node: usize,
+    step: Step,
+) -> Result<(), AllocError>
+    ensures { OnOk result (string_bytes text.new ≡ string_bytes text.old
+        ++ made_text plan.now.locks.items names.now (world_of plan.now node) step) }
+{
+    if step.party >= plan.parties() {
         return Ok(());
     }
-    let Some(call) = plan.call(node, party) else {
-        return Ok(());
-    };
-    let step = made_step(plan.turn(node, party), call.step);
-    write_name(text, names.parties.as_slice(), party)?;
-    text.push(' ')?;
-    write_call(text, plan, names, PlanCall { step, ..call })?;
-    text.push('\n')
+    match plan.act(node, step.party) {
+        None => Ok(()),
+        Some(act) => {
+            let turn = plan.turn(node, step.party);
+            write_act(text, plan, names, act, turn, step.other)
+        }
+    }
+}
+
+/// Appends what an act does in this turn, or where it goes to the other place.
+fn write_act(
+    text: &mut String,
+    plan: &Plan,
+    names: &Names,
+    act: Act,
+    turn: Option<Turn>,
+    other: bool,
+) -> Result<(), AllocError>
+    ensures { OnOk result (string_bytes text.new ≡ string_bytes text.old
+        ++ act_text plan.now.locks.items names.now turn other act) }
+{
+    match act {
+        Act::Call(call) => {
+            let step = made_step(turn, call.step);
+            write_call(text, plan, names, PlanCall { step, ..call })
+        }
+        Act::Try(call) => {
+            text.push_str("try ")?;
+            write_call(text, plan, names, call)?;
+            text.push_str(if other { ": refused" } else { ": admitted" })
+        }
+        Act::Choose(block) => {
+            text.push_str(choice_word(block))?;
+            text.push_str(if other { ": past" } else { ": in" })
+        }
+    }
 }
 
 /// Returns what a step does: the call, or an announcement for it.

@@ -18,7 +18,7 @@ pub(crate) fn write_bars(
     layout: &Layout,
     party: usize,
 ) -> Result<(), AllocError>
-    requires { party < length plan.now.parties.items }
+    requires { party < length plan.now.programs.items }
 {
     for lock in 0..plan.locks().len() {
         for mark in &Mark::ALL {
@@ -56,7 +56,7 @@ fn write_bars_of(
     layout: &Layout,
     held: Held,
 ) -> Result<(), AllocError>
-    requires { held.party < length plan.now.parties.items }
+    requires { held.party < length plan.now.programs.items }
 {
     let mut since = None;
     for (row, node) in run.nodes.iter().enumerate() {

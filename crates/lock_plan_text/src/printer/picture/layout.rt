@@ -1,10 +1,10 @@
 //! Where the parts of a picture are, in pixels.
 use crate::names::Names;
+use crate::printer::picture::Run;
 use crate::printer::picture::svg::Spot;
-use crate::printer::picture::{Run, call_of_step};
-use crate::printer::step::is_rwlock;
-use crate::printer::words::step_word;
-use lock_plan::{Plan, PlanCall};
+use crate::printer::step::{write_call, write_made};
+use lock_plan::{Act, Plan};
+use std::alloc::AllocError;
 
 /// The sizes that a picture's places follow from. Numbers past the largest are the largest.
 #[derive(Clone, Copy)]
@@ -46,27 +46,29 @@ impl Layout {
     }
 
     /// The layout of a run.
-    pub(crate) fn of_run(plan: &Plan, names: &Names, run: &Run) -> Layout {
+    pub(crate) fn of_run(plan: &Plan, names: &Names, run: &Run) -> Result<Layout, AllocError> {
         let mut letters = 10;
         for name in &names.parties {
             letters = letters.max(name.len());
         }
-        for (node, party) in run.nodes.iter().zip(run.trace) {
-            if let Some(call) = call_of_step(plan, *node, *party) {
-                letters = letters.max(letters_of(plan, names, call));
-            }
+        for (node, step) in run.nodes.iter().zip(run.trace) {
+            let mut text = String::new(run.alloc);
+            write_made(&mut text, plan, names, *node, *step)?;
+            letters = letters.max(text.len());
         }
         for party in 0..plan.parties() {
-            if let Some(call) = plan.call(run.last, party) {
-                letters = letters.max(letters_of(plan, names, call));
+            if let Some(Act::Call(call)) = plan.act(run.last, party) {
+                let mut text = String::new(run.alloc);
+                write_call(&mut text, plan, names, call)?;
+                letters = letters.max(text.len());
             }
         }
-        Layout {
+        Ok(Layout {
             parties: plan.parties(),
             steps: run.trace.len(),
             slots: plan.locks().len(),
             letters,
-        }
+        })
     }
 
     pub(crate) fn width(&self) -> usize {
@@ -190,14 +192,4 @@ impl Layout {
 /// Returns `start` and so many lengths more.
 fn along(start: usize, count: usize, length: usize) -> usize {
     start.saturating_add(count.saturating_mul(length))
-}
-
-/// Returns how many letters the text of a call has.
-fn letters_of(plan: &Plan, names: &Names, call: PlanCall) -> usize {
-    let word = step_word(is_rwlock(plan, call.lock), call.step).len();
-    let name = match names.locks.get(call.lock) {
-        Some(name) => name.len(),
-        None => 0,
-    };
-    word.saturating_add(name).saturating_add(1)
 }

@@ -1,4 +1,4 @@
-use Rattle.std.proofs.Common.{◌≡◌, ◌∙◌, ℕ, suc, zero, ◌+◌, ◌≤◌, ◌<◌, List, [], ◌∷◌, ◌++◌, length, map, get_or, set, sym, ap, refl, arith, add-one}
+use Rattle.std.proofs.Common.{◌≡◌, ◌∙◌, ℕ, suc, zero, ◌≤◌, ◌<◌, List, [], ◌∷◌, ◌++◌, length, map, get_or, set, sym, ap, refl, arith, add-one}
 use Rattle.std.proofs.lemmas.List.{get_or_read_under, length-map, length-set}
 use Rattle.lock_plan_text.specs.Drafts.{onto_from}
 use Rattle.lock_plan_text.proofs.parser.place.push_from.Goals as goal

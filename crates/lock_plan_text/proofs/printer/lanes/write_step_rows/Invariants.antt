@@ -1,16 +1,16 @@
 -- The text so far, and the rows of the steps that are left, are all rows.
 use Rattle.std.proofs.Common.{◌≡◌, ◌<◌, ◌++◌, drop, length, string_bytes}
 use Rattle.lock_plan.specs.Worlds.{first_world}
-use Rattle.lock_plan.specs.Stops.{calls_of, world_of}
+use Rattle.lock_plan.specs.Stops.{programs_of, world_of}
 use Rattle.lock_plan_text.specs.Lanes.{step_rows}
 use Rattle.lock_plan_text.proofs.printer.lanes.write_step_rows.Given as goal
 
-abbrev pub invariant-loop-party : goal.invariant-loop-party
-invariant-loop-party l = record {
+abbrev pub invariant-loop-step : goal.invariant-loop-step
+invariant-loop-step l = record {
   text : string_bytes l.text
-      ++ step_rows l.plan.locks.items l.names (length l.plan.parties.items) (world_of l.plan l.node) (drop l.party-index l.trace)
+      ++ step_rows l.plan.locks.items l.names (length l.plan.programs.items) (world_of l.plan l.node) (drop l.step-index l.trace)
       ≡ string_bytes l.initial.text
-      ++ step_rows l.plan.locks.items l.names (length l.plan.parties.items)
-      (first_world l.plan.locks.items (calls_of l.plan)) l.trace;
+      ++ step_rows l.plan.locks.items l.names (length l.plan.programs.items)
+      (first_world l.plan.locks.items (programs_of l.plan)) l.trace;
   within : l.node < l.plan.nodes;
 }

@@ -8,7 +8,7 @@ pub returns : goal.returns
 returns c =
     let plan = c.args.plan.now in
     let n = c.args.node in
-    let at_end : c.loop-party.party ≡ length plan.parties.items =
+    let at_end : c.loop-party.party ≡ length plan.programs.items =
     omega (arith, c.loop-party-test.false, c.loop-party.auto.party-end, c.parties-party-end.ensures) in
     c.loop-party.invariant
     ∙ ap (some_below (λ p. is_refused_turn (turn_of plan.locks.items (world_of plan n) p))) (at_end ∙ sym (world_length plan n))

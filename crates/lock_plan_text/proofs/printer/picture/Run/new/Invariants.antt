@@ -2,5 +2,5 @@
 use Rattle.std.proofs.Common.{◌<◌}
 use Rattle.lock_plan_text.proofs.printer.picture.Run.new.Given as goal
 
-abbrev pub invariant-loop-party : goal.invariant-loop-party
-invariant-loop-party l = record { within : l.node < l.plan.nodes }
+abbrev pub invariant-loop-step : goal.invariant-loop-step
+invariant-loop-step l = record { within : l.node < l.plan.nodes }

@@ -1,0 +1,173 @@
+-- A scene stops exactly where the world stops that it is tied to.
+use Rattle.std.proofs.Common.{◌≡◌, ℕ, zero, suc, ◌+◌, ◌<◌, ◌^◌, Bool, true, false, not, ◌||◌, ◌⊎◌, inl, inr, ◌↔◌, List, length, map, get_or, Option, Some, None, is_some, IsTrue, refl, ap, sym, ◌∙◌, arith}
+use Rattle.std.proofs.lemmas.Bool.{and_parts, and_from, or_cases, false≢true, not-true}
+use Rattle.lock_base.specs.declared.machine.party.PartyId.{PartyId}
+use Rattle.lock_base.specs.declared.machine.hold.Hold.{Hold}
+use Rattle.lock_base.specs.Operation.{Operation}
+use Rattle.lock_base.specs.Kind.{is_rwlock}
+use Rattle.lock_plan.specs.declared.lock.PlanLock.{PlanLock}
+use Rattle.lock_plan.specs.declared.program.Act.{Act}
+use Rattle.lock_plan.specs.declared.program.Act.TheVariants as act
+use Rattle.lock_plan.specs.declared.program.Place.{Place}
+use Rattle.lock_plan.specs.declared.program.Step.{Step}
+use Rattle.lock_plan.specs.declared.turn.Turn.{Turn}
+use Rattle.lock_plan.specs.declared.turn.Turn.TheVariants.{Goes, Announces, Waits, Refused}
+use Rattle.lock_plan.specs.Worlds.{Stand, no_stand, no_lock, act_of, reply_at, reply_of, turn_by, turn_of, is_goes, some_below, is_server, is_due, is_refused_turn, is_step_turn, is_stuck, is_refused, is_stop}
+use Rattle.lock_plan_laws.specs.Scenes.{Caller, Scene, act_at, IsStep, IsStuckScene, IsRefusedScene, IsStopScene}
+use Rattle.lock_plan_laws.specs.Bridge.{AreDistinct}
+use Rattle.lock_plan_laws.proofs.Ties.{IsTied}
+use Rattle.lock_plan_laws.proofs.Steps.{act_same, known}
+use Rattle.lock_plan_laws.proofs.SceneSteps.{call_known, call_turn, called, tried, chosen, step_on}
+
+-- a number below that has it
+
+some_at : (f : ℕ → Bool) (n p : ℕ) → p < n → f p ≡ true → some_below f n ≡ true
+some_at f zero p lt is = absurd (omega arith)
+some_at f (suc n) p lt is = by_last (f n) refl (some_at f n p)
+  where
+    by_last : (b : Bool) → f n ≡ b → (p < n → f p ≡ true → some_below f n ≡ true) → (f n || some_below f n) ≡ true
+    by_last true here rest = ap (λ (b : Bool). b || some_below f n) here
+    by_last false other rest =
+        ap (λ (b : Bool). b || some_below f n) other
+        ∙ rest (let apart : p ≡ n → ⊥ = λ same. false≢true (sym other ∙ ap f (sym same) ∙ is) in omega arith) is
+
+some_found : (f : ℕ → Bool) (n : ℕ) → some_below f n ≡ true → (p : ℕ) × (f p ≡ true)
+some_found f zero is = cc
+some_found f (suc n) is = by_last (f n) refl is (some_found f n)
+  where
+    by_last : (b : Bool) → f n ≡ b → (b || some_below f n) ≡ true → (some_below f n ≡ true → (p : ℕ) × (f p ≡ true)) → (p : ℕ) × (f p ≡ true)
+    by_last true here any rest = (n, here)
+    by_last false other any rest = rest any
+
+not_not : (b : Bool) → b ≡ not (not b)
+not_not true = refl
+not_not false = refl
+
+refused_is : (o : Option Turn) → is_refused_turn o ≡ true → o ≡ Some Refused
+refused_is None is = cc
+refused_is (Some Goes) is = cc
+refused_is (Some Announces) is = cc
+refused_is (Some Waits) is = cc
+refused_is (Some Refused) is = refl
+
+-- a step's turn
+step_is : (o : Option Turn) → is_step_turn o ≡ true → (o ≡ Some Goes) ⊎ (o ≡ Some Announces)
+step_is None is = cc
+step_is (Some Goes) is = inl refl
+step_is (Some Announces) is = inr refl
+step_is (Some Waits) is = cc
+step_is (Some Refused) is = cc
+
+-- a party at an act of its program has a turn, whatever the other parties hold
+turn_some : (locks : List PlanLock) (hss : List (List Hold)) (p : ℕ) (a : Act) → is_some (turn_by (Some a) (reply_at locks hss p (Some a))) ≡ true
+turn_some locks hss p (act.Call call) = refl
+turn_some locks hss p (act.Try call) = refl
+turn_some locks hss p (act.Choose block) = refl
+
+module _ {O T A : Type 0} (meaning : O → Operation T A) (ids : ℕ → PartyId) (distinct : AreDistinct ids) (locks : List PlanLock)
+    (bars : (l : ℕ) → IsTrue (get_or locks l no_lock).bar → IsTrue (is_rwlock (get_or locks l no_lock).kind)) (programs : List (List Place)) where
+  module _ (w : List Stand) (s : Scene T) (used : ℕ) (tied : IsTied ids locks programs w s used) (few : used + 1 < 2 ^ 64) where
+    abbrev stand : ℕ → Stand
+    stand p = get_or w p no_stand
+
+    refused_here : IsRefusedScene meaning ids locks programs s → is_refused locks w ≡ true
+    refused_here h =
+        some_at (λ p. is_refused_turn (turn_of locks w p)) (length w) h.0.party (call_known meaning ids distinct locks bars programs w s used tied few h.0 Refused h.1 h.2)
+        (ap is_refused_turn (call_turn meaning ids distinct locks bars programs w s used tied few h.0 Refused h.1 h.2))
+
+    refused_by : (p : ℕ) (o : Option Act) → act_of (get_or w p no_stand) ≡ o → turn_by o (reply_of locks w p) ≡ Some Refused
+        → IsRefusedScene meaning ids locks programs s
+    refused_by p None here is = cc
+    refused_by p (Some (act.Call call)) here is =
+        let taken : Step = record { party = p; other = false } in
+        let h = called meaning ids distinct locks bars programs w s used tied few taken call Refused here refl is in
+        (record { step = taken; guard = h.0 }, h.1, h.2)
+    refused_by p (Some (act.Try call)) here is = cc
+    refused_by p (Some (act.Choose block)) here is = cc
+
+    refused_back : is_refused locks w ≡ true → IsRefusedScene meaning ids locks programs s
+    refused_back is =
+        let found = some_found (λ p. is_refused_turn (turn_of locks w p)) (length w) is in
+        refused_by found.0 (act_of (stand found.0)) refl (refused_is (turn_of locks w found.0) found.1)
+
+    -- a step of a party in the world is one that it has in the scene
+    step_of_turn : (p : ℕ) (o : Option Act) → act_of (get_or w p no_stand) ≡ o → is_step_turn (turn_by o (reply_of locks w p)) ≡ true
+        → ((c : Caller) (after : Scene T) → IsStep meaning ids locks programs s c after → ⊥) → ⊥
+    step_of_turn p None here is none = cc
+    step_of_turn p (Some (act.Call call)) here is none = by_turn (step_is (reply_of locks w p) is)
+      where
+        by_turn : (reply_of locks w p ≡ Some Goes) ⊎ (reply_of locks w p ≡ Some Announces) → ⊥
+        by_turn (inl goes) =
+            let h = called meaning ids distinct locks bars programs w s used tied few (record { party = p; other = false }) call Goes here refl goes in none _ h.1 (inl h.2)
+        by_turn (inr announces) =
+            let h = called meaning ids distinct locks bars programs w s used tied few (record { party = p; other = false }) call Announces here refl announces in none _ h.1 (inr (inl h.2))
+    step_of_turn p (Some (act.Try call)) here is none =
+        let goes : Bool = is_goes (reply_of locks w p) in
+        let h = tried meaning ids distinct locks bars programs w s used tied few (record { party = p; other = not goes }) call here (not_not goes) in none _ h.1 (inr (inr (inl h.2)))
+    step_of_turn p (Some (act.Choose block)) here is none =
+        let h = chosen meaning ids distinct locks bars programs w s used tied few (record { party = p; other = false }) block here in none _ h.0 (inr (inr (inr h.1)))
+
+    no_step_here : ((c : Caller) (after : Scene T) → IsStep meaning ids locks programs s c after → ⊥)
+        → some_below (λ p. is_step_turn (turn_of locks w p)) (length w) ≡ true → ⊥
+    no_step_here none is =
+        let found = some_found (λ p. is_step_turn (turn_of locks w p)) (length w) is in
+        step_of_turn found.0 (act_of (stand found.0)) refl found.1 none
+
+    step_there : (c : Caller) (after : Scene T) → IsStep meaning ids locks programs s c after
+        → some_below (λ p. is_step_turn (turn_of locks w p)) (length w) ≡ true
+    step_there c after h =
+        let one = step_on meaning ids distinct locks bars programs w s used tied few c after h in some_at (λ p. is_step_turn (turn_of locks w p)) (length w) c.party one.known one.has_step
+
+    not_true : (b : Bool) → (b ≡ true → ⊥) → not b ≡ true
+    not_true true h = absurd (h refl)
+    not_true false h = refl
+
+    stuck_here : (servers : List Bool) → IsStuckScene meaning ids locks programs servers s → is_stuck servers locks w ≡ true
+    stuck_here servers h =
+        let p = h.due.0 in
+        let here : act_of (stand p) ≡ Some h.due.1 = sym (act_same meaning ids distinct locks bars programs w s used tied p) ∙ h.due.2 in
+        let some : is_some (turn_of locks w p) ≡ true =
+        ap (λ (o : Option Act). is_some (turn_by o (reply_at locks (map (λ x. x.holds) w) p o))) here
+        ∙ turn_some locks (map (λ x. x.holds) w) p h.due.1 in
+        and_from _ _
+        (some_at (λ q. is_due (is_server servers q) (turn_of locks w q)) (length w) p
+        (known meaning ids distinct locks bars programs w s used tied p h.due.1 here)
+        (and_from (is_some (turn_of locks w p)) (not (is_server servers p)) some (ap not h.due.3)))
+        (not_true (some_below (λ q. is_step_turn (turn_of locks w q)) (length w)) (no_step_here h.none))
+
+    due_by : (servers : List Bool) (p : ℕ) (o : Option Act) → act_of (get_or w p no_stand) ≡ o
+        → is_some (turn_by o (reply_of locks w p)) ≡ true → is_server servers p ≡ false
+        → (q : ℕ) × (here : Act) × (act_at programs s q ≡ Some here) × (is_server servers q ≡ false)
+    due_by servers p None here is other = cc
+    due_by servers p (Some a) here is other = (p, a, act_same meaning ids distinct locks bars programs w s used tied p ∙ here, other)
+
+    stuck_back : (servers : List Bool) → is_stuck servers locks w ≡ true → IsStuckScene meaning ids locks programs servers s
+    stuck_back servers is =
+        let both = and_parts (some_below (λ q. is_due (is_server servers q) (turn_of locks w q)) (length w))
+        (not (some_below (λ q. is_step_turn (turn_of locks w q)) (length w))) is in
+        let found = some_found (λ q. is_due (is_server servers q) (turn_of locks w q)) (length w) both.0 in
+        let due = and_parts (is_some (turn_of locks w found.0)) (not (is_server servers found.0)) found.1 in
+        record {
+          due = due_by servers found.0 (act_of (stand found.0)) refl due.0 (not-true (is_server servers found.0) due.1);
+          none = λ c after h.
+              false≢true (sym (not-true (some_below (λ q. is_step_turn (turn_of locks w q)) (length w)) both.1) ∙ step_there c after h);
+        }
+
+    or_one : (a b : Bool) → (a ≡ true) ⊎ (b ≡ true) → (a || b) ≡ true
+    or_one true b h = refl
+    or_one false b (inl h) = absurd (false≢true h)
+    or_one false b (inr h) = h
+
+    stop_here : (servers : List Bool) → IsStopScene meaning ids locks programs servers s → is_stop servers locks w ≡ true
+    stop_here servers (inl h) = or_one (is_refused locks w) (is_stuck servers locks w) (inl (refused_here h))
+    stop_here servers (inr h) = or_one (is_refused locks w) (is_stuck servers locks w) (inr (stuck_here servers h))
+
+    stop_by : (servers : List Bool) → (is_refused locks w ≡ true) ⊎ (is_stuck servers locks w ≡ true) → IsStopScene meaning ids locks programs servers s
+    stop_by servers (inl h) = inl (refused_back h)
+    stop_by servers (inr h) = inr (stuck_back servers h)
+
+    pub same_stop : (servers : List Bool) → IsStopScene meaning ids locks programs servers s ↔ (is_stop servers locks w ≡ true)
+    same_stop servers = (
+      stop_here servers,
+      λ is. stop_by servers (or_cases (is_refused locks w) (is_stuck servers locks w) is),
+    )

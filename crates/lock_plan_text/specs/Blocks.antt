@@ -1,0 +1,122 @@
+-- The program of a party's lines: each line that is a step is a place.
+use Rattle.std.specs.Prelude.{ℕ, zero, suc, ◌+◌, ◌-◌, Bool, true, false, not, ◌&&◌, ◌||◌, ◌==◌, if◌then◌else◌, nat_lt, List, [], ◌∷◌, drop, length, Option, Some, None}
+use Rattle.std.proofs.Common.{get_or}
+use Rattle.lock_plan.specs.declared.program.Act.{Act}
+use Rattle.lock_plan.specs.declared.program.Act.TheVariants as act
+use Rattle.lock_plan.specs.declared.program.Block.TheVariants as block
+use Rattle.lock_plan.specs.declared.program.Place.{Place}
+use Rattle.lock_plan.specs.Points.{said_below}
+use Rattle.lock_plan_text.specs.declared.parser.block_line.BlockLine.{BlockLine}
+use Rattle.lock_plan_text.specs.declared.parser.block_line.BlockLine.TheVariants.{Call, Try, Word}
+use Rattle.lock_plan_text.specs.declared.parser.block_line.BlockWord.TheVariants.{Repeat, Either, Else, Or, End}
+
+-- whether a line begins a block, ends one, or parts one: an else, or or end
+abbrev pub begins : BlockLine → Bool
+begins (Try call) = true
+begins (Word Repeat) = true
+begins (Word Either) = true
+begins line = false
+
+abbrev pub ends : BlockLine → Bool
+ends (Word End) = true
+ends line = false
+
+abbrev pub parts : BlockLine → Bool
+parts (Word Else) = true
+parts (Word Or) = true
+parts (Word End) = true
+parts line = false
+
+abbrev pub is_or : BlockLine → Bool
+is_or (Word Or) = true
+is_or line = false
+
+abbrev pub is_repeat : BlockLine → Bool
+is_repeat (Word Repeat) = true
+is_repeat line = false
+
+-- the line with this number; past the last line there is an end
+abbrev pub line_at : List BlockLine → ℕ → BlockLine
+line_at lines i = get_or lines i (Word End)
+
+-- how many blocks are open after a line, of those that were open before it; and before a line, of those open after it
+abbrev pub deeper : ℕ → BlockLine → ℕ
+deeper depth line = if begins line then depth + 1 else (if ends line then depth - 1 else depth)
+
+abbrev pub higher : ℕ → BlockLine → ℕ
+higher depth line = if begins line then depth - 1 else (if ends line then depth + 1 else depth)
+
+-- the first of these lines, which are counted from `i`, that parts the block around them; `depth` blocks in it are open
+abbrev pub boundary_from : ℕ → ℕ → List BlockLine → ℕ
+boundary_from depth i [] = i
+boundary_from depth i (line ∷ rest) =
+    if (depth == 0) && parts line then i else boundary_from (deeper depth line) (i + 1) rest
+
+-- the next line that parts the block which line `i` begins or parts
+abbrev pub boundary : List BlockLine → ℕ → ℕ
+boundary lines i = boundary_from 0 (i + 1) (drop (i + 1) lines)
+
+-- the line above `i` that begins the block around it; `depth` blocks in it are open
+abbrev pub beginning_from : List BlockLine → ℕ → ℕ → ℕ
+beginning_from lines depth zero = 0
+beginning_from lines depth (suc i) =
+    if (depth == 0) && begins (line_at lines i) then i else beginning_from lines (higher depth (line_at lines i)) i
+
+abbrev pub beginning : List BlockLine → ℕ → ℕ
+beginning lines i = beginning_from lines 0 i
+
+-- where a party goes on that comes before line `i`, the first of `rest`, and leaves so many blocks first: at a call or the
+-- beginning of a block; from an end back to its repeat, or past it; from an else or or past its block
+abbrev pub land_from : List BlockLine → ℕ → ℕ → List BlockLine → ℕ
+land_from lines leave i [] = length lines
+land_from lines leave i (line ∷ rest) =
+    if nat_lt 0 leave then land_from lines (deeper leave line) (i + 1) rest
+    else (if not (parts line) then i
+    else (if not (ends line) then land_from lines 1 (i + 1) rest
+    else (if is_repeat (line_at lines (beginning lines i)) then beginning lines i
+    else land_from lines 0 (i + 1) rest)))
+
+abbrev pub land : List BlockLine → ℕ → ℕ
+land lines i = land_from lines 0 i (drop i lines)
+
+-- whether a line is a step: an or is one if a further or of its block follows
+abbrev pub is_step : List BlockLine → ℕ → Bool
+is_step lines i = not (parts (line_at lines i)) || (is_or (line_at lines i) && is_or (line_at lines (boundary lines i)))
+
+-- the number of the place of a step: how many steps come before it
+abbrev pub place_number : List BlockLine → ℕ → ℕ
+place_number lines zero = 0
+place_number lines (suc i) = if is_step lines i then place_number lines i + 1 else place_number lines i
+
+-- where a party goes on that does not do what follows a step
+abbrev pub other_line : List BlockLine → ℕ → ℕ
+other_line lines i = if is_step lines (boundary lines i) then boundary lines i else land lines (boundary lines i + 1)
+
+abbrev pub act_of_line : BlockLine → Act
+act_of_line (Call call) = act.Call call
+act_of_line (Try call) = act.Try call
+act_of_line (Word Repeat) = act.Choose block.Repeat
+act_of_line (Word word) = act.Choose block.Either
+
+-- the place of a step; a call has one place after it
+abbrev pub place_with : Act → ℕ → ℕ → Place
+place_with (act.Call call) next other = record { act = act.Call call; next = next; other = next }
+place_with (act.Try call) next other = record { act = act.Try call; next = next; other = other }
+place_with (act.Choose block) next other = record { act = act.Choose block; next = next; other = other }
+
+abbrev pub place_of_line : List BlockLine → ℕ → Place
+place_of_line lines i =
+    place_with (act_of_line (line_at lines i)) (place_number lines (land lines (i + 1))) (place_number lines (other_line lines i))
+
+abbrev pub place_if : List BlockLine → ℕ → Option Place
+place_if lines i = if is_step lines i then Some (place_of_line lines i) else None
+
+abbrev pub program_of : List BlockLine → List Place
+program_of lines = said_below (place_if lines) (length lines)
+
+-- of the numbers of all lines, those of the steps
+abbrev pub number_if : List BlockLine → List ℕ → ℕ → Option ℕ
+number_if lines numbers i = if is_step lines i then Some (get_or numbers i 0) else None
+
+abbrev pub step_numbers : List BlockLine → List ℕ → List ℕ
+step_numbers lines numbers = said_below (number_if lines numbers) (length lines)

@@ -1,0 +1,39 @@
+-- The blocks that are open, the innermost first, and the lines that fit.
+use Rattle.std.specs.Prelude.{if◌then◌else◌, nat_lt, List, [], ◌∷◌, ◌++◌, length, reverse, Option, Some, None, option_map}
+use Rattle.lock_plan.specs.Points.{listed}
+use Rattle.lock_plan_text.specs.declared.parser.block_line.BlockLine.{BlockLine}
+use Rattle.lock_plan_text.specs.declared.parser.block_line.BlockLine.TheVariants.{Call, Try, Word}
+use Rattle.lock_plan_text.specs.declared.parser.block_line.BlockWord.{BlockWord}
+use Rattle.lock_plan_text.specs.declared.parser.block_line.BlockWord.TheVariants.{Repeat, Either, Else, Or, End}
+use Rattle.lock_plan_text.specs.declared.parser.open_block.OpenBlock.{OpenBlock}
+use Rattle.lock_plan_text.specs.declared.parser.open_block.OpenBlock.TheVariants as inside
+use Rattle.lock_plan_text.specs.declared.parser.open_block.OpenBlocks.{OpenBlocks}
+
+abbrev pub opened : OpenBlocks → List OpenBlock
+opened open_blocks = reverse open_blocks.blocks.items
+
+-- one more block, unless as many are open as there may be
+abbrev pub begun : List OpenBlock → OpenBlock → Option (List OpenBlock)
+begun blocks block = if nat_lt (length blocks) 64 then Some (block ∷ blocks) else None
+
+-- a block after a word of it: its part that the word begins, or none where the word ends it; other words do not fit
+abbrev pub turned : OpenBlock → BlockWord → Option (Option OpenBlock)
+turned inside.Try Else = Some (Some inside.Else)
+turned inside.Either Or = Some (Some inside.Or)
+turned inside.Or Or = Some (Some inside.Or)
+turned inside.Else End = Some None
+turned inside.Repeat End = Some None
+turned inside.Or End = Some None
+turned block word = None
+
+abbrev pub turned_first : List OpenBlock → BlockWord → Option (List OpenBlock)
+turned_first [] word = None
+turned_first (block ∷ blocks) word = option_map (λ part. listed part ++ blocks) (turned block word)
+
+-- the blocks that are open after a line, if it fits
+abbrev pub open_after : List OpenBlock → BlockLine → Option (List OpenBlock)
+open_after blocks (Call call) = Some blocks
+open_after blocks (Try call) = begun blocks inside.Try
+open_after blocks (Word Repeat) = begun blocks inside.Repeat
+open_after blocks (Word Either) = begun blocks inside.Either
+open_after blocks (Word word) = turned_first blocks word

@@ -1,0 +1,20 @@
+//! The words of blocks.
+ghost use Rattle.std.specs.Prelude.{◌≡◌, IfNone, IfSome};
+ghost use Rattle.lock_plan_text.specs.PlanLines.{block_word};
+
+use crate::parser::block_line::BlockWord;
+
+/// Reads the word of a block's line.
+pub(crate) fn block_word(word: &str) -> Option<BlockWord>
+    ensures word { IfSome result (λ found. block_word found ≡ word.now) }
+    ensures bad { IfNone result ((found : BlockWord) → block_word found ≡ word.now → ⊥) }
+{
+    match word {
+        "repeat" => Some(BlockWord::Repeat),
+        "either" => Some(BlockWord::Either),
+        "else" => Some(BlockWord::Else),
+        "or" => Some(BlockWord::Or),
+        "end" => Some(BlockWord::End),
+        _ => None,
+    }
+}

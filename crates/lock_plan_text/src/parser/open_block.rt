@@ -1,0 +1,96 @@
+//! The blocks that are open.
+use crate::parser::block_line::{BlockLine, BlockWord};
+use std::alloc::{AllocError, Global};
+
+/// An open block, by its part that is open.
+#[derive(Clone, Copy, PartialEq, Eq, Debug)]
+pub(crate) enum OpenBlock {
+    Try,
+    Else,
+    Repeat,
+    Either,
+    Or,
+}
+
+/// The blocks that are open, the innermost last. There are 64 at most.
+#[derive(Drop)]
+pub(crate) struct OpenBlocks {
+    pub(crate) blocks: Vec<OpenBlock>,
+}
+
+impl OpenBlocks {
+    ghost use Rattle.std.specs.Prelude.{◌≡◌, [], length, nat_lt, not, if◌then◌else◌, Some, None, IfOk};
+    ghost use Rattle.lock_plan_text.specs.OpenBlocks.{begun, open_after, opened, turned_first};
+
+    /// Makes the blocks of no lines.
+    pub(crate) fn new(alloc: Global) -> OpenBlocks
+        ensures { opened result ≡ [] }
+    {
+        OpenBlocks {
+            blocks: Vec::new(alloc),
+        }
+    }
+
+    /// Returns whether there are none.
+    pub(crate) fn are_none(&self) -> bool
+        ensures { result ≡ not (nat_lt 0 (length (opened self.now))) }
+    {
+        self.blocks.is_empty()
+    }
+
+    /// Turns to the blocks that are open after a line, and returns whether the line fits.
+    pub(crate) fn turn(&mut self, line: BlockLine) -> Result<bool, AllocError>
+        ensures { IfOk result (λ fits. open_after (opened self.old) line ≡ (if fits then Some (opened self.new) else None)) }
+    {
+        match line {
+            BlockLine::Call(_) => Ok(true),
+            BlockLine::Try(_) => self.begin(OpenBlock::Try),
+            BlockLine::Word(BlockWord::Repeat) => self.begin(OpenBlock::Repeat),
+            BlockLine::Word(BlockWord::Either) => self.begin(OpenBlock::Either),
+            BlockLine::Word(word) => self.turn_first(word),
+        }
+    }
+
+    /// Opens a block, unless 64 are open.
+    fn begin(&mut self, block: OpenBlock) -> Result<bool, AllocError>
+        ensures { IfOk result (λ fits. begun (opened self.old) block ≡ (if fits then Some (opened self.new) else None)) }
+    {
+        if self.blocks.len() >= 64 {
+            return Ok(false);
+        }
+        self.blocks.push(block)?;
+        Ok(true)
+    }
+
+    /// Turns the innermost block to the part that the word begins, or ends it. Returns whether the word fits.
+    fn turn_first(&mut self, word: BlockWord) -> Result<bool, AllocError>
+        ensures { IfOk result (λ fits. turned_first (opened self.old) word ≡ (if fits then Some (opened self.new) else None)) }
+    {
+        let Some(block) = self.blocks.pop() else {
+            return Ok(false);
+        };
+        match turned(block, word) {
+            None => Ok(false),
+            Some(None) => Ok(true),
+            Some(Some(part)) => {
+                self.blocks.push(part)?;
+                Ok(true)
+            }
+        }
+    }
+}
+
+ghost use Rattle.std.specs.Prelude.{◌≡◌};
+ghost use Rattle.lock_plan_text.specs.OpenBlocks.{turned};
+
+/// Returns the part of a block that the word begins, or none where the word ends the block, if the word fits.
+fn turned(block: OpenBlock, word: BlockWord) -> Option<Option<OpenBlock>>
+    ensures { result ≡ turned block word }
+{
+    match (block, word) {
+        (OpenBlock::Try, BlockWord::Else) => Some(Some(OpenBlock::Else)),
+        (OpenBlock::Either | OpenBlock::Or, BlockWord::Or) => Some(Some(OpenBlock::Or)),
+        (OpenBlock::Else | OpenBlock::Repeat | OpenBlock::Or, BlockWord::End) => Some(None),
+        _ => None,
+    }
+}

@@ -1,0 +1,14 @@
+//! What lines of a text say.
+use crate::parser::block_line::BlockWord;
+use crate::parser::plan_line::PlanLine;
+use lock_base::machine::LockStep;
+
+/// What a line of a text says.
+#[derive(Clone, Copy, PartialEq, Eq, Debug)]
+pub(crate) enum TextLine {
+    Plan(PlanLine),
+    /// A call that is tried, and whether its word is one for reader-writer locks.
+    Try(bool, LockStep),
+    /// A line of a block. It names nothing.
+    Word(BlockWord),
+}
