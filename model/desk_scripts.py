@@ -28,7 +28,7 @@ class Desk:
 
     def call(self, does, party, word, is_tried):
         """Adds a call of a party, whose turn the model foretells. A try does not announce its party."""
-        form = "try_" if is_tried else ""
+        form, refused = ("try_", "none") if is_tried else ("", "refused 1")
         if does == "announces" and not is_tried:
             self.add(f"{word} {party}", "refused 1")
             self.add(f"announce {party}", "ok")
@@ -36,13 +36,13 @@ class Desk:
             self.add(f"{word} {party}", "ok" if does == "goes" else "refused 17")
         elif word in plans.ACQUIRED:
             self.issued += does == "goes"
-            self.add(f"{form}{word} {party}", f"guard {self.issued}" if does == "goes" else "refused 1")
+            self.add(f"{form}{word} {party}", f"guard {self.issued}" if does == "goes" else refused)
             if does == "goes":
                 self.held(party, plans.ACQUIRED[word]).append(self.issued)
         else:
             before, after = plans.CHANGED.get(word) or (plans.RELEASED[word], None)
             guard = self.held(party, before)[-1]
-            self.add(f"{form}{WORDS.get(word, word)} {party} {guard}", "ok" if does == "goes" else "refused 1")
+            self.add(f"{form}{WORDS.get(word, word)} {party} {guard}", "ok" if does == "goes" else refused)
             if does == "goes":
                 self.held(party, before).pop()
                 self.held(party, after).append(guard)
