@@ -1,6 +1,6 @@
 //! The mutex and its guards.
 pub mod gated;
-mod makers;
+pub mod makers;
 mod order;
 mod parts;
 mod raw_calls;

@@ -9,10 +9,20 @@ use lock_test_support::answer::equal;
 use std::alloc::Global;
 use std::test::Fail;
 
-/// A maker, the value of its mutex, and whether the raw lock is free and got no call.
-type Made = (&'static str, u64, bool);
+/// The call that makes a lock.
+#[derive(Clone, Copy, PartialEq, Debug)]
+pub enum Maker {
+    New,
+    From,
+    Default,
+    FromRaw,
+    WithLevels,
+}
 
-fn consumed<R: RawMutex + Drop>(maker: &'static str, mutex: Mutex<Recorder<R>, u64>) -> Made {
+/// A maker, the value of its mutex, and whether the raw lock is free and got no call.
+type Made = (Maker, u64, bool);
+
+fn consumed<R: RawMutex + Drop>(maker: Maker, mutex: Mutex<Recorder<R>, u64>) -> Made {
     let (raw, value) = mutex.into_inner_with_raw();
     (maker, value, raw.has_no_calls() && !raw.is_locked())
 }
@@ -20,13 +30,17 @@ fn consumed<R: RawMutex + Drop>(maker: &'static str, mutex: Mutex<Recorder<R>, u
 fn made<R: RawMutex + Drop>(alloc: Global, waiters: [R::Waiter; 3]) -> Result<[Made; 3], Fault> {
     let [first, second, third] = waiters;
     Ok([
-        consumed::<R>("new", Mutex::new(alloc, first, 5)?),
-        consumed::<R>("from", Mutex::from(alloc, second, 6)?),
-        consumed::<R>("default", Mutex::default(alloc, third)?),
+        consumed::<R>(Maker::New, Mutex::new(alloc, first, 5)?),
+        consumed::<R>(Maker::From, Mutex::from(alloc, second, 6)?),
+        consumed::<R>(Maker::Default, Mutex::default(alloc, third)?),
     ])
 }
 
-const WANTED: [Made; 3] = [("new", 5, true), ("from", 6, true), ("default", 0, true)];
+const WANTED: [Made; 3] = [
+    (Maker::New, 5, true),
+    (Maker::From, 6, true),
+    (Maker::Default, 0, true),
+];
 
 #[test]
 fn makers_of_a_mutex_lock_nothing(rt: HostRuntime) -> Result<(), Fail> {

@@ -1,5 +1,6 @@
 //! The makers of a reentrant lock, and what a consumed lock returns.
 use crate::tests::Table;
+use crate::tests::mutex::makers::Maker;
 use lock_base::machine::Mode::Exclusive;
 use lock_base::machine::PartyId;
 use lock_base::raw::Fault;
@@ -16,7 +17,7 @@ use std::mem;
 use std::test::Fail;
 
 /// A maker, the value of its lock, how many of a hundred levels a party gets, and whether they are one raw call.
-type Made = (&'static str, u8, u8, bool);
+type Made = (Maker, u8, u8, bool);
 
 /// How many of a hundred levels the party gets. They stay held.
 fn levels<R: RawMutex>(lock: &ReentrantMutex<R, u8>, party: PartyId) -> u8
@@ -34,7 +35,7 @@ where
 
 /// Acquires levels of a new lock, and consumes it.
 fn consumed<R: RawMutex + Drop>(
-    maker: &'static str,
+    maker: Maker,
     lock: ReentrantMutex<Recorder<R>, u8>,
     party: PartyId,
 ) -> Result<Made, Fault>
@@ -59,24 +60,28 @@ where
     let [first, second, third, fourth, fifth] = waiters;
     let raw: Recorder<R> = RawMutex::new(alloc, fifth)?;
     Ok([
-        consumed::<R>("new", ReentrantMutex::new(alloc, first, 5)?, one)?,
-        consumed::<R>("from", ReentrantMutex::from(alloc, second, 6)?, one)?,
-        consumed::<R>("default", ReentrantMutex::default(alloc, third)?, one)?,
+        consumed::<R>(Maker::New, ReentrantMutex::new(alloc, first, 5)?, one)?,
+        consumed::<R>(Maker::From, ReentrantMutex::from(alloc, second, 6)?, one)?,
+        consumed::<R>(Maker::Default, ReentrantMutex::default(alloc, third)?, one)?,
         consumed::<R>(
-            "with_levels",
+            Maker::WithLevels,
             ReentrantMutex::with_levels(alloc, fourth, 3, 7)?,
             one,
         )?,
-        consumed::<R>("from_raw", ReentrantMutex::from_raw(alloc, raw, 8)?, one)?,
+        consumed::<R>(
+            Maker::FromRaw,
+            ReentrantMutex::from_raw(alloc, raw, 8)?,
+            one,
+        )?,
     ])
 }
 
 const WANTED: [Made; 5] = [
-    ("new", 5, 100, true),
-    ("from", 6, 100, true),
-    ("default", 0, 100, true),
-    ("with_levels", 7, 3, true),
-    ("from_raw", 8, 100, true),
+    (Maker::New, 5, 100, true),
+    (Maker::From, 6, 100, true),
+    (Maker::Default, 0, 100, true),
+    (Maker::WithLevels, 7, 3, true),
+    (Maker::FromRaw, 8, 100, true),
 ];
 
 #[test]
