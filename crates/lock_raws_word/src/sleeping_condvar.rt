@@ -10,7 +10,8 @@ use std::time::{Clock, Duration, Instant};
 /// after the wait registered ends its sleep: see `every_state_wakes_the_registered`. Without waiters a notification is one
 /// load.
 ///
-/// `notify_one` answers whether a waiter was registered, and `notify_all` how many were.
+/// `notify_one` answers whether a waiter was counted, and `notify_all` how many were: those that are about to register are
+/// counted too.
 #[derive(Drop)]
 pub struct SleepingCondvar<R> {
     waiting: EventCount,

@@ -16,8 +16,9 @@ use lock_word::WakeLimits;
 /// middle of a release, and has yet to look for sleepers or to end the epoch. So if no party is in the middle of a
 /// release, the word refuses every sleeper.
 ///
-/// A lock for one reader wakes one sleeper at a time. There, no party may be due if an epoch has ended since the word last
-/// changed: the wake-up of one sleeper follows. No party that left its sleep since then has done anything but look.
+/// A lock for one reader wakes one sleeper at a time. There, no party need be due if an epoch has ended since the word
+/// last changed. If all have looked, no party has left its sleep since. That the thread which ended the epoch then wakes
+/// one sleeper is in its code, and the law does not say it.
 pub fn every_state_forgets_none()
     ensures { EveryStateForgetsNone ⟦<WakeRule as TableRule<(), WakeView, WakeLimits>>⟧.holds }
 {}

@@ -47,8 +47,9 @@ pub fn unblocks_misses_nobody()
 /// Each kind of step of any party keeps the rule by which no wake-up is lost. While a sleeper waits for what the word
 /// admits, some party is due to wake it. In a lock at rest, the word refuses every sleeper.
 ///
-/// A lock that wakes one has one token and no bar. There, an epoch may have ended since the word last changed, so that the
-/// wake-up of one sleeper follows. In such a lock at rest, no party has left its sleep since.
+/// A lock that wakes one has one token and no bar. There, an epoch may have ended since the word last changed. In such a
+/// lock at rest, no party has left its sleep since, if all have looked. That the thread which ended the epoch then wakes
+/// one sleeper is in its code, and the rule does not say it.
 pub fn steps_keep_wakes()
     ensures { StepsKeepWakes }
 {}

@@ -32,7 +32,8 @@ impl Model for Notified {
 impl Notified {
     ghost use Rattle.lock_wake.specs.EventCalls.{waiters_of};
 
-    /// Returns how many waits were registered when the notification began. Some may have ended since.
+    /// Returns how many waits were counted when the notification began. A wait is counted just before it registers, until
+    /// it ends, so some may not have registered yet, and some may have ended since.
     pub fn waiters(&self) -> u64
         ensures { result ≡ waiters_of self.now.waits }
     {

@@ -9,7 +9,7 @@ use crate::sleepers::notified::Notified;
 use crate::sleepers::plays::{Begin, EndEpoch, NoteEpoch};
 
 impl EventCount {
-    /// Ends the epoch if a wait is registered, and wakes one thread that sleeps. One load if none is registered.
+    /// Ends the epoch if a wait is counted, and wakes one thread that sleeps. One load if none is counted.
     pub fn notify_one(&self) -> Notified
         ensures { result.events ≡ self.now }
     {
@@ -21,7 +21,7 @@ impl EventCount {
         self.wake(call, waits, false)
     }
 
-    /// Ends the epoch if a wait is registered, and wakes all threads that sleep. One load if none is registered.
+    /// Ends the epoch if a wait is counted, and wakes all threads that sleep. One load if none is counted.
     pub fn notify_all(&self) -> Notified
         ensures events { result.events ≡ self.now }
         ensures all { result.all ≡ true }
