@@ -1,37 +1,25 @@
 -- A plan that was made, of locks that machines can be, can be made of machines.
-use Rattle.std.proofs.Common.{◌≡◌, ℕ, zero, suc, ◌+◌, ◌≤◌, Bool, true, false, not, List, [], ◌∷◌, length, get_or, sum_by, Option, Some, None, Result, Ok, Err, IsTrue, nat_lt, refl, sym, ◌∙◌, arith}
+use Rattle.std.proofs.Common.{◌≡◌, ℕ, zero, suc, ◌+◌, ◌≤◌, Bool, true, false, not, List, [], ◌∷◌, length, get_or, sum_by, None, Ok, IsTrue, nat_lt, refl, sym, ◌∙◌, arith}
 use Rattle.std.proofs.lemmas.Bool.{and_parts, false≢true, not-true}
 use Rattle.std.proofs.lemmas.Bool.Decides.{nat_tests}
 use Rattle.lock_base.specs.declared.machine.kind.Kind.{Kind}
 use Rattle.lock_base.specs.declared.machine.kind.Kind.TheVariants.{Mutex, RwLock, Reentrant}
 use Rattle.lock_base.specs.Kind.{is_rwlock}
 use Rattle.lock_base.specs.Sound.{IsLimitOf}
-use Rattle.lock_plan.specs.declared.fault.PlanFault.{PlanFault}
 use Rattle.lock_plan.specs.declared.lock.PlanLock.{PlanLock}
 use Rattle.lock_plan.specs.declared.program.Place.{Place}
-use Rattle.lock_plan.specs.Known.{PlaceFault, Known, known_of, fault_in}
+use Rattle.lock_plan.specs.Known.{Known, known_of}
 use Rattle.lock_plan.specs.Worlds.{no_lock}
-use Rattle.lock_plan.specs.Checks.{or_fault, program_fault, parties_fault, plan_fault, fits_kind, fits_machine, fit_machines}
+use Rattle.lock_plan.specs.Checks.{program_fault, parties_fault, plan_fault, fits_kind, fits_machine, fit_machines}
+use Rattle.lock_plan.proofs.Right.{no_first, no_second, known_when}
 use Rattle.lock_plan_laws.specs.Scenes.{limit_for}
 use Rattle.lock_plan_laws.specs.Bridge.{FitsMachines}
-
-no_first : (a b : Option PlanFault) → or_fault a b ≡ None → a ≡ None
-no_first None b e = refl
-no_first (Some fault) b e = cc
-
-no_second : (a b : Option PlanFault) → or_fault a b ≡ None → b ≡ None
-no_second None b e = e
-no_second (Some fault) b e = cc
-
-known_by : (party : ℕ) (found : Result Known PlaceFault) → fault_in party found ≡ None → (known : Known) × (found ≡ Ok known)
-known_by party (Ok known) e = (known, refl)
-known_by party (Err fault) e = cc
 
 all_right : (locks : List PlanLock) (party : ℕ) (programs : List (List Place)) → parties_fault locks party programs ≡ None
     → (p : ℕ) → (known : Known) × (known_of locks (get_or programs p []) ≡ Ok known)
 all_right locks party [] e p = (_, refl)
 all_right locks party (program ∷ programs) e zero =
-    known_by party (known_of locks program) (no_first (program_fault locks party program) (parties_fault locks (party + 1) programs) e)
+    known_when party (known_of locks program) (no_first (program_fault locks party program) (parties_fault locks (party + 1) programs) e)
 all_right locks party (program ∷ programs) e (suc p) =
     all_right locks (party + 1) programs (no_second (program_fault locks party program) (parties_fault locks (party + 1) programs) e) p
 

@@ -2,7 +2,8 @@
 use Rattle.std.proofs.Common.{◌≡◌, ℕ, zero, suc, ◌+◌, ◌<◌, ◌≤◌, Bool, true, false, List, [], ◌∷◌, ◌++◌, length, get_or, Some, None, cond, refl, sym, ap, ◌∙◌, arith, length-append}
 use Rattle.std.proofs.lemmas.Option.{get_or_from_slice_get, slice_get-get_or}
 use Rattle.lock_plan.specs.declared.program.Act.{Act}
-use Rattle.lock_plan.specs.Points.{each_below, listed, said_below}
+use Rattle.step_search.specs.Walks.{each_below}
+use Rattle.lock_plan.specs.Points.{listed, said_below}
 use Rattle.lock_plan.specs.Worlds.{no_place}
 use Rattle.lock_plan.proofs.EachBelow.{IsSaidAt, each_get, said_found, said_get}
 use Rattle.lock_plan_text.specs.declared.parser.block_line.BlockLine.{BlockLine}

@@ -10,7 +10,7 @@ pub enum PlanTextFault {
     /// The first line, counted from 1, that is not in the format.
     #[error("bad line {0}")]
     BadLine(u64),
-    /// The line of the first act, party by party, that can never be made so.
+    /// The line of the first act, party by party, that can never be made.
     #[error("line {0}: {1}")]
     Call(u64, CallFault),
     #[error("too many states")]

@@ -27,7 +27,7 @@ pub struct NamedPlan {
 /// # Errors
 ///
 /// `BadLine` with the number of the first bad line, counted from 1. Then `Call` with the line of the first act, party by
-/// party, that can never be made so. Then `TooLarge`. `OutOfMemory` at any time.
+/// party, that can never be made. Then `TooLarge`. `OutOfMemory` at any time.
 pub fn parse_plan(alloc: Global, bytes: &[u8]) -> Result<NamedPlan, PlanTextFault>
     ensures plan { IfOk result (IsPlanOf bytes.now) }
     ensures fault { IfErr result (IsPlanTextFault bytes.now) }

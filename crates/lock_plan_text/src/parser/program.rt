@@ -1,7 +1,7 @@
 //! The program of a party's lines.
 ghost use Rattle.std.specs.Prelude.{◌≡◌, ◌<◌, ◌≤◌, suc, length, IfOk};
 ghost use Rattle.std.proofs.Common.{get_or};
-ghost use Rattle.lock_plan.specs.Points.{each_below};
+ghost use Rattle.step_search.specs.Walks.{each_below};
 ghost use Rattle.lock_plan_text.specs.Blocks.{act_of_line, is_step, other_line, place_number, place_of_line, place_with, program_of, step_numbers};
 
 use crate::parser::block_line::{BlockLine, BlockWord};

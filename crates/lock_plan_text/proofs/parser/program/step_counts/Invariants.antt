@@ -1,5 +1,5 @@
 use Rattle.std.proofs.Common.{◌≡◌, ◌≤◌}
-use Rattle.lock_plan.specs.Points.{each_below}
+use Rattle.step_search.specs.Walks.{each_below}
 use Rattle.lock_plan_text.specs.Blocks.{place_number}
 use Rattle.lock_plan_text.proofs.parser.program.step_counts.Given as goal
 
