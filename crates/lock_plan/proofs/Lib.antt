@@ -1,4 +1,5 @@
 pub mod Leads
+pub mod AnyOf
 pub mod EachBelow
 pub mod Held
 pub mod Walked
@@ -14,8 +15,11 @@ pub mod FewHeld
 pub mod Landing
 pub mod StepNumbers
 pub mod Right
+pub mod Moves
+pub mod Ways
 pub mod Simulation
 pub mod OneToOne
 pub mod PlanNodes
+pub mod NextNodes
 pub mod Looks
 pub mod Said

@@ -1,4 +1,5 @@
 pub mod Holds
+pub mod Signals
 pub mod Worlds
 pub mod CallFaults
 pub mod Known
