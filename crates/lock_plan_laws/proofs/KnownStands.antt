@@ -1,7 +1,7 @@
 -- A party stands at a place with what is known of it, or has announced itself there for a write.
-use Rattle.std.proofs.Common.{◌≡◌, ℕ, zero, suc, ◌+◌, ◌<◌, ◌⊎◌, inl, inr, Bool, true, false, nat_lt, if◌then◌else◌, List, [], ◌∷◌, length, get_or, Option, Some, None, Ok, refl, ap, sym, ◌∙◌, subst, arith}
-use Rattle.std.proofs.lemmas.Bool.{false≢true}
-use Rattle.std.proofs.lemmas.List.{length-set, get_or-set_same}
+use Rattle.std.proofs.Common.{◌≡◌, ℕ, zero, suc, ◌+◌, ◌<◌, ◌⊎◌, inl, inr, Bool, true, false, ◌&&◌, ◌==◌, nat_lt, if◌then◌else◌, List, [], ◌∷◌, length, get_or, Option, Some, None, Ok, refl, ap, sym, ◌∙◌, subst, arith, eqb-true}
+use Rattle.std.proofs.lemmas.Bool.{false≢true, and_parts}
+use Rattle.std.proofs.lemmas.List.{length-set, get_or-set_same, get_or_past}
 use Rattle.lock_base.specs.declared.machine.mode.Mode.{Mode}
 use Rattle.lock_base.specs.declared.machine.mode_step.ModeStep.TheVariants.{Acquire}
 use Rattle.lock_base.specs.declared.machine.lock_step.LockStep.{LockStep}
@@ -14,13 +14,16 @@ use Rattle.lock_plan.specs.declared.call.PlanCall.{PlanCall}
 use Rattle.lock_plan.specs.declared.fault.CallFault.{CallFault}
 use Rattle.lock_plan.specs.declared.lock.PlanLock.{PlanLock}
 use Rattle.lock_plan.specs.declared.program.Act.{Act}
-use Rattle.lock_plan.specs.declared.program.Act.TheVariants.{Call, Try, Choose}
+use Rattle.lock_plan.specs.declared.program.Act.TheVariants.{Call, Try, Choose, Signal}
 use Rattle.lock_plan.specs.declared.program.Block.{Block}
+use Rattle.lock_plan.specs.declared.program.Signal.{Signal as PlanSignal}
+use Rattle.lock_plan.specs.declared.program.Signal.TheVariants.{Idle}
 use Rattle.lock_plan.specs.declared.program.Place.{Place}
 use Rattle.lock_plan.specs.Holds.{is_write, announces_itself}
+use Rattle.lock_plan.specs.Signals.{idles}
 use Rattle.lock_plan.specs.CallFaults.{fault_on, call_fault}
 use Rattle.lock_plan.specs.Known.{Known, known_at, known_of}
-use Rattle.lock_plan.specs.Worlds.{Stand, no_place, no_lock, act_in, act_of, call_in, next_in, other_in, holds_after, at_place, gone, announced_for, first_stand}
+use Rattle.lock_plan.specs.Worlds.{Stand, no_place, no_lock, act_in, act_of, call_in, next_in, other_in, is_flag, holds_after, at_place, gone, announced_for, first_stand}
 use Rattle.lock_plan.proofs.Held.{IsHeld, few_announced}
 use Rattle.lock_plan.proofs.Walked.{IsWalked, Passed, Leaves, walked_is}
 use Rattle.lock_plan.proofs.Announced.{Announces, announces, once, goes_same}
@@ -47,6 +50,26 @@ act_there (x ∷ program) (suc place) a e = let rest = act_there program place a
 
 same_holds : (a b : List Hold) → Some a ≡ Some b → a ≡ b
 same_holds a b e = cc
+
+idle_is : (here : Option Act) → idles here ≡ true → here ≡ Some (Signal Idle)
+idle_is (Some (Signal Idle)) is = refl
+idle_is other is = cc
+
+-- the one place of a flag
+record IsFlag (program : List Place) : Type 0 where
+  long : length program ≡ 1
+  idle : act_in program 0 ≡ Some (Signal Idle)
+  next : next_in program 0 ≡ 1
+
+flag_is : (program : List Place) → is_flag program ≡ true → IsFlag program
+flag_is program flag =
+    let parts = and_parts (length program == 1) (idles (act_in program 0) && (next_in program 0 == 1)) flag in
+    let two = and_parts (idles (act_in program 0)) (next_in program 0 == 1) parts.1 in
+    record {
+      long = eqb-true (length program) 1 parts.0;
+      idle = idle_is (act_in program 0) two.0;
+      next = eqb-true (next_in program 0) 1 two.1;
+    }
 
 -- an announcement for a write makes no fault of it
 fault_same : (lock : PlanLock) (own : Hold) (a : LockStep) → is_write a ≡ true → fault_on lock (hold_after own lock_step.Announce) a ≡ fault_on lock own a
@@ -198,6 +221,50 @@ module _ (locks : List PlanLock) where
       by_stand (inl is) true = (plain_leaves x k (Choose block) e is).second block refl
       by_stand (inl is) false = (plain_leaves x k (Choose block) e is).first block refl
       by_stand (inr ahead) other = let calls = ahead.here in cc
+
+  -- after a signal, or where it is moved on from one
+  pub known_signalled : (x : Stand) → IsKnownStand locks x → (signal : PlanSignal) → act_of x ≡ Some (Signal signal)
+      → IsKnownStand locks (at_place x (next_in x.program x.place) x.holds)
+  known_signalled x k signal e = record { known = k.known; walked = k.walked; is = inl (by_stand k.is) }
+    where
+      by_stand : (known_at k.known x.place ≡ Some x.holds) ⊎ IsAhead k.known x
+          → known_at k.known (next_in x.program x.place) ≡ Some x.holds
+      by_stand (inl is) = (plain_leaves x k (Signal signal) e is).signals signal refl
+      by_stand (inr ahead) = let calls = ahead.here in cc
+
+  -- a flag holds the same at its place and at its end, so it can go back
+  pub known_restarted : (x : Stand) → IsKnownStand locks x → is_flag x.program ≡ true
+      → IsKnownStand locks (at_place x 0 x.holds)
+  known_restarted x k flag = record { known = k.known; walked = k.walked; is = inl (by_stand k.is) }
+    where
+      f : IsFlag x.program
+      f = flag_is x.program flag
+
+      first : Passed locks x.program 0 k.known
+      first = k.walked.passed 0 (omega (arith, f.long))
+
+      at_end : known_at k.known 1 ≡ Some first.holds
+      at_end =
+          ap (known_at k.known) (sym f.next)
+          ∙ first.leaves.signals Idle (act_there x.program 0 (Signal Idle) f.idle).1
+
+      same : (place : ℕ) → known_at k.known place ≡ Some x.holds → known_at k.known 0 ≡ Some x.holds
+      same zero is = is
+      same (suc zero) is = first.is ∙ sym at_end ∙ is
+      same (suc (suc n)) is =
+          let past : known_at k.known (suc (suc n)) ≡ None =
+          get_or_past k.known (suc (suc n)) None (omega (arith, k.walked.long, f.long)) in
+          let none : None ≡ Some x.holds = sym past ∙ is in
+          cc
+
+      by_stand : (known_at k.known x.place ≡ Some x.holds) ⊎ IsAhead k.known x → known_at k.known 0 ≡ Some x.holds
+      by_stand (inl is) = same x.place is
+      by_stand (inr ahead) =
+          let there = act_there x.program x.place (Call ahead.call) ahead.here in
+          let calls : act_in x.program 0 ≡ Some (Call ahead.call) =
+          ap (act_in x.program) (omega (arith, there.0, f.long)) ∙ ahead.here in
+          let idle = f.idle in
+          cc
 
   -- before its first act
   pub known_first : (program : List Place) (known : Known) → known_of locks program ≡ Ok known → IsKnownStand locks (first_stand locks program)

@@ -6,6 +6,8 @@ pub mod MachineTurns
 pub mod Tries
 pub mod KnownStands
 pub mod Ties
+pub mod RowMoves
+pub mod Ways
 pub mod Steps
 pub mod SceneSteps
 pub mod SceneStops

@@ -1,8 +1,7 @@
 -- A scene stops exactly where the world stops that it is tied to.
-use Rattle.std.proofs.Common.{◌≡◌, ℕ, zero, suc, ◌+◌, ◌<◌, ◌^◌, Bool, true, false, not, ◌||◌, ◌⊎◌, inl, inr, ◌↔◌, List, length, map, get_or, Option, Some, None, is_some, IsTrue, refl, ap, sym, ◌∙◌, arith}
+use Rattle.std.proofs.Common.{◌≡◌, ℕ, zero, suc, ◌+◌, ◌<◌, ◌^◌, Bool, true, false, not, ◌||◌, ◌⊎◌, inl, inr, ◌↔◌, if◌then◌else◌, List, length, map, get_or, Option, Some, None, is_some, IsTrue, refl, ap, sym, ◌∙◌, arith}
 use Rattle.std.proofs.lemmas.Bool.{and_parts, and_from, or_cases, false≢true, not-true}
 use Rattle.lock_base.specs.declared.machine.party.PartyId.{PartyId}
-use Rattle.lock_base.specs.declared.machine.hold.Hold.{Hold}
 use Rattle.lock_base.specs.Operation.{Operation}
 use Rattle.lock_base.specs.Kind.{is_rwlock}
 use Rattle.lock_plan.specs.declared.lock.PlanLock.{PlanLock}
@@ -12,12 +11,14 @@ use Rattle.lock_plan.specs.declared.program.Place.{Place}
 use Rattle.lock_plan.specs.declared.program.Step.{Step}
 use Rattle.lock_plan.specs.declared.turn.Turn.{Turn}
 use Rattle.lock_plan.specs.declared.turn.Turn.TheVariants.{Goes, Announces, Waits, Refused}
-use Rattle.lock_plan.specs.Worlds.{Stand, no_stand, no_lock, act_of, reply_at, reply_of, turn_by, turn_of, is_goes, some_below, is_server, is_due, is_refused_turn, is_step_turn, is_stuck, is_refused, is_stop}
+use Rattle.lock_plan.specs.Signals.{idles}
+use Rattle.lock_plan.specs.Worlds.{Stand, no_stand, no_lock, act_of, acts_of, reply_at, reply_of, turn_by, turn_of, is_goes, some_below, is_server, is_due, is_refused_turn, is_step_turn, is_stuck, is_refused, is_stop}
 use Rattle.lock_plan_laws.specs.Scenes.{Caller, Scene, act_at, IsStep, IsStuckScene, IsRefusedScene, IsStopScene}
 use Rattle.lock_plan_laws.specs.Bridge.{AreDistinct}
 use Rattle.lock_plan_laws.proofs.Ties.{IsTied}
 use Rattle.lock_plan_laws.proofs.Steps.{act_same, known}
-use Rattle.lock_plan_laws.proofs.SceneSteps.{call_known, call_turn, called, tried, chosen, step_on}
+use Rattle.lock_plan_laws.proofs.Ways.{choice_way, signal_way, signal_never, turn_some, some_turn}
+use Rattle.lock_plan_laws.proofs.SceneSteps.{call_known, call_turn, called, tried, chosen, signalled, step_on}
 
 -- a number below that has it
 
@@ -39,10 +40,6 @@ some_found f (suc n) is = by_last (f n) refl is (some_found f n)
     by_last true here any rest = (n, here)
     by_last false other any rest = rest any
 
-not_not : (b : Bool) → b ≡ not (not b)
-not_not true = refl
-not_not false = refl
-
 refused_is : (o : Option Turn) → is_refused_turn o ≡ true → o ≡ Some Refused
 refused_is None is = cc
 refused_is (Some Goes) is = cc
@@ -58,12 +55,6 @@ step_is (Some Announces) is = inr refl
 step_is (Some Waits) is = cc
 step_is (Some Refused) is = cc
 
--- a party at an act of its program has a turn, whatever the other parties hold
-turn_some : (locks : List PlanLock) (hss : List (List Hold)) (p : ℕ) (a : Act) → is_some (turn_by (Some a) (reply_at locks hss p (Some a))) ≡ true
-turn_some locks hss p (act.Call call) = refl
-turn_some locks hss p (act.Try call) = refl
-turn_some locks hss p (act.Choose block) = refl
-
 module _ {O T A : Type 0} (meaning : O → Operation T A) (ids : ℕ → PartyId) (distinct : AreDistinct ids) (locks : List PlanLock)
     (bars : (l : ℕ) → IsTrue (get_or locks l no_lock).bar → IsTrue (is_rwlock (get_or locks l no_lock).kind)) (programs : List (List Place)) where
   module _ (w : List Stand) (s : Scene T) (used : ℕ) (tied : IsTied ids locks programs w s used) (few : used + 1 < 2 ^ 64) where
@@ -75,15 +66,16 @@ module _ {O T A : Type 0} (meaning : O → Operation T A) (ids : ℕ → PartyId
         some_at (λ p. is_refused_turn (turn_of locks w p)) (length w) h.0.party (call_known meaning ids distinct locks bars programs w s used tied few h.0 Refused h.1 h.2)
         (ap is_refused_turn (call_turn meaning ids distinct locks bars programs w s used tied few h.0 Refused h.1 h.2))
 
-    refused_by : (p : ℕ) (o : Option Act) → act_of (get_or w p no_stand) ≡ o → turn_by o (reply_of locks w p) ≡ Some Refused
-        → IsRefusedScene meaning ids locks programs s
+    refused_by : (p : ℕ) (o : Option Act) → act_of (get_or w p no_stand) ≡ o
+        → turn_by (acts_of w) o (reply_of locks w p) ≡ Some Refused → IsRefusedScene meaning ids locks programs s
     refused_by p None here is = cc
     refused_by p (Some (act.Call call)) here is =
-        let taken : Step = record { party = p; other = false } in
+        let taken : Step = record { party = p; way = 0 } in
         let h = called meaning ids distinct locks bars programs w s used tied few taken call Refused here refl is in
         (record { step = taken; guard = h.0 }, h.1, h.2)
     refused_by p (Some (act.Try call)) here is = cc
     refused_by p (Some (act.Choose block)) here is = cc
+    refused_by p (Some (act.Signal signal)) here is = absurd (signal_never (acts_of w) signal is)
 
     refused_back : is_refused locks w ≡ true → IsRefusedScene meaning ids locks programs s
     refused_back is =
@@ -91,21 +83,37 @@ module _ {O T A : Type 0} (meaning : O → Operation T A) (ids : ℕ → PartyId
         refused_by found.0 (act_of (stand found.0)) refl (refused_is (turn_of locks w found.0) found.1)
 
     -- a step of a party in the world is one that it has in the scene
-    step_of_turn : (p : ℕ) (o : Option Act) → act_of (get_or w p no_stand) ≡ o → is_step_turn (turn_by o (reply_of locks w p)) ≡ true
+    step_of_turn : (p : ℕ) (o : Option Act) → act_of (get_or w p no_stand) ≡ o
+        → is_step_turn (turn_by (acts_of w) o (reply_of locks w p)) ≡ true
         → ((c : Caller) (after : Scene T) → IsStep meaning ids locks programs s c after → ⊥) → ⊥
     step_of_turn p None here is none = cc
     step_of_turn p (Some (act.Call call)) here is none = by_turn (step_is (reply_of locks w p) is)
       where
         by_turn : (reply_of locks w p ≡ Some Goes) ⊎ (reply_of locks w p ≡ Some Announces) → ⊥
         by_turn (inl goes) =
-            let h = called meaning ids distinct locks bars programs w s used tied few (record { party = p; other = false }) call Goes here refl goes in none _ h.1 (inl h.2)
+            let first : Step = record { party = p; way = 0 } in
+            let h = called meaning ids distinct locks bars programs w s used tied few first call Goes here refl goes in
+            none _ h.1 (inl h.2)
         by_turn (inr announces) =
-            let h = called meaning ids distinct locks bars programs w s used tied few (record { party = p; other = false }) call Announces here refl announces in none _ h.1 (inr (inl h.2))
+            let first : Step = record { party = p; way = 0 } in
+            let h =
+            called meaning ids distinct locks bars programs w s used tied few first call Announces here refl announces in
+            none _ h.1 (inr (inl h.2))
     step_of_turn p (Some (act.Try call)) here is none =
         let goes : Bool = is_goes (reply_of locks w p) in
-        let h = tried meaning ids distinct locks bars programs w s used tied few (record { party = p; other = not goes }) call here (not_not goes) in none _ h.1 (inr (inr (inl h.2)))
+        let taken : Step = record { party = p; way = if goes then 0 else 1 } in
+        let h = tried meaning ids distinct locks bars programs w s used tied few taken call here refl in
+        none _ h.1 (inr (inr (inl h.2)))
     step_of_turn p (Some (act.Choose block)) here is none =
-        let h = chosen meaning ids distinct locks bars programs w s used tied few (record { party = p; other = false }) block here in none _ h.0 (inr (inr (inr h.1)))
+        let way = choice_way (acts_of w) block in
+        let taken : Step = record { party = p; way = way.0 } in
+        let h = chosen meaning ids distinct locks bars programs w s used tied few taken block here way.1 in
+        none _ h.0 (inr (inr (inr (inl h.1))))
+    step_of_turn p (Some (act.Signal signal)) here is none =
+        let way = signal_way (acts_of w) signal is in
+        let taken : Step = record { party = p; way = way.0 } in
+        let h = signalled meaning ids distinct locks bars programs w s used tied few taken signal here way.1 in
+        none _ h.0 (inr (inr (inr (inr h.1))))
 
     no_step_here : ((c : Caller) (after : Scene T) → IsStep meaning ids locks programs s c after → ⊥)
         → some_below (λ p. is_step_turn (turn_of locks w p)) (length w) ≡ true → ⊥
@@ -127,19 +135,26 @@ module _ {O T A : Type 0} (meaning : O → Operation T A) (ids : ℕ → PartyId
         let p = h.due.0 in
         let here : act_of (stand p) ≡ Some h.due.1 = sym (act_same meaning ids distinct locks bars programs w s used tied p) ∙ h.due.2 in
         let some : is_some (turn_of locks w p) ≡ true =
-        ap (λ (o : Option Act). is_some (turn_by o (reply_at locks (map (λ x. x.holds) w) p o))) here
-        ∙ turn_some locks (map (λ x. x.holds) w) p h.due.1 in
+        ap (λ (o : Option Act). is_some (turn_by (acts_of w) o (reply_at locks (map (λ x. x.holds) w) p o))) here
+        ∙ turn_some (acts_of w) locks (map (λ x. x.holds) w) p h.due.1 h.due.3 in
         and_from _ _
         (some_at (λ q. is_due (is_server servers q) (turn_of locks w q)) (length w) p
         (known meaning ids distinct locks bars programs w s used tied p h.due.1 here)
-        (and_from (is_some (turn_of locks w p)) (not (is_server servers p)) some (ap not h.due.3)))
+        (and_from (is_some (turn_of locks w p)) (not (is_server servers p)) some (ap not h.due.4)))
         (not_true (some_below (λ q. is_step_turn (turn_of locks w q)) (length w)) (no_step_here h.none))
 
     due_by : (servers : List Bool) (p : ℕ) (o : Option Act) → act_of (get_or w p no_stand) ≡ o
-        → is_some (turn_by o (reply_of locks w p)) ≡ true → is_server servers p ≡ false
-        → (q : ℕ) × (here : Act) × (act_at programs s q ≡ Some here) × (is_server servers q ≡ false)
+        → is_some (turn_by (acts_of w) o (reply_of locks w p)) ≡ true → is_server servers p ≡ false
+        → (q : ℕ) × (here : Act) × (act_at programs s q ≡ Some here) × (idles (Some here) ≡ false)
+        × (is_server servers q ≡ false)
     due_by servers p None here is other = cc
-    due_by servers p (Some a) here is other = (p, a, act_same meaning ids distinct locks bars programs w s used tied p ∙ here, other)
+    due_by servers p (Some a) here is other = (
+      p,
+      a,
+      act_same meaning ids distinct locks bars programs w s used tied p ∙ here,
+      some_turn (acts_of w) a (reply_of locks w p) is,
+      other,
+    )
 
     stuck_back : (servers : List Bool) → is_stuck servers locks w ≡ true → IsStuckScene meaning ids locks programs servers s
     stuck_back servers is =

@@ -29,15 +29,16 @@ use Rattle.lock_plan.specs.declared.program.Act.{Act}
 use Rattle.lock_plan.specs.declared.program.Act.TheVariants as act
 use Rattle.lock_plan.specs.declared.program.Block.{Block as PlanBlock}
 use Rattle.lock_plan.specs.declared.program.Place.{Place}
+use Rattle.lock_plan.specs.declared.program.Signal.{Signal}
 use Rattle.lock_plan.specs.declared.program.Step.{Step}
 use Rattle.lock_plan.specs.declared.turn.Turn.{Turn}
 use Rattle.lock_plan.specs.declared.turn.Turn.TheVariants.{Goes, Announces, Waits, Refused}
 use Rattle.lock_plan.specs.Holds.{announces_itself, turn_on}
 use Rattle.lock_plan.specs.CallFaults.{fault_on}
-use Rattle.lock_plan.specs.Worlds.{Stand, no_stand, no_lock, joined, bag_on, lock_holds, act_in, act_of, call_in, next_in, other_in, reply_to, reply_of, is_goes, at_place, gone, announced_for}
+use Rattle.lock_plan.specs.Worlds.{Stand, no_stand, no_lock, joined, bag_on, lock_holds, act_in, act_of, call_in, next_in, other_in, reply_to, reply_of, is_goes, at_place, gone, announced_for, rows_moved}
 use Rattle.lock_plan.proofs.Landing.{announces_call}
 use Rattle.lock_plan_laws.specs.MachineTurns.{Names, MachineTurn, call_for, turn_of_reply, is_made, announced_turn, announces_after, machine_turn, machine_try}
-use Rattle.lock_plan_laws.specs.Scenes.{Scene, scene_at, scene_with, act_at, way_from, way_of}
+use Rattle.lock_plan_laws.specs.Scenes.{Scene, scene_at, scene_with, scene_moved, act_at, way_from, way_of}
 use Rattle.lock_plan_laws.specs.Bridge.{bag_held_by, AreDistinct}
 use Rattle.lock_plan_laws.proofs.PartyBags.{HasGuard, has_guard}
 use Rattle.lock_plan_laws.proofs.Columns.{hold_of, Beside, beside, joined_after}
@@ -45,8 +46,9 @@ use Rattle.lock_plan_laws.proofs.Moves.{Moved, bag_after_step}
 use Rattle.lock_plan_laws.proofs.Acquisitions.{HasRoom}
 use Rattle.lock_plan_laws.proofs.MachineTurns.{IsRight, is_right, ByTurn, Acts, acts}
 use Rattle.lock_plan_laws.proofs.Tries.{TriesAs, tries}
-use Rattle.lock_plan_laws.proofs.KnownStands.{IsKnownStand, no_fault, known_gone, known_announced, known_passed, known_chosen, is_held, fewer}
+use Rattle.lock_plan_laws.proofs.KnownStands.{IsKnownStand, no_fault, known_gone, known_announced, known_passed, known_chosen, known_signalled, is_held, fewer}
 use Rattle.lock_plan_laws.proofs.Ties.{IsLockTied, IsTied, holds_in, seen_of, has_room, tied_after, tied_still}
+use Rattle.lock_plan_laws.proofs.RowMoves.{signal_tied}
 
 -- a party that has not ended is there
 acts_known : (w : List Stand) (p : ℕ) (a : Act) → act_of (get_or w p no_stand) ≡ Some a → p < length w
@@ -162,10 +164,12 @@ module _ {O T A : Type 0} (meaning : O → Operation T A) (ids : ℕ → PartyId
       ∙ ap (λ (place : ℕ). act_in (get_or w p no_stand).program place) (place_same p)
 
   pub way_same : (taken : Step) → way_of programs s taken
-      ≡ way_from (get_or w taken.party no_stand).program (get_or w taken.party no_stand).place taken.other
+      ≡ way_from (get_or w taken.party no_stand).program (get_or w taken.party no_stand).place (taken.way == 1)
   way_same taken =
-      ap (λ (program : List Place). way_from program (get_or s.places taken.party 0) taken.other) (program_same taken.party)
-      ∙ ap (λ (place : ℕ). way_from (get_or w taken.party no_stand).program place taken.other) (place_same taken.party)
+      ap (λ (program : List Place). way_from program (get_or s.places taken.party 0) (taken.way == 1))
+      (program_same taken.party)
+      ∙ ap (λ (place : ℕ). way_from (get_or w taken.party no_stand).program place (taken.way == 1))
+      (place_same taken.party)
 
   pub known : (p : ℕ) (a : Act) → act_of (get_or w p no_stand) ≡ Some a → p < length w
   known p a here = acts_known w p a here
@@ -400,3 +404,18 @@ module _ {O T A : Type 0} (meaning : O → Operation T A) (ids : ℕ → PartyId
       let there = acts_known w p (act.Choose block) here in
       tied_still ids distinct locks programs w s used tied p (way_from stand.program stand.place other) there s.machines (λ k. refl)
       (known_chosen locks stand (tied.known p there) other block here)
+
+  -- a signal
+  pub signalled_tied : (p way : ℕ) (signal : Signal) → act_of (get_or w p no_stand) ≡ Some (act.Signal signal)
+      → IsTied ids locks programs
+      (set (rows_moved (Some (act.Signal signal)) way 0 w) p
+      (at_place (get_or w p no_stand) (next_in (get_or w p no_stand).program (get_or w p no_stand).place)
+      (get_or w p no_stand).holds))
+      (scene_at (scene_moved programs s (Some (act.Signal signal)) way) p
+      (next_in (get_or w p no_stand).program (get_or w p no_stand).place)) (suc used)
+  signalled_tied p way signal here =
+      let stand : Stand = get_or w p no_stand in
+      let there = acts_known w p (act.Signal signal) here in
+      signal_tied ids distinct locks programs w s used tied (Some (act.Signal signal)) way p
+      (next_in stand.program stand.place) there
+      (known_signalled locks stand (tied.known p there) signal here)

@@ -1,5 +1,5 @@
--- Scenes: the machine of guards of each lock of a plan, and the place of each party.
-use Rattle.std.specs.Prelude.{◌≡◌, ℕ, Bool, false, not, ◌==◌, ◌⊎◌, if◌then◌else◌, List, [], ◌∷◌, map, set, Option, Some}
+-- Scenes: the machine of guards of each lock of a plan, and the place of each row. Rows are the parties and the flags.
+use Rattle.std.specs.Prelude.{◌≡◌, ℕ, Bool, true, false, ◌==◌, ◌⊎◌, if◌then◌else◌, List, [], ◌∷◌, map, zip, set, Option, Some}
 use Rattle.std.proofs.Common.{get_or}
 use Rattle.lock_base.specs.declared.machine.kind.Kind.{Kind}
 use Rattle.lock_base.specs.declared.machine.kind.Kind.TheVariants.{Mutex, RwLock, Reentrant}
@@ -13,10 +13,12 @@ use Rattle.lock_plan.specs.declared.program.Act.{Act}
 use Rattle.lock_plan.specs.declared.program.Act.TheVariants as act
 use Rattle.lock_plan.specs.declared.program.Block.{Block}
 use Rattle.lock_plan.specs.declared.program.Place.{Place}
+use Rattle.lock_plan.specs.declared.program.Signal.{Signal}
 use Rattle.lock_plan.specs.declared.program.Step.{Step}
 use Rattle.lock_plan.specs.declared.turn.Turn.{Turn}
 use Rattle.lock_plan.specs.declared.turn.Turn.TheVariants.{Goes, Announces, Waits, Refused}
-use Rattle.lock_plan.specs.Worlds.{no_lock, act_in, next_in, other_in, is_server}
+use Rattle.lock_plan.specs.Signals.{idles, lets}
+use Rattle.lock_plan.specs.Worlds.{Stand, no_lock, act_in, next_in, other_in, acts_of, rows_moved, is_server}
 use Rattle.lock_plan_laws.specs.MachineTurns.{Names, is_made, machine_turn, machine_try}
 
 -- a step of a party, and the guard that its call names
@@ -32,7 +34,7 @@ steps_of (c ∷ cs) = c.step ∷ steps_of cs
 pub record Scene (T : Type 0) : Type 0 where
   -- the machine of each lock, by the lock's number
   pub machines : ℕ → Machine T
-  -- the place of each party in its program
+  -- the place of each row in its program
   pub places : List ℕ
 
 module _ {T : Type 0} where
@@ -56,6 +58,10 @@ place_by Refused next here = here
 abbrev pub way_from : List Place → ℕ → Bool → ℕ
 way_from program place other = if other then other_in program place else next_in program place
 
+-- a row of a scene: its program and its place. Its guards are in the machines
+abbrev pub row_at : List Place × ℕ → Stand
+row_at r = record { program = r.0; place = r.1; holds = [] }
+
 module _ {T : Type 0} (programs : List (List Place)) where
   -- the act of a party, if it has not ended
   abbrev pub act_at : Scene T → ℕ → Option Act
@@ -63,13 +69,30 @@ module _ {T : Type 0} (programs : List (List Place)) where
 
   -- the place of a party after its act
   abbrev pub way_of : Scene T → Step → ℕ
-  way_of s taken = way_from (get_or programs taken.party []) (get_or s.places taken.party 0) taken.other
+  way_of s taken = way_from (get_or programs taken.party []) (get_or s.places taken.party 0) (taken.way == 1)
 
-  -- the choice of a party: it takes either way, and calls no machine
+  abbrev pub rows_of : Scene T → List Stand
+  rows_of s = map row_at (zip programs s.places)
+
+  -- the scene after an act has moved the rows, on the same machines
+  abbrev pub scene_moved : Scene T → Option Act → ℕ → Scene T
+  scene_moved s moving way =
+      record { machines = s.machines; places = map (λ row. row.place) (rows_moved moving way 0 (rows_of s)) }
+
+  -- the choice of a party: it goes a way that the rows let it go, and calls no machine
   pub record HasChoice (s : Scene T) (c : Caller) (after : Scene T) : Type 0 where
     pub block : Block
     pub here : act_at s c.party ≡ Some (act.Choose block)
+    pub is_let : lets (acts_of (rows_of s)) c.way (Some (act.Choose block)) ≡ true
     pub leaves : after ≡ scene_at s c.party (way_of s c.step)
+
+  -- the signal of a party: it goes a way that the rows let it go, moves rows, and calls no machine
+  pub record HasSignal (s : Scene T) (c : Caller) (after : Scene T) : Type 0 where
+    pub signal : Signal
+    pub here : act_at s c.party ≡ Some (act.Signal signal)
+    pub is_let : lets (acts_of (rows_of s)) c.way (Some (act.Signal signal)) ≡ true
+    pub leaves : after ≡ scene_at (scene_moved s (Some (act.Signal signal)) c.way) c.party
+        (next_in (get_or programs c.party []) (get_or s.places c.party 0))
 
 -- the limit of the machine of a lock
 abbrev pub limit_for : Kind → ℕ → ℕ
@@ -90,35 +113,40 @@ module _ {O T A : Type 0} (meaning : O → Operation T A) (ids : ℕ → PartyId
   pub record HasTurn (s : Scene T) (c : Caller) (turn : Turn) (after : Scene T) : Type 0 where
     pub call : PlanCall
     pub here : act_at programs s c.party ≡ Some (act.Call call)
-    pub one_way : c.other ≡ false
+    pub one_way : c.way ≡ 0
     pub names : Names (s.machines call.lock).entries (id_of (ids c.party)) c.guard call.step
     pub turns : (machine_turn meaning ids (get_or locks call.lock no_lock) (s.machines call.lock) c.party c.guard call.step).turn ≡ turn
     pub leaves : after ≡ scene_with s call.lock
         (machine_turn meaning ids (get_or locks call.lock no_lock) (s.machines call.lock) c.party c.guard call.step).machine
         c.party (place_by turn (way_of programs s c.step) (get_or s.places c.party 0))
 
-  -- the try of a party, on the guard that it names: the party goes to the other place where the machine does not make the call
+  -- the try of a party, on the guard that it names: its way is 1 exactly where the machine does not make the call
   pub record HasTry (s : Scene T) (c : Caller) (after : Scene T) : Type 0 where
     pub call : PlanCall
     pub here : act_at programs s c.party ≡ Some (act.Try call)
     pub names : Names (s.machines call.lock).entries (id_of (ids c.party)) c.guard call.step
-    pub replies : is_made (machine_try meaning ids (get_or locks call.lock no_lock) (s.machines call.lock) c.party c.guard call.step).reply ≡ not c.other
+    pub replies : c.way
+        ≡ (if is_made (machine_try meaning ids (get_or locks call.lock no_lock) (s.machines call.lock) c.party c.guard
+        call.step).reply then 0 else 1)
     pub leaves : after ≡ scene_with s call.lock
         (machine_try meaning ids (get_or locks call.lock no_lock) (s.machines call.lock) c.party c.guard call.step).machine
         c.party (way_of programs s c.step)
 
-  -- the call of a party is made, or the party announces itself for its call, or it tries, or it chooses
+  -- the call of a party is made, or the party announces itself for its call, or it tries, chooses or signals
   abbrev pub IsStep : Scene T → Caller → Scene T → Type 0
-  IsStep s c after = HasTurn s c Goes after ⊎ HasTurn s c Announces after ⊎ HasTry s c after ⊎ HasChoice programs s c after
+  IsStep s c after =
+      HasTurn s c Goes after ⊎ HasTurn s c Announces after ⊎ HasTry s c after ⊎ HasChoice programs s c after
+      ⊎ HasSignal programs s c after
 
   -- steps of these callers, one after another
   abbrev pub IsRun : Scene T → List Caller → Scene T → Type 0
   IsRun s [] after = s ≡ after
   IsRun s (c ∷ cs) after = (next : Scene T) × IsStep s c next × IsRun next cs after
 
-  -- some party that is no server has not ended, and no party has a step, whichever of its guards it names
+  -- some party that is no server has neither ended nor idles, and no party has a step, whichever of its guards it names
   pub record IsStuckScene (servers : List Bool) (s : Scene T) : Type 0 where
-    pub due : (party : ℕ) × (here : Act) × (act_at programs s party ≡ Some here) × (is_server servers party ≡ false)
+    pub due : (party : ℕ) × (here : Act) × (act_at programs s party ≡ Some here) × (idles (Some here) ≡ false)
+        × (is_server servers party ≡ false)
     pub none : (c : Caller) (after : Scene T) → IsStep s c after → ⊥
 
   -- the call of some party is refused

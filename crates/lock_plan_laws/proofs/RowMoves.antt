@@ -1,0 +1,184 @@
+-- The rows that an act moves keep what they hold, and scene and world stay tied.
+use Rattle.std.proofs.Common.{◌≡◌, ℕ, zero, suc, ◌+◌, ◌<◌, Bool, true, false, ◌&&◌, ◌==◌, if◌then◌else◌, List, [], ◌∷◌, length, map, zip, get_or, set, sum_by, Option, Some, None, refl, ap, sym, ◌∙◌, subst, arith}
+use Rattle.std.proofs.lemmas.Bool.{and_parts}
+use Rattle.lock_base.specs.declared.machine.party.PartyId.{PartyId}
+use Rattle.lock_base.specs.declared.machine.hold.Hold.{Hold}
+use Rattle.lock_plan.specs.declared.lock.PlanLock.{PlanLock}
+use Rattle.lock_plan.specs.declared.program.Act.{Act}
+use Rattle.lock_plan.specs.declared.program.Act.TheVariants as act
+use Rattle.lock_plan.specs.declared.program.Place.{Place}
+use Rattle.lock_plan.specs.declared.program.Signal.{Signal}
+use Rattle.lock_plan.specs.declared.program.Signal.TheVariants.{Idle, Sleep, Start, Clear, Join, NotifyOne, NotifyAll}
+use Rattle.lock_plan.specs.Signals.{idles, sleeps_on, signal_move, move_of}
+use Rattle.lock_plan.specs.Worlds.{Stand, no_stand, no_lock, act_of, acts_of, is_flag, at_place, stand_moved, rows_moved}
+use Rattle.lock_plan_laws.specs.Scenes.{Scene, row_at, rows_of, scene_at, scene_moved}
+use Rattle.lock_plan_laws.specs.Bridge.{AreDistinct}
+use Rattle.lock_plan_laws.proofs.KnownStands.{IsKnownStand, known_signalled, known_restarted}
+use Rattle.lock_plan_laws.proofs.Ties.{IsLockTied, IsTied, tied_still}
+
+-- however a row is moved, only its place changes
+
+same_holds : (x : Stand) (m : _) → (stand_moved x m).holds ≡ x.holds
+same_holds x m = grind arith
+
+same_program : (x : Stand) (m : _) → (stand_moved x m).program ≡ x.program
+same_program x m = grind arith
+
+same_place : (x : Stand) (m : _) → (stand_moved (row_at (x.program, x.place)) m).place ≡ (stand_moved x m).place
+same_place x m = grind arith
+
+at_moved : (x : Stand) (m : _) (place : ℕ)
+    → at_place (stand_moved x m) place (stand_moved x m).holds ≡ at_place x place x.holds
+at_moved x m place = grind arith
+
+by_if : {M : Type 0} (F : M → Type 0) (b : Bool) (moving staying : M) → F staying → (b ≡ true → F moving)
+    → F (if b then moving else staying)
+by_if F true moving staying stays moves = moves refl
+by_if F false moving staying stays moves = stays
+
+-- a row that idles or sleeps is at a signal
+
+idles_at : (here : Option Act) → idles here ≡ true → (signal : Signal) × (here ≡ Some (act.Signal signal))
+idles_at (Some (act.Signal Idle)) is = (Idle, refl)
+idles_at other is = cc
+
+sleeps_at : (cond : ℕ) (here : Option Act) → sleeps_on cond here ≡ true
+    → (signal : Signal) × (here ≡ Some (act.Signal signal))
+sleeps_at cond (Some (act.Signal (Sleep c))) is = (Sleep c, refl)
+sleeps_at cond other is = cc
+
+-- a row that is moved stands where its program leads
+module _ (locks : List PlanLock) (x : Stand) (k : IsKnownStand locks x) (way row : ℕ) where
+  known_by : (signal : Signal)
+      → IsKnownStand locks (stand_moved x (signal_move signal way row (act_of x) (is_flag x.program)))
+  known_by Idle = k
+  known_by (Sleep cond) = k
+  known_by (Start started) =
+      by_if (λ m. IsKnownStand locks (stand_moved x m)) ((row == started) && idles (act_of x)) _ _ k
+      (λ is.
+      let s = idles_at (act_of x) (and_parts (row == started) (idles (act_of x)) is).1 in
+      known_signalled locks x k s.0 s.1)
+  known_by (Clear cleared) =
+      by_if (λ m. IsKnownStand locks (stand_moved x m)) ((row == cleared) && is_flag x.program) _ _ k
+      (λ is. known_restarted locks x k (and_parts (row == cleared) (is_flag x.program) is).1)
+  known_by (Join joined) = k
+  known_by (NotifyOne cond) =
+      by_if (λ m. IsKnownStand locks (stand_moved x m)) ((way == suc row) && sleeps_on cond (act_of x)) _ _ k
+      (λ is.
+      let s = sleeps_at cond (act_of x) (and_parts (way == suc row) (sleeps_on cond (act_of x)) is).1 in
+      known_signalled locks x k s.0 s.1)
+  known_by (NotifyAll cond) =
+      by_if (λ m. IsKnownStand locks (stand_moved x m)) (sleeps_on cond (act_of x)) _ _ k
+      (λ is. let s = sleeps_at cond (act_of x) is in known_signalled locks x k s.0 s.1)
+
+  known_moved : (a : Option Act) → IsKnownStand locks (stand_moved x (move_of a way row (act_of x) (is_flag x.program)))
+  known_moved None = k
+  known_moved (Some (act.Call call)) = k
+  known_moved (Some (act.Try call)) = k
+  known_moved (Some (act.Choose block)) = k
+  known_moved (Some (act.Signal signal)) = known_by signal
+
+-- an act that is no signal moves no row
+pub rows_still : (a : Act) (way row : ℕ) (w : List Stand) → ((signal : Signal) → a ≡ act.Signal signal → ⊥)
+    → rows_moved (Some a) way row w ≡ w
+rows_still a way row [] other = refl
+rows_still (act.Call call) way row (x ∷ w) other =
+    ap (λ (v : List Stand). x ∷ v) (rows_still (act.Call call) way (suc row) w other)
+rows_still (act.Try call) way row (x ∷ w) other =
+    ap (λ (v : List Stand). x ∷ v) (rows_still (act.Try call) way (suc row) w other)
+rows_still (act.Choose block) way row (x ∷ w) other =
+    ap (λ (v : List Stand). x ∷ v) (rows_still (act.Choose block) way (suc row) w other)
+rows_still (act.Signal signal) way row (x ∷ w) other = absurd (other signal refl)
+
+abbrev rows_in : List Stand → List Stand
+rows_in w = map row_at (zip (map (λ x. x.program) w) (map (λ x. x.place) w))
+
+-- the rows of the scene act as those of the world
+acts_in : (w : List Stand) → acts_of (rows_in w) ≡ acts_of w
+acts_in [] = refl
+acts_in (x ∷ w) = ap (λ (acts : List (Option Act)). act_of x ∷ acts) (acts_in w)
+
+module _ (a : Option Act) (way : ℕ) where
+  moved_long : (row : ℕ) (w : List Stand) → length (rows_moved a way row w) ≡ length w
+  moved_long row [] = refl
+  moved_long row (x ∷ w) = ap suc (moved_long (suc row) w)
+
+  moved_holds : (row : ℕ) (w : List Stand) → map (λ x. x.holds) (rows_moved a way row w) ≡ map (λ x. x.holds) w
+  moved_holds row [] = refl
+  moved_holds row (x ∷ w) =
+      ap (λ (hs : List Hold). hs ∷ map (λ (y : Stand). y.holds) (rows_moved a way (suc row) w)) (same_holds x _)
+      ∙ ap (λ (hss : List (List Hold)). x.holds ∷ hss) (moved_holds (suc row) w)
+
+  moved_programs : (row : ℕ) (w : List Stand) → map (λ x. x.program) (rows_moved a way row w) ≡ map (λ x. x.program) w
+  moved_programs row [] = refl
+  moved_programs row (x ∷ w) =
+      ap (λ (p : List Place). p ∷ map (λ (y : Stand). y.program) (rows_moved a way (suc row) w)) (same_program x _)
+      ∙ ap (λ (ps : List (List Place)). x.program ∷ ps) (moved_programs (suc row) w)
+
+  moved_places : (row : ℕ) (w : List Stand)
+      → map (λ x. x.place) (rows_moved a way row (rows_in w)) ≡ map (λ x. x.place) (rows_moved a way row w)
+  moved_places row [] = refl
+  moved_places row (x ∷ w) =
+      ap (λ (n : ℕ). n ∷ map (λ (y : Stand). y.place) (rows_moved a way (suc row) (rows_in w))) (same_place x _)
+      ∙ ap (λ (ns : List ℕ). (stand_moved x (move_of a way row (act_of x) (is_flag x.program))).place ∷ ns)
+      (moved_places (suc row) w)
+
+  -- a row after the act
+  moved_row : (row : ℕ) (w : List Stand) (q : ℕ) → q < length w → get_or (rows_moved a way row w) q no_stand
+      ≡ stand_moved (get_or w q no_stand)
+      (move_of a way (row + q) (act_of (get_or w q no_stand)) (is_flag (get_or w q no_stand).program))
+  moved_row row [] q lt = absurd (omega arith)
+  moved_row row (x ∷ w) zero lt =
+      ap (λ (n : ℕ). stand_moved x (move_of a way n (act_of x) (is_flag x.program))) (omega arith)
+  moved_row row (x ∷ w) (suc q) lt =
+      let y : Stand = get_or w q no_stand in
+      moved_row (suc row) w q (omega (arith, lt))
+      ∙ ap (λ (n : ℕ). stand_moved y (move_of a way n (act_of y) (is_flag y.program))) (omega arith)
+
+module _ {T : Type 0} (ids : ℕ → PartyId) (distinct : AreDistinct ids) (locks : List PlanLock)
+    (programs : List (List Place)) (w : List Stand) (s : Scene T) (used : ℕ)
+    (tied : IsTied ids locks programs w s used) where
+  rows_same : rows_of programs s ≡ map row_at (zip (map (λ x. x.program) w) (map (λ x. x.place) w))
+  rows_same =
+      ap (λ (ps : List (List Place)). map row_at (zip ps s.places)) tied.programs_same
+      ∙ ap (λ (ns : List ℕ). map row_at (zip (map (λ (x : Stand). x.program) w) ns)) tied.places
+
+  pub acts_same : acts_of (rows_of programs s) ≡ acts_of w
+  acts_same = ap acts_of rows_same ∙ acts_in w
+
+  module _ (a : Option Act) (way : ℕ) where
+    -- rows that are moved keep scene and world tied
+    moved_tied : IsTied ids locks programs (rows_moved a way 0 w) (scene_moved programs s a way) used
+    moved_tied = record {
+      programs_same = tied.programs_same ∙ sym (moved_programs a way 0 w);
+      places =
+          ap (λ (v : List Stand). map (λ (x : Stand). x.place) (rows_moved a way 0 v)) rows_same
+          ∙ moved_places a way 0 w;
+      known = λ q lt.
+          let below : q < length w = omega (arith, lt, moved_long a way 0 w) in
+          subst (IsKnownStand locks) (sym (moved_row a way 0 w q below))
+          (known_moved locks (get_or w q no_stand) (tied.known q below) way (0 + q) a);
+      at = λ l lt.
+          subst
+          (λ (hss : List (List Hold)).
+          IsLockTied ids (get_or locks l no_lock) (s.machines l) hss l (sum_by length programs) used)
+          (sym (moved_holds a way 0 w)) (tied.at l lt);
+    }
+
+    -- and so does the party that has moved them and goes to another place
+    pub signal_tied : (p place : ℕ) → p < length w
+        → IsKnownStand locks (at_place (get_or w p no_stand) place (get_or w p no_stand).holds)
+        → IsTied ids locks programs
+        (set (rows_moved a way 0 w) p (at_place (get_or w p no_stand) place (get_or w p no_stand).holds))
+        (scene_at (scene_moved programs s a way) p place) (suc used)
+    signal_tied p place known stands =
+        let x : Stand = get_or w p no_stand in
+        let v : List Stand = rows_moved a way 0 w in
+        let y : Stand = get_or v p no_stand in
+        let same : at_place y place y.holds ≡ at_place x place x.holds =
+        ap (λ (z : Stand). at_place z place z.holds) (moved_row a way 0 w p known) ∙ at_moved x _ place in
+        let after : Scene T = scene_at (scene_moved programs s a way) p place in
+        subst (λ (z : Stand). IsTied ids locks programs (set v p z) after (suc used)) same
+        (tied_still ids distinct locks programs v (scene_moved programs s a way) used moved_tied p place
+        (omega (arith, known, moved_long a way 0 w)) s.machines (λ k. refl)
+        (subst (IsKnownStand locks) (sym same) stands))

@@ -1,0 +1,105 @@
+-- An act that signals or chooses can go some way exactly where it goes on in the world.
+use Rattle.std.proofs.Common.{◌≡◌, ℕ, zero, suc, Bool, true, false, not, ◌||◌, ◌==◌, nat_lt, if◌then◌else◌, List, [], ◌∷◌, get_or, Option, Some, None, is_some, refl, ap, sym, ◌∙◌, arith, ltb-true}
+use Rattle.std.proofs.lemmas.Bool.{and_parts}
+use Rattle.std.specs.List.{list_any}
+use Rattle.lock_base.specs.declared.machine.hold.Hold.{Hold}
+use Rattle.lock_plan.specs.declared.lock.PlanLock.{PlanLock}
+use Rattle.lock_plan.specs.declared.program.Act.{Act}
+use Rattle.lock_plan.specs.declared.program.Act.TheVariants as act
+use Rattle.lock_plan.specs.declared.program.Block.{Block}
+use Rattle.lock_plan.specs.declared.program.Block.TheVariants.{Repeat, Either, If}
+use Rattle.lock_plan.specs.declared.program.Signal.{Signal}
+use Rattle.lock_plan.specs.declared.program.Signal.TheVariants.{Idle, Sleep, Start, Clear, Join, NotifyOne, NotifyAll}
+use Rattle.lock_plan.specs.declared.turn.Turn.{Turn}
+use Rattle.lock_plan.specs.declared.turn.Turn.TheVariants.{Goes, Waits, Refused}
+use Rattle.lock_plan.specs.Signals.{idles, sleeps_on, has_ended, lets_signal, lets, signal_turn}
+use Rattle.lock_plan.specs.Worlds.{reply_at, turn_by, only_if, is_step_turn}
+
+module _ {X : Type 0} where
+  pub only_some : (b : Bool) (o : Option X) (x : X) → only_if b o ≡ Some x → (b ≡ true) × (o ≡ Some x)
+  only_some true o x e = (refl, e)
+  only_some false o x e = cc
+
+  -- an element that passes is at some place
+  any_found : (f : X → Bool) (xs : List X) (none : X) → list_any f xs ≡ true → (i : ℕ) × (f (get_or xs i none) ≡ true)
+  any_found f [] none is = cc
+  any_found f (x ∷ xs) none is = by_first (f x) refl is (any_found f xs none)
+    where
+      by_first : (b : Bool) → f x ≡ b → (b || list_any f xs) ≡ true
+          → (list_any f xs ≡ true → (i : ℕ) × (f (get_or xs i none) ≡ true))
+          → (i : ℕ) × (f (get_or (x ∷ xs) i none) ≡ true)
+      by_first true here any rest = (0, here)
+      by_first false other any rest = let r = rest any in (suc r.0, r.1)
+
+-- of two ways, the second is that of an act that is not made
+pub two_ways : (way : ℕ) (made : Bool) → nat_lt way 2 ≡ true → made ≡ not (way == 1) → way ≡ (if made then 0 else 1)
+two_ways zero made below is = ap (λ (b : Bool). if b then 0 else 1) (sym is)
+two_ways (suc zero) made below is = ap (λ (b : Bool). if b then 0 else 1) (sym is)
+two_ways (suc (suc n)) made below is = let lt = ltb-true (suc (suc n)) 2 below in absurd (omega (arith, lt))
+
+module _ (acts : List (Option Act)) where
+  -- a choice can go one of its ways
+  pub choice_way : (block : Block) → (way : ℕ) × (lets acts way (Some (act.Choose block)) ≡ true)
+  choice_way Repeat = (0, refl)
+  choice_way Either = (0, refl)
+  choice_way (If row) = by_end (has_ended acts row) refl
+    where
+      by_end : (b : Bool) → has_ended acts row ≡ b → (way : ℕ) × (lets acts way (Some (act.Choose (If row))) ≡ true)
+      by_end true is = (0, is)
+      by_end false is = (1, ap not is)
+
+  goes_if : (b : Bool) → is_step_turn (Some (if b then Goes else Waits)) ≡ b
+  goes_if true = refl
+  goes_if false = refl
+
+  -- a signal goes where it has a way
+  pub signal_goes : (way : ℕ) (signal : Signal) → lets_signal acts way signal ≡ true
+      → is_step_turn (signal_turn acts signal) ≡ true
+  signal_goes way Idle is = cc
+  signal_goes way (Sleep cond) is = cc
+  signal_goes way (Start row) is = refl
+  signal_goes way (Clear row) is = refl
+  signal_goes way (Join row) is = goes_if (has_ended acts row) ∙ (and_parts (way == 0) (has_ended acts row) is).1
+  signal_goes way (NotifyOne cond) is = refl
+  signal_goes way (NotifyAll cond) is = refl
+
+  pub signal_way : (signal : Signal) → is_step_turn (signal_turn acts signal) ≡ true
+      → (way : ℕ) × (lets_signal acts way signal ≡ true)
+  signal_way Idle is = cc
+  signal_way (Sleep cond) is = cc
+  signal_way (Start row) is = (0, refl)
+  signal_way (Clear row) is = (0, refl)
+  signal_way (Join row) is = (0, sym (goes_if (has_ended acts row)) ∙ is)
+  signal_way (NotifyOne cond) is = by_sleeper (list_any (sleeps_on cond) acts) refl
+    where
+      by_sleeper : (b : Bool) → list_any (sleeps_on cond) acts ≡ b
+          → (way : ℕ) × (lets_signal acts way (NotifyOne cond) ≡ true)
+      by_sleeper true some = let q = any_found (sleeps_on cond) acts None some in (suc q.0, q.1)
+      by_sleeper false none = (0, ap not none)
+  signal_way (NotifyAll cond) is = (0, refl)
+
+  join_never : (b : Bool) → Some (if b then Goes else Waits) ≡ Some Refused → ⊥
+  join_never true is = cc
+  join_never false is = cc
+
+  -- no signal is refused
+  pub signal_never : (signal : Signal) → signal_turn acts signal ≡ Some Refused → ⊥
+  signal_never (Join row) is = join_never (has_ended acts row) is
+  signal_never other is = cc
+
+  signal_some : (signal : Signal) → idles (Some (act.Signal signal)) ≡ false → is_some (signal_turn acts signal) ≡ true
+  signal_some Idle there = cc
+  signal_some other there = refl
+
+  -- a party at an act of its program has a turn, whatever the others hold, if it does not idle
+  pub turn_some : (locks : List PlanLock) (hss : List (List Hold)) (p : ℕ) (a : Act) → idles (Some a) ≡ false
+      → is_some (turn_by acts (Some a) (reply_at locks hss p (Some a))) ≡ true
+  turn_some locks hss p (act.Call call) there = refl
+  turn_some locks hss p (act.Try call) there = refl
+  turn_some locks hss p (act.Choose block) there = refl
+  turn_some locks hss p (act.Signal signal) there = signal_some signal there
+
+  pub some_turn : (a : Act) (reply : Option Turn) → is_some (turn_by acts (Some a) reply) ≡ true
+      → idles (Some a) ≡ false
+  some_turn (act.Signal Idle) reply is = cc
+  some_turn other reply is = refl
