@@ -1,6 +1,7 @@
 -- The locks of a text's plan fit machines of guards.
-use Rattle.std.proofs.Common.{◌≡◌, ℕ, ◌+◌, Bool, true, not, ◌&&◌, List, [], ◌∷◌, Option, Some, None, ltb, refl, ap, ap₂, ◌∙◌, arith, length, subst}
-use Rattle.std.specs.Prelude.{is_some, option_map, ◌||◌}
+use Rattle.std.proofs.Common.{◌≡◌, ℕ, ◌+◌, Bool, true, false, not, ◌&&◌, List, [], ◌∷◌, ◌++◌, Some, cond, ltb, refl, ap, ap₂, ◌∙◌, arith, length, subst}
+use Rattle.std.specs.Prelude.{is_some, ◌||◌, ⊤}
+use Rattle.std.specs.List.{AllByRecursion}
 use Rattle.std.proofs.lemmas.Bool.Decides.{nat_tests}
 use Rattle.std.proofs.lemmas.List.Folds.{list_all-append}
 use Rattle.lock_base.specs.declared.machine.kind.Kind.{Kind}
@@ -8,14 +9,15 @@ use Rattle.lock_base.specs.declared.machine.kind.Kind.TheVariants.{Mutex, RwLock
 use Rattle.lock_plan.specs.declared.lock.PlanLock.{PlanLock}
 use Rattle.lock_plan.specs.Checks.{fit_machines, fits_kind, fits_machine}
 use Rattle.lock_plan_text.specs.declared.parser.block_line.BlockLine.{BlockLine}
-use Rattle.lock_plan_text.specs.declared.parser.block_line.BlockLine.TheVariants as block
-use Rattle.lock_plan_text.specs.declared.parser.plan_line.PlanLine.TheVariants.{Lock, Party, Call}
+use Rattle.lock_plan_text.specs.declared.parser.named_word.NamedWord.{NamedWord}
+use Rattle.lock_plan_text.specs.declared.parser.named_word.NamedWord.TheVariants.{Flag, Condvar, Start, Join}
+use Rattle.lock_plan_text.specs.declared.parser.plan_line.PlanLine.TheVariants.{Lock, Party, Named}
 use Rattle.lock_plan_text.specs.declared.parser.text_line.TextLine.{TextLine}
-use Rattle.lock_plan_text.specs.declared.parser.text_line.TextLine.TheVariants.{Plan, Try, Word}
+use Rattle.lock_plan_text.specs.declared.parser.text_line.TextLine.TheVariants.{Plan}
 use Rattle.lock_plan_text.specs.Drafted.{TextsFitMachines}
-use Rattle.lock_plan_text.specs.Drafts.{Draft, Make, is_open, named_call, no_draft, place_of, texts_of, party_names, with_line, with_line_if, with_lock, with_own_line, with_parties}
-use Rattle.lock_plan_text.specs.PlanLines.{IsLineLock, IsTextLine}
-use Rattle.lock_plan_text.proofs.Origins.{own_kept, parties_kept, passed, taken}
+use Rattle.lock_plan_text.specs.Drafts.{Draft, Make, is_open, may_start, no_draft, own_lines, place_of, texts_of, party_names, with_cond, with_flag, with_line, with_lock, with_mention, with_named, with_parties, with_said, with_start}
+use Rattle.lock_plan_text.specs.PlanLines.{IsLineLock, IsTextLine, TextNames}
+use Rattle.lock_plan_text.proofs.Origins.{let_in, own_lines_kept, parties_kept, passed, said_lines, taken}
 
 -- the locks of the draft fit machines
 abbrev Fit : Draft → Type 0
@@ -31,32 +33,53 @@ fit_lock : (draft : Draft) (lock : PlanLock) (name : List ℕ) → Fit draft →
 fit_lock draft lock name fit fits =
     list_all-append fits_machine draft.locks (lock ∷ []) ∙ ap₂ (λ a b. a && (b && true)) fit fits
 
-fit_own : (draft next : Draft) (number : ℕ) (line : BlockLine) → Fit draft → with_own_line draft number line ≡ Some next → Fit next
-fit_own draft next number line fit is = own_kept Fit draft next number line (λ blocks. fit) is
+pub any_lines : (lines : List BlockLine) → AllByRecursion (λ line. ⊤) lines
+any_lines [] = tt
+any_lines (line ∷ lines) = (tt, any_lines lines)
 
-fit_line_if : (draft next : Draft) (number : ℕ) (line : Option BlockLine) → Fit draft → with_line_if draft number line ≡ Some next → Fit next
-fit_line_if draft next number None fit is = cc
-fit_line_if draft next number (Some line) fit is = fit_own draft next number line fit is
+fit_said : (draft next : Draft) (number : ℕ) (line : TextLine) (names : TextNames) → Fit draft → with_said draft number line names ≡ Some next → Fit next
+fit_said draft next number line names fit is =
+    let said = said_lines draft next number (own_lines draft line names) is in
+    own_lines_kept Fit (λ own. ⊤) number (λ d own blocks kept any. kept) draft next said.0 fit (any_lines said.0) said.1.1
 
-fit_line : (draft next : Draft) (number : ℕ) (line : TextLine) (name : List ℕ) → Fit draft → IsTextLine line
-    → with_line draft number line name ≡ Some next → Fit next
-fit_line draft next number (Plan (Lock lock)) name fit ok is =
-    subst Fit (taken (is_open draft || is_some (place_of draft.lock_names name)) (with_lock draft lock name) next is)
-    (fit_lock draft lock name fit (kind_fits lock.kind lock.limit lock.bar ok))
-fit_line draft next number (Plan (Party serves copies)) name fit ok is =
+fit_mention : (draft : Draft) (number : ℕ) (name : List ℕ) → Fit draft → Fit (with_mention draft number name)
+fit_mention draft number name fit = by_test (is_some (place_of draft.mentions name))
+  where
+    by_test : (t : Bool)
+        → Fit (cond t draft (record draft { mentions = draft.mentions ++ name ∷ []; mention_lines = draft.mention_lines ++ number ∷ [] }))
+    by_test true = fit
+    by_test false = fit
+
+fit_named : (draft next : Draft) (number : ℕ) (word : NamedWord) (names : TextNames) → Fit draft → with_named draft number word names ≡ Some next
+    → Fit next
+fit_named draft next number Flag names fit is =
+    subst Fit (taken (is_open draft || is_some (place_of draft.flag_names names.name)) (with_flag draft names.name) next is) fit
+fit_named draft next number Condvar names fit is =
+    subst Fit (taken (is_open draft || is_some (place_of draft.cond_names names.name)) (with_cond draft names.name) next is) fit
+fit_named draft next number Start names fit is =
+    let after = with_start (with_mention draft number names.name) names.name in
+    fit_said after next number (Plan (Named Start)) names (fit_mention draft number names.name fit)
+    (let_in (may_start draft names.name) (with_said after number (Plan (Named Start)) names) next is)
+fit_named draft next number Join names fit is =
+    fit_said (with_mention draft number names.name) next number (Plan (Named Join)) names (fit_mention draft number names.name fit) is
+fit_named draft next number word names fit is = fit_said draft next number (Plan (Named word)) names fit is
+
+fit_line : (draft next : Draft) (number : ℕ) (line : TextLine) (names : TextNames) → Fit draft → IsTextLine line
+    → with_line draft number line names ≡ Some next → Fit next
+fit_line draft next number (Plan (Lock lock)) names fit ok is =
+    subst Fit (taken (is_open draft || is_some (place_of draft.lock_names names.name)) (with_lock draft lock names.name) next is)
+    (fit_lock draft lock names.name fit (kind_fits lock.kind lock.limit lock.bar ok))
+fit_line draft next number (Plan (Party serves copies)) names fit ok is =
     let start : Draft = record draft { first = length draft.parties } in
-    parties_kept Fit serves (λ d called kept. kept) start next (party_names name copies) fit
-    (passed (is_open draft) (with_parties start serves (party_names name copies)) next is)
-fit_line draft next number (Plan (Call for_rwlock step)) name fit ok is =
-    fit_line_if draft next number (option_map block.Call (named_call draft for_rwlock step name)) fit is
-fit_line draft next number (Try for_rwlock step) name fit ok is =
-    fit_line_if draft next number (option_map block.Try (named_call draft for_rwlock step name)) fit is
-fit_line draft next number (Word word) name fit ok is = fit_own draft next number (block.Word word) fit is
+    parties_kept Fit serves (λ d called kept. kept) start next (party_names names.name copies) fit
+    (passed (is_open draft) (with_parties start serves (party_names names.name copies)) next is)
+fit_line draft next number (Plan (Named word)) names fit ok is = fit_named draft next number word names fit is
+fit_line draft next number line names fit ok is = fit_said draft next number line names fit is
 
 fit_lines : (draft end : Draft) (number : ℕ) (texts : List (List ℕ)) → Fit draft → Make draft number texts end → Fit end
 fit_lines draft end number [] fit makes = subst Fit makes.0 fit
-fit_lines draft end number (text ∷ texts) fit (next, ((line, (name, (says, is))), makes)) =
-    fit_lines next end (number + 1) texts (fit_line draft next number line name fit says.written is) makes
+fit_lines draft end number (text ∷ texts) fit (next, ((line, (names, (says, is))), makes)) =
+    fit_lines next end (number + 1) texts (fit_line draft next number line names fit says.written is) makes
 
 pub texts_fit_machines : TextsFitMachines
 texts_fit_machines bytes named (draft, (makes, made)) =

@@ -7,7 +7,7 @@ use Rattle.lock_plan.specs.declared.fault.CallFault.TheVariants.{HoldsDiffer, Un
 use Rattle.lock_plan.specs.declared.fault.PlanFault.TheVariants as plan
 use Rattle.lock_plan.specs.declared.lock.PlanLock.{PlanLock}
 use Rattle.lock_plan.specs.declared.program.Act.{Act}
-use Rattle.lock_plan.specs.declared.program.Act.TheVariants.{Call, Try, Choose}
+use Rattle.lock_plan.specs.declared.program.Act.TheVariants.{Call, Try, Choose, Signal}
 use Rattle.lock_plan.specs.declared.program.Place.{Place}
 use Rattle.lock_plan.specs.CallFaults.{call_fault}
 use Rattle.lock_plan.specs.Checks.{program_fault}
@@ -54,13 +54,14 @@ act_at locks program place (Try call) holds known =
 act_at locks program place (Choose block) holds known =
     then_at place _ _ (comes_at place known (next_in program place) holds)
     (λ after. comes_at place after (other_in program place) holds)
+act_at locks program place (Signal signal) holds known = comes_at place known (next_in program place) holds
 
 with_at : (locks : List PlanLock) (program : List Place) (place : ℕ) (act : Act) (holds : Option (List Hold)) (known : Known)
     → IsOf place (acts_with locks program place act holds known)
 with_at locks program place act None known = wrong_at place Unreached
 with_at locks program place act (Some holds) known = act_at locks program place act holds known
 
-step_at : (locks : List PlanLock) (program : List Place) (place : ℕ) (known : Known) → IsOf place (acts_at locks program place known)
+pub step_at : (locks : List PlanLock) (program : List Place) (place : ℕ) (known : Known) → IsOf place (acts_at locks program place known)
 step_at locks program place known =
     with_at locks program place (get_or program place no_place).act (known_at known place) known
 

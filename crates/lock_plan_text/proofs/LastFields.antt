@@ -5,13 +5,11 @@ use Rattle.std.proofs.lemmas.Bool.{false≢true}
 use Rattle.std.proofs.lemmas.List.Splits.{length-slice_split}
 use Rattle.lock_base.specs.declared.machine.kind.Kind.{Kind}
 use Rattle.lock_base.specs.declared.machine.kind.Kind.TheVariants.{Mutex, RwLock, Reentrant}
-use Rattle.lock_base.specs.declared.machine.lock_step.LockStep.{LockStep}
-use Rattle.lock_plan_text.specs.Words.{step_word}
 use Rattle.lock_script.specs.Lines.{fields_of}
 use Rattle.lock_script.proofs.NumberTexts.{line-one_field}
 use Rattle.lock_plan_text.specs.declared.parser.plan_line.PlanLine.{PlanLine}
-use Rattle.lock_plan_text.specs.declared.parser.plan_line.PlanLine.TheVariants.{Lock, Party, Call}
-use Rattle.lock_plan_text.specs.PlanLines.{IsCount, IsPlanLine, IsVerb, kind_word, last_fields, limit_fields, line_word, party_word}
+use Rattle.lock_plan_text.specs.declared.parser.plan_line.PlanLine.TheVariants.{Lock, Party}
+use Rattle.lock_plan_text.specs.PlanLines.{IsCount, IsPlanLine, kind_word, last_fields, limit_fields, line_word, party_word}
 
 -- each text has a field
 pub has_field : (text : List ℕ) → [] ≡ fields_of text → ⊥
@@ -39,7 +37,7 @@ long_line word last rwlock reentrant party server (Lock lock) same is =
     long_kind word last rwlock reentrant lock.kind lock.limit lock.bar same is
 long_line word last rwlock reentrant party server (Party false copies) same is = party (sym same)
 long_line word last rwlock reentrant party server (Party true copies) same is = server (sym same)
-long_line word last rwlock reentrant party server (Call is_rwlock step) same is = has_field last is
+long_line word last rwlock reentrant party server line same is = has_field last is
 
 no_lock_line : (last : List ℕ) (kind : Kind) (limit : ℕ) (bar serves : Bool) → kind_word kind ≡ party_word serves
     → limit_fields kind limit bar ≡ fields_of last → ⊥
@@ -55,22 +53,7 @@ pub copies_line : (last : List ℕ) → ((count : ℕ) → IsCount count → dec
 copies_line last none serves (Lock lock) ok same is = no_lock_line last lock.kind lock.limit lock.bar serves same is
 copies_line last none serves (Party any None) ok same is = has_field last is
 copies_line last none serves (Party any (Some count)) ok same is = none count ok is
-copies_line last none serves (Call is_rwlock step) ok same is = has_field last is
-
-short_kind : (word : List ℕ) → (word ≡ codes "mutex" → ⊥) → (kind : Kind) (limit : ℕ) (bar : Bool) → kind_word kind ≡ word
-    → limit_fields kind limit bar ≡ [] → ⊥
-short_kind word mutex Mutex limit bar same is = mutex (sym same)
-short_kind word mutex RwLock limit bar same is = cc
-short_kind word mutex Reentrant limit bar same is = cc
-
--- a line with no field after the name is one of a mutex, a party or a call
-pub short_line : (word : List ℕ) → (word ≡ codes "mutex" → ⊥) → (word ≡ codes "party" → ⊥) → (word ≡ codes "server" → ⊥)
-    → ((is_rwlock : Bool) (step : LockStep) → IsVerb is_rwlock step → step_word is_rwlock step ≡ word → ⊥)
-    → (line : PlanLine) → IsPlanLine line → line_word line ≡ word → last_fields line ≡ [] → ⊥
-short_line word mutex party server verb (Lock lock) ok same is = short_kind word mutex lock.kind lock.limit lock.bar same is
-short_line word mutex party server verb (Party false copies) ok same is = party (sym same)
-short_line word mutex party server verb (Party true copies) ok same is = server (sym same)
-short_line word mutex party server verb (Call is_rwlock step) ok same is = verb is_rwlock step ok same
+copies_line last none serves line ok same is = has_field last is
 
 -- what always holds, holds of no value
 pub if_any : {A : Type 0} (o : Option A) (X : Type 0) → X → IfNone o X

@@ -3,19 +3,19 @@ use Rattle.std.proofs.Common.{◌≡◌, ℕ, ◌+◌, List, [], ◌∷◌, Some
 use Rattle.std.proofs.lemmas.Bool.{false≢true}
 use Rattle.lock_plan_text.specs.Drafts.{Adds, Draft, IsBad, IsFirstBadFrom, Make, no_draft, texts_of, with_line}
 use Rattle.lock_plan_text.specs.Meanings.{DraftsAreGood, HaveOneBadLine, MakeOneDraft, SayOneLine}
-use Rattle.lock_plan_text.specs.PlanLines.{Says}
+use Rattle.lock_plan_text.specs.PlanLines.{Says, TextNames}
 use Rattle.lock_plan_text.specs.declared.parser.text_line.TextLine.{TextLine}
 use Rattle.lock_plan_text.proofs.OneLine.{one_line}
 
 pub say_one_line : SayOneLine
-say_one_line text line other name another says tells =
-    one_line line other name another says.written tells.written says.named tells.named (says.fields ∙ sym tells.fields)
+say_one_line text line other names others says tells =
+    one_line line other names others says.written tells.written says.named tells.named (says.fields ∙ sym tells.fields)
 
 -- one text gives a line the same outcome under both readings
-same_outcome : (draft : Draft) (number : ℕ) (text : List ℕ) (line other : TextLine) (name another : List ℕ)
-    → Says text line name → Says text other another → with_line draft number line name ≡ with_line draft number other another
-same_outcome draft number text line other name another says tells =
-    let same = say_one_line text line other name another says tells in
+same_outcome : (draft : Draft) (number : ℕ) (text : List ℕ) (line other : TextLine) (names others : TextNames)
+    → Says text line names → Says text other others → with_line draft number line names ≡ with_line draft number other others
+same_outcome draft number text line other names others says tells =
+    let same = say_one_line text line other names others says tells in
     rw (same.0, same.1)
 
 adds_one : (draft next after : Draft) (number : ℕ) (text : List ℕ) → Adds draft number text next → Adds draft number text after → next ≡ after

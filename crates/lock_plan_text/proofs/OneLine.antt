@@ -1,5 +1,5 @@
 -- Two lines with the same fields are the same.
-use Rattle.std.proofs.Common.{◌≡◌, ℕ, Bool, true, false, List, Option, Some, None, cond, codes, decimal, refl, ap, sym, ◌∙◌, arith}
+use Rattle.std.proofs.Common.{◌≡◌, ℕ, Bool, true, false, ◌&&◌, List, [], ◌∷◌, get_or, Option, Some, None, cond, codes, decimal, refl, ap, sym, ◌∙◌, arith}
 use Rattle.std.specs.Prelude.{bytes_eq}
 use Rattle.std.proofs.lemmas.Bool.{false≢true}
 use Rattle.std.proofs.lemmas.Fmt.{decimal_injective}
@@ -9,14 +9,19 @@ use Rattle.lock_base.specs.declared.machine.mode.Mode.TheVariants.{Shared, Exclu
 use Rattle.lock_base.specs.declared.machine.mode_step.ModeStep.TheVariants.{Acquire, Release, Change}
 use Rattle.lock_base.specs.declared.machine.lock_step.LockStep.{LockStep}
 use Rattle.lock_base.specs.declared.machine.lock_step.LockStep.TheVariants.{Modes, Announce, Withdraw}
+use Rattle.lock_base.specs.Modes.{is_move}
 use Rattle.lock_plan_text.specs.Words.{step_word}
 use Rattle.lock_plan_text.specs.declared.parser.block_line.BlockWord.{BlockWord}
 use Rattle.lock_plan_text.specs.declared.parser.block_line.BlockWord.TheVariants as block
 use Rattle.lock_plan_text.specs.declared.parser.plan_line.PlanLine.{PlanLine}
-use Rattle.lock_plan_text.specs.declared.parser.plan_line.PlanLine.TheVariants.{Lock, Party, Call}
+use Rattle.lock_plan_text.specs.declared.parser.named_word.NamedWord.{NamedWord}
+use Rattle.lock_plan_text.specs.declared.parser.named_word.NamedWord.TheVariants as named
+use Rattle.lock_plan_text.specs.declared.parser.plan_line.PlanLine.TheVariants.{Lock, Party, Call, Named}
 use Rattle.lock_plan_text.specs.declared.parser.text_line.TextLine.{TextLine}
 use Rattle.lock_plan_text.specs.declared.parser.text_line.TextLine.TheVariants as text
-use Rattle.lock_plan_text.specs.PlanLines.{IsNamed, IsTextLine, block_word, text_fields, IsCopies, IsLineLock, IsPlanLine, IsVerb, copy_fields, kind_word, last_fields, limit_fields, line_word, party_word, plan_fields}
+use Rattle.lock_plan_text.specs.declared.parser.wait_line.WaitLine.{WaitLine}
+use Rattle.lock_plan_text.specs.declared.parser.wait_line.WaitLine.TheVariants.{Once, Until, UntilNot}
+use Rattle.lock_plan_text.specs.PlanLines.{IsFlagField, IsNamed, IsOneName, IsTextLine, TextNames, block_word, has_flag, text_fields, IsCopies, IsLineLock, IsPlanLine, IsVerb, copy_fields, kind_word, last_fields, limit_fields, line_word, named_word, one_name, party_word, plan_fields, until_fields}
 
 -- a line without the limit of its lock
 abbrev of_kind : Kind → PlanLine
@@ -26,6 +31,7 @@ abbrev bare : PlanLine → PlanLine
 bare (Lock lock) = of_kind lock.kind
 bare (Party serves copies) = Party serves None
 bare (Call is_rwlock step) = Call is_rwlock step
+bare (Named word) = Named word
 
 -- the line of a word
 by_word : List ℕ → Option PlanLine
@@ -48,13 +54,26 @@ by_word word =
     (cond (bytes_eq word (codes "downgrade_to_upgradable")) (Some (Call true (Modes (Change Exclusive Upgradable))))
     (cond (bytes_eq word (codes "downgrade_upgradable")) (Some (Call true (Modes (Change Upgradable Shared))))
     (cond (bytes_eq word (codes "announce")) (Some (Call true Announce))
-    (cond (bytes_eq word (codes "withdraw")) (Some (Call true Withdraw)) None))))))))))))))))))
+    (cond (bytes_eq word (codes "withdraw")) (Some (Call true Withdraw))
+    (cond (bytes_eq word (codes "flag")) (Some (Named named.Flag))
+    (cond (bytes_eq word (codes "condvar")) (Some (Named named.Condvar))
+    (cond (bytes_eq word (codes "set")) (Some (Named named.Set))
+    (cond (bytes_eq word (codes "clear")) (Some (Named named.Clear))
+    (cond (bytes_eq word (codes "if")) (Some (Named named.If))
+    (cond (bytes_eq word (codes "notify_one")) (Some (Named named.NotifyOne))
+    (cond (bytes_eq word (codes "notify_all")) (Some (Named named.NotifyAll))
+    (cond (bytes_eq word (codes "start")) (Some (Named named.Start))
+    (cond (bytes_eq word (codes "join")) (Some (Named named.Join)) None)))))))))))))))))))))))))))
 
 kind_by_word : (kind : Kind) → by_word (kind_word kind) ≡ Some (of_kind kind)
 unfolding by_word
 kind_by_word Mutex = refl
 kind_by_word RwLock = refl
 kind_by_word Reentrant = refl
+
+not_and : (t : Bool) → (t && false) ≡ true → ⊥
+not_and true is = false≢true is
+not_and false is = false≢true is
 
 step_by_word : (is_rwlock : Bool) (step : LockStep) → IsVerb is_rwlock step → by_word (step_word is_rwlock step) ≡ Some (Call is_rwlock step)
 unfolding by_word
@@ -64,34 +83,26 @@ step_by_word true (Modes (Acquire Upgradable)) ok = refl
 step_by_word true (Modes (Release Shared)) ok = refl
 step_by_word true (Modes (Release Exclusive)) ok = refl
 step_by_word true (Modes (Release Upgradable)) ok = refl
-step_by_word true (Modes (Change Shared Shared)) ok = absurd (false≢true ok)
-step_by_word true (Modes (Change Shared Exclusive)) ok = absurd (false≢true ok)
-step_by_word true (Modes (Change Shared Upgradable)) ok = absurd (false≢true ok)
 step_by_word true (Modes (Change Exclusive Shared)) ok = refl
-step_by_word true (Modes (Change Exclusive Exclusive)) ok = absurd (false≢true ok)
 step_by_word true (Modes (Change Exclusive Upgradable)) ok = refl
 step_by_word true (Modes (Change Upgradable Shared)) ok = refl
 step_by_word true (Modes (Change Upgradable Exclusive)) ok = refl
-step_by_word true (Modes (Change Upgradable Upgradable)) ok = absurd (false≢true ok)
 step_by_word true Announce ok = refl
 step_by_word true Withdraw ok = refl
-step_by_word false (Modes (Acquire Shared)) ok = absurd (false≢true ok)
 step_by_word false (Modes (Acquire Exclusive)) ok = refl
-step_by_word false (Modes (Acquire Upgradable)) ok = absurd (false≢true ok)
-step_by_word false (Modes (Release Shared)) ok = absurd (false≢true ok)
 step_by_word false (Modes (Release Exclusive)) ok = refl
-step_by_word false (Modes (Release Upgradable)) ok = absurd (false≢true ok)
-step_by_word false (Modes (Change Shared Shared)) ok = absurd (false≢true ok)
-step_by_word false (Modes (Change Shared Exclusive)) ok = absurd (false≢true ok)
-step_by_word false (Modes (Change Shared Upgradable)) ok = absurd (false≢true ok)
-step_by_word false (Modes (Change Exclusive Shared)) ok = absurd (false≢true ok)
-step_by_word false (Modes (Change Exclusive Exclusive)) ok = absurd (false≢true ok)
-step_by_word false (Modes (Change Exclusive Upgradable)) ok = absurd (false≢true ok)
-step_by_word false (Modes (Change Upgradable Shared)) ok = absurd (false≢true ok)
-step_by_word false (Modes (Change Upgradable Exclusive)) ok = absurd (false≢true ok)
-step_by_word false (Modes (Change Upgradable Upgradable)) ok = absurd (false≢true ok)
-step_by_word false Announce ok = absurd (false≢true ok)
-step_by_word false Withdraw ok = absurd (false≢true ok)
+step_by_word true (Modes (Change Shared Shared)) ok = absurd (false≢true ok)
+step_by_word true (Modes (Change Shared Exclusive)) ok = absurd (false≢true ok)
+step_by_word true (Modes (Change Shared Upgradable)) ok = absurd (false≢true ok)
+step_by_word true (Modes (Change Exclusive Exclusive)) ok = absurd (false≢true ok)
+step_by_word true (Modes (Change Upgradable Upgradable)) ok = absurd (false≢true ok)
+step_by_word false (Modes (Change from to)) ok = absurd (not_and (is_move from to) ok)
+step_by_word is_rwlock step ok = absurd (false≢true ok)
+
+named_by_word : (word : NamedWord) → by_word (named_word word) ≡ Some (Named word)
+unfolding by_word
+named_by_word named.Flag = refl
+named_by_word word = refl
 
 party_by_word : (serves : Bool) → by_word (party_word serves) ≡ Some (Party serves None)
 unfolding by_word
@@ -102,6 +113,7 @@ line_by_word : (line : PlanLine) → IsPlanLine line → by_word (line_word line
 line_by_word (Lock lock) ok = kind_by_word lock.kind
 line_by_word (Party serves copies) ok = party_by_word serves
 line_by_word (Call is_rwlock step) ok = step_by_word is_rwlock step ok
+line_by_word (Named word) ok = named_by_word word
 
 same_limits : (kind : Kind) (limit other : ℕ) (bar flag : Bool) → IsLineLock kind limit bar → IsLineLock kind other flag
     → limit_fields kind limit bar ≡ limit_fields kind other flag → (limit ≡ other) × (bar ≡ flag)
@@ -123,22 +135,15 @@ same_locks Mutex Mutex limit other bar flag is ok good same = let both = same_li
 same_locks RwLock RwLock limit other bar flag is ok good same = let both = same_limits RwLock limit other bar flag ok good same in cc
 same_locks Reentrant Reentrant limit other bar flag is ok good same =
     let both = same_limits Reentrant limit other bar flag ok good same in cc
-same_locks Mutex RwLock limit other bar flag is ok good same = cc
-same_locks Mutex Reentrant limit other bar flag is ok good same = cc
-same_locks RwLock Mutex limit other bar flag is ok good same = cc
-same_locks RwLock Reentrant limit other bar flag is ok good same = cc
-same_locks Reentrant Mutex limit other bar flag is ok good same = cc
-same_locks Reentrant RwLock limit other bar flag is ok good same = cc
+same_locks kind like limit other bar flag is ok good same = cc
 
 abbrev kind_of : PlanLine → Kind
 kind_of (Lock lock) = lock.kind
-kind_of (Party serves copies) = Mutex
-kind_of (Call is_rwlock step) = Mutex
+kind_of line = Mutex
 
 abbrev serves_of : PlanLine → Bool
-serves_of (Lock lock) = false
 serves_of (Party serves copies) = serves
-serves_of (Call is_rwlock step) = false
+serves_of line = false
 
 same_copies : (serves : Bool) (copies other : Option ℕ) → IsCopies copies → IsCopies other → copy_fields copies ≡ copy_fields other
     → Party serves copies ≡ Party serves other
@@ -154,16 +159,12 @@ same_lines : (line other : PlanLine) → bare line ≡ bare other → IsPlanLine
 same_lines (Lock lock) (Lock other) is ok good same =
     let kinds : lock.kind ≡ other.kind = ap kind_of is in
     same_locks lock.kind other.kind lock.limit other.limit lock.bar other.bar kinds ok good same
-same_lines (Lock lock) (Party serves copies) is ok good same = cc
-same_lines (Lock lock) (Call is_rwlock step) is ok good same = cc
-same_lines (Party serves copies) (Lock other) is ok good same = cc
 same_lines (Party serves copies) (Party waits other) is ok good same =
     let servers : serves ≡ waits = ap serves_of is in
     ap (λ (b : Bool). Party b copies) servers ∙ same_copies waits copies other ok good same
-same_lines (Party serves copies) (Call is_rwlock step) is ok good same = cc
-same_lines (Call is_rwlock step) (Lock other) is ok good same = cc
-same_lines (Call is_rwlock step) (Party serves copies) is ok good same = cc
 same_lines (Call is_rwlock step) (Call for_rwlock other) is ok good same = is
+same_lines (Named word) (Named other) is ok good same = is
+same_lines line other is ok good same = cc
 
 one_plan_line : (line other : PlanLine) (name another : List ℕ) → IsPlanLine line → IsPlanLine other
     → plan_fields line name ≡ plan_fields other another → (line ≡ other) × (name ≡ another)
@@ -199,9 +200,13 @@ no_try : by_word (codes "try") ≡ None
 unfolding by_word
 no_try = refl
 
--- a line about a lock or party is no try
-not_tried : (line : PlanLine) → IsPlanLine line → line_word line ≡ codes "try" → ⊥
-not_tried line ok is = let known : Some (bare line) ≡ None = sym (line_by_word line ok) ∙ (ap by_word is ∙ no_try) in cc
+no_wait : by_word (codes "wait") ≡ None
+unfolding by_word
+no_wait = refl
+
+-- a line about a name is no try and no wait
+other_word : (line : PlanLine) (word : List ℕ) → by_word word ≡ None → IsPlanLine line → line_word line ≡ word → ⊥
+other_word line word none ok is = let known : Some (bare line) ≡ None = sym (line_by_word line ok) ∙ (ap by_word is ∙ none) in cc
 
 -- a word is that of one call
 one_verb : (is_rwlock for_rwlock : Bool) (step other : LockStep) → IsVerb is_rwlock step → IsVerb for_rwlock other
@@ -211,22 +216,57 @@ one_verb is_rwlock for_rwlock step other ok good words =
     = sym (step_by_word is_rwlock step ok) ∙ (ap by_word words ∙ step_by_word for_rwlock other good) in
     (cc, cc)
 
-pub one_line : (line other : TextLine) (name another : List ℕ) → IsTextLine line → IsTextLine other → IsNamed line name
-    → IsNamed other another → text_fields line name ≡ text_fields other another → (line ≡ other) × (name ≡ another)
-one_line (text.Plan line) (text.Plan other) name another ok good named called same =
-    let both = one_plan_line line other name another ok good same in (ap text.Plan both.0, both.1)
-one_line (text.Plan line) (text.Try is_rwlock step) name another ok good named called same =
-    let word : line_word line ≡ codes "try" = cc in absurd (not_tried line ok word)
-one_line (text.Plan line) (text.Word word) name another ok good named called same = cc
-one_line (text.Try is_rwlock step) (text.Plan other) name another ok good named called same =
-    let word : line_word other ≡ codes "try" = cc in absurd (not_tried other good word)
-one_line (text.Try is_rwlock step) (text.Try for_rwlock other) name another ok good named called same =
+same_names : (a b : TextNames) → a.name ≡ b.name → a.mutex ≡ b.mutex → a.flag ≡ b.flag → a ≡ b
+same_names a b name mutex flag =
+    ap (λ (n : List ℕ). record { name = n; mutex = a.mutex; flag = a.flag }) name
+    ∙ ap (λ (m : List ℕ). record { name = b.name; mutex = m; flag = a.flag }) mutex
+    ∙ ap (λ (f : List ℕ). record { name = b.name; mutex = b.mutex; flag = f }) flag
+
+same_one : (a b : TextNames) → IsOneName a → IsOneName b → a.name ≡ b.name → a ≡ b
+same_one a b one other name = one.1 ∙ ap one_name name ∙ sym other.1
+
+same_until : (wait other : WaitLine) (flag another : List ℕ) → IsFlagField (has_flag wait) flag → IsFlagField (has_flag other) another
+    → until_fields wait flag ≡ until_fields other another → (wait ≡ other) × (flag ≡ another)
+same_until Once Once flag another ok good same = (refl, ok ∙ sym good)
+same_until Until Until flag another ok good same = (refl, cc)
+same_until UntilNot UntilNot flag another ok good same = (refl, cc)
+same_until wait other flag another ok good same = cc
+
+-- lines whose first fields differ
+apart : (word other : List ℕ) (last more : List (List ℕ)) → bytes_eq word other ≡ false → bytes_eq other other ≡ true
+    → word ∷ last ≡ other ∷ more → ⊥
+apart word other last more differ itself same =
+    false≢true (sym differ ∙ ap (λ (fields : List (List ℕ)). bytes_eq (get_or fields 0 []) other) same ∙ itself)
+
+pub one_line : (line other : TextLine) (names others : TextNames) → IsTextLine line → IsTextLine other → IsNamed line names
+    → IsNamed other others → text_fields line names ≡ text_fields other others → (line ≡ other) × (names ≡ others)
+one_line (text.Plan line) (text.Plan other) names others ok good named called same =
+    let both = one_plan_line line other names.name others.name ok good same in
+    (ap text.Plan both.0, same_one names others named called both.1)
+one_line (text.Plan line) (text.Try is_rwlock step) names others ok good named called same =
+    let word : line_word line ≡ codes "try" = cc in absurd (other_word line (codes "try") no_try ok word)
+one_line (text.Plan line) (text.Wait wait) names others ok good named called same =
+    let word : line_word line ≡ codes "wait" = cc in absurd (other_word line (codes "wait") no_wait ok word)
+one_line (text.Try is_rwlock step) (text.Plan other) names others ok good named called same =
+    let word : line_word other ≡ codes "try" = cc in absurd (other_word other (codes "try") no_try good word)
+one_line (text.Try is_rwlock step) (text.Try for_rwlock other) names others ok good named called same =
     let words : step_word is_rwlock step ≡ step_word for_rwlock other = cc in
+    let name : names.name ≡ others.name = cc in
     let both = one_verb is_rwlock for_rwlock step other ok.0 good.0 words in
-    (ap (λ (b : Bool). text.Try b step) both.0 ∙ ap (text.Try for_rwlock) both.1, cc)
-one_line (text.Try is_rwlock step) (text.Word word) name another ok good named called same = cc
-one_line (text.Word word) (text.Plan other) name another ok good named called same = cc
-one_line (text.Word word) (text.Try is_rwlock step) name another ok good named called same = cc
-one_line (text.Word word) (text.Word other) name another ok good named called same =
+    (ap (λ (b : Bool). text.Try b step) both.0 ∙ ap (text.Try for_rwlock) both.1, same_one names others named called name)
+one_line (text.Try is_rwlock step) (text.Wait wait) names others ok good named called same =
+    absurd (apart (codes "try") (codes "wait") _ _ refl refl same)
+one_line (text.Wait wait) (text.Plan other) names others ok good named called same =
+    let word : line_word other ≡ codes "wait" = cc in absurd (other_word other (codes "wait") no_wait good word)
+one_line (text.Wait wait) (text.Try for_rwlock other) names others ok good named called same =
+    absurd (apart (codes "wait") (codes "try") _ _ refl refl same)
+one_line (text.Wait wait) (text.Wait other) names others ok good named called same =
+    let name : names.name ≡ others.name = cc in
+    let mutex : names.mutex ≡ others.mutex = cc in
+    let last : until_fields wait names.flag ≡ until_fields other others.flag = cc in
+    let both = same_until wait other names.flag others.flag named.1.1 called.1.1 last in
+    (ap text.Wait both.0, same_names names others name mutex both.1)
+one_line (text.Word word) (text.Word other) names others ok good named called same =
     let words : block_word word ≡ block_word other = cc in
     (ap text.Word (same_words word other words), named ∙ sym called)
+one_line line other names others ok good named called same = cc

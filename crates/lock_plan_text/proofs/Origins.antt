@@ -1,78 +1,43 @@
 -- Each line of a draft is what a line of the text says.
-use Rattle.std.proofs.Common.{◌≡◌, ℕ, suc, ◌+◌, ◌-◌, ◌<◌, Bool, true, false, List, [], ◌∷◌, ◌++◌, length, get_or, Option, Some, None, cond, ltb, eqb, refl, ap, sym, ◌∙◌, arith, length-append, subst, ◌==◌}
+use Rattle.std.proofs.Common.{◌≡◌, ℕ, suc, ◌+◌, ◌-◌, ◌<◌, Bool, true, false, List, [], ◌∷◌, ◌++◌, length, get_or, Option, Some, None, cond, refl, ap, sym, ◌∙◌, arith, length-append, subst, ◌==◌}
 use Rattle.std.specs.Prelude.{bytes_eq, is_some, option_map, ◌||◌}
-use Rattle.std.specs.List.{position, position_or_len}
-use Rattle.std.proofs.lemmas.Bool.Decides.{nat_tests}
-use Rattle.std.proofs.lemmas.List.Folds.{position_or_len_push}
+use Rattle.std.specs.List.{AllByRecursion, Contains}
+use Rattle.std.specs.Option.{option_and_then}
 use Rattle.std.proofs.Math.ListN.{get_or-append}
-use Rattle.lock_base.specs.declared.machine.lock_step.LockStep.{LockStep}
-use Rattle.lock_plan.specs.declared.call.PlanCall.{PlanCall}
 use Rattle.lock_plan.specs.declared.lock.PlanLock.{PlanLock}
 use Rattle.lock_plan.specs.Worlds.{no_lock}
 use Rattle.lock_plan_text.specs.declared.parser.block_line.BlockLine.{BlockLine}
-use Rattle.lock_plan_text.specs.declared.parser.block_line.BlockLine.TheVariants as block
+use Rattle.lock_plan_text.specs.declared.parser.named_word.NamedWord.{NamedWord}
+use Rattle.lock_plan_text.specs.declared.parser.named_word.NamedWord.TheVariants.{Flag, Condvar, Start, Join}
 use Rattle.lock_plan_text.specs.declared.parser.open_block.OpenBlock.{OpenBlock}
-use Rattle.lock_plan_text.specs.declared.parser.plan_line.PlanLine.TheVariants.{Lock, Party, Call}
+use Rattle.lock_plan_text.specs.declared.parser.plan_line.PlanLine.TheVariants.{Lock, Party, Named}
 use Rattle.lock_plan_text.specs.declared.parser.text_line.TextLine.{TextLine}
-use Rattle.lock_plan_text.specs.declared.parser.text_line.TextLine.TheVariants.{Plan, Try, Word}
-use Rattle.lock_plan_text.specs.CallOrigins.{AreTied, CallsHaveLines, IsCallOf, IsLineOf, text_at}
-use Rattle.lock_plan_text.specs.Drafts.{Draft, Make, call_on, is_open, no_draft, party_names, place_of, step_on, texts_of, with_line, with_line_if, with_lock, with_own, with_own_line, with_parties, with_party}
+use Rattle.lock_plan_text.specs.declared.parser.text_line.TextLine.TheVariants.{Plan}
+use Rattle.lock_plan_text.specs.CallOrigins.{AreTied, CallsHaveLines, IsLineOf, text_at}
+use Rattle.lock_plan_text.specs.Drafts.{Draft, IsDraftOf, Make, is_open, may_start, no_draft, own_lines, party_names, place_of, texts_of, with_cond, with_flag, with_line, with_lock, with_mention, with_named, with_own, with_own_line, with_own_lines, with_parties, with_party, with_said, with_start}
+use Rattle.lock_plan_text.specs.FaultLines.{IsMention, is_mention}
 use Rattle.lock_plan_text.specs.OpenBlocks.{open_after}
-use Rattle.lock_plan_text.specs.PlanLines.{Says}
+use Rattle.lock_plan_text.specs.PlanLines.{Says, TextNames}
+use Rattle.lock_plan_text.proofs.Positions.{position-push}
+use Rattle.lock_plan_text.proofs.SameLines.{Keeps, kept_lines}
 use Rattle.lock_plan_text.proofs.Ties.{tied_more, tied_onto_from, tied_push}
 
-by_test : (t : Bool) (n i : ℕ) → cond t (Some n) None ≡ Some i → (n ≡ i) × (t ≡ true)
-by_test true n i is = (cc, refl)
-by_test false n i is = cc
+-- the draft's locks and names are as many, and its lines and mentions are what those of the text say
+pub record Made (text : ℕ → List ℕ) (draft : Draft) : Type 0 where
+  pub named : length draft.locks ≡ length draft.lock_names
+  pub tied : AreTied (AreTied (IsLineOf text draft)) draft.parties draft.numbers
+  pub mentioned : AreTied (IsMention text) draft.mentions draft.mention_lines
 
--- what is found stays where it is when the list grows
-position-push : {X : Type 0} (test : X → Bool) (xs : List X) (x : X) (i : ℕ) → position test xs ≡ Some i
-    → (i < length xs) × (position test (xs ++ x ∷ []) ≡ Some i)
-position-push test xs x i found =
-    let n = position_or_len test xs in
-    let both = by_test (ltb n (length xs)) n i found in
-    let place : n ≡ i = both.0 in
-    let test_is : ltb n (length xs) ≡ true = both.1 in
-    let within : n < length xs = grind (arith, nat_tests) in
-    let apart : eqb n (length xs) ≡ false = grind (arith, nat_tests) in
-    let stays : position_or_len test (xs ++ x ∷ []) ≡ n = position_or_len_push test xs x ∙ ap (λ t. cond t (length xs + cond (test x) 0 1) n) apart in
-    let longer : length (xs ++ x ∷ []) ≡ length xs + 1 = length-append xs (x ∷ []) in
-    let less : ltb n (length xs + 1) ≡ true = grind (arith, nat_tests) in
-    (omega arith, rw (stays, longer, less) (ap (λ k. Some k) place))
+line_kept : (text : ℕ → List ℕ) (draft next : Draft) → Keeps draft next → (line : BlockLine) (number : ℕ)
+    → IsLineOf text draft line number → IsLineOf text next line number
+line_kept text draft next keeps line number (said, (names, (says, (lines, (are, has))))) =
+    (said, (names, (says, (lines, (kept_lines draft next keeps said names lines are, has)))))
 
--- the draft's locks and names are as many, and its lines are what those of the text say
-record Made (text : ℕ → List ℕ) (draft : Draft) : Type 0 where
-  named : length draft.locks ≡ length draft.lock_names
-  tied : AreTied (AreTied (IsLineOf text draft)) draft.parties draft.numbers
-
--- where calls stay what they are in another draft, lines do
-line_kept : (text : ℕ → List ℕ) (draft next : Draft)
-    → ((said : Bool → LockStep → TextLine) (call : PlanCall) (number : ℕ) → IsCallOf text draft said call number → IsCallOf text next said call number)
-    → (line : BlockLine) (number : ℕ) → IsLineOf text draft line number → IsLineOf text next line number
-line_kept text draft next kept (block.Call call) number is = kept (λ for_rwlock step. Plan (Call for_rwlock step)) call number is
-line_kept text draft next kept (block.Try call) number is = kept Try call number is
-line_kept text draft next kept (block.Word word) number is = is
-
-lines_kept : (text : ℕ → List ℕ) (draft next : Draft)
-    → ((said : Bool → LockStep → TextLine) (call : PlanCall) (number : ℕ) → IsCallOf text draft said call number → IsCallOf text next said call number)
-    → AreTied (AreTied (IsLineOf text draft)) draft.parties draft.numbers → AreTied (AreTied (IsLineOf text next)) draft.parties draft.numbers
-lines_kept text draft next kept tied =
-    tied_more _ _ (tied_more (IsLineOf text draft) (IsLineOf text next) (line_kept text draft next kept)) draft.parties draft.numbers tied
-
-call_kept : (text : ℕ → List ℕ) (draft : Draft) (lock : PlanLock) (name : List ℕ) → length draft.locks ≡ length draft.lock_names
-    → (said : Bool → LockStep → TextLine) (call : PlanCall) (number : ℕ) → IsCallOf text draft said call number
-    → IsCallOf text (with_lock draft lock name) said call number
-call_kept text draft lock name named said call number (for_rwlock, (step, (called, (says, (place, does))))) =
-    let found = position-push (λ other. bytes_eq other called) draft.lock_names name call.lock place in
-    let same : get_or (draft.locks ++ lock ∷ []) call.lock no_lock ≡ get_or draft.locks call.lock no_lock
-    = get_or-append draft.locks (lock ∷ []) no_lock call.lock (omega (arith, found.0)) in
-    (for_rwlock, (step, (called, (says, (found.1, does ∙ ap (λ (l : PlanLock). step_on for_rwlock step l.kind) (sym same))))))
-
-made_lock : (text : ℕ → List ℕ) (draft : Draft) (lock : PlanLock) (name : List ℕ) → Made text draft → Made text (with_lock draft lock name)
-made_lock text draft lock name made = record {
-  named = omega (arith, length-append draft.locks (lock ∷ []), length-append draft.lock_names (name ∷ []), made.named);
-  tied = lines_kept text draft (with_lock draft lock name) (call_kept text draft lock name made.named) made.tied;
-}
+-- a draft with the same lines keeps what they are
+same_tied : (text : ℕ → List ℕ) (draft next : Draft) → Keeps draft next → AreTied (AreTied (IsLineOf text draft)) draft.parties draft.numbers
+    → AreTied (AreTied (IsLineOf text next)) draft.parties draft.numbers
+same_tied text draft next keeps tied =
+    tied_more _ _ (tied_more (IsLineOf text draft) (IsLineOf text next) (line_kept text draft next keeps)) draft.parties draft.numbers tied
 
 pub taken : (t : Bool) (draft next : Draft) → cond t None (Some draft) ≡ Some next → draft ≡ next
 taken true draft next is = cc
@@ -82,6 +47,10 @@ taken false draft next is = cc
 pub passed : (t : Bool) (found : Option Draft) (next : Draft) → cond t None found ≡ Some next → found ≡ Some next
 passed true found next is = cc
 passed false found next is = is
+
+pub let_in : (t : Bool) (found : Option Draft) (next : Draft) → cond t found None ≡ Some next → found ≡ Some next
+let_in true found next is = is
+let_in false found next is = cc
 
 -- a draft with a line of its own keeps what depends on neither lines nor blocks
 pub own_kept : (P : Draft → Type 0) (draft next : Draft) (number : ℕ) (line : BlockLine)
@@ -93,28 +62,138 @@ own_kept P draft next number line kept is =
     by_blocks None is = cc
     by_blocks (Some blocks) is = let same : with_own draft number line blocks ≡ next = cc in subst P same (kept blocks)
 
-made_own : (text : ℕ → List ℕ) (draft next : Draft) (number : ℕ) (line : BlockLine) → Made text draft → IsLineOf text draft line number
-    → with_own_line draft number line ≡ Some next → Made text next
-made_own text draft next number line made is_line is =
-    own_kept (Made text) draft next number line (λ blocks. (
-    let after = with_own draft number line blocks in
-    record {
-      named = made.named;
-      tied = tied_onto_from (IsLineOf text after) draft.first draft.parties draft.numbers line number
-          (lines_kept text draft after (λ said call n called. called) made.tied)
-          (line_kept text draft after (λ said call n called. called) line number is_line);
-    }
-    )) is
+-- the same for lines of its own, one after another, of each of which something holds
+pub own_lines_kept : (P : Draft → Type 0) (Q : BlockLine → Type 0) (number : ℕ)
+    → ((draft : Draft) (line : BlockLine) (blocks : List OpenBlock) → P draft → Q line → P (with_own draft number line blocks))
+    → (draft next : Draft) (lines : List BlockLine) → P draft → AllByRecursion Q lines → with_own_lines draft number lines ≡ Some next → P next
+own_lines_kept P Q number keeps draft next [] kept all is = let same : draft ≡ next = cc in subst P same kept
+own_lines_kept P Q number keeps draft next (line ∷ lines) kept all is =
+    by_first (with_own_line draft number line) (λ mid e. own_kept P draft mid number line (λ blocks. keeps draft line blocks kept all.0) e)
+    (λ mid ok e. own_lines_kept P Q number keeps mid next lines ok all.1 e) is
+  where
+    by_first : (found : Option Draft) → ((mid : Draft) → found ≡ Some mid → P mid)
+        → ((mid : Draft) → P mid → with_own_lines mid number lines ≡ Some next → P next)
+        → option_and_then (λ mid. with_own_lines mid number lines) found ≡ Some next → P next
+    by_first None ok later e = cc
+    by_first (Some mid) ok later e = later mid (ok mid refl) e
 
-made_named : (text : ℕ → List ℕ) (draft next : Draft) (number : ℕ) (said : Bool → LockStep → TextLine) (of : PlanCall → BlockLine)
-    → ((call : PlanCall) → IsCallOf text draft said call number → IsLineOf text draft (of call) number) → (for_rwlock : Bool) (step : LockStep)
-    (name : List ℕ) (place : Option ℕ) → Made text draft → Says (text number) (said for_rwlock step) name
-    → place_of draft.lock_names name ≡ place
-    → with_line_if draft number (option_map of (option_map (call_on draft for_rwlock step) place)) ≡ Some next → Made text next
-made_named text draft next number said of tie for_rwlock step name None made says found is = cc
-made_named text draft next number said of tie for_rwlock step name (Some lock) made says found is =
-    let call = call_on draft for_rwlock step lock in
-    made_own text draft next number (of call) made (tie call (for_rwlock, (step, (name, (says, (found, refl)))))) is
+-- the lines that a line of the text says, if there are such
+pub said_lines : (draft next : Draft) (number : ℕ) (o : Option (List BlockLine)) → option_and_then (with_own_lines draft number) o ≡ Some next
+    → (lines : List BlockLine) × ((o ≡ Some lines) × (with_own_lines draft number lines ≡ Some next))
+said_lines draft next number None is = cc
+said_lines draft next number (Some lines) is = (lines, (refl, is))
+
+-- all lines that another draft of the same names has are what the text says
+record Grown (text : ℕ → List ℕ) (start draft : Draft) : Type 0 where
+  keeps : Keeps start draft
+  made : Made text draft
+
+each_contained : (all lines : List BlockLine) → ((line : BlockLine) → Contains lines line → Contains all line)
+    → AllByRecursion (Contains all) lines
+each_contained all [] into = tt
+each_contained all (line ∷ lines) into =
+    (into line (0, omega arith, refl), each_contained all lines (λ other has. into other (suc has.0, omega (arith, has.1), has.2)))
+
+made_said : (text : ℕ → List ℕ) (draft next : Draft) (number : ℕ) (line : TextLine) (names : TextNames) → Made text draft
+    → Says (text number) line names → with_said draft number line names ≡ Some next → Made text next
+made_said text draft next number line names made says is =
+    let said = said_lines draft next number (own_lines draft line names) is in
+    let lines = said.0 in
+    (own_lines_kept (Grown text draft) (Contains lines) number
+    (λ d own blocks grown has. (
+    let after = with_own d number own blocks in
+    let keeps : Keeps draft after = record {
+      locks = grown.keeps.locks;
+      flags = grown.keeps.flags;
+      conds = grown.keeps.conds;
+      mentions = grown.keeps.mentions;
+    } in
+    let more : Keeps d after = record {
+      locks = λ name i e. (e, refl);
+      flags = λ name i e. e;
+      conds = λ name i e. e;
+      mentions = λ name i e. e;
+    } in
+    record {
+      keeps = keeps;
+      made = record {
+        named = grown.made.named;
+        tied = tied_onto_from (IsLineOf text after) d.first d.parties d.numbers own number
+            (same_tied text d after more grown.made.tied)
+            (line, (names, (says, (lines, (kept_lines draft after keeps line names lines said.1.0, has)))));
+        mentioned = grown.made.mentioned;
+      };
+    }
+    ))
+    draft next lines
+    (record { keeps = record { locks = λ name i e. (e, refl); flags = λ name i e. e; conds = λ name i e. e; mentions = λ name i e. e }; made = made })
+    (each_contained lines lines (λ other has. has)) said.1.1).made
+
+made_lock : (text : ℕ → List ℕ) (draft : Draft) (lock : PlanLock) (name : List ℕ) → Made text draft → Made text (with_lock draft lock name)
+made_lock text draft lock name made = record {
+  named = omega (arith, length-append draft.locks (lock ∷ []), length-append draft.lock_names (name ∷ []), made.named);
+  tied = same_tied text draft (with_lock draft lock name)
+      (record {
+        locks = λ called i e. (
+            let found = position-push (λ other. bytes_eq other called) draft.lock_names name i e in
+            (found.1, get_or-append draft.locks (lock ∷ []) no_lock i (omega (arith, found.0, made.named)))
+            );
+        flags = λ called i e. e;
+        conds = λ called i e. e;
+        mentions = λ called i e. e;
+      })
+      made.tied;
+  mentioned = made.mentioned;
+}
+
+more_names : (names : List (List ℕ)) (name called : List ℕ) (i : ℕ) → place_of names called ≡ Some i → place_of (names ++ name ∷ []) called ≡ Some i
+more_names names name called i e = (position-push (λ other. bytes_eq other called) names name i e).1
+
+made_flag : (text : ℕ → List ℕ) (draft : Draft) (name : List ℕ) → Made text draft → Made text (with_flag draft name)
+made_flag text draft name made = record {
+  named = made.named;
+  tied = same_tied text draft (with_flag draft name)
+      (record { locks = λ called i e. (e, refl); flags = more_names draft.flag_names name; conds = λ called i e. e; mentions = λ called i e. e })
+      made.tied;
+  mentioned = made.mentioned;
+}
+
+made_cond : (text : ℕ → List ℕ) (draft : Draft) (name : List ℕ) → Made text draft → Made text (with_cond draft name)
+made_cond text draft name made = record {
+  named = made.named;
+  tied = same_tied text draft (with_cond draft name)
+      (record { locks = λ called i e. (e, refl); flags = λ called i e. e; conds = more_names draft.cond_names name; mentions = λ called i e. e })
+      made.tied;
+  mentioned = made.mentioned;
+}
+
+made_mention : (text : ℕ → List ℕ) (draft : Draft) (number : ℕ) (name : List ℕ) → Made text draft → IsMention text name number
+    → Made text (with_mention draft number name)
+made_mention text draft number name made is = by_test (is_some (place_of draft.mentions name))
+  where
+    more : Draft
+    more = record draft { mentions = draft.mentions ++ name ∷ []; mention_lines = draft.mention_lines ++ number ∷ [] }
+
+    by_test : (t : Bool) → Made text (cond t draft more)
+    by_test true = made
+    by_test false = record {
+      named = made.named;
+      tied = same_tied text draft more
+          (record { locks = λ called i e. (e, refl); flags = λ called i e. e; conds = λ called i e. e; mentions = more_names draft.mentions name })
+          made.tied;
+      mentioned = tied_push (IsMention text) draft.mentions draft.mention_lines name number made.mentioned is;
+    }
+
+-- a draft that differs only in what no line of a party depends on
+made_same : (text : ℕ → List ℕ) (draft : Draft) (first : ℕ) (started : List (List ℕ)) → Made text draft
+    → Made text (record draft { first = first; started = started })
+made_same text draft first started made = record {
+  named = made.named;
+  tied = same_tied text draft (record draft { first = first; started = started })
+      (record { locks = λ called i e. (e, refl); flags = λ called i e. e; conds = λ called i e. e; mentions = λ called i e. e })
+      made.tied;
+  mentioned = made.mentioned;
+}
 
 pub parties_kept : (P : Draft → Type 0) (serves : Bool) → ((draft : Draft) (name : List ℕ) → P draft → P (with_party draft serves name))
     → (draft next : Draft) (names : List (List ℕ)) → P draft → with_parties draft serves names ≡ Some next → P next
@@ -132,42 +211,69 @@ made_parties text serves draft next names made is =
     record {
       named = kept.named;
       tied = tied_push (AreTied (IsLineOf text after)) d.parties d.numbers [] []
-          (lines_kept text d after (λ said call n called. called) kept.tied) tt;
+          (same_tied text d after
+          (record { locks = λ called i e. (e, refl); flags = λ called i e. e; conds = λ called i e. e; mentions = λ called i e. e }) kept.tied)
+          tt;
+      mentioned = kept.mentioned;
     }
     ))
     draft next names made is
 
-made_line : (text : ℕ → List ℕ) (draft next : Draft) (number : ℕ) (line : TextLine) (name : List ℕ) → Made text draft
-    → Says (text number) line name → with_line draft number line name ≡ Some next → Made text next
-made_line text draft next number (Plan (Lock lock)) name made says is =
-    subst (Made text) (taken (is_open draft || is_some (place_of draft.lock_names name)) (with_lock draft lock name) next is)
-    (made_lock text draft lock name made)
-made_line text draft next number (Plan (Party serves copies)) name made says is =
+-- the name after `start` or `join`
+pub mention_of : (text : ℕ → List ℕ) (number : ℕ) (word : NamedWord) (names : TextNames) → is_mention word ≡ true
+    → Says (text number) (Plan (Named word)) names → IsMention text names.name number
+mention_of text number word names is says =
+    (word, (is, subst (λ (n : TextNames). Says (text number) (Plan (Named word)) n) says.named.1 says))
+
+made_named : (text : ℕ → List ℕ) (draft next : Draft) (number : ℕ) (word : NamedWord) (names : TextNames) → Made text draft
+    → Says (text number) (Plan (Named word)) names → with_named draft number word names ≡ Some next → Made text next
+made_named text draft next number Flag names made says is =
+    subst (Made text) (taken (is_open draft || is_some (place_of draft.flag_names names.name)) (with_flag draft names.name) next is)
+    (made_flag text draft names.name made)
+made_named text draft next number Condvar names made says is =
+    subst (Made text) (taken (is_open draft || is_some (place_of draft.cond_names names.name)) (with_cond draft names.name) next is)
+    (made_cond text draft names.name made)
+made_named text draft next number Start names made says is =
+    let mentioned = with_mention draft number names.name in
+    let after = with_start mentioned names.name in
+    made_said text after next number (Plan (Named Start)) names
+    (made_same text mentioned mentioned.first (mentioned.started ++ names.name ∷ [])
+    (made_mention text draft number names.name made (mention_of text number Start names refl says)))
+    says
+    (let_in (may_start draft names.name) (with_said after number (Plan (Named Start)) names) next is)
+made_named text draft next number Join names made says is =
+    made_said text (with_mention draft number names.name) next number (Plan (Named Join)) names
+    (made_mention text draft number names.name made (mention_of text number Join names refl says)) says is
+made_named text draft next number word names made says is = made_said text draft next number (Plan (Named word)) names made says is
+
+made_line : (text : ℕ → List ℕ) (draft next : Draft) (number : ℕ) (line : TextLine) (names : TextNames) → Made text draft
+    → Says (text number) line names → with_line draft number line names ≡ Some next → Made text next
+made_line text draft next number (Plan (Lock lock)) names made says is =
+    subst (Made text) (taken (is_open draft || is_some (place_of draft.lock_names names.name)) (with_lock draft lock names.name) next is)
+    (made_lock text draft lock names.name made)
+made_line text draft next number (Plan (Party serves copies)) names made says is =
     let start : Draft = record draft { first = length draft.parties } in
-    made_parties text serves start next (party_names name copies)
-    (record { named = made.named; tied = lines_kept text draft start (λ said call n called. called) made.tied })
-    (passed (is_open draft) (with_parties start serves (party_names name copies)) next is)
-made_line text draft next number (Plan (Call for_rwlock step)) name made says is =
-    made_named text draft next number (λ q t. Plan (Call q t)) block.Call (λ call called. called) for_rwlock step name
-    (place_of draft.lock_names name) made says refl is
-made_line text draft next number (Try for_rwlock step) name made says is =
-    made_named text draft next number Try block.Try (λ call called. called) for_rwlock step name (place_of draft.lock_names name) made says refl is
-made_line text draft next number (Word word) name made says is =
-    made_own text draft next number (block.Word word) made (subst (λ (n : List ℕ). Says (text number) (Word word) n) says.named says) is
+    made_parties text serves start next (party_names names.name copies) (made_same text draft (length draft.parties) draft.started made)
+    (passed (is_open draft) (with_parties start serves (party_names names.name copies)) next is)
+made_line text draft next number (Plan (Named word)) names made says is = made_named text draft next number word names made says is
+made_line text draft next number line names made says is = made_said text draft next number line names made says is
 
 -- `text` gives each of the texts by its number
 made_all : (text : ℕ → List ℕ) (draft end : Draft) (number : ℕ) (texts : List (List ℕ)) → Made text draft
     → ((k : ℕ) → k < length texts → text (number + k) ≡ get_or texts k []) → Make draft number texts end → Made text end
 made_all text draft end number [] made told makes = subst (Made text) makes.0 made
-made_all text draft end number (first ∷ texts) made told (next, ((line, (name, (says, is))), rest)) =
+made_all text draft end number (first ∷ texts) made told (next, ((line, (names, (says, is))), rest)) =
     let here : text number ≡ first = ap text (let e : number ≡ number + 0 = omega arith in e) ∙ told 0 (omega arith) in
-    let said : Says (text number) line name = subst (λ (t : List ℕ). Says t line name) (sym here) says in
-    made_all text next end (number + 1) texts (made_line text draft next number line name made said is)
+    let said : Says (text number) line names = subst (λ (t : List ℕ). Says t line names) (sym here) says in
+    made_all text next end (number + 1) texts (made_line text draft next number line names made said is)
     (λ k within. ap text (let e : number + 1 + k ≡ number + suc k = omega arith in e) ∙ told (suc k) (omega arith))
     rest
 
+-- the draft of a text is what its lines say
+pub made_of : (bytes : List ℕ) (draft : Draft) → IsDraftOf bytes draft → Made (text_at bytes) draft
+made_of bytes draft makes =
+    made_all (text_at bytes) no_draft draft 1 (texts_of bytes) (record { named = refl; tied = tt; mentioned = tt })
+    (λ k within. ap (λ (j : ℕ). get_or (texts_of bytes) j []) (let e : 1 + k - 1 ≡ k = omega arith in e)) makes
+
 pub calls_have_lines : CallsHaveLines
-calls_have_lines bytes draft makes =
-    let made = made_all (text_at bytes) no_draft draft 1 (texts_of bytes) (record { named = refl; tied = tt })
-    (λ k within. ap (λ (j : ℕ). get_or (texts_of bytes) j []) (let e : 1 + k - 1 ≡ k = omega arith in e)) makes in
-    made.tied
+calls_have_lines bytes draft makes = (made_of bytes draft makes).tied

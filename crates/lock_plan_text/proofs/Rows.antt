@@ -26,27 +26,33 @@ row_end f n parties old before cell now is_before is_cell is_now are =
     ∙ append_assoc old (cells_text f n) (f n ++ codes "\n")
     ∙ ap (λ (k : ℕ). old ++ row_text f k) (sym are)
 
-pub lanes_end : (locks : List PlanLock) (names : Names) (k : ℕ) (w v : List Stand) (refused : Bool) (trace : List Step) (old first rows now : List ℕ)
-    → first ≡ old ++ row_text (name_of names.parties.items) k → rows ≡ first ++ step_rows locks names k w trace
-    → v ≡ last_world locks w trace → refused ≡ is_refused locks v → now ≡ rows ++ row_text (stop_cell locks names v refused) k
-    → now ≡ old ++ lanes_text locks names k w trace
-lanes_end locks names k w v refused trace old first rows now is_first are_rows is_v is_word is_now =
+pub lanes_end : (locks : List PlanLock) (names : Names) (w v : List Stand) (refused : Bool) (trace : List Step)
+    (old first rows now : List ℕ)
+    → first ≡ old ++ row_text (name_of names.parties.items) (length names.parties.items)
+    → rows ≡ first ++ step_rows locks names w trace
+    → v ≡ last_world locks w trace → refused ≡ is_refused locks v
+    → now ≡ rows ++ row_text (stop_cell locks names v refused) (length names.parties.items)
+    → now ≡ old ++ lanes_text locks names w trace
+lanes_end locks names w v refused trace old first rows now is_first are_rows is_v is_word is_now =
+    let k = length names.parties.items in
     let head = row_text (name_of names.parties.items) k in
-    let body = step_rows locks names k w trace in
+    let body = step_rows locks names w trace in
+    let u = last_world locks w trace in
+    let last = row_text (stop_cell locks names u (is_refused locks u)) k in
     is_now
     ∙ ap (λ (b : Bool). rows ++ row_text (stop_cell locks names v b) k) is_word
-    ∙ ap (λ (u : List Stand). rows ++ row_text (stop_cell locks names u (is_refused locks u)) k) is_v
-    ∙ ap (λ (xs : List ℕ). xs ++ row_text (stop_cell locks names (last_world locks w trace) (is_refused locks (last_world locks w trace))) k)
+    ∙ ap (λ (x : List Stand). rows ++ row_text (stop_cell locks names x (is_refused locks x)) k) is_v
+    ∙ ap (λ (xs : List ℕ). xs ++ last)
     (are_rows ∙ ap (λ (xs : List ℕ). xs ++ body) is_first)
     ∙ append_assoc (old ++ head) body _
     ∙ append_assoc old head _
 
-pub drawing_end : (locks : List PlanLock) (programs : List (List Place)) (names : Names) (k : ℕ) (trace : Vec Step Global) (o : Option (Vec Step Global)) (old first now : List ℕ)
-    → first ≡ old ++ codes "\n" → now ≡ first ++ lanes_text locks names k (first_world locks programs) trace.items
-    → length programs ≡ k → o ≡ Some trace → now ≡ old ++ drawing_text locks programs names o
-drawing_end locks programs names k trace o old first now is_first is_now are is_some =
+pub drawing_end : (locks : List PlanLock) (programs : List (List Place)) (names : Names) (trace : Vec Step Global)
+    (o : Option (Vec Step Global)) (old first now : List ℕ)
+    → first ≡ old ++ codes "\n" → now ≡ first ++ lanes_text locks names (first_world locks programs) trace.items
+    → o ≡ Some trace → now ≡ old ++ drawing_text locks programs names o
+drawing_end locks programs names trace o old first now is_first is_now is_some =
     is_now
-    ∙ ap (λ (xs : List ℕ). xs ++ lanes_text locks names k (first_world locks programs) trace.items) is_first
+    ∙ ap (λ (xs : List ℕ). xs ++ lanes_text locks names (first_world locks programs) trace.items) is_first
     ∙ append_assoc old (codes "\n") _
-    ∙ ap (λ (n : ℕ). old ++ (codes "\n" ++ lanes_text locks names n (first_world locks programs) trace.items)) (sym are)
     ∙ ap (λ (t : Option (Vec Step Global)). old ++ drawing_text locks programs names t) (sym is_some)

@@ -1,15 +1,14 @@
 -- The places of a program are its lines that are steps, in order.
 use Rattle.std.proofs.Common.{◌≡◌, ℕ, zero, suc, ◌+◌, ◌<◌, ◌≤◌, Bool, true, false, List, [], ◌∷◌, ◌++◌, length, get_or, Some, None, cond, refl, sym, ap, ◌∙◌, arith, length-append}
 use Rattle.std.proofs.lemmas.Option.{get_or_from_slice_get, slice_get-get_or}
-use Rattle.lock_plan.specs.declared.program.Act.{Act}
 use Rattle.step_search.specs.Walks.{each_below}
 use Rattle.lock_plan.specs.Points.{listed, said_below}
 use Rattle.lock_plan.specs.Worlds.{no_place}
 use Rattle.lock_plan.proofs.EachBelow.{IsSaidAt, each_get, said_found, said_get}
 use Rattle.lock_plan_text.specs.declared.parser.block_line.BlockLine.{BlockLine}
-use Rattle.lock_plan_text.specs.declared.parser.block_line.BlockLine.TheVariants.{Word}
+use Rattle.lock_plan_text.specs.declared.parser.block_line.BlockLine.TheVariants.{Call, Try, Word, If, Until, Plain}
 use Rattle.lock_plan_text.specs.declared.parser.block_line.BlockWord.TheVariants.{End}
-use Rattle.lock_plan_text.specs.Blocks.{act_of_line, is_step, land, line_at, number_if, other_line, place_if, place_number, place_of_line, place_with, program_of, step_numbers}
+use Rattle.lock_plan_text.specs.Blocks.{is_alone, is_step, land, line_at, number_if, other_line, place_for, place_if, place_number, place_of_line, program_of, step_numbers}
 
 abbrev pub no_line : BlockLine
 no_line = Word End
@@ -23,13 +22,28 @@ numbered lines counts i count are within is =
     ∙ get_or_from_slice_get (each_below (place_number lines) (suc (length lines))) i (place_number lines i) 0
     (each_get (place_number lines) (suc (length lines)) i (omega arith))
 
-pub placed : (lines : List BlockLine) (i : ℕ) (act : Act) (next other : ℕ) → act ≡ act_of_line (line_at lines i)
-    → next ≡ place_number lines (land lines (i + 1)) → other ≡ place_number lines (other_line lines i)
-    → place_with act next other ≡ place_of_line lines i
-placed lines i act next other is_act is_next is_other =
-    ap (λ (a : Act). place_with a next other) is_act
-    ∙ ap (λ (n : ℕ). place_with (act_of_line (line_at lines i)) n other) is_next
-    ∙ ap (λ (n : ℕ). place_with (act_of_line (line_at lines i)) (place_number lines (land lines (i + 1))) n) is_other
+pub placed : (lines : List BlockLine) (i : ℕ) (line : BlockLine) (inside past : ℕ) → line ≡ line_at lines i
+    → inside ≡ place_number lines (land lines (i + 1)) → past ≡ place_number lines (other_line lines i)
+    → place_for line inside past ≡ place_of_line lines i
+placed lines i line inside past is_line is_inside is_past =
+    ap (λ (l : BlockLine). place_for l inside past) is_line
+    ∙ ap (λ (n : ℕ). place_for (line_at lines i) n past) is_inside
+    ∙ ap (λ (n : ℕ). place_for (line_at lines i) (place_number lines (land lines (i + 1))) n) is_past
+
+-- a line alone has one place after it
+alone : (line : BlockLine) (inside past another : ℕ) → is_alone line ≡ true → place_for line inside past ≡ place_for line inside another
+alone (Call call) inside past another is = refl
+alone (Plain line) inside past another is = refl
+alone (Try call) inside past another is = cc
+alone (If flag) inside past another is = cc
+alone (Until flag so) inside past another is = cc
+alone (Word word) inside past another is = cc
+
+pub placed_alone : (lines : List BlockLine) (i : ℕ) (line : BlockLine) (inside : ℕ) → line ≡ line_at lines i → is_alone line ≡ true
+    → inside ≡ place_number lines (land lines (i + 1)) → place_for line inside inside ≡ place_of_line lines i
+placed_alone lines i line inside is_line is_alone is_inside =
+    let past = place_number lines (other_line lines i) in
+    alone line inside inside past is_alone ∙ placed lines i line inside past is_line is_inside refl
 
 -- how many values tests let through
 said_if : {X : Type 0} (test : ℕ → Bool) (value : ℕ → X) (count : ℕ → ℕ) → (count 0 ≡ 0)

@@ -1,18 +1,24 @@
 -- The program of a party's lines: each line that is a step is a place.
-use Rattle.std.specs.Prelude.{ℕ, zero, suc, ◌+◌, ◌-◌, Bool, true, false, not, ◌&&◌, ◌||◌, ◌==◌, if◌then◌else◌, nat_lt, List, [], ◌∷◌, drop, length, Option, Some, None}
+use Rattle.std.specs.Prelude.{◌≡◌, ℕ, zero, suc, ◌+◌, ◌-◌, ◌≤◌, Bool, true, false, not, ◌&&◌, ◌||◌, ◌==◌, if◌then◌else◌, nat_lt, List, [], ◌∷◌, drop, length, Option, Some, None}
 use Rattle.std.proofs.Common.{get_or}
 use Rattle.lock_plan.specs.declared.program.Act.{Act}
 use Rattle.lock_plan.specs.declared.program.Act.TheVariants as act
 use Rattle.lock_plan.specs.declared.program.Block.TheVariants as block
 use Rattle.lock_plan.specs.declared.program.Place.{Place}
+use Rattle.lock_plan.specs.declared.program.Signal.{Signal}
+use Rattle.lock_plan.specs.declared.program.Signal.TheVariants as signal
 use Rattle.lock_plan.specs.Points.{said_below}
 use Rattle.lock_plan_text.specs.declared.parser.block_line.BlockLine.{BlockLine}
-use Rattle.lock_plan_text.specs.declared.parser.block_line.BlockLine.TheVariants.{Call, Try, Word}
+use Rattle.lock_plan_text.specs.declared.parser.block_line.BlockLine.TheVariants.{Call, Try, Word, If, Until, Plain}
 use Rattle.lock_plan_text.specs.declared.parser.block_line.BlockWord.TheVariants.{Repeat, Either, Else, Or, End}
+use Rattle.lock_plan_text.specs.declared.parser.plain_line.PlainLine.{PlainLine}
+use Rattle.lock_plan_text.specs.declared.parser.plain_line.PlainLine.TheVariants.{Idle, Set, Clear, Sleep, NotifyOne, NotifyAll, Start, Join}
 
--- whether a line begins a block, ends one, or parts one: an else, or or end
+-- whether a line begins a block, ends one, or parts one: an `else`, an `or` or an `end`
 abbrev pub begins : BlockLine → Bool
 begins (Try call) = true
+begins (If flag) = true
+begins (Until flag so) = true
 begins (Word Repeat) = true
 begins (Word Either) = true
 begins line = false
@@ -27,15 +33,23 @@ parts (Word Or) = true
 parts (Word End) = true
 parts line = false
 
+-- whether a line neither begins, parts nor ends a block
+abbrev pub is_alone : BlockLine → Bool
+is_alone (Call call) = true
+is_alone (Plain line) = true
+is_alone line = false
+
 abbrev pub is_or : BlockLine → Bool
 is_or (Word Or) = true
 is_or line = false
 
-abbrev pub is_repeat : BlockLine → Bool
-is_repeat (Word Repeat) = true
-is_repeat line = false
+-- whether a line begins a loop: from its `end`, a party goes back to it
+abbrev pub is_loop : BlockLine → Bool
+is_loop (Until flag so) = true
+is_loop (Word Repeat) = true
+is_loop line = false
 
--- the line with this number; past the last line there is an end
+-- the line with this number; past the last line there is an `end`
 abbrev pub line_at : List BlockLine → ℕ → BlockLine
 line_at lines i = get_or lines i (Word End)
 
@@ -65,21 +79,26 @@ beginning_from lines depth (suc i) =
 abbrev pub beginning : List BlockLine → ℕ → ℕ
 beginning lines i = beginning_from lines 0 i
 
--- where a party goes on that comes before line `i`, the first of `rest`, and leaves so many blocks first: at a call or the
--- beginning of a block; from an end back to its repeat, or past it; from an else or or past its block
+-- where a party goes on that comes before line `i`, the first of `rest`, and leaves so many blocks first: at a call, a
+-- plain line or the beginning of a block; from an `end` back to its loop, or past it; from an `else` or an `or` past its
+-- block
 abbrev pub land_from : List BlockLine → ℕ → ℕ → List BlockLine → ℕ
 land_from lines leave i [] = length lines
 land_from lines leave i (line ∷ rest) =
     if nat_lt 0 leave then land_from lines (deeper leave line) (i + 1) rest
     else (if not (parts line) then i
     else (if not (ends line) then land_from lines 1 (i + 1) rest
-    else (if is_repeat (line_at lines (beginning lines i)) then beginning lines i
+    else (if is_loop (line_at lines (beginning lines i)) then beginning lines i
     else land_from lines 0 (i + 1) rest)))
 
 abbrev pub land : List BlockLine → ℕ → ℕ
 land lines i = land_from lines 0 i (drop i lines)
 
--- whether a line is a step: an or is one if a further or of its block follows
+-- the list has where a party goes on that comes before each line from `first` on
+abbrev pub AreLands : List BlockLine → ℕ → List ℕ → Type 0
+AreLands lines first lands = (i : ℕ) → first ≤ i → get_or lands i (length lines) ≡ land lines i
+
+-- whether a line is a step: an `or` is one if a further `or` of its block follows
 abbrev pub is_step : List BlockLine → ℕ → Bool
 is_step lines i = not (parts (line_at lines i)) || (is_or (line_at lines i) && is_or (line_at lines (boundary lines i)))
 
@@ -92,21 +111,38 @@ place_number lines (suc i) = if is_step lines i then place_number lines i + 1 el
 abbrev pub other_line : List BlockLine → ℕ → ℕ
 other_line lines i = if is_step lines (boundary lines i) then boundary lines i else land lines (boundary lines i + 1)
 
-abbrev pub act_of_line : BlockLine → Act
-act_of_line (Call call) = act.Call call
-act_of_line (Try call) = act.Try call
-act_of_line (Word Repeat) = act.Choose block.Repeat
-act_of_line (Word word) = act.Choose block.Either
+-- a flag is a row: it is set as a party is started
+abbrev pub signal_of : PlainLine → Signal
+signal_of Idle = signal.Idle
+signal_of (Set flag) = signal.Start flag
+signal_of (Clear flag) = signal.Clear flag
+signal_of (Sleep cond) = signal.Sleep cond
+signal_of (NotifyOne cond) = signal.NotifyOne cond
+signal_of (NotifyAll cond) = signal.NotifyAll cond
+signal_of (Start party) = signal.Start party
+signal_of (Join party) = signal.Join party
 
--- the place of a step; a call has one place after it
-abbrev pub place_with : Act → ℕ → ℕ → Place
-place_with (act.Call call) next other = record { act = act.Call call; next = next; other = next }
-place_with (act.Try call) next other = record { act = act.Try call; next = next; other = other }
-place_with (act.Choose block) next other = record { act = act.Choose block; next = next; other = other }
+-- the place of an act with one place after it, and with two
+abbrev pub one_way : Act → ℕ → Place
+one_way act next = record { act = act; next = next; other = next }
+
+abbrev pub two_ways : Act → ℕ → ℕ → Place
+two_ways act next other = record { act = act; next = next; other = other }
+
+-- the place of a line that is a step: what follows the line begins at `inside`, and the other way leads to `past`
+abbrev pub place_for : BlockLine → ℕ → ℕ → Place
+place_for (Call call) inside past = one_way (act.Call call) inside
+place_for (Try call) inside past = two_ways (act.Try call) inside past
+place_for (Word Repeat) inside past = two_ways (act.Choose block.Repeat) inside past
+place_for (Word word) inside past = two_ways (act.Choose block.Either) inside past
+place_for (If flag) inside past = two_ways (act.Choose (block.If flag)) inside past
+place_for (Until flag true) inside past = two_ways (act.Choose (block.If flag)) past inside
+place_for (Until flag false) inside past = two_ways (act.Choose (block.If flag)) inside past
+place_for (Plain line) inside past = one_way (act.Signal (signal_of line)) inside
 
 abbrev pub place_of_line : List BlockLine → ℕ → Place
 place_of_line lines i =
-    place_with (act_of_line (line_at lines i)) (place_number lines (land lines (i + 1))) (place_number lines (other_line lines i))
+    place_for (line_at lines i) (place_number lines (land lines (i + 1))) (place_number lines (other_line lines i))
 
 abbrev pub place_if : List BlockLine → ℕ → Option Place
 place_if lines i = if is_step lines i then Some (place_of_line lines i) else None

@@ -6,18 +6,24 @@ use Rattle.lock_plan_text.specs.declared.parser.draft.PlanDraft.{PlanDraft}
 use Rattle.lock_plan_text.specs.declared.parser.named_plan.NamedPlan.{NamedPlan}
 use Rattle.lock_plan_text.specs.Drafts.{Draft, IsDraftOf}
 use Rattle.lock_plan_text.specs.OpenBlocks.{opened}
-use Rattle.lock_plan_text.specs.PlanFaults.{programs_in}
+use Rattle.lock_plan_text.specs.PartyLines.{programs_in}
+use Rattle.lock_plan_text.specs.PlanFaults.{unknown_line}
 
 abbrev pub drafted : PlanDraft → Draft
 drafted draft = record {
   locks = draft.locks.items;
   lock_names = map string_bytes draft.names.locks.items;
+  flag_names = map string_bytes draft.names.flags.items;
+  cond_names = map string_bytes draft.names.conds.items;
   parties = map (λ v. v.items) draft.parties.items;
   party_names = map string_bytes draft.names.parties.items;
   servers = draft.servers.items;
   first = draft.first;
   numbers = map (λ v. v.items) draft.numbers.items;
   blocks = opened draft.blocks;
+  mentions = map string_bytes draft.mentions.items;
+  mention_lines = draft.mention_lines.items;
+  started = map string_bytes draft.started.items;
 }
 
 -- the plan and the names are those of the draft, and each act can be made
@@ -27,6 +33,9 @@ pub record IsMadeOf (draft : Draft) (named : NamedPlan) : Type 0 where
   pub servers : named.plan.servers.items ≡ draft.servers
   pub lock_names : map string_bytes named.names.locks.items ≡ draft.lock_names
   pub party_names : map string_bytes named.names.parties.items ≡ draft.party_names
+  pub flag_names : map string_bytes named.names.flags.items ≡ draft.flag_names
+  pub cond_names : map string_bytes named.names.conds.items ≡ draft.cond_names
+  pub known : unknown_line draft ≡ None
   pub right : plan_fault draft.locks (programs_in draft) ≡ None
 
 -- the bytes are the text of the plan

@@ -1,10 +1,12 @@
 -- What the lines of a plan make, one after another, and the first bad line.
-use Rattle.std.specs.Prelude.{◌≡◌, ℕ, zero, suc, ◌+◌, codes, decimal, Bool, true, false, List, [], ◌∷◌, ◌++◌, ◌⊎◌, length, Option, Some, None, option_map, if◌then◌else◌, is_some, bytes_eq, ◌==◌, ◌||◌, nat_lt, IsTrue, IsFalse}
+use Rattle.std.specs.Prelude.{◌≡◌, ℕ, zero, suc, ◌+◌, codes, decimal, Bool, true, false, List, [], ◌∷◌, ◌++◌, ◌⊎◌, length, Option, Some, None, option_map, if◌then◌else◌, is_some, bytes_eq, ◌==◌, ◌||◌, ◌&&◌, not, nat_lt, IsTrue, IsFalse}
 use Rattle.std.specs.List.{position}
+use Rattle.std.specs.Option.{option_and_then}
 use Rattle.std.proofs.Common.{get_or}
 use Rattle.lock_base.specs.declared.machine.kind.Kind.{Kind}
+use Rattle.lock_base.specs.declared.machine.kind.Kind.TheVariants.{Mutex, RwLock, Reentrant}
 use Rattle.lock_base.specs.declared.machine.mode.Mode.TheVariants.{Exclusive}
-use Rattle.lock_base.specs.declared.machine.mode_step.ModeStep.TheVariants.{Change}
+use Rattle.lock_base.specs.declared.machine.mode_step.ModeStep.TheVariants.{Acquire, Release, Change}
 use Rattle.lock_base.specs.declared.machine.lock_step.LockStep.{LockStep}
 use Rattle.lock_base.specs.declared.machine.lock_step.LockStep.TheVariants.{Modes}
 use Rattle.lock_base.specs.Kind.{is_rwlock}
@@ -13,28 +15,54 @@ use Rattle.lock_plan.specs.declared.lock.PlanLock.{PlanLock}
 use Rattle.lock_plan.specs.Worlds.{no_lock}
 use Rattle.lock_plan_text.specs.declared.parser.block_line.BlockLine.{BlockLine}
 use Rattle.lock_plan_text.specs.declared.parser.block_line.BlockLine.TheVariants as block
+use Rattle.lock_plan_text.specs.declared.parser.block_line.BlockWord.TheVariants.{End}
+use Rattle.lock_plan_text.specs.declared.parser.named_word.NamedWord.{NamedWord}
+use Rattle.lock_plan_text.specs.declared.parser.named_word.NamedWord.TheVariants.{Flag, Condvar, Set, Clear, If, NotifyOne, NotifyAll, Start, Join}
 use Rattle.lock_plan_text.specs.declared.parser.open_block.OpenBlock.{OpenBlock}
-use Rattle.lock_plan_text.specs.declared.parser.plan_line.PlanLine.TheVariants.{Lock, Party, Call}
+use Rattle.lock_plan_text.specs.declared.parser.plain_line.PlainLine.TheVariants as plain
+use Rattle.lock_plan_text.specs.declared.parser.plan_line.PlanLine.TheVariants.{Lock, Party, Call, Named}
 use Rattle.lock_plan_text.specs.declared.parser.text_line.TextLine.{TextLine}
-use Rattle.lock_plan_text.specs.declared.parser.text_line.TextLine.TheVariants.{Plan, Try, Word}
-use Rattle.lock_plan_text.specs.OpenBlocks.{open_after}
-use Rattle.lock_plan_text.specs.PlanLines.{Says}
+use Rattle.lock_plan_text.specs.declared.parser.text_line.TextLine.TheVariants.{Plan, Try, Word, Wait}
+use Rattle.lock_plan_text.specs.declared.parser.wait_line.WaitLine.{WaitLine}
+use Rattle.lock_plan_text.specs.declared.parser.wait_line.WaitLine.TheVariants.{Once, Until, UntilNot}
+use Rattle.lock_plan_text.specs.OpenBlocks.{has_loop, open_after}
+use Rattle.lock_plan_text.specs.PlanLines.{Says, TextNames}
 use Rattle.lock_script.specs.Lines.{lines_of}
 
--- what lines make: locks, the lines of each party and their numbers, which parties are servers, the first party of the last
--- line of parties, the blocks that are open, names
+-- what lines make: locks, names, the lines of each party and their numbers, which parties are servers, the first party of the
+-- last line of parties, the blocks that are open; the names after `start` and `join`, each once, with the first line that has
+-- it, and those after `start`
 pub record Draft : Type 0 where
   pub locks : List PlanLock
   pub lock_names : List (List ℕ)
+  pub flag_names : List (List ℕ)
+  pub cond_names : List (List ℕ)
   pub parties : List (List BlockLine)
   pub party_names : List (List ℕ)
   pub servers : List Bool
   pub first : ℕ
   pub numbers : List (List ℕ)
   pub blocks : List OpenBlock
+  pub mentions : List (List ℕ)
+  pub mention_lines : List ℕ
+  pub started : List (List ℕ)
 
 abbrev pub no_draft : Draft
-no_draft = record { locks = []; lock_names = []; parties = []; party_names = []; servers = []; first = 0; numbers = []; blocks = [] }
+no_draft = record {
+  locks = [];
+  lock_names = [];
+  flag_names = [];
+  cond_names = [];
+  parties = [];
+  party_names = [];
+  servers = [];
+  first = 0;
+  numbers = [];
+  blocks = [];
+  mentions = [];
+  mention_lines = [];
+  started = [];
+}
 
 -- the place of a name
 abbrev pub place_of : List (List ℕ) → List ℕ → Option ℕ
@@ -63,6 +91,30 @@ is_open draft = nat_lt 0 (length draft.blocks)
 abbrev pub with_lock : Draft → PlanLock → List ℕ → Draft
 with_lock draft lock name =
     record draft { locks = draft.locks ++ lock ∷ []; lock_names = draft.lock_names ++ name ∷ [] }
+
+abbrev pub with_flag : Draft → List ℕ → Draft
+with_flag draft name = record draft { flag_names = draft.flag_names ++ name ∷ [] }
+
+abbrev pub with_cond : Draft → List ℕ → Draft
+with_cond draft name = record draft { cond_names = draft.cond_names ++ name ∷ [] }
+
+-- the draft where a line mentions a party, whose line may come later
+abbrev pub with_mention : Draft → ℕ → List ℕ → Draft
+with_mention draft number name =
+    if is_some (place_of draft.mentions name) then draft
+    else record draft { mentions = draft.mentions ++ name ∷ []; mention_lines = draft.mention_lines ++ number ∷ [] }
+
+-- whether a line starts the party of this name
+abbrev pub is_started : Draft → List ℕ → Bool
+is_started draft name = is_some (place_of draft.started name)
+
+-- whether a line may start the party: no other line does, the line is one of a single party, and in no loop
+abbrev pub may_start : Draft → List ℕ → Bool
+may_start draft name =
+    not (is_started draft name) && ((length draft.parties == draft.first + 1) && not (has_loop draft.blocks))
+
+abbrev pub with_start : Draft → List ℕ → Draft
+with_start draft name = record draft { started = draft.started ++ name ∷ [] }
 
 abbrev pub with_party : Draft → Bool → List ℕ → Draft
 with_party draft serves name = record draft {
@@ -93,7 +145,8 @@ party_names name (Some count) = copy_names name 0 count
 
 -- the call with this word on the lock with this number, and on the lock of this name
 abbrev pub call_on : Draft → Bool → LockStep → ℕ → PlanCall
-call_on draft for_rwlock step lock = record { lock = lock; step = step_on for_rwlock step (get_or draft.locks lock no_lock).kind }
+call_on draft for_rwlock step lock =
+    record { lock = lock; step = step_on for_rwlock step (get_or draft.locks lock no_lock).kind }
 
 abbrev pub named_call : Draft → Bool → LockStep → List ℕ → Option PlanCall
 named_call draft for_rwlock step name = option_map (call_on draft for_rwlock step) (place_of draft.lock_names name)
@@ -111,34 +164,106 @@ abbrev pub with_own_line : Draft → ℕ → BlockLine → Option Draft
 with_own_line draft number line =
     if length draft.parties == 0 then None else option_map (with_own draft number line) (open_after draft.blocks line)
 
-abbrev pub with_line_if : Draft → ℕ → Option BlockLine → Option Draft
-with_line_if draft number None = None
-with_line_if draft number (Some line) = with_own_line draft number line
+-- the draft with lines of the last parties, one after another
+abbrev pub with_own_lines : Draft → ℕ → List BlockLine → Option Draft
+with_own_lines draft number [] = Some draft
+with_own_lines draft number (line ∷ lines) =
+    option_and_then (λ next. with_own_lines next number lines) (with_own_line draft number line)
 
--- the draft with one more line; none if the line does not fit the blocks that are open, the name of a new lock or party is
--- there, or a call has no lock
-abbrev pub with_line : Draft → ℕ → TextLine → List ℕ → Option Draft
-with_line draft number (Plan (Lock lock)) name =
-    if is_open draft || is_some (place_of draft.lock_names name) then None else Some (with_lock draft lock name)
-with_line draft number (Plan (Party serves copies)) name =
+abbrev pub one_line : BlockLine → List BlockLine
+one_line line = line ∷ []
+
+-- the line of a party that a word and a name say
+abbrev pub named_line : Draft → NamedWord → List ℕ → Option BlockLine
+named_line draft Flag name = None
+named_line draft Condvar name = None
+named_line draft Set name = option_map (λ flag. block.Plain (plain.Set flag)) (place_of draft.flag_names name)
+named_line draft Clear name = option_map (λ flag. block.Plain (plain.Clear flag)) (place_of draft.flag_names name)
+named_line draft If name = option_map block.If (place_of draft.flag_names name)
+named_line draft NotifyOne name = option_map (λ cond. block.Plain (plain.NotifyOne cond)) (place_of draft.cond_names name)
+named_line draft NotifyAll name = option_map (λ cond. block.Plain (plain.NotifyAll cond)) (place_of draft.cond_names name)
+named_line draft Start name = option_map (λ party. block.Plain (plain.Start party)) (place_of draft.mentions name)
+named_line draft Join name = option_map (λ party. block.Plain (plain.Join party)) (place_of draft.mentions name)
+
+-- the call of a wait on its lock, which only a mutex has
+abbrev pub mutex_step : LockStep → Kind → LockStep
+mutex_step step Mutex = step
+mutex_step step RwLock = no_step
+mutex_step step Reentrant = no_step
+
+abbrev pub mutex_call : Draft → LockStep → ℕ → PlanCall
+mutex_call draft step lock = record { lock = lock; step = mutex_step step (get_or draft.locks lock no_lock).kind }
+
+-- a wait: it unlocks the mutex, sleeps and locks it again
+abbrev pub sleep_lines : Draft → ℕ → ℕ → List BlockLine
+sleep_lines draft cond lock =
+    block.Call (mutex_call draft (Modes (Release Exclusive)) lock)
+    ∷ block.Plain (plain.Sleep cond)
+    ∷ block.Call (mutex_call draft (Modes (Acquire Exclusive)) lock)
+    ∷ []
+
+-- the same in a loop, which a party leaves where the flag is so
+abbrev pub until_lines : Draft → Bool → ℕ → ℕ → ℕ → List BlockLine
+until_lines draft so cond lock flag = block.Until flag so ∷ (sleep_lines draft cond lock ++ block.Word End ∷ [])
+
+abbrev pub wait_lines : Draft → WaitLine → ℕ → ℕ → List ℕ → Option (List BlockLine)
+wait_lines draft Once cond lock flag = Some (sleep_lines draft cond lock)
+wait_lines draft Until cond lock flag = option_map (until_lines draft true cond lock) (place_of draft.flag_names flag)
+wait_lines draft UntilNot cond lock flag = option_map (until_lines draft false cond lock) (place_of draft.flag_names flag)
+
+-- the lines of a party that a line of the text says; none if a name in it has no line
+abbrev pub own_lines : Draft → TextLine → TextNames → Option (List BlockLine)
+own_lines draft (Plan (Lock lock)) names = None
+own_lines draft (Plan (Party serves copies)) names = None
+own_lines draft (Plan (Call for_rwlock step)) names =
+    option_map one_line (option_map block.Call (named_call draft for_rwlock step names.name))
+own_lines draft (Plan (Named word)) names = option_map one_line (named_line draft word names.name)
+own_lines draft (Try for_rwlock step) names =
+    option_map one_line (option_map block.Try (named_call draft for_rwlock step names.name))
+own_lines draft (Word word) names = Some (one_line (block.Word word))
+own_lines draft (Wait wait) names =
+    option_and_then
+    (λ cond. option_and_then (λ lock. wait_lines draft wait cond lock names.flag) (place_of draft.lock_names names.mutex))
+    (place_of draft.cond_names names.name)
+
+-- the draft with the lines of the last parties that a line of the text says
+abbrev pub with_said : Draft → ℕ → TextLine → TextNames → Option Draft
+with_said draft number line names = option_and_then (with_own_lines draft number) (own_lines draft line names)
+
+-- the draft with one more line of a word and a name
+abbrev pub with_named : Draft → ℕ → NamedWord → TextNames → Option Draft
+with_named draft number Flag names =
+    if is_open draft || is_some (place_of draft.flag_names names.name) then None else Some (with_flag draft names.name)
+with_named draft number Condvar names =
+    if is_open draft || is_some (place_of draft.cond_names names.name) then None else Some (with_cond draft names.name)
+with_named draft number Start names =
+    if may_start draft names.name
+    then with_said (with_start (with_mention draft number names.name) names.name) number (Plan (Named Start)) names
+    else None
+with_named draft number Join names = with_said (with_mention draft number names.name) number (Plan (Named Join)) names
+with_named draft number word names = with_said draft number (Plan (Named word)) names
+
+-- the draft with one more line; none if the line does not fit the blocks that are open, the name of a new lock, party, flag or
+-- condition variable is there, a name has no line above, or a party may not be started
+abbrev pub with_line : Draft → ℕ → TextLine → TextNames → Option Draft
+with_line draft number (Plan (Lock lock)) names =
+    if is_open draft || is_some (place_of draft.lock_names names.name) then None else Some (with_lock draft lock names.name)
+with_line draft number (Plan (Party serves copies)) names =
     if is_open draft then None
-    else with_parties (record draft { first = length draft.parties }) serves (party_names name copies)
-with_line draft number (Plan (Call for_rwlock step)) name =
-    with_line_if draft number (option_map block.Call (named_call draft for_rwlock step name))
-with_line draft number (Try for_rwlock step) name =
-    with_line_if draft number (option_map block.Try (named_call draft for_rwlock step name))
-with_line draft number (Word word) name = with_own_line draft number (block.Word word)
+    else with_parties (record draft { first = length draft.parties }) serves (party_names names.name copies)
+with_line draft number (Plan (Named word)) names = with_named draft number word names
+with_line draft number line names = with_said draft number line names
 
 -- the text of line `number` makes one draft of another
 abbrev pub Adds : Draft → ℕ → List ℕ → Draft → Type 0
 Adds draft number text next =
-    (line : TextLine) × ((name : List ℕ) × (Says text line name × (with_line draft number line name ≡ Some next)))
+    (line : TextLine) × ((names : TextNames) × (Says text line names × (with_line draft number line names ≡ Some next)))
 
 -- the text is no line, or one that the draft does not take
 abbrev pub IsBad : Draft → ℕ → List ℕ → Type 0
 IsBad draft number text =
-    ((line : TextLine) (name : List ℕ) → Says text line name → ⊥)
-    ⊎ ((line : TextLine) × ((name : List ℕ) × (Says text line name × (with_line draft number line name ≡ None))))
+    ((line : TextLine) (names : TextNames) → Says text line names → ⊥)
+    ⊎ ((line : TextLine) × ((names : TextNames) × (Says text line names × (with_line draft number line names ≡ None))))
 
 -- these lines, numbered from `number`, make one draft of another, in which no block is open
 abbrev pub Make : Draft → ℕ → List (List ℕ) → Draft → Type 0

@@ -4,12 +4,14 @@ pub mod PlanLines
 pub mod Blocks
 pub mod OpenBlocks
 pub mod Drafts
+pub mod PartyLines
 pub mod PlanFaults
 pub mod Drafted
 pub mod Meanings
 pub mod CallOrigins
 pub mod FaultLines
 pub mod Marks
+pub mod Signals
 pub mod Steps
 pub mod Stops
 pub mod Answers

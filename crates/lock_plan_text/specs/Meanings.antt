@@ -2,12 +2,12 @@
 use Rattle.std.specs.Prelude.{◌≡◌, ℕ, List}
 use Rattle.lock_plan_text.specs.declared.parser.text_line.TextLine.{TextLine}
 use Rattle.lock_plan_text.specs.Drafts.{Draft, IsDraftOf, IsFirstBadLine}
-use Rattle.lock_plan_text.specs.PlanLines.{Says}
+use Rattle.lock_plan_text.specs.PlanLines.{Says, TextNames}
 
--- a text is at most one line, about one name
+-- a text is at most one line, with one list of names
 abbrev pub SayOneLine : Type 0
-SayOneLine = (text : List ℕ) (line other : TextLine) (name another : List ℕ) → Says text line name → Says text other another
-    → (line ≡ other) × (name ≡ another)
+SayOneLine = (text : List ℕ) (line other : TextLine) (names others : TextNames) → Says text line names → Says text other others
+    → (line ≡ other) × (names ≡ others)
 
 -- bytes make at most one draft
 abbrev pub MakeOneDraft : Type 0

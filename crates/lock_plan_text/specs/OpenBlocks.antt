@@ -1,8 +1,9 @@
 -- The blocks that are open, the innermost first, and the lines that fit.
-use Rattle.std.specs.Prelude.{if◌then◌else◌, nat_lt, List, [], ◌∷◌, ◌++◌, length, reverse, Option, Some, None, option_map}
+use Rattle.std.specs.Prelude.{Bool, true, false, if◌then◌else◌, nat_lt, List, [], ◌∷◌, ◌++◌, length, reverse, Option, Some, None, option_map}
+use Rattle.std.specs.List.{list_any}
 use Rattle.lock_plan.specs.Points.{listed}
 use Rattle.lock_plan_text.specs.declared.parser.block_line.BlockLine.{BlockLine}
-use Rattle.lock_plan_text.specs.declared.parser.block_line.BlockLine.TheVariants.{Call, Try, Word}
+use Rattle.lock_plan_text.specs.declared.parser.block_line.BlockLine.TheVariants.{Call, Try, Word, If, Until, Plain}
 use Rattle.lock_plan_text.specs.declared.parser.block_line.BlockWord.{BlockWord}
 use Rattle.lock_plan_text.specs.declared.parser.block_line.BlockWord.TheVariants.{Repeat, Either, Else, Or, End}
 use Rattle.lock_plan_text.specs.declared.parser.open_block.OpenBlock.{OpenBlock}
@@ -34,6 +35,17 @@ turned_first (block ∷ blocks) word = option_map (λ part. listed part ++ block
 abbrev pub open_after : List OpenBlock → BlockLine → Option (List OpenBlock)
 open_after blocks (Call call) = Some blocks
 open_after blocks (Try call) = begun blocks inside.Try
+open_after blocks (If flag) = begun blocks inside.Try
+open_after blocks (Until flag so) = begun blocks inside.Repeat
 open_after blocks (Word Repeat) = begun blocks inside.Repeat
 open_after blocks (Word Either) = begun blocks inside.Either
 open_after blocks (Word word) = turned_first blocks word
+open_after blocks (Plain line) = Some blocks
+
+abbrev pub is_loop_part : OpenBlock → Bool
+is_loop_part inside.Repeat = true
+is_loop_part block = false
+
+-- whether one of the blocks is a loop
+abbrev pub has_loop : List OpenBlock → Bool
+has_loop blocks = list_any is_loop_part blocks

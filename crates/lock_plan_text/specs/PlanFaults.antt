@@ -1,21 +1,22 @@
 -- Why a text makes no plan.
-use Rattle.std.specs.Prelude.{◌≡◌, ℕ, List, [], map, Option, Some, option_map}
+use Rattle.std.specs.Prelude.{◌≡◌, ℕ, not, List, Option, Some, None, is_some, option_map}
 use Rattle.std.specs.Bool.{⊤}
+use Rattle.std.specs.List.{position}
 use Rattle.std.proofs.Common.{get_or}
 use Rattle.lock_plan.specs.declared.fault.PlanFault.{PlanFault}
 use Rattle.lock_plan.specs.declared.fault.PlanFault.TheVariants as plan
-use Rattle.lock_plan.specs.declared.program.Place.{Place}
 use Rattle.lock_plan.specs.Checks.{plan_fault}
 use Rattle.lock_plan_text.specs.declared.parser.fault.PlanTextFault.{PlanTextFault}
-use Rattle.lock_plan_text.specs.declared.parser.fault.PlanTextFault.TheVariants.{BadLine, Call, TooLarge, TooLong, OutOfMemory, InputFailed, OutputFailed}
+use Rattle.lock_plan_text.specs.declared.parser.fault.PlanTextFault.TheVariants.{BadLine, UnknownParty, Call, TooLarge, TooLong, OutOfMemory, InputFailed, OutputFailed}
 use Rattle.lock_script.specs.declared.fault.ReplayFault.{ReplayFault}
 use Rattle.lock_script.specs.declared.fault.ReplayFault.TheVariants as script
-use Rattle.lock_plan_text.specs.Blocks.{program_of, step_numbers}
-use Rattle.lock_plan_text.specs.Drafts.{Draft, IsDraftOf, IsFirstBadLine}
+use Rattle.lock_plan_text.specs.Drafts.{Draft, IsDraftOf, IsFirstBadLine, place_of}
+use Rattle.lock_plan_text.specs.PartyLines.{number_of, programs_in}
 
 -- a fault of the lines of these bytes
 abbrev pub IsLineFault : List ℕ → PlanTextFault → Type 0
 IsLineFault bytes (BadLine number) = IsFirstBadLine bytes number
+IsLineFault bytes (UnknownParty number) = ⊥
 IsLineFault bytes (Call number why) = ⊥
 IsLineFault bytes TooLarge = ⊥
 IsLineFault bytes TooLong = ⊥
@@ -23,13 +24,12 @@ IsLineFault bytes OutOfMemory = ⊤
 IsLineFault bytes InputFailed = ⊥
 IsLineFault bytes OutputFailed = ⊥
 
--- the programs of a draft
-abbrev pub programs_in : Draft → List (List Place)
-programs_in draft = map program_of draft.parties
+-- the first line that mentions a party which has no line
+abbrev pub unknown_mention : Draft → Option ℕ
+unknown_mention draft = position (λ name. not (is_some (place_of draft.party_names name))) draft.mentions
 
--- the number of the line of a party's place
-abbrev pub number_of : Draft → ℕ → ℕ → ℕ
-number_of draft party place = get_or (step_numbers (get_or draft.parties party []) (get_or draft.numbers party [])) place 0
+abbrev pub unknown_line : Draft → Option ℕ
+unknown_line draft = option_map (λ mention. get_or draft.mention_lines mention 0) (unknown_mention draft)
 
 -- a fault of the plan, told by line
 abbrev pub by_line : Draft → PlanFault → PlanTextFault
@@ -37,9 +37,13 @@ by_line draft (plan.Call party place fault) = Call (number_of draft party place)
 by_line draft plan.TooLarge = TooLarge
 by_line draft plan.OutOfMemory = OutOfMemory
 
+abbrev pub or_plan_fault : Draft → Option ℕ → Option PlanTextFault
+or_plan_fault draft (Some number) = Some (UnknownParty number)
+or_plan_fault draft None = option_map (by_line draft) (plan_fault draft.locks (programs_in draft))
+
 -- why a draft is no plan
 abbrev pub draft_fault : Draft → Option PlanTextFault
-draft_fault draft = option_map (by_line draft) (plan_fault draft.locks (programs_in draft))
+draft_fault draft = or_plan_fault draft (unknown_line draft)
 
 -- the bytes make a draft with this fault
 abbrev pub HasFault : List ℕ → PlanTextFault → Type 0
@@ -48,6 +52,7 @@ HasFault bytes fault = (draft : Draft) × (IsDraftOf bytes draft × (draft_fault
 -- a fault of parsing these bytes
 abbrev pub IsPlanTextFault : List ℕ → PlanTextFault → Type 0
 IsPlanTextFault bytes (BadLine number) = IsFirstBadLine bytes number
+IsPlanTextFault bytes (UnknownParty number) = HasFault bytes (UnknownParty number)
 IsPlanTextFault bytes (Call number why) = HasFault bytes (Call number why)
 IsPlanTextFault bytes TooLarge = HasFault bytes TooLarge
 IsPlanTextFault bytes TooLong = ⊥

@@ -15,10 +15,15 @@ use Rattle.lock_plan.specs.CallFaults.{is_of_kind}
 use Rattle.lock_plan_text.specs.Words.{step_word}
 use Rattle.lock_plan_text.specs.declared.parser.block_line.BlockWord.{BlockWord}
 use Rattle.lock_plan_text.specs.declared.parser.block_line.BlockWord.TheVariants.{Repeat, Either, Else, Or, End}
+use Rattle.lock_plan_text.specs.declared.parser.line_names.LineNames.{LineNames}
+use Rattle.lock_plan_text.specs.declared.parser.named_word.NamedWord.{NamedWord}
+use Rattle.lock_plan_text.specs.declared.parser.named_word.NamedWord.TheVariants.{Flag, Condvar, Set, Clear, If, NotifyOne, NotifyAll, Start, Join}
 use Rattle.lock_plan_text.specs.declared.parser.plan_line.PlanLine.{PlanLine}
-use Rattle.lock_plan_text.specs.declared.parser.plan_line.PlanLine.TheVariants.{Lock, Party, Call}
+use Rattle.lock_plan_text.specs.declared.parser.plan_line.PlanLine.TheVariants.{Lock, Party, Call, Named}
 use Rattle.lock_plan_text.specs.declared.parser.text_line.TextLine.{TextLine}
-use Rattle.lock_plan_text.specs.declared.parser.text_line.TextLine.TheVariants.{Plan, Try, Word}
+use Rattle.lock_plan_text.specs.declared.parser.text_line.TextLine.TheVariants.{Plan, Try, Word, Wait}
+use Rattle.lock_plan_text.specs.declared.parser.wait_line.WaitLine.{WaitLine}
+use Rattle.lock_plan_text.specs.declared.parser.wait_line.WaitLine.TheVariants.{Once, Until, UntilNot}
 use Rattle.lock_script.specs.Lines.{fields_of}
 
 -- a letter, a digit, `_`, `-` or `.`
@@ -38,11 +43,24 @@ abbrev pub party_word : Bool → List ℕ
 party_word false = codes "party"
 party_word true = codes "server"
 
+-- the word of a line with a name alone
+abbrev pub named_word : NamedWord → List ℕ
+named_word Flag = codes "flag"
+named_word Condvar = codes "condvar"
+named_word Set = codes "set"
+named_word Clear = codes "clear"
+named_word If = codes "if"
+named_word NotifyOne = codes "notify_one"
+named_word NotifyAll = codes "notify_all"
+named_word Start = codes "start"
+named_word Join = codes "join"
+
 -- the first field of a line
 abbrev pub line_word : PlanLine → List ℕ
 line_word (Lock lock) = kind_word lock.kind
 line_word (Party serves copies) = party_word serves
 line_word (Call is_rwlock step) = step_word is_rwlock step
+line_word (Named word) = named_word word
 
 -- the fields after the name of a lock
 abbrev pub limit_fields : Kind → ℕ → Bool → List (List ℕ)
@@ -59,8 +77,9 @@ abbrev pub last_fields : PlanLine → List (List ℕ)
 last_fields (Lock lock) = limit_fields lock.kind lock.limit lock.bar
 last_fields (Party serves copies) = copy_fields copies
 last_fields (Call is_rwlock step) = []
+last_fields (Named word) = []
 
--- the fields of a line about the lock or party with this name
+-- the fields of a line about what has this name
 abbrev pub plan_fields : PlanLine → List ℕ → List (List ℕ)
 plan_fields line name = line_word line ∷ name ∷ last_fields line
 
@@ -91,11 +110,12 @@ abbrev pub IsVerb : Bool → LockStep → Type 0
 IsVerb true step = IsTrue (is_of_kind RwLock step)
 IsVerb false step = IsTrue (is_of_kind Mutex step)
 
--- a line about a lock or party with these values can be written
+-- a line with these values can be written
 abbrev pub IsPlanLine : PlanLine → Type 0
 IsPlanLine (Lock lock) = IsLineLock lock.kind lock.limit lock.bar
 IsPlanLine (Party serves copies) = IsCopies copies
 IsPlanLine (Call is_rwlock step) = IsVerb is_rwlock step
+IsPlanLine (Named word) = ⊤
 
 abbrev pub block_word : BlockWord → List ℕ
 block_word Repeat = codes "repeat"
@@ -104,11 +124,37 @@ block_word Else = codes "else"
 block_word Or = codes "or"
 block_word End = codes "end"
 
--- the fields of a line of the text; the line of a block names nothing
-abbrev pub text_fields : TextLine → List ℕ → List (List ℕ)
-text_fields (Plan line) name = plan_fields line name
-text_fields (Try is_rwlock step) name = codes "try" ∷ step_word is_rwlock step ∷ name ∷ []
-text_fields (Word word) name = block_word word ∷ []
+-- the names of a line: that of a lock, a party, a flag or a condition variable, and those of the mutex and the flag of a wait;
+-- a name that a line does not have is empty
+pub record TextNames : Type 0 where
+  pub name : List ℕ
+  pub mutex : List ℕ
+  pub flag : List ℕ
+
+abbrev pub one_name : List ℕ → TextNames
+one_name name = record { name = name; mutex = []; flag = [] }
+
+abbrev pub no_names : TextNames
+no_names = one_name []
+
+abbrev pub names_of : LineNames → TextNames
+names_of names = record { name = names.name.now; mutex = names.mutex.now; flag = names.flag.now }
+
+-- the fields of a wait after the name of its mutex
+abbrev pub until_fields : WaitLine → List ℕ → List (List ℕ)
+until_fields Once flag = []
+until_fields Until flag = codes "until" ∷ flag ∷ []
+until_fields UntilNot flag = codes "until" ∷ codes "not" ∷ flag ∷ []
+
+abbrev pub wait_fields : WaitLine → TextNames → List (List ℕ)
+wait_fields wait names = names.name ∷ names.mutex ∷ until_fields wait names.flag
+
+-- the fields of a line of the text
+abbrev pub text_fields : TextLine → TextNames → List (List ℕ)
+text_fields (Plan line) names = plan_fields line names.name
+text_fields (Try is_rwlock step) names = codes "try" ∷ step_word is_rwlock step ∷ names.name ∷ []
+text_fields (Word word) names = block_word word ∷ []
+text_fields (Wait wait) names = codes "wait" ∷ wait_fields wait names
 
 -- whether a call that does the step can be tried
 abbrev pub is_tried : LockStep → Bool
@@ -121,15 +167,39 @@ abbrev pub IsTextLine : TextLine → Type 0
 IsTextLine (Plan line) = IsPlanLine line
 IsTextLine (Try is_rwlock step) = IsVerb is_rwlock step × IsTrue (is_tried step)
 IsTextLine (Word word) = ⊤
+IsTextLine (Wait wait) = ⊤
 
-abbrev pub IsNamed : TextLine → List ℕ → Type 0
-IsNamed (Plan line) name = IsTrue (is_name name)
-IsNamed (Try is_rwlock step) name = IsTrue (is_name name)
-IsNamed (Word word) name = name ≡ []
+-- the names are one name
+abbrev pub IsOneName : TextNames → Type 0
+IsOneName names = IsTrue (is_name names.name) × (names ≡ one_name names.name)
 
--- the text is such a line, about this name
-pub record Says (text : List ℕ) (line : TextLine) (name : List ℕ) : Type 0 where
+-- whether a wait names a flag
+abbrev pub has_flag : WaitLine → Bool
+has_flag Once = false
+has_flag Until = true
+has_flag UntilNot = true
+
+-- the name of the flag of a wait, if there is one
+abbrev pub IsFlagField : Bool → List ℕ → Type 0
+IsFlagField true flag = IsTrue (is_name flag)
+IsFlagField false flag = flag ≡ []
+
+-- the names after that of the condition variable, and all names after `wait`
+abbrev pub AreMutexAndFlag : Bool → List ℕ → List ℕ → Type 0
+AreMutexAndFlag until mutex flag = IsTrue (is_name mutex) × IsFlagField until flag
+
+abbrev pub AreWaitNames : Bool → TextNames → Type 0
+AreWaitNames until names = IsTrue (is_name names.name) × AreMutexAndFlag until names.mutex names.flag
+
+abbrev pub IsNamed : TextLine → TextNames → Type 0
+IsNamed (Plan line) names = IsOneName names
+IsNamed (Try is_rwlock step) names = IsOneName names
+IsNamed (Word word) names = names ≡ no_names
+IsNamed (Wait wait) names = AreWaitNames (has_flag wait) names
+
+-- the text is such a line, with these names
+pub record Says (text : List ℕ) (line : TextLine) (names : TextNames) : Type 0 where
   pub utf8 : IsUtf8 text
-  pub named : IsNamed line name
+  pub named : IsNamed line names
   pub written : IsTextLine line
-  pub fields : text_fields line name ≡ fields_of text
+  pub fields : text_fields line names ≡ fields_of text

@@ -1,11 +1,9 @@
--- The words of calls and of choices.
+-- The words of calls.
 use Rattle.std.specs.Prelude.{ℕ, Bool, true, false, List, codes}
 use Rattle.lock_base.specs.declared.machine.mode.Mode.TheVariants.{Shared, Exclusive, Upgradable}
 use Rattle.lock_base.specs.declared.machine.mode_step.ModeStep.TheVariants.{Acquire, Release, Change}
 use Rattle.lock_base.specs.declared.machine.lock_step.LockStep.{LockStep}
 use Rattle.lock_base.specs.declared.machine.lock_step.LockStep.TheVariants.{Modes, Announce, Withdraw}
-use Rattle.lock_plan.specs.declared.program.Block.{Block}
-use Rattle.lock_plan.specs.declared.program.Block.TheVariants.{Repeat, Either}
 
 -- the word of a call on a reader-writer lock, or on another lock
 abbrev pub step_word : Bool → LockStep → List ℕ
@@ -24,7 +22,3 @@ step_word is_rwlock (Modes (Change Exclusive Shared)) = codes "downgrade"
 step_word is_rwlock (Modes (Change Shared Shared)) = codes "downgrade"
 step_word is_rwlock Announce = codes "announce"
 step_word is_rwlock Withdraw = codes "withdraw"
-
-abbrev pub choice_word : Block → List ℕ
-choice_word Repeat = codes "repeat"
-choice_word Either = codes "either"

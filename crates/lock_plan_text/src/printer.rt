@@ -4,6 +4,8 @@ mod cell;
 mod lanes;
 mod mark;
 mod picture;
+mod signal;
+mod stand;
 mod step;
 mod stop;
 mod words;

@@ -20,9 +20,9 @@ use std::io::{Read, Write};
 ///
 /// # Errors
 ///
-/// In this order: a fault of reading, the first bad line, the first call that can never be made, too many states, no
-/// memory for the search or the text, a fault of writing. If the reader does not say what it has ahead, the clauses speak
-/// only of the bytes that it gave.
+/// In this order: a fault of reading, the first bad line, the first unknown party, the first call that can never be made,
+/// too many states, no memory for the search or the text, a fault of writing. If the reader does not say what it has
+/// ahead, the clauses speak only of the bytes that it gave.
 pub(crate) fn explore_plan<R: Read, W: Write>(
     alloc: Global,
     form: Form,

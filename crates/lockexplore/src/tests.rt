@@ -6,10 +6,26 @@ use lock_plan_text::PlanTextFault;
 use std::io::{self, ErrorKind, Read};
 use std::test::Fail;
 
-const PLAN: &[u8] = b"mutex a\nparty one\nlock a\nlock a\n";
+/// Two sets the flag without the mutex, after one has looked and before it sleeps.
+const PLAN: &[u8] = b"mutex m\nflag f\ncondvar c\n\
+party one\ntry lock m\nwait c m until f\nunlock m\nelse\nend\n\
+party two\nset f\nnotify_one c\n";
 
-const ANSWER: &[u8] =
-    b"deadlock\none lock a\none waits for lock a: one exclusive\n\none\n* a:x\n-> a\n";
+const ANSWER: &[u8] = b"deadlock\n\
+one try lock m: admitted\n\
+one if f: false\n\
+two set f\n\
+two notify_one c: wakes none\n\
+one wait c m\n\
+one waits for notify c\n\
+\n\
+one                 two\n\
+* m:x               .\n\
+* m:x               .\n\
+m:x                 * .\n\
+m:x                 * .\n\
+* . zz c            .\n\
+-> c                .\n";
 
 /// Gives the bytes that it has, and then fails.
 #[derive(Drop)]
@@ -30,11 +46,11 @@ impl Read for Broken<'_> {
 #[test]
 fn refused_memory_explore(rt: HostRuntime) -> Result<(), Fail> {
     let mut plan = PLAN;
-    let mut kept = [0u8; 128];
+    let mut kept = [0u8; 512];
     let mut out = kept.as_mut_slice();
     let told = explore_plan(rt.alloc(), Form::Lanes, &mut plan, &mut out);
     let is_answered = told == Ok(Verdict::Stops) && kept.starts_with(ANSWER);
-    let is_refused = told == Err(PlanTextFault::OutOfMemory) && kept == [0u8; 128];
+    let is_refused = told == Err(PlanTextFault::OutOfMemory) && kept == [0u8; 512];
     if is_answered || is_refused {
         return Ok(());
     }

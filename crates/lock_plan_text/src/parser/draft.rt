@@ -1,21 +1,20 @@
 //! What the lines of a plan make.
 ghost use Rattle.std.specs.Prelude.{◌≡◌, ◌∷◌, [], Some, None, IfOk, if◌then◌else◌};
-ghost use Rattle.std.proofs.Common.{get_or};
-ghost use Rattle.lock_plan.specs.Worlds.{no_lock};
 ghost use Rattle.lock_plan_text.specs.declared.parser.plan_line.PlanLine.TheVariants as line;
 ghost use Rattle.lock_plan_text.specs.declared.parser.text_line.TextLine.TheVariants as text;
-ghost use Rattle.lock_plan_text.specs.Drafts.{step_on, copy_names, named_call, no_draft, with_line, with_own_line, with_parties};
+ghost use Rattle.lock_plan_text.specs.Drafts.{copy_names, no_draft, with_line, with_own_line, with_own_lines, with_parties, with_said};
 ghost use Rattle.lock_plan_text.specs.Drafted.{drafted};
+ghost use Rattle.lock_plan_text.specs.PlanLines.{names_of, one_name};
 
 use crate::names::Names;
 use crate::parser::block_line::BlockLine;
 use crate::parser::copies::copy_name;
+use crate::parser::line_names::LineNames;
 use crate::parser::open_block::OpenBlocks;
 use crate::parser::place::{place_of, push_from};
 use crate::parser::plan_line::PlanLine;
 use crate::parser::text_line::TextLine;
-use lock_base::machine::{Kind, LockStep, Mode, ModeStep};
-use lock_plan::{PlanCall, PlanLock};
+use lock_plan::PlanLock;
 use std::alloc::{AllocError, Global};
 
 /// What the lines so far make: locks, the lines of each party, their numbers, the blocks that are open, and names.
@@ -31,6 +30,12 @@ pub(crate) struct PlanDraft {
     /// The blocks of the last line of parties that are open.
     pub(crate) blocks: OpenBlocks,
     pub(crate) names: Names,
+    /// The names after `start` and `join`, each once.
+    pub(crate) mentions: Vec<String>,
+    /// The first line with each of them.
+    pub(crate) mention_lines: Vec<u64>,
+    /// The names after `start`.
+    pub(crate) started: Vec<String>,
 }
 
 impl PlanDraft {
@@ -48,43 +53,60 @@ impl PlanDraft {
             names: Names {
                 locks: Vec::new(alloc),
                 parties: Vec::new(alloc),
+                flags: Vec::new(alloc),
+                conds: Vec::new(alloc),
             },
+            mentions: Vec::new(alloc),
+            mention_lines: Vec::new(alloc),
+            started: Vec::new(alloc),
         }
     }
 
-    /// Adds a line with this number and name, and returns whether the draft takes it.
+    /// Adds a line with this number and these names, and returns whether the draft takes it.
     pub(crate) fn add(
         &mut self,
         alloc: Global,
         number: u64,
         line: TextLine,
-        name: &str,
+        names: LineNames,
     ) -> Result<bool, AllocError>
-        ensures { IfOk result (λ is_added. with_line (drafted self.old) number line name.now
+        ensures { IfOk result (λ is_added. with_line (drafted self.old) number line (names_of names.entry)
             ≡ (if is_added then Some (drafted self.new) else None)) }
     {
         match line {
-            TextLine::Plan(PlanLine::Lock(lock)) => self.add_lock(alloc, lock, name),
+            TextLine::Plan(PlanLine::Lock(lock)) => self.add_lock(alloc, lock, names.name),
             TextLine::Plan(PlanLine::Party(is_server, copies)) => {
-                self.add_parties(alloc, is_server, copies, name)
+                self.add_parties(alloc, is_server, copies, names.name)
             }
-            TextLine::Plan(PlanLine::Call(is_rwlock, step)) => {
-                match self.call(is_rwlock, step, name) {
-                    Some(call) => self.add_own(number, BlockLine::Call(call)),
-                    None => Ok(false),
-                }
-            }
-            TextLine::Try(is_rwlock, step) => match self.call(is_rwlock, step, name) {
-                Some(call) => self.add_own(number, BlockLine::Try(call)),
-                None => Ok(false),
-            },
-            TextLine::Word(word) => self.add_own(number, BlockLine::Word(word)),
+            TextLine::Plan(PlanLine::Named(word)) => self.add_named(alloc, number, word, names),
+            TextLine::Plan(PlanLine::Call(..))
+            | TextLine::Try(..)
+            | TextLine::Word(_)
+            | TextLine::Wait(_) => self.add_said(alloc, number, line, names),
+        }
+    }
+
+    /// Adds the lines of the last line of parties that a line says, and returns whether the draft takes them.
+    pub(crate) fn add_said(
+        &mut self,
+        alloc: Global,
+        number: u64,
+        line: TextLine,
+        names: LineNames,
+    ) -> Result<bool, AllocError>
+        ensures { IfOk result (λ is_added. with_said (drafted self.old) number line (names_of names.entry)
+            ≡ (if is_added then Some (drafted self.new) else None)) }
+    {
+        match self.own_lines(alloc, line, names)? {
+            Some(lines) => self.add_lines(number, lines.as_slice()),
+            None => Ok(false),
         }
     }
 
     /// Adds a lock, unless its name is there or a block is open.
     fn add_lock(&mut self, alloc: Global, lock: PlanLock, name: &str) -> Result<bool, AllocError>
-        ensures { IfOk result (λ is_added. with_line (drafted self.old) 0 (text.Plan (line.Lock lock)) name.now
+        ensures { IfOk result (λ is_added. with_line (drafted self.old) 0
+            (text.Plan (line.Lock lock)) (one_name name.now)
             ≡ (if is_added then Some (drafted self.new) else None)) }
     {
         if !self.blocks.are_none() || place_of(self.names.locks.as_slice(), name).is_some() {
@@ -103,7 +125,8 @@ impl PlanDraft {
         copies: Option<u64>,
         name: &str,
     ) -> Result<bool, AllocError>
-        ensures { IfOk result (λ is_added. with_line (drafted self.old) 0 (text.Plan (line.Party is_server copies)) name.now
+        ensures { IfOk result (λ is_added. with_line (drafted self.old) 0
+            (text.Plan (line.Party is_server copies)) (one_name name.now)
             ≡ (if is_added then Some (drafted self.new) else None)) }
     {
         if !self.blocks.are_none() {
@@ -152,6 +175,21 @@ impl PlanDraft {
         Ok(true)
     }
 
+    /// Adds lines of the last line of parties, one after another, up to one that does not fit.
+    fn add_lines(&mut self, number: u64, lines: &[BlockLine]) -> Result<bool, AllocError>
+        ensures { IfOk result (λ is_added. with_own_lines (drafted self.old) number lines.now
+            ≡ (if is_added then Some (drafted self.new) else None)) }
+    {
+        let mut rest = lines;
+        while let Some((line, after)) = rest.split_first() {
+            if !self.add_own(number, *line)? {
+                return Ok(false);
+            }
+            rest = after;
+        }
+        Ok(true)
+    }
+
     /// Adds a line of the last line of parties, unless there is no party, or no block that fits is open.
     fn add_own(&mut self, number: u64, line: BlockLine) -> Result<bool, AllocError>
         ensures { IfOk result (λ is_added. with_own_line (drafted self.old) number line
@@ -163,35 +201,5 @@ impl PlanDraft {
         push_from(&mut self.parties, self.first, line)?;
         push_from(&mut self.numbers, self.first, number)?;
         Ok(true)
-    }
-
-    /// Returns the call with this word on the lock of this name, if there is such a lock.
-    fn call(&self, is_rwlock: bool, step: LockStep, name: &str) -> Option<PlanCall>
-        ensures { result ≡ named_call (drafted self.now) is_rwlock step name.now }
-    {
-        let lock = place_of(self.names.locks.as_slice(), name)?;
-        let step = step_on(is_rwlock, step, self.kind(lock));
-        Some(PlanCall { lock, step })
-    }
-
-    /// Returns the kind of the lock at a place.
-    fn kind(&self, place: usize) -> Kind
-        ensures { result ≡ (get_or self.now.locks.items place no_lock).kind }
-    {
-        match self.locks.get(place) {
-            Some(lock) => lock.kind,
-            None => Kind::Mutex,
-        }
-    }
-}
-
-/// Returns what a call does on a lock of this kind. If its word is one for another kind, no kind has the step.
-fn step_on(is_rwlock: bool, step: LockStep, kind: Kind) -> LockStep
-    ensures { result ≡ step_on is_rwlock step kind }
-{
-    if is_rwlock == kind.is_rwlock() {
-        step
-    } else {
-        LockStep::Modes(ModeStep::Change(Mode::Exclusive, Mode::Exclusive))
     }
 }

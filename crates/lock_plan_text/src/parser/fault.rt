@@ -10,6 +10,9 @@ pub enum PlanTextFault {
     /// The first line, counted from 1, that is not in the format.
     #[error("bad line {0}")]
     BadLine(u64),
+    /// The first line that starts or joins a party which has no line.
+    #[error("line {0}: unknown party")]
+    UnknownParty(u64),
     /// The line of the first act, party by party, that can never be made.
     #[error("line {0}: {1}")]
     Call(u64, CallFault),

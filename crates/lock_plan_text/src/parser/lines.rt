@@ -53,7 +53,7 @@ fn add_text(
         (Adds (drafted draft.old) number (bytes_of text.entry) (drafted draft.new)) (IsBad (drafted draft.old) number (bytes_of text.entry))) }
 {
     match read_line(text) {
-        Some((line, name)) => draft.add(alloc, number, line, name),
+        Some((line, names)) => draft.add(alloc, number, line, names),
         None => Ok(false),
     }
 }

@@ -1,21 +1,20 @@
 //! Parsing a plan.
-ghost use Rattle.std.specs.Prelude.{◌≡◌, ◌⊎◌, ℕ, List, [], map, Some, IfErr, IfOk};
-ghost use Rattle.std.proofs.Common.{get_or};
-ghost use Rattle.lock_plan_text.specs.Blocks.{program_of, step_numbers};
+ghost use Rattle.std.specs.Prelude.{◌≡◌, ◌⊎◌, map, Some, None, IfErr, IfOk};
 ghost use Rattle.lock_plan_text.specs.declared.parser.fault.PlanTextFault.TheVariants.{OutOfMemory};
 ghost use Rattle.lock_plan_text.specs.Drafted.{IsMadeOf, IsPlanOf, drafted};
-ghost use Rattle.lock_plan_text.specs.PlanFaults.{IsPlanTextFault, draft_fault};
+ghost use Rattle.lock_plan_text.specs.PartyLines.{flag_program, number_of, programs_in};
+ghost use Rattle.lock_plan_text.specs.PlanFaults.{IsPlanTextFault, draft_fault, unknown_line};
 
 use crate::names::Names;
-use crate::parser::block_line::BlockLine;
 use crate::parser::draft::PlanDraft;
 use crate::parser::fault::PlanTextFault;
 use crate::parser::lines::parse_lines;
 use crate::parser::program::{program_of, step_numbers};
-use lock_plan::{Place, Plan, PlanFault};
+use lock_plan::{Act, Place, Plan, PlanFault, Signal};
 use std::alloc::{AllocError, Global};
+use std::mem::replace;
 
-/// A plan, and the names of its locks and parties, in the plan's order.
+/// A plan, and the names of its locks, parties, flags and condition variables, in the plan's order.
 #[derive(Drop)]
 pub struct NamedPlan {
     pub plan: Plan,
@@ -26,31 +25,37 @@ pub struct NamedPlan {
 ///
 /// # Errors
 ///
-/// `BadLine` with the number of the first bad line, counted from 1. Then `Call` with the line of the first act, party by
-/// party, that can never be made. Then `TooLarge`. `OutOfMemory` at any time.
+/// `BadLine` with the number of the first bad line, counted from 1. Then `UnknownParty` with the first line that starts or
+/// joins a party which has no line. Then `Call` with the line of the first act, party by party, that can never be made. Then
+/// `TooLarge`. `OutOfMemory` at any time.
 pub fn parse_plan(alloc: Global, bytes: &[u8]) -> Result<NamedPlan, PlanTextFault>
     ensures plan { IfOk result (IsPlanOf bytes.now) }
     ensures fault { IfErr result (IsPlanTextFault bytes.now) }
 {
     let draft = parse_lines(alloc, bytes)?;
+    if let Some(number) = draft.unknown_line() {
+        return Err(PlanTextFault::UnknownParty(number));
+    }
     plan_of(alloc, draft)
 }
 
-/// Makes the plan of a draft.
+/// Makes the plan of a draft with no unknown party.
 fn plan_of(alloc: Global, draft: PlanDraft) -> Result<NamedPlan, PlanTextFault>
+    requires { unknown_line (drafted draft) ≡ None }
     ensures plan { IfOk result (IsMadeOf (drafted draft)) }
     ensures fault { IfErr result (λ fault. (draft_fault (drafted draft) ≡ Some fault) ⊎ (fault ≡ OutOfMemory)) }
 {
-    let programs = programs_of(alloc, draft.parties.as_slice())?;
-    match Plan::new(alloc, draft.locks, programs, draft.servers) {
+    let programs = programs_of(alloc, &draft)?;
+    let mut draft = draft;
+    let locks = replace(&mut draft.locks, Vec::new(alloc));
+    let servers = replace(&mut draft.servers, Vec::new(alloc));
+    match Plan::new(alloc, locks, programs, servers) {
         Ok(plan) => Ok(NamedPlan {
             plan,
             names: draft.names,
         }),
         Err(PlanFault::Call(party, place, fault)) => {
-            let lines = list_of(draft.parties.as_slice(), party);
-            let numbers = list_of(draft.numbers.as_slice(), party);
-            let number = number_of(alloc, lines, numbers, place)?;
+            let number = number_of(alloc, &draft, party, place)?;
             Err(PlanTextFault::Call(number, fault))
         }
         Err(PlanFault::TooLarge) => Err(PlanTextFault::TooLarge),
@@ -58,36 +63,51 @@ fn plan_of(alloc: Global, draft: PlanDraft) -> Result<NamedPlan, PlanTextFault>
     }
 }
 
-/// Makes the program of each party.
-fn programs_of(alloc: Global, parties: &[Vec<BlockLine>]) -> Result<Vec<Vec<Place>>, AllocError>
-    ensures { IfOk result (λ programs. map (λ v. v.items) programs.items ≡ map program_of (map (λ v. v.items) parties.now)) }
+/// Makes the programs of the parties and of the flags.
+fn programs_of(alloc: Global, draft: &PlanDraft) -> Result<Vec<Vec<Place>>, PlanTextFault>
+    ensures programs { IfOk result (λ programs. map (λ v. v.items) programs.items ≡ programs_in (drafted draft.now)) }
+    ensures fault { IfErr result (λ fault. fault ≡ OutOfMemory) }
 {
     let mut programs = Vec::new(alloc);
-    for lines in parties {
+    for party in 0..draft.parties.len() {
+        let Some(lines) = draft.party_lines(alloc, party)? else {
+            return Err(PlanTextFault::OutOfMemory);
+        };
         programs.push(program_of(alloc, lines.as_slice())?)?;
+    }
+    for _flag in 0..draft.names.flags.len() {
+        programs.push(flag_program(alloc)?)?;
     }
     Ok(programs)
 }
 
-/// Returns the list of a party.
-fn list_of<T>(lists: &[Vec<T>], party: usize) -> &[T]
-    ensures { result.now ≡ get_or (map (λ v. v.items) lists.now) party [] }
+/// Makes the program of a flag, which idles until it is set.
+fn flag_program(alloc: Global) -> Result<Vec<Place>, AllocError>
+    ensures { IfOk result (λ program. program.items ≡ flag_program) }
 {
-    match lists.get(party) {
-        Some(list) => list.as_slice(),
-        None => &[],
-    }
+    let mut program = Vec::new(alloc);
+    program.push(Place {
+        act: Act::Signal(Signal::Idle),
+        next: 1,
+        other: 1,
+    })?;
+    Ok(program)
 }
 
-/// Returns the number of the line of a place.
+/// Returns the number of the line of a party's place.
 fn number_of(
     alloc: Global,
-    lines: &[BlockLine],
-    numbers: &[u64],
+    draft: &PlanDraft,
+    party: usize,
     place: usize,
-) -> Result<u64, AllocError>
-    ensures { IfOk result (λ number. number ≡ get_or (step_numbers lines.now numbers.now) place 0) }
+) -> Result<u64, PlanTextFault>
+    ensures number { IfOk result (λ number. number ≡ number_of (drafted draft.now) party place) }
+    ensures fault { IfErr result (λ fault. fault ≡ OutOfMemory) }
 {
-    let numbers = step_numbers(alloc, lines, numbers)?;
-    Ok(numbers.get(place).copied().unwrap_or(0))
+    let Some(lines) = draft.party_lines(alloc, party)? else {
+        return Err(PlanTextFault::OutOfMemory);
+    };
+    let numbers = draft.party_numbers(alloc, party)?;
+    let found = step_numbers(alloc, lines.as_slice(), numbers.as_slice())?;
+    Ok(found.get(place).copied().unwrap_or(0))
 }

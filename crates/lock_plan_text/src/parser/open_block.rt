@@ -5,11 +5,26 @@ use std::alloc::{AllocError, Global};
 /// An open block, by its part that is open.
 #[derive(Clone, Copy, PartialEq, Eq, Debug)]
 pub(crate) enum OpenBlock {
+    /// The first part of a try or an `if`.
     Try,
+    /// The last part of a try or an `if`.
     Else,
+    /// A loop.
     Repeat,
     Either,
     Or,
+}
+
+impl OpenBlock {
+    ghost use Rattle.std.specs.Prelude.{◌≡◌};
+    ghost use Rattle.lock_plan_text.specs.OpenBlocks.{is_loop_part};
+
+    /// Returns whether the block is a loop.
+    fn is_loop(self) -> bool
+        ensures { result ≡ is_loop_part self }
+    {
+        matches!(self, OpenBlock::Repeat)
+    }
 }
 
 /// The blocks that are open, the innermost last. There are 64 at most.
@@ -20,7 +35,7 @@ pub(crate) struct OpenBlocks {
 
 impl OpenBlocks {
     ghost use Rattle.std.specs.Prelude.{◌≡◌, [], length, nat_lt, not, if◌then◌else◌, Some, None, IfOk};
-    ghost use Rattle.lock_plan_text.specs.OpenBlocks.{begun, open_after, opened, turned_first};
+    ghost use Rattle.lock_plan_text.specs.OpenBlocks.{begun, has_loop, open_after, opened, turned_first};
 
     /// Makes the blocks of no lines.
     pub(crate) fn new(alloc: Global) -> OpenBlocks
@@ -38,14 +53,23 @@ impl OpenBlocks {
         self.blocks.is_empty()
     }
 
+    /// Returns whether one of them is a loop.
+    pub(crate) fn has_loop(&self) -> bool
+        ensures { result ≡ has_loop (opened self.now) }
+    {
+        self.blocks.iter().any(|block| block.is_loop())
+    }
+
     /// Turns to the blocks that are open after a line, and returns whether the line fits.
     pub(crate) fn turn(&mut self, line: BlockLine) -> Result<bool, AllocError>
         ensures { IfOk result (λ fits. open_after (opened self.old) line ≡ (if fits then Some (opened self.new) else None)) }
     {
         match line {
-            BlockLine::Call(_) => Ok(true),
-            BlockLine::Try(_) => self.begin(OpenBlock::Try),
-            BlockLine::Word(BlockWord::Repeat) => self.begin(OpenBlock::Repeat),
+            BlockLine::Call(_) | BlockLine::Plain(_) => Ok(true),
+            BlockLine::Try(_) | BlockLine::If(_) => self.begin(OpenBlock::Try),
+            BlockLine::Until(..) | BlockLine::Word(BlockWord::Repeat) => {
+                self.begin(OpenBlock::Repeat)
+            }
             BlockLine::Word(BlockWord::Either) => self.begin(OpenBlock::Either),
             BlockLine::Word(word) => self.turn_first(word),
         }

@@ -1,8 +1,9 @@
 //! What lines of a plan say.
+use crate::parser::named_word::NamedWord;
 use lock_base::machine::LockStep;
 use lock_plan::PlanLock;
 
-/// What a line says of the lock or party that it names.
+/// What a line says of what it names: a lock, a party, a flag or a condition variable.
 #[derive(Clone, Copy, PartialEq, Eq, Debug)]
 pub(crate) enum PlanLine {
     Lock(PlanLock),
@@ -10,4 +11,6 @@ pub(crate) enum PlanLine {
     Party(bool, Option<u64>),
     /// A call, and whether its word is one for reader-writer locks.
     Call(bool, LockStep),
+    /// A line of this word and a name alone.
+    Named(NamedWord),
 }

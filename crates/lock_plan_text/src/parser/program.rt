@@ -2,22 +2,25 @@
 ghost use Rattle.std.specs.Prelude.{◌≡◌, ◌<◌, ◌≤◌, suc, length, IfOk};
 ghost use Rattle.std.proofs.Common.{get_or};
 ghost use Rattle.step_search.specs.Walks.{each_below};
-ghost use Rattle.lock_plan_text.specs.Blocks.{act_of_line, is_step, other_line, place_number, place_of_line, place_with, program_of, step_numbers};
+ghost use Rattle.lock_plan_text.specs.Blocks.{AreLands, is_step, one_way, other_line, place_for, place_number, place_of_line, program_of, signal_of, step_numbers, two_ways};
 
 use crate::parser::block_line::{BlockLine, BlockWord};
-use crate::parser::scan::{boundary, land, line_at};
-use lock_plan::{Act, Block, Place};
+use crate::parser::plain_line::PlainLine;
+use crate::parser::scan::{boundary, land_in, lands, line_at};
+use lock_plan::{Act, Block, Place, Signal};
 use std::alloc::{AllocError, Global};
 
 /// Makes the program of a party's lines. Each line that is a step is a place.
 pub(crate) fn program_of(alloc: Global, lines: &[BlockLine]) -> Result<Vec<Place>, AllocError>
     ensures { IfOk result (λ program. program.items ≡ program_of lines.now) }
 {
+    let lands = lands(alloc, lines)?;
     let counts = step_counts(alloc, lines)?;
     let mut program = Vec::new(alloc);
     for line in 0..lines.len() {
         if is_step(lines, line) {
-            program.push(place_at(lines, counts.as_slice(), line))?;
+            let place = place_at(lines, lands.as_slice(), counts.as_slice(), line);
+            program.push(place)?;
         }
     }
     Ok(program)
@@ -69,28 +72,68 @@ fn step_counts(alloc: Global, lines: &[BlockLine]) -> Result<Vec<usize>, AllocEr
 }
 
 /// Makes the place of a line that is a step.
-fn place_at(lines: &[BlockLine], counts: &[usize], line: usize) -> Place
+fn place_at(lines: &[BlockLine], lands: &[usize], counts: &[usize], line: usize) -> Place
     requires line { line < length lines.now }
+    requires lands { AreLands lines.now 0 lands.now }
     requires counts { counts.now ≡ each_below (place_number lines.now) (suc (length lines.now)) }
     ensures { result ≡ place_of_line lines.now line }
 {
-    let act = act_of(line_at(lines, line));
-    let next = count_before(counts, land(lines, line + 1));
-    let other = count_before(counts, other_line(lines, line));
-    place_with(act, next, other)
+    let here = line_at(lines, line);
+    let inside = count_before(counts, land_in(lines, lands, line + 1));
+    if here.is_alone() {
+        return place_for(here, inside, inside);
+    }
+    let past = count_before(counts, other_line(lines, lands, line));
+    place_for(here, inside, past)
 }
 
-/// Makes the place of an act. A call has one place after it.
-fn place_with(act: Act, next: usize, other: usize) -> Place
-    ensures { result ≡ place_with act next other }
+/// Makes the place of a line that is a step. What follows it begins at `inside`, and the other way leads to `past`.
+fn place_for(line: BlockLine, inside: usize, past: usize) -> Place
+    ensures { result ≡ place_for line inside past }
 {
-    match act {
-        Act::Call(_) => Place {
-            act,
-            next,
-            other: next,
-        },
-        Act::Try(_) | Act::Choose(_) => Place { act, next, other },
+    match line {
+        BlockLine::Call(call) => one_way(Act::Call(call), inside),
+        BlockLine::Try(call) => two_ways(Act::Try(call), inside, past),
+        BlockLine::Word(BlockWord::Repeat) => two_ways(Act::Choose(Block::Repeat), inside, past),
+        BlockLine::Word(_) => two_ways(Act::Choose(Block::Either), inside, past),
+        BlockLine::If(flag) | BlockLine::Until(flag, false) => {
+            two_ways(Act::Choose(Block::If(flag)), inside, past)
+        }
+        BlockLine::Until(flag, true) => two_ways(Act::Choose(Block::If(flag)), past, inside),
+        BlockLine::Plain(line) => one_way(Act::Signal(signal_of(line)), inside),
+    }
+}
+
+/// Makes the place of an act with one place after it.
+fn one_way(act: Act, next: usize) -> Place
+    ensures { result ≡ one_way act next }
+{
+    Place {
+        act,
+        next,
+        other: next,
+    }
+}
+
+/// Makes the place of an act with two places after it.
+fn two_ways(act: Act, next: usize, other: usize) -> Place
+    ensures { result ≡ two_ways act next other }
+{
+    Place { act, next, other }
+}
+
+/// Returns the signal of a plain line. A flag is set as a party is started.
+fn signal_of(line: PlainLine) -> Signal
+    ensures { result ≡ signal_of line }
+{
+    match line {
+        PlainLine::Idle => Signal::Idle,
+        PlainLine::Set(row) | PlainLine::Start(row) => Signal::Start(row),
+        PlainLine::Clear(row) => Signal::Clear(row),
+        PlainLine::Sleep(cond) => Signal::Sleep(cond),
+        PlainLine::NotifyOne(cond) => Signal::NotifyOne(cond),
+        PlainLine::NotifyAll(cond) => Signal::NotifyAll(cond),
+        PlainLine::Join(row) => Signal::Join(row),
     }
 }
 
@@ -101,21 +144,10 @@ fn count_before(counts: &[usize], line: usize) -> usize
     counts.get(line).copied().unwrap_or(0)
 }
 
-/// Returns the act of a line that is a step.
-fn act_of(line: BlockLine) -> Act
-    ensures { result ≡ act_of_line line }
-{
-    match line {
-        BlockLine::Call(call) => Act::Call(call),
-        BlockLine::Try(call) => Act::Try(call),
-        BlockLine::Word(BlockWord::Repeat) => Act::Choose(Block::Repeat),
-        BlockLine::Word(_) => Act::Choose(Block::Either),
-    }
-}
-
 /// Returns the line at which a party goes on that does not do what follows a step.
-fn other_line(lines: &[BlockLine], line: usize) -> usize
-    requires { line < length lines.now }
+fn other_line(lines: &[BlockLine], lands: &[usize], line: usize) -> usize
+    requires line { line < length lines.now }
+    requires lands { AreLands lines.now 0 lands.now }
     ensures value { result ≡ other_line lines.now line }
     ensures within { result ≤ length lines.now }
 {
@@ -123,6 +155,6 @@ fn other_line(lines: &[BlockLine], line: usize) -> usize
     if is_step(lines, next) {
         next
     } else {
-        land(lines, next + 1)
+        land_in(lines, lands, next + 1)
     }
 }

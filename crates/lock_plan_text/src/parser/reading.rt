@@ -2,38 +2,45 @@
 ghost use Rattle.std.specs.Prelude.{◌≡◌, ◌∷◌, ℕ, Bool, IsTrue, List, [], IfNone, IfSome};
 ghost use Rattle.lock_script.specs.Lines.{fields_of};
 ghost use Rattle.lock_script.specs.Parts.{bytes_of};
-ghost use Rattle.lock_plan_text.specs.PlanLines.{IsPlanLine, IsVerb, Says, is_name, is_tried, last_fields, line_word, party_word, plan_fields};
+ghost use Rattle.lock_plan_text.specs.PlanLines.{IsPlanLine, IsVerb, Says, TextNames, is_name, is_tried, last_fields, line_word, names_of, party_word, plan_fields};
 ghost use Rattle.lock_plan_text.specs.Words.{step_word};
 
 use crate::parser::block_word::block_word;
 use crate::parser::copies::copies;
 use crate::parser::limit::{reentrant, rwlock};
+use crate::parser::line_names::{LineNames, no_names, one_name};
 use crate::parser::name::is_name;
+use crate::parser::named_word::named_word;
 use crate::parser::plan_line::PlanLine;
 use crate::parser::text_line::TextLine;
 use crate::parser::verb::verb;
+use crate::parser::wait::read_wait;
 use lock_base::machine::{Kind, LockStep, Mode, ModeStep};
 use lock_plan::PlanLock;
 use lock_script::{Part, first_field};
 
-/// Reads a line and its name, or returns `None` for a bad one. The line of a block has an empty name.
-pub(crate) fn read_line(text: Part) -> Option<(TextLine, &str)>
-    ensures said { IfSome result (λ found. Says (bytes_of text.entry) found.0 found.1.now) }
-    ensures bad { IfNone result ((line : TextLine) (name : List ℕ) → Says (bytes_of text.entry) line name → ⊥) }
+/// Reads a line and its names, or returns `None` for a bad one.
+pub(crate) fn read_line(text: Part) -> Option<(TextLine, LineNames)>
+    ensures said { IfSome result (λ found. Says (bytes_of text.entry) found.0 (names_of found.1)) }
+    ensures bad { IfNone result ((line : TextLine) (names : TextNames) → Says (bytes_of text.entry) line names → ⊥) }
 {
     let text = text.text()?;
     let Some((word, rest)) = first_field(text) else {
         let word = block_word(text)?;
-        return Some((TextLine::Word(word), ""));
+        return Some((TextLine::Word(word), no_names()));
     };
     match word {
         "try" => {
             let (is_rwlock, step, name) = read_try(rest)?;
-            Some((TextLine::Try(is_rwlock, step), name))
+            Some((TextLine::Try(is_rwlock, step), one_name(name)))
+        }
+        "wait" => {
+            let (wait, names) = read_wait(rest)?;
+            Some((TextLine::Wait(wait), names))
         }
         _ => {
             let (line, name) = read_plan_line(word, rest)?;
-            Some((TextLine::Plan(line), name))
+            Some((TextLine::Plan(line), one_name(name)))
         }
     }
 }
@@ -69,7 +76,7 @@ fn is_tried(step: LockStep) -> bool
     )
 }
 
-/// Reads a line about a lock or party, and its name, by the first field and the others.
+/// Reads a line that is no try and no wait, and its name, by the first field and the others.
 fn read_plan_line<'a>(word: &str, rest: &'a str) -> Option<(PlanLine, &'a str)>
     ensures said { IfSome result (λ found. IsPlanLine found.0 × (IsTrue (is_name found.1.now)
         × (plan_fields found.0 found.1.now ≡ word.now ∷ fields_of rest.now))) }
@@ -99,10 +106,10 @@ fn short_line(word: &str) -> Option<PlanLine>
         })),
         "party" => Some(PlanLine::Party(false, None)),
         "server" => Some(PlanLine::Party(true, None)),
-        _ => {
-            let (is_rwlock, step) = verb(word)?;
-            Some(PlanLine::Call(is_rwlock, step))
-        }
+        _ => match verb(word) {
+            Some((is_rwlock, step)) => Some(PlanLine::Call(is_rwlock, step)),
+            None => Some(PlanLine::Named(named_word(word)?)),
+        },
     }
 }
 

@@ -1,8 +1,9 @@
 //! Looking through the lines of a party for the lines of a block.
-ghost use Rattle.std.specs.Prelude.{◌≡◌, ◌+◌, ◌<◌, ◌≤◌, ◌^◌, length};
-ghost use Rattle.lock_plan_text.specs.Blocks.{beginning, boundary, deeper, higher, land, line_at};
+ghost use Rattle.std.specs.Prelude.{◌≡◌, ◌+◌, ◌<◌, ◌≤◌, ◌^◌, length, IfOk};
+ghost use Rattle.lock_plan_text.specs.Blocks.{AreLands, beginning, boundary, deeper, higher, land, line_at};
 
 use crate::parser::block_line::{BlockLine, BlockWord};
+use std::alloc::{AllocError, Global};
 
 /// Returns the line with this number; past the last line there is an `end`.
 pub(crate) fn line_at(lines: &[BlockLine], number: usize) -> BlockLine
@@ -48,6 +49,7 @@ fn higher(depth: usize, line: BlockLine) -> usize
 pub(crate) fn boundary(lines: &[BlockLine], line: usize) -> usize
     requires { line < length lines.now }
     ensures value { result ≡ boundary lines.now line }
+    ensures after { line < result }
     ensures within { result ≤ length lines.now }
 {
     let mut at = line + 1;
@@ -83,32 +85,50 @@ fn beginning(lines: &[BlockLine], line: usize) -> usize
     0
 }
 
-/// Returns the line of the step at which a party goes on that comes before a line, or the number of all lines for the end.
-pub(crate) fn land(lines: &[BlockLine], line: usize) -> usize
+/// Returns for each line the line of the step at which a party goes on that comes before it.
+pub(crate) fn lands(alloc: Global, lines: &[BlockLine]) -> Result<Vec<usize>, AllocError>
+    ensures { IfOk result (λ lands. AreLands lines.now 0 lands.items) }
+{
+    let mut lands = vec![in alloc; lines.len(); lines.len()]?;
+    let mut at = lines.len();
+    while at > 0 {
+        at -= 1;
+        let landed = land(lines, lands.as_slice(), at);
+        lands[at] = landed;
+    }
+    Ok(lands)
+}
+
+/// Looks up the line of the step at which a party goes on that comes before a line. The number of all lines is the end.
+pub(crate) fn land_in(lines: &[BlockLine], lands: &[usize], line: usize) -> usize
+    requires { AreLands lines.now line lands.now }
     ensures value { result ≡ land lines.now line }
     ensures within { result ≤ length lines.now }
 {
-    if line >= lines.len() {
-        return lines.len();
+    lands.get(line).copied().unwrap_or(lines.len())
+}
+
+/// Returns the line of the step at which a party goes on that comes before a line, by those of the lines after it.
+fn land(lines: &[BlockLine], lands: &[usize], line: usize) -> usize
+    requires within { line < length lines.now }
+    requires lands { AreLands lines.now (line + 1) lands.now }
+    ensures { result ≡ land lines.now line }
+{
+    let here = line_at(lines, line);
+    if !here.parts() {
+        return line;
     }
-    let mut at = line;
-    let mut rest = &lines[line..];
-    let mut leave = 0usize;
-    while let Some((first, after)) = rest.split_first() {
-        if leave > 0 {
-            leave = deeper(leave, *first);
-        } else if !first.parts() {
-            return at;
-        } else if !first.ends() {
-            leave = 1;
-        } else {
-            let begin = beginning(lines, at);
-            if line_at(lines, begin).is_repeat() {
-                return begin;
-            }
+    if here.ends() {
+        let begin = beginning(lines, line);
+        if line_at(lines, begin).is_loop() {
+            return begin;
         }
-        rest = after;
-        at += 1;
+        return land_in(lines, lands, line + 1);
     }
-    lines.len()
+    let next = boundary(lines, line);
+    if line_at(lines, next).ends() {
+        land_in(lines, lands, next + 1)
+    } else {
+        land_in(lines, lands, next)
+    }
 }

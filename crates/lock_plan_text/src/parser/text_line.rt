@@ -1,6 +1,7 @@
 //! What lines of a text say.
 use crate::parser::block_line::BlockWord;
 use crate::parser::plan_line::PlanLine;
+use crate::parser::wait_line::WaitLine;
 use lock_base::machine::LockStep;
 
 /// What a line of a text says.
@@ -11,4 +12,6 @@ pub(crate) enum TextLine {
     Try(bool, LockStep),
     /// A line of a block. It names nothing.
     Word(BlockWord),
+    /// A wait on a condition variable. It names its mutex too, and perhaps a flag.
+    Wait(WaitLine),
 }

@@ -61,9 +61,9 @@ fn write_trace(
     ensures { OnOk result (string_bytes text.new ≡ string_bytes text.old
         ++ trace_text plan.now.locks.items names.now (first_world plan.now.locks.items (programs_of plan.now)) trace.now) }
 {
-    let node = last_node(plan, trace);
-    text.push_str(stop_word(is_refused(plan, node)))?;
+    let node = last_node(alloc, plan, trace)?;
+    text.push_str(stop_word(is_refused(alloc, plan, node)?))?;
     text.push('\n')?;
-    write_steps(text, plan, names, trace)?;
+    write_steps(alloc, text, plan, names, trace)?;
     write_stop_lines(alloc, text, plan, names, node)
 }

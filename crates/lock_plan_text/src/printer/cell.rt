@@ -1,14 +1,16 @@
 //! The cells of a drawing.
-ghost use Rattle.std.specs.Prelude.{◌≡◌, ◌<◌, ◌++◌, length, OnOk, IfOk, string_bytes};
+ghost use Rattle.std.specs.Prelude.{◌≡◌, ◌++◌, length, Option, OnOk, IfOk, string_bytes};
 ghost use Rattle.std.proofs.Common.{get_or};
+ghost use Rattle.lock_plan.specs.Signals.{idles};
 ghost use Rattle.lock_plan.specs.Worlds.{no_stand};
 ghost use Rattle.lock_plan.specs.Stops.{world_of};
 ghost use Rattle.lock_plan_text.specs.Marks.{locks_held};
-ghost use Rattle.lock_plan_text.specs.Lanes.{held_text, step_cell, is_stop_turn, stop_cell, cell_of};
+ghost use Rattle.lock_plan_text.specs.Lanes.{held_text, sleep_text, step_cell, is_stop_turn, signal_arrow, arrow_text, stop_cell, cell_of};
 
-use crate::names::{Names, write_name};
+use crate::names::{Names, write_name, write_row_name};
 use crate::printer::mark::{Marked, Style, add_marks, write_marks};
-use lock_plan::{Act, Plan, Turn};
+use crate::printer::stand::{act_at, hold_at, sleep_of, turn_at};
+use lock_plan::{Act, Plan, Signal, Turn};
 use std::alloc::{AllocError, Global};
 
 /// A row of a drawing.
@@ -31,14 +33,13 @@ pub(crate) fn write_cell(
     row: Row,
     party: usize,
 ) -> Result<(), AllocError>
-    requires { party < length plan.now.programs.items }
     ensures { OnOk result (string_bytes text.new ≡ string_bytes text.old ++ cell_of plan.now names.now row party) }
 {
     match row {
         Row::Parties => write_name(text, names.parties.as_slice(), party),
         Row::After(node, mover) => write_step_cell(alloc, text, plan, names, node, mover, party),
         Row::Stop(node, is_refused) => {
-            write_stop_cell(text, plan, names, node, is_refused, party)
+            write_stop_cell(alloc, text, plan, names, node, is_refused, party)
         }
     }
 }
@@ -53,23 +54,49 @@ fn write_step_cell(
     mover: usize,
     party: usize,
 ) -> Result<(), AllocError>
-    requires { party < length plan.now.programs.items }
     ensures { OnOk result (string_bytes text.new ≡ string_bytes text.old
         ++ step_cell plan.now.locks.items names.now (world_of plan.now node) mover party) }
 {
     let marks = locks_held(alloc, plan, node, party)?;
     text.push_str(if party == mover { "* " } else { "" })?;
-    write_held(text, names, marks.as_slice())
+    let is_idle = idles(act_at(plan, node, party));
+    write_held(text, names, is_idle, marks.as_slice())?;
+    write_sleep(text, names, sleep_of(plan, node, party))
 }
 
-/// Appends what a party holds, or a dot.
-fn write_held(text: &mut String, names: &Names, marks: &[Marked]) -> Result<(), AllocError>
-    ensures { OnOk result (string_bytes text.new ≡ string_bytes text.old ++ held_text names.now marks.now) }
+/// Returns whether a party with this act idles.
+fn idles(act: Option<Act>) -> bool
+    ensures { result ≡ idles act }
+{
+    matches!(act, Some(Act::Signal(Signal::Idle)))
+}
+
+/// Appends what a party holds; a dot for nothing, or a dash where it idles.
+fn write_held(
+    text: &mut String,
+    names: &Names,
+    is_idle: bool,
+    marks: &[Marked],
+) -> Result<(), AllocError>
+    ensures { OnOk result (string_bytes text.new ≡ string_bytes text.old ++ held_text names.now is_idle marks.now) }
 {
     if marks.is_empty() {
-        text.push('.')
+        text.push(if is_idle { '-' } else { '.' })
     } else {
         write_marks(text, Style::Letters, names.locks.as_slice(), marks)
+    }
+}
+
+/// Appends the condition variable on which a party sleeps.
+fn write_sleep(text: &mut String, names: &Names, sleep: Option<usize>) -> Result<(), AllocError>
+    ensures { OnOk result (string_bytes text.new ≡ string_bytes text.old ++ sleep_text names.now sleep) }
+{
+    match sleep {
+        None => Ok(()),
+        Some(cond) => {
+            text.push_str(" zz ")?;
+            write_name(text, names.conds.as_slice(), cond)
+        }
     }
 }
 
@@ -80,19 +107,19 @@ fn locks_held(
     node: usize,
     party: usize,
 ) -> Result<Vec<Marked>, AllocError>
-    requires { party < length plan.now.programs.items }
     ensures { IfOk result (λ marks. marks.items
         ≡ locks_held (get_or (world_of plan.now node) party no_stand).holds (length plan.now.locks.items)) }
 {
     let mut marks = Vec::new(alloc);
     for lock in 0..plan.locks().len() {
-        add_marks(&mut marks, lock, plan.hold(node, party, lock))?;
+        add_marks(&mut marks, lock, hold_at(plan, node, party, lock))?;
     }
     Ok(marks)
 }
 
-/// Appends a cell of the last row: an arrow to the lock that the party waits for, or a dot.
+/// Appends a cell of the last row: an arrow to what the party waits for, or a dot.
 fn write_stop_cell(
+    alloc: Global,
     text: &mut String,
     plan: &Plan,
     names: &Names,
@@ -100,14 +127,42 @@ fn write_stop_cell(
     is_refused: bool,
     party: usize,
 ) -> Result<(), AllocError>
-    requires { party < length plan.now.programs.items }
     ensures { OnOk result (string_bytes text.new ≡ string_bytes text.old
         ++ stop_cell plan.now.locks.items names.now (world_of plan.now node) is_refused party) }
 {
-    match plan.act(node, party) {
-        Some(Act::Call(call)) if is_stop_turn(is_refused, plan.turn(node, party)) => {
+    if is_stop_turn(is_refused, turn_at(alloc, plan, node, party)?) {
+        write_arrow(text, names, act_at(plan, node, party))
+    } else {
+        text.push('.')
+    }
+}
+
+/// Appends an arrow to what a party with this act waits for.
+fn write_arrow(text: &mut String, names: &Names, act: Option<Act>) -> Result<(), AllocError>
+    ensures { OnOk result (string_bytes text.new ≡ string_bytes text.old ++ arrow_text names.now act) }
+{
+    match act {
+        Some(Act::Call(call)) => {
             text.push_str("-> ")?;
             write_name(text, names.locks.as_slice(), call.lock)
+        }
+        Some(Act::Signal(signal)) => write_signal_arrow(text, names, signal),
+        _ => text.push('.'),
+    }
+}
+
+/// Appends an arrow to the condition variable or the row that a party with this signal waits for.
+fn write_signal_arrow(text: &mut String, names: &Names, signal: Signal) -> Result<(), AllocError>
+    ensures { OnOk result (string_bytes text.new ≡ string_bytes text.old ++ signal_arrow names.now signal) }
+{
+    match signal {
+        Signal::Sleep(cond) => {
+            text.push_str("-> ")?;
+            write_name(text, names.conds.as_slice(), cond)
+        }
+        Signal::Join(row) => {
+            text.push_str("-> ")?;
+            write_row_name(text, names, row)
         }
         _ => text.push('.'),
     }

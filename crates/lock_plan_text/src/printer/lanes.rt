@@ -1,5 +1,5 @@
 //! Drawings: a column for each party.
-ghost use Rattle.std.specs.Prelude.{◌≡◌, ◌<◌, ◌++◌, length, replicate, OnOk, string_bytes};
+ghost use Rattle.std.specs.Prelude.{◌≡◌, ◌++◌, length, replicate, OnOk, string_bytes};
 ghost use Rattle.lock_plan.specs.Worlds.{first_world};
 ghost use Rattle.lock_plan.specs.Stops.{programs_of};
 ghost use Rattle.lock_plan_text.specs.Lanes.{padded, row_text, cell_of, step_rows, lanes_text, drawing_text};
@@ -44,19 +44,14 @@ fn write_lanes(
     trace: &[Step],
 ) -> Result<(), AllocError>
     ensures { OnOk result (string_bytes text.new ≡ string_bytes text.old
-        ++ lanes_text plan.now.locks.items names.now (length plan.now.programs.items)
+        ++ lanes_text plan.now.locks.items names.now
         (first_world plan.now.locks.items (programs_of plan.now)) trace.now) }
 {
     write_row(alloc, text, plan, names, Row::Parties)?;
     write_step_rows(alloc, text, plan, names, trace)?;
-    let node = last_node(plan, trace);
-    write_row(
-        alloc,
-        text,
-        plan,
-        names,
-        Row::Stop(node, is_refused(plan, node)),
-    )?;
+    let node = last_node(alloc, plan, trace)?;
+    let is_refused = is_refused(alloc, plan, node)?;
+    write_row(alloc, text, plan, names, Row::Stop(node, is_refused))?;
     Ok(())
 }
 
@@ -69,12 +64,12 @@ fn write_step_rows(
     trace: &[Step],
 ) -> Result<(), AllocError>
     ensures { OnOk result (string_bytes text.new ≡ string_bytes text.old
-        ++ step_rows plan.now.locks.items names.now (length plan.now.programs.items)
+        ++ step_rows plan.now.locks.items names.now
         (first_world plan.now.locks.items (programs_of plan.now)) trace.now) }
 {
     let mut node = plan.start();
     for step in trace {
-        node = stepped(plan, node, *step);
+        node = stepped(alloc, plan, node, *step)?;
         write_row(alloc, text, plan, names, Row::After(node, step.party))?;
     }
     Ok(())
@@ -89,9 +84,9 @@ fn write_row(
     row: Row,
 ) -> Result<(), AllocError>
     ensures { OnOk result (string_bytes text.new ≡ string_bytes text.old
-        ++ row_text (cell_of plan.now names.now row) (length plan.now.programs.items)) }
+        ++ row_text (cell_of plan.now names.now row) (length names.now.parties.items)) }
 {
-    let Some(last) = plan.parties().checked_sub(1) else {
+    let Some(last) = names.parties.len().checked_sub(1) else {
         return text.push('\n');
     };
     for party in 0..last {
@@ -111,7 +106,6 @@ fn write_padded(
     row: Row,
     party: usize,
 ) -> Result<(), AllocError>
-    requires { party < length plan.now.programs.items }
     ensures { OnOk result (string_bytes text.new ≡ string_bytes text.old ++ padded (cell_of plan.now names.now row party)) }
 {
     let start = text.len();

@@ -7,7 +7,7 @@ mod waits;
 
 use crate::names::{Names, write_name};
 use crate::printer::mark::Mark;
-use crate::printer::step::{stepped, write_made};
+use crate::printer::step::{Made, stepped, write_made};
 use crate::printer::stop::{is_refused, stop_word};
 use bars::write_bars;
 use itoa::Buffer;
@@ -21,8 +21,9 @@ use waits::{draw_waits, stopped_of, write_stopped};
 ///
 /// It shows what [`write_answer`](crate::write_answer) says. A dot marks each step, a bar each hold from the step that
 /// acquires it, in a color of its mode. Below the last step, an arrow leads from each party that waits to each holder of
-/// the lock. The arrows of a circle of waiting parties are heavier. Names are expected to have no character that SVG
-/// reserves; those of [`parse_plan`](crate::parse_plan) have none. No contract names the bytes.
+/// the lock, or to the party that it joins. The arrows of a circle of waiting parties are heavier. A flag has no column.
+/// Names are expected to have no character that SVG reserves; those of [`parse_plan`](crate::parse_plan) have none. No
+/// contract names the bytes.
 pub fn draw_picture(
     alloc: Global,
     plan: &Plan,
@@ -37,30 +38,39 @@ pub fn draw_picture(
 
 /// A run into a stop.
 #[derive(Drop)]
-pub(crate) struct Run<'a> {
+pub(crate) struct Run {
     alloc: Global,
-    trace: &'a [Step],
-    /// The node before each step, and the last one.
-    nodes: Vec<usize>,
+    steps: Vec<Made>,
     /// The node after the last step.
     last: usize,
 }
 
-impl<'a> Run<'a> {
-    fn new(alloc: Global, plan: &Plan, trace: &'a [Step]) -> Result<Run<'a>, AllocError> {
-        let mut nodes = Vec::new(alloc);
+impl Run {
+    fn new(alloc: Global, plan: &Plan, trace: &[Step]) -> Result<Run, AllocError> {
+        let mut steps = Vec::new(alloc);
         let mut node = plan.start();
         for step in trace {
-            nodes.push(node)?;
-            node = stepped(plan, node, *step);
+            let before = node;
+            node = stepped(alloc, plan, before, *step)?;
+            steps.push(Made {
+                step: *step,
+                before,
+                after: node,
+            })?;
         }
-        nodes.push(node)?;
         Ok(Run {
             alloc,
-            trace,
-            nodes,
+            steps,
             last: node,
         })
+    }
+
+    /// The node at a row. Row 0 is before the first step.
+    pub(crate) fn node(&self, row: usize) -> usize {
+        match self.steps.get(row) {
+            Some(made) => made.before,
+            None => self.last,
+        }
     }
 }
 
@@ -79,13 +89,10 @@ fn picture_of_none(alloc: Global, visited: usize) -> Result<String, AllocError> 
 fn picture_of_run(plan: &Plan, names: &Names, run: &Run) -> Result<String, AllocError> {
     let layout = Layout::of_run(plan, names, run)?;
     let mut svg = Svg::new(run.alloc, layout.width(), layout.height())?;
-    svg.text(
-        "name",
-        layout.title(),
-        stop_word(is_refused(plan, run.last)),
-    )?;
+    let word = stop_word(is_refused(run.alloc, plan, run.last)?);
+    svg.text("name", layout.title(), word)?;
     write_legend(&mut svg, &layout)?;
-    for party in 0..plan.parties() {
+    for party in 0..names.parties.len() {
         write_column(&mut svg, names, &layout, party)?;
         write_bars(&mut svg, plan, names, run, &layout, party)?;
     }
@@ -94,7 +101,7 @@ fn picture_of_run(plan: &Plan, names: &Names, run: &Run) -> Result<String, Alloc
     for stopped in &list {
         write_stopped(&mut svg, plan, names, &layout, stopped)?;
     }
-    draw_waits(&mut svg, plan, run, &layout, list.as_slice())?;
+    draw_waits(&mut svg, plan, names, run, &layout, list.as_slice())?;
     svg.finish()
 }
 
@@ -119,11 +126,11 @@ fn write_steps(
     run: &Run,
     layout: &Layout,
 ) -> Result<(), AllocError> {
-    for (row, (node, step)) in run.nodes.iter().zip(run.trace).enumerate() {
+    for (row, made) in run.steps.iter().enumerate() {
         let row = row.saturating_add(1);
-        svg.dot(layout.life(step.party, row))?;
-        svg.open_text("call", layout.beside(step.party, row))?;
-        write_made(svg.inner(), plan, names, *node, *step)?;
+        svg.dot(layout.life(made.step.party, row))?;
+        svg.open_text("call", layout.beside(made.step.party, row))?;
+        write_made(run.alloc, svg.inner(), plan, names, *made)?;
         svg.close_text()?;
     }
     Ok(())

@@ -1,19 +1,31 @@
 //! The steps of a trace.
-ghost use Rattle.std.specs.Prelude.{◌≡◌, ◌<◌, ◌++◌, OnOk, string_bytes};
+ghost use Rattle.std.specs.Prelude.{◌≡◌, ◌<◌, ◌++◌, Option, OnOk, IfOk, string_bytes};
 ghost use Rattle.std.proofs.Common.{get_or};
 ghost use Rattle.lock_base.specs.Kind.{is_rwlock};
-ghost use Rattle.lock_plan.specs.Worlds.{no_lock, first_world};
+ghost use Rattle.lock_plan.specs.Worlds.{no_lock, first_world, turn_of};
 ghost use Rattle.lock_plan.specs.Stops.{programs_of, world_of};
-ghost use Rattle.lock_plan_text.specs.Steps.{act_text, call_text, made_text, step_text, steps_text, made_step, stepped, last_world};
+ghost use Rattle.lock_plan_text.specs.Signals.{sleep_of};
+ghost use Rattle.lock_plan_text.specs.Steps.{call_by, call_text, wait_text, made_text, step_text, steps_text, made_step, stepped, last_world};
 
 use crate::names::{Names, write_name};
-use crate::printer::words::{choice_word, step_word};
+use crate::printer::signal::{write_choice, write_signal};
+use crate::printer::stand::{act_at, sleep_of, turn_at};
+use crate::printer::words::step_word;
 use lock_base::machine::LockStep;
 use lock_plan::{Act, Plan, PlanCall, Step, Turn};
-use std::alloc::AllocError;
+use std::alloc::{AllocError, Global};
+
+/// A step, and the nodes before and after it.
+#[derive(Clone, Copy)]
+pub(crate) struct Made {
+    pub(crate) step: Step,
+    pub(crate) before: usize,
+    pub(crate) after: usize,
+}
 
 /// Appends the steps of a trace, a line each.
 pub(crate) fn write_steps(
+    alloc: Global,
     text: &mut String,
     plan: &Plan,
     names: &Names,
@@ -24,107 +36,134 @@ pub(crate) fn write_steps(
 {
     let mut node = plan.start();
     for step in trace {
-        write_step(text, plan, names, node, *step)?;
-        node = stepped(plan, node, *step);
+        let before = node;
+        node = stepped(alloc, plan, before, *step)?;
+        let made = Made {
+            step: *step,
+            before,
+            after: node,
+        };
+        write_step(alloc, text, plan, names, made)?;
     }
     Ok(())
 }
 
 /// Returns the node of the world after a trace.
-pub(crate) fn last_node(plan: &Plan, trace: &[Step]) -> usize
-    ensures { world_of plan.now result
-        ≡ last_world plan.now.locks.items (first_world plan.now.locks.items (programs_of plan.now)) trace.now }
+pub(crate) fn last_node(alloc: Global, plan: &Plan, trace: &[Step]) -> Result<usize, AllocError>
+    ensures { IfOk result (λ node. world_of plan.now node
+        ≡ last_world plan.now.locks.items (first_world plan.now.locks.items (programs_of plan.now)) trace.now) }
 {
     let mut node = plan.start();
     for step in trace {
-        node = stepped(plan, node, *step);
+        node = stepped(alloc, plan, node, *step)?;
     }
-    node
+    Ok(node)
 }
 
 /// Returns the node after a step, or the same node where its party does not have the step.
-pub(crate) fn stepped(plan: &Plan, node: usize, step: Step) -> usize
+pub(crate) fn stepped(
+    alloc: Global,
+    plan: &Plan,
+    node: usize,
+    step: Step,
+) -> Result<usize, AllocError>
     requires { node < plan.now.nodes }
-    ensures world { world_of plan.now result ≡ stepped plan.now.locks.items (world_of plan.now node) step }
-    ensures within { result < plan.now.nodes }
+    ensures world { IfOk result (λ after.
+        world_of plan.now after ≡ stepped plan.now.locks.items (world_of plan.now node) step) }
+    ensures within { IfOk result (λ after. after < plan.now.nodes) }
 {
     if step.party >= plan.parties() {
-        return node;
+        return Ok(node);
     }
-    plan.after(node, step).unwrap_or(node)
+    match plan.after(alloc, node, step)? {
+        Some(after) => Ok(after),
+        None => Ok(node),
+    }
 }
 
 /// Appends the line of a step.
 fn write_step(
+    alloc: Global,
     text: &mut String,
     plan: &Plan,
     names: &Names,
-    node: usize,
-    step: Step,
+    made: Made,
 ) -> Result<(), AllocError>
+    requires { world_of plan.now made.after ≡ stepped plan.now.locks.items (world_of plan.now made.before) made.step }
     ensures { OnOk result (string_bytes text.new ≡ string_bytes text.old
-        ++ step_text plan.now.locks.items names.now (world_of plan.now node) step) }
+        ++ step_text plan.now.locks.items names.now (world_of plan.now made.before) made.step) }
 {
-    write_name(text, names.parties.as_slice(), step.party)?;
+    write_name(text, names.parties.as_slice(), made.step.party)?;
     text.push(' ')?;
-    write_made(text, plan, names, node, step)?;
+    write_made(alloc, text, plan, names, made)?;
     text.push('\n')
 }
 
 /// Appends what a step does, or nothing where its party has ended.
 pub(crate) fn write_made(
+    alloc: Global,
     text: &mut String,
     plan: &Plan,
     names: &Names,
-    node: usize,
-    step: Step,
+    made: Made,
 ) -> Result<(), AllocError>
     ensures { OnOk result (string_bytes text.new ≡ string_bytes text.old
-        ++ made_text plan.now.locks.items names.now (world_of plan.now node) step) }
+        ++ made_text plan.now.locks.items names.now
+        (world_of plan.now made.before) (world_of plan.now made.after) made.step) }
 {
-    if step.party >= plan.parties() {
-        return Ok(());
-    }
-    match plan.act(node, step.party) {
+    let other = made.step.way == 1;
+    match act_at(plan, made.before, made.step.party) {
         None => Ok(()),
-        Some(act) => {
-            let turn = plan.turn(node, step.party);
-            write_act(text, plan, names, act, turn, step.other)
-        }
-    }
-}
-
-/// Appends what an act does in this turn, or where it goes to the other place.
-fn write_act(
-    text: &mut String,
-    plan: &Plan,
-    names: &Names,
-    act: Act,
-    turn: Option<Turn>,
-    other: bool,
-) -> Result<(), AllocError>
-    ensures { OnOk result (string_bytes text.new ≡ string_bytes text.old
-        ++ act_text plan.now.locks.items names.now turn other act) }
-{
-    match act {
-        Act::Call(call) => {
-            let step = made_step(turn, call.step);
-            write_call(text, plan, names, PlanCall { step, ..call })
-        }
-        Act::Try(call) => {
+        Some(Act::Call(call)) => write_made_call(alloc, text, plan, names, made, call),
+        Some(Act::Try(call)) => {
             text.push_str("try ")?;
             write_call(text, plan, names, call)?;
             text.push_str(if other { ": refused" } else { ": admitted" })
         }
-        Act::Choose(block) => {
-            text.push_str(choice_word(block))?;
-            text.push_str(if other { ": past" } else { ": in" })
+        Some(Act::Choose(block)) => write_choice(text, names, other, block),
+        Some(Act::Signal(signal)) => {
+            let Made { step, before, .. } = made;
+            write_signal(alloc, text, plan, names, before, step.way, signal)
         }
     }
 }
 
-/// Returns what a step does: the call, or an announcement for it.
-pub(crate) fn made_step(turn: Option<Turn>, step: LockStep) -> LockStep
+/// Appends what a step with a call does: the call, an announcement for it, or a wait, if its party sleeps after it.
+fn write_made_call(
+    alloc: Global,
+    text: &mut String,
+    plan: &Plan,
+    names: &Names,
+    made: Made,
+    call: PlanCall,
+) -> Result<(), AllocError>
+    ensures { OnOk result (string_bytes text.new ≡ string_bytes text.old ++ call_by plan.now.locks.items names.now
+        (turn_of plan.now.locks.items (world_of plan.now made.before) made.step.party)
+        (sleep_of (world_of plan.now made.after) made.step.party) call) }
+{
+    let party = made.step.party;
+    match sleep_of(plan, made.after, party) {
+        Some(cond) => write_wait(text, names, cond, call.lock),
+        None => {
+            let turn = turn_at(alloc, plan, made.before, party)?;
+            let step = made_step(turn, call.step);
+            write_call(text, plan, names, PlanCall { step, ..call })
+        }
+    }
+}
+
+/// Appends the release of a mutex by a party that sleeps after it.
+fn write_wait(text: &mut String, names: &Names, cond: usize, lock: usize) -> Result<(), AllocError>
+    ensures { OnOk result (string_bytes text.new ≡ string_bytes text.old ++ wait_text names.now cond lock) }
+{
+    text.push_str("wait ")?;
+    write_name(text, names.conds.as_slice(), cond)?;
+    text.push(' ')?;
+    write_name(text, names.locks.as_slice(), lock)
+}
+
+/// Returns what a call's step does: the call, or an announcement for it.
+fn made_step(turn: Option<Turn>, step: LockStep) -> LockStep
     ensures { result ≡ made_step turn step }
 {
     match turn {
@@ -148,7 +187,7 @@ pub(crate) fn write_call(
 }
 
 /// Returns whether the lock with this number is a reader-writer lock.
-pub(crate) fn is_rwlock(plan: &Plan, lock: usize) -> bool
+fn is_rwlock(plan: &Plan, lock: usize) -> bool
     ensures { result ≡ is_rwlock (get_or plan.now.locks.items lock no_lock).kind }
 {
     match plan.locks().get(lock) {

@@ -1,9 +1,8 @@
-//! The words of calls and choices.
+//! The words of calls.
 ghost use Rattle.std.specs.Prelude.{◌≡◌};
-ghost use Rattle.lock_plan_text.specs.Words.{step_word, choice_word};
+ghost use Rattle.lock_plan_text.specs.Words.{step_word};
 
 use lock_base::machine::{LockStep, Mode, ModeStep};
-use lock_plan::Block;
 
 /// Returns the word of a call on a reader-writer lock, or on another lock.
 pub(crate) fn step_word(is_rwlock: bool, step: LockStep) -> &'static str
@@ -26,15 +25,5 @@ pub(crate) fn step_word(is_rwlock: bool, step: LockStep) -> &'static str
         LockStep::Modes(ModeStep::Change(_, Mode::Shared)) => "downgrade",
         LockStep::Announce => "announce",
         LockStep::Withdraw => "withdraw",
-    }
-}
-
-/// Returns the word of a choice.
-pub(crate) fn choice_word(block: Block) -> &'static str
-    ensures { result.now ≡ choice_word block }
-{
-    match block {
-        Block::Repeat => "repeat",
-        Block::Either => "either",
     }
 }

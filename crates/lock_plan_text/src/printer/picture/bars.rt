@@ -1,11 +1,10 @@
 //! A bar for each hold.
-ghost use Rattle.std.specs.Prelude.{◌<◌, length};
-
 use crate::names::{Names, write_name};
 use crate::printer::mark::Mark;
 use crate::printer::picture::Run;
 use crate::printer::picture::layout::Layout;
 use crate::printer::picture::svg::{Spot, Svg};
+use crate::printer::stand::hold_at;
 use lock_plan::Plan;
 use std::alloc::AllocError;
 
@@ -17,9 +16,7 @@ pub(crate) fn write_bars(
     run: &Run,
     layout: &Layout,
     party: usize,
-) -> Result<(), AllocError>
-    requires { party < length plan.now.programs.items }
-{
+) -> Result<(), AllocError> {
     for lock in 0..plan.locks().len() {
         for mark in &Mark::ALL {
             write_bars_of(
@@ -55,12 +52,11 @@ fn write_bars_of(
     run: &Run,
     layout: &Layout,
     held: Held,
-) -> Result<(), AllocError>
-    requires { held.party < length plan.now.programs.items }
-{
+) -> Result<(), AllocError> {
     let mut since = None;
-    for (row, node) in run.nodes.iter().enumerate() {
-        let is_held = held.mark.is_of(plan.hold(*node, held.party, held.lock));
+    for row in 0..layout.last_row() {
+        let hold = hold_at(plan, run.node(row), held.party, held.lock);
+        let is_held = held.mark.is_of(hold);
         match since {
             None if is_held => since = Some(row),
             Some(first) if !is_held => {

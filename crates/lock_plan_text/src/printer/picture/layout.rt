@@ -2,8 +2,10 @@
 use crate::names::Names;
 use crate::printer::picture::Run;
 use crate::printer::picture::svg::Spot;
-use crate::printer::step::{write_call, write_made};
-use lock_plan::{Act, Plan};
+use crate::printer::stand::act_at;
+use crate::printer::step::write_made;
+use crate::printer::stop::write_awaited;
+use lock_plan::Plan;
 use std::alloc::AllocError;
 
 /// The sizes that a picture's places follow from. Numbers past the largest are the largest.
@@ -51,21 +53,21 @@ impl Layout {
         for name in &names.parties {
             letters = letters.max(name.len());
         }
-        for (node, step) in run.nodes.iter().zip(run.trace) {
+        for made in &run.steps {
             let mut text = String::new(run.alloc);
-            write_made(&mut text, plan, names, *node, *step)?;
+            write_made(run.alloc, &mut text, plan, names, *made)?;
             letters = letters.max(text.len());
         }
-        for party in 0..plan.parties() {
-            if let Some(Act::Call(call)) = plan.act(run.last, party) {
+        for party in 0..names.parties.len() {
+            if let Some(act) = act_at(plan, run.last, party) {
                 let mut text = String::new(run.alloc);
-                write_call(&mut text, plan, names, call)?;
+                write_awaited(&mut text, plan, names, act)?;
                 letters = letters.max(text.len());
             }
         }
         Ok(Layout {
-            parties: plan.parties(),
-            steps: run.trace.len(),
+            parties: names.parties.len(),
+            steps: run.steps.len(),
             slots: plan.locks().len(),
             letters,
         })

@@ -1,11 +1,10 @@
-//! The parties that a stop is about, and an arrow from each to the holders of its lock.
+//! The parties that a stop is about, and an arrow from each to the parties that it waits for.
 use crate::names::Names;
 use crate::printer::picture::Run;
 use crate::printer::picture::layout::Layout;
 use crate::printer::picture::svg::{Spot, Svg};
-use crate::printer::step::write_call;
-use crate::printer::stop::{is_about, is_refused};
-use lock_plan::{Plan, Stopped};
+use crate::printer::stop::{is_about, is_refused, write_awaited};
+use lock_plan::{Act, Plan, Signal, Stopped};
 use std::alloc::{AllocError, Global};
 
 /// Returns the parties that the stop at a node is about.
@@ -14,7 +13,7 @@ pub(crate) fn stopped_of(
     plan: &Plan,
     node: usize,
 ) -> Result<Vec<Stopped>, AllocError> {
-    let is_refused = is_refused(plan, node);
+    let is_refused = is_refused(alloc, plan, node)?;
     let mut list = Vec::new(alloc);
     for stopped in &plan.stopped(alloc, node)? {
         if is_about(is_refused, stopped) {
@@ -24,7 +23,7 @@ pub(crate) fn stopped_of(
     Ok(list)
 }
 
-/// Writes the call of a stopped party below its line.
+/// Writes what a stopped party waits for below its line.
 pub(crate) fn write_stopped(
     svg: &mut Svg,
     plan: &Plan,
@@ -47,66 +46,94 @@ pub(crate) fn write_stopped(
         ..spot
     };
     svg.open_text("call", below)?;
-    write_call(svg.inner(), plan, names, stopped.call)?;
+    write_awaited(svg.inner(), plan, names, stopped.act)?;
     svg.close_text()
 }
 
-/// A party that waits, and a holder of the lock that it waits for.
+/// A party that waits, and one that it waits for: a holder of this lock, or the party that it joins.
 #[derive(Clone, Copy)]
 struct Edge {
     waiter: usize,
-    holder: usize,
-    lock: usize,
+    awaited: usize,
+    lock: Option<usize>,
 }
 
-/// Draws an arrow from each party that waits to each holder, heavier where it is part of a circle.
+/// Draws an arrow from each party that waits to those that it waits for, heavier where it is part of a circle.
 pub(crate) fn draw_waits(
     svg: &mut Svg,
     plan: &Plan,
+    names: &Names,
     run: &Run,
     layout: &Layout,
     list: &[Stopped],
 ) -> Result<(), AllocError> {
-    let edges = edges_of(run.alloc, plan, run.last, list)?;
+    let parties = names.parties.len();
+    let edges = edges_of(run.alloc, plan, parties, run.last, list)?;
     for edge in &edges {
         let is_circle = reaches(
             run.alloc,
             edges.as_slice(),
-            plan.parties(),
-            edge.holder,
+            parties,
+            edge.awaited,
             edge.waiter,
         )?;
         svg.line(
             if is_circle { "circle" } else { "wait" },
             layout.tail(edge.waiter),
-            layout.tip(edge.holder, edge.lock),
+            match edge.lock {
+                Some(lock) => layout.tip(edge.awaited, lock),
+                None => layout.end(edge.awaited),
+            },
         )?;
     }
     Ok(())
 }
 
-/// Returns who waits for whom at a node. A party waits for itself only where nobody else holds the lock.
+/// Returns who waits for whom at a node.
 fn edges_of(
     alloc: Global,
     plan: &Plan,
+    parties: usize,
     node: usize,
     list: &[Stopped],
 ) -> Result<Vec<Edge>, AllocError> {
     let mut edges = Vec::new(alloc);
     for stopped in list {
-        let lock = stopped.call.lock;
-        let holds = plan.holds_of(alloc, node, lock)?;
-        for it in &holds {
-            if it.party != stopped.party || holds.len() == 1 {
-                edges.push(Edge {
-                    waiter: stopped.party,
-                    holder: it.party,
-                    lock,
-                })?;
+        match stopped.act {
+            Act::Call(call) => {
+                add_holders(alloc, &mut edges, plan, node, stopped.party, call.lock)?
             }
+            Act::Signal(Signal::Join(row)) if row < parties => edges.push(Edge {
+                waiter: stopped.party,
+                awaited: row,
+                lock: None,
+            })?,
+            _ => {}
         }
     }
     Ok(edges)
+}
+
+/// Adds the holders of a lock for which a party waits. It waits for itself only where nobody else holds the lock.
+fn add_holders(
+    alloc: Global,
+    edges: &mut Vec<Edge>,
+    plan: &Plan,
+    node: usize,
+    waiter: usize,
+    lock: usize,
+) -> Result<(), AllocError> {
+    let holds = plan.holds_of(alloc, node, lock)?;
+    for it in &holds {
+        if it.party != waiter || holds.len() == 1 {
+            edges.push(Edge {
+                waiter,
+                awaited: it.party,
+                lock: Some(lock),
+            })?;
+        }
+    }
+    Ok(())
 }
 
 /// Returns whether arrows lead from one party to another, or the two are one.
@@ -124,7 +151,7 @@ fn reaches(
     for _round in 0..parties {
         for edge in edges {
             if reached.get(edge.waiter).copied().unwrap_or(false) {
-                if let Some(next) = reached.get_mut(edge.holder) {
+                if let Some(next) = reached.get_mut(edge.awaited) {
                     *next = true;
                 }
             }

@@ -1,4 +1,3 @@
-use Rattle.std.proofs.Common.{◌∙◌}
 use Rattle.lock_plan.specs.Stops.{programs_of}
 use Rattle.lockexplore.proofs.Founds.{found_of}
 use Rattle.lockexplore.proofs.exploring.plan_answer.Goals as goal

@@ -1,5 +1,5 @@
 -- What is found in the lines that are left is found in all.
-use Rattle.std.proofs.Common.{◌≡◌, ◌+◌, ◌≤◌, length}
+use Rattle.std.proofs.Common.{◌≡◌, ◌+◌, ◌<◌, ◌≤◌, length}
 use Rattle.lock_plan_text.specs.Blocks.{boundary, boundary_from}
 use Rattle.lock_plan_text.proofs.parser.scan.boundary.Given as goal
 
@@ -7,6 +7,7 @@ abbrev pub invariant-loop-first : goal.invariant-loop-first
 invariant-loop-first l = record {
   found : boundary_from l.depth l.at l.rest ≡ boundary l.lines l.line;
   here : l.at + length l.rest ≡ length l.lines;
+  after : l.line < l.at;
   few : l.depth ≤ l.at;
 }
 

@@ -11,8 +11,10 @@ loop-party-preserved c =
 pub returns : goal.returns
 unfolding lib.Utf8.encode
 returns c =
-    let at_end : c.loop-party.party ≡ c.in-Some.last = omega (arith, c.loop-party-test.false, c.loop-party.auto.party-end) in
-    let are : length c.args.plan.now.programs.items ≡ suc c.loop-party.party = omega (arith, at_end, c.in-Some.ensures, c.parties.ensures) in
-    row_end (cell_of c.args.plan.now c.args.names.now c.args.row) c.loop-party.party (length c.args.plan.now.programs.items)
-    (string_bytes c.args.text.now) (string_bytes c.loop-party.text) (string_bytes c.write_cell.new.text) (string_bytes c.push-2.new.self)
+    let party = c.loop-party.party in
+    let parties = length c.args.names.now.parties.items in
+    let at_end : party ≡ c.in-Some.last = omega (arith, c.loop-party-test.false, c.loop-party.auto.party-end) in
+    let are : parties ≡ suc party = omega (arith, at_end, c.in-Some.ensures, c.len.ensures) in
+    row_end (cell_of c.args.plan.now c.args.names.now c.args.row) party parties (string_bytes c.args.text.now)
+    (string_bytes c.loop-party.text) (string_bytes c.write_cell.new.text) (string_bytes c.push-2.new.self)
     c.loop-party.invariant (rw at_end c.in_ok-write_cell.ensures) c.in_ok-push.ensures.bytes are

@@ -1,5 +1,5 @@
 -- The text so far, and the rows of the steps that are left, are all rows.
-use Rattle.std.proofs.Common.{◌≡◌, ◌<◌, ◌++◌, drop, length, string_bytes}
+use Rattle.std.proofs.Common.{◌≡◌, ◌<◌, ◌++◌, drop, string_bytes}
 use Rattle.lock_plan.specs.Worlds.{first_world}
 use Rattle.lock_plan.specs.Stops.{programs_of, world_of}
 use Rattle.lock_plan_text.specs.Lanes.{step_rows}
@@ -8,9 +8,9 @@ use Rattle.lock_plan_text.proofs.printer.lanes.write_step_rows.Given as goal
 abbrev pub invariant-loop-step : goal.invariant-loop-step
 invariant-loop-step l = record {
   text : string_bytes l.text
-      ++ step_rows l.plan.locks.items l.names (length l.plan.programs.items) (world_of l.plan l.node) (drop l.step-index l.trace)
+      ++ step_rows l.plan.locks.items l.names (world_of l.plan l.node) (drop l.step-index l.trace)
       ≡ string_bytes l.initial.text
-      ++ step_rows l.plan.locks.items l.names (length l.plan.programs.items)
+      ++ step_rows l.plan.locks.items l.names
       (first_world l.plan.locks.items (programs_of l.plan)) l.trace;
   within : l.node < l.plan.nodes;
 }

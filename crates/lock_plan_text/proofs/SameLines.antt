@@ -1,0 +1,100 @@
+-- Lines of a party stay what they are when a draft gets more names.
+use Rattle.std.proofs.Common.{◌≡◌, ℕ, Bool, true, false, List, [], ◌∷◌, ◌++◌, get_or, Option, Some, None, refl, ap, ◌∙◌}
+use Rattle.std.specs.Prelude.{option_map}
+use Rattle.std.specs.Option.{option_and_then}
+use Rattle.lock_base.specs.declared.machine.lock_step.LockStep.{LockStep}
+use Rattle.lock_plan.specs.declared.lock.PlanLock.{PlanLock}
+use Rattle.lock_plan.specs.Worlds.{no_lock}
+use Rattle.lock_plan_text.specs.declared.parser.block_line.BlockLine.{BlockLine}
+use Rattle.lock_plan_text.specs.declared.parser.block_line.BlockLine.TheVariants as block
+use Rattle.lock_plan_text.specs.declared.parser.block_line.BlockWord.TheVariants.{End}
+use Rattle.lock_plan_text.specs.declared.parser.named_word.NamedWord.{NamedWord}
+use Rattle.lock_plan_text.specs.declared.parser.named_word.NamedWord.TheVariants.{Set, Clear, If, NotifyOne, NotifyAll, Start, Join}
+use Rattle.lock_plan_text.specs.declared.parser.plan_line.PlanLine.TheVariants.{Call, Named}
+use Rattle.lock_plan_text.specs.declared.parser.text_line.TextLine.{TextLine}
+use Rattle.lock_plan_text.specs.declared.parser.text_line.TextLine.TheVariants.{Plan, Try, Word, Wait}
+use Rattle.lock_plan_text.specs.declared.parser.wait_line.WaitLine.{WaitLine}
+use Rattle.lock_plan_text.specs.declared.parser.wait_line.WaitLine.TheVariants.{Once, Until, UntilNot}
+use Rattle.lock_plan_text.specs.Drafts.{Draft, call_on, step_on, named_call, named_line, one_line, own_lines, place_of, sleep_lines, until_lines, wait_lines}
+use Rattle.lock_plan_text.specs.PlanLines.{TextNames}
+
+-- what the one draft finds by a name, the other finds too
+pub record Keeps (draft next : Draft) : Type 0 where
+  pub locks : (name : List ℕ) (i : ℕ) → place_of draft.lock_names name ≡ Some i
+      → (place_of next.lock_names name ≡ Some i) × (get_or next.locks i no_lock ≡ get_or draft.locks i no_lock)
+  pub flags : (name : List ℕ) (i : ℕ) → place_of draft.flag_names name ≡ Some i → place_of next.flag_names name ≡ Some i
+  pub conds : (name : List ℕ) (i : ℕ) → place_of draft.cond_names name ≡ Some i → place_of next.cond_names name ≡ Some i
+  pub mentions : (name : List ℕ) (i : ℕ) → place_of draft.mentions name ≡ Some i → place_of next.mentions name ≡ Some i
+
+module _ {X : Type 0} where
+  abbrev IsKept : Option X → Option X → Type 0
+  IsKept o p = (x : X) → o ≡ Some x → p ≡ Some x
+
+module _ {X Y : Type 0} where
+  map_kept : (f : X → Y) (o p : Option X) → IsKept o p → IsKept (option_map f o) (option_map f p)
+  map_kept f None p kept y is = cc
+  map_kept f (Some x) p kept y is = ap (option_map f) (kept x refl) ∙ is
+
+  then_kept : (f g : X → Option Y) (o p : Option X) → ((x : X) → o ≡ Some x → (p ≡ Some x) × IsKept (f x) (g x))
+      → IsKept (option_and_then f o) (option_and_then g p)
+  then_kept f g None p kept y is = cc
+  then_kept f g (Some x) p kept y is = let both = kept x refl in ap (option_and_then g) both.0 ∙ both.1 y is
+
+module _ (draft next : Draft) (keeps : Keeps draft next) where
+  call_kept : (for_rwlock : Bool) (step : LockStep) (name : List ℕ) → IsKept (named_call draft for_rwlock step name) (named_call next for_rwlock step name)
+  call_kept for_rwlock step name = by_place (place_of draft.lock_names name) (keeps.locks name)
+    where
+      by_place : (o : Option ℕ)
+          → ((i : ℕ) → o ≡ Some i → (place_of next.lock_names name ≡ Some i) × (get_or next.locks i no_lock ≡ get_or draft.locks i no_lock))
+          → IsKept (option_map (call_on draft for_rwlock step) o) (named_call next for_rwlock step name)
+      by_place None kept call is = cc
+      by_place (Some i) kept call is =
+          let both = kept i refl in
+          ap (option_map (call_on next for_rwlock step)) both.0
+          ∙ ap (λ (l : PlanLock). Some (record { lock = i; step = step_on for_rwlock step l.kind })) both.1
+          ∙ is
+
+  line_kept : (word : NamedWord) (name : List ℕ) → IsKept (named_line draft word name) (named_line next word name)
+  line_kept Set name = map_kept _ _ _ (keeps.flags name)
+  line_kept Clear name = map_kept _ _ _ (keeps.flags name)
+  line_kept If name = map_kept _ _ _ (keeps.flags name)
+  line_kept NotifyOne name = map_kept _ _ _ (keeps.conds name)
+  line_kept NotifyAll name = map_kept _ _ _ (keeps.conds name)
+  line_kept Start name = map_kept _ _ _ (keeps.mentions name)
+  line_kept Join name = map_kept _ _ _ (keeps.mentions name)
+  line_kept word name = λ line is. cc
+
+  sleep_kept : (cond lock : ℕ) → get_or next.locks lock no_lock ≡ get_or draft.locks lock no_lock
+      → sleep_lines next cond lock ≡ sleep_lines draft cond lock
+  sleep_kept cond lock same = rw same refl
+
+  wait_kept : (wait : WaitLine) (cond lock : ℕ) (flag : List ℕ) → get_or next.locks lock no_lock ≡ get_or draft.locks lock no_lock
+      → IsKept (wait_lines draft wait cond lock flag) (wait_lines next wait cond lock flag)
+  wait_kept Once cond lock flag same lines is = ap Some (sleep_kept cond lock same) ∙ is
+  wait_kept Until cond lock flag same lines is =
+      ap (λ (sleep : List BlockLine). option_map (λ (f : ℕ). block.Until f true ∷ (sleep ++ block.Word End ∷ [])) (place_of next.flag_names flag))
+      (sleep_kept cond lock same)
+      ∙ map_kept (until_lines draft true cond lock) _ _ (keeps.flags flag) lines is
+  wait_kept UntilNot cond lock flag same lines is =
+      ap (λ (sleep : List BlockLine). option_map (λ (f : ℕ). block.Until f false ∷ (sleep ++ block.Word End ∷ [])) (place_of next.flag_names flag))
+      (sleep_kept cond lock same)
+      ∙ map_kept (until_lines draft false cond lock) _ _ (keeps.flags flag) lines is
+
+  pub kept_lines : (said : TextLine) (names : TextNames) → IsKept (own_lines draft said names) (own_lines next said names)
+  kept_lines (Plan (Call for_rwlock step)) names =
+      map_kept one_line _ _ (map_kept block.Call _ _ (call_kept for_rwlock step names.name))
+  kept_lines (Plan (Named word)) names = map_kept one_line _ _ (line_kept word names.name)
+  kept_lines (Plan line) names = λ lines is. cc
+  kept_lines (Try for_rwlock step) names =
+      map_kept one_line _ _ (map_kept block.Try _ _ (call_kept for_rwlock step names.name))
+  kept_lines (Word word) names = λ lines is. is
+  kept_lines (Wait wait) names =
+      then_kept _ _ _ _
+      (λ cond found. (
+        keeps.conds names.name cond found,
+        then_kept _ _ _ _
+            (λ lock at. (
+              (keeps.locks names.mutex lock at).0,
+              wait_kept wait cond lock names.flag (keeps.locks names.mutex lock at).1,
+            )),
+      ))

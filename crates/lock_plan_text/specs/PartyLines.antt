@@ -1,0 +1,76 @@
+-- The lines of a party's program, and the programs of a draft. Rows are the parties, and then the flags.
+use Rattle.std.specs.Prelude.{ℕ, ◌+◌, Bool, List, [], ◌∷◌, ◌++◌, if◌then◌else◌, length, map}
+use Rattle.std.specs.Option.{unwrap_or}
+use Rattle.std.proofs.Common.{get_or}
+use Rattle.lock_plan.specs.declared.program.Act.TheVariants as act
+use Rattle.lock_plan.specs.declared.program.Place.{Place}
+use Rattle.lock_plan.specs.declared.program.Signal.TheVariants as signal
+use Rattle.lock_plan_text.specs.declared.parser.block_line.BlockLine.{BlockLine}
+use Rattle.lock_plan_text.specs.declared.parser.block_line.BlockLine.TheVariants.{If, Until, Plain}
+use Rattle.lock_plan_text.specs.declared.parser.plain_line.PlainLine.{PlainLine}
+use Rattle.lock_plan_text.specs.declared.parser.plain_line.PlainLine.TheVariants.{Idle, Set, Clear, Start, Join}
+use Rattle.lock_plan_text.specs.Blocks.{program_of, step_numbers}
+use Rattle.lock_plan_text.specs.Drafts.{Draft, is_started, place_of}
+use Rattle.step_search.specs.Walks.{each_below}
+
+-- the row of a flag, and of the party that a mention names
+abbrev pub flag_row : Draft → ℕ → ℕ
+flag_row draft flag = length draft.parties + flag
+
+abbrev pub party_row : Draft → ℕ → ℕ
+party_row draft mention = unwrap_or (place_of draft.party_names (get_or draft.mentions mention [])) 0
+
+-- a line with rows in place of the numbers of flags and mentions
+abbrev pub plain_in_rows : Draft → PlainLine → PlainLine
+plain_in_rows draft (Set flag) = Set (flag_row draft flag)
+plain_in_rows draft (Clear flag) = Clear (flag_row draft flag)
+plain_in_rows draft (Start mention) = Start (party_row draft mention)
+plain_in_rows draft (Join mention) = Join (party_row draft mention)
+plain_in_rows draft line = line
+
+abbrev pub in_rows : Draft → BlockLine → BlockLine
+in_rows draft (If flag) = If (flag_row draft flag)
+in_rows draft (Until flag so) = Until (flag_row draft flag) so
+in_rows draft (Plain line) = Plain (plain_in_rows draft line)
+in_rows draft line = line
+
+-- a party's own lines, and their numbers in the text
+abbrev pub lines_of_party : Draft → ℕ → List BlockLine
+lines_of_party draft party = get_or draft.parties party []
+
+abbrev pub numbers_of_party : Draft → ℕ → List ℕ
+numbers_of_party draft party = get_or draft.numbers party []
+
+-- whether some line starts a party
+abbrev pub starts : Draft → ℕ → Bool
+starts draft party = is_started draft (get_or draft.party_names party [])
+
+-- the lines of a party's program: one that is started idles first
+abbrev pub idle_lines : Bool → List BlockLine
+idle_lines is_first = if is_first then Plain Idle ∷ [] else []
+
+abbrev pub party_lines : Draft → ℕ → List BlockLine
+party_lines draft party = idle_lines (starts draft party) ++ map (in_rows draft) (lines_of_party draft party)
+
+-- their numbers: where a party idles, that of its first line
+abbrev pub idle_numbers : Bool → List ℕ → List ℕ
+idle_numbers is_first numbers = if is_first then get_or numbers 0 0 ∷ [] else []
+
+abbrev pub party_numbers : Draft → ℕ → List ℕ
+party_numbers draft party = idle_numbers (starts draft party) (numbers_of_party draft party) ++ numbers_of_party draft party
+
+abbrev pub party_program : Draft → ℕ → List Place
+party_program draft party = program_of (party_lines draft party)
+
+-- a flag idles until it is set
+abbrev pub flag_program : List Place
+flag_program = record { act = act.Signal signal.Idle; next = 1; other = 1 } ∷ []
+
+-- the programs of a draft
+abbrev pub programs_in : Draft → List (List Place)
+programs_in draft =
+    each_below (party_program draft) (length draft.parties) ++ each_below (λ flag. flag_program) (length draft.flag_names)
+
+-- the number of the line of a party's place
+abbrev pub number_of : Draft → ℕ → ℕ → ℕ
+number_of draft party place = get_or (step_numbers (party_lines draft party) (party_numbers draft party)) place 0

@@ -1,0 +1,93 @@
+//! Adding lines of a word and a name.
+use crate::parser::draft::PlanDraft;
+use crate::parser::line_names::LineNames;
+use crate::parser::named_word::NamedWord;
+use crate::parser::place::place_of;
+use crate::parser::plan_line::PlanLine;
+use crate::parser::text_line::TextLine;
+use std::alloc::{AllocError, Global};
+
+impl PlanDraft {
+    ghost use Rattle.std.specs.Prelude.{◌≡◌, Some, None, IfOk, OnOk, if◌then◌else◌};
+    ghost use Rattle.lock_plan_text.specs.declared.parser.named_word.NamedWord.TheVariants.{Flag, Condvar};
+    ghost use Rattle.lock_plan_text.specs.Drafts.{is_started, may_start, with_mention, with_named, with_start};
+    ghost use Rattle.lock_plan_text.specs.Drafted.{drafted};
+    ghost use Rattle.lock_plan_text.specs.PlanLines.{names_of, one_name};
+
+    /// Adds a line with this word, and returns whether the draft takes it.
+    pub(crate) fn add_named(
+        &mut self,
+        alloc: Global,
+        number: u64,
+        word: NamedWord,
+        names: LineNames,
+    ) -> Result<bool, AllocError>
+        ensures { IfOk result (λ is_added. with_named (drafted self.old) number word (names_of names.entry)
+            ≡ (if is_added then Some (drafted self.new) else None)) }
+    {
+        match word {
+            NamedWord::Flag => return self.add_flag(alloc, names.name),
+            NamedWord::Condvar => return self.add_cond(alloc, names.name),
+            NamedWord::Start => {
+                if !self.may_start(names.name) {
+                    return Ok(false);
+                }
+                self.mention(alloc, number, names.name)?;
+                self.started.push(String::from_str(alloc, names.name)?)?;
+            }
+            NamedWord::Join => self.mention(alloc, number, names.name)?,
+            _ => {}
+        }
+        self.add_said(alloc, number, TextLine::Plan(PlanLine::Named(word)), names)
+    }
+
+    /// Adds a flag, unless its name is there or a block is open.
+    fn add_flag(&mut self, alloc: Global, name: &str) -> Result<bool, AllocError>
+        ensures { IfOk result (λ is_added. with_named (drafted self.old) 0 Flag (one_name name.now)
+            ≡ (if is_added then Some (drafted self.new) else None)) }
+    {
+        if !self.blocks.are_none() || place_of(self.names.flags.as_slice(), name).is_some() {
+            return Ok(false);
+        }
+        self.names.flags.push(String::from_str(alloc, name)?)?;
+        Ok(true)
+    }
+
+    /// Adds a condition variable, unless its name is there or a block is open.
+    fn add_cond(&mut self, alloc: Global, name: &str) -> Result<bool, AllocError>
+        ensures { IfOk result (λ is_added. with_named (drafted self.old) 0 Condvar (one_name name.now)
+            ≡ (if is_added then Some (drafted self.new) else None)) }
+    {
+        if !self.blocks.are_none() || place_of(self.names.conds.as_slice(), name).is_some() {
+            return Ok(false);
+        }
+        self.names.conds.push(String::from_str(alloc, name)?)?;
+        Ok(true)
+    }
+
+    /// Returns whether a line may start the party of this name.
+    fn may_start(&self, name: &str) -> bool
+        ensures { result ≡ may_start (drafted self.now) name.now }
+    {
+        let own = self.parties.len().checked_sub(self.first);
+        !self.is_started(name) && own == Some(1) && !self.blocks.has_loop()
+    }
+
+    /// Returns whether a line starts the party of this name.
+    pub(crate) fn is_started(&self, name: &str) -> bool
+        ensures { result ≡ is_started (drafted self.now) name.now }
+    {
+        place_of(self.started.as_slice(), name).is_some()
+    }
+
+    /// Adds the name after a `start` or a `join`, unless it is there.
+    fn mention(&mut self, alloc: Global, number: u64, name: &str) -> Result<(), AllocError>
+        ensures { OnOk result (drafted self.new ≡ with_mention (drafted self.old) number name.now) }
+    {
+        if place_of(self.mentions.as_slice(), name).is_none() {
+            self.mentions.push(String::from_str(alloc, name)?)?;
+            self.mention_lines.push(number)?;
+        }
+        Ok(())
+    }
+}

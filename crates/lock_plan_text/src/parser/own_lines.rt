@@ -1,0 +1,219 @@
+//! The lines of a party that a line of the text says.
+ghost use Rattle.std.specs.Prelude.{◌≡◌, IfOk, Some, option_map};
+ghost use Rattle.std.proofs.Common.{get_or};
+ghost use Rattle.lock_base.specs.declared.machine.lock_step.LockStep.TheVariants.{Modes};
+ghost use Rattle.lock_base.specs.declared.machine.mode.Mode.TheVariants.{Exclusive};
+ghost use Rattle.lock_base.specs.declared.machine.mode_step.ModeStep.TheVariants.{Acquire, Release};
+ghost use Rattle.lock_plan.specs.Worlds.{no_lock};
+ghost use Rattle.lock_plan_text.specs.Drafts.{mutex_call, mutex_step, named_call, named_line, no_step, one_line, own_lines, place_of, sleep_lines, step_on, until_lines};
+ghost use Rattle.lock_plan_text.specs.Drafted.{drafted};
+ghost use Rattle.lock_plan_text.specs.declared.parser.text_line.TextLine.TheVariants as text;
+ghost use Rattle.lock_plan_text.specs.PlanLines.{names_of};
+
+use crate::parser::block_line::{BlockLine, BlockWord};
+use crate::parser::draft::PlanDraft;
+use crate::parser::line_names::LineNames;
+use crate::parser::named_word::NamedWord;
+use crate::parser::place::place_of;
+use crate::parser::plain_line::PlainLine;
+use crate::parser::plan_line::PlanLine;
+use crate::parser::text_line::TextLine;
+use crate::parser::wait_line::WaitLine;
+use lock_base::machine::{Kind, LockStep, Mode, ModeStep};
+use lock_plan::PlanCall;
+use std::alloc::{AllocError, Global};
+
+impl PlanDraft {
+    /// Returns the lines of a party that a line says, unless a name in it has no line.
+    pub(crate) fn own_lines(
+        &self,
+        alloc: Global,
+        line: TextLine,
+        names: LineNames,
+    ) -> Result<Option<Vec<BlockLine>>, AllocError>
+        ensures { IfOk result (λ lines. option_map (λ v. v.items) lines
+            ≡ own_lines (drafted self.now) line (names_of names.entry)) }
+    {
+        match line {
+            TextLine::Plan(PlanLine::Lock(_) | PlanLine::Party(..)) => Ok(None),
+            TextLine::Plan(PlanLine::Call(is_rwlock, step)) => {
+                match self.call(is_rwlock, step, names.name) {
+                    Some(call) => one_line(alloc, BlockLine::Call(call)),
+                    None => Ok(None),
+                }
+            }
+            TextLine::Plan(PlanLine::Named(word)) => match self.named_line(word, names.name) {
+                Some(line) => one_line(alloc, line),
+                None => Ok(None),
+            },
+            TextLine::Try(is_rwlock, step) => match self.call(is_rwlock, step, names.name) {
+                Some(call) => one_line(alloc, BlockLine::Try(call)),
+                None => Ok(None),
+            },
+            TextLine::Word(word) => one_line(alloc, BlockLine::Word(word)),
+            TextLine::Wait(wait) => self.wait_lines(alloc, wait, names),
+        }
+    }
+
+    /// Returns the line of a party that a word and a name say.
+    fn named_line(&self, word: NamedWord, name: &str) -> Option<BlockLine>
+        ensures { result ≡ named_line (drafted self.now) word name.now }
+    {
+        let flags = self.names.flags.as_slice();
+        let conds = self.names.conds.as_slice();
+        let mentions = self.mentions.as_slice();
+        let line = match word {
+            NamedWord::Flag | NamedWord::Condvar => return None,
+            NamedWord::If => return Some(BlockLine::If(place_of(flags, name)?)),
+            NamedWord::Set => PlainLine::Set(place_of(flags, name)?),
+            NamedWord::Clear => PlainLine::Clear(place_of(flags, name)?),
+            NamedWord::NotifyOne => PlainLine::NotifyOne(place_of(conds, name)?),
+            NamedWord::NotifyAll => PlainLine::NotifyAll(place_of(conds, name)?),
+            NamedWord::Start => PlainLine::Start(place_of(mentions, name)?),
+            NamedWord::Join => PlainLine::Join(place_of(mentions, name)?),
+        };
+        Some(BlockLine::Plain(line))
+    }
+
+    /// Returns the lines of a wait.
+    fn wait_lines(
+        &self,
+        alloc: Global,
+        wait: WaitLine,
+        names: LineNames,
+    ) -> Result<Option<Vec<BlockLine>>, AllocError>
+        ensures { IfOk result (λ lines. option_map (λ v. v.items) lines
+            ≡ own_lines (drafted self.now) (text.Wait wait) (names_of names.entry)) }
+    {
+        let Some(cond) = place_of(self.names.conds.as_slice(), names.name) else {
+            return Ok(None);
+        };
+        let Some(lock) = place_of(self.names.locks.as_slice(), names.mutex) else {
+            return Ok(None);
+        };
+        match wait {
+            WaitLine::Once => self.sleep_lines(alloc, cond, lock),
+            WaitLine::Until => self.until_lines(alloc, true, cond, lock, names.flag),
+            WaitLine::UntilNot => self.until_lines(alloc, false, cond, lock, names.flag),
+        }
+    }
+
+    /// Returns the lines of one wait.
+    fn sleep_lines(
+        &self,
+        alloc: Global,
+        cond: usize,
+        lock: usize,
+    ) -> Result<Option<Vec<BlockLine>>, AllocError>
+        ensures { IfOk result (λ lines. option_map (λ v. v.items) lines
+            ≡ Some (sleep_lines (drafted self.now) cond lock)) }
+    {
+        let mut lines = Vec::new(alloc);
+        lines.push(BlockLine::Call(self.unlock(lock)))?;
+        lines.push(BlockLine::Plain(PlainLine::Sleep(cond)))?;
+        lines.push(BlockLine::Call(self.lock(lock)))?;
+        Ok(Some(lines))
+    }
+
+    /// Returns the lines of a loop of waits, which a party leaves where the flag is so.
+    fn until_lines(
+        &self,
+        alloc: Global,
+        so: bool,
+        cond: usize,
+        lock: usize,
+        flag: &str,
+    ) -> Result<Option<Vec<BlockLine>>, AllocError>
+        ensures { IfOk result (λ lines. option_map (λ v. v.items) lines
+            ≡ option_map (until_lines (drafted self.now) so cond lock) (place_of (drafted self.now).flag_names flag.now)) }
+    {
+        let Some(flag) = place_of(self.names.flags.as_slice(), flag) else {
+            return Ok(None);
+        };
+        let mut lines = Vec::new(alloc);
+        lines.push(BlockLine::Until(flag, so))?;
+        lines.push(BlockLine::Call(self.unlock(lock)))?;
+        lines.push(BlockLine::Plain(PlainLine::Sleep(cond)))?;
+        lines.push(BlockLine::Call(self.lock(lock)))?;
+        lines.push(BlockLine::Word(BlockWord::End))?;
+        Ok(Some(lines))
+    }
+
+    /// Returns the call with this word on the lock of this name, if there is such a lock.
+    fn call(&self, is_rwlock: bool, step: LockStep, name: &str) -> Option<PlanCall>
+        ensures { result ≡ named_call (drafted self.now) is_rwlock step name.now }
+    {
+        let lock = place_of(self.names.locks.as_slice(), name)?;
+        let step = step_on(is_rwlock, step, self.kind(lock));
+        Some(PlanCall { lock, step })
+    }
+
+    /// Returns the call by which a wait unlocks its mutex.
+    fn unlock(&self, lock: usize) -> PlanCall
+        ensures { result ≡ mutex_call (drafted self.now) (Modes (Release Exclusive)) lock }
+    {
+        let step = mutex_step(
+            LockStep::Modes(ModeStep::Release(Mode::Exclusive)),
+            self.kind(lock),
+        );
+        PlanCall { lock, step }
+    }
+
+    /// Returns the call by which a wait locks its mutex again.
+    fn lock(&self, lock: usize) -> PlanCall
+        ensures { result ≡ mutex_call (drafted self.now) (Modes (Acquire Exclusive)) lock }
+    {
+        let step = mutex_step(
+            LockStep::Modes(ModeStep::Acquire(Mode::Exclusive)),
+            self.kind(lock),
+        );
+        PlanCall { lock, step }
+    }
+
+    /// Returns the kind of the lock at a place.
+    fn kind(&self, place: usize) -> Kind
+        ensures { result ≡ (get_or self.now.locks.items place no_lock).kind }
+    {
+        match self.locks.get(place) {
+            Some(lock) => lock.kind,
+            None => Kind::Mutex,
+        }
+    }
+}
+
+/// Makes the list of one line.
+fn one_line(alloc: Global, line: BlockLine) -> Result<Option<Vec<BlockLine>>, AllocError>
+    ensures { IfOk result (λ lines. option_map (λ v. v.items) lines ≡ Some (one_line line)) }
+{
+    let mut lines = Vec::new(alloc);
+    lines.push(line)?;
+    Ok(Some(lines))
+}
+
+/// Returns what a call does on a lock of this kind. If its word is one for another kind, no kind has the step.
+fn step_on(is_rwlock: bool, step: LockStep, kind: Kind) -> LockStep
+    ensures { result ≡ step_on is_rwlock step kind }
+{
+    if is_rwlock == kind.is_rwlock() {
+        step
+    } else {
+        no_step()
+    }
+}
+
+/// Returns what the call of a wait does on a lock of this kind.
+fn mutex_step(step: LockStep, kind: Kind) -> LockStep
+    ensures { result ≡ mutex_step step kind }
+{
+    match kind {
+        Kind::Mutex => step,
+        Kind::RwLock | Kind::Reentrant => no_step(),
+    }
+}
+
+/// Returns a step that no kind of lock has.
+fn no_step() -> LockStep
+    ensures { result ≡ no_step }
+{
+    LockStep::Modes(ModeStep::Change(Mode::Exclusive, Mode::Exclusive))
+}

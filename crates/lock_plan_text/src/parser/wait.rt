@@ -1,0 +1,81 @@
+//! Reading a wait on a condition variable.
+ghost use Rattle.std.specs.Prelude.{◌≡◌, ◌∷◌, ℕ, List, IsTrue, IfNone, IfSome, codes};
+ghost use Rattle.lock_script.specs.Lines.{fields_of};
+ghost use Rattle.lock_plan_text.specs.PlanLines.{AreMutexAndFlag, AreWaitNames, IsFlagField, TextNames, has_flag, is_name, names_of, until_fields, wait_fields};
+
+use crate::parser::line_names::LineNames;
+use crate::parser::name::is_name;
+use crate::parser::wait_line::WaitLine;
+use lock_script::first_field;
+
+/// Reads a wait and its names, by the fields after the first.
+pub(crate) fn read_wait(rest: &str) -> Option<(WaitLine, LineNames)>
+    ensures said { IfSome result (λ found. AreWaitNames (has_flag found.0) (names_of found.1)
+        × (wait_fields found.0 (names_of found.1) ≡ fields_of rest.now)) }
+    ensures bad { IfNone result ((wait : WaitLine) (names : TextNames) → AreWaitNames (has_flag wait) names
+        → wait_fields wait names ≡ fields_of rest.now → ⊥) }
+{
+    let (name, rest) = first_field(rest)?;
+    if !is_name(name) {
+        return None;
+    }
+    let (wait, mutex, flag) = read_mutex(rest)?;
+    Some((wait, LineNames { name, mutex, flag }))
+}
+
+/// Reads the fields of a wait after the name of the condition variable.
+fn read_mutex(rest: &str) -> Option<(WaitLine, &str, &str)>
+    ensures said { IfSome result (λ found. AreMutexAndFlag (has_flag found.0) found.1.now found.2.now
+        × (found.1.now ∷ until_fields found.0 found.2.now ≡ fields_of rest.now)) }
+    ensures bad { IfNone result ((wait : WaitLine) (mutex flag : List ℕ) → AreMutexAndFlag (has_flag wait) mutex flag
+        → mutex ∷ until_fields wait flag ≡ fields_of rest.now → ⊥) }
+{
+    let (wait, mutex, flag) = match first_field(rest) {
+        None => (WaitLine::Once, rest, ""),
+        Some((mutex, last)) => {
+            let (wait, flag) = read_until(last)?;
+            (wait, mutex, flag)
+        }
+    };
+    if !is_name(mutex) {
+        return None;
+    }
+    Some((wait, mutex, flag))
+}
+
+/// Reads the fields of a wait from `until` on.
+fn read_until(last: &str) -> Option<(WaitLine, &str)>
+    ensures said { IfSome result (λ found. IsTrue (has_flag found.0) × (IsTrue (is_name found.1.now)
+        × (until_fields found.0 found.1.now ≡ fields_of last.now))) }
+    ensures bad { IfNone result ((wait : WaitLine) (flag : List ℕ) → IsFlagField (has_flag wait) flag
+        → until_fields wait flag ≡ fields_of last.now → ⊥) }
+{
+    let (word, last) = first_field(last)?;
+    if word != "until" {
+        return None;
+    }
+    let (wait, flag) = read_flag(last)?;
+    if !is_name(flag) {
+        return None;
+    }
+    Some((wait, flag))
+}
+
+/// Reads the fields of a wait after `until`.
+fn read_flag(last: &str) -> Option<(WaitLine, &str)>
+    ensures said { IfSome result (λ found. IsTrue (has_flag found.0)
+        × (until_fields found.0 found.1.now ≡ codes "until" ∷ fields_of last.now)) }
+    ensures bad { IfNone result ((wait : WaitLine) (flag : List ℕ)
+        → until_fields wait flag ≡ codes "until" ∷ fields_of last.now → ⊥) }
+{
+    let Some((word, flag)) = first_field(last) else {
+        return Some((WaitLine::Until, last));
+    };
+    if word != "not" {
+        return None;
+    }
+    let None = first_field(flag) else {
+        return None;
+    };
+    Some((WaitLine::UntilNot, flag))
+}
