@@ -1,5 +1,6 @@
 """Scripts for lockreplay from interleavings of a plan, each lock a script of its own, with the answers that the model expects."""
 import plans
+from plan_text import ACQUIRED, CHANGED, RELEASED
 
 # what a call of a plan is in a script, where that has another name
 WORDS = {
@@ -34,13 +35,13 @@ class Desk:
             self.add(f"announce {party}", "ok")
         elif word in ("announce", "withdraw"):
             self.add(f"{word} {party}", "ok" if does == "goes" else "refused 17")
-        elif word in plans.ACQUIRED:
+        elif word in ACQUIRED:
             self.issued += does == "goes"
             self.add(f"{form}{word} {party}", f"guard {self.issued}" if does == "goes" else refused)
             if does == "goes":
-                self.held(party, plans.ACQUIRED[word]).append(self.issued)
+                self.held(party, ACQUIRED[word]).append(self.issued)
         else:
-            before, after = plans.CHANGED.get(word) or (plans.RELEASED[word], None)
+            before, after = CHANGED.get(word) or (RELEASED[word], None)
             guard = self.held(party, before)[-1]
             self.add(f"{form}{WORDS.get(word, word)} {party} {guard}", "ok" if does == "goes" else refused)
             if does == "goes":

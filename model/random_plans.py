@@ -6,6 +6,8 @@ from typing import NamedTuple
 MOST_CALLS = {1: 12, 2: 14, 3: 9, 4: 6}
 # the same for plans with blocks, of which a part has so many calls at most
 MOST_WITH_BLOCKS = {1: 12, 2: 9, 3: 6, 4: 4}
+# the same for plans with flags, condition variables, starts and joins
+MOST_WITH_SIGNALS = {1: 12, 2: 12, 3: 9, 4: 6}
 MOST_IN_PART = 3
 RELEASES = {
     "mutex": {"exclusive": "unlock"},
@@ -19,26 +21,71 @@ CHANGES = {
     "announced": [],
 }
 TRIED = {"lock", "read", "write", "upgradable_read", "upgrade"}
+# texts and lines with which a plan may become wrong
+SPOILS = ["", " ", "\n", "x", "0", "\r", "\u00e9", " bar", "4294967296", "lock0", "party p1\n", "server p 2\n", "mutex lock0\n", "end\n"]
+SPOILS += [" not", " until flag0", "flag flag0\n", "condvar cond0\n", "start p1\n"]
+STRAYS = ["set flag0", "if flag0", "wait cond0 lock0", "start p1", "join p9", "notify_all cond0"]
 ACQUISITIONS = [("read", "shared"), ("read", "shared"), ("write", "exclusive"), ("upgradable_read", "upgradable")]
 
 
 def random_plan(number):
-    """The bytes of a plan. One in six has a line or a call that may be wrong."""
+    """The bytes of a plan. Half of the plans have signals. One in six has a line that may be wrong."""
     rng = random.Random(number)
     locks = [f"lock{it}" for it in range(rng.randint(1, 3))]
     kinds = {it: rng.choice(["mutex", "rwlock", "rwlock", "rwlock", "reentrant"]) for it in locks}
     limits = {it: rng.randint(1, 3) for it in locks}
     lines = [lock_line(rng, it, kinds[it], limits[it]) for it in locks]
-    parties = total = rng.randint(1, 4)
     has_blocks = rng.random() < 1 / 3
+    heads = random_heads(rng)
+    total = sum(len(names) for _, names in heads)
     most = (MOST_WITH_BLOCKS if has_blocks else MOST_CALLS)[total]
-    maker = Maker(rng, kinds, limits, rng.random() < 0.5, has_blocks)
+    signals = None
+    if rng.random() < 1 / 2:
+        most = MOST_WITH_SIGNALS[total] - has_blocks
+        signals = random_signals(rng, lines, kinds, heads)
+    maker = Maker(rng, kinds, limits, rng.random() < 0.5, has_blocks, signals)
+    is_chain = signals and signals.condvars and len(heads) == total and rng.random() < 0.5
+    for number, (head, names) in enumerate(heads):
+        lines += [head, *chain_lines(rng, signals, number)] if is_chain else [head]
+        lines += maker.party_lines(rng.randint(0, most // 2 if is_chain else most), names)
+    text = "\n".join(with_faults(rng, lines, locks, has_blocks)) + "\n" * rng.randint(0, 1)
+    return spoilt(rng, text).encode() if rng.random() < 0.06 else text.encode()
+
+
+def random_heads(rng):
+    """Lines of parties, each with the names of its parties: four parties at most."""
+    heads, parties = [], rng.choice([1, 2, 2, 3, 3, 4])
     while parties > 0:
         copies = rng.randint(1, parties) if rng.random() < 0.3 else None
-        word = "server" if rng.random() < 0.2 else "party"
-        lines.append(f"{word} p{parties}" + (f" {copies}" if copies else ""))
-        lines += maker.party_lines(rng.randint(0, most))
+        name = f"p{parties}"
+        names = [f"{name}.{it}" for it in range(1, copies + 1)] if copies else [name]
+        heads.append((f"{'server' if rng.random() < 0.2 else 'party'} {name}" + (f" {copies}" if copies else ""), names))
         parties -= copies or 1
+    return heads
+
+
+def random_signals(rng, lines, kinds, heads):
+    """The names for signals; adds the lines of flags and condition variables, and makes a lock a mutex."""
+    kinds["lock0"], lines[0] = "mutex", "mutex lock0"
+    flags = [f"flag{it}" for it in range(rng.randint(0, 2))]
+    condvars = [f"cond{it}" for it in range(rng.choice([0, 1, 1, 2]))]
+    lines += [f"flag {it}" for it in flags] + [f"condvar {it}" for it in condvars]
+    parties = [name for _, names in heads for name in names]
+    return Signals(flags, condvars, parties, {it for it in parties if rng.random() < 0.4})
+
+
+def chain_lines(rng, signals, number):
+    """The first lines of a party of a chain: each party starts the next one and sleeps, and the last one notifies them."""
+    condvar, flags = signals.condvars[0], signals.flags[:1]
+    signals.unstarted.clear()
+    if number + 1 == len(signals.parties):
+        return ["lock lock0", *[f"set {it}" for it in flags], f"notify_{rng.choice(['one', 'all'])} {condvar}", "unlock lock0"]
+    until = "".join(f" until {it}" for it in flags)
+    return ["lock lock0", f"start {signals.parties[number + 1]}", f"wait {condvar} lock0{until}", "unlock lock0"]
+
+
+def with_faults(rng, lines, locks, has_blocks):
+    """The lines, of which one may be wrong, twice there, or missing."""
     if rng.random() < 0.06:
         lines.insert(rng.randint(0, len(lines)), f"{rng.choice(any_call())} {rng.choice(locks)}")
     if rng.random() < 0.06:
@@ -46,10 +93,11 @@ def random_plan(number):
         lines.insert(twice, lines[twice])
     if rng.random() < (0.06 if has_blocks else 0.01):
         lines.insert(rng.randint(0, len(lines)), rng.choice(["repeat", "either", "else", "or", "end", f"try lock {rng.choice(locks)}"]))
+    if rng.random() < 0.02:
+        lines.insert(rng.randint(0, len(lines)), rng.choice(STRAYS))
     if has_blocks and rng.random() < 0.04:
         del lines[rng.randrange(len(lines))]
-    text = "\n".join(lines) + "\n" * rng.randint(0, 1)
-    return spoilt(rng, text).encode() if rng.random() < 0.06 else text.encode()
+    return lines
 
 
 def lock_line(rng, name, kind, limit):
@@ -63,6 +111,15 @@ def any_call():
     return found + [word for those in RELEASES.values() for word in those.values()] + ["upgrade", "downgrade"]
 
 
+class Signals(NamedTuple):
+    """The flags, condition variables and parties of a plan, and which parties still want a line that starts them."""
+
+    flags: list
+    condvars: list
+    parties: list
+    unstarted: set
+
+
 class Maker(NamedTuple):
     """What makes the lines of a plan's parties. In order, a party mostly acquires locks after those it holds, and releases all."""
 
@@ -71,10 +128,16 @@ class Maker(NamedTuple):
     limits: dict
     is_ordered: bool
     has_blocks: bool
+    signals: Signals | None
 
-    def party_lines(self, most):
-        """The lines of a party, with about as many calls as `most`."""
+    def party_lines(self, most, names):
+        """The lines of a line of parties with these names, with about as many calls as `most`."""
         found, held = self.lines([], most)
+        if self.signals and len(names) == 1:
+            for name in sorted(self.signals.unstarted - {*names}):
+                if self.rng.random() < 0.7:
+                    self.signals.unstarted.remove(name)
+                    found.insert(self.at_top(found), f"start {name}")
         if self.is_ordered or self.rng.random() < 0.7:
             found += self.releases_of(held)
         return found
@@ -91,6 +154,9 @@ class Maker(NamedTuple):
             if self.has_blocks and self.rng.random() < 0.3:
                 found += self.block(held + own)
                 continue
+            if self.signals and self.rng.random() < 0.4:
+                found += self.signal(held + own)
+                continue
             acts = self.releases(own) + self.changes(own) + 2 * self.acquisitions(held + own)
             if not acts:
                 break
@@ -104,9 +170,32 @@ class Maker(NamedTuple):
             found.append(f"{word} {lock}")
         return found, own
 
+    def at_top(self, lines):
+        """A place in the lines at which no loop is open."""
+        depths = [0]
+        for line in lines:
+            depths.append(depths[-1] + (line.split()[0] in ("repeat", "either", "try", "if")) - (line == "end"))
+        return self.rng.choice([at for at, depth in enumerate(depths) if depth == 0])
+
+    def signal(self, held):
+        """A line of a party with these holds that calls no lock, or a wait, or no line."""
+        rng, signals = self.rng, self.signals
+        found = [f"join {rng.choice(signals.parties)}"] if rng.random() < 0.3 else []
+        flag = rng.choice(signals.flags) if signals.flags else None
+        if flag:
+            found += [f"{rng.choice(['set', 'set', 'clear'])} {flag}"]
+        if signals.condvars:
+            condvar = rng.choice(signals.condvars)
+            found += [f"notify_{rng.choice(['one', 'all'])} {condvar}"]
+            until = f" until {rng.choice(['', '', 'not '])}{flag}" if flag and rng.random() < 0.7 else ""
+            found += 2 * [f"wait {condvar} {lock}{until}" for lock, mode in held if self.kinds[lock] == "mutex" or rng.random() < 0.02]
+        return [rng.choice(found)] if found else [f"join {rng.choice(signals.parties)}"]
+
     def block(self, held):
         """A block of a party with these holds, which has the same ones after it."""
         word = self.rng.choice(["repeat", "either", "try"])
+        if self.signals and self.signals.flags and self.rng.random() < 0.5:
+            return [f"if {self.rng.choice(self.signals.flags)}", *self.part(held), "else", *self.part(held), "end"]
         if word == "repeat":
             return ["repeat", *self.part(held), "end"]
         if word == "either":
@@ -149,5 +238,5 @@ class Maker(NamedTuple):
 def spoilt(rng, text):
     """The text with one small change, after which a line may be wrong."""
     at = rng.randrange(len(text) + 1)
-    changed = rng.choice(["", " ", "\n", "x", "0", "\r", "\u00e9", " bar", "4294967296", "lock0", "party p1\n", "server p 2\n", "mutex lock0\n", "end\n"])
+    changed = rng.choice(SPOILS)
     return text[:at] + changed + text[at + rng.randint(0, 1) :]
