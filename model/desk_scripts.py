@@ -58,7 +58,7 @@ def desk_scripts(plan, rng):
     schedules = [[(rng.choice(everyone), None) for _ in range(LONGEST)] if everyone else []]
     stop, came_from = plans.explore(plan)
     if stop is not None:
-        trace = [(party, world) for party, _, world in plans.trace_to(stop, came_from)]
+        trace = [(party, world) for party, _, world in plans.trace_to(plan, stop, came_from)]
         schedules.append(trace + [(party, None) for party in everyone])
     for schedule in schedules:
         for desk in replayed(plan, schedule, rng):

@@ -2,6 +2,7 @@
 
 docs/PLANS.md has the format. A fault of the plan is the exception `Fault`.
 """
+import itertools
 import math
 import re
 from typing import NamedTuple
@@ -53,7 +54,6 @@ class Lock(NamedTuple):
 
 
 class Call(NamedTuple):
-    line: int
     word: str
     lock: str
 
@@ -85,7 +85,10 @@ class Place(NamedTuple):
 
 
 class Party(NamedTuple):
+    """A party with the number of the line that made it, its lines, and its program."""
+
     name: str
+    line: int
     lines: list
     is_server: bool
     program: list
@@ -111,6 +114,13 @@ class Plan(NamedTuple):
     def is_started(self, party):
         """Whether a line starts the party."""
         return any(it.word == "start" and it.name == party.name for it in self.mentions)
+
+    def copies(self):
+        """The runs of parties that one line makes and that no line names, each a part of the list of parties."""
+        named = {it.name for it in self.mentions}
+        runs = itertools.groupby(enumerate(self.parties), lambda it: (it[1].line, it[1].name in named))
+        numbers = [[number for number, _ in run] for (_, is_named), run in runs if not is_named]
+        return [slice(it[0], it[-1] + 1) for it in numbers if len(it) > 1]
 
 
 def read_plan(text):
@@ -155,7 +165,7 @@ def read_line(plan, number, fields):
     if plan.open:
         return False
     if word in ("party", "server"):
-        return read_parties(plan, word == "server", name, rest)
+        return read_parties(plan, Line(number, word, name=name), rest)
     if word in ("flag", "condvar"):
         return read_name(plan.flags if word == "flag" else plan.condvars, name, rest)
     lock = read_lock(word, rest)
@@ -195,8 +205,8 @@ def read_wait(plan, number, fields):
     condvar, mutex, until = fields[0], "".join(fields[1:2]), fields[2:]
     if condvar not in plan.condvars or mutex not in plan.locks or plan.parties == []:
         return False
-    release = Line(number, "wait", Call(number, "unlock", mutex), condvar)
-    lines = [release, Line(number, "sleep", name=condvar), Line(number, "call", Call(number, "lock", mutex))]
+    release = Line(number, "wait", Call("unlock", mutex), condvar)
+    lines = [release, Line(number, "sleep", name=condvar), Line(number, "call", Call("lock", mutex))]
     if until:
         is_not = until[1:2] == ["not"] and len(until) == 3
         if until[0] != "until" or len(until) != 2 + is_not or until[-1] not in plan.flags or len(plan.open) == MOST_OPEN:
@@ -225,7 +235,7 @@ def read_call(plan, line, fields):
     """Adds a line with the call of these fields, and returns whether it is right."""
     if len(fields) != 2 or not plan.parties or fields[1] not in plan.locks:
         return False
-    add_line(plan, line._replace(call=Call(line.number, *fields)))
+    add_line(plan, line._replace(call=Call(*fields)))
     return True
 
 
@@ -234,17 +244,17 @@ def add_line(plan, line):
         party.lines.append(line)
 
 
-def read_parties(plan, is_server, name, rest):
+def read_parties(plan, line, rest):
     """Adds a party, or as many copies of one as the field after its name says, and returns whether the line is right."""
     if not rest:
-        names = [name]
+        names = [line.name]
     elif len(rest) == 1 and LIMIT.fullmatch(rest[0].encode("latin-1")) and int(rest[0]) <= MOST_COPIES:
-        names = [f"{name}.{copy}" for copy in range(1, int(rest[0]) + 1)]
+        names = [f"{line.name}.{copy}" for copy in range(1, int(rest[0]) + 1)]
     else:
         return False
     if any(it.name in names for it in plan.parties):
         return False
-    plan.called[:] = [Party(it, [], is_server, []) for it in names]
+    plan.called[:] = [Party(it, line.number, [], line.word == "server", []) for it in names]
     plan.parties.extend(plan.called)
     return True
 
@@ -261,7 +271,7 @@ def read_lock(word, rest):
 
 
 def places(lines):
-    """The program of these lines. A line of a block that is no `end` and that leaves a choice is a place, as each call is."""
+    """The program of these lines. Each line is a place, but for `else`, `end`, and an `or` that ends the last choice of its branch."""
     steps = [it for it in range(len(lines)) if is_step(lines, it)]
     number = {it: at for at, it in enumerate(steps)} | {len(lines): len(steps)}
     program = []

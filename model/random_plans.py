@@ -3,11 +3,11 @@ import random
 from typing import NamedTuple
 
 # how many calls a party has at most, by the number of parties, so that a plan has some thousands of worlds at most
-MOST_CALLS = {1: 12, 2: 14, 3: 9, 4: 6}
+MOST_CALLS = {1: 12, 2: 14, 3: 9, 4: 6, 5: 5}
 # the same for plans with blocks, of which a part has so many calls at most
-MOST_WITH_BLOCKS = {1: 12, 2: 9, 3: 6, 4: 4}
+MOST_WITH_BLOCKS = {1: 12, 2: 9, 3: 6, 4: 4, 5: 3}
 # the same for plans with flags, condition variables, starts and joins
-MOST_WITH_SIGNALS = {1: 12, 2: 12, 3: 9, 4: 6}
+MOST_WITH_SIGNALS = {1: 12, 2: 12, 3: 9, 4: 6, 5: 5}
 MOST_IN_PART = 3
 RELEASES = {
     "mutex": {"exclusive": "unlock"},
@@ -45,18 +45,19 @@ def random_plan(number):
         signals = random_signals(rng, lines, kinds, heads)
     maker = Maker(rng, kinds, limits, rng.random() < 0.5, has_blocks, signals)
     is_chain = signals and signals.condvars and len(heads) == total and rng.random() < 0.5
-    for number, (head, names) in enumerate(heads):
-        lines += [head, *chain_lines(rng, signals, number)] if is_chain else [head]
+    for at, (head, names) in enumerate(heads):
+        lines += [head, *chain_lines(rng, signals, at)] if is_chain else [head]
         lines += maker.party_lines(rng.randint(0, most // 2 if is_chain else most), names)
     text = "\n".join(with_faults(rng, lines, locks, has_blocks)) + "\n" * rng.randint(0, 1)
     return spoilt(rng, text).encode() if rng.random() < 0.06 else text.encode()
 
 
 def random_heads(rng):
-    """Lines of parties, each with the names of its parties: four parties at most."""
-    heads, parties = [], rng.choice([1, 2, 2, 3, 3, 4])
+    """Lines of parties, each with the names of its parties: four parties at most, or five of which four are copies."""
+    heads, parties = [], rng.choice([1, 2, 2, 3, 3, 4, 5])
     while parties > 0:
-        copies = rng.randint(1, parties) if rng.random() < 0.3 else None
+        copies = rng.randint(1, parties) if rng.random() < 0.4 else None
+        copies = 4 if parties == 5 else copies
         name = f"p{parties}"
         names = [f"{name}.{it}" for it in range(1, copies + 1)] if copies else [name]
         heads.append((f"{'server' if rng.random() < 0.2 else 'party'} {name}" + (f" {copies}" if copies else ""), names))

@@ -4,6 +4,7 @@ pub mod Worlds
 pub mod CallFaults
 pub mod Known
 pub mod Points
+pub mod Copies
 pub mod Below
 pub mod Checks
 pub mod Stops

@@ -12,6 +12,7 @@ use Rattle.lock_base.specs.ModeRuns.{has, bag_after}
 use Rattle.lock_base.specs.Bar.{has_announced}
 use Rattle.lock_base.specs.Holds.{no_hold}
 use Rattle.lock_plan.specs.Worlds.{joined, bag_on, bar_from}
+use Rattle.lock_plan.proofs.ExchangeTurns.{joined_swap}
 
 abbrev pub hold_of : List (List Hold) → ℕ → ℕ → Hold
 hold_of hss p l = get_or (get_or hss p []) l no_hold
@@ -24,9 +25,6 @@ same_bag a b s e u =
     ap (λ (n : ℕ). bag n a.exclusive a.upgradable) s
     ∙ ap (λ (n : ℕ). bag b.shared n a.upgradable) e
     ∙ ap (λ (n : ℕ). bag b.shared b.exclusive n) u
-
-joined_swap : (a b c : Bag) → joined a (joined b c) ≡ joined b (joined a c)
-joined_swap a b c = same_bag (joined a (joined b c)) (joined b (joined a c)) (omega arith) (omega arith) (omega arith)
 
 -- the bag of the other parties beside one
 pub record Beside (hss : List (List Hold)) (p l : ℕ) : Type 0 where

@@ -1,6 +1,6 @@
 -- A party stands at a place with what is known of it, or has announced itself there for a write.
-use Rattle.std.proofs.Common.{◌≡◌, ℕ, zero, suc, ◌+◌, ◌<◌, ◌⊎◌, inl, inr, Bool, true, false, ◌&&◌, ◌==◌, nat_lt, if◌then◌else◌, List, [], ◌∷◌, length, get_or, Option, Some, None, Ok, refl, ap, sym, ◌∙◌, subst, arith, eqb-true}
-use Rattle.std.proofs.lemmas.Bool.{false≢true, and_parts}
+use Rattle.std.proofs.Common.{◌≡◌, ℕ, zero, suc, ◌+◌, ◌<◌, ◌⊎◌, inl, inr, Bool, true, false, nat_lt, if◌then◌else◌, List, [], ◌∷◌, length, get_or, Option, Some, None, Ok, refl, ap, sym, ◌∙◌, subst, arith}
+use Rattle.std.proofs.lemmas.Bool.{false≢true}
 use Rattle.std.proofs.lemmas.List.{length-set, get_or-set_same, get_or_past}
 use Rattle.lock_base.specs.declared.machine.mode.Mode.{Mode}
 use Rattle.lock_base.specs.declared.machine.mode_step.ModeStep.TheVariants.{Acquire}
@@ -20,10 +20,10 @@ use Rattle.lock_plan.specs.declared.program.Signal.{Signal as PlanSignal}
 use Rattle.lock_plan.specs.declared.program.Signal.TheVariants.{Idle}
 use Rattle.lock_plan.specs.declared.program.Place.{Place}
 use Rattle.lock_plan.specs.Holds.{is_write, announces_itself}
-use Rattle.lock_plan.specs.Signals.{idles}
 use Rattle.lock_plan.specs.CallFaults.{fault_on, call_fault}
 use Rattle.lock_plan.specs.Known.{Known, known_at, known_of}
 use Rattle.lock_plan.specs.Worlds.{Stand, no_place, no_lock, act_in, act_of, call_in, next_in, other_in, is_flag, holds_after, at_place, gone, announced_for, first_stand}
+use Rattle.lock_plan.proofs.Flags.{IsFlag, flag_is}
 use Rattle.lock_plan.proofs.Held.{IsHeld, few_announced}
 use Rattle.lock_plan.proofs.Walked.{IsWalked, Passed, Leaves, walked_is}
 use Rattle.lock_plan.proofs.Announced.{Announces, announces, once, goes_same}
@@ -50,26 +50,6 @@ act_there (x ∷ program) (suc place) a e = let rest = act_there program place a
 
 same_holds : (a b : List Hold) → Some a ≡ Some b → a ≡ b
 same_holds a b e = cc
-
-idle_is : (here : Option Act) → idles here ≡ true → here ≡ Some (Signal Idle)
-idle_is (Some (Signal Idle)) is = refl
-idle_is other is = cc
-
--- the one place of a flag
-record IsFlag (program : List Place) : Type 0 where
-  long : length program ≡ 1
-  idle : act_in program 0 ≡ Some (Signal Idle)
-  next : next_in program 0 ≡ 1
-
-flag_is : (program : List Place) → is_flag program ≡ true → IsFlag program
-flag_is program flag =
-    let parts = and_parts (length program == 1) (idles (act_in program 0) && (next_in program 0 == 1)) flag in
-    let two = and_parts (idles (act_in program 0)) (next_in program 0 == 1) parts.1 in
-    record {
-      long = eqb-true (length program) 1 parts.0;
-      idle = idle_is (act_in program 0) two.0;
-      next = eqb-true (next_in program 0) 1 two.1;
-    }
 
 -- an announcement for a write makes no fault of it
 fault_same : (lock : PlanLock) (own : Hold) (a : LockStep) → is_write a ≡ true → fault_on lock (hold_after own lock_step.Announce) a ≡ fault_on lock own a

@@ -1,6 +1,5 @@
 -- The rows that an act moves keep what they hold, and scene and world stay tied.
-use Rattle.std.proofs.Common.{◌≡◌, ℕ, zero, suc, ◌+◌, ◌<◌, Bool, true, false, ◌&&◌, ◌==◌, if◌then◌else◌, List, [], ◌∷◌, length, map, zip, get_or, set, sum_by, Option, Some, None, refl, ap, sym, ◌∙◌, subst, arith}
-use Rattle.std.proofs.lemmas.Bool.{and_parts}
+use Rattle.std.proofs.Common.{◌≡◌, ℕ, zero, suc, ◌+◌, ◌<◌, List, [], ◌∷◌, length, map, zip, get_or, set, sum_by, Option, Some, refl, ap, sym, ◌∙◌, subst, arith}
 use Rattle.lock_base.specs.declared.machine.party.PartyId.{PartyId}
 use Rattle.lock_base.specs.declared.machine.hold.Hold.{Hold}
 use Rattle.lock_plan.specs.declared.lock.PlanLock.{PlanLock}
@@ -8,21 +7,17 @@ use Rattle.lock_plan.specs.declared.program.Act.{Act}
 use Rattle.lock_plan.specs.declared.program.Act.TheVariants as act
 use Rattle.lock_plan.specs.declared.program.Place.{Place}
 use Rattle.lock_plan.specs.declared.program.Signal.{Signal}
-use Rattle.lock_plan.specs.declared.program.Signal.TheVariants.{Idle, Sleep, Start, Clear, Join, NotifyOne, NotifyAll}
-use Rattle.lock_plan.specs.Signals.{idles, sleeps_on, signal_move, move_of}
+use Rattle.lock_plan.specs.Signals.{move_of}
 use Rattle.lock_plan.specs.Worlds.{Stand, no_stand, no_lock, act_of, acts_of, is_flag, at_place, stand_moved, rows_moved}
+use Rattle.lock_plan.proofs.ExchangeBars.{moved_program, moved_holds, rows_keep}
+use Rattle.lock_plan.proofs.ExchangeWalks.{rows_long}
+use Rattle.lock_plan.proofs.Moves.{moved_has}
 use Rattle.lock_plan_laws.specs.Scenes.{Scene, row_at, rows_of, scene_at, scene_moved}
 use Rattle.lock_plan_laws.specs.Bridge.{AreDistinct}
 use Rattle.lock_plan_laws.proofs.KnownStands.{IsKnownStand, known_signalled, known_restarted}
 use Rattle.lock_plan_laws.proofs.Ties.{IsLockTied, IsTied, tied_still}
 
 -- however a row is moved, only its place changes
-
-same_holds : (x : Stand) (m : _) → (stand_moved x m).holds ≡ x.holds
-same_holds x m = grind arith
-
-same_program : (x : Stand) (m : _) → (stand_moved x m).program ≡ x.program
-same_program x m = grind arith
 
 same_place : (x : Stand) (m : _) → (stand_moved (row_at (x.program, x.place)) m).place ≡ (stand_moved x m).place
 same_place x m = grind arith
@@ -31,52 +26,11 @@ at_moved : (x : Stand) (m : _) (place : ℕ)
     → at_place (stand_moved x m) place (stand_moved x m).holds ≡ at_place x place x.holds
 at_moved x m place = grind arith
 
-by_if : {M : Type 0} (F : M → Type 0) (b : Bool) (moving staying : M) → F staying → (b ≡ true → F moving)
-    → F (if b then moving else staying)
-by_if F true moving staying stays moves = moves refl
-by_if F false moving staying stays moves = stays
-
--- a row that idles or sleeps is at a signal
-
-idles_at : (here : Option Act) → idles here ≡ true → (signal : Signal) × (here ≡ Some (act.Signal signal))
-idles_at (Some (act.Signal Idle)) is = (Idle, refl)
-idles_at other is = cc
-
-sleeps_at : (cond : ℕ) (here : Option Act) → sleeps_on cond here ≡ true
-    → (signal : Signal) × (here ≡ Some (act.Signal signal))
-sleeps_at cond (Some (act.Signal (Sleep c))) is = (Sleep c, refl)
-sleeps_at cond other is = cc
-
 -- a row that is moved stands where its program leads
-module _ (locks : List PlanLock) (x : Stand) (k : IsKnownStand locks x) (way row : ℕ) where
-  known_by : (signal : Signal)
-      → IsKnownStand locks (stand_moved x (signal_move signal way row (act_of x) (is_flag x.program)))
-  known_by Idle = k
-  known_by (Sleep cond) = k
-  known_by (Start started) =
-      by_if (λ m. IsKnownStand locks (stand_moved x m)) ((row == started) && idles (act_of x)) _ _ k
-      (λ is.
-      let s = idles_at (act_of x) (and_parts (row == started) (idles (act_of x)) is).1 in
-      known_signalled locks x k s.0 s.1)
-  known_by (Clear cleared) =
-      by_if (λ m. IsKnownStand locks (stand_moved x m)) ((row == cleared) && is_flag x.program) _ _ k
-      (λ is. known_restarted locks x k (and_parts (row == cleared) (is_flag x.program) is).1)
-  known_by (Join joined) = k
-  known_by (NotifyOne cond) =
-      by_if (λ m. IsKnownStand locks (stand_moved x m)) ((way == suc row) && sleeps_on cond (act_of x)) _ _ k
-      (λ is.
-      let s = sleeps_at cond (act_of x) (and_parts (way == suc row) (sleeps_on cond (act_of x)) is).1 in
-      known_signalled locks x k s.0 s.1)
-  known_by (NotifyAll cond) =
-      by_if (λ m. IsKnownStand locks (stand_moved x m)) (sleeps_on cond (act_of x)) _ _ k
-      (λ is. let s = sleeps_at cond (act_of x) is in known_signalled locks x k s.0 s.1)
-
-  known_moved : (a : Option Act) → IsKnownStand locks (stand_moved x (move_of a way row (act_of x) (is_flag x.program)))
-  known_moved None = k
-  known_moved (Some (act.Call call)) = k
-  known_moved (Some (act.Try call)) = k
-  known_moved (Some (act.Choose block)) = k
-  known_moved (Some (act.Signal signal)) = known_by signal
+known_moved : (locks : List PlanLock) (x : Stand) → IsKnownStand locks x → (way row : ℕ) (a : Option Act)
+    → IsKnownStand locks (stand_moved x (move_of a way row (act_of x) (is_flag x.program)))
+known_moved locks x k way row a =
+    moved_has (IsKnownStand locks) x k (known_signalled locks x k) (known_restarted locks x k) a way row
 
 -- an act that is no signal moves no row
 pub rows_still : (a : Act) (way row : ℕ) (w : List Stand) → ((signal : Signal) → a ≡ act.Signal signal → ⊥)
@@ -99,22 +53,6 @@ acts_in [] = refl
 acts_in (x ∷ w) = ap (λ (acts : List (Option Act)). act_of x ∷ acts) (acts_in w)
 
 module _ (a : Option Act) (way : ℕ) where
-  moved_long : (row : ℕ) (w : List Stand) → length (rows_moved a way row w) ≡ length w
-  moved_long row [] = refl
-  moved_long row (x ∷ w) = ap suc (moved_long (suc row) w)
-
-  moved_holds : (row : ℕ) (w : List Stand) → map (λ x. x.holds) (rows_moved a way row w) ≡ map (λ x. x.holds) w
-  moved_holds row [] = refl
-  moved_holds row (x ∷ w) =
-      ap (λ (hs : List Hold). hs ∷ map (λ (y : Stand). y.holds) (rows_moved a way (suc row) w)) (same_holds x _)
-      ∙ ap (λ (hss : List (List Hold)). x.holds ∷ hss) (moved_holds (suc row) w)
-
-  moved_programs : (row : ℕ) (w : List Stand) → map (λ x. x.program) (rows_moved a way row w) ≡ map (λ x. x.program) w
-  moved_programs row [] = refl
-  moved_programs row (x ∷ w) =
-      ap (λ (p : List Place). p ∷ map (λ (y : Stand). y.program) (rows_moved a way (suc row) w)) (same_program x _)
-      ∙ ap (λ (ps : List (List Place)). x.program ∷ ps) (moved_programs (suc row) w)
-
   moved_places : (row : ℕ) (w : List Stand)
       → map (λ x. x.place) (rows_moved a way row (rows_in w)) ≡ map (λ x. x.place) (rows_moved a way row w)
   moved_places row [] = refl
@@ -150,19 +88,19 @@ module _ {T : Type 0} (ids : ℕ → PartyId) (distinct : AreDistinct ids) (lock
     -- rows that are moved keep scene and world tied
     moved_tied : IsTied ids locks programs (rows_moved a way 0 w) (scene_moved programs s a way) used
     moved_tied = record {
-      programs_same = tied.programs_same ∙ sym (moved_programs a way 0 w);
+      programs_same = tied.programs_same ∙ sym (rows_keep (λ (x : Stand). x.program) moved_program a way 0 w);
       places =
           ap (λ (v : List Stand). map (λ (x : Stand). x.place) (rows_moved a way 0 v)) rows_same
           ∙ moved_places a way 0 w;
       known = λ q lt.
-          let below : q < length w = omega (arith, lt, moved_long a way 0 w) in
+          let below : q < length w = omega (arith, lt, rows_long a way 0 w) in
           subst (IsKnownStand locks) (sym (moved_row a way 0 w q below))
           (known_moved locks (get_or w q no_stand) (tied.known q below) way (0 + q) a);
       at = λ l lt.
           subst
           (λ (hss : List (List Hold)).
           IsLockTied ids (get_or locks l no_lock) (s.machines l) hss l (sum_by length programs) used)
-          (sym (moved_holds a way 0 w)) (tied.at l lt);
+          (sym (rows_keep (λ (x : Stand). x.holds) moved_holds a way 0 w)) (tied.at l lt);
     }
 
     -- and so does the party that has moved them and goes to another place
@@ -180,5 +118,5 @@ module _ {T : Type 0} (ids : ℕ → PartyId) (distinct : AreDistinct ids) (lock
         let after : Scene T = scene_at (scene_moved programs s a way) p place in
         subst (λ (z : Stand). IsTied ids locks programs (set v p z) after (suc used)) same
         (tied_still ids distinct locks programs v (scene_moved programs s a way) used moved_tied p place
-        (omega (arith, known, moved_long a way 0 w)) s.machines (λ k. refl)
+        (omega (arith, known, rows_long a way 0 w)) s.machines (λ k. refl)
         (subst (IsKnownStand locks) (sym same) stands))

@@ -16,17 +16,16 @@ use Rattle.lock_plan.specs.declared.turn.Turn.{Turn}
 use Rattle.lock_plan.specs.declared.turn.Turn.TheVariants.{Goes, Announces, Waits, Refused}
 use Rattle.lock_plan.specs.Signals.{lets}
 use Rattle.lock_plan.specs.Worlds.{Stand, no_stand, no_lock, act_of, acts_of, next_in, other_in, reply_of, turn_by, turn_of, is_goes, at_place, gone, announced_for, after_call, only_if, either_by, stand_by, put_stand, rows_moved, world_step, is_step_turn}
+use Rattle.lock_plan.proofs.Landing.{some_same}
+use Rattle.lock_plan.proofs.Ways.{only_some}
 use Rattle.lock_plan_laws.specs.MachineTurns.{machine_turn, machine_try, MachineTurn}
 use Rattle.lock_plan_laws.specs.Scenes.{Caller, Scene, scene_at, scene_with, scene_moved, place_by, way_from, way_of, rows_of, HasTurn, HasTry, HasChoice, HasSignal, IsStep}
 use Rattle.lock_plan_laws.specs.Bridge.{AreDistinct}
 use Rattle.lock_plan_laws.proofs.MachineTurns.{ByTurn}
 use Rattle.lock_plan_laws.proofs.Ties.{IsTied}
 use Rattle.lock_plan_laws.proofs.RowMoves.{rows_still, acts_same}
-use Rattle.lock_plan_laws.proofs.Ways.{only_some, two_ways, signal_goes}
+use Rattle.lock_plan_laws.proofs.Ways.{way_of_try, signal_goes}
 use Rattle.lock_plan_laws.proofs.Steps.{IsSameTurn, IsSameTry, act_same, place_same, way_same, known, guard_of, same_turn, same_try, chosen_tied, signalled_tied}
-
-same_turns : (t u : Turn) → Some t ≡ Some u → t ≡ u
-same_turns t u is = cc
 
 pub same_worlds : (v w : List Stand) → Some v ≡ Some w → v ≡ w
 same_worlds v w is = cc
@@ -287,7 +286,7 @@ module _ {O T A : Type 0} (meaning : O → Operation T A) (ids : ℕ → PartyId
             here = act_same meaning ids distinct locks bars programs w s used tied taken.party ∙ here;
             one_way = one_way;
             names = g.1;
-            turns = same.on_machine ∙ same_turns same.turn turn (sym same.in_world ∙ is);
+            turns = same.on_machine ∙ some_same same.turn turn (sym same.in_world ∙ is);
             leaves = refl;
           },
         )
@@ -384,7 +383,7 @@ module _ {O T A : Type 0} (meaning : O → Operation T A) (ids : ℕ → PartyId
           call_by call here (eqb-true taken.way 0 lets) _ (reply_of locks w taken.party) refl e
       step_by (Some (act.Try call)) here lets e =
           let goes : Bool = is_goes (reply_of locks w taken.party) in
-          let h = tried taken call here (two_ways taken.way goes lets (either_is goes (taken.way == 1) _ _ _ e)) in
+          let h = tried taken call here (way_of_try taken.way goes lets (either_is goes (taken.way == 1) _ _ _ e)) in
           scene_step h.0 h.1 (inr (inr (inl h.2)))
       step_by (Some (act.Choose block)) here lets e =
           let h = chosen taken block here lets in scene_step 0 h.0 (inr (inr (inr (inl h.1))))

@@ -1,5 +1,5 @@
 -- Machines that are tied to a world stay so: each machine holds what the parties hold, and has room for another guard.
-use Rattle.std.proofs.Common.{◌≡◌, ◌≢◌, ℕ, zero, suc, ◌+◌, ◌≤◌, ◌<◌, ◌^◌, Bool, true, false, ◌==◌, ◌⊎◌, inl, inr, if◌then◌else◌, List, [], ◌∷◌, length, map, get_or, set, replicate, sum_by, Some, None, Ok, refl, ap, sym, ◌∙◌, subst, arith, eqb-true}
+use Rattle.std.proofs.Common.{◌≡◌, ◌≢◌, ℕ, zero, suc, ◌+◌, ◌≤◌, ◌<◌, ◌^◌, Bool, true, false, ◌==◌, ◌⊎◌, inl, inr, if◌then◌else◌, List, [], ◌∷◌, length, map, get_or, set, sum_by, Some, None, Ok, refl, ap, sym, ◌∙◌, subst, arith, eqb-true}
 use Rattle.std.proofs.lemmas.Bool.{eqb-false, cases_eq}
 use Rattle.std.proofs.lemmas.List.{length-set, length-map, map-set, set-get_or, get_or-set_same, get_or-set_other}
 use Rattle.std.proofs.lemmas.List.Sums.{sum_by-cons}
@@ -20,6 +20,7 @@ use Rattle.lock_plan.specs.declared.lock.PlanLock.{PlanLock}
 use Rattle.lock_plan.specs.declared.program.Place.{Place}
 use Rattle.lock_plan.specs.Known.{Known, known_of}
 use Rattle.lock_plan.specs.Worlds.{Stand, no_stand, no_lock, joined, bag_on, at_place, first_world}
+use Rattle.lock_plan.proofs.ExchangeBars.{nothing_held}
 use Rattle.lock_plan_laws.specs.Scenes.{Scene, scene_with, limit_for, first_scene}
 use Rattle.lock_plan_laws.specs.Bridge.{bag_held_by, FitsMachines, AreDistinct}
 use Rattle.lock_plan_laws.proofs.PartyBags.{tokens-held}
@@ -342,21 +343,16 @@ module _ {T : Type 0} (ids : ℕ → PartyId) (distinct : AreDistinct ids) where
 
 -- the first scene is tied to the first world
 
-none_of : (n l : ℕ) → get_or (replicate n no_hold) l no_hold ≡ no_hold
-none_of zero l = refl
-none_of (suc n) zero = refl
-none_of (suc n) (suc l) = none_of n l
-
 module _ (locks : List PlanLock) where
   first_hold : (programs : List (List Place)) (q l : ℕ) → hold_of (map (λ stand. stand.holds) (first_world locks programs)) q l ≡ no_hold
   first_hold [] q l = refl
-  first_hold (program ∷ programs) zero l = none_of (length locks) l
+  first_hold (program ∷ programs) zero l = nothing_held (length locks) l
   first_hold (program ∷ programs) (suc q) l = first_hold programs q l
 
   first_bag : (programs : List (List Place)) (l : ℕ) → bag_on l (map (λ stand. stand.holds) (first_world locks programs)) ≡ empty_bag
   first_bag [] l = refl
   first_bag (program ∷ programs) l =
-      ap (λ (x : Hold). joined x.bag (bag_on l (map (λ stand. stand.holds) (first_world locks programs)))) (none_of (length locks) l)
+      ap (λ (x : Hold). joined x.bag (bag_on l (map (λ stand. stand.holds) (first_world locks programs)))) (nothing_held (length locks) l)
       ∙ ap (λ (b : Bag). joined empty_bag b) (first_bag programs l)
 
   first_programs : (programs : List (List Place)) → programs ≡ map (λ stand. stand.program) (first_world locks programs)

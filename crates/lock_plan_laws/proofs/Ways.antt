@@ -13,13 +13,9 @@ use Rattle.lock_plan.specs.declared.program.Signal.TheVariants.{Idle, Sleep, Sta
 use Rattle.lock_plan.specs.declared.turn.Turn.{Turn}
 use Rattle.lock_plan.specs.declared.turn.Turn.TheVariants.{Goes, Waits, Refused}
 use Rattle.lock_plan.specs.Signals.{idles, sleeps_on, has_ended, lets_signal, lets, signal_turn}
-use Rattle.lock_plan.specs.Worlds.{reply_at, turn_by, only_if, is_step_turn}
+use Rattle.lock_plan.specs.Worlds.{reply_at, turn_by, is_step_turn}
 
 module _ {X : Type 0} where
-  pub only_some : (b : Bool) (o : Option X) (x : X) → only_if b o ≡ Some x → (b ≡ true) × (o ≡ Some x)
-  only_some true o x e = (refl, e)
-  only_some false o x e = cc
-
   -- an element that passes is at some place
   any_found : (f : X → Bool) (xs : List X) (none : X) → list_any f xs ≡ true → (i : ℕ) × (f (get_or xs i none) ≡ true)
   any_found f [] none is = cc
@@ -32,10 +28,10 @@ module _ {X : Type 0} where
       by_first false other any rest = let r = rest any in (suc r.0, r.1)
 
 -- of two ways, the second is that of an act that is not made
-pub two_ways : (way : ℕ) (made : Bool) → nat_lt way 2 ≡ true → made ≡ not (way == 1) → way ≡ (if made then 0 else 1)
-two_ways zero made below is = ap (λ (b : Bool). if b then 0 else 1) (sym is)
-two_ways (suc zero) made below is = ap (λ (b : Bool). if b then 0 else 1) (sym is)
-two_ways (suc (suc n)) made below is = let lt = ltb-true (suc (suc n)) 2 below in absurd (omega (arith, lt))
+pub way_of_try : (way : ℕ) (made : Bool) → nat_lt way 2 ≡ true → made ≡ not (way == 1) → way ≡ (if made then 0 else 1)
+way_of_try zero made below is = ap (λ (b : Bool). if b then 0 else 1) (sym is)
+way_of_try (suc zero) made below is = ap (λ (b : Bool). if b then 0 else 1) (sym is)
+way_of_try (suc (suc n)) made below is = let lt = ltb-true (suc (suc n)) 2 below in absurd (omega (arith, lt))
 
 module _ (acts : List (Option Act)) where
   -- a choice can go one of its ways

@@ -79,14 +79,14 @@ module _ {T : Type 0} (programs : List (List Place)) where
   scene_moved s moving way =
       record { machines = s.machines; places = map (λ row. row.place) (rows_moved moving way 0 (rows_of s)) }
 
-  -- the choice of a party: it goes a way that the rows let it go, and calls no machine
+  -- the choice of a party: the rows permit its way; no machine changes
   pub record HasChoice (s : Scene T) (c : Caller) (after : Scene T) : Type 0 where
     pub block : Block
     pub here : act_at s c.party ≡ Some (act.Choose block)
     pub is_let : lets (acts_of (rows_of s)) c.way (Some (act.Choose block)) ≡ true
     pub leaves : after ≡ scene_at s c.party (way_of s c.step)
 
-  -- the signal of a party: it goes a way that the rows let it go, moves rows, and calls no machine
+  -- the signal of a party: the rows permit its way; it may move rows, and no machine changes
   pub record HasSignal (s : Scene T) (c : Caller) (after : Scene T) : Type 0 where
     pub signal : Signal
     pub here : act_at s c.party ≡ Some (act.Signal signal)
@@ -143,7 +143,7 @@ module _ {O T A : Type 0} (meaning : O → Operation T A) (ids : ℕ → PartyId
   IsRun s [] after = s ≡ after
   IsRun s (c ∷ cs) after = (next : Scene T) × IsStep s c next × IsRun next cs after
 
-  -- some party that is no server has neither ended nor idles, and no party has a step, whichever of its guards it names
+  -- some party that is no server has begun and not ended, and no party has a step, whichever of its guards it names
   pub record IsStuckScene (servers : List Bool) (s : Scene T) : Type 0 where
     pub due : (party : ℕ) × (here : Act) × (act_at programs s party ≡ Some here) × (idles (Some here) ≡ false)
         × (is_server servers party ≡ false)

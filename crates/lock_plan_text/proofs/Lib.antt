@@ -1,4 +1,6 @@
+mod AlikeParties
 mod CopyNames
+mod DraftCopies
 mod FaultPlaces
 mod KnownPlaces
 mod Lands

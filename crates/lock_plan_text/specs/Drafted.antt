@@ -1,9 +1,11 @@
 -- What a draft in memory is, and the plan that is made of a draft.
 use Rattle.std.specs.Prelude.{◌≡◌, ℕ, IsTrue, List, map, None, string_bytes}
 use Rattle.lock_plan.specs.Checks.{fit_machines, plan_fault}
+use Rattle.lock_plan.specs.Copies.{unnamed_copies}
 use Rattle.lock_plan.specs.Stops.{programs_of}
 use Rattle.lock_plan_text.specs.declared.parser.draft.PlanDraft.{PlanDraft}
 use Rattle.lock_plan_text.specs.declared.parser.named_plan.NamedPlan.{NamedPlan}
+use Rattle.lock_plan_text.specs.Copies.{copies_in}
 use Rattle.lock_plan_text.specs.Drafts.{Draft, IsDraftOf}
 use Rattle.lock_plan_text.specs.OpenBlocks.{opened}
 use Rattle.lock_plan_text.specs.PartyLines.{programs_in}
@@ -18,6 +20,7 @@ drafted draft = record {
   parties = map (λ v. v.items) draft.parties.items;
   party_names = map string_bytes draft.names.parties.items;
   servers = draft.servers.items;
+  copies = draft.copies.items;
   first = draft.first;
   numbers = map (λ v. v.items) draft.numbers.items;
   blocks = opened draft.blocks;
@@ -31,6 +34,7 @@ pub record IsMadeOf (draft : Draft) (named : NamedPlan) : Type 0 where
   pub locks : named.plan.locks.items ≡ draft.locks
   pub programs : programs_of named.plan ≡ programs_in draft
   pub servers : named.plan.servers.items ≡ draft.servers
+  pub copies : named.plan.copies.items ≡ unnamed_copies (programs_in draft) (copies_in draft)
   pub lock_names : map string_bytes named.names.locks.items ≡ draft.lock_names
   pub party_names : map string_bytes named.names.parties.items ≡ draft.party_names
   pub flag_names : map string_bytes named.names.flags.items ≡ draft.flag_names

@@ -29,9 +29,9 @@ use Rattle.lock_plan_text.specs.OpenBlocks.{has_loop, open_after}
 use Rattle.lock_plan_text.specs.PlanLines.{Says, TextNames}
 use Rattle.lock_script.specs.Lines.{lines_of}
 
--- what lines make: locks, names, the lines of each party and their numbers, which parties are servers, the first party of the
--- last line of parties, the blocks that are open; the names after `start` and `join`, each once, with the first line that has
--- it, and those after `start`
+-- what lines make: locks, names, the lines of each party and their numbers, which parties are servers, and which are further
+-- copies of a line of parties, the first party of the last such line, the blocks that are open; the names after `start` and
+-- `join`, each once, with the first line that has it, and those after `start`
 pub record Draft : Type 0 where
   pub locks : List PlanLock
   pub lock_names : List (List ℕ)
@@ -40,6 +40,7 @@ pub record Draft : Type 0 where
   pub parties : List (List BlockLine)
   pub party_names : List (List ℕ)
   pub servers : List Bool
+  pub copies : List Bool
   pub first : ℕ
   pub numbers : List (List ℕ)
   pub blocks : List OpenBlock
@@ -56,6 +57,7 @@ no_draft = record {
   parties = [];
   party_names = [];
   servers = [];
+  copies = [];
   first = 0;
   numbers = [];
   blocks = [];
@@ -116,11 +118,16 @@ may_start draft name =
 abbrev pub with_start : Draft → List ℕ → Draft
 with_start draft name = record draft { started = draft.started ++ name ∷ [] }
 
+-- whether the next party is a further copy of the last line of parties
+abbrev pub is_further : Draft → Bool
+is_further draft = nat_lt draft.first (length draft.parties)
+
 abbrev pub with_party : Draft → Bool → List ℕ → Draft
 with_party draft serves name = record draft {
   parties = draft.parties ++ [] ∷ [];
   party_names = draft.party_names ++ name ∷ [];
   servers = draft.servers ++ serves ∷ [];
+  copies = draft.copies ++ is_further draft ∷ [];
   numbers = draft.numbers ++ [] ∷ [];
 }
 

@@ -5,6 +5,7 @@ pub mod Blocks
 pub mod OpenBlocks
 pub mod Drafts
 pub mod PartyLines
+pub mod Copies
 pub mod PlanFaults
 pub mod Drafted
 pub mod Meanings

@@ -4,13 +4,13 @@ use Rattle.std.specs.Global.{Global}
 use Rattle.lock_plan.specs.declared.lock.PlanLock.{PlanLock}
 use Rattle.lock_plan.specs.declared.program.Place.{Place}
 use Rattle.lock_plan.specs.declared.program.Step.{Step}
+use Rattle.lock_plan.specs.Copies.{IsCountUpTo}
 use Rattle.lock_plan.specs.Stops.{programs_of}
 use Rattle.lock_plan.specs.Worlds as plans
 use Rattle.lock_plan_text.specs.Answers.{answer_text}
 use Rattle.lock_plan_text.specs.Lanes.{drawing_text}
 use Rattle.lock_plan_text.specs.declared.parser.named_plan.NamedPlan.{NamedPlan}
 use Rattle.lock_plan_text.specs.Drafted.{IsPlanOf}
-use Rattle.step_search.specs.Counts.{IsCountOf}
 use Rattle.lockexplore.specs.declared.arguments.Form.{Form}
 use Rattle.lockexplore.specs.declared.arguments.Form.TheVariants.{Answer, Lanes, Svg}
 use Rattle.lockexplore.specs.declared.verdict.Verdict.{Verdict}
@@ -20,11 +20,12 @@ abbrev pub verdict_of : Option (Vec Step Global) → Verdict
 verdict_of None = NeverStops
 verdict_of (Some trace) = Stops
 
--- no interleaving leads into a stop, and so many worlds can be reached; or this trace is a shortest one
-abbrev pub IsFound : List Bool → List PlanLock → List (List Place) → Option (Vec Step Global) → ℕ → Type 0
-IsFound servers locks programs None visited =
-    plans.NeverStops servers locks programs × IsCountOf (plans.IsReachableWorld locks programs) visited
-IsFound servers locks programs (Some trace) visited = plans.IsShortestStop servers locks programs trace.items
+-- no interleaving leads into a stop, and so many worlds can be reached, where those that differ only in which copy is where
+-- count as one; or this trace is a shortest one
+abbrev pub IsFound : List Bool → List Bool → List PlanLock → List (List Place) → Option (Vec Step Global) → ℕ → Type 0
+IsFound servers copies locks programs None visited =
+    plans.NeverStops servers locks programs × IsCountUpTo copies (plans.IsReachableWorld locks programs) visited
+IsFound servers copies locks programs (Some trace) visited = plans.IsShortestStop servers locks programs trace.items
 
 -- the text is the answer in this form. Nothing is said of the bytes of a picture
 abbrev pub IsTextIn : Form → NamedPlan → Option (Vec Step Global) → ℕ → List ℕ → Type 0
@@ -41,6 +42,6 @@ pub record IsPlanAnswer (form : Form) (bytes : List ℕ) (verdict : Verdict) (te
   pub plan : IsPlanOf bytes named
   pub trace : Option (Vec Step Global)
   pub visited : ℕ
-  pub found : IsFound named.plan.servers.items named.plan.locks.items (programs_of named.plan) trace visited
+  pub found : IsFound named.plan.servers.items named.plan.copies.items named.plan.locks.items (programs_of named.plan) trace visited
   pub verdict_is : verdict ≡ verdict_of trace
   pub text_is : IsTextIn form named trace visited text

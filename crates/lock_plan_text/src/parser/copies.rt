@@ -2,8 +2,11 @@
 ghost use Rattle.std.specs.Prelude.{◌≡◌, ◌↔◌, ℕ, Some, IfNone, IfOk, IfSome, IsSome, decimal, string_bytes};
 ghost use Rattle.lock_script.specs.Lines.{fields_of};
 ghost use Rattle.lock_plan_text.specs.PlanLines.{IsCount, IsCountField, copy_fields};
+ghost use Rattle.lock_plan_text.specs.Copies.{copies_in, is_copy};
+ghost use Rattle.lock_plan_text.specs.Drafted.{drafted};
 ghost use Rattle.lock_plan_text.specs.Drafts.{copy_name};
 
+use crate::parser::draft::PlanDraft;
 use itoa::Buffer;
 use lock_script::{first_field, unsigned};
 use std::alloc::{AllocError, Global};
@@ -43,4 +46,30 @@ pub(crate) fn copy_name(alloc: Global, name: &str, copy: u64) -> Result<String, 
     text.push_str(".")?;
     text.push_str(Buffer::new().format(copy))?;
     Ok(text)
+}
+
+impl PlanDraft {
+    /// Makes the list of the rows that are copies of the row before them, with a bit for each party.
+    pub(crate) fn copies_in(&self, alloc: Global) -> Result<Vec<bool>, AllocError>
+        ensures { IfOk result (λ copies. copies.items ≡ copies_in (drafted self.now)) }
+    {
+        let mut copies = Vec::new(alloc);
+        for party in 0..self.parties.len() {
+            copies.push(self.is_copy(party))?;
+        }
+        Ok(copies)
+    }
+
+    /// Returns whether a party is a further copy of a line, and no line starts it or the party before it.
+    fn is_copy(&self, party: usize) -> bool
+        ensures { result ≡ is_copy (drafted self.now) party }
+    {
+        match party.checked_sub(1) {
+            None => false,
+            Some(before) => {
+                self.copies.get(party).copied().unwrap_or(false)
+                    && !(self.starts(before) || self.starts(party))
+            }
+        }
+    }
 }

@@ -24,6 +24,8 @@ pub(crate) struct PlanDraft {
     pub(crate) parties: Vec<Vec<BlockLine>>,
     /// Whether each party is a server.
     pub(crate) servers: Vec<bool>,
+    /// Whether each party is a further copy of its line.
+    pub(crate) copies: Vec<bool>,
     /// The first party of the last line of parties. A line of a party is one of each party from there on.
     pub(crate) first: usize,
     pub(crate) numbers: Vec<Vec<u64>>,
@@ -47,6 +49,7 @@ impl PlanDraft {
             locks: Vec::new(alloc),
             parties: Vec::new(alloc),
             servers: Vec::new(alloc),
+            copies: Vec::new(alloc),
             first: 0,
             numbers: Vec::new(alloc),
             blocks: OpenBlocks::new(alloc),
@@ -168,6 +171,7 @@ impl PlanDraft {
         if place_of(self.names.parties.as_slice(), name).is_some() {
             return Ok(false);
         }
+        self.copies.push(self.first < self.parties.len())?;
         self.parties.push(Vec::new(alloc))?;
         self.numbers.push(Vec::new(alloc))?;
         self.servers.push(is_server)?;

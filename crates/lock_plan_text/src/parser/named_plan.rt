@@ -1,6 +1,8 @@
 //! Parsing a plan.
 ghost use Rattle.std.specs.Prelude.{◌≡◌, ◌⊎◌, map, Some, None, IfErr, IfOk};
 ghost use Rattle.lock_plan_text.specs.declared.parser.fault.PlanTextFault.TheVariants.{OutOfMemory};
+ghost use Rattle.lock_plan.specs.Copies.{AreAlike};
+ghost use Rattle.lock_plan_text.specs.Copies.{copies_in};
 ghost use Rattle.lock_plan_text.specs.Drafted.{IsMadeOf, IsPlanOf, drafted};
 ghost use Rattle.lock_plan_text.specs.PartyLines.{flag_program, number_of, programs_in};
 ghost use Rattle.lock_plan_text.specs.PlanFaults.{IsPlanTextFault, draft_fault, unknown_line};
@@ -41,15 +43,17 @@ pub fn parse_plan(alloc: Global, bytes: &[u8]) -> Result<NamedPlan, PlanTextFaul
 
 /// Makes the plan of a draft with no unknown party.
 fn plan_of(alloc: Global, draft: PlanDraft) -> Result<NamedPlan, PlanTextFault>
-    requires { unknown_line (drafted draft) ≡ None }
+    requires known { unknown_line (drafted draft) ≡ None }
+    requires copies { AreAlike (programs_in (drafted draft)) (drafted draft).servers (copies_in (drafted draft)) }
     ensures plan { IfOk result (IsMadeOf (drafted draft)) }
     ensures fault { IfErr result (λ fault. (draft_fault (drafted draft) ≡ Some fault) ⊎ (fault ≡ OutOfMemory)) }
 {
     let programs = programs_of(alloc, &draft)?;
+    let copies = draft.copies_in(alloc)?;
     let mut draft = draft;
     let locks = replace(&mut draft.locks, Vec::new(alloc));
     let servers = replace(&mut draft.servers, Vec::new(alloc));
-    match Plan::new(alloc, locks, programs, servers) {
+    match Plan::new(alloc, locks, programs, servers, copies) {
         Ok(plan) => Ok(NamedPlan {
             plan,
             names: draft.names,

@@ -66,7 +66,7 @@ impl PlanDraft {
     }
 
     /// Returns whether some line starts the party.
-    fn starts(&self, party: usize) -> bool
+    pub(crate) fn starts(&self, party: usize) -> bool
         ensures { result ≡ starts (drafted self.now) party }
     {
         self.is_started(name_at(self.names.parties.as_slice(), party))

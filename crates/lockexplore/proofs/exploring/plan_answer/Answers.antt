@@ -11,7 +11,7 @@ returns-clause-answer c =
       plan = c.in_ok-named.ensures.plan;
       trace = explored.trace;
       visited = explored.visited;
-      found = found_of named.plan.servers.items named.plan.locks.items (programs_of named.plan) explored.trace explored.visited c.in_ok-explored.ensures.stop
+      found = found_of named.plan.servers.items named.plan.copies.items named.plan.locks.items (programs_of named.plan) explored.trace explored.visited c.in_ok-explored.ensures.stop
           c.in_ok-explored.ensures.none c.in_ok-explored.ensures.all;
       verdict_is = c.of.ensures;
       text_is = c.in_ok-text.ensures;
