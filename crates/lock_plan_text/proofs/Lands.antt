@@ -61,7 +61,7 @@ deeper_suc depth (Word Either) is = omega arith
 deeper_suc depth (Call call) is = refl
 deeper_suc depth (Try call) is = omega arith
 deeper_suc depth (If flag) is = omega arith
-deeper_suc depth (Until flag so) is = omega arith
+deeper_suc depth (Until flag value) is = omega arith
 deeper_suc depth (Plain line) is = refl
 
 -- the first of the lines that are left, and the rest
@@ -91,7 +91,7 @@ leaves_here lines i (Word Either) rest is part = cc
 leaves_here lines i (Call call) rest is part = cc
 leaves_here lines i (Try call) rest is part = cc
 leaves_here lines i (If flag) rest is part = cc
-leaves_here lines i (Until flag so) rest is part = cc
+leaves_here lines i (Until flag value) rest is part = cc
 leaves_here lines i (Plain line) rest is part = cc
 
 -- a party that leaves the block around a line, in which so many blocks are open, does so by the next line that parts it

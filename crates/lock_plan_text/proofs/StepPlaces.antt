@@ -36,7 +36,7 @@ alone (Call call) inside past another is = refl
 alone (Plain line) inside past another is = refl
 alone (Try call) inside past another is = cc
 alone (If flag) inside past another is = cc
-alone (Until flag so) inside past another is = cc
+alone (Until flag value) inside past another is = cc
 alone (Word word) inside past another is = cc
 
 pub placed_alone : (lines : List BlockLine) (i : ℕ) (line : BlockLine) (inside : ℕ) → line ≡ line_at lines i → is_alone line ≡ true

@@ -9,7 +9,7 @@ use Rattle.lock_plan_text.specs.declared.names.Names.{Names}
 use Rattle.lock_plan_text.specs.Steps.{last_world, steps_text}
 use Rattle.lock_plan_text.specs.Stops.{stop_word, stop_lines}
 
--- the answer where no steps lead into a stop, after so many states; those that differ only in which copy is where are one
+-- the answer where no steps lead into a stop, and a search visited so many states
 abbrev pub none_text : ℕ → List ℕ
 none_text visited = codes "no deadlock, " ++ (decimal visited ++ codes " states\n")
 

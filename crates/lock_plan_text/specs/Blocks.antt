@@ -18,7 +18,7 @@ use Rattle.lock_plan_text.specs.declared.parser.plain_line.PlainLine.TheVariants
 abbrev pub begins : BlockLine → Bool
 begins (Try call) = true
 begins (If flag) = true
-begins (Until flag so) = true
+begins (Until flag value) = true
 begins (Word Repeat) = true
 begins (Word Either) = true
 begins line = false
@@ -45,7 +45,7 @@ is_or line = false
 
 -- whether a line begins a loop: from its `end`, a party goes back to it
 abbrev pub is_loop : BlockLine → Bool
-is_loop (Until flag so) = true
+is_loop (Until flag value) = true
 is_loop (Word Repeat) = true
 is_loop line = false
 
@@ -53,7 +53,7 @@ is_loop line = false
 abbrev pub line_at : List BlockLine → ℕ → BlockLine
 line_at lines i = get_or lines i (Word End)
 
--- how many blocks are open after a line, of those that were open before it; and before a line, of those open after it
+-- how many blocks are open after a line, by how many were open before it; and how many before it, by how many after it
 abbrev pub deeper : ℕ → BlockLine → ℕ
 deeper depth line = if begins line then depth + 1 else (if ends line then depth - 1 else depth)
 
@@ -79,9 +79,9 @@ beginning_from lines depth (suc i) =
 abbrev pub beginning : List BlockLine → ℕ → ℕ
 beginning lines i = beginning_from lines 0 i
 
--- where a party goes on that comes before line `i`, the first of `rest`, and leaves so many blocks first: at a call, a
--- plain line or the beginning of a block; from an `end` back to its loop, or past it; from an `else` or an `or` past its
--- block
+-- the line of the next step of a party that reaches line `i`, the first of `rest`, and that first leaves `leave`
+-- blocks: an `end` leads back to its loop, or past it; an `else` or an `or` leads past its block; past the last line
+-- the party has ended
 abbrev pub land_from : List BlockLine → ℕ → ℕ → List BlockLine → ℕ
 land_from lines leave i [] = length lines
 land_from lines leave i (line ∷ rest) =
@@ -94,7 +94,7 @@ land_from lines leave i (line ∷ rest) =
 abbrev pub land : List BlockLine → ℕ → ℕ
 land lines i = land_from lines 0 i (drop i lines)
 
--- the list has where a party goes on that comes before each line from `first` on
+-- from item `first` on, item `i` of the list is the line of the next step of a party that reaches line `i`
 abbrev pub AreLands : List BlockLine → ℕ → List ℕ → Type 0
 AreLands lines first lands = (i : ℕ) → first ≤ i → get_or lands i (length lines) ≡ land lines i
 
@@ -107,11 +107,11 @@ abbrev pub place_number : List BlockLine → ℕ → ℕ
 place_number lines zero = 0
 place_number lines (suc i) = if is_step lines i then place_number lines i + 1 else place_number lines i
 
--- where a party goes on that does not do what follows a step
+-- the line to which the other way of a step leads
 abbrev pub other_line : List BlockLine → ℕ → ℕ
 other_line lines i = if is_step lines (boundary lines i) then boundary lines i else land lines (boundary lines i + 1)
 
--- a flag is a row: it is set as a party is started
+-- a flag is a row: to set it is to start the row
 abbrev pub signal_of : PlainLine → Signal
 signal_of Idle = signal.Idle
 signal_of (Set flag) = signal.Start flag

@@ -1,4 +1,4 @@
--- On which line of the text each line of a draft stands.
+-- The line of the text that says each line of a draft.
 use Rattle.std.specs.Prelude.{◌≡◌, ℕ, ◌-◌, List, [], ◌∷◌, Some}
 use Rattle.std.specs.Bool.{⊤}
 use Rattle.std.specs.List.{Contains}
@@ -20,8 +20,8 @@ module _ {X Y : Type 0} where
 abbrev pub text_at : List ℕ → ℕ → List ℕ
 text_at bytes number = get_or (texts_of bytes) (number - 1) []
 
--- the line of a party is one of those that line `number` of the text says. A call, as one of them, is on the lock of the name
--- in the text, and does what the word there says; the same goes for flags, condition variables and mentions
+-- line `number` of the text says this line of a party: alone, or as one of the lines of a wait. Its numbers are those
+-- of the names in the text
 abbrev pub IsLineOf : (ℕ → List ℕ) → Draft → BlockLine → ℕ → Type 0
 IsLineOf text draft line number =
     (said : TextLine) × ((names : TextNames)

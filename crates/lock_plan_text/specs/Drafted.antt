@@ -29,7 +29,7 @@ drafted draft = record {
   started = map string_bytes draft.started.items;
 }
 
--- the plan and the names are those of the draft, and each act can be made
+-- the plan and the names are those of the draft, each party that a line mentions has a line, and each act can be made
 pub record IsMadeOf (draft : Draft) (named : NamedPlan) : Type 0 where
   pub locks : named.plan.locks.items ≡ draft.locks
   pub programs : programs_of named.plan ≡ programs_in draft

@@ -29,23 +29,28 @@ use Rattle.lock_plan_text.specs.OpenBlocks.{has_loop, open_after}
 use Rattle.lock_plan_text.specs.PlanLines.{Says, TextNames}
 use Rattle.lock_script.specs.Lines.{lines_of}
 
--- what lines make: locks, names, the lines of each party and their numbers, which parties are servers, and which are further
--- copies of a line of parties, the first party of the last such line, the blocks that are open; the names after `start` and
--- `join`, each once, with the first line that has it, and those after `start`
+-- what lines make
 pub record Draft : Type 0 where
   pub locks : List PlanLock
   pub lock_names : List (List ℕ)
   pub flag_names : List (List ℕ)
   pub cond_names : List (List ℕ)
+  -- the lines of each party
   pub parties : List (List BlockLine)
   pub party_names : List (List ℕ)
   pub servers : List Bool
+  -- whether each party is a further copy of its line
   pub copies : List Bool
+  -- the first party of the last line of parties
   pub first : ℕ
+  -- the number in the text of each line of each party
   pub numbers : List (List ℕ)
+  -- the blocks that are open
   pub blocks : List OpenBlock
+  -- the names after `start` and `join`, each once, and the first line with each
   pub mentions : List (List ℕ)
   pub mention_lines : List ℕ
+  -- the names after `start`
   pub started : List (List ℕ)
 
 abbrev pub no_draft : Draft
@@ -209,9 +214,9 @@ sleep_lines draft cond lock =
     ∷ block.Call (mutex_call draft (Modes (Acquire Exclusive)) lock)
     ∷ []
 
--- the same in a loop, which a party leaves where the flag is so
+-- the same in a loop, which a party leaves where the flag has this value
 abbrev pub until_lines : Draft → Bool → ℕ → ℕ → ℕ → List BlockLine
-until_lines draft so cond lock flag = block.Until flag so ∷ (sleep_lines draft cond lock ++ block.Word End ∷ [])
+until_lines draft value cond lock flag = block.Until flag value ∷ (sleep_lines draft cond lock ++ block.Word End ∷ [])
 
 abbrev pub wait_lines : Draft → WaitLine → ℕ → ℕ → List ℕ → Option (List BlockLine)
 wait_lines draft Once cond lock flag = Some (sleep_lines draft cond lock)

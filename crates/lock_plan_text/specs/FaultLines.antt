@@ -1,4 +1,4 @@
--- On which line the act of a fault, or an unknown party, stands.
+-- Which line of the text a fault names: that of its act, or the first that mentions an unknown party.
 use Rattle.std.specs.Prelude.{◌≡◌, ℕ, ◌+◌, ◌<◌, Bool, true, false, IsTrue, List, length, Some, None, is_some}
 use Rattle.lock_plan.specs.declared.fault.CallFault.{CallFault}
 use Rattle.lock_plan.specs.declared.fault.PlanFault.TheVariants as plan
@@ -29,7 +29,7 @@ IsFaultOnLine bytes draft number why =
     × (IsTrue (is_step (party_lines draft party) (own_at draft party i))
     × IsLineOf (text_at bytes) draft (line_at (lines_of_party draft party) i) number))))
 
--- an act that can never be made is told by its own line
+-- the fault of an act that can never be made names the line that says the act
 abbrev pub FaultsHaveLines : Type 0
 FaultsHaveLines = (bytes : List ℕ) (draft : Draft) (number : ℕ) (why : CallFault) → IsDraftOf bytes draft
     → draft_fault draft ≡ Some (Call number why) → IsFaultOnLine bytes draft number why
@@ -55,7 +55,7 @@ abbrev pub AreKnownAbove : List ℕ → Draft → ℕ → Type 0
 AreKnownAbove bytes draft number = (above : ℕ) (name : List ℕ) → 0 < above → above < number
     → IsMention (text_at bytes) name above → IsTrue (is_some (place_of draft.party_names name))
 
--- a party that has no line is told by the first line that mentions such a party
+-- an unknown-party fault names the first line that mentions a party which has no line
 abbrev pub UnknownsHaveLines : Type 0
 UnknownsHaveLines = (bytes : List ℕ) (draft : Draft) (number : ℕ) → IsDraftOf bytes draft
     → draft_fault draft ≡ Some (UnknownParty number) → IsUnknownOn bytes draft number × AreKnownAbove bytes draft number

@@ -31,12 +31,12 @@ abbrev pub turned_first : List OpenBlock → BlockWord → Option (List OpenBloc
 turned_first [] word = None
 turned_first (block ∷ blocks) word = option_map (λ part. listed part ++ blocks) (turned block word)
 
--- the blocks that are open after a line, if it fits
+-- the blocks that are open after a line, if it fits; a wait with `until` is a block too
 abbrev pub open_after : List OpenBlock → BlockLine → Option (List OpenBlock)
 open_after blocks (Call call) = Some blocks
 open_after blocks (Try call) = begun blocks inside.Try
 open_after blocks (If flag) = begun blocks inside.Try
-open_after blocks (Until flag so) = begun blocks inside.Repeat
+open_after blocks (Until flag value) = begun blocks inside.Repeat
 open_after blocks (Word Repeat) = begun blocks inside.Repeat
 open_after blocks (Word Either) = begun blocks inside.Either
 open_after blocks (Word word) = turned_first blocks word

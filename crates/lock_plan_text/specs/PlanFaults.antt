@@ -31,7 +31,7 @@ unknown_mention draft = position (λ name. not (is_some (place_of draft.party_na
 abbrev pub unknown_line : Draft → Option ℕ
 unknown_line draft = option_map (λ mention. get_or draft.mention_lines mention 0) (unknown_mention draft)
 
--- a fault of the plan, told by line
+-- a fault of the plan, with the line of the text in place of the party and its place
 abbrev pub by_line : Draft → PlanFault → PlanTextFault
 by_line draft (plan.Call party place fault) = Call (number_of draft party place) fault
 by_line draft plan.TooLarge = TooLarge

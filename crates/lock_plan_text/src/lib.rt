@@ -2,7 +2,8 @@
 //!
 //! [`parse_plan`] parses bytes into a plan and its names, or returns the first fault. [`write_answer`] appends what
 //! [`explore`](lock_plan::explore) found, and [`write_drawing`] the drawing below it. In the specs, `PlanLines` says what a
-//! line says, `Drafts` what the lines make, `Blocks` the program of a party's lines, and `PartyLines` all programs.
+//! line says, `Drafts` what the lines make, `Blocks` the program of a party's lines, `PartyLines` all programs, and
+//! `PlanFaults` the faults. `Answers` is the text of an answer, and `Lanes` that of a drawing.
 #![tactic(auto)]
 
 mod names;

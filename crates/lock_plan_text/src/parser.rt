@@ -1,4 +1,9 @@
 //! From the text of a plan to the plan and its names, or to its first fault.
+//!
+//! `reading` reads one line and its names. `lines` adds each line to a `draft`; `own_lines` gives the lines of a
+//! party that it says, and `open_block` tests that they fit. `party_lines` puts rows in place of names, `program`
+//! makes places of lines, and `named_plan` makes the plan.
+mod add_named;
 mod block_line;
 mod block_word;
 mod copies;
@@ -9,7 +14,6 @@ mod line_names;
 mod lines;
 mod meaning;
 mod name;
-mod named_line;
 mod named_plan;
 mod named_word;
 mod open_block;

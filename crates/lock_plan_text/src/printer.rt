@@ -1,4 +1,7 @@
 //! From what a search found to the text of the answer, to the drawing, and to the picture.
+//!
+//! `answer` is made of `step` and `stop`, with `signal` for what is no call. `lanes` is made of `cell`. All read rows
+//! by `stand`.
 mod answer;
 mod cell;
 mod lanes;

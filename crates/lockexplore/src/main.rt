@@ -1,4 +1,4 @@
-//! Reads a plan of lock calls from standard input, and prints whether it can deadlock.
+//! Reads a plan of parties from standard input, and prints whether it can deadlock.
 #![tactic(auto)]
 
 mod arguments;

@@ -6,7 +6,7 @@ use lock_plan_text::PlanTextFault;
 use std::io::{self, ErrorKind, Read};
 use std::test::Fail;
 
-/// Two sets the flag without the mutex, after one has looked and before it sleeps.
+/// Party `two` can set the flag without the mutex, after party `one` has looked at the flag and before it sleeps.
 const PLAN: &[u8] = b"mutex m\nflag f\ncondvar c\n\
 party one\ntry lock m\nwait c m until f\nunlock m\nelse\nend\n\
 party two\nset f\nnotify_one c\n";

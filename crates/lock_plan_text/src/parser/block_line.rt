@@ -2,7 +2,7 @@
 use crate::parser::plain_line::PlainLine;
 use lock_plan::PlanCall;
 
-/// A line of a party.
+/// A line of a party. A line of the text is one of these; a wait is three, or five with `until`.
 ///
 /// The number of a flag, a condition variable or a mention of a party is its place in the text's list of that kind.
 /// Before a program is made, the number of a flag or a mention becomes that of its row.
@@ -11,9 +11,9 @@ pub(crate) enum BlockLine {
     Call(PlanCall),
     Try(PlanCall),
     Word(BlockWord),
-    /// Begins a block that asks a flag: its first part is for true, and its `else` for false.
+    /// Begins a block that branches on a flag: its first part is for true, and its `else` for false.
     If(usize),
-    /// Begins a loop, which a party leaves where the flag is so.
+    /// Begins a loop, which a party leaves where the flag has this value.
     Until(usize, bool),
     Plain(PlainLine),
 }

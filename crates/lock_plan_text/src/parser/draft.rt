@@ -28,6 +28,7 @@ pub(crate) struct PlanDraft {
     pub(crate) copies: Vec<bool>,
     /// The first party of the last line of parties. A line of a party is one of each party from there on.
     pub(crate) first: usize,
+    /// The number in the text of each line of each party.
     pub(crate) numbers: Vec<Vec<u64>>,
     /// The blocks of the last line of parties that are open.
     pub(crate) blocks: OpenBlocks,

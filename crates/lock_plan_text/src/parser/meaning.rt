@@ -1,4 +1,4 @@
-//! What texts of plans are: each has one draft, each call has its line, and machines can be the locks.
+//! What texts of plans are: each has one draft, each line of a party comes from its line, and machines can be locks.
 ghost use Rattle.lock_plan_text.specs.CallOrigins.{CallsHaveLines};
 ghost use Rattle.lock_plan_text.specs.Drafted.{TextsFitMachines};
 ghost use Rattle.lock_plan_text.specs.FaultLines.{FaultsHaveLines, UnknownsHaveLines};
@@ -12,8 +12,8 @@ pub fn texts_have_one_meaning()
     ensures good { DraftsAreGood }
 {}
 
-/// Each line of a draft is what the line of the text with its number says. An act that can never be made is told by it. A
-/// party that has no line is told by the first line that starts or joins such a party.
+/// Each line of a draft is one that the line of the text with its number says. A `Call` fault names the line of its
+/// act. An `UnknownParty` fault names the first line that starts or joins a party which has no line.
 pub fn calls_have_lines()
     ensures calls { CallsHaveLines }
     ensures faults { FaultsHaveLines }

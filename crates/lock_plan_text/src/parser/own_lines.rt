@@ -115,23 +115,25 @@ impl PlanDraft {
         Ok(Some(lines))
     }
 
-    /// Returns the lines of a loop of waits, which a party leaves where the flag is so.
+    /// Returns the lines of a loop of waits, which a party leaves where the flag has this value, unless the flag has no
+    /// line.
     fn until_lines(
         &self,
         alloc: Global,
-        so: bool,
+        value: bool,
         cond: usize,
         lock: usize,
         flag: &str,
     ) -> Result<Option<Vec<BlockLine>>, AllocError>
         ensures { IfOk result (λ lines. option_map (λ v. v.items) lines
-            ≡ option_map (until_lines (drafted self.now) so cond lock) (place_of (drafted self.now).flag_names flag.now)) }
+            ≡ option_map (until_lines (drafted self.now) value cond lock)
+            (place_of (drafted self.now).flag_names flag.now)) }
     {
         let Some(flag) = place_of(self.names.flags.as_slice(), flag) else {
             return Ok(None);
         };
         let mut lines = Vec::new(alloc);
-        lines.push(BlockLine::Until(flag, so))?;
+        lines.push(BlockLine::Until(flag, value))?;
         lines.push(BlockLine::Call(self.unlock(lock)))?;
         lines.push(BlockLine::Plain(PlainLine::Sleep(cond)))?;
         lines.push(BlockLine::Call(self.lock(lock)))?;

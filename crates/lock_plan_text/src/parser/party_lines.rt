@@ -78,7 +78,7 @@ impl PlanDraft {
     {
         let found = match line {
             BlockLine::If(flag) => BlockLine::If(self.flag_row(flag)?),
-            BlockLine::Until(flag, so) => BlockLine::Until(self.flag_row(flag)?, so),
+            BlockLine::Until(flag, value) => BlockLine::Until(self.flag_row(flag)?, value),
             BlockLine::Plain(line) => BlockLine::Plain(self.plain_in_rows(line)?),
             BlockLine::Call(_) | BlockLine::Try(_) | BlockLine::Word(_) => line,
         };

@@ -2,7 +2,7 @@
 
 /// A line of a party with one place after it.
 ///
-/// Its numbers are those of a [`BlockLine`](crate::parser::block_line::BlockLine).
+/// A number means what it means in a [`BlockLine`](crate::parser::block_line::BlockLine).
 #[derive(Clone, Copy, PartialEq, Eq, Debug)]
 pub(crate) enum PlainLine {
     /// Where a party that is started waits for its start. No line of a text says it.

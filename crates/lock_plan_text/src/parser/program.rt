@@ -122,7 +122,7 @@ fn two_ways(act: Act, next: usize, other: usize) -> Place
     Place { act, next, other }
 }
 
-/// Returns the signal of a plain line. A flag is set as a party is started.
+/// Returns the signal of a plain line. To set a flag is to start its row.
 fn signal_of(line: PlainLine) -> Signal
     ensures { result ≡ signal_of line }
 {
@@ -144,7 +144,7 @@ fn count_before(counts: &[usize], line: usize) -> usize
     counts.get(line).copied().unwrap_or(0)
 }
 
-/// Returns the line at which a party goes on that does not do what follows a step.
+/// Returns the line to which the other way of a step leads.
 fn other_line(lines: &[BlockLine], lands: &[usize], line: usize) -> usize
     requires line { line < length lines.now }
     requires lands { AreLands lines.now 0 lands.now }

@@ -85,7 +85,7 @@ fn beginning(lines: &[BlockLine], line: usize) -> usize
     0
 }
 
-/// Returns for each line the line of the step at which a party goes on that comes before it.
+/// Returns for each line the line of the next step of a party that reaches it.
 pub(crate) fn lands(alloc: Global, lines: &[BlockLine]) -> Result<Vec<usize>, AllocError>
     ensures { IfOk result (λ lands. AreLands lines.now 0 lands.items) }
 {
@@ -99,7 +99,7 @@ pub(crate) fn lands(alloc: Global, lines: &[BlockLine]) -> Result<Vec<usize>, Al
     Ok(lands)
 }
 
-/// Looks up the line of the step at which a party goes on that comes before a line. The number of all lines is the end.
+/// Looks up the line of the next step of a party that reaches a line. The number of all lines is the end.
 pub(crate) fn land_in(lines: &[BlockLine], lands: &[usize], line: usize) -> usize
     requires { AreLands lines.now line lands.now }
     ensures value { result ≡ land lines.now line }
@@ -108,7 +108,7 @@ pub(crate) fn land_in(lines: &[BlockLine], lands: &[usize], line: usize) -> usiz
     lands.get(line).copied().unwrap_or(lines.len())
 }
 
-/// Returns the line of the step at which a party goes on that comes before a line, by those of the lines after it.
+/// Returns the line of the next step of a party that reaches a line, given those of the lines after it.
 fn land(lines: &[BlockLine], lands: &[usize], line: usize) -> usize
     requires within { line < length lines.now }
     requires lands { AreLands lines.now (line + 1) lands.now }

@@ -44,7 +44,7 @@ pub(crate) fn write_cell(
     }
 }
 
-/// Appends a cell after a step: whether the party made it, and what the party holds.
+/// Appends a cell after a step: whether the party made it, what the party holds, and whether it sleeps.
 fn write_step_cell(
     alloc: Global,
     text: &mut String,
