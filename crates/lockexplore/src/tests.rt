@@ -49,7 +49,9 @@ fn refused_memory_explore(rt: HostRuntime) -> Result<(), Fail> {
     let mut kept = [0u8; 512];
     let mut out = kept.as_mut_slice();
     let told = explore_plan(rt.alloc(), Form::Lanes, &mut plan, &mut out);
-    let is_answered = told == Ok(Verdict::Stops) && kept.starts_with(ANSWER);
+    let is_answered = told == Ok(Verdict::Stops)
+        && kept.starts_with(ANSWER)
+        && kept[ANSWER.len()..].iter().all(|byte| *byte == 0);
     let is_refused = told == Err(PlanTextFault::OutOfMemory) && kept == [0u8; 512];
     if is_answered || is_refused {
         return Ok(());

@@ -10,7 +10,7 @@ use std::alloc::{AllocError, Global};
 impl PlanDraft {
     ghost use Rattle.std.specs.Prelude.{◌≡◌, Some, None, IfOk, OnOk, if◌then◌else◌};
     ghost use Rattle.lock_plan_text.specs.declared.parser.named_word.NamedWord.TheVariants.{Flag, Condvar};
-    ghost use Rattle.lock_plan_text.specs.Drafts.{is_started, may_start, with_mention, with_named, with_start};
+    ghost use Rattle.lock_plan_text.specs.Drafts.{is_started, may_start, with_mention, with_named};
     ghost use Rattle.lock_plan_text.specs.Drafted.{drafted};
     ghost use Rattle.lock_plan_text.specs.PlanLines.{names_of, one_name};
 

@@ -3,7 +3,7 @@ ghost use Rattle.std.specs.Prelude.{◌≡◌, ◌↔◌, ◌∷◌, [], ℕ, Bo
 ghost use Rattle.lock_base.specs.declared.machine.kind.Kind.TheVariants.{RwLock, Reentrant};
 ghost use Rattle.lock_base.specs.Limits.{IsLimit};
 ghost use Rattle.lock_script.specs.Lines.{fields_of};
-ghost use Rattle.lock_plan_text.specs.PlanLines.{IsLimitField, IsLineLock, limit_fields};
+ghost use Rattle.lock_plan_text.specs.PlanLines.{IsLimitField, limit_fields};
 
 use lock_base::machine::Kind;
 use lock_plan::PlanLock;
