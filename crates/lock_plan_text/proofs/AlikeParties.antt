@@ -1,8 +1,8 @@
 -- The copies of a draft's plan have the programs of the parties before them.
-use Rattle.std.proofs.Common.{◌≡◌, ◌∙◌, ℕ, suc, ◌<◌, Bool, true, false, not, List, [], ◌++◌, length, get_or, map, refl, sym, ap, ap₂, arith, inl, inr}
+use Rattle.std.proofs.Common.{◌≡◌, ◌∙◌, ℕ, suc, ◌<◌, Bool, true, false, not, List, [], ◌++◌, length, get_or, map, sym, ap, ap₂, arith, inl, inr}
 use Rattle.std.specs.Prelude.{◌||◌}
 use Rattle.std.proofs.Math.ListN.{get_or-append}
-use Rattle.std.proofs.lemmas.Bool.{and_parts, cases_lt}
+use Rattle.std.proofs.lemmas.Bool.{and_parts, or_parts, not-true, cases_lt}
 use Rattle.std.proofs.lemmas.List.{get_or_past}
 use Rattle.std.proofs.lemmas.Option.{get_or_from_slice_get}
 use Rattle.step_search.specs.Walks.{each_below}
@@ -18,11 +18,6 @@ use Rattle.lock_plan_text.proofs.DraftCopies.{HasCopies, has_copies}
 
 each_at : {X : Type 0} (f : ℕ → X) (n i : ℕ) (d : X) → i < n → get_or (each_below f n) i d ≡ f i
 each_at f n i d less = get_or_from_slice_get (each_below f n) i (f i) d (each_get f n i less)
-
-neither : (a b : Bool) → not (a || b) ≡ true → (a ≡ false) × (b ≡ false)
-neither true b e = cc
-neither false true e = cc
-neither false false e = (refl, refl)
 
 module _ (draft : Draft) (copied : HasCopies draft) where
   abbrev programs : List (List Place)
@@ -51,7 +46,7 @@ module _ (draft : Draft) (copied : HasCopies draft) where
       let here = copy_at row e in
       let both = and_parts (get_or draft.copies (suc row) false) (not (starts draft row || starts draft (suc row))) here.1 in
       let next = copied.each row both.0 in
-      let none = neither (starts draft row) (starts draft (suc row)) both.1 in
+      let none = or_parts (starts draft row) (starts draft (suc row)) (not-true (starts draft row || starts draft (suc row)) both.1) in
       record {
         program = program_at (suc row) here.0
             ∙ ap₂ lines_from none.1 next.lines

@@ -5,15 +5,14 @@ use Rattle.std.proofs.Math.ListN.{get_or-append}
 use Rattle.std.proofs.lemmas.Bool.{ltb-true}
 use Rattle.lock_plan_text.specs.declared.parser.block_line.BlockLine.{BlockLine}
 use Rattle.lock_plan_text.specs.declared.parser.named_word.NamedWord.{NamedWord}
-use Rattle.lock_plan_text.specs.declared.parser.named_word.NamedWord.TheVariants.{Flag, Condvar, Start, Join}
 use Rattle.lock_plan_text.specs.declared.parser.open_block.OpenBlock.{OpenBlock}
 use Rattle.lock_plan_text.specs.declared.parser.plan_line.PlanLine.TheVariants.{Lock, Party, Named}
 use Rattle.lock_plan_text.specs.declared.parser.text_line.TextLine.{TextLine}
 use Rattle.lock_plan_text.specs.declared.parser.text_line.TextLine.TheVariants.{Plan}
-use Rattle.lock_plan_text.specs.Drafts.{Draft, IsDraftOf, Make, is_further, is_open, may_start, no_draft, onto_from, own_lines, party_names, place_of, texts_of, with_cond, with_flag, with_line, with_lock, with_mention, with_named, with_own, with_parties, with_party, with_said, with_start}
+use Rattle.lock_plan_text.specs.Drafts.{Draft, IsDraftOf, Make, is_further, is_open, no_draft, onto_from, own_lines, party_names, place_of, texts_of, with_line, with_lock, with_mention, with_named, with_own, with_parties, with_party, with_said}
 use Rattle.lock_plan_text.specs.PlanLines.{TextNames}
 use Rattle.lock_plan_text.proofs.FitLocks.{any_lines}
-use Rattle.lock_plan_text.proofs.Origins.{let_in, own_lines_kept, parties_kept, passed, said_lines, taken}
+use Rattle.lock_plan_text.proofs.Origins.{named_kept, own_lines_kept, parties_kept, passed, said_lines, taken}
 
 module _ {X : Type 0} where
   -- an item that is added to each list from a place on is added to two neighbours, or to neither
@@ -92,17 +91,10 @@ copied_mention draft number name copied = by_test (is_some (place_of draft.menti
 
 copied_named : (draft next : Draft) (number : ℕ) (word : NamedWord) (names : TextNames) → HasCopies draft
     → with_named draft number word names ≡ Some next → HasCopies next
-copied_named draft next number Flag names copied is =
-    subst HasCopies (taken (is_open draft || is_some (place_of draft.flag_names names.name)) (with_flag draft names.name) next is) copied
-copied_named draft next number Condvar names copied is =
-    subst HasCopies (taken (is_open draft || is_some (place_of draft.cond_names names.name)) (with_cond draft names.name) next is) copied
-copied_named draft next number Start names copied is =
-    let after = with_start (with_mention draft number names.name) names.name in
-    copied_said after next number (Plan (Named Start)) names (copied_mention draft number names.name copied)
-    (let_in (may_start draft names.name) (with_said after number (Plan (Named Start)) names) next is)
-copied_named draft next number Join names copied is =
-    copied_said (with_mention draft number names.name) next number (Plan (Named Join)) names (copied_mention draft number names.name copied) is
-copied_named draft next number word names copied is = copied_said draft next number (Plan (Named word)) names copied is
+copied_named draft next number word names copied is =
+    let mentioned = copied_mention draft number names.name copied in
+    named_kept HasCopies draft next number word names copied copied mentioned mentioned
+    (λ from ok said. copied_said from next number (Plan (Named word)) names ok said) copied is
 
 -- a draft in the course of a line of parties: those of this line have no lines yet, and are servers alike
 record Begun (serves : Bool) (draft : Draft) : Type 0 where

@@ -10,14 +10,13 @@ use Rattle.lock_plan.specs.declared.lock.PlanLock.{PlanLock}
 use Rattle.lock_plan.specs.Checks.{fit_machines, fits_kind, fits_machine}
 use Rattle.lock_plan_text.specs.declared.parser.block_line.BlockLine.{BlockLine}
 use Rattle.lock_plan_text.specs.declared.parser.named_word.NamedWord.{NamedWord}
-use Rattle.lock_plan_text.specs.declared.parser.named_word.NamedWord.TheVariants.{Flag, Condvar, Start, Join}
 use Rattle.lock_plan_text.specs.declared.parser.plan_line.PlanLine.TheVariants.{Lock, Party, Named}
 use Rattle.lock_plan_text.specs.declared.parser.text_line.TextLine.{TextLine}
 use Rattle.lock_plan_text.specs.declared.parser.text_line.TextLine.TheVariants.{Plan}
 use Rattle.lock_plan_text.specs.Drafted.{TextsFitMachines}
-use Rattle.lock_plan_text.specs.Drafts.{Draft, Make, is_open, may_start, no_draft, own_lines, place_of, texts_of, party_names, with_cond, with_flag, with_line, with_lock, with_mention, with_named, with_parties, with_said, with_start}
+use Rattle.lock_plan_text.specs.Drafts.{Draft, Make, is_open, no_draft, own_lines, place_of, texts_of, party_names, with_line, with_lock, with_mention, with_named, with_parties, with_said}
 use Rattle.lock_plan_text.specs.PlanLines.{IsLineLock, IsTextLine, TextNames}
-use Rattle.lock_plan_text.proofs.Origins.{let_in, own_lines_kept, parties_kept, passed, said_lines, taken}
+use Rattle.lock_plan_text.proofs.Origins.{named_kept, own_lines_kept, parties_kept, passed, said_lines, taken}
 
 -- the locks of the draft fit machines
 abbrev Fit : Draft → Type 0
@@ -52,17 +51,10 @@ fit_mention draft number name fit = by_test (is_some (place_of draft.mentions na
 
 fit_named : (draft next : Draft) (number : ℕ) (word : NamedWord) (names : TextNames) → Fit draft → with_named draft number word names ≡ Some next
     → Fit next
-fit_named draft next number Flag names fit is =
-    subst Fit (taken (is_open draft || is_some (place_of draft.flag_names names.name)) (with_flag draft names.name) next is) fit
-fit_named draft next number Condvar names fit is =
-    subst Fit (taken (is_open draft || is_some (place_of draft.cond_names names.name)) (with_cond draft names.name) next is) fit
-fit_named draft next number Start names fit is =
-    let after = with_start (with_mention draft number names.name) names.name in
-    fit_said after next number (Plan (Named Start)) names (fit_mention draft number names.name fit)
-    (let_in (may_start draft names.name) (with_said after number (Plan (Named Start)) names) next is)
-fit_named draft next number Join names fit is =
-    fit_said (with_mention draft number names.name) next number (Plan (Named Join)) names (fit_mention draft number names.name fit) is
-fit_named draft next number word names fit is = fit_said draft next number (Plan (Named word)) names fit is
+fit_named draft next number word names fit is =
+    let mentioned = fit_mention draft number names.name fit in
+    named_kept Fit draft next number word names fit fit mentioned mentioned
+    (λ from ok said. fit_said from next number (Plan (Named word)) names ok said) fit is
 
 fit_line : (draft next : Draft) (number : ℕ) (line : TextLine) (names : TextNames) → Fit draft → IsTextLine line
     → with_line draft number line names ≡ Some next → Fit next

@@ -83,6 +83,23 @@ pub said_lines : (draft next : Draft) (number : ℕ) (o : Option (List BlockLine
 said_lines draft next number None is = cc
 said_lines draft next number (Some lines) is = (lines, (refl, is))
 
+-- what a flag, a condition variable, a mention, a start and the lines of a party keep, a line of a word and a name keeps
+pub named_kept : (P : Draft → Type 0) (draft next : Draft) (number : ℕ) (word : NamedWord) (names : TextNames)
+    → P (with_flag draft names.name) → P (with_cond draft names.name) → P (with_mention draft number names.name)
+    → P (with_start (with_mention draft number names.name) names.name)
+    → ((from : Draft) → P from → with_said from number (Plan (Named word)) names ≡ Some next → P next)
+    → P draft → with_named draft number word names ≡ Some next → P next
+named_kept P draft next number Flag names flagged conded mentioned started said kept is =
+    subst P (taken (is_open draft || is_some (place_of draft.flag_names names.name)) (with_flag draft names.name) next is) flagged
+named_kept P draft next number Condvar names flagged conded mentioned started said kept is =
+    subst P (taken (is_open draft || is_some (place_of draft.cond_names names.name)) (with_cond draft names.name) next is) conded
+named_kept P draft next number Start names flagged conded mentioned started said kept is =
+    let after = with_start (with_mention draft number names.name) names.name in
+    said after started (let_in (may_start draft names.name) (with_said after number (Plan (Named Start)) names) next is)
+named_kept P draft next number Join names flagged conded mentioned started said kept is =
+    said (with_mention draft number names.name) mentioned is
+named_kept P draft next number word names flagged conded mentioned started said kept is = said draft kept is
+
 -- all lines that another draft of the same names has are what the text says
 record Grown (text : ℕ → List ℕ) (start draft : Draft) : Type 0 where
   keeps : Keeps start draft
