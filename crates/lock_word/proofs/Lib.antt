@@ -9,7 +9,5 @@ pub mod LastLoads
 pub mod Sound
 pub mod AlikeBars
 pub mod Unblocking
-pub mod Mutex
-pub mod Wakes
 pub mod Distinct
 pub mod SeatKeeps

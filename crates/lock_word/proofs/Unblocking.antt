@@ -11,9 +11,8 @@ use Rattle.lock_word.specs.declared.want.ExWant.{ExWant}
 use Rattle.lock_word.specs.declared.want.ExWant.TheVariants.{Shared, Exclusive, Upgradable, Upgrade, Announce}
 use Rattle.lock_word.specs.BarredBags.{is_barred}
 use Rattle.lock_word.specs.Word.{word_of, word_admits, readers_of_word, want_of_mode, barred_bag_of_word, IsPacked}
-use Rattle.lock_word.specs.Unblocking.{occupancy_of_word, may_proceed, may_upgrade, newly_may_proceed}
-use Rattle.lock_word.specs.Sleepers.{is_awaited}
-use Rattle.lock_word.specs.WakeLaws.{ExchangesUnblockNobody, UnblocksMissesNobody}
+use Rattle.lock_word.specs.Unblocking.{is_awaited, occupancy_of_word, may_proceed, may_upgrade, newly_may_proceed}
+use Rattle.lock_word.specs.UnblockingLaws.{ExchangesUnblockNobody, UnblocksMissesNobody}
 use Rattle.lock_word.proofs.Words.{both_below, both_tests, one_of, is_one_of, same_tests, permits_of_word, word_of_permits, word_admits_mode}
 
 -- an exclusive hold is admitted on a free word, or under the party's own bar alone

@@ -2,15 +2,13 @@ pub mod BarredBags
 pub mod Holders
 pub mod Word
 pub mod Unblocking
+pub mod UnblockingLaws
 pub mod WordLaws
 pub mod BarLaws
 pub mod Turns
 pub mod Rule
 pub mod Worlds
 pub mod Claims
-pub mod Sleepers
-pub mod Wakes
-pub mod WakeLaws
 pub mod Seats
 pub mod Plays
 pub mod CallerView

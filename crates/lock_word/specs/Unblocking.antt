@@ -1,5 +1,5 @@
 -- Which waiters a step unblocks.
-use Rattle.std.specs.Prelude.{ℕ, Bool, true, not, ◌&&◌, ◌||◌}
+use Rattle.std.specs.Prelude.{ℕ, Bool, true, false, not, ◌&&◌, ◌||◌}
 use Rattle.lock_base.specs.declared.machine.mode.Mode.{Mode}
 use Rattle.lock_base.specs.declared.machine.mode.Mode.TheVariants.{Shared, Exclusive, Upgradable}
 use Rattle.lock_base.specs.declared.machine.mode_step.ModeStep.TheVariants.{Change}
@@ -8,6 +8,8 @@ use Rattle.lock_base.specs.Modes.{admits, may_become}
 use Rattle.lock_base.specs.ModeRuns.{has}
 use Rattle.lock_base.specs.Bar.{passes_bar}
 use Rattle.lock_word.specs.declared.occupancy.Occupancy.{Occupancy}
+use Rattle.lock_word.specs.declared.want.ExWant.{ExWant}
+use Rattle.lock_word.specs.declared.want.ExWant.TheVariants as want
 use Rattle.lock_word.specs.BarredBags.{is_barred}
 use Rattle.lock_word.specs.Word.{bag_of_word, barred_bag_of_word}
 
@@ -18,6 +20,14 @@ occupancy bar b = record { bag = b; barred = bar }
 -- those that the word encodes
 abbrev pub occupancy_of_word : ℕ → Occupancy
 occupancy_of_word word = occupancy (is_barred (barred_bag_of_word word)) (bag_of_word word)
+
+-- what a waiter may wait for: every exchange but an announcement
+abbrev pub is_awaited : ExWant → Bool
+is_awaited want.Shared = true
+is_awaited want.Exclusive = true
+is_awaited want.Upgradable = true
+is_awaited want.Upgrade = true
+is_awaited want.Announce = false
 
 -- a waiter for the mode may proceed: under the bar only the writer that set it
 abbrev pub may_proceed : ℕ → Occupancy → Mode → Bool
@@ -38,3 +48,7 @@ unblocks limit before after =
     || (newly_may_proceed limit before after Exclusive
     || (newly_may_proceed limit before after Upgradable
     || (not (may_upgrade before) && may_upgrade after)))
+
+-- whether the change from one word to the other unblocks some waiter
+abbrev pub word_unblocks : ℕ → ℕ → ℕ → Bool
+word_unblocks limit before after = unblocks limit (occupancy_of_word before) (occupancy_of_word after)

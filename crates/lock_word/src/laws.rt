@@ -2,7 +2,7 @@
 ghost use Rattle.lock_word.specs.WordLaws.{ExchangesRefineSteps, SubtractionsRefineSteps, EncodingIsInjective};
 ghost use Rattle.lock_word.specs.BarLaws.{BarEncodingsAgree};
 ghost use Rattle.lock_word.specs.Claims.{EveryInterleaving};
-ghost use Rattle.lock_word.specs.WakeLaws.{ExchangesUnblockNobody, UnblocksMissesNobody, StepsKeepWakes};
+ghost use Rattle.lock_word.specs.UnblockingLaws.{ExchangesUnblockNobody, UnblocksMissesNobody};
 
 /// An exchange refines a step on the bag: the word admits it exactly where the bag and the bar permit the step, and the
 /// new word is that of the new bag.
@@ -42,14 +42,4 @@ pub fn exchanges_unblock_nobody()
 /// first. It need not know which of the waiters set the bar.
 pub fn unblocks_misses_nobody()
     ensures { UnblocksMissesNobody }
-{}
-
-/// Each kind of step of any party keeps the rule by which no wake-up is lost. While a sleeper waits for what the word
-/// admits, some party is due to wake it. In a lock at rest, the word refuses every sleeper.
-///
-/// A lock that wakes one has one token and no bar. There, an epoch may have ended since the word last changed. In such a
-/// lock at rest, no party has left its sleep since, if all have looked. That the thread which ended the epoch then wakes
-/// one sleeper is in its code, and the rule does not say it.
-pub fn steps_keep_wakes()
-    ensures { StepsKeepWakes }
 {}

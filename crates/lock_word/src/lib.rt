@@ -7,7 +7,6 @@ mod laws;
 mod occupancy;
 mod party;
 pub mod seated;
-mod sleeper;
 mod step;
 mod want;
 mod word;
@@ -15,11 +14,10 @@ mod word;
 pub use down::Down;
 pub use laws::{
     bar_encodings_agree, encoding_is_injective, every_interleaving, exchanges_refine_steps,
-    exchanges_unblock_nobody, steps_keep_wakes, subtractions_refine_steps, unblocks_misses_nobody,
+    exchanges_unblock_nobody, subtractions_refine_steps, unblocks_misses_nobody,
 };
 pub use occupancy::{Occupancy, unblocks};
 pub use party::WorldParty;
-pub use sleeper::{Debt, SleeperView, WakeLimits, Watch};
 pub use step::{AtomicStep, Outcome};
 pub use want::ExWant;
 pub use word::{has_bar, has_exclusive, has_tokens, with_bar};

@@ -2,6 +2,7 @@
 use crate::machine::PartyId;
 use crate::raw::{Fault, MAX_LIMIT, is_limit};
 use std::marker::Model;
+use std::mem;
 
 /// The limit of levels of a lock that is made without one.
 pub const DEFAULT_LEVELS: u64 = MAX_LIMIT;
@@ -52,8 +53,8 @@ impl<K> Default for Levels<K> {
     }
 }
 
-impl<K: Drop> Levels<K> {
-    ghost use Rattle.std.specs.Prelude.{◌≡◌, ◌<◌, ◌≤◌, ◌↔◌, IsTrue, IsOk, IsErr, IsSome, IsNone, IfOk, IfErr, IfSome, IfNone, ◌==◌};
+impl<K> Levels<K> {
+    ghost use Rattle.std.specs.Prelude.{◌≡◌, ◌<◌, ◌≤◌, ◌↔◌, None, Some, IsTrue, IsOk, IsErr, IsSome, IsNone, IfOk, IfErr, IfSome, IfNone, ◌==◌};
     ghost use Rattle.std.specs.Bool.{MatchBool};
     ghost use Rattle.lock_base.specs.Limits.{IsLimit};
     ghost use Rattle.lock_base.specs.Party.{id_of};
@@ -132,7 +133,7 @@ impl<K: Drop> Levels<K> {
         if self.is_owned() {
             return Some(token);
         }
-        self.owner = Some(Owner {
+        self.put(Owner {
             party,
             count: 1,
             token,
@@ -177,10 +178,24 @@ impl<K: Drop> Levels<K> {
         ensures { self.new ≡ at_level self.old level }
     {
         if let Some(owner) = self.owner.take() {
-            self.owner = Some(Owner {
+            self.put(Owner {
                 count: level,
                 ..owner
             });
+        }
+    }
+
+    /// Puts an owner where there is none.
+    fn put(&mut self, owner: Owner<K>)
+        requires owner { (0 < owner.count) × (owner.count ≤ self.old.limit) }
+        requires none { self.old.owner ≡ None }
+        ensures { self.new ≡ record self.old {
+          owner = Some (record { party = id_of owner.party; count = owner.count; token = owner.token });
+        } }
+    {
+        match mem::replace(&mut self.owner, Some(owner)) {
+            Some(_owner) => unreachable!(),
+            None => {}
         }
     }
 

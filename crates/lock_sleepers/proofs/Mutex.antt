@@ -2,7 +2,7 @@
 use Rattle.std.proofs.Common.{◌≡◌, ℕ, not, ◌^◌, ◌<◌, Bool, true, false, ◌||◌, IsTrue, refl, arith}
 use Rattle.lock_word.specs.declared.want.ExWant.{ExWant}
 use Rattle.lock_word.specs.Word.{word_admits, word_after}
-use Rattle.lock_word.specs.Sleepers.{is_awaited}
+use Rattle.lock_word.specs.Unblocking.{is_awaited}
 
 -- in a lock that wakes one, what one may want is awaited
 pub awaited_where_one : (awaited one : Bool) → IsTrue (awaited || not one) → IsTrue one → IsTrue awaited

@@ -3,17 +3,17 @@ use Rattle.std.specs.Prelude.{◌≡◌, ◌≢◌, ℕ, ◌+◌, ◌-◌, ◌^�
 use Rattle.lock_base.specs.Holds.{hold_has}
 use Rattle.lock_word.specs.declared.want.ExWant.{ExWant}
 use Rattle.lock_word.specs.declared.down.Down.{Down}
-use Rattle.lock_word.specs.declared.sleeper.WakeLimits.{WakeLimits}
-use Rattle.lock_word.specs.declared.sleeper.Watch.{Watch}
-use Rattle.lock_word.specs.declared.sleeper.Watch.TheVariants.{Away, Counted, Since, Woken, Restarts}
-use Rattle.lock_word.specs.declared.sleeper.Debt.{Debt}
-use Rattle.lock_word.specs.declared.sleeper.Debt.TheVariants.{Nothing, Owes, OwesAt}
-use Rattle.lock_word.specs.declared.sleeper.SleeperView.{SleeperView}
+use Rattle.lock_sleepers.specs.declared.sleeper.WakeLimits.{WakeLimits}
+use Rattle.lock_sleepers.specs.declared.sleeper.Watch.{Watch}
+use Rattle.lock_sleepers.specs.declared.sleeper.Watch.TheVariants.{Away, Counted, Since, Woken, Restarts}
+use Rattle.lock_sleepers.specs.declared.sleeper.Debt.{Debt}
+use Rattle.lock_sleepers.specs.declared.sleeper.Debt.TheVariants.{Nothing, Owes, OwesAt}
+use Rattle.lock_sleepers.specs.declared.sleeper.SleeperView.{SleeperView}
 use Rattle.lock_word.specs.Word.{word_after, amount, step_of_want, step_of_down}
-use Rattle.lock_word.specs.Unblocking.{occupancy_of_word, unblocks}
+use Rattle.lock_word.specs.Unblocking.{is_awaited, word_unblocks}
 use Rattle.lock_word.specs.Turns.{idle, with_load, without_load, after_win, after_fail}
 use Rattle.lock_word.specs.Rule.{KeepsRule}
-use Rattle.lock_word.specs.Sleepers.{states_of, changes_of, closed_count, count_of_watch, count_of_sleepers, is_awaited, admits_to, NoneIsForgotten, WokenAreToLook}
+use Rattle.lock_sleepers.specs.Sleepers.{states_of, changes_of, closed_count, count_of_watch, count_of_sleepers, admits_to, NoneIsForgotten, EndsArePast}
 
 -- a watched epoch is past or present, and not the last
 abbrev pub IsWithin : WakeLimits → ℕ → Watch → Type 0
@@ -37,11 +37,11 @@ pub record KeepsWakes (limits : WakeLimits) (word count epoch : ℕ) (views : Li
   -- a party that begins the epochs anew is alone: no waiter is counted
   pub alone : (k : ℕ) (v : SleeperView) → slice_get views k ≡ Some v → v.watch ≡ Restarts → count ≡ closed_count
   pub none_forgotten : NoneIsForgotten limits word epoch views
-  pub woken : WokenAreToLook word views
+  pub ended_past : EndsArePast views
 
 -- a party that has done nothing yet
 abbrev pub new_sleeper : SleeperView
-new_sleeper = record { state = idle; watch = Away; debt = Nothing; left_at = None; ended_at = None }
+new_sleeper = record { state = idle; watch = Away; debt = Nothing; ended_at = None }
 
 abbrev pub with_watch : SleeperView → Watch → SleeperView
 with_watch v watch = record v { watch = watch }
@@ -79,19 +79,17 @@ may_want limits want = is_awaited want || not limits.wakes_one
 abbrev pub debt_after : Bool → Debt → Debt
 debt_after unblocked debt = if unblocked then Owes else debt
 
--- whether the change from one word to the other unblocks some waiter
-abbrev pub word_unblocks : ℕ → ℕ → ℕ → Bool
-word_unblocks limit before after = unblocks limit (occupancy_of_word before) (occupancy_of_word after)
-
 -- whether a take that changes one word to the other has to wake: in a lock that wakes one, always
 abbrev pub has_to_wake : WakeLimits → ℕ → ℕ → Bool
 has_to_wake limits before after = limits.wakes_one || word_unblocks limits.readers before after
 
+-- a take changes the word, so no epoch has ended since
 abbrev pub view_after_take : WakeLimits → ℕ → SleeperView → Down → SleeperView
 view_after_take limits word v down =
     record v {
       state = after_win v.state (step_of_down down);
       debt = debt_after (has_to_wake limits word (word - amount down)) v.debt;
+      ended_at = None;
     }
 
 -- a counted party has loaded the epoch, and has to look at the word again
@@ -103,18 +101,16 @@ abbrev pub watch_after_sleep : Option ℕ → Watch
 watch_after_sleep None = Away
 watch_after_sleep (Some looked) = Woken
 
--- it notes how often the word has changed
-abbrev pub left_after_sleep : Option ℕ → ℕ → Option ℕ → Option ℕ
-left_after_sleep None changes left_at = left_at
-left_after_sleep (Some looked) changes left_at = Some changes
+abbrev pub view_after_sleep : SleeperView → SleeperView
+view_after_sleep v = record v { watch = watch_after_sleep v.state.loaded }
 
-abbrev pub view_after_sleep : ℕ → SleeperView → SleeperView
-view_after_sleep changes v =
-    record v { watch = watch_after_sleep v.state.loaded; left_at = left_after_sleep v.state.loaded changes v.left_at }
+-- a party knows whether it ended an epoch, and not how often the word had changed
+abbrev pub without_number : Option ℕ → Option ℕ
+without_number None = None
+without_number (Some changes) = Some 0
 
--- the view without what the party noted, which it does not know itself
-abbrev pub unnoted : SleeperView → SleeperView
-unnoted v = record v { left_at = None; ended_at = None }
+abbrev pub unnumbered : SleeperView → SleeperView
+unnumbered v = record v { ended_at = without_number v.ended_at }
 
 -- a party that has ended an epoch notes how often the word has changed
 abbrev pub view_after_end : ℕ → SleeperView → SleeperView
@@ -136,7 +132,7 @@ pub record EachStepKeeps (limits : WakeLimits) (word count epoch : ℕ) (views :
   pub counts_in : me.watch ≡ Away → count + 1 < closed_count
       → KeepsWakes limits word (count + 1) epoch (slice_set views k (with_watch me Counted))
   pub counts_out : count_of_watch me.watch ≡ 1
-      → KeepsWakes limits word (count - 1) epoch (slice_set views k (view_after_sleep (changes_of views) me))
+      → KeepsWakes limits word (count - 1) epoch (slice_set views k (view_after_sleep me))
   pub finds_none : count ≡ 0 → KeepsWakes limits word count epoch (slice_set views k (with_debt me Nothing))
   -- on the epoch
   pub watches : count_of_watch me.watch ≡ 1 → epoch < limits.last_epoch
@@ -144,7 +140,8 @@ pub record EachStepKeeps (limits : WakeLimits) (word count epoch : ℕ) (views :
   pub finds_last : limits.last_epoch ≤ epoch
       → KeepsWakes limits word count epoch (slice_set views k (with_debt me Nothing))
   pub notes : me.debt ≢ Nothing → KeepsWakes limits word count epoch (slice_set views k (with_debt me (OwesAt epoch)))
-  pub ends : KeepsWakes limits word count (epoch + 1) (slice_set views k (view_after_end (changes_of views) me))
+  pub ends : me.debt ≡ OwesAt epoch
+      → KeepsWakes limits word count (epoch + 1) (slice_set views k (view_after_end (changes_of views) me))
   pub finds_ended : (owed : ℕ) → me.debt ≡ OwesAt owed → epoch ≢ owed
       → KeepsWakes limits word count epoch (slice_set views k (with_debt me Nothing))
   -- where no waiter is counted, a party may close the count, begin the epochs anew, and open the count again

@@ -1,16 +1,16 @@
 -- Waiters that sleep: who sleeps, who is due to wake them, and that no sleeper is forgotten.
-use Rattle.std.specs.Prelude.{◌≡◌, ◌≢◌, ℕ, ◌^◌, ◌<◌, ◌≤◌, Bool, true, false, ◌⊎◌, List, map, sum_by, slice_get, Some, ⊤, IsTrue}
+use Rattle.std.specs.Prelude.{◌≡◌, ℕ, ◌^◌, ◌<◌, ◌≤◌, Bool, false, ◌⊎◌, List, map, sum_by, slice_get, Some, ⊤, IsTrue}
 use Rattle.lock_base.specs.Holds.{hold_has}
 use Rattle.lock_word.specs.declared.want.ExWant.{ExWant}
-use Rattle.lock_word.specs.declared.want.ExWant.TheVariants.{Shared, Exclusive, Upgradable, Upgrade, Announce}
 use Rattle.lock_word.specs.declared.party.WorldParty.{WorldParty}
-use Rattle.lock_word.specs.declared.sleeper.WakeLimits.{WakeLimits}
-use Rattle.lock_word.specs.declared.sleeper.Watch.{Watch}
-use Rattle.lock_word.specs.declared.sleeper.Watch.TheVariants.{Away, Counted, Since, Woken, Restarts}
-use Rattle.lock_word.specs.declared.sleeper.Debt.{Debt}
-use Rattle.lock_word.specs.declared.sleeper.Debt.TheVariants.{Nothing, Owes, OwesAt}
-use Rattle.lock_word.specs.declared.sleeper.SleeperView.{SleeperView}
+use Rattle.lock_sleepers.specs.declared.sleeper.WakeLimits.{WakeLimits}
+use Rattle.lock_sleepers.specs.declared.sleeper.Watch.{Watch}
+use Rattle.lock_sleepers.specs.declared.sleeper.Watch.TheVariants.{Away, Counted, Since, Woken, Restarts}
+use Rattle.lock_sleepers.specs.declared.sleeper.Debt.{Debt}
+use Rattle.lock_sleepers.specs.declared.sleeper.Debt.TheVariants.{Nothing, Owes, OwesAt}
+use Rattle.lock_sleepers.specs.declared.sleeper.SleeperView.{SleeperView}
 use Rattle.lock_word.specs.Word.{word_admits, step_of_want}
+use Rattle.lock_word.specs.Unblocking.{is_awaited}
 use Rattle.lock_word.specs.Rule.{all_wins}
 
 -- the views' states on the word
@@ -35,14 +35,6 @@ count_of_watch Restarts = closed_count
 
 abbrev pub count_of_sleepers : List SleeperView → ℕ
 count_of_sleepers views = sum_by (λ (v : SleeperView). count_of_watch v.watch) views
-
--- what a waiter may wait for: every exchange but an announcement
-abbrev pub is_awaited : ExWant → Bool
-is_awaited Shared = true
-is_awaited Exclusive = true
-is_awaited Upgradable = true
-is_awaited Upgrade = true
-is_awaited Announce = false
 
 -- whether the word admits to the party what it wants
 abbrev pub admits_to : ℕ → ℕ → SleeperView → ExWant → Bool
@@ -85,37 +77,26 @@ pub record EpochHasEnded (views : List SleeperView) : Type 0 where
   pub is : slice_get views number ≡ Some view
   pub ended : view.ended_at ≡ Some (changes_of views)
 
--- the lock wakes one sleeper, and an epoch has ended since the word last changed: its wake-up follows or was made
-abbrev pub OneIsWoken : WakeLimits → List SleeperView → Type 0
-OneIsWoken limits views = IsTrue limits.wakes_one × EpochHasEnded views
+-- the lock wakes one, a sleeper watches a past epoch, and an epoch has ended since the word last changed
+abbrev pub OneIsWoken : WakeLimits → ℕ → ℕ → List SleeperView → Type 0
+OneIsWoken limits epoch watched views = IsTrue limits.wakes_one × (watched < epoch) × EpochHasEnded views
 
 -- THE THEOREM: if a party sleeps and the word admits what it waits for, some party is due, or one is woken
 abbrev pub NoneIsForgotten : WakeLimits → ℕ → ℕ → List SleeperView → Type 0
 NoneIsForgotten limits word epoch views =
-    (k : ℕ) (v : SleeperView) (want : ExWant) → slice_get views k ≡ Some v → Sleeps limits epoch v want
-    → IsTrue (admits_to limits.readers word v want) → SomeoneIsDue epoch views ⊎ OneIsWoken limits views
+    (k : ℕ) (v : SleeperView) (want : ExWant) → slice_get views k ≡ Some v → (sleeps : Sleeps limits epoch v want)
+    → IsTrue (admits_to limits.readers word v want)
+    → SomeoneIsDue epoch views ⊎ OneIsWoken limits epoch sleeps.watched views
 
--- what a party noted is past; and if it left its sleep since the word last changed, it has to look, unless the word is taken
-pub record LooksOnceWoken (word changes : ℕ) (v : SleeperView) : Type 0 where
-  pub past : (left : ℕ) → v.left_at ≡ Some left → left ≤ changes
-  pub looks : v.left_at ≡ Some changes → word ≡ 0 → v.watch ≡ Woken
-
--- each party that left its sleep since the word last changed looks at it, before it does anything else
-abbrev pub WokenAreToLook : ℕ → List SleeperView → Type 0
-WokenAreToLook word views =
-    (k : ℕ) (v : SleeperView) → slice_get views k ≡ Some v → LooksOnceWoken word (changes_of views) v
+-- the word has changed at least as often as when a party ended an epoch
+abbrev pub EndsArePast : List SleeperView → Type 0
+EndsArePast views =
+    (k : ℕ) (v : SleeperView) → slice_get views k ≡ Some v → (ended : ℕ) → v.ended_at ≡ Some ended
+    → ended ≤ changes_of views
 
 -- no party is in the middle of a release
 abbrev pub IsAtRest : List SleeperView → Type 0
 IsAtRest views = (k : ℕ) (v : SleeperView) → slice_get views k ≡ Some v → v.debt ≡ Nothing
-
--- no party has yet to look at the word after its sleep
-abbrev pub HaveLooked : List SleeperView → Type 0
-HaveLooked views = (k : ℕ) (v : SleeperView) → slice_get views k ≡ Some v → v.watch ≢ Woken
-
--- no party has left its sleep since the word last changed
-abbrev pub NoneHasLeft : List SleeperView → Type 0
-NoneHasLeft views = (k : ℕ) (v : SleeperView) → slice_get views k ≡ Some v → v.left_at ≢ Some (changes_of views)
 
 -- the word refuses each sleeper what it waits for
 abbrev pub SleepersAreRefused : WakeLimits → ℕ → ℕ → List SleeperView → Type 0
@@ -123,9 +104,8 @@ SleepersAreRefused limits word epoch views =
     (k : ℕ) (v : SleeperView) (want : ExWant) → slice_get views k ≡ Some v → Sleeps limits epoch v want
     → admits_to limits.readers word v want ≡ false
 
--- if a party sleeps and the word is free, an epoch has ended since the word last changed, and the sleeper that its
--- wake-up wakes has not left its sleep yet
-abbrev pub FreeWordWakesOne : WakeLimits → ℕ → ℕ → List SleeperView → Type 0
-FreeWordWakesOne limits word epoch views =
-    (k : ℕ) (v : SleeperView) (want : ExWant) → slice_get views k ≡ Some v → Sleeps limits epoch v want
-    → IsTrue (admits_to limits.readers word v want) → word ≡ 0 → EpochHasEnded views × NoneHasLeft views
+-- if a party sleeps and the word admits what it waits for, one is woken
+abbrev pub AdmittedAreWoken : WakeLimits → ℕ → ℕ → List SleeperView → Type 0
+AdmittedAreWoken limits word epoch views =
+    (k : ℕ) (v : SleeperView) (want : ExWant) → slice_get views k ≡ Some v → (sleeps : Sleeps limits epoch v want)
+    → IsTrue (admits_to limits.readers word v want) → OneIsWoken limits epoch sleeps.watched views

@@ -1,6 +1,6 @@
 //! What the rule of a lock whose waiters sleep keeps of a party.
 
-use crate::party::WorldParty;
+use lock_word::WorldParty;
 
 /// The limits of a lock whose waiters sleep.
 #[derive(Clone, Copy, PartialEq, Eq, Debug)]
@@ -37,14 +37,12 @@ pub enum Debt {
     OwesAt(u64),
 }
 
-/// The rule's view of a party: its state on the word, its way to sleep, its debt, and what it noted. It exists in
+/// The rule's view of a party: its state on the word, its way to sleep, its debt, and when it ended an epoch. It exists in
 /// contracts only.
 pub struct SleeperView {
     pub state: WorldParty,
     pub watch: Watch,
     pub debt: Debt,
-    /// How often the word had changed when the party last left its sleep.
-    pub left_at: Option<u64>,
-    /// How often the word had changed when the party last ended an epoch.
+    /// How often the word had changed when the party ended an epoch after its last take, if it did.
     pub ended_at: Option<u64>,
 }

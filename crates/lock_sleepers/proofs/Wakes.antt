@@ -16,17 +16,19 @@ use Rattle.lock_word.proofs.Holders.{sum_by-slice_set, le-sum_by}
 use Rattle.lock_word.proofs.Rules.{all_wins_set, changed_or_not, slice_set_same, keeps_load, keeps_unloaded, keeps_lost, keeps_exchange, keeps_take, keeps_newcomer, shows, element_of_longer}
 use Rattle.lock_word.proofs.Bars.{other_stays}
 use Rattle.lock_word.proofs.Reached.{packed_word}
-use Rattle.lock_word.specs.declared.sleeper.WakeLimits.{WakeLimits}
-use Rattle.lock_word.specs.declared.sleeper.Watch.{Watch}
-use Rattle.lock_word.specs.declared.sleeper.Watch.TheVariants.{Away, Counted, Since, Woken, Restarts}
-use Rattle.lock_word.specs.declared.sleeper.Debt.{Debt}
-use Rattle.lock_word.specs.declared.sleeper.Debt.TheVariants.{Nothing, OwesAt}
-use Rattle.lock_word.specs.declared.sleeper.SleeperView.{SleeperView}
-use Rattle.lock_word.specs.Sleepers.{states_of, changes_of, closed_count, count_of_watch, count_of_sleepers, is_awaited, admits_to, Sleeps, IsDue, SomeoneIsDue, OneIsWoken, NoneIsForgotten, LooksOnceWoken, WokenAreToLook, IsAtRest, HaveLooked, SleepersAreRefused, FreeWordWakesOne}
-use Rattle.lock_word.specs.Wakes.{IsWithin, IsMutexWord, KeepsWakes, new_sleeper, with_watch, with_debt, after_exchange, after_look, view_after_load, view_after_win, view_after_loss, may_want, debt_after, word_unblocks, has_to_wake, view_after_take, view_after_epoch, watch_after_sleep, left_after_sleep, view_after_sleep, view_after_end, EachStepKeeps}
-use Rattle.lock_word.specs.WakeLaws.{StepsKeepWakes}
+use Rattle.lock_sleepers.specs.declared.sleeper.WakeLimits.{WakeLimits}
+use Rattle.lock_sleepers.specs.declared.sleeper.Watch.{Watch}
+use Rattle.lock_sleepers.specs.declared.sleeper.Watch.TheVariants.{Away, Counted, Since, Woken, Restarts}
+use Rattle.lock_sleepers.specs.declared.sleeper.Debt.{Debt}
+use Rattle.lock_sleepers.specs.declared.sleeper.Debt.TheVariants.{Nothing, OwesAt}
+use Rattle.lock_sleepers.specs.declared.sleeper.SleeperView.{SleeperView}
+use Rattle.lock_word.specs.Unblocking.{is_awaited}
+use Rattle.lock_sleepers.specs.Sleepers.{states_of, changes_of, closed_count, count_of_watch, count_of_sleepers, admits_to, Sleeps, IsDue, SomeoneIsDue, EpochHasEnded, OneIsWoken, NoneIsForgotten, EndsArePast, IsAtRest, SleepersAreRefused, AdmittedAreWoken}
+use Rattle.lock_word.specs.Unblocking.{word_unblocks}
+use Rattle.lock_sleepers.specs.Wakes.{IsWithin, IsMutexWord, KeepsWakes, new_sleeper, with_watch, with_debt, after_exchange, after_look, view_after_load, view_after_win, view_after_loss, may_want, debt_after, has_to_wake, view_after_take, view_after_epoch, watch_after_sleep, view_after_sleep, view_after_end, EachStepKeeps}
+use Rattle.lock_sleepers.specs.WakeLaws.{StepsKeepWakes}
 use Rattle.lock_word.proofs.Unblocking.{exchanges_unblock_nobody, unblocks_misses_nobody}
-use Rattle.lock_word.proofs.Mutex.{awaited_where_one, stays_unbarred, refuses_once_taken}
+use Rattle.lock_sleepers.proofs.Mutex.{awaited_where_one, stays_unbarred, refuses_once_taken}
 
 -- lists of views of which one is changed
 
@@ -73,43 +75,31 @@ changes_longer views =
     let none : all_wins (idle ∷ []) ≡ 0 = refl in
     ap all_wins longer ∙ omega arith
 
--- who has to look
+-- when epochs ended
 
-looks_after : (word new changes : ℕ) (views : List SleeperView) (k : ℕ) (you : SleeperView) → WokenAreToLook word views
-    → changes_of (slice_set views k you) ≡ changes → LooksOnceWoken new changes you
-    → ((v : SleeperView) → LooksOnceWoken word (changes_of views) v → LooksOnceWoken new changes v)
-    → WokenAreToLook new (slice_set views k you)
-looks_after word new changes views k you woken total own others j v is =
-    subst (λ c. LooksOnceWoken new c v) (sym total)
-    (elim (changed_or_not views k j you v is) [
-      | inl e ↦ subst (LooksOnceWoken new changes) (sym e.1) own
-      | inr e ↦ others v (woken j v e.1)
-    ])
+past_after : (later : ℕ) (views : List SleeperView) (k : ℕ) (you : SleeperView) → EndsArePast views
+    → changes_of (slice_set views k you) ≡ later → changes_of views ≤ later
+    → ((ended : ℕ) → you.ended_at ≡ Some ended → ended ≤ later) → EndsArePast (slice_set views k you)
+past_after later views k you past total least own j v is ended noted =
+    elim (changed_or_not views k j you v is) [
+      | inl e ↦ (let mine = own ended (sym (ap (λ (w : SleeperView). w.ended_at) e.1) ∙ noted) in omega arith)
+      | inr e ↦ (let before = past j v e.1 ended noted in omega arith)
+    ]
 
 -- the word stays
-still_looks : (word : ℕ) (views : List SleeperView) (k : ℕ) (me you : SleeperView) → slice_get views k ≡ Some me
-    → WokenAreToLook word views → you.state.wins ≡ me.state.wins → you.left_at ≡ me.left_at
-    → (word ≡ 0 → me.watch ≡ Woken → you.watch ≡ Woken) → WokenAreToLook word (slice_set views k you)
-still_looks word views k me you at woken wins left watch =
-    let mine = woken k me at in
-    looks_after word word (changes_of views) views k you woken (same_changes views k me you at wins)
-    record { past = λ n e. mine.past n (sym left ∙ e); looks = λ e free. watch free (mine.looks (sym left ∙ e) free) }
-    (λ v h. h)
+still_past : (views : List SleeperView) (k : ℕ) (me you : SleeperView) → slice_get views k ≡ Some me → EndsArePast views
+    → you.state.wins ≡ me.state.wins → you.ended_at ≡ me.ended_at → EndsArePast (slice_set views k you)
+still_past views k me you at past wins same =
+    past_after (changes_of views) views k you past (same_changes views k me you at wins) (omega arith)
+    (λ ended noted. past k me at ended (sym same ∙ noted))
 
--- the word changes, so nobody has left its sleep since
-looks_anew : (word new : ℕ) (views : List SleeperView) (k : ℕ) (me you : SleeperView) → slice_get views k ≡ Some me
-    → WokenAreToLook word views → you.state.wins ≡ me.state.wins + 1 → you.left_at ≡ me.left_at
-    → WokenAreToLook new (slice_set views k you)
-looks_anew word new views k me you at woken wins left =
-    looks_after word new (changes_of views + 1) views k you woken (one_more views k me you at wins)
-    (anew you (λ n e. (woken k me at).past n (sym left ∙ e))) (λ v h. anew v h.past)
-  where
-    anew : (v : SleeperView) → ((n : ℕ) → v.left_at ≡ Some n → n ≤ changes_of views) → LooksOnceWoken new (changes_of views + 1) v
-    anew v past =
-        record {
-          past = λ n e. let least = past n e in omega arith;
-          looks = λ e free. let least = past (changes_of views + 1) e in absurd (omega arith);
-        }
+-- the word changes
+past_anew : (views : List SleeperView) (k : ℕ) (me you : SleeperView) → slice_get views k ≡ Some me → EndsArePast views
+    → you.state.wins ≡ me.state.wins + 1 → ((ended : ℕ) → you.ended_at ≡ Some ended → me.ended_at ≡ Some ended)
+    → EndsArePast (slice_set views k you)
+past_anew views k me you at past wins same =
+    past_after (changes_of views + 1) views k you past (one_more views k me you at wins) (omega arith)
+    (λ ended noted. let before = past k me at ended (same ended noted) in omega arith)
 
 -- who is due
 
@@ -139,43 +129,52 @@ due_here : (epoch : ℕ) (views : List SleeperView) (k : ℕ) (me you : SleeperV
     → IsDue epoch you.debt → SomeoneIsDue epoch (slice_set views k you)
 due_here epoch views k me you at due = record { number = k; view = you; is = placed views k me you at; due = due }
 
--- one is still woken where the word stays, and the one who changed has ended what it had
-woken_after : (limits : WakeLimits) (views : List SleeperView) (k : ℕ) (me you : SleeperView) → slice_get views k ≡ Some me
-    → you.state.wins ≡ me.state.wins → you.ended_at ≡ me.ended_at → OneIsWoken limits views → OneIsWoken limits (slice_set views k you)
-woken_after limits views k me you at wins ended woken =
-    let by = woken.1 in
-    let total = same_changes views k me you at wins in (
-      woken.0,
-      elim (cases_eq by.number k) [
-        | inl e ↦
-            (let found : slice_get views k ≡ Some by.view = subst (λ n. slice_get views n ≡ Some by.view) e by.is in
-            let same : by.view ≡ me = same_Some by.view me (sym found ∙ at) in
-            record {
-              number = k;
-              view = you;
-              is = placed views k me you at;
-              ended = ended ∙ (sym (ap (λ (v : SleeperView). v.ended_at) same) ∙ (by.ended ∙ ap Some (sym total)));
-            })
-        | inr other ↦ record {
-          number = by.number;
-          view = by.view;
-          is = other_stays views k by.number you by.view other by.is;
-          ended = by.ended ∙ ap Some (sym total);
-        }
-      ],
-    )
+-- an epoch has still ended where the word stays, and the one who changed has ended what it had
+ended_after : (views : List SleeperView) (k : ℕ) (me you : SleeperView) → slice_get views k ≡ Some me
+    → you.state.wins ≡ me.state.wins → you.ended_at ≡ me.ended_at → EpochHasEnded views → EpochHasEnded (slice_set views k you)
+ended_after views k me you at wins ended by =
+    let total = same_changes views k me you at wins in
+    elim (cases_eq by.number k) [
+      | inl e ↦
+          (let found : slice_get views k ≡ Some by.view = subst (λ n. slice_get views n ≡ Some by.view) e by.is in
+          let same : by.view ≡ me = same_Some by.view me (sym found ∙ at) in
+          record {
+            number = k;
+            view = you;
+            is = placed views k me you at;
+            ended = ended ∙ (sym (ap (λ (v : SleeperView). v.ended_at) same) ∙ (by.ended ∙ ap Some (sym total)));
+          })
+      | inr other ↦ record {
+        number = by.number;
+        view = by.view;
+        is = other_stays views k by.number you by.view other by.is;
+        ended = by.ended ∙ ap Some (sym total);
+      }
+    ]
 
 -- what was so before a step of one party, and stays so
 record Stays (limits : WakeLimits) (word : ℕ) (views later : List SleeperView) (v : SleeperView) (want : ExWant) : Type 0 where
   admitted : IsTrue (admits_to limits.readers word v want)
-  woken : OneIsWoken limits views → OneIsWoken limits later
+  ended : IsTrue limits.wakes_one → EpochHasEnded views → EpochHasEnded later
+
+-- a sleeper watches one epoch
+abbrev watched_of : Watch → ℕ
+watched_of Away = 0
+watched_of Counted = 0
+watched_of (Since epoch) = epoch
+watched_of Woken = 0
+watched_of Restarts = 0
+
+same_watched : (limits : WakeLimits) (epoch : ℕ) (v w : SleeperView) (want : ExWant) (s : Sleeps limits epoch v want)
+    (t : Sleeps limits epoch w want) → v.watch ≡ w.watch → s.watched ≡ t.watched
+same_watched limits epoch v w want s t same = ap watched_of (sym s.watches ∙ (same ∙ t.watches))
 
 -- none is forgotten after a step of one party, which leaves the epoch
 forgets_none : (limits : WakeLimits) (word new epoch : ℕ) (views : List SleeperView) (k : ℕ) (me you : SleeperView)
     → slice_get views k ≡ Some me → NoneIsForgotten limits word epoch views
     → (IsDue epoch me.debt → IsDue epoch you.debt)
     → ((want : ExWant) → Sleeps limits epoch you want → IsTrue (admits_to limits.readers new you want)
-    → Sleeps limits epoch me want × Stays limits word views (slice_set views k you) me want)
+    → Sleeps limits epoch me want × (me.watch ≡ you.watch) × Stays limits word views (slice_set views k you) me want)
     → ((j : ℕ) (v : SleeperView) (want : ExWant) → slice_get views j ≡ Some v → Sleeps limits epoch v want
     → IsTrue (admits_to limits.readers new v want) → Stays limits word views (slice_set views k you) v want ⊎ IsDue epoch you.debt)
     → NoneIsForgotten limits new epoch (slice_set views k you)
@@ -184,18 +183,22 @@ forgets_none limits word new epoch views k me you at none still own others j v w
       | inl e ↦
           (let before = own want (subst (λ (w : SleeperView). Sleeps limits epoch w want) e.1 sleeps)
           (subst (λ (w : SleeperView). IsTrue (admits_to limits.readers new w want)) e.1 admitted) in
-          now before.1.woken (none k me want at before.0 before.1.admitted))
+          let watch : me.watch ≡ v.watch = before.1 ∙ sym (ap (λ (w : SleeperView). w.watch) e.1) in
+          now before.0.watched sleeps.watched (same_watched limits epoch me v want before.0 sleeps watch) before.2.ended
+          (none k me want at before.0 before.2.admitted))
       | inr e ↦
           elim (others j v want e.1 sleeps admitted) [
-            | inl before ↦ now before.woken (none j v want e.1 sleeps before.admitted)
+            | inl before ↦ now sleeps.watched sleeps.watched refl before.ended (none j v want e.1 sleeps before.admitted)
             | inr due ↦ inl (due_here epoch views k me you at due)
           ]
     ]
   where
-    now : (OneIsWoken limits views → OneIsWoken limits (slice_set views k you)) → SomeoneIsDue epoch views ⊎ OneIsWoken limits views
-        → SomeoneIsDue epoch (slice_set views k you) ⊎ OneIsWoken limits (slice_set views k you)
-    now woken (inl due) = inl (due_after epoch views k me you at still due)
-    now woken (inr one) = inr (woken one)
+    now : (was watched : ℕ) → was ≡ watched
+        → (IsTrue limits.wakes_one → EpochHasEnded views → EpochHasEnded (slice_set views k you))
+        → SomeoneIsDue epoch views ⊎ OneIsWoken limits epoch was views
+        → SomeoneIsDue epoch (slice_set views k you) ⊎ OneIsWoken limits epoch watched (slice_set views k you)
+    now was watched same ended (inl due) = inl (due_after epoch views k me you at still due)
+    now was watched same ended (inr one) = inr (one.0, subst (λ n. n < epoch) same one.1, ended one.0 one.2)
 
 -- nobody sleeps at all
 nobody_sleeps : (limits : WakeLimits) (word epoch : ℕ) (views : List SleeperView)
@@ -236,10 +239,6 @@ looks_on word w = either (word == 0)
     either true = same_way w
     either false = exchanges_on w
 
--- a woken party that finds the word free still has to look
-looks_at_free : (word : ℕ) (w : Watch) → word ≡ 0 → w ≡ Woken → after_look word w ≡ Woken
-looks_at_free word w free woken = subst (λ n. after_look n w ≡ Woken) (sym free) woken
-
 -- a step of one party, as far as the rule speaks of each by itself
 keeps_in : (limits : WakeLimits) (word new count counted epoch later : ℕ) (views : List SleeperView) (k : ℕ) (me you : SleeperView)
     → slice_get views k ≡ Some me → KeepsWakes limits word count epoch views
@@ -248,9 +247,9 @@ keeps_in : (limits : WakeLimits) (word new count counted epoch later : ℕ) (vie
     → ((w : Watch) → IsWithin limits epoch w → IsWithin limits later w) → IsWithin limits later you.watch
     → ((j : ℕ) (v : SleeperView) → slice_get (slice_set views k you) j ≡ Some v → v.watch ≡ Restarts
     → counted ≡ count_of_sleepers (slice_set views k you) → counted ≡ closed_count)
-    → IsMutexWord limits new → NoneIsForgotten limits new later (slice_set views k you) → WokenAreToLook new (slice_set views k you)
+    → IsMutexWord limits new → NoneIsForgotten limits new later (slice_set views k you) → EndsArePast (slice_set views k you)
     → KeepsWakes limits new counted later (slice_set views k you)
-keeps_in limits word new count counted epoch later views k me you at kept rule counts passes within alone mutex none woken =
+keeps_in limits word new count counted epoch later views k me you at kept rule counts passes within alone mutex none past =
     let total = sum_by-slice_set (λ (v : SleeperView). count_of_watch v.watch) views k me you at in
     let before = kept.counted in
     let sum : counted ≡ count_of_sleepers (slice_set views k you) = omega arith in
@@ -265,7 +264,7 @@ keeps_in limits word new count counted epoch later views k me you at kept rule c
       alone = λ j v is restarts. alone j v is restarts sum;
       mutex = mutex;
       none_forgotten = none;
-      woken = woken;
+      ended_past = past;
     }
 
 -- the party stays counted, or not
@@ -273,9 +272,9 @@ keeps : (limits : WakeLimits) (word new count counted epoch later : ℕ) (views 
     → slice_get views k ≡ Some me → KeepsWakes limits word count epoch views
     → KeepsRule limits.readers new (slice_set (states_of views) k you.state) → GoesOn me.watch you.watch → counted ≡ count
     → ((w : Watch) → IsWithin limits epoch w → IsWithin limits later w)
-    → IsMutexWord limits new → NoneIsForgotten limits new later (slice_set views k you) → WokenAreToLook new (slice_set views k you)
+    → IsMutexWord limits new → NoneIsForgotten limits new later (slice_set views k you) → EndsArePast (slice_set views k you)
     → KeepsWakes limits new counted later (slice_set views k you)
-keeps limits word new count counted epoch later views k me you at kept rule on same passes mutex none woken =
+keeps limits word new count counted epoch later views k me you at kept rule on same passes mutex none past =
     let weight = on.count in
     keeps_in limits word new count counted epoch later views k me you at kept rule (omega arith) passes
     (on.within limits later (passes me.watch (kept.within k me at)))
@@ -284,7 +283,7 @@ keeps limits word new count counted epoch later views k me you at kept rule on s
       | inl e ↦ same ∙ kept.alone k me at (on.restarts (sym (ap (λ (w : SleeperView). w.watch) e.1) ∙ restarts))
       | inr e ↦ same ∙ kept.alone j v e.1 restarts
     ])
-    mutex none woken
+    mutex none past
 
 -- the count is not that of a restart
 not_closed : (counted : ℕ) (views : List SleeperView) → counted < closed_count → (j : ℕ) (v : SleeperView)
@@ -330,7 +329,7 @@ module _ (limits : WakeLimits) (word count epoch : ℕ) (views : List SleeperVie
   stays : (you v : SleeperView) (want : ExWant) → you.state.wins ≡ me.state.wins → you.ended_at ≡ me.ended_at
       → IsTrue (admits_to limits.readers word v want) → Stays limits word views (slice_set views k you) v want
   stays you v want wins ended admitted =
-      record { admitted = admitted; woken = woken_after limits views k me you at wins ended }
+      record { admitted = admitted; ended = λ one. ended_after views k me you at wins ended }
 
   -- a step that leaves the word, after which the party does not sleep, or not for what the word admits
   none_on : (you : SleeperView) → you.state.wins ≡ me.state.wins → you.ended_at ≡ me.ended_at
@@ -350,7 +349,7 @@ module _ (limits : WakeLimits) (word count epoch : ℕ) (views : List SleeperVie
       (none_on you refl refl (λ d. d) (λ want sleeps admitted.
       let same : word ≡ sleeps.looked = same_Some word sleeps.looked sleeps.found in
       true≢false (sym admitted ∙ (ap (λ w. admits_to limits.readers w me want) same ∙ sleeps.refused))))
-      (still_looks word views k me you at kept.woken refl refl (looks_at_free word me.watch))
+      (still_past views k me you at kept.ended_past refl refl)
 
   exchange : (want : ExWant) → IsTrue (hold_has me.state.held (step_of_want want)) → IsTrue (admits_to limits.readers word me want)
       → IsTrue (may_want limits want)
@@ -374,11 +373,11 @@ module _ (limits : WakeLimits) (word count epoch : ℕ) (views : List SleeperVie
       admitted in
       inl record {
         admitted = before;
-        woken = λ woken.
+        ended = λ one has_ended.
             absurd (refuses_once_taken me.state.held.announced v.state.held.announced limits.readers word want other
-            (kept.mutex.one_token woken.0) (awaited woken.0) sleeps.awaited admits before admitted);
+            (kept.mutex.one_token one) (awaited one) sleeps.awaited admits before admitted);
       }))
-      (looks_anew word new views k me you at kept.woken refl refl)
+      (past_anew views k me you at kept.ended_past refl (λ ended noted. noted))
 
   lost : (loaded : ℕ) → me.state.loaded ≡ Some loaded → word ≢ loaded
       → KeepsWakes limits word count epoch (slice_set views k (view_after_loss word me))
@@ -388,7 +387,7 @@ module _ (limits : WakeLimits) (word count epoch : ℕ) (views : List SleeperVie
       (keeps_lost limits.readers word (states_of views) k loaded me.state kept.rule there was differs) (looks_on word me.watch) refl
       (λ w h. h) kept.mutex
       (none_on you refl refl (λ d. d) (λ other sleeps admitted. let found = sleeps.found in cc))
-      (still_looks word views k me you at kept.woken refl refl (looks_at_free word me.watch))
+      (still_past views k me you at kept.ended_past refl refl)
 
   take : (down : Down) → IsTrue (hold_has me.state.held (step_of_down down))
       → KeepsWakes limits (word - amount down) count epoch (slice_set views k (view_after_take limits word me down))
@@ -411,10 +410,10 @@ module _ (limits : WakeLimits) (word count epoch : ℕ) (views : List SleeperVie
                   unblocks_misses_nobody v.state.held.announced limits.readers word new other range
                   (packed_word limits.readers word (states_of views) range kept.rule)
                   (packed_word limits.readers new (slice_set (states_of views) k you.state) range rule) sleeps.awaited two.1 admitted;
-              woken = λ woken. absurd (true≢false (sym woken.0 ∙ two.0));
+              ended = λ one has_ended. absurd (true≢false (sym one ∙ two.0));
             })
       ]))
-      (looks_anew word new views k me you at kept.woken refl refl)
+      (past_anew views k me you at kept.ended_past refl (λ ended noted. cc))
 
   counts_in : me.watch ≡ Away → count + 1 < closed_count
       → KeepsWakes limits word (count + 1) epoch (slice_set views k (with_watch me Counted))
@@ -425,7 +424,7 @@ module _ (limits : WakeLimits) (word count epoch : ℕ) (views : List SleeperVie
       (same_rule limits.readers word views k me at kept.rule) (omega arith) (λ w h. h) tt
       (not_closed (count + 1) (slice_set views k you) few) kept.mutex
       (none_on you refl refl (λ d. d) (λ other sleeps admitted. let watches = sleeps.watches in cc))
-      (still_looks word views k me you at kept.woken refl refl (λ free woken. cc))
+      (still_past views k me you at kept.ended_past refl refl)
 
   -- while one is counted, nobody restarts
   few_while_counted : count_of_watch me.watch ≡ 1 → (j : ℕ) (v : SleeperView) (you : SleeperView)
@@ -449,47 +448,28 @@ module _ (limits : WakeLimits) (word count epoch : ℕ) (views : List SleeperVie
             omega arith)
       ]
 
-  -- a counted party is not woken
-  not_woken : count_of_watch me.watch ≡ 1 → me.watch ≡ Woken → ⊥
-  not_woken one woken = let none : count_of_watch me.watch ≡ 0 = ap count_of_watch woken in omega arith
-
   -- a party that is not counted any more
-  counts_out_as : (you : SleeperView) → count_of_watch me.watch ≡ 1 → count_of_watch you.watch ≡ 0 → you.state ≡ me.state
-      → you.ended_at ≡ me.ended_at → you.debt ≡ me.debt → WokenAreToLook word (slice_set views k you)
-      → KeepsWakes limits word (count - 1) epoch (slice_set views k you)
-  counts_out_as you one none state ended debt woken =
+  counts_out_as : (watch : Watch) → count_of_watch me.watch ≡ 1 → count_of_watch watch ≡ 0
+      → KeepsWakes limits word (count - 1) epoch (slice_set views k (with_watch me watch))
+  counts_out_as watch one none =
+      let you = with_watch me watch in
       let all = le-sum_by (λ (v : SleeperView). count_of_watch v.watch) views k me at in
       let sum = kept.counted in
       keeps_in limits word word count (count - 1) epoch epoch views k me you at kept
-      (subst (λ party. KeepsRule limits.readers word (slice_set (states_of views) k party)) (sym state)
-      (same_rule limits.readers word views k me at kept.rule)) (omega arith) (λ w h. h)
-      (uncounted_within limits epoch you.watch (λ e. omega arith))
+      (same_rule limits.readers word views k me at kept.rule) (omega arith) (λ w h. h)
+      (uncounted_within limits epoch watch (λ e. omega arith))
       (λ j v is restarts s. absurd (few_while_counted one j v you (omega arith) is restarts)) kept.mutex
-      (none_on you (ap (λ (p : WorldParty). p.wins) state) ended (subst (IsDue epoch) (sym debt))
+      (none_on you refl refl (λ d. d)
       (λ other sleeps admitted. let counts = sleeper_counts limits epoch you other sleeps in omega arith))
-      woken
+      (still_past views k me you at kept.ended_past refl refl)
 
   counts_out : count_of_watch me.watch ≡ 1
-      → KeepsWakes limits word (count - 1) epoch (slice_set views k (view_after_sleep (changes_of views) me))
-  counts_out one = by me.state.loaded
+      → KeepsWakes limits word (count - 1) epoch (slice_set views k (view_after_sleep me))
+  counts_out one = counts_out_as (watch_after_sleep me.state.loaded) one (by me.state.loaded)
     where
-      out : Option ℕ → SleeperView
-      out loaded = record me { watch = watch_after_sleep loaded; left_at = left_after_sleep loaded (changes_of views) me.left_at }
-
-      by : (loaded : Option ℕ) → KeepsWakes limits word (count - 1) epoch (slice_set views k (out loaded))
-      by None =
-          let you = with_watch me Away in
-          counts_out_as you one refl refl refl refl
-          (still_looks word views k me you at kept.woken refl refl (λ free woken. absurd (not_woken one woken)))
-      by (Some looked) =
-          let you = out (Some looked) in
-          counts_out_as you one refl refl refl refl
-          (looks_after word word (changes_of views) views k you kept.woken (same_changes views k me you at refl)
-          record {
-            past = λ n e. let same = same_Some (changes_of views) n e in omega arith;
-            looks = λ e free. refl;
-          }
-          (λ v h. h))
+      by : (loaded : Option ℕ) → count_of_watch (watch_after_sleep loaded) ≡ 0
+      by None = refl
+      by (Some looked) = refl
 
   -- whatever its debt, a party sleeps
   again : (debt : Debt) (want : ExWant) → Sleeps limits epoch (with_debt me debt) want → Sleeps limits epoch me want
@@ -517,7 +497,7 @@ module _ (limits : WakeLimits) (word count epoch : ℕ) (views : List SleeperVie
         | inl e ↦ awake k me want at (again Nothing want (subst (λ (w : SleeperView). Sleeps limits epoch w want) e.1 sleeps))
         | inr e ↦ awake j v want e.1 sleeps
       ]))
-      (still_looks word views k me you at kept.woken refl refl (λ free woken. woken))
+      (still_past views k me you at kept.ended_past refl refl)
 
   finds_none : count ≡ 0 → KeepsWakes limits word count epoch (slice_set views k (with_debt me Nothing))
   finds_none zero_count =
@@ -534,8 +514,8 @@ module _ (limits : WakeLimits) (word count epoch : ℕ) (views : List SleeperVie
       elim sleeps.may_sleep [ inl e ↦ omega arith | inr past ↦ omega arith ])
 
   -- the end of an epoch wakes all that sleep; or one, and is noted
-  ends : KeepsWakes limits word count (epoch + 1) (slice_set views k (view_after_end (changes_of views) me))
-  ends =
+  ends : me.debt ≡ OwesAt epoch → KeepsWakes limits word count (epoch + 1) (slice_set views k (view_after_end (changes_of views) me))
+  ends owes =
       let you = view_after_end (changes_of views) me in
       let total = same_changes views k me you at refl in
       keeps limits word word count count epoch (epoch + 1) views k me you at kept
@@ -550,9 +530,14 @@ module _ (limits : WakeLimits) (word count epoch : ℕ) (views : List SleeperVie
             ] in
             let past = watched_within limits epoch (epoch + 1) v want within sleeps in
             absurd (omega arith))
-        | inr past ↦ inr (past.0, record { number = k; view = you; is = placed views k me you at; ended = ap Some (sym total) })
+        | inr past ↦ inr (
+          past.0,
+          past.1,
+          record { number = k; view = you; is = placed views k me you at; ended = ap Some (sym total) },
+        )
       ])
-      (still_looks word views k me you at kept.woken refl refl (λ free woken. woken))
+      (past_after (changes_of views) views k you kept.ended_past total (omega arith)
+      (λ ended noted. let same = same_Some (changes_of views) ended noted in omega arith))
 
   watches : count_of_watch me.watch ≡ 1 → epoch < limits.last_epoch
       → KeepsWakes limits word count epoch (slice_set views k (view_after_epoch epoch me))
@@ -562,7 +547,7 @@ module _ (limits : WakeLimits) (word count epoch : ℕ) (views : List SleeperVie
       (keeps_unloaded limits.readers word (states_of views) k me.state kept.rule there) (omega arith) (λ w h. h) (omega arith, early)
       (λ j v is restarts s. absurd (few_while_counted one j v you (omega arith) is restarts)) kept.mutex
       (none_on you refl refl (λ d. d) (λ other sleeps admitted. let found = sleeps.found in cc))
-      (still_looks word views k me you at kept.woken refl refl (λ free woken. absurd (not_woken one woken)))
+      (still_past views k me you at kept.ended_past refl refl)
 
   -- the debt is another, and the party as due as it was
   owes_anew : (debt : Debt) → (IsDue epoch me.debt → IsDue epoch debt)
@@ -572,9 +557,9 @@ module _ (limits : WakeLimits) (word count epoch : ℕ) (views : List SleeperVie
       keeps limits word word count count epoch epoch views k me you at kept
       (same_rule limits.readers word views k me at kept.rule) (same_way me.watch) refl (λ w h. h) kept.mutex
       (forgets_none limits word word epoch views k me you at kept.none_forgotten due
-      (λ other sleeps admitted. (again debt other sleeps, stays you me other refl refl admitted))
+      (λ other sleeps admitted. (again debt other sleeps, refl, stays you me other refl refl admitted))
       (λ j v other is sleeps admitted. inl (stays you v other refl refl admitted)))
-      (still_looks word views k me you at kept.woken refl refl (λ free woken. woken))
+      (still_past views k me you at kept.ended_past refl refl)
 
   notes : me.debt ≢ Nothing → KeepsWakes limits word count epoch (slice_set views k (with_debt me (OwesAt epoch)))
   notes owes = owes_anew (OwesAt epoch) (λ d. refl)
@@ -593,7 +578,7 @@ module _ (limits : WakeLimits) (word count epoch : ℕ) (views : List SleeperVie
       keeps_in limits word word count closed_count epoch epoch views k me you at kept
       (same_rule limits.readers word views k me at kept.rule) (omega arith) (λ w h. h) tt (λ j v is restarts s. refl) kept.mutex
       (none_on you refl refl (λ d. d) (λ other sleeps admitted. let watches = sleeps.watches in cc))
-      (still_looks word views k me you at kept.woken refl refl (λ free woken. cc))
+      (still_past views k me you at kept.ended_past refl refl)
 
   -- while one restarts, nobody is counted
   none_counted : me.watch ≡ Restarts → (j : ℕ) (v : SleeperView) → slice_get views j ≡ Some v → count_of_watch v.watch ≢ 1
@@ -625,7 +610,7 @@ module _ (limits : WakeLimits) (word count epoch : ℕ) (views : List SleeperVie
         alone = kept.alone;
         none_forgotten = nobody_sleeps limits word 0 views (λ j v want is sleeps.
             none_counted begun j v is (sleeper_counts limits 0 v want sleeps));
-        woken = kept.woken;
+        ended_past = kept.ended_past;
       }
 
   opens : me.watch ≡ Restarts
@@ -638,7 +623,7 @@ module _ (limits : WakeLimits) (word count epoch : ℕ) (views : List SleeperVie
       (same_rule limits.readers word views k me at kept.rule) (omega arith) (λ w h. h) tt
       (not_closed (count - closed_count) (slice_set views k you) (omega arith)) kept.mutex
       (none_on you refl refl (λ d. d) (λ other sleeps admitted. let watches = sleeps.watches in cc))
-      (still_looks word views k me you at kept.woken refl refl (λ free woken. cc))
+      (still_past views k me you at kept.ended_past refl refl)
 
   pub each_step : EachStepKeeps limits word count epoch views k me
   each_step =
@@ -666,9 +651,6 @@ in_longer : {A : Type 0} (xs : List A) (y : A) (j : ℕ) (z : A) → slice_get x
 in_longer [] y j z h = cc
 in_longer (x ∷ xs) y zero z h = h
 in_longer (x ∷ xs) y (suc j) z h = in_longer xs y j z h
-
-newcomer_looks : (word changes : ℕ) → LooksOnceWoken word changes new_sleeper
-newcomer_looks word changes = record { past = λ n e. cc; looks = λ e free. cc }
 
 pub starts : (limits : WakeLimits) → IsLimit limits.readers → IsMutexWord limits 0 → KeepsWakes limits 0 0 0 (new_sleeper ∷ [])
 starts limits range mutex =
@@ -700,10 +682,10 @@ starts limits range mutex =
             | inl old ↦ cc
             | inr new ↦ (let none = ap (λ (w : SleeperView). count_of_watch w.watch) new in omega arith)
           ]);
-      woken = λ k v is.
+      ended_past = λ k v is ended noted.
           elim (element_of_longer [] new_sleeper v k is) [
             | inl old ↦ cc
-            | inr new ↦ subst (LooksOnceWoken 0 0) (sym new) (newcomer_looks 0 0)
+            | inr new ↦ (let none : v.ended_at ≡ None = ap (λ (w : SleeperView). w.ended_at) new in cc)
           ];
     }
 
@@ -739,11 +721,12 @@ joins limits word count epoch views kept =
                   }
                   | inr one ↦ inr (
                     one.0,
+                    one.1,
                     record {
-                      number = one.1.number;
-                      view = one.1.view;
-                      is = in_longer views new_sleeper one.1.number one.1.view one.1.is;
-                      ended = one.1.ended ∙ ap Some (sym (changes_longer views));
+                      number = one.2.number;
+                      view = one.2.view;
+                      is = in_longer views new_sleeper one.2.number one.2.view one.2.is;
+                      ended = one.2.ended ∙ ap Some (sym (changes_longer views));
                     },
                   )
                 ]
@@ -752,12 +735,11 @@ joins limits word count epoch views kept =
                 let watches = sleeps.watches in
                 cc)
           ];
-      woken = λ k v is.
-          subst (λ c. LooksOnceWoken word c v) (sym (changes_longer views))
-          (elim (element_of_longer views new_sleeper v k is) [
-            | inl old ↦ kept.woken k v old
-            | inr new ↦ subst (LooksOnceWoken word (changes_of views)) (sym new) (newcomer_looks word (changes_of views))
-          ]);
+      ended_past = λ k v is ended noted.
+          elim (element_of_longer views new_sleeper v k is) [
+            | inl old ↦ (let longer = changes_longer views in let past = kept.ended_past k v old ended noted in omega arith)
+            | inr new ↦ (let none : v.ended_at ≡ None = ap (λ (w : SleeperView). w.ended_at) new in cc)
+          ];
     }
 
 -- where nobody is due
@@ -779,11 +761,11 @@ at_rest limits word count epoch views kept all nobody k v want is sleeps =
     ])
 
 pub one_wakes : (limits : WakeLimits) (word count epoch : ℕ) (views : List SleeperView) → KeepsWakes limits word count epoch views
-    → IsAtRest views → HaveLooked views → FreeWordWakesOne limits word epoch views
-one_wakes limits word count epoch views kept nobody looked k v want is sleeps admitted free =
+    → IsAtRest views → AdmittedAreWoken limits word epoch views
+one_wakes limits word count epoch views kept nobody k v want is sleeps admitted =
     elim (kept.none_forgotten k v want is sleeps admitted) [
       | inl someone ↦ absurd (none_due epoch views nobody someone)
-      | inr one ↦ (one.1, λ j w there left. looked j w there ((kept.woken j w there).looks left free))
+      | inr one ↦ one
     ]
 
 pub steps_keep_wakes : StepsKeepWakes

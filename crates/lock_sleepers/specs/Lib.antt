@@ -1,0 +1,3 @@
+pub mod Sleepers
+pub mod Wakes
+pub mod WakeLaws
