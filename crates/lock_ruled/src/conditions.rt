@@ -5,7 +5,6 @@ ghost use Rattle.lock_ruled.specs.Ruled.{HasLocked};
 
 use crate::guard::RuledGuard;
 use crate::mutex::RuledMutex;
-use crate::plays::Stay;
 use crate::rule::MutexRule;
 use crate::user::User;
 use lock_wake::time_left;
@@ -35,8 +34,9 @@ impl<T: Drop, V, P: MutexRule<T, V>> RuledMutex<T, V, P> {
                 return guard;
             }
             let registered = self.changed.register(rt);
-            user = self.release::<Stay>(guard).registered(&registered);
-            self.changed.sleep(rt, registered);
+            let (released, waiting) = self.release_unchanged(guard, registered);
+            self.changed.sleep(rt, waiting, None);
+            user = released;
         }
         unreachable!()
     }
@@ -65,11 +65,12 @@ impl<T: Drop, V, P: MutexRule<T, V>> RuledMutex<T, V, P> {
                 return Ok(guard);
             }
             let registered = self.changed.register(rt);
-            user = self.release::<Stay>(guard).registered(&registered);
+            let (released, waiting) = self.release_unchanged(guard, registered);
+            user = released;
             match time_left(rt, deadline) {
-                Some(left) => self.changed.sleep_for(rt, registered, left),
+                Some(left) => self.changed.sleep(rt, waiting, Some(left)),
                 None => {
-                    self.changed.leave(registered);
+                    self.changed.leave(waiting);
                     return Err(user);
                 }
             }

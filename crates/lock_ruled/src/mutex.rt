@@ -2,18 +2,17 @@
 ghost use Rattle.std.specs.Prelude.{◌≡◌, ◌-◌, ◌+◌, ◌<◌, [], ◌∷◌, ℕ, true, IfOk, IfErr, MatchResult};
 ghost use Rattle.lock_base.specs.declared.raw.fault.Fault.TheVariants as fault;
 ghost use Rattle.lock_ruled.specs.Ruled.{all_parts, first_user, HasLocked, Keeps, Splits, Joins};
-ghost use Rattle.lock_ruled.specs.Plays.{Carries, stage_after_release};
+ghost use Rattle.lock_ruled.specs.Plays.{Carries};
 ghost use Rattle.lock_ruled.specs.Acquiring.{MayAcquire, Acquired, MayHaveAcquired};
 
 use crate::guard::RuledGuard;
-use crate::plays::{JoinParts, Open, SplitParts, Stay, TryLock, Unlock};
-use crate::released::Released;
+use crate::plays::{JoinParts, Open, SplitParts, Stay, TryLock};
+use crate::released::Changed;
 use crate::rule::{MutexRule, SlotRule, UserView, ViewUpdate};
 use crate::user::User;
 use atomic_table::{Join, Seat, Split, Table};
 use crossbeam_utils::Backoff;
 use lock_base::raw::Fault;
-use lock_wake::EventCount;
 use std::alloc::Global;
 use std::marker::Model;
 use std::sync::Wait;
@@ -47,8 +46,8 @@ const TRIES: u32 = 10;
 #[derive(Drop)]
 pub struct RuledMutex<T: Drop, V, P: MutexRule<T, V>> {
     pub(crate) table: Table<Option<T>, UserView<T, V>, T, SlotRule<P>, Global>,
-    /// On which users sleep until the value has changed.
-    pub(crate) changed: EventCount,
+    /// The users that sleep until the value has changed.
+    pub(crate) changed: Changed,
 }
 
 impl<T: Drop, V, P: MutexRule<T, V>> Model for RuledMutex<T, V, P> {
@@ -69,7 +68,7 @@ impl<T: Drop, V, P: MutexRule<T, V>> RuledMutex<T, V, P> {
         ensures user { IfOk result (λ made. made.1 ≡ first_user made.0 (P.first value)) }
         ensures fault { IfErr result (λ error. error ≡ fault.OutOfMemory) }
     {
-        let changed = EventCount::new(alloc)?;
+        let changed = Changed::new(alloc)?;
         let Ok((table, mut seat)) = Table::vacant(alloc, &[TAKEN, 0], 1, &value) else {
             return Err(Fault::OutOfMemory);
         };
@@ -135,8 +134,8 @@ impl<T: Drop, V, P: MutexRule<T, V>> RuledMutex<T, V, P> {
             (M.next guard.taken guard.user.view guard.value) }
         ensures { result ≡ record guard.user { view = M.next guard.taken guard.user.view guard.value } }
     {
-        let released = self.release::<M>(guard);
-        released.told(&self.changed.notify_all())
+        let (user, _notified) = self.release::<M>(guard).told(&self.changed);
+        user
     }
 
     /// Consumes the mutex and its only user, and returns the value, of which the rule holds with that user's view.
@@ -153,45 +152,6 @@ impl<T: Drop, V, P: MutexRule<T, V>> RuledMutex<T, V, P> {
             Some(value) => value,
             None => unreachable!(),
         }
-    }
-
-    /// Releases the mutex as `unlock` does, but wakes no user that waits for a condition.
-    pub(crate) fn release<M: ViewUpdate<T, V>>(&self, guard: RuledGuard<T, V>) -> Released<T, V>
-        requires mutex { guard.user.mutex ≡ self.now }
-        requires rule { Keeps P.rule guard.taken guard.user.view guard.value
-            (M.next guard.taken guard.user.view guard.value) }
-        ensures { result ≡ record guard.user { view = M.next guard.taken guard.user.view guard.value } }
-    {
-        let (mut seat, was_awaited) = self.put_back::<M>(guard);
-        if was_awaited {
-            self.end_epoch(&mut seat);
-        }
-        Released {
-            user: User { seat },
-        }
-    }
-
-    /// Puts the value back into the slot, and marks the mutex as free. Returns whether it was awaited, which makes the user
-    /// due.
-    fn put_back<M: ViewUpdate<T, V>>(
-        &self,
-        guard: RuledGuard<T, V>,
-    ) -> (Seat<Option<T>, UserView<T, V>>, bool)
-        requires mutex { guard.user.mutex ≡ self.now }
-        requires rule { Keeps P.rule guard.taken guard.user.view guard.value
-            (M.next guard.taken guard.user.view guard.value) }
-        ensures seat { (result.0.table_id ≡ self.now) × (result.0.me.1 ≡ []) }
-        ensures parts { (result.0.me.0.parts ≡ guard.user.parts) × (0 < guard.user.parts) }
-        ensures view { result.0.me.0.own ≡ M.next guard.taken guard.user.view guard.value }
-        ensures stage { result.0.me.0.stage ≡ stage_after_release result.1 }
-    {
-        let RuledGuard { value, mut seat } = guard;
-        match self.table.shared.exchange(&mut seat, 0, Some(value)) {
-            None => {}
-            Some(_) => unreachable!(),
-        }
-        let found = self.table.shared.swap::<Unlock<M>>(&mut seat, WORD, FREE);
-        (seat, found == AWAITED)
     }
 
     /// Takes the value out of the slot, which the user has acquired.

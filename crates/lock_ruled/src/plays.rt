@@ -1,5 +1,5 @@
 //! The kinds of step on the word and the epoch, and what each tells the user that makes it.
-ghost use Rattle.lock_ruled.specs.Plays.{AcquiresValue, MarksAwaited, ReleasesValue, OpensMutex, WatchesEpoch, Leaves, NotesEpoch, EndsEpoch};
+ghost use Rattle.lock_ruled.specs.Plays.{AcquiresValue, MarksAwaited, ReleasesValue, OpensMutex, WatchesEpoch, Leaves, NotesEpoch};
 ghost use Rattle.lock_ruled.specs.Slots.{one_fewer, one_part, both_of, spent_view};
 
 use crate::rule::{MutexRule, UserView, ViewUpdate};
@@ -59,13 +59,6 @@ pub(crate) struct NoteEpoch;
 
 impl<T, V> Play<Option<T>, UserView<T, V>> for NoteEpoch {
     ghost then = { λ s. NotesEpoch };
-}
-
-/// An exchange that ends the epoch.
-pub(crate) struct EndEpoch;
-
-impl<T, V> Play<Option<T>, UserView<T, V>> for EndEpoch {
-    ghost then = { λ s. EndsEpoch };
 }
 
 /// The view stays.

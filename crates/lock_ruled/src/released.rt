@@ -1,14 +1,26 @@
 //! A user that released the mutex, and has yet to see to those that wait for a condition.
-ghost use Rattle.std.specs.Prelude.{◌≡◌, true};
+ghost use Rattle.std.specs.Prelude.{◌≡◌, ◌<◌, [], true, IfErr};
+ghost use Rattle.lock_base.specs.declared.raw.fault.Fault.TheVariants as fault;
+ghost use Rattle.lock_ruled.specs.Ruled.{Keeps};
+ghost use Rattle.lock_ruled.specs.Plays.{stage_after_release};
 
+use crate::guard::RuledGuard;
+use crate::mutex::{AWAITED, FREE, RuledMutex, WORD};
+use crate::plays::{Stay, Unlock};
+use crate::rule::{MutexRule, UserView, ViewUpdate};
 use crate::user::User;
-use lock_wake::{Notified, Registered};
+use atomic_table::Seat;
+use lock_base::raw::Fault;
+use lock_wake::{EventCount, Notified, Registered};
+use std::alloc::Global;
 use std::marker::Model;
+use std::sync::Wait;
+use std::time::Duration;
 
 /// A user that released the mutex. It cannot be dropped, so a release either notifies all users that wait for a condition,
 /// or is that of a user which registered to wait for one itself, and left the value as it was.
 pub(crate) struct Released<T, V> {
-    pub(crate) user: User<T, V>,
+    user: User<T, V>,
 }
 
 impl<T, V> Model for Released<T, V> {
@@ -19,21 +31,137 @@ impl<T, V> Model for Released<T, V> {
     ghost view = { λ r. r.user };
 }
 
-impl<T, V> Released<T, V> {
-    /// Returns the user, after a notification that began after the release and woke all.
-    pub(crate) fn told(self, notified: &Notified) -> User<T, V>
-        requires { notified.now.all ≡ true }
-        ensures { result ≡ self }
+/// The users that wait until the value has changed.
+#[derive(Drop)]
+pub(crate) struct Changed {
+    events: EventCount,
+}
+
+impl Model for Changed {
+    ghost use Rattle.atomic_table.specs.Seated.{TableId};
+
+    ghost Value = { TableId };
+
+    ghost view = { λ c. c.events };
+}
+
+/// A user's wait for a condition: it registered, and then released the mutex. It cannot be dropped: `Changed::sleep` or
+/// `leave` ends it.
+pub(crate) struct Waiting {
+    registered: Registered,
+}
+
+impl Model for Waiting {
+    ghost use Rattle.atomic_table.specs.Seated.{TableId};
+
+    ghost Value = { TableId };
+
+    ghost view = { λ w. w.registered.events };
+}
+
+impl Changed {
+    pub(crate) fn new(alloc: Global) -> Result<Changed, Fault>
+        ensures { IfErr result (λ error. error ≡ fault.OutOfMemory) }
     {
-        let Released { user } = self;
-        user
+        Ok(Changed {
+            events: EventCount::new(alloc)?,
+        })
     }
 
-    /// Returns the user, which registered before the release.
-    pub(crate) fn registered(self, _wait: &Registered) -> User<T, V>
-        ensures { result ≡ self }
+    /// Registers a wait: an `unlock` from now on ends its sleep.
+    pub(crate) fn register<R: Wait>(&self, rt: &R) -> Registered
+        ensures { result.events ≡ self.now }
+    {
+        self.events.register(rt)
+    }
+
+    /// Sleeps until an `unlock` since the registration, or for this time. It may end spuriously.
+    pub(crate) fn sleep<R: Wait>(&self, rt: &R, waiting: Waiting, time: Option<Duration>)
+        requires { waiting ≡ self.now }
+    {
+        let Waiting { registered } = waiting;
+        match time {
+            Some(time) => self.events.sleep_for(rt, registered, time),
+            None => {
+                self.events.sleep(rt, registered);
+            }
+        }
+    }
+
+    /// Ends a wait without a sleep.
+    pub(crate) fn leave(&self, waiting: Waiting)
+        requires { waiting ≡ self.now }
+    {
+        let Waiting { registered } = waiting;
+        self.events.leave(registered);
+    }
+}
+
+impl<T, V> Released<T, V> {
+    /// Notifies all users that wait for a condition, and returns the user.
+    pub(crate) fn told(self, changed: &Changed) -> (User<T, V>, Notified)
+        ensures user { result.0 ≡ self }
+        ensures events { result.1.events ≡ changed.now }
+        ensures all { result.1.all ≡ true }
     {
         let Released { user } = self;
-        user
+        (user, changed.events.notify_all())
+    }
+}
+
+impl<T: Drop, V, P: MutexRule<T, V>> RuledMutex<T, V, P> {
+    /// Releases the mutex by a user that registered to wait for a condition, and left the value as it was. It wakes no
+    /// other such user.
+    pub(crate) fn release_unchanged(
+        &self,
+        guard: RuledGuard<T, V>,
+        registered: Registered,
+    ) -> (User<T, V>, Waiting)
+        requires mutex { guard.user.mutex ≡ self.now }
+        requires unchanged { guard.value ≡ guard.taken }
+        ensures user { result.0 ≡ guard.user }
+        ensures waiting { result.1 ≡ registered.events }
+    {
+        let Released { user } = self.release::<Stay>(guard);
+        (user, Waiting { registered })
+    }
+
+    /// Releases the mutex as `unlock` does, but wakes no user that waits for a condition.
+    pub(crate) fn release<M: ViewUpdate<T, V>>(&self, guard: RuledGuard<T, V>) -> Released<T, V>
+        requires mutex { guard.user.mutex ≡ self.now }
+        requires rule { Keeps P.rule guard.taken guard.user.view guard.value
+            (M.next guard.taken guard.user.view guard.value) }
+        ensures { result ≡ record guard.user { view = M.next guard.taken guard.user.view guard.value } }
+    {
+        let (mut seat, was_awaited) = self.put_back::<M>(guard);
+        if was_awaited {
+            self.end_epoch(&mut seat).make(&self.table.shared);
+        }
+        Released {
+            user: User { seat },
+        }
+    }
+
+    /// Puts the value back into the slot, and marks the mutex as free. Returns whether it was awaited, which makes the user
+    /// due.
+    fn put_back<M: ViewUpdate<T, V>>(
+        &self,
+        guard: RuledGuard<T, V>,
+    ) -> (Seat<Option<T>, UserView<T, V>>, bool)
+        requires mutex { guard.user.mutex ≡ self.now }
+        requires rule { Keeps P.rule guard.taken guard.user.view guard.value
+            (M.next guard.taken guard.user.view guard.value) }
+        ensures seat { (result.0.table_id ≡ self.now) × (result.0.me.1 ≡ []) }
+        ensures parts { (result.0.me.0.parts ≡ guard.user.parts) × (0 < guard.user.parts) }
+        ensures view { result.0.me.0.own ≡ M.next guard.taken guard.user.view guard.value }
+        ensures stage { result.0.me.0.stage ≡ stage_after_release result.1 }
+    {
+        let RuledGuard { value, mut seat } = guard;
+        match self.table.shared.exchange(&mut seat, 0, Some(value)) {
+            None => {}
+            Some(_) => unreachable!(),
+        }
+        let found = self.table.shared.swap::<Unlock<M>>(&mut seat, WORD, FREE);
+        (seat, found == AWAITED)
     }
 }

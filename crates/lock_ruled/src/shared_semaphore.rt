@@ -6,12 +6,10 @@ ghost use Rattle.lock_ruled.specs.Accounts.{token_of};
 
 mod guard;
 mod plays;
-mod released;
 mod rule;
 mod token;
 
-use crate::shared_semaphore::plays::{Give, Look, Take};
-use crate::shared_semaphore::released::ReleasedPermits;
+use crate::shared_semaphore::plays::Look;
 use atomic_table::Table;
 pub use guard::{ArcPermitGuard, PermitGuard};
 use lock_base::raw::Fault;
@@ -59,29 +57,6 @@ impl SharedSemaphore {
             Ok((table, _)) => Ok(SharedSemaphore { table, released }),
             Err(_) => Err(Fault::OutOfMemory),
         }
-    }
-
-    /// Acquires this many permits, or returns `None` if fewer are free. It repeats an exchange that another thread
-    /// disturbed.
-    pub fn try_acquire<R: Wait>(&self, rt: &R, permits: u64) -> Option<PermitToken>
-        ensures token { IfSome result (λ token. token ≡ token_of self.now permits) }
-        ensures within { IfSome result (λ _. permits ≤ self.now.permits) }
-    {
-        let (mut free, mut seat) = self.table.shared.load_new_seat::<Look>(FREE);
-        for _ in rt.forever() {
-            if free < permits {
-                return None;
-            }
-            let found = self
-                .table
-                .shared
-                .compare_exchange::<Take>(&mut seat, FREE, free, free - permits);
-            if found == free {
-                return Some(PermitToken { seat, permits });
-            }
-            free = found;
-        }
-        unreachable!()
     }
 
     /// Acquires this many permits, blocking until they are free. A call for more than all permits blocks for ever.
@@ -156,18 +131,7 @@ impl SharedSemaphore {
     pub fn release(&self, token: PermitToken)
         requires { token.semaphore ≡ self.now }
     {
-        self.give_back(token).told(&self.released.notify_all());
-    }
-
-    /// Adds the permits of the token to those that are free.
-    fn give_back(&self, token: PermitToken) -> ReleasedPermits
-        requires { token.semaphore ≡ self.now }
-    {
-        let PermitToken { mut seat, permits } = token;
-        self.table
-            .shared
-            .fetch_add::<Give>(&mut seat, FREE, permits);
-        ReleasedPermits { seat }
+        self.give_back(token).told(&self.released);
     }
 
     /// Runs `f` while it holds this many permits. It acquires them before, as `acquire` does, and releases them after.

@@ -1,28 +1,38 @@
 //! How a release wakes the users that sleep.
-ghost use Rattle.std.specs.Prelude.{◌≡◌};
+ghost use Rattle.std.specs.Prelude.{◌≡◌, ℕ};
 ghost use Rattle.lock_ruled.specs.declared.rule.UserStage.TheVariants.{Free, Owes};
-ghost use Rattle.lock_ruled.specs.Plays.{at_stage};
+ghost use Rattle.lock_ruled.specs.Plays.{at_stage, EndsEpoch};
+ghost use Rattle.lock_wake.specs.OwedWakes.{owed_after};
+ghost use Rattle.lock_wake.specs.declared.owed_wake.Whom.TheVariants.{All};
 
 use crate::mutex::{EPOCH, LAST_EPOCH, RuledMutex};
-use crate::plays::{EndEpoch, NoteEpoch};
+use crate::plays::NoteEpoch;
 use crate::rule::{MutexRule, UserView};
-use atomic_table::Seat;
+use atomic_table::{Play, Seat};
+use lock_wake::{OwedWake, Whom};
+
+/// An exchange that ends the epoch. Only `end_epoch` makes it, so whoever ends an epoch owes its wake-up.
+pub struct EndEpoch;
+
+impl<T, V> Play<Option<T>, UserView<T, V>> for EndEpoch {
+    ghost then = { λ s. EndsEpoch };
+}
 
 impl<T: Drop, V, P: MutexRule<T, V>> RuledMutex<T, V, P> {
-    /// Ends the epoch, unless another user did, and wakes all users that sleep.
-    pub(crate) fn end_epoch(&self, seat: &mut Seat<Option<T>, UserView<T, V>>)
+    /// Ends the epoch, unless another user did. It owes a wake-up to all users that sleep, also where another user ended
+    /// the epoch.
+    pub(crate) fn end_epoch(&self, seat: &mut Seat<Option<T>, UserView<T, V>>) -> OwedWake
         requires mutex { seat.old.table_id ≡ self.now }
         requires owes { seat.old.me.0.stage ≡ Owes }
         ensures seat { seat.new.table_id ≡ seat.old.table_id }
         ensures done { seat.new.me ≡ at_stage seat.old.me Free }
+        ensures wake { (epoch : ℕ) × (result ≡ owed_after 1 epoch epoch All) }
     {
         let shared = &self.table.shared;
         let epoch = shared.load::<NoteEpoch>(seat, EPOCH);
         if epoch < LAST_EPOCH {
-            let found = shared.compare_exchange::<EndEpoch>(seat, EPOCH, epoch, epoch + 1);
-            if found == epoch {
-                shared.wake_all(EPOCH);
-            }
+            shared.compare_exchange::<EndEpoch>(seat, EPOCH, epoch, epoch + 1);
         }
+        OwedWake::after_exchange(EPOCH, epoch, epoch, Whom::All)
     }
 }

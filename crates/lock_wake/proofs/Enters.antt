@@ -6,8 +6,8 @@ use mathlib.Core.Option.{some, none}
 use lib.ListN.{get_elem?}
 use Rattle.atomic_table.specs.Table.{step, Enters}
 use Rattle.atomic_table.proofs.Lists.{at_snoc, at_last}
-use Rattle.lock_word.specs.declared.sleeper.WakeLimits.{WakeLimits}
-use Rattle.lock_word.proofs.Wakes.{joins}
+use Rattle.lock_sleepers.specs.declared.sleeper.WakeLimits.{WakeLimits}
+use Rattle.lock_sleepers.proofs.Wakes.{joins}
 use Rattle.lock_wake.specs.declared.rule.WakeView.{WakeView}
 use Rattle.lock_wake.specs.WakeSeats.{Table, newcomer, word_in, count_in, epoch_in, sleepers_of, IsGuarded, IsKept}
 use Rattle.lock_wake.specs.Plays.{Self, self_after_load, Loads}
@@ -70,5 +70,5 @@ enters limits slots s kept same small =
     let words : set s.words 0 (get_or s.words 0 0) ≡ s.words = set_there s.words 0 (omega arith) in (
       v,
       at_any_homes limits _ record { words = s.words; homes = s.homes; views = s.views ++ v ∷ [] } words views looked.3,
-      (refl, told.1, told.2),
+      (refl, told.1),
     )

@@ -1,5 +1,5 @@
 -- Each kind of step of a call keeps the rule of an event count.
-use Rattle.std.proofs.Common.{◌≡◌, ◌≢◌, ℕ, zero, suc, ◌+◌, ◌-◌, ◌%◌, ◌^◌, ◌<◌, ◌≤◌, inl, inr, List, [], ◌∷◌, ◌++◌, set, get_or, slice_set, slice_index, length, refl, sym, ap, subst, ◌∙◌, arith, eqb, length-set, length-append, get_or-set_same}
+use Rattle.std.proofs.Common.{Bool, true, ◌≡◌, ◌≢◌, ℕ, zero, suc, ◌+◌, ◌-◌, ◌%◌, ◌^◌, ◌<◌, ◌≤◌, inl, inr, List, [], ◌∷◌, ◌++◌, set, get_or, slice_set, slice_index, length, refl, sym, ap, subst, ◌∙◌, arith, eqb, length-set, length-append, get_or-set_same}
 use Rattle.std.proofs.lemmas.Bool.{cases_eq, cases_lt}
 use Rattle.std.proofs.lemmas.List.{get_or-set_other}
 use mathlib.Core.Option.{some, none, some-injective, some-ne-none}
@@ -8,9 +8,9 @@ use prog.Atomic.{either}
 use Rattle.atomic_table.specs.Table.{Act, step, keeps, stepped, carried_after, Valid, Allows, Enters}
 use Rattle.atomic_table.proofs.Lists.{at_set, at_snoc, set_again, exchanged}
 use Rattle.lock_wake.specs.declared.sleepers.stage.CallStage.{CallStage}
-use Rattle.lock_wake.specs.declared.sleepers.stage.CallStage.TheVariants.{Away, Counted, Registered, Restarts, Owes, OwesAt, Over}
-use Rattle.lock_wake.specs.EventCounts.{last_epoch, closed_count, count_of, counts_of, Notifies, IsDue, IsWithin, NoneSleepsOn, Table, count_in, epoch_in, IsKept, EveryStateWakesTheRegistered}
-use Rattle.lock_wake.specs.EventPlays.{Self, before_of, waits_of, Arrives, Begins, CountsIn, CountsOut, Closes, Registers, BeginsAnew, Notes, Ends}
+use Rattle.lock_wake.specs.declared.sleepers.stage.CallStage.TheVariants.{Away, Counted, Registered, Restarts, FoundNone, Owes, OwesAt, OwesWake, Over}
+use Rattle.lock_wake.specs.EventCounts.{last_epoch, closed_count, count_of, counts_of, Reaches, IsWithin, NoneSleepsOn, Table, count_in, epoch_in, IsKept, EveryStateWakesTheRegistered}
+use Rattle.lock_wake.specs.EventPlays.{Self, before_of, waits_of, reached_of, Arrives, Begins, CountsIn, CountsOut, Closes, Registers, BeginsAnew, Notes, Ends, Wakes}
 
 -- lists of calls
 
@@ -92,22 +92,27 @@ left id s words u w two kept at by =
       none_sleeps_on = by.none_sleeps_on;
     }
 
--- the epoch stays: a call that registers now is later than all, and a notification that is no longer due was not due
-stays : (id epoch : ℕ) (views : List CallStage) (u w : CallStage) → NoneSleepsOn epoch views → get_elem? views id ≡ some u
-    → ((before : ℕ) → w ≡ Registered before epoch → length views ≤ before)
-    → (Notifies w → Notifies u) → (IsDue epoch u → IsDue epoch w) → NoneSleepsOn epoch (set views id w)
-stays id epoch views u w kept at late notifies due wait before notification stage h less there is =
-    let here : notification < length (set views id w) = at_length (set views id w) notification stage there in
-    let same : length (set views id w) ≡ length views = length-set views id w in
-    elim (at_set views id wait w (Registered before epoch) h) [
-      | inl e ↦ absurd (let later = late before e.1 in omega arith)
+-- what the call was to a wait, it still is, or more
+abbrev Follows : ℕ → CallStage → CallStage → Type 0
+Follows epoch u w = (loaded : ℕ) → loaded ≤ epoch → loaded < last_epoch → Reaches epoch loaded u → Reaches epoch loaded w
+
+-- the epoch stays, and a call that registers now is later than all
+stays : (id : ℕ) (s : Table) (u w : CallStage) → IsKept s → get_elem? s.views id ≡ some u
+    → ((before loaded : ℕ) → w ≡ Registered before loaded → length s.views ≤ before)
+    → Follows (epoch_in s) u w → NoneSleepsOn (epoch_in s) (set s.views id w)
+stays id s u w kept at late follows wait before loaded notification stage h less there =
+    let here : notification < length (set s.views id w) = at_length (set s.views id w) notification stage there in
+    let same : length (set s.views id w) ≡ length s.views = length-set s.views id w in
+    elim (at_set s.views id wait w (Registered before loaded) h) [
+      | inl e ↦ absurd (let later = late before loaded e.1 in omega arith)
       | inr e ↦
-          elim (at_set views id notification w stage there) [
+          (let x = kept.within wait before loaded e.1 in
+          elim (at_set s.views id notification w stage there) [
             | inl f ↦
-                subst (IsDue epoch) f.1 (due (kept wait before id u e.1 (subst (λ n. before ≤ n) f.0 less) at
-                (notifies (subst Notifies (sym f.1) is))))
-            | inr f ↦ kept wait before notification stage e.1 less f.1 is
-          ]
+                subst (Reaches (epoch_in s) loaded) f.1 (follows loaded x.past x.early (kept.none_sleeps_on wait before loaded id u e.1
+                (subst (λ n. before ≤ n) f.0 less) at))
+            | inr f ↦ kept.none_sleeps_on wait before loaded notification stage e.1 less f.1
+          ])
     ]
 
 -- the epoch of a registered wait
@@ -115,10 +120,22 @@ abbrev loaded_of : CallStage → ℕ
 loaded_of (Registered before loaded) = loaded
 loaded_of stage = 0
 
--- nobody sleeps at the epoch
+-- no wait is registered
 nobody : (epoch : ℕ) (calls : List CallStage)
-    → ((wait before : ℕ) → get_elem? calls wait ≡ some (Registered before epoch) → ⊥) → NoneSleepsOn epoch calls
-nobody epoch calls awake wait before notification stage h less there is = absurd (awake wait before h)
+    → ((wait before loaded : ℕ) → get_elem? calls wait ≡ some (Registered before loaded) → ⊥) → NoneSleepsOn epoch calls
+nobody epoch calls awake wait before loaded notification stage h less there = absurd (awake wait before loaded h)
+
+-- what reached a wait still does at a later epoch
+still_reaches : (epoch later loaded : ℕ) (stage : CallStage) → epoch ≤ later → Reaches epoch loaded stage → Reaches later loaded stage
+still_reaches epoch later loaded Away less is = tt
+still_reaches epoch later loaded Counted less is = tt
+still_reaches epoch later loaded (Registered before own) less is = tt
+still_reaches epoch later loaded Restarts less is = tt
+still_reaches epoch later loaded FoundNone less is = is
+still_reaches epoch later loaded (Owes waits) less is = tt
+still_reaches epoch later loaded (OwesAt waits noted) less is = (is.0, (let a = is.1 in omega arith))
+still_reaches epoch later loaded (OwesWake waits reached) less is = (is.0, (let a = is.1 in omega arith))
+still_reaches epoch later loaded (Over all waits reached) less is = (is.0, (let a = is.1 in omega arith))
 
 -- a step on each of the words
 
@@ -165,17 +182,15 @@ IsOther w = (before loaded : ℕ) → w ≡ Registered before loaded → ⊥
 moved : (id count : ℕ) (s : Table) (u w : CallStage) → IsKept s → get_elem? s.views id ≡ some u
     → count + count_of u ≡ count_in s + count_of w → IsOther w
     → ((wait : ℕ) → wait ≢ id → get_elem? s.views wait ≡ some Restarts → count ≡ closed_count)
-    → (w ≡ Restarts → count ≡ closed_count)
-    → (Notifies w → Notifies u) → (IsDue (epoch_in s) u → IsDue (epoch_in s) w) → Keeps id s u w count (epoch_in s)
-moved id count s u w kept at counted other alone own_alone notifies due =
+    → (w ≡ Restarts → count ≡ closed_count) → Follows (epoch_in s) u w → Keeps id s u w count (epoch_in s)
+moved id count s u w kept at counted other alone own_alone follows =
     record {
       counted = counted;
       others = λ k before loaded apart h. (kept.within k before loaded h).past;
       own = λ before loaded is. absurd (other before loaded is);
       alone = alone;
       own_alone = own_alone;
-      none_sleeps_on =
-          stays id (epoch_in s) s.views u w kept.none_sleeps_on at (λ before is. absurd (other before (epoch_in s) is)) notifies due;
+      none_sleeps_on = stays id s u w kept at (λ before loaded is. absurd (other before loaded is)) follows;
     }
 
 -- steps on the count
@@ -196,24 +211,13 @@ counts_in slots id me old new away few is s kept same at small =
       keeps,
       tt,
       on_count id new s me.0 Counted kept at (moved id new s me.0 Counted kept at (omega arith) (λ before loaded e. cc)
-          (λ k apart h. absurd (let closed = kept.alone k h in omega arith)) (λ e. cc) (λ n. absurd n)
-          (λ due. absurd (subst (IsDue (epoch_in s)) away due))),
-      ((λ h. refl), (λ miss. absurd (miss hit))),
+          (λ k apart h. absurd (let closed = kept.alone k h in omega arith)) (λ e. cc) (λ loaded past early is. tt)),
+      (is, (λ h. refl), (λ miss. absurd (miss hit))),
     ))
-    (λ miss. count_stays id s me then kept at ((λ hit. absurd (miss hit)), (λ h. refl)))
-
--- a counted call counts for 1, so it is no notification
-no_notification : (stage : CallStage) (epoch : ℕ) → 0 < count_of stage → IsDue epoch stage → ⊥
-no_notification Away epoch some_count due = due
-no_notification Counted epoch some_count due = due
-no_notification (Registered before loaded) epoch some_count due = due
-no_notification Restarts epoch some_count due = due
-no_notification (Owes waits) epoch some_count due = omega arith
-no_notification (OwesAt waits owed) epoch some_count due = omega arith
-no_notification (Over waits) epoch some_count due = due
+    (λ miss. count_stays id s me then kept at (is, (λ hit. absurd (miss hit)), (λ h. refl)))
 
 pub counts_out : (slots id : ℕ) (me : Self) → count_of me.0 ≡ 1
-    → Allows IsKept slots id me 0 (λ n. (n + (2 ^ 64 - 1)) % 2 ^ 64) (CountsOut me)
+    → Allows IsKept slots id me 0 (λ n. (n + (2 ^ 64 - 1)) % 2 ^ 64) (λ _. CountsOut (step slots 0 1 0 none) me)
 counts_out slots id me counted s kept same at small =
     let count = count_in s in
     let all = count_at s.views id me.0 at in
@@ -225,8 +229,8 @@ counts_out slots id me counted s kept same at small =
       on_count id ((count + (2 ^ 64 - 1)) % 2 ^ 64) s me.0 Away kept at
           (moved id ((count + (2 ^ 64 - 1)) % 2 ^ 64) s me.0 Away kept at (omega arith) (λ before loaded e. cc)
           (λ k apart h. absurd (let closed = kept.alone k h in let two = two_counts s.views k id Restarts me.0 apart h at in omega arith))
-          (λ e. cc) (λ n. absurd n) (λ due. absurd (no_notification me.0 (epoch_in s) (omega arith) due))),
-      refl,
+          (λ e. cc) (λ loaded past early is. tt)),
+      (sym counted, refl),
     )
 
 pub closes : (slots id : ℕ) (me : Self) → me.0 ≡ Away
@@ -241,13 +245,13 @@ closes slots id me away s kept same at small =
       keeps,
       tt,
       on_count id closed_count s me.0 Restarts kept at (moved id closed_count s me.0 Restarts kept at (omega arith) (λ before loaded e. cc)
-          (λ k apart h. refl) (λ e. refl) (λ n. absurd n) (λ due. absurd (subst (IsDue (epoch_in s)) away due))),
+          (λ k apart h. refl) (λ e. refl) (λ loaded past early is. tt)),
       ((λ h. refl), (λ miss. absurd (miss hit))),
     ))
     (λ miss. count_stays id s me then kept at ((λ hit. absurd (miss hit)), (λ h. refl)))
 
 pub opens : (slots id : ℕ) (me : Self) → me.0 ≡ Restarts
-    → Allows IsKept slots id me 0 (λ n. (n + (2 ^ 64 - closed_count)) % 2 ^ 64) (CountsOut me)
+    → Allows IsKept slots id me 0 (λ n. (n + (2 ^ 64 - closed_count)) % 2 ^ 64) (λ _. CountsOut (step slots 0 closed_count 0 none) me)
 opens slots id me restarts s kept same at small =
     let count = count_in s in
     let weighs = ap count_of restarts in
@@ -260,8 +264,8 @@ opens slots id me restarts s kept same at small =
       on_count id ((count + (2 ^ 64 - closed_count)) % 2 ^ 64) s me.0 Away kept at
           (moved id ((count + (2 ^ 64 - closed_count)) % 2 ^ 64) s me.0 Away kept at (omega arith) (λ before loaded e. cc)
           (λ k apart h. absurd (let two = two_counts s.views k id Restarts me.0 apart h at in omega arith))
-          (λ e. cc) (λ n. absurd n) (λ due. absurd (subst (IsDue (epoch_in s)) restarts due))),
-      refl,
+          (λ e. cc) (λ loaded past early is. tt)),
+      (sym weighs, refl),
     )
 
 -- steps on the epoch
@@ -284,7 +288,7 @@ none_is_registered s id u kept at restarts wait before loaded h =
     ]
 
 pub begins_anew : (slots id : ℕ) (me : Self) → me.0 ≡ Restarts
-    → Allows IsKept slots id me 1 (λ _. 0) (λ _. BeginsAnew me 0)
+    → Allows IsKept slots id me 1 (λ _. 0) (λ _. BeginsAnew (step slots 1 0 0 none) me)
 begins_anew slots id me restarts s kept same at small =
     let awake = none_is_registered s id me.0 kept at restarts in (
       me.0,
@@ -297,9 +301,9 @@ begins_anew slots id me restarts s kept same at small =
         alone = λ k apart h. kept.alone k h;
         own_alone = λ is. kept.alone id (at ∙ ap some is);
         none_sleeps_on =
-            subst (NoneSleepsOn 0) (sym (set_again s.views id me.0 at)) (nobody 0 s.views (λ k before h. awake k before 0 h));
+            subst (NoneSleepsOn 0) (sym (set_again s.views id me.0 at)) (nobody 0 s.views awake);
       },
-      refl,
+      (refl, refl),
     )
 
 pub registers : (slots id : ℕ) (me : Self) → me.0 ≡ Counted → Allows IsKept slots id me 1 (λ n. n) (Registers me)
@@ -321,8 +325,7 @@ registers slots id me counted s kept same at small =
           alone = λ k apart h. kept.alone k h;
           own_alone = λ is. cc;
           none_sleeps_on =
-              stays id epoch s.views me.0 w kept.none_sleeps_on at (λ before is. (let a = ap before_of is in omega arith)) (λ n. absurd n)
-              (λ due. absurd (subst (IsDue epoch) counted due));
+              stays id s me.0 w kept at (λ before loaded is. (let a = ap before_of is in omega arith)) (λ loaded past early is. tt);
         },
         ((λ h. refl), (λ late. absurd (omega arith))),
       )
@@ -340,78 +343,97 @@ notes slots id me waits owes s kept same at small =
     let epoch = epoch_in s in
     let found = waits_of me.0 in
     let weighs = ap count_of owes in
-    let notifies : Notifies me.0 = subst Notifies (sym owes) tt in
     elim (cases_lt epoch last_epoch) [
       | inl early ↦ (
         OwesAt found epoch,
         keeps,
         tt,
         on_epoch id epoch s me.0 (OwesAt found epoch) kept at (moved id (count_in s) s me.0 (OwesAt found epoch) kept at (omega arith)
-            (λ before loaded e. cc) (λ k apart h. kept.alone k h) (λ e. cc) (λ n. notifies) (λ due. refl)),
+            (λ before loaded e. cc) (λ k apart h. kept.alone k h) (λ e. cc) (λ loaded past in_time is. (past, omega arith))),
         ((λ h. refl), (λ late. absurd (omega arith))),
       )
       | inr late ↦ (
-        Over found,
+        OwesWake found epoch,
         keeps,
         tt,
-        on_epoch id epoch s me.0 (Over found) kept at record {
-          counted = omega arith;
-          others = λ k before loaded apart h. (kept.within k before loaded h).past;
-          own = λ before loaded is. cc;
-          alone = λ k apart h. kept.alone k h;
-          own_alone = λ is. cc;
-          none_sleeps_on =
-              nobody epoch (set s.views id (Over found)) (λ wait before h.
-              elim (at_set s.views id wait (Over found) (Registered before epoch) h) [
-                | inl e ↦ (let is = e.1 in cc)
-                | inr e ↦ (let x = (kept.within wait before epoch e.1).early in omega arith)
-              ]);
-        },
+        on_epoch id epoch s me.0 (OwesWake found epoch) kept at (moved id (count_in s) s me.0 (OwesWake found epoch) kept at (omega arith)
+            (λ before loaded e. cc) (λ k apart h. kept.alone k h) (λ e. cc) (λ loaded past in_time is. (omega arith, omega arith))),
         ((λ early. absurd (omega arith)), (λ h. refl)),
       )
     ]
 
+lt_of : (epoch old new : ℕ) → old ≤ epoch → (epoch ≡ old → ⊥) → new ≡ old + 1 → new ≤ epoch
+lt_of epoch old new less miss is =
+    elim (cases_eq epoch old) [
+      | inl e ↦ absurd (miss e)
+      | inr apart ↦ omega arith
+    ]
+
 pub ends : (slots id : ℕ) (me : Self) (waits old new : ℕ) → me.0 ≡ OwesAt waits old → new ≡ old + 1
-    → Allows IsKept slots id me 1 (λ n. either (eqb n old) new n) (Ends me)
+    → Allows IsKept slots id me 1 (λ n. either (eqb n old) new n) (λ _. Ends (step slots 1 old new none) me)
 ends slots id me waits old new owes is s kept same at small =
     let epoch = epoch_in s in
-    let over = Over (waits_of me.0) in
+    let w = OwesWake (waits_of me.0) new in
     let weighs = ap count_of owes in
-    exchanged epoch old new (λ n. Done 1 id s me n (Ends me epoch))
+    let here = at ∙ ap some owes in
+    let noted : me.0 ≡ OwesAt (waits_of me.0) old = subst (λ u. me.0 ≡ OwesAt u old) (sym (ap waits_of owes)) owes in
+    exchanged epoch old new (λ n. Done 1 id s me n (Ends (step slots 1 old new none) me))
     (λ hit. (
-      over,
+      w,
       keeps,
       tt,
-      on_epoch id new s me.0 over kept at record {
+      on_epoch id new s me.0 w kept at record {
         counted = omega arith;
         others = λ k before loaded apart h. (let x = (kept.within k before loaded h).past in omega arith);
         own = λ before loaded is. cc;
         alone = λ k apart h. kept.alone k h;
         own_alone = λ is. cc;
-        none_sleeps_on =
-            nobody new (set s.views id over) (λ wait before h.
-            elim (at_set s.views id wait over (Registered before new) h) [
+        none_sleeps_on = λ wait before loaded notification stage h less there.
+            elim (at_set s.views id wait w (Registered before loaded) h) [
               | inl e ↦ (let is = e.1 in cc)
-              | inr e ↦ (let x = (kept.within wait before new e.1).past in omega arith)
-            ]);
+              | inr e ↦
+                  elim (at_set s.views id notification w stage there) [
+                    | inl f ↦
+                        (let by = kept.none_sleeps_on wait before loaded id (OwesAt waits old) e.1 (subst (λ n. before ≤ n) f.0 less) here in
+                        subst (Reaches new loaded) f.1 ((let a = by.0 in omega arith), omega arith))
+                    | inr f ↦
+                        still_reaches epoch new loaded stage (omega arith) (kept.none_sleeps_on wait before loaded notification stage e.1 less f.1)
+                  ]
+            ];
       },
-      refl,
+      (noted, is, refl),
     ))
     (λ miss. (
-      over,
+      w,
       keeps,
       tt,
-      on_epoch id epoch s me.0 over kept at (moved id (count_in s) s me.0 over kept at (omega arith) (λ before loaded e. cc)
-          (λ k apart h. kept.alone k h) (λ e. cc) (λ n. subst Notifies (sym owes) tt)
-          (λ due. absurd (let here = subst (IsDue epoch) owes due in miss (sym here)))),
-      refl,
+      on_epoch id epoch s me.0 w kept at (moved id (count_in s) s me.0 w kept at (omega arith) (λ before loaded e. cc)
+          (λ k apart h. kept.alone k h) (λ e. cc) (λ loaded past early was.
+          (let by = subst (Reaches epoch loaded) owes was in let a = by.0 in let b = by.1 in
+          ((omega arith), lt_of epoch old new b miss is)))),
+      (noted, is, refl),
     ))
+
+pub wakes : (slots id : ℕ) (me : Self) (all : Bool) (waits : ℕ) → me.0 ≡ OwesWake waits (reached_of me.0)
+    → Allows IsKept slots id me 1 (λ n. n) (λ _. Wakes all me)
+wakes slots id me all waits owes s kept same at small =
+    let epoch = epoch_in s in
+    let w = Over all (waits_of me.0) (reached_of me.0) in
+    let weighs = ap count_of owes in (
+      w,
+      keeps,
+      tt,
+      on_epoch id epoch s me.0 w kept at (moved id (count_in s) s me.0 w kept at (omega arith) (λ before loaded e. cc)
+          (λ k apart h. kept.alone k h) (λ e. cc) (λ loaded past early was.
+          (let by = subst (Reaches epoch loaded) owes was in let a = by.0 in let b = by.1 in (omega arith, omega arith)))),
+      refl,
+    )
 
 -- one more call
 
-joined : (s : Table) (w : CallStage) → IsKept s → count_of w ≡ 0 → (Notifies w → 0 < count_in s → IsDue (epoch_in s) w)
+joined : (s : Table) (w : CallStage) → IsKept s → count_of w ≡ 0 → (0 < count_in s → (loaded : ℕ) → Reaches (epoch_in s) loaded w)
     → IsKept record { words = s.words; homes = s.homes; views = s.views ++ w ∷ [] }
-joined s w kept none_of due =
+joined s w kept none_of reaches =
     let more : length (s.views ++ w ∷ []) ≡ length s.views + 1 = length-append s.views (w ∷ []) in
     let sum = sum_snoc s.views w in
     let all = kept.counted in
@@ -428,34 +450,34 @@ joined s w kept none_of due =
             | inl e ↦ kept.alone k e
             | inr e ↦ absurd (let weighs = ap count_of e in omega arith)
           ];
-      none_sleeps_on = λ wait before notification stage h less there is.
-          elim (at_snoc s.views w (Registered before (epoch_in s)) wait h) [
+      none_sleeps_on = λ wait before loaded notification stage h less there.
+          elim (at_snoc s.views w (Registered before loaded) wait h) [
             | inl e ↦
                 elim (at_snoc s.views w stage notification there) [
-                  | inl f ↦ kept.none_sleeps_on wait before notification stage e less f is
+                  | inl f ↦ kept.none_sleeps_on wait before loaded notification stage e less f
                   | inr f ↦
-                      subst (IsDue (epoch_in s)) f (due (subst Notifies (sym f) is)
-                      (let some_count = count_at s.views wait (Registered before (epoch_in s)) e in omega arith))
+                      subst (Reaches (epoch_in s) loaded) f
+                      (reaches (let some_count = count_at s.views wait (Registered before loaded) e in omega arith) loaded)
                 ]
             | inr e ↦ absurd (let weighs = ap count_of e in omega arith)
           ];
     }
 
 pub arrives : (slots : ℕ) → Enters IsKept slots 0 (λ n w. Arrives (Away, []) n (w, []))
-arrives slots s kept same small = (Away, joined s Away kept refl (λ n some_count. absurd n), refl)
+arrives slots s kept same small = (Away, joined s Away kept refl (λ some_count loaded. tt), refl)
 
 pub begins : (slots : ℕ) → Enters IsKept slots 0 (λ n w. Begins (Away, []) n (w, []))
 begins slots s kept same small =
     let count = count_in s in
     elim (cases_eq count 0) [
       | inl none_counted ↦ (
-        Over 0,
-        joined s (Over 0) kept refl (λ n some_count. absurd (omega arith)),
+        FoundNone,
+        joined s FoundNone kept refl (λ some_count loaded. absurd (omega arith)),
         ((λ h. refl), (λ h. absurd (h none_counted))),
       )
       | inr counted ↦ (
         Owes count,
-        joined s (Owes count) kept refl (λ n some_count. tt),
+        joined s (Owes count) kept refl (λ some_count loaded. tt),
         ((λ h. absurd (counted h)), (λ h. refl)),
       )
     ]
@@ -463,10 +485,24 @@ begins slots s kept same small =
 pub every_state_wakes_the_registered : EveryStateWakesTheRegistered (λ u. IsKept)
 every_state_wakes_the_registered u s kept =
     record {
-      ended = λ wait before notification waits h over.
+      ended = λ wait before loaded notification waits reached h sleeps over.
           elim (cases_lt notification before) [
             | inl earlier ↦ earlier
-            | inr later ↦ absurd (kept.none_sleeps_on wait before notification (Over waits) h later over tt)
+            | inr later ↦
+                absurd (sleeps notification waits reached later over
+                (kept.none_sleeps_on wait before loaded notification (Over true waits reached) h later over).0)
+          ];
+      parks = λ wait before notification waits reached all h over.
+          elim (cases_lt notification before) [
+            | inl earlier ↦ earlier
+            | inr later ↦
+                absurd (let by = kept.none_sleeps_on wait before (epoch_in s) notification (Over all waits reached) h later over in
+                let a = by.0 in let b = by.1 in omega arith)
+          ];
+      missed = λ wait before loaded notification h missed.
+          elim (cases_lt notification before) [
+            | inl earlier ↦ earlier
+            | inr later ↦ absurd (kept.none_sleeps_on wait before loaded notification FoundNone h later missed)
           ];
       known = λ wait before loaded h. (kept.within wait before loaded h).known;
       early = λ wait before loaded h. (kept.within wait before loaded h).early;

@@ -11,19 +11,19 @@ use Rattle.atomic_table.proofs.Lists.{at_set, exchanged}
 use Rattle.lock_base.specs.Holds.{hold_has}
 use Rattle.lock_word.specs.declared.want.ExWant.{ExWant}
 use Rattle.lock_word.specs.declared.down.Down.{Down}
-use Rattle.lock_word.specs.declared.sleeper.WakeLimits.{WakeLimits}
-use Rattle.lock_word.specs.declared.sleeper.Watch.TheVariants.{Away, Counted, Restarts}
-use Rattle.lock_word.specs.declared.sleeper.Debt.TheVariants.{Nothing, Owes, OwesAt}
-use Rattle.lock_word.specs.declared.sleeper.SleeperView.{SleeperView}
+use Rattle.lock_sleepers.specs.declared.sleeper.WakeLimits.{WakeLimits}
+use Rattle.lock_sleepers.specs.declared.sleeper.Watch.TheVariants.{Away, Counted, Restarts}
+use Rattle.lock_sleepers.specs.declared.sleeper.Debt.TheVariants.{Nothing, Owes, OwesAt}
+use Rattle.lock_sleepers.specs.declared.sleeper.SleeperView.{SleeperView}
 use Rattle.lock_word.specs.Word.{guards_of_word, word_admits, word_after, amount, step_of_want, step_of_down}
-use Rattle.lock_word.specs.Sleepers.{changes_of, closed_count, count_of_watch}
-use Rattle.lock_word.specs.Wakes.{KeepsWakes, EachStepKeeps, may_want, with_watch, with_debt, view_after_take, view_after_epoch, view_after_sleep}
+use Rattle.lock_sleepers.specs.Sleepers.{changes_of, closed_count, count_of_watch}
+use Rattle.lock_sleepers.specs.Wakes.{KeepsWakes, EachStepKeeps, may_want, with_watch, with_debt, view_after_take, view_after_epoch, view_after_sleep, view_after_end}
 use Rattle.lock_word.proofs.Holders.{le-sum_by}
 use Rattle.lock_word.proofs.Bars.{bar_of_rule}
 use Rattle.lock_word.proofs.Distinct.{same_exchange, same_take}
 use Rattle.lock_word.proofs.Guards.{GainsNoneOrUnbarred, guards_of_exchange, guards_of_take}
 use Rattle.lock_word.proofs.Rules.{slice_set_same, amount_within, shows, fails_bounded}
-use Rattle.lock_word.proofs.Wakes.{state_at, each_step, at_rest, one_wakes}
+use Rattle.lock_sleepers.proofs.Wakes.{state_at, each_step, at_rest, one_wakes}
 use Rattle.lock_word.proofs.SeatKeeps.{seat_at, still_guarded, subtracted, announced_before, few_held}
 use Rattle.lock_wake.specs.declared.rule.WakeView.{WakeView}
 use Rattle.lock_wake.specs.WakeSeats.{sleepers_of, parties_of, Table, word_in, count_in, epoch_in, IsGuarded, IsKept, EveryStateForgetsNone}
@@ -161,8 +161,7 @@ pub loads : (limits : WakeLimits) (slots id : ℕ) (me : Self)
 loads limits slots id me s kept same at small =
     let word = word_in s in
     let v = (self_after_load me word).0 in
-    let known_limits : me.0.limits ≡ limits = kept.known id me.0 at in
-    let known = ap (λ (l : WakeLimits). l.readers) known_limits in (
+    let known = ap (λ (l : WakeLimits). l.readers) (kept.known id me.0 at) in (
       v,
       keeps,
       tt,
@@ -176,15 +175,6 @@ loads limits slots id me s kept same at small =
         refl,
         rw known (shows limits.readers word (parties_of s.views) id me.0.sleeper.state kept.range kept.kept.rule
             (party_at s.views id me.0 at)),
-        record {
-          state = s;
-          law = rw known_limits (every_state_forgets_none limits s kept);
-          loaded = refl;
-          number = id;
-          view = me.0;
-          is = at;
-          holds = refl;
-        },
       ),
     )
 
@@ -307,14 +297,13 @@ pub counts_out : (limits : WakeLimits) (slots id : ℕ) (me : Self) → count_of
     → Allows (IsKept limits) slots id me 1 (λ n. (n + (2 ^ 64 - 1)) % 2 ^ 64) (CountsOut me)
 counts_out limits slots id me some_count s kept same at small =
     let count = count_in s in
-    let changes = changes_of (sleepers_of s.views) in
-    let you = view_after_sleep changes me.0.sleeper in
+    let you = view_after_sleep me.0.sleeper in
     let all = le-sum_by (λ (w : SleeperView). count_of_watch w.watch) (sleepers_of s.views) id me.0.sleeper (sleeper_at s.views id me.0 at) in
     let sum = kept.kept.counted in
     counted limits id ((count + (2 ^ 64 - 1)) % 2 ^ 64) s me you (CountsOut me count) kept at refl
     (subst (λ n. KeepsWakes limits (word_in s) n (epoch_in s) (slice_set (sleepers_of s.views) id you))
     (subtracted count 1 (omega arith) small) ((by_step limits id s me.0 kept at).counts_out some_count))
-    (changes, refl)
+    refl
 
 pub looks_for_sleepers : (limits : WakeLimits) (slots id : ℕ) (me : Self)
     → Allows (IsKept limits) slots id me 1 (λ n. n) (LooksForSleepers me)
@@ -362,9 +351,10 @@ at_epoch limits id n s me you then kept at held wakes is =
     (v, keeps, tt, on_epoch limits id n s v kept (aside limits id (count_in s) n s me.0 you kept at held wakes), is)
 
 pub begins_anew : (limits : WakeLimits) (slots id : ℕ) (me : Self) → me.0.sleeper.watch ≡ Restarts
-    → Allows (IsKept limits) slots id me 2 (λ _. 0) (λ _. BeginsAnew me 0)
+    → Allows (IsKept limits) slots id me 2 (λ _. 0) (λ _. BeginsAnew (step slots 2 0 0 none) me 0)
 begins_anew limits slots id me restarts s kept same at small =
-    at_epoch limits id 0 s me me.0.sleeper (BeginsAnew me 0) kept at refl ((by_step limits id s me.0 kept at).restarts restarts) refl
+    at_epoch limits id 0 s me me.0.sleeper (BeginsAnew (step slots 2 0 0 none) me 0) kept at refl
+    ((by_step limits id s me.0 kept at).restarts restarts) (refl, refl)
 
 pub watches : (limits : WakeLimits) (slots id : ℕ) (me : Self) → count_of_watch me.0.sleeper.watch ≡ 1
     → Allows (IsKept limits) slots id me 2 (λ n. n) (Watches me)
@@ -405,17 +395,20 @@ notes limits slots id me owes s kept same at small =
     ]
 
 pub ends : (limits : WakeLimits) (slots id : ℕ) (me : Self) (old new : ℕ) → me.0.sleeper.debt ≡ OwesAt old → new ≡ old + 1
-    → Allows (IsKept limits) slots id me 2 (λ n. either (eqb n old) new n) (Ends me)
+    → Allows (IsKept limits) slots id me 2 (λ n. either (eqb n old) new n) (Ends (step slots 2 old new none) me)
 ends limits slots id me old new owes is s kept same at small =
     let epoch = epoch_in s in
     let by = by_step limits id s me.0 kept at in
-    let note = Some (changes_of (sleepers_of s.views)) in
-    let then = Ends me epoch in
+    let changes = changes_of (sleepers_of s.views) in
+    let then = Ends (step slots 2 old new none) me epoch in
     exchanged epoch old new (λ n. Done limits 2 id s me n then)
     (λ hit.
-    let you : SleeperView = record me.0.sleeper { debt = Nothing; ended_at = note } in
+    let you = view_after_end changes me.0.sleeper in
     let next : epoch + 1 ≡ new = ap (λ n. n + 1) hit ∙ sym is in
+    let here : me.0.sleeper.debt ≡ OwesAt epoch = owes ∙ ap OwesAt (sym hit) in
     at_epoch limits id new s me you then kept at refl
-    (subst (λ n. KeepsWakes limits (word_in s) (count_in s) n (slice_set (sleepers_of s.views) id you)) next by.ends) (note, refl))
+    (subst (λ n. KeepsWakes limits (word_in s) (count_in s) n (slice_set (sleepers_of s.views) id you)) next (by.ends here))
+    (owes, is, (λ h. (changes, refl)), (λ miss. absurd (miss hit))))
     (λ miss.
-    at_epoch limits id epoch s me (with_debt me.0.sleeper Nothing) then kept at refl (by.finds_ended old owes miss) (me.0.sleeper.ended_at, refl))
+    at_epoch limits id epoch s me (with_debt me.0.sleeper Nothing) then kept at refl (by.finds_ended old owes miss)
+    (owes, is, (λ hit. absurd (miss hit)), (λ h. refl)))

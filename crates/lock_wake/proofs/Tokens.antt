@@ -4,7 +4,7 @@ use Rattle.lock_base.specs.declared.machine.mode.Mode.{Mode}
 use Rattle.lock_base.specs.declared.machine.mode.Mode.TheVariants.{Shared, Exclusive, Upgradable}
 use Rattle.lock_base.specs.Holds.{no_hold, hold_has, hold_after}
 use Rattle.lock_word.specs.Word.{step_of_want, step_of_down, want_of_mode, down_of_mode}
-use Rattle.lock_word.specs.Sleepers.{is_awaited}
+use Rattle.lock_word.specs.Unblocking.{is_awaited}
 use Rattle.lock_wake.specs.Calls.{one_hold}
 
 pub may_acquire : (mode : Mode) → IsTrue (hold_has no_hold (step_of_want (want_of_mode mode)))

@@ -1,5 +1,5 @@
 -- A call on a word lock, and the token of an acquisition, as contracts see them.
-use Rattle.std.specs.Prelude.{◌≡◌, ℕ, Bool, true, false, [], None, ◌⊎◌, IsTrue}
+use Rattle.std.specs.Prelude.{◌≡◌, ℕ, ◌+◌, Bool, true, false, ◌&&◌, nat_lt, if◌then◌else◌, [], Option, Some, None, ◌⊎◌, IsTrue}
 use Rattle.atomic_table.specs.Seated.{TableId}
 use Rattle.atomic_table.specs.Table.{Me}
 use Rattle.lock_base.specs.declared.machine.mode.Mode.{Mode}
@@ -7,18 +7,22 @@ use Rattle.lock_base.specs.declared.machine.hold.Hold.{Hold}
 use Rattle.lock_base.specs.Modes.{empty_bag, one_more}
 use Rattle.lock_word.specs.declared.want.ExWant.{ExWant}
 use Rattle.lock_word.specs.declared.want.ExWant.TheVariants.{Announce}
-use Rattle.lock_word.specs.declared.sleeper.SleeperView.{SleeperView}
-use Rattle.lock_word.specs.declared.sleeper.WakeLimits.{WakeLimits}
-use Rattle.lock_word.specs.declared.sleeper.Watch.TheVariants.{Away}
-use Rattle.lock_word.specs.declared.sleeper.Debt.TheVariants.{Nothing}
+use Rattle.lock_sleepers.specs.declared.sleeper.SleeperView.{SleeperView}
+use Rattle.lock_sleepers.specs.declared.sleeper.WakeLimits.{WakeLimits}
+use Rattle.lock_sleepers.specs.declared.sleeper.Watch.TheVariants.{Away}
+use Rattle.lock_sleepers.specs.declared.sleeper.Debt.TheVariants.{Nothing}
 use Rattle.lock_base.specs.Holds.{no_hold, hold_has, hold_after}
 use Rattle.lock_word.specs.Word.{step_of_want}
-use Rattle.lock_word.specs.Sleepers.{is_awaited, admits_to}
+use Rattle.lock_word.specs.Unblocking.{is_awaited}
+use Rattle.lock_sleepers.specs.Sleepers.{admits_to}
 use Rattle.lock_word.specs.Turns.{idle, with_load}
-use Rattle.lock_word.specs.Wakes.{with_watch, new_sleeper, after_exchange, view_after_load, watch_after_sleep}
+use Rattle.lock_sleepers.specs.Wakes.{with_watch, new_sleeper, after_exchange, view_after_load, watch_after_sleep}
 use Rattle.lock_word.specs.declared.seated.attempt.Attempt.{Attempt}
 use Rattle.lock_word.specs.declared.seated.attempt.Attempt.TheVariants.{Done, NotAdmitted, Changed}
 use Rattle.lock_wake.specs.declared.rule.WakeView.{WakeView}
+use Rattle.lock_wake.specs.declared.owed_wake.Whom.{Whom}
+use Rattle.lock_wake.specs.declared.owed_wake.Whom.TheVariants.{Nobody, One, All}
+use Rattle.lock_wake.specs.declared.owed_wake.OwedWake.{OwedWake}
 
 -- a word lock: its identity, and its limits
 pub record WordLockView : Type 0 where
@@ -46,7 +50,7 @@ one_hold mode = record { bag = one_more empty_bag mode; announced = false }
 abbrev pub IsTokenOf : WordLockView → Mode → TokenView → Type 0
 IsTokenOf lock mode token = token ≡ record { lock = lock; held = one_hold mode }
 
--- the lock of a call, what the rule keeps of its party without what it noted, and the word that it loaded last
+-- the lock of a call, what the rule keeps of its party without the number of its note, and the word that it loaded last
 pub record CallView : Type 0 where
   pub lock : WordLockView
   pub sleeper : SleeperView
@@ -129,6 +133,19 @@ away call = with_sleeper call (with_watch call.sleeper Away)
 -- the call, not counted as a sleeper any more: it may have slept if its last look at the word was a load
 abbrev pub after_sleep : CallView → CallView
 after_sleep call = with_sleeper call (with_watch call.sleeper (watch_after_sleep call.sleeper.state.loaded))
+
+-- the call owes nothing any more, and ended an epoch or not
+abbrev pub settled : CallView → Option ℕ → CallView
+settled call ended = with_sleeper call (record call.sleeper { debt = Nothing; ended_at = ended })
+
+-- whom the end of this epoch wakes: one sleeper where the lock wakes one, but all as the last epoch begins
+abbrev pub whom_of : WakeLimits → ℕ → Whom
+whom_of limits epoch = if limits.wakes_one && nat_lt (epoch + 1) limits.last_epoch then One else All
+
+-- the wake-up at the epoch that a call owes which tried to end this epoch, by whether it ended it
+abbrev pub owed_wake : WakeLimits → ℕ → Option ℕ → OwedWake
+owed_wake limits epoch None = record { word = 2; whom = Nobody }
+owed_wake limits epoch (Some changes) = record { word = 2; whom = whom_of limits epoch }
 
 -- the call came back from a sleep, and has yet to look, or did not sleep
 pub record CameBack (before after : CallView) : Type 0 where

@@ -1,19 +1,18 @@
 -- What each kind of step does to the view of the party that makes it.
-use Rattle.std.specs.Prelude.{◌≡◌, ◌≢◌, ℕ, ◌+◌, ◌^◌, ◌<◌, ◌≤◌, Option, IsTrue}
+use Rattle.std.specs.Prelude.{◌≡◌, ◌≢◌, ℕ, ◌+◌, ◌^◌, ◌<◌, ◌≤◌, IsTrue}
 use Rattle.atomic_table.specs.Table.{Me, Step}
 use Rattle.lock_base.specs.Modes.{tokens}
 use Rattle.lock_word.specs.declared.want.ExWant.{ExWant}
 use Rattle.lock_word.specs.declared.down.Down.{Down}
-use Rattle.lock_word.specs.declared.sleeper.Watch.{Watch}
-use Rattle.lock_word.specs.declared.sleeper.Watch.TheVariants.{Away, Counted, Restarts}
-use Rattle.lock_word.specs.declared.sleeper.Debt.{Debt}
-use Rattle.lock_word.specs.declared.sleeper.Debt.TheVariants.{Nothing, OwesAt}
-use Rattle.lock_word.specs.declared.sleeper.SleeperView.{SleeperView}
+use Rattle.lock_sleepers.specs.declared.sleeper.Watch.{Watch}
+use Rattle.lock_sleepers.specs.declared.sleeper.Watch.TheVariants.{Away, Counted, Restarts}
+use Rattle.lock_sleepers.specs.declared.sleeper.Debt.{Debt}
+use Rattle.lock_sleepers.specs.declared.sleeper.Debt.TheVariants.{Nothing, OwesAt}
+use Rattle.lock_sleepers.specs.declared.sleeper.SleeperView.{SleeperView}
 use Rattle.lock_word.specs.Word.{word_admits, word_after, amount}
 use Rattle.lock_word.specs.Rule.{WordShows}
-use Rattle.lock_word.specs.Wakes.{with_watch, with_debt, view_after_load, view_after_win, view_after_loss, view_after_take, view_after_epoch, view_after_sleep}
+use Rattle.lock_sleepers.specs.Wakes.{with_watch, with_debt, view_after_load, view_after_win, view_after_loss, view_after_take, view_after_epoch, view_after_sleep, view_after_end}
 use Rattle.lock_wake.specs.declared.rule.WakeView.{WakeView}
-use Rattle.lock_wake.specs.WakeSeats.{StandsUnderLaw}
 
 -- a seat's view, and the slots that it holds: none
 abbrev pub Self : Type 0
@@ -51,19 +50,17 @@ self_watching me watch = with_sleeper me (with_watch me.0.sleeper watch)
 abbrev pub self_owing : Self → Debt → Self
 self_owing me debt = with_sleeper me (with_debt me.0.sleeper debt)
 
--- a party that left its sleep notes how often the word has changed, which it does not know
-abbrev pub self_after_sleep : Self → ℕ → Self
-self_after_sleep me changes = with_sleeper me (view_after_sleep changes me.0.sleeper)
+abbrev pub self_after_sleep : Self → Self
+self_after_sleep me = with_sleeper me (view_after_sleep me.0.sleeper)
 
--- a party that ended an epoch notes that too
-abbrev pub self_after_end : Self → Option ℕ → Self
-self_after_end me note = with_sleeper me (record me.0.sleeper { debt = Nothing; ended_at = note })
+-- a party that ended an epoch notes how often the word had changed, which it does not know
+abbrev pub self_after_end : Self → ℕ → Self
+self_after_end me changes = with_sleeper me (view_after_end changes me.0.sleeper)
 
--- on the word: a load tells its party the word, what the word says of all holds, and that the law holds
+-- on the word: a load tells its party the word, and what the word says of all holds
 abbrev pub Loads : Step (Unit {0}) → Self → ℕ → Self → Type 0
 Loads s me found after =
     (after ≡ self_after_load me found) × WordShows me.0.limits.readers found me.0.sleeper.state.held
-    × StandsUnderLaw me.0.limits found me.0.sleeper.state.held
 
 abbrev pub Exchanges : Step (Unit {0}) → Self → ℕ → Self → Type 0
 Exchanges s me found after =
@@ -81,7 +78,7 @@ abbrev pub CountsIn : Step (Unit {0}) → Self → ℕ → Self → Type 0
 CountsIn s me found after = (found ≡ s.first → after ≡ self_watching me Counted) × (found ≢ s.first → after ≡ me)
 
 abbrev pub CountsOut : Self → ℕ → Self → Type 0
-CountsOut me found after = (changes : ℕ) × (after ≡ self_after_sleep me changes)
+CountsOut me found after = after ≡ self_after_sleep me
 
 -- a party that finds no sleepers is not due
 abbrev pub LooksForSleepers : Self → ℕ → Self → Type 0
@@ -106,10 +103,13 @@ Notes me found after =
     (found < me.0.limits.last_epoch → after ≡ self_owing me (OwesAt found))
     × (me.0.limits.last_epoch ≤ found → after ≡ self_owing me Nothing)
 
--- an exchange ends it, or some other party did
-abbrev pub Ends : Self → ℕ → Self → Type 0
-Ends me found after = (note : Option ℕ) × (after ≡ self_after_end me note)
+-- an exchange of the epoch that the party owes ends it, or some other party did
+abbrev pub Ends : Step (Unit {0}) → Self → ℕ → Self → Type 0
+Ends s me found after =
+    (me.0.sleeper.debt ≡ OwesAt s.first) × (s.second ≡ s.first + 1)
+    × (found ≡ s.first → (changes : ℕ) × (after ≡ self_after_end me changes))
+    × (found ≢ s.first → after ≡ self_owing me Nothing)
 
--- the epochs begin anew
-abbrev pub BeginsAnew : Self → ℕ → Self → Type 0
-BeginsAnew me found after = after ≡ me
+-- a store of 0 begins the epochs anew
+abbrev pub BeginsAnew : Step (Unit {0}) → Self → ℕ → Self → Type 0
+BeginsAnew s me found after = (s.first ≡ 0) × (after ≡ me)

@@ -3,15 +3,14 @@ use Rattle.std.specs.Prelude.{◌≡◌, ℕ, not, List, map, length, slice_inde
 use mathlib.Core.Option.{some}
 use lib.ListN.{get_elem?}
 use Rattle.atomic_table.specs.Table.{State}
-use Rattle.lock_base.specs.declared.machine.hold.Hold.{Hold}
 use Rattle.lock_base.specs.Limits.{IsLimit}
 use Rattle.lock_word.specs.declared.party.WorldParty.{WorldParty}
-use Rattle.lock_word.specs.declared.sleeper.WakeLimits.{WakeLimits}
-use Rattle.lock_word.specs.declared.sleeper.SleeperView.{SleeperView}
+use Rattle.lock_sleepers.specs.declared.sleeper.WakeLimits.{WakeLimits}
+use Rattle.lock_sleepers.specs.declared.sleeper.SleeperView.{SleeperView}
 use Rattle.lock_word.specs.Rule.{KeepsRule}
 use Rattle.lock_word.specs.Claims.{FailsAreBounded, BarIsOfOne}
-use Rattle.lock_word.specs.Sleepers.{states_of, NoneIsForgotten, IsAtRest, HaveLooked, SleepersAreRefused, FreeWordWakesOne}
-use Rattle.lock_word.specs.Wakes.{KeepsWakes, new_sleeper}
+use Rattle.lock_sleepers.specs.Sleepers.{states_of, NoneIsForgotten, IsAtRest, SleepersAreRefused, AdmittedAreWoken}
+use Rattle.lock_sleepers.specs.Wakes.{KeepsWakes, new_sleeper}
 use Rattle.lock_word.specs.Seats.{GuardsDoNotGrow}
 use Rattle.lock_wake.specs.declared.rule.WakeView.{WakeView}
 
@@ -65,21 +64,10 @@ pub record ForgetsNone (limits : WakeLimits) (s : Table) : Type 0 where
   -- so if no party is in the middle of a release, and the lock wakes all, the word refuses every sleeper
   pub at_rest : IsTrue (not limits.wakes_one) → IsAtRest (sleepers_of s.views)
       → SleepersAreRefused limits (word_in s) (epoch_in s) (sleepers_of s.views)
-  -- and if it wakes one, and no woken party has yet to look, a word that is free had a wake-up since it last changed
-  pub one_wakes : IsAtRest (sleepers_of s.views) → HaveLooked (sleepers_of s.views)
-      → FreeWordWakesOne limits (word_in s) (epoch_in s) (sleepers_of s.views)
+  -- and if it wakes one, a sleeper that the word admits watches a past epoch, and one has ended since the word last changed
+  pub one_wakes : IsAtRest (sleepers_of s.views)
+      → AdmittedAreWoken limits (word_in s) (epoch_in s) (sleepers_of s.views)
 
 -- of every state that a table under this rule has between two steps
 abbrev pub EveryStateForgetsNone : (WakeLimits → Table → Type 0) → Type 0
 EveryStateForgetsNone holds = (limits : WakeLimits) (s : Table) → holds limits s → ForgetsNone limits s
-
--- at the moment of a load: a state of the words and of all parties that keeps the law, in which the word is the loaded
--- one, and some party holds this
-pub record StandsUnderLaw (limits : WakeLimits) (word : ℕ) (held : Hold) : Type 0 where
-  pub state : Table
-  pub law : ForgetsNone limits state
-  pub loaded : word_in state ≡ word
-  pub number : ℕ
-  pub view : WakeView
-  pub is : get_elem? state.views number ≡ some view
-  pub holds : view.sleeper.state.held ≡ held

@@ -1,15 +1,15 @@
 //! How a call acquires: it attempts until it succeeds.
 ghost use Rattle.std.specs.Prelude.{◌≡◌, false, IsTrue};
 ghost use Rattle.lock_word.specs.declared.want.ExWant.TheVariants.{Exclusive, Announce};
-ghost use Rattle.lock_word.specs.declared.sleeper.Watch.TheVariants.{Away};
-ghost use Rattle.lock_word.specs.Wakes.{may_want};
+ghost use Rattle.lock_sleepers.specs.declared.sleeper.Watch.TheVariants.{Away};
+ghost use Rattle.lock_sleepers.specs.Wakes.{may_want};
 ghost use Rattle.lock_wake.specs.Calls.{ComesTo, MayAttempt, MayBeAnnounced, MayWait, Tried, Waited, won};
 
 use crate::call::Call;
 use crate::deadline::time_left;
+use crate::pauses::Pauses;
 use crate::waits::Round;
 use crate::word_lock::WordLock;
-use crossbeam_utils::Backoff;
 use lock_word::ExWant;
 use lock_word::seated::Attempt;
 use std::sync::Wait;
@@ -36,9 +36,9 @@ impl WordLock {
         ensures { ComesTo (won want call.old) call.old call.new }
     {
         let round = Round::new(want, false, None);
-        let backoff = Backoff::new();
+        let mut pauses = Pauses::new();
         for _ in rt.forever() {
-            if backoff.is_completed() {
+            if pauses.are_over() {
                 if self.wait_once(rt, call, &round) {
                     return;
                 }
@@ -47,7 +47,7 @@ impl WordLock {
             if let Attempt::Done = self.attempt(call, false, want) {
                 return;
             }
-            backoff.snooze();
+            pauses.pause();
         }
         unreachable!()
     }
@@ -65,13 +65,13 @@ impl WordLock {
         requires { MayWait self.now want false call.old }
         ensures { Waited want result call.old call.new }
     {
-        let backoff = Backoff::new();
+        let mut pauses = Pauses::new();
         for _ in rt.forever() {
-            if !backoff.is_completed() {
+            if !pauses.are_over() {
                 if let Attempt::Done = self.attempt(call, false, want) {
                     return true;
                 }
-                backoff.snooze();
+                pauses.pause();
                 continue;
             }
             let Some(left) = time_left(rt, deadline) else {
@@ -92,13 +92,13 @@ impl WordLock {
         ensures { ComesTo (won Exclusive call.old) call.old call.new }
     {
         let mut announced = false;
-        let backoff = Backoff::new();
+        let mut pauses = Pauses::new();
         for _ in rt.forever() {
-            if !backoff.is_completed() {
+            if !pauses.are_over() {
                 if let Attempt::Done = self.attempt(call, announced, ExWant::Exclusive) {
                     return;
                 }
-                backoff.snooze();
+                pauses.pause();
                 continue;
             }
             announced = self.announce(call, announced);

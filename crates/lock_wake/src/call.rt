@@ -19,7 +19,7 @@ pub(crate) struct Call {
 
 impl Model for Call {
     ghost use Rattle.std.specs.Prelude.{◌≡◌, []};
-    ghost use Rattle.lock_word.specs.Wakes.{unnoted};
+    ghost use Rattle.lock_sleepers.specs.Wakes.{unnumbered};
     ghost use Rattle.lock_wake.specs.Calls.{CallView};
 
     ghost Value = { CallView };
@@ -27,7 +27,7 @@ impl Model for Call {
     ghost view = { λ c.
         record {
           lock = record { id = c.seat.table_id; limits = c.seat.me.0.limits };
-          sleeper = unnoted c.seat.me.0.sleeper;
+          sleeper = unnumbered c.seat.me.0.sleeper;
           last = c.seat.me.0.last;
         } };
 

@@ -5,7 +5,7 @@ ghost use Rattle.lock_wake.specs.EventCounts.{EveryStateWakesTheRegistered};
 use crate::rule::{WakeRule, WakeView};
 use crate::sleepers::{CallStage, CountRule};
 use atomic_table::TableRule;
-use lock_word::WakeLimits;
+use lock_sleepers::WakeLimits;
 
 /// The law of every `WordLock`, between any two atomic steps of any threads.
 ///
@@ -16,17 +16,17 @@ use lock_word::WakeLimits;
 /// middle of a release, and has yet to look for sleepers or to end the epoch. So if no party is in the middle of a
 /// release, the word refuses every sleeper.
 ///
-/// A lock for one reader wakes one sleeper at a time. There, no party need be due if an epoch has ended since the word
-/// last changed. If all have looked, no party has left its sleep since. That the thread which ended the epoch then wakes
-/// one sleeper is in its code, and the law does not say it.
+/// A lock for one reader wakes one sleeper at a time. There, a sleeper may also watch a past epoch, if an epoch has ended
+/// since the word last changed. The party that ended it has an `OwedWake`, and a body cannot forget that value. The law
+/// does not see that the wake-up reaches a sleeper.
 pub fn every_state_forgets_none()
     ensures { EveryStateForgetsNone ⟦<WakeRule as TableRule<(), WakeView, WakeLimits>>⟧.holds }
 {}
 
 /// The law of every `EventCount`, between any two steps of any threads.
 ///
-/// No notification is lost to a registered wait. If a wait may sleep at the present epoch, each notification that has
-/// ended began before the wait registered.
+/// No notification is lost to a registered wait, whatever epoch it loaded. If a wait may sleep, each `notify_all` that has
+/// ended began before the wait registered. If it may still park, so did each `notify_one` that has ended.
 pub fn every_state_wakes_the_registered()
     ensures { EveryStateWakesTheRegistered ⟦<CountRule as TableRule<(), CallStage, ()>>⟧.holds }
 {}

@@ -1,5 +1,5 @@
 //! The kinds of step on the three words, and what each tells the party that makes it.
-ghost use Rattle.lock_wake.specs.Plays.{Loads, Exchanges, Takes, CountsIn, CountsOut, LooksForSleepers, Closes, Opens, Watches, Notes, Ends, BeginsAnew};
+ghost use Rattle.lock_wake.specs.Plays.{Loads, Exchanges, Takes, CountsIn, CountsOut, LooksForSleepers, Closes, Opens, Watches, Notes, BeginsAnew};
 
 use crate::rule::WakeView;
 use atomic_table::Play;
@@ -74,16 +74,9 @@ impl Play<(), WakeView> for NoteEpoch {
     ghost then = { λ s. Notes };
 }
 
-/// An exchange that ends the epoch.
-pub(crate) struct EndEpoch;
-
-impl Play<(), WakeView> for EndEpoch {
-    ghost then = { λ s. Ends };
-}
-
 /// A store that begins the epochs anew.
 pub(crate) struct RestartEpochs;
 
 impl Play<(), WakeView> for RestartEpochs {
-    ghost then = { λ s. BeginsAnew };
+    ghost then = { BeginsAnew };
 }

@@ -2,7 +2,7 @@
 ghost use Rattle.lock_wake.specs.WakeSeats.{IsKept, newcomer};
 
 use atomic_table::TableRule;
-use lock_word::{SleeperView, WakeLimits};
+use lock_sleepers::{SleeperView, WakeLimits};
 
 /// The seat's view of a party: what the rule keeps of it. It exists in contracts only.
 pub struct WakeView {

@@ -5,12 +5,16 @@ mod notified;
 mod notify;
 mod plays;
 mod registered;
+mod registration;
+mod slept;
 mod stage;
 mod wait;
 
 pub use event_count::EventCount;
 pub use notified::Notified;
 pub use registered::Registered;
+pub use registration::Registration;
+pub use slept::Slept;
 pub use stage::{CallStage, CountRule};
 
 /// The last epoch of an event count, and of a lock by `new`. No thread sleeps in it: a thread that parks compares 32 bits.

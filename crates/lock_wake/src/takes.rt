@@ -1,11 +1,12 @@
 //! How a call releases or downgrades, and wakes the sleepers that this unblocks.
-ghost use Rattle.std.specs.Prelude.{◌≡◌, IsTrue};
-ghost use Rattle.lock_word.specs.declared.sleeper.Watch.TheVariants.{Away};
-ghost use Rattle.lock_word.specs.declared.sleeper.Debt.TheVariants.{Nothing};
+ghost use Rattle.std.specs.Prelude.{◌≡◌, None, IsTrue};
+ghost use Rattle.lock_sleepers.specs.declared.sleeper.Watch.TheVariants.{Away};
+ghost use Rattle.lock_sleepers.specs.declared.sleeper.Debt.TheVariants.{Nothing};
 ghost use Rattle.lock_base.specs.Holds.{hold_has, hold_after};
 ghost use Rattle.lock_word.specs.Word.{step_of_down};
-ghost use Rattle.lock_word.specs.Wakes.{word_unblocks, has_to_wake, debt_after, with_debt};
-ghost use Rattle.lock_wake.specs.Calls.{ComesTo, with_sleeper};
+ghost use Rattle.lock_word.specs.Unblocking.{word_unblocks};
+ghost use Rattle.lock_sleepers.specs.Wakes.{has_to_wake, debt_after};
+ghost use Rattle.lock_wake.specs.Calls.{ComesTo, settled};
 
 use crate::call::Call;
 use crate::word_lock::WordLock;
@@ -34,10 +35,15 @@ impl WordLock {
     fn wake(&self, call: &mut Call, before: u64, after: u64)
         requires lock { call.old.lock ≡ self.now }
         requires owes { call.old.sleeper.debt ≡ debt_after (has_to_wake self.now.limits before after) Nothing }
-        ensures { call.new ≡ with_sleeper call.old (with_debt call.old.sleeper Nothing) }
+        requires taken { call.old.sleeper.ended_at ≡ None }
+        ensures { call.new ≡ settled call.old call.new.sleeper.ended_at }
     {
-        if self.limits.wakes_one || word_unblocks(self.limits.readers, before, after) {
-            self.end_epoch(call);
+        if !self.limits.wakes_one && !word_unblocks(self.limits.readers, before, after) {
+            return;
+        }
+        let epoch = self.note_epoch(call);
+        if epoch < self.limits.last_epoch {
+            self.end_epoch(call, epoch).make(&self.table.shared);
         }
     }
 }

@@ -3,7 +3,6 @@ ghost use Rattle.std.specs.Prelude.{◌≡◌, MatchResult};
 ghost use Rattle.lock_base.specs.declared.machine.mode.Mode.TheVariants.{Shared, Exclusive, Upgradable};
 ghost use Rattle.lock_word.specs.Rule.{WordShows};
 ghost use Rattle.lock_wake.specs.Calls.{IsTokenOf};
-ghost use Rattle.lock_wake.specs.WakeSeats.{StandsUnderLaw};
 
 use crate::call::WordToken;
 use crate::word_lock::WordLock;
@@ -14,12 +13,10 @@ use std::sync::Wait;
 use std::time::{Clock, Instant};
 
 impl WordLock {
-    /// Loads the word by a token. At that moment the law holds of a state with this word, in which the token stands: see
-    /// `every_state_forgets_none`.
+    /// Loads the word by a token. It encodes what all parties hold, the token among them.
     pub fn load(&self, token: WordToken) -> (u64, WordToken)
         requires { token.lock ≡ self.now }
         ensures token { result.1 ≡ token }
-        ensures law { StandsUnderLaw self.now.limits result.0 token.held }
         ensures shows { WordShows self.now.limits.readers result.0 token.held }
     {
         let mut call = token.into_call();

@@ -1,7 +1,8 @@
 //! How a call waits: it counts itself as a sleeper, looks once more, and sleeps until the epoch ends.
 ghost use Rattle.std.specs.Prelude.{◌≡◌, true, false, None, IsTrue};
-ghost use Rattle.lock_word.specs.declared.sleeper.Watch.TheVariants.{Counted};
-ghost use Rattle.lock_word.specs.Sleepers.{count_of_watch, is_awaited};
+ghost use Rattle.lock_sleepers.specs.declared.sleeper.Watch.TheVariants.{Counted};
+ghost use Rattle.lock_word.specs.Unblocking.{is_awaited};
+ghost use Rattle.lock_sleepers.specs.Sleepers.{count_of_watch};
 ghost use Rattle.lock_wake.specs.Calls.{CameBack, ComesTo, MayAttempt, MayWait, Waited, away, won};
 
 use crate::call::Call;

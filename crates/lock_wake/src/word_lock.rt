@@ -6,7 +6,8 @@ use crate::rule::{WakeRule, WakeView};
 use crate::sleepers::LAST_EPOCH;
 use atomic_table::Table;
 use lock_base::raw::{Fault, is_limit};
-use lock_word::{WakeLimits, has_exclusive, has_tokens};
+use lock_sleepers::WakeLimits;
+use lock_word::{has_exclusive, has_tokens};
 use std::alloc::Global;
 use std::marker::Model;
 

@@ -1,26 +1,36 @@
 //! The atomic steps of a call, on the word, on the count of sleepers and on the epoch.
-ghost use Rattle.std.specs.Prelude.{◌≡◌, ◌<◌, ◌≤◌, ◌^◌, true, false, IsTrue};
-ghost use Rattle.lock_word.specs.declared.sleeper.Watch.TheVariants.{Away, Counted, Woken};
-ghost use Rattle.lock_word.specs.declared.sleeper.Debt.TheVariants.{Nothing, Owes};
+ghost use Rattle.std.specs.Prelude.{◌≡◌, ◌<◌, ◌≤◌, ◌^◌, true, false, None, IsTrue};
+ghost use Rattle.lock_sleepers.specs.declared.sleeper.Watch.TheVariants.{Away, Counted, Woken};
+ghost use Rattle.lock_sleepers.specs.declared.sleeper.Debt.TheVariants.{Nothing, Owes, OwesAt};
 ghost use Rattle.lock_base.specs.Holds.{hold_has};
 ghost use Rattle.lock_word.specs.Word.{amount, step_of_down};
 ghost use Rattle.lock_word.specs.Rule.{WordShows};
-ghost use Rattle.lock_word.specs.Sleepers.{count_of_watch, Sleeps};
-ghost use Rattle.lock_word.specs.Wakes.{may_want, with_watch, with_debt, view_after_take, view_after_epoch};
-ghost use Rattle.lock_wake.specs.WakeSeats.{StandsUnderLaw};
-ghost use Rattle.lock_wake.specs.Calls.{Attempted, MayAttempt, with_sleeper, after_load, after_sleep, entered};
+ghost use Rattle.lock_sleepers.specs.Sleepers.{count_of_watch, Sleeps};
+ghost use Rattle.lock_sleepers.specs.Wakes.{may_want, with_watch, with_debt, view_after_take, view_after_epoch};
+ghost use Rattle.lock_wake.specs.Plays.{Ends};
+ghost use Rattle.lock_wake.specs.Calls.{Attempted, MayAttempt, with_sleeper, after_load, after_sleep, entered, owed_wake, settled};
 
 use crate::call::Call;
+use crate::owed_wake::{OwedWake, Whom};
 use crate::plays::{
-    CloseCount, CountIn, CountOut, EndEpoch, Exchange, LoadWord, LookForSleepers, NoteEpoch,
-    OpenCount, RestartEpochs, Take, WatchEpoch,
+    CloseCount, CountIn, CountOut, Exchange, LoadWord, LookForSleepers, NoteEpoch, OpenCount,
+    RestartEpochs, Take, WatchEpoch,
 };
+use crate::rule::WakeView;
 use crate::sleepers::CLOSED_COUNT;
 use crate::word_lock::{COUNT, EPOCH, WORD, WordLock};
+use atomic_table::Play;
 use lock_word::seated::Attempt;
 use lock_word::{Down, ExWant};
 use std::sync::Wait;
 use std::time::Duration;
+
+/// An exchange that ends the epoch. Only `end_epoch` makes it, so whoever ends an epoch owes its wake-up.
+pub struct EndEpoch;
+
+impl Play<(), WakeView> for EndEpoch {
+    ghost then = { Ends };
+}
 
 impl WordLock {
     /// Begins a call, by a load of the word.
@@ -35,7 +45,6 @@ impl WordLock {
     pub(crate) fn load_word(&self, call: &mut Call) -> u64
         requires { call.old.lock ≡ self.now }
         ensures loaded { call.new ≡ after_load call.old result }
-        ensures law { StandsUnderLaw self.now.limits result call.old.sleeper.state.held }
         ensures shows { WordShows self.now.limits.readers result call.old.sleeper.state.held }
     {
         self.table.shared.load::<LoadWord>(&mut call.seat, WORD)
@@ -125,31 +134,31 @@ impl WordLock {
         self.table.shared.load::<WatchEpoch>(&mut call.seat, EPOCH)
     }
 
-    /// Ends the epoch, unless some other call did, and wakes one sleeper or all. All are awake when the last epoch
-    /// begins.
-    pub(crate) fn end_epoch(&self, call: &mut Call)
+    /// Loads the epoch that a due call has to end. At the last epoch it owes nothing.
+    pub(crate) fn note_epoch(&self, call: &mut Call) -> u64
         requires lock { call.old.lock ≡ self.now }
         requires owes { call.old.sleeper.debt ≡ Owes }
-        ensures { call.new ≡ with_sleeper call.old (with_debt call.old.sleeper Nothing) }
+        ensures owes { result < self.now.limits.last_epoch → call.new ≡ with_sleeper call.old (with_debt call.old.sleeper (OwesAt result)) }
+        ensures last { self.now.limits.last_epoch ≤ result → call.new ≡ with_sleeper call.old (with_debt call.old.sleeper Nothing) }
+    {
+        self.table.shared.load::<NoteEpoch>(&mut call.seat, EPOCH)
+    }
+
+    /// Ends the epoch, unless some other call did. All are awake when the last epoch begins.
+    pub(crate) fn end_epoch(&self, call: &mut Call, epoch: u64) -> OwedWake
+        requires lock { call.old.lock ≡ self.now }
+        requires owes { call.old.sleeper.debt ≡ OwesAt epoch }
+        requires early { epoch < self.now.limits.last_epoch }
+        requires taken { call.old.sleeper.ended_at ≡ None }
+        ensures call { call.new ≡ settled call.old call.new.sleeper.ended_at }
+        ensures owed { result ≡ owed_wake self.now.limits epoch call.new.sleeper.ended_at }
     {
         let shared = &self.table.shared;
-        let epoch = shared.load::<NoteEpoch>(&mut call.seat, EPOCH);
-        if epoch < self.limits.last_epoch {
-            let found = shared.compare_exchange::<EndEpoch>(
-                &mut call.seat,
-                EPOCH,
-                epoch,
-                epoch + 1,
-            );
-            if found != epoch {
-                return;
-            }
-            if self.limits.wakes_one && epoch + 1 < self.limits.last_epoch {
-                shared.wake_one(EPOCH);
-            } else {
-                shared.wake_all(EPOCH);
-            }
-        }
+        let seat = &mut call.seat;
+        let found = shared.compare_exchange::<EndEpoch>(seat, EPOCH, epoch, epoch + 1);
+        let wakes_one = self.limits.wakes_one && epoch + 1 < self.limits.last_epoch;
+        let whom = if wakes_one { Whom::One } else { Whom::All };
+        OwedWake::after_exchange(EPOCH, epoch, found, whom)
     }
 
     /// Begins the epochs anew if the epoch is the last and no call is counted. It closes the count meanwhile.

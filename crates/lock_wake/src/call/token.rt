@@ -9,8 +9,7 @@ use std::marker::Model;
 
 /// The token of one acquisition on a `WordLock`. It has no bytes. Contracts see its lock, and what it holds.
 ///
-/// A token that is dropped is never released.
-#[derive(Drop)]
+/// It has no `Drop` and no `Clone`, so code that drops one does not compile: a release or a change consumes it.
 pub struct WordToken {
     seat: Seat<(), WakeView>,
 }

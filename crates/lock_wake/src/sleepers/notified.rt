@@ -1,15 +1,21 @@
 //! A notification that has ended.
-ghost use Rattle.std.specs.Prelude.{◌≡◌, true};
-ghost use Rattle.lock_wake.specs.declared.sleepers.stage.CallStage.TheVariants.{Over};
+ghost use Rattle.std.specs.Prelude.{◌≡◌};
+ghost use Rattle.lock_wake.specs.declared.sleepers.stage.CallStage.TheVariants.{FoundNone, OwesWake};
+ghost use Rattle.lock_wake.specs.EventPlays.{reached_of};
+ghost use Rattle.lock_wake.specs.EventCalls.{owed_to};
 
+use crate::owed_wake::OwedWake;
 use crate::sleepers::CLOSED_COUNT;
 use crate::sleepers::call::EventCall;
 use crate::sleepers::event_count::{EPOCH, EventCount};
+use crate::sleepers::plays::{WakeAll, WakeOne};
 use crate::sleepers::stage::CallStage;
 use atomic_table::Seat;
 use std::marker::Model;
 
-/// A notification that has ended: no wait that registered before it began sleeps on.
+/// A notification that has ended. After one of all, no wait that registered before it began sleeps on.
+///
+/// Only the calls of an `EventCount` make one, and no clause can: what contracts see has a private field.
 #[derive(Drop)]
 pub struct Notified {
     seat: Seat<(), CallStage>,
@@ -18,15 +24,16 @@ pub struct Notified {
 }
 
 impl Model for Notified {
-    ghost use Rattle.std.specs.Prelude.{◌≡◌};
-    ghost use Rattle.lock_wake.specs.declared.sleepers.stage.CallStage.TheVariants.{Over};
-    ghost use Rattle.lock_wake.specs.EventCalls.{Ended};
+    ghost use Rattle.lock_wake.specs.EventPlays.{IsOver};
+    ghost use Rattle.lock_wake.specs.EventSeals.{Ended, ended, ended_code};
 
     ghost Value = { Ended };
 
-    ghost view = { λ n. record { events = n.seat.table_id; number = n.seat.id; waits = n.waits; all = n.all } };
+    ghost coded = { ended_code };
 
-    ghost invariant = { λ n. n.seat.me.0 ≡ Over n.waits };
+    ghost view = { λ n. ended n.seat.table_id n.seat.id n.waits n.all };
+
+    ghost invariant = { λ n. IsOver n.all n.waits n.seat.me.0 };
 }
 
 impl Notified {
@@ -43,31 +50,36 @@ impl Notified {
 
 impl EventCount {
     /// Ends a notification that found no wait.
-    pub(crate) fn found_none(&self, call: EventCall) -> Notified
+    pub(crate) fn found_none(&self, call: EventCall, all: bool) -> Notified
         requires events { call.events ≡ self.now }
-        requires none { call.stage ≡ Over 0 }
-        ensures { result ≡ record { events = self.now; number = call.number; waits = 0; all = true } }
+        requires none { call.stage ≡ FoundNone }
+        ensures events { result.events ≡ self.now }
+        ensures all { result.all ≡ all }
     {
         let EventCall { seat } = call;
         Notified {
             seat,
             waits: 0,
-            all: true,
+            all,
         }
     }
 
-    /// Wakes one thread or all, after the notification ended the epoch.
-    pub(crate) fn wake(&self, call: EventCall, waits: u64, all: bool) -> Notified
+    /// Makes the wake-up of one thread or of all, after the epoch has ended.
+    pub(crate) fn wake(&self, call: EventCall, owed: OwedWake, waits: u64, all: bool) -> Notified
         requires events { call.events ≡ self.now }
-        requires over { call.stage ≡ Over waits }
-        ensures { result ≡ record { events = self.now; number = call.number; waits = waits; all = all } }
+        requires owes { call.stage ≡ OwesWake waits (reached_of call.stage) }
+        requires owed { owed ≡ owed_to all }
+        ensures events { result.events ≡ self.now }
+        ensures all { result.all ≡ all }
     {
+        let EventCall { mut seat } = call;
+        let shared = &self.table.shared;
+        owed.make(shared);
         if all {
-            self.table.shared.wake_all(EPOCH);
+            shared.load::<WakeAll>(&mut seat, EPOCH);
         } else {
-            self.table.shared.wake_one(EPOCH);
+            shared.load::<WakeOne>(&mut seat, EPOCH);
         }
-        let EventCall { seat } = call;
         Notified { seat, waits, all }
     }
 }

@@ -1,5 +1,6 @@
 //! The kinds of step on the count and the epoch, and what each tells the call that makes it.
-ghost use Rattle.lock_wake.specs.EventPlays.{Arrives, Begins, CountsIn, Registers, CountsOut, Closes, BeginsAnew, Notes, Ends};
+ghost use Rattle.std.specs.Prelude.{true, false};
+ghost use Rattle.lock_wake.specs.EventPlays.{Arrives, Begins, CountsIn, Registers, CountsOut, Closes, BeginsAnew, Notes, Wakes};
 
 use crate::sleepers::stage::CallStage;
 use atomic_table::Play;
@@ -36,7 +37,7 @@ impl Play<(), CallStage> for Register {
 pub(crate) struct CountOut;
 
 impl Play<(), CallStage> for CountOut {
-    ghost then = { λ s. CountsOut };
+    ghost then = { λ s me found. CountsOut s me };
 }
 
 /// An exchange of a count of 0 that closes it.
@@ -50,7 +51,7 @@ impl Play<(), CallStage> for CloseCount {
 pub(crate) struct RestartEpochs;
 
 impl Play<(), CallStage> for RestartEpochs {
-    ghost then = { λ s. BeginsAnew };
+    ghost then = { λ s me found. BeginsAnew s me };
 }
 
 /// A load of the epoch by a notification.
@@ -60,9 +61,16 @@ impl Play<(), CallStage> for NoteEpoch {
     ghost then = { λ s. Notes };
 }
 
-/// An exchange that ends the epoch.
-pub(crate) struct EndEpoch;
+/// A load of the epoch by a notification that woke one thread.
+pub(crate) struct WakeOne;
 
-impl Play<(), CallStage> for EndEpoch {
-    ghost then = { λ s. Ends };
+impl Play<(), CallStage> for WakeOne {
+    ghost then = { λ s me found. Wakes false me };
+}
+
+/// A load of the epoch by a notification that woke all threads.
+pub(crate) struct WakeAll;
+
+impl Play<(), CallStage> for WakeAll {
+    ghost then = { λ s me found. Wakes true me };
 }

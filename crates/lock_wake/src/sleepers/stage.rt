@@ -11,12 +11,16 @@ pub enum CallStage {
     Registered(u64, u64),
     /// A wait that closed the count, and begins the epochs anew.
     Restarts,
+    /// A notification that found no wait.
+    FoundNone,
     /// A notification that found so many waits, and has yet to load the epoch.
     Owes(u64),
     /// A notification that found so many waits, and has yet to end this epoch.
     OwesAt(u64, u64),
-    /// A notification that found so many waits, and has ended the epoch if there were any.
-    Over(u64),
+    /// A notification that found so many waits, and has yet to wake. This epoch has begun.
+    OwesWake(u64, u64),
+    /// A notification that woke all threads or one, after it found so many waits and this epoch had begun.
+    Over(bool, u64, u64),
 }
 
 /// The rule of a count of waits, an epoch, and all calls.

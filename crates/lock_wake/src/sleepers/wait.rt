@@ -1,18 +1,20 @@
 //! How a thread waits for a notification.
-ghost use Rattle.std.specs.Prelude.{◌≡◌, ◌≢◌, ◌<◌};
-ghost use Rattle.lock_wake.specs.declared.sleepers.stage.CallStage.TheVariants as stage;
+ghost use Rattle.std.specs.Prelude.{◌≡◌, ◌≢◌, Some, None};
+ghost use Rattle.std.specs.Time.{instant_nanos};
 ghost use Rattle.lock_wake.specs.declared.sleepers.stage.CallStage.TheVariants.{Away, Counted};
-ghost use Rattle.lock_wake.specs.EventCounts.{count_of, last_epoch};
-ghost use Rattle.lock_wake.specs.EventPlays.{before_of};
+ghost use Rattle.lock_wake.specs.EventCounts.{count_of};
 
+use crate::deadline::time_left;
 use crate::sleepers::call::EventCall;
 use crate::sleepers::event_count::{COUNT, EPOCH, EventCount};
 use crate::sleepers::plays::{Arrive, CloseCount, CountIn, CountOut, Register, RestartEpochs};
 use crate::sleepers::registered::Registered;
+use crate::sleepers::registration::Registration;
+use crate::sleepers::slept::Slept;
 use crate::sleepers::{CLOSED_COUNT, LAST_EPOCH};
 use std::sync::Wait;
 use std::thread;
-use std::time::Duration;
+use std::time::{Clock, Duration, Instant};
 
 impl EventCount {
     /// Registers a wait: a notification that begins from now on ends its sleep.
@@ -34,53 +36,82 @@ impl EventCount {
         unreachable!()
     }
 
-    /// Sleeps until a notification ends the epoch of the registration, and leaves. It may end spuriously.
-    pub fn sleep<R: Wait>(&self, rt: &R, registered: Registered)
-        requires { registered.events ≡ self.now }
+    /// Registers a wait as `register` does. The registration keeps the token until `released`.
+    pub fn register_with<R: Wait, T>(&self, rt: &R, token: T) -> Registration<T>
+        ensures events { result.events ≡ self.now }
+        ensures token { result.token ≡ token }
     {
-        self.sleep_at_most(rt, registered, None);
+        Registration::new(self.register(rt), token)
+    }
+
+    /// Sleeps until a notification ends the epoch of the registration, and leaves. It may end spuriously.
+    pub fn sleep<R: Wait>(&self, rt: &R, registered: Registered) -> Slept
+        requires { registered.events ≡ self.now }
+        ensures wait { (result.events ≡ self.now) × (result.number ≡ registered.number) }
+        ensures deadline { result.deadline ≡ None }
+    {
+        self.park(rt, &registered, None);
+        Slept::new(self.count_away(registered), None, false)
+    }
+
+    /// Sleeps as `sleep` does, until `deadline` at most. If the clock cannot be read, it times out.
+    pub fn sleep_until<R: Wait + Clock>(
+        &self,
+        rt: &R,
+        registered: Registered,
+        deadline: Instant,
+    ) -> Slept
+        requires { registered.events ≡ self.now }
+        ensures wait { (result.events ≡ self.now) × (result.number ≡ registered.number) }
+        ensures deadline { result.deadline ≡ Some (instant_nanos deadline) }
+    {
+        if let Some(left) = time_left(rt, deadline) {
+            self.park(rt, &registered, Some(left));
+        }
+        let timed_out = time_left(rt, deadline).is_none();
+        Slept::new(self.count_away(registered), Some(deadline), timed_out)
     }
 
     /// Sleeps as `sleep` does, for at most `time`.
     pub fn sleep_for<R: Wait>(&self, rt: &R, registered: Registered, time: Duration)
         requires { registered.events ≡ self.now }
     {
-        self.sleep_at_most(rt, registered, Some(time));
+        self.park(rt, &registered, Some(time));
+        self.leave(registered);
     }
 
     /// Ends a registered wait without a sleep.
     pub fn leave(&self, registered: Registered)
         requires { registered.events ≡ self.now }
     {
-        let Registered { mut call, epoch: _ } = registered;
-        self.count_out(&mut call);
-        self.restart_if_last(&mut call);
-        call.end();
+        self.count_away(registered).end();
     }
 
-    fn sleep_at_most<R: Wait>(&self, rt: &R, registered: Registered, time: Option<Duration>)
-        requires { registered.events ≡ self.now }
-    {
-        if registered.epoch < LAST_EPOCH {
-            self.park(rt, &registered.call, registered.epoch, time);
-        } else {
-            thread::yield_now();
-        }
-        self.leave(registered);
-    }
-
-    /// Parks the thread while the epoch is that of the registration. The rule promises that no notification since is
-    /// lost.
-    fn park<R: Wait>(&self, rt: &R, call: &EventCall, epoch: u64, time: Option<Duration>)
-        requires events { call.now.events ≡ self.now }
-        requires sleeps { call.now.stage ≡ stage.Registered (before_of call.now.stage) epoch }
-        requires early { epoch < last_epoch }
+    /// Parks the thread while the epoch is that of the registration. It yields in the last epoch, which may begin again.
+    fn park<R: Wait>(&self, rt: &R, registered: &Registered, time: Option<Duration>)
+        requires { registered.now.events ≡ self.now }
     {
         let shared = &self.table.shared;
+        let epoch = registered.epoch;
+        if epoch >= LAST_EPOCH {
+            return thread::yield_now();
+        }
         match time {
             Some(time) => shared.park_timeout(rt, EPOCH, epoch as u32, time),
             None => shared.park(rt, EPOCH, epoch as u32),
         }
+    }
+
+    /// Takes a registered wait out of the count.
+    fn count_away(&self, registered: Registered) -> EventCall
+        requires { registered.events ≡ self.now }
+        ensures wait { (result.events ≡ self.now) × (result.number ≡ registered.number) }
+        ensures away { result.stage ≡ Away }
+    {
+        let Registered { mut call, epoch: _ } = registered;
+        self.count_out(&mut call);
+        self.restart_if_last(&mut call);
+        call
     }
 
     /// Counts the wait by one exchange, unless the count changed or is full. Returns the count that it found.

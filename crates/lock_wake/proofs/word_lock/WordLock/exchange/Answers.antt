@@ -1,5 +1,5 @@
 use Rattle.std.proofs.Common.{rules, sym, ap}
-use Rattle.lock_word.specs.declared.sleeper.WakeLimits.{WakeLimits}
+use Rattle.lock_sleepers.specs.declared.sleeper.WakeLimits.{WakeLimits}
 use Rattle.lock_wake.proofs.Keeps.{exchanges}
 use Rattle.lock_wake.proofs.word_lock.WordLock.exchange.Goals as goal
 

@@ -1,4 +1,4 @@
-use Rattle.std.proofs.Common.{rules, refl, arith}
+use Rattle.std.proofs.Common.{rules, refl}
 use Rattle.lock_wake.proofs.EventKeeps.{counts_in}
 use Rattle.lock_wake.proofs.sleepers.event_count.EventCount.count_in.Goals as goal
 

@@ -1,0 +1,51 @@
+//! A wake-up that is decided and not made yet.
+ghost use Rattle.std.specs.Prelude.{◌≡◌, ◌<◌};
+ghost use Rattle.lock_wake.specs.OwedWakes.{owed_after};
+
+use atomic_table::{Shared, TableRule};
+
+/// Which of the threads that park on an epoch its end wakes.
+#[derive(Clone, Copy, PartialEq, Eq, Debug)]
+pub enum Whom {
+    Nobody,
+    One,
+    All,
+}
+
+/// A wake-up that is decided and not made yet.
+///
+/// It has no `Drop`, so a body cannot forget one: `make` makes it.
+pub struct OwedWake {
+    word: usize,
+    whom: Whom,
+}
+
+impl OwedWake {
+    /// Returns what is owed to the threads that park on the word, whoever ended their epoch.
+    pub(crate) fn new(word: usize, whom: Whom) -> OwedWake
+        ensures { result ≡ record { word = word; whom = whom } }
+    {
+        OwedWake { word, whom }
+    }
+
+    /// Returns what is owed after an exchange of this epoch found that one. The call that ended the epoch owes the
+    /// wake-up, and no other.
+    pub fn after_exchange(word: usize, epoch: u64, found: u64, whom: Whom) -> OwedWake
+        ensures { result ≡ owed_after word epoch found whom }
+    {
+        let whom = if found == epoch { whom } else { Whom::Nobody };
+        OwedWake { word, whom }
+    }
+
+    /// Wakes the threads that park on the word.
+    pub fn make<S, V, K, P: TableRule<S, V, K>>(self, shared: &Shared<S, V, K, P>)
+        requires { self.word < shared.now.table_id.words }
+    {
+        let OwedWake { word, whom } = self;
+        match whom {
+            Whom::Nobody => (),
+            Whom::One => shared.wake_one(word),
+            Whom::All => shared.wake_all(word),
+        }
+    }
+}

@@ -1,0 +1,38 @@
+//! The pauses of a contended call before it sleeps.
+use std::hint::spin_loop;
+use std::thread;
+
+/// How many pauses spin. Each later one yields the thread.
+const SPINS: u32 = 3;
+
+/// How many pauses a call makes before it sleeps. With more spins, or fewer yields, four threads acquire a mutex less often.
+const PAUSES: u32 = 20;
+
+/// The pauses of a contended call between its attempts: spins that double, and then yields.
+#[derive(Drop)]
+pub(crate) struct Pauses {
+    made: u32,
+}
+
+impl Pauses {
+    pub(crate) fn new() -> Pauses {
+        Pauses { made: 0 }
+    }
+
+    /// Returns whether the call has made them all.
+    pub(crate) fn are_over(&self) -> bool {
+        self.made >= PAUSES
+    }
+
+    /// Makes the next pause.
+    pub(crate) fn pause(&mut self) {
+        if self.made < SPINS {
+            for _ in 0..1u32 << self.made {
+                spin_loop();
+            }
+        } else {
+            thread::yield_now();
+        }
+        self.made = self.made.saturating_add(1);
+    }
+}
