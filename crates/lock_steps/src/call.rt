@@ -1,0 +1,338 @@
+//! A call, step by step.
+ghost use Rattle.std.specs.Prelude.{◌≡◌, ◌==◌, ◌||◌};
+
+use crate::action::{Action, Place};
+use crate::stage::Stage;
+use lock_word::{Down, ExWant, Occupancy, unblocks};
+
+/// The last epoch. No thread sleeps in it, because a sleep compares 32 bits.
+pub const LAST_EPOCH: u64 = 4_294_967_295;
+
+/// The count of sleepers while the epochs begin anew.
+pub const CLOSED_COUNT: u64 = 9_223_372_036_854_775_808;
+
+/// How many pauses of a call spin. Each later one yields the thread.
+pub const SPINS: u32 = 3;
+
+/// How many pauses a call makes before it sleeps.
+pub const PAUSES: u32 = 20;
+
+/// A call between two of its steps.
+#[derive(Clone, Copy, PartialEq, Eq, Debug)]
+pub struct Call {
+    /// The readers' limit of the lock. A lock for one reader is a mutex.
+    pub readers: u64,
+    /// The step whose answer the call awaits.
+    pub stage: Stage,
+    /// What the call acquires. A release acquires nothing and does not read it.
+    pub want: ExWant,
+    /// Whether the call blocks. A call that does not block is a try.
+    pub blocks: bool,
+    /// Whether the call sets the bar before it sleeps. Such a call has no deadline.
+    pub announces: bool,
+    /// Whether the call has set the bar.
+    pub announced: bool,
+    /// Whether the deadline of the call has passed.
+    pub late: bool,
+    /// How many pauses the call has made.
+    pub pauses: u32,
+    /// The word or the count that the call loaded last.
+    pub loaded: u64,
+    /// The epoch that the call loaded last.
+    pub epoch: u64,
+}
+
+impl Call {
+    ghost use Rattle.lock_steps.specs.Machine.{acquiring, taking, next_of, goes_to, ended, acquired, refused, wakes_one, with_loaded, tries, pause, to_wait, to_count, leave, look_again, find_epoch, has_to_wake};
+    ghost use Rattle.lock_word.specs.Word.{word_exchanged};
+
+    /// Begins a call that acquires or upgrades. Returns the call and its first action.
+    pub fn acquire(readers: u64, want: ExWant, blocks: bool, announces: bool) -> (Call, Action)
+        ensures { result ≡ acquiring readers want blocks announces }
+    {
+        let call = Call {
+            readers,
+            stage: Stage::Look,
+            want,
+            blocks,
+            announces,
+            announced: false,
+            late: false,
+            pauses: 0,
+            loaded: 0,
+            epoch: 0,
+        };
+        (call, Action::Load(Place::Word))
+    }
+
+    /// Begins a call that releases or downgrades. Returns the call and its first action.
+    pub fn take(readers: u64, down: Down) -> (Call, Action)
+        ensures { result ≡ taking readers down }
+    {
+        let call = Call {
+            readers,
+            stage: Stage::Take,
+            want: ExWant::Shared,
+            blocks: false,
+            announces: false,
+            announced: false,
+            late: false,
+            pauses: 0,
+            loaded: 0,
+            epoch: 0,
+        };
+        (call, Action::Subtract(Place::Word, down.amount()))
+    }
+
+    /// Takes the answer to the last action, and returns the next action.
+    ///
+    /// `down` is what a call of [`Call::take`] releases. A call of [`Call::acquire`] does not read it.
+    pub fn next(&mut self, down: Down, found: u64) -> Action
+        ensures { (self.new, result) ≡ next_of down found self.old }
+    {
+        match self.stage {
+            Stage::Look => match self.tries(Stage::Try, found) {
+                Some(action) => action,
+                None => self.pause(),
+            },
+            Stage::Try => {
+                if found == self.loaded {
+                    self.acquired()
+                } else {
+                    self.pause()
+                }
+            }
+            Stage::Pause => self.to(Stage::Look, Action::Load(Place::Word)),
+            Stage::LookToAnnounce => {
+                self.loaded = found;
+                match ExWant::Announce.exchanged(false, self.readers, found) {
+                    Some(next) => {
+                        self.to(Stage::Announce, Action::Exchange(Place::Word, found, next))
+                    }
+                    None => self.to_count(),
+                }
+            }
+            Stage::Announce => {
+                self.announced = found == self.loaded;
+                self.to_count()
+            }
+            Stage::FindCount => {
+                if found >= CLOSED_COUNT - 1 {
+                    return self.to(Stage::YieldAway, Action::Yield);
+                }
+                self.loaded = found;
+                self.to(
+                    Stage::CountIn,
+                    Action::Exchange(Place::Count, found, found + 1),
+                )
+            }
+            Stage::CountIn => {
+                if found == self.loaded {
+                    self.to(Stage::WatchEpoch, Action::Load(Place::Epoch))
+                } else {
+                    self.to(Stage::YieldAway, Action::Yield)
+                }
+            }
+            Stage::WatchEpoch => {
+                if found >= LAST_EPOCH {
+                    return self.to(Stage::YieldCounted, Action::Yield);
+                }
+                self.epoch = found;
+                self.to(Stage::LookCounted, Action::Load(Place::Word))
+            }
+            Stage::LookCounted => match self.tries(Stage::TryCounted, found) {
+                Some(action) => action,
+                None => {
+                    let epoch = self.epoch;
+                    self.to(Stage::Sleep, Action::Park(epoch))
+                }
+            },
+            Stage::TryCounted => {
+                if found == self.loaded {
+                    self.to(Stage::LeaveAcquired, Action::Subtract(Place::Count, 1))
+                } else {
+                    self.leave()
+                }
+            }
+            Stage::Sleep => {
+                self.late = found != 0 && !self.announces;
+                self.leave()
+            }
+            Stage::YieldCounted => self.leave(),
+            Stage::LeaveAcquired => self.acquired(),
+            Stage::Wake => self.end(true),
+            Stage::Leave | Stage::YieldAway => {
+                self.to(Stage::LookAgain, Action::Load(Place::Word))
+            }
+            Stage::LookAgain => match self.tries(Stage::TryAgain, found) {
+                Some(action) => action,
+                None => self.find_epoch(),
+            },
+            Stage::TryAgain => {
+                if found == self.loaded {
+                    self.acquired()
+                } else {
+                    self.find_epoch()
+                }
+            }
+            Stage::FindEpoch => {
+                if found < LAST_EPOCH {
+                    return self.to_wait();
+                }
+                self.to(
+                    Stage::CloseCount,
+                    Action::Exchange(Place::Count, 0, CLOSED_COUNT),
+                )
+            }
+            Stage::CloseCount => {
+                if found != 0 {
+                    return self.to_wait();
+                }
+                self.to(Stage::RestartEpochs, Action::Restart)
+            }
+            Stage::RestartEpochs => self.to(
+                Stage::OpenCount,
+                Action::Subtract(Place::Count, CLOSED_COUNT),
+            ),
+            Stage::OpenCount => self.to_wait(),
+            Stage::Take => {
+                self.loaded = found;
+                self.to(Stage::LookForSleepers, Action::Load(Place::Count))
+            }
+            Stage::LookForSleepers => {
+                if found != 0 && self.has_to_wake(down) {
+                    self.to(Stage::NoteEpoch, Action::Load(Place::Epoch))
+                } else {
+                    self.end(true)
+                }
+            }
+            Stage::NoteEpoch => {
+                if found >= LAST_EPOCH {
+                    return self.end(true);
+                }
+                self.epoch = found;
+                self.to(
+                    Stage::EndEpoch,
+                    Action::Exchange(Place::Epoch, found, found + 1),
+                )
+            }
+            Stage::EndEpoch => {
+                if found != self.epoch {
+                    self.end(true)
+                } else if self.wakes_one() && self.epoch < LAST_EPOCH - 1 {
+                    self.to(Stage::Wake, Action::WakeOne)
+                } else {
+                    self.to(Stage::Wake, Action::WakeAll)
+                }
+            }
+            Stage::Acquired | Stage::Refused | Stage::Ended => self.end(false),
+        }
+    }
+
+    /// Whether a release wakes one sleeper, and not all. Such a lock is a mutex, and no writer sets its bar.
+    fn wakes_one(&self) -> bool
+        ensures { result ≡ wakes_one self.now }
+    {
+        self.readers == 1
+    }
+
+    fn to(&mut self, stage: Stage, action: Action) -> Action
+        ensures { (self.new, result) ≡ goes_to self.old stage action }
+    {
+        self.stage = stage;
+        action
+    }
+
+    fn end(&mut self, answer: bool) -> Action
+        ensures { (self.new, result) ≡ ended answer self.old }
+    {
+        self.to(Stage::Ended, Action::End(answer))
+    }
+
+    fn acquired(&mut self) -> Action
+        ensures { (self.new, result) ≡ acquired self.old }
+    {
+        self.to(Stage::Acquired, Action::End(true))
+    }
+
+    fn refused(&mut self) -> Action
+        ensures { (self.new, result) ≡ refused self.old }
+    {
+        self.to(Stage::Refused, Action::End(false))
+    }
+
+    /// Exchanges the loaded word, if it admits what the call wants.
+    fn tries(&mut self, trying: Stage, word: u64) -> Option<Action>
+        ensures { (self.new, result) ≡ tries trying word self.old }
+    {
+        self.loaded = word;
+        let next = self.want.exchanged(self.announced, self.readers, word)?;
+        Some(self.to(trying, Action::Exchange(Place::Word, word, next)))
+    }
+
+    /// Before it sleeps, a call spins and yields for a few pauses.
+    fn pause(&mut self) -> Action
+        ensures { (self.new, result) ≡ pause self.old }
+    {
+        if !self.blocks {
+            return self.refused();
+        }
+        let made = self.pauses;
+        if made >= PAUSES {
+            return self.to_wait();
+        }
+        self.pauses = made + 1;
+        if made < SPINS {
+            self.to(Stage::Pause, Action::Spin(made))
+        } else {
+            self.to(Stage::Pause, Action::Yield)
+        }
+    }
+
+    /// Begins a round of a waiter: the call sets the bar or counts itself, unless its deadline has passed.
+    fn to_wait(&mut self) -> Action
+        ensures { (self.new, result) ≡ to_wait self.old }
+    {
+        if self.late {
+            return self.refused();
+        }
+        if self.announces && !self.announced && !self.wakes_one() {
+            return self.to(Stage::LookToAnnounce, Action::Load(Place::Word));
+        }
+        self.to_count()
+    }
+
+    fn to_count(&mut self) -> Action
+        ensures { (self.new, result) ≡ to_count self.old }
+    {
+        self.to(Stage::FindCount, Action::Load(Place::Count))
+    }
+
+    fn leave(&mut self) -> Action
+        ensures { (self.new, result) ≡ leave self.old }
+    {
+        self.to(Stage::Leave, Action::Subtract(Place::Count, 1))
+    }
+
+    fn find_epoch(&mut self) -> Action
+        ensures { (self.new, result) ≡ find_epoch self.old }
+    {
+        self.to(Stage::FindEpoch, Action::Load(Place::Epoch))
+    }
+
+    /// Whether the subtraction unblocks some waiter. In a mutex it may always.
+    fn has_to_wake(&self, down: Down) -> bool
+        ensures { result ≡ has_to_wake down self.now }
+    {
+        if self.wakes_one() {
+            return true;
+        }
+        let before = self.loaded;
+        let after = before.saturating_sub(down.amount());
+        unblocks(
+            self.readers,
+            Occupancy::of_word(before),
+            Occupancy::of_word(after),
+        )
+    }
+}
