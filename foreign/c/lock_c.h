@@ -1,0 +1,33 @@
+/* The exports of liblock_c.a: the machine of a call. proved_lock.c makes the steps that it returns. */
+#ifndef LOCK_C_H
+#define LOCK_C_H
+#include <stdint.h>
+
+#ifdef __cplusplus
+extern "C" {
+#endif
+
+/* A call between two of its steps. */
+struct lock_call {
+    uint64_t readers, loaded, epoch;
+    uint32_t stage, code, pauses;
+    uint8_t blocks, announces, announced, late;
+};
+
+/* The next step, on the place with this number: the word, the count or the epoch. */
+struct lock_step {
+    uint32_t action, place;
+    uint64_t first, second;
+};
+
+enum lock_action { LOCK_LOAD, LOCK_EXCHANGE, LOCK_SUBTRACT, LOCK_STORE, LOCK_PARK, LOCK_WAKE_ONE, LOCK_WAKE_ALL, LOCK_SPIN,
+                   LOCK_YIELD, LOCK_REFUSED, LOCK_DONE };
+
+struct lock_step lock_c_acquire(struct lock_call *, uint64_t readers, uint32_t code, uint8_t blocks, uint8_t announces);
+struct lock_step lock_c_release(struct lock_call *, uint64_t readers, uint32_t code);
+struct lock_step lock_c_next(struct lock_call *, uint64_t found);
+
+#ifdef __cplusplus
+}
+#endif
+#endif

@@ -1,0 +1,71 @@
+/* Makes the steps that liblock_c.a returns. Trusted are this file, the inline first steps and the kernel. Nothing here decides
+ * which step comes next. */
+#define _GNU_SOURCE
+#include "proved_lock.h"
+#include "lock_c.h"
+#include <errno.h>
+#include <limits.h>
+#include <linux/futex.h>
+#include <sched.h>
+#include <sys/syscall.h>
+#include <unistd.h>
+
+/* Returns whether a sleep ended by its deadline. A deadline that is no valid time has passed. */
+static bool futex(uint64_t *epoch, int what, uint32_t number, const struct timespec *deadline) {
+    int saved = errno;
+    bool is_late = syscall(SYS_futex, epoch, what | FUTEX_PRIVATE_FLAG, number, deadline, 0, FUTEX_BITSET_MATCH_ANY) == -1
+        && deadline && (errno == ETIMEDOUT || errno == EINVAL);
+    errno = saved;
+    return is_late;
+}
+
+static void spin(uint64_t times) {
+    for (uint64_t i = 0; i < times; i++) {
+#if defined(__x86_64__)
+        __builtin_ia32_pause();
+#endif
+        __atomic_signal_fence(__ATOMIC_SEQ_CST);
+    }
+}
+
+static bool drive(proved_words *w, struct lock_call *call, struct lock_step s, const struct timespec *deadline) {
+    uint64_t *const places[] = {&w->word, &w->count, &w->epoch};
+    for (;;) {
+        uint64_t *place = places[s.place % 3];
+        uint64_t found = 0;
+        switch (s.action) {
+        case LOCK_LOAD: found = __atomic_load_n(place, __ATOMIC_SEQ_CST); break;
+        case LOCK_EXCHANGE:
+            found = s.first;
+            __atomic_compare_exchange_n(place, &found, s.second, false, __ATOMIC_SEQ_CST, __ATOMIC_SEQ_CST);
+            break;
+        case LOCK_SUBTRACT: found = __atomic_fetch_sub(place, s.first, __ATOMIC_SEQ_CST); break;
+        case LOCK_STORE: __atomic_store_n(place, s.first, __ATOMIC_SEQ_CST); break;
+        case LOCK_PARK: found = futex(place, FUTEX_WAIT_BITSET, (uint32_t)s.first, deadline); break;
+        case LOCK_WAKE_ONE: futex(place, FUTEX_WAKE, 1, 0); break;
+        case LOCK_WAKE_ALL: futex(place, FUTEX_WAKE, INT_MAX, 0); break;
+        case LOCK_SPIN: spin((uint64_t)1 << s.first % 32); break;
+        case LOCK_YIELD: sched_yield(); break;
+        default: return s.action == LOCK_DONE;
+        }
+        s = lock_c_next(call, found);
+    }
+}
+
+void proved_acquire(proved_words *w, uint64_t readers, enum proved_mode mode) {
+    struct lock_call call;
+    struct lock_step s = lock_c_acquire(&call, readers, mode, 1, mode == PROVED_EXCLUSIVE);
+    drive(w, &call, s, 0);
+}
+
+bool proved_acquire_until(proved_words *w, uint64_t readers, enum proved_mode mode, const struct timespec *deadline) {
+    struct lock_call call;
+    struct lock_step s = lock_c_acquire(&call, readers, mode, 1, 0);
+    return drive(w, &call, s, deadline);
+}
+
+void proved_release_rest(proved_words *w, uint64_t readers, enum proved_release release, uint64_t before) {
+    struct lock_call call;
+    lock_c_release(&call, readers, release); /* its first step, the subtraction, is made */
+    drive(w, &call, lock_c_next(&call, before), 0);
+}

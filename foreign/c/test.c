@@ -1,0 +1,223 @@
+/* Tests of the C locks. usage: test [SECONDS]     with SECONDS, the mixed threads run that long */
+#define _GNU_SOURCE
+#include "lock_c.h"
+#include "proved_lock.h"
+#include <pthread.h>
+#include <stdio.h>
+#include <stdlib.h>
+
+#define MUST(c) \
+    do { \
+        if (!(c)) { \
+            printf("%s:%d: not so: %s\n", __FILE__, __LINE__, #c); \
+            exit(1); \
+        } \
+    } while (0)
+
+enum { THREADS = 8 };
+static proved_mutex mutex = PROVED_MUTEX_INIT;
+static proved_rwlock rwlock = PROVED_RWLOCK_INIT;
+static long counter, a, b, upgrades;
+static int seconds;
+
+static struct timespec in_nanoseconds(long nanoseconds) {
+    struct timespec t;
+    clock_gettime(CLOCK_MONOTONIC, &t);
+    t.tv_nsec += nanoseconds;
+    t.tv_sec += t.tv_nsec / 1000000000;
+    t.tv_nsec %= 1000000000;
+    return t;
+}
+
+static bool is_before(const struct timespec *end) {
+    struct timespec t = in_nanoseconds(0);
+    return t.tv_sec < end->tv_sec || (t.tv_sec == end->tv_sec && t.tv_nsec < end->tv_nsec);
+}
+
+/* The inline first steps make the steps of the library, on this word. */
+static void compare_on(uint64_t word, uint64_t readers) {
+    struct lock_call call;
+    for (uint32_t mode = PROVED_SHARED; mode <= PROVED_UPGRADE; mode++) {
+        struct lock_step s = lock_c_acquire(&call, readers, mode, 1, mode == PROVED_EXCLUSIVE);
+        MUST(s.action == LOCK_LOAD && s.place == 0);
+        s = lock_c_next(&call, word);
+        proved_words w = {word, 0, 0};
+        bool is_taken = proved_take(&w, readers, (enum proved_mode)mode);
+        MUST(is_taken == (s.action == LOCK_EXCHANGE) && w.count == 0 && w.epoch == 0);
+        MUST(w.word == (is_taken ? s.second : word));
+        MUST(!is_taken || (s.place == 0 && s.first == word && lock_c_next(&call, word).action == LOCK_DONE));
+    }
+    for (uint32_t release = PROVED_UNLOCK_SHARED; release <= PROVED_UPGRADABLE_TO_SHARED; release++) {
+        struct lock_step s = lock_c_release(&call, readers, release);
+        MUST(s.action == LOCK_SUBTRACT && s.place == 0);
+        proved_words held = {word, 0, 0};
+        proved_give(&held, readers, (enum proved_release)release);
+        MUST(held.word == word - s.first && held.count == 0 && held.epoch == 0);
+        s = lock_c_next(&call, word);
+        MUST(s.action == LOCK_LOAD && s.place == 1 && lock_c_next(&call, 0).action == LOCK_DONE);
+    }
+}
+
+static void compare_inline_steps(void) {
+    static const uint64_t limits[] = {1, 2, 10, UINT32_MAX - 1, UINT32_MAX};
+    uint64_t x = 88172645463325252u;
+    for (unsigned k = 0; k < sizeof limits / sizeof *limits; k++) {
+        uint64_t readers = limits[k];
+        for (int i = 0; i < 64; i++) {
+            for (int j = 0; j < 64; j++) compare_on((uint64_t)1 << i | (uint64_t)1 << j, readers);
+        }
+        for (uint64_t near = 0; near < 40; near++) {
+            compare_on(near, readers);
+            compare_on(readers - 20 + near, readers);
+            compare_on(((uint64_t)1 << 32) - 20 + near, readers);
+            compare_on(PROVED_ONE_EXCLUSIVE - 20 + near, readers);
+            compare_on(PROVED_BAR - 20 + near, readers);
+            compare_on(PROVED_BAR + PROVED_ONE_UPGRADABLE - 20 + near, readers);
+            compare_on(UINT64_MAX - near, readers);
+        }
+        for (int i = 0; i < 1000000 / 5; i++) {
+            x ^= x << 13, x ^= x >> 7, x ^= x << 17;
+            compare_on(x >> x % 64, readers);
+        }
+    }
+}
+
+static void *adds(void *unused) {
+    (void)unused;
+    for (int i = 0; i < 50000; i++) {
+        proved_mutex_lock(&mutex);
+        counter++;
+        proved_mutex_unlock(&mutex);
+    }
+    return 0;
+}
+
+static void *adds_once(void *unused) {
+    (void)unused;
+    proved_mutex_lock(&mutex);
+    counter++;
+    proved_mutex_unlock(&mutex);
+    return 0;
+}
+
+/* A release that finds a counted waiter ends the epoch and wakes it. */
+static void sleepers_are_woken(void) {
+    for (uint64_t i = 0; i < 50; i++) {
+        pthread_t waiter;
+        uint64_t epoch = mutex.words.epoch;
+        proved_mutex_lock(&mutex);
+        MUST(!pthread_create(&waiter, 0, adds_once, 0));
+        while (__atomic_load_n(&mutex.words.count, __ATOMIC_SEQ_CST) == 0) nanosleep(&(struct timespec){0, 20000}, 0);
+        if (i % 2) nanosleep(&(struct timespec){0, 1000000}, 0);
+        proved_mutex_unlock(&mutex);
+        pthread_join(waiter, 0);
+        MUST(mutex.words.epoch == epoch + 1);
+    }
+}
+
+static void write_both(void) {
+    a++;
+    b++;
+}
+
+static void mix(unsigned kind) {
+    if (kind < 140) {
+        proved_rwlock_lock_shared(&rwlock);
+        MUST(a == b);
+        proved_rwlock_unlock_shared(&rwlock);
+    } else if (kind < 190) {
+        proved_rwlock_lock_exclusive(&rwlock);
+        write_both();
+        proved_rwlock_unlock_exclusive(&rwlock);
+    } else if (kind < 210) {
+        proved_rwlock_lock_exclusive(&rwlock);
+        write_both();
+        proved_rwlock_downgrade(&rwlock);
+        MUST(a == b);
+        proved_rwlock_unlock_shared(&rwlock);
+    } else if (kind < 220) {
+        proved_rwlock_lock_exclusive(&rwlock);
+        write_both();
+        proved_rwlock_downgrade_to_upgradable(&rwlock);
+        MUST(a == b);
+        proved_rwlock_downgrade_upgradable(&rwlock);
+        MUST(a == b);
+        proved_rwlock_unlock_shared(&rwlock);
+    } else if (kind < 240) {
+        proved_rwlock_lock_upgradable(&rwlock);
+        MUST(a == b);
+        if (kind < 230 || proved_rwlock_try_upgrade(&rwlock)) {
+            if (kind < 230) proved_rwlock_upgrade(&rwlock);
+            write_both();
+            upgrades++;
+            proved_rwlock_unlock_exclusive(&rwlock);
+        } else {
+            proved_rwlock_unlock_upgradable(&rwlock);
+        }
+    } else {
+        struct timespec deadline = in_nanoseconds(20000);
+        if (kind < 248 && proved_rwlock_lock_exclusive_until(&rwlock, &deadline)) {
+            write_both();
+            proved_rwlock_unlock_exclusive(&rwlock);
+        } else if (kind >= 248 && proved_rwlock_lock_upgradable_until(&rwlock, &deadline)) {
+            bool is_upgraded = proved_rwlock_upgrade_until(&rwlock, &deadline);
+            if (is_upgraded) write_both();
+            if (is_upgraded) proved_rwlock_unlock_exclusive(&rwlock);
+            else proved_rwlock_unlock_upgradable(&rwlock);
+        }
+    }
+}
+
+static void *mixes(void *number) {
+    unsigned s = (unsigned)(uintptr_t)number * 2654435761u + 1;
+    struct timespec end = in_nanoseconds(0);
+    end.tv_sec += seconds;
+    for (int i = 0; i < 30000 || (seconds && is_before(&end)); i++) {
+        s = s * 1664525 + 1013904223;
+        mix(s >> 24);
+    }
+    return 0;
+}
+
+static void run(void *(*body)(void *)) {
+    pthread_t threads[THREADS];
+    for (uintptr_t i = 0; i < THREADS; i++) MUST(!pthread_create(&threads[i], 0, body, (void *)i));
+    for (int i = 0; i < THREADS; i++) pthread_join(threads[i], 0);
+}
+
+static void tries_and_deadlines(void) {
+    struct timespec deadline = in_nanoseconds(1000000);
+    proved_mutex_lock(&mutex);
+    MUST(!proved_mutex_try_lock(&mutex));
+    MUST(!proved_mutex_lock_until(&mutex, &deadline) && !is_before(&deadline));
+    MUST(!proved_mutex_lock_until(&mutex, &(struct timespec){-1, 0}));
+    proved_mutex_unlock(&mutex);
+    MUST(proved_mutex_lock_until(&mutex, &deadline));
+    proved_mutex_unlock(&mutex);
+
+    proved_rwlock two;
+    MUST(!proved_rwlock_init(&two, 0) && proved_rwlock_init(&two, 2));
+    MUST(proved_rwlock_try_lock_shared(&two) && proved_rwlock_try_lock_upgradable(&two));
+    MUST(!proved_rwlock_try_lock_shared(&two) && !proved_rwlock_try_lock_exclusive(&two) && !proved_rwlock_try_upgrade(&two));
+    MUST(!proved_rwlock_lock_shared_until(&two, &deadline) && !proved_rwlock_upgrade_until(&two, &deadline));
+    proved_rwlock_unlock_shared(&two);
+    MUST(proved_rwlock_try_upgrade(&two));
+    proved_rwlock_unlock_exclusive(&two);
+    MUST(two.words.word == 0 && two.words.count == 0);
+}
+
+int main(int count, char **words) {
+    seconds = count > 1 ? atoi(words[1]) : 0;
+    compare_inline_steps();
+    tries_and_deadlines();
+    run(adds);
+    MUST(counter == THREADS * 50000);
+    sleepers_are_woken();
+    MUST(counter == THREADS * 50000 + 50);
+    rwlock.words.epoch = UINT32_MAX - 20; /* soon the epochs begin anew */
+    run(mixes);
+    MUST(a == b && upgrades > 0);
+    MUST(mutex.words.word == 0 && mutex.words.count == 0 && rwlock.words.word == 0 && rwlock.words.count == 0);
+    printf("%ld writes, %ld upgrades\n5 passed, 0 failed\n", a, upgrades);
+    return 0;
+}

@@ -1,0 +1,16 @@
+//! Finds liblock_c.a: at PROVED_LOCK_LIB, or where bin/build leaves it.
+use std::env;
+use std::path::PathBuf;
+
+fn main() {
+    let here = PathBuf::from(env::var("CARGO_MANIFEST_DIR").expect("cargo sets it"));
+    let built = here.join("../../../crates/lock_c/out/liblock_c.a");
+    let archive = env::var_os("PROVED_LOCK_LIB").map_or(built, PathBuf::from);
+    println!("cargo:rerun-if-env-changed=PROVED_LOCK_LIB");
+    println!("cargo:rerun-if-changed={}", archive.display());
+    let archive = archive.canonicalize().unwrap_or_else(|_| {
+        panic!("{} is missing: bin/build makes it, or set PROVED_LOCK_LIB to liblock_c.a", archive.display())
+    });
+    println!("cargo:rustc-link-search=native={}", archive.parent().expect("a file").display());
+    println!("cargo:rustc-link-lib=static=lock_c");
+}

@@ -1,0 +1,54 @@
+//! A mutex and a reader-writer lock, each step of which is chosen by proved code.
+//!
+//! The types are those of [`lock_api`] over the raw locks [`RawMutex`] and [`RawRwLock`], with the names of `parking_lot`. A
+//! call is a state machine: the archive `liblock_c.a` returns the atomic step that comes next, and this crate makes it. It is
+//! proved of the machine that no parked call is forgotten, and that threads hold compatible modes.
+//!
+//! Trusted are the loop that makes the steps, futex, and the first step of an uncontended call, which is inline.
+//!
+//! ```
+//! use proved_lock::Mutex;
+//!
+//! static COUNTER: Mutex<u32> = proved_lock::const_mutex(0);
+//! std::thread::scope(|s| {
+//!     for _ in 0..4 {
+//!         s.spawn(|| *COUNTER.lock() += 1);
+//!     }
+//! });
+//! assert_eq!(*COUNTER.lock(), 4);
+//! ```
+//!
+//! # Differences from `parking_lot`
+//!
+//! - There is no `Condvar`, `Once` or `FairMutex`, and no recursive read.
+//! - A fair unlock is a plain unlock, and `bump` releases and acquires again.
+//! - A try may be refused while another call changes the lock.
+//! - A waiting writer with no deadline admits no new reader. One with a deadline does.
+//! - At most 2^32 - 1 readers hold a lock at a time. The next one blocks.
+//! - The crate is for Linux on little-endian machines.
+#![cfg_attr(not(feature = "std"), no_std)]
+#![warn(missing_docs)]
+
+#[cfg(not(all(target_os = "linux", target_endian = "little", target_pointer_width = "64")))]
+compile_error!("proved_lock needs Linux on a little-endian machine of 64 bits");
+
+mod driver;
+mod first;
+mod mutex;
+#[cfg(feature = "std")]
+mod remutex;
+mod rwlock;
+
+#[cfg(feature = "send_guard")]
+type GuardMarker = lock_api::GuardSend;
+#[cfg(not(feature = "send_guard"))]
+type GuardMarker = lock_api::GuardNoSend;
+
+pub use lock_api;
+pub use mutex::{const_mutex, MappedMutexGuard, Mutex, MutexGuard, RawMutex};
+#[cfg(feature = "std")]
+pub use remutex::{const_reentrant_mutex, MappedReentrantMutexGuard, RawThreadId, ReentrantMutex, ReentrantMutexGuard};
+pub use rwlock::{
+    const_rwlock, MappedRwLockReadGuard, MappedRwLockWriteGuard, RawRwLock, RwLock, RwLockReadGuard, RwLockUpgradableReadGuard,
+    RwLockWriteGuard,
+};

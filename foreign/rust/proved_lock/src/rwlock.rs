@@ -1,0 +1,242 @@
+//! The reader-writer lock.
+use crate::driver::{Mode, Release};
+use crate::first::Lock;
+#[cfg(feature = "std")]
+use std::time::{Duration, Instant};
+
+/// The raw reader-writer lock, for [`lock_api::RwLock`]. It has 24 bytes.
+#[derive(Debug)]
+pub struct RawRwLock(Lock<{ u32::MAX as u64 }>);
+
+/// A reader-writer lock with upgradable reads.
+///
+/// ```
+/// use proved_lock::RwLock;
+///
+/// let lock = RwLock::new(5);
+/// {
+///     let (a, b) = (lock.read(), lock.read());
+///     assert_eq!(*a + *b, 10);
+/// }
+/// *lock.write() += 1;
+/// assert_eq!(*lock.read(), 6);
+/// ```
+pub type RwLock<T> = lock_api::RwLock<RawRwLock, T>;
+
+/// The guard of a read. It releases the lock when dropped.
+///
+/// ```
+/// use proved_lock::{RwLock, RwLockReadGuard};
+///
+/// let lock = RwLock::new("a");
+/// let guard: RwLockReadGuard<'_, &str> = lock.read();
+/// assert!(lock.try_write().is_none());
+/// assert_eq!(*guard, "a");
+/// ```
+pub type RwLockReadGuard<'a, T> = lock_api::RwLockReadGuard<'a, RawRwLock, T>;
+
+/// The guard of a write. It releases the lock when dropped, and can be downgraded.
+///
+/// ```
+/// use proved_lock::{RwLock, RwLockWriteGuard};
+///
+/// let lock = RwLock::new(1);
+/// let mut guard = lock.write();
+/// *guard = 2;
+/// let guard = RwLockWriteGuard::downgrade(guard);
+/// assert_eq!((*guard, *lock.read()), (2, 2));
+/// ```
+pub type RwLockWriteGuard<'a, T> = lock_api::RwLockWriteGuard<'a, RawRwLock, T>;
+
+/// The guard of an upgradable read: readers are admitted, and no other upgradable read is.
+///
+/// ```
+/// use proved_lock::{RwLock, RwLockUpgradableReadGuard};
+///
+/// let lock = RwLock::new(1);
+/// let guard = lock.upgradable_read();
+/// let seen = *guard;
+/// let mut guard = RwLockUpgradableReadGuard::upgrade(guard);
+/// *guard += seen;
+/// drop(guard);
+/// assert_eq!(*lock.read(), 2);
+/// ```
+pub type RwLockUpgradableReadGuard<'a, T> = lock_api::RwLockUpgradableReadGuard<'a, RawRwLock, T>;
+
+/// A guard of a read of a part of the value, made by `RwLockReadGuard::map`.
+///
+/// ```
+/// use proved_lock::{MappedRwLockReadGuard, RwLock, RwLockReadGuard};
+///
+/// let lock = RwLock::new((1, "a"));
+/// let first: MappedRwLockReadGuard<'_, i32> = RwLockReadGuard::map(lock.read(), |it| &it.0);
+/// assert_eq!(*first, 1);
+/// ```
+pub type MappedRwLockReadGuard<'a, T> = lock_api::MappedRwLockReadGuard<'a, RawRwLock, T>;
+
+/// A guard of a write of a part of the value, made by `RwLockWriteGuard::map`.
+///
+/// ```
+/// use proved_lock::{MappedRwLockWriteGuard, RwLock, RwLockWriteGuard};
+///
+/// let lock = RwLock::new((1, "a"));
+/// let mut first: MappedRwLockWriteGuard<'_, i32> = RwLockWriteGuard::map(lock.write(), |it| &mut it.0);
+/// *first = 5;
+/// drop(first);
+/// assert_eq!(*lock.read(), (5, "a"));
+/// ```
+pub type MappedRwLockWriteGuard<'a, T> = lock_api::MappedRwLockWriteGuard<'a, RawRwLock, T>;
+
+/// Makes a reader-writer lock in a constant or a static.
+pub const fn const_rwlock<T>(value: T) -> RwLock<T> {
+    RwLock::const_new(<RawRwLock as lock_api::RawRwLock>::INIT, value)
+}
+
+// SAFETY: the holds that the proved machine admits are compatible, and the first steps are its own.
+unsafe impl lock_api::RawRwLock for RawRwLock {
+    #[allow(clippy::declare_interior_mutable_const)]
+    const INIT: Self = RawRwLock(Lock::new());
+    type GuardMarker = crate::GuardMarker;
+
+    #[inline]
+    fn lock_shared(&self) {
+        self.0.acquire(Mode::Shared);
+    }
+
+    #[inline]
+    fn try_lock_shared(&self) -> bool {
+        self.0.try_acquire(Mode::Shared)
+    }
+
+    #[inline]
+    unsafe fn unlock_shared(&self) {
+        self.0.release(Release::Shared);
+    }
+
+    #[inline]
+    fn lock_exclusive(&self) {
+        self.0.acquire(Mode::Exclusive);
+    }
+
+    #[inline]
+    fn try_lock_exclusive(&self) -> bool {
+        self.0.try_acquire(Mode::Exclusive)
+    }
+
+    #[inline]
+    unsafe fn unlock_exclusive(&self) {
+        self.0.release(Release::Exclusive);
+    }
+
+    #[inline]
+    fn is_locked(&self) -> bool {
+        self.0.is_locked()
+    }
+
+    #[inline]
+    fn is_locked_exclusive(&self) -> bool {
+        self.0.is_locked_exclusive()
+    }
+}
+
+// SAFETY: a fair release is a plain one.
+unsafe impl lock_api::RawRwLockFair for RawRwLock {
+    unsafe fn unlock_shared_fair(&self) {
+        self.0.release(Release::Shared);
+    }
+
+    unsafe fn unlock_exclusive_fair(&self) {
+        self.0.release(Release::Exclusive);
+    }
+}
+
+// SAFETY: a downgrade is one subtraction of the proved machine.
+unsafe impl lock_api::RawRwLockDowngrade for RawRwLock {
+    unsafe fn downgrade(&self) {
+        self.0.release(Release::ToShared);
+    }
+}
+
+// SAFETY: as for the other modes.
+unsafe impl lock_api::RawRwLockUpgrade for RawRwLock {
+    fn lock_upgradable(&self) {
+        self.0.acquire(Mode::Upgradable);
+    }
+
+    fn try_lock_upgradable(&self) -> bool {
+        self.0.try_acquire(Mode::Upgradable)
+    }
+
+    unsafe fn unlock_upgradable(&self) {
+        self.0.release(Release::Upgradable);
+    }
+
+    unsafe fn upgrade(&self) {
+        self.0.acquire(Mode::Upgrade);
+    }
+
+    unsafe fn try_upgrade(&self) -> bool {
+        self.0.try_acquire(Mode::Upgrade)
+    }
+}
+
+// SAFETY: a fair release is a plain one.
+unsafe impl lock_api::RawRwLockUpgradeFair for RawRwLock {
+    unsafe fn unlock_upgradable_fair(&self) {
+        self.0.release(Release::Upgradable);
+    }
+}
+
+// SAFETY: a downgrade is one subtraction of the proved machine.
+unsafe impl lock_api::RawRwLockUpgradeDowngrade for RawRwLock {
+    unsafe fn downgrade_upgradable(&self) {
+        self.0.release(Release::UpgradableToShared);
+    }
+
+    unsafe fn downgrade_to_upgradable(&self) {
+        self.0.release(Release::ToUpgradable);
+    }
+}
+
+#[cfg(feature = "std")]
+// SAFETY: the proved machine answers yes only if the call holds the lock.
+unsafe impl lock_api::RawRwLockTimed for RawRwLock {
+    type Duration = Duration;
+    type Instant = Instant;
+
+    fn try_lock_shared_for(&self, timeout: Duration) -> bool {
+        self.0.acquire_until(Mode::Shared, Instant::now().checked_add(timeout))
+    }
+
+    fn try_lock_shared_until(&self, deadline: Instant) -> bool {
+        self.0.acquire_until(Mode::Shared, Some(deadline))
+    }
+
+    fn try_lock_exclusive_for(&self, timeout: Duration) -> bool {
+        self.0.acquire_until(Mode::Exclusive, Instant::now().checked_add(timeout))
+    }
+
+    fn try_lock_exclusive_until(&self, deadline: Instant) -> bool {
+        self.0.acquire_until(Mode::Exclusive, Some(deadline))
+    }
+}
+
+#[cfg(feature = "std")]
+// SAFETY: the proved machine answers yes only if the call holds the lock.
+unsafe impl lock_api::RawRwLockUpgradeTimed for RawRwLock {
+    fn try_lock_upgradable_for(&self, timeout: Duration) -> bool {
+        self.0.acquire_until(Mode::Upgradable, Instant::now().checked_add(timeout))
+    }
+
+    fn try_lock_upgradable_until(&self, deadline: Instant) -> bool {
+        self.0.acquire_until(Mode::Upgradable, Some(deadline))
+    }
+
+    unsafe fn try_upgrade_for(&self, timeout: Duration) -> bool {
+        self.0.acquire_until(Mode::Upgrade, Instant::now().checked_add(timeout))
+    }
+
+    unsafe fn try_upgrade_until(&self, deadline: Instant) -> bool {
+        self.0.acquire_until(Mode::Upgrade, Some(deadline))
+    }
+}
