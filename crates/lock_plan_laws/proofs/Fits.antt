@@ -39,13 +39,19 @@ fit_at [] l e = refl
 fit_at (lock ∷ locks) zero e = (and_parts (fits_machine lock) (fit_machines locks) e).0
 fit_at (lock ∷ locks) (suc l) e = fit_at locks l (and_parts (fits_machine lock) (fit_machines locks) e).1
 
-pub fits : (locks : List PlanLock) (programs : List (List Place)) (room : ℕ) → plan_fault locks programs ≡ None
+pub fits_by : (locks : List PlanLock) (programs : List (List Place)) (room : ℕ)
+    → ((p : ℕ) → (known : Known) × (known_of locks (get_or programs p []) ≡ Ok known))
     → IsTrue (fit_machines locks) → sum_by length programs ≤ room → FitsMachines locks programs room
-fits locks programs room right fit enough =
+fits_by locks programs room right fit enough =
     let lock : ℕ → PlanLock = λ l. get_or locks l no_lock in
     record {
       limits = λ l lt. limit_of (lock l).kind (lock l).limit (lock l).bar (fit_at locks l fit);
       bars = λ l is. bar_of (lock l).kind (lock l).limit (lock l).bar (fit_at locks l fit) is;
-      right = all_right locks 0 programs (no_first (parties_fault locks 0 programs) _ right);
+      right = right;
       enough = enough;
     }
+
+pub fits : (locks : List PlanLock) (programs : List (List Place)) (room : ℕ) → plan_fault locks programs ≡ None
+    → IsTrue (fit_machines locks) → sum_by length programs ≤ room → FitsMachines locks programs room
+fits locks programs room right fit enough =
+    fits_by locks programs room (all_right locks 0 programs (no_first (parties_fault locks 0 programs) _ right)) fit enough

@@ -67,6 +67,7 @@ fault_ahead locks before call a =
     ∙ ap (λ (o : Option CallFault). if nat_lt call.lock (length locks) then o else Some CallFault.UnknownLock)
     (fault_same lock own call.step a.writes)
 
+-- The lemmas marked `unfoldable` keep the list of what is known. The proof of ordered plans relies on that.
 module _ (locks : List PlanLock) where
   -- what is known of the place of a party that has not ended
   record IsAt (x : Stand) (known : Known) (a : Act) : Type 0 where
@@ -80,13 +81,13 @@ module _ (locks : List PlanLock) where
       let p : Passed locks x.program x.place k.known = k.walked.passed x.place there.0 in
       record { before = p.holds; is = p.is; leaves = subst (λ (b : Act). Leaves locks x.program x.place b p.holds k.known) there.1 p.leaves }
 
-  plain_leaves : (x : Stand) (k : IsKnownStand locks x) (a : Act) → act_of x ≡ Some a → known_at k.known x.place ≡ Some x.holds
+  pub plain_leaves : (x : Stand) (k : IsKnownStand locks x) (a : Act) → act_of x ≡ Some a → known_at k.known x.place ≡ Some x.holds
       → Leaves locks x.program x.place a x.holds k.known
   plain_leaves x k a e is =
       let h = at_act x k a e in
       subst (λ (hs : List Hold). Leaves locks x.program x.place a hs k.known) (same_holds h.before x.holds (sym h.is ∙ is)) h.leaves
 
-  ahead_leaves : (x : Stand) (k : IsKnownStand locks x) (ahead : IsAhead k.known x)
+  pub ahead_leaves : (x : Stand) (k : IsKnownStand locks x) (ahead : IsAhead k.known x)
       → Leaves locks x.program x.place (Call ahead.call) ahead.before k.known
   ahead_leaves x k ahead =
       let h = at_act x k (Call ahead.call) ahead.here in
@@ -94,7 +95,7 @@ module _ (locks : List PlanLock) where
       (same_holds h.before ahead.before (sym h.is ∙ ahead.is)) h.leaves
 
   -- the call of a party that is ahead is the one that it announced itself for
-  same_call : (x : Stand) (known : Known) (ahead : IsAhead known x) (a : Act) (call : PlanCall) → act_of x ≡ Some a
+  pub same_call : (x : Stand) (known : Known) (ahead : IsAhead known x) (a : Act) (call : PlanCall) → act_of x ≡ Some a
       → call_in (Some a) ≡ Some call → ahead.call ≡ call
   same_call x known ahead a call e of =
       let there : call_in (act_of x) ≡ Some ahead.call = ap call_in ahead.here in
@@ -115,7 +116,7 @@ module _ (locks : List PlanLock) where
           (fault_ahead locks ahead.before ahead.call ahead.announces ∙ (ahead_leaves x k ahead).right ahead.call refl)
 
   -- after a call that is made
-  pub known_gone : (x : Stand) → IsKnownStand locks x → (a : Act) (call : PlanCall) → act_of x ≡ Some a → call_in (Some a) ≡ Some call
+  unfoldable pub known_gone : (x : Stand) → IsKnownStand locks x → (a : Act) (call : PlanCall) → act_of x ≡ Some a → call_in (Some a) ≡ Some call
       → IsKnownStand locks (gone x call)
   known_gone x k a call e of = record { known = k.known; walked = k.walked; is = inl (by_stand k.is) }
     where
@@ -158,7 +159,7 @@ module _ (locks : List PlanLock) where
       omega (arith, after, there)
 
   -- after an announcement
-  pub known_announced : (x : Stand) → IsKnownStand locks x → (call : PlanCall) → act_of x ≡ Some (Call call)
+  unfoldable pub known_announced : (x : Stand) → IsKnownStand locks x → (call : PlanCall) → act_of x ≡ Some (Call call)
       → announces_itself (get_or locks call.lock no_lock) (get_or x.holds call.lock no_hold) call.step ≡ true
       → IsKnownStand locks (announced_for x call)
   known_announced x k call e itself = record { known = k.known; walked = k.walked; is = inr (by_stand k.is) }
@@ -183,7 +184,7 @@ module _ (locks : List PlanLock) where
 
   -- after a try that is not made, and after a choice
 
-  pub known_passed : (x : Stand) → IsKnownStand locks x → (call : PlanCall) → act_of x ≡ Some (Try call)
+  unfoldable pub known_passed : (x : Stand) → IsKnownStand locks x → (call : PlanCall) → act_of x ≡ Some (Try call)
       → IsKnownStand locks (at_place x (other_in x.program x.place) x.holds)
   known_passed x k call e = record { known = k.known; walked = k.walked; is = inl (by_stand k.is) }
     where
@@ -192,7 +193,7 @@ module _ (locks : List PlanLock) where
       by_stand (inl is) = (plain_leaves x k (Try call) e is).passes call refl
       by_stand (inr ahead) = let calls = ahead.here in cc
 
-  pub known_chosen : (x : Stand) → IsKnownStand locks x → (other : Bool) (block : Block) → act_of x ≡ Some (Choose block)
+  unfoldable pub known_chosen : (x : Stand) → IsKnownStand locks x → (other : Bool) (block : Block) → act_of x ≡ Some (Choose block)
       → IsKnownStand locks (at_place x (if other then other_in x.program x.place else next_in x.program x.place) x.holds)
   known_chosen x k other block e = record { known = k.known; walked = k.walked; is = inl (by_stand k.is other) }
     where
@@ -247,7 +248,7 @@ module _ (locks : List PlanLock) where
           cc
 
   -- before its first act
-  pub known_first : (program : List Place) (known : Known) → known_of locks program ≡ Ok known → IsKnownStand locks (first_stand locks program)
+  unfoldable pub known_first : (program : List Place) (known : Known) → known_of locks program ≡ Ok known → IsKnownStand locks (first_stand locks program)
   known_first program known e =
       let walked = walked_is locks program (length program) known e in
       record { known = known; walked = walked; is = inl walked.start }

@@ -16,3 +16,9 @@ pub mod Fits
 pub mod MachineStops
 pub mod ShortWalks
 pub mod Traces
+pub mod OrderedStands
+pub mod OrderedWorlds
+pub mod NoStop
+pub mod OrderChecks
+pub mod OrderExamples
+pub mod Holders

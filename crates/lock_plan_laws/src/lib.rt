@@ -1,11 +1,14 @@
 //! Laws of plans on machines of guards. Each is the contract of a function with an empty body.
 //!
 //! [`worlds_are_runs_of_machines`] ties every run under a plan to machines. [`machines_stop_as_explored`] says what the
-//! answer of a search means for machines.
+//! answer of a search means for machines. [`ordered_plans_never_stop`] needs no search: it speaks of any number of
+//! parties.
 #![tactic(auto)]
 
 mod bridge;
+mod ordered;
 mod stops;
 
 pub use bridge::worlds_are_runs_of_machines;
+pub use ordered::{ordered_plans_never_stop, some_holder_does_not_wait};
 pub use stops::machines_stop_as_explored;

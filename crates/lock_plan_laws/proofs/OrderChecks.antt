@@ -1,0 +1,132 @@
+-- The test says that a program keeps the order.
+use Rattle.std.proofs.Common.{◌≡◌, ℕ, zero, suc, ◌+◌, ◌<◌, Bool, true, false, not, ◌&&◌, ◌||◌, List, [], ◌∷◌, length, get_or, replicate, Option, Some, None, Result, Ok, Err, refl, ap, sym, ◌∙◌, subst, arith, IsTrue, inl, inr}
+use Rattle.std.specs.Prelude.{◌==◌, nat_lt}
+use Rattle.std.specs.List.{list_all}
+use Rattle.std.proofs.lemmas.Bool.{and_parts, ltb-true, eqb-true}
+use Rattle.lock_base.specs.declared.machine.mode.Mode.{Mode}
+use Rattle.lock_base.specs.declared.machine.mode_step.ModeStep.TheVariants.{Acquire, Release, Change}
+use Rattle.lock_base.specs.declared.machine.lock_step.LockStep.{LockStep}
+use Rattle.lock_base.specs.declared.machine.lock_step.LockStep.TheVariants.{Modes, Announce, Withdraw}
+use Rattle.lock_base.specs.declared.machine.hold.Hold.{Hold}
+use Rattle.lock_base.specs.Modes.{tokens}
+use Rattle.lock_base.specs.Holds.{no_hold}
+use Rattle.lock_plan.specs.declared.call.PlanCall.{PlanCall}
+use Rattle.lock_plan.specs.declared.lock.PlanLock.{PlanLock}
+use Rattle.lock_plan.specs.declared.program.Act.{Act}
+use Rattle.lock_plan.specs.declared.program.Act.TheVariants.{Call, Try, Choose, Signal}
+use Rattle.lock_plan.specs.declared.program.Place.{Place}
+use Rattle.lock_plan.specs.Known.{PlaceFault, Known, known_at, known_of}
+use Rattle.lock_plan.specs.Worlds.{act_in}
+use Rattle.lock_plan_laws.specs.Ranks.{is_ranked_step, KeepsOrder, IsOrdered}
+use Rattle.lock_plan_laws.specs.OrderChecks.{is_above, goes_up, keeps_order, keeps_at, keeps_from, keeps_known, is_ordered}
+
+other_one : (a b : Bool) → (a || b) ≡ true → (a ≡ true → ⊥) → b ≡ true
+other_one true b e never = absurd (never refl)
+other_one false b e never = e
+
+free_or_below : (n : ℕ) (b : Bool) → ((n == 0) || b) ≡ true → 0 < n → b ≡ true
+free_or_below n b e some = other_one (n == 0) b e (λ zero_is. let none = eqb-true n 0 zero_is in omega (arith, none, some))
+
+module _ (rank : ℕ → ℕ) where
+  above_all : (lock from : ℕ) (hs : List Hold) → is_above rank lock from hs ≡ true
+      → (l : ℕ) → 0 < tokens (get_or hs l no_hold).bag → rank (from + l) < rank lock
+  above_all lock from [] e l some = absurd (omega arith)
+  above_all lock from (h ∷ hs) e zero some =
+      let two = and_parts ((tokens h.bag == 0) || nat_lt (rank from) (rank lock)) (is_above rank lock (from + 1) hs) e in
+      let below : rank from < rank lock = ltb-true (rank from) (rank lock) (free_or_below (tokens h.bag) (nat_lt (rank from) (rank lock)) two.0 some) in
+      subst (λ (k : ℕ). rank k < rank lock) (omega arith) below
+  above_all lock from (h ∷ hs) e (suc l) some =
+      let two = and_parts ((tokens h.bag == 0) || nat_lt (rank from) (rank lock)) (is_above rank lock (from + 1) hs) e in
+      subst (λ (k : ℕ). rank k < rank lock) (omega arith) (above_all lock (from + 1) hs two.1 l some)
+
+  all_free : (hs : List Hold) → list_all (λ h. tokens h.bag == 0) hs ≡ true → (l : ℕ) → tokens (get_or hs l no_hold).bag ≡ 0
+  all_free [] e l = refl
+  all_free (h ∷ hs) e zero = eqb-true (tokens h.bag) 0 (and_parts (tokens h.bag == 0) (list_all (λ h. tokens h.bag == 0) hs) e).0
+  all_free (h ∷ hs) e (suc l) = all_free hs (and_parts (tokens h.bag == 0) (list_all (λ h. tokens h.bag == 0) hs) e).1 l
+
+  is_silent : (b : Bool) → not b ≡ true → b ≡ false
+  is_silent true e = cc
+  is_silent false e = refl
+
+  all_silent : (hs : List Hold) → list_all (λ h. not h.announced) hs ≡ true → (l : ℕ) → (get_or hs l no_hold).announced ≡ false
+  all_silent [] e l = refl
+  all_silent (h ∷ hs) e zero = is_silent h.announced (and_parts (not h.announced) (list_all (λ h. not h.announced) hs) e).0
+  all_silent (h ∷ hs) e (suc l) = all_silent hs (and_parts (not h.announced) (list_all (λ h. not h.announced) hs) e).1 l
+
+  step_ranked : (holds : List Hold) (lock : ℕ) (s : LockStep) → goes_up rank holds lock s ≡ true → is_ranked_step s ≡ true
+  step_ranked holds lock (Modes (Acquire mode)) e = refl
+  step_ranked holds lock (Modes (Release mode)) e = refl
+  step_ranked holds lock (Modes (Change from to)) e = e
+  step_ranked holds lock Announce e = e
+  step_ranked holds lock Withdraw e = refl
+
+  call_same : (a b : PlanCall) → Some (Call a) ≡ Some (Call b) → a ≡ b
+  call_same a b e = cc
+
+  keeps_is : (holds : List Hold) (here : Option Act) → list_all (λ h. not h.announced) holds ≡ true → keeps_order rank holds here ≡ true
+      → KeepsOrder rank holds here
+  keeps_is holds None silent e = record {
+    upward = λ call mode is acquires lock some. cc;
+    ranked = λ call is. cc;
+    no_signal = λ signal is. cc;
+    ended = λ is lock. all_free holds e lock;
+    silent = all_silent holds silent;
+  }
+  keeps_is holds (Some (Call call)) silent e = record {
+    upward = λ other mode is acquires lock some.
+        let same : call ≡ other = call_same call other is in
+        let step : call.step ≡ Modes (Acquire mode) = ap (λ (c : PlanCall). c.step) same ∙ acquires in
+        let above : is_above rank call.lock 0 holds ≡ true = ap (goes_up rank holds call.lock) (sym step) ∙ e in
+        let lt : rank (0 + lock) < rank call.lock = above_all call.lock 0 holds above lock some in
+        let here : rank (0 + lock) ≡ rank lock = ap rank (omega arith) in
+        let there : rank call.lock ≡ rank other.lock = ap (λ (c : PlanCall). rank c.lock) same in
+        omega (arith, lt, here, there);
+    ranked = λ other is.
+        ap (λ (c : PlanCall). is_ranked_step c.step) (sym (call_same call other is)) ∙ step_ranked holds call.lock call.step e;
+    no_signal = λ signal is. cc;
+    ended = λ is lock. cc;
+    silent = all_silent holds silent;
+  }
+  keeps_is holds (Some (Try call)) silent e = record {
+    upward = λ call mode is acquires lock some. cc;
+    ranked = λ call is. cc;
+    no_signal = λ signal is. cc;
+    ended = λ is lock. cc;
+    silent = all_silent holds silent;
+  }
+  keeps_is holds (Some (Choose block)) silent e = record {
+    upward = λ call mode is acquires lock some. cc;
+    ranked = λ call is. cc;
+    no_signal = λ signal is. cc;
+    ended = λ is lock. cc;
+    silent = all_silent holds silent;
+  }
+  keeps_is holds (Some (Signal signal)) silent e = cc
+
+  at_place : (program : List Place) (from : ℕ) (known : Known) → keeps_from rank program from known ≡ true
+      → (place : ℕ) (holds : List Hold) → known_at known place ≡ Some holds → keeps_at rank (act_in program (from + place)) (Some holds) ≡ true
+  at_place program from [] e place holds is = cc
+  at_place program from (here ∷ known) e zero holds is =
+      let two = and_parts (keeps_at rank (act_in program from) here) (keeps_from rank program (from + 1) known) e in
+      ap (λ (o : Option (List Hold)). keeps_at rank (act_in program (from + 0)) o) (sym is)
+      ∙ ap (λ (k : ℕ). keeps_at rank (act_in program k) here) (omega arith) ∙ two.0
+  at_place program from (here ∷ known) e (suc place) holds is =
+      let two = and_parts (keeps_at rank (act_in program from) here) (keeps_from rank program (from + 1) known) e in
+      let k : from + suc place ≡ from + 1 + place = omega arith in
+      ap (λ (k : ℕ). keeps_at rank (act_in program k) (Some holds)) k ∙ at_place program (from + 1) known two.1 place holds is
+
+  ordered_by : (locks : List PlanLock) (program : List Place) (o : Result Known PlaceFault) → known_of locks program ≡ o
+      → keeps_known rank program o ≡ true → IsOrdered rank locks program
+  ordered_by locks program (Err fault) is e = cc
+  ordered_by locks program (Ok known) is e = record {
+    known = known;
+    is = is;
+    keeps = λ place holds at.
+        let here : keeps_at rank (act_in program (0 + place)) (Some holds) ≡ true = at_place program 0 known e place holds at in
+        let same : keeps_at rank (act_in program place) (Some holds) ≡ true = ap (λ (k : ℕ). keeps_at rank (act_in program k) (Some holds)) (omega arith) ∙ here in
+        let two = and_parts (list_all (λ h. not h.announced) holds) (keeps_order rank holds (act_in program place)) same in
+        keeps_is holds (act_in program place) two.0 two.1;
+  }
+
+  pub ordered_is : (locks : List PlanLock) (program : List Place) → is_ordered rank locks program ≡ true → IsOrdered rank locks program
+  ordered_is locks program e = ordered_by locks program (known_of locks program) refl e
