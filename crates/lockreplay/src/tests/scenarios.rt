@@ -4,7 +4,7 @@ use lock_script::Which;
 use std::test::Fail;
 
 /// Scripts of calls of a lock.
-const DESK_ROWS: [(&str, &str); 40] = [
+const DESK_ROWS: [(&str, &str); 42] = [
     (
         "mutex 4 10 0 / lock 1 / try_lock 2 / lock 2",
         "ok / guard 1 / none / refused 1",
@@ -37,6 +37,7 @@ const DESK_ROWS: [(&str, &str); 40] = [
         "mutex 2 1 2 / lock 1 / set 1 1 1 -7 / unlock 1 1 / lock 2 / get 2 2 1 / add 2 2 1 9223372036854775807 / add 2 2 1 8",
         "ok / guard 1 / value -7 / ok / guard 2 / value -7 / value 9223372036854775800 / refused 14",
     ),
+    ("mutex 0 0 0", "refused 12"),
     ("mutex 0 0 0 / lock 1", "refused 12"),
     ("mutex 4294967296 0 0", "refused 12"),
     (
@@ -63,6 +64,7 @@ const DESK_ROWS: [(&str, &str); 40] = [
         "rwlock 2 2 4 0 / write 1 / is_locked_exclusive / with_upgraded 1 1 0 1 / downgrade_to_upgradable 1 1 / with_upgraded 1 1 0 1 / is_locked_exclusive",
         "ok / guard 1 / yes / refused 6 / ok / value 5 / no",
     ),
+    ("rwlock 4 4294967296 0 0", "refused 12"),
     ("rwlock 4 4294967296 0 0 / read 1", "refused 12"),
     (
         "reentrant 4 4 0 0 / lock 1 / lock 1 / unlock 1 1 / spent / bump 1 2 / spent / park 1 2 / spent / resume 1 2 / unlock_fair 1 2 / spent / is_locked",

@@ -130,8 +130,12 @@ fn a_writer_that_fails_once_has_a_beginning(rt: HostRuntime) -> Result<(), Fail>
     for at in 0..5 {
         let mut script: &[u8] = b"mutex 4 0 0\nlock 1\n";
         let (told, writer) = replayed(rt.alloc(), &mut script, failing(at, ErrorKind::TimedOut), 4);
-        assert_eq!(rt; told.is_ok(), at == 4, "at {at}");
-        assert!(rt; told != Err(ReplayFault::InputFailed), "at {at}");
+        let wanted = if at == 4 {
+            Ok(())
+        } else {
+            Err(ReplayFault::OutputFailed)
+        };
+        assert_eq!(rt; told, wanted, "at {at}");
         let made = (at as usize + 1).min(calls.len());
         assert_eq!(rt; writer.asked.as_slice(), &calls[..made], "at {at}");
         let kept = (4 * at as usize).min(answers.len());
