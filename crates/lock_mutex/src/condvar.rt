@@ -20,7 +20,7 @@ pub struct Condvar<C> {
 
 impl<C: RawCondvar> Condvar<C> {
     ghost use Rattle.lock_guard.specs.Held.{held_value};
-    ghost use Rattle.lock_mutex.specs.Condvar.{raw_condvar_of};
+    ghost use Rattle.lock_mutex.specs.Condvar.{raw_condvar_of, HasWaited};
     ghost use Rattle.lock_mutex.specs.MutexGuard.{held_of};
 
     /// Makes a condition variable over a new raw one.
@@ -47,18 +47,23 @@ impl<C: RawCondvar> Condvar<C> {
     }
 
     /// Wakes one waiter, and returns what the raw condition variable says: whether one was woken.
-    pub fn notify_one(&self) -> bool {
+    pub fn notify_one(&self) -> bool
+        ensures { C.notified_one (raw_condvar_of self.now) result }
+    {
         self.raw.notify_one()
     }
 
     /// Wakes all waiters, and returns what the raw condition variable says: how many were woken.
-    pub fn notify_all(&self) -> usize {
+    pub fn notify_all(&self) -> usize
+        ensures { C.notified_all (raw_condvar_of self.now) result }
+    {
         self.raw.notify_all()
     }
 
     /// Releases the mutex, blocks until a notification, and reacquires the mutex.
     pub fn wait<T>(&self, guard: &mut MutexGuard<'_, C::RawMutex, T>)
-        ensures { (held_of guard.new).lock ≡ (held_of guard.old).lock }
+        ensures lock { (held_of guard.new).lock ≡ (held_of guard.old).lock }
+        ensures waited { HasWaited (C.waited (raw_condvar_of self.now)) }
     {
         UntilNotified { raw: &self.raw }.sleep(&mut guard.held);
     }
@@ -86,6 +91,7 @@ where
     C::RawMutex: RawMutexTimed,
 {
     ghost use Rattle.lock_guard.specs.Held.{held_value};
+    ghost use Rattle.lock_mutex.specs.Condvar.{raw_condvar_of, HasWaited};
     ghost use Rattle.lock_mutex.specs.MutexGuard.{held_of};
 
     /// `wait`, until `deadline`.
@@ -94,7 +100,9 @@ where
         guard: &mut MutexGuard<'_, C::RawMutex, T>,
         deadline: <C::RawMutex as RawMutexTimed>::Instant,
     ) -> WaitTimeoutResult
-        ensures { (held_of guard.new).lock ≡ (held_of guard.old).lock }
+        ensures lock { (held_of guard.new).lock ≡ (held_of guard.old).lock }
+        ensures waited { HasWaited (λ token.
+            C.waited_until (raw_condvar_of self.now) token deadline (has_timed_out result)) }
     {
         let sleep = UntilInstant {
             raw: &self.raw,

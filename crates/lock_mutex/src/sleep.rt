@@ -1,5 +1,6 @@
 //! Waits that release a held lock and reacquire it.
 ghost use Rattle.std.specs.Prelude.{◌≡◌, false, Bool, ⊤};
+ghost use Rattle.lock_mutex.specs.Condvar.{HasWaited};
 
 use crate::borrowed::BorrowedMutex;
 use lock_guard::guard::{Acquire, Held};
@@ -10,10 +11,14 @@ pub trait Sleep<L: Acquire>: Drop {
     /// Whether a wait may give this answer.
     ghost may_answer: { Bool → Type 0 };
 
+    /// What a wait with this answer did.
+    ghost slept: { Self → Bool → Type 0 };
+
     /// Releases the lock, waits, and reacquires the lock. Returns whether the wait timed out.
     fn sleep(&self, held: &mut Held<L>) -> bool
         ensures lock { held.new.lock ≡ held.old.lock }
-        ensures answer { may_answer result };
+        ensures answer { may_answer result }
+        ensures slept { slept self.now result };
 }
 
 /// A wait for a notification.
@@ -29,6 +34,8 @@ impl<C> Drop for UntilNotified<'_, C> {
 
 impl<'a, C: RawCondvar, T> Sleep<BorrowedMutex<'a, C::RawMutex, T>> for UntilNotified<'_, C> {
     ghost may_answer = { λ timed_out. timed_out ≡ false };
+
+    ghost slept = { λ sleep _. HasWaited (C.waited sleep.raw.now) };
 
     fn sleep(&self, held: &mut Held<BorrowedMutex<'a, C::RawMutex, T>>) -> bool {
         let mutex = held.lock.mutex;
@@ -59,6 +66,8 @@ where
     C::RawMutex: RawMutexTimed,
 {
     ghost may_answer = { λ _. ⊤ };
+
+    ghost slept = { λ sleep timed_out. HasWaited (λ token. C.waited_until sleep.raw.now token sleep.deadline timed_out) };
 
     fn sleep(&self, held: &mut Held<BorrowedMutex<'a, C::RawMutex, T>>) -> bool {
         let mutex = held.lock.mutex;

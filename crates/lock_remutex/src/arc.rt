@@ -11,10 +11,7 @@ use lock_guard::guard::another_owner;
 use lock_guard::raw::{RawMutex, RawMutexTimed};
 use std::sync::Arc;
 
-impl<R: RawMutex + Drop, T: Drop> ReentrantMutex<R, T>
-where
-    R::Guard: Drop,
-{
+impl<R: RawMutex + Drop, T: Drop> ReentrantMutex<R, T> {
     /// `lock`, by a guard that owns a clone of the `Arc`.
     ///
     /// # Errors
@@ -52,10 +49,7 @@ where
     }
 }
 
-impl<R: RawMutexTimed + Drop, T: Drop> ReentrantMutex<R, T>
-where
-    R::Guard: Drop,
-{
+impl<R: RawMutexTimed + Drop, T: Drop> ReentrantMutex<R, T> {
     /// `try_lock_arc`, where the raw lock may block for at most `timeout`.
     pub fn try_lock_arc_for(
         this: &Arc<ReentrantMutex<R, T>>,

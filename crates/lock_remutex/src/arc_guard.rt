@@ -11,18 +11,12 @@ use std::sync::Arc;
 
 /// One level of a party that owns a reference to its lock. It reads the value. Its drop releases the level, and with
 /// the last level the raw lock.
-pub struct ArcReentrantMutexGuard<R: RawMutex + Drop, T: Drop>
-where
-    R::Guard: Drop,
-{
+pub struct ArcReentrantMutexGuard<R: RawMutex + Drop, T: Drop> {
     remutex: Arc<ReentrantMutex<R, T>>,
     party: PartyId,
 }
 
-impl<R: RawMutex + Drop, T: Drop> ArcReentrantMutexGuard<R, T>
-where
-    R::Guard: Drop,
-{
+impl<R: RawMutex + Drop, T: Drop> ArcReentrantMutexGuard<R, T> {
     /// Makes the guard of a level that the party has.
     pub(crate) fn new(remutex: Arc<ReentrantMutex<R, T>>, party: PartyId) -> Self
         ensures lock { arc_of result ≡ remutex }
@@ -98,10 +92,7 @@ where
     }
 }
 
-impl<R: RawMutexFair + Drop, T: Drop> ArcReentrantMutexGuard<R, T>
-where
-    R::Guard: Drop,
-{
+impl<R: RawMutexFair + Drop, T: Drop> ArcReentrantMutexGuard<R, T> {
     /// Releases the level. With the last level it releases the raw lock by a fair release.
     pub fn unlock_fair(guard: Self) {
         drop(ArcReentrantMutexGuard::into_arc_fair(guard));
@@ -139,10 +130,7 @@ where
     }
 }
 
-impl<R: RawMutex + Drop, T: Drop> Deref for ArcReentrantMutexGuard<R, T>
-where
-    R::Guard: Drop,
-{
+impl<R: RawMutex + Drop, T: Drop> Deref for ArcReentrantMutexGuard<R, T> {
     type Target = T;
 
     ghost deref_gives = { λ guard value. arc_guard_value guard ≡ value };
@@ -154,10 +142,7 @@ where
     }
 }
 
-impl<R: RawMutex + Drop, T: Drop> Drop for ArcReentrantMutexGuard<R, T>
-where
-    R::Guard: Drop,
-{
+impl<R: RawMutex + Drop, T: Drop> Drop for ArcReentrantMutexGuard<R, T> {
     fn drop(self) {
         drop(ArcReentrantMutexGuard::into_arc(self));
     }

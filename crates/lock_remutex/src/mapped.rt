@@ -13,10 +13,7 @@ use std::ops::Deref;
 /// One level of a party, which reads a part of the value. It releases the level on drop.
 pub type MappedReentrantMutexGuard<'a, R, T, P> = Mapped<ReentrantMutexGuard<'a, R, T>, P>;
 
-impl<R: RawMutex, T> LockGuard for ReentrantMutexGuard<'_, R, T>
-where
-    R::Guard: Drop,
-{
+impl<R: RawMutex, T> LockGuard for ReentrantMutexGuard<'_, R, T> {
     type Value = T;
 
     ghost value_of = { shown_value };
@@ -26,19 +23,13 @@ where
     }
 }
 
-impl<R: RawMutexFair, T> LockGuardFair for ReentrantMutexGuard<'_, R, T>
-where
-    R::Guard: Drop,
-{
+impl<R: RawMutexFair, T> LockGuardFair for ReentrantMutexGuard<'_, R, T> {
     fn unlock_fair(self) {
         ReentrantMutexGuard::unlock_fair(self);
     }
 }
 
-impl<'a, R: RawMutex, T> ReentrantMutexGuard<'a, R, T>
-where
-    R::Guard: Drop,
-{
+impl<'a, R: RawMutex, T> ReentrantMutexGuard<'a, R, T> {
     /// Makes the guard of a part, by a projection that always has one. The level stays held.
     pub fn map<P: View<T>>(guard: Self, projection: P) -> MappedReentrantMutexGuard<'a, R, T, P>
         ensures { IsMapOf guard.entry projection result }

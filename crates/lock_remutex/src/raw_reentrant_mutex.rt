@@ -3,7 +3,7 @@ ghost use Rattle.lock_base.specs.Limits.{IsLimit, IsMakerFault};
 
 use crate::keyed_mutex::{KeyRule, KeyedMutex};
 use lock_base::machine::PartyId;
-use lock_base::raw::{Fault, Levels};
+use lock_base::raw::{Fault, Levels, is_limit};
 use lock_guard::raw::{RawMutex, RawMutexFair, RawMutexTimed};
 use std::alloc::Global;
 use std::marker::{Model, PhantomData};
@@ -24,20 +24,14 @@ impl<R: RawMutex> KeyRule<Snapshot<R>, Levels<R::Guard>> for OwnTokens<R> {
 /// A raw mutex that the owning party may acquire again, up to a limit of levels.
 ///
 /// The owner's token lies behind a mutex of its own, which makes the lock `Sync` for tokens that are `Send`. A lock that
-/// is dropped while owned drops the token. Contracts see the lock as its raw lock.
+/// is dropped while owned forgets the token. Contracts see the lock as its raw lock.
 #[derive(Drop)]
-pub struct RawReentrantMutex<R: RawMutex>
-where
-    R::Guard: Drop,
-{
+pub struct RawReentrantMutex<R: RawMutex> {
     raw: R,
     levels: KeyedMutex<Snapshot<R>, Levels<R::Guard>, OwnTokens<R>>,
 }
 
-impl<R: RawMutex> Model for RawReentrantMutex<R>
-where
-    R::Guard: Drop,
-{
+impl<R: RawMutex> Model for RawReentrantMutex<R> {
     ghost use Rattle.std.specs.Prelude.{◌≡◌};
 
     ghost Value = { R };
@@ -49,7 +43,7 @@ where
 
 impl<R: RawMutex + Drop> RawReentrantMutex<R>
 where
-    R::Guard: Send + Drop,
+    R::Guard: Send,
 {
     /// Makes an unlocked lock of `DEFAULT_LEVELS`.
     pub fn new(alloc: Global, waiter: R::Waiter) -> Result<Self, Fault>
@@ -64,8 +58,11 @@ where
         ensures in_range { IfOk result (λ _. IsLimit levels) }
         ensures fault { IfErr result IsMakerFault }
     {
-        let levels = Levels::new(levels)?;
-        RawReentrantMutex::over(alloc, R::new(alloc, waiter)?, levels)
+        if !is_limit(levels) {
+            return Err(Fault::BadLimits);
+        }
+        let raw = R::new(alloc, waiter)?;
+        RawReentrantMutex::over(alloc, raw, Levels::new(levels)?)
     }
 
     /// Makes a lock of `DEFAULT_LEVELS` over a given raw lock. The raw lock is dropped if there is no memory.
@@ -89,11 +86,8 @@ where
     }
 }
 
-impl<R: RawMutex> RawReentrantMutex<R>
-where
-    R::Guard: Drop,
-{
-    /// Consumes the lock, and returns the raw lock. A token that is left is dropped.
+impl<R: RawMutex> RawReentrantMutex<R> {
+    /// Consumes the lock, and returns the raw lock, which stays held if a party owns it.
     pub(crate) fn into_raw(self) -> R
         ensures { result ≡ self }
     {
@@ -212,10 +206,7 @@ where
     }
 }
 
-impl<R: RawMutexFair> RawReentrantMutex<R>
-where
-    R::Guard: Drop,
-{
+impl<R: RawMutexFair> RawReentrantMutex<R> {
     /// `unlock`, by a fair release of the raw lock.
     pub fn unlock_fair(&self, party: PartyId) -> Result<(), Fault>
         ensures { IfErr result (λ fault. fault ≡ Fault.Foreign) }
@@ -266,10 +257,7 @@ where
     }
 }
 
-impl<R: RawMutexTimed> RawReentrantMutex<R>
-where
-    R::Guard: Drop,
-{
+impl<R: RawMutexTimed> RawReentrantMutex<R> {
     /// `try_lock`, where the raw lock may block for at most `timeout`.
     pub fn try_lock_for(&self, party: PartyId, timeout: R::Duration) -> Result<bool, Fault>
         ensures { IfErr result (λ fault. fault ≡ Fault.FullCount) }

@@ -11,17 +11,14 @@ use std::alloc::Global;
 /// A party may hold several guards at a time, so a guard only reads. The value is stored plainly and must be `Sync`.
 /// The raw lock's token lies behind a mutex of its own and must be `Send`.
 #[derive(Drop)]
-pub struct ReentrantMutex<R: RawMutex, T>
-where
-    R::Guard: Drop,
-{
+pub struct ReentrantMutex<R: RawMutex, T> {
     raw: RawReentrantMutex<R>,
     value: T,
 }
 
 impl<R: RawMutex + Drop, T: Sync> ReentrantMutex<R, T>
 where
-    R::Guard: Send + Drop,
+    R::Guard: Send,
 {
     ghost use Rattle.std.specs.Prelude.{◌≡◌, ◌↔◌, IfOk, IfErr, IsOkUnless};
     ghost use Rattle.lock_base.specs.Limits.{IsLimit, IsMakerFault};
@@ -89,10 +86,7 @@ where
     }
 }
 
-impl<R: RawMutex, T> ReentrantMutex<R, T>
-where
-    R::Guard: Drop,
-{
+impl<R: RawMutex, T> ReentrantMutex<R, T> {
     ghost use Rattle.std.specs.Prelude.{◌≡◌, ◌↔◌, IsTrue, IsSome, IfOk, IfErr, IfSome};
     ghost use Rattle.std.specs.Borrow.{Lends, sem};
     ghost use Rattle.lock_base.specs.Party.{id_of};
@@ -108,7 +102,7 @@ where
         self.into_inner_with_raw().1
     }
 
-    /// Consumes the lock, and returns the raw lock and the value. A token that is left is dropped.
+    /// Consumes the lock, and returns the raw lock and the value. The raw lock stays held if a party owns it.
     pub fn into_inner_with_raw(self) -> (R, T)
         ensures raw { result.0 ≡ raw_of self }
         ensures value { result.1 ≡ value_of self }
@@ -185,10 +179,7 @@ where
     }
 }
 
-impl<R: RawMutexTimed, T> ReentrantMutex<R, T>
-where
-    R::Guard: Drop,
-{
+impl<R: RawMutexTimed, T> ReentrantMutex<R, T> {
     ghost use Rattle.std.specs.Prelude.{◌≡◌, IfOk, IfErr, IfSome};
     ghost use Rattle.lock_base.specs.Party.{id_of};
     ghost use Rattle.lock_remutex.specs.Guards.{IsGuardOf};

@@ -5,18 +5,12 @@ use lock_guard::raw::{RawMutex, RawMutexFair};
 use std::ops::Deref;
 
 /// One level of a party, which reads the value. Its drop releases the level, and with the last level the raw lock.
-pub struct ReentrantMutexGuard<'a, R: RawMutex, T>
-where
-    R::Guard: Drop,
-{
+pub struct ReentrantMutexGuard<'a, R: RawMutex, T> {
     remutex: &'a ReentrantMutex<R, T>,
     party: PartyId,
 }
 
-impl<'a, R: RawMutex, T> ReentrantMutexGuard<'a, R, T>
-where
-    R::Guard: Drop,
-{
+impl<'a, R: RawMutex, T> ReentrantMutexGuard<'a, R, T> {
     ghost use Rattle.std.specs.Prelude.{◌≡◌, IfOk, IfErr, MatchResult};
     ghost use Rattle.lock_base.specs.Party.{id_of};
     ghost use Rattle.lock_remutex.specs.Guards.{guard_lock, IsGuardOf, IsSameGuard};
@@ -69,10 +63,7 @@ where
     }
 }
 
-impl<R: RawMutexFair, T> ReentrantMutexGuard<'_, R, T>
-where
-    R::Guard: Drop,
-{
+impl<R: RawMutexFair, T> ReentrantMutexGuard<'_, R, T> {
     ghost use Rattle.std.specs.Prelude.{◌≡◌, IfOk, IfErr, MatchResult};
     ghost use Rattle.lock_remutex.specs.Guards.{IsSameGuard};
 
@@ -104,10 +95,7 @@ where
     }
 }
 
-impl<R: RawMutex, T> Deref for ReentrantMutexGuard<'_, R, T>
-where
-    R::Guard: Drop,
-{
+impl<R: RawMutex, T> Deref for ReentrantMutexGuard<'_, R, T> {
     ghost use Rattle.std.specs.Prelude.{◌≡◌};
     ghost use Rattle.lock_remutex.specs.Guards.{guard_value};
 
@@ -122,10 +110,7 @@ where
     }
 }
 
-impl<R: RawMutex, T> Drop for ReentrantMutexGuard<'_, R, T>
-where
-    R::Guard: Drop,
-{
+impl<R: RawMutex, T> Drop for ReentrantMutexGuard<'_, R, T> {
     fn drop(self) {
         let ReentrantMutexGuard { remutex, party } = self;
         let _ = remutex.raw().unlock(party);

@@ -8,10 +8,7 @@ use std::fmt::{Debug, Display, Formatter};
 use std::ops::Deref;
 
 /// Prints the value while no party owns the lock.
-impl<R: RawMutex, T: Debug> Debug for ReentrantMutex<R, T>
-where
-    R::Guard: Drop,
-{
+impl<R: RawMutex, T: Debug> Debug for ReentrantMutex<R, T> {
     fn fmt<W: fmt::Write>(&self, f: &mut Formatter<W>) -> fmt::Result {
         if self.raw().is_owned() {
             return fmt_lock(f, "ReentrantMutex", &Locked);
@@ -20,19 +17,13 @@ where
     }
 }
 
-impl<R: RawMutex, T: Debug> Debug for ReentrantMutexGuard<'_, R, T>
-where
-    R::Guard: Drop,
-{
+impl<R: RawMutex, T: Debug> Debug for ReentrantMutexGuard<'_, R, T> {
     fn fmt<W: fmt::Write>(&self, f: &mut Formatter<W>) -> fmt::Result {
         self.deref().fmt(f)
     }
 }
 
-impl<R: RawMutex, T: Display> Display for ReentrantMutexGuard<'_, R, T>
-where
-    R::Guard: Drop,
-{
+impl<R: RawMutex, T: Display> Display for ReentrantMutexGuard<'_, R, T> {
     fn fmt<W: fmt::Write>(&self, f: &mut Formatter<W>) -> fmt::Result {
         self.deref().fmt(f)
     }

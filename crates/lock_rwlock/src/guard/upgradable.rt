@@ -4,9 +4,9 @@ ghost use Rattle.std.specs.Sync.RwLock.{read_guard_value};
 ghost use Rattle.lock_guard.specs.Closure.{AnswersSomeValue};
 
 use super::{RwLockGuard, RwLockReadGuard, RwLockWriteGuard, guard};
+use crate::closures::{with_if_upgraded, with_upgraded};
 use crate::lock::RwLock;
 use crate::mode::{InMode, Upgradable};
-use crate::parts;
 use lock_guard::guard::{Acquire, Held, Inner};
 use lock_guard::raw::{RawRwLockUpgrade, RawRwLockUpgradeDowngrade, RawRwLockUpgradeTimed};
 use std::sync;
@@ -126,7 +126,7 @@ impl<'a, R: RawRwLockUpgradeDowngrade, T> RwLockGuard<InMode<'a, Upgradable, R, 
         ensures lock { SameLock self.old self.new }
     {
         let held = &mut self.held;
-        let (token, answer) = parts::with_upgraded(held.lock.rwlock, held.inner.empty(), f);
+        let (token, answer) = with_upgraded(held.lock.rwlock, held.inner.empty(), f);
         held.inner.fill(token, held.lock.lock_value());
         answer
     }
@@ -144,7 +144,7 @@ impl<'a, R: RawRwLockUpgradeDowngrade, T> RwLockGuard<InMode<'a, Upgradable, R, 
         let rwlock = held.lock.rwlock;
         let (token, shown) = held.inner.take().into_parts();
         let upgraded = rwlock.raw.try_upgrade(token);
-        let made = parts::with_if_upgraded(rwlock, shown, upgraded, f);
+        let made = with_if_upgraded(rwlock, shown, upgraded, f);
         held.inner.settle(&held.lock, made)
     }
 }
@@ -171,7 +171,7 @@ impl<'a, R: RawRwLockUpgradeTimed + RawRwLockUpgradeDowngrade, T> RwLockGuard<
         let rwlock = held.lock.rwlock;
         let (token, shown) = held.inner.take().into_parts();
         let upgraded = rwlock.raw.try_upgrade_for(token, timeout);
-        let made = parts::with_if_upgraded(rwlock, shown, upgraded, f);
+        let made = with_if_upgraded(rwlock, shown, upgraded, f);
         held.inner.settle(&held.lock, made)
     }
 
@@ -192,7 +192,7 @@ impl<'a, R: RawRwLockUpgradeTimed + RawRwLockUpgradeDowngrade, T> RwLockGuard<
         let rwlock = held.lock.rwlock;
         let (token, shown) = held.inner.take().into_parts();
         let upgraded = rwlock.raw.try_upgrade_until(token, deadline);
-        let made = parts::with_if_upgraded(rwlock, shown, upgraded, f);
+        let made = with_if_upgraded(rwlock, shown, upgraded, f);
         held.inner.settle(&held.lock, made)
     }
 }

@@ -1,0 +1,177 @@
+//! What an upgradable guard can do besides.
+ghost use Rattle.std.specs.Prelude.{◌≡◌, true, IfSome, IfNone, IfOk, IfErr, MatchResult, is_ok};
+ghost use Rattle.std.specs.Arc.{arc_value};
+ghost use Rattle.lock_guard.specs.Closure.{AnswersSomeValue};
+ghost use Rattle.lock_guard.specs.declared.guard.inner.Inner.TheVariants.{Filled};
+ghost use Rattle.lock_rwlock.specs.RwLock.{raw_of};
+ghost use Rattle.lock_rwlock.specs.ArcRwLockGuard.{arc_of, lock_of, inner_of};
+
+use super::{ArcModeGuard, ArcRwLockReadGuard, ArcRwLockUpgradableReadGuard, ArcRwLockWriteGuard};
+use crate::arc::owned::OwnedInMode;
+use crate::closures::{with_if_upgraded, with_upgraded};
+use crate::lock::RwLock;
+use crate::mode::Upgradable;
+use lock_guard::guard::{Held, Inner};
+use lock_guard::raw::{RawRwLockUpgrade, RawRwLockUpgradeDowngrade, RawRwLockUpgradeTimed};
+
+impl<R: RawRwLockUpgrade + Drop, T: Drop> ArcModeGuard<OwnedInMode<Upgradable, R, T>> {
+    /// Upgrades the guard to a write guard, blocking until no other guard is held.
+    pub fn upgrade(guard: ArcRwLockUpgradableReadGuard<R, T>) -> ArcRwLockWriteGuard<R, T>
+        ensures { arc_of result ≡ arc_of guard }
+    {
+        let (rwlock, token) = guard.into_token();
+        let token = rwlock.raw.upgrade(token);
+        ArcModeGuard::new(rwlock, token)
+    }
+
+    /// Upgrades the guard without blocking, or returns it unchanged if the raw lock refuses.
+    pub fn try_upgrade(
+        guard: ArcRwLockUpgradableReadGuard<R, T>,
+    ) -> Result<ArcRwLockWriteGuard<R, T>, ArcRwLockUpgradableReadGuard<R, T>>
+        ensures { MatchResult result (λ upgraded. arc_of upgraded ≡ arc_of guard)
+            (λ same. same ≡ guard) }
+    {
+        let (lock, token, ()) = guard.held.into_parts();
+        let answer = lock.rwlock.raw.try_upgrade(token);
+        ArcModeGuard::upgraded(lock, answer)
+    }
+
+    /// Makes the guard of the token that the raw lock returned.
+    fn upgraded(
+        lock: OwnedInMode<Upgradable, R, T>,
+        answer: Result<R::ExclusiveGuard, R::UpgradableGuard>,
+    ) -> Result<ArcRwLockWriteGuard<R, T>, ArcRwLockUpgradableReadGuard<R, T>>
+        requires own { IfOk answer (λ token. R.owns_exclusive (raw_of (arc_value lock.rwlock)) token ≡ true) }
+        requires same { IfErr answer (λ token. R.owns_upgradable (raw_of (arc_value lock.rwlock)) token ≡ true) }
+        ensures upgraded { is_ok result ≡ is_ok answer }
+        ensures lock { MatchResult result (λ upgraded. arc_of upgraded ≡ lock.rwlock)
+            (λ same. lock_of same ≡ lock) }
+        ensures again { (token : R.UpgradableGuard) → IfErr answer (λ back. back ≡ token)
+            → IfErr result (λ same. inner_of same ≡ Filled token tt) }
+    {
+        match answer {
+            Ok(token) => Ok(ArcModeGuard::new(lock.rwlock, token)),
+            Err(token) => {
+                let inner = Inner::Filled(token, ());
+                Err(ArcModeGuard {
+                    held: Held { lock, inner },
+                })
+            }
+        }
+    }
+}
+
+impl<R: RawRwLockUpgradeTimed + Drop, T: Drop> ArcModeGuard<OwnedInMode<Upgradable, R, T>> {
+    /// `try_upgrade`, where the raw lock may block for at most `timeout`.
+    pub fn try_upgrade_for(
+        guard: ArcRwLockUpgradableReadGuard<R, T>,
+        timeout: R::Duration,
+    ) -> Result<ArcRwLockWriteGuard<R, T>, ArcRwLockUpgradableReadGuard<R, T>>
+        ensures { MatchResult result (λ upgraded. arc_of upgraded ≡ arc_of guard)
+            (λ same. same ≡ guard) }
+    {
+        let (lock, token, ()) = guard.held.into_parts();
+        let answer = lock.rwlock.raw.try_upgrade_for(token, timeout);
+        ArcModeGuard::upgraded(lock, answer)
+    }
+
+    /// `try_upgrade`, where the raw lock may block until `deadline`.
+    pub fn try_upgrade_until(
+        guard: ArcRwLockUpgradableReadGuard<R, T>,
+        deadline: R::Instant,
+    ) -> Result<ArcRwLockWriteGuard<R, T>, ArcRwLockUpgradableReadGuard<R, T>>
+        ensures { MatchResult result (λ upgraded. arc_of upgraded ≡ arc_of guard)
+            (λ same. same ≡ guard) }
+    {
+        let (lock, token, ()) = guard.held.into_parts();
+        let answer = lock.rwlock.raw.try_upgrade_until(token, deadline);
+        ArcModeGuard::upgraded(lock, answer)
+    }
+}
+
+impl<R: RawRwLockUpgradeDowngrade + Drop, T: Drop> ArcModeGuard<OwnedInMode<Upgradable, R, T>> {
+    /// Downgrades the guard to a read guard.
+    pub fn downgrade(guard: ArcRwLockUpgradableReadGuard<R, T>) -> ArcRwLockReadGuard<R, T>
+        ensures { arc_of result ≡ arc_of guard }
+    {
+        let (rwlock, token) = guard.into_token();
+        let token = rwlock.raw.downgrade_upgradable(token);
+        ArcModeGuard::new(rwlock, token)
+    }
+
+    /// Upgrades, runs `f` on the value, and downgrades again. The upgrade blocks until no other guard is held.
+    pub fn with_upgraded<U, F: FnOnce(&mut T) -> U>(&mut self, f: F) -> U
+        requires { F.IsAlwaysCallable f }
+        ensures answer { AnswersSomeValue F.FnOnce f result }
+        ensures lock { arc_of self.new ≡ arc_of self.old }
+    {
+        let held = &mut self.held;
+        let token = held.inner.empty();
+        let (token, answer) = with_upgraded(&held.lock.rwlock, token, f);
+        held.inner.fill(token, ());
+        answer
+    }
+
+    /// `with_upgraded` without blocking. If the raw lock refuses, returns `None` and does not call `f`.
+    pub fn try_with_upgraded<U, F: FnOnce(&mut T) -> U>(&mut self, f: F) -> Option<U>
+    where
+        F: Drop,
+        requires { F.IsAlwaysCallable f }
+        ensures answer { IfSome result (AnswersSomeValue F.FnOnce f) }
+        ensures lock { arc_of self.new ≡ arc_of self.old }
+        ensures refused { IfNone result (self.new ≡ self.old) }
+    {
+        let held = &mut self.held;
+        let rwlock = &held.lock.rwlock;
+        let (token, ()) = held.inner.take().into_parts();
+        let upgraded = rwlock.raw.try_upgrade(token);
+        let made = with_if_upgraded(rwlock, (), upgraded, f);
+        held.inner.settle(&held.lock, made)
+    }
+}
+
+impl<R: RawRwLockUpgradeTimed + RawRwLockUpgradeDowngrade + Drop, T: Drop> ArcModeGuard<
+    OwnedInMode<Upgradable, R, T>,
+> {
+    /// `try_with_upgraded`, where the raw lock may block for at most `timeout`.
+    pub fn try_with_upgraded_for<U, F: FnOnce(&mut T) -> U>(
+        &mut self,
+        timeout: R::Duration,
+        f: F,
+    ) -> Option<U>
+    where
+        F: Drop,
+        requires { F.IsAlwaysCallable f }
+        ensures answer { IfSome result (AnswersSomeValue F.FnOnce f) }
+        ensures lock { arc_of self.new ≡ arc_of self.old }
+        ensures refused { IfNone result (self.new ≡ self.old) }
+    {
+        let held = &mut self.held;
+        let rwlock = &held.lock.rwlock;
+        let (token, ()) = held.inner.take().into_parts();
+        let upgraded = rwlock.raw.try_upgrade_for(token, timeout);
+        let made = with_if_upgraded(rwlock, (), upgraded, f);
+        held.inner.settle(&held.lock, made)
+    }
+
+    /// `try_with_upgraded`, where the raw lock may block until `deadline`.
+    pub fn try_with_upgraded_until<U, F: FnOnce(&mut T) -> U>(
+        &mut self,
+        deadline: R::Instant,
+        f: F,
+    ) -> Option<U>
+    where
+        F: Drop,
+        requires { F.IsAlwaysCallable f }
+        ensures answer { IfSome result (AnswersSomeValue F.FnOnce f) }
+        ensures lock { arc_of self.new ≡ arc_of self.old }
+        ensures refused { IfNone result (self.new ≡ self.old) }
+    {
+        let held = &mut self.held;
+        let rwlock = &held.lock.rwlock;
+        let (token, ()) = held.inner.take().into_parts();
+        let upgraded = rwlock.raw.try_upgrade_until(token, deadline);
+        let made = with_if_upgraded(rwlock, (), upgraded, f);
+        held.inner.settle(&held.lock, made)
+    }
+}

@@ -1,0 +1,81 @@
+//! Calls of a closure on the value, made by the holder of a token.
+ghost use Rattle.std.specs.Prelude.{◌≡◌, true, IfOk, IfErr, is_ok};
+ghost use Rattle.lock_guard.specs.Closure.{ReadsSomeValue, AnswersSomeValue};
+ghost use Rattle.lock_guard.specs.Inner.{is_filled, owns};
+ghost use Rattle.lock_guard.specs.declared.guard.inner.Inner.TheVariants.{Filled};
+
+use crate::lock::RwLock;
+use crate::mode::{Exclusive, InMode, Shared};
+use lock_guard::guard::{Acquire, Inner};
+use lock_guard::raw::{RawRwLock, RawRwLockUpgradeDowngrade};
+
+/// Runs `f` on the value, holding the value's lock for reading for the length of the call.
+pub(crate) fn read_with<R: RawRwLock, T, U, F: FnOnce(&T) -> U>(rwlock: &RwLock<R, T>, f: F) -> U
+    requires { F.IsAlwaysCallable f }
+    ensures { ReadsSomeValue F.FnOnce f result }
+{
+    let value = InMode::<Shared, R, T>::new(rwlock).lock_value();
+    f(&value)
+}
+
+/// Runs `f` on the value, which it may change, holding the value's lock for writing for the length of the call.
+pub(crate) fn write_with<R: RawRwLock, T, U, F: FnOnce(&mut T) -> U>(
+    rwlock: &RwLock<R, T>,
+    f: F,
+) -> U
+    requires { F.IsAlwaysCallable f }
+    ensures { AnswersSomeValue F.FnOnce f result }
+{
+    let mut value = InMode::<Exclusive, R, T>::new(rwlock).lock_value();
+    f(&mut value)
+}
+
+/// Upgrades the token, runs `f` on the value, and downgrades the token. The upgrade blocks until no other token is
+/// held.
+pub(crate) fn with_upgraded<R: RawRwLockUpgradeDowngrade, T, U, F: FnOnce(&mut T) -> U>(
+    rwlock: &RwLock<R, T>,
+    token: R::UpgradableGuard,
+    f: F,
+) -> (R::UpgradableGuard, U)
+    requires callable { F.IsAlwaysCallable f }
+    requires own { R.owns_upgradable rwlock.now.raw token ≡ true }
+    ensures answer { AnswersSomeValue F.FnOnce f result.1 }
+    ensures own { R.owns_upgradable rwlock.now.raw result.0 ≡ true }
+{
+    let token = rwlock.raw.upgrade(token);
+    let answer = write_with(rwlock, f);
+    (rwlock.raw.downgrade_to_upgradable(token), answer)
+}
+
+/// Runs `f` on the value if the raw lock upgraded the token, and downgrades the token. If the raw lock refused, returns
+/// the token with `shown`, and does not call `f`.
+///
+/// `shown` is the caller's access to the value. It is dropped before the value's lock is acquired for writing.
+pub(crate) fn with_if_upgraded<R: RawRwLockUpgradeDowngrade, T, V: Drop, U, F: FnOnce(&mut T) -> U>(
+    rwlock: &RwLock<R, T>,
+    shown: V,
+    upgraded: Result<R::ExclusiveGuard, R::UpgradableGuard>,
+    f: F,
+) -> Result<(R::UpgradableGuard, U), Inner<R::UpgradableGuard, V>>
+where
+    F: Drop,
+    requires callable { F.IsAlwaysCallable f }
+    requires own { IfOk upgraded (λ token. R.owns_exclusive rwlock.now.raw token ≡ true) }
+    requires same { IfErr upgraded (λ token. R.owns_upgradable rwlock.now.raw token ≡ true) }
+    ensures own { IfOk result (λ made. R.owns_upgradable rwlock.now.raw made.0 ≡ true) }
+    ensures still_own { IfErr result (λ same. owns (R.owns_upgradable rwlock.now.raw) same ≡ true) }
+    ensures called { is_ok result ≡ is_ok upgraded }
+    ensures answer { IfOk result (λ made. AnswersSomeValue F.FnOnce f made.1) }
+    ensures filled { IfErr result (λ same. is_filled same ≡ true) }
+    ensures refused { (token : R.UpgradableGuard) → IfErr upgraded (λ back. back ≡ token)
+        → IfErr result (λ same. same ≡ Filled token shown) }
+{
+    match upgraded {
+        Ok(token) => {
+            drop(shown);
+            let answer = write_with(rwlock, f);
+            Ok((rwlock.raw.downgrade_to_upgradable(token), answer))
+        }
+        Err(token) => Err(Inner::Filled(token, shown)),
+    }
+}
