@@ -1,0 +1,3 @@
+pub mod Guards
+pub mod RwLockGuards
+pub mod Rows

@@ -1,0 +1,303 @@
+//! A reader-writer lock with a rank.
+ghost use Rattle.std.specs.Prelude.{◌≡◌, ◌↔◌, ◌<◌, ◌≤◌, IfErr, IfOk, IsOkUnless};
+ghost use Rattle.lock_base.specs.Limits.{IsLimit, IsMakerFault};
+
+use crate::order::Order;
+use crate::rank::Rank;
+use crate::rwlock_guard::{
+    RankedRwLockGuard, RankedRwLockReadGuard, RankedRwLockUpgradableReadGuard,
+    RankedRwLockWriteGuard,
+};
+use lock_base::raw::Fault;
+use lock_guard::raw::{RawRwLock, RawRwLockTimed, RawRwLockUpgrade, RawRwLockUpgradeTimed};
+use lock_rwlock::RwLock;
+use std::alloc::Global;
+use std::fmt;
+use std::marker::PhantomData;
+
+/// A reader-writer lock of rank `K`, over any raw lock. A blocking acquisition in any mode requires that the thread holds
+/// nothing at `K` or above, so a reader never reads the same lock again.
+///
+/// # Examples
+///
+/// ```
+/// /// It may be called under any lock below rank 5.
+/// fn limit<R: RawRwLock, B: Rank>(
+///     settings: &RankedRwLock<R, u64, AtRank<5>>,
+///     order: &mut Order<'_, B>,
+/// ) -> u64
+///     requires { B.rank < 5 }
+/// {
+///     let (limit, _above) = settings.read(order);
+///     *limit
+/// }
+/// ```
+#[derive(Drop)]
+pub struct RankedRwLock<R, T, K: Rank> {
+    rwlock: RwLock<R, T>,
+    rank: PhantomData<K>,
+}
+
+impl<R: RawRwLock, T, K: Rank> RankedRwLock<R, T, K> {
+    /// Makes an unlocked lock over a new raw lock with `DEFAULT_READERS`. The value is dropped if there is no memory.
+    pub fn new(alloc: Global, waiter: R::Waiter, value: T) -> Result<RankedRwLock<R, T, K>, Fault>
+    where
+        T: Drop,
+        ensures { IsOkUnless result Fault.OutOfMemory }
+    {
+        Ok(RankedRwLock::from_rwlock(RwLock::new(alloc, waiter, value)?))
+    }
+
+    /// Makes an unlocked lock that at most `readers` hold shared or upgradable at a time. The value is dropped on an
+    /// error.
+    pub fn with_readers(
+        alloc: Global,
+        waiter: R::Waiter,
+        readers: u64,
+        value: T,
+    ) -> Result<RankedRwLock<R, T, K>, Fault>
+    where
+        T: Drop,
+        ensures limits { (result ≡ Err Fault.BadLimits) ↔ (IsLimit readers → ⊥) }
+        ensures in_range { IfOk result (λ _. IsLimit readers) }
+        ensures fault { IfErr result IsMakerFault }
+    {
+        match RwLock::with_readers(alloc, waiter, readers, value) {
+            Ok(rwlock) => Ok(RankedRwLock::from_rwlock(rwlock)),
+            Err(fault) => Err(fault),
+        }
+    }
+
+    /// Gives a lock its rank.
+    pub fn from_rwlock(rwlock: RwLock<R, T>) -> RankedRwLock<R, T, K> {
+        RankedRwLock {
+            rwlock,
+            rank: PhantomData,
+        }
+    }
+
+    /// Consumes the lock, and returns the value.
+    pub fn into_inner(self) -> T
+    where
+        R: Drop,
+    {
+        let RankedRwLock { rwlock, rank: _ } = self;
+        rwlock.into_inner()
+    }
+
+    /// Returns the value. No locking is needed, since the lock is borrowed exclusively.
+    pub fn get_mut(&mut self) -> &mut T {
+        self.rwlock.get_mut()
+    }
+
+    /// Returns what the raw lock says: whether it is held in any mode. The answer may be stale at once.
+    pub fn is_locked(&self) -> bool {
+        self.rwlock.is_locked()
+    }
+
+    /// Returns what the raw lock says: whether it is held exclusively. The answer may be stale at once.
+    pub fn is_locked_exclusive(&self) -> bool {
+        self.rwlock.is_locked_exclusive()
+    }
+
+    /// Acquires the lock shared, blocking until it is available. The order that it returns is at `K`.
+    pub fn read<'a, 'o, B: Rank>(
+        &'a self,
+        order: &'o mut Order<'_, B>,
+    ) -> (RankedRwLockReadGuard<'a, 'o, R, T, B, K>, Order<'o, K>)
+        requires { B.rank < K.rank }
+    {
+        let _ = order;
+        (RankedRwLockGuard::new(self.rwlock.read()), Order::new())
+    }
+
+    /// Acquires the lock shared without blocking, whatever its rank, or returns `None` if the raw lock refuses. The
+    /// order that it returns is at `N`.
+    pub fn try_read<'a, 'o, B: Rank, N: Rank>(
+        &'a self,
+        order: &'o mut Order<'_, B>,
+    ) -> Option<(RankedRwLockReadGuard<'a, 'o, R, T, B, K>, Order<'o, N>)>
+        requires { (B.rank < N.rank) × (K.rank ≤ N.rank) }
+    {
+        let _ = order;
+        Some((
+            RankedRwLockGuard::new(self.rwlock.try_read()?),
+            Order::new(),
+        ))
+    }
+
+    /// Acquires the lock exclusively, blocking until it is available. The order that it returns is at `K`.
+    pub fn write<'a, 'o, B: Rank>(
+        &'a self,
+        order: &'o mut Order<'_, B>,
+    ) -> (RankedRwLockWriteGuard<'a, 'o, R, T, B, K>, Order<'o, K>)
+        requires { B.rank < K.rank }
+    {
+        let _ = order;
+        (RankedRwLockGuard::new(self.rwlock.write()), Order::new())
+    }
+
+    /// Acquires the lock exclusively without blocking, whatever its rank, or returns `None` if the raw lock refuses. The
+    /// order that it returns is at `N`.
+    pub fn try_write<'a, 'o, B: Rank, N: Rank>(
+        &'a self,
+        order: &'o mut Order<'_, B>,
+    ) -> Option<(RankedRwLockWriteGuard<'a, 'o, R, T, B, K>, Order<'o, N>)>
+        requires { (B.rank < N.rank) × (K.rank ≤ N.rank) }
+    {
+        let _ = order;
+        Some((
+            RankedRwLockGuard::new(self.rwlock.try_write()?),
+            Order::new(),
+        ))
+    }
+}
+
+impl<R: RawRwLockTimed, T, K: Rank> RankedRwLock<R, T, K> {
+    /// `try_read`, where the raw lock may block for at most `timeout`.
+    pub fn try_read_for<'a, 'o, B: Rank, N: Rank>(
+        &'a self,
+        order: &'o mut Order<'_, B>,
+        timeout: R::Duration,
+    ) -> Option<(RankedRwLockReadGuard<'a, 'o, R, T, B, K>, Order<'o, N>)>
+        requires { (B.rank < N.rank) × (K.rank ≤ N.rank) }
+    {
+        let _ = order;
+        Some((
+            RankedRwLockGuard::new(self.rwlock.try_read_for(timeout)?),
+            Order::new(),
+        ))
+    }
+
+    /// `try_read`, where the raw lock may block until `deadline`.
+    pub fn try_read_until<'a, 'o, B: Rank, N: Rank>(
+        &'a self,
+        order: &'o mut Order<'_, B>,
+        deadline: R::Instant,
+    ) -> Option<(RankedRwLockReadGuard<'a, 'o, R, T, B, K>, Order<'o, N>)>
+        requires { (B.rank < N.rank) × (K.rank ≤ N.rank) }
+    {
+        let _ = order;
+        Some((
+            RankedRwLockGuard::new(self.rwlock.try_read_until(deadline)?),
+            Order::new(),
+        ))
+    }
+
+    /// `try_write`, where the raw lock may block for at most `timeout`.
+    pub fn try_write_for<'a, 'o, B: Rank, N: Rank>(
+        &'a self,
+        order: &'o mut Order<'_, B>,
+        timeout: R::Duration,
+    ) -> Option<(RankedRwLockWriteGuard<'a, 'o, R, T, B, K>, Order<'o, N>)>
+        requires { (B.rank < N.rank) × (K.rank ≤ N.rank) }
+    {
+        let _ = order;
+        Some((
+            RankedRwLockGuard::new(self.rwlock.try_write_for(timeout)?),
+            Order::new(),
+        ))
+    }
+
+    /// `try_write`, where the raw lock may block until `deadline`.
+    pub fn try_write_until<'a, 'o, B: Rank, N: Rank>(
+        &'a self,
+        order: &'o mut Order<'_, B>,
+        deadline: R::Instant,
+    ) -> Option<(RankedRwLockWriteGuard<'a, 'o, R, T, B, K>, Order<'o, N>)>
+        requires { (B.rank < N.rank) × (K.rank ≤ N.rank) }
+    {
+        let _ = order;
+        Some((
+            RankedRwLockGuard::new(self.rwlock.try_write_until(deadline)?),
+            Order::new(),
+        ))
+    }
+}
+
+impl<R: RawRwLockUpgrade, T, K: Rank> RankedRwLock<R, T, K> {
+    /// Acquires the lock upgradable, blocking until it is available. The order that it returns is at `K`.
+    pub fn upgradable_read<'a, 'o, B: Rank>(
+        &'a self,
+        order: &'o mut Order<'_, B>,
+    ) -> (
+        RankedRwLockUpgradableReadGuard<'a, 'o, R, T, B, K>,
+        Order<'o, K>,
+    )
+        requires { B.rank < K.rank }
+    {
+        let _ = order;
+        (
+            RankedRwLockGuard::new(self.rwlock.upgradable_read()),
+            Order::new(),
+        )
+    }
+
+    /// Acquires the lock upgradable without blocking, whatever its rank, or returns `None` if the raw lock refuses. The
+    /// order that it returns is at `N`.
+    pub fn try_upgradable_read<'a, 'o, B: Rank, N: Rank>(
+        &'a self,
+        order: &'o mut Order<'_, B>,
+    ) -> Option<
+        (
+            RankedRwLockUpgradableReadGuard<'a, 'o, R, T, B, K>,
+            Order<'o, N>,
+        ),
+    >
+        requires { (B.rank < N.rank) × (K.rank ≤ N.rank) }
+    {
+        let _ = order;
+        Some((
+            RankedRwLockGuard::new(self.rwlock.try_upgradable_read()?),
+            Order::new(),
+        ))
+    }
+}
+
+impl<R: RawRwLockUpgradeTimed, T, K: Rank> RankedRwLock<R, T, K> {
+    /// `try_upgradable_read`, where the raw lock may block for at most `timeout`.
+    pub fn try_upgradable_read_for<'a, 'o, B: Rank, N: Rank>(
+        &'a self,
+        order: &'o mut Order<'_, B>,
+        timeout: R::Duration,
+    ) -> Option<
+        (
+            RankedRwLockUpgradableReadGuard<'a, 'o, R, T, B, K>,
+            Order<'o, N>,
+        ),
+    >
+        requires { (B.rank < N.rank) × (K.rank ≤ N.rank) }
+    {
+        let _ = order;
+        Some((
+            RankedRwLockGuard::new(self.rwlock.try_upgradable_read_for(timeout)?),
+            Order::new(),
+        ))
+    }
+
+    /// `try_upgradable_read`, where the raw lock may block until `deadline`.
+    pub fn try_upgradable_read_until<'a, 'o, B: Rank, N: Rank>(
+        &'a self,
+        order: &'o mut Order<'_, B>,
+        deadline: R::Instant,
+    ) -> Option<
+        (
+            RankedRwLockUpgradableReadGuard<'a, 'o, R, T, B, K>,
+            Order<'o, N>,
+        ),
+    >
+        requires { (B.rank < N.rank) × (K.rank ≤ N.rank) }
+    {
+        let _ = order;
+        Some((
+            RankedRwLockGuard::new(self.rwlock.try_upgradable_read_until(deadline)?),
+            Order::new(),
+        ))
+    }
+}
+
+impl<R: RawRwLock, T: fmt::Debug, K: Rank> fmt::Debug for RankedRwLock<R, T, K> {
+    fn fmt<W: fmt::Write>(&self, f: &mut fmt::Formatter<W>) -> fmt::Result {
+        self.rwlock.fmt(f)
+    }
+}
