@@ -11,8 +11,8 @@ use Rattle.lock_base.specs.declared.machine.bag.Bag.{Bag}
 use Rattle.lock_base.specs.Modes.{tokens, count_of, one_less}
 use Rattle.lock_base.specs.ModeRuns.{has, Permits, bag_after}
 use Rattle.lock_base.specs.Tokens.{bag_of_tokens}
-use Rattle.lock_raws.specs.declared.wake.Wake.{Wake}
-use Rattle.lock_raws.specs.declared.wake.Wake.TheVariants.{Nobody, One, All}
+use Rattle.lock_wake.specs.declared.owed_wake.Whom.{Whom}
+use Rattle.lock_wake.specs.declared.owed_wake.Whom.TheVariants.{Nobody, One, All}
 use Rattle.lock_word.specs.declared.occupancy.Occupancy.{Occupancy}
 use Rattle.lock_word.specs.Unblocking.{occupancy, may_proceed, may_upgrade, unblocks}
 use Rattle.lock_raws.specs.Waking.{wakes}
@@ -55,7 +55,7 @@ tokens-bag_after b (Change from to) = omega (arith, tokens-one_more (one_less b 
 
 module _ {K : Type 0} where
   -- what holds of the bags before and after a step holds of the tokens
-  pub woken_by : {old new : List (K × Mode)} {limit limit' : ℕ} {bar bar' : Bool} {before after : Bag} {answer : Wake} (step : ModeStep)
+  pub woken_by : {old new : List (K × Mode)} {limit limit' : ℕ} {bar bar' : Bool} {before after : Bag} {answer : Whom} (step : ModeStep)
       → MakesStep limit old new step → before ≡ bag_of_tokens old → after ≡ bag_after before step
       → limit' ≡ limit → bar' ≡ bar → answer ≡ wakes limit' bar' before after
       → answer ≡ wakes limit bar (bag_of_tokens old) (bag_of_tokens new)

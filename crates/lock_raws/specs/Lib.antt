@@ -2,3 +2,4 @@ pub mod TokenArbiter
 pub mod Waking
 pub mod Journal
 pub mod Recording
+pub mod Condvars

@@ -47,7 +47,7 @@ pub fn upgraded<T>(changed: Result<T, Unchanged<T>>) -> Result<T, T>
 ///
 /// A call with a token that is not held in its mode is ignored. While the bar is set, no new token is admitted.
 pub trait Arbiter: Sized + Drop {
-    type Token: Drop;
+    type Token;
 
     /// The held tokens, each with its mode.
     ghost tokens_out: { Self → List (Self.Token × Mode) };

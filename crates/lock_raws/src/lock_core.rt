@@ -15,7 +15,7 @@ use std::sync::Wait;
 /// race.
 pub trait LockCore: Sized + Drop {
     /// The token of one acquisition, which a release consumes.
-    type Token: Drop;
+    type Token;
 
     /// The permission to block, for the raw lock and the guards over it.
     type Waiter: Wait + Clone + Drop;

@@ -6,14 +6,13 @@ use crate::announcing::admit_or_announce;
 use crate::arbiter::{Arbiter, upgraded};
 use crate::lock_core::LockCore;
 use crate::unblocking;
-use crate::wake::Wake;
+use crate::wake::Waiters;
 use lock_base::machine::Mode;
 use lock_base::raw::Fault;
 use lock_guard::lock_std;
 use std::alloc::Global;
 use std::clone::Clone;
-use std::sync::atomic::{AtomicU64, Ordering};
-use std::sync::{Condvar, Mutex, MutexGuard, Wait};
+use std::sync::{Mutex, MutexGuard, Wait};
 
 /// A `LockCore`: a std `Mutex` around an arbiter, and a std `Condvar` for waiters.
 ///
@@ -27,10 +26,7 @@ use std::sync::{Condvar, Mutex, MutexGuard, Wait};
 pub struct Monitor<A: Arbiter, W: Wait + Clone + Drop> {
     pub(crate) waiter: W,
     pub(crate) arbiter: Mutex<A>,
-    changed: Condvar,
-    /// How many threads wait. It changes only under the mutex, so a call that had the mutex knows of all that wait for
-    /// it.
-    waiting: AtomicU64,
+    waiters: Waiters,
 }
 
 impl<A: Arbiter, W: Wait + Clone + Drop> Monitor<A, W> {
@@ -39,8 +35,7 @@ impl<A: Arbiter, W: Wait + Clone + Drop> Monitor<A, W> {
         Monitor {
             waiter,
             arbiter: Mutex::new(arbiter),
-            changed: Condvar::new(),
-            waiting: AtomicU64::new(0),
+            waiters: Waiters::new(),
         }
     }
 
@@ -49,35 +44,15 @@ impl<A: Arbiter, W: Wait + Clone + Drop> Monitor<A, W> {
         lock_std(&self.arbiter, &self.waiter)
     }
 
-    /// Releases the arbiter's lock until a change. It may end spuriously.
-    fn wait<'a>(&self, arbiter: MutexGuard<'a, A>) -> MutexGuard<'a, A> {
-        self.waiting.fetch_add(1, Ordering::SeqCst);
-        let arbiter = self.changed.wait(&self.waiter, arbiter);
-        self.waiting.fetch_sub(1, Ordering::SeqCst);
-        arbiter
-    }
-
     /// Downgrades a token.
     fn downgrade_to(&self, token: A::Token, from: Mode, to: Mode) -> A::Token
         requires { IsTrue (is_move from to) }
     {
         let mut arbiter = self.arbiter();
-        let (token, woken) = unblocking::downgrade_to(&mut *arbiter, token, from, to);
+        let (token, wake) = unblocking::downgrade_to(&mut *arbiter, token, from, to);
         drop(arbiter);
-        self.wake(woken);
+        self.waiters.wake(wake);
         token
-    }
-
-    /// Wakes waiters. One load if no thread waits.
-    fn wake(&self, woken: Wake) {
-        if self.waiting.load(Ordering::SeqCst) == 0 {
-            return;
-        }
-        match woken {
-            Wake::Nobody => {}
-            Wake::One => self.changed.notify_one(),
-            Wake::All => self.changed.notify_all(),
-        }
     }
 }
 
@@ -113,7 +88,7 @@ impl<A: Arbiter, W: Wait + Clone + Drop> LockCore for Monitor<A, W> {
             if let Some(token) = arbiter.admit(mode) {
                 return token;
             }
-            arbiter = self.wait(arbiter);
+            arbiter = self.waiters.wait(&self.waiter, arbiter);
         }
         unreachable!()
     }
@@ -125,7 +100,7 @@ impl<A: Arbiter, W: Wait + Clone + Drop> LockCore for Monitor<A, W> {
             if let Some(token) = admit_or_announce(&mut *arbiter, &mut announced) {
                 return token;
             }
-            arbiter = self.wait(arbiter);
+            arbiter = self.waiters.wait(&self.waiter, arbiter);
         }
         unreachable!()
     }
@@ -141,9 +116,9 @@ impl<A: Arbiter, W: Wait + Clone + Drop> LockCore for Monitor<A, W> {
 
     fn release(&self, token: A::Token, mode: Mode) {
         let mut arbiter = self.arbiter();
-        let woken = unblocking::give_back(&mut *arbiter, token, mode);
+        let wake = unblocking::give_back(&mut *arbiter, token, mode);
         drop(arbiter);
-        self.wake(woken);
+        self.waiters.wake(wake);
     }
 
     fn upgrade(&self, token: A::Token) -> A::Token {
@@ -154,7 +129,7 @@ impl<A: Arbiter, W: Wait + Clone + Drop> LockCore for Monitor<A, W> {
                 Ok(next) => return next,
                 Err(same) => token = same,
             }
-            arbiter = self.wait(arbiter);
+            arbiter = self.waiters.wait(&self.waiter, arbiter);
         }
         unreachable!()
     }

@@ -5,6 +5,19 @@ use lock_base::raw::{Fault, ObservableState, RawState};
 use std::alloc::Global;
 use std::marker::Model;
 
+/// The token of one acquisition of a `TokenArbiter`. Contracts see the token of the raw state.
+///
+/// It has no `Drop` and no `Clone`, and only a `TokenArbiter` opens it. So code that drops one does not compile.
+pub struct ArbiterToken<T> {
+    token: T,
+}
+
+impl<T> Model for ArbiterToken<T> {
+    ghost Value = { T };
+
+    ghost view = { λ t. t.token };
+}
+
 /// A raw state with as many places as readers, whose held tokens are compatible.
 #[derive(Drop)]
 pub struct TokenArbiter<S: ObservableState> {
@@ -29,7 +42,7 @@ impl<S: ObservableState> Model for TokenArbiter<S> {
 impl<S: ObservableState> Arbiter for TokenArbiter<S> {
     ghost use Rattle.std.specs.Prelude.{⊤, true};
 
-    type Token = S::Token;
+    type Token = ArbiterToken<S::Token>;
 
     ghost tokens_out = { λ arbiter. arbiter.tokens_out };
 
@@ -72,14 +85,16 @@ impl<S: ObservableState> Arbiter for TokenArbiter<S> {
         self.state.set_bar(false);
     }
 
-    fn admit_as(&mut self, mode: Mode, is_own: bool) -> Option<S::Token> {
+    fn admit_as(&mut self, mode: Mode, is_own: bool) -> Option<ArbiterToken<S::Token>> {
         if !self.state.room() {
             return None;
         }
-        self.state.admit_as(mode, is_own)
+        let token = self.state.admit_as(mode, is_own)?;
+        Some(ArbiterToken { token })
     }
 
-    fn give_back(&mut self, token: S::Token, mode: Mode) -> bool {
+    fn give_back(&mut self, token: ArbiterToken<S::Token>, mode: Mode) -> bool {
+        let ArbiterToken { token } = token;
         if !self.state.out(&token, mode) {
             return false;
         }
@@ -89,22 +104,27 @@ impl<S: ObservableState> Arbiter for TokenArbiter<S> {
 
     fn change(
         &mut self,
-        token: S::Token,
+        token: ArbiterToken<S::Token>,
         from: Mode,
         to: Mode,
-    ) -> Result<S::Token, Unchanged<S::Token>> {
+    ) -> Result<ArbiterToken<S::Token>, Unchanged<ArbiterToken<S::Token>>> {
+        let ArbiterToken { token } = token;
         if !self.state.out(&token, from) {
+            let token = ArbiterToken { token };
             return Err(Unchanged {
                 token,
                 is_out: false,
             });
         }
         match self.state.change(token, to) {
-            Ok(next) => Ok(next),
-            Err(token) => Err(Unchanged {
-                token,
-                is_out: true,
-            }),
+            Ok(token) => Ok(ArbiterToken { token }),
+            Err(token) => {
+                let token = ArbiterToken { token };
+                Err(Unchanged {
+                    token,
+                    is_out: true,
+                })
+            }
         }
     }
 }

@@ -1,7 +1,7 @@
 //! Which waiters to wake after a release or a change of mode.
 ghost use Rattle.std.specs.Prelude.{◌≡◌, ◌<◌, ◌^◌, IsTrue};
-ghost use Rattle.lock_base.specs.Modes.{tokens, is_move};
-ghost use Rattle.lock_base.specs.Tokens.{bag_of_tokens};
+ghost use Rattle.lock_base.specs.Modes.{tokens, may_become, is_move};
+ghost use Rattle.lock_base.specs.Tokens.{bag_of_tokens, IsOutAs, Removes, Replaces};
 ghost use Rattle.lock_raws.specs.Waking.{wakes};
 
 use crate::arbiter::Arbiter;
@@ -11,12 +11,13 @@ use lock_word::Occupancy;
 
 /// Releases a token. Returns which waiters to wake.
 pub(crate) fn give_back<A: Arbiter>(arbiter: &mut A, token: A::Token, mode: Mode) -> Wake
-    ensures { result ≡ wakes (A.reader_limit arbiter.old) (A.bar arbiter.old)
+    ensures released { IsOutAs (A.tokens_out arbiter.old) token mode → Removes (A.tokens_out arbiter.old) (A.tokens_out arbiter.new) token }
+    ensures wakes { result ≡ wakes (A.reader_limit arbiter.old) (A.bar arbiter.old)
         (bag_of_tokens (A.tokens_out arbiter.old)) (bag_of_tokens (A.tokens_out arbiter.new)) }
 {
     let before = arbiter.bag();
     if !arbiter.give_back(token, mode) {
-        return Wake::Nobody;
+        return Wake::nobody();
     }
     let after = before.after(ModeStep::Release(mode));
     decide(arbiter, before, after)
@@ -30,7 +31,9 @@ pub(crate) fn downgrade_to<A: Arbiter>(
     to: Mode,
 ) -> (A::Token, Wake)
     requires { IsTrue (is_move from to) }
-    ensures { result.1 ≡ wakes (A.reader_limit arbiter.old) (A.bar arbiter.old)
+    ensures changed { IsOutAs (A.tokens_out arbiter.old) token from → IsTrue (may_become (bag_of_tokens (A.tokens_out arbiter.old)) to)
+        → Replaces (A.tokens_out arbiter.old) (A.tokens_out arbiter.new) token result.0 to }
+    ensures wakes { result.1 ≡ wakes (A.reader_limit arbiter.old) (A.bar arbiter.old)
         (bag_of_tokens (A.tokens_out arbiter.old)) (bag_of_tokens (A.tokens_out arbiter.new)) }
 {
     let before = arbiter.bag();
@@ -39,7 +42,7 @@ pub(crate) fn downgrade_to<A: Arbiter>(
             let after = before.after(ModeStep::Change(from, to));
             (next, decide(arbiter, before, after))
         }
-        Err(same) => (same.token, Wake::Nobody),
+        Err(same) => (same.token, Wake::nobody()),
     }
 }
 

@@ -2,30 +2,49 @@
 ghost use Rattle.std.specs.Prelude.{◌≡◌, ◌<◌, ◌^◌};
 ghost use Rattle.lock_base.specs.Modes.{tokens};
 ghost use Rattle.lock_raws.specs.Waking.{wake_decision};
+ghost use Rattle.lock_wake.specs.declared.owed_wake.Whom.{Whom};
 
+mod waiters;
+
+use lock_wake::Whom;
 use lock_word::{Occupancy, unblocks};
+use std::marker::Model;
+pub(crate) use waiters::Waiters;
 
-/// Which waiters a step wakes.
-#[derive(Clone, Copy, PartialEq, Eq, Debug)]
-pub enum Wake {
-    Nobody,
-    One,
-    All,
+/// A wake that is decided and not made yet. Contracts see which waiters it wakes.
+///
+/// It has no `Drop` and no `Clone`, and only a `Monitor` that makes it consumes it. So code that loses one does not compile.
+pub struct Wake {
+    whom: Whom,
+}
+
+impl Model for Wake {
+    ghost Value = { Whom };
+
+    ghost view = { λ w. w.whom };
 }
 
 impl Wake {
+    /// The wake of a step that was not made.
+    pub(crate) fn nobody() -> Wake
+        ensures { result ≡ Whom.Nobody }
+    {
+        Wake { whom: Whom::Nobody }
+    }
+
     /// Decides which waiters to wake after a step, from the readers' limit and the states before and after.
     pub fn decide(readers: u64, before: Occupancy, after: Occupancy) -> Wake
         requires before_small { tokens before.bag < 2 ^ 64 }
         requires after_small { tokens after.bag < 2 ^ 64 }
         ensures { result ≡ wake_decision readers before after }
     {
-        if !unblocks(readers, before, after) {
-            Wake::Nobody
+        let whom = if !unblocks(readers, before, after) {
+            Whom::Nobody
         } else if !after.barred && readers == 1 {
-            Wake::One
+            Whom::One
         } else {
-            Wake::All
-        }
+            Whom::All
+        };
+        Wake { whom }
     }
 }

@@ -88,19 +88,51 @@ not_among_without (x ∷ xs) t s other =
     (elim (x == t) as (λ (b : Bool). (b ≡ true → (x == s) ≡ false) → is_among (if b then without t xs else x ∷ without t xs) s ≡ is_among (x ∷ xs) s)
     [ true ↦ (λ apart. rw (apart refl) rest) | false ↦ (λ apart. ap (λ (b : Bool). (x == s) || b) rest) ]) both
 
--- the tickets that wait rise and are below the next ticket; each other ticket below it was removed
+-- the tickets that wait rise, are below the next ticket and were not removed; each other ticket below it was removed, and none
+-- from it on
 pub record IsInOrder (line : Line) (removed : ℕ → Bool) : Type 0 where
   pub rises : IsRising 0 line.waiting
   pub under : (s : ℕ) → is_among line.waiting s ≡ true → s < line.issued
   pub known : (s : ℕ) → s < line.issued → is_among line.waiting s ≡ false → removed s ≡ true
+  pub waits : (s : ℕ) → is_among line.waiting s ≡ true → removed s ≡ false
+  pub fresh : (s : ℕ) → line.issued ≤ s → removed s ≡ false
 
-pub in_order_map : {line : Line} (before after : ℕ → Bool) → ((s : ℕ) → before s ≡ true → after s ≡ true) → IsInOrder line before → IsInOrder line after
-in_order_map before after more kept = record { rises = kept.rises; under = kept.under; known = λ s below gone. more s (kept.known s below gone) }
+pub or_false : (a : Bool) → a ≡ (a || false)
+or_false true = refl
+or_false false = refl
+
+neither : (a b : Bool) → a ≡ false → b ≡ false → (a || b) ≡ false
+neither a b not_a not_b = rw (not_a, not_b) refl
+
+pub in_order_map : {line : Line} (before after : ℕ → Bool) → ((s : ℕ) → before s ≡ after s) → IsInOrder line before → IsInOrder line after
+in_order_map before after same kept = record {
+  rises = kept.rises;
+  under = kept.under;
+  known = λ s below gone. sym (same s) ∙ kept.known s below gone;
+  waits = λ s among. sym (same s) ∙ kept.waits s among;
+  fresh = λ s above. sym (same s) ∙ kept.fresh s above;
+}
+
+-- the ticket that was removed is no longer among them
+gone_from : (xs : List ℕ) (t : ℕ) → is_among (without t xs) t ≡ false
+gone_from [] t = refl
+gone_from (x ∷ xs) t =
+    let rest = gone_from xs t in
+    (elim (x == t) as (λ (b : Bool). (x == t) ≡ b → is_among (if b then without t xs else x ∷ without t xs) t ≡ false)
+    [ true ↦ (λ is. rest) | false ↦ (λ is. rw (is, rest) refl) ]) refl
+
+still_waits : (xs : List ℕ) (t s : ℕ) → is_among (without t xs) s ≡ true → (t == s) ≡ false
+still_waits xs t s among =
+    (elim (t == s) as (λ (b : Bool). (t == s) ≡ b → b ≡ false) [
+      | true ↦ (λ is. let same : t ≡ s = grind (arith, nat_tests) in
+          absurd (false≢true (sym (gone_from xs t) ∙ (ap (is_among (without t xs)) same ∙ among))))
+      | false ↦ (λ is. refl)
+    ]) refl
 
 -- a ticket that enters or leaves
-gone_in_order : (line : Line) (t : ℕ) (removed : ℕ → Bool) → IsInOrder line removed
+gone_in_order : (line : Line) (t : ℕ) (removed : ℕ → Bool) → IsInOrder line removed → is_among line.waiting t ≡ true
     → IsInOrder (record line { waiting = without t line.waiting }) (λ s. removed s || (t == s))
-gone_in_order line t removed kept = record {
+gone_in_order line t removed kept here = record {
   rises = rising_without 0 t line.waiting kept.rises;
   under = λ s among. kept.under s (among_without line.waiting t s among);
   known = λ s below gone. elim (t == s) as (λ (b : Bool). (t == s) ≡ b → (removed s || b) ≡ true) [
@@ -108,6 +140,12 @@ gone_in_order line t removed kept = record {
     | false ↦ (λ is. let other : s ≢ t = λ (e : s ≡ t). grind (arith, nat_tests) in
         or_left (removed s) false (kept.known s below (sym (not_among_without line.waiting t s other) ∙ gone)))
   ] refl;
+  waits = λ s among.
+      neither (removed s) (t == s) (kept.waits s (among_without line.waiting t s among)) (still_waits line.waiting t s among);
+  fresh = λ s above.
+      let below : t < line.issued = kept.under t here in
+      let other : (t == s) ≡ false = grind (arith, nat_tests) in
+      neither (removed s) (t == s) (kept.fresh s above) other;
 }
 
 arrived_under : (line : Line) (s : ℕ) → (is_among line.waiting s ≡ true → s < line.issued)
@@ -125,6 +163,16 @@ arrived_known line s known was below gone =
     let earlier : s < line.issued = grind (arith, nat_tests) in
     was earlier parts.0
 
+arrived_waits : (line : Line) (s : ℕ) (removed : Bool) → (is_among line.waiting s ≡ true → removed ≡ false) → (line.issued ≤ s → removed ≡ false)
+    → (is_among line.waiting s || ((line.issued == s) || false)) ≡ true → removed ≡ false
+arrived_waits line s removed waits fresh among =
+    (elim (is_among line.waiting s) as (λ (b : Bool). (b ≡ true → removed ≡ false) → (b || ((line.issued == s) || false)) ≡ true → removed ≡ false) [
+      | true ↦ (λ w a. w refl)
+      | false ↦ (λ w a. let is : (line.issued == s) ≡ true = or_false (line.issued == s) ∙ a in
+          let last : line.issued ≤ s = grind (arith, nat_tests) in
+          fresh last)
+    ]) waits among
+
 -- each step keeps the order
 pub step_in_order : (line : Line) (step : LineStep) (removed : ℕ → Bool) → IsInOrder line removed → IsTrue (permits line step)
     → IsInOrder (line_after line step) (λ s. removed s || removes step s)
@@ -132,14 +180,19 @@ step_in_order line Arrive removed kept permitted = record {
   rises = rising_more 0 line.issued line.waiting (omega arith) kept.rises kept.under;
   under = λ s among. arrived_under line s (kept.under s) (sym (among_append line.waiting (line.issued ∷ []) s) ∙ among);
   known = λ s below gone. or_left (removed s) false (arrived_known line s (removed s) (kept.known s) below (sym (among_append line.waiting (line.issued ∷ []) s) ∙ gone));
+  waits = λ s among. sym (or_false (removed s))
+      ∙ arrived_waits line s (removed s) (kept.waits s) (kept.fresh s) (sym (among_append line.waiting (line.issued ∷ []) s) ∙ among);
+  fresh = λ s above. let before : line.issued ≤ s = omega arith in sym (or_false (removed s)) ∙ kept.fresh s before;
 }
-step_in_order line (Enter t) removed kept permitted = gone_in_order line t removed kept
-step_in_order line (Leave t) removed kept permitted = gone_in_order line t removed kept
-step_in_order line Pass removed kept permitted = in_order_map removed (λ s. removed s || false) (λ s. or_left (removed s) false) kept
+step_in_order line (Enter t) removed kept permitted = gone_in_order line t removed kept (leads_among line.waiting t permitted)
+step_in_order line (Leave t) removed kept permitted = gone_in_order line t removed kept permitted
+step_in_order line Pass removed kept permitted = in_order_map removed (λ s. removed s || false) (λ s. or_false (removed s)) kept
 
 pub empty_in_order : IsInOrder empty_line (λ s. false)
 empty_in_order = record {
   rises = tt;
   under = λ s among. absurd (false≢true among);
   known = λ s below gone. let no : ⊥ = omega arith in absurd no;
+  waits = λ s among. refl;
+  fresh = λ s above. refl;
 }

@@ -6,8 +6,8 @@ use Rattle.std.proofs.lemmas.Bool.Decides.{nat_tests}
 use Rattle.lock_raws_fair.specs.declared.line.step.LineStep.{LineStep}
 use Rattle.lock_raws_fair.specs.declared.line.step.LineStep.TheVariants.{Arrive, Enter, Leave, Pass}
 use Rattle.lock_raws_fair.specs.Tickets.{Line, empty_line, is_nobody, leads, is_among, without, permits, line_after}
-use Rattle.lock_raws_fair.specs.LineLaws.{IsLineRun, removes, is_removed, arrivals, admissions, place_of, NobodyIsOvertaken}
-use Rattle.lock_raws_fair.proofs.Order.{rising_first, leads_among, IsInOrder, in_order_map, step_in_order, empty_in_order, or_left, or_none, not_among_without, among_append}
+use Rattle.lock_raws_fair.specs.LineLaws.{IsLineRun, removes, is_removed, arrivals, admissions, place_of, StillWaits, NobodyIsOvertaken}
+use Rattle.lock_raws_fair.proofs.Order.{rising_first, leads_among, IsInOrder, in_order_map, step_in_order, empty_in_order, or_false, or_none, not_among_without, among_append}
 
 -- the line where a step of a run is made
 record IsAt (line : Line) (removed : ℕ → Bool) (before : List LineStep) (step : LineStep) (here : Line) : Type 0 where
@@ -15,9 +15,9 @@ record IsAt (line : Line) (removed : ℕ → Bool) (before : List LineStep) (ste
   permitted : IsTrue (permits here step)
   issued : here.issued ≡ line.issued + arrivals before
 
-or_assoc : (a b c : Bool) → ((a || b) || c) ≡ true → (a || (b || c)) ≡ true
-or_assoc true b c is = refl
-or_assoc false b c is = is
+or_assoc : (a b c : Bool) → ((a || b) || c) ≡ (a || (b || c))
+or_assoc true b c = refl
+or_assoc false b c = refl
 
 issued_after : (line : Line) (step : LineStep) (before : List LineStep) → (line_after line step).issued + arrivals before ≡ line.issued + arrivals (step ∷ before)
 issued_after line Arrive before = omega arith
@@ -30,7 +30,7 @@ reached : (line : Line) (removed : ℕ → Bool) (before after : List LineStep) 
 reached line removed [] after step last kept run = (
   line,
   record {
-    order = in_order_map removed (λ s. removed s || false) (λ s. or_left (removed s) false) kept;
+    order = in_order_map removed (λ s. removed s || false) (λ s. or_false (removed s)) kept;
     permitted = run.0;
     issued = omega arith;
   },
@@ -55,21 +55,44 @@ nobody_among : (xs : List ℕ) (s : ℕ) → is_nobody xs ≡ true → is_among 
 nobody_among [] s none = refl
 nobody_among (x ∷ xs) s none = absurd (false≢true none)
 
+-- a ticket that waits is that of an acquisition that joined by the steps, and neither entered nor left
+waiter : (before : List LineStep) (step : LineStep) (here : Line) (t : ℕ) → IsAt empty_line (λ _. false) before step here
+    → is_among here.waiting t ≡ true → StillWaits before t
+waiter before step here t found among =
+    let below : t < here.issued = found.order.under t among in
+    let issued : here.issued ≡ 0 + arrivals before = found.issued in
+    record { joined = omega arith; stays = found.order.waits t among }
+
+-- an acquisition that still waits is among the tickets that wait
+not_among : (before : List LineStep) (step : LineStep) (here : Line) (s : ℕ) → IsAt empty_line (λ _. false) before step here
+    → is_among here.waiting s ≡ false → StillWaits before s → ⊥
+not_among before step here s found gone waits =
+    let issued : here.issued ≡ 0 + arrivals before = found.issued in
+    let joined : s < arrivals before = waits.joined in
+    false≢true (sym waits.stays ∙ found.order.known s (omega arith) gone)
+
+numbered : (steps : List LineStep) (old new : Line) → IsLineRun old steps new → new.issued ≡ old.issued + arrivals steps
+numbered [] old new run = let same : old.issued ≡ new.issued = ap (λ (line : Line). line.issued) run in omega arith
+numbered (step ∷ steps) old new run = numbered steps (line_after old step) new run.1 ∙ issued_after old step steps
+
 pub nobody_is_overtaken_law : NobodyIsOvertaken
 nobody_is_overtaken_law = record {
-  enters = λ before after t last run s earlier.
+  numbered = λ steps line run. let all : line.issued ≡ 0 + arrivals steps = numbered steps empty_line line run in omega arith;
+  enters = λ before after t last run.
       let found = reached empty_line (λ _. false) before after (Enter t) last empty_in_order run in
       let here = found.0 in
       let order = found.1.order in
-      let leading : leads here.waiting t ≡ true = found.1.permitted in
-      let below : t < here.issued = order.under t (leads_among here.waiting t leading) in
-      order.known s (omega arith) (not_true (is_among here.waiting s) (λ (among : is_among here.waiting s ≡ true).
-      let later : t ≤ s = rising_first 0 here.waiting t s order.rises leading among in omega arith));
-  passes = λ before after last run s arrived.
+      let leading : leads here.waiting t ≡ true = found.1.permitted in (
+        waiter before (Enter t) here t found.1 (leads_among here.waiting t leading),
+        λ s earlier. not_among before (Enter t) here s found.1 (not_true (is_among here.waiting s) (λ (among : is_among here.waiting s ≡ true).
+            let later : t ≤ s = rising_first 0 here.waiting t s order.rises leading among in omega arith)),
+      );
+  leaves = λ before after t last run.
+      let found = reached empty_line (λ _. false) before after (Leave t) last empty_in_order run in
+      waiter before (Leave t) found.0 t found.1 found.1.permitted;
+  passes = λ before after last run s.
       let found = reached empty_line (λ _. false) before after Pass last empty_in_order run in
-      let here = found.0 in
-      let issued : here.issued ≡ 0 + arrivals before = found.1.issued in
-      found.1.order.known s (omega arith) (nobody_among here.waiting s found.1.permitted);
+      not_among before Pass found.0 s found.1 (nobody_among found.0.waiting s found.1.permitted);
 }
 
 place_without : (ws : List ℕ) (s t : ℕ) → s ≢ t → place_of (without s ws) t ≤ place_of ws t

@@ -26,8 +26,8 @@ arrives next first left within none =
     record { permitted = refl; after = ap (λ (ws : List ℕ). record { waiting = ws; issued = next + 1 }) more }
 
 -- the ticket that a call finds first leads those that wait
-pub led : {line old : Line} {found : Bool} (t : ℕ) → line ≡ old → found ≡ is_first old t → found ≡ true → leads line.waiting t ≡ true
-led t same is first = ap (λ (l : Line). is_first l t) same ∙ (sym is ∙ first)
+pub led : {line old : Line} (t : ℕ) → line ≡ old → is_first old t ≡ true → leads line.waiting t ≡ true
+led t same leading = ap (λ (l : Line). is_first l t) same ∙ leading
 
 pub leads_is : (n first left t : ℕ) → bit_at left 0 ≡ 0 → leads (staying n first left) t ≡ true → (first == t) ≡ true × 0 < n
 leads_is zero first left t stays leading = absurd (false≢true leading)

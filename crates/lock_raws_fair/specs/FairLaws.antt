@@ -1,4 +1,4 @@
--- No state blocks for ever, and an upgrade goes first.
+-- What an idle lock admits, and what a lock admits while an upgrade waits.
 use Rattle.std.specs.Prelude.{◌≡◌, ℕ, ◌+◌, ◌<◌, true, false, IsTrue}
 use Rattle.lock_base.specs.declared.machine.mode.Mode.{Mode}
 use Rattle.lock_base.specs.declared.machine.mode.Mode.TheVariants.{Shared, Exclusive, Upgradable}
@@ -7,9 +7,9 @@ use Rattle.lock_base.specs.Modes.{empty_bag, one_more, readers, may_become}
 use Rattle.lock_base.specs.Limits.{IsLimit}
 use Rattle.lock_raws_fair.specs.FairState.{fits}
 
--- an idle lock admits every mode; a lone upgradable holder may upgrade; after a reader was admitted, another one is, up
--- to the limit
-pub record NobodyIsStuck : Type 0 where
+-- facts of admission: an empty bag admits every mode; a lone upgradable token may become exclusive; a bag that admitted a
+-- reader admits another one, up to the limit
+pub record IdleLocksAdmit : Type 0 where
   pub first : (limit : ℕ) (mode : Mode) → IsLimit limit → IsTrue (fits false limit empty_bag mode)
   pub upgrade : IsTrue (may_become (one_more empty_bag Upgradable) Exclusive)
   pub together : (limit : ℕ) (b : Bag) → IsTrue (fits false limit b Shared) → readers b + 1 < limit

@@ -2,10 +2,13 @@
 use Rattle.std.specs.Prelude.{◌≡◌, ℕ, Bool, true, false, not, ◌&&◌, ◌==◌, nat_lt, is_some, IfSome, IsTrue}
 use Rattle.lock_base.specs.declared.machine.mode.Mode.{Mode}
 use Rattle.lock_base.specs.declared.machine.bag.Bag.{Bag}
+use Rattle.lock_base.specs.Modes.{tokens}
+use Rattle.lock_base.specs.Tokens.{bag_of_tokens}
 use Rattle.lock_word.specs.Unblocking.{occupancy, unblocks}
 use Rattle.lock_raws_fair.specs.Tickets.{Line, is_empty, is_first, span}
 use Rattle.lock_raws_fair.specs.declared.fair_wake.FairWake.{FairWake}
-use Rattle.lock_raws_fair.specs.FairState.{fits}
+use Rattle.lock_raws_fair.specs.declared.line.TheConstants.{TIMED_SPAN}
+use Rattle.lock_raws_fair.specs.FairState.{FairState, fits}
 
 -- after a step of the line the first ticket is woken if no upgrade waits and no writer holds the lock
 abbrev pub wakes_next : Bool → Bag → Bool
@@ -23,6 +26,19 @@ pub record Wakes (line : Line) (limit : ℕ) (wakes_ticket wakes_upgrade : Bool)
   pub first : IfSome woken.ticket (λ t. IsTrue (is_first line t))
   pub upgrade : woken.upgrade ≡ wakes_upgrade
   pub ticketless : woken.ticketless ≡ nat_lt (span line) limit
+
+module _ {K : Type 0} where
+  -- whom a step of the line or the end of an upgrade wakes
+  abbrev pub WakesAfterLineStep : FairState K → FairWake → Type 0
+  WakesAfterLineStep q woken =
+      Wakes q.line TIMED_SPAN (wakes_next q.upgrade_waits (bag_of_tokens q.tokens_out)) false woken
+
+  -- whom a release or a downgrade wakes
+  abbrev pub WakesAfterTokenStep : FairState K → FairState K → FairWake → Type 0
+  WakesAfterTokenStep old new woken =
+      Wakes new.line TIMED_SPAN
+      (wakes_first new.upgrade_waits new.readers (bag_of_tokens old.tokens_out) (bag_of_tokens new.tokens_out))
+      (new.upgrade_waits && (tokens (bag_of_tokens new.tokens_out) == 1)) woken
 
 -- a mode that is admitted after the step and was not before wakes the first
 abbrev pub WakesMissNobody : Type 0

@@ -3,3 +3,4 @@ pub mod LineLaws
 pub mod FairState
 pub mod FairLaws
 pub mod FairWaking
+pub mod Notifying

@@ -45,13 +45,22 @@ admissions (Enter s ∷ steps) = admissions steps + 1
 admissions (Leave s ∷ steps) = admissions steps
 admissions (Pass ∷ steps) = admissions steps + 1
 
--- in every run, when a ticket enters, each smaller ticket entered or left before; when an acquisition passes, each
--- ticket did
+-- the acquisition with this ticket joined the line by these steps, and neither entered nor left
+pub record StillWaits (steps : List LineStep) (t : ℕ) : Type 0 where
+  pub joined : t < arrivals steps
+  pub stays : is_removed steps t ≡ false
+
+-- in every run: a ticket counts the acquisitions that joined before its own. An acquisition enters or leaves only if it still
+-- waits, so once. While it waits, no acquisition is admitted that joined later or did not join
 pub record NobodyIsOvertaken : Type 0 where
+  pub numbered : (steps : List LineStep) (line : Line) → IsLineRun empty_line steps line → line.issued ≡ arrivals steps
   pub enters : (before after : List LineStep) (t : ℕ) (last : Line)
-      → IsLineRun empty_line (before ++ Enter t ∷ after) last → (s : ℕ) → s < t → IsTrue (is_removed before s)
+      → IsLineRun empty_line (before ++ Enter t ∷ after) last
+      → StillWaits before t × ((s : ℕ) → s < t → StillWaits before s → ⊥)
+  pub leaves : (before after : List LineStep) (t : ℕ) (last : Line)
+      → IsLineRun empty_line (before ++ Leave t ∷ after) last → StillWaits before t
   pub passes : (before after : List LineStep) (last : Line)
-      → IsLineRun empty_line (before ++ Pass ∷ after) last → (s : ℕ) → s < arrivals before → IsTrue (is_removed before s)
+      → IsLineRun empty_line (before ++ Pass ∷ after) last → (s : ℕ) → StillWaits before s → ⊥
 
 -- how many tickets are before this one
 abbrev pub place_of : List ℕ → ℕ → ℕ

@@ -1,17 +1,19 @@
 //! A fair arbiter behind a std mutex.
-ghost use Rattle.std.specs.Prelude.{◌≡◌, IsTrue, IfErr, IfNone, OnErr, is_some};
+ghost use Rattle.std.specs.Prelude.{◌≡◌, true, IsTrue, IfSome, IfNone, IfOk, IfErr, OnErr, is_some};
 ghost use Rattle.std.specs.Bool.{OnTrue};
-ghost use Rattle.lock_base.specs.Modes.{is_move};
+ghost use Rattle.lock_base.specs.declared.machine.mode.Mode.TheVariants.{Upgradable, Exclusive};
+ghost use Rattle.lock_raws_fair.specs.FairState.{is_downgrade, same_mode};
 
-use crate::fair_arbiter::FairArbiter;
+use crate::fair_arbiter::{FairArbiter, FairToken, PendingUpgrade};
 use crate::fair_timing::FairTiming;
 use crate::fair_wake::FairWake;
-use crate::turn::{NOBODY, Turn, UPGRADE};
+use crate::line::Ticket;
+use crate::turn::{NOBODY, UPGRADE};
+use crate::waiters::Waiters;
 use lock_base::machine::Mode;
 use lock_base::raw::Fault;
 use lock_guard::lock_std;
-use lock_raws::{Arbiter, LockCore, RawLock, TableArbiter, upgraded};
-use lock_raws_word::{NoTime, RealTime};
+use lock_raws::{Arbiter, LockCore, NoTime, RawLock, RealTime, TableArbiter};
 use lock_wake::{EventCount, Registered};
 use std::alloc::Global;
 use std::clone::Clone;
@@ -38,13 +40,7 @@ const SPINNERS: u64 = 4;
 pub struct FairCore<A: Arbiter, W: Wait + Clone + Drop, T: FairTiming<W>> {
     waiter: W,
     state: Mutex<FairArbiter<A>>,
-    /// A ticket waits on the event count of its number, so a notification reaches every eighth ticket.
-    tickets: [EventCount; 8],
-    /// The holder whose upgrade waits.
-    upgrader: EventCount,
-    /// The callers without a ticket.
-    ticketless: EventCount,
-    turn: Turn,
+    waiters: Waiters,
     timing: PhantomData<T>,
 }
 
@@ -57,35 +53,6 @@ impl<A: Arbiter, W: Wait + Clone + Drop, T: FairTiming<W>> FairCore<A, W, T> {
     /// Returns how many acquisitions have joined the line. The answer may be stale at once.
     pub fn arrivals(&self) -> u64 {
         self.state().line().issued()
-    }
-
-    /// Returns where a ticket waits, or a caller without one.
-    fn events(&self, ticket: Option<u64>) -> &EventCount {
-        match ticket {
-            Some(ticket) => &self.tickets[(ticket % 8) as usize],
-            None => &self.ticketless,
-        }
-    }
-
-    fn wake(&self, woken: FairWake) {
-        if let Some(ticket) = woken.ticket {
-            self.turn.give(ticket);
-            self.events(woken.ticket).notify_all();
-        }
-        if woken.upgrade {
-            self.turn.give(UPGRADE);
-            self.upgrader.notify_all();
-        }
-        if woken.ticketless {
-            self.ticketless.notify_all();
-        }
-    }
-
-    /// Ends a section that made a step of the line, and wakes the next.
-    fn end_step(&self, state: MutexGuard<'_, FairArbiter<A>>) {
-        let woken = FairWake::after_line_step(&*state);
-        drop(state);
-        self.wake(woken);
     }
 
     /// Returns whether there is a deadline, and it has passed.
@@ -104,7 +71,9 @@ impl<A: Arbiter, W: Wait + Clone + Drop, T: FairTiming<W>> FairCore<A, W, T> {
     {
         match deadline {
             Some(deadline) => T::sleep_until(events, &self.waiter, registered, deadline),
-            None => events.sleep(&self.waiter, registered),
+            None => {
+                events.sleep(&self.waiter, registered);
+            }
         }
     }
 
@@ -112,101 +81,108 @@ impl<A: Arbiter, W: Wait + Clone + Drop, T: FairTiming<W>> FairCore<A, W, T> {
     ///
     /// A caller that gets a ticket first spins for a moment. Each later round looks at the state and registers in one
     /// section, so a later step notifies the caller.
-    fn acquire_until(&self, mode: Mode, deadline: &Option<T::Instant>) -> Option<A::Token>
-        ensures { IfNone result (IsTrue (is_some deadline.now)) }
+    fn acquire_until(
+        &self,
+        mode: Mode,
+        deadline: &Option<T::Instant>,
+    ) -> Option<FairToken<A::Token>>
+        ensures held { IfSome result (λ held. held.mode ≡ mode) }
+        ensures refused { IfNone result (IsTrue (is_some deadline.now)) }
     {
         let mut ticket = None;
         for _ in self.waiter.forever() {
             let mut state = self.state();
-            if let Some(token) = admit(&mut *state, ticket, mode) {
-                if ticket.is_some() {
-                    self.end_step(state);
-                }
-                return Some(token);
-            }
-            if self.is_over(deadline) && leave(&mut *state, ticket) {
-                self.end_step(state);
-                return None;
-            }
-            if ticket.is_none() {
-                ticket = arrive(&mut *state, deadline.is_some());
-                if let Some(ticket) = ticket
-                    && state.line().span() <= SPINNERS
-                {
+            match admit(&mut *state, ticket, mode) {
+                Ok((token, woken)) => {
                     drop(state);
-                    self.turn.spin(ticket);
-                    continue;
+                    self.wake(woken);
+                    return Some(token);
+                }
+                Err(same) => ticket = same,
+            }
+            if self.is_over(deadline) {
+                match leave(&mut *state, ticket) {
+                    Ok(woken) => {
+                        drop(state);
+                        self.wake(woken);
+                        return None;
+                    }
+                    Err(same) => ticket = same,
                 }
             }
-            let events = self.events(ticket);
-            let registered = events.register(&self.waiter);
-            drop(state);
-            self.sleep(events, registered, deadline);
+            let (joined, spins) = join(&mut *state, ticket, deadline.is_some());
+            if spins {
+                drop(state);
+                self.waiters.spin(&joined);
+            } else {
+                let events = self.waiters.events(&joined);
+                let registered = events.register(&self.waiter);
+                drop(state);
+                self.sleep(events, registered, deadline);
+            }
+            ticket = joined;
         }
         unreachable!()
+    }
+
+    /// Wakes the waiters of a step, if it has any.
+    fn wake(&self, woken: Option<FairWake>) {
+        if let Some(woken) = woken {
+            woken.wake(&self.waiters);
+        }
     }
 
     /// Makes an upgradable token exclusive, blocking until no other token is held or until the deadline.
     fn upgrade_until(
         &self,
-        token: A::Token,
+        token: FairToken<A::Token>,
         deadline: &Option<T::Instant>,
-    ) -> Result<A::Token, A::Token>
+    ) -> Result<FairToken<A::Token>, FairToken<A::Token>>
+        requires { token.mode ≡ Upgradable }
+        ensures held { IfOk result (λ next. next.mode ≡ Exclusive) }
         ensures back { IfErr result (λ back. back ≡ token) }
         ensures refused { OnErr result (IsTrue (is_some deadline.now)) }
     {
-        let mut token = token;
-        let mut announced = false;
+        let mut pending = PendingUpgrade::of(token);
         for _ in self.waiter.forever() {
             let mut state = self.state();
-            match upgraded(state.change(token, Mode::Upgradable, Mode::Exclusive)) {
-                Ok(next) => {
-                    if announced {
-                        state.withdraw();
-                    }
-                    return Ok(next);
-                }
-                Err(same) => token = same,
+            match state.upgrade(pending) {
+                Ok(next) => return Ok(next),
+                Err(same) => pending = same,
             }
             if self.is_over(deadline) {
-                if announced {
-                    state.withdraw();
-                }
-                self.end_step(state);
+                let (token, woken) = state.withdraw(pending);
+                drop(state);
+                woken.wake(&self.waiters);
                 return Err(token);
             }
-            if state.announce() {
-                announced = true;
-                self.turn.give(NOBODY);
+            if state.announce(&mut pending) {
+                self.waiters.turn.give(NOBODY);
                 drop(state);
-                self.turn.spin(UPGRADE);
+                self.waiters.turn.spin(UPGRADE);
                 continue;
             }
-            let registered = self.upgrader.register(&self.waiter);
+            let registered = self.waiters.upgrader.register(&self.waiter);
             drop(state);
-            self.sleep(&self.upgrader, registered, deadline);
+            self.sleep(&self.waiters.upgrader, registered, deadline);
         }
         unreachable!()
     }
 
-    fn downgrade_to(&self, token: A::Token, from: Mode, to: Mode) -> A::Token
-        requires { IsTrue (is_move from to) }
+    fn downgrade_to(&self, token: FairToken<A::Token>, to: Mode) -> FairToken<A::Token>
+        requires { IsTrue (is_downgrade token.mode to) }
+        ensures { result.mode ≡ to }
     {
         let mut state = self.state();
-        let before = state.bag();
-        let token = match state.change(token, from, to) {
-            Ok(token) => token,
-            Err(same) => same.token,
-        };
-        let woken = FairWake::after_token_step(&*state, before);
+        let (token, woken) = state.downgrade(token, to);
         drop(state);
-        self.wake(woken);
+        woken.wake(&self.waiters);
         token
     }
 }
 
 impl<A: Arbiter, W: Wait + Clone + Drop, T: FairTiming<W>> LockCore for FairCore<A, W, T> {
-    type Token = A::Token;
+    type Token = FairToken<A::Token>;
 
     type Waiter = W;
 
@@ -214,24 +190,14 @@ impl<A: Arbiter, W: Wait + Clone + Drop, T: FairTiming<W>> LockCore for FairCore
 
     type Instant = T::Instant;
 
+    ghost holds = { λ _ mode token. same_mode mode token.mode };
+
     fn new(alloc: Global, waiter: W, readers: u64) -> Result<FairCore<A, W, T>, Fault> {
         let arbiter: FairArbiter<A> = FairArbiter::new(alloc, readers)?;
         Ok(FairCore {
             waiter,
             state: Mutex::new(arbiter),
-            tickets: [
-                EventCount::new(alloc)?,
-                EventCount::new(alloc)?,
-                EventCount::new(alloc)?,
-                EventCount::new(alloc)?,
-                EventCount::new(alloc)?,
-                EventCount::new(alloc)?,
-                EventCount::new(alloc)?,
-                EventCount::new(alloc)?,
-            ],
-            upgrader: EventCount::new(alloc)?,
-            ticketless: EventCount::new(alloc)?,
-            turn: Turn::new(),
+            waiters: Waiters::new(alloc)?,
             timing: PhantomData,
         })
     }
@@ -248,60 +214,61 @@ impl<A: Arbiter, W: Wait + Clone + Drop, T: FairTiming<W>> LockCore for FairCore
         self.state().bag().exclusive != 0
     }
 
-    fn acquire(&self, mode: Mode) -> A::Token {
+    fn acquire(&self, mode: Mode) -> FairToken<A::Token> {
         match self.acquire_until(mode, &None) {
             Some(token) => token,
             None => unreachable!(),
         }
     }
 
-    fn try_acquire(&self, mode: Mode) -> Option<A::Token> {
+    fn try_acquire(&self, mode: Mode) -> Option<FairToken<A::Token>> {
         self.state().pass(mode)
     }
 
-    fn try_acquire_until(&self, mode: Mode, deadline: T::Instant) -> Option<A::Token> {
+    fn try_acquire_until(&self, mode: Mode, deadline: T::Instant) -> Option<FairToken<A::Token>> {
         self.acquire_until(mode, &Some(deadline))
     }
 
-    fn release(&self, token: A::Token, mode: Mode) {
+    /// The token knows its mode.
+    fn release(&self, token: FairToken<A::Token>, _mode: Mode) {
         let mut state = self.state();
-        let before = state.bag();
-        state.give_back(token, mode);
-        let woken = FairWake::after_token_step(&*state, before);
+        let woken = state.give_back(token);
         drop(state);
-        self.wake(woken);
+        woken.wake(&self.waiters);
     }
 
-    fn upgrade(&self, token: A::Token) -> A::Token {
+    fn upgrade(&self, token: FairToken<A::Token>) -> FairToken<A::Token> {
         match self.upgrade_until(token, &None) {
             Ok(token) => token,
             Err(_) => unreachable!(),
         }
     }
 
-    fn try_upgrade(&self, token: A::Token) -> Result<A::Token, A::Token> {
-        let mut state = self.state();
-        upgraded(state.change(token, Mode::Upgradable, Mode::Exclusive))
+    fn try_upgrade(
+        &self,
+        token: FairToken<A::Token>,
+    ) -> Result<FairToken<A::Token>, FairToken<A::Token>> {
+        self.state().try_upgrade(token)
     }
 
     fn try_upgrade_until(
         &self,
-        token: A::Token,
+        token: FairToken<A::Token>,
         deadline: T::Instant,
-    ) -> Result<A::Token, A::Token> {
+    ) -> Result<FairToken<A::Token>, FairToken<A::Token>> {
         self.upgrade_until(token, &Some(deadline))
     }
 
-    fn downgrade(&self, token: A::Token) -> A::Token {
-        self.downgrade_to(token, Mode::Exclusive, Mode::Shared)
+    fn downgrade(&self, token: FairToken<A::Token>) -> FairToken<A::Token> {
+        self.downgrade_to(token, Mode::Shared)
     }
 
-    fn downgrade_to_upgradable(&self, token: A::Token) -> A::Token {
-        self.downgrade_to(token, Mode::Exclusive, Mode::Upgradable)
+    fn downgrade_to_upgradable(&self, token: FairToken<A::Token>) -> FairToken<A::Token> {
+        self.downgrade_to(token, Mode::Upgradable)
     }
 
-    fn downgrade_upgradable(&self, token: A::Token) -> A::Token {
-        self.downgrade_to(token, Mode::Upgradable, Mode::Shared)
+    fn downgrade_upgradable(&self, token: FairToken<A::Token>) -> FairToken<A::Token> {
+        self.downgrade_to(token, Mode::Shared)
     }
 
     fn instant_after(&self, timeout: T::Duration) -> Option<T::Instant> {
@@ -309,31 +276,55 @@ impl<A: Arbiter, W: Wait + Clone + Drop, T: FairTiming<W>> LockCore for FairCore
     }
 }
 
-/// Acquires a token for a ticket, or without one.
+/// Acquires a token for a ticket, or without one. Also returns which waiters to wake.
 fn admit<A: Arbiter>(
     state: &mut FairArbiter<A>,
-    ticket: Option<u64>,
+    ticket: Option<Ticket>,
     mode: Mode,
-) -> Option<A::Token> {
+) -> Result<(FairToken<A::Token>, Option<FairWake>), Option<Ticket>>
+    ensures { IfOk result (λ entered. entered.0.mode ≡ mode) }
+{
     match ticket {
-        Some(ticket) => state.enter(ticket, mode),
-        None => state.pass(mode),
+        Some(ticket) => match state.enter(ticket, mode) {
+            Ok((token, woken)) => Ok((token, Some(woken))),
+            Err(same) => Err(Some(same)),
+        },
+        None => match state.pass(mode) {
+            Some(token) => Ok((token, None)),
+            None => Err(None),
+        },
     }
 }
 
-/// Joins the line.
-fn arrive<A: Arbiter>(state: &mut FairArbiter<A>, is_timed: bool) -> Option<u64> {
-    if is_timed {
+/// Joins the line, unless the acquisition has a ticket. Returns the ticket, and whether it may spin, since it is new and near
+/// the first.
+fn join<A: Arbiter>(
+    state: &mut FairArbiter<A>,
+    ticket: Option<Ticket>,
+    is_timed: bool,
+) -> (Option<Ticket>, bool) {
+    if let Some(ticket) = ticket {
+        return (Some(ticket), false);
+    }
+    let joined = if is_timed {
         state.arrive_timed()
     } else {
         state.arrive()
-    }
+    };
+    let spins = joined.is_some() && state.line().span() <= SPINNERS;
+    (joined, spins)
 }
 
-/// Ends a wait. A ticket that may not leave keeps its caller waiting.
-fn leave<A: Arbiter>(state: &mut FairArbiter<A>, ticket: Option<u64>) -> bool {
+/// Ends a wait. A ticket that may not leave keeps its caller waiting. Also returns which waiters to wake.
+fn leave<A: Arbiter>(
+    state: &mut FairArbiter<A>,
+    ticket: Option<Ticket>,
+) -> Result<Option<FairWake>, Option<Ticket>> {
     match ticket {
-        Some(ticket) => state.leave(ticket),
-        None => true,
+        Some(ticket) => match state.leave(ticket) {
+            Ok(woken) => Ok(Some(woken)),
+            Err(same) => Err(Some(same)),
+        },
+        None => Ok(None),
     }
 }

@@ -1,7 +1,7 @@
 //! How a fair lock measures time.
 ghost use Rattle.std.specs.Prelude.{◌≡◌};
 
-use lock_raws_word::{NoTime, RealTime, Timing};
+use lock_raws::{NoTime, RealTime, Timing};
 use lock_wake::{EventCount, Registered, time_left};
 use std::sync::Wait;
 use std::time::{Clock, Instant};
@@ -38,9 +38,6 @@ impl<W: Wait + Clock> FairTiming<W> for RealTime {
     }
 
     fn sleep_until(events: &EventCount, waiter: &W, registered: Registered, deadline: &Instant) {
-        match time_left(waiter, *deadline) {
-            Some(left) => events.sleep_for(waiter, registered, left),
-            None => events.leave(registered),
-        }
+        events.sleep_until(waiter, registered, *deadline);
     }
 }

@@ -4,22 +4,32 @@ ghost use Rattle.lock_base.specs.Modes.{tokens};
 ghost use Rattle.lock_base.specs.Tokens.{bag_of_tokens};
 ghost use Rattle.lock_raws_fair.specs.declared.line.TheConstants.{TIMED_SPAN};
 ghost use Rattle.lock_raws_fair.specs.FairWaking.{Wakes, wakes_next, wakes_first};
+ghost use Rattle.lock_raws_fair.specs.Notifying.{NotifiesEach};
 
 use crate::fair_arbiter::FairArbiter;
 use crate::line::TIMED_SPAN;
+use crate::waiters::Waiters;
 use lock_base::machine::Bag;
 use lock_raws::Arbiter;
+use lock_wake::Notified;
 use lock_word::{Occupancy, unblocks};
 
-/// Which waiters a step of a fair lock wakes.
-#[derive(Clone, Copy, PartialEq, Eq, Debug)]
+/// Which waiters a step of a fair lock wakes. It cannot be copied or dropped: `wake` consumes it.
 pub struct FairWake {
-    /// The first ticket that waits.
-    pub ticket: Option<u64>,
+    /// The number of the first ticket that waits.
+    ticket: Option<u64>,
     /// Whether the holder whose upgrade waits is woken.
-    pub upgrade: bool,
+    upgrade: bool,
     /// Whether the callers without a ticket are woken.
-    pub ticketless: bool,
+    ticketless: bool,
+}
+
+/// The notifications that `FairWake::wake` made.
+#[derive(Drop)]
+pub(crate) struct FairNotified {
+    ticket: Option<Notified>,
+    upgrade: Option<Notified>,
+    ticketless: Option<Notified>,
 }
 
 impl FairWake {
@@ -52,6 +62,33 @@ impl FairWake {
             barred: false,
         };
         FairWake::of(state, unblocks(state.readers(), before, after), false)
+    }
+
+    /// Wakes these waiters. Returns a notification for each.
+    pub(crate) fn wake(self, waiters: &Waiters) -> FairNotified
+        ensures { NotifiesEach self waiters.now result }
+    {
+        let FairWake {
+            ticket,
+            upgrade,
+            ticketless,
+        } = self;
+        FairNotified {
+            ticket: match ticket {
+                Some(number) => Some(waiters.wake_ticket(number)),
+                None => None,
+            },
+            upgrade: if upgrade {
+                Some(waiters.wake_upgrader())
+            } else {
+                None
+            },
+            ticketless: if ticketless {
+                Some(waiters.wake_ticketless())
+            } else {
+                None
+            },
+        }
     }
 
     /// Wakes the first ticket or the upgrade, if they are to be woken.

@@ -1,10 +1,12 @@
 //! Laws of a line and of a fair lock. Each is the contract of a function with an empty body.
 ghost use Rattle.lock_raws_fair.specs.LineLaws.{NobodyIsOvertaken, OvertakingIsBounded, TimedTicketsMayLeave};
 ghost use Rattle.lock_raws_fair.specs.declared.line.TheConstants.{TIMED_SPAN};
-ghost use Rattle.lock_raws_fair.specs.FairLaws.{NobodyIsStuck, NobodyPassesAnUpgrade};
+ghost use Rattle.lock_raws_fair.specs.FairLaws.{IdleLocksAdmit, NobodyPassesAnUpgrade};
 ghost use Rattle.lock_raws_fair.specs.FairWaking.{WakesMissNobody};
 
-/// When a ticket enters, each smaller ticket entered or left before. When an acquisition passes, each ticket did.
+/// No acquisition is admitted while one that joined the line before it still waits, in any list of permitted steps.
+///
+/// An acquisition is a ticket, whose number counts those that joined before. It enters or leaves once, after it joined.
 pub fn nobody_is_overtaken()
     ensures { NobodyIsOvertaken }
 {}
@@ -19,9 +21,11 @@ pub fn timed_tickets_may_leave()
     ensures { TimedTicketsMayLeave TIMED_SPAN }
 {}
 
-/// An idle lock for which no upgrade waits admits the first ticket in any mode. A lone upgradable holder may upgrade.
-pub fn nobody_is_stuck()
-    ensures { NobodyIsStuck }
+/// Without tokens each mode is admitted. A lone upgradable token may become exclusive. A reader is admitted next to readers.
+///
+/// These are facts of admission. None says that a waiter proceeds.
+pub fn idle_locks_admit()
+    ensures { IdleLocksAdmit }
 {}
 
 /// While an upgrade waits, no ticket is admitted.

@@ -11,13 +11,14 @@ mod fair_wake;
 mod laws;
 mod line;
 mod turn;
+mod waiters;
 
-pub use fair_arbiter::FairArbiter;
+pub use fair_arbiter::{FairArbiter, FairToken, PendingUpgrade};
 pub use fair_core::{FairCore, FairRaw, TimedFairRaw};
 pub use fair_timing::FairTiming;
 pub use fair_wake::FairWake;
 pub use laws::{
-    nobody_is_overtaken, nobody_is_stuck, nobody_passes_an_upgrade, overtaking_is_bounded,
+    idle_locks_admit, nobody_is_overtaken, nobody_passes_an_upgrade, overtaking_is_bounded,
     timed_tickets_may_leave, wakes_miss_nobody,
 };
-pub use line::{Line, LineStep, TIMED_SPAN};
+pub use line::{Line, LineStep, TIMED_SPAN, Ticket};

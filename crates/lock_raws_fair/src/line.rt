@@ -6,9 +6,11 @@ ghost use Rattle.std.specs.Int.{bit_at};
 ghost use Rattle.lock_raws_fair.specs.Tickets.{staying};
 
 mod step;
+mod ticket;
 
 use std::marker::Model;
 pub use step::LineStep;
+pub use ticket::Ticket;
 
 /// How many tickets from the first on may leave.
 pub const TIMED_SPAN: u64 = 64;
@@ -44,8 +46,7 @@ impl Model for Line {
 }
 
 impl Line {
-    ghost use Rattle.std.specs.Prelude.{◌≡◌, ◌-◌, ◌^◌, ◌&&◌, not, IfSome, IfNone, is_some, nat_lt, IsTrue};
-    ghost use Rattle.std.specs.Bool.{OnTrue, OnFalse};
+    ghost use Rattle.std.specs.Prelude.{◌≡◌, ◌-◌, ◌^◌, ◌&&◌, not, IfSome, IfNone, IfOk, IfErr, is_some, is_ok, nat_lt, IsTrue};
     ghost use Rattle.lock_raws_fair.specs.declared.line.step.LineStep.TheVariants.{Arrive, Enter, Leave};
     ghost use Rattle.lock_raws_fair.specs.Tickets.{empty_line, is_empty, is_first, may_leave, span, Makes};
     ghost use Rattle.lock_raws_fair.specs.LineLaws.{IsReached, IsEarliest};
@@ -89,7 +90,7 @@ impl Line {
         self.next - self.head
     }
 
-    /// Returns the first ticket that waits.
+    /// Returns the number of the first ticket that waits.
     pub fn first(&self) -> Option<u64>
         ensures waits { is_some result ≡ not (is_empty self.now) }
         ensures first { IfSome result (λ ticket. IsTrue (is_first self.now ticket)) }
@@ -102,28 +103,28 @@ impl Line {
     }
 
     /// Returns whether the ticket is the first that waits.
-    pub fn is_first(&self, ticket: u64) -> bool
-        ensures { result ≡ is_first self.now ticket }
+    pub fn is_first(&self, ticket: &Ticket) -> bool
+        ensures { result ≡ is_first self.now ticket.now }
     {
-        self.head == ticket && ticket < self.next
+        self.head == ticket.number() && self.head < self.next
     }
 
     /// Joins the line. Returns `None` if all 2^64 - 1 tickets were issued.
-    pub fn arrive(&mut self) -> Option<u64>
+    pub fn arrive(&mut self) -> Option<Ticket>
         ensures arrives { is_some result ≡ nat_lt self.old.issued (2 ^ 64 - 1) }
         ensures ticket { IfSome result (λ ticket. (ticket ≡ self.old.issued) × Makes self.old Arrive self.new) }
         ensures kept { IfNone result (self.new ≡ self.old) }
     {
-        let ticket = self.next;
-        if ticket == u64::MAX {
+        let number = self.next;
+        if number == u64::MAX {
             return None;
         }
-        self.next = ticket + 1;
-        Some(ticket)
+        self.next = number + 1;
+        Some(Ticket::numbered(number))
     }
 
     /// Joins the line with a ticket that may leave. Also returns `None` if the ticket would be `TIMED_SPAN` behind the first.
-    pub fn arrive_timed(&mut self) -> Option<u64>
+    pub fn arrive_timed(&mut self) -> Option<Ticket>
         ensures arrives { is_some result ≡ (nat_lt (span self.old) TIMED_SPAN && nat_lt self.old.issued (2 ^ 64 - 1)) }
         ensures ticket { IfSome result (λ ticket. (ticket ≡ self.old.issued) × Makes self.old Arrive self.new) }
         ensures kept { IfNone result (self.new ≡ self.old) }
@@ -135,35 +136,33 @@ impl Line {
         }
     }
 
-    /// Admits the ticket if it is the first. Returns whether it was.
-    pub fn enter(&mut self, ticket: u64) -> bool
-        ensures first { result ≡ is_first self.old ticket }
-        ensures earliest { OnTrue result (IsEarliest self.old ticket) }
-        ensures entered { OnTrue result (Makes self.old (Enter ticket) self.new) }
-        ensures kept { OnFalse result (self.new ≡ self.old) }
+    /// Admits the first ticket, which ends.
+    pub fn enter(&mut self, ticket: Ticket)
+        requires first { IsTrue (is_first self.old ticket) }
+        ensures earliest { IsEarliest self.old ticket }
+        ensures entered { Makes self.old (Enter ticket) self.new }
     {
-        if !self.is_first(ticket) {
-            return false;
-        }
+        ticket.end();
         (self.head, self.left) = skip_left(self.head + 1, self.next, self.left / 2);
-        true
     }
 
-    /// Removes a ticket that waits less than `TIMED_SPAN` behind the first. Returns whether it did.
-    pub fn leave(&mut self, ticket: u64) -> bool
-        ensures may { result ≡ may_leave TIMED_SPAN self.old ticket }
-        ensures gone { OnTrue result (Makes self.old (Leave ticket) self.new) }
-        ensures kept { OnFalse result (self.new ≡ self.old) }
+    /// Removes a ticket that waits less than `TIMED_SPAN` behind the first, which ends it, or returns the ticket unchanged.
+    pub fn leave(&mut self, ticket: Ticket) -> Result<(), Ticket>
+        ensures may { is_ok result ≡ may_leave TIMED_SPAN self.old ticket }
+        ensures gone { IfOk result (λ _. Makes self.old (Leave ticket) self.new) }
+        ensures kept { IfErr result (λ same. (same ≡ ticket) × (self.new ≡ self.old)) }
     {
-        if ticket < self.head || self.next <= ticket {
-            return false;
+        let number = ticket.number();
+        if number < self.head || self.next <= number {
+            return Err(ticket);
         }
-        let place = ticket - self.head;
+        let place = number - self.head;
         if TIMED_SPAN <= place || has_left(self.left, place) {
-            return false;
+            return Err(ticket);
         }
+        ticket.end();
         (self.head, self.left) = skip_left(self.head, self.next, mark(self.left, place));
-        true
+        Ok(())
     }
 }
 

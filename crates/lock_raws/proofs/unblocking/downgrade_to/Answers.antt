@@ -16,8 +16,8 @@ after-after-requires-clause-had g c =
     subst (λ (b : Bag). IsTrue (has b (Change c.args.from c.args.to))) (sym c.bag-before.ensures.bag)
     (has_permitted limit (bag_of_tokens (g.A.Arbiter.tokens_out c.args.arbiter.now)) (Change c.args.from c.args.to) made.permitted)
 
-pub returns-in-Ok : goal.returns-in-Ok
-returns-in-Ok g c =
+pub returns-in-Ok-clause-wakes : goal.returns-in-Ok-clause-wakes
+returns-in-Ok-clause-wakes g c =
     let change = c.in-Ok.ensures in
     woken_by (Change c.args.from c.args.to)
     (changes (g.A.Arbiter.reader_limit c.args.arbiter.now) c.args.from c.args.to c.requires

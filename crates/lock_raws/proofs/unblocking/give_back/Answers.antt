@@ -17,8 +17,8 @@ after-after-requires-clause-had g c =
     subst (λ (b : Bag). IsTrue (has b (Release c.args.mode))) (sym c.bag-before.ensures.bag)
     (has_permitted limit (bag_of_tokens (g.A.Arbiter.tokens_out c.args.arbiter.now)) (Release c.args.mode) made.permitted)
 
-pub returns : goal.returns
-returns g c =
+pub returns-clause-wakes : goal.returns-clause-wakes
+returns-clause-wakes g c =
     let back = c.give_back.ensures in
     let was_out = c.if-not-give_back.false in
     woken_by (Release c.args.mode)

@@ -14,3 +14,8 @@ pub invariant_of-self : goal.invariant_of-self
 invariant_of-self g c = let e = c.admit_as.ensures in
     admitted_legal _ c.args.mode c.admit_as.result c.self.invariant e.admitted e.added e.refused e.capacity_kept
     e.limit_kept
+
+pub invariant_of-self-2 : goal.invariant_of-self-2
+invariant_of-self-2 g c = let e = c.admit_as.ensures in
+    admitted_legal _ c.args.mode c.admit_as.result c.self.invariant e.admitted e.added e.refused e.capacity_kept
+    e.limit_kept

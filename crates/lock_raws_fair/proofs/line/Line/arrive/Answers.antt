@@ -1,4 +1,4 @@
-use Rattle.std.proofs.Common.{◌+◌, ◌-◌, ap, arith, subst}
+use Rattle.std.proofs.Common.{◌+◌, ◌-◌, ap, arith, subst, ◌∙◌}
 use Rattle.lock_raws_fair.specs.Tickets.{Line, Makes}
 use Rattle.lock_raws_fair.specs.declared.line.step.LineStep.TheVariants.{Arrive}
 use Rattle.lock_raws_fair.proofs.Steps.{arrives, line_of}
@@ -11,7 +11,7 @@ returns-clause-ticket c =
     let first = c.self.inside.head in
     let left = c.self.inside.left in
     let kept = c.self.invariant in (
-      ap (λ (line : Line). line.issued) c.self.view_is,
+      c.numbered.ensures ∙ ap (λ (line : Line). line.issued) c.self.view_is,
       subst (λ (line : Line). Makes line Arrive (line_of (next + 1) first left)) c.self.view_is
           (arrives next first left kept.0 (kept.1 (next - first) (omega arith))),
     )

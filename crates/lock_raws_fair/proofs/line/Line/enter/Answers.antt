@@ -13,7 +13,7 @@ skip_left-requires-clause-none_behind c =
     let first = c.self.inside.head in
     let left = c.self.inside.left in
     let kept = c.self.invariant in
-    let leading = led c.args.ticket c.self.view_is c.is_first.ensures c.if-not-is_first.false in
+    let leading = led c.args.ticket c.self.view_is c.requires.first in
     let is = leads_is (next - first) first left c.args.ticket kept.2 leading in
     let e : next - first ≡ suc (next - (first + 1)) = omega (arith, is.1) in
     none_behind_half _ _ left e kept.1
@@ -24,7 +24,7 @@ returns-clause-entered c =
     let first = c.self.inside.head in
     let left = c.self.inside.left in
     let kept = c.self.invariant in
-    let leading = led c.args.ticket c.self.view_is c.is_first.ensures c.if-not-is_first.false in
+    let leading = led c.args.ticket c.self.view_is c.requires.first in
     subst (λ (line : Line). Makes line (Enter c.args.ticket) (line_of next c.skip_left.result.0 c.skip_left.result.1)) c.self.view_is
     (enters next first left c.skip_left.result.0 c.skip_left.result.1 c.args.ticket kept.2 leading c.skip_left.ensures.same)
 
@@ -33,7 +33,7 @@ returns-clause-earliest c =
     let next = c.self.inside.next in
     let first = c.self.inside.head in
     let left = c.self.inside.left in
-    let leading = led c.args.ticket c.self.view_is c.is_first.ensures c.if-not-is_first.false in
+    let leading = led c.args.ticket c.self.view_is c.requires.first in
     subst (λ (line : Line). IsEarliest line c.args.ticket) c.self.view_is
     (first_is_earliest (line_of next first left) c.args.ticket c.self.invariant.3 leading)
 
@@ -43,7 +43,7 @@ invariant_of-self c =
     let first = c.self.inside.head in
     let left = c.self.inside.left in
     let kept = c.self.invariant in
-    let leading = led c.args.ticket c.self.view_is c.is_first.ensures c.if-not-is_first.false in (
+    let leading = led c.args.ticket c.self.view_is c.requires.first in (
       c.skip_left.ensures.within,
       c.skip_left.ensures.none_behind,
       c.skip_left.ensures.stays,

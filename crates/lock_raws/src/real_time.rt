@@ -1,9 +1,9 @@
 //! Real time, by the waiter's clock.
+use crate::raw_lock::RawLock;
 use crate::sleeping_condvar::SleepingCondvar;
 use crate::timing::Timing;
 use crate::word_core::WordCore;
 use lock_base::machine::Mode;
-use lock_raws::RawLock;
 use lock_wake::{WordLock, WordToken};
 use std::sync::Wait;
 use std::time::{Clock, Duration, Instant};

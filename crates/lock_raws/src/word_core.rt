@@ -3,10 +3,11 @@ ghost use Rattle.std.specs.Prelude.{◌≡◌, ◌↔◌, true, IfOk, IfErr};
 ghost use Rattle.lock_base.specs.Limits.{IsLimit, IsMakerFault};
 ghost use Rattle.lock_wake.specs.Own.{is_token_of};
 
+use crate::lock_core::LockCore;
+use crate::raw_lock::RawLock;
 use crate::timing::{NoTime, Timing};
 use lock_base::machine::Mode;
 use lock_base::raw::Fault;
-use lock_raws::{LockCore, RawLock};
 use lock_wake::{WordLock, WordToken};
 use std::alloc::Global;
 use std::clone::Clone;

@@ -1,7 +1,7 @@
 //! A condition variable whose waiters sleep.
 use lock_base::raw::Fault;
 use lock_guard::raw::{RawCondvar, RawCondvarTimed, RawMutex, RawMutexTimed};
-use lock_wake::{EventCount, time_left};
+use lock_wake::EventCount;
 use std::alloc::Global;
 use std::marker::PhantomData;
 use std::time::{Clock, Duration, Instant};
@@ -19,7 +19,15 @@ pub struct SleepingCondvar<R> {
 }
 
 impl<R: RawMutex> RawCondvar for SleepingCondvar<R> {
+    ghost use Rattle.lock_raws.specs.Condvars.{Waited, NotifiedOne, NotifiedAll};
+
     type RawMutex = R;
+
+    ghost waited = { λ condvar token. Waited condvar.waiting token };
+
+    ghost notified_one = { λ condvar woke. NotifiedOne condvar.waiting woke };
+
+    ghost notified_all = { λ condvar count. NotifiedAll condvar.waiting count };
 
     fn new(alloc: Global) -> Result<SleepingCondvar<R>, Fault> {
         Ok(SleepingCondvar {
@@ -29,7 +37,8 @@ impl<R: RawMutex> RawCondvar for SleepingCondvar<R> {
     }
 
     fn wait(&self, mutex: &R, token: R::Guard) -> R::Guard {
-        let registered = self.waiting.register(mutex.waiter());
+        let registration = self.waiting.register_with(mutex.waiter(), token);
+        let (registered, token) = registration.released();
         mutex.unlock(token);
         self.waiting.sleep(mutex.waiter(), registered);
         mutex.lock()
@@ -50,6 +59,11 @@ impl<R: RawMutexTimed<Duration = Duration, Instant = Instant>> RawCondvarTimed
 where
     R::Waiter: Clock,
 {
+    ghost use Rattle.lock_raws.specs.Condvars.{WaitedUntil};
+
+    ghost waited_until = { λ condvar token deadline timed_out.
+        WaitedUntil condvar.waiting token deadline timed_out };
+
     /// `None`: there is no clock here.
     fn checked_duration_to_instant(_timeout: &Duration) -> Option<Instant> {
         None
@@ -60,13 +74,11 @@ where
     }
 
     fn wait_until(&self, mutex: &R, token: R::Guard, deadline: &Instant) -> (R::Guard, bool) {
-        let registered = self.waiting.register(mutex.waiter());
+        let waiter = mutex.waiter();
+        let registration = self.waiting.register_with(waiter, token);
+        let (registered, token) = registration.released();
         mutex.unlock(token);
-        match time_left(mutex.waiter(), *deadline) {
-            Some(left) => self.waiting.sleep_for(mutex.waiter(), registered, left),
-            None => self.waiting.leave(registered),
-        }
-        let timed_out = time_left(mutex.waiter(), *deadline).is_none();
-        (mutex.lock(), timed_out)
+        let slept = self.waiting.sleep_until(waiter, registered, *deadline);
+        (mutex.lock(), slept.has_timed_out())
     }
 }

@@ -1,0 +1,30 @@
+-- What the calls of a condition variable over an event count made. Only the calls of an event count make these values: each
+-- has a private field.
+use Rattle.std.specs.Prelude.{◌≡◌, ◌<◌, ℕ, Bool, true, false, Option, None, Some, IsTrue, ◌↔◌}
+use Rattle.std.specs.Time.{instant_nanos}
+use Rattle.std.specs.declared.time.Instant.{Instant}
+use Rattle.atomic_table.specs.Seated.{TableId}
+use Rattle.lock_wake.specs.EventCalls.{Ended, Asleep, Keeper, waiters_of}
+
+-- the wait registered before its token was free for the release, and then slept
+abbrev pub HasSlept : {T : Type 0} → TableId → T → Option ℕ → Asleep → Type 0
+HasSlept {T} events token deadline wait =
+    (keeper : Keeper T) × (keeper.token ≡ token) × (keeper.events ≡ events) × (wait.events ≡ events)
+    × (wait.number ≡ keeper.number) × (wait.deadline ≡ deadline)
+
+abbrev pub Waited : {T : Type 0} → TableId → T → Type 0
+Waited events token = (wait : Asleep) × HasSlept events token None wait
+
+-- the answer is whether the deadline had passed after the sleep
+abbrev pub WaitedUntil : {T : Type 0} → TableId → T → Instant → Bool → Type 0
+WaitedUntil events token deadline timed_out =
+    (wait : Asleep) × (timed_out ≡ wait.timed_out) × HasSlept events token (Some (instant_nanos deadline)) wait
+
+-- a notification of one has ended, and the answer is whether it found a wait
+abbrev pub NotifiedOne : TableId → Bool → Type 0
+NotifiedOne events woke =
+    (ended : Ended) × (ended.events ≡ events) × (ended.all ≡ false) × (IsTrue woke ↔ (0 < waiters_of ended.waits))
+
+-- a notification of all has ended, and the answer is how many waits it found
+abbrev pub NotifiedAll : TableId → ℕ → Type 0
+NotifiedAll events count = (ended : Ended) × (ended.events ≡ events) × (ended.all ≡ true) × (count ≡ waiters_of ended.waits)
