@@ -40,20 +40,21 @@ pub use Rattle.lock_word.specs.BarredBags
 pub use Rattle.lock_word.specs.Holders
 pub use Rattle.lock_word.specs.Word
 pub use Rattle.lock_word.specs.Unblocking
+pub use Rattle.lock_word.specs.UnblockingLaws
 pub use Rattle.lock_word.specs.WordLaws
 pub use Rattle.lock_word.specs.BarLaws
 pub use Rattle.lock_word.specs.Turns
 pub use Rattle.lock_word.specs.Rule
 pub use Rattle.lock_word.specs.Worlds
 pub use Rattle.lock_word.specs.Claims
-pub use Rattle.lock_word.specs.Sleepers
-pub use Rattle.lock_word.specs.Wakes
-pub use Rattle.lock_word.specs.WakeLaws
 pub use Rattle.lock_states.specs.TableState
 pub use Rattle.lock_states.specs.Packed
 pub use Rattle.lock_word.specs.Seats
 pub use Rattle.lock_word.specs.CallerView
 pub use Rattle.lock_word.specs.Attempts
+pub use Rattle.lock_sleepers.specs.Sleepers
+pub use Rattle.lock_sleepers.specs.Wakes
+pub use Rattle.lock_sleepers.specs.WakeLaws
 pub use Rattle.lock_wake.specs.WakeSeats
 pub use Rattle.lock_wake.specs.Calls as WordCalls
 pub use Rattle.lock_wake.specs.Own
@@ -79,17 +80,22 @@ pub use Rattle.lock_mutex.specs.ArcMutexGuard
 pub use Rattle.lock_mutex.specs.ConditionLoop
 pub use Rattle.lock_mutex.specs.ValueLoop
 pub use Rattle.lock_mutex.specs.Script
+pub use Rattle.lock_rwlock.specs.ArcRwLockGuard
 pub use Rattle.lock_rwlock.specs.RwLock
 pub use Rattle.lock_rwlock.specs.RwLockGuard
-pub use Rattle.lock_rwlock_arc.specs.ArcRwLockGuard
 pub use Rattle.lock_remutex.specs.Guards
 pub use Rattle.lock_remutex.specs.ArcGuards
+pub use Rattle.lock_ranked.specs.Guards as RankedGuards
+pub use Rattle.lock_ranked.specs.RwLockGuards as RankedRwLockGuards
+pub use Rattle.lock_ranked.specs.Rows as RankedRows
 pub use Rattle.lock_raws.specs.TokenArbiter
 pub use Rattle.lock_raws.specs.Waking
 pub use Rattle.lock_raws.specs.Journal
 pub use Rattle.lock_raws.specs.Recording
+pub use Rattle.lock_raws.specs.Condvars
 pub use Rattle.lock_raws_fair.specs.Tickets
 pub use Rattle.lock_raws_fair.specs.LineLaws
 pub use Rattle.lock_raws_fair.specs.FairState
 pub use Rattle.lock_raws_fair.specs.FairLaws
 pub use Rattle.lock_raws_fair.specs.FairWaking
+pub use Rattle.lock_raws_fair.specs.Notifying

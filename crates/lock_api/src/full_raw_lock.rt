@@ -11,14 +11,14 @@ pub type WaiterOf<R> = <R as RawMutex>::Waiter;
 /// `RawLock` is one. It is implemented for every type that has these traits.
 ///
 /// Bound generic code by it that makes more than one kind of lock over one raw lock.
-pub trait FullRawLock: RawMutexFair<Guard: Drop>
+pub trait FullRawLock: RawMutexFair
     + RawRwLock<Waiter = WaiterOf<Self>>
     + RawRwLockUpgradeFair
     + RawRwLockUpgradeDowngrade
     + Drop {}
 
 impl<
-    R: RawMutexFair<Guard: Drop>
+    R: RawMutexFair
         + RawRwLock<Waiter = WaiterOf<R>>
         + RawRwLockUpgradeFair
         + RawRwLockUpgradeDowngrade

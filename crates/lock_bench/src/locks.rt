@@ -3,9 +3,11 @@ use crate::turns::{Act, TakeTurns, Turns, cost_beside};
 use lock_base::machine::PartyId;
 use lock_guard::raw::{RawMutex, RawRwLock, RawRwLockUpgradeDowngrade};
 use lock_mutex::Mutex;
-use lock_raws::{LockCore, Monitor, RawLock, RecordingArbiter, TableArbiter, TokenRaw};
+use lock_raws::{
+    LockCore, Monitor, NoTime, RawLock, RealTime, RecordingArbiter, TableArbiter, TokenRaw,
+    WordCore, WordRaw,
+};
 use lock_raws_fair::FairCore;
-use lock_raws_word::{NoTime, RealTime, WordCore, WordRaw};
 use lock_remutex::ReentrantMutex;
 use lock_rwlock::{RwLock, RwLockUpgradableReadGuard, RwLockWriteGuard};
 use std::alloc::Global;

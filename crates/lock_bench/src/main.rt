@@ -17,9 +17,8 @@ mod waits;
 
 use crate::desk::Bench;
 use lock_mutex::Mutex;
-use lock_raws::TokenRaw;
+use lock_raws::{TokenRaw, WordRaw};
 use lock_raws_fair::FairRaw;
-use lock_raws_word::WordRaw;
 use std::alloc::Global;
 use std::rt::Env;
 use std::sync::Wait;

@@ -2,8 +2,7 @@
 use lock_base::raw::Fault;
 use lock_guard::raw::RawMutex;
 use lock_mutex::{Condvar, Mutex};
-use lock_raws::{LockCore, RawLock};
-use lock_raws_word::SleepingCondvar;
+use lock_raws::{LockCore, RawLock, SleepingCondvar};
 use std::alloc::Global;
 use std::sync::Wait;
 use std::thread::{self, Threads};

@@ -3,8 +3,7 @@ mod ruled;
 mod word_lock;
 
 use crate::turns::{Act, TakeTurns, Turns, cost_beside};
-use lock_raws::{RecordingRaw, TokenRaw};
-use lock_raws_word::{TimedRaw, WordRaw};
+use lock_raws::{RecordingRaw, TimedRaw, TokenRaw, WordRaw};
 use std::alloc::Global;
 use std::io;
 use std::sync::Wait;

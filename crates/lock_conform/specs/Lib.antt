@@ -1,3 +1,5 @@
+pub mod Choices
+pub mod DifferenceText
 pub mod Differences
 pub mod Done
 pub mod Entries
@@ -6,3 +8,4 @@ pub mod PlainRaws
 pub mod Refusals
 pub mod Reports
 pub mod Texts
+pub mod WrongTokens

@@ -1,4 +1,5 @@
-//! Scripts of calls, made on the shared locks over any raw lock and compared with the `Desk`.
+//! Scripts of calls, made on the shared locks over any raw lock and compared with the `Desk`. The program `lockconform`
+//! makes them on the raw locks of the library, and on raw locks with a mistake.
 #![tactic(auto)]
 
 mod comparison;
@@ -13,12 +14,14 @@ mod mutex;
 mod operation;
 mod parts;
 mod plain_raw;
+mod program;
 mod reentrant;
 mod report;
 mod report_text;
 mod rw_guard;
 mod rwlock;
 mod script_run;
+mod wrong;
 
 pub use difference::Difference;
 pub use driven::{After, Driven};
@@ -31,9 +34,12 @@ pub use mutex::run_mutex;
 pub use operation::{ask, change};
 pub use parts::{RunParts, run_parts};
 pub use plain_raw::PlainRaw;
+pub use program::replay::replay;
+pub use program::{Choice, RawChoice};
 pub use reentrant::run_reentrant;
 pub use report::Report;
 pub use report_text::write_report;
 pub use rw_guard::RwGuard;
 pub use rwlock::run_rwlock;
 pub use script_run::run_on;
+pub use wrong::{Mistake, WrongRaw};

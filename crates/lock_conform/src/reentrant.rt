@@ -29,7 +29,7 @@ pub fn run_reentrant<R>(
 ) -> Result<Report, Fault>
 where
     R: RawMutexFair + RawMutexTimed + Drop,
-    R::Guard: Send + Drop,
+    R::Guard: Send,
     R::Duration: Default,
     R::Instant: Deadline<R::Waiter>,
     ensures kind { (result ≡ Err Fault.WrongKind) ↔ ¬ (kind_of script.maker ≡ Kind.Reentrant) }
@@ -47,7 +47,7 @@ where
 fn run_lines<R>(alloc: Global, parts: RunParts<R>, manner: Manner) -> Result<Report, Fault>
 where
     R: RawMutexFair + RawMutexTimed<Duration = u64, Instant = u64> + Drop,
-    R::Guard: Send + Drop,
+    R::Guard: Send,
     ensures fault { IsOkUnless result Fault.OutOfMemory }
     ensures report { IfOk result (IsReport parts.lines.calls.items parts.lines.replies.items) }
 {
@@ -77,7 +77,6 @@ macro_rules! unlocked {
 impl<'a, R> Driven for &'a ReentrantMutex<R, Pair>
 where
     R: RawMutexFair + RawMutexTimed<Duration = u64, Instant = u64>,
-    R::Guard: Drop,
 {
     type Guard = ReentrantMutexGuard<'a, R, Pair>;
 
@@ -108,7 +107,6 @@ where
 impl<R> Driven for Arc<ReentrantMutex<R, Pair>>
 where
     R: RawMutexFair + RawMutexTimed<Duration = u64, Instant = u64> + Drop,
-    R::Guard: Drop,
 {
     type Guard = ArcReentrantMutexGuard<R, Pair>;
 
@@ -136,10 +134,10 @@ where
 }
 
 /// Makes a call that needs no guard.
-fn call_reentrant<R: RawMutexFair>(lock: &ReentrantMutex<R, Pair>, call: Call<PairOp>) -> Reply<i64>
-where
-    R::Guard: Drop,
-{
+fn call_reentrant<R: RawMutexFair>(
+    lock: &ReentrantMutex<R, Pair>,
+    call: Call<PairOp>,
+) -> Reply<i64> {
     match call {
         Call::IsLocked | Call::IsLockedExclusive => Reply::Bool(lock.is_locked()),
         Call::IsOwnedBy(party) => Reply::Bool(lock.is_owned_by_current_thread(party)),

@@ -18,11 +18,9 @@ use lock_guard::raw::{
 };
 use lock_recorder::Deadline;
 use lock_rwlock::{
-    RwLock, RwLockGuard, RwLockReadGuard, RwLockUpgradableReadGuard, RwLockWriteGuard,
-};
-use lock_rwlock_arc::{
-    ArcRwLockGuard, ArcRwLockReadGuard, ArcRwLockUpgradableReadGuard, ArcRwLockWriteGuard,
-    RwLockArc, RwLockArcTimed, RwLockArcUpgrade, RwLockArcUpgradeTimed,
+    ArcRwLockGuard, ArcRwLockReadGuard, ArcRwLockUpgradableReadGuard, ArcRwLockWriteGuard, RwLock,
+    RwLockArc, RwLockArcTimed, RwLockArcUpgrade, RwLockArcUpgradeTimed, RwLockGuard,
+    RwLockReadGuard, RwLockUpgradableReadGuard, RwLockWriteGuard,
 };
 use lock_script::{DeskScript, Pair, PairOp};
 use std::alloc::Global;

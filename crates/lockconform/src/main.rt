@@ -2,15 +2,7 @@
 //! from the `Desk`'s.
 #![tactic(auto)]
 
-mod choice;
-mod difference_line;
-mod over_raw;
-mod replay;
-mod script_answer;
-mod words;
-
-use crate::choice::Choice;
-use crate::replay::replay;
+use lock_conform::{Choice, replay};
 use lock_script::ReplayFault;
 use std::process::ExitCode;
 use std::rt::Env;

@@ -3,18 +3,22 @@ ghost use Rattle.std.specs.Prelude.{◌≡◌, ◌≤◌, IfOk, OnOk};
 ghost use Rattle.lock_script.specs.Session.{HasLimits, replies_to};
 ghost use Rattle.lock_conform.specs.Reports.{IsReport};
 
-use crate::choice::RawChoice;
+use super::choice::RawChoice;
+use crate::manner::Manner;
+use crate::mutex::run_mutex;
+use crate::reentrant::run_reentrant;
+use crate::report::Report;
+use crate::rwlock::run_rwlock;
+use crate::wrong::{Mistake, WrongRaw};
 use lock_base::raw::{Fault, MAX_LIMIT};
-use lock_conform::{Deadline, Manner, Report, run_mutex, run_reentrant, run_rwlock};
 use lock_guard::raw::{
     RawMutex, RawMutexFair, RawMutexTimed, RawRwLock, RawRwLockTimed, RawRwLockUpgradeDowngrade,
     RawRwLockUpgradeFair, RawRwLockUpgradeTimed,
 };
-use lock_raws::{LockCore, Monitor, RawLock, Recorded, TableArbiter};
+use lock_raws::{LockCore, Monitor, NoTime, RawLock, RealTime, Recorded, TableArbiter, WordCore};
 use lock_raws_fair::FairCore;
-use lock_raws_word::{NoTime, RealTime, WordCore};
+use lock_recorder::Deadline;
 use lock_script::{DeskScript, Maker};
-use lock_test_support::raw_lock::{Mistake, WrongRaw};
 use std::alloc::Global;
 use std::clone::Clone;
 use std::sync::Wait;
@@ -114,7 +118,7 @@ fn over_raw<R>(alloc: Global, raw: R, manner: Manner, script: DeskScript) -> Res
 where
     R: RawMutexFair + RawMutexTimed + Drop,
     R: RawRwLockUpgradeFair + RawRwLockUpgradeDowngrade + RawRwLockUpgradeTimed,
-    <R as RawMutex>::Guard: Send + Drop,
+    <R as RawMutex>::Guard: Send,
     <R as RawMutexTimed>::Duration: Default,
     <R as RawMutexTimed>::Instant: Deadline<<R as RawMutex>::Waiter>,
     <R as RawRwLockTimed>::Duration: Default,
