@@ -56,10 +56,27 @@ fn open_for<R: Wait>(rt: &R, gate: &WordLock, keeper: WordToken, waiting: u64) -
     (word, open(gate, keeper))
 }
 
-/// Passes the gate, and leaves. Returns the word that the visitor loaded inside.
+/// Closes the gate, opens it once so many visitors wait at it, and leaves. Returns the word that the keeper loaded before
+/// it opened the gate.
+fn keep<R: Wait>(rt: &R, gate: &WordLock, waiting: u64) -> u64
+    ensures { IsClosed result }
+{
+    let keeper = close(rt, gate);
+    let (word, keeper) = open_for(rt, gate, keeper, waiting);
+    leave(gate, keeper);
+    word
+}
+
+/// Passes the gate once a keeper has closed it, and leaves. Returns the word that the visitor loaded inside.
 fn visit<R: Wait>(rt: &R, gate: &WordLock) -> u64
     ensures { IsOpen result }
 {
+    for _ in rt.forever() {
+        if gate.is_locked_exclusive() {
+            break;
+        }
+        yield_now();
+    }
     let (word, visitor) = pass(rt, gate);
     leave(gate, visitor);
     word
@@ -74,8 +91,7 @@ pub struct Sights {
     pub inside: (u64, u64),
 }
 
-/// A keeper opens its gate once two visitors wait at it, each on its thread. The keeper stays inside, so visitors need
-/// at least one more of the `places`.
+/// A keeper opens its gate once two visitors wait at it, each on its thread. At most `places` are inside at a time.
 pub fn open_for_two<R: Threads + Wait + Sync>(
     rt: &R,
     alloc: Global,
@@ -85,12 +101,10 @@ pub fn open_for_two<R: Threads + Wait + Sync>(
     ensures open { IfOk result (λ seen. IsOpen seen.inside.0 × IsOpen seen.inside.1) }
 {
     let gate = WordLock::new(alloc, places)?;
-    let keeper = close(rt, &gate);
-    let ((closed, keeper), inside) = join(
+    let (closed, inside) = join(
         rt,
-        || open_for(rt, &gate, keeper, 2),
+        || keep(rt, &gate, 2),
         || join(rt, || visit(rt, &gate), || visit(rt, &gate)),
     );
-    leave(&gate, keeper);
     Ok(Sights { closed, inside })
 }

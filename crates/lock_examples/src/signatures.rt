@@ -92,10 +92,7 @@ pub fn reentrant_mutexes<R: RawMutex + Drop>(
     _mapped: &MappedReentrantMutexGuard<'_, R, Settings, At<Limit>>,
     _same: &Mapped<ReentrantMutexGuard<'_, R, Settings>, At<Limit>>,
     _arc_guard: &ArcReentrantMutexGuard<R, Settings>,
-)
-where
-    R::Guard: Drop,
-{}
+) {}
 
 /// Each trait of raw locks.
 pub fn raw_traits<

@@ -1,4 +1,5 @@
 //! What no contract and no script of `conform/` says of these locks.
+mod arc;
 mod condition_loop;
 mod condvar;
 mod mutex;
@@ -6,8 +7,7 @@ mod remutex;
 mod rwlock;
 mod texts;
 
-use lock_raws::{Monitor, TableArbiter};
-use lock_raws_word::{NoTime, WordCore};
+use lock_raws::{Monitor, NoTime, TableArbiter, WordCore};
 
 /// The core of the raw lock over a table.
 type Table = Monitor<TableArbiter, HostRuntime>;

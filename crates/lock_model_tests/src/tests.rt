@@ -1,6 +1,7 @@
 //! Sessions at a `Desk` over a table of tokens and over a packed word, and the table alone.
 mod by_name;
 mod counted_state;
+mod full;
 mod laws;
 mod maker;
 mod mutex;

@@ -4,6 +4,7 @@ mod cases;
 mod fair;
 mod foreign_tokens;
 mod held;
+mod makers;
 mod markers;
 mod meeting;
 mod queue;
@@ -12,8 +13,7 @@ mod recording;
 
 use lock_base::raw::Fault;
 use lock_guard::raw::RawRwLock;
-use lock_raws::{LockCore, Monitor, RawLock, TableArbiter};
-use lock_raws_word::{NoTime, WordCore};
+use lock_raws::{LockCore, Monitor, NoTime, RawLock, TableArbiter, WordCore};
 use std::alloc::Global;
 use std::test::Fail;
 

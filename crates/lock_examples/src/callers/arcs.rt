@@ -53,8 +53,6 @@ pub fn value_by_an_arc<R: RawMutex + Drop>(
     lock: &Arc<ReentrantMutex<R, u64>>,
     party: PartyId,
 ) -> Result<u64, Fault>
-where
-    R::Guard: Drop,
     ensures { IfOk result (λ value. value ≡ value_of (arc_value lock.now)) }
 {
     let guard = ReentrantMutex::lock_arc(lock, party)?;

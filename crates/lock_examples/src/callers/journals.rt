@@ -5,10 +5,10 @@ use lock_api::{Arbiter, Fault, Mode, ModeStep, Recorded};
 use std::alloc::Global;
 
 /// The first token of an arbiter is the first step of its journal.
-pub fn first_step(alloc: Global) -> Result<Recorded, Fault>
-    ensures { IfOk result (λ made. made.journal.steps ≡ ModeStep.Acquire Mode.Shared ∷ []) }
+pub fn first_step(alloc: Global) -> Result<(Recorded, Option<<Recorded as Arbiter>::Token>), Fault>
+    ensures { IfOk result (λ made. made.0.journal.steps ≡ ModeStep.Acquire Mode.Shared ∷ []) }
 {
     let mut arbiter = Recorded::with_room(alloc, 1, 2)?;
-    drop(arbiter.admit(Mode::Shared));
-    Ok(arbiter)
+    let token = arbiter.admit(Mode::Shared);
+    Ok((arbiter, token))
 }

@@ -1,109 +1,56 @@
 //! The condition variable, over raw ones whose waits end at once.
+mod calls;
 mod mock;
+mod no_instant;
+mod spurious;
 
-use crate::tests::Table;
+use calls::{Call, waited};
 use lock_base::machine::Mode::Exclusive;
 use lock_guard::raw::{RawMutex, RawMutexTimed};
-use lock_mutex::{Condvar, Mutex, MutexGuard};
-use lock_raws::{RawLock, SpuriousCondvar};
+use lock_mutex::{Condvar, Mutex};
 use lock_recorder::RawCall::{Lock, Unlock};
 use lock_recorder::{Deadline, Recorder};
 use lock_test_support::answer::equal;
-use lock_test_support::raw_lock::Watch;
+use lock_test_support::raw_lock::{AdmitsAll, Watch};
 use mock::CondvarCall::{self, NotifyAll, NotifyOne, Wait, WaitUntil};
 use mock::{ENDLESS, LATE, MockCondvar};
 use std::alloc::Global;
 use std::test::Fail;
 
-/// A wait of a condition variable, with its time.
-#[derive(Clone, Copy, PartialEq, Debug)]
-enum Call {
-    Plain,
-    For(u64),
-    Until(u64),
-    While,
-    WhileFor(u64),
-    WhileUntil(u64),
-}
-
-/// Each wait, how many of its checks answer true, its raw calls, whether it times out, and how many checks it makes.
-const WAITS: [(Call, usize, &[CondvarCall], bool, usize); 15] = [
-    (Call::Plain, 0, &[Wait], false, 0),
-    (Call::For(3), 0, &[WaitUntil(4)], false, 0),
-    (Call::For(LATE), 0, &[WaitUntil(101)], true, 0),
-    (Call::For(ENDLESS), 0, &[Wait], false, 0),
-    (Call::Until(5), 0, &[WaitUntil(5)], false, 0),
-    (Call::Until(LATE), 0, &[WaitUntil(LATE)], true, 0),
-    (Call::While, 0, &[], false, 1),
-    (Call::While, 3, &[Wait, Wait, Wait], false, 4),
-    (Call::WhileFor(3), 1, &[WaitUntil(4)], false, 2),
-    (Call::WhileFor(LATE), 2, &[WaitUntil(101)], true, 2),
-    (Call::WhileFor(ENDLESS), 1, &[Wait], false, 2),
+/// Each wait, its raw calls, whether it times out, and how many checks it makes.
+const WAITS: [(Call<u64>, &[CondvarCall], bool, usize); 15] = [
+    (Call::Plain, &[Wait], false, 0),
+    (Call::For(3), &[WaitUntil(4)], false, 0),
+    (Call::For(LATE), &[WaitUntil(101)], true, 0),
+    (Call::For(ENDLESS), &[Wait], false, 0),
+    (Call::Until(5), &[WaitUntil(5)], false, 0),
+    (Call::Until(LATE), &[WaitUntil(LATE)], true, 0),
+    (Call::While(0), &[], false, 1),
+    (Call::While(3), &[Wait, Wait, Wait], false, 4),
+    (Call::WhileFor(1, 3), &[WaitUntil(4)], false, 2),
+    (Call::WhileFor(2, LATE), &[WaitUntil(101)], true, 2),
+    (Call::WhileFor(1, ENDLESS), &[Wait], false, 2),
     (
-        Call::WhileUntil(5),
-        2,
+        Call::WhileUntil(2, 5),
         &[WaitUntil(5), WaitUntil(5)],
         false,
         3,
     ),
-    (Call::WhileUntil(LATE), 0, &[], false, 1),
-    (Call::WhileUntil(LATE), 1, &[WaitUntil(LATE)], false, 2),
-    (Call::WhileUntil(LATE), 2, &[WaitUntil(LATE)], true, 2),
+    (Call::WhileUntil(0, LATE), &[], false, 1),
+    (Call::WhileUntil(1, LATE), &[WaitUntil(LATE)], false, 2),
+    (Call::WhileUntil(2, LATE), &[WaitUntil(LATE)], true, 2),
 ];
 
-/// Makes a check, which answers true `trues` times, and false from then on.
-fn check(trues: usize, checks: &mut usize) -> bool {
-    let answer = *checks < trues;
-    *checks = checks.wrapping_add(1);
-    answer
-}
-
-/// Makes the wait, and returns whether it timed out.
-fn wait<R: RawMutexTimed<Duration = u64, Instant = u64>>(
-    condvar: &Condvar<MockCondvar<R>>,
-    checks: &mut MutexGuard<'_, R, usize>,
-    call: Call,
-    trues: usize,
-) -> bool {
-    let condition = |checks: &mut usize| check(trues, checks);
-    match call {
-        Call::Plain => {
-            condvar.wait(checks);
-            false
-        }
-        Call::For(timeout) => condvar.wait_for(checks, timeout).timed_out(),
-        Call::Until(deadline) => condvar.wait_until(checks, deadline).timed_out(),
-        Call::While => {
-            condvar.wait_while(checks, condition);
-            false
-        }
-        Call::WhileFor(timeout) => {
-            condvar
-                .wait_while_for(checks, condition, timeout)
-                .timed_out()
-        }
-        Call::WhileUntil(deadline) => {
-            condvar
-                .wait_while_until(checks, condition, deadline)
-                .timed_out()
-        }
-    }
-}
-
-/// Makes each wait of `WAITS` under one guard. The value counts the checks.
+/// Makes each wait of `WAITS` under one guard.
 fn check_waits<R: RawMutexTimed<Duration = u64, Instant = u64>>(
     condvar: &Condvar<MockCondvar<R>>,
     checks: &Mutex<R, usize>,
 ) -> Result<(), Fail> {
     let mut guard = checks.lock();
-    for (call, trues, raw_calls, times_out, made) in WAITS {
-        *guard = 0;
-        let timed_out = wait(condvar, &mut guard, call, trues);
+    for (row, (call, raw_calls, times_out, made)) in WAITS.into_iter().enumerate() {
+        let seen = waited(condvar, &mut guard, call);
         let is_right = condvar.raw().got(raw_calls);
-        equal(
-            (call, is_right, timed_out, *guard),
-            (call, true, times_out, made),
-        )?;
+        equal((row, is_right, seen), (row, true, (times_out, made)))?;
     }
     Ok(())
 }
@@ -137,29 +84,5 @@ where
 
 #[test]
 fn each_wait_is_a_raw_wait(rt: HostRuntime) -> Result<(), Fail> {
-    check_calls::<RawLock<Table>>(rt.alloc(), rt)
-}
-
-/// The waits of a spurious condition variable, which answer that they timed out, and its notifications.
-fn spurious<R: RawMutexTimed<Duration = (), Instant = ()>>(
-    condvar: &Condvar<SpuriousCondvar<R>>,
-    mutex: &Mutex<R, u8>,
-) -> ([bool; 3], bool, usize) {
-    let mut guard = mutex.lock();
-    condvar.wait(&mut guard);
-    let for_a_time = condvar.wait_for(&mut guard, ()).timed_out();
-    let until = condvar.wait_until(&mut guard, ()).timed_out();
-    let is_held = mutex.is_locked();
-    (
-        [for_a_time, until, is_held],
-        condvar.notify_one(),
-        condvar.notify_all(),
-    )
-}
-
-#[test]
-fn a_spurious_wait_ends_at_once(rt: HostRuntime) -> Result<(), Fail> {
-    let condvar: Condvar<SpuriousCondvar<RawLock<Table>>> = Condvar::default(rt.alloc())?;
-    let mutex = Mutex::new(rt.alloc(), rt, 0)?;
-    equal(spurious(&condvar, &mutex), ([true; 3], false, 0))
+    check_calls::<AdmitsAll<HostRuntime>>(rt.alloc(), rt)
 }

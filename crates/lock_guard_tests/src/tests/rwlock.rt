@@ -5,6 +5,7 @@ mod order;
 mod raw_calls;
 mod texts;
 mod threads;
+mod upgrades;
 
 use crate::tests::Table;
 use lock_guard::raw::{RawRwLock, RawRwLockFair, RawRwLockUpgradeDowngrade, RawRwLockUpgradeTimed};
@@ -26,7 +27,7 @@ where
 {
     let raw: Recorder<R> = RawRwLock::new(alloc, waiter, 8)?;
     let mut watch = Watch::new(raw.log()?);
-    let mut lock = RwLock::from_raw(raw, ((0, 0), 0))?;
+    let mut lock = RwLock::from_raw(raw, ((0, 0), 5))?;
     texts::check_parts(alloc, &lock, &mut watch)?;
     raw_calls::check(&lock, &mut watch);
     *lock.get_mut() = ((5, 2), 1);
@@ -58,7 +59,6 @@ where
 fn check<R>(alloc: Global, waiters: ([R::Waiter; 4], [R::Waiter; 2])) -> Result<(), Fail>
 where
     R: RawRwLockFair + RawRwLockUpgradeDowngrade + RawRwLockUpgradeTimed + Drop,
-    R::SharedGuard: Drop,
     R::Duration: Default,
     R::Instant: Deadline<R::Waiter>,
 {

@@ -1,8 +1,7 @@
 //! How locks and guards print, by `Debug` and by `Display`.
 use lock_guard::raw::RawMutex;
 use lock_mutex::{Condvar, Mutex, MutexGuard};
-use lock_raws::SpuriousCondvar;
-use lock_raws_word::WordRaw;
+use lock_raws::{SpuriousCondvar, WordRaw};
 use lock_remutex::{ReentrantMutex, ReentrantMutexGuard};
 use lock_test_support::answer::{debug_is, equal, texts_are};
 use lock_test_support::party;
@@ -41,15 +40,19 @@ fn are_right(shown: &[Shown]) -> Result<(), Fail> {
     Ok(())
 }
 
-#[test]
-fn mutexes_and_guards_print_their_value(rt: HostRuntime) -> Result<(), Fail> {
-    let alloc = rt.alloc();
-    let mutex: Mutex<WordRaw<HostRuntime>, u64> = Mutex::new(alloc, rt, 5)?;
-    let pair: Mutex<WordRaw<HostRuntime>, Pair> = Mutex::new(alloc, rt, (5, 2))?;
+fn check_mutexes<R: RawMutex + Drop>(alloc: Global, waiters: [R::Waiter; 2]) -> Result<(), Fail> {
+    let [first, last] = waiters;
+    let mutex: Mutex<R, u64> = Mutex::new(alloc, first, 5)?;
+    let pair: Mutex<R, Pair> = Mutex::new(alloc, last, (5, 2))?;
     are_right(&of_a_mutex(alloc, &mutex, &pair))?;
-    let condvar: Condvar<SpuriousCondvar<WordRaw<HostRuntime>>> = Condvar::new(alloc)?;
+    let condvar: Condvar<SpuriousCondvar<R>> = Condvar::new(alloc)?;
     let is_shown = debug_is(alloc, &condvar, "Condvar { .. }");
     are_right(&[("Condvar", is_shown)])
+}
+
+#[test]
+fn mutexes_and_guards_print_their_value(rt: HostRuntime) -> Result<(), Fail> {
+    check_mutexes::<WordRaw<HostRuntime>>(rt.alloc(), [rt; 2])
 }
 
 /// Over a raw lock that always says that it is free.

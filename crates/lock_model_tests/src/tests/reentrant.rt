@@ -2,18 +2,17 @@
 use crate::tests::check;
 use crate::tests::maker::Maker;
 use crate::tests::operations::Add;
-use lock_base::machine::{Call, Form, Reply, Want, Way};
-use lock_test_support::party;
+use lock_base::machine::{Call, Form, PartyId, Reply, Want, Way};
+use lock_base::raw::Fault;
+use lock_test_support::two_parties;
+use std::alloc::Global;
 use std::test::Fail;
 
-#[test]
-fn spent_is_give_backs(rt: HostRuntime) -> Result<(), Fail> {
-    let one = party(1)?;
+/// The outer level ends first, and the inner one releases the token.
+fn last_level_releases(alloc: Global, one: PartyId) -> Result<(), Fail> {
     let session = [
         (Call::Acquire(Want::Lock, Form::Block, one), Reply::Guard(1)),
         (Call::Acquire(Want::Lock, Form::Block, one), Reply::Guard(2)),
-        (Call::Bump(one, 1), Reply::Done),
-        (Call::Spent, Reply::Count(0)),
         (Call::Unlock(one, 1, Way::Plain), Reply::Done),
         (Call::Spent, Reply::Count(0)),
         (Call::Bump(one, 2), Reply::Done),
@@ -25,6 +24,35 @@ fn spent_is_give_backs(rt: HostRuntime) -> Result<(), Fail> {
         (Call::Spent, Reply::Count(3)),
         (Call::IsLocked, Reply::Bool(false)),
     ];
-    check::<Add>(rt.alloc(), Maker::Reentrant(4, 4, 0), &session)?;
-    Ok(())
+    Ok(check::<Add>(alloc, Maker::Reentrant(4, 4, 0), &session)?)
+}
+
+/// A bump of one of two levels releases no token, so another party stays out.
+fn nested_bump_releases_nothing(alloc: Global, one: PartyId, two: PartyId) -> Result<(), Fail> {
+    let session = [
+        (Call::Acquire(Want::Lock, Form::Block, one), Reply::Guard(1)),
+        (Call::Acquire(Want::Lock, Form::Block, one), Reply::Guard(2)),
+        (Call::Bump(one, 1), Reply::Done),
+        (Call::Spent, Reply::Count(0)),
+        (Call::Get(two, 1, Add(0)), Reply::Refused(Fault::Foreign)),
+        (Call::Acquire(Want::Lock, Form::Try, two), Reply::NoGuard),
+        (
+            Call::Acquire(Want::Lock, Form::Block, two),
+            Reply::Refused(Fault::WouldWait),
+        ),
+        (Call::IsOwnedBy(one), Reply::Bool(true)),
+        (Call::IsOwnedBy(two), Reply::Bool(false)),
+        (
+            Call::Change(one, 1, Add(9)),
+            Reply::Refused(Fault::WrongKind),
+        ),
+    ];
+    Ok(check(alloc, Maker::Reentrant(4, 4, 5), &session)?)
+}
+
+#[test]
+fn spent_is_give_backs(rt: HostRuntime) -> Result<(), Fail> {
+    let (one, two) = two_parties()?;
+    last_level_releases(rt.alloc(), one)?;
+    nested_bump_releases_nothing(rt.alloc(), one, two)
 }

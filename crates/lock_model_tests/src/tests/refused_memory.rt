@@ -6,29 +6,33 @@ use lock_base::machine::{Call, Form, PartyId, Reply, Want, Way};
 use lock_base::raw::{Fault, RawState};
 use lock_states::table::TokenTable;
 use lock_states::word::PackedWord;
+use lock_test_support::answer::{equal, lacks_memory};
 use lock_test_support::party;
 use std::alloc::Global;
+use std::rt::Env;
 use std::test::Fail;
 
-/// The session goes as expected over this raw state, or the maker answers that there is no memory.
-fn replayed_or_refused<R: RawState>(
+/// The session goes as expected over this raw state, or the maker lacks memory.
+fn replayed_or_refused<R: RawState, E: Env>(
+    rt: &E,
     alloc: Global,
     maker: Maker,
     session: &[(Call<Add>, Reply<u64>)],
-) -> Result<(), Wrong> {
+) -> Result<(), Fail> {
     match replay_over::<R, Add>(alloc, maker, session) {
-        Err(Wrong::Unmade(Fault::OutOfMemory)) => Ok(()),
-        others => others,
+        Err(Wrong::Unmade(fault)) => lacks_memory(rt, fault),
+        others => Ok(others?),
     }
 }
 
-fn check_or_refuse(
+fn check_or_refuse<E: Env>(
+    rt: &E,
     alloc: Global,
     maker: Maker,
     session: &[(Call<Add>, Reply<u64>)],
-) -> Result<(), Wrong> {
-    replayed_or_refused::<TokenTable>(alloc, maker, session)?;
-    replayed_or_refused::<PackedWord>(alloc, maker, session)
+) -> Result<(), Fail> {
+    replayed_or_refused::<TokenTable, E>(rt, alloc, maker, session)?;
+    replayed_or_refused::<PackedWord, E>(rt, alloc, maker, session)
 }
 
 #[test]
@@ -38,8 +42,7 @@ fn refused_memory_mutex(rt: HostRuntime) -> Result<(), Fail> {
         (Call::Acquire(Want::Lock, Form::Block, one), Reply::Guard(1)),
         (Call::Get(one, 1, Add(0)), Reply::Answer(7)),
     ];
-    check_or_refuse(rt.alloc(), Maker::Mutex(1, 7), &session)?;
-    Ok(())
+    check_or_refuse(&rt, rt.alloc(), Maker::Mutex(1, 7), &session)
 }
 
 #[test]
@@ -53,8 +56,7 @@ fn refused_memory_rwlock(rt: HostRuntime) -> Result<(), Fail> {
         (Call::Acquire(Want::Read, Form::Block, one), Reply::Guard(2)),
         (Call::Get(one, 2, Add(0)), Reply::Answer(7)),
     ];
-    check_or_refuse(rt.alloc(), Maker::RwLock(2, 2, 7), &session)?;
-    Ok(())
+    check_or_refuse(&rt, rt.alloc(), Maker::RwLock(2, 2, 7), &session)
 }
 
 #[test]
@@ -65,16 +67,16 @@ fn refused_memory_reentrant(rt: HostRuntime) -> Result<(), Fail> {
         (Call::Acquire(Want::Lock, Form::Block, one), Reply::Guard(2)),
         (Call::Get(one, 1, Add(0)), Reply::Answer(7)),
     ];
-    check_or_refuse(rt.alloc(), Maker::Reentrant(2, 2, 7), &session)?;
-    Ok(())
+    check_or_refuse(&rt, rt.alloc(), Maker::Reentrant(2, 2, 7), &session)
 }
 
 /// A list of calls is made as a whole, or not at all if there is no memory.
-fn ran_or_refused<R: RawState>(
+fn ran_or_refused<R: RawState, E: Env>(
+    rt: &E,
     alloc: Global,
     desk: &mut CountedDesk<R>,
     one: PartyId,
-) -> Result<(), Wrong> {
+) -> Result<(), Fail> {
     let reader = Call::Acquire(Want::Read, Form::Block, one);
     replay::<R, Add>(desk, &[(reader, Reply::Guard(1))])?;
     let calls = [
@@ -83,28 +85,33 @@ fn ran_or_refused<R: RawState>(
         Call::Change(one, 2, Add(1)),
     ];
     let (spent, guard, value) = match desk.run(alloc, &calls) {
-        Ok(_) => (1, 2, 8),
-        Err(_) => (0, 1, 7),
+        Ok(replies) => {
+            let wanted = [Reply::Done, Reply::Guard(2), Reply::Answer(8)];
+            equal(replies.as_slice() == wanted.as_slice(), true)?;
+            (1, 2, 8)
+        }
+        Err(fault) => {
+            lacks_memory(rt, fault)?;
+            (0, 1, 7)
+        }
     };
     let left = [
         (Call::Spent, Reply::Count(spent)),
         (Call::Get(one, guard, Add(0)), Reply::Answer(value)),
     ];
-    replay(desk, &left)
+    Ok(replay(desk, &left)?)
 }
 
-fn run_or_refused<R: RawState>(alloc: Global, one: PartyId) -> Result<(), Wrong> {
+fn run_or_refused<R: RawState, E: Env>(rt: &E, alloc: Global, one: PartyId) -> Result<(), Fail> {
     match Maker::RwLock(3, 2, 7).desk::<R>(alloc) {
-        Ok(mut desk) => ran_or_refused(alloc, &mut desk, one),
-        Err(Fault::OutOfMemory) => Ok(()),
-        Err(fault) => Err(Wrong::Unmade(fault)),
+        Ok(mut desk) => ran_or_refused(rt, alloc, &mut desk, one),
+        Err(fault) => lacks_memory(rt, fault),
     }
 }
 
 #[test]
 fn refused_memory_run(rt: HostRuntime) -> Result<(), Fail> {
     let one = party(1)?;
-    run_or_refused::<TokenTable>(rt.alloc(), one)?;
-    run_or_refused::<PackedWord>(rt.alloc(), one)?;
-    Ok(())
+    run_or_refused::<TokenTable, HostRuntime>(&rt, rt.alloc(), one)?;
+    run_or_refused::<PackedWord, HostRuntime>(&rt, rt.alloc(), one)
 }

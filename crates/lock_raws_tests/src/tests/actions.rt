@@ -2,19 +2,22 @@
 use super::held::Held;
 use super::meeting::Meeting;
 use lock_base::machine::Mode::{self, Exclusive, Shared};
+use lock_guard::forget;
 use lock_guard::raw::RawRwLock;
 use lock_raws::{LockCore, RawLock};
 use std::sync::Wait;
 use std::thread::{self, Threads};
 use std::time::{Clock, Duration};
 
-/// What a thread does next. It holds at most one token.
+/// What a thread does next. It holds at most one token, and keeps what it holds at its end.
 #[derive(Clone, Copy, PartialEq, Debug)]
 pub enum Action {
     /// Acquires a token of the mode, blocking.
     Lock(Mode),
     /// Tries the mode, which must be admitted.
     Try(Mode),
+    /// Tries the mode, which must be refused.
+    Refused(Mode),
     /// Acquires an exclusive token by a try, or a shared one if the try is refused.
     WriteOrRead,
     /// Upgrades or downgrades the token, if it is not of the mode.
@@ -23,7 +26,7 @@ pub enum Action {
     TryUpgrade,
     Bump,
     Unlock,
-    /// Waits until all four threads have come.
+    /// Waits until all threads have come.
     Meet,
     /// Sleeps until the others have tried in vain, and sleep.
     Sleep,
@@ -32,6 +35,8 @@ pub enum Action {
     AwaitBar,
     /// Says that there was a write.
     Write,
+    /// Writes if a try gives an exclusive token, which it releases.
+    WriteIfFree,
     AwaitWrite,
     /// There must not have been a write.
     Unwritten,
@@ -69,7 +74,7 @@ impl<C: LockCore> Acts for RawLock<C> {
         lists: &[Actions],
         times: u32,
     ) -> Option<Action> {
-        let mut held = Held::nothing(self);
+        let mut held = Held::Nothing;
         let mut wrong = None;
         for _ in 0..times {
             for list in lists {
@@ -82,6 +87,7 @@ impl<C: LockCore> Acts for RawLock<C> {
                 }
             }
         }
+        forget(held);
         wrong
     }
 
@@ -99,21 +105,30 @@ fn acted<'a, C: LockCore, K: Clock>(
     action: Action,
 ) -> (Held<'a, C>, bool) {
     match action {
-        Action::Lock(mode) => (Held::lock(raw, mode), true),
+        Action::Lock(mode) => {
+            held.unlock();
+            (Held::lock(raw, mode), true)
+        }
         Action::Try(mode) => match Held::try_lock(raw, mode) {
-            Some(token) => (token, true),
+            Some(token) => {
+                held.unlock();
+                (token, true)
+            }
             None => (held, false),
         },
-        Action::WriteOrRead => match Held::try_lock(raw, Exclusive) {
-            Some(token) => (token, true),
-            None => (Held::lock(raw, Shared), true),
-        },
+        Action::WriteOrRead => {
+            held.unlock();
+            match Held::try_lock(raw, Exclusive) {
+                Some(token) => (token, true),
+                None => (Held::lock(raw, Shared), true),
+            }
+        }
         Action::To(mode) => (held.change(mode), true),
         Action::TryUpgrade => (held.try_upgrade(), true),
         Action::Bump => (held.bump(), true),
         Action::Unlock => {
             held.unlock();
-            (Held::nothing(raw), true)
+            (Held::Nothing, true)
         }
         other => (held, is_right(raw, clock, meeting, other)),
     }
@@ -127,11 +142,13 @@ fn is_right<C: LockCore, K: Clock>(
     action: Action,
 ) -> bool {
     match action {
-        Action::Meet => meeting.meet(RawRwLock::waiter(raw)),
+        Action::Meet => return meeting.meet(),
+        Action::Refused(mode) => return is_refused(raw, mode),
         Action::Sleep => clock.sleep(Duration::from_millis(50)),
         Action::Yield => thread::yield_now(),
         Action::AwaitBar => return await_bar(raw),
         Action::Write => meeting.write(),
+        Action::WriteIfFree => write_if_free(raw, meeting),
         Action::AwaitWrite => meeting.await_write(RawRwLock::waiter(raw)),
         Action::Unwritten => return !meeting.is_written(),
         Action::ReadUntilWritten => read_until_written(raw, meeting),
@@ -140,9 +157,27 @@ fn is_right<C: LockCore, K: Clock>(
     true
 }
 
+/// Returns whether a try of the mode is refused.
+fn is_refused<C: LockCore>(raw: &RawLock<C>, mode: Mode) -> bool {
+    match Held::try_lock(raw, mode) {
+        Some(token) => {
+            token.unlock();
+            false
+        }
+        None => true,
+    }
+}
+
+fn write_if_free<C: LockCore>(raw: &RawLock<C>, meeting: &Meeting) {
+    if let Some(token) = Held::try_lock(raw, Exclusive) {
+        meeting.write();
+        token.unlock();
+    }
+}
+
 /// Returns whether a reader is refused at last.
 fn await_bar<C: LockCore>(raw: &RawLock<C>) -> bool {
-    for _ in 0..1_000_000u32 {
+    for _ in 0..100_000_000u32 {
         match raw.try_lock_shared() {
             Some(shared) => raw.unlock_shared(shared),
             None => return true,
@@ -164,7 +199,7 @@ fn read_until_written<C: LockCore>(raw: &RawLock<C>, meeting: &Meeting) {
     }
 }
 
-/// What the first of four threads does, and each other, so many times.
+/// What the first of several threads does, and each other, so many times.
 #[derive(Drop)]
 pub struct Work<'a> {
     pub first: &'a [Actions],
@@ -173,7 +208,7 @@ pub struct Work<'a> {
 }
 
 /// Returns the first action of two threads that went wrong.
-fn in_two_threads<R: Threads + Clock + Sync, L: Acts + Sync>(
+pub fn in_two_threads<R: Threads + Clock + Sync, L: Acts + Sync>(
     rt: &R,
     lock: &L,
     meeting: &Meeting,
@@ -191,9 +226,9 @@ fn in_two_threads<R: Threads + Clock + Sync, L: Acts + Sync>(
 pub fn in_four_threads<R: Threads + Clock + Sync, L: Acts + Sync>(
     rt: &R,
     lock: &L,
+    meeting: &Meeting,
     work: &Work<'_>,
 ) -> Option<Action> {
-    let meeting = Meeting::new();
     let others = Work {
         first: work.others,
         others: work.others,
@@ -201,8 +236,8 @@ pub fn in_four_threads<R: Threads + Clock + Sync, L: Acts + Sync>(
     };
     let (one, other) = thread::join(
         rt,
-        || in_two_threads(rt, lock, &meeting, work),
-        || in_two_threads(rt, lock, &meeting, &others),
+        || in_two_threads(rt, lock, meeting, work),
+        || in_two_threads(rt, lock, meeting, &others),
     );
     one.or(other)
 }

@@ -3,7 +3,8 @@ use super::actions::Action::{
     self, AwaitBar, AwaitWrite, Lock, Meet, ReadUntilWritten, Sleep, To, Try, TryUpgrade, Unlock,
     Unwritten, Write, WriteOrRead, Yield,
 };
-use super::actions::{Actions, Acts, Work, in_four_threads};
+use super::actions::{Actions, Acts, Work, in_four_threads, in_two_threads};
+use super::meeting::Meeting;
 use lock_base::machine::Mode::{Exclusive, Shared, Upgradable};
 use lock_test_support::answer::equal;
 use std::test::Fail;
@@ -166,8 +167,23 @@ fn check_case<R: Threads + Clock + Sync, L: Acts + Sync>(
         others: &[others],
         times: 1,
     };
-    let wrong = in_four_threads(rt, lock, &work);
+    let wrong = in_four_threads(rt, lock, &Meeting::of(4), &work);
     equal((name, wrong, lock.is_held()), (name, None, false))
+}
+
+/// A writer that waits next to a single reader refuses a second one, and only while it waits.
+fn write_beside_a_reader<R: Threads + Clock + Sync, L: Acts + Sync>(
+    rt: &R,
+    lock: &L,
+) -> Result<(), Fail> {
+    let work = Work {
+        first: &[&[Lock(Shared), Meet, AwaitBar, Unlock]],
+        others: &[&[Meet, Lock(Exclusive), Unlock]],
+        times: 1,
+    };
+    let wrong = in_two_threads(rt, lock, &Meeting::of(2), &work);
+    let wrong_after = lock.act(rt, &Meeting::of(1), &[&[Try(Shared), Unlock]], 1);
+    equal((wrong, wrong_after), (None, None))
 }
 
 /// Four threads that make the same lists again and again.
@@ -183,7 +199,10 @@ fn contend<R: Threads + Clock + Sync, L: Acts + Sync>(
         times,
     };
     equal(
-        (in_four_threads(rt, lock, &work), lock.is_held()),
+        (
+            in_four_threads(rt, lock, &Meeting::of(4), &work),
+            lock.is_held(),
+        ),
         (None, false),
     )
 }
@@ -198,8 +217,9 @@ pub fn check<R: Threads + Clock + Sync, L: Acts + Sync>(
         check_case(rt, four, case)?;
     }
     check_case(rt, one, &WRITER_AMONG_READERS)?;
+    write_beside_a_reader(rt, four)?;
     contend(rt, four, &[ROUND], 1_000)?;
-    contend(rt, four, &SHORT_RUNS, 1_667)?;
+    contend(rt, four, &SHORT_RUNS, 300)?;
     contend(rt, one, &[ROUND], 1_000)?;
-    contend(rt, one, &[ROUND, ROUND, &[Meet]], 5_000)
+    contend(rt, one, &[ROUND, ROUND, &[Meet]], 1_000)
 }

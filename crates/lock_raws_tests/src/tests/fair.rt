@@ -5,9 +5,8 @@ mod scene;
 use counts::{Counted, read_until, write_a_hundred};
 use lock_base::machine::Mode;
 use lock_mutex::Mutex;
-use lock_raws::{LockCore, TableArbiter};
+use lock_raws::{LockCore, RealTime, TableArbiter};
 use lock_raws_fair::{FairCore, FairRaw};
-use lock_raws_word::RealTime;
 use lock_rwlock::RwLock;
 use lock_test_support::add_in_four_threads;
 use scene::{Act, Actor, play};
@@ -126,16 +125,15 @@ fn three_readers_that_never_pause_starve_no_writer(rt: HostRuntime) -> Result<()
 #[test]
 fn timed_calls_without_a_ticket_end(rt: HostRuntime) -> Result<(), Fail> {
     let core: FairCore<TableArbiter, HostRuntime, RealTime> = LockCore::new(rt.alloc(), rt, 4)?;
-    let held = core
-        .try_acquire(Mode::Exclusive)
-        .ok_or("a new lock is free")?;
     thread::join(
         &rt,
         || {
+            lock_test_support::wait_until(&rt, || core.is_locked());
             let token = core.acquire(Mode::Exclusive);
             core.release(token, Mode::Exclusive);
         },
         || {
+            let held = core.acquire(Mode::Exclusive);
             lock_test_support::wait_until(&rt, || core.arrivals() == 1);
             for _ in 0..70u32 {
                 if let Some(deadline) = core.instant_after(Duration::from_micros(200))

@@ -33,15 +33,21 @@ fn downgrade_at_the_other<W: Wait + Clone + Drop>(
 }
 
 /// They also write no step.
+fn check<W: Wait + Clone + Drop>(alloc: Global, waiters: [W; 3]) -> Result<(), Fail> {
+    let [first, second, third] = waiters;
+    let one = RecordingRaw::with_room(alloc, first, 1, 4)?;
+    let other = RecordingRaw::with_room(alloc, second, 1, 4)?;
+    equal(unlock_the_other(&one, &other), [true, true])?;
+    let third = RecordingRaw::with_room(alloc, third, 1, 4)?;
+    equal(downgrade_at_the_other(&third, &other), [false, false])?;
+    let steps = other.journal(alloc)?;
+    equal(
+        steps.as_slice(),
+        [Acquire(Shared), Release(Shared)].as_slice(),
+    )
+}
+
 #[test]
 fn foreign_tokens_are_ignored(rt: HostRuntime) -> Result<(), Fail> {
-    let one = RecordingRaw::with_room(rt.alloc(), rt, 1, 4)?;
-    let other = RecordingRaw::with_room(rt.alloc(), rt, 1, 4)?;
-    assert_eq!(rt; unlock_the_other(&one, &other), [true, true]);
-    let third = RecordingRaw::with_room(rt.alloc(), rt, 1, 4)?;
-    assert_eq!(rt; downgrade_at_the_other(&third, &other), [false, false]);
-    assert!(rt;
-        other.journal(rt.alloc())?.as_slice() == [Acquire(Shared), Release(Shared)].as_slice()
-    );
-    Ok(())
+    check(rt.alloc(), [rt; 3])
 }

@@ -1,32 +1,40 @@
-//! Where four threads wait for one another, and what they tell one another.
+//! Where threads wait for one another, and what they tell one another.
 use std::sync::Wait;
 use std::sync::atomic::{AtomicU64, Ordering};
 use std::thread;
 
-const THREADS: u64 = 4;
-
-/// Counts of what four threads have done.
+/// Counts of what threads have done.
 #[derive(Drop)]
 pub struct Meeting {
+    threads: u64,
     arrivals: AtomicU64,
     reads: AtomicU64,
     writes: AtomicU64,
 }
 
 impl Meeting {
-    pub fn new() -> Meeting {
+    /// A meeting of so many threads.
+    pub fn of(threads: u64) -> Meeting {
         Meeting {
+            threads,
             arrivals: AtomicU64::new(0),
             reads: AtomicU64::new(0),
             writes: AtomicU64::new(0),
         }
     }
 
-    /// Waits until all threads have come as often as this one.
-    pub fn meet<W: Wait>(&self, waiter: &W) {
+    /// Waits until all threads have come as often as this one. Returns whether they came.
+    pub fn meet(&self) -> bool {
         let before = self.arrivals.fetch_add(1, Ordering::SeqCst);
-        let all = (before / THREADS).wrapping_add(1).wrapping_mul(THREADS);
-        wait_for(waiter, &self.arrivals, all);
+        let round = before.checked_div(self.threads).unwrap_or(0);
+        let all = round.wrapping_add(1).wrapping_mul(self.threads);
+        for _ in 0..100_000_000u32 {
+            if self.arrivals.load(Ordering::SeqCst) >= all {
+                return true;
+            }
+            thread::yield_now();
+        }
+        false
     }
 
     pub fn write(&self) {
@@ -34,7 +42,11 @@ impl Meeting {
     }
 
     pub fn is_written(&self) -> bool {
-        self.writes.load(Ordering::SeqCst) != 0
+        self.writes() != 0
+    }
+
+    pub fn writes(&self) -> u64 {
+        self.writes.load(Ordering::SeqCst)
     }
 
     pub fn await_write<W: Wait>(&self, waiter: &W) {

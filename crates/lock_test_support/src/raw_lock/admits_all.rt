@@ -1,7 +1,7 @@
 //! A raw lock that admits everything.
 use lock_base::machine::Mode;
 use lock_base::raw::Fault;
-use lock_guard::raw::{GuardSend, RawMutex, RawMutexFair};
+use lock_guard::raw::{GuardSend, RawMutex, RawMutexFair, RawMutexTimed};
 use lock_recorder::{CallLog, RawCall};
 use std::alloc::Global;
 use std::clone::Clone;
@@ -67,5 +67,20 @@ impl<W: Wait + Clone + Drop> RawMutex for AdmitsAll<W> {
 impl<W: Wait + Clone + Drop> RawMutexFair for AdmitsAll<W> {
     fn unlock_fair(&self, _token: GuardSend) {
         self.asked(RawCall::UnlockFair(Mode::Exclusive));
+    }
+}
+
+/// A timed try is a plain try.
+impl<W: Wait + Clone + Drop> RawMutexTimed for AdmitsAll<W> {
+    type Duration = ();
+
+    type Instant = ();
+
+    fn try_lock_for(&self, _timeout: ()) -> Option<GuardSend> {
+        self.tried(Mode::Exclusive)
+    }
+
+    fn try_lock_until(&self, _deadline: ()) -> Option<GuardSend> {
+        self.tried(Mode::Exclusive)
     }
 }

@@ -1,7 +1,7 @@
 //! Each call that allocates, with an allocation refused.
 use crate::tests::WRITER;
-use lock_base::raw::Fault;
 use lock_states::world::World;
+use lock_test_support::answer::lacks_memory;
 use lock_word::seated::{Attempt, SeatedLock};
 use lock_word::{AtomicStep, ExWant, ExWant as Wanted, Outcome};
 use std::test::Fail;
@@ -10,10 +10,7 @@ use std::test::Fail;
 fn refused_memory_world(rt: HostRuntime) -> Result<(), Fail> {
     let mut world = match World::new(rt.alloc(), 2, 1) {
         Ok(world) => world,
-        Err(fault) => {
-            assert!(rt; fault == Fault::OutOfMemory);
-            return Ok(());
-        }
+        Err(fault) => return lacks_memory(&rt, fault),
     };
     let steps = [
         AtomicStep::Load(2),
@@ -25,7 +22,8 @@ fn refused_memory_world(rt: HostRuntime) -> Result<(), Fail> {
             assert!(rt; world.word() == WRITER);
         }
         Err(fault) => {
-            assert!(rt; fault == Fault::OutOfMemory && world.word() == 0);
+            lacks_memory(&rt, fault)?;
+            assert!(rt; world.word() == 0);
             assert!(rt; world.step(AtomicStep::Load(2)) == Outcome::Loaded(0));
         }
     }
@@ -33,12 +31,13 @@ fn refused_memory_world(rt: HostRuntime) -> Result<(), Fail> {
 }
 
 #[test]
-fn refused_memory_seated_lock(rt: HostRuntime) {
+fn refused_memory_seated_lock(rt: HostRuntime) -> Result<(), Fail> {
     match SeatedLock::new(rt.alloc(), 1) {
         Ok((lock, mut party)) => {
             assert!(rt; lock.attempt(&mut party, ExWant::Exclusive) == Attempt::Done);
             assert!(rt; lock.load(&mut party) == WRITER);
+            Ok(())
         }
-        Err(fault) => assert!(rt; fault == Fault::OutOfMemory),
+        Err(fault) => lacks_memory(&rt, fault),
     }
 }

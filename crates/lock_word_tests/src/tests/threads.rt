@@ -71,21 +71,18 @@ fn swap_alone(lock: &SeatedLock, party: &mut Party, flag: &AtomicBool) -> (bool,
     (true, !found && left)
 }
 
-/// Attempts 1,000 times, by the party and a second one that it splits off, in turn. Returns whether one acquired at
-/// all, and whether each holder was alone.
+/// Attempts 1,000 times. Returns whether it acquired at all, and whether it was alone each time.
 ///
 /// It has no permission to block, so no call of it blocks.
-fn contend(lock: &SeatedLock, party: Party, flag: &AtomicBool) -> (bool, bool)
+fn contend(lock: &SeatedLock, mut party: Party, flag: &AtomicBool) -> (bool, bool)
     requires { party.lock ≡ lock.now }
 {
-    let (mut party, mut other) = lock.split(party);
     let mut held = false;
     let mut alone = true;
-    for _ in 0..500u32 {
-        let first = swap_alone(lock, &mut party, flag);
-        let second = swap_alone(lock, &mut other, flag);
-        held |= first.0 || second.0;
-        alone &= first.1 && second.1;
+    for _ in 0..1_000u32 {
+        let (is_held, was_alone) = swap_alone(lock, &mut party, flag);
+        held |= is_held;
+        alone &= was_alone;
     }
     (held, alone)
 }

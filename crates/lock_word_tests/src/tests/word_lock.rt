@@ -164,10 +164,19 @@ fn no_short_run_hangs(rt: HostRuntime) -> Result<(), Fail> {
     Ok(())
 }
 
-/// Releases the token once a call sleeps. Returns whether a reader was refused before.
-fn refuse_and_release<R: Wait>(rt: &R, lock: &WordLock, token: WordToken) -> bool
-    requires { IsTokenOf lock.now Shared token }
-{
+/// Waits until a token is held.
+fn let_be_held<R: Wait>(rt: &R, lock: &WordLock) {
+    for _ in rt.forever() {
+        if lock.is_locked() {
+            break;
+        }
+        yield_now();
+    }
+}
+
+/// Reads until a call sleeps. Returns whether a reader was refused then.
+fn read_and_refuse<R: Wait>(rt: &R, lock: &WordLock) -> bool {
+    let token = lock.acquire(rt, Mode::Shared);
     let_sleep(rt, lock, 1, FAR);
     let is_refused = match lock.try_acquire(Mode::Shared) {
         Some(reader) => {
@@ -183,29 +192,31 @@ fn refuse_and_release<R: Wait>(rt: &R, lock: &WordLock, token: WordToken) -> boo
 #[test]
 fn a_waiting_writer_keeps_readers_out_and_is_woken(rt: HostRuntime) -> Result<(), Fail> {
     let lock = WordLock::new(rt.alloc(), 4)?;
-    let token = lock.acquire(&rt, Mode::Shared);
     let (is_refused, _) = join(
         &rt,
-        || refuse_and_release(&rt, &lock, token),
-        || write_announced(&rt, &lock),
+        || read_and_refuse(&rt, &lock),
+        || {
+            let_be_held(&rt, &lock);
+            write_announced(&rt, &lock)
+        },
     );
     assert!(rt; is_refused, "the bar is set");
     assert!(rt; lock.epoch() > 0, "the release ended an epoch");
     Ok(())
 }
 
-/// Downgrades once two calls sleep, and keeps the shared token until both have read.
-fn downgrade_later<R: Wait>(rt: &R, lock: &WordLock, token: WordToken, reads: &AtomicU64)
-    requires { IsTokenOf lock.now Exclusive token }
-{
+/// Writes until two calls sleep, downgrades, and keeps the shared token until both have read.
+fn downgrade_later<R: Wait>(rt: &R, lock: &WordLock, reads: &AtomicU64) {
+    let token = lock.acquire(rt, Mode::Exclusive);
     let_sleep(rt, lock, 2, FAR);
     let token = lock.downgrade(token);
     come_to(rt, reads, 2);
     lock.release(token, Mode::Shared);
 }
 
-/// Reads once, and counts that.
+/// Reads once, after the other thread has acquired, and counts that.
 fn read_and_count<R: Wait>(rt: &R, lock: &WordLock, reads: &AtomicU64) {
+    let_be_held(rt, lock);
     let token = lock.acquire(rt, Mode::Shared);
     reads.fetch_add(1, Ordering::SeqCst);
     lock.release(token, Mode::Shared);
@@ -214,11 +225,10 @@ fn read_and_count<R: Wait>(rt: &R, lock: &WordLock, reads: &AtomicU64) {
 #[test]
 fn a_downgrade_wakes_readers(rt: HostRuntime) -> Result<(), Fail> {
     let lock = WordLock::new(rt.alloc(), 4)?;
-    let token = lock.acquire(&rt, Mode::Exclusive);
     let reads = AtomicU64::new(0);
     join(
         &rt,
-        || downgrade_later(&rt, &lock, token, &reads),
+        || downgrade_later(&rt, &lock, &reads),
         || {
             join(
                 &rt,

@@ -2,10 +2,10 @@
 use crate::tests::Table;
 use lock_base::raw::Fault;
 use lock_guard::raw::RawMutex;
-use lock_mutex::Mutex;
-use lock_raws::RawLock;
+use lock_mutex::{Condvar, Mutex};
+use lock_raws::{RawLock, SleepingCondvar};
 use lock_recorder::Recorder;
-use lock_test_support::answer::equal;
+use lock_test_support::answer::{answers_or_lacks_memory, equal};
 use std::alloc::Global;
 use std::test::Fail;
 
@@ -49,8 +49,13 @@ fn makers_of_a_mutex_lock_nothing(rt: HostRuntime) -> Result<(), Fail> {
 
 #[test]
 fn refused_memory_in_makers_of_a_mutex(rt: HostRuntime) -> Result<(), Fail> {
-    match made::<RawLock<Table>>(rt.alloc(), [rt; 3]) {
-        Ok(made) => equal(made, WANTED),
-        Err(fault) => equal(fault, Fault::OutOfMemory),
-    }
+    let made = made::<RawLock<Table>>(rt.alloc(), [rt; 3]);
+    answers_or_lacks_memory(&rt, made, WANTED)
+}
+
+/// A condition variable whose waiters sleep allocates their count. A new one has none.
+#[test]
+fn refused_memory_condvar(rt: HostRuntime) -> Result<(), Fail> {
+    let condvar: Result<Condvar<SleepingCondvar<RawLock<Table>>>, Fault> = Condvar::new(rt.alloc());
+    answers_or_lacks_memory(&rt, condvar.map(|condvar| condvar.notify_all()), 0)
 }

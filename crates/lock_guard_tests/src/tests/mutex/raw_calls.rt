@@ -5,6 +5,9 @@ use lock_recorder::CallLog;
 use lock_recorder::RawCall::{self, Lock, Unlock, UnlockFair};
 use lock_test_support::answer::equal;
 use lock_test_support::raw_lock::{AdmitsAll, Watch};
+use std::alloc::Global;
+use std::clone::Clone;
+use std::sync::Wait;
 use std::test::Fail;
 
 /// Whether a look at a raw lock that was locked and unlocked sees these calls, and whether the look after it sees none.
@@ -17,19 +20,19 @@ fn looks<R: RawMutex>(raw: &R, calls: CallLog, wanted: &[RawCall]) -> (bool, boo
     (is_right, watch.is_right())
 }
 
-/// A look that saw other calls than it wanted is told, and a later one that is right does not mend it.
-#[test]
-fn a_watch_tells_of_other_calls(rt: HostRuntime) -> Result<(), Fail> {
-    let raw: AdmitsAll<HostRuntime> = RawMutex::new(rt.alloc(), rt)?;
-    let looked: [(&[RawCall], bool); 4] = [
-        (&[Lock(Exclusive), Unlock(Exclusive)], true),
-        (&[Lock(Exclusive), UnlockFair(Exclusive)], false),
-        (&[Lock(Exclusive)], false),
-        (&[], false),
-    ];
-    for (wanted, is_right) in looked {
+/// Calls that are wanted, and whether they are those of a lock and its unlock.
+const LOOKS: [(&[RawCall], bool); 4] = [
+    (&[Lock(Exclusive), Unlock(Exclusive)], true),
+    (&[Lock(Exclusive), UnlockFair(Exclusive)], false),
+    (&[Lock(Exclusive)], false),
+    (&[], false),
+];
+
+fn check_looks<W: Wait + Clone + Drop>(alloc: Global, waiter: W) -> Result<(), Fail> {
+    let raw: AdmitsAll<W> = RawMutex::new(alloc, waiter)?;
+    for (wanted, is_right) in LOOKS {
         let seen = looks(&raw, raw.log()?, wanted);
-        assert_eq!(rt; seen, (is_right, is_right), "{wanted:?}");
+        equal((wanted, seen), (wanted, (is_right, is_right)))?;
     }
     let calls = raw.log()?;
     let was_empty = calls.is_empty();
@@ -37,9 +40,14 @@ fn a_watch_tells_of_other_calls(rt: HostRuntime) -> Result<(), Fail> {
     equal((was_empty, calls.is_empty()), (true, false))
 }
 
+/// A look that saw other calls than it wanted is told, and a later one that is right does not mend it.
 #[test]
-fn a_bump_by_default_is_a_fair_unlock_and_a_lock(rt: HostRuntime) -> Result<(), Fail> {
-    let raw: AdmitsAll<HostRuntime> = RawMutex::new(rt.alloc(), rt)?;
+fn a_watch_tells_of_other_calls(rt: HostRuntime) -> Result<(), Fail> {
+    check_looks(rt.alloc(), rt)
+}
+
+fn check_bump<W: Wait + Clone + Drop>(alloc: Global, waiter: W) -> Result<(), Fail> {
+    let raw: AdmitsAll<W> = RawMutex::new(alloc, waiter)?;
     let mut watch = Watch::new(raw.log()?);
     raw.unlock(RawMutexFair::bump(&raw, RawMutex::lock(&raw)));
     watch.saw(&[
@@ -49,4 +57,9 @@ fn a_bump_by_default_is_a_fair_unlock_and_a_lock(rt: HostRuntime) -> Result<(), 
         Unlock(Exclusive),
     ]);
     watch.verdict()
+}
+
+#[test]
+fn a_bump_by_default_is_a_fair_unlock_and_a_lock(rt: HostRuntime) -> Result<(), Fail> {
+    check_bump(rt.alloc(), rt)
 }

@@ -21,10 +21,7 @@ use std::test::Fail;
 type Paired<R> = ReentrantMutex<R, (u64, u64)>;
 
 /// Maps a guard that was just acquired: by a part that is there, and by one that is not.
-fn maps<R: RawMutexFair>(lock: &Paired<R>, watch: &mut Watch, party: PartyId) -> Result<(), Fault>
-where
-    R::Guard: Drop,
-{
+fn maps<R: RawMutexFair>(lock: &Paired<R>, watch: &mut Watch, party: PartyId) -> Result<(), Fault> {
     watch.saw_hold(
         ReentrantMutexGuard::map(lock.lock(party)?, Item0),
         Exclusive,
@@ -53,10 +50,7 @@ fn inner_maps<R: RawMutexFair>(
     lock: &Paired<R>,
     watch: &mut Watch,
     party: PartyId,
-) -> Option<(usize, u64)>
-where
-    R::Guard: Drop,
-{
+) -> Option<(usize, u64)> {
     let outer = lock.lock(party).ok()?;
     let guard = ReentrantMutexGuard::try_map(lock.lock(party).ok()?, Nth(2)).err()?;
     let (guard, missed) = ReentrantMutexGuard::try_map_or_err(guard, Nth(5)).err()?;
@@ -73,10 +67,7 @@ fn ends<R: RawMutex + Drop>(
     lock: Arc<Paired<R>>,
     watch: &mut Watch,
     party: PartyId,
-) -> Result<(), Fault>
-where
-    R::Guard: Drop,
-{
+) -> Result<(), Fault> {
     let guard = ReentrantMutex::lock_arc(&lock, party)?;
     ArcReentrantMutexGuard::remutex(&guard);
     watch.saw_hold(guard, Exclusive);
@@ -87,7 +78,7 @@ where
 
 fn check<R: RawMutexFair + Drop>(alloc: Global, waiter: R::Waiter) -> Result<(), Fail>
 where
-    R::Guard: Send + Drop,
+    R::Guard: Send,
 {
     let one = party(1)?;
     let raw: Recorder<R> = RawMutex::new(alloc, waiter)?;

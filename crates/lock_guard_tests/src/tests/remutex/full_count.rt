@@ -19,10 +19,7 @@ use std::test::Fail;
 type Refused = (&'static str, Option<Fault>);
 
 /// The refusal of `unlocked` whose closure acquires the only level.
-fn unlocked<R: RawMutex>(guard: ReentrantMutexGuard<'_, R, u8>, party: PartyId) -> Option<Fault>
-where
-    R::Guard: Drop,
-{
+fn unlocked<R: RawMutex>(guard: ReentrantMutexGuard<'_, R, u8>, party: PartyId) -> Option<Fault> {
     let lock = ReentrantMutexGuard::remutex(&guard);
     let (fault, taken) = ReentrantMutexGuard::unlocked(guard, || lock.lock(party)).err()?;
     taken.ok()?;
@@ -33,10 +30,7 @@ where
 fn refused<R: RawMutexTimed<Duration = u64, Instant = u64>>(
     guard: ReentrantMutexGuard<'_, R, u8>,
     party: PartyId,
-) -> [Refused; 5]
-where
-    R::Guard: Drop,
-{
+) -> [Refused; 5] {
     let lock = ReentrantMutexGuard::remutex(&guard);
     [
         ("lock", lock.lock(party).err()),
@@ -51,10 +45,7 @@ where
 fn arc_refused<R: RawMutexTimed<Duration = u64, Instant = u64> + Drop>(
     lock: &Arc<ReentrantMutex<R, u8>>,
     party: PartyId,
-) -> [Refused; 4]
-where
-    R::Guard: Drop,
-{
+) -> [Refused; 4] {
     [
         ("lock_arc", ReentrantMutex::lock_arc(lock, party).err()),
         (
@@ -75,7 +66,7 @@ where
 /// The refusals by guards that borrow, and the raw calls that they make. Returns the value.
 fn check_borrowed<R: RawMutexTimed + Drop>(alloc: Global, waiter: R::Waiter) -> Result<u8, Fail>
 where
-    R::Guard: Send + Drop,
+    R::Guard: Send,
     R::Duration: Default,
     R::Instant: Deadline<R::Waiter>,
 {
@@ -104,7 +95,7 @@ fn check_arc<R: RawMutexTimed + Drop>(
     value: u8,
 ) -> Result<(), Fail>
 where
-    R::Guard: Send + Drop,
+    R::Guard: Send,
     R::Duration: Default,
     R::Instant: Deadline<R::Waiter>,
 {

@@ -8,22 +8,20 @@ use lock_guard::raw::RawMutex;
 use lock_raws::RawLock;
 use lock_recorder::RawCall::Lock;
 use lock_recorder::Recorder;
-use lock_remutex::ReentrantMutex;
-use lock_test_support::answer::equal;
+use lock_remutex::{RawReentrantMutex, ReentrantMutex};
+use lock_test_support::answer::{answers_or_lacks_memory, equal, lacks_memory};
 use lock_test_support::party;
 use lock_test_support::raw_lock::Watch;
 use std::alloc::Global;
 use std::mem;
+use std::rt::Env;
 use std::test::Fail;
 
 /// A maker, the value of its lock, how many of a hundred levels a party gets, and whether they are one raw call.
 type Made = (Maker, u8, u8, bool);
 
 /// How many of a hundred levels the party gets. They stay held.
-fn levels<R: RawMutex>(lock: &ReentrantMutex<R, u8>, party: PartyId) -> u8
-where
-    R::Guard: Drop,
-{
+fn levels<R: RawMutex>(lock: &ReentrantMutex<R, u8>, party: PartyId) -> u8 {
     for level in 0..100 {
         match lock.lock(party) {
             Ok(guard) => mem::forget(guard),
@@ -38,10 +36,7 @@ fn consumed<R: RawMutex + Drop>(
     maker: Maker,
     lock: ReentrantMutex<Recorder<R>, u8>,
     party: PartyId,
-) -> Result<Made, Fault>
-where
-    R::Guard: Drop,
-{
+) -> Result<Made, Fault> {
     let levels = levels(&lock, party);
     let (raw, value) = lock.into_inner_with_raw();
     let mut watch = Watch::new(raw.log()?);
@@ -55,7 +50,7 @@ fn made<R: RawMutex + Drop>(
     one: PartyId,
 ) -> Result<[Made; 5], Fault>
 where
-    R::Guard: Send + Drop,
+    R::Guard: Send,
 {
     let [first, second, third, fourth, fifth] = waiters;
     let raw: Recorder<R> = RawMutex::new(alloc, fifth)?;
@@ -92,9 +87,47 @@ fn makers_of_a_reentrant_lock_lock_nothing(rt: HostRuntime) -> Result<(), Fail> 
     )
 }
 
-/// The record of raw calls may lack one for want of memory, so no answers are compared.
+/// A maker, the value of its lock, and how many of a hundred levels a party gets.
+type Levelled = (Maker, u8, u8);
+
+/// Leaves out the raw calls, since their record may lack one for want of memory.
+fn without_calls(made: [Made; 5]) -> [Levelled; 5] {
+    made.map(|(maker, value, levels, _)| (maker, value, levels))
+}
+
 #[test]
-fn refused_memory_is_told_by_the_makers(rt: HostRuntime) -> Result<(), Fail> {
-    let refusal = made::<RawLock<Table>>(rt.alloc(), [rt; 5], party(1)?).err();
-    equal(refusal.unwrap_or(Fault::OutOfMemory), Fault::OutOfMemory)
+fn refused_memory_in_makers_of_a_reentrant_lock(rt: HostRuntime) -> Result<(), Fail> {
+    let made = made::<RawLock<Table>>(rt.alloc(), [rt; 5], party(1)?);
+    answers_or_lacks_memory(&rt, made.map(without_calls), without_calls(WANTED))
+}
+
+/// Checks that the party gets a level of the lock, or that its maker lacked memory.
+fn check_or_lacks<R: RawMutex + Drop, E: Env>(
+    rt: &E,
+    made: Result<RawReentrantMutex<R>, Fault>,
+    one: PartyId,
+) -> Result<(), Fail> {
+    match made {
+        Ok(lock) => equal(lock.try_lock(one), Ok(true)),
+        Err(fault) => lacks_memory(rt, fault),
+    }
+}
+
+fn check_raw_makers<R: RawMutex + Drop, E: Env>(
+    rt: &E,
+    alloc: Global,
+    waiters: [R::Waiter; 2],
+) -> Result<(), Fail>
+where
+    R::Guard: Send,
+{
+    let one = party(1)?;
+    let [first, last] = waiters;
+    check_or_lacks(rt, RawReentrantMutex::<R>::new(alloc, first), one)?;
+    check_or_lacks(rt, RawReentrantMutex::<R>::with_levels(alloc, last, 3), one)
+}
+
+#[test]
+fn refused_memory_raw_reentrant_mutex(rt: HostRuntime) -> Result<(), Fail> {
+    check_raw_makers::<RawLock<Table>, HostRuntime>(&rt, rt.alloc(), [rt; 2])
 }

@@ -8,6 +8,9 @@ use lock_remutex::RawReentrantMutex;
 use lock_test_support::answer::equal;
 use lock_test_support::raw_lock::{AdmitsAll, Watch};
 use lock_test_support::two_parties;
+use std::alloc::Global;
+use std::clone::Clone;
+use std::sync::Wait;
 use std::test::Fail;
 
 /// A call of a party.
@@ -49,10 +52,7 @@ fn answer<R: RawMutexFair>(
     lock: &RawReentrantMutex<R>,
     act: Act,
     party: PartyId,
-) -> Result<bool, Fault>
-where
-    R::Guard: Drop,
-{
+) -> Result<bool, Fault> {
     match act {
         Act::Lock => lock.lock(party)?,
         Act::TryLock => return lock.try_lock(party),
@@ -63,10 +63,7 @@ where
     Ok(true)
 }
 
-fn check<R: RawMutexFair>(lock: &RawReentrantMutex<R>) -> Result<(), Fail>
-where
-    R::Guard: Drop,
-{
+fn check_answers<R: RawMutexFair>(lock: &RawReentrantMutex<R>) -> Result<(), Fail> {
     let (one, two) = two_parties()?;
     for (call, act, is_first, wanted, is_owned) in ANSWERED {
         let found = answer(lock, act, if is_first { one } else { two });
@@ -77,11 +74,10 @@ where
 }
 
 /// Another party's token is released at once, since it came too early.
-#[test]
-fn a_raw_lock_that_lies_makes_no_second_owner(rt: HostRuntime) -> Result<(), Fail> {
-    let raw: AdmitsAll<HostRuntime> = RawMutex::new(rt.alloc(), rt)?;
+fn check_calls<W: Wait + Clone + Drop>(alloc: Global, waiter: W) -> Result<(), Fail> {
+    let raw: AdmitsAll<W> = RawMutex::new(alloc, waiter)?;
     let mut watch = Watch::new(raw.log()?);
-    check(&RawReentrantMutex::from_raw(rt.alloc(), raw)?)?;
+    check_answers(&RawReentrantMutex::from_raw(alloc, raw)?)?;
     watch.saw(&[
         Lock(Exclusive),
         TryLock(Exclusive),
@@ -92,4 +88,9 @@ fn a_raw_lock_that_lies_makes_no_second_owner(rt: HostRuntime) -> Result<(), Fai
         Lock(Exclusive),
     ]);
     watch.verdict()
+}
+
+#[test]
+fn a_raw_lock_that_lies_makes_no_second_owner(rt: HostRuntime) -> Result<(), Fail> {
+    check_calls(rt.alloc(), rt)
 }

@@ -16,10 +16,10 @@ use std::test::Fail;
 use std::thread;
 
 /// Adds 1 a thousand times, by a separate read and write.
-fn count_up<R: RawMutex>(count: &ReentrantMutex<R, AtomicU64>, party: PartyId) -> Result<(), Fault>
-where
-    R::Guard: Drop,
-{
+fn count_up<R: RawMutex>(
+    count: &ReentrantMutex<R, AtomicU64>,
+    party: PartyId,
+) -> Result<(), Fault> {
     for _ in 0..1_000 {
         let outer = count.lock(party)?;
         let inner = count.lock(party)?;
@@ -53,10 +53,7 @@ fn own_for_six_calls<W: Wait, R: RawMutex>(
     waiter: &W,
     calls: &CallLog,
     is_owned: &AtomicBool,
-) -> Result<(), Fault>
-where
-    R::Guard: Drop,
-{
+) -> Result<(), Fault> {
     let _guard = lock.lock(party)?;
     is_owned.store(true, Ordering::SeqCst);
     wait_for_calls(waiter, calls, 6);
@@ -69,10 +66,7 @@ fn lock_once_owned<W: Wait, R: RawMutex>(
     party: PartyId,
     waiter: &W,
     is_owned: &AtomicBool,
-) -> Result<bool, Fault>
-where
-    R::Guard: Drop,
-{
+) -> Result<bool, Fault> {
     wait_for_flag(waiter, is_owned);
     let _guard = lock.lock(party)?;
     Ok(lock.is_owned_by_current_thread(party))
@@ -101,10 +95,7 @@ fn bump<W: Wait, R: RawMutexFair>(
     waiter: &W,
     is_held: &AtomicBool,
     is_over: &AtomicBool,
-) -> Result<bool, Fault>
-where
-    R::Guard: Drop,
-{
+) -> Result<bool, Fault> {
     let mut guard = lock.lock(party)?;
     is_held.store(true, Ordering::SeqCst);
     ReentrantMutexGuard::bump(&mut guard);
@@ -119,10 +110,7 @@ fn lock_during_bump<W: Wait, R: RawMutex>(
     waiter: &W,
     is_held: &AtomicBool,
     is_over: &AtomicBool,
-) -> Result<(), Fault>
-where
-    R::Guard: Drop,
-{
+) -> Result<(), Fault> {
     wait_for_flag(waiter, is_held);
     wait_until(waiter, || !lock.is_owned_by_current_thread(party));
     let guard = lock.lock(party)?;

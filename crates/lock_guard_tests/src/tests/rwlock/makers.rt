@@ -1,12 +1,14 @@
 //! The makers of a lock.
 use crate::tests::Table;
 use lock_base::raw::Fault;
+use lock_guard::forget;
 use lock_guard::raw::RawRwLock;
 use lock_raws::{LockCore, RawLock};
 use lock_recorder::Recorder;
 use lock_rwlock::RwLock;
-use lock_test_support::answer::{equal, holds_or_lacks_memory};
+use lock_test_support::answer::{answers_or_lacks_memory, equal};
 use std::alloc::Global;
+use std::rt::Env;
 use std::test::Fail;
 
 /// A maker's name, its lock, how many readers that admits, and its value.
@@ -31,14 +33,11 @@ fn made<R: RawRwLock>(alloc: Global, waiters: [R::Waiter; 4]) -> Makers<R> {
 }
 
 /// How many of 66 tries get a shared token, none of which is released.
-fn readers_of_66<R: RawRwLock>(raw: &R) -> u64
-where
-    R::SharedGuard: Drop,
-{
+fn readers_of_66<R: RawRwLock>(raw: &R) -> u64 {
     let mut readers = 0_u64;
     for _ in 0..66_u32 {
         if let Some(token) = raw.try_lock_shared() {
-            drop(token);
+            forget(token);
             readers = readers.wrapping_add(1);
         }
     }
@@ -46,10 +45,7 @@ where
 }
 
 /// Checks a lock, and that its maker made no raw call.
-fn check_made<R: RawRwLock + Drop>(made: Made<Recorder<R>>) -> Result<(), Fail>
-where
-    R::SharedGuard: Drop,
-{
+fn check_made<R: RawRwLock + Drop>(made: Made<Recorder<R>>) -> Result<(), Fail> {
     let (name, lock, readers, value) = made;
     let (raw, found) = lock?.into_inner_with_raw();
     let has_no_calls = raw.has_no_calls();
@@ -59,10 +55,7 @@ where
     )
 }
 
-pub fn check<R: RawRwLock + Drop>(alloc: Global, waiters: [R::Waiter; 4]) -> Result<(), Fail>
-where
-    R::SharedGuard: Drop,
-{
+pub fn check<R: RawRwLock + Drop>(alloc: Global, waiters: [R::Waiter; 4]) -> Result<(), Fail> {
     let (new, from, default, with_readers) = made::<Recorder<R>>(alloc, waiters);
     check_made(new)?;
     check_made(from)?;
@@ -70,23 +63,26 @@ where
     check_made(with_readers)
 }
 
-/// Whether the maker gave a lock of its value, or answered that there was no memory.
-fn holds_or_lacks<C: LockCore>(made: Made<RawLock<C>>) -> bool {
-    let (_, lock, _, value) = made;
-    holds_or_lacks_memory(lock.map(|lock| lock.into_inner()), value)
+/// Checks that the maker gave a lock of its value, or that it lacked memory.
+fn check_or_lacks<C: LockCore, E: Env>(rt: &E, made: Made<RawLock<C>>) -> Result<(), Fail> {
+    let (name, lock, _, value) = made;
+    let found = lock.map(|lock| (name, lock.into_inner()));
+    answers_or_lacks_memory(rt, found, (name, value))
 }
 
-fn hold_or_lack<C: LockCore>(alloc: Global, waiters: [C::Waiter; 4]) -> [bool; 4] {
+fn check_all_or_lack<C: LockCore, E: Env>(
+    rt: &E,
+    alloc: Global,
+    waiters: [C::Waiter; 4],
+) -> Result<(), Fail> {
     let (new, from, default, with_readers) = made(alloc, waiters);
-    [
-        holds_or_lacks::<C>(new),
-        holds_or_lacks(from),
-        holds_or_lacks(default),
-        holds_or_lacks(with_readers),
-    ]
+    check_or_lacks::<C, E>(rt, new)?;
+    check_or_lacks(rt, from)?;
+    check_or_lacks(rt, default)?;
+    check_or_lacks(rt, with_readers)
 }
 
 #[test]
-fn refused_memory_rwlock_makers(rt: HostRuntime) {
-    assert!(rt; hold_or_lack::<Table>(rt.alloc(), [rt; 4]) == [true; 4]);
+fn refused_memory_rwlock_makers(rt: HostRuntime) -> Result<(), Fail> {
+    check_all_or_lack::<Table, HostRuntime>(&rt, rt.alloc(), [rt; 4])
 }

@@ -11,6 +11,9 @@ use lock_recorder::RawCall::{
 use lock_rwlock::{RwLock, RwLockReadGuard, RwLockUpgradableReadGuard, RwLockWriteGuard};
 use lock_test_support::project::{Item0, Nested, inner_item};
 use lock_test_support::raw_lock::{AdmitsAll, Watch, watch_fair_end, watch_write};
+use std::alloc::Global;
+use std::clone::Clone;
+use std::sync::Wait;
 use std::test::Fail;
 
 /// A pair in a pair behind a lock.
@@ -26,18 +29,19 @@ fn names<R: RawRwLock>(lock: &Paired<R>, watch: &mut Watch) {
     watch.saw_hold(writer, Exclusive);
 }
 
-/// A guard is mapped, by a part that is there and by one that is not. What a mapped guard asks by itself is one code for
-/// all locks, and asked of a mutex.
+/// A guard is mapped. What a mapped guard asks by itself is one code for all locks, and asked of a mutex.
 fn maps<R: RawRwLockFair>(lock: &Paired<R>, watch: &mut Watch) {
     watch.saw_hold(RwLockReadGuard::map(lock.read(), Item0), Shared);
     watch_fair_end(RwLockReadGuard::map(lock.read(), Item0), Shared, watch);
     watch_write(RwLockWriteGuard::map(lock.write(), Item0), Exclusive, watch);
-    for index in [1, 2] {
-        let part = RwLockReadGuard::try_map(lock.read(), inner_item(index));
-        watch.saw_hold(part, Shared);
-        let part = RwLockReadGuard::try_map_or_err(lock.read(), inner_item(index));
-        watch.saw_hold(part, Shared);
-    }
+}
+
+/// A guard is mapped to the item at this index of the inner pair, if it has one.
+fn try_maps<R: RawRwLock>(lock: &Paired<R>, index: usize, watch: &mut Watch) {
+    let part = RwLockReadGuard::try_map(lock.read(), inner_item(index));
+    watch.saw_hold(part, Shared);
+    let part = RwLockReadGuard::try_map_or_err(lock.read(), inner_item(index));
+    watch.saw_hold(part, Shared);
 }
 
 /// Calls under an upgraded guard. Each closure looks at the raw lock.
@@ -79,6 +83,8 @@ pub fn check<
 >(lock: &Paired<R>, watch: &mut Watch) {
     names(lock, watch);
     maps(lock, watch);
+    try_maps(lock, 1, watch);
+    try_maps(lock, 2, watch);
     calls_under_an_upgrade(lock);
     watch.saw(&UNDER_AN_UPGRADE);
 }
@@ -88,7 +94,7 @@ fn bumped(mode: Mode) -> [RawCall; 4] {
     [Lock(mode), UnlockFair(mode), Lock(mode), Unlock(mode)]
 }
 
-fn bumps_by_default<R: RawRwLockUpgradeFair>(raw: &R, watch: &mut Watch) {
+fn watch_bumps<R: RawRwLockUpgradeFair>(raw: &R, watch: &mut Watch) {
     raw.unlock_shared(raw.bump_shared(raw.lock_shared()));
     watch.saw(&bumped(Shared));
     raw.unlock_exclusive(raw.bump_exclusive(raw.lock_exclusive()));
@@ -97,10 +103,14 @@ fn bumps_by_default<R: RawRwLockUpgradeFair>(raw: &R, watch: &mut Watch) {
     watch.saw(&bumped(Upgradable));
 }
 
+fn check_bumps<W: Wait + Clone + Drop>(alloc: Global, waiter: W) -> Result<(), Fail> {
+    let raw: AdmitsAll<W> = RawRwLock::new(alloc, waiter, 1)?;
+    let mut watch = Watch::new(raw.log()?);
+    watch_bumps(&raw, &mut watch);
+    watch.verdict()
+}
+
 #[test]
 fn a_bump_by_default_is_a_fair_unlock_and_a_lock(rt: HostRuntime) -> Result<(), Fail> {
-    let raw: AdmitsAll<HostRuntime> = RawRwLock::new(rt.alloc(), rt, 1)?;
-    let mut watch = Watch::new(raw.log()?);
-    bumps_by_default(&raw, &mut watch);
-    watch.verdict()
+    check_bumps(rt.alloc(), rt)
 }

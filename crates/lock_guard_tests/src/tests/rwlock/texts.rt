@@ -2,8 +2,7 @@
 use lock_base::machine::Mode::{self, Exclusive, Shared, Upgradable};
 use lock_guard::raw::{RawRwLock, RawRwLockUpgrade};
 use lock_recorder::RawCall::{Lock, TryLock, Unlock};
-use lock_rwlock::{RwLock, RwLockReadGuard, RwLockWriteGuard};
-use lock_rwlock_arc::{RwLockArc, RwLockArcUpgrade};
+use lock_rwlock::{RwLock, RwLockArc, RwLockArcUpgrade, RwLockReadGuard, RwLockWriteGuard};
 use lock_test_support::answer::{debug_is, equal, texts_are};
 use lock_test_support::project::{Item1, Nested};
 use lock_test_support::raw_lock::Watch;
@@ -79,18 +78,18 @@ pub fn check<R: RawRwLockUpgrade + Drop>(
     )
 }
 
-/// The texts of guards of a part, which is 0.
+/// The texts of guards of a part, which is 5.
 pub fn check_parts<R: RawRwLock>(
     alloc: Global,
     lock: &RwLock<R, Nested>,
     watch: &mut Watch,
 ) -> Result<(), Fail> {
     let part = RwLockReadGuard::map(lock.read(), Item1);
-    prints(alloc, watch, ("MappedRwLockReadGuard", part, Shared, "0"))?;
+    prints(alloc, watch, ("MappedRwLockReadGuard", part, Shared, "5"))?;
     let part = RwLockWriteGuard::map(lock.write(), Item1);
     prints(
         alloc,
         watch,
-        ("MappedRwLockWriteGuard", part, Exclusive, "0"),
+        ("MappedRwLockWriteGuard", part, Exclusive, "5"),
     )
 }

@@ -1,9 +1,8 @@
 //! Threads that act on one fair lock, each after a number of events.
 use lock_base::machine::Mode;
 use lock_base::raw::Fault;
-use lock_raws::{Arbiter, LockCore, TableArbiter};
+use lock_raws::{LockCore, RealTime, TableArbiter};
 use lock_raws_fair::FairCore;
-use lock_raws_word::RealTime;
 use lock_test_support::wait_until;
 use std::clone::Clone;
 use std::sync::Wait;
@@ -11,7 +10,9 @@ use std::sync::atomic::{AtomicU64, Ordering};
 use std::thread::{self, Threads};
 use std::time::{Clock, Duration};
 
-type Token = <TableArbiter as Arbiter>::Token;
+type Core<W> = FairCore<TableArbiter, W, RealTime>;
+
+type Token<W> = <Core<W> as LockCore>::Token;
 
 /// What a thread does.
 #[derive(Clone, Copy)]
@@ -57,7 +58,9 @@ impl Actor {
 /// A lock, and what its threads note.
 #[derive(Drop)]
 struct Scene<W: Wait + Clock + Clone + Drop> {
-    core: FairCore<TableArbiter, W, RealTime>,
+    core: Core<W>,
+    /// How many threads have what they hold when the scene begins.
+    started: AtomicU64,
     /// The digits of the threads, in the order of admission.
     admitted: AtomicU64,
     /// How many calls timed out.
@@ -66,7 +69,7 @@ struct Scene<W: Wait + Clock + Clone + Drop> {
 
 impl<W: Wait + Clock + Clone + Drop> Scene<W> {
     /// Acquires what the thread holds when the scene begins.
-    fn start(&self, actor: Actor) -> Option<Token> {
+    fn start(&self, actor: Actor) -> Option<Token<W>> {
         match actor.act {
             Act::Release(mode) => self.core.try_acquire(mode),
             Act::Pass => self.core.try_acquire(Mode::Exclusive),
@@ -75,34 +78,58 @@ impl<W: Wait + Clock + Clone + Drop> Scene<W> {
         }
     }
 
-    fn play(&self, waiter: &W, actor: Actor, held: Option<Token>) {
+    fn play(&self, waiter: &W, actor: Actor) {
+        let held = self.start(actor);
+        self.started.fetch_add(1, Ordering::SeqCst);
         wait_until(waiter, || self.has_come_to(actor));
-        match (actor.act, held) {
-            (Act::Write, _) => self.note(self.core.acquire(Mode::Exclusive), actor.digit),
-            (Act::TimedWrite, _) => self.timed_write(actor.digit),
-            (Act::Release(mode), Some(token)) => self.core.release(token, mode),
-            (Act::Pass, Some(token)) => {
-                self.core.release(token, Mode::Exclusive);
+        match held {
+            Some(token) => self.end(actor, token),
+            None => self.acquire(actor),
+        }
+    }
+
+    /// Acts as a thread that holds a token.
+    fn end(&self, actor: Actor, token: Token<W>) {
+        match actor.act {
+            Act::Upgrade if token.mode() == Mode::Upgradable => {
+                self.note(self.core.upgrade(token), actor.digit)
+            }
+            Act::Pass => {
+                self.release(token);
                 self.note(self.core.acquire(Mode::Exclusive), actor.digit);
             }
-            (Act::Upgrade, Some(token)) => self.note(self.core.upgrade(token), actor.digit),
+            _ => self.release(token),
+        }
+    }
+
+    /// Acts as a thread that holds nothing.
+    fn acquire(&self, actor: Actor) {
+        match actor.act {
+            Act::Write => self.note(self.core.acquire(Mode::Exclusive), actor.digit),
+            Act::TimedWrite => self.timed_write(actor.digit),
             _ => {}
         }
     }
 
+    fn release(&self, token: Token<W>) {
+        let mode = token.mode();
+        self.core.release(token, mode);
+    }
+
     fn has_come_to(&self, actor: Actor) -> bool {
-        self.core.arrivals() >= actor.arrived
+        self.started.load(Ordering::SeqCst) == 5
+            && self.core.arrivals() >= actor.arrived
             && self.timed_out.load(Ordering::SeqCst) >= actor.timed_out
     }
 
     /// Appends the digit, and releases.
-    fn note(&self, token: Token, digit: u64) {
+    fn note(&self, token: Token<W>, digit: u64) {
         let digits = self.admitted.load(Ordering::SeqCst);
         self.admitted.store(
             digits.wrapping_mul(10).wrapping_add(digit),
             Ordering::SeqCst,
         );
-        self.core.release(token, Mode::Exclusive);
+        self.release(token);
     }
 
     fn timed_write(&self, digit: u64) {
@@ -126,19 +153,18 @@ pub fn play<R: Wait + Clock + Threads + Sync + Copy + Drop>(
 ) -> Result<u64, Fault> {
     let scene = Scene {
         core: LockCore::new(alloc, *rt, 4)?,
+        started: AtomicU64::new(0),
         admitted: AtomicU64::new(0),
         timed_out: AtomicU64::new(0),
     };
     let [a, b, c, d, e] = actors;
-    let (at_a, at_b, at_c) = (scene.start(a), scene.start(b), scene.start(c));
-    let (at_d, at_e) = (scene.start(d), scene.start(e));
     thread::join(
         rt,
-        || thread::join(rt, || scene.play(rt, a, at_a), || scene.play(rt, b, at_b)),
+        || thread::join(rt, || scene.play(rt, a), || scene.play(rt, b)),
         || thread::join(
             rt,
-            || scene.play(rt, c, at_c),
-            || thread::join(rt, || scene.play(rt, d, at_d), || scene.play(rt, e, at_e)),
+            || scene.play(rt, c),
+            || thread::join(rt, || scene.play(rt, d), || scene.play(rt, e)),
         ),
     );
     Ok(scene.admitted.load(Ordering::SeqCst))

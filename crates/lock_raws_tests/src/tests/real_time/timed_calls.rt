@@ -5,8 +5,7 @@ use lock_base::machine::Mode::{Exclusive, Shared};
 use lock_guard::raw::{
     RawMutexTimed, RawRwLock, RawRwLockTimed, RawRwLockUpgrade, RawRwLockUpgradeTimed,
 };
-use lock_raws::{LockCore, RawLock};
-use lock_raws_word::TimedRaw;
+use lock_raws::{LockCore, RawLock, TimedRaw};
 use lock_test_support::wait_for_flag;
 use std::sync::atomic::{AtomicBool, Ordering};
 use std::test::Fail;
@@ -147,9 +146,10 @@ fn acquires_beside<K: Clock, C: LockCore<Duration = Duration, Instant = Instant>
     want: Want,
     form: Form,
 ) -> Result<(bool, bool), Fail> {
-    let held = block(raw, want);
     let start = Instant::now(clock)?;
-    let is_acquired = acquires(raw, want, form.end(clock, short())?);
+    let end = form.end(clock, short())?;
+    let held = block(raw, want);
+    let is_acquired = acquires(raw, want, end);
     let was_over = is_over(clock, start);
     held.unlock();
     Ok((is_acquired, was_over))

@@ -1,7 +1,7 @@
 //! Waits of a condition variable that measures time.
 use super::{is_over, raw_rwlock, short};
 use lock_guard::raw::{RawCondvar, RawCondvarTimed, RawMutex, RawMutexTimed};
-use lock_raws_word::{SleepingCondvar, TimedCondvar, TimedRaw};
+use lock_raws::{SleepingCondvar, TimedCondvar, TimedRaw};
 use lock_test_support::wait_for_flag;
 use std::sync::Wait;
 use std::sync::atomic::{AtomicBool, AtomicU64, Ordering};
