@@ -10,6 +10,7 @@ mod meeting;
 mod queue;
 mod real_time;
 mod recording;
+mod shared;
 
 use lock_base::raw::Fault;
 use lock_guard::raw::RawRwLock;
@@ -30,18 +31,4 @@ pub fn raw_rwlock<C: LockCore>(
     readers: u64,
 ) -> Result<RawLock<C>, Fault> {
     RawRwLock::new(alloc, waiter, readers)
-}
-
-#[test]
-fn threads_share_a_table(rt: HostRuntime) -> Result<(), Fail> {
-    let four = raw_rwlock::<Table>(rt.alloc(), rt, 4)?;
-    let one = raw_rwlock::<Table>(rt.alloc(), rt, 1)?;
-    cases::check(&rt, &four, &one)
-}
-
-#[test]
-fn threads_share_a_word(rt: HostRuntime) -> Result<(), Fail> {
-    let four = raw_rwlock::<Word>(rt.alloc(), rt, 4)?;
-    let one = raw_rwlock::<Word>(rt.alloc(), rt, 1)?;
-    cases::check(&rt, &four, &one)
 }

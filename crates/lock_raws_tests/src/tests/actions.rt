@@ -142,7 +142,7 @@ fn is_right<C: LockCore, K: Clock>(
     action: Action,
 ) -> bool {
     match action {
-        Action::Meet => return meeting.meet(),
+        Action::Meet => meeting.meet(RawRwLock::waiter(raw)),
         Action::Refused(mode) => return is_refused(raw, mode),
         Action::Sleep => clock.sleep(Duration::from_millis(50)),
         Action::Yield => thread::yield_now(),

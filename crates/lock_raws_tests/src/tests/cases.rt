@@ -207,8 +207,8 @@ fn contend<R: Threads + Clock + Sync, L: Acts + Sync>(
     )
 }
 
-/// All of these, by a lock of four readers, and those of one reader by a lock of one.
-pub fn check<R: Threads + Clock + Sync, L: Acts + Sync>(
+/// Each case with a lock of four readers, and the one for a single reader with a lock of one.
+pub fn check_cases<R: Threads + Clock + Sync, L: Acts + Sync>(
     rt: &R,
     four: &L,
     one: &L,
@@ -217,9 +217,31 @@ pub fn check<R: Threads + Clock + Sync, L: Acts + Sync>(
         check_case(rt, four, case)?;
     }
     check_case(rt, one, &WRITER_AMONG_READERS)?;
-    write_beside_a_reader(rt, four)?;
+    write_beside_a_reader(rt, four)
+}
+
+/// Rounds without a meeting, with a lock of four readers and with a lock of one.
+pub fn contend_in_rounds<R: Threads + Clock + Sync, L: Acts + Sync>(
+    rt: &R,
+    four: &L,
+    one: &L,
+) -> Result<(), Fail> {
     contend(rt, four, &[ROUND], 1_000)?;
-    contend(rt, four, &SHORT_RUNS, 300)?;
-    contend(rt, one, &[ROUND], 1_000)?;
-    contend(rt, one, &[ROUND, ROUND, &[Meet]], 1_000)
+    contend(rt, one, &[ROUND], 1_000)
+}
+
+/// 5,001 short runs.
+pub fn contend_in_short_runs<R: Threads + Clock + Sync, L: Acts + Sync>(
+    rt: &R,
+    four: &L,
+) -> Result<(), Fail> {
+    contend(rt, four, &SHORT_RUNS, 1_667)
+}
+
+/// 5,000 short runs with a lock of one reader.
+pub fn contend_for_one_reader<R: Threads + Clock + Sync, L: Acts + Sync>(
+    rt: &R,
+    one: &L,
+) -> Result<(), Fail> {
+    contend(rt, one, &[ROUND, ROUND, &[Meet]], 5_000)
 }

@@ -1,40 +1,42 @@
 //! Where threads wait for one another, and what they tell one another.
-use std::sync::Wait;
 use std::sync::atomic::{AtomicU64, Ordering};
-use std::thread;
+use std::sync::{Barrier, Wait};
+use std::{hint, thread};
 
 /// Counts of what threads have done.
 #[derive(Drop)]
 pub struct Meeting {
     threads: u64,
-    arrivals: AtomicU64,
+    barrier: Barrier,
+    departures: AtomicU64,
     reads: AtomicU64,
     writes: AtomicU64,
 }
 
 impl Meeting {
     /// A meeting of so many threads.
-    pub fn of(threads: u64) -> Meeting {
+    pub fn of(threads: u32) -> Meeting {
         Meeting {
-            threads,
-            arrivals: AtomicU64::new(0),
+            threads: threads as u64,
+            barrier: Barrier::new(threads as usize),
+            departures: AtomicU64::new(0),
             reads: AtomicU64::new(0),
             writes: AtomicU64::new(0),
         }
     }
 
-    /// Waits until all threads have come as often as this one. Returns whether they came.
-    pub fn meet(&self) -> bool {
-        let before = self.arrivals.fetch_add(1, Ordering::SeqCst);
+    /// Blocks until all threads have come as often as this one. They leave at once, if the machine runs them all.
+    pub fn meet<W: Wait>(&self, waiter: &W) {
+        self.barrier.wait(waiter);
+        let before = self.departures.fetch_add(1, Ordering::SeqCst);
         let round = before.checked_div(self.threads).unwrap_or(0);
         let all = round.wrapping_add(1).wrapping_mul(self.threads);
-        for _ in 0..100_000_000u32 {
-            if self.arrivals.load(Ordering::SeqCst) >= all {
-                return true;
+        for _ in 0..2_000u32 {
+            if self.departures.load(Ordering::SeqCst) >= all {
+                return;
             }
-            thread::yield_now();
+            hint::spin_loop();
         }
-        false
     }
 
     pub fn write(&self) {
