@@ -1,22 +1,19 @@
-//! The locks over one packed word with no proof, in Rust: what `lock_bench locks ROUNDS` is compared with.
+//! The locks over one packed word with no proof: what `WordRaw` is compared with.
 //!
 //! It has the same shape. The value lies in a std lock that is acquired after the word admits and released before the word. A try
 //! is one load and one exchange, a release one subtraction and one load of the count of sleepers.
-//!
-//! `rustc -O word_twin.rs && ./word_twin ROUNDS`
-
+use crate::line;
 use std::hint::black_box;
 use std::ops::{Deref, DerefMut};
 use std::sync::atomic::{AtomicU64, Ordering::SeqCst};
 use std::sync::{Condvar, Mutex, MutexGuard, RwLock, RwLockReadGuard, RwLockWriteGuard};
-use std::time::Instant;
 
 const UPGRADABLE: u64 = 1 << 32;
 const EXCLUSIVE: u64 = 1 << 33;
 const BAR: u64 = 1 << 34;
 
 /// The word, and the threads that sleep until it changes.
-struct Raw {
+pub struct Raw {
     word: AtomicU64,
     readers: u64,
     sleepers: AtomicU64,
@@ -106,7 +103,7 @@ impl Raw {
 }
 
 /// The lock's word goes down by so much when this ends.
-struct Token<'a>(&'a Raw, u64);
+pub struct Token<'a>(&'a Raw, u64);
 
 impl Drop for Token<'_> {
     #[inline]
@@ -116,7 +113,7 @@ impl Drop for Token<'_> {
 }
 
 /// What shows the value goes before the token.
-struct Guard<'a, G> {
+pub struct Guard<'a, G> {
     shown: G,
     token: Token<'a>,
 }
@@ -135,14 +132,21 @@ impl<G: DerefMut> DerefMut for Guard<'_, G> {
     }
 }
 
-struct WordMutex {
+pub struct WordMutex {
     raw: Raw,
     value: Mutex<u64>,
 }
 
 impl WordMutex {
+    pub fn new() -> WordMutex {
+        WordMutex {
+            raw: Raw::new(1),
+            value: Mutex::new(0),
+        }
+    }
+
     #[inline]
-    fn lock(&self) -> Guard<'_, MutexGuard<'_, u64>> {
+    pub fn lock(&self) -> Guard<'_, MutexGuard<'_, u64>> {
         self.raw.lock();
         Guard {
             shown: self.value.lock().unwrap(),
@@ -217,80 +221,30 @@ impl WordRwLock {
     }
 }
 
-#[inline(never)]
-fn lock_mutex(mutex: &WordMutex, rounds: u64) {
-    for _ in 0..rounds {
-        let mut count = mutex.lock();
-        *count = count.wrapping_add(1);
+impl WordRwLock {
+    /// Upgrades, and downgrades twice.
+    #[inline]
+    fn walk(&self) {
+        let mut writer = self.upgrade(self.upgradable_read());
+        *writer += 1;
+        let upgradable = self.down(writer, UPGRADABLE + 1);
+        drop(black_box(self.down(upgradable, 1)));
     }
 }
 
-#[inline(never)]
-fn lock_raw(raw: &Raw, rounds: u64) {
-    for _ in 0..rounds {
-        raw.lock();
-        raw.give_up(EXCLUSIVE);
-    }
-}
-
-#[inline(never)]
-fn read(lock: &WordRwLock, rounds: u64) -> u64 {
-    let mut sum: u64 = 0;
-    for _ in 0..rounds {
-        sum = sum.wrapping_add(*lock.read());
-    }
-    sum
-}
-
-#[inline(never)]
-fn write(lock: &WordRwLock, rounds: u64) {
-    for _ in 0..rounds {
-        let mut count = lock.write();
-        *count = count.wrapping_add(1);
-    }
-}
-
-#[inline(never)]
-fn walk(lock: &WordRwLock, rounds: u64) -> u64 {
-    let mut sum: u64 = 0;
-    for _ in 0..rounds {
-        let mut writer = lock.upgrade(lock.upgradable_read());
-        *writer = writer.wrapping_add(1);
-        let upgradable = lock.down(writer, UPGRADABLE + 1);
-        let reader = lock.down(upgradable, 1);
-        sum = sum.wrapping_add(*reader);
-    }
-    sum
-}
-
-fn line<T>(what: &str, rounds: u64, calls: impl FnOnce() -> T) {
-    let start = Instant::now();
-    black_box(calls());
-    let tenths = start.elapsed().as_nanos() * 10 / u128::from(rounds.max(1));
-    println!("{what}: {}.{} ns", tenths / 10, tenths % 10);
-}
-
-fn main() {
-    let rounds = std::env::args()
-        .nth(1)
-        .and_then(|word| word.parse().ok())
-        .unwrap_or(1_000_000);
-    let mutex = WordMutex {
-        raw: Raw::new(1),
-        value: Mutex::new(0),
-    };
-    line("Mutex", rounds, || lock_mutex(&mutex, rounds));
-    line("the raw lock alone", rounds, || {
-        lock_raw(&mutex.raw, rounds)
+pub fn print(rounds: u64) {
+    let mutex = WordMutex::new();
+    line("word_twin, Mutex", rounds, || *mutex.lock() += 1);
+    line("word_twin, the raw lock alone", rounds, || {
+        mutex.raw.lock();
+        mutex.raw.give_up(EXCLUSIVE);
     });
     let lock = WordRwLock {
         raw: Raw::new(64),
         value: RwLock::new(0),
     };
-    line("RwLock read", rounds, || read(&lock, rounds));
-    line("RwLock write", rounds, || write(&lock, rounds));
-    line("RwLock upgrade and downgrade", rounds, || {
-        walk(&lock, rounds)
-    });
+    line("word_twin, RwLock read", rounds, || drop(black_box(lock.read())));
+    line("word_twin, RwLock write", rounds, || *lock.write() += 1);
+    line("word_twin, RwLock upgrade and downgrade", rounds, || lock.walk());
     assert_eq!(mutex.raw.word.load(SeqCst) + lock.raw.word.load(SeqCst), 0);
 }
