@@ -3,7 +3,9 @@
 #![tactic(auto)]
 
 mod laws;
+mod pauses;
 mod sleeper;
 
 pub use laws::steps_keep_wakes;
+pub use pauses::{PAUSES, SPINS};
 pub use sleeper::{Debt, SleeperView, WakeLimits, Watch};

@@ -3,6 +3,7 @@ ghost use Rattle.std.specs.Prelude.{◌≡◌, ◌==◌, ◌||◌};
 
 use crate::action::{Action, Place};
 use crate::stage::Stage;
+use lock_sleepers::{PAUSES, SPINS};
 use lock_word::{Down, ExWant, Occupancy, unblocks};
 
 /// The last epoch. No thread sleeps in it, because a sleep compares 32 bits.
@@ -10,12 +11,6 @@ pub const LAST_EPOCH: u64 = 4_294_967_295;
 
 /// The count of sleepers while the epochs begin anew.
 pub const CLOSED_COUNT: u64 = 9_223_372_036_854_775_808;
-
-/// How many pauses of a call spin. Each later one yields the thread.
-pub const SPINS: u32 = 3;
-
-/// How many pauses a call makes before it sleeps.
-pub const PAUSES: u32 = 20;
 
 /// A call between two of its steps.
 #[derive(Clone, Copy, PartialEq, Eq, Debug)]

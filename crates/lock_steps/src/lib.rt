@@ -12,7 +12,7 @@ mod stage;
 
 pub use act::Act;
 pub use action::{Action, Place};
-pub use call::{CLOSED_COUNT, Call, LAST_EPOCH, PAUSES, SPINS};
+pub use call::{CLOSED_COUNT, Call, LAST_EPOCH};
 pub use laws::{
     calls_begin, every_run_is_served, no_parked_call_is_forgotten, steps_keep_the_rule,
 };

@@ -1,12 +1,7 @@
 //! The pauses of a contended call before it sleeps.
+use lock_sleepers::{PAUSES, SPINS};
 use std::hint::spin_loop;
 use std::thread;
-
-/// How many pauses spin. Each later one yields the thread.
-const SPINS: u32 = 3;
-
-/// How many pauses a call makes before it sleeps. With more spins, or fewer yields, four threads acquire a mutex less often.
-const PAUSES: u32 = 20;
 
 /// The pauses of a contended call between its attempts: spins that double, and then yields.
 #[derive(Drop)]
