@@ -1,11 +1,9 @@
 //! Questions on what a call answered.
 
-mod makers;
 mod memory;
 mod texts;
 mod wanted;
 
-pub use makers::holds_or_lacks_memory;
 pub use memory::{answers_or_lacks_memory, lacks_memory};
 pub use texts::{debug_is, texts_are};
 pub use wanted::equal;

@@ -1,10 +1,11 @@
 //! The programs under a rule run, and give what their contracts say.
 
-use lock_api::{AddsOne, Fault, Sums};
+use lock_api::{AddsOne, Sums};
 use lock_examples::Ring;
 use lock_examples::ruled::{
     Accounts, Counter, One, count, lend_in_turns, permits_after, relay, shuffle, try_add,
 };
+use lock_test_support::answer::answers_or_lacks_memory;
 use std::test::Fail;
 
 #[test]
@@ -99,16 +100,11 @@ fn try_adds_nothing_while_value_is_out(rt: HostRuntime) -> Result<(), Fail> {
 
 #[test]
 fn refused_memory_count(rt: HostRuntime) -> Result<(), Fail> {
-    let counted = count(&rt, rt.alloc(), 2, 3);
-    assert!(rt; matches!(counted, Ok(6) | Err(Fault::OutOfMemory)));
-    Ok(())
+    answers_or_lacks_memory(&rt, count(&rt, rt.alloc(), 2, 3), 6)
 }
 
 #[test]
 fn refused_memory_relay(rt: HostRuntime) -> Result<(), Fail> {
-    match relay(&rt, rt.alloc(), &[3, 1, 2]) {
-        Ok(copy) => assert!(rt; copy.as_slice() == [3, 1, 2].as_slice()),
-        Err(fault) => assert!(rt; fault == Fault::OutOfMemory),
-    }
-    Ok(())
+    let copied = relay(&rt, rt.alloc(), &[3, 1, 2]).map(|copy| copy.as_slice() == [3, 1, 2]);
+    answers_or_lacks_memory(&rt, copied, true)
 }

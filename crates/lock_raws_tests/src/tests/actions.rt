@@ -28,6 +28,8 @@ pub enum Action {
     Unlock,
     /// Waits until all threads have come.
     Meet,
+    /// All threads must come, within some turns.
+    SeeAll,
     /// Sleeps until the others have tried in vain, and sleep.
     Sleep,
     Yield,
@@ -143,6 +145,7 @@ fn is_right<C: LockCore, K: Clock>(
 ) -> bool {
     match action {
         Action::Meet => meeting.meet(RawRwLock::waiter(raw)),
+        Action::SeeAll => return meeting.sees_all(),
         Action::Refused(mode) => return is_refused(raw, mode),
         Action::Sleep => clock.sleep(Duration::from_millis(50)),
         Action::Yield => thread::yield_now(),

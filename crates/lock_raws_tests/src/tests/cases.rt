@@ -9,7 +9,7 @@ use lock_base::machine::Mode::{Exclusive, Shared, Upgradable};
 use lock_test_support::answer::equal;
 use std::test::Fail;
 use std::thread::Threads;
-use std::time::Clock;
+use std::time::{Clock, Duration, Instant};
 
 /// Waits for a lock that another thread holds, and reads until all four threads do, or have.
 const READER: Actions = &[Meet, Lock(Shared), Meet, Unlock];
@@ -186,25 +186,28 @@ fn write_beside_a_reader<R: Threads + Clock + Sync, L: Acts + Sync>(
     equal((wrong, wrong_after), (None, None))
 }
 
-/// Four threads that make the same lists again and again.
+/// Four threads that make the same lists again and again: so many hundred times, or as often as a loaded machine does in 20
+/// seconds.
 fn contend<R: Threads + Clock + Sync, L: Acts + Sync>(
     rt: &R,
     lock: &L,
     lists: &[Actions],
-    times: u32,
+    hundreds: u32,
 ) -> Result<(), Fail> {
     let work = Work {
         first: lists,
         others: lists,
-        times,
+        times: 100,
     };
-    equal(
-        (
-            in_four_threads(rt, lock, &Meeting::of(4), &work),
-            lock.is_held(),
-        ),
-        (None, false),
-    )
+    let start = Instant::now(rt)?;
+    for _ in 0..hundreds {
+        let wrong = in_four_threads(rt, lock, &Meeting::of(4), &work);
+        equal((wrong, lock.is_held()), (None, false))?;
+        if start.elapsed(rt)? >= Duration::from_secs(20) {
+            break;
+        }
+    }
+    Ok(())
 }
 
 /// Each case with a lock of four readers, and the one for a single reader with a lock of one.
@@ -226,16 +229,16 @@ pub fn contend_in_rounds<R: Threads + Clock + Sync, L: Acts + Sync>(
     four: &L,
     one: &L,
 ) -> Result<(), Fail> {
-    contend(rt, four, &[ROUND], 1_000)?;
-    contend(rt, one, &[ROUND], 1_000)
+    contend(rt, four, &[ROUND], 10)?;
+    contend(rt, one, &[ROUND], 10)
 }
 
-/// 5,001 short runs.
+/// 5,100 short runs.
 pub fn contend_in_short_runs<R: Threads + Clock + Sync, L: Acts + Sync>(
     rt: &R,
     four: &L,
 ) -> Result<(), Fail> {
-    contend(rt, four, &SHORT_RUNS, 1_667)
+    contend(rt, four, &SHORT_RUNS, 17)
 }
 
 /// 5,000 short runs with a lock of one reader.
@@ -243,5 +246,5 @@ pub fn contend_for_one_reader<R: Threads + Clock + Sync, L: Acts + Sync>(
     rt: &R,
     one: &L,
 ) -> Result<(), Fail> {
-    contend(rt, one, &[ROUND, ROUND, &[Meet]], 5_000)
+    contend(rt, one, &[ROUND, ROUND, &[Meet]], 50)
 }

@@ -1,41 +1,39 @@
 //! Makers of raw locks to which memory is refused.
-use super::{Table, Word, raw_rwlock};
+use super::{Word, raw_rwlock};
 use lock_base::raw::Fault;
 use lock_guard::raw::{RawMutex, RawRwLock};
-use lock_mutex::Condvar;
-use lock_raws::{LockCore, Monitor, RawLock, Recorded, SleepingCondvar};
+use lock_raws::{LockCore, Monitor, RawLock, Recorded};
+use lock_test_support::answer::{equal, lacks_memory};
 use std::alloc::Global;
+use std::rt::Env;
+use std::test::Fail;
 
-/// Whether a maker made a free lock, or answered that there was no memory.
-fn is_free_or_lacks<C: LockCore>(made: Result<RawLock<C>, Fault>) -> bool {
+/// Checks that a maker made a free lock, or lacked memory.
+fn is_free<E: Env, C: LockCore>(rt: &E, made: Result<RawLock<C>, Fault>) -> Result<(), Fail> {
     match made {
-        Ok(raw) => !RawRwLock::is_locked(&raw),
-        Err(fault) => fault == Fault::OutOfMemory,
+        Ok(raw) => equal(RawRwLock::is_locked(&raw), false),
+        Err(fault) => lacks_memory(rt, fault),
     }
 }
 
-/// The two makers of the raw traits.
-fn makers_tell<C: LockCore>(alloc: Global, waiters: [C::Waiter; 2]) -> bool {
+/// Checks the two makers of the raw traits.
+fn check_makers<E: Env, C: LockCore>(
+    rt: &E,
+    alloc: Global,
+    waiters: [C::Waiter; 2],
+) -> Result<(), Fail> {
     let [first, second] = waiters;
     let mutex: Result<RawLock<C>, Fault> = RawMutex::new(alloc, first);
-    is_free_or_lacks(mutex) && is_free_or_lacks(raw_rwlock::<C>(alloc, second, 4))
+    is_free(rt, mutex)?;
+    is_free(rt, raw_rwlock::<C>(alloc, second, 4))
 }
 
 #[test]
-fn refused_memory_in_makers_on_a_word(rt: HostRuntime) {
-    assert!(rt; makers_tell::<Word>(rt.alloc(), [rt; 2]));
+fn refused_memory_in_makers_on_a_word(rt: HostRuntime) -> Result<(), Fail> {
+    check_makers::<HostRuntime, Word>(&rt, rt.alloc(), [rt; 2])
 }
 
 #[test]
-fn refused_memory_in_makers_of_a_recording_lock(rt: HostRuntime) {
-    assert!(rt; makers_tell::<Monitor<Recorded, HostRuntime>>(rt.alloc(), [rt; 2]));
-}
-
-#[test]
-fn refused_memory_in_the_maker_of_a_condvar(rt: HostRuntime) {
-    let made: Result<Condvar<SleepingCondvar<RawLock<Table>>>, Fault> = Condvar::new(rt.alloc());
-    match made {
-        Ok(condvar) => assert!(rt; !condvar.notify_one()),
-        Err(fault) => assert_eq!(rt; fault, Fault::OutOfMemory),
-    }
+fn refused_memory_in_makers_of_a_recording_lock(rt: HostRuntime) -> Result<(), Fail> {
+    check_makers::<HostRuntime, Monitor<Recorded, HostRuntime>>(&rt, rt.alloc(), [rt; 2])
 }

@@ -9,6 +9,7 @@ pub struct Meeting {
     threads: u64,
     barrier: Barrier,
     departures: AtomicU64,
+    arrivals: AtomicU64,
     reads: AtomicU64,
     writes: AtomicU64,
 }
@@ -20,6 +21,7 @@ impl Meeting {
             threads: threads as u64,
             barrier: Barrier::new(threads as usize),
             departures: AtomicU64::new(0),
+            arrivals: AtomicU64::new(0),
             reads: AtomicU64::new(0),
             writes: AtomicU64::new(0),
         }
@@ -37,6 +39,18 @@ impl Meeting {
             }
             hint::spin_loop();
         }
+    }
+
+    /// Looks for all other threads. Returns whether they came within some turns.
+    pub fn sees_all(&self) -> bool {
+        self.arrivals.fetch_add(1, Ordering::SeqCst);
+        for _ in 0..100_000_000u32 {
+            if self.arrivals.load(Ordering::SeqCst) >= self.threads {
+                return true;
+            }
+            thread::yield_now();
+        }
+        false
     }
 
     pub fn write(&self) {

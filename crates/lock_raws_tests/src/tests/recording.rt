@@ -1,5 +1,5 @@
 //! What a recording lock writes.
-use super::actions::Action::{Bump, Lock, Meet, Refused, To, Try, Unlock, Write, WriteIfFree};
+use super::actions::Action::{Bump, Lock, Refused, SeeAll, To, Try, Unlock, Write, WriteIfFree};
 use super::actions::{Actions, Acts, Work, in_four_threads, in_two_threads};
 use super::meeting::Meeting;
 use lock_base::machine::Mode::{Exclusive, Shared, Upgradable};
@@ -7,16 +7,17 @@ use lock_base::machine::ModeStep::{self, Acquire, Change, Release};
 use lock_base::raw::Fault;
 use lock_guard::raw::{RawMutex, RawMutexFair, RawRwLock, RawRwLockUpgrade};
 use lock_raws::{LockCore, RawLock, RecordingRaw};
-use lock_test_support::answer::{equal, holds_or_lacks_memory};
+use lock_test_support::answer::{answers_or_lacks_memory, equal, lacks_memory};
 use std::alloc::Global;
 use std::clone::Clone;
+use std::rt::Env;
 use std::sync::Wait;
 use std::test::Fail;
 use std::time::Clock;
 
 /// What a thread does with a lock that has room for so many steps, the steps that the lock writes, and whether it stops.
 const RUNS: [(&str, usize, Actions, &[ModeStep], bool); 6] = [
-    ("no room", 0, &[Lock(Exclusive), Unlock], &[], true),
+    ("no room", 0, &[Lock(Exclusive)], &[], true),
     (
         "room for all",
         2,
@@ -145,8 +146,8 @@ fn check_fourth_step<W: Wait + Clone + Drop>(
     let Some((written, stopped, exclusive)) = upgrade_in_the_fourth_step(alloc, &raw) else {
         return Err(Fail::from("a call was refused"));
     };
-    let is_right = steps.starts_with(written?.as_slice());
-    let len = raw.journal(alloc)?.len();
+    let written = written?;
+    let (is_right, len) = (steps.starts_with(written.as_slice()), written.len());
     equal(
         (room, is_right, len, stopped, exclusive),
         (room, true, room, room < 4, true),
@@ -160,7 +161,7 @@ fn an_upgrade_is_the_fourth_step(rt: HostRuntime) -> Result<(), Fail> {
 }
 
 /// All acquire before the first releases.
-const READERS: &[Actions] = &[&[Lock(Shared), Meet, Unlock]];
+const READERS: &[Actions] = &[&[Lock(Shared), SeeAll, Unlock]];
 
 #[test]
 fn steps_of_readers_are_written(rt: HostRuntime) -> Result<(), Fail> {
@@ -238,26 +239,34 @@ fn a_recording_mutex_writes_1024_steps(rt: HostRuntime) -> Result<(), Fail> {
     check_room(rt.alloc(), rt)
 }
 
-/// Whether a lock and its end are written, whatever memory is refused.
-fn writes_or_lacks_memory<W: Wait + Clone + Drop>(alloc: Global, raw: &RecordingRaw<W>) -> bool {
+/// Checks that a lock and its end are written, or that the journal lacks memory.
+fn check_journal<E: Env, W: Wait + Clone + Drop>(
+    rt: &E,
+    alloc: Global,
+    raw: &RecordingRaw<W>,
+) -> Result<(), Fail> {
     let token = raw.lock();
-    let locked = raw.journal(alloc).map(|steps| steps.len() as u64);
+    let locked = raw.journal(alloc).map(|steps| steps.len());
     raw.unlock(token);
-    let unlocked = raw.journal(alloc).map(|steps| steps.len() as u64);
-    holds_or_lacks_memory(locked, 1)
-        && holds_or_lacks_memory(unlocked, 2)
-        && !RawMutex::is_locked(raw)
+    let unlocked = raw.journal(alloc).map(|steps| steps.len());
+    answers_or_lacks_memory(rt, locked, 1)?;
+    answers_or_lacks_memory(rt, unlocked, 2)?;
+    equal(RawMutex::is_locked(raw), false)
 }
 
-/// Whether the maker and the steps lack memory, if anything goes wrong.
-fn works_or_lacks_memory<W: Wait + Clone + Drop>(alloc: Global, waiter: W) -> bool {
+/// Checks the maker and the journal, or that they lack memory.
+fn check_memory<E: Env, W: Wait + Clone + Drop>(
+    rt: &E,
+    alloc: Global,
+    waiter: W,
+) -> Result<(), Fail> {
     match RecordingRaw::with_room(alloc, waiter, 1, 2) {
-        Ok(raw) => writes_or_lacks_memory(alloc, &raw),
-        Err(fault) => fault == Fault::OutOfMemory,
+        Ok(raw) => check_journal(rt, alloc, &raw),
+        Err(fault) => lacks_memory(rt, fault),
     }
 }
 
 #[test]
-fn refused_memory_of_a_recording_lock(rt: HostRuntime) {
-    assert!(rt; works_or_lacks_memory(rt.alloc(), rt));
+fn refused_memory_of_a_recording_lock(rt: HostRuntime) -> Result<(), Fail> {
+    check_memory(&rt, rt.alloc(), rt)
 }

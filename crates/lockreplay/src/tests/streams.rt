@@ -1,7 +1,9 @@
 //! Readers, writers and memory that fail.
 use lock_script::{ReplayFault, SCRIPT_LIMIT, Which, replay};
 use std::alloc::Global;
+use std::env::FillError;
 use std::io::{self, ErrorKind, Read, Write};
+use std::rt::Env;
 use std::test::Fail;
 
 /// Fails with this kind once, at one of its calls.
@@ -252,18 +254,19 @@ fn the_last_line_may_lack_its_end(rt: HostRuntime) -> Result<(), Fail> {
     Ok(())
 }
 
-/// The script has these answers, or memory is told to be refused and nothing is written.
-fn answered_or_refused(
-    alloc: Global,
+/// The script has these answers, or lacks memory in a run that refuses some, and nothing is written.
+fn answered_or_refused<R: Env + AllocGlobal>(
+    rt: &R,
     which: Which,
     mut script: &[u8],
     answers: &[u8],
 ) -> Result<(), Fail> {
     let mut kept = [0u8; 64];
     let mut out = kept.as_mut_slice();
-    let told = replay(alloc, which, &mut script, &mut out);
+    let told = replay(rt.alloc(), which, &mut script, &mut out);
+    let refuses = !matches!(rt.var("REFUSE", &mut [0u8; 32]), Err(FillError::NotPresent));
     let kept_answers = told.is_ok() && kept.starts_with(answers);
-    let kept_nothing = told == Err(ReplayFault::OutOfMemory) && kept == [0u8; 64];
+    let kept_nothing = refuses && told == Err(ReplayFault::OutOfMemory) && kept == [0u8; 64];
     if kept_answers || kept_nothing {
         return Ok(());
     }
@@ -275,9 +278,8 @@ fn answered_or_refused(
 fn refused_memory_replay(rt: HostRuntime) -> Result<(), Fail> {
     let script: &[u8] = b"rwlock 2 2 1 2\nread 1\nget 1 1 0\nspent\n";
     let answers: &[u8] = b"ok\nguard 1\nvalue 1\ncount 0\n";
-    answered_or_refused(rt.alloc(), Which::Table, script, answers)?;
-    answered_or_refused(rt.alloc(), Which::Word, script, answers)?;
-    Ok(())
+    answered_or_refused(&rt, Which::Table, script, answers)?;
+    answered_or_refused(&rt, Which::Word, script, answers)
 }
 
 /// Also run with one allocation after another refused.
@@ -285,6 +287,5 @@ fn refused_memory_replay(rt: HostRuntime) -> Result<(), Fail> {
 fn refused_memory_replay_of_steps(rt: HostRuntime) -> Result<(), Fail> {
     let script: &[u8] = b"world 2 2\nload 1\nexchange 1 shared\nword\n";
     let answers: &[u8] = b"ok\nloaded 0\ndone\ncount 1\n";
-    answered_or_refused(rt.alloc(), Which::Steps, script, answers)?;
-    Ok(())
+    answered_or_refused(&rt, Which::Steps, script, answers)
 }
