@@ -1,4 +1,4 @@
-/* The exports of liblock_c.a: the machine of a call. proved_lock.c makes the steps that it returns. */
+/* The exports of liblock_c.a: the machines of a call on a lock and on a condition variable. proved_lock.c makes the steps that it returns. */
 #ifndef LOCK_C_H
 #define LOCK_C_H
 #include <stdint.h>
@@ -14,6 +14,13 @@ struct lock_call {
     uint8_t blocks, announces, announced, late;
 };
 
+/* A wait or a notification between two of its steps. After a notification, `loaded` is how many waits it found. */
+struct lock_event {
+    uint64_t loaded, epoch;
+    uint32_t stage;
+    uint8_t all, late;
+};
+
 /* The next step, on the place with this number: the word, the count or the epoch. */
 struct lock_step {
     uint32_t action, place;
@@ -21,11 +28,15 @@ struct lock_step {
 };
 
 enum lock_action { LOCK_LOAD, LOCK_EXCHANGE, LOCK_SUBTRACT, LOCK_STORE, LOCK_PARK, LOCK_WAKE_ONE, LOCK_WAKE_ALL, LOCK_SPIN,
-                   LOCK_YIELD, LOCK_REFUSED, LOCK_DONE };
+                   LOCK_YIELD, LOCK_REFUSED, LOCK_DONE, LOCK_UNLOCK, LOCK_LOCK };
 
 struct lock_step lock_c_acquire(struct lock_call *, uint64_t readers, uint32_t code, uint8_t blocks, uint8_t announces);
 struct lock_step lock_c_release(struct lock_call *, uint64_t readers, uint32_t code);
 struct lock_step lock_c_next(struct lock_call *, uint64_t found);
+
+struct lock_step lock_c_wait(struct lock_event *);
+struct lock_step lock_c_notify(struct lock_event *, uint8_t all);
+struct lock_step lock_c_next_event(struct lock_event *, uint64_t found);
 
 #ifdef __cplusplus
 }

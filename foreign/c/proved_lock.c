@@ -28,28 +28,32 @@ static void spin(uint64_t times) {
     }
 }
 
-static bool drive(proved_words *w, struct lock_call *call, struct lock_step s, const struct timespec *deadline) {
+/* Makes a step on the words, and returns its answer. */
+static uint64_t make(proved_words *w, struct lock_step s, const struct timespec *deadline) {
     uint64_t *const places[] = {&w->word, &w->count, &w->epoch};
-    for (;;) {
-        uint64_t *place = places[s.place % 3];
-        uint64_t found = 0;
-        switch (s.action) {
-        case LOCK_LOAD: found = __atomic_load_n(place, __ATOMIC_SEQ_CST); break;
-        case LOCK_EXCHANGE:
-            found = s.first;
-            __atomic_compare_exchange_n(place, &found, s.second, false, __ATOMIC_SEQ_CST, __ATOMIC_SEQ_CST);
-            break;
-        case LOCK_SUBTRACT: found = __atomic_fetch_sub(place, s.first, __ATOMIC_SEQ_CST); break;
-        case LOCK_STORE: __atomic_store_n(place, s.first, __ATOMIC_SEQ_CST); break;
-        case LOCK_PARK: found = futex(place, FUTEX_WAIT_BITSET, (uint32_t)s.first, deadline); break;
-        case LOCK_WAKE_ONE: futex(place, FUTEX_WAKE, 1, 0); break;
-        case LOCK_WAKE_ALL: futex(place, FUTEX_WAKE, INT_MAX, 0); break;
-        case LOCK_SPIN: spin((uint64_t)1 << s.first % 32); break;
-        case LOCK_YIELD: sched_yield(); break;
-        default: return s.action == LOCK_DONE;
-        }
-        s = lock_c_next(call, found);
+    uint64_t *place = places[s.place % 3];
+    uint64_t found = s.first;
+    switch (s.action) {
+    case LOCK_LOAD: return __atomic_load_n(place, __ATOMIC_SEQ_CST);
+    case LOCK_EXCHANGE:
+        __atomic_compare_exchange_n(place, &found, s.second, false, __ATOMIC_SEQ_CST, __ATOMIC_SEQ_CST);
+        return found;
+    case LOCK_SUBTRACT: return __atomic_fetch_sub(place, s.first, __ATOMIC_SEQ_CST);
+    case LOCK_STORE: __atomic_store_n(place, s.first, __ATOMIC_SEQ_CST); break;
+    case LOCK_PARK: return futex(place, FUTEX_WAIT_BITSET, (uint32_t)s.first, deadline);
+    case LOCK_WAKE_ONE: futex(place, FUTEX_WAKE, 1, 0); break;
+    case LOCK_WAKE_ALL: futex(place, FUTEX_WAKE, INT_MAX, 0); break;
+    case LOCK_SPIN: spin((uint64_t)1 << s.first % 32); break;
+    case LOCK_YIELD: sched_yield(); break;
     }
+    return 0;
+}
+
+static bool has_ended(struct lock_step s) { return s.action == LOCK_DONE || s.action == LOCK_REFUSED; }
+
+static bool drive(proved_words *w, struct lock_call *call, struct lock_step s, const struct timespec *deadline) {
+    while (!has_ended(s)) s = lock_c_next(call, make(w, s, deadline));
+    return s.action == LOCK_DONE;
 }
 
 void proved_acquire(proved_words *w, uint64_t readers, enum proved_mode mode) {
@@ -68,4 +72,23 @@ void proved_release_rest(proved_words *w, uint64_t readers, enum proved_release 
     struct lock_call call;
     lock_c_release(&call, readers, release); /* its first step, the subtraction, is made */
     drive(w, &call, lock_c_next(&call, before), 0);
+}
+
+bool proved_cond_wait_until(proved_cond *c, proved_mutex *m, const struct timespec *deadline) {
+    struct lock_event call;
+    struct lock_step s = lock_c_wait(&call);
+    while (!has_ended(s)) {
+        if (s.action == LOCK_UNLOCK) proved_mutex_unlock(m);
+        if (s.action == LOCK_LOCK) proved_mutex_lock(m);
+        s = lock_c_next_event(&call, make(&c->words, s, deadline));
+    }
+    return s.action == LOCK_DONE;
+}
+
+uint64_t proved_notify_rest(proved_words *w, bool all, uint64_t count) {
+    struct lock_event call;
+    lock_c_notify(&call, all); /* its first step, the load of the count, is made */
+    struct lock_step s = lock_c_next_event(&call, count);
+    while (!has_ended(s)) s = lock_c_next_event(&call, make(w, s, 0));
+    return call.loaded;
 }

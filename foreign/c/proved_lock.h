@@ -1,4 +1,5 @@
-/* Locks, each step of which is chosen by proved code: a mutex and a reader-writer lock with upgrades. For C11 and C++.
+/* Locks, each step of which is chosen by proved code: a mutex, a condition variable, and a reader-writer lock with upgrades.
+ * For C11 and C++.
  *
  * liblock_c.a returns the atomic step that a call makes next, and proved_lock.c makes it. The first step of an uncontended call
  * is inline here. A lock has no destructor, and allocates nothing. It must outlive each call on it, also an unlock.
@@ -33,6 +34,12 @@ typedef struct proved_rwlock {
     uint64_t readers;
 } proved_rwlock;
 
+/* A condition variable uses two of the words. */
+typedef struct proved_cond {
+    proved_words words;
+} proved_cond;
+
+#define PROVED_COND_INIT {{0, 0, 0}}
 #define PROVED_MUTEX_INIT {{0, 0, 0}}
 #define PROVED_RWLOCK_INIT {{0, 0, 0}, UINT32_MAX}
 
@@ -102,6 +109,20 @@ static inline bool proved_mutex_lock_until(proved_mutex *m, const struct timespe
 static inline void proved_mutex_unlock(proved_mutex *m) {
     proved_give(&m->words, 1, PROVED_UNLOCK_EXCLUSIVE);
 }
+
+/* Condition variable. A wait releases the mutex, which the caller holds, sleeps until a notification, and acquires the mutex
+ * again. It may also end without one. Returns false if the deadline has passed. */
+bool proved_cond_wait_until(proved_cond *, proved_mutex *, const struct timespec *deadline);
+static inline void proved_cond_wait(proved_cond *c, proved_mutex *m) { proved_cond_wait_until(c, m, 0); }
+/* The rest of a notification, after its load of the count, which found `count`. */
+uint64_t proved_notify_rest(proved_words *, bool all, uint64_t count);
+static inline uint64_t proved_notify(proved_words *w, bool all) {
+    uint64_t count = __atomic_load_n(&w->count, __ATOMIC_SEQ_CST);
+    return count == 0 ? 0 : proved_notify_rest(w, all, count);
+}
+/* Wakes one thread that waits, or all. Returns whether some waited when the call began, or how many. */
+static inline bool proved_cond_notify_one(proved_cond *c) { return proved_notify(&c->words, false) != 0; }
+static inline uint64_t proved_cond_notify_all(proved_cond *c) { return proved_notify(&c->words, true); }
 
 /* Reader-writer lock. Makes one for at most this many readers, from 1 on; returns false for 0, and leaves the lock. */
 static inline bool proved_rwlock_init(proved_rwlock *l, uint32_t readers) {

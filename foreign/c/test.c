@@ -17,6 +17,8 @@
 enum { THREADS = 8 };
 static proved_mutex mutex = PROVED_MUTEX_INIT;
 static proved_rwlock rwlock = PROVED_RWLOCK_INIT;
+static proved_mutex queue = PROVED_MUTEX_INIT;
+static proved_cond not_empty = PROVED_COND_INIT, not_full = PROVED_COND_INIT;
 static long counter, a, b, upgrades;
 static int seconds;
 
@@ -58,7 +60,24 @@ static void compare_on(uint64_t word, uint64_t readers) {
     }
 }
 
+/* So does the inline first step of a notification, on this count. */
+static void compare_notification_on(uint64_t count) {
+    for (uint8_t all = 0; all < 2; all++) {
+        struct lock_event call;
+        struct lock_step s = lock_c_notify(&call, all);
+        MUST(s.action == LOCK_LOAD && s.place == 1);
+        s = lock_c_next_event(&call, count);
+        MUST((s.action == LOCK_REFUSED) == (count == 0) && call.loaded == count << 1 >> 1);
+        proved_words w = {0, count, 7};
+        MUST(proved_notify(&w, all) == call.loaded && w.count == count && w.epoch == (count == 0 ? 7 : 8));
+    }
+}
+
 static void compare_inline_steps(void) {
+    compare_notification_on(0);
+    for (int i = 0; i < 64; i++) {
+        for (int j = 0; j < 64; j++) compare_notification_on((uint64_t)1 << i | (uint64_t)1 << j);
+    }
     static const uint64_t limits[] = {1, 2, 10, UINT32_MAX - 1, UINT32_MAX};
     uint64_t x = 88172645463325252u;
     for (unsigned k = 0; k < sizeof limits / sizeof *limits; k++) {
@@ -185,6 +204,75 @@ static void run(void *(*body)(void *)) {
     for (int i = 0; i < THREADS; i++) pthread_join(threads[i], 0);
 }
 
+enum { SLOTS = 2, ITEMS = 20000 };
+static long slots[SLOTS], filled, sum, taken;
+
+/* Half of the threads produce, and half consume. */
+static void *produces_or_consumes(void *number) {
+    for (long i = 0; i < ITEMS; i++) {
+        proved_mutex_lock(&queue);
+        if ((uintptr_t)number % 2) {
+            while (filled == SLOTS) proved_cond_wait(&not_full, &queue);
+            slots[filled++] = i;
+            proved_cond_notify_one(&not_empty);
+        } else {
+            struct timespec deadline = in_nanoseconds(20000);
+            while (filled == 0) {
+                if (i % 2) proved_cond_wait(&not_empty, &queue);
+                else proved_cond_wait_until(&not_empty, &queue, &deadline);
+            }
+            sum += slots[--filled];
+            taken++;
+            proved_cond_notify_one(&not_full);
+        }
+        proved_mutex_unlock(&queue);
+    }
+    return 0;
+}
+
+static void *waits_once(void *unused) {
+    (void)unused;
+    proved_mutex_lock(&queue);
+    filled++;
+    while (filled >= 0) proved_cond_wait(&not_empty, &queue);
+    proved_mutex_unlock(&queue);
+    return 0;
+}
+
+/* One notification of all wakes four threads that wait. */
+static void all_are_woken(void) {
+    pthread_t waiters[4];
+    for (int i = 0; i < 4; i++) MUST(!pthread_create(&waiters[i], 0, waits_once, 0));
+    for (bool all_wait = false; !all_wait;) {
+        proved_mutex_lock(&queue);
+        all_wait = filled == 4;
+        if (all_wait) {
+            filled = -1;
+            MUST(proved_cond_notify_all(&not_empty) == 4);
+        }
+        proved_mutex_unlock(&queue);
+    }
+    for (int i = 0; i < 4; i++) pthread_join(waiters[i], 0);
+    MUST(proved_cond_notify_all(&not_empty) == 0 && !proved_cond_notify_one(&not_empty));
+}
+
+static void conditions(void) {
+    struct timespec deadline = in_nanoseconds(1000000);
+    proved_mutex_lock(&queue);
+    MUST(!proved_cond_wait_until(&not_full, &queue, &deadline) && !is_before(&deadline));
+    MUST(!proved_cond_wait_until(&not_full, &queue, &(struct timespec){-1, 0}));
+    MUST(!proved_mutex_try_lock(&queue));
+    proved_mutex_unlock(&queue);
+    not_empty.words.epoch = UINT32_MAX - 20; /* soon the epochs begin anew */
+    run(produces_or_consumes);
+    MUST(filled == 0 && taken == THREADS / 2 * ITEMS && sum == THREADS / 2 * ((long)ITEMS * (ITEMS - 1) / 2));
+    for (int i = 0; i < 50; i++) {
+        filled = 0;
+        all_are_woken();
+    }
+    MUST(queue.words.word == 0 && queue.words.count == 0 && not_empty.words.count == 0 && not_full.words.count == 0);
+}
+
 static void tries_and_deadlines(void) {
     struct timespec deadline = in_nanoseconds(1000000);
     proved_mutex_lock(&mutex);
@@ -214,10 +302,11 @@ int main(int count, char **words) {
     MUST(counter == THREADS * 50000);
     sleepers_are_woken();
     MUST(counter == THREADS * 50000 + 50);
+    conditions();
     rwlock.words.epoch = UINT32_MAX - 20; /* soon the epochs begin anew */
     run(mixes);
     MUST(a == b && upgrades > 0);
     MUST(mutex.words.word == 0 && mutex.words.count == 0 && rwlock.words.word == 0 && rwlock.words.count == 0);
-    printf("%ld writes, %ld upgrades\n5 passed, 0 failed\n", a, upgrades);
+    printf("%ld writes, %ld upgrades\n6 passed, 0 failed\n", a, upgrades);
     return 0;
 }

@@ -5,13 +5,17 @@ use Rattle.lock_word.specs.declared.want.ExWant.TheVariants as want
 use Rattle.lock_word.specs.declared.down.Down.{Down}
 use Rattle.lock_word.specs.declared.down.Down.TheVariants as down
 use Rattle.lock_steps.specs.declared.action.Action.{Action}
-use Rattle.lock_steps.specs.declared.action.Action.TheVariants.{Load, Exchange, Subtract, Restart, Park, WakeOne, WakeAll, Spin, Yield, End}
+use Rattle.lock_steps.specs.declared.action.Action.TheVariants.{Load, Exchange, Subtract, Restart, Park, WakeOne, WakeAll, Spin, Yield, Unlock, Lock, End}
 use Rattle.lock_steps.specs.declared.action.Place.{Place}
 use Rattle.lock_steps.specs.declared.action.Place.TheVariants.{Word, Count, Epoch}
 use Rattle.lock_steps.specs.declared.call.Call.{Call}
 use Rattle.lock_steps.specs.declared.stage.Stage.{Stage}
 use Rattle.lock_steps.specs.declared.stage.Stage.TheVariants as stage
+use Rattle.lock_steps.specs.declared.event_call.EventCall.{EventCall}
+use Rattle.lock_steps.specs.declared.event_stage.EventStage.{EventStage}
+use Rattle.lock_steps.specs.declared.event_stage.EventStage.TheVariants as event
 use Rattle.lock_c.specs.declared.LockCall.{LockCall}
+use Rattle.lock_c.specs.declared.LockEvent.{LockEvent}
 use Rattle.lock_c.specs.declared.LockStep.{LockStep}
 
 abbrev pub want_of : ℕ → ExWant
@@ -92,6 +96,43 @@ packed call code = record {
   late = bit call.late;
 }
 
+abbrev pub number_of_event : EventStage → ℕ
+number_of_event event.FindCount = 0
+number_of_event event.CountIn = 1
+number_of_event event.YieldAway = 2
+number_of_event event.WatchEpoch = 3
+number_of_event event.Unlock = 4
+number_of_event event.Sleep = 5
+number_of_event event.YieldCounted = 6
+number_of_event event.Leave = 7
+number_of_event event.FindEpoch = 8
+number_of_event event.CloseCount = 9
+number_of_event event.RestartEpochs = 10
+number_of_event event.OpenCount = 11
+number_of_event event.Lock = 12
+number_of_event event.Waited = 13
+number_of_event event.FindWaits = 14
+number_of_event event.NoteEpoch = 15
+number_of_event event.EndEpoch = 16
+number_of_event event.Wake = 17
+number_of_event event.Notified = 18
+
+abbrev pub event_stage_of : ℕ → EventStage
+event_stage_of n =
+    if n == 0 then event.FindCount else if n == 1 then event.CountIn else if n == 2 then event.YieldAway else if n == 3 then event.WatchEpoch else if n == 4 then event.Unlock else if n == 5 then event.Sleep else if n == 6 then event.YieldCounted else if n == 7 then event.Leave else if n == 8 then event.FindEpoch else if n == 9 then event.CloseCount else if n == 10 then event.RestartEpochs else if n == 11 then event.OpenCount else if n == 12 then event.Lock else if n == 13 then event.Waited else if n == 14 then event.FindWaits else if n == 15 then event.NoteEpoch else if n == 16 then event.EndEpoch else if n == 17 then event.Wake else event.Notified
+
+abbrev pub unpacked_event : LockEvent → EventCall
+unpacked_event c = record { stage = event_stage_of c.stage; all = is_set c.all; late = is_set c.late; loaded = c.loaded; epoch = c.epoch }
+
+abbrev pub packed_event : EventCall → LockEvent
+packed_event call = record {
+  loaded = call.loaded;
+  epoch = call.epoch;
+  stage = number_of_event call.stage;
+  all = bit call.all;
+  late = bit call.late;
+}
+
 abbrev pub number_of_place : Place → ℕ
 number_of_place Word = 0
 number_of_place Count = 1
@@ -110,8 +151,14 @@ step_of WakeOne = step 5 2 0 0
 step_of WakeAll = step 6 2 0 0
 step_of (Spin n) = step 7 0 n 0
 step_of Yield = step 8 0 0 0
+step_of Unlock = step 11 0 0 0
+step_of Lock = step 12 0 0 0
 step_of (End b) = step (if b then 10 else 9) 0 0 0
 
 -- a call that crosses to C and back is the same
 abbrev pub PackingKeepsCalls : Type 0
 PackingKeepsCalls = (call : Call) (code : ℕ) → want_of code ≡ call.want → unpacked (packed call code) ≡ call
+
+-- so is a wait or a notification
+abbrev pub PackingKeepsEvents : Type 0
+PackingKeepsEvents = (call : EventCall) → unpacked_event (packed_event call) ≡ call

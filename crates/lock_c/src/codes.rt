@@ -1,8 +1,8 @@
 //! The numbers that C and the machine use for the same things.
 ghost use Rattle.std.specs.Prelude.{◌≡◌};
-ghost use Rattle.lock_c.specs.Packed.{want_of, down_of, stage_of, number_of, bit};
+ghost use Rattle.lock_c.specs.Packed.{want_of, down_of, stage_of, number_of, event_stage_of, number_of_event, bit};
 
-use lock_steps::Stage;
+use lock_steps::{EventStage, Stage};
 use lock_word::{Down, ExWant};
 
 pub(crate) fn want_of_code(code: u32) -> ExWant
@@ -104,5 +104,57 @@ pub(crate) fn stage_of_number(number: u32) -> Stage
         26 => Stage::Acquired,
         27 => Stage::Refused,
         _ => Stage::Ended,
+    }
+}
+
+pub(crate) fn number_of_event_stage(stage: EventStage) -> u32
+    ensures { result ≡ number_of_event stage }
+{
+    match stage {
+        EventStage::FindCount => 0,
+        EventStage::CountIn => 1,
+        EventStage::YieldAway => 2,
+        EventStage::WatchEpoch => 3,
+        EventStage::Unlock => 4,
+        EventStage::Sleep => 5,
+        EventStage::YieldCounted => 6,
+        EventStage::Leave => 7,
+        EventStage::FindEpoch => 8,
+        EventStage::CloseCount => 9,
+        EventStage::RestartEpochs => 10,
+        EventStage::OpenCount => 11,
+        EventStage::Lock => 12,
+        EventStage::Waited => 13,
+        EventStage::FindWaits => 14,
+        EventStage::NoteEpoch => 15,
+        EventStage::EndEpoch => 16,
+        EventStage::Wake => 17,
+        EventStage::Notified => 18,
+    }
+}
+
+pub(crate) fn event_stage_of_number(number: u32) -> EventStage
+    ensures { result ≡ event_stage_of number }
+{
+    match number {
+        0 => EventStage::FindCount,
+        1 => EventStage::CountIn,
+        2 => EventStage::YieldAway,
+        3 => EventStage::WatchEpoch,
+        4 => EventStage::Unlock,
+        5 => EventStage::Sleep,
+        6 => EventStage::YieldCounted,
+        7 => EventStage::Leave,
+        8 => EventStage::FindEpoch,
+        9 => EventStage::CloseCount,
+        10 => EventStage::RestartEpochs,
+        11 => EventStage::OpenCount,
+        12 => EventStage::Lock,
+        13 => EventStage::Waited,
+        14 => EventStage::FindWaits,
+        15 => EventStage::NoteEpoch,
+        16 => EventStage::EndEpoch,
+        17 => EventStage::Wake,
+        _ => EventStage::Notified,
     }
 }

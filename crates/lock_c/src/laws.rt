@@ -1,7 +1,12 @@
-//! The law of the encoding. It is the contract of a function with an empty body.
-ghost use Rattle.lock_c.specs.Packed.{PackingKeepsCalls};
+//! The laws of the encoding. Each is the contract of a function with an empty body.
+ghost use Rattle.lock_c.specs.Packed.{PackingKeepsCalls, PackingKeepsEvents};
 
 /// A call that is packed for C and unpacked again is the same call.
 pub fn packing_keeps_calls()
     ensures { PackingKeepsCalls }
+{}
+
+/// A wait or a notification that is packed for C and unpacked again is the same one.
+pub fn packing_keeps_events()
+    ensures { PackingKeepsEvents }
 {}

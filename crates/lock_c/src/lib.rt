@@ -1,19 +1,22 @@
-//! The machine of `lock_steps` as a static library, for programs in C and Rust.
+//! The machines of `lock_steps` as a static library, for programs in C and Rust.
 //!
-//! The caller owns the three words of a lock. It makes the step that a function returns, and passes the answer to
-//! `lock_c_next`. No function blocks, allocates or has a `requires`, and none reads memory other than its arguments.
+//! The caller owns the words of a lock or a condition variable. It makes the step that a function returns, and passes the
+//! answer to `lock_c_next` or `lock_c_next_event`. No function blocks, allocates or has a `requires`, and none reads memory other than its arguments.
 #![tactic(auto)]
 
 ghost use Rattle.std.specs.Prelude.{◌≡◌};
 ghost use Rattle.lock_steps.specs.Machine.{acquiring, next_of, taking};
-ghost use Rattle.lock_c.specs.Packed.{down_of, is_set, want_of, number_of_place, packed, step, step_of, unpacked};
+ghost use Rattle.lock_steps.specs.Events.{action_of, event_next, notifying, waiting};
+ghost use Rattle.lock_c.specs.Packed.{down_of, is_set, want_of, packed, packed_event, step_of, unpacked, unpacked_event};
 
+mod as_c;
 mod codes;
 mod laws;
 
-use codes::{bit, down_of_code, number_of_stage, stage_of_number, want_of_code};
-pub use laws::packing_keeps_calls;
-use lock_steps::{Action, Call, Place};
+use as_c::{packed, packed_event, step_of, unpacked, unpacked_event};
+use codes::{down_of_code, want_of_code};
+pub use laws::{packing_keeps_calls, packing_keeps_events};
+use lock_steps::{Call, EventCall};
 
 /// A call between two of its steps, as in `lock_steps::Call`. One thread has it at a time.
 #[repr(C)]
@@ -32,11 +35,24 @@ pub struct LockCall {
     pub late: u8,
 }
 
+/// A wait or a notification between two of its steps, as in `lock_steps::EventCall`. One thread has it at a time.
+#[repr(C)]
+#[derive(Drop)]
+pub struct LockEvent {
+    /// After a notification, how many waits it found.
+    pub loaded: u64,
+    pub epoch: u64,
+    pub stage: u32,
+    pub all: u8,
+    pub late: u8,
+}
+
 /// The next step, as in `lock_steps::Action`.
 #[repr(C)]
 #[derive(Drop)]
 pub struct LockStep {
-    /// 0 load, 1 exchange, 2 subtract, 3 store, 4 park, 5 wake one, 6 wake all, 7 spin, 8 yield, 9 refused, 10 done.
+    /// 0 load, 1 exchange, 2 subtract, 3 store, 4 park, 5 wake one, 6 wake all, 7 spin, 8 yield, 9 refused, 10 done,
+    /// 11 unlock, 12 lock.
     pub action: u32,
     /// 0 for the word, 1 for the count, 2 for the epoch.
     pub place: u32,
@@ -91,75 +107,38 @@ pub extern "C" fn lock_c_next(call: &mut LockCall, found: u64) -> LockStep
     step_of(action)
 }
 
-fn packed(call: &Call, code: u32) -> LockCall
-    ensures { result ≡ packed call.now code }
+/// Begins a wait on a condition variable, and returns its first step. The caller holds the mutex.
+///
+/// The wait asks for the release of the mutex, and at its end for the acquisition.
+#[unsafe(no_mangle)]
+pub extern "C" fn lock_c_wait(call: &mut LockEvent) -> LockStep
+    ensures call { call.new ≡ packed_event waiting }
+    ensures step { result ≡ step_of (action_of waiting) }
 {
-    LockCall {
-        readers: call.readers,
-        loaded: call.loaded,
-        epoch: call.epoch,
-        stage: number_of_stage(call.stage),
-        code,
-        pauses: call.pauses,
-        blocks: bit(call.blocks),
-        announces: bit(call.announces),
-        announced: bit(call.announced),
-        late: bit(call.late),
-    }
+    let (begun, action) = EventCall::wait();
+    *call = packed_event(&begun);
+    step_of(action)
 }
 
-fn unpacked(call: &LockCall) -> Call
-    ensures { result ≡ unpacked call.now }
+/// Begins a notification of all waits, or of one if `all` is 0, and returns its first step.
+#[unsafe(no_mangle)]
+pub extern "C" fn lock_c_notify(call: &mut LockEvent, all: u8) -> LockStep
+    ensures call { call.new ≡ packed_event (notifying (is_set all)) }
+    ensures step { result ≡ step_of (action_of (notifying (is_set all))) }
 {
-    Call {
-        readers: call.readers,
-        stage: stage_of_number(call.stage),
-        want: want_of_code(call.code),
-        blocks: call.blocks != 0,
-        announces: call.announces != 0,
-        announced: call.announced != 0,
-        late: call.late != 0,
-        pauses: call.pauses,
-        loaded: call.loaded,
-        epoch: call.epoch,
-    }
+    let (begun, action) = EventCall::notify(all != 0);
+    *call = packed_event(&begun);
+    step_of(action)
 }
 
-fn number_of_place(place: Place) -> u32
-    ensures { result ≡ number_of_place place }
+/// Takes the answer to the last step of a wait or a notification, and returns the next one.
+#[unsafe(no_mangle)]
+pub extern "C" fn lock_c_next_event(call: &mut LockEvent, found: u64) -> LockStep
+    ensures call { call.new ≡ packed_event (event_next found (unpacked_event call.old)) }
+    ensures step { result ≡ step_of (action_of (event_next found (unpacked_event call.old))) }
 {
-    match place {
-        Place::Word => 0,
-        Place::Count => 1,
-        Place::Epoch => 2,
-    }
-}
-
-fn step(action: u32, place: u32, first: u64, second: u64) -> LockStep
-    ensures { result ≡ step action place first second }
-{
-    LockStep {
-        action,
-        place,
-        first,
-        second,
-    }
-}
-
-fn step_of(next: Action) -> LockStep
-    ensures { result ≡ step_of next }
-{
-    match next {
-        Action::Load(place) => step(0, number_of_place(place), 0, 0),
-        Action::Exchange(place, first, second) => step(1, number_of_place(place), first, second),
-        Action::Subtract(place, first) => step(2, number_of_place(place), first, 0),
-        Action::Restart => step(3, 2, 0, 0),
-        Action::Park(epoch) => step(4, 2, epoch, 0),
-        Action::WakeOne => step(5, 2, 0, 0),
-        Action::WakeAll => step(6, 2, 0, 0),
-        Action::Spin(times) => step(7, 0, u64::from(times), 0),
-        Action::Yield => step(8, 0, 0, 0),
-        Action::End(false) => step(9, 0, 0, 0),
-        Action::End(true) => step(10, 0, 0, 0),
-    }
+    let mut going = unpacked_event(call);
+    let action = going.next(found);
+    *call = packed_event(&going);
+    step_of(action)
 }

@@ -1,2 +1,3 @@
+mod EventRuns
 mod Runs
 mod Steps

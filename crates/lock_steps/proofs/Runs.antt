@@ -23,7 +23,7 @@ use Rattle.lock_sleepers.specs.Sleepers.{IsDue, SomeoneIsDue, states_of}
 use Rattle.lock_sleepers.specs.Wakes.{KeepsWakes, new_sleeper, debt_after}
 use Rattle.lock_sleepers.proofs.Wakes.{starts, joins}
 use Rattle.lock_steps.specs.declared.action.Action.{Action}
-use Rattle.lock_steps.specs.declared.action.Action.TheVariants.{Load, Exchange, Subtract, Restart, Park, WakeOne, WakeAll, Spin, Yield, End}
+use Rattle.lock_steps.specs.declared.action.Action.TheVariants.{Load, Exchange, Subtract, Restart, Park, WakeOne, WakeAll, Spin, Yield, Unlock, Lock, End}
 use Rattle.lock_steps.specs.declared.action.Place.TheVariants.{Word, Count, Epoch}
 use Rattle.lock_steps.specs.declared.call.Call.{Call}
 use Rattle.lock_steps.specs.declared.act.Act.{Act}
@@ -33,7 +33,7 @@ use Rattle.lock_steps.specs.declared.stage.Stage.TheVariants as stage
 use Rattle.lock_steps.specs.Machine.{Progress, acquiring, taking, next_of, next_at, ended, goes_to, wakes_one, has_to_wake, last_epoch, closed_count}
 use Rattle.lock_steps.specs.StepLaws.{Words, with_number, made, IsAnswer, LeavesWords, limits_of, trial, IsAt, hold_at, is_over, Kept}
 use Rattle.lock_steps.specs.Runs.{Underway, Thread, LockInUse, new_thread, new_lock, hold_in, hold_of, rests, may_acquire, may_release, in_call, goes_on, answer, with_thread, acquire_by, release_by, step_in, step_by, after_act, after_acts, IsDueAt, SomeThreadIsDue, is_wake, WakesNext, ThreadsAreServed, EveryRunIsServed}
-use Rattle.lock_steps.proofs.Steps.{steps_keep_the_rule, no_parked_call_is_forgotten}
+use Rattle.lock_steps.proofs.Steps.{chosen, steps_keep_the_rule, no_parked_call_is_forgotten}
 
 -- a thread, and what the rule knows of it
 record Pair : Type 0 where
@@ -85,10 +85,6 @@ put : {A : Type 0} (xs : List A) (k : ℕ) (x y : A) → slice_get xs k ≡ Some
 put [] k x y h = cc
 put (z ∷ xs) zero x y h = refl
 put (z ∷ xs) (suc k) x y h = put xs k x y h
-
-chosen : {A : Type 0} (P : A → Type 0) (b : Bool) (x y : A) → (b ≡ true → P x) → (b ≡ false → P y) → P (if b then x else y)
-chosen P true x y hit miss = hit refl
-chosen P false x y hit miss = miss refl
 
 -- the start
 
@@ -226,6 +222,8 @@ is_answer WakeOne w told = tt
 is_answer WakeAll w told = tt
 is_answer (Spin n) w told = tt
 is_answer Yield w told = tt
+is_answer Unlock w told = tt
+is_answer Lock w told = tt
 is_answer (End b) w told = tt
 
 -- a call that has ended owes nothing

@@ -29,7 +29,7 @@ use Rattle.lock_steps.specs.StepLaws.{gained, Words, with_number, made, IsAnswer
 
 -- choices
 
-chosen : {A : Type 0} (P : A → Type 0) (b : Bool) (x y : A) → (b ≡ true → P x) → (b ≡ false → P y) → P (if b then x else y)
+pub chosen : {A : Type 0} (P : A → Type 0) (b : Bool) (x y : A) → (b ≡ true → P x) → (b ≡ false → P y) → P (if b then x else y)
 chosen P true x y hit miss = hit refl
 chosen P false x y hit miss = miss refl
 

@@ -19,7 +19,7 @@ use Rattle.lock_word.specs.Unblocking.{is_awaited}
 use Rattle.lock_sleepers.specs.Sleepers.{count_of_watch, SomeoneIsDue}
 use Rattle.lock_sleepers.specs.Wakes.{KeepsWakes, after_exchange, debt_after}
 use Rattle.lock_steps.specs.declared.action.Action.{Action}
-use Rattle.lock_steps.specs.declared.action.Action.TheVariants.{Load, Exchange, Subtract, Restart, Park, WakeOne, WakeAll, Spin, Yield, End}
+use Rattle.lock_steps.specs.declared.action.Action.TheVariants.{Load, Exchange, Subtract, Restart, Park, WakeOne, WakeAll, Spin, Yield, Unlock, Lock, End}
 use Rattle.lock_steps.specs.declared.action.Place.{Place}
 use Rattle.lock_steps.specs.declared.action.Place.TheVariants.{Word, Count, Epoch}
 use Rattle.lock_steps.specs.declared.call.Call.{Call}
@@ -54,6 +54,8 @@ made WakeOne w = w
 made WakeAll w = w
 made (Spin n) w = w
 made Yield w = w
+made Unlock w = w
+made Lock w = w
 made (End b) w = w
 
 -- the answer to it
@@ -67,6 +69,8 @@ IsAnswer WakeOne w found = ⊤
 IsAnswer WakeAll w found = ⊤
 IsAnswer (Spin n) w found = ⊤
 IsAnswer Yield w found = ⊤
+IsAnswer Unlock w found = ⊤
+IsAnswer Lock w found = ⊤
 IsAnswer (End b) w found = ⊤
 
 abbrev pub LeavesWords : Action → Type 0

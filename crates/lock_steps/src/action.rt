@@ -33,6 +33,10 @@ pub enum Action {
     Spin(u32),
     /// Yields the thread.
     Yield,
+    /// Releases the mutex of a wait.
+    Unlock,
+    /// Acquires the mutex of a wait.
+    Lock,
     /// Ends the call with this answer.
     End(bool),
 }

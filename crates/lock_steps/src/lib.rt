@@ -1,19 +1,26 @@
-//! A call on a word lock as a state machine: each answer to an atomic step gives the next step to make.
+//! A call on a word lock or a condition variable as a state machine: each answer to a step gives the next step to make.
 //!
-//! The machine makes no step itself. The owner of the three words makes the steps in a loop: the driver. So a program in C or
-//! Rust can have the protocol of `lock_wake`, and each of its steps is chosen by proved code.
+//! A machine makes no step itself. The owner of the words makes the steps in a loop: the driver. So a program in C or Rust
+//! can have the protocol of `lock_wake`, and each of its steps is chosen by proved code.
 #![tactic(auto)]
 
 mod act;
 mod action;
 mod call;
+mod event_act;
+mod event_call;
+mod event_stage;
 mod laws;
 mod stage;
 
 pub use act::Act;
 pub use action::{Action, Place};
 pub use call::{CLOSED_COUNT, Call, LAST_EPOCH};
+pub use event_act::EventAct;
+pub use event_call::EventCall;
+pub use event_stage::EventStage;
 pub use laws::{
-    calls_begin, every_run_is_served, no_parked_call_is_forgotten, steps_keep_the_rule,
+    calls_begin, every_run_is_served, every_wait_is_reached, no_parked_call_is_forgotten,
+    steps_keep_the_rule,
 };
 pub use stage::Stage;

@@ -60,11 +60,35 @@ pub(crate) struct LockStep {
     pub(crate) second: u64,
 }
 
+const REFUSED: u32 = 9;
+const DONE: u32 = 10;
+const UNLOCK: u32 = 11;
+const LOCK: u32 = 12;
+
+impl LockStep {
+    fn ends(&self) -> bool {
+        self.action == REFUSED || self.action == DONE
+    }
+}
+
+#[repr(C)]
+#[derive(Default)]
+pub(crate) struct LockEvent {
+    pub(crate) loaded: u64,
+    epoch: u64,
+    stage: u32,
+    all: u8,
+    late: u8,
+}
+
 // No function of the archive has a precondition: each is safe with any arguments.
 unsafe extern "C" {
     pub(crate) safe fn lock_c_acquire(call: &mut LockCall, readers: u64, code: u32, blocks: u8, announces: u8) -> LockStep;
     pub(crate) safe fn lock_c_release(call: &mut LockCall, readers: u64, code: u32) -> LockStep;
     pub(crate) safe fn lock_c_next(call: &mut LockCall, found: u64) -> LockStep;
+    pub(crate) safe fn lock_c_wait(call: &mut LockEvent) -> LockStep;
+    pub(crate) safe fn lock_c_notify(call: &mut LockEvent, all: u8) -> LockStep;
+    pub(crate) safe fn lock_c_next_event(call: &mut LockEvent, found: u64) -> LockStep;
 }
 
 #[cfg(target_arch = "x86_64")]
@@ -95,6 +119,23 @@ fn wake(epoch: &AtomicU64, threads: c_int) {
     unsafe { syscall(SYS_FUTEX, epoch.as_ptr(), WAKE_PRIVATE, threads) };
 }
 
+/// Sleeps as `park` does, as long as the patience lasts. Returns whether it has ended.
+fn park_until(epoch: &AtomicU64, number: u64, patience: Patience<'_>) -> bool {
+    match patience {
+        Patience::Blocks => {
+            park(epoch, number, None);
+            false
+        }
+        Patience::Until(left) => {
+            let before = left();
+            if !before.is_zero() {
+                park(epoch, number, Some(before));
+            }
+            left().is_zero()
+        }
+    }
+}
+
 /// The three words of a lock: the packed word, the count of sleepers and the epoch.
 #[derive(Debug)]
 pub(crate) struct Words(pub(crate) [AtomicU64; 3]);
@@ -104,34 +145,35 @@ impl Words {
         Words([AtomicU64::new(0), AtomicU64::new(0), AtomicU64::new(0)])
     }
 
-    fn drive(&self, call: &mut LockCall, mut step: LockStep, patience: Patience<'_>) -> bool {
-        loop {
-            let place = &self.0[step.place as usize % 3];
-            let mut found = 0;
-            match step.action {
-                0 => found = place.load(SeqCst),
-                1 => {
-                    found = match place.compare_exchange(step.first, step.second, SeqCst, SeqCst) {
-                        Ok(found) | Err(found) => found,
-                    }
+    /// Makes a step on the words, and returns its answer.
+    fn make(&self, step: &LockStep, patience: Patience<'_>) -> u64 {
+        let place = &self.0[step.place as usize % 3];
+        match step.action {
+            0 => return place.load(SeqCst),
+            1 => {
+                return match place.compare_exchange(step.first, step.second, SeqCst, SeqCst) {
+                    Ok(found) | Err(found) => found,
                 }
-                2 => found = place.fetch_sub(step.first, SeqCst),
-                3 => place.store(step.first, SeqCst),
-                4 => match patience {
-                    Patience::Until(left) if left().is_zero() => found = 1,
-                    Patience::Until(left) => park(place, step.first, Some(left())),
-                    Patience::Blocks => park(place, step.first, None),
-                },
-                5 => wake(place, 1),
-                6 => wake(place, c_int::MAX),
-                7 => (0..1u64 << (step.first % 32)).for_each(|_| spin_loop()),
-                8 => {
-                    sched_yield();
-                }
-                action => return action == 10,
             }
-            step = lock_c_next(call, found);
+            2 => return place.fetch_sub(step.first, SeqCst),
+            3 => place.store(step.first, SeqCst),
+            4 => return park_until(place, step.first, patience).into(),
+            5 => wake(place, 1),
+            6 => wake(place, c_int::MAX),
+            7 => (0..1u64 << (step.first % 32)).for_each(|_| spin_loop()),
+            8 => {
+                sched_yield();
+            }
+            _ => {}
         }
+        0
+    }
+
+    fn drive(&self, call: &mut LockCall, mut step: LockStep, patience: Patience<'_>) -> bool {
+        while !step.ends() {
+            step = lock_c_next(call, self.make(&step, patience));
+        }
+        step.action == DONE
     }
 
     /// Acquires, or is refused.
@@ -150,5 +192,32 @@ impl Words {
         lock_c_release(&mut call, readers, release as u32);
         let step = lock_c_next(&mut call, before);
         self.drive(&mut call, step, Patience::Blocks);
+    }
+
+    /// Waits on a condition variable with these words. Returns whether a notification came before the patience ended.
+    pub(crate) fn wait(&self, unlock: impl Fn(), lock: impl Fn(), patience: Patience<'_>) -> bool {
+        let mut call = LockEvent::default();
+        let mut step = lock_c_wait(&mut call);
+        while !step.ends() {
+            match step.action {
+                UNLOCK => unlock(),
+                LOCK => lock(),
+                _ => {}
+            }
+            step = lock_c_next_event(&mut call, self.make(&step, patience));
+        }
+        step.action == DONE
+    }
+
+    /// Makes the rest of a notification, after its load of the count, which found `count`. Returns how many waited.
+    #[cold]
+    pub(crate) fn rest_of_notify(&self, all: bool, count: u64) -> u64 {
+        let mut call = LockEvent::default();
+        lock_c_notify(&mut call, all.into());
+        let mut step = lock_c_next_event(&mut call, count);
+        while !step.ends() {
+            step = lock_c_next_event(&mut call, self.make(&step, Patience::Blocks));
+        }
+        call.loaded
     }
 }

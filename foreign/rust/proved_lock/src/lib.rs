@@ -1,4 +1,4 @@
-//! A mutex and a reader-writer lock, each step of which is chosen by proved code.
+//! A mutex, a condition variable and a reader-writer lock, each step of which is chosen by proved code.
 //!
 //! The types are those of [`lock_api`] over the raw locks [`RawMutex`] and [`RawRwLock`], with the names of `parking_lot`. A
 //! call is a state machine: the archive `liblock_c.a` returns the atomic step that comes next, and this crate makes it. It is
@@ -20,7 +20,8 @@
 //!
 //! # Differences from `parking_lot`
 //!
-//! - There is no `Condvar`, `Once` or `FairMutex`, and no recursive read.
+//! - There is no `Once` or `FairMutex`, and no recursive read.
+//! - A wait of a [`Condvar`] may end without a notification. With two mutexes at a time, it does not panic.
 //! - A fair unlock is a plain unlock, and `bump` releases and acquires again.
 //! - A try may be refused while another call changes the lock.
 //! - A waiting writer with no deadline admits no new reader. One with a deadline does.
@@ -32,6 +33,7 @@
 #[cfg(not(all(target_os = "linux", target_endian = "little", target_pointer_width = "64")))]
 compile_error!("proved_lock needs Linux on a little-endian machine of 64 bits");
 
+mod condvar;
 mod driver;
 mod first;
 mod mutex;
@@ -44,6 +46,7 @@ type GuardMarker = lock_api::GuardSend;
 #[cfg(not(feature = "send_guard"))]
 type GuardMarker = lock_api::GuardNoSend;
 
+pub use condvar::{Condvar, WaitTimeoutResult};
 pub use lock_api;
 pub use mutex::{const_mutex, MappedMutexGuard, Mutex, MutexGuard, RawMutex};
 #[cfg(feature = "std")]

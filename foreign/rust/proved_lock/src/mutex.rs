@@ -6,7 +6,7 @@ use std::time::{Duration, Instant};
 
 /// The raw mutex, for [`lock_api::Mutex`]. It has 24 bytes.
 #[derive(Debug)]
-pub struct RawMutex(Lock<1>);
+pub struct RawMutex(pub(crate) Lock<1>);
 
 /// A mutex. A release wakes one waiter.
 ///
