@@ -1,12 +1,11 @@
 -- Every wait on a condition variable is reached by each notification that began after it registered.
-use Rattle.std.proofs.Common.{◌≡◌, ◌≢◌, ℕ, zero, suc, ◌+◌, ◌-◌, ◌%◌, ◌<◌, ◌≤◌, Bool, true, false, not, ◌&&◌, ◌==◌, nat_lt, List, [], ◌∷◌, ◌++◌, length, slice_get, slice_set, Option, Some, None, if◌then◌else◌, ◌⊎◌, inl, inr, IsTrue, refl, sym, ap, subst, ◌∙◌, arith, length-append}
+use Rattle.std.proofs.Common.{◌≡◌, ◌≢◌, ℕ, zero, suc, ◌+◌, ◌-◌, ◌%◌, ◌<◌, ◌≤◌, Bool, true, false, not, ◌==◌, nat_lt, List, [], ◌∷◌, ◌++◌, length, slice_get, slice_set, Option, Some, None, if◌then◌else◌, ◌⊎◌, inl, inr, IsTrue, refl, sym, ap, subst, ◌∙◌, arith, length-append}
 use Rattle.std.specs.Prelude.{⊤}
-use Rattle.std.proofs.lemmas.Bool.{eqb-true, eqb-false, ltb-true, ltb-false, true≢false, false≢true, cases_eq, cases_lt}
+use Rattle.std.proofs.lemmas.Bool.{eqb-true, eqb-false, ltb-true, ltb-false, false≢true, cases_eq, cases_lt}
 use Rattle.std.proofs.lemmas.Option.{same_Some, slice_get_within}
 use Rattle.lock_word.proofs.Rules.{changed_or_not, element_of_longer}
-use Rattle.lock_steps.specs.declared.action.Action.{Action}
 use Rattle.lock_steps.specs.declared.action.Action.TheVariants as action
-use Rattle.lock_steps.specs.declared.action.Place.TheVariants.{Word, Count, Epoch}
+use Rattle.lock_steps.specs.declared.action.Place.TheVariants.{Count, Epoch}
 use Rattle.lock_steps.specs.declared.event_act.EventAct.{EventAct}
 use Rattle.lock_steps.specs.declared.event_act.EventAct.TheVariants as act
 use Rattle.lock_steps.specs.declared.event_call.EventCall.{EventCall}
@@ -15,8 +14,8 @@ use Rattle.lock_steps.specs.declared.event_stage.EventStage.TheVariants as stage
 use Rattle.lock_steps.specs.Machine.{last_epoch, closed_count}
 use Rattle.lock_steps.specs.StepLaws.{Words, with_number, made}
 use Rattle.lock_steps.specs.Runs.{answer}
-use Rattle.lock_steps.specs.Events.{waiting, notifying, action_at, action_of, event_to, event_at, event_next}
-use Rattle.lock_steps.specs.EventRuns.{Begun, EventsInUse, new_events, with_call, before_after, answered, step_of_call, after_event, after_events, is_registered, count_at, counts_of, ReachesAt, Reaches, wake_of, WaitsAreReached, EveryWaitIsReached}
+use Rattle.lock_steps.specs.Events.{waiting, notifying, action_at, action_of, event_to, event_at}
+use Rattle.lock_steps.specs.EventRuns.{Begun, EventsInUse, new_events, with_call, before_after, step_of_call, after_event, after_events, is_registered, count_at, counts_of, ReachesAt, Reaches, wake_of, WaitsAreReached, EveryWaitIsReached}
 use Rattle.lock_steps.proofs.Steps.{chosen}
 
 abbrev count_of : Begun → ℕ

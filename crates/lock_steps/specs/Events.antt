@@ -1,5 +1,5 @@
 -- The next step of a wait or a notification, by what it found.
-use Rattle.std.specs.Prelude.{ℕ, ◌+◌, ◌%◌, Bool, true, false, not, ◌==◌, nat_lt, if◌then◌else◌}
+use Rattle.std.specs.Prelude.{ℕ, ◌+◌, ◌%◌, Bool, false, not, ◌==◌, nat_lt, if◌then◌else◌}
 use Rattle.lock_steps.specs.declared.action.Action.{Action}
 use Rattle.lock_steps.specs.declared.action.Action.TheVariants as action
 use Rattle.lock_steps.specs.declared.action.Place.TheVariants.{Count, Epoch}

@@ -136,9 +136,7 @@ impl Condvar {
     fn wait_to<T: ?Sized>(&self, guard: &mut MutexGuard<'_, T>, deadline: Option<Instant>) -> WaitTimeoutResult {
         match deadline {
             None => self.wait_patiently(guard, Patience::Blocks),
-            Some(deadline) => {
-                self.wait_patiently(guard, Patience::Until(&|| deadline.saturating_duration_since(Instant::now())))
-            }
+            Some(deadline) => self.wait_patiently(guard, Patience::Until(&|| deadline.saturating_duration_since(Instant::now()))),
         }
     }
 }
