@@ -1,3 +1,4 @@
 mod EventRuns
+mod Refusals
 mod Runs
 mod Steps

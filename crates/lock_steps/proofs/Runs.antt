@@ -1,5 +1,6 @@
 -- Every run of threads with one lock is served.
 use Rattle.std.proofs.Common.{◌≡◌, ℕ, zero, suc, ◌+◌, Bool, true, false, not, ◌&&◌, ◌==◌, nat_lt, List, [], ◌∷◌, ◌++◌, map, slice_get, slice_set, Option, Some, None, if◌then◌else◌, IsTrue, inl, inr, refl, sym, ap, subst, ◌∙◌, arith}
+use Rattle.std.specs.Prelude.{⊤}
 use Rattle.std.proofs.lemmas.Bool.{eqb-true, true≢false, false≢true, and_parts, not-true}
 use Rattle.std.proofs.lemmas.List.{map-set, map-append}
 use Rattle.std.proofs.lemmas.Option.{same_Some, slice_get-map}
@@ -32,7 +33,8 @@ use Rattle.lock_steps.specs.declared.stage.Stage.{Stage}
 use Rattle.lock_steps.specs.declared.stage.Stage.TheVariants as stage
 use Rattle.lock_steps.specs.Machine.{Progress, acquiring, taking, next_of, next_at, ended, goes_to, wakes_one, has_to_wake, last_epoch, closed_count}
 use Rattle.lock_steps.specs.StepLaws.{Words, with_number, made, IsAnswer, LeavesWords, limits_of, trial, IsAt, hold_at, is_over, Kept}
-use Rattle.lock_steps.specs.Runs.{Underway, Thread, LockInUse, new_thread, new_lock, hold_in, hold_of, rests, may_acquire, may_release, in_call, goes_on, answer, with_thread, acquire_by, release_by, step_in, step_by, after_act, after_acts, IsDueAt, SomeThreadIsDue, is_wake, WakesNext, ThreadsAreServed, EveryRunIsServed}
+use Rattle.lock_steps.specs.Runs.{Underway, Thread, LockInUse, next_in, new_thread, new_lock, hold_in, hold_of, rests, may_acquire, may_release, in_call, goes_on, answer, with_thread, acquire_by, release_by, step_in, step_by, after_act, after_acts, IsDueAt, SomeThreadIsDue, is_wake, WakesNext, ThreadsAreServed, EveryRunIsServed}
+use Rattle.lock_steps.proofs.Refusals.{Honest, honest_next, honest_start, refusal_keeps}
 use Rattle.lock_steps.proofs.Steps.{chosen, steps_keep_the_rule, no_parked_call_is_forgotten}
 
 -- a thread, and what the rule knows of it
@@ -51,7 +53,13 @@ abbrev IsIn : ℕ → Option Underway → SleeperView → Type 0
 IsIn readers None v = (v.watch ≡ Away) × (v.debt ≡ Nothing)
 IsIn readers (Some u) v = IsAt u.call.stage u.call u.down v u.action × (is_over u.call.stage ≡ false) × (u.call.readers ≡ readers)
 
+-- what a thread's call does with the bar
+abbrev HonestIn : Hold → Option Underway → Type 0
+HonestIn held None = ⊤
+HonestIn held (Some u) = Honest held u.call
+
 record Matches (readers : ℕ) (t : Thread) (v : SleeperView) : Type 0 where
+  honest : HonestIn t.held t.underway
   holds : v.state.held ≡ hold_of t
   is_in : IsIn readers t.underway v
 
@@ -96,7 +104,7 @@ new_pair = record { thread = new_thread; view = new_sleeper }
 
 new_matches : (readers : ℕ) (p : Pair) → p ≡ new_pair → Matches readers p.thread p.view
 new_matches readers p e =
-    subst (λ (q : Pair). Matches readers q.thread q.view) (sym e) record { holds = refl; is_in = (refl, refl) }
+    subst (λ (q : Pair). Matches readers q.thread q.view) (sym e) record { honest = tt; holds = refl; is_in = (refl, refl) }
 
 kept_at_start : (readers : ℕ) → IsLimit readers → IsKept (new_lock readers)
 kept_at_start readers range =
@@ -180,6 +188,7 @@ module _ (s : LockInUse) (h : IsKept s) (k : ℕ) (t : Thread) (at : slice_get s
       let rest = at_rest t.underway parts.0 refl in
       let free = not-true _ needs.1 in
       begun (in_call t down.Shared (acquiring s.readers want blocks announces)) record {
+        honest = honest_start t.held (acquiring s.readers want blocks announces).0 free refl refl refl;
         holds = rest.0 ∙ unbarred t.held free;
         is_in = (
           (
@@ -202,6 +211,7 @@ module _ (s : LockInUse) (h : IsKept s) (k : ℕ) (t : Thread) (at : slice_get s
       let parts = and_parts _ _ may in
       let rest = at_rest t.underway parts.0 refl in
       begun (in_call t release (taking s.readers release)) record {
+        honest = λ waits. absurd (false≢true waits);
         holds = rest.0;
         is_in = (
           (subst (λ x. IsTrue (hold_has x (step_of_down release))) (sym rest.0) parts.1, rest.1.0, rest.1.1, refl),
@@ -237,12 +247,12 @@ owes_nothing other call release v a over st = absurd (false≢true over)
 -- a thread that goes on matches the view that the step gave it
 goes_on_matches : (readers : ℕ) (t : Thread) (release : Down) (next : Progress) (you : SleeperView)
     → IsAt next.0.stage next.0 release you next.1 → you.state.held ≡ hold_at next.0.stage release next.0 t.held
-    → next.0.readers ≡ readers → Matches readers (goes_on t release next) you
-goes_on_matches readers t release next you is_at held same =
+    → next.0.readers ≡ readers → Honest t.held next.0 → Matches readers (goes_on t release next) you
+goes_on_matches readers t release next you is_at held same honest =
     chosen (λ (x : Thread). Matches readers x you) (is_over next.0.stage)
     (record { held = hold_at next.0.stage release next.0 t.held; underway = None }) (in_call t release next)
-    (λ over. record { holds = held; is_in = owes_nothing next.0.stage next.0 release you next.1 over is_at })
-    (λ going. record { holds = held; is_in = (is_at, going, same) })
+    (λ over. record { honest = tt; holds = held; is_in = owes_nothing next.0.stage next.0 release you next.1 over is_at })
+    (λ going. record { honest = honest; holds = held; is_in = (is_at, going, same) })
 
 module _ (s : LockInUse) (h : IsKept s) (k told : ℕ) (t : Thread) (at : slice_get s.threads k ≡ Some t) (u : Underway)
     (calls : t.underway ≡ Some u) where
@@ -256,7 +266,12 @@ module _ (s : LockInUse) (h : IsKept s) (k told : ℕ) (t : Thread) (at : slice_
   kept_here = subst (λ n. KeepsLock n s.words (views_of h.pairs)) (sym is_in.2) h.kept
 
   abbrev next : Progress
-  next = next_of u.down (answer u.action s.words told) u.call
+  next = next_in s told u
+
+  is_honest : Honest t.held next.0
+  is_honest =
+      honest_next t.held u.call u.down (answer u.action s.words told)
+      (subst (HonestIn t.held) calls (matches s h k t at).honest)
 
   stepped : Kept u.call.readers t.held (made u.action s.words) (views_of h.pairs) k u.down next
   stepped =
@@ -268,7 +283,7 @@ module _ (s : LockInUse) (h : IsKept s) (k told : ℕ) (t : Thread) (at : slice_
       let same = stepped.same_lock ∙ is_in.2 in
       replaced s h k t at (made u.action s.words) (goes_on t u.down next) stepped.you
       (subst (λ n. KeepsLock n (made u.action s.words) (slice_set (views_of h.pairs) k stepped.you)) same stepped.kept)
-      (goes_on_matches s.readers t u.down next stepped.you stepped.is_at stepped.holds same)
+      (goes_on_matches s.readers t u.down next stepped.you stepped.is_at stepped.holds same is_honest)
 
 -- acts
 
@@ -372,6 +387,16 @@ none_forgotten s h k t u at calls sleeps now admits =
     (no_parked_call_is_forgotten s.words (views_of h.pairs) k (me s h k t at) u.call u.down u.action (kept_here s h k 0 t at u calls)
     (me_at s h k t at) (subst (λ x. IsAt x u.call u.down (me s h k t at) u.action) sleeps where_it_is.0) now
     (subst (λ n. IsTrue (word_admits u.call.announced n s.words.word u.call.want)) (sym where_it_is.2) admits))
+
+-- a refusal
+
+refused : (s : LockInUse) (h : IsKept s) (k told : ℕ) (t : Thread) (u : Underway) → slice_get s.threads k ≡ Some t → t.underway ≡ Some u
+    → (next_in s told u).0.stage ≡ stage.Refused → (goes_on t u.down (next_in s told u)).held ≡ t.held
+refused s h k told t u at calls is =
+    let next = next_in s told u in
+    chosen (λ (x : Thread). x.held ≡ t.held) (is_over next.0.stage)
+    (record { held = hold_at next.0.stage u.down next.0 t.held; underway = None }) (in_call t u.down next)
+    (λ over. refusal_keeps t.held next.0 u.down (is_honest s h k told t at u calls) is) (λ going. refl)
 
 -- a step that ends an epoch
 
@@ -480,6 +505,7 @@ served s h =
       coded = h.kept.rule.coded ∙ ap (λ hs. word_of (all_of hs)) (shown_holds s h);
       legal = subst (λ hs. IsLegalBarredBag s.readers (all_of hs)) (shown_holds s h) h.kept.rule.legal;
       none_forgotten = none_forgotten s h;
+      refused = refused s h;
       wakes = λ k told ends. wakes_by s h k told (slice_get s.threads k) refl ends;
     }
 

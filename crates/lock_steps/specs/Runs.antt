@@ -95,13 +95,17 @@ abbrev pub release_by : LockInUse → ℕ → Down → Option Thread → LockInU
 release_by s k release None = s
 release_by s k release (Some t) = if may_release t release then with_thread s k (in_call t release (taking s.readers release)) else s
 
+-- the call after its step
+abbrev pub next_in : LockInUse → ℕ → Underway → Progress
+next_in s told u = next_of u.down (answer u.action s.words told) u.call
+
 abbrev pub step_in : LockInUse → ℕ → ℕ → Thread → Option Underway → LockInUse
 step_in s k told t None = s
 step_in s k told t (Some u) =
     record {
       readers = s.readers;
       words = made u.action s.words;
-      threads = slice_set s.threads k (goes_on t u.down (next_of u.down (answer u.action s.words told) u.call));
+      threads = slice_set s.threads k (goes_on t u.down (next_in s told u));
     }
 
 abbrev pub step_by : LockInUse → ℕ → ℕ → Option Thread → LockInUse
@@ -155,6 +159,9 @@ pub record ThreadsAreServed (s : LockInUse) : Type 0 where
   pub none_forgotten : (k : ℕ) (t : Thread) (u : Underway) → slice_get s.threads k ≡ Some t → t.underway ≡ Some u
       → u.call.stage ≡ stage.Sleep → u.call.epoch ≡ s.words.epoch
       → IsTrue (word_admits u.call.announced s.readers s.words.word u.call.want) → SomeThreadIsDue s
+  -- a thread whose call is refused holds what it held when the call began: so the call leaves no bar
+  pub refused : (k told : ℕ) (t : Thread) (u : Underway) → slice_get s.threads k ≡ Some t → t.underway ≡ Some u
+      → (next_in s told u).0.stage ≡ stage.Refused → (goes_on t u.down (next_in s told u)).held ≡ t.held
   -- a step that ends an epoch is followed by a wake-up
   pub wakes : (k told : ℕ) → (after_act s (Step k told)).words.epoch ≡ s.words.epoch + 1
       → WakesNext (after_act s (Step k told)) k

@@ -150,7 +150,7 @@ mod tests {
             (0..64).for_each(|j| compare_on::<READERS>(1 << i | 1 << j));
         }
         for near in 0..40u64 {
-            for middle in [20, READERS.max(20), 1 << 32, ONE_EXCLUSIVE, BAR, BAR + ONE_UPGRADABLE, u64::MAX - 20] {
+            for middle in [20, READERS.max(20), 1 << 32, ONE_EXCLUSIVE, BAR, BAR + ONE_UPGRADABLE, u64::MAX - 19] {
                 compare_on::<READERS>(middle - 20 + near);
             }
         }
