@@ -78,14 +78,27 @@ impl<A: Arbiter, W: Wait + Clone + Drop, T: FairTiming<W>> FairCore<A, W, T> {
     }
 
     /// Acquires the mode, blocking until it is admitted or until the deadline.
-    ///
-    /// A caller that gets a ticket first spins for a moment. Each later round looks at the state and registers in one
-    /// section, so a later step notifies the caller.
     fn acquire_until(
         &self,
         mode: Mode,
         deadline: &Option<T::Instant>,
     ) -> Option<FairToken<A::Token>>
+        ensures held { IfSome result (λ held. held.mode ≡ mode) }
+        ensures refused { IfNone result (IsTrue (is_some deadline.now)) }
+    {
+        let passed = self.state().pass(mode);
+        match passed {
+            Some(token) => Some(token),
+            None => self.wait(mode, deadline),
+        }
+    }
+
+    /// The slow path of `acquire_until`.
+    ///
+    /// A caller that gets a ticket first spins for a moment. Each later round looks at the state and registers in one
+    /// section, so a later step notifies the caller.
+    #[inline(never)]
+    fn wait(&self, mode: Mode, deadline: &Option<T::Instant>) -> Option<FairToken<A::Token>>
         ensures held { IfSome result (λ held. held.mode ≡ mode) }
         ensures refused { IfNone result (IsTrue (is_some deadline.now)) }
     {

@@ -43,6 +43,7 @@ impl FairWake {
     }
 
     /// Decides which waiters to wake after a release or a downgrade, from the bag before it.
+    #[inline(always)]
     pub fn after_token_step<A: Arbiter>(state: &FairArbiter<A>, before: Bag) -> FairWake
         requires { tokens before < 2 ^ 32 }
         ensures { Wakes state.now.line TIMED_SPAN
@@ -65,6 +66,7 @@ impl FairWake {
     }
 
     /// Wakes these waiters. Returns a notification for each.
+    #[inline(always)]
     pub(crate) fn wake(self, waiters: &Waiters) -> FairNotified
         ensures { NotifiesEach self waiters.now result }
     {
@@ -92,6 +94,7 @@ impl FairWake {
     }
 
     /// Wakes the first ticket or the upgrade, if they are to be woken.
+    #[inline(always)]
     fn of<A: Arbiter>(state: &FairArbiter<A>, first: bool, upgrade: bool) -> FairWake
         ensures { Wakes state.now.line TIMED_SPAN first upgrade result }
     {
