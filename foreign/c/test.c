@@ -5,6 +5,8 @@
 #include <pthread.h>
 #include <stdio.h>
 #include <stdlib.h>
+#include <sys/syscall.h>
+#include <unistd.h>
 
 #define MUST(c) \
     do { \
@@ -111,15 +113,33 @@ static void *adds(void *unused) {
     return 0;
 }
 
+static long waiter_id;
+
 static void *adds_once(void *unused) {
     (void)unused;
+    __atomic_store_n(&waiter_id, syscall(SYS_gettid), __ATOMIC_SEQ_CST);
     proved_mutex_lock(&mutex);
     counter++;
     proved_mutex_unlock(&mutex);
     return 0;
 }
 
-/* A release that finds a counted waiter ends the epoch and wakes it. */
+/* Waits until the thread sleeps, at three looks in turn. */
+static void await_sleep(long id) {
+    char path[64];
+    snprintf(path, sizeof path, "/proc/self/task/%ld/stat", id);
+    for (int seen = 0; seen < 3;) {
+        char state = 0;
+        FILE *file = fopen(path, "r");
+        MUST(file && fscanf(file, "%*d (%*[^)]) %c", &state) == 1);
+        fclose(file);
+        seen = state == 'S' ? seen + 1 : 0;
+        nanosleep(&(struct timespec){0, 20000}, 0);
+    }
+}
+
+/* A release that finds a counted waiter ends the epoch and wakes it. A waiter that does not sleep yet may leave before the release
+ * looks at the count. */
 static void sleepers_are_woken(void) {
     for (uint64_t i = 0; i < 50; i++) {
         pthread_t waiter;
@@ -127,10 +147,10 @@ static void sleepers_are_woken(void) {
         proved_mutex_lock(&mutex);
         MUST(!pthread_create(&waiter, 0, adds_once, 0));
         while (__atomic_load_n(&mutex.words.count, __ATOMIC_SEQ_CST) == 0) nanosleep(&(struct timespec){0, 20000}, 0);
-        if (i % 2) nanosleep(&(struct timespec){0, 1000000}, 0);
+        if (i % 2) await_sleep(__atomic_load_n(&waiter_id, __ATOMIC_SEQ_CST));
         proved_mutex_unlock(&mutex);
         pthread_join(waiter, 0);
-        MUST(mutex.words.epoch == epoch + 1);
+        MUST(mutex.words.epoch == epoch + 1 || (i % 2 == 0 && mutex.words.epoch == epoch));
     }
 }
 
