@@ -9,6 +9,7 @@ mod named;
 mod parts;
 mod pool;
 mod queue;
+mod ranked;
 mod registry;
 mod ruled;
 mod seated;

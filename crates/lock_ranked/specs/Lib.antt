@@ -1,3 +1,7 @@
 pub mod Guards
 pub mod RwLockGuards
+pub mod Lines
 pub mod Rows
+pub mod MappedGuards
+pub mod ReentrantGuards
+pub mod Condvars

@@ -2,7 +2,9 @@
 ghost use Rattle.std.specs.Prelude.{◌≡◌, false, IsOkUnless};
 ghost use Rattle.std.specs.Sync.Mutex.{mutex_guard_value};
 ghost use Rattle.lock_guard.specs.Held.{held_value};
+ghost use Rattle.lock_mutex.specs.Condvar.{raw_condvar_of, HasWaited};
 ghost use Rattle.lock_mutex.specs.WaitsWhile.{WaitsWhile, has_timed_out};
+ghost use Rattle.lock_ranked.specs.Condvars.{plain_of};
 ghost use Rattle.lock_ranked.specs.Guards.{held_of};
 
 use crate::guard::RankedMutexGuard;
@@ -47,12 +49,16 @@ impl<C: RawCondvar> RankedCondvar<C> {
     }
 
     /// Wakes one waiter, and returns what the raw condition variable says: whether one was woken.
-    pub fn notify_one(&self) -> bool {
+    pub fn notify_one(&self) -> bool
+        ensures { C.notified_one (raw_condvar_of (plain_of self.now)) result }
+    {
         self.condvar.notify_one()
     }
 
     /// Wakes all waiters, and returns what the raw condition variable says: how many were woken.
-    pub fn notify_all(&self) -> usize {
+    pub fn notify_all(&self) -> usize
+        ensures { C.notified_all (raw_condvar_of (plain_of self.now)) result }
+    {
         self.condvar.notify_all()
     }
 
@@ -62,7 +68,8 @@ impl<C: RawCondvar> RankedCondvar<C> {
         guard: &mut RankedMutexGuard<'_, 'o, C::RawMutex, T, AtRank<0>, K>,
         order: &mut Order<'o, K>,
     )
-        ensures { (held_of guard.new).lock ≡ (held_of guard.old).lock }
+        ensures lock { (held_of guard.new).lock ≡ (held_of guard.old).lock }
+        ensures waited { HasWaited (C.waited (raw_condvar_of (plain_of self.now))) }
     {
         let _ = order;
         self.condvar.wait(&mut guard.guard);
@@ -97,7 +104,9 @@ where
         order: &mut Order<'o, K>,
         deadline: <C::RawMutex as RawMutexTimed>::Instant,
     ) -> WaitTimeoutResult
-        ensures { (held_of guard.new).lock ≡ (held_of guard.old).lock }
+        ensures lock { (held_of guard.new).lock ≡ (held_of guard.old).lock }
+        ensures waited { HasWaited (λ token.
+            C.waited_until (raw_condvar_of (plain_of self.now)) token deadline (has_timed_out result)) }
     {
         let _ = order;
         self.condvar.wait_until(&mut guard.guard, deadline)

@@ -1,9 +1,13 @@
-//! Locks with ranks: code whose blocking acquisitions rise by rank cannot deadlock on them, for any number of threads.
+//! Locks with ranks: code that acquires them in the wrong order does not compile.
 //!
 //! A lock has a [`Rank`] in its type, and a thread has one [`Order`]. `lock` requires that the lock's rank is above all
-//! ranks that the order holds, so an acquisition in the wrong order does not compile. Four things are left to the reader:
-//! that each thread calls [`ThreadOrder::start`] at most once, that no guard is forgotten (`mem::forget`, a cycle of
-//! `Rc`), that each holder releases in the end, and what plain locks, channels and IO do next to the ranked locks.
+//! ranks that the order holds. A plan whose parties acquire so, and end with nothing held, never stops, for any number
+//! of parties: `ordered_plans_never_stop` in `lock_plan_laws`. Each contract here is that law's premise for one call.
+//! That the calls of a thread are a run of such a plan is read, and not proved.
+//!
+//! Four things are left to the reader: that each thread calls [`ThreadOrder::start`] at most once, that no guard is
+//! forgotten (`mem::forget`, a cycle of `Rc`), that each holder releases in the end, and what plain locks, channels and IO
+//! do next to the ranked locks.
 //!
 //! An order and the rank of a guard have no bytes, and no call here does more than the plain lock's.
 #![tactic(auto)]

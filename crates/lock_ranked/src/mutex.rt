@@ -1,5 +1,6 @@
 //! A mutex with a rank.
-ghost use Rattle.std.specs.Prelude.{◌≡◌, ◌<◌, ◌≤◌, IsOkUnless};
+ghost use Rattle.std.specs.Prelude.{◌≡◌, ◌<◌, ◌≤◌, IfSome, IsOkUnless};
+ghost use Rattle.lock_ranked.specs.Guards.{plain_of, IsGuardOf};
 
 use crate::guard::{RankedGuard, RankedMutexGuard};
 use crate::order::Order;
@@ -46,7 +47,9 @@ impl<R: RawMutex, T, K: Rank> RankedMutex<R, T, K> {
     }
 
     /// Gives a mutex its rank.
-    pub fn from_mutex(mutex: Mutex<R, T>) -> RankedMutex<R, T, K> {
+    pub fn from_mutex(mutex: Mutex<R, T>) -> RankedMutex<R, T, K>
+        ensures { plain_of result ≡ mutex }
+    {
         RankedMutex {
             mutex,
             rank: PhantomData,
@@ -79,9 +82,9 @@ impl<R: RawMutex, T, K: Rank> RankedMutex<R, T, K> {
         order: &'o mut Order<'_, B>,
     ) -> (RankedMutexGuard<'a, 'o, R, T, B, K>, Order<'o, K>)
         requires { B.rank < K.rank }
+        ensures { IsGuardOf self.now result.0 }
     {
-        let _ = order;
-        (RankedGuard::new(self.mutex.lock()), Order::new())
+        (RankedGuard::new(self.mutex.lock()), order.above::<K, K>())
     }
 
     /// Acquires the mutex without blocking, whatever its rank, or returns `None` if the raw lock refuses. The order that
@@ -91,9 +94,12 @@ impl<R: RawMutex, T, K: Rank> RankedMutex<R, T, K> {
         order: &'o mut Order<'_, B>,
     ) -> Option<(RankedMutexGuard<'a, 'o, R, T, B, K>, Order<'o, N>)>
         requires { (B.rank < N.rank) × (K.rank ≤ N.rank) }
+        ensures { IfSome result (λ got. IsGuardOf self.now got.0) }
     {
-        let _ = order;
-        Some((RankedGuard::new(self.mutex.try_lock()?), Order::new()))
+        Some((
+            RankedGuard::new(self.mutex.try_lock()?),
+            order.above::<K, N>(),
+        ))
     }
 }
 
@@ -105,11 +111,11 @@ impl<R: RawMutexTimed, T, K: Rank> RankedMutex<R, T, K> {
         timeout: R::Duration,
     ) -> Option<(RankedMutexGuard<'a, 'o, R, T, B, K>, Order<'o, N>)>
         requires { (B.rank < N.rank) × (K.rank ≤ N.rank) }
+        ensures { IfSome result (λ got. IsGuardOf self.now got.0) }
     {
-        let _ = order;
         Some((
             RankedGuard::new(self.mutex.try_lock_for(timeout)?),
-            Order::new(),
+            order.above::<K, N>(),
         ))
     }
 
@@ -120,11 +126,11 @@ impl<R: RawMutexTimed, T, K: Rank> RankedMutex<R, T, K> {
         deadline: R::Instant,
     ) -> Option<(RankedMutexGuard<'a, 'o, R, T, B, K>, Order<'o, N>)>
         requires { (B.rank < N.rank) × (K.rank ≤ N.rank) }
+        ensures { IfSome result (λ got. IsGuardOf self.now got.0) }
     {
-        let _ = order;
         Some((
             RankedGuard::new(self.mutex.try_lock_until(deadline)?),
-            Order::new(),
+            order.above::<K, N>(),
         ))
     }
 }

@@ -1,4 +1,6 @@
 //! The order in which one thread acquires.
+ghost use Rattle.std.specs.Prelude.{◌<◌, ◌≤◌};
+
 use crate::rank::{AtRank, Rank};
 use std::marker::PhantomData;
 
@@ -30,12 +32,21 @@ pub struct Order<'o, K: Rank> {
 }
 
 impl<'o, K: Rank> Order<'o, K> {
-    pub(crate) fn new() -> Order<'o, K> {
+    fn new() -> Order<'o, K> {
         Order {
             holds: PhantomData,
             stays: PhantomData,
             rank: PhantomData,
         }
+    }
+}
+
+impl<B: Rank> Order<'_, B> {
+    /// Borrows the order for an acquisition of a lock at `K`, and returns one at `N`. No other code makes a higher order.
+    pub(crate) fn above<'o, K: Rank, N: Rank>(&'o mut self) -> Order<'o, N>
+        requires { (B.rank < N.rank) × (K.rank ≤ N.rank) }
+    {
+        Order::new()
     }
 }
 

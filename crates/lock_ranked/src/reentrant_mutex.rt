@@ -1,11 +1,14 @@
 //! A reentrant mutex with a rank.
-ghost use Rattle.std.specs.Prelude.{◌≡◌, ◌<◌, ◌≤◌, IfErr, IsOkUnless};
+ghost use Rattle.std.specs.Prelude.{◌≡◌, ◌<◌, ◌≤◌, IfErr, IfOk, IfSome, IsOkUnless};
+ghost use Rattle.lock_base.specs.Party.{id_of};
+ghost use Rattle.lock_remutex.specs.Guards.{value_of};
+ghost use Rattle.lock_ranked.specs.ReentrantGuards.{plain_of, remutex_of, IsLevelOf};
 
 use crate::order::Order;
 use crate::rank::{Rank, Under};
 use lock_base::machine::PartyId;
 use lock_base::raw::Fault;
-use lock_guard::raw::RawMutex;
+use lock_guard::raw::{RawMutex, RawMutexTimed};
 use lock_remutex::{ReentrantMutex, ReentrantMutexGuard};
 use std::alloc::Global;
 use std::marker::PhantomData;
@@ -29,7 +32,8 @@ where
     pub fn new(alloc: Global, waiter: R::Waiter, value: T) -> Result<Self, Fault>
     where
         T: Drop,
-        ensures { IsOkUnless result Fault.OutOfMemory }
+        ensures fault { IsOkUnless result Fault.OutOfMemory }
+        ensures value { IfOk result (λ lock. value_of (plain_of lock) ≡ value) }
     {
         Ok(RankedReentrantMutex {
             remutex: ReentrantMutex::new(alloc, waiter, value)?,
@@ -40,7 +44,9 @@ where
 
 impl<R: RawMutex, T, K: Rank> RankedReentrantMutex<R, T, K> {
     /// Gives a lock its rank.
-    pub fn from_remutex(remutex: ReentrantMutex<R, T>) -> Self {
+    pub fn from_remutex(remutex: ReentrantMutex<R, T>) -> Self
+        ensures { plain_of result ≡ remutex }
+    {
         RankedReentrantMutex {
             remutex,
             rank: PhantomData,
@@ -64,11 +70,14 @@ impl<R: RawMutex, T, K: Rank> RankedReentrantMutex<R, T, K> {
         Fault,
     >
         requires { B.rank < K.rank }
-        ensures { IfErr result (λ fault. fault ≡ Fault.FullCount) }
+        ensures guard { IfOk result (λ got. IsLevelOf (plain_of self.now) (id_of party) got.0) }
+        ensures fault { IfErr result (λ fault. fault ≡ Fault.FullCount) }
     {
-        let _ = order;
         let guard = self.remutex.lock(party)?;
-        Ok((RankedReentrantMutexGuard::new(guard, party), Order::new()))
+        Ok((
+            RankedReentrantMutexGuard::new(guard, party),
+            order.above::<K, K>(),
+        ))
     }
 
     /// Acquires one level for the party without blocking, whatever the lock's rank, or returns `None`. The order that it
@@ -91,11 +100,80 @@ impl<R: RawMutex, T, K: Rank> RankedReentrantMutex<R, T, K> {
         Fault,
     >
         requires { (B.rank < N.rank) × (K.rank ≤ N.rank) }
-        ensures { IfErr result (λ fault. fault ≡ Fault.FullCount) }
+        ensures guard { IfOk result (λ got. IfSome got (λ level. IsLevelOf (plain_of self.now) (id_of party) level.0)) }
+        ensures fault { IfErr result (λ fault. fault ≡ Fault.FullCount) }
     {
-        let _ = order;
         match self.remutex.try_lock(party)? {
-            Some(guard) => Ok(Some((RankedReentrantMutexGuard::new(guard, party), Order::new()))),
+            Some(guard) => Ok(Some((
+                RankedReentrantMutexGuard::new(guard, party),
+                order.above::<K, N>(),
+            ))),
+            None => Ok(None),
+        }
+    }
+}
+
+impl<R: RawMutexTimed, T, K: Rank> RankedReentrantMutex<R, T, K> {
+    /// `try_lock`, where the raw lock may block for at most `timeout`.
+    ///
+    /// # Errors
+    ///
+    /// As `lock`.
+    pub fn try_lock_for<'a, 'o, B: Rank, N: Rank>(
+        &'a self,
+        order: &'o mut Order<'_, B>,
+        party: PartyId,
+        timeout: R::Duration,
+    ) -> Result<
+        Option<
+            (
+                RankedReentrantMutexGuard<'a, R, T, Under<'o, B>, K>,
+                Order<'o, N>,
+            ),
+        >,
+        Fault,
+    >
+        requires { (B.rank < N.rank) × (K.rank ≤ N.rank) }
+        ensures guard { IfOk result (λ got. IfSome got (λ level. IsLevelOf (plain_of self.now) (id_of party) level.0)) }
+        ensures fault { IfErr result (λ fault. fault ≡ Fault.FullCount) }
+    {
+        match self.remutex.try_lock_for(party, timeout)? {
+            Some(guard) => Ok(Some((
+                RankedReentrantMutexGuard::new(guard, party),
+                order.above::<K, N>(),
+            ))),
+            None => Ok(None),
+        }
+    }
+
+    /// `try_lock`, where the raw lock may block until `deadline`.
+    ///
+    /// # Errors
+    ///
+    /// As `lock`.
+    pub fn try_lock_until<'a, 'o, B: Rank, N: Rank>(
+        &'a self,
+        order: &'o mut Order<'_, B>,
+        party: PartyId,
+        deadline: R::Instant,
+    ) -> Result<
+        Option<
+            (
+                RankedReentrantMutexGuard<'a, R, T, Under<'o, B>, K>,
+                Order<'o, N>,
+            ),
+        >,
+        Fault,
+    >
+        requires { (B.rank < N.rank) × (K.rank ≤ N.rank) }
+        ensures guard { IfOk result (λ got. IfSome got (λ level. IsLevelOf (plain_of self.now) (id_of party) level.0)) }
+        ensures fault { IfErr result (λ fault. fault ≡ Fault.FullCount) }
+    {
+        match self.remutex.try_lock_until(party, deadline)? {
+            Some(guard) => Ok(Some((
+                RankedReentrantMutexGuard::new(guard, party),
+                order.above::<K, N>(),
+            ))),
             None => Ok(None),
         }
     }
@@ -110,7 +188,10 @@ pub struct RankedReentrantMutexGuard<'a, R: RawMutex, T, B: Rank, K: Rank> {
 }
 
 impl<'a, R: RawMutex, T, B: Rank, K: Rank> RankedReentrantMutexGuard<'a, R, T, B, K> {
-    fn new(guard: ReentrantMutexGuard<'a, R, T>, party: PartyId) -> Self {
+    fn new(guard: ReentrantMutexGuard<'a, R, T>, party: PartyId) -> Self
+        ensures guard { result.guard ≡ guard.entry }
+        ensures party { result.party ≡ party }
+    {
         RankedReentrantMutexGuard {
             guard,
             party,
@@ -124,7 +205,8 @@ impl<'a, R: RawMutex, T, B: Rank, K: Rank> RankedReentrantMutexGuard<'a, R, T, B
     ///
     /// `FullCount` if the party owns the lock at all its levels.
     pub fn again(guard: &Self) -> Result<Self, Fault>
-        ensures { IfErr result (λ fault. fault ≡ Fault.FullCount) }
+        ensures guard { IfOk result (IsLevelOf (remutex_of guard.now) (id_of guard.now.party)) }
+        ensures fault { IfErr result (λ fault. fault ≡ Fault.FullCount) }
     {
         let next = ReentrantMutexGuard::remutex(&guard.guard).lock(guard.party)?;
         Ok(RankedReentrantMutexGuard::new(next, guard.party))

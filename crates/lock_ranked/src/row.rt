@@ -1,58 +1,21 @@
 //! Mutexes of one rank, ordered by their places.
-ghost use Rattle.std.specs.Prelude.{◌≡◌, ◌≢◌, ◌<◌, vec_len, IfOk, IsOkUnless};
-ghost use Rattle.lock_ranked.specs.Rows.{places_of};
+mod places;
 
-use crate::guard::{RankedGuard, RankedMutexGuard};
+ghost use Rattle.std.specs.Prelude.{◌≡◌, ◌≢◌, ◌<◌, IfOk, IsOkUnless};
+ghost use Rattle.lock_ranked.specs.Lines.{next_of, row_of};
+ghost use Rattle.lock_ranked.specs.Rows.{places_of, AreGuardsOf, IsGuardAt};
+
+use crate::guard::RankedMutexGuard;
 use crate::order::Order;
 use crate::rank::Rank;
 use lock_base::raw::Fault;
 use lock_guard::raw::RawMutex;
-use lock_mutex::Mutex;
+use places::Line;
+pub use places::RankedMutexRow;
 use std::alloc::Global;
-use std::marker::PhantomData;
 
-/// Mutexes of one rank, such as the accounts of a bank. A thread that acquires several does so in the order of places.
-///
-/// # Examples
-///
-/// ```
-/// fn sum<R: RawMutex>(
-///     accounts: &RankedMutexRow<R, u64, AtRank<30>>,
-///     order: &mut Order<'_, AtRank<0>>,
-///     (left, right): (usize, usize),
-/// ) -> u64
-///     requires left { left < places_of accounts.now }
-///     requires right { right < places_of accounts.now }
-///     requires apart { left ≢ right }
-/// {
-///     let (one, two, _above) = accounts.lock_two(order, left, right);
-///     one.wrapping_add(*two)
-/// }
-/// ```
-#[derive(Drop)]
-pub struct RankedMutexRow<R, T, K: Rank> {
-    mutexes: Vec<Mutex<R, T>>,
-    rank: PhantomData<K>,
-}
-
+/// Acquisitions of places. Only a `Line` reaches the mutexes, and it acquires upward.
 impl<R: RawMutex, T, K: Rank> RankedMutexRow<R, T, K> {
-    /// Gives mutexes their rank, and each its place.
-    pub fn from_mutexes(mutexes: Vec<Mutex<R, T>>) -> RankedMutexRow<R, T, K>
-        ensures { places_of result ≡ vec_len mutexes }
-    {
-        RankedMutexRow {
-            mutexes,
-            rank: PhantomData,
-        }
-    }
-
-    /// Returns the number of mutexes.
-    pub fn len(&self) -> usize
-        ensures { result ≡ places_of self.now }
-    {
-        self.mutexes.len()
-    }
-
     /// Acquires the mutex at `place`, blocking until it is available.
     pub fn lock<'a, 'o, B: Rank>(
         &'a self,
@@ -61,9 +24,9 @@ impl<R: RawMutex, T, K: Rank> RankedMutexRow<R, T, K> {
     ) -> (RankedMutexGuard<'a, 'o, R, T, B, K>, Order<'o, K>)
         requires rank { B.rank < K.rank }
         requires place { place < places_of self.now }
+        ensures { IsGuardAt self.now place result.0 }
     {
-        let _ = order;
-        (RankedGuard::new(self.mutexes[place].lock()), Order::new())
+        Line::lock_only(self, order, place)
     }
 
     /// Acquires two of the mutexes, the one at the lower place first. It returns their guards in the order of the
@@ -82,16 +45,18 @@ impl<R: RawMutex, T, K: Rank> RankedMutexRow<R, T, K> {
         requires left { left < places_of self.now }
         requires right { right < places_of self.now }
         requires apart { left ≢ right }
+        ensures left { IsGuardAt self.now left result.0 }
+        ensures right { IsGuardAt self.now right result.1 }
     {
-        let _ = order;
+        let mut line = Line::start(self, order);
         if left < right {
-            let first = RankedGuard::new(self.mutexes[left].lock());
-            let second = RankedGuard::new(self.mutexes[right].lock());
-            (first, second, Order::new())
+            let first = line.lock(left);
+            let second = line.lock(right);
+            (first, second, line.end())
         } else {
-            let second = RankedGuard::new(self.mutexes[right].lock());
-            let first = RankedGuard::new(self.mutexes[left].lock());
-            (first, second, Order::new())
+            let second = line.lock(right);
+            let first = line.lock(left);
+            (first, second, line.end())
         }
     }
 
@@ -106,13 +71,14 @@ impl<R: RawMutex, T, K: Rank> RankedMutexRow<R, T, K> {
         order: &'o mut Order<'_, B>,
     ) -> Result<(Vec<RankedMutexGuard<'a, 'o, R, T, K, K>>, Order<'o, K>), Fault>
         requires { B.rank < K.rank }
+        ensures guards { IfOk result (λ all. AreGuardsOf self.now all.0.items) }
         ensures fault { IsOkUnless result Fault.OutOfMemory }
     {
-        let _ = order;
+        let mut line = Line::start(self, order);
         let mut guards = Vec::new(alloc);
-        for mutex in &self.mutexes {
-            guards.push(RankedGuard::new(mutex.lock()))?;
+        for place in 0..self.len() {
+            guards.push(line.lock(place))?;
         }
-        Ok((guards, Order::new()))
+        Ok((guards, line.end()))
     }
 }

@@ -1,6 +1,7 @@
 //! A reader-writer lock with a rank.
-ghost use Rattle.std.specs.Prelude.{◌≡◌, ◌↔◌, ◌<◌, ◌≤◌, IfErr, IfOk, IsOkUnless};
+ghost use Rattle.std.specs.Prelude.{◌≡◌, ◌↔◌, ◌<◌, ◌≤◌, IfErr, IfOk, IfSome, IsOkUnless};
 ghost use Rattle.lock_base.specs.Limits.{IsLimit, IsMakerFault};
+ghost use Rattle.lock_ranked.specs.RwLockGuards.{plain_of, IsGuardOf};
 
 use crate::order::Order;
 use crate::rank::Rank;
@@ -69,7 +70,9 @@ impl<R: RawRwLock, T, K: Rank> RankedRwLock<R, T, K> {
     }
 
     /// Gives a lock its rank.
-    pub fn from_rwlock(rwlock: RwLock<R, T>) -> RankedRwLock<R, T, K> {
+    pub fn from_rwlock(rwlock: RwLock<R, T>) -> RankedRwLock<R, T, K>
+        ensures { plain_of result ≡ rwlock }
+    {
         RankedRwLock {
             rwlock,
             rank: PhantomData,
@@ -106,9 +109,12 @@ impl<R: RawRwLock, T, K: Rank> RankedRwLock<R, T, K> {
         order: &'o mut Order<'_, B>,
     ) -> (RankedRwLockReadGuard<'a, 'o, R, T, B, K>, Order<'o, K>)
         requires { B.rank < K.rank }
+        ensures { IsGuardOf self.now result.0 }
     {
-        let _ = order;
-        (RankedRwLockGuard::new(self.rwlock.read()), Order::new())
+        (
+            RankedRwLockGuard::new(self.rwlock.read()),
+            order.above::<K, K>(),
+        )
     }
 
     /// Acquires the lock shared without blocking, whatever its rank, or returns `None` if the raw lock refuses. The
@@ -118,11 +124,11 @@ impl<R: RawRwLock, T, K: Rank> RankedRwLock<R, T, K> {
         order: &'o mut Order<'_, B>,
     ) -> Option<(RankedRwLockReadGuard<'a, 'o, R, T, B, K>, Order<'o, N>)>
         requires { (B.rank < N.rank) × (K.rank ≤ N.rank) }
+        ensures { IfSome result (λ got. IsGuardOf self.now got.0) }
     {
-        let _ = order;
         Some((
             RankedRwLockGuard::new(self.rwlock.try_read()?),
-            Order::new(),
+            order.above::<K, N>(),
         ))
     }
 
@@ -132,9 +138,12 @@ impl<R: RawRwLock, T, K: Rank> RankedRwLock<R, T, K> {
         order: &'o mut Order<'_, B>,
     ) -> (RankedRwLockWriteGuard<'a, 'o, R, T, B, K>, Order<'o, K>)
         requires { B.rank < K.rank }
+        ensures { IsGuardOf self.now result.0 }
     {
-        let _ = order;
-        (RankedRwLockGuard::new(self.rwlock.write()), Order::new())
+        (
+            RankedRwLockGuard::new(self.rwlock.write()),
+            order.above::<K, K>(),
+        )
     }
 
     /// Acquires the lock exclusively without blocking, whatever its rank, or returns `None` if the raw lock refuses. The
@@ -144,11 +153,11 @@ impl<R: RawRwLock, T, K: Rank> RankedRwLock<R, T, K> {
         order: &'o mut Order<'_, B>,
     ) -> Option<(RankedRwLockWriteGuard<'a, 'o, R, T, B, K>, Order<'o, N>)>
         requires { (B.rank < N.rank) × (K.rank ≤ N.rank) }
+        ensures { IfSome result (λ got. IsGuardOf self.now got.0) }
     {
-        let _ = order;
         Some((
             RankedRwLockGuard::new(self.rwlock.try_write()?),
-            Order::new(),
+            order.above::<K, N>(),
         ))
     }
 }
@@ -161,11 +170,11 @@ impl<R: RawRwLockTimed, T, K: Rank> RankedRwLock<R, T, K> {
         timeout: R::Duration,
     ) -> Option<(RankedRwLockReadGuard<'a, 'o, R, T, B, K>, Order<'o, N>)>
         requires { (B.rank < N.rank) × (K.rank ≤ N.rank) }
+        ensures { IfSome result (λ got. IsGuardOf self.now got.0) }
     {
-        let _ = order;
         Some((
             RankedRwLockGuard::new(self.rwlock.try_read_for(timeout)?),
-            Order::new(),
+            order.above::<K, N>(),
         ))
     }
 
@@ -176,11 +185,11 @@ impl<R: RawRwLockTimed, T, K: Rank> RankedRwLock<R, T, K> {
         deadline: R::Instant,
     ) -> Option<(RankedRwLockReadGuard<'a, 'o, R, T, B, K>, Order<'o, N>)>
         requires { (B.rank < N.rank) × (K.rank ≤ N.rank) }
+        ensures { IfSome result (λ got. IsGuardOf self.now got.0) }
     {
-        let _ = order;
         Some((
             RankedRwLockGuard::new(self.rwlock.try_read_until(deadline)?),
-            Order::new(),
+            order.above::<K, N>(),
         ))
     }
 
@@ -191,11 +200,11 @@ impl<R: RawRwLockTimed, T, K: Rank> RankedRwLock<R, T, K> {
         timeout: R::Duration,
     ) -> Option<(RankedRwLockWriteGuard<'a, 'o, R, T, B, K>, Order<'o, N>)>
         requires { (B.rank < N.rank) × (K.rank ≤ N.rank) }
+        ensures { IfSome result (λ got. IsGuardOf self.now got.0) }
     {
-        let _ = order;
         Some((
             RankedRwLockGuard::new(self.rwlock.try_write_for(timeout)?),
-            Order::new(),
+            order.above::<K, N>(),
         ))
     }
 
@@ -206,11 +215,11 @@ impl<R: RawRwLockTimed, T, K: Rank> RankedRwLock<R, T, K> {
         deadline: R::Instant,
     ) -> Option<(RankedRwLockWriteGuard<'a, 'o, R, T, B, K>, Order<'o, N>)>
         requires { (B.rank < N.rank) × (K.rank ≤ N.rank) }
+        ensures { IfSome result (λ got. IsGuardOf self.now got.0) }
     {
-        let _ = order;
         Some((
             RankedRwLockGuard::new(self.rwlock.try_write_until(deadline)?),
-            Order::new(),
+            order.above::<K, N>(),
         ))
     }
 }
@@ -225,11 +234,11 @@ impl<R: RawRwLockUpgrade, T, K: Rank> RankedRwLock<R, T, K> {
         Order<'o, K>,
     )
         requires { B.rank < K.rank }
+        ensures { IsGuardOf self.now result.0 }
     {
-        let _ = order;
         (
             RankedRwLockGuard::new(self.rwlock.upgradable_read()),
-            Order::new(),
+            order.above::<K, K>(),
         )
     }
 
@@ -245,11 +254,11 @@ impl<R: RawRwLockUpgrade, T, K: Rank> RankedRwLock<R, T, K> {
         ),
     >
         requires { (B.rank < N.rank) × (K.rank ≤ N.rank) }
+        ensures { IfSome result (λ got. IsGuardOf self.now got.0) }
     {
-        let _ = order;
         Some((
             RankedRwLockGuard::new(self.rwlock.try_upgradable_read()?),
-            Order::new(),
+            order.above::<K, N>(),
         ))
     }
 }
@@ -267,11 +276,11 @@ impl<R: RawRwLockUpgradeTimed, T, K: Rank> RankedRwLock<R, T, K> {
         ),
     >
         requires { (B.rank < N.rank) × (K.rank ≤ N.rank) }
+        ensures { IfSome result (λ got. IsGuardOf self.now got.0) }
     {
-        let _ = order;
         Some((
             RankedRwLockGuard::new(self.rwlock.try_upgradable_read_for(timeout)?),
-            Order::new(),
+            order.above::<K, N>(),
         ))
     }
 
@@ -287,11 +296,11 @@ impl<R: RawRwLockUpgradeTimed, T, K: Rank> RankedRwLock<R, T, K> {
         ),
     >
         requires { (B.rank < N.rank) × (K.rank ≤ N.rank) }
+        ensures { IfSome result (λ got. IsGuardOf self.now got.0) }
     {
-        let _ = order;
         Some((
             RankedRwLockGuard::new(self.rwlock.try_upgradable_read_until(deadline)?),
-            Order::new(),
+            order.above::<K, N>(),
         ))
     }
 }

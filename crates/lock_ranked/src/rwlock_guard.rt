@@ -3,7 +3,7 @@ mod upgradable;
 
 ghost use Rattle.std.specs.Prelude.{◌≡◌, Some};
 ghost use Rattle.lock_guard.specs.Held.{held_value};
-ghost use Rattle.lock_ranked.specs.RwLockGuards.{held_of};
+ghost use Rattle.lock_ranked.specs.RwLockGuards.{held_of, SameLock};
 
 use crate::order::Order;
 use crate::rank::{Rank, Under};
@@ -93,7 +93,9 @@ impl<'a, R: RawRwLockDowngrade, T, B: Rank, K: Rank> RankedRwLockGuard<
     K,
 > {
     /// Downgrades the guard to a read guard. It never blocks.
-    pub fn downgrade(guard: Self) -> RankedRwLockGuard<InMode<'a, Shared, R, T>, B, K> {
+    pub fn downgrade(guard: Self) -> RankedRwLockGuard<InMode<'a, Shared, R, T>, B, K>
+        ensures { SameLock guard.entry result }
+    {
         RankedRwLockGuard::new(RwLockGuard::<InMode<'a, Exclusive, R, T>>::downgrade(
             guard.into_guard(),
         ))
@@ -108,7 +110,9 @@ impl<'a, R: RawRwLockUpgradeDowngrade, T, B: Rank, K: Rank> RankedRwLockGuard<
     /// Downgrades the guard to an upgradable read guard. It never blocks.
     pub fn downgrade_to_upgradable(
         guard: Self,
-    ) -> RankedRwLockGuard<InMode<'a, Upgradable, R, T>, B, K> {
+    ) -> RankedRwLockGuard<InMode<'a, Upgradable, R, T>, B, K>
+        ensures { SameLock guard.entry result }
+    {
         RankedRwLockGuard::new(RwLockGuard::<InMode<'a, Exclusive, R, T>>::downgrade_to_upgradable(
             guard.into_guard(),
         ))

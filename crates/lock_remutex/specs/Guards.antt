@@ -18,9 +18,9 @@ module _ {R T G W : Type 0} where
   abbrev pub with_value : ReentrantMutex R T G W → T → ReentrantMutex R T G W
   with_value lock value = record lock { value = value }
 
-  -- where the lock of a guard is
-  abbrev pub guard_lock : ReentrantMutexGuard R T G W → ℕ × ℕ
-  guard_lock guard = guard.remutex.ref_ptr
+  -- the lock of a guard
+  abbrev pub guard_lock : ReentrantMutexGuard R T G W → Bor (ReentrantMutex R T G W)
+  guard_lock guard = guard.remutex
 
   -- the party whose level a guard is
   abbrev pub guard_party : ReentrantMutexGuard R T G W → ℕ
@@ -37,7 +37,7 @@ module _ {R T G W : Type 0} where
   -- a guard of this lock for the party
   pub record IsGuardOf (lock : Bor (ReentrantMutex R T G W)) (party : ℕ)
       (guard : ReentrantMutexGuard R T G W) : Type 0 where
-    pub same_lock : guard_lock guard ≡ lock.ref_ptr
+    pub same_lock : guard_lock guard ≡ lock
     pub same_party : guard_party guard ≡ party
     pub same_value : guard_value guard ≡ value_of lock.now
 

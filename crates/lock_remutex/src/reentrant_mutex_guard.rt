@@ -24,7 +24,7 @@ impl<'a, R: RawMutex, T> ReentrantMutexGuard<'a, R, T> {
 
     /// Returns the lock of the guard.
     pub fn remutex(guard: &Self) -> &'a ReentrantMutex<R, T>
-        ensures { result.ref_ptr ≡ guard_lock guard.now }
+        ensures { result ≡ guard_lock guard.now }
     {
         guard.remutex
     }

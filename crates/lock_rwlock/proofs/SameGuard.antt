@@ -20,7 +20,7 @@ module _ {M M' R T V V' K K' W X : Type 0} {r r' : _} {g g' : _} where
       → MatchResult result (IsGuardOf lock.rwlock) (λ same. (held_of same).lock ≡ lock)
       → IfErr result (λ same. (held_of same).inner ≡ Filled token shown)
       → MatchResult result (SameLock guard) (λ same. same ≡ guard)
-  upgraded_or_same guard (Ok upgraded) lock inner made again = sym (made ∙ ap (λ l. l.rwlock.ref_ptr) lock)
+  upgraded_or_same guard (Ok upgraded) lock inner made again = made ∙ ap (λ l. l.rwlock) lock
   upgraded_or_same guard (Err same) lock inner made again =
       let one : Held (InMode M R T) V K W X r g → RwLockGuard (InMode M R T) V K W X r g = λ held. record { held = held } in
       ap one (same_held_at (held_of same) (held_of guard) (made ∙ lock) (again ∙ inner))

@@ -4,6 +4,7 @@ use Rattle.std.specs.Borrow.{Bor}
 use Rattle.lock_guard.specs.declared.guard.held.Held.{Held}
 use Rattle.lock_guard.specs.Held.{held_value}
 use Rattle.lock_rwlock.specs.declared.guard.RwLockGuard.{RwLockGuard}
+use Rattle.lock_rwlock.specs.declared.lock.RwLock.{RwLock}
 use Rattle.lock_rwlock.specs.declared.mode.InMode.{InMode}
 
 -- what a guard holds: the lock in its mode, its token, and what shows the value
@@ -11,13 +12,13 @@ abbrev pub held_of : {L V K W X : Type 0} {r : _} {g : _} → RwLockGuard L V K 
 held_of guard = guard.held
 
 -- the guard is one of this lock
-abbrev pub IsGuardOf : {M R T V K W X Y : Type 0} {r : _} {g : _} → Bor Y → RwLockGuard (InMode M R T) V K W X r g → Type 0
-IsGuardOf lock guard = (held_of guard).lock.rwlock.ref_ptr ≡ lock.ref_ptr
+abbrev pub IsGuardOf : {M R T V K W X : Type 0} {r : _} {g : _} → Bor (RwLock R T) → RwLockGuard (InMode M R T) V K W X r g → Type 0
+IsGuardOf lock guard = (held_of guard).lock.rwlock ≡ lock
 
 -- two guards are of one lock, in whatever modes
-abbrev pub SameLock : {M M' R R' T T' V V' K K' W W' X X' : Type 0} {r r' : _} {g g' : _}
-    → RwLockGuard (InMode M R T) V K W X r g → RwLockGuard (InMode M' R' T') V' K' W' X' r' g' → Type 0
-SameLock old new = (held_of old).lock.rwlock.ref_ptr ≡ (held_of new).lock.rwlock.ref_ptr
+abbrev pub SameLock : {M M' R T V V' K K' W W' X X' : Type 0} {r r' : _} {g g' : _}
+    → RwLockGuard (InMode M R T) V K W X r g → RwLockGuard (InMode M' R T) V' K' W' X' r' g' → Type 0
+SameLock old new = (held_of new).lock.rwlock ≡ (held_of old).lock.rwlock
 
 -- two guards, in whatever modes, show one value
 abbrev pub ShowsSame : {L L' V K K' W W' X : Type 0} {r r' : _} {g g' : _} → (V → X)

@@ -60,8 +60,7 @@ pub struct InMode<'a, M, R, T> {
 
 impl<'a, M, R, T> InMode<'a, M, R, T> {
     pub(crate) fn new(rwlock: &'a RwLock<R, T>) -> Self
-        ensures place { result.rwlock.ref_ptr ≡ rwlock.entry.ref_ptr }
-        ensures same { result.rwlock.now ≡ rwlock.now }
+        ensures { result.rwlock ≡ rwlock.entry }
     {
         InMode {
             rwlock,

@@ -1,0 +1,32 @@
+use Rattle.std.proofs.Common.{◌∙◌, subst, ap, arith}
+use Rattle.lock_ranked.proofs.Rows.{one_more, all_taken}
+use Rattle.lock_ranked.specs.Guards.{mutex_of}
+use Rattle.lock_ranked.specs.Rows.{places_of, mutexes_of, IsGuardAt}
+use Rattle.lock_ranked.proofs.row.places.RankedMutexRow.lock_all.Goals as goal
+
+-- src/row.rt:80:25
+pub lock-requires-clause-place : goal.lock-requires-clause-place
+lock-requires-clause-place g c =
+    let row = ap places_of c.loop-place.invariant.0 in
+    omega (arith, c.loop-place-test.true, c.len-place-end.ensures, row)
+
+-- src/row.rt:80:25
+pub lock-requires-clause-above : goal.lock-requires-clause-above
+lock-requires-clause-above g c = c.loop-place.invariant.1
+
+-- src/row.rt:79:9
+pub loop-place-preserved : goal.loop-place-preserved
+loop-place-preserved g c =
+    let row = c.args.self.now in
+    let at = subst (λ r. IsGuardAt r c.loop-place.place c.lock.result) c.loop-place.invariant.0 c.lock.ensures.guard in (
+      c.lock.ensures.row ∙ c.loop-place.invariant.0,
+      omega (arith, c.lock.ensures.next),
+      one_more mutex_of c.loop-place.guards.items (mutexes_of row) c.loop-place.place c.loop-place.invariant.2 c.lock.result
+          c.push.new.self.items (omega (arith, c.loop-place-test.true, c.len-place-end.ensures, row.mutexes.ok)) at c.in_ok-push.ensures.items,
+    )
+
+-- src/row.rt:68:5
+pub returns-clause-guards : goal.returns-clause-guards
+returns-clause-guards g c =
+    all_taken mutex_of c.loop-place.guards.items (mutexes_of c.args.self.now) c.loop-place.place c.loop-place.invariant.2
+    (omega (arith, c.loop-place-test.false, c.len-place-end.ensures, c.args.self.now.mutexes.ok))

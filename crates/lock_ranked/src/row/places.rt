@@ -1,0 +1,120 @@
+//! The mutexes of a row, which only a `Line` acquires.
+ghost use Rattle.std.specs.Prelude.{◌≡◌, ◌+◌, ◌<◌, ◌≤◌, vec_len};
+ghost use Rattle.lock_ranked.specs.Lines.{next_of, row_of};
+ghost use Rattle.lock_ranked.specs.Rows.{mutexes_of, places_of, IsGuardAt};
+
+use crate::guard::{RankedGuard, RankedMutexGuard};
+use crate::order::Order;
+use crate::rank::Rank;
+use lock_guard::raw::RawMutex;
+use lock_mutex::Mutex;
+use std::marker::PhantomData;
+use std::snapshot::Snapshot;
+
+/// Mutexes of one rank, such as the accounts of a bank. A thread that acquires several does so in the order of places.
+///
+/// # Examples
+///
+/// ```
+/// fn sum<R: RawMutex>(
+///     accounts: &RankedMutexRow<R, u64, AtRank<30>>,
+///     order: &mut Order<'_, AtRank<0>>,
+///     (left, right): (usize, usize),
+/// ) -> u64
+///     requires left { left < places_of accounts.now }
+///     requires right { right < places_of accounts.now }
+///     requires apart { left ≢ right }
+/// {
+///     let (one, two, _above) = accounts.lock_two(order, left, right);
+///     one.wrapping_add(*two)
+/// }
+/// ```
+#[derive(Drop)]
+pub struct RankedMutexRow<R, T, K: Rank> {
+    mutexes: Vec<Mutex<R, T>>,
+    rank: PhantomData<K>,
+}
+
+impl<R, T, K: Rank> RankedMutexRow<R, T, K> {
+    /// Gives mutexes their rank, and each its place.
+    pub fn from_mutexes(mutexes: Vec<Mutex<R, T>>) -> RankedMutexRow<R, T, K>
+        ensures places { places_of result ≡ vec_len mutexes }
+        ensures mutexes { mutexes_of result ≡ mutexes.items }
+    {
+        RankedMutexRow {
+            mutexes,
+            rank: PhantomData,
+        }
+    }
+
+    /// Returns the number of mutexes.
+    pub fn len(&self) -> usize
+        ensures { result ≡ places_of self.now }
+    {
+        self.mutexes.len()
+    }
+}
+
+/// The permission to acquire the mutexes of a row, each at a higher place than the last one. It has no bytes but a
+/// reference to the row.
+#[derive(Drop)]
+pub struct Line<'a, 'o, R, T, K: Rank> {
+    row: &'a RankedMutexRow<R, T, K>,
+    next: Snapshot<usize>,
+    above: Order<'o, K>,
+}
+
+impl<'a, 'o, R: RawMutex, T, K: Rank> Line<'a, 'o, R, T, K> {
+    /// Starts at the first place, in an order that is borrowed for as long as the guards live.
+    pub fn start<B: Rank>(row: &'a RankedMutexRow<R, T, K>, order: &'o mut Order<'_, B>) -> Self
+        requires { B.rank < K.rank }
+        ensures row { row_of result ≡ row.now }
+        ensures next { next_of result ≡ 0 }
+    {
+        Line {
+            row,
+            next: Snapshot::of(&0),
+            above: order.above::<K, K>(),
+        }
+    }
+
+    /// Acquires the mutex at `place`, blocking until it is available. The next one is at a higher place.
+    #[inline(always)]
+    pub fn lock(&mut self, place: usize) -> RankedMutexGuard<'a, 'o, R, T, K, K>
+        requires place { place < places_of (row_of self.old) }
+        requires above { next_of self.old ≤ place }
+        ensures guard { IsGuardAt (row_of self.old) place result }
+        ensures row { row_of self.new ≡ row_of self.old }
+        ensures next { next_of self.new ≡ place + 1 }
+    {
+        self.next = Snapshot::of(&(place + 1));
+        RankedGuard::new(self.row.mutexes[place].lock())
+    }
+
+    /// Acquires the mutex at `place` alone, blocking until it is available.
+    #[inline(always)]
+    pub fn lock_only<B: Rank>(
+        row: &'a RankedMutexRow<R, T, K>,
+        order: &'o mut Order<'_, B>,
+        place: usize,
+    ) -> (RankedMutexGuard<'a, 'o, R, T, B, K>, Order<'o, K>)
+        requires rank { B.rank < K.rank }
+        requires place { place < places_of row.now }
+        ensures { IsGuardAt row.now place result.0 }
+    {
+        (
+            RankedGuard::new(row.mutexes[place].lock()),
+            order.above::<K, K>(),
+        )
+    }
+
+    /// Ends the acquisitions. The order that it returns is at `K`.
+    pub fn end(self) -> Order<'o, K> {
+        let Line {
+            row: _,
+            next: _,
+            above,
+        } = self;
+        above
+    }
+}
