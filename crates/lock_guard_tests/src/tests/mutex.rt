@@ -2,7 +2,6 @@
 pub mod gated;
 pub mod makers;
 mod order;
-mod parked_part;
 mod parts;
 mod raw_calls;
 mod threads;

@@ -1,12 +1,11 @@
 //! The makers of a lock.
-use crate::tests::Table;
 use lock_base::raw::Fault;
 use lock_guard::forget;
 use lock_guard::raw::RawRwLock;
-use lock_raws::{LockCore, RawLock};
 use lock_recorder::Recorder;
 use lock_rwlock::RwLock;
-use lock_test_support::answer::{answers_or_lacks_memory, equal};
+use lock_test_support::answer::{equal, lacks_memory};
+use lock_test_support::raw_lock::AdmitsAll;
 use std::alloc::Global;
 use std::rt::Env;
 use std::test::Fail;
@@ -64,19 +63,21 @@ pub fn check<R: RawRwLock + Drop>(alloc: Global, waiters: [R::Waiter; 4]) -> Res
 }
 
 /// Checks that the maker gave a lock of its value, or that it lacked memory.
-fn check_or_lacks<C: LockCore, E: Env>(rt: &E, made: Made<RawLock<C>>) -> Result<(), Fail> {
+fn check_or_lacks<R: RawRwLock + Drop, E: Env>(rt: &E, made: Made<R>) -> Result<(), Fail> {
     let (name, lock, _, value) = made;
-    let found = lock.map(|lock| (name, lock.into_inner()));
-    answers_or_lacks_memory(rt, found, (name, value))
+    match lock {
+        Ok(lock) => equal((name, lock.into_inner()), (name, value)),
+        Err(fault) => lacks_memory(rt, fault),
+    }
 }
 
-fn check_all_or_lack<C: LockCore, E: Env>(
+fn check_all_or_lack<R: RawRwLock + Drop, E: Env>(
     rt: &E,
     alloc: Global,
-    waiters: [C::Waiter; 4],
+    waiters: [R::Waiter; 4],
 ) -> Result<(), Fail> {
-    let (new, from, default, with_readers) = made(alloc, waiters);
-    check_or_lacks::<C, E>(rt, new)?;
+    let (new, from, default, with_readers) = made::<R>(alloc, waiters);
+    check_or_lacks(rt, new)?;
     check_or_lacks(rt, from)?;
     check_or_lacks(rt, default)?;
     check_or_lacks(rt, with_readers)
@@ -84,5 +85,5 @@ fn check_all_or_lack<C: LockCore, E: Env>(
 
 #[test]
 fn refused_memory_rwlock_makers(rt: HostRuntime) -> Result<(), Fail> {
-    check_all_or_lack::<Table, HostRuntime>(&rt, rt.alloc(), [rt; 4])
+    check_all_or_lack::<AdmitsAll<HostRuntime>, HostRuntime>(&rt, rt.alloc(), [rt; 4])
 }

@@ -58,7 +58,7 @@ fn calls_under_an_upgrade<
 }
 
 /// The raw calls of a guard and its calls under an upgrade, each of which looks at the raw lock.
-pub const UNDER_AN_UPGRADE: [RawCall; 14] = [
+const UNDER_AN_UPGRADE: [RawCall; 14] = [
     Lock(Upgradable),
     Upgrade,
     IsLocked,
