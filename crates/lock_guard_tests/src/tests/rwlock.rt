@@ -6,26 +6,20 @@ mod raw_calls;
 mod texts;
 mod threads;
 
-use lock_guard::raw::{
-    RawRwLock, RawRwLockFair, RawRwLockUpgrade, RawRwLockUpgradeDowngrade, RawRwLockUpgradeTimed,
-};
+use lock_guard::raw::{RawRwLock, RawRwLockUpgrade};
 use lock_raws::TokenRaw;
-use lock_recorder::{Deadline, Recorder};
+use lock_recorder::Recorder;
 use lock_rwlock::RwLock;
 use lock_test_support::answer::equal;
-use lock_test_support::raw_lock::Watch;
+use lock_test_support::raw_lock::{AdmitsAll, Watch};
 use std::alloc::Global;
-use std::sync::Arc;
+use std::clone::Clone;
+use std::sync::{Arc, Wait};
 use std::test::Fail;
 
 /// Guards of a pair in a pair, and the end of a lock.
-fn check_pair<R>(alloc: Global, waiter: R::Waiter) -> Result<(), Fail>
-where
-    R: RawRwLockFair + RawRwLockUpgradeDowngrade + RawRwLockUpgradeTimed + Drop,
-    R::Duration: Default,
-    R::Instant: Deadline<R::Waiter>,
-{
-    let raw: Recorder<R> = RawRwLock::new(alloc, waiter, 8)?;
+fn check_pair<W: Wait + Clone + Drop>(alloc: Global, waiter: W) -> Result<(), Fail> {
+    let raw: AdmitsAll<W> = RawRwLock::new(alloc, waiter, 8)?;
     let mut watch = Watch::new(raw.log()?);
     let mut lock = RwLock::from_raw(raw, ((0, 0), 5))?;
     texts::check_parts(alloc, &lock, &mut watch)?;
@@ -36,6 +30,11 @@ where
     watch.saw(&[]);
     watch.verdict()?;
     equal(value, ((5, 2), 1))
+}
+
+#[test]
+fn guards_of_parts_and_the_end_of_a_lock(rt: HostRuntime) -> Result<(), Fail> {
+    check_pair(rt.alloc(), rt)
 }
 
 /// Guards of a number, `Arc` guards among them, and the end of the last reference.
@@ -50,20 +49,7 @@ fn check_number<R: RawRwLockUpgrade + Drop>(alloc: Global, waiter: R::Waiter) ->
     watch.verdict()
 }
 
-fn check<R>(alloc: Global, waiters: ([R::Waiter; 4], [R::Waiter; 2])) -> Result<(), Fail>
-where
-    R: RawRwLockFair + RawRwLockUpgradeDowngrade + RawRwLockUpgradeTimed + Drop,
-    R::Duration: Default,
-    R::Instant: Deadline<R::Waiter>,
-{
-    let (of_makers, [first, last]) = waiters;
-    makers::check::<R>(alloc, of_makers)?;
-    check_pair::<R>(alloc, first)?;
-    check_number::<R>(alloc, last)
-}
-
-/// One test: each function that names the raw lock would have to be proved anew.
 #[test]
-fn guards_on_one_thread(rt: HostRuntime) -> Result<(), Fail> {
-    check::<TokenRaw<HostRuntime>>(rt.alloc(), ([rt; 4], [rt; 2]))
+fn guards_of_a_number_and_the_last_reference(rt: HostRuntime) -> Result<(), Fail> {
+    check_number::<TokenRaw<HostRuntime>>(rt.alloc(), rt)
 }

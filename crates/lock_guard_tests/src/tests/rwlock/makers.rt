@@ -2,6 +2,7 @@
 use lock_base::raw::Fault;
 use lock_guard::forget;
 use lock_guard::raw::RawRwLock;
+use lock_raws::TokenRaw;
 use lock_recorder::Recorder;
 use lock_rwlock::RwLock;
 use lock_test_support::answer::{equal, lacks_memory};
@@ -54,12 +55,17 @@ fn check_made<R: RawRwLock + Drop>(made: Made<Recorder<R>>) -> Result<(), Fail> 
     )
 }
 
-pub fn check<R: RawRwLock + Drop>(alloc: Global, waiters: [R::Waiter; 4]) -> Result<(), Fail> {
+fn check<R: RawRwLock + Drop>(alloc: Global, waiters: [R::Waiter; 4]) -> Result<(), Fail> {
     let (new, from, default, with_readers) = made::<Recorder<R>>(alloc, waiters);
     check_made(new)?;
     check_made(from)?;
     check_made(default)?;
     check_made(with_readers)
+}
+
+#[test]
+fn makers_of_a_lock_keep_its_limit_and_value(rt: HostRuntime) -> Result<(), Fail> {
+    check::<TokenRaw<HostRuntime>>(rt.alloc(), [rt; 4])
 }
 
 /// Checks that the maker gave a lock of its value, or that it lacked memory.
