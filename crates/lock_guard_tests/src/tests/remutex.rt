@@ -2,5 +2,6 @@
 mod calls;
 mod full_count;
 mod makers;
+mod only_level;
 mod owners;
 mod threads;

@@ -1,10 +1,11 @@
 //! Waits of a spurious condition variable, each of which releases the mutex.
 use super::calls::{Call, waited};
+use crate::tests::Table;
 use lock_base::machine::Mode::Exclusive;
 use lock_guard::raw::{RawMutex, RawMutexTimed};
 use lock_mutex::{Condvar, Mutex};
-use lock_raws::SpuriousCondvar;
-use lock_recorder::RawCall::{self, Lock, Unlock};
+use lock_raws::{RawLock, SpuriousCondvar};
+use lock_recorder::RawCall::{Lock, Unlock};
 use lock_test_support::answer::equal;
 use lock_test_support::raw_lock::{AdmitsAll, Watch};
 use std::alloc::Global;
@@ -12,46 +13,77 @@ use std::clone::Clone;
 use std::sync::Wait;
 use std::test::Fail;
 
-/// What a wait asks the raw lock.
-const RELEASED: &[RawCall] = &[Unlock(Exclusive), Lock(Exclusive)];
-
-/// Each wait, its raw calls, whether it times out, and how many checks it makes.
-const WAITS: [(Call<()>, &[RawCall], bool, usize); 6] = [
-    (Call::Plain, RELEASED, false, 0),
-    (Call::For(()), RELEASED, true, 0),
-    (Call::Until(()), RELEASED, true, 0),
-    (Call::WhileUntil(0, ()), &[], false, 1),
-    (Call::WhileUntil(1, ()), RELEASED, false, 2),
-    (Call::WhileUntil(2, ()), RELEASED, true, 2),
+/// Each wait, whether it times out, and how many checks it makes.
+const WAITS: [(Call<()>, bool, usize); 6] = [
+    (Call::Plain, false, 0),
+    (Call::For(()), true, 0),
+    (Call::Until(()), true, 0),
+    (Call::WhileUntil(0, ()), false, 1),
+    (Call::WhileUntil(1, ()), false, 2),
+    (Call::WhileUntil(2, ()), true, 2),
 ];
 
-/// Makes each wait of `WAITS` under one guard.
+/// Makes each wait of `WAITS` under one guard. Returns whether the mutex is held after them.
 fn check_waits<R: RawMutexTimed<Duration = (), Instant = ()>>(
     condvar: &Condvar<SpuriousCondvar<R>>,
     checks: &Mutex<R, usize>,
-    watch: &mut Watch,
-) -> Result<(), Fail> {
+) -> Result<bool, Fail> {
     let mut guard = checks.lock();
-    watch.saw(&[Lock(Exclusive)]);
-    for (row, (call, raw_calls, times_out, made)) in WAITS.into_iter().enumerate() {
+    for (row, (call, times_out, made)) in WAITS.into_iter().enumerate() {
         let seen = waited(condvar, &mut guard, call);
-        watch.saw(raw_calls);
         equal((row, seen), (row, (times_out, made)))?;
     }
-    Ok(())
+    Ok(checks.is_locked())
 }
 
-fn check<W: Wait + Clone + Drop>(alloc: Global, waiter: W) -> Result<(), Fail> {
-    let raw: AdmitsAll<W> = RawMutex::new(alloc, waiter)?;
-    let mut watch = Watch::new(raw.log()?);
-    let condvar: Condvar<SpuriousCondvar<AdmitsAll<W>>> = Condvar::default(alloc)?;
-    check_waits(&condvar, &Mutex::from_raw(raw, 0)?, &mut watch)?;
-    watch.saw(&[Unlock(Exclusive)]);
-    watch.verdict()?;
-    equal((condvar.notify_one(), condvar.notify_all()), (false, 0))
+fn check<R: RawMutexTimed<Duration = (), Instant = ()> + Drop>(
+    alloc: Global,
+    waiter: R::Waiter,
+) -> Result<(), Fail> {
+    let condvar: Condvar<SpuriousCondvar<R>> = Condvar::default(alloc)?;
+    let is_held = check_waits(&condvar, &Mutex::new(alloc, waiter, 0)?)?;
+    let woken = (condvar.notify_one(), condvar.notify_all());
+    equal((is_held, woken), (true, (false, 0)))
 }
 
 #[test]
-fn a_spurious_wait_releases_once_and_ends(rt: HostRuntime) -> Result<(), Fail> {
-    check(rt.alloc(), rt)
+fn a_spurious_wait_ends_at_once(rt: HostRuntime) -> Result<(), Fail> {
+    check::<RawLock<Table>>(rt.alloc(), rt)
+}
+
+/// Waits that release the mutex once.
+const ONCE: [Call<()>; 4] = [
+    Call::Plain,
+    Call::For(()),
+    Call::Until(()),
+    Call::WhileUntil(1, ()),
+];
+
+/// Under one guard, each wait of `ONCE` releases the raw lock and acquires it again.
+fn watch_releases<R: RawMutexTimed<Duration = (), Instant = ()>>(
+    condvar: &Condvar<SpuriousCondvar<R>>,
+    checks: &Mutex<R, usize>,
+    watch: &mut Watch,
+) {
+    let mut guard = checks.lock();
+    watch.saw(&[Lock(Exclusive)]);
+    for call in ONCE {
+        waited(condvar, &mut guard, call);
+        watch.saw(&[Unlock(Exclusive), Lock(Exclusive)]);
+    }
+    drop(guard);
+    watch.saw(&[Unlock(Exclusive)]);
+}
+
+fn check_releases<W: Wait + Clone + Drop>(alloc: Global, waiter: W) -> Result<(), Fail> {
+    let raw: AdmitsAll<W> = RawMutex::new(alloc, waiter)?;
+    let mut watch = Watch::new(raw.log()?);
+    let condvar = Condvar::new(alloc)?;
+    watch_releases(&condvar, &Mutex::from_raw(raw, 0)?, &mut watch);
+    watch.verdict()
+}
+
+#[test]
+fn each_wait_releases_once(rt: HostRuntime) -> Result<(), Fail> {
+    check_releases(rt.alloc(), rt)
 }

@@ -1,11 +1,11 @@
 //! The makers of a mutex, and what a consumed mutex returns.
+use crate::tests::Table;
 use lock_base::raw::Fault;
 use lock_guard::raw::RawMutex;
 use lock_mutex::{Condvar, Mutex};
-use lock_raws::SleepingCondvar;
+use lock_raws::{RawLock, SleepingCondvar};
 use lock_recorder::Recorder;
-use lock_test_support::answer::{answers_or_lacks_memory, equal, lacks_memory};
-use lock_test_support::raw_lock::AdmitsAll;
+use lock_test_support::answer::{answers_or_lacks_memory, equal};
 use std::alloc::Global;
 use std::test::Fail;
 
@@ -43,19 +43,19 @@ const WANTED: [Made; 3] = [
 ];
 
 #[test]
+fn makers_of_a_mutex_lock_nothing(rt: HostRuntime) -> Result<(), Fail> {
+    equal(made::<RawLock<Table>>(rt.alloc(), [rt; 3])?, WANTED)
+}
+
+#[test]
 fn refused_memory_in_makers_of_a_mutex(rt: HostRuntime) -> Result<(), Fail> {
-    let made = made::<AdmitsAll<HostRuntime>>(rt.alloc(), [rt; 3]);
+    let made = made::<RawLock<Table>>(rt.alloc(), [rt; 3]);
     answers_or_lacks_memory(&rt, made, WANTED)
 }
 
 /// A condition variable whose waiters sleep allocates their count. A new one has none.
 #[test]
 fn refused_memory_condvar(rt: HostRuntime) -> Result<(), Fail> {
-    let made: Result<Condvar<SleepingCondvar<AdmitsAll<HostRuntime>>>, Fault> = Condvar::new(
-        rt.alloc(),
-    );
-    match made {
-        Ok(condvar) => equal(condvar.notify_all(), 0),
-        Err(fault) => lacks_memory(&rt, fault),
-    }
+    let condvar: Result<Condvar<SleepingCondvar<RawLock<Table>>>, Fault> = Condvar::new(rt.alloc());
+    answers_or_lacks_memory(&rt, condvar.map(|condvar| condvar.notify_all()), 0)
 }

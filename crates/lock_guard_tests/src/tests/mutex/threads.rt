@@ -1,7 +1,8 @@
 //! Threads that count behind a mutex, and wait for each other.
+use crate::tests::Word;
 use lock_guard::raw::RawMutex;
 use lock_mutex::{Condvar, Mutex};
-use lock_raws::SpuriousCondvar;
+use lock_raws::{RawLock, SpuriousCondvar};
 use lock_test_support::raw_lock::AdmitsAll;
 use lock_test_support::{Count, add_in_four_threads};
 use std::test::Fail;
@@ -45,5 +46,15 @@ fn four_threads_count_and_two_wait_for_each_other(rt: HostRuntime) -> Result<(),
         || come_and_wait(&come, &condvar, 2),
     );
     assert_eq!(rt; come.into_inner(), 2);
+    Ok(())
+}
+
+#[test]
+fn four_threads_count_behind_a_word(rt: HostRuntime) -> Result<(), Fail> {
+    let counter: Mutex<RawLock<Word>, u64> = Mutex::new(rt.alloc(), rt, 0)?;
+    for _ in 0..10 {
+        add_in_four_threads(&rt, &Counted(&counter));
+    }
+    assert_eq!(rt; counter.into_inner(), 40_000);
     Ok(())
 }

@@ -1,18 +1,20 @@
 //! The raw calls of guards of parts, and of calls that make none.
+use crate::tests::Table;
 use lock_base::machine::Mode::Exclusive;
 use lock_base::machine::PartyId;
 use lock_base::raw::Fault;
 use lock_guard::raw::{RawMutex, RawMutexFair};
+use lock_raws::RawLock;
+use lock_recorder::Recorder;
 use lock_remutex::{
     ArcReentrantMutexGuard, MappedReentrantMutexGuard, ReentrantMutex, ReentrantMutexGuard,
 };
 use lock_test_support::answer::equal;
 use lock_test_support::party;
 use lock_test_support::project::{Item0, Item1, Nth};
-use lock_test_support::raw_lock::{AdmitsAll, Watch, watch_fair_end};
+use lock_test_support::raw_lock::{Watch, watch_fair_end};
 use std::alloc::Global;
-use std::clone::Clone;
-use std::sync::{Arc, Wait};
+use std::sync::Arc;
 use std::test::Fail;
 
 /// A pair behind a lock.
@@ -74,9 +76,12 @@ fn ends<R: RawMutex + Drop>(
     Ok(())
 }
 
-fn check<W: Wait + Clone + Drop>(alloc: Global, waiter: W) -> Result<(), Fail> {
+fn check<R: RawMutexFair + Drop>(alloc: Global, waiter: R::Waiter) -> Result<(), Fail>
+where
+    R::Guard: Send,
+{
     let one = party(1)?;
-    let raw: AdmitsAll<W> = RawMutex::new(alloc, waiter)?;
+    let raw: Recorder<R> = RawMutex::new(alloc, waiter)?;
     let mut watch = Watch::new(raw.log()?);
     let mut lock = ReentrantMutex::from_raw(alloc, raw, (1, 2))?;
     maps(&lock, &mut watch, one)?;
@@ -94,5 +99,5 @@ fn check<W: Wait + Clone + Drop>(alloc: Global, waiter: W) -> Result<(), Fail> {
 
 #[test]
 fn maps_make_no_raw_calls(rt: HostRuntime) -> Result<(), Fail> {
-    check(rt.alloc(), rt)
+    check::<RawLock<Table>>(rt.alloc(), rt)
 }

@@ -1,14 +1,16 @@
 //! A party that has all its levels.
+use crate::tests::Table;
 use lock_base::machine::Mode::Exclusive;
 use lock_base::machine::PartyId;
 use lock_base::raw::Fault::{self, FullCount};
 use lock_guard::raw::{RawMutex, RawMutexTimed};
+use lock_raws::RawLock;
 use lock_recorder::RawCall::{Lock, Unlock};
 use lock_recorder::{Deadline, Recorder};
 use lock_remutex::{ReentrantMutex, ReentrantMutexGuard};
 use lock_test_support::answer::equal;
 use lock_test_support::party;
-use lock_test_support::raw_lock::{AdmitsAll, Watch};
+use lock_test_support::raw_lock::Watch;
 use std::alloc::Global;
 use std::sync::Arc;
 use std::test::Fail;
@@ -111,6 +113,6 @@ where
 
 #[test]
 fn a_full_count_is_refused(rt: HostRuntime) -> Result<(), Fail> {
-    let value = check_borrowed::<AdmitsAll<HostRuntime>>(rt.alloc(), rt)?;
-    check_arc::<AdmitsAll<HostRuntime>>(rt.alloc(), rt, value)
+    let value = check_borrowed::<RawLock<Table>>(rt.alloc(), rt)?;
+    check_arc::<RawLock<Table>>(rt.alloc(), rt, value)
 }

@@ -1,15 +1,17 @@
 //! The makers of a reentrant lock, and what a consumed lock returns.
+use crate::tests::Table;
 use crate::tests::mutex::makers::Maker;
 use lock_base::machine::Mode::Exclusive;
 use lock_base::machine::PartyId;
 use lock_base::raw::Fault;
 use lock_guard::raw::RawMutex;
+use lock_raws::RawLock;
 use lock_recorder::RawCall::Lock;
 use lock_recorder::Recorder;
 use lock_remutex::{RawReentrantMutex, ReentrantMutex};
 use lock_test_support::answer::{answers_or_lacks_memory, equal, lacks_memory};
 use lock_test_support::party;
-use lock_test_support::raw_lock::{AdmitsAll, Watch};
+use lock_test_support::raw_lock::Watch;
 use std::alloc::Global;
 use std::mem;
 use std::rt::Env;
@@ -80,7 +82,7 @@ const WANTED: [Made; 5] = [
 #[test]
 fn makers_of_a_reentrant_lock_lock_nothing(rt: HostRuntime) -> Result<(), Fail> {
     equal(
-        made::<AdmitsAll<HostRuntime>>(rt.alloc(), [rt; 5], party(1)?)?,
+        made::<RawLock<Table>>(rt.alloc(), [rt; 5], party(1)?)?,
         WANTED,
     )
 }
@@ -95,7 +97,7 @@ fn without_calls(made: [Made; 5]) -> [Levelled; 5] {
 
 #[test]
 fn refused_memory_in_makers_of_a_reentrant_lock(rt: HostRuntime) -> Result<(), Fail> {
-    let made = made::<AdmitsAll<HostRuntime>>(rt.alloc(), [rt; 5], party(1)?);
+    let made = made::<RawLock<Table>>(rt.alloc(), [rt; 5], party(1)?);
     answers_or_lacks_memory(&rt, made.map(without_calls), without_calls(WANTED))
 }
 
@@ -127,5 +129,5 @@ where
 
 #[test]
 fn refused_memory_raw_reentrant_mutex(rt: HostRuntime) -> Result<(), Fail> {
-    check_raw_makers::<AdmitsAll<HostRuntime>, HostRuntime>(&rt, rt.alloc(), [rt; 2])
+    check_raw_makers::<RawLock<Table>, HostRuntime>(&rt, rt.alloc(), [rt; 2])
 }

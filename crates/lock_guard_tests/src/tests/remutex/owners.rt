@@ -4,7 +4,7 @@ use lock_base::machine::PartyId;
 use lock_base::raw::Fault::{self, Foreign};
 use lock_guard::raw::{RawMutex, RawMutexFair};
 use lock_recorder::RawCall::{Lock, TryLock, Unlock, UnlockFair};
-use lock_remutex::{RawReentrantMutex, ReentrantMutex};
+use lock_remutex::RawReentrantMutex;
 use lock_test_support::answer::equal;
 use lock_test_support::raw_lock::{AdmitsAll, Watch};
 use lock_test_support::two_parties;
@@ -93,26 +93,4 @@ fn check_calls<W: Wait + Clone + Drop>(alloc: Global, waiter: W) -> Result<(), F
 #[test]
 fn a_raw_lock_that_lies_makes_no_second_owner(rt: HostRuntime) -> Result<(), Fail> {
     check_calls(rt.alloc(), rt)
-}
-
-/// Whether another party gets a guard beside the owner's, and whether the owner still owns the lock.
-fn beside_the_owner<R: RawMutex>(
-    lock: &ReentrantMutex<R, u8>,
-    one: PartyId,
-    two: PartyId,
-) -> Result<(bool, bool), Fault> {
-    let _guard = lock.lock(one)?;
-    let is_given = lock.try_lock(two)?.is_some();
-    Ok((is_given, lock.is_owned_by_current_thread(one)))
-}
-
-fn check_second_guard<W: Wait + Clone + Drop>(alloc: Global, waiter: W) -> Result<(), Fail> {
-    let (one, two) = two_parties()?;
-    let lock: ReentrantMutex<AdmitsAll<W>, u8> = ReentrantMutex::new(alloc, waiter, 7)?;
-    equal(beside_the_owner(&lock, one, two), Ok((false, true)))
-}
-
-#[test]
-fn a_raw_lock_that_lies_makes_no_second_guard(rt: HostRuntime) -> Result<(), Fail> {
-    check_second_guard(rt.alloc(), rt)
 }

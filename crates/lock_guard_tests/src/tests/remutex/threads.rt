@@ -1,9 +1,10 @@
 //! Parties that are threads.
+use crate::tests::Table;
 use crate::tests::mutex::gated::Gated;
 use lock_base::machine::PartyId;
 use lock_base::raw::Fault;
 use lock_guard::raw::{RawMutex, RawMutexFair};
-use lock_raws::TokenRaw;
+use lock_raws::RawLock;
 use lock_recorder::CallLog;
 use lock_remutex::{ReentrantMutex, ReentrantMutexGuard};
 use lock_test_support::answer::equal;
@@ -33,7 +34,7 @@ fn count_up<R: RawMutex>(
 fn two_parties_take_turns(rt: HostRuntime) -> Result<(), Fail> {
     let (one, two) = two_parties()?;
     let zero = AtomicU64::new(0);
-    let count: ReentrantMutex<TokenRaw<HostRuntime>, AtomicU64> = ReentrantMutex::new(
+    let count: ReentrantMutex<RawLock<Table>, AtomicU64> = ReentrantMutex::new(
         rt.alloc(),
         rt,
         zero,

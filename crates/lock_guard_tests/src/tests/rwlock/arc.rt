@@ -1,9 +1,10 @@
 //! Guards that own a reference to a reader-writer lock.
+use super::raw_calls::UNDER_AN_UPGRADE;
 use lock_base::machine::Mode::Shared;
 use lock_base::raw::Fault;
-use lock_guard::raw::RawRwLock;
+use lock_guard::raw::{RawRwLock, RawRwLockUpgradeDowngrade, RawRwLockUpgradeTimed};
 use lock_recorder::RawCall::{Lock, Unlock};
-use lock_rwlock::{ArcRwLockGuard, ArcRwLockReadGuard, RwLock, RwLockArc};
+use lock_rwlock::{ArcRwLockGuard, ArcRwLockReadGuard, RwLock, RwLockArc, RwLockArcUpgrade};
 use lock_test_support::answer::equal;
 use lock_test_support::raw_lock::Watch;
 use std::sync::Arc;
@@ -25,12 +26,29 @@ fn sum<R: RawRwLock + Drop>(
 fn read_by_two<R: RawRwLock + Drop>(lock: &Owned<R>) -> Result<u64, Fault> {
     let first = RwLock::read_arc(lock)?;
     let second = RwLock::read_arc(lock)?;
-    ArcRwLockGuard::rwlock(&first);
     Ok(sum(&first, &second))
 }
 
-/// Two readers of a lock of 5, whose calls are watched from here on.
-pub fn check<R: RawRwLock + Drop>(lock: &Owned<R>, watch: &mut Watch) -> Result<(), Fail> {
+/// Calls under an upgraded guard, whose closure looks at the raw lock.
+fn calls_under_an_upgrade<
+    R: RawRwLockUpgradeTimed<Duration = u64, Instant = u64> + RawRwLockUpgradeDowngrade + Drop,
+>(lock: &Owned<R>) -> Result<(), Fault> {
+    let mut guard = RwLock::upgradable_read_arc(lock)?;
+    ArcRwLockGuard::rwlock(&guard);
+    let looks = |_: &mut u64| lock.is_locked();
+    guard.with_upgraded(looks);
+    guard.try_with_upgraded(looks);
+    guard.try_with_upgraded_for(3, looks);
+    guard.try_with_upgraded_until(4, looks);
+    Ok(())
+}
+
+/// Guards of a lock of 5, whose calls are watched from here on.
+pub fn check<
+    R: RawRwLockUpgradeTimed<Duration = u64, Instant = u64> + RawRwLockUpgradeDowngrade + Drop,
+>(lock: &Owned<R>, watch: &mut Watch) -> Result<(), Fail> {
+    calls_under_an_upgrade(lock)?;
+    watch.saw(&UNDER_AN_UPGRADE);
     let sum = read_by_two(lock)?;
     watch.saw(&[Lock(Shared), Lock(Shared), Unlock(Shared), Unlock(Shared)]);
     equal(sum, 10)

@@ -1,12 +1,12 @@
 //! The makers of a lock.
+use crate::tests::Table;
 use lock_base::raw::Fault;
 use lock_guard::forget;
 use lock_guard::raw::RawRwLock;
-use lock_raws::TokenRaw;
+use lock_raws::{LockCore, RawLock};
 use lock_recorder::Recorder;
 use lock_rwlock::RwLock;
-use lock_test_support::answer::{equal, lacks_memory};
-use lock_test_support::raw_lock::AdmitsAll;
+use lock_test_support::answer::{answers_or_lacks_memory, equal};
 use std::alloc::Global;
 use std::rt::Env;
 use std::test::Fail;
@@ -55,7 +55,7 @@ fn check_made<R: RawRwLock + Drop>(made: Made<Recorder<R>>) -> Result<(), Fail> 
     )
 }
 
-fn check<R: RawRwLock + Drop>(alloc: Global, waiters: [R::Waiter; 4]) -> Result<(), Fail> {
+pub fn check<R: RawRwLock + Drop>(alloc: Global, waiters: [R::Waiter; 4]) -> Result<(), Fail> {
     let (new, from, default, with_readers) = made::<Recorder<R>>(alloc, waiters);
     check_made(new)?;
     check_made(from)?;
@@ -63,27 +63,20 @@ fn check<R: RawRwLock + Drop>(alloc: Global, waiters: [R::Waiter; 4]) -> Result<
     check_made(with_readers)
 }
 
-#[test]
-fn makers_of_a_lock_keep_its_limit_and_value(rt: HostRuntime) -> Result<(), Fail> {
-    check::<TokenRaw<HostRuntime>>(rt.alloc(), [rt; 4])
-}
-
 /// Checks that the maker gave a lock of its value, or that it lacked memory.
-fn check_or_lacks<R: RawRwLock + Drop, E: Env>(rt: &E, made: Made<R>) -> Result<(), Fail> {
+fn check_or_lacks<C: LockCore, E: Env>(rt: &E, made: Made<RawLock<C>>) -> Result<(), Fail> {
     let (name, lock, _, value) = made;
-    match lock {
-        Ok(lock) => equal((name, lock.into_inner()), (name, value)),
-        Err(fault) => lacks_memory(rt, fault),
-    }
+    let found = lock.map(|lock| (name, lock.into_inner()));
+    answers_or_lacks_memory(rt, found, (name, value))
 }
 
-fn check_all_or_lack<R: RawRwLock + Drop, E: Env>(
+fn check_all_or_lack<C: LockCore, E: Env>(
     rt: &E,
     alloc: Global,
-    waiters: [R::Waiter; 4],
+    waiters: [C::Waiter; 4],
 ) -> Result<(), Fail> {
-    let (new, from, default, with_readers) = made::<R>(alloc, waiters);
-    check_or_lacks(rt, new)?;
+    let (new, from, default, with_readers) = made(alloc, waiters);
+    check_or_lacks::<C, E>(rt, new)?;
     check_or_lacks(rt, from)?;
     check_or_lacks(rt, default)?;
     check_or_lacks(rt, with_readers)
@@ -91,5 +84,5 @@ fn check_all_or_lack<R: RawRwLock + Drop, E: Env>(
 
 #[test]
 fn refused_memory_rwlock_makers(rt: HostRuntime) -> Result<(), Fail> {
-    check_all_or_lack::<AdmitsAll<HostRuntime>, HostRuntime>(&rt, rt.alloc(), [rt; 4])
+    check_all_or_lack::<Table, HostRuntime>(&rt, rt.alloc(), [rt; 4])
 }

@@ -1,13 +1,46 @@
 //! The order in which a lock locks and unlocks its raw lock and the value's lock.
-use lock_guard::raw::RawRwLock;
+use lock_base::machine::Mode::{self, Exclusive, Shared, Upgradable};
+use lock_guard::guard::Acquire;
+use lock_guard::raw::{RawRwLock, RawRwLockUpgrade};
 use lock_recorder::CallLog;
-use lock_rwlock::RwLock;
-use lock_test_support::raw_lock::AdmitsAll;
+use lock_recorder::RawCall::{Lock, Unlock};
+use lock_rwlock::{RwLock, RwLockGuard};
+use lock_test_support::answer::equal;
+use lock_test_support::raw_lock::{AdmitsAll, Watch};
 use lock_test_support::{wait_for_calls, wait_for_flag};
 use std::sync::Wait;
 use std::sync::atomic::{AtomicBool, Ordering};
 use std::test::Fail;
 use std::thread;
+
+/// Adds 1 to the value while the guard, which was just acquired in the mode, is unlocked. It ends only if nothing is held
+/// then.
+fn add_while_unlocked<R: RawRwLock, L: Acquire>(
+    lock: &RwLock<R, u64>,
+    guard: RwLockGuard<L>,
+    mode: Mode,
+    watch: &mut Watch,
+) {
+    let mut guard = guard;
+    watch.saw(&[Lock(mode)]);
+    RwLockGuard::unlocked(&mut guard, || {
+        let mut value = lock.write();
+        *value = value.wrapping_add(1);
+    });
+    watch.saw(&[Unlock(mode), Lock(Exclusive), Unlock(Exclusive), Lock(mode)]);
+    drop(guard);
+    watch.saw(&[Unlock(mode)]);
+}
+
+/// A guard in each mode is unlocked, of a lock of 5.
+pub fn check<R: RawRwLockUpgrade>(lock: &RwLock<R, u64>, watch: &mut Watch) -> Result<(), Fail> {
+    add_while_unlocked(lock, lock.read(), Shared, watch);
+    add_while_unlocked(lock, lock.write(), Exclusive, watch);
+    add_while_unlocked(lock, lock.upgradable_read(), Upgradable, watch);
+    let value = *lock.read();
+    watch.saw(&[Lock(Shared), Unlock(Shared)]);
+    equal(value, 8)
+}
 
 /// Holds the value's lock until the raw lock got one more call, and then writes the value.
 fn write_once_another_asked<W: Wait, R: RawRwLock>(

@@ -4,12 +4,10 @@ use lock_guard::raw::{
     RawRwLock, RawRwLockFair, RawRwLockUpgrade, RawRwLockUpgradeDowngrade, RawRwLockUpgradeFair,
     RawRwLockUpgradeTimed,
 };
-use lock_raws::TokenRaw;
 use lock_recorder::RawCall::{
     self, DowngradeToUpgradable, IsLocked, Lock, TryUpgrade, TryUpgradeFor, TryUpgradeUntil,
     Unlock, UnlockFair, Upgrade,
 };
-use lock_recorder::{Deadline, Recorder};
 use lock_rwlock::{RwLock, RwLockReadGuard, RwLockUpgradableReadGuard, RwLockWriteGuard};
 use lock_test_support::project::{Item0, Nested, inner_item};
 use lock_test_support::raw_lock::{AdmitsAll, Watch, watch_fair_end, watch_write};
@@ -46,21 +44,13 @@ fn try_maps<R: RawRwLock>(lock: &Paired<R>, index: usize, watch: &mut Watch) {
     watch.saw_hold(part, Shared);
 }
 
-/// All of these, on a lock that is free before and after each.
-pub fn check<R: RawRwLockFair>(lock: &Paired<R>, watch: &mut Watch) {
-    names(lock, watch);
-    maps(lock, watch);
-    try_maps(lock, 1, watch);
-    try_maps(lock, 2, watch);
-}
-
 /// Calls under an upgraded guard. Each closure looks at the raw lock.
 fn calls_under_an_upgrade<
     R: RawRwLockUpgradeTimed<Duration = u64, Instant = u64> + RawRwLockUpgradeDowngrade,
->(lock: &RwLock<R, u64>) {
+>(lock: &Paired<R>) {
     let mut guard = lock.upgradable_read();
     RwLockUpgradableReadGuard::rwlock(&guard);
-    let looks = |_: &mut u64| lock.is_locked();
+    let looks = |_: &mut Nested| lock.is_locked();
     guard.with_upgraded(looks);
     guard.try_with_upgraded(looks);
     guard.try_with_upgraded_for(3, looks);
@@ -68,7 +58,7 @@ fn calls_under_an_upgrade<
 }
 
 /// The raw calls of a guard and its calls under an upgrade, each of which looks at the raw lock.
-const UNDER_AN_UPGRADE: [RawCall; 14] = [
+pub const UNDER_AN_UPGRADE: [RawCall; 14] = [
     Lock(Upgradable),
     Upgrade,
     IsLocked,
@@ -85,24 +75,18 @@ const UNDER_AN_UPGRADE: [RawCall; 14] = [
     Unlock(Upgradable),
 ];
 
-fn check_upgrades<R: RawRwLockUpgradeTimed + RawRwLockUpgradeDowngrade + Drop>(
-    alloc: Global,
-    waiter: R::Waiter,
-) -> Result<(), Fail>
-where
-    R::Duration: Default,
-    R::Instant: Deadline<R::Waiter>,
-{
-    let raw: Recorder<R> = RawRwLock::new(alloc, waiter, 8)?;
-    let mut watch = Watch::new(raw.log()?);
-    calls_under_an_upgrade(&RwLock::from_raw(raw, 5)?);
+/// All of these, on a lock that is free before and after each.
+pub fn check<
+    R: RawRwLockUpgradeTimed<Duration = u64, Instant = u64>
+        + RawRwLockFair
+        + RawRwLockUpgradeDowngrade,
+>(lock: &Paired<R>, watch: &mut Watch) {
+    names(lock, watch);
+    maps(lock, watch);
+    try_maps(lock, 1, watch);
+    try_maps(lock, 2, watch);
+    calls_under_an_upgrade(lock);
     watch.saw(&UNDER_AN_UPGRADE);
-    watch.verdict()
-}
-
-#[test]
-fn closures_run_under_the_upgrade(rt: HostRuntime) -> Result<(), Fail> {
-    check_upgrades::<TokenRaw<HostRuntime>>(rt.alloc(), rt)
 }
 
 /// A lock, a bump and an unlock in the mode.

@@ -1,7 +1,9 @@
 //! Threads that count behind a lock, readers at the same time, and readers against a writer.
 mod pairs;
 
+use crate::tests::Word;
 use lock_guard::raw::RawRwLock;
+use lock_raws::RawLock;
 use lock_rwlock::RwLock;
 use lock_test_support::raw_lock::AdmitsAll;
 use lock_test_support::{Count, add_in_four_threads};
@@ -56,5 +58,17 @@ fn four_threads_count_and_two_read_at_once(rt: HostRuntime) -> Result<(), Fail> 
         || sees_while_it_reads(&lock, &second, &first),
     );
     assert_eq!(rt; (seen, lock.into_inner()), ((true, true), 4_000));
+    Ok(())
+}
+
+#[test]
+fn four_threads_count_behind_a_word(rt: HostRuntime) -> Result<(), Fail> {
+    for readers in [1, 4, 4_294_967_295] {
+        let lock: RwLock<RawLock<Word>, u64> = RwLock::with_readers(rt.alloc(), rt, readers, 0)?;
+        for _ in 0..10 {
+            add_in_four_threads(&rt, &Counted(&lock));
+        }
+        assert_eq!(rt; lock.into_inner(), 40_000);
+    }
     Ok(())
 }
