@@ -24,11 +24,36 @@ try() {
     told=$(cd "$root/crates/$name" && rt try -- "$@" 2>&1 <&4 >&5 3>&- 4<&- 5>&-)
 }
 
-# wrong words get the usage line of the program, and compile nothing
-case "$name:$#:${1-}" in
+# Prints the lines of a constant of the program's main.rt that its first line opens and `";` closes.
+constant() {
+    sed -n "/^const $1: &str = \"\\\\\$/,/\";\$/{//!p; s/\";\$//p}" "$root/crates/$name/src/main.rt"
+}
+
+usage() {
+    sed -n 's/^const USAGE: &str = "\(.*\)";$/\1/p' "$root/crates/$name/src/main.rt"
+}
+
+# wrong words get the usage line of the program, as a request for help gets its help, and compile nothing
+words=$*
+bytes=${words##*--memory }
+case $bytes in
+    0 | [1-9]*) [ -n "${bytes##*[!0-9]*}" ] && [ "$bytes" != "$words" ] && words="${words%"$bytes"}N" ;;
+esac
+case "$name:$#:$words" in
     lockreplay:1:table | lockreplay:1:word | lockreplay:1:steps | lockexplore:0: | lockexplore:1:lanes | lockexplore:1:svg) ;;
+    'lockexplore:2:--memory N' | 'lockexplore:3:lanes --memory N' | 'lockexplore:3:svg --memory N') ;;
+    lockexplore:1:-h | lockexplore:1:--help)
+        usage
+        echo
+        constant HELP
+        exit
+        ;;
+    lockexplore:1:--version)
+        sed -n 's/^const VERSION: &str = "\(.*\)";$/\1/p' "$root/crates/$name/src/main.rt"
+        exit
+        ;;
     *)
-        sed -n 's/^const USAGE: &str = "\(.*\)";$/\1/p' "$root/crates/$name/src/main.rt" >&2
+        usage >&2
         exit 2
         ;;
 esac

@@ -34,6 +34,7 @@ LOOPS = {"repeat", "until"}
 OPENS = {"repeat": "repeat", "either": "either"}
 TURNS = {("else", "try"): "else", ("else", "if"): "else", ("or", "either"): "or", ("or", "or"): "or"}
 ENDS = {"repeat", "else", "or"}
+WORD = re.compile(rb"[^ \t\r]+")
 NAME = re.compile(rb"[A-Za-z0-9_.-]+")
 LIMIT = re.compile(rb"[1-9][0-9]{0,9}")
 LARGEST_LIMIT = 2**32 - 1
@@ -128,11 +129,15 @@ def read_plan(text):
     if len(text) > LONGEST_INPUT:
         raise Fault("input too long")
     plan = Plan({}, [], [], [], [], [], [])
-    lines = text.removesuffix(b"\n").split(b"\n")
-    for number, line in enumerate(lines, 1):
-        if not read_line(plan, number, line.split(b" ")):
+    lines = text.split(b"\n")
+    if not lines[-1]:
+        lines.pop()
+    words = [(number, WORD.findall(line.partition(b"#")[0])) for number, line in enumerate(lines, 1)]
+    words = [(number, fields) for number, fields in words if fields]
+    for number, fields in words:
+        if not read_line(plan, number, fields):
             raise Fault(f"bad line {number}")
-    if plan.open:
+    if plan.open or not words:
         raise Fault(f"bad line {len(lines) + 1}")
     for mention in plan.mentions:
         if all(it.name != mention.name for it in plan.parties):

@@ -8,3 +8,4 @@ pub mod Copies
 pub mod Below
 pub mod Checks
 pub mod Stops
+pub mod Memory

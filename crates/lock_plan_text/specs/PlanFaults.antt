@@ -7,9 +7,11 @@ use Rattle.lock_plan.specs.declared.fault.PlanFault.{PlanFault}
 use Rattle.lock_plan.specs.declared.fault.PlanFault.TheVariants as plan
 use Rattle.lock_plan.specs.Checks.{plan_fault}
 use Rattle.lock_plan_text.specs.declared.parser.fault.PlanTextFault.{PlanTextFault}
-use Rattle.lock_plan_text.specs.declared.parser.fault.PlanTextFault.TheVariants.{BadLine, UnknownParty, Call, TooLarge, TooLong, OutOfMemory, InputFailed, OutputFailed}
+use Rattle.lock_plan_text.specs.declared.parser.fault.PlanTextFault.TheVariants.{BadLine, UnknownParty, Call, TooLarge, TooLong, Full, OutOfMemory, InputFailed, OutputFailed}
 use Rattle.lock_script.specs.declared.fault.ReplayFault.{ReplayFault}
 use Rattle.lock_script.specs.declared.fault.ReplayFault.TheVariants as script
+use Rattle.step_search.specs.declared.fault.SearchFault.{SearchFault}
+use Rattle.step_search.specs.declared.fault.SearchFault.TheVariants as search
 use Rattle.lock_plan_text.specs.Drafts.{Draft, IsDraftOf, IsFirstBadLine, place_of}
 use Rattle.lock_plan_text.specs.PartyLines.{number_of, programs_in}
 
@@ -20,6 +22,7 @@ IsLineFault bytes (UnknownParty number) = ⊥
 IsLineFault bytes (Call number why) = ⊥
 IsLineFault bytes TooLarge = ⊥
 IsLineFault bytes TooLong = ⊥
+IsLineFault bytes (Full count) = ⊥
 IsLineFault bytes OutOfMemory = ⊤
 IsLineFault bytes InputFailed = ⊥
 IsLineFault bytes OutputFailed = ⊥
@@ -56,6 +59,7 @@ IsPlanTextFault bytes (UnknownParty number) = HasFault bytes (UnknownParty numbe
 IsPlanTextFault bytes (Call number why) = HasFault bytes (Call number why)
 IsPlanTextFault bytes TooLarge = HasFault bytes TooLarge
 IsPlanTextFault bytes TooLong = ⊥
+IsPlanTextFault bytes (Full count) = ⊥
 IsPlanTextFault bytes OutOfMemory = ⊤
 IsPlanTextFault bytes InputFailed = ⊥
 IsPlanTextFault bytes OutputFailed = ⊥
@@ -67,3 +71,8 @@ of_script script.TooLong = TooLong
 of_script script.OutOfMemory = OutOfMemory
 of_script script.InputFailed = InputFailed
 of_script script.OutputFailed = OutputFailed
+
+-- a fault of a search, as one of a plan
+abbrev pub of_search : SearchFault → PlanTextFault
+of_search (search.Full count) = Full count
+of_search search.OutOfMemory = OutOfMemory

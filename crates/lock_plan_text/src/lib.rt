@@ -15,4 +15,4 @@ pub use parser::{
     NamedPlan, PlanTextFault, calls_have_lines, parse_plan, texts_fit_machines,
     texts_have_one_meaning,
 };
-pub use printer::{draw_picture, write_answer, write_drawing};
+pub use printer::{draw_picture, write_answer, write_call, write_drawing};

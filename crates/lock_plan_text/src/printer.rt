@@ -16,3 +16,4 @@ mod words;
 pub use answer::write_answer;
 pub use lanes::write_drawing;
 pub use picture::draw_picture;
+pub use step::write_call;

@@ -1,1 +1,3 @@
 mod Founds
+mod Lefts
+mod TextFaults

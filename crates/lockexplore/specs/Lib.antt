@@ -1,2 +1,5 @@
+pub mod Requests
+pub mod PlainTexts
+pub mod Befores
 pub mod PlanAnswers
 pub mod Explorations

@@ -1,6 +1,8 @@
 //! The words after the program's name.
-ghost use Rattle.std.specs.Prelude.{◌≡◌, ◌∷◌, ◌↔◌, [], codes, map, Some, string_bytes};
-ghost use Rattle.lockexplore.specs.declared.arguments.Form.TheVariants as form;
+ghost use Rattle.std.specs.Prelude.{◌≡◌, ◌≢◌, ◌∷◌, [], ◌<◌, ◌^◌, ℕ, IfNone, IfSome, Some, codes, decimal, map, string_bytes};
+ghost use Rattle.lockexplore.specs.declared.arguments.Request.TheVariants.{Explore};
+
+use lock_script::unsigned;
 
 /// What an answer is written as.
 #[derive(Clone, Copy, PartialEq, Eq, Debug)]
@@ -13,21 +15,75 @@ pub(crate) enum Form {
     Svg,
 }
 
-impl Form {
-    /// Returns the form that the words ask for, or `None` for the usage line.
-    pub(crate) fn of_words(words: &[String]) -> Option<Form>
-        ensures answer { (result ≡ Some form.Answer) ↔ (map string_bytes words.now ≡ []) }
-        ensures lanes { (result ≡ Some form.Lanes) ↔ (map string_bytes words.now ≡ codes "lanes" ∷ []) }
-        ensures svg { (result ≡ Some form.Svg) ↔ (map string_bytes words.now ≡ codes "svg" ∷ []) }
+/// What the words ask for.
+#[derive(Clone, Copy, PartialEq, Eq, Debug)]
+pub(crate) enum Request {
+    /// The answer to a plan in a form, by a search in so many bytes.
+    Explore(Form, Option<u64>),
+    Help,
+    Version,
+}
+
+impl Request {
+    ghost use Rattle.lockexplore.specs.Requests.{IsRequest};
+
+    /// Returns what the words ask for, or `None` for the usage line.
+    pub(crate) fn of_words(words: &[String]) -> Option<Request>
+        ensures some { IfSome result (IsRequest (map string_bytes words.now)) }
+        ensures none { IfNone result ((request : Request) → ¬ IsRequest (map string_bytes words.now) request) }
     {
         match words {
-            [] => Some(Form::Answer),
-            [word] => match word.as_str() {
-                "lanes" => Some(Form::Lanes),
-                "svg" => Some(Form::Svg),
-                _ => None,
-            },
+            [] => Some(Request::Explore(Form::Answer, None)),
+            [word] => Request::of_word(word.as_str()),
+            [option, bytes] => in_memory(Form::Answer, option.as_str(), bytes.as_str()),
+            [form, option, bytes] => {
+                in_memory(
+                    Form::of_word(form.as_str())?,
+                    option.as_str(),
+                    bytes.as_str(),
+                )
+            }
+            [_, _, _, _, ..] => None,
+        }
+    }
+
+    /// Returns what a single word asks for.
+    fn of_word(word: &str) -> Option<Request>
+        ensures some { IfSome result (IsRequest (word.now ∷ [])) }
+        ensures none { IfNone result ((request : Request) → ¬ IsRequest (word.now ∷ []) request) }
+    {
+        match word {
+            "-h" | "--help" => Some(Request::Help),
+            "--version" => Some(Request::Version),
+            _ => Some(Request::Explore(Form::of_word(word)?, None)),
+        }
+    }
+}
+
+impl Form {
+    ghost use Rattle.lockexplore.specs.Requests.{form_words};
+
+    /// Returns the form of a word.
+    fn of_word(word: &str) -> Option<Form>
+        ensures some { IfSome result (λ form. form_words form ≡ word.now ∷ []) }
+        ensures none { IfNone result ((form : Form) → form_words form ≢ word.now ∷ []) }
+    {
+        match word {
+            "lanes" => Some(Form::Lanes),
+            "svg" => Some(Form::Svg),
             _ => None,
         }
     }
+}
+
+/// Returns the request for an answer in a form, if these two words limit the memory.
+fn in_memory(form: Form, option: &str, bytes: &str) -> Option<Request>
+    ensures some { IfSome result (λ request. (count : ℕ) × (request ≡ Explore form (Some count))
+        × (count < 2 ^ 64) × (option.now ≡ codes "--memory") × (decimal count ≡ bytes.now)) }
+    ensures none { IfNone result ((count : ℕ) → count < 2 ^ 64 → option.now ≡ codes "--memory" → decimal count ≡ bytes.now → ⊥) }
+{
+    if option != "--memory" {
+        return None;
+    }
+    Some(Request::Explore(form, Some(unsigned(bytes)?)))
 }

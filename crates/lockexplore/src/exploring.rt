@@ -2,11 +2,12 @@
 ghost use Rattle.std.specs.Prelude.{◌≡◌, IfErr, IfOk, string_bytes};
 ghost use Rattle.std.specs.Io.KnownBytes.{Keeps};
 ghost use Rattle.lock_script.specs.Replays.{ReadsScript};
-ghost use Rattle.lock_plan_text.specs.PlanFaults.{IsPlanTextFault};
+ghost use Rattle.lockexplore.specs.PlainTexts.{plain_text};
 ghost use Rattle.lockexplore.specs.PlanAnswers.{IsPlanAnswer, IsTextIn};
-ghost use Rattle.lockexplore.specs.Explorations.{AppendsPlanAnswer, ExplainsPlanFault, IsBeforePlanAnswer};
+ghost use Rattle.lockexplore.specs.Explorations.{AppendsPlanAnswer, ExplainsPlanFault, IsBeforePlanAnswer, IsPlanFault, IsScriptFault};
 
 use crate::arguments::Form;
+use crate::plain::PlainText;
 use crate::verdict::Verdict;
 use lock_plan::{Explored, explore};
 use lock_plan_text::{
@@ -16,45 +17,72 @@ use lock_script::{put, read_script};
 use std::alloc::{AllocError, Global};
 use std::io::{Read, Write};
 
-/// Reads a plan to its end, searches all its interleavings, and then writes the answer in this form.
+/// Reads a plan to its end, searches all its interleavings in so many bytes, and then writes the answer in this form.
 ///
 /// # Errors
 ///
 /// In this order: a fault of reading, the first bad line, the first unknown party, the first call that can never be made,
-/// too many states, no memory for the search or the text, a fault of writing. If the reader does not say what it has
+/// too many combinations, no memory for the search or the text, a fault of writing. If the reader does not say what it has
 /// ahead, the clauses speak only of the bytes that it gave.
 pub(crate) fn explore_plan<R: Read, W: Write>(
     alloc: Global,
     form: Form,
+    memory: usize,
     reader: &mut R,
     writer: &mut W,
 ) -> Result<Verdict, PlanTextFault>
     ensures answered { IfOk result (λ verdict. ReadsScript (R.remaining reader.old) (R.remaining reader.new)
         (λ script. AppendsPlanAnswer form script verdict (W.contents writer.old) (W.contents writer.new))) }
-    ensures told { IfErr result (ExplainsPlanFault form
+    ensures told { IfErr result (ExplainsPlanFault form memory
         (R.remaining reader.old) (R.remaining reader.new) (W.contents writer.old) (W.contents writer.new)) }
     ensures unwritten { IfErr result (λ fault.
         IsBeforePlanAnswer fault → Keeps (W.contents writer.old) (W.contents writer.new)) }
 {
     let script = read_script(alloc, reader)?;
-    let (verdict, text) = plan_answer(alloc, form, script.as_slice())?;
+    let (verdict, text) = plan_answer(alloc, form, memory, script.as_slice())?;
     match put(text.as_str(), writer) {
         Ok(()) => Ok(verdict),
         Err(_) => Err(PlanTextFault::OutputFailed),
     }
 }
 
-/// Returns whether a plan stops, and the text of the answer.
+/// Returns whether the plan of a script stops, and the text of the answer.
 ///
 /// # Errors
 ///
-/// Those of [`parse_plan`], then `OutOfMemory`.
-fn plan_answer(alloc: Global, form: Form, script: &[u8]) -> Result<(Verdict, String), PlanTextFault>
-    ensures answer { IfOk result (λ answer. IsPlanAnswer form script.now answer.0 (string_bytes answer.1)) }
-    ensures fault { IfErr result (IsPlanTextFault script.now) }
+/// Those of [`plain_answer`], with the lines' numbers in the script.
+fn plan_answer(
+    alloc: Global,
+    form: Form,
+    memory: usize,
+    script: &[u8],
+) -> Result<(Verdict, String), PlanTextFault>
+    ensures answer { IfOk result (λ answer. IsPlanAnswer form (plain_text script.now) answer.0 (string_bytes answer.1)) }
+    ensures fault { IfErr result (IsScriptFault script.now memory) }
 {
-    let named = parse_plan(alloc, script)?;
-    let explored = explore(alloc, &named.plan)?;
+    let plain = PlainText::of(alloc, script)?;
+    match plain_answer(alloc, form, memory, plain.bytes.as_slice()) {
+        Ok(answer) => Ok(answer),
+        Err(fault) => Err(plain.renumbered(fault)),
+    }
+}
+
+/// Returns whether a plan stops, and the text of the answer, of the plan's plain text.
+///
+/// # Errors
+///
+/// Those of [`parse_plan`], then `Full` or `OutOfMemory`.
+fn plain_answer(
+    alloc: Global,
+    form: Form,
+    memory: usize,
+    plain: &[u8],
+) -> Result<(Verdict, String), PlanTextFault>
+    ensures answer { IfOk result (λ answer. IsPlanAnswer form plain.now answer.0 (string_bytes answer.1)) }
+    ensures fault { IfErr result (IsPlanFault plain.now memory) }
+{
+    let named = parse_plan(alloc, plain)?;
+    let explored = explore(alloc, &named.plan, memory)?;
     let text = answer_of(alloc, form, &named, &explored)?;
     Ok((Verdict::of(&explored), text))
 }

@@ -27,6 +27,9 @@ m:x                 * .\n\
 * . zz c            .\n\
 -> c                .\n";
 
+/// Bytes for the search of each plan here.
+const ROOM: usize = 1 << 20;
+
 /// Gives the bytes that it has, and then fails.
 #[derive(Drop)]
 struct Broken<'a> {
@@ -48,7 +51,7 @@ fn refused_memory_explore(rt: HostRuntime) -> Result<(), Fail> {
     let mut plan = PLAN;
     let mut kept = [0u8; 512];
     let mut out = kept.as_mut_slice();
-    let told = explore_plan(rt.alloc(), Form::Lanes, &mut plan, &mut out);
+    let told = explore_plan(rt.alloc(), Form::Lanes, ROOM, &mut plan, &mut out);
     let is_answered = told == Ok(Verdict::Stops)
         && kept.starts_with(ANSWER)
         && kept[ANSWER.len()..].iter().all(|byte| *byte == 0);
@@ -63,9 +66,24 @@ fn refused_memory_explore(rt: HostRuntime) -> Result<(), Fail> {
 fn a_plan_that_never_stops_has_no_drawing(rt: HostRuntime) -> Result<(), Fail> {
     let mut plan: &[u8] = b"mutex a\nparty one\nlock a\n";
     let mut out = Vec::new(rt.alloc());
-    let told = explore_plan(rt.alloc(), Form::Lanes, &mut plan, &mut out);
+    let told = explore_plan(rt.alloc(), Form::Lanes, ROOM, &mut plan, &mut out);
     assert_eq!(rt; told, Ok(Verdict::NeverStops));
     assert_eq!(rt; out.as_slice(), b"no deadlock, 2 states\n".as_slice());
+    Ok(())
+}
+
+#[test]
+fn a_search_ends_where_its_memory_does(rt: HostRuntime) -> Result<(), Fail> {
+    for (memory, wanted) in [
+        (255, Err(PlanTextFault::Full(2))),
+        (256, Ok(Verdict::NeverStops)),
+    ] {
+        let mut plan: &[u8] = b"mutex a\nparty one\nlock a\n";
+        let mut out = Vec::new(rt.alloc());
+        let told = explore_plan(rt.alloc(), Form::Answer, memory, &mut plan, &mut out);
+        assert_eq!(rt; told, wanted);
+        assert_eq!(rt; out.is_empty(), wanted.is_err());
+    }
     Ok(())
 }
 
@@ -74,7 +92,7 @@ fn a_writer_without_room_keeps_a_prefix(rt: HostRuntime) -> Result<(), Fail> {
     let mut plan = PLAN;
     let mut kept = [0u8; 16];
     let mut out = kept.as_mut_slice();
-    let told = explore_plan(rt.alloc(), Form::Answer, &mut plan, &mut out);
+    let told = explore_plan(rt.alloc(), Form::Answer, ROOM, &mut plan, &mut out);
     assert_eq!(rt; told, Err(PlanTextFault::OutputFailed));
     assert_eq!(rt; kept.as_slice(), &ANSWER[..16]);
     Ok(())
@@ -84,7 +102,7 @@ fn a_writer_without_room_keeps_a_prefix(rt: HostRuntime) -> Result<(), Fail> {
 fn a_reader_that_fails_leaves_nothing_written(rt: HostRuntime) -> Result<(), Fail> {
     let mut broken = Broken { left: PLAN };
     let mut out = Vec::new(rt.alloc());
-    let told = explore_plan(rt.alloc(), Form::Answer, &mut broken, &mut out);
+    let told = explore_plan(rt.alloc(), Form::Answer, ROOM, &mut broken, &mut out);
     assert_eq!(rt; told, Err(PlanTextFault::InputFailed));
     assert_eq!(rt; out.as_slice(), b"".as_slice());
     Ok(())

@@ -2,6 +2,7 @@
 use lock_plan::CallFault;
 use lock_script::ReplayFault;
 use std::alloc::{AllocError, AllocFailed};
+use step_search::SearchFault;
 use thiserror::Error;
 
 /// Why the answer to a plan ends early. The texts are those of the program.
@@ -20,6 +21,9 @@ pub enum PlanTextFault {
     TooLarge,
     #[error("input too long")]
     TooLong,
+    /// So many states were reached, which are more than the memory has room for.
+    #[error("out of memory after {0} states")]
+    Full(usize),
     #[error("out of memory")]
     OutOfMemory,
     #[error("input failed")]
@@ -41,6 +45,20 @@ impl From<ReplayFault> for PlanTextFault {
             ReplayFault::OutOfMemory => PlanTextFault::OutOfMemory,
             ReplayFault::InputFailed => PlanTextFault::InputFailed,
             ReplayFault::OutputFailed => PlanTextFault::OutputFailed,
+        }
+    }
+}
+
+impl From<SearchFault> for PlanTextFault {
+    ghost use Rattle.std.specs.Prelude.{◌≡◌};
+    ghost use Rattle.lock_plan_text.specs.PlanFaults.{of_search};
+
+    ghost from_gives = { λ from fault. fault ≡ of_search from };
+
+    fn from(fault: SearchFault) -> PlanTextFault {
+        match fault {
+            SearchFault::Full(count) => PlanTextFault::Full(count),
+            SearchFault::OutOfMemory => PlanTextFault::OutOfMemory,
         }
     }
 }

@@ -173,7 +173,7 @@ fn made_step(turn: Option<Turn>, step: LockStep) -> LockStep
 }
 
 /// Appends a call: its word and its lock.
-pub(crate) fn write_call(
+pub fn write_call(
     text: &mut String,
     plan: &Plan,
     names: &Names,

@@ -1,18 +1,12 @@
-use Rattle.lock_plan.specs.Stops.{programs_of}
-use Rattle.lockexplore.proofs.Founds.{found_of}
+use Rattle.std.proofs.Common.{ℕ, List, subst}
+use Rattle.lockexplore.proofs.TextFaults.{told_fault}
+use Rattle.lockexplore.specs.Explorations.{IsPlanFault}
 use Rattle.lockexplore.proofs.exploring.plan_answer.Goals as goal
 
-pub returns-clause-answer : goal.returns-clause-answer
-returns-clause-answer c =
-    let named = c.in_ok-named.named in
-    let explored = c.in_ok-explored.explored in
-    record {
-      named = named;
-      plan = c.in_ok-named.ensures.plan;
-      trace = explored.trace;
-      visited = explored.visited;
-      found = found_of named.plan.servers.items named.plan.copies.items named.plan.locks.items (programs_of named.plan) explored.trace explored.visited c.in_ok-explored.ensures.stop
-          c.in_ok-explored.ensures.none c.in_ok-explored.ensures.all;
-      verdict_is = c.of.ensures;
-      text_is = c.in_ok-text.ensures;
-    }
+pub returns-clause-fault : goal.returns-clause-fault
+returns-clause-fault c =
+    let plain = c.in_ok-plain.plain in
+    let ensures = c.in_ok-plain.ensures in
+    told_fault c.args.script.now plain.bytes.items plain.numbers.items plain.end c.args.memory c.in-Err.fault c.renumbered.result ensures.text
+    ensures.numbers ensures.end c.renumbered.ensures
+    (subst (λ (l : List ℕ). IsPlanFault l c.args.memory c.in-Err.fault) c.as_slice.ensures.value c.in-Err.ensures.fault)

@@ -1,0 +1,41 @@
+-- A fault of a plain text, with the numbers of the script's lines, is one of the script.
+use Rattle.std.proofs.Common.{◌≡◌, ℕ, ◌+◌, List, length, refl, sym, ap, ◌∙◌, subst}
+use Rattle.lock_script.specs.Lines.{lines_of}
+use Rattle.lock_plan_text.specs.declared.parser.fault.PlanTextFault.{PlanTextFault}
+use Rattle.lock_plan_text.specs.declared.parser.fault.PlanTextFault.TheVariants.{BadLine, UnknownParty, Call, TooLarge, TooLong, Full, OutOfMemory, InputFailed, OutputFailed}
+use Rattle.lock_plan.specs.Memory.{IsSearchFault}
+use Rattle.lock_plan_text.specs.Drafted.{IsPlanOf}
+use Rattle.lock_plan_text.specs.PlanFaults.{of_search}
+use Rattle.lock_plan_text.specs.declared.parser.named_plan.NamedPlan.{NamedPlan}
+use Rattle.step_search.specs.declared.fault.SearchFault.{SearchFault}
+use Rattle.step_search.specs.declared.fault.SearchFault.TheVariants as search
+use Rattle.lockexplore.specs.PlainTexts.{line_number, number_in, numbers_from, plain_text}
+use Rattle.lockexplore.specs.Explorations.{IsPlanFault, IsScriptFault, renumbered}
+
+pub script_fault : (script : List ℕ) (memory : ℕ) (fault : PlanTextFault) → IsPlanFault (plain_text script) memory fault
+    → IsScriptFault script memory (renumbered (line_number script) fault)
+script_fault script memory (BadLine line) is = (line, (refl, is))
+script_fault script memory (UnknownParty line) is = (line, (refl, is))
+script_fault script memory (Call line why) is = (line, (refl, is))
+script_fault script memory TooLarge is = is
+script_fault script memory TooLong is = is
+script_fault script memory (Full count) is = is
+script_fault script memory OutOfMemory is = is
+script_fault script memory InputFailed is = is
+script_fault script memory OutputFailed is = is
+
+pub told_fault : (script bytes numbers : List ℕ) (end memory : ℕ) (fault told : PlanTextFault) → bytes ≡ plain_text script
+    → numbers ≡ numbers_from 1 (lines_of script) → end ≡ length (lines_of script) + 1
+    → told ≡ renumbered (number_in numbers end) fault → IsPlanFault bytes memory fault → IsScriptFault script memory told
+told_fault script bytes numbers end memory fault told text lines last is fault_is =
+    let same : told ≡ renumbered (line_number script) fault =
+    is ∙ ap (λ (ns : List ℕ). renumbered (number_in ns end) fault) lines
+    ∙ ap (λ (k : ℕ). renumbered (number_in (numbers_from 1 (lines_of script)) k) fault) last in
+    subst (IsScriptFault script memory) (sym same)
+    (script_fault script memory fault (subst (λ (l : List ℕ). IsPlanFault l memory fault) text fault_is))
+
+-- a fault of the search of a plan is one of the bytes that say the plan
+pub search_fault : (bytes : List ℕ) (memory : ℕ) (named : NamedPlan) (fault : SearchFault) → IsPlanOf bytes named
+    → IsSearchFault named.plan memory fault → IsPlanFault bytes memory (of_search fault)
+search_fault bytes memory named (search.Full count) plan is = (named, (plan, is))
+search_fault bytes memory named search.OutOfMemory plan is = tt
