@@ -3,7 +3,9 @@ use crate::arguments::Form;
 use crate::exploring::explore_plan;
 use crate::verdict::Verdict;
 use lock_plan_text::PlanTextFault;
+use std::env::FillError;
 use std::io::{self, ErrorKind, Read};
+use std::rt::Env;
 use std::test::Fail;
 
 /// Party `two` can set the flag without the mutex, after party `one` has looked at the flag and before it sleeps.
@@ -55,7 +57,8 @@ fn refused_memory_explore(rt: HostRuntime) -> Result<(), Fail> {
     let is_answered = told == Ok(Verdict::Stops)
         && kept.starts_with(ANSWER)
         && kept[ANSWER.len()..].iter().all(|byte| *byte == 0);
-    let is_refused = told == Err(PlanTextFault::OutOfMemory) && kept == [0u8; 512];
+    let refuses = !matches!(rt.var("REFUSE", &mut [0u8; 32]), Err(FillError::NotPresent));
+    let is_refused = refuses && told == Err(PlanTextFault::OutOfMemory) && kept == [0u8; 512];
     if is_answered || is_refused {
         return Ok(());
     }
