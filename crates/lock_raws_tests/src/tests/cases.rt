@@ -186,24 +186,24 @@ fn write_beside_a_reader<R: Threads + Clock + Sync, L: Acts + Sync>(
     equal((wrong, wrong_after), (None, None))
 }
 
-/// Four threads that make the same lists again and again: so many hundred times, or as often as a loaded machine does in 20
+/// Four threads that make the same lists again and again: so many times twenty, or as often as a loaded machine does in 10
 /// seconds.
 fn contend<R: Threads + Clock + Sync, L: Acts + Sync>(
     rt: &R,
     lock: &L,
     lists: &[Actions],
-    hundreds: u32,
+    twenties: u32,
 ) -> Result<(), Fail> {
     let work = Work {
         first: lists,
         others: lists,
-        times: 100,
+        times: 20,
     };
     let start = Instant::now(rt)?;
-    for _ in 0..hundreds {
+    for _ in 0..twenties {
         let wrong = in_four_threads(rt, lock, &Meeting::of(4), &work);
         equal((wrong, lock.is_held()), (None, false))?;
-        if start.elapsed(rt)? >= Duration::from_secs(20) {
+        if start.elapsed(rt)? >= Duration::from_secs(10) {
             break;
         }
     }
@@ -229,8 +229,8 @@ pub fn contend_in_rounds<R: Threads + Clock + Sync, L: Acts + Sync>(
     four: &L,
     one: &L,
 ) -> Result<(), Fail> {
-    contend(rt, four, &[ROUND], 10)?;
-    contend(rt, one, &[ROUND], 10)
+    contend(rt, four, &[ROUND], 50)?;
+    contend(rt, one, &[ROUND], 50)
 }
 
 /// 5,100 short runs.
@@ -238,7 +238,7 @@ pub fn contend_in_short_runs<R: Threads + Clock + Sync, L: Acts + Sync>(
     rt: &R,
     four: &L,
 ) -> Result<(), Fail> {
-    contend(rt, four, &SHORT_RUNS, 17)
+    contend(rt, four, &SHORT_RUNS, 85)
 }
 
 /// 5,000 short runs with a lock of one reader.
@@ -246,5 +246,5 @@ pub fn contend_for_one_reader<R: Threads + Clock + Sync, L: Acts + Sync>(
     rt: &R,
     one: &L,
 ) -> Result<(), Fail> {
-    contend(rt, one, &[ROUND, ROUND, &[Meet]], 50)
+    contend(rt, one, &[ROUND, ROUND, &[Meet]], 250)
 }
