@@ -23,22 +23,43 @@ fn enter_all<C: RawCondvar>(
     (entered, [server.try_enter(order), server.take(order)])
 }
 
-/// One thread waits for a place while another gives one back. Returns what the pool has after it was emptied.
-fn give_to_a_waiter<T: Threads, C: RawCondvar>(
+/// Places that one thread waits for, and another gives back.
+trait Places {
+    fn wait(&self, order: &mut Order<'_, AtRank<0>>);
+
+    fn give_back(&self, order: &mut Order<'_, AtRank<0>>);
+
+    /// Returns how many are left once all are taken.
+    fn clear(&self, order: &mut Order<'_, AtRank<0>>) -> u64;
+}
+
+impl<C: RawCondvar> Places for Server<C> {
+    fn wait(&self, order: &mut Order<'_, AtRank<0>>) {
+        self.wait_for_place(order);
+    }
+
+    fn give_back(&self, order: &mut Order<'_, AtRank<0>>) {
+        self.give(order);
+    }
+
+    fn clear(&self, order: &mut Order<'_, AtRank<0>>) -> u64 {
+        self.empty(order)
+    }
+}
+
+/// One thread waits for a place while another gives one back. Returns what is left once all are taken.
+fn give_to_a_waiter<T: Threads, S: Places + Sync>(
     rt: &T,
-    server: &Server<C>,
+    places: &S,
     order: &mut Order<'_, AtRank<0>>,
-) -> u64
-where
-    Server<C>: Sync,
-{
+) -> u64 {
     join_ranked(
         rt,
         order,
-        |mut own: ThreadOrder| server.wait_for_place(&mut own.order()),
-        |mut own: ThreadOrder| server.give(&mut own.order()),
+        |mut own: ThreadOrder| places.wait(&mut own.order()),
+        |mut own: ThreadOrder| places.give_back(&mut own.order()),
     );
-    server.empty(order)
+    places.clear(order)
 }
 
 #[test]

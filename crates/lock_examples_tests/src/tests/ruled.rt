@@ -105,7 +105,7 @@ fn refused_memory_count(rt: HostRuntime) -> Result<(), Fail> {
 
 #[test]
 fn refused_memory_relay(rt: HostRuntime) -> Result<(), Fail> {
-    let copied = relay(&rt, rt.alloc(), &[3, 1, 2]).map(|copy| copy.as_slice()
-        == [3, 1, 2].as_slice());
-    answers_or_lacks_memory(&rt, copied, true)
+    let copied = relay(&rt, rt.alloc(), &[3, 1, 2]);
+    let is_copy = copied.map(|copy| copy.as_slice() == [3, 1, 2].as_slice());
+    answers_or_lacks_memory(&rt, is_copy, true)
 }
