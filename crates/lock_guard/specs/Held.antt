@@ -1,6 +1,5 @@
 -- The value that a held lock shows.
 use Rattle.std.specs.Prelude.{◌≡◌, true, Option, Some, refl}
-use Rattle.std.proofs.Common.{ap}
 use Rattle.std.proofs.Math.Bool.{Bool-set}
 use mathlib.Core.HLevel.{is_prop→PathP}
 use Rattle.lock_guard.specs.declared.guard.inner.Inner.{Inner}

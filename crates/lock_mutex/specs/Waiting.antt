@@ -11,6 +11,10 @@ use Rattle.lock_mutex.specs.declared.waiting.Waiting.{Waiting}
 pub false_not_true : false ≡ true → ⊥
 false_not_true is = Prim.cc
 
+-- the answer is one that this kind of wait may give, and the wait did what it then does
+abbrev pub answers_as : {S : Type 0} → (Bool → Type 0) → (S → Bool → Type 0) → S → Bool → Type 0
+answers_as may_answer slept sleep answer = may_answer answer × slept sleep answer
+
 module _ {K V X : Type 0} where
   -- the value that a filled part shows
   abbrev pub filled_value : (V → X) → (inner : Inner K V) → is_filled inner ≡ true → X
@@ -36,9 +40,10 @@ module _ {L S V K W X : Type 0} {r : release.Ghosts L K W} {g : value_guard.Ghos
   abbrev pub waiting_with_value : (V → X → V) → Waiting L S V K W X r g → X → Waiting L S V K W X r g
   waiting_with_value with_value waiting value = record waiting { held = held_with_value with_value waiting.held value }
 
-  -- a wait answers what it may answer, and keeps the lock
-  abbrev pub waiting_gives : (Bool → Type 0) → Waiting L S V K W X r g → Option Bool → Waiting L S V K W X r g → Type 0
-  waiting_gives may_answer before answer after = IsSomeAnd answer may_answer × (after.held.lock ≡ before.held.lock)
+  -- a wait answers as this kind of wait does, and keeps the lock and its kind
+  abbrev pub waiting_gives : (S → Bool → Type 0) → Waiting L S V K W X r g → Option Bool → Waiting L S V K W X r g → Type 0
+  waiting_gives answers before answer after =
+      IsSomeAnd answer (answers before.sleep) × (after.held.lock ≡ before.held.lock) × (after.sleep ≡ before.sleep)
 
   pub waiting_value-with : (value_of : V → X) (with_value : V → X → V)
       → ((shown : V) (value : X) → value_of (with_value shown value) ≡ value)

@@ -1,4 +1,4 @@
-ghost use Rattle.std.specs.Prelude.{◌≡◌, false, IsOkUnless};
+ghost use Rattle.std.specs.Prelude.{◌≡◌, true, false, IsOkUnless};
 ghost use Rattle.std.specs.Sync.Mutex.{mutex_guard_value};
 ghost use Rattle.lock_mutex.specs.WaitsWhile.{WaitsWhile, has_timed_out};
 
@@ -91,6 +91,7 @@ where
     C::RawMutex: RawMutexTimed,
 {
     ghost use Rattle.lock_guard.specs.Held.{held_value};
+    ghost use Rattle.lock_guard.specs.Waits.{WaitedFor};
     ghost use Rattle.lock_mutex.specs.Condvar.{raw_condvar_of, HasWaited};
     ghost use Rattle.lock_mutex.specs.MutexGuard.{held_of};
 
@@ -119,7 +120,9 @@ where
         guard: &mut MutexGuard<'_, C::RawMutex, T>,
         timeout: <C::RawMutex as RawMutexTimed>::Duration,
     ) -> WaitTimeoutResult
-        ensures { (held_of guard.new).lock ≡ (held_of guard.old).lock }
+        ensures lock { (held_of guard.new).lock ≡ (held_of guard.old).lock }
+        ensures waited { HasWaited (λ token. WaitedFor (C.waited (raw_condvar_of self.now) token)
+            (C.waited_until (raw_condvar_of self.now) token) (has_timed_out result)) }
     {
         let mutex = guard.held.lock.mutex;
         let held = &mut guard.held;
@@ -140,6 +143,8 @@ where
         ensures checks { WaitsWhile F.FnMut condition
             (held_value mutex_guard_value (held_of guard.old)) (has_timed_out result)
             (held_value mutex_guard_value (held_of guard.new)) }
+        ensures waited { has_timed_out result ≡ true → HasWaited (λ token.
+            C.waited_until (raw_condvar_of self.now) token deadline true) }
     {
         let sleep = UntilInstant {
             raw: &self.raw,
@@ -163,6 +168,8 @@ where
         ensures checks { WaitsWhile F.FnMut condition
             (held_value mutex_guard_value (held_of guard.old)) (has_timed_out result)
             (held_value mutex_guard_value (held_of guard.new)) }
+        ensures waited { has_timed_out result ≡ true → HasWaited (λ token.
+            (deadline : C.RawMutex.Instant) × C.waited_until (raw_condvar_of self.now) token deadline true) }
     {
         let mutex = guard.held.lock.mutex;
         if let Some(deadline) = C::instant_after(&mutex.raw, &timeout) {

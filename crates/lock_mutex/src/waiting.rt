@@ -1,5 +1,5 @@
 //! A held lock whose holder waits for a condition.
-ghost use Rattle.std.specs.Prelude.{◌≡◌, Bool, false, IsSomeAnd};
+ghost use Rattle.std.specs.Prelude.{◌≡◌, Bool, true, false, IsSomeAnd};
 ghost use Rattle.lock_guard.specs.Held.{held_value};
 ghost use Rattle.lock_mutex.specs.WaitsWhile.{WaitsWhile};
 
@@ -19,7 +19,7 @@ impl<L: Acquire, S: Sleep<L>> Waits for Waiting<L, S>
 where
     L::Shown: ValueGuardMut,
 {
-    ghost use Rattle.lock_mutex.specs.Waiting.{waiting_value, waiting_with_value, waiting_value-with, waiting_gives};
+    ghost use Rattle.lock_mutex.specs.Waiting.{answers_as, waiting_value, waiting_with_value, waiting_value-with, waiting_gives};
 
     type Value = <L::Shown as ValueGuard>::Value;
 
@@ -27,7 +27,7 @@ where
 
     ghost with_current = { waiting_with_value L.Shown.with_value };
 
-    ghost wait_gives = { waiting_gives S.may_answer };
+    ghost wait_gives = { waiting_gives (answers_as S.may_answer S.slept) };
 
     fn value(&mut self) -> &mut <L::Shown as ValueGuard>::Value {
         self.held.value_mut()
@@ -56,6 +56,7 @@ where
         (held_value L.Shown.value_of held.old) result (held_value L.Shown.value_of held.new) }
     ensures in_time { ((timed_out : Bool) → S.may_answer timed_out → timed_out ≡ false)
         → result ≡ false }
+    ensures slept { result ≡ true → S.slept sleep true }
 {
     let inner = mem::replace(&mut held.inner, Inner::Empty);
     let mut waiting = Waiting {

@@ -36,6 +36,7 @@ impl Slept {
         requires { call.stage ≡ Away }
         ensures wait { (result.events ≡ call.events) × (result.number ≡ call.number) }
         ensures deadline { result.deadline ≡ option_map instant_nanos deadline }
+        ensures timed_out { result.timed_out ≡ timed_out }
     {
         let EventCall { seat } = call;
         Slept {

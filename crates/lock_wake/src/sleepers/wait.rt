@@ -1,5 +1,5 @@
 //! How a thread waits for a notification.
-ghost use Rattle.std.specs.Prelude.{◌≡◌, ◌≢◌, Some, None};
+ghost use Rattle.std.specs.Prelude.{◌≡◌, ◌≢◌, false, Some, None};
 ghost use Rattle.std.specs.Time.{instant_nanos};
 ghost use Rattle.lock_wake.specs.declared.sleepers.stage.CallStage.TheVariants.{Away, Counted};
 ghost use Rattle.lock_wake.specs.EventCounts.{count_of};
@@ -49,6 +49,7 @@ impl EventCount {
         requires { registered.events ≡ self.now }
         ensures wait { (result.events ≡ self.now) × (result.number ≡ registered.number) }
         ensures deadline { result.deadline ≡ None }
+        ensures in_time { result.timed_out ≡ false }
     {
         self.park(rt, &registered, None);
         Slept::new(self.count_away(registered), None, false)
