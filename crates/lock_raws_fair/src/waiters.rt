@@ -1,5 +1,5 @@
 //! Where the waiters of a fair lock sleep.
-ghost use Rattle.std.specs.Prelude.{◌≡◌, ◌%◌, IfErr, MatchOption, slice_index_or};
+ghost use Rattle.std.specs.Prelude.{◌≡◌, ◌%◌, true, IfErr, MatchOption, slice_index_or};
 ghost use Rattle.lock_base.specs.declared.raw.fault.Fault.TheVariants as fault;
 
 use crate::line::Ticket;
@@ -67,7 +67,8 @@ impl Waiters {
 
     /// Wakes the ticket with this number.
     pub(crate) fn wake_ticket(&self, number: u64) -> Notified
-        ensures { result.events ≡ slice_index_or self.now.tickets (number % 8) result.events }
+        ensures there { result.events ≡ slice_index_or self.now.tickets (number % 8) result.events }
+        ensures all { result.all ≡ true }
     {
         self.turn.give(number);
         self.ticket_events(number).notify_all()
@@ -75,7 +76,8 @@ impl Waiters {
 
     /// Wakes the holder whose upgrade waits.
     pub(crate) fn wake_upgrader(&self) -> Notified
-        ensures { result.events ≡ self.now.upgrader }
+        ensures there { result.events ≡ self.now.upgrader }
+        ensures all { result.all ≡ true }
     {
         self.turn.give(UPGRADE);
         self.upgrader.notify_all()
@@ -83,7 +85,8 @@ impl Waiters {
 
     /// Wakes the callers without a ticket.
     pub(crate) fn wake_ticketless(&self) -> Notified
-        ensures { result.events ≡ self.now.ticketless }
+        ensures there { result.events ≡ self.now.ticketless }
+        ensures all { result.all ≡ true }
     {
         self.ticketless.notify_all()
     }
