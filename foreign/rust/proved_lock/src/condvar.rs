@@ -1,5 +1,5 @@
 //! The condition variable.
-use crate::driver::{Mode, Patience, Release, Words};
+use crate::driver::{Mode, Release, Timespec, Words};
 use crate::mutex::MutexGuard;
 use core::fmt;
 use core::sync::atomic::Ordering::SeqCst;
@@ -61,7 +61,7 @@ impl Condvar {
 
     /// Waits for a notification, without an end. The mutex is released meanwhile.
     pub fn wait<T: ?Sized>(&self, guard: &mut MutexGuard<'_, T>) {
-        self.wait_patiently(guard, Patience::Blocks);
+        self.wait_to(guard, None);
     }
 
     /// Waits for notifications while the condition answers true.
@@ -71,10 +71,10 @@ impl Condvar {
         }
     }
 
-    fn wait_patiently<T: ?Sized>(&self, guard: &mut MutexGuard<'_, T>, patience: Patience<'_>) -> WaitTimeoutResult {
-        // SAFETY: the guard holds the mutex, and the wait acquires it again before it ends.
+    fn wait_to<T: ?Sized>(&self, guard: &mut MutexGuard<'_, T>, deadline: Option<&Timespec>) -> WaitTimeoutResult {
+        // SAFETY: the guard holds the mutex. The wait acquires it again before it ends, and nothing between can panic.
         let mutex = unsafe { &lock_api::MutexGuard::mutex(guard).raw().0 };
-        let is_in_time = self.0.wait(|| mutex.release(Release::Exclusive), || mutex.acquire(Mode::Exclusive), patience);
+        let is_in_time = self.0.wait(|| mutex.release(Release::Exclusive), || mutex.acquire(Mode::Exclusive), deadline);
         WaitTimeoutResult(!is_in_time)
     }
 
@@ -92,12 +92,13 @@ impl Condvar {
 impl Condvar {
     /// Waits for a notification until the deadline at most.
     pub fn wait_until<T: ?Sized>(&self, guard: &mut MutexGuard<'_, T>, deadline: Instant) -> WaitTimeoutResult {
-        self.wait_to(guard, Some(deadline))
+        self.wait_to(guard, Timespec::at(deadline).as_ref())
     }
 
     /// Waits for a notification for this time at most.
     pub fn wait_for<T: ?Sized>(&self, guard: &mut MutexGuard<'_, T>, timeout: Duration) -> WaitTimeoutResult {
-        self.wait_to(guard, Instant::now().checked_add(timeout))
+        let deadline = Instant::now().checked_add(timeout);
+        self.wait_to(guard, deadline.and_then(Timespec::at).as_ref())
     }
 
     /// Waits for notifications while the condition answers true, until the deadline at most.
@@ -126,18 +127,12 @@ impl Condvar {
         mut condition: F,
         deadline: Option<Instant>,
     ) -> WaitTimeoutResult {
+        let deadline = deadline.and_then(Timespec::at);
         let mut result = WaitTimeoutResult(false);
         while !result.timed_out() && condition(guard) {
-            result = self.wait_to(guard, deadline);
+            result = self.wait_to(guard, deadline.as_ref());
         }
         result
-    }
-
-    fn wait_to<T: ?Sized>(&self, guard: &mut MutexGuard<'_, T>, deadline: Option<Instant>) -> WaitTimeoutResult {
-        match deadline {
-            None => self.wait_patiently(guard, Patience::Blocks),
-            Some(deadline) => self.wait_patiently(guard, Patience::Until(&|| deadline.saturating_duration_since(Instant::now()))),
-        }
     }
 }
 

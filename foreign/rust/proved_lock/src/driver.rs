@@ -1,8 +1,10 @@
 //! Makes the steps that `liblock_c.a` returns. This file and the kernel are trusted: nothing here decides which step is next.
 use core::ffi::{c_int, c_long};
 use core::hint::spin_loop;
+use core::ptr;
 use core::sync::atomic::{AtomicU64, Ordering::SeqCst};
-use core::time::Duration;
+#[cfg(feature = "std")]
+use std::time::{Duration, Instant};
 
 /// What an acquisition acquires.
 #[derive(Clone, Copy, PartialEq, Eq, Debug)]
@@ -24,16 +26,6 @@ pub(crate) enum Release {
     ToShared = 3,
     ToUpgradable = 4,
     UpgradableToShared = 5,
-}
-
-/// How long a call may block.
-#[derive(Clone, Copy)]
-pub(crate) enum Patience<'a> {
-    /// Without an end.
-    Blocks,
-    /// While the closure answers how much time is left.
-    #[cfg_attr(not(feature = "std"), allow(dead_code))]
-    Until(&'a dyn Fn() -> Duration),
 }
 
 #[repr(C)]
@@ -91,49 +83,58 @@ unsafe extern "C" {
     pub(crate) safe fn lock_c_next_event(call: &mut LockEvent, found: u64) -> LockStep;
 }
 
-#[cfg(target_arch = "x86_64")]
-const SYS_FUTEX: c_long = 202;
-#[cfg(target_arch = "aarch64")]
-const SYS_FUTEX: c_long = 98;
-const WAIT_PRIVATE: c_int = 128;
-const WAKE_PRIVATE: c_int = 129;
+/// The number of futex among the system calls, from the kernel's tables.
+const SYS_FUTEX: c_long = if cfg!(target_arch = "x86_64") {
+    202
+} else if cfg!(target_arch = "powerpc64") {
+    221
+} else {
+    98 // aarch64, riscv64 and loongarch64
+};
+const WAIT_BITSET_PRIVATE: c_int = 128 + 9;
+const WAKE_PRIVATE: c_int = 128 + 1;
+const ANY_BIT: u32 = u32::MAX;
+const ETIMEDOUT: c_int = 110;
+#[cfg(feature = "std")]
+const CLOCK_MONOTONIC: c_int = 1;
 
 unsafe extern "C" {
     fn syscall(number: c_long, ...) -> c_long;
+    safe fn __errno_location() -> &'static c_int;
     safe fn sched_yield() -> c_int;
+    #[cfg(feature = "std")]
+    safe fn clock_gettime(clock: c_int, time: &mut Timespec) -> c_int;
 }
 
+/// Seconds and nanoseconds of the clock that does not go back.
 #[repr(C)]
-struct Timespec(i64, i64);
+#[derive(Debug)]
+pub(crate) struct Timespec(i64, i64);
 
-/// Sleeps while the low 32 bits of the epoch are those of the number.
-fn park(epoch: &AtomicU64, number: u64, left: Option<Duration>) {
-    let left = left.map(|it| Timespec(i64::try_from(it.as_secs()).unwrap_or(i64::MAX), i64::from(it.subsec_nanos())));
-    let left = left.as_ref().map_or(core::ptr::null(), core::ptr::from_ref);
+#[cfg(feature = "std")]
+impl Timespec {
+    /// The kernel's time at this deadline, or later. There is none if it is too far away.
+    pub(crate) fn at(deadline: Instant) -> Option<Timespec> {
+        let left = deadline.saturating_duration_since(Instant::now());
+        let mut now = Timespec(0, 0);
+        clock_gettime(CLOCK_MONOTONIC, &mut now);
+        let end = Duration::new(u64::try_from(now.0).ok()?, u32::try_from(now.1).ok()?).checked_add(left)?;
+        Some(Timespec(i64::try_from(end.as_secs()).ok()?, end.subsec_nanos().into()))
+    }
+}
+
+/// Sleeps while the low 32 bits of the epoch are those of the number. Returns whether the sleep ended by its deadline.
+fn park(epoch: &AtomicU64, number: u64, deadline: Option<&Timespec>) -> bool {
+    let end = deadline.map_or(ptr::null(), ptr::from_ref);
+    let unused = ptr::null::<u32>();
     // SAFETY: the address is that of a live word, whose low 32 bits come first.
-    unsafe { syscall(SYS_FUTEX, epoch.as_ptr(), WAIT_PRIVATE, number as u32, left) };
+    let answer = unsafe { syscall(SYS_FUTEX, epoch.as_ptr(), WAIT_BITSET_PRIVATE, number as u32, end, unused, ANY_BIT) };
+    answer == -1 && deadline.is_some() && *__errno_location() == ETIMEDOUT
 }
 
 fn wake(epoch: &AtomicU64, threads: c_int) {
     // SAFETY: a wake-up reads nothing at the address.
     unsafe { syscall(SYS_FUTEX, epoch.as_ptr(), WAKE_PRIVATE, threads) };
-}
-
-/// Sleeps as `park` does, as long as the patience lasts. Returns whether it has ended.
-fn park_until(epoch: &AtomicU64, number: u64, patience: Patience<'_>) -> bool {
-    match patience {
-        Patience::Blocks => {
-            park(epoch, number, None);
-            false
-        }
-        Patience::Until(left) => {
-            let before = left();
-            if !before.is_zero() {
-                park(epoch, number, Some(before));
-            }
-            left().is_zero()
-        }
-    }
 }
 
 /// The three words of a lock: the packed word, the count of sleepers and the epoch.
@@ -146,7 +147,7 @@ impl Words {
     }
 
     /// Makes a step on the words, and returns its answer.
-    fn make(&self, step: &LockStep, patience: Patience<'_>) -> u64 {
+    fn make(&self, step: &LockStep, deadline: Option<&Timespec>) -> u64 {
         let place = &self.0[step.place as usize % 3];
         match step.action {
             0 => return place.load(SeqCst),
@@ -157,7 +158,7 @@ impl Words {
             }
             2 => return place.fetch_sub(step.first, SeqCst),
             3 => place.store(step.first, SeqCst),
-            4 => return park_until(place, step.first, patience).into(),
+            4 => return park(place, step.first, deadline).into(),
             5 => wake(place, 1),
             6 => wake(place, c_int::MAX),
             7 => (0..1u64 << (step.first % 32)).for_each(|_| spin_loop()),
@@ -169,20 +170,20 @@ impl Words {
         0
     }
 
-    fn drive(&self, call: &mut LockCall, mut step: LockStep, patience: Patience<'_>) -> bool {
+    fn drive(&self, call: &mut LockCall, mut step: LockStep, deadline: Option<&Timespec>) -> bool {
         while !step.ends() {
-            step = lock_c_next(call, self.make(&step, patience));
+            step = lock_c_next(call, self.make(&step, deadline));
         }
         step.action == DONE
     }
 
-    /// Acquires, or is refused.
+    /// Acquires, or is refused at the deadline.
     #[cold]
-    pub(crate) fn acquire(&self, readers: u64, mode: Mode, patience: Patience<'_>) -> bool {
-        let announces = matches!(patience, Patience::Blocks) && mode == Mode::Exclusive;
+    pub(crate) fn acquire(&self, readers: u64, mode: Mode, deadline: Option<&Timespec>) -> bool {
+        let announces = deadline.is_none() && mode == Mode::Exclusive;
         let mut call = LockCall::default();
         let step = lock_c_acquire(&mut call, readers, mode as u32, 1, announces.into());
-        self.drive(&mut call, step, patience)
+        self.drive(&mut call, step, deadline)
     }
 
     /// Makes the rest of a release, after the subtraction, which found `before`.
@@ -191,11 +192,11 @@ impl Words {
         let mut call = LockCall::default();
         lock_c_release(&mut call, readers, release as u32);
         let step = lock_c_next(&mut call, before);
-        self.drive(&mut call, step, Patience::Blocks);
+        self.drive(&mut call, step, None);
     }
 
-    /// Waits on a condition variable with these words. Returns whether a notification came before the patience ended.
-    pub(crate) fn wait(&self, unlock: impl Fn(), lock: impl Fn(), patience: Patience<'_>) -> bool {
+    /// Waits on a condition variable with these words. Returns whether the wait ended before its deadline.
+    pub(crate) fn wait(&self, unlock: impl Fn(), lock: impl Fn(), deadline: Option<&Timespec>) -> bool {
         let mut call = LockEvent::default();
         let mut step = lock_c_wait(&mut call);
         while !step.ends() {
@@ -204,7 +205,7 @@ impl Words {
                 LOCK => lock(),
                 _ => {}
             }
-            step = lock_c_next_event(&mut call, self.make(&step, patience));
+            step = lock_c_next_event(&mut call, self.make(&step, deadline));
         }
         step.action == DONE
     }
@@ -216,8 +217,41 @@ impl Words {
         lock_c_notify(&mut call, all.into());
         let mut step = lock_c_next_event(&mut call, count);
         while !step.ends() {
-            step = lock_c_next_event(&mut call, self.make(&step, Patience::Blocks));
+            step = lock_c_next_event(&mut call, self.make(&step, None));
         }
         call.loaded
+    }
+}
+
+#[cfg(all(test, feature = "std"))]
+mod tests {
+    use super::*;
+    use std::thread::sleep;
+
+    const SHORT: Duration = Duration::from_millis(20);
+
+    /// A notification before the deadline ends a wait in time, even if the thread runs again only after the deadline.
+    #[test]
+    fn a_wait_that_is_notified_in_time_has_not_timed_out() {
+        let words = Words::new();
+        let notify_and_be_late = || {
+            assert_eq!(words.rest_of_notify(false, words.0[1].load(SeqCst)), 1);
+            sleep(2 * SHORT);
+        };
+        let deadline = Timespec::at(Instant::now() + SHORT);
+        assert!(words.wait(notify_and_be_late, || (), deadline.as_ref()));
+        assert!(!words.wait(|| sleep(2 * SHORT), || (), Timespec::at(Instant::now() + SHORT).as_ref()));
+    }
+
+    /// The kernel's time at a deadline is not before it, and a deadline that has passed is one still.
+    #[test]
+    fn a_sleep_ends_at_its_deadline() {
+        let words = Words::new();
+        for left in [Duration::ZERO, SHORT] {
+            let deadline = Instant::now() + left;
+            assert!(!words.wait(|| (), || (), Timespec::at(deadline).as_ref()));
+            assert!(Instant::now() >= deadline);
+        }
+        assert!(Timespec::at(Instant::now() + Duration::from_secs(1 << 40)).is_some());
     }
 }

@@ -1,5 +1,7 @@
 //! The first steps of uncontended calls, inline. The tests compare them with the archive.
-use crate::driver::{Mode, Patience, Release, Words};
+#[cfg(feature = "std")]
+use crate::driver::Timespec;
+use crate::driver::{Mode, Release, Words};
 use core::sync::atomic::Ordering::SeqCst;
 #[cfg(feature = "std")]
 use std::time::Instant;
@@ -66,22 +68,14 @@ impl<const READERS: u64> Lock<READERS> {
     #[inline]
     pub(crate) fn acquire(&self, mode: Mode) {
         if !self.try_acquire(mode) {
-            self.0.acquire(READERS, mode, Patience::Blocks);
+            self.0.acquire(READERS, mode, None);
         }
     }
 
     /// Blocks at most until the deadline, or without an end if there is none.
     #[cfg(feature = "std")]
     pub(crate) fn acquire_until(&self, mode: Mode, deadline: Option<Instant>) -> bool {
-        if self.try_acquire(mode) {
-            return true;
-        }
-        match deadline {
-            None => self.0.acquire(READERS, mode, Patience::Blocks),
-            Some(deadline) => {
-                self.0.acquire(READERS, mode, Patience::Until(&|| deadline.saturating_duration_since(Instant::now())))
-            }
-        }
+        self.try_acquire(mode) || self.0.acquire(READERS, mode, deadline.and_then(Timespec::at).as_ref())
     }
 
     #[inline]

@@ -26,12 +26,23 @@
 //! - A try may be refused while another call changes the lock.
 //! - A waiting writer with no deadline admits no new reader. One with a deadline does.
 //! - At most 2^32 - 1 readers hold a lock at a time. The next one blocks.
-//! - The crate is for Linux on little-endian machines.
+//! - The crate is for Linux on little-endian machines of 64 bits. It is tested on x86-64 alone.
 #![cfg_attr(not(feature = "std"), no_std)]
 #![warn(missing_docs)]
 
-#[cfg(not(all(target_os = "linux", target_endian = "little", target_pointer_width = "64")))]
-compile_error!("proved_lock needs Linux on a little-endian machine of 64 bits");
+#[cfg(not(all(
+    target_os = "linux",
+    target_endian = "little",
+    target_pointer_width = "64",
+    any(
+        target_arch = "x86_64",
+        target_arch = "aarch64",
+        target_arch = "riscv64",
+        target_arch = "loongarch64",
+        target_arch = "powerpc64"
+    )
+)))]
+compile_error!("proved_lock is for Linux on x86-64, aarch64, riscv64, loongarch64 and little-endian powerpc64");
 
 mod condvar;
 mod driver;
