@@ -1,4 +1,5 @@
-/* The exports of liblock_c.a: the machines of a call on a lock and on a condition variable. proved_lock.c makes the steps that it returns. */
+/* The exports of liblock_c.a: the machines of a call on a lock and on a condition variable. proved_lock.c makes the steps that
+ * they return. */
 #ifndef LOCK_C_H
 #define LOCK_C_H
 #include <stdint.h>
@@ -30,6 +31,8 @@ struct lock_step {
 enum lock_action { LOCK_LOAD, LOCK_EXCHANGE, LOCK_SUBTRACT, LOCK_STORE, LOCK_PARK, LOCK_WAKE_ONE, LOCK_WAKE_ALL, LOCK_SPIN,
                    LOCK_YIELD, LOCK_REFUSED, LOCK_DONE, LOCK_UNLOCK, LOCK_LOCK };
 
+/* A code of an acquisition is 0 for shared, 1 for exclusive, 2 for upgradable, and 3 for an upgrade, as in `enum proved_mode`. A
+ * code of a release is 0 to 5, as in `enum proved_release`. Any other code is undefined: proved_lock.c passes none. */
 struct lock_step lock_c_acquire(struct lock_call *, uint64_t readers, uint32_t code, uint8_t blocks, uint8_t announces);
 struct lock_step lock_c_release(struct lock_call *, uint64_t readers, uint32_t code);
 struct lock_step lock_c_next(struct lock_call *, uint64_t found);

@@ -56,15 +56,11 @@ static bool drive(proved_words *w, struct lock_call *call, struct lock_step s, c
     return s.action == LOCK_DONE;
 }
 
-void proved_acquire(proved_words *w, uint64_t readers, enum proved_mode mode) {
-    struct lock_call call;
-    struct lock_step s = lock_c_acquire(&call, readers, mode, 1, mode == PROVED_EXCLUSIVE);
-    drive(w, &call, s, 0);
-}
+void proved_acquire(proved_words *w, uint64_t readers, enum proved_mode mode) { proved_acquire_until(w, readers, mode, 0); }
 
 bool proved_acquire_until(proved_words *w, uint64_t readers, enum proved_mode mode, const struct timespec *deadline) {
     struct lock_call call;
-    struct lock_step s = lock_c_acquire(&call, readers, mode, 1, 0);
+    struct lock_step s = lock_c_acquire(&call, readers, mode, 1, mode == PROVED_EXCLUSIVE && !deadline);
     return drive(w, &call, s, deadline);
 }
 

@@ -1,19 +1,24 @@
-/* Locks, each step of which is chosen by proved code: a mutex, a condition variable, and a reader-writer lock with upgrades.
- * For C11 and C++.
+/* A mutex, a condition variable, and a reader-writer lock with upgrades, for C11 and C++ on Linux.
  *
- * liblock_c.a returns the atomic step that a call makes next, and proved_lock.c makes it. The first step of an uncontended call
- * is inline here. A lock has no destructor, and allocates nothing. It must outlive each call on it, also an unlock.
+ * The first step of an uncontended call is inline here. It is not proved: a test compares it with the library. Proved code in
+ * liblock_c.a chooses each other step, and proved_lock.c makes it.
  *
- * To unlock, upgrade or downgrade what the caller does not hold is undefined. A try may be refused while another call changes
- * the lock. A deadline is a time of CLOCK_MONOTONIC. */
+ * A lock has no destructor, and allocates nothing. A zeroed lock is a free one. A lock must outlive each call on it, also an
+ * unlock. It is not copied or moved while it is in use. Processes must not share it: a wake-up reaches one process alone.
+ *
+ * To unlock, upgrade or downgrade what the caller does not hold is undefined. A thread that acquires what it holds itself may
+ * block without an end. A try may be refused while another call changes the lock.
+ *
+ * A deadline is a time of CLOCK_MONOTONIC. A null deadline never passes. A deadline that is no valid time has passed. A call
+ * acquires a lock that it finds free, also after its deadline. */
 #ifndef PROVED_LOCK_H
 #define PROVED_LOCK_H
 #include <stdbool.h>
 #include <stdint.h>
 #include <time.h>
 
-#if __BYTE_ORDER__ != __ORDER_LITTLE_ENDIAN__
-#error "futex compares the first four bytes of the epoch, which have to be its low ones"
+#if __BYTE_ORDER__ != __ORDER_LITTLE_ENDIAN__ || __SIZEOF_POINTER__ != 8
+#error "futex compares the first four bytes of the epoch, which have to be its low ones, and takes times of 64 bits"
 #endif
 
 #ifdef __cplusplus
@@ -31,7 +36,7 @@ typedef struct proved_mutex {
 
 typedef struct proved_rwlock {
     proved_words words;
-    uint64_t readers;
+    uint64_t readers; /* at most how many, or 0 for UINT32_MAX */
 } proved_rwlock;
 
 /* A condition variable uses two of the words. */
@@ -41,7 +46,7 @@ typedef struct proved_cond {
 
 #define PROVED_COND_INIT {{0, 0, 0}}
 #define PROVED_MUTEX_INIT {{0, 0, 0}}
-#define PROVED_RWLOCK_INIT {{0, 0, 0}, UINT32_MAX}
+#define PROVED_RWLOCK_INIT {{0, 0, 0}, 0}
 
 enum proved_mode { PROVED_SHARED, PROVED_EXCLUSIVE, PROVED_UPGRADABLE, PROVED_UPGRADE };
 enum proved_release { PROVED_UNLOCK_SHARED, PROVED_UNLOCK_EXCLUSIVE, PROVED_UNLOCK_UPGRADABLE, PROVED_TO_SHARED,
@@ -51,7 +56,7 @@ enum proved_release { PROVED_UNLOCK_SHARED, PROVED_UNLOCK_EXCLUSIVE, PROVED_UNLO
 #define PROVED_ONE_UPGRADABLE (((uint64_t)1 << 32) + 1)
 #define PROVED_BAR ((uint64_t)1 << 34)
 
-/* The calls, step by step. The functions below use them. */
+/* The calls, step by step. The functions below use them. A mode or a release that its enum does not name is undefined. */
 void proved_acquire(proved_words *, uint64_t readers, enum proved_mode);
 bool proved_acquire_until(proved_words *, uint64_t readers, enum proved_mode, const struct timespec *deadline);
 /* The rest of a release, after the subtraction, which found `before`. */
@@ -111,7 +116,7 @@ static inline void proved_mutex_unlock(proved_mutex *m) {
 }
 
 /* Condition variable. A wait releases the mutex, which the caller holds, sleeps until a notification, and acquires the mutex
- * again. It may also end without one. Returns false if the deadline has passed. */
+ * again. It may also end without one. Returns false if the deadline ended the sleep. */
 bool proved_cond_wait_until(proved_cond *, proved_mutex *, const struct timespec *deadline);
 static inline void proved_cond_wait(proved_cond *c, proved_mutex *m) { proved_cond_wait_until(c, m, 0); }
 /* The rest of a notification, after its load of the count, which found `count`. */
@@ -124,54 +129,58 @@ static inline uint64_t proved_notify(proved_words *w, bool all) {
 static inline bool proved_cond_notify_one(proved_cond *c) { return proved_notify(&c->words, false) != 0; }
 static inline uint64_t proved_cond_notify_all(proved_cond *c) { return proved_notify(&c->words, true); }
 
-/* Reader-writer lock. Makes one for at most this many readers, from 1 on; returns false for 0, and leaves the lock. */
+/* Reader-writer lock. A writer that waits with no deadline sets a bar: no new reader is admitted before it. A writer with a
+ * deadline sets none, nor does an upgrade, so new readers may starve them. */
+static inline uint64_t proved_limit(const proved_rwlock *l) { return l->readers == 0 ? UINT32_MAX : l->readers; }
+static inline bool proved_rwlock_take(proved_rwlock *l, enum proved_mode mode) {
+    return proved_take(&l->words, proved_limit(l), mode);
+}
+static inline void proved_rwlock_acquire(proved_rwlock *l, enum proved_mode mode) {
+    if (!proved_rwlock_take(l, mode)) proved_acquire(&l->words, proved_limit(l), mode);
+}
+static inline bool proved_rwlock_acquire_until(proved_rwlock *l, enum proved_mode mode, const struct timespec *deadline) {
+    return proved_rwlock_take(l, mode) || proved_acquire_until(&l->words, proved_limit(l), mode, deadline);
+}
+static inline void proved_rwlock_give(proved_rwlock *l, enum proved_release release) {
+    proved_give(&l->words, proved_limit(l), release);
+}
+
+/* Makes a lock for at most this many readers, from 1 on. For 0 it returns false and leaves the lock. */
 static inline bool proved_rwlock_init(proved_rwlock *l, uint32_t readers) {
     if (readers == 0) return false;
     l->words.word = l->words.count = l->words.epoch = 0;
     l->readers = readers;
     return true;
 }
-static inline bool proved_rwlock_try_lock_shared(proved_rwlock *l) { return proved_take(&l->words, l->readers, PROVED_SHARED); }
-static inline void proved_rwlock_lock_shared(proved_rwlock *l) {
-    if (!proved_rwlock_try_lock_shared(l)) proved_acquire(&l->words, l->readers, PROVED_SHARED);
-}
+static inline bool proved_rwlock_try_lock_shared(proved_rwlock *l) { return proved_rwlock_take(l, PROVED_SHARED); }
+static inline void proved_rwlock_lock_shared(proved_rwlock *l) { proved_rwlock_acquire(l, PROVED_SHARED); }
 static inline bool proved_rwlock_lock_shared_until(proved_rwlock *l, const struct timespec *deadline) {
-    return proved_rwlock_try_lock_shared(l) || proved_acquire_until(&l->words, l->readers, PROVED_SHARED, deadline);
+    return proved_rwlock_acquire_until(l, PROVED_SHARED, deadline);
 }
-static inline void proved_rwlock_unlock_shared(proved_rwlock *l) { proved_give(&l->words, l->readers, PROVED_UNLOCK_SHARED); }
-static inline bool proved_rwlock_try_lock_exclusive(proved_rwlock *l) { return proved_take(&l->words, l->readers, PROVED_EXCLUSIVE); }
-static inline void proved_rwlock_lock_exclusive(proved_rwlock *l) {
-    if (!proved_rwlock_try_lock_exclusive(l)) proved_acquire(&l->words, l->readers, PROVED_EXCLUSIVE);
-}
+static inline void proved_rwlock_unlock_shared(proved_rwlock *l) { proved_rwlock_give(l, PROVED_UNLOCK_SHARED); }
+static inline bool proved_rwlock_try_lock_exclusive(proved_rwlock *l) { return proved_rwlock_take(l, PROVED_EXCLUSIVE); }
+static inline void proved_rwlock_lock_exclusive(proved_rwlock *l) { proved_rwlock_acquire(l, PROVED_EXCLUSIVE); }
 static inline bool proved_rwlock_lock_exclusive_until(proved_rwlock *l, const struct timespec *deadline) {
-    return proved_rwlock_try_lock_exclusive(l) || proved_acquire_until(&l->words, l->readers, PROVED_EXCLUSIVE, deadline);
+    return proved_rwlock_acquire_until(l, PROVED_EXCLUSIVE, deadline);
 }
-static inline void proved_rwlock_unlock_exclusive(proved_rwlock *l) { proved_give(&l->words, l->readers, PROVED_UNLOCK_EXCLUSIVE); }
-static inline bool proved_rwlock_try_lock_upgradable(proved_rwlock *l) { return proved_take(&l->words, l->readers, PROVED_UPGRADABLE); }
-static inline void proved_rwlock_lock_upgradable(proved_rwlock *l) {
-    if (!proved_rwlock_try_lock_upgradable(l)) proved_acquire(&l->words, l->readers, PROVED_UPGRADABLE);
-}
+static inline void proved_rwlock_unlock_exclusive(proved_rwlock *l) { proved_rwlock_give(l, PROVED_UNLOCK_EXCLUSIVE); }
+static inline bool proved_rwlock_try_lock_upgradable(proved_rwlock *l) { return proved_rwlock_take(l, PROVED_UPGRADABLE); }
+static inline void proved_rwlock_lock_upgradable(proved_rwlock *l) { proved_rwlock_acquire(l, PROVED_UPGRADABLE); }
 static inline bool proved_rwlock_lock_upgradable_until(proved_rwlock *l, const struct timespec *deadline) {
-    return proved_rwlock_try_lock_upgradable(l) || proved_acquire_until(&l->words, l->readers, PROVED_UPGRADABLE, deadline);
+    return proved_rwlock_acquire_until(l, PROVED_UPGRADABLE, deadline);
 }
-static inline void proved_rwlock_unlock_upgradable(proved_rwlock *l) { proved_give(&l->words, l->readers, PROVED_UNLOCK_UPGRADABLE); }
+static inline void proved_rwlock_unlock_upgradable(proved_rwlock *l) { proved_rwlock_give(l, PROVED_UNLOCK_UPGRADABLE); }
 
 /* From upgradable to exclusive. A refused call leaves the lock upgradable. */
-static inline bool proved_rwlock_try_upgrade(proved_rwlock *l) { return proved_take(&l->words, l->readers, PROVED_UPGRADE); }
-static inline void proved_rwlock_upgrade(proved_rwlock *l) {
-    if (!proved_rwlock_try_upgrade(l)) proved_acquire(&l->words, l->readers, PROVED_UPGRADE);
-}
+static inline bool proved_rwlock_try_upgrade(proved_rwlock *l) { return proved_rwlock_take(l, PROVED_UPGRADE); }
+static inline void proved_rwlock_upgrade(proved_rwlock *l) { proved_rwlock_acquire(l, PROVED_UPGRADE); }
 static inline bool proved_rwlock_upgrade_until(proved_rwlock *l, const struct timespec *deadline) {
-    return proved_rwlock_try_upgrade(l) || proved_acquire_until(&l->words, l->readers, PROVED_UPGRADE, deadline);
+    return proved_rwlock_acquire_until(l, PROVED_UPGRADE, deadline);
 }
 /* From exclusive to shared or upgradable, and from upgradable to shared. */
-static inline void proved_rwlock_downgrade(proved_rwlock *l) { proved_give(&l->words, l->readers, PROVED_TO_SHARED); }
-static inline void proved_rwlock_downgrade_to_upgradable(proved_rwlock *l) {
-    proved_give(&l->words, l->readers, PROVED_TO_UPGRADABLE);
-}
-static inline void proved_rwlock_downgrade_upgradable(proved_rwlock *l) {
-    proved_give(&l->words, l->readers, PROVED_UPGRADABLE_TO_SHARED);
-}
+static inline void proved_rwlock_downgrade(proved_rwlock *l) { proved_rwlock_give(l, PROVED_TO_SHARED); }
+static inline void proved_rwlock_downgrade_to_upgradable(proved_rwlock *l) { proved_rwlock_give(l, PROVED_TO_UPGRADABLE); }
+static inline void proved_rwlock_downgrade_upgradable(proved_rwlock *l) { proved_rwlock_give(l, PROVED_UPGRADABLE_TO_SHARED); }
 
 #ifdef __cplusplus
 }

@@ -11,12 +11,13 @@
 #define MUST(c) \
     do { \
         if (!(c)) { \
-            printf("%s:%d: not so: %s\n", __FILE__, __LINE__, #c); \
+            printf("%s:%d: not so: %s\n%d passed, 1 failed\n", __FILE__, __LINE__, #c, passed); \
             exit(1); \
         } \
     } while (0)
 
 enum { THREADS = 8 };
+static int passed;
 static proved_mutex mutex = PROVED_MUTEX_INIT;
 static proved_rwlock rwlock = PROVED_RWLOCK_INIT;
 static proved_mutex queue = PROVED_MUTEX_INIT;
@@ -38,8 +39,8 @@ static bool is_before(const struct timespec *end) {
     return t.tv_sec < end->tv_sec || (t.tv_sec == end->tv_sec && t.tv_nsec < end->tv_nsec);
 }
 
-/* The inline first steps make the steps of the library, on this word. */
-static void compare_on(uint64_t word, uint64_t readers) {
+/* The inline first steps of acquisitions make the steps of the library, on this word. */
+static void compare_acquisitions_on(uint64_t word, uint64_t readers) {
     struct lock_call call;
     for (uint32_t mode = PROVED_SHARED; mode <= PROVED_UPGRADE; mode++) {
         struct lock_step s = lock_c_acquire(&call, readers, mode, 1, mode == PROVED_EXCLUSIVE);
@@ -51,15 +52,40 @@ static void compare_on(uint64_t word, uint64_t readers) {
         MUST(w.word == (is_taken ? s.second : word));
         MUST(!is_taken || (s.place == 0 && s.first == word && lock_c_next(&call, word).action == LOCK_DONE));
     }
+}
+
+/* The words after a step on them of a call that is alone. Returns what it found. */
+static uint64_t alone(uint64_t words[3], struct lock_step s) {
+    uint64_t found = words[s.place];
+    if (s.action == LOCK_EXCHANGE && found == s.first) words[s.place] = s.second;
+    if (s.action == LOCK_SUBTRACT) words[s.place] = found - s.first;
+    return found;
+}
+
+/* The inline releases leave the words that the steps of the library leave. */
+static void compare_releases_on(proved_words start, uint64_t readers) {
     for (uint32_t release = PROVED_UNLOCK_SHARED; release <= PROVED_UPGRADABLE_TO_SHARED; release++) {
+        struct lock_call call;
+        uint64_t words[] = {start.word, start.count, start.epoch};
         struct lock_step s = lock_c_release(&call, readers, release);
         MUST(s.action == LOCK_SUBTRACT && s.place == 0);
-        proved_words held = {word, 0, 0};
+        while (s.action != LOCK_DONE) s = lock_c_next(&call, alone(words, s));
+        proved_words held = start;
         proved_give(&held, readers, (enum proved_release)release);
-        MUST(held.word == word - s.first && held.count == 0 && held.epoch == 0);
-        s = lock_c_next(&call, word);
-        MUST(s.action == LOCK_LOAD && s.place == 1 && lock_c_next(&call, 0).action == LOCK_DONE);
+        MUST(held.word == words[0] && held.count == words[1] && held.epoch == words[2]);
     }
+}
+
+static void compare_on(uint64_t word, uint64_t readers) {
+    compare_acquisitions_on(word, readers);
+    compare_releases_on((proved_words){word, 0, 0}, readers);
+}
+
+/* Compares also where calls sleep, and while the epochs begin anew. */
+static void compare_at_each_count(uint64_t word, uint64_t readers) {
+    static const uint64_t counts[] = {1, 2, (uint64_t)1 << 63}, epochs[] = {7, UINT32_MAX - 1, UINT32_MAX};
+    compare_on(word, readers);
+    for (int i = 0; i < 9; i++) compare_releases_on((proved_words){word, counts[i / 3], epochs[i % 3]}, readers);
 }
 
 /* So does the inline first step of a notification, on this count. */
@@ -85,16 +111,16 @@ static void compare_inline_steps(void) {
     for (unsigned k = 0; k < sizeof limits / sizeof *limits; k++) {
         uint64_t readers = limits[k];
         for (int i = 0; i < 64; i++) {
-            for (int j = 0; j < 64; j++) compare_on((uint64_t)1 << i | (uint64_t)1 << j, readers);
+            for (int j = 0; j < 64; j++) compare_at_each_count((uint64_t)1 << i | (uint64_t)1 << j, readers);
         }
         for (uint64_t near = 0; near < 40; near++) {
-            compare_on(near, readers);
-            compare_on(readers - 20 + near, readers);
-            compare_on(((uint64_t)1 << 32) - 20 + near, readers);
-            compare_on(PROVED_ONE_EXCLUSIVE - 20 + near, readers);
-            compare_on(PROVED_BAR - 20 + near, readers);
-            compare_on(PROVED_BAR + PROVED_ONE_UPGRADABLE - 20 + near, readers);
-            compare_on(UINT64_MAX - near, readers);
+            compare_at_each_count(near, readers);
+            compare_at_each_count(readers - 20 + near, readers);
+            compare_at_each_count(((uint64_t)1 << 32) - 20 + near, readers);
+            compare_at_each_count(PROVED_ONE_EXCLUSIVE - 20 + near, readers);
+            compare_at_each_count(PROVED_BAR - 20 + near, readers);
+            compare_at_each_count(PROVED_BAR + PROVED_ONE_UPGRADABLE - 20 + near, readers);
+            compare_at_each_count(UINT64_MAX - near, readers);
         }
         for (int i = 0; i < 1000000 / 5; i++) {
             x ^= x << 13, x ^= x >> 7, x ^= x << 17;
@@ -115,10 +141,10 @@ static void *adds(void *unused) {
 
 static long waiter_id;
 
-static void *adds_once(void *unused) {
-    (void)unused;
+static void *adds_once(void *number) {
     __atomic_store_n(&waiter_id, syscall(SYS_gettid), __ATOMIC_SEQ_CST);
-    proved_mutex_lock(&mutex);
+    if ((uintptr_t)number % 4 < 2) proved_mutex_lock(&mutex);
+    else MUST(proved_mutex_lock_until(&mutex, 0));
     counter++;
     proved_mutex_unlock(&mutex);
     return 0;
@@ -138,20 +164,21 @@ static void await_sleep(long id) {
     }
 }
 
-/* A release that finds a counted waiter ends the epoch and wakes it. A waiter that does not sleep yet may leave before the release
- * looks at the count. */
+/* A release that finds a counted waiter ends the epoch and wakes it. A waiter that does not sleep yet may leave before the
+ * release looks at the count. */
 static void sleepers_are_woken(void) {
-    for (uint64_t i = 0; i < 50; i++) {
+    for (uintptr_t i = 0; i < 50; i++) {
         pthread_t waiter;
         uint64_t epoch = mutex.words.epoch;
         proved_mutex_lock(&mutex);
-        MUST(!pthread_create(&waiter, 0, adds_once, 0));
+        MUST(!pthread_create(&waiter, 0, adds_once, (void *)i));
         while (__atomic_load_n(&mutex.words.count, __ATOMIC_SEQ_CST) == 0) nanosleep(&(struct timespec){0, 20000}, 0);
         if (i % 2) await_sleep(__atomic_load_n(&waiter_id, __ATOMIC_SEQ_CST));
         proved_mutex_unlock(&mutex);
         pthread_join(waiter, 0);
         MUST(mutex.words.epoch == epoch + 1 || (i % 2 == 0 && mutex.words.epoch == epoch));
     }
+    MUST(counter == THREADS * 50000 + 50);
 }
 
 static void write_both(void) {
@@ -165,7 +192,8 @@ static void mix(unsigned kind) {
         MUST(a == b);
         proved_rwlock_unlock_shared(&rwlock);
     } else if (kind < 190) {
-        proved_rwlock_lock_exclusive(&rwlock);
+        if (kind < 165) proved_rwlock_lock_exclusive(&rwlock);
+        else MUST(proved_rwlock_lock_exclusive_until(&rwlock, 0));
         write_both();
         proved_rwlock_unlock_exclusive(&rwlock);
     } else if (kind < 210) {
@@ -303,6 +331,9 @@ static void tries_and_deadlines(void) {
     MUST(proved_mutex_lock_until(&mutex, &deadline));
     proved_mutex_unlock(&mutex);
 
+    static proved_rwlock zeroed;
+    MUST(proved_rwlock_lock_shared_until(&zeroed, &deadline) && proved_rwlock_lock_upgradable_until(&zeroed, &deadline));
+
     proved_rwlock two;
     MUST(!proved_rwlock_init(&two, 0) && proved_rwlock_init(&two, 2));
     MUST(proved_rwlock_try_lock_shared(&two) && proved_rwlock_try_lock_upgradable(&two));
@@ -314,19 +345,25 @@ static void tries_and_deadlines(void) {
     MUST(two.words.word == 0 && two.words.count == 0);
 }
 
-int main(int count, char **words) {
-    seconds = count > 1 ? atoi(words[1]) : 0;
-    compare_inline_steps();
-    tries_and_deadlines();
+static void threads_count(void) {
     run(adds);
     MUST(counter == THREADS * 50000);
-    sleepers_are_woken();
-    MUST(counter == THREADS * 50000 + 50);
-    conditions();
+}
+
+static void threads_mix(void) {
     rwlock.words.epoch = UINT32_MAX - 20; /* soon the epochs begin anew */
     run(mixes);
     MUST(a == b && upgrades > 0);
     MUST(mutex.words.word == 0 && mutex.words.count == 0 && rwlock.words.word == 0 && rwlock.words.count == 0);
-    printf("%ld writes, %ld upgrades\n6 passed, 0 failed\n", a, upgrades);
+    printf("%ld writes, %ld upgrades\n", a, upgrades);
+}
+
+int main(int count, char **words) {
+    static void (*const tests[])(void) = {
+        compare_inline_steps, tries_and_deadlines, threads_count, sleepers_are_woken, conditions, threads_mix,
+    };
+    seconds = count > 1 ? atoi(words[1]) : 0;
+    for (; passed < (int)(sizeof tests / sizeof *tests); passed++) tests[passed]();
+    printf("%d passed, 0 failed\n", passed);
     return 0;
 }

@@ -100,7 +100,7 @@ const CLOCK_MONOTONIC: c_int = 1;
 
 unsafe extern "C" {
     fn syscall(number: c_long, ...) -> c_long;
-    safe fn __errno_location() -> &'static c_int;
+    safe fn __errno_location() -> *const c_int;
     safe fn sched_yield() -> c_int;
     #[cfg(feature = "std")]
     safe fn clock_gettime(clock: c_int, time: &mut Timespec) -> c_int;
@@ -129,7 +129,8 @@ fn park(epoch: &AtomicU64, number: u64, deadline: Option<&Timespec>) -> bool {
     let unused = ptr::null::<u32>();
     // SAFETY: the address is that of a live word, whose low 32 bits come first.
     let answer = unsafe { syscall(SYS_FUTEX, epoch.as_ptr(), WAIT_BITSET_PRIVATE, number as u32, end, unused, ANY_BIT) };
-    answer == -1 && deadline.is_some() && *__errno_location() == ETIMEDOUT
+    // SAFETY: the address is that of the errno of this thread.
+    answer == -1 && unsafe { *__errno_location() } == ETIMEDOUT
 }
 
 fn wake(epoch: &AtomicU64, threads: c_int) {
