@@ -98,11 +98,18 @@ impl<const READERS: u64> Lock<READERS> {
 #[cfg(test)]
 mod tests {
     use super::*;
-    use crate::driver::{lock_c_acquire, lock_c_next, lock_c_release, LockCall};
+    use crate::driver::{lock_c_acquire, lock_c_next, lock_c_release, LockCall, LockStep};
     use core::sync::atomic::AtomicU64;
 
-    fn lock_at<const READERS: u64>(word: u64) -> Lock<READERS> {
-        Lock(Words([AtomicU64::new(word), AtomicU64::new(0), AtomicU64::new(0)]))
+    const SUBTRACT: u32 = 2;
+    const DONE: u32 = 10;
+
+    fn lock_at<const READERS: u64>(words: [u64; 3]) -> Lock<READERS> {
+        Lock(Words(words.map(AtomicU64::new)))
+    }
+
+    fn words_of<const READERS: u64>(lock: &Lock<READERS>) -> [u64; 3] {
+        lock.0 .0.each_ref().map(|it| it.load(SeqCst))
     }
 
     const MODES: [Mode; 4] = [Mode::Shared, Mode::Exclusive, Mode::Upgradable, Mode::Upgrade];
@@ -115,37 +122,70 @@ mod tests {
         Release::UpgradableToShared,
     ];
 
-    /// The inline steps are those of the archive, on this word.
-    fn compare_on<const READERS: u64>(word: u64) {
+    /// The inline steps of acquisitions are those of the archive, on this word.
+    fn compare_acquisitions_on<const READERS: u64>(word: u64) {
         let mut call = LockCall::default();
         for mode in MODES {
             let step = lock_c_acquire(&mut call, READERS, mode as u32, 1, (mode == Mode::Exclusive).into());
             assert_eq!((step.action, step.place), (0, 0));
             let step = lock_c_next(&mut call, word);
-            let lock = lock_at::<READERS>(word);
+            let lock = lock_at::<READERS>([word, 0, 0]);
             let is_taken = lock.try_acquire(mode);
             assert_eq!(is_taken, step.action == 1, "{mode:?} on {word:x} for {READERS}");
-            assert_eq!(lock.0 .0[0].load(SeqCst), if is_taken { step.second } else { word });
-            assert!(!is_taken || (step.place, step.first, lock_c_next(&mut call, word).action) == (0, word, 10));
+            assert_eq!(words_of(&lock), [if is_taken { step.second } else { word }, 0, 0]);
+            assert!(!is_taken || (step.place, step.first, lock_c_next(&mut call, word).action) == (0, word, DONE));
         }
+    }
+
+    /// Makes a step of a call that is alone, and returns what it found.
+    fn alone(words: &mut [u64; 3], step: &LockStep) -> u64 {
+        let place = &mut words[step.place as usize];
+        let found = *place;
+        *place = match step.action {
+            1 if found == step.first => step.second,
+            SUBTRACT => found.wrapping_sub(step.first),
+            _ => found,
+        };
+        found
+    }
+
+    /// The inline releases leave the words that the steps of the archive leave.
+    fn compare_releases_on<const READERS: u64>(start: [u64; 3]) {
+        let mut call = LockCall::default();
         for release in RELEASES {
-            let step = lock_c_release(&mut call, READERS, release as u32);
-            assert_eq!((step.action, step.place), (2, 0));
-            let held = lock_at::<READERS>(word);
+            let (mut words, mut step) = (start, lock_c_release(&mut call, READERS, release as u32));
+            assert_eq!((step.action, step.place), (SUBTRACT, 0));
+            while step.action != DONE {
+                step = lock_c_next(&mut call, alone(&mut words, &step));
+            }
+            let held = lock_at::<READERS>(start);
             held.release(release);
-            assert_eq!(held.0 .0[0].load(SeqCst), word.wrapping_sub(step.first));
-            let step = lock_c_next(&mut call, word);
-            assert_eq!((step.action, step.place, lock_c_next(&mut call, 0).action), (0, 1, 10));
+            assert_eq!(words_of(&held), words, "{release:?} on {start:x?} for {READERS}");
+        }
+    }
+
+    fn compare_on<const READERS: u64>(word: u64) {
+        compare_acquisitions_on::<READERS>(word);
+        compare_releases_on::<READERS>([word, 0, 0]);
+    }
+
+    /// Compares also where calls sleep, and while the epochs begin anew.
+    fn compare_at_each_count<const READERS: u64>(word: u64) {
+        compare_on::<READERS>(word);
+        for count in [1, 2, 1 << 63] {
+            for epoch in [7, u64::from(u32::MAX) - 1, u64::from(u32::MAX)] {
+                compare_releases_on::<READERS>([word, count, epoch]);
+            }
         }
     }
 
     fn compare<const READERS: u64>() {
         for i in 0..64 {
-            (0..64).for_each(|j| compare_on::<READERS>(1 << i | 1 << j));
+            (0..64).for_each(|j| compare_at_each_count::<READERS>(1 << i | 1 << j));
         }
         for near in 0..40u64 {
             for middle in [20, READERS.max(20), 1 << 32, ONE_EXCLUSIVE, BAR, BAR + ONE_UPGRADABLE, u64::MAX - 19] {
-                compare_on::<READERS>(middle - 20 + near);
+                compare_at_each_count::<READERS>(middle - 20 + near);
             }
         }
         let mut x = 88_172_645_463_325_252u64;

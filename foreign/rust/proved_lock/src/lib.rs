@@ -1,10 +1,11 @@
-//! A mutex, a condition variable and a reader-writer lock, each step of which is chosen by proved code.
+//! A mutex, a condition variable and a reader-writer lock: proved code chooses each step but the first of an uncontended call.
 //!
 //! The types are those of [`lock_api`] over the raw locks [`RawMutex`] and [`RawRwLock`], with the names of `parking_lot`. A
 //! call is a state machine: the archive `liblock_c.a` returns the atomic step that comes next, and this crate makes it. It is
 //! proved of the machine that no parked call is forgotten, and that threads hold compatible modes.
 //!
-//! Trusted are the loop that makes the steps, futex, and the first step of an uncontended call, which is inline.
+//! Trusted are the loop that makes the steps, futex, and the inline first step of an uncontended call. A test compares that step
+//! with the archive.
 //!
 //! ```
 //! use proved_lock::Mutex;
@@ -21,12 +22,22 @@
 //! # Differences from `parking_lot`
 //!
 //! - There is no `Once` or `FairMutex`, and no recursive read.
-//! - A wait of a [`Condvar`] may end without a notification. With two mutexes at a time, it does not panic.
+//! - The features `serde`, `owning_ref` and `deadlock_detection` are missing.
 //! - A fair unlock is a plain unlock, and `bump` releases and acquires again.
 //! - A try may be refused while another call changes the lock.
 //! - A waiting writer with no deadline admits no new reader. One with a deadline does.
+//! - A waiting upgrade admits new readers, which may starve it.
 //! - At most 2^32 - 1 readers hold a lock at a time. The next one blocks.
+//! - A wait of a [`Condvar`] may end without a notification. With two mutexes at a time, it does not panic.
 //! - The crate is for Linux on little-endian machines of 64 bits. It is tested on x86-64 alone.
+//!
+//! As in `parking_lot`, a panic of a thread that holds a lock releases it, and a lock is never poisoned.
+//!
+//! # Features
+//!
+//! - `std`, a default: calls with a deadline, and the reentrant mutex.
+//! - `arc_lock`: guards that share the ownership of their lock, as `ArcMutexGuard`.
+//! - `send_guard`: guards that may be sent to another thread.
 #![cfg_attr(not(feature = "std"), no_std)]
 #![warn(missing_docs)]
 
@@ -52,17 +63,36 @@ mod mutex;
 mod remutex;
 mod rwlock;
 
+/// With the feature, a guard may be sent to another thread.
+///
+/// ```
+/// fn is_sent<T: Send>() {}
+/// is_sent::<proved_lock::MutexGuard<'static, i32>>();
+/// ```
 #[cfg(feature = "send_guard")]
 type GuardMarker = lock_api::GuardSend;
+
+/// Without the feature, a guard stays on its thread.
+///
+/// ```compile_fail,E0277
+/// fn is_sent<T: Send>() {}
+/// is_sent::<proved_lock::MutexGuard<'static, i32>>();
+/// ```
 #[cfg(not(feature = "send_guard"))]
 type GuardMarker = lock_api::GuardNoSend;
 
 pub use condvar::{Condvar, WaitTimeoutResult};
 pub use lock_api;
+#[cfg(feature = "arc_lock")]
+pub use mutex::ArcMutexGuard;
 pub use mutex::{const_mutex, MappedMutexGuard, Mutex, MutexGuard, RawMutex};
+#[cfg(all(feature = "arc_lock", feature = "std"))]
+pub use remutex::ArcReentrantMutexGuard;
 #[cfg(feature = "std")]
 pub use remutex::{const_reentrant_mutex, MappedReentrantMutexGuard, RawThreadId, ReentrantMutex, ReentrantMutexGuard};
 pub use rwlock::{
     const_rwlock, MappedRwLockReadGuard, MappedRwLockWriteGuard, RawRwLock, RwLock, RwLockReadGuard, RwLockUpgradableReadGuard,
     RwLockWriteGuard,
 };
+#[cfg(feature = "arc_lock")]
+pub use rwlock::{ArcRwLockReadGuard, ArcRwLockUpgradableReadGuard, ArcRwLockWriteGuard};

@@ -45,6 +45,22 @@ pub type MutexGuard<'a, T> = lock_api::MutexGuard<'a, RawMutex, T>;
 /// ```
 pub type MappedMutexGuard<'a, T> = lock_api::MappedMutexGuard<'a, RawMutex, T>;
 
+/// A guard that shares the ownership of its [`Mutex`], made by `Mutex::lock_arc`.
+///
+/// ```
+/// use proved_lock::{ArcMutexGuard, Mutex};
+/// use std::sync::Arc;
+///
+/// let mutex = Arc::new(Mutex::new(1));
+/// let mut guard: ArcMutexGuard<i32> = mutex.lock_arc();
+/// *guard += 1;
+/// assert!(mutex.try_lock_arc().is_none());
+/// drop(guard);
+/// assert_eq!(*mutex.lock(), 2);
+/// ```
+#[cfg(feature = "arc_lock")]
+pub type ArcMutexGuard<T> = lock_api::ArcMutexGuard<RawMutex, T>;
+
 /// Makes a mutex in a constant or a static.
 pub const fn const_mutex<T>(value: T) -> Mutex<T> {
     Mutex::const_new(<RawMutex as lock_api::RawMutex>::INIT, value)

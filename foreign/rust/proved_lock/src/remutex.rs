@@ -52,6 +52,19 @@ pub type ReentrantMutexGuard<'a, T> = lock_api::ReentrantMutexGuard<'a, RawMutex
 /// ```
 pub type MappedReentrantMutexGuard<'a, T> = lock_api::MappedReentrantMutexGuard<'a, RawMutex, RawThreadId, T>;
 
+/// A guard that shares the ownership of its [`ReentrantMutex`], made by `ReentrantMutex::lock_arc`.
+///
+/// ```
+/// use proved_lock::{ArcReentrantMutexGuard, ReentrantMutex};
+/// use std::sync::Arc;
+///
+/// let mutex = Arc::new(ReentrantMutex::new("a"));
+/// let guard: ArcReentrantMutexGuard<&str> = mutex.lock_arc();
+/// assert_eq!(*guard, *mutex.lock_arc());
+/// ```
+#[cfg(feature = "arc_lock")]
+pub type ArcReentrantMutexGuard<T> = lock_api::ArcReentrantMutexGuard<RawMutex, RawThreadId, T>;
+
 /// Makes a reentrant mutex in a constant or a static.
 pub const fn const_reentrant_mutex<T>(value: T) -> ReentrantMutex<T> {
     ReentrantMutex::const_new(<RawMutex as lock_api::RawMutex>::INIT, <RawThreadId as lock_api::GetThreadId>::INIT, value)

@@ -87,6 +87,50 @@ pub type MappedRwLockReadGuard<'a, T> = lock_api::MappedRwLockReadGuard<'a, RawR
 /// ```
 pub type MappedRwLockWriteGuard<'a, T> = lock_api::MappedRwLockWriteGuard<'a, RawRwLock, T>;
 
+/// A guard of a read that shares the ownership of its [`RwLock`], made by `RwLock::read_arc`.
+///
+/// ```
+/// use proved_lock::{ArcRwLockReadGuard, RwLock};
+/// use std::sync::Arc;
+///
+/// let lock = Arc::new(RwLock::new("a"));
+/// let guard: ArcRwLockReadGuard<&str> = lock.read_arc();
+/// assert_eq!(*guard, *lock.read_arc());
+/// ```
+#[cfg(feature = "arc_lock")]
+pub type ArcRwLockReadGuard<T> = lock_api::ArcRwLockReadGuard<RawRwLock, T>;
+
+/// A guard of a write that shares the ownership of its [`RwLock`], made by `RwLock::write_arc`.
+///
+/// ```
+/// use proved_lock::{ArcRwLockWriteGuard, RwLock};
+/// use std::sync::Arc;
+///
+/// let lock = Arc::new(RwLock::new(1));
+/// let mut guard: ArcRwLockWriteGuard<i32> = lock.write_arc();
+/// *guard = 2;
+/// assert!(lock.try_read_arc().is_none());
+/// let guard = ArcRwLockWriteGuard::downgrade(guard);
+/// assert_eq!((*guard, *lock.read()), (2, 2));
+/// ```
+#[cfg(feature = "arc_lock")]
+pub type ArcRwLockWriteGuard<T> = lock_api::ArcRwLockWriteGuard<RawRwLock, T>;
+
+/// A guard of an upgradable read that shares the ownership of its [`RwLock`], made by `RwLock::upgradable_read_arc`.
+///
+/// ```
+/// use proved_lock::{ArcRwLockUpgradableReadGuard, RwLock};
+/// use std::sync::Arc;
+///
+/// let lock = Arc::new(RwLock::new(1));
+/// let guard: ArcRwLockUpgradableReadGuard<i32> = lock.upgradable_read_arc();
+/// let seen = *guard;
+/// *ArcRwLockUpgradableReadGuard::upgrade(guard) += seen;
+/// assert_eq!(*lock.read(), 2);
+/// ```
+#[cfg(feature = "arc_lock")]
+pub type ArcRwLockUpgradableReadGuard<T> = lock_api::ArcRwLockUpgradableReadGuard<RawRwLock, T>;
+
 /// Makes a reader-writer lock in a constant or a static.
 pub const fn const_rwlock<T>(value: T) -> RwLock<T> {
     RwLock::const_new(<RawRwLock as lock_api::RawRwLock>::INIT, value)

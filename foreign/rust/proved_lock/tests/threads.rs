@@ -1,6 +1,6 @@
 //! Threads that use the locks together.
 #![cfg(feature = "std")]
-use proved_lock::{Mutex, ReentrantMutex, RwLock, RwLockUpgradableReadGuard, RwLockWriteGuard};
+use proved_lock::{Condvar, Mutex, ReentrantMutex, RwLock, RwLockUpgradableReadGuard, RwLockWriteGuard};
 use std::cell::Cell;
 use std::sync::atomic::{AtomicU64, Ordering::SeqCst};
 use std::thread;
@@ -115,6 +115,18 @@ fn deadlines_pass() {
     drop(guard);
     assert!(lock.try_lock_for(Duration::from_millis(30)).is_some());
     assert!(!lock.is_locked());
+}
+
+/// A panic releases what its thread holds, also in the condition of a wait, and poisons nothing.
+#[test]
+fn a_panic_releases() {
+    let (mutex, rwlock, changed) = (Mutex::new(1), RwLock::new(1), Condvar::new());
+    let panics = || {
+        let _read = rwlock.read();
+        changed.wait_while(&mut mutex.lock(), |it| if *it == 1 { panic!("on purpose") } else { true });
+    };
+    assert!(thread::scope(|s| s.spawn(panics).join()).is_err());
+    assert_eq!((mutex.try_lock().map(|it| *it), rwlock.try_write().map(|it| *it)), (Some(1), Some(1)));
 }
 
 #[test]
