@@ -68,8 +68,11 @@ to_wait call =
 abbrev pub most_spins : ℕ
 most_spins = 3
 
+abbrev pub most_yields : ℕ
+most_yields = 70
+
 abbrev pub most_pauses : ℕ
-most_pauses = 20
+most_pauses = most_spins + most_yields
 
 abbrev pub pause : Call → Progress
 pause call =

@@ -3,7 +3,7 @@ ghost use Rattle.std.specs.Prelude.{◌≡◌, ◌==◌, ◌||◌};
 
 use crate::action::{Action, Place};
 use crate::stage::Stage;
-use lock_sleepers::{PAUSES, SPINS};
+use lock_sleepers::SPINS;
 use lock_word::{Down, ExWant, Occupancy, unblocks};
 
 /// The last epoch. No thread sleeps in it, because a sleep compares 32 bits.
@@ -11,6 +11,10 @@ pub const LAST_EPOCH: u64 = 4_294_967_295;
 
 /// The count of sleepers while the epochs begin anew.
 pub const CLOSED_COUNT: u64 = 9_223_372_036_854_775_808;
+
+/// How often a call yields before it sleeps. While a sleeper is counted, each release makes a wake-up. A driver in C or Rust
+/// makes it by a call of the kernel, which costs more than some yields.
+const YIELDS: u32 = 70;
 
 /// A call between two of its steps.
 #[derive(Clone, Copy, PartialEq, Eq, Debug)]
@@ -273,7 +277,7 @@ impl Call {
             return self.refused();
         }
         let made = self.pauses;
-        if made >= PAUSES {
+        if made >= SPINS + YIELDS {
             return self.to_wait();
         }
         self.pauses = made + 1;
