@@ -116,7 +116,8 @@ static inline void proved_mutex_unlock(proved_mutex *m) {
 }
 
 /* Condition variable. A wait releases the mutex, which the caller holds, sleeps until a notification, and acquires the mutex
- * again. It may also end without one. Returns false if the deadline ended the sleep. */
+ * again. It may also end without a notification. Returns false if the deadline ended the sleep. The deadline does not limit the
+ * acquisition. */
 bool proved_cond_wait_until(proved_cond *, proved_mutex *, const struct timespec *deadline);
 static inline void proved_cond_wait(proved_cond *c, proved_mutex *m) { proved_cond_wait_until(c, m, 0); }
 /* The rest of a notification, after its load of the count, which found `count`. */

@@ -252,6 +252,37 @@ static void run(void *(*body)(void *)) {
     for (int i = 0; i < THREADS; i++) pthread_join(threads[i], 0);
 }
 
+static void *waits_for_readers(void *kind) {
+    struct timespec far = in_nanoseconds(0);
+    far.tv_sec += 60;
+    switch ((uintptr_t)kind) {
+    case 0: proved_rwlock_lock_exclusive(&rwlock); break;
+    case 1: MUST(proved_rwlock_lock_exclusive_until(&rwlock, 0)); break;
+    case 2: MUST(proved_rwlock_lock_exclusive_until(&rwlock, &far)); break;
+    case 3:
+        proved_rwlock_lock_upgradable(&rwlock);
+        proved_rwlock_upgrade(&rwlock);
+        break;
+    }
+    proved_rwlock_unlock_exclusive(&rwlock);
+    return 0;
+}
+
+/* A writer that waits with no deadline bars new readers. One with a deadline does not, nor does an upgrade. */
+static void writers_bar_readers(void) {
+    for (uintptr_t kind = 0; kind < 4; kind++) {
+        pthread_t waiter;
+        proved_rwlock_lock_shared(&rwlock);
+        MUST(!pthread_create(&waiter, 0, waits_for_readers, (void *)kind));
+        while (__atomic_load_n(&rwlock.words.count, __ATOMIC_SEQ_CST) == 0) nanosleep(&(struct timespec){0, 20000}, 0);
+        bool is_admitted = proved_rwlock_try_lock_shared(&rwlock);
+        MUST(is_admitted == (kind >= 2));
+        if (is_admitted) proved_rwlock_unlock_shared(&rwlock);
+        proved_rwlock_unlock_shared(&rwlock);
+        pthread_join(waiter, 0);
+    }
+}
+
 enum { SLOTS = 2, ITEMS = 20000 };
 static long slots[SLOTS], filled, sum, taken;
 
@@ -360,7 +391,8 @@ static void threads_mix(void) {
 
 int main(int count, char **words) {
     static void (*const tests[])(void) = {
-        compare_inline_steps, tries_and_deadlines, threads_count, sleepers_are_woken, conditions, threads_mix,
+        compare_inline_steps, tries_and_deadlines, threads_count, sleepers_are_woken,
+        writers_bar_readers, conditions, threads_mix,
     };
     seconds = count > 1 ? atoi(words[1]) : 0;
     for (; passed < (int)(sizeof tests / sizeof *tests); passed++) tests[passed]();

@@ -1,4 +1,4 @@
-//! Finds liblock_c.a: at PROVED_LOCK_LIB, or where bin/build leaves it.
+//! Finds liblock_c.a: the file that PROVED_LOCK_LIB names, or the one that bin/build makes.
 use std::env;
 use std::path::PathBuf;
 
@@ -12,5 +12,5 @@ fn main() {
         panic!("{} is missing: bin/build makes it, or set PROVED_LOCK_LIB to liblock_c.a", archive.display())
     });
     println!("cargo:rustc-link-search=native={}", archive.parent().expect("a file").display());
-    println!("cargo:rustc-link-lib=static=lock_c");
+    println!("cargo:rustc-link-lib=static:+verbatim={}", archive.file_name().expect("a file").to_string_lossy());
 }

@@ -152,7 +152,7 @@ impl fmt::Debug for Condvar {
 #[cfg(test)]
 mod tests {
     use super::*;
-    use crate::driver::{lock_c_next_event, lock_c_notify, LockEvent};
+    use crate::driver::{lock_c_next_event, lock_c_notify, LockEvent, LOAD, REFUSED};
 
     /// A notification of a condition variable with this count loads it first, and ends if it is 0.
     #[test]
@@ -162,8 +162,8 @@ mod tests {
             for all in [0, 1] {
                 let mut call = LockEvent::default();
                 let step = lock_c_notify(&mut call, all);
-                assert_eq!((step.action, step.place), (0, 1));
-                assert_eq!(lock_c_next_event(&mut call, count).action == 9, count == 0);
+                assert_eq!((step.action, step.place), (LOAD, 1));
+                assert_eq!(lock_c_next_event(&mut call, count).action == REFUSED, count == 0);
                 assert_eq!(call.loaded, count % (1 << 63));
             }
         }

@@ -52,8 +52,17 @@ pub(crate) struct LockStep {
     pub(crate) second: u64,
 }
 
-const REFUSED: u32 = 9;
-const DONE: u32 = 10;
+pub(crate) const LOAD: u32 = 0;
+pub(crate) const EXCHANGE: u32 = 1;
+pub(crate) const SUBTRACT: u32 = 2;
+const STORE: u32 = 3;
+const PARK: u32 = 4;
+const WAKE_ONE: u32 = 5;
+const WAKE_ALL: u32 = 6;
+const SPIN: u32 = 7;
+const YIELD: u32 = 8;
+pub(crate) const REFUSED: u32 = 9;
+pub(crate) const DONE: u32 = 10;
 const UNLOCK: u32 = 11;
 const LOCK: u32 = 12;
 
@@ -151,19 +160,19 @@ impl Words {
     fn make(&self, step: &LockStep, deadline: Option<&Timespec>) -> u64 {
         let place = &self.0[step.place as usize % 3];
         match step.action {
-            0 => return place.load(SeqCst),
-            1 => {
+            LOAD => return place.load(SeqCst),
+            EXCHANGE => {
                 return match place.compare_exchange(step.first, step.second, SeqCst, SeqCst) {
                     Ok(found) | Err(found) => found,
                 }
             }
-            2 => return place.fetch_sub(step.first, SeqCst),
-            3 => place.store(step.first, SeqCst),
-            4 => return park(place, step.first, deadline).into(),
-            5 => wake(place, 1),
-            6 => wake(place, c_int::MAX),
-            7 => (0..1u64 << (step.first % 32)).for_each(|_| spin_loop()),
-            8 => {
+            SUBTRACT => return place.fetch_sub(step.first, SeqCst),
+            STORE => place.store(step.first, SeqCst),
+            PARK => return park(place, step.first, deadline).into(),
+            WAKE_ONE => wake(place, 1),
+            WAKE_ALL => wake(place, c_int::MAX),
+            SPIN => (0..1u64 << (step.first % 32)).for_each(|_| spin_loop()),
+            YIELD => {
                 sched_yield();
             }
             _ => {}

@@ -98,11 +98,8 @@ impl<const READERS: u64> Lock<READERS> {
 #[cfg(test)]
 mod tests {
     use super::*;
-    use crate::driver::{lock_c_acquire, lock_c_next, lock_c_release, LockCall, LockStep};
+    use crate::driver::{lock_c_acquire, lock_c_next, lock_c_release, LockCall, LockStep, DONE, EXCHANGE, LOAD, SUBTRACT};
     use core::sync::atomic::AtomicU64;
-
-    const SUBTRACT: u32 = 2;
-    const DONE: u32 = 10;
 
     fn lock_at<const READERS: u64>(words: [u64; 3]) -> Lock<READERS> {
         Lock(Words(words.map(AtomicU64::new)))
@@ -127,11 +124,11 @@ mod tests {
         let mut call = LockCall::default();
         for mode in MODES {
             let step = lock_c_acquire(&mut call, READERS, mode as u32, 1, (mode == Mode::Exclusive).into());
-            assert_eq!((step.action, step.place), (0, 0));
+            assert_eq!((step.action, step.place), (LOAD, 0));
             let step = lock_c_next(&mut call, word);
             let lock = lock_at::<READERS>([word, 0, 0]);
             let is_taken = lock.try_acquire(mode);
-            assert_eq!(is_taken, step.action == 1, "{mode:?} on {word:x} for {READERS}");
+            assert_eq!(is_taken, step.action == EXCHANGE, "{mode:?} on {word:x} for {READERS}");
             assert_eq!(words_of(&lock), [if is_taken { step.second } else { word }, 0, 0]);
             assert!(!is_taken || (step.place, step.first, lock_c_next(&mut call, word).action) == (0, word, DONE));
         }
@@ -142,7 +139,7 @@ mod tests {
         let place = &mut words[step.place as usize];
         let found = *place;
         *place = match step.action {
-            1 if found == step.first => step.second,
+            EXCHANGE if found == step.first => step.second,
             SUBTRACT => found.wrapping_sub(step.first),
             _ => found,
         };
