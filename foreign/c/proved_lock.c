@@ -10,6 +10,9 @@
 #include <sys/syscall.h>
 #include <unistd.h>
 
+_Static_assert(PROVED_SHARED == 0 && PROVED_UPGRADE == 3, "the modes are the codes of an acquisition");
+_Static_assert(PROVED_UNLOCK_SHARED == 0 && PROVED_UPGRADABLE_TO_SHARED == 5, "the releases are the codes of a release");
+
 /* Returns whether a sleep ended by its deadline. A deadline that is no valid time has passed. */
 static bool futex(uint64_t *epoch, int what, uint32_t number, const struct timespec *deadline) {
     int saved = errno;
