@@ -1,5 +1,5 @@
 //! Calls of a closure on the value, made by the holder of a token.
-ghost use Rattle.std.specs.Prelude.{◌≡◌, true, IfOk, IfErr, is_ok};
+ghost use Rattle.std.specs.Prelude.{◌≡◌, true, false, IfOk, IfErr, IfSome, is_ok, is_some};
 ghost use Rattle.lock_guard.specs.Closure.{ReadsSomeValue, AnswersSomeValue};
 ghost use Rattle.lock_guard.specs.Inner.{is_filled, owns};
 ghost use Rattle.lock_guard.specs.declared.guard.inner.Inner.TheVariants.{Filled};
@@ -51,7 +51,7 @@ pub(crate) fn with_upgraded<R: RawRwLockUpgradeDowngrade, T, U, F: FnOnce(&mut T
 /// the token with `shown`, and does not call `f`.
 ///
 /// `shown` is the caller's access to the value. It is dropped before the value's lock is acquired for writing.
-pub(crate) fn with_if_upgraded<R: RawRwLockUpgradeDowngrade, T, V: Drop, U, F: FnOnce(&mut T) -> U>(
+fn with_if_upgraded<R: RawRwLockUpgradeDowngrade, T, V: Drop, U, F: FnOnce(&mut T) -> U>(
     rwlock: &RwLock<R, T>,
     shown: V,
     upgraded: Result<R::ExclusiveGuard, R::UpgradableGuard>,
@@ -67,8 +67,7 @@ where
     ensures called { is_ok result ≡ is_ok upgraded }
     ensures answer { IfOk result (λ made. AnswersSomeValue F.FnOnce f made.1) }
     ensures filled { IfErr result (λ same. is_filled same ≡ true) }
-    ensures refused { (token : R.UpgradableGuard) → IfErr upgraded (λ back. back ≡ token)
-        → IfErr result (λ same. same ≡ Filled token shown) }
+    ensures refused { IfErr upgraded (λ token. IfErr result (λ same. same ≡ Filled token shown)) }
 {
     match upgraded {
         Ok(token) => {
@@ -78,4 +77,37 @@ where
         }
         Err(token) => Err(Inner::Filled(token, shown)),
     }
+}
+
+/// `with_if_upgraded` for a guard whose token and `shown` were taken out of `inner`. It fills `inner` again.
+pub(crate) fn settle_if_upgraded<
+    R: RawRwLockUpgradeDowngrade,
+    T,
+    L: Acquire<Token = R::UpgradableGuard>,
+    U,
+    F: FnOnce(&mut T) -> U,
+>(
+    inner: &mut Inner<R::UpgradableGuard, L::Shown>,
+    lock: &L,
+    rwlock: &RwLock<R, T>,
+    shown: L::Shown,
+    upgraded: Result<R::ExclusiveGuard, R::UpgradableGuard>,
+    f: F,
+) -> Option<U>
+where
+    F: Drop,
+    requires callable { F.IsAlwaysCallable f }
+    requires emptied { is_filled inner.old ≡ false }
+    requires own { IfOk upgraded (λ token. R.owns_exclusive rwlock.now.raw token ≡ true) }
+    requires same { IfErr upgraded (λ token. R.owns_upgradable rwlock.now.raw token ≡ true) }
+    requires one_lock { (token : R.UpgradableGuard) → R.owns_upgradable rwlock.now.raw token ≡ true
+        → L.is_own lock.now token ≡ true }
+    ensures filled { is_filled inner.new ≡ true }
+    ensures own { owns (L.is_own lock.now) inner.new ≡ true }
+    ensures called { is_some result ≡ is_ok upgraded }
+    ensures answer { IfSome result (AnswersSomeValue F.FnOnce f) }
+    ensures refused { IfErr upgraded (λ token. inner.new ≡ Filled token shown) }
+{
+    let made = with_if_upgraded(rwlock, shown, upgraded, f);
+    inner.settle(lock, made)
 }

@@ -4,12 +4,15 @@ mod read;
 mod upgradable;
 mod write;
 
-ghost use Rattle.std.specs.Prelude.{◌≡◌, true, Some};
+ghost use Rattle.std.specs.Prelude.{◌≡◌, true, Some, IfOk, IfErr};
 ghost use Rattle.std.specs.Borrow.{Lends, sem};
 
+use crate::lock::RwLock;
+use crate::mode::{InMode, ShowMode};
 use lock_guard::guard::{
     Acquire, AcquireFair, Held, LockGuard, LockGuardMut, ValueGuard, ValueGuardMut,
 };
+use lock_guard::raw::RawRwLock;
 pub use mapped::{Mappable, MappedRwLockReadGuard, MappedRwLockWriteGuard};
 pub use read::RwLockReadGuard;
 use std::fmt;
@@ -30,8 +33,9 @@ pub struct RwLockGuard<L: Acquire> {
 /// Makes the guard of a lock and its token, as `held!`.
 macro_rules! guard {
     ($rwlock:expr, $token:expr) => {
-        $crate::guard::RwLockGuard {
-            held: lock_guard::held!($crate::mode::InMode::new($rwlock), $token),
+        match $crate::guard::RwLockGuard::try_new($rwlock, $token) {
+            Ok(guard) => guard,
+            Err(token) => $crate::guard::RwLockGuard::new($rwlock, token),
         }
     };
 }
@@ -49,13 +53,40 @@ impl<L: Acquire> RwLockGuard<L> {
     {
         guard.held.unlocked(f)
     }
+}
+
+impl<'a, M: ShowMode<'a, R, T>, R: RawRwLock, T> RwLockGuard<InMode<'a, M, R, T>> {
+    ghost use Rattle.lock_rwlock.specs.RwLockGuard.{IsGuardOf};
+
+    /// Makes the guard of a token if the value's lock is free. Otherwise returns the token.
+    pub(crate) fn try_new(rwlock: &'a RwLock<R, T>, token: M::Token) -> Result<Self, M::Token>
+        requires { M.is_own rwlock.now.raw token ≡ true }
+        ensures lock { IfOk result (IsGuardOf rwlock.entry) }
+        ensures own { IfErr result (λ back. M.is_own rwlock.now.raw back ≡ true) }
+    {
+        match Held::try_new(InMode::new(rwlock), token) {
+            Ok(held) => Ok(RwLockGuard { held }),
+            Err((_, back)) => Err(back),
+        }
+    }
+
+    /// Makes the guard of a token, blocking until the value's lock is free. `guard!` tries it first.
+    pub(crate) fn new(rwlock: &'a RwLock<R, T>, token: M::Token) -> Self
+        requires { M.is_own rwlock.now.raw token ≡ true }
+        ensures { IsGuardOf rwlock.entry result }
+    {
+        RwLockGuard {
+            held: Held::new(InMode::new(rwlock), token),
+        }
+    }
 
     /// Releases the value's lock, and returns the lock with its token.
-    pub(crate) fn into_token(self) -> (L, L::Token)
-        ensures lock { result.0 ≡ (held_of self).lock }
-        ensures own { L.is_own result.0 result.1 ≡ true }
+    pub(crate) fn into_token(self) -> (&'a RwLock<R, T>, M::Token)
+        ensures lock { IsGuardOf result.0 self.entry }
+        ensures own { M.is_own result.0.now.raw result.1 ≡ true }
     {
-        self.held.into_token()
+        let (lock, token) = self.held.into_token();
+        (lock.rwlock, token)
     }
 }
 

@@ -4,9 +4,10 @@ ghost use Rattle.std.specs.Sync.RwLock.{read_guard_value};
 ghost use Rattle.lock_guard.specs.Closure.{AnswersSomeValue};
 
 use super::{RwLockGuard, RwLockReadGuard, RwLockWriteGuard, guard};
-use crate::closures::{with_if_upgraded, with_upgraded};
+use crate::closures::{settle_if_upgraded, with_upgraded};
 use crate::lock::RwLock;
 use crate::mode::{InMode, Upgradable};
+use crate::upgrade::{AtOnce, For, TryUpgrade, Until};
 use lock_guard::guard::{Acquire, Held, Inner};
 use lock_guard::raw::{RawRwLockUpgrade, RawRwLockUpgradeDowngrade, RawRwLockUpgradeTimed};
 use std::sync;
@@ -30,8 +31,8 @@ impl<'a, R: RawRwLockUpgrade, T> RwLockGuard<InMode<'a, Upgradable, R, T>> {
     pub fn upgrade(guard: RwLockUpgradableReadGuard<'a, R, T>) -> RwLockWriteGuard<'a, R, T>
         ensures { SameLock guard.entry result }
     {
-        let (lock, token) = guard.into_token();
-        guard!(lock.rwlock, lock.rwlock.raw.upgrade(token))
+        let (rwlock, token) = guard.into_token();
+        guard!(rwlock, rwlock.raw.upgrade(token))
     }
 
     /// Upgrades the guard without blocking, or returns it unchanged if the raw lock refuses.
@@ -40,8 +41,18 @@ impl<'a, R: RawRwLockUpgrade, T> RwLockGuard<InMode<'a, Upgradable, R, T>> {
     ) -> Result<RwLockWriteGuard<'a, R, T>, RwLockUpgradableReadGuard<'a, R, T>>
         ensures { MatchResult result (SameLock guard.entry) (λ same. same ≡ guard.entry) }
     {
+        RwLockUpgradableReadGuard::try_upgrade_by(guard, AtOnce)
+    }
+
+    /// Tries to upgrade the guard, or returns it unchanged if the raw lock refuses.
+    fn try_upgrade_by<A: TryUpgrade<R>>(
+        guard: RwLockUpgradableReadGuard<'a, R, T>,
+        attempt: A,
+    ) -> Result<RwLockWriteGuard<'a, R, T>, RwLockUpgradableReadGuard<'a, R, T>>
+        ensures { MatchResult result (SameLock guard.entry) (λ same. same ≡ guard.entry) }
+    {
         let (lock, token, shown) = guard.held.into_parts();
-        let answer = lock.rwlock.raw.try_upgrade(token);
+        let answer = attempt.make(&lock.rwlock.raw, token);
         RwLockUpgradableReadGuard::upgraded(lock, shown, answer)
     }
 
@@ -55,8 +66,7 @@ impl<'a, R: RawRwLockUpgrade, T> RwLockGuard<InMode<'a, Upgradable, R, T>> {
         requires same { IfErr answer (λ token. R.owns_upgradable lock.rwlock.now.raw token ≡ true) }
         ensures upgraded { is_ok result ≡ is_ok answer }
         ensures lock { MatchResult result (IsGuardOf lock.entry.rwlock) (λ same. (held_of same).lock ≡ lock.entry) }
-        ensures again { (token : R.UpgradableGuard) → IfErr answer (λ back. back ≡ token)
-            → IfErr result (λ same. (held_of same).inner ≡ Filled token shown.entry) }
+        ensures again { IfErr answer (λ token. IfErr result (λ same. (held_of same).inner ≡ Filled token shown.entry)) }
     {
         match answer {
             Ok(token) => {
@@ -83,9 +93,7 @@ impl<'a, R: RawRwLockUpgradeTimed, T> RwLockGuard<InMode<'a, Upgradable, R, T>> 
     ) -> Result<RwLockWriteGuard<'a, R, T>, RwLockUpgradableReadGuard<'a, R, T>>
         ensures { MatchResult result (SameLock guard.entry) (λ same. same ≡ guard.entry) }
     {
-        let (lock, token, shown) = guard.held.into_parts();
-        let answer = lock.rwlock.raw.try_upgrade_for(token, timeout);
-        RwLockUpgradableReadGuard::upgraded(lock, shown, answer)
+        RwLockUpgradableReadGuard::try_upgrade_by(guard, For { timeout })
     }
 
     /// `try_upgrade`, where the raw lock may block until `deadline`.
@@ -95,9 +103,7 @@ impl<'a, R: RawRwLockUpgradeTimed, T> RwLockGuard<InMode<'a, Upgradable, R, T>> 
     ) -> Result<RwLockWriteGuard<'a, R, T>, RwLockUpgradableReadGuard<'a, R, T>>
         ensures { MatchResult result (SameLock guard.entry) (λ same. same ≡ guard.entry) }
     {
-        let (lock, token, shown) = guard.held.into_parts();
-        let answer = lock.rwlock.raw.try_upgrade_until(token, deadline);
-        RwLockUpgradableReadGuard::upgraded(lock, shown, answer)
+        RwLockUpgradableReadGuard::try_upgrade_by(guard, Until { deadline })
     }
 }
 
@@ -140,12 +146,27 @@ impl<'a, R: RawRwLockUpgradeDowngrade, T> RwLockGuard<InMode<'a, Upgradable, R, 
         ensures lock { SameLock self.old self.new }
         ensures refused { IfNone result (self.new ≡ self.old) }
     {
+        self.try_with_upgraded_by(AtOnce, f)
+    }
+
+    /// `with_upgraded`, by a try. If the raw lock refuses, returns `None` and does not call `f`.
+    fn try_with_upgraded_by<A: TryUpgrade<R>, U, F: FnOnce(&mut T) -> U>(
+        &mut self,
+        attempt: A,
+        f: F,
+    ) -> Option<U>
+    where
+        F: Drop,
+        requires { F.IsAlwaysCallable f }
+        ensures answer { IfSome result (AnswersSomeValue F.FnOnce f) }
+        ensures lock { SameLock self.old self.new }
+        ensures refused { IfNone result (self.new ≡ self.old) }
+    {
         let held = &mut self.held;
-        let rwlock = held.lock.rwlock;
+        let lock = &held.lock;
         let (token, shown) = held.inner.take().into_parts();
-        let upgraded = rwlock.raw.try_upgrade(token);
-        let made = with_if_upgraded(rwlock, shown, upgraded, f);
-        held.inner.settle(&held.lock, made)
+        let upgraded = attempt.make(&lock.rwlock.raw, token);
+        settle_if_upgraded(&mut held.inner, lock, lock.rwlock, shown, upgraded, f)
     }
 }
 
@@ -167,12 +188,7 @@ impl<'a, R: RawRwLockUpgradeTimed + RawRwLockUpgradeDowngrade, T> RwLockGuard<
         ensures lock { SameLock self.old self.new }
         ensures refused { IfNone result (self.new ≡ self.old) }
     {
-        let held = &mut self.held;
-        let rwlock = held.lock.rwlock;
-        let (token, shown) = held.inner.take().into_parts();
-        let upgraded = rwlock.raw.try_upgrade_for(token, timeout);
-        let made = with_if_upgraded(rwlock, shown, upgraded, f);
-        held.inner.settle(&held.lock, made)
+        self.try_with_upgraded_by(For { timeout }, f)
     }
 
     /// `try_with_upgraded`, where the raw lock may block until `deadline`.
@@ -188,11 +204,6 @@ impl<'a, R: RawRwLockUpgradeTimed + RawRwLockUpgradeDowngrade, T> RwLockGuard<
         ensures lock { SameLock self.old self.new }
         ensures refused { IfNone result (self.new ≡ self.old) }
     {
-        let held = &mut self.held;
-        let rwlock = held.lock.rwlock;
-        let (token, shown) = held.inner.take().into_parts();
-        let upgraded = rwlock.raw.try_upgrade_until(token, deadline);
-        let made = with_if_upgraded(rwlock, shown, upgraded, f);
-        held.inner.settle(&held.lock, made)
+        self.try_with_upgraded_by(Until { deadline }, f)
     }
 }

@@ -27,8 +27,8 @@ impl<'a, R: RawRwLockDowngrade, T> RwLockGuard<InMode<'a, Exclusive, R, T>> {
     pub fn downgrade(guard: RwLockWriteGuard<'a, R, T>) -> RwLockReadGuard<'a, R, T>
         ensures { SameLock guard.entry result }
     {
-        let (lock, token) = guard.into_token();
-        guard!(lock.rwlock, lock.rwlock.raw.downgrade(token))
+        let (rwlock, token) = guard.into_token();
+        guard!(rwlock, rwlock.raw.downgrade(token))
     }
 }
 
@@ -41,8 +41,7 @@ impl<'a, R: RawRwLockUpgradeDowngrade, T> RwLockGuard<InMode<'a, Exclusive, R, T
     ) -> RwLockUpgradableReadGuard<'a, R, T>
         ensures { SameLock guard.entry result }
     {
-        let (lock, token) = guard.into_token();
-        let token = lock.rwlock.raw.downgrade_to_upgradable(token);
-        guard!(lock.rwlock, token)
+        let (rwlock, token) = guard.into_token();
+        guard!(rwlock, rwlock.raw.downgrade_to_upgradable(token))
     }
 }

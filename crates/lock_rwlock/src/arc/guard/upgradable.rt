@@ -8,9 +8,10 @@ ghost use Rattle.lock_rwlock.specs.ArcRwLockGuard.{arc_of, lock_of, inner_of};
 
 use super::{ArcModeGuard, ArcRwLockReadGuard, ArcRwLockUpgradableReadGuard, ArcRwLockWriteGuard};
 use crate::arc::owned::OwnedInMode;
-use crate::closures::{with_if_upgraded, with_upgraded};
+use crate::closures::{settle_if_upgraded, with_upgraded};
 use crate::lock::RwLock;
 use crate::mode::Upgradable;
+use crate::upgrade::{AtOnce, For, TryUpgrade, Until};
 use lock_guard::guard::{Held, Inner};
 use lock_guard::raw::{RawRwLockUpgrade, RawRwLockUpgradeDowngrade, RawRwLockUpgradeTimed};
 
@@ -31,8 +32,19 @@ impl<R: RawRwLockUpgrade + Drop, T: Drop> ArcModeGuard<OwnedInMode<Upgradable, R
         ensures { MatchResult result (λ upgraded. arc_of upgraded ≡ arc_of guard)
             (λ same. same ≡ guard) }
     {
+        ArcModeGuard::try_upgrade_by(guard, AtOnce)
+    }
+
+    /// Tries to upgrade the guard, or returns it unchanged if the raw lock refuses.
+    fn try_upgrade_by<A: TryUpgrade<R>>(
+        guard: ArcRwLockUpgradableReadGuard<R, T>,
+        attempt: A,
+    ) -> Result<ArcRwLockWriteGuard<R, T>, ArcRwLockUpgradableReadGuard<R, T>>
+        ensures { MatchResult result (λ upgraded. arc_of upgraded ≡ arc_of guard)
+            (λ same. same ≡ guard) }
+    {
         let (lock, token, ()) = guard.held.into_parts();
-        let answer = lock.rwlock.raw.try_upgrade(token);
+        let answer = attempt.make(&lock.rwlock.raw, token);
         ArcModeGuard::upgraded(lock, answer)
     }
 
@@ -46,8 +58,7 @@ impl<R: RawRwLockUpgrade + Drop, T: Drop> ArcModeGuard<OwnedInMode<Upgradable, R
         ensures upgraded { is_ok result ≡ is_ok answer }
         ensures lock { MatchResult result (λ upgraded. arc_of upgraded ≡ lock.rwlock)
             (λ same. lock_of same ≡ lock) }
-        ensures again { (token : R.UpgradableGuard) → IfErr answer (λ back. back ≡ token)
-            → IfErr result (λ same. inner_of same ≡ Filled token tt) }
+        ensures again { IfErr answer (λ token. IfErr result (λ same. inner_of same ≡ Filled token tt)) }
     {
         match answer {
             Ok(token) => Ok(ArcModeGuard::new(lock.rwlock, token)),
@@ -70,9 +81,7 @@ impl<R: RawRwLockUpgradeTimed + Drop, T: Drop> ArcModeGuard<OwnedInMode<Upgradab
         ensures { MatchResult result (λ upgraded. arc_of upgraded ≡ arc_of guard)
             (λ same. same ≡ guard) }
     {
-        let (lock, token, ()) = guard.held.into_parts();
-        let answer = lock.rwlock.raw.try_upgrade_for(token, timeout);
-        ArcModeGuard::upgraded(lock, answer)
+        ArcModeGuard::try_upgrade_by(guard, For { timeout })
     }
 
     /// `try_upgrade`, where the raw lock may block until `deadline`.
@@ -83,9 +92,7 @@ impl<R: RawRwLockUpgradeTimed + Drop, T: Drop> ArcModeGuard<OwnedInMode<Upgradab
         ensures { MatchResult result (λ upgraded. arc_of upgraded ≡ arc_of guard)
             (λ same. same ≡ guard) }
     {
-        let (lock, token, ()) = guard.held.into_parts();
-        let answer = lock.rwlock.raw.try_upgrade_until(token, deadline);
-        ArcModeGuard::upgraded(lock, answer)
+        ArcModeGuard::try_upgrade_by(guard, Until { deadline })
     }
 }
 
@@ -121,12 +128,27 @@ impl<R: RawRwLockUpgradeDowngrade + Drop, T: Drop> ArcModeGuard<OwnedInMode<Upgr
         ensures lock { arc_of self.new ≡ arc_of self.old }
         ensures refused { IfNone result (self.new ≡ self.old) }
     {
+        self.try_with_upgraded_by(AtOnce, f)
+    }
+
+    /// `with_upgraded`, by a try. If the raw lock refuses, returns `None` and does not call `f`.
+    fn try_with_upgraded_by<A: TryUpgrade<R>, U, F: FnOnce(&mut T) -> U>(
+        &mut self,
+        attempt: A,
+        f: F,
+    ) -> Option<U>
+    where
+        F: Drop,
+        requires { F.IsAlwaysCallable f }
+        ensures answer { IfSome result (AnswersSomeValue F.FnOnce f) }
+        ensures lock { arc_of self.new ≡ arc_of self.old }
+        ensures refused { IfNone result (self.new ≡ self.old) }
+    {
         let held = &mut self.held;
-        let rwlock = &held.lock.rwlock;
+        let lock = &held.lock;
         let (token, ()) = held.inner.take().into_parts();
-        let upgraded = rwlock.raw.try_upgrade(token);
-        let made = with_if_upgraded(rwlock, (), upgraded, f);
-        held.inner.settle(&held.lock, made)
+        let upgraded = attempt.make(&lock.rwlock.raw, token);
+        settle_if_upgraded(&mut held.inner, lock, &lock.rwlock, (), upgraded, f)
     }
 }
 
@@ -146,12 +168,7 @@ impl<R: RawRwLockUpgradeTimed + RawRwLockUpgradeDowngrade + Drop, T: Drop> ArcMo
         ensures lock { arc_of self.new ≡ arc_of self.old }
         ensures refused { IfNone result (self.new ≡ self.old) }
     {
-        let held = &mut self.held;
-        let rwlock = &held.lock.rwlock;
-        let (token, ()) = held.inner.take().into_parts();
-        let upgraded = rwlock.raw.try_upgrade_for(token, timeout);
-        let made = with_if_upgraded(rwlock, (), upgraded, f);
-        held.inner.settle(&held.lock, made)
+        self.try_with_upgraded_by(For { timeout }, f)
     }
 
     /// `try_with_upgraded`, where the raw lock may block until `deadline`.
@@ -167,11 +184,6 @@ impl<R: RawRwLockUpgradeTimed + RawRwLockUpgradeDowngrade + Drop, T: Drop> ArcMo
         ensures lock { arc_of self.new ≡ arc_of self.old }
         ensures refused { IfNone result (self.new ≡ self.old) }
     {
-        let held = &mut self.held;
-        let rwlock = &held.lock.rwlock;
-        let (token, ()) = held.inner.take().into_parts();
-        let upgraded = rwlock.raw.try_upgrade_until(token, deadline);
-        let made = with_if_upgraded(rwlock, (), upgraded, f);
-        held.inner.settle(&held.lock, made)
+        self.try_with_upgraded_by(Until { deadline }, f)
     }
 }
