@@ -5,7 +5,9 @@ use Rattle.std.proofs.lemmas.Bool.{eqb-true, true≢false, false≢true, and_par
 use Rattle.std.proofs.lemmas.List.{map-set, map-append}
 use Rattle.std.proofs.lemmas.Option.{same_Some, slice_get-map}
 use Rattle.lock_base.specs.declared.machine.hold.Hold.{Hold}
-use Rattle.lock_base.specs.Holds.{hold_has}
+use Rattle.lock_base.specs.declared.machine.lock_step.LockStep.{LockStep}
+use Rattle.lock_base.specs.declared.machine.lock_step.LockStep.TheVariants.{Modes, Announce, Withdraw}
+use Rattle.lock_base.specs.Holds.{hold_has, hold_after}
 use Rattle.lock_base.specs.Limits.{IsLimit}
 use Rattle.lock_word.specs.declared.want.ExWant.{ExWant}
 use Rattle.lock_word.specs.declared.want.ExWant.TheVariants as want
@@ -32,10 +34,10 @@ use Rattle.lock_steps.specs.declared.act.Act.TheVariants as act
 use Rattle.lock_steps.specs.declared.stage.Stage.{Stage}
 use Rattle.lock_steps.specs.declared.stage.Stage.TheVariants as stage
 use Rattle.lock_steps.specs.Machine.{Progress, acquiring, taking, next_of, next_at, ended, goes_to, wakes_one, has_to_wake, last_epoch, closed_count}
-use Rattle.lock_steps.specs.StepLaws.{Words, with_number, made, IsAnswer, LeavesWords, limits_of, trial, IsAt, hold_at, is_over, Kept}
-use Rattle.lock_steps.specs.Runs.{Underway, Thread, LockInUse, next_in, new_thread, new_lock, hold_in, hold_of, rests, may_acquire, may_release, in_call, goes_on, answer, with_thread, acquire_by, release_by, step_in, step_by, after_act, after_acts, IsDueAt, SomeThreadIsDue, is_wake, WakesNext, ThreadsAreServed, EveryRunIsServed}
+use Rattle.lock_steps.specs.StepLaws.{Words, with_number, made, IsAnswer, LeavesWords, limits_of, trial, IsRest, wake_at, IsAt, asked_at, hold_at, is_over, Kept}
+use Rattle.lock_steps.specs.Runs.{Underway, Thread, LockInUse, next_in, new_thread, new_lock, hold_in, hold_of, rests, may_acquire, may_release, in_call, goes_on, answer, with_thread, acquire_by, release_by, step_in, step_by, after_act, after_acts, IsDueAt, SomeThreadIsDue, told_by, IsAsTold, parks_at, WakesNext, ThreadsAreServed, EveryRunIsServed}
 use Rattle.lock_steps.proofs.Refusals.{Honest, honest_next, honest_start, refusal_keeps}
-use Rattle.lock_steps.proofs.Steps.{chosen, steps_keep_the_rule, no_parked_call_is_forgotten}
+use Rattle.lock_steps.proofs.Steps.{chosen, rest_leaves, same_leaves, wake_leaves, steps_keep_the_rule, no_parked_call_is_forgotten}
 
 -- a thread, and what the rule knows of it
 record Pair : Type 0 where
@@ -51,7 +53,9 @@ views_of pairs = map (λ (p : Pair). p.view) pairs
 -- the thread's call is at a step, or it is in no call and owes nothing
 abbrev IsIn : ℕ → Option Underway → SleeperView → Type 0
 IsIn readers None v = (v.watch ≡ Away) × (v.debt ≡ Nothing)
-IsIn readers (Some u) v = IsAt u.call.stage u.call u.down v u.action × (is_over u.call.stage ≡ false) × (u.call.readers ≡ readers)
+IsIn readers (Some u) v =
+    IsAt u.call.stage u.call u.down v u.action × (is_over u.call.stage ≡ false) × (u.call.readers ≡ readers)
+    × (asked_at u.call.stage u.down u.call.want ≡ u.asked)
 
 -- what a thread's call does with the bar
 abbrev HonestIn : Hold → Option Underway → Type 0
@@ -180,14 +184,14 @@ module _ (s : LockInUse) (h : IsKept s) (k : ℕ) (t : Thread) (at : slice_get s
   unbarred x e = subst (λ b. x ≡ record x { announced = b }) e refl
 
   acquires : (want : ExWant) (blocks announces : Bool) → IsTrue (may_acquire t want)
-      → IsKept (with_thread s k (in_call t down.Shared (acquiring s.readers want blocks announces)))
+      → IsKept (with_thread s k (in_call t (step_of_want want) down.Shared (acquiring s.readers want blocks announces)))
   acquires want blocks announces may =
       let parts = and_parts _ _ may in
       let wants = and_parts _ _ parts.1 in
       let needs = and_parts _ _ wants.1 in
       let rest = at_rest t.underway parts.0 refl in
       let free = not-true _ needs.1 in
-      begun (in_call t down.Shared (acquiring s.readers want blocks announces)) record {
+      begun (in_call t (step_of_want want) down.Shared (acquiring s.readers want blocks announces)) record {
         honest = honest_start t.held (acquiring s.readers want blocks announces).0 free refl refl refl;
         holds = rest.0 ∙ unbarred t.held free;
         is_in = (
@@ -203,18 +207,20 @@ module _ (s : LockInUse) (h : IsKept s) (k : ℕ) (t : Thread) (at : slice_get s
           ),
           refl,
           refl,
+          refl,
         );
       }
 
-  releases : (release : Down) → IsTrue (may_release t release) → IsKept (with_thread s k (in_call t release (taking s.readers release)))
+  releases : (release : Down) → IsTrue (may_release t release) → IsKept (with_thread s k (in_call t (step_of_down release) release (taking s.readers release)))
   releases release may =
       let parts = and_parts _ _ may in
       let rest = at_rest t.underway parts.0 refl in
-      begun (in_call t release (taking s.readers release)) record {
+      begun (in_call t (step_of_down release) release (taking s.readers release)) record {
         honest = λ waits. absurd (false≢true waits);
         holds = rest.0;
         is_in = (
           (subst (λ x. IsTrue (hold_has x (step_of_down release))) (sym rest.0) parts.1, rest.1.0, rest.1.1, refl),
+          refl,
           refl,
           refl,
         );
@@ -245,14 +251,15 @@ owes_nothing stage.Ended call release v a over st = (st.0, st.1)
 owes_nothing other call release v a over st = absurd (false≢true over)
 
 -- a thread that goes on matches the view that the step gave it
-goes_on_matches : (readers : ℕ) (t : Thread) (release : Down) (next : Progress) (you : SleeperView)
+goes_on_matches : (readers : ℕ) (t : Thread) (asked : LockStep) (release : Down) (next : Progress) (you : SleeperView)
     → IsAt next.0.stage next.0 release you next.1 → you.state.held ≡ hold_at next.0.stage release next.0 t.held
-    → next.0.readers ≡ readers → Honest t.held next.0 → Matches readers (goes_on t release next) you
-goes_on_matches readers t release next you is_at held same honest =
+    → next.0.readers ≡ readers → asked_at next.0.stage release next.0.want ≡ asked → Honest t.held next.0
+    → Matches readers (goes_on t asked release next) you
+goes_on_matches readers t asked release next you is_at held same asks honest =
     chosen (λ (x : Thread). Matches readers x you) (is_over next.0.stage)
-    (record { held = hold_at next.0.stage release next.0 t.held; underway = None }) (in_call t release next)
+    (record { held = hold_at next.0.stage release next.0 t.held; underway = None }) (in_call t asked release next)
     (λ over. record { honest = tt; holds = held; is_in = owes_nothing next.0.stage next.0 release you next.1 over is_at })
-    (λ going. record { honest = honest; holds = held; is_in = (is_at, going, same) })
+    (λ going. record { honest = honest; holds = held; is_in = (is_at, going, same, asks) })
 
 module _ (s : LockInUse) (h : IsKept s) (k told : ℕ) (t : Thread) (at : slice_get s.threads k ≡ Some t) (u : Underway)
     (calls : t.underway ≡ Some u) where
@@ -273,7 +280,7 @@ module _ (s : LockInUse) (h : IsKept s) (k told : ℕ) (t : Thread) (at : slice_
       honest_next t.held u.call u.down (answer u.action s.words told)
       (subst (HonestIn t.held) calls (matches s h k t at).honest)
 
-  stepped : Kept u.call.readers t.held (made u.action s.words) (views_of h.pairs) k u.down next
+  stepped : Kept u.call.readers (asked_at u.call.stage u.down u.call.want) t.held (made u.action s.words) (views_of h.pairs) k u.down next
   stepped =
       steps_keep_the_rule s.words (views_of h.pairs) k (me s h k t at) u.call u.down u.action (answer u.action s.words told) t.held
       (subst IsLimit (sym is_in.2) h.range) kept_here (me_at s h k t at) is_in.0 is_held is_in.1 (is_answer u.action s.words told)
@@ -281,9 +288,9 @@ module _ (s : LockInUse) (h : IsKept s) (k told : ℕ) (t : Thread) (at : slice_
   kept_after_step : IsKept (step_in s k told t (Some u))
   kept_after_step =
       let same = stepped.same_lock ∙ is_in.2 in
-      replaced s h k t at (made u.action s.words) (goes_on t u.down next) stepped.you
+      replaced s h k t at (made u.action s.words) (goes_on t u.asked u.down next) stepped.you
       (subst (λ n. KeepsLock n (made u.action s.words) (slice_set (views_of h.pairs) k stepped.you)) same stepped.kept)
-      (goes_on_matches s.readers t u.down next stepped.you stepped.is_at stepped.holds same is_honest)
+      (goes_on_matches s.readers t u.asked u.down next stepped.you stepped.is_at stepped.holds same (stepped.same_ask ∙ is_in.3) is_honest)
 
 -- acts
 
@@ -291,14 +298,14 @@ acquired_by : (s : LockInUse) (h : IsKept s) (k : ℕ) (want : ExWant) (blocks a
     → IsKept (acquire_by s k want blocks announces o)
 acquired_by s h k want blocks announces None at = h
 acquired_by s h k want blocks announces (Some t) at =
-    chosen IsKept (may_acquire t want) (with_thread s k (in_call t down.Shared (acquiring s.readers want blocks announces))) s
+    chosen IsKept (may_acquire t want) (with_thread s k (in_call t (step_of_want want) down.Shared (acquiring s.readers want blocks announces))) s
     (λ may. acquires s h k t at want blocks announces may) (λ may_not. h)
 
 released_by : (s : LockInUse) (h : IsKept s) (k : ℕ) (release : Down) (o : Option Thread) → slice_get s.threads k ≡ o
     → IsKept (release_by s k release o)
 released_by s h k release None at = h
 released_by s h k release (Some t) at =
-    chosen IsKept (may_release t release) (with_thread s k (in_call t release (taking s.readers release))) s
+    chosen IsKept (may_release t release) (with_thread s k (in_call t (step_of_down release) release (taking s.readers release))) s
     (λ may. releases s h k t at release may) (λ may_not. h)
 
 stepped_in : (s : LockInUse) (h : IsKept s) (k told : ℕ) (t : Thread) → slice_get s.threads k ≡ Some t → (o : Option Underway)
@@ -378,25 +385,185 @@ due_thread s h someone = in_thread o.x.thread.underway refl
       due = due_at s.words.epoch u.call.stage u.call u.down o.x.view u.action (where_it_is (Some u) is).0 due;
     }
 
+-- only a call at Sleep parks, and at its epoch
+record ParksAt (at : Stage) (call : Call) (epoch : ℕ) : Type 0 where
+  sleeps : at ≡ stage.Sleep
+  same : call.epoch ≡ epoch
+
+no_park : {A : Type 0} (a b : Action) (epoch : ℕ) → a ≡ b → parks_at b ≡ None → parks_at a ≡ Some epoch → A
+no_park a b epoch e none parks = absurd (none_not_some (sym none ∙ (ap parks_at (sym e) ∙ parks)))
+  where
+    none_not_some : {n : ℕ} → None ≡ Some n → ⊥
+    none_not_some e = cc
+
+rest_parks : (a : Action) → IsRest a → parks_at a ≡ None
+rest_parks (Spin n) rests = refl
+rest_parks Yield rests = refl
+rest_parks other rests = absurd rests
+
+wake_parks : (readers epoch : ℕ) → parks_at (wake_at readers epoch) ≡ None
+wake_parks readers epoch =
+    chosen (λ (a : Action). parks_at a ≡ None) ((readers == 1) && nat_lt epoch last_epoch) WakeOne WakeAll (λ one. refl) (λ all. refl)
+
+parked : (at : Stage) (call : Call) (release : Down) (v : SleeperView) (a : Action) (epoch : ℕ) → IsAt at call release v a
+    → parks_at a ≡ Some epoch → ParksAt at call epoch
+parked stage.Look call release v a epoch st parks = no_park a (Load Word) epoch st.2 refl parks
+parked stage.Try call release v a epoch st parks = no_park a (trial call) epoch st.4 refl parks
+parked stage.Pause call release v a epoch st parks = no_park a a epoch refl (rest_parks a st.2) parks
+parked stage.LookToAnnounce call release v a epoch st parks = no_park a (Load Word) epoch st.4 refl parks
+parked stage.Announce call release v a epoch st parks =
+    no_park a (Exchange Word call.loaded (word_after call.loaded want.Announce)) epoch st.6 refl parks
+parked stage.FindCount call release v a epoch st parks = no_park a (Load Count) epoch st.2 refl parks
+parked stage.CountIn call release v a epoch st parks = no_park a (Exchange Count call.loaded (call.loaded + 1)) epoch st.3 refl parks
+parked stage.WatchEpoch call release v a epoch st parks = no_park a (Load Epoch) epoch st.2 refl parks
+parked stage.LookCounted call release v a epoch st parks = no_park a (Load Word) epoch st.2 refl parks
+parked stage.TryCounted call release v a epoch st parks = no_park a (trial call) epoch st.4 refl parks
+parked stage.Sleep call release v a epoch st parks =
+    record { sleeps = refl; same = same_Some call.epoch epoch (ap parks_at (sym st.4) ∙ parks) }
+parked stage.YieldCounted call release v a epoch st parks = no_park a Yield epoch st.2 refl parks
+parked stage.LeaveAcquired call release v a epoch st parks = no_park a (Subtract Count 1) epoch st.4 refl parks
+parked stage.Leave call release v a epoch st parks = no_park a (Subtract Count 1) epoch st.2 refl parks
+parked stage.YieldAway call release v a epoch st parks = no_park a Yield epoch st.2 refl parks
+parked stage.LookAgain call release v a epoch st parks = no_park a (Load Word) epoch st.2 refl parks
+parked stage.TryAgain call release v a epoch st parks = no_park a (trial call) epoch st.5 refl parks
+parked stage.FindEpoch call release v a epoch st parks = no_park a (Load Epoch) epoch st.2 refl parks
+parked stage.CloseCount call release v a epoch st parks = no_park a (Exchange Count 0 closed_count) epoch st.2 refl parks
+parked stage.RestartEpochs call release v a epoch st parks = no_park a Restart epoch st.2 refl parks
+parked stage.OpenCount call release v a epoch st parks = no_park a (Subtract Count closed_count) epoch st.2 refl parks
+parked stage.Take call release v a epoch st parks = no_park a (Subtract Word (amount release)) epoch st.3 refl parks
+parked stage.LookForSleepers call release v a epoch st parks = no_park a (Load Count) epoch st.2 refl parks
+parked stage.NoteEpoch call release v a epoch st parks = no_park a (Load Epoch) epoch st.2 refl parks
+parked stage.EndEpoch call release v a epoch st parks = no_park a (Exchange Epoch call.epoch (call.epoch + 1)) epoch st.2 refl parks
+parked stage.Wake call release v a epoch st parks =
+    no_park a (wake_at call.readers (call.epoch + 1)) epoch st.2 (wake_parks call.readers (call.epoch + 1)) parks
+parked stage.Acquired call release v a epoch st parks = no_park a (End true) epoch st.3 refl parks
+parked stage.Refused call release v a epoch st parks = no_park a (End false) epoch st.2 refl parks
+parked stage.Ended call release v a epoch st parks = no_park a (End true) epoch st.2 refl parks
+
 none_forgotten : (s : LockInUse) (h : IsKept s) (k : ℕ) (t : Thread) (u : Underway) → slice_get s.threads k ≡ Some t → t.underway ≡ Some u
-    → u.call.stage ≡ stage.Sleep → u.call.epoch ≡ s.words.epoch
+    → parks_at u.action ≡ Some s.words.epoch
     → IsTrue (word_admits u.call.announced s.readers s.words.word u.call.want) → SomeThreadIsDue s
-none_forgotten s h k t u at calls sleeps now admits =
+none_forgotten s h k t u at calls parks admits =
     let where_it_is = is_in s h k 0 t at u calls in
+    let there = parked u.call.stage u.call u.down (me s h k t at) u.action s.words.epoch where_it_is.0 parks in
     due_thread s h
     (no_parked_call_is_forgotten s.words (views_of h.pairs) k (me s h k t at) u.call u.down u.action (kept_here s h k 0 t at u calls)
-    (me_at s h k t at) (subst (λ x. IsAt x u.call u.down (me s h k t at) u.action) sleeps where_it_is.0) now
+    (me_at s h k t at) (subst (λ x. IsAt x u.call u.down (me s h k t at) u.action) there.sleeps where_it_is.0) there.same
     (subst (λ n. IsTrue (word_admits u.call.announced n s.words.word u.call.want)) (sym where_it_is.2) admits))
 
--- a refusal
+-- what a call tells its caller
 
-refused : (s : LockInUse) (h : IsKept s) (k told : ℕ) (t : Thread) (u : Underway) → slice_get s.threads k ≡ Some t → t.underway ≡ Some u
-    → (next_in s told u).0.stage ≡ stage.Refused → (goes_on t u.down (next_in s told u)).held ≡ t.held
-refused s h k told t u at calls is =
-    let next = next_in s told u in
-    chosen (λ (x : Thread). x.held ≡ t.held) (is_over next.0.stage)
-    (record { held = hold_at next.0.stage u.down next.0 t.held; underway = None }) (in_call t u.down next)
-    (λ over. refusal_keeps t.held next.0 u.down (is_honest s h k told t at u calls) is) (λ going. refl)
+-- the modes after a step do not depend on the bar
+same_modes : (h : Hold) (b : Bool) (step : LockStep) → (hold_after (record h { announced = b }) step).bag ≡ (hold_after h step).bag
+same_modes h b (Modes step) = refl
+same_modes h b Announce = refl
+same_modes h b Withdraw = refl
+
+module _ (t : Thread) (asked : LockStep) (release : Down) (next : Progress) where
+  -- the call is over, and its action tells this
+  record Tells (over : Bool) (told : Option Bool) : Type 0 where
+    at_end : is_over next.0.stage ≡ over
+    said : told_by next.1 ≡ told
+
+  after_end : (told : Option Bool) → Tells true told → IsAsTold t asked (record { held = hold_at next.0.stage release next.0 t.held; underway = None }) told
+      → IsAsTold t asked (goes_on t asked release next) (told_by next.1)
+  after_end told tells fits =
+      subst (IsAsTold t asked (goes_on t asked release next)) (sym tells.said)
+      (chosen (λ (x : Thread). IsAsTold t asked x told) (is_over next.0.stage)
+      (record { held = hold_at next.0.stage release next.0 t.held; underway = None }) (in_call t asked release next)
+      (λ over. fits) (λ going. absurd (true≢false (sym tells.at_end ∙ going))))
+
+  before_end : Tells false None → IsAsTold t asked (goes_on t asked release next) (told_by next.1)
+  before_end tells =
+      subst (IsAsTold t asked (goes_on t asked release next)) (sym tells.said)
+      (chosen (λ (x : Thread). IsAsTold t asked x None) (is_over next.0.stage)
+      (record { held = hold_at next.0.stage release next.0 t.held; underway = None }) (in_call t asked release next)
+      (λ over. absurd (true≢false (sym over ∙ tells.at_end))) (λ going. refl))
+
+-- an action that does not end the call
+tells_nothing : (a b : Action) → a ≡ b → told_by b ≡ None → told_by a ≡ None
+tells_nothing a b e none = ap told_by e ∙ none
+
+rest_tells : (a : Action) → IsRest a → told_by a ≡ None
+rest_tells (Spin n) rests = refl
+rest_tells Yield rests = refl
+rest_tells other rests = absurd rests
+
+wake_tells : (readers epoch : ℕ) → told_by (wake_at readers epoch) ≡ None
+wake_tells readers epoch =
+    chosen (λ (a : Action). told_by a ≡ None) ((readers == 1) && nat_lt epoch last_epoch) WakeOne WakeAll (λ one. refl) (λ all. refl)
+
+-- what a call at this stage tells its caller
+abbrev told_at : Stage → Option Bool
+told_at stage.Acquired = Some true
+told_at stage.Refused = Some false
+told_at stage.Ended = Some true
+told_at going = None
+
+tells_at : (at : Stage) (call : Call) (release : Down) (v : SleeperView) (a : Action) → IsAt at call release v a → told_by a ≡ told_at at
+tells_at stage.Look call release v a st = tells_nothing a (Load Word) st.2 refl
+tells_at stage.Try call release v a st = tells_nothing a (trial call) st.4 refl
+tells_at stage.Pause call release v a st = rest_tells a st.2
+tells_at stage.LookToAnnounce call release v a st = tells_nothing a (Load Word) st.4 refl
+tells_at stage.Announce call release v a st = tells_nothing a (Exchange Word call.loaded (word_after call.loaded want.Announce)) st.6 refl
+tells_at stage.FindCount call release v a st = tells_nothing a (Load Count) st.2 refl
+tells_at stage.CountIn call release v a st = tells_nothing a (Exchange Count call.loaded (call.loaded + 1)) st.3 refl
+tells_at stage.WatchEpoch call release v a st = tells_nothing a (Load Epoch) st.2 refl
+tells_at stage.LookCounted call release v a st = tells_nothing a (Load Word) st.2 refl
+tells_at stage.TryCounted call release v a st = tells_nothing a (trial call) st.4 refl
+tells_at stage.Sleep call release v a st = tells_nothing a (Park call.epoch) st.4 refl
+tells_at stage.YieldCounted call release v a st = tells_nothing a Yield st.2 refl
+tells_at stage.LeaveAcquired call release v a st = tells_nothing a (Subtract Count 1) st.4 refl
+tells_at stage.Leave call release v a st = tells_nothing a (Subtract Count 1) st.2 refl
+tells_at stage.YieldAway call release v a st = tells_nothing a Yield st.2 refl
+tells_at stage.LookAgain call release v a st = tells_nothing a (Load Word) st.2 refl
+tells_at stage.TryAgain call release v a st = tells_nothing a (trial call) st.5 refl
+tells_at stage.FindEpoch call release v a st = tells_nothing a (Load Epoch) st.2 refl
+tells_at stage.CloseCount call release v a st = tells_nothing a (Exchange Count 0 closed_count) st.2 refl
+tells_at stage.RestartEpochs call release v a st = tells_nothing a Restart st.2 refl
+tells_at stage.OpenCount call release v a st = tells_nothing a (Subtract Count closed_count) st.2 refl
+tells_at stage.Take call release v a st = tells_nothing a (Subtract Word (amount release)) st.3 refl
+tells_at stage.LookForSleepers call release v a st = tells_nothing a (Load Count) st.2 refl
+tells_at stage.NoteEpoch call release v a st = tells_nothing a (Load Epoch) st.2 refl
+tells_at stage.EndEpoch call release v a st = tells_nothing a (Exchange Epoch call.epoch (call.epoch + 1)) st.2 refl
+tells_at stage.Wake call release v a st = tells_nothing a (wake_at call.readers (call.epoch + 1)) st.2 (wake_tells call.readers (call.epoch + 1))
+tells_at stage.Acquired call release v a st = ap told_by st.3
+tells_at stage.Refused call release v a st = ap told_by st.2
+tells_at stage.Ended call release v a st = ap told_by st.2
+
+-- the modes that a thread holds after its call made its change
+granted : (t : Thread) (asked : LockStep) (release : Down) (call : Call) (at : Stage) → told_at at ≡ Some true
+    → asked_at at release call.want ≡ asked → (hold_at at release call t.held).bag ≡ (hold_after t.held asked).bag
+granted t asked release call stage.Acquired is asks =
+    same_modes t.held call.announced (step_of_want call.want) ∙ ap (λ (step : LockStep). (hold_after t.held step).bag) asks
+granted t asked release call stage.Ended is asks = ap (λ (step : LockStep). (hold_after t.held step).bag) asks
+granted t asked release call other is asks = cc
+
+module _ (s : LockInUse) (h : IsKept s) (k found : ℕ) (t : Thread) (at : slice_get s.threads k ≡ Some t) (u : Underway)
+    (calls : t.underway ≡ Some u) where
+  abbrev after : Progress
+  after = next_in s found u
+
+  tells : (over : Bool) (told : Option Bool) → is_over after.0.stage ≡ over → told_at after.0.stage ≡ told → Tells t u.asked u.down after over told
+  tells over told is said =
+      let kept = stepped s h k found t at u calls in
+      record { at_end = is; said = tells_at after.0.stage after.0 u.down kept.you after.1 kept.is_at ∙ said }
+
+  made_it : told_at after.0.stage ≡ Some true → (hold_at after.0.stage u.down after.0 t.held).bag ≡ (hold_after t.held u.asked).bag
+  made_it said =
+      granted t u.asked u.down after.0 after.0.stage said ((stepped s h k found t at u calls).same_ask ∙ (is_in s h k found t at u calls).3)
+
+  by_stage : (x : Stage) → after.0.stage ≡ x → IsAsTold t u.asked (goes_on t u.asked u.down after) (told_by after.1)
+  by_stage stage.Acquired is = after_end t u.asked u.down after (Some true) (tells true (Some true) (ap is_over is) (ap told_at is)) (refl, made_it (ap told_at is))
+  by_stage stage.Ended is = after_end t u.asked u.down after (Some true) (tells true (Some true) (ap is_over is) (ap told_at is)) (refl, made_it (ap told_at is))
+  by_stage stage.Refused is =
+      after_end t u.asked u.down after (Some false) (tells true (Some false) (ap is_over is) (ap told_at is))
+      (ap (λ (x : Hold). record { held = x; underway = None }) (refusal_keeps t.held after.0 u.down (is_honest s h k found t at u calls) is))
+  by_stage other is = before_end t u.asked u.down after (tells false None (ap is_over is) (ap told_at is))
+
+is_told : (s : LockInUse) (h : IsKept s) (k found : ℕ) (t : Thread) (u : Underway) → slice_get s.threads k ≡ Some t → t.underway ≡ Some u
+    → IsAsTold t u.asked (goes_on t u.asked u.down (next_in s found u)) (told_by (next_in s found u).1)
+is_told s h k found t u at calls = by_stage s h k found t at u calls (next_in s found u).0.stage refl
 
 -- a step that ends an epoch
 
@@ -420,16 +587,16 @@ calm w a b e c = subst (IsCalm w) (sym e) c
 calm_pause : (w : Words) (a : Action) → LeavesWords a → IsCalm w a
 calm_pause w a leaves ends = never w.epoch (sym (ap (λ (x : Words). x.epoch) (leaves w)) ∙ ends)
 
-record WakesAfter (next : Progress) : Type 0 where
-  wakes : IsTrue (is_wake next.1)
+record WakesAfter (epoch : ℕ) (readers : ℕ) (next : Progress) : Type 0 where
+  wakes : next.1 ≡ wake_at readers (epoch + 1)
   going : is_over next.0.stage ≡ false
 
 ends_at : (w : Words) (call : Call) (release : Down) (v : SleeperView) (a : Action) (told : ℕ) (at : Stage) → IsAt at call release v a
-    → (made a w).epoch ≡ w.epoch + 1 → WakesAfter (next_at at release (answer a w told) call)
+    → (made a w).epoch ≡ w.epoch + 1 → WakesAfter w.epoch call.readers (next_at at release (answer a w told) call)
 ends_at w call release v a told stage.Look st ends = absurd (calm w a (Load Word) st.2 (never w.epoch) ends)
 ends_at w call release v a told stage.Try st ends =
     absurd (calm w a (trial call) st.4 (same_epoch w (w.word == call.loaded) (with_number Word (word_after call.loaded call.want) w) refl) ends)
-ends_at w call release v a told stage.Pause st ends = absurd (calm_pause w a st.2 ends)
+ends_at w call release v a told stage.Pause st ends = absurd (calm_pause w a (rest_leaves a st.2) ends)
 ends_at w call release v a told stage.LookToAnnounce st ends = absurd (calm w a (Load Word) st.4 (never w.epoch) ends)
 ends_at w call release v a told stage.Announce st ends =
     absurd
@@ -445,10 +612,10 @@ ends_at w call release v a told stage.LookCounted st ends = absurd (calm w a (Lo
 ends_at w call release v a told stage.TryCounted st ends =
     absurd (calm w a (trial call) st.4 (same_epoch w (w.word == call.loaded) (with_number Word (word_after call.loaded call.want) w) refl) ends)
 ends_at w call release v a told stage.Sleep st ends = absurd (calm w a (Park call.epoch) st.4 (never w.epoch) ends)
-ends_at w call release v a told stage.YieldCounted st ends = absurd (calm_pause w a st.2 ends)
+ends_at w call release v a told stage.YieldCounted st ends = absurd (calm w a Yield st.2 (never w.epoch) ends)
 ends_at w call release v a told stage.LeaveAcquired st ends = absurd (calm w a (Subtract Count 1) st.4 (never w.epoch) ends)
 ends_at w call release v a told stage.Leave st ends = absurd (calm w a (Subtract Count 1) st.2 (never w.epoch) ends)
-ends_at w call release v a told stage.YieldAway st ends = absurd (calm_pause w a st.2 ends)
+ends_at w call release v a told stage.YieldAway st ends = absurd (calm w a Yield st.2 (never w.epoch) ends)
 ends_at w call release v a told stage.LookAgain st ends = absurd (calm w a (Load Word) st.2 (never w.epoch) ends)
 ends_at w call release v a told stage.TryAgain st ends =
     absurd (calm w a (trial call) st.5 (same_epoch w (w.word == call.loaded) (with_number Word (word_after call.loaded call.want) w) refl) ends)
@@ -461,37 +628,45 @@ ends_at w call release v a told stage.Take st ends = absurd (calm w a (Subtract 
 ends_at w call release v a told stage.LookForSleepers st ends = absurd (calm w a (Load Count) st.2 (never w.epoch) ends)
 ends_at w call release v a told stage.NoteEpoch st ends = absurd (calm w a (Load Epoch) st.2 (never w.epoch) ends)
 ends_at w call release v a told stage.EndEpoch st ends =
-    subst (λ x. (made x w).epoch ≡ w.epoch + 1 → WakesAfter (next_at stage.EndEpoch release (answer x w told) call)) (sym st.2)
-    (either (w.epoch == call.epoch) (wakes_one call && nat_lt (call.epoch + 1) last_epoch)) ends
+    subst (λ x. (made x w).epoch ≡ w.epoch + 1 → WakesAfter w.epoch call.readers (next_at stage.EndEpoch release (answer x w told) call)) (sym st.2)
+    (either (w.epoch == call.epoch) (λ hits. eqb-true _ _ hits) (wakes_one call && nat_lt (call.epoch + 1) last_epoch) refl) ends
   where
-    either : (b one : Bool) → (if b then with_number Epoch (call.epoch + 1) w else w).epoch ≡ w.epoch + 1
-        → WakesAfter (if not b then ended true call else if one then goes_to call stage.Wake WakeOne else goes_to call stage.Wake WakeAll)
-    either true true e = record { wakes = refl; going = refl }
-    either true false e = record { wakes = refl; going = refl }
-    either false one e = absurd (never w.epoch e)
-ends_at w call release v a told stage.Wake st ends = absurd (calm_pause w a st.2 ends)
-ends_at w call release v a told stage.Acquired st ends = absurd (calm_pause w a st.3 ends)
-ends_at w call release v a told stage.Refused st ends = absurd (calm_pause w a st.2 ends)
-ends_at w call release v a told stage.Ended st ends = absurd (calm_pause w a st.2 ends)
+    wakes_now : w.epoch ≡ call.epoch → (one : Bool) → (wakes_one call && nat_lt (call.epoch + 1) last_epoch) ≡ one
+        → (if one then WakeOne else WakeAll) ≡ wake_at call.readers (w.epoch + 1)
+    wakes_now hit one is =
+        ap (λ (b : Bool). if b then WakeOne else WakeAll) (sym is) ∙ ap (λ (n : ℕ). wake_at call.readers (n + 1)) (sym hit)
+
+    either : (b : Bool) → (b ≡ true → w.epoch ≡ call.epoch) → (one : Bool) → (wakes_one call && nat_lt (call.epoch + 1) last_epoch) ≡ one → (if b then with_number Epoch (call.epoch + 1) w else w).epoch ≡ w.epoch + 1
+        → WakesAfter w.epoch call.readers (if not b then ended true call else if one then goes_to call stage.Wake WakeOne else goes_to call stage.Wake WakeAll)
+    either true hit true is e = record { wakes = wakes_now (hit refl) true is; going = refl }
+    either true hit false is e = record { wakes = wakes_now (hit refl) false is; going = refl }
+    either false hit one is e = absurd (never w.epoch e)
+ends_at w call release v a told stage.Wake st ends =
+    absurd (calm_pause w a (same_leaves st.2 (wake_leaves call.readers (call.epoch + 1))) ends)
+ends_at w call release v a told stage.Acquired st ends = absurd (calm w a (End true) st.3 (never w.epoch) ends)
+ends_at w call release v a told stage.Refused st ends = absurd (calm w a (End false) st.2 (never w.epoch) ends)
+ends_at w call release v a told stage.Ended st ends = absurd (calm w a (End true) st.2 (never w.epoch) ends)
 
 wakes_in : (s : LockInUse) (h : IsKept s) (k told : ℕ) (t : Thread) → slice_get s.threads k ≡ Some t → (o : Option Underway) → t.underway ≡ o
     → (step_in s k told t o).words.epoch ≡ s.words.epoch + 1 → WakesNext (step_in s k told t o) k
 wakes_in s h k told t at None calls ends = absurd (never s.words.epoch ends)
 wakes_in s h k told t at (Some u) calls ends =
     let now = next s h k told t at u calls in
+    let where_it_is = is_in s h k told t at u calls in
     let wakes = ends_at s.words u.call u.down (me s h k t at) u.action told u.call.stage (is_in s h k told t at u calls).0 ends in
     record {
-      thread = in_call t u.down now;
-      underway = record { down = u.down; call = now.0; action = now.1 };
-      is = put s.threads k t (goes_on t u.down now) at ∙ ap Some (still_going t u.down now wakes.going);
+      thread = in_call t u.asked u.down now;
+      underway = record { asked = u.asked; down = u.down; call = now.0; action = now.1 };
+      is = put s.threads k t (goes_on t u.asked u.down now) at ∙ ap Some (still_going t u.asked u.down now wakes.going);
       calls = refl;
-      wakes = wakes.wakes;
+      wakes = wakes.wakes ∙ rw (where_it_is.2, sym ends) refl;
     }
   where
-    still_going : (t : Thread) (release : Down) (next : Progress) → is_over next.0.stage ≡ false → goes_on t release next ≡ in_call t release next
-    still_going t release next going =
-        chosen (λ (x : Thread). x ≡ in_call t release next) (is_over next.0.stage)
-        (record { held = hold_at next.0.stage release next.0 t.held; underway = None }) (in_call t release next)
+    still_going : (t : Thread) (asked : LockStep) (release : Down) (next : Progress) → is_over next.0.stage ≡ false
+        → goes_on t asked release next ≡ in_call t asked release next
+    still_going t asked release next going =
+        chosen (λ (x : Thread). x ≡ in_call t asked release next) (is_over next.0.stage)
+        (record { held = hold_at next.0.stage release next.0 t.held; underway = None }) (in_call t asked release next)
         (λ over. absurd (true≢false (sym over ∙ going))) (λ same. refl)
 
 wakes_by : (s : LockInUse) (h : IsKept s) (k told : ℕ) (o : Option Thread) → slice_get s.threads k ≡ o
@@ -505,7 +680,7 @@ served s h =
       coded = h.kept.rule.coded ∙ ap (λ hs. word_of (all_of hs)) (shown_holds s h);
       legal = subst (λ hs. IsLegalBarredBag s.readers (all_of hs)) (shown_holds s h) h.kept.rule.legal;
       none_forgotten = none_forgotten s h;
-      refused = refused s h;
+      told = is_told s h;
       wakes = λ k told ends. wakes_by s h k told (slice_get s.threads k) refl ends;
     }
 

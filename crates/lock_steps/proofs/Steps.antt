@@ -2,6 +2,7 @@
 use Rattle.std.proofs.Common.{◌≡◌, ◌≢◌, ℕ, ◌+◌, ◌-◌, ◌^◌, Bool, true, false, not, ◌&&◌, ◌==◌, nat_lt, List, slice_get, slice_set, Some, None, Option, if◌then◌else◌, IsTrue, inl, inr, refl, sym, ap, subst, ◌∙◌, arith}
 use Rattle.std.proofs.lemmas.Bool.{eqb-true, eqb-false, ltb-true, ltb-false, or_left, or_right, true≢false, and_parts, not-true}
 use Rattle.lock_base.specs.declared.machine.hold.Hold.{Hold}
+use Rattle.lock_base.specs.declared.machine.lock_step.LockStep.{LockStep}
 use Rattle.lock_base.specs.Holds.{hold_has, hold_after}
 use Rattle.lock_base.specs.Limits.{IsLimit}
 use Rattle.lock_word.specs.declared.want.ExWant.{ExWant}
@@ -25,7 +26,7 @@ use Rattle.lock_steps.specs.declared.call.Call.{Call}
 use Rattle.lock_steps.specs.declared.stage.Stage.{Stage}
 use Rattle.lock_steps.specs.declared.stage.Stage.TheVariants as stage
 use Rattle.lock_steps.specs.Machine.{most_spins, most_pauses, Progress, goes_to, ended, acquired, refused, with_loaded, wakes_one, to_count, to_wait, pause, or_else, leave, look_again, find_epoch, last_epoch, closed_count, has_to_wake, next_at}
-use Rattle.lock_steps.specs.StepLaws.{gained, Words, with_number, made, IsAnswer, LeavesWords, limits_of, Acquires, Acquiring, trial, IsAt, hold_at, is_over, Kept, StepsKeepTheRule, NoParkedCallIsForgotten, CallsBegin}
+use Rattle.lock_steps.specs.StepLaws.{gained, Words, with_number, made, IsAnswer, LeavesWords, limits_of, Acquires, Acquiring, trial, IsRest, wake_at, IsAt, asked_at, hold_at, is_over, Kept, StepsKeepTheRule, NoParkedCallIsForgotten, CallsBegin}
 
 -- choices
 
@@ -33,11 +34,24 @@ pub chosen : {A : Type 0} (P : A → Type 0) (b : Bool) (x y : A) → (b ≡ tru
 chosen P true x y hit miss = hit refl
 chosen P false x y hit miss = miss refl
 
+-- actions that leave the words
+
+pub rest_leaves : (a : Action) → IsRest a → LeavesWords a
+rest_leaves (Spin n) rests w = refl
+rest_leaves Yield rests w = refl
+rest_leaves other rests w = absurd rests
+
+pub wake_leaves : (readers epoch : ℕ) → LeavesWords (wake_at readers epoch)
+wake_leaves readers epoch = chosen LeavesWords ((readers == 1) && nat_lt epoch last_epoch) WakeOne WakeAll (λ one w. refl) (λ all w. refl)
+
+pub same_leaves : {a b : Action} → a ≡ b → LeavesWords b → LeavesWords a
+same_leaves e leaves = subst LeavesWords (sym e) leaves
+
 -- an exchange that is made or lost, and what the call does then
-exchanged : (readers : ℕ) (before : Hold) (views : List SleeperView) (k : ℕ) (down : Down) (v w : Words) (f g : Progress) (b : Bool) → (b ≡ true → Kept readers before v views k down f)
-    → (b ≡ false → Kept readers before w views k down g) → Kept readers before (if b then v else w) views k down (if b then f else g)
-exchanged readers before views k down v w f g true hit miss = hit refl
-exchanged readers before views k down v w f g false hit miss = miss refl
+exchanged : (readers : ℕ) (asked : LockStep) (before : Hold) (views : List SleeperView) (k : ℕ) (down : Down) (v w : Words) (f g : Progress) (b : Bool) → (b ≡ true → Kept readers asked before v views k down f)
+    → (b ≡ false → Kept readers asked before w views k down g) → Kept readers asked before (if b then v else w) views k down (if b then f else g)
+exchanged readers asked before views k down v w f g true hit miss = hit refl
+exchanged readers asked before views k down v w f g false hit miss = miss refl
 
 -- looks
 
@@ -69,35 +83,36 @@ on want announced v u acts held debt =
 module _ (before : Hold) (views : List SleeperView) (k : ℕ) (down : Down) (w : Words) where
   -- a call that goes on to wait
   waits : (call : Call) (you : SleeperView) → KeepsWakes (limits_of call) w.word w.count w.epoch (slice_set views k you) → Acquiring call you
-      → you.watch ≡ Away → you.state.held ≡ record before { announced = call.announced } → Kept call.readers before w views k down (to_wait call)
+      → you.watch ≡ Away → you.state.held ≡ record before { announced = call.announced } → Kept call.readers (step_of_want call.want) before w views k down (to_wait call)
   waits call you kept acts away hd =
-      chosen (Kept call.readers before w views k down) call.late (refused call)
+      chosen (Kept call.readers (step_of_want call.want) before w views k down) call.late (refused call)
       (if call.announces && (not call.announced && not (wakes_one call)) then goes_to call stage.LookToAnnounce (Load Word) else to_count call)
-      (λ late. record { you = you; kept = kept; is_at = (acts, away, λ x. refl); holds = hd; same_lock = refl })
+      (λ late. record { you = you; kept = kept; is_at = (acts, away, refl); holds = hd; same_lock = refl; same_ask = refl })
       (λ early.
-      chosen (Kept call.readers before w views k down) (call.announces && (not call.announced && not (wakes_one call)))
+      chosen (Kept call.readers (step_of_want call.want) before w views k down) (call.announces && (not call.announced && not (wakes_one call)))
       (goes_to call stage.LookToAnnounce (Load Word)) (to_count call)
       (λ asks.
       let both = (and_parts _ _ (and_parts _ _ asks).1) in
-      record { you = you; kept = kept; is_at = (acts, away, not-true _ both.0, not-true _ both.1, refl); holds = hd; same_lock = refl })
-      (λ misses. record { you = you; kept = kept; is_at = (acts, away, refl); holds = hd; same_lock = refl }))
+      record { you = you; kept = kept; is_at = (acts, away, not-true _ both.0, not-true _ both.1, refl); holds = hd; same_lock = refl; same_ask = refl })
+      (λ misses. record { you = you; kept = kept; is_at = (acts, away, refl); holds = hd; same_lock = refl; same_ask = refl }))
 
   pauses : (call : Call) (you : SleeperView) → KeepsWakes (limits_of call) w.word w.count w.epoch (slice_set views k you) → Acquiring call you
-      → you.watch ≡ Away → you.state.held ≡ record before { announced = call.announced } → Kept call.readers before w views k down (pause call)
+      → you.watch ≡ Away → you.state.held ≡ record before { announced = call.announced } → Kept call.readers (step_of_want call.want) before w views k down (pause call)
   pauses call you kept acts away hd =
       let again : Call = record call { pauses = call.pauses + 1 } in
-      chosen (Kept call.readers before w views k down) (not call.blocks) (refused call)
+      chosen (Kept call.readers (step_of_want call.want) before w views k down) (not call.blocks) (refused call)
       (if nat_lt call.pauses most_pauses then goes_to again stage.Pause (if nat_lt call.pauses most_spins then Spin call.pauses else Yield) else to_wait call)
-      (λ tries. record { you = you; kept = kept; is_at = (acts, away, λ x. refl); holds = hd; same_lock = refl })
+      (λ tries. record { you = you; kept = kept; is_at = (acts, away, refl); holds = hd; same_lock = refl; same_ask = refl })
       (λ blocks.
-      chosen (Kept call.readers before w views k down) (nat_lt call.pauses most_pauses)
+      chosen (Kept call.readers (step_of_want call.want) before w views k down) (nat_lt call.pauses most_pauses)
       (goes_to again stage.Pause (if nat_lt call.pauses most_spins then Spin call.pauses else Yield)) (to_wait call)
       (λ few. record {
         you = you;
         kept = kept;
-        is_at = (acts, away, chosen LeavesWords (nat_lt call.pauses most_spins) (Spin call.pauses) Yield (λ spins. λ x. refl) (λ yields. λ x. refl));
+        is_at = (acts, away, chosen IsRest (nat_lt call.pauses most_spins) (Spin call.pauses) Yield (λ spins. tt) (λ yields. tt));
         holds = hd;
         same_lock = refl;
+        same_ask = refl;
       })
       (λ many. waits call you kept acts away hd))
 
@@ -144,45 +159,46 @@ module _ (before : Hold) (views : List SleeperView) (k : ℕ) (down : Down) (w :
       subst (λ n. KeepsWakes (limits_of call) (word_after n call.want) w.count w.epoch (slice_set views k (view_after_win me call.want))) hit
       (each.exchange call.want acts.has (admitted acts admits hit) (may acts))
 
-  at_look : IsAt stage.Look call down me (Load Word) → me.state.held ≡ hold_at stage.Look down call before → Kept call.readers before w views k down (next_at stage.Look down w.word call)
+  at_look : IsAt stage.Look call down me (Load Word) → me.state.held ≡ hold_at stage.Look down call before → Kept call.readers (step_of_want call.want) before w views k down (next_at stage.Look down w.word call)
   at_look st hd =
       let you = view_after_load w.word me in
       let loaded = with_loaded call w.word in
       let acts : Acquiring call you = on call.want call.announced me you st.0 refl refl in
       let away : you.watch ≡ Away = looks_same w.word Away refl me.watch st.1 in
-      chosen (λ r. Kept call.readers before w views k down (or_else pause r)) (word_admits call.announced call.readers w.word call.want)
+      chosen (λ r. Kept call.readers (step_of_want call.want) before w views k down (or_else pause r)) (word_admits call.announced call.readers w.word call.want)
       (record call { loaded = w.word; stage = stage.Try }, Some (Exchange Word w.word (word_after w.word call.want))) (loaded, None)
-      (λ admits. record { you = you; kept = each.load; is_at = (acts, away, refl, admits, refl); holds = hd; same_lock = refl })
+      (λ admits. record { you = you; kept = each.load; is_at = (acts, away, refl, admits, refl); holds = hd; same_lock = refl; same_ask = refl })
       (λ refuses. pauses before views k down w loaded you each.load acts away hd)
 
-  at_try : IsAt stage.Try call down me (trial call) → me.state.held ≡ hold_at stage.Try down call before → Kept call.readers before (made (trial call) w) views k down (next_at stage.Try down w.word call)
+  at_try : IsAt stage.Try call down me (trial call) → me.state.held ≡ hold_at stage.Try down call before → Kept call.readers (step_of_want call.want) before (made (trial call) w) views k down (next_at stage.Try down w.word call)
   at_try st hd =
-      exchanged call.readers before views k down (with_number Word (word_after call.loaded call.want) w) w (acquired call) (pause call) (w.word == call.loaded)
+      exchanged call.readers (step_of_want call.want) before views k down (with_number Word (word_after call.loaded call.want) w) w (acquired call) (pause call) (w.word == call.loaded)
       (λ hits. record {
         you = view_after_win me call.want;
         kept = won st.0 st.3 (eqb-true _ _ hits);
-        is_at = (ap after_exchange st.1, st.0.debt, gains call.want me st.0.awaited, λ x. refl);
+        is_at = (ap after_exchange st.1, st.0.debt, gains call.want me st.0.awaited, refl);
         holds = ap (λ (h : Hold). hold_after h (step_of_want call.want)) hd;
         same_lock = refl;
+        same_ask = refl;
       })
       (λ misses.
       let you = view_after_loss w.word me in
       pauses before views k down w call you (each.lost call.loaded st.2 (eqb-false _ _ misses)) (on call.want call.announced me you st.0 refl refl)
       (looks_same w.word Away refl me.watch st.1) hd)
 
-  at_pause : (a : Action) → IsAt stage.Pause call down me a → me.state.held ≡ hold_at stage.Pause down call before → Kept call.readers before w views k down (next_at stage.Pause down w.word call)
-  at_pause a st hd = record { you = me; kept = same; is_at = (st.0, st.1, refl); holds = hd; same_lock = refl }
+  at_pause : (a : Action) → IsAt stage.Pause call down me a → me.state.held ≡ hold_at stage.Pause down call before → Kept call.readers (step_of_want call.want) before w views k down (next_at stage.Pause down w.word call)
+  at_pause a st hd = record { you = me; kept = same; is_at = (st.0, st.1, refl); holds = hd; same_lock = refl; same_ask = refl }
 
-  at_look_to_announce : IsAt stage.LookToAnnounce call down me (Load Word) → me.state.held ≡ hold_at stage.LookToAnnounce down call before → Kept call.readers before w views k down (next_at stage.LookToAnnounce down w.word call)
+  at_look_to_announce : IsAt stage.LookToAnnounce call down me (Load Word) → me.state.held ≡ hold_at stage.LookToAnnounce down call before → Kept call.readers (step_of_want call.want) before w views k down (next_at stage.LookToAnnounce down w.word call)
   at_look_to_announce st hd =
       let you = view_after_load w.word me in
       let loaded = with_loaded call w.word in
       let acts : Acquiring call you = on call.want call.announced me you st.0 refl refl in
       let away : you.watch ≡ Away = looks_same w.word Away refl me.watch st.1 in
-      chosen (Kept call.readers before w views k down) (nat_lt w.word (2 ^ 34)) (goes_to loaded stage.Announce (Exchange Word w.word (word_after w.word want.Announce)))
+      chosen (Kept call.readers (step_of_want call.want) before w views k down) (nat_lt w.word (2 ^ 34)) (goes_to loaded stage.Announce (Exchange Word w.word (word_after w.word want.Announce)))
       (to_count loaded)
-      (λ admits. record { you = you; kept = each.load; is_at = (acts, away, st.2, st.3, refl, admits, refl); holds = hd; same_lock = refl })
-      (λ refuses. record { you = you; kept = each.load; is_at = (acts, away, refl); holds = hd; same_lock = refl })
+      (λ admits. record { you = you; kept = each.load; is_at = (acts, away, st.2, st.3, refl, admits, refl); holds = hd; same_lock = refl; same_ask = refl })
+      (λ refuses. record { you = you; kept = each.load; is_at = (acts, away, refl); holds = hd; same_lock = refl; same_ask = refl })
 
   -- a party that sets the bar still holds what it held
   announced_on : (wish : ExWant) (v : SleeperView) → Acquires wish false v → Acquires wish true (view_after_win v want.Announce)
@@ -193,7 +209,7 @@ module _ (before : Hold) (views : List SleeperView) (k : ℕ) (down : Down) (w :
   announced_on want.Announce v acts = absurd (true≢false (sym acts.awaited))
 
   at_announce : IsAt stage.Announce call down me (Exchange Word call.loaded (word_after call.loaded want.Announce)) → me.state.held ≡ hold_at stage.Announce down call before
-      → Kept call.readers before (made (Exchange Word call.loaded (word_after call.loaded want.Announce)) w) views k down (next_at stage.Announce down w.word call)
+      → Kept call.readers (step_of_want call.want) before (made (Exchange Word call.loaded (word_after call.loaded want.Announce)) w) views k down (next_at stage.Announce down w.word call)
   at_announce st hd =
       either (w.word == call.loaded)
       (λ hits.
@@ -209,6 +225,7 @@ module _ (before : Hold) (views : List SleeperView) (k : ℕ) (down : Down) (w :
         is_at = (announced_on call.want me unannounced, ap after_exchange st.1, refl);
         holds = ap (λ (h : Hold). record h { announced = true }) hd;
         same_lock = refl;
+        same_ask = refl;
       })
       (λ misses.
       let you = view_after_loss w.word me in
@@ -219,25 +236,26 @@ module _ (before : Hold) (views : List SleeperView) (k : ℕ) (down : Down) (w :
         is_at = (on call.want false me you unannounced refl refl, looks_same w.word Away refl me.watch st.1, refl);
         holds = subst (λ b. me.state.held ≡ record before { announced = b }) st.2 hd;
         same_lock = refl;
+        same_ask = refl;
       })
     where
-      either : (b : Bool) → (b ≡ true → Kept call.readers before (with_number Word (word_after call.loaded want.Announce) w) views k down (to_count (record call { announced = true })))
-          → (b ≡ false → Kept call.readers before w views k down (to_count (record call { announced = false })))
-          → Kept call.readers before (if b then with_number Word (word_after call.loaded want.Announce) w else w) views k down (to_count (record call { announced = b }))
+      either : (b : Bool) → (b ≡ true → Kept call.readers (step_of_want call.want) before (with_number Word (word_after call.loaded want.Announce) w) views k down (to_count (record call { announced = true })))
+          → (b ≡ false → Kept call.readers (step_of_want call.want) before w views k down (to_count (record call { announced = false })))
+          → Kept call.readers (step_of_want call.want) before (if b then with_number Word (word_after call.loaded want.Announce) w else w) views k down (to_count (record call { announced = b }))
       either true hit miss = hit refl
       either false hit miss = miss refl
 
-  at_find_count : IsAt stage.FindCount call down me (Load Count) → me.state.held ≡ hold_at stage.FindCount down call before → Kept call.readers before w views k down (next_at stage.FindCount down w.count call)
+  at_find_count : IsAt stage.FindCount call down me (Load Count) → me.state.held ≡ hold_at stage.FindCount down call before → Kept call.readers (step_of_want call.want) before w views k down (next_at stage.FindCount down w.count call)
   at_find_count st hd =
-      chosen (Kept call.readers before w views k down) (nat_lt (w.count + 1) closed_count)
+      chosen (Kept call.readers (step_of_want call.want) before w views k down) (nat_lt (w.count + 1) closed_count)
       (goes_to (with_loaded call w.count) stage.CountIn (Exchange Count w.count (w.count + 1))) (goes_to call stage.YieldAway Yield)
-      (λ few. record { you = me; kept = same; is_at = (st.0, st.1, ltb-true _ _ few, refl); holds = hd; same_lock = refl })
-      (λ many. record { you = me; kept = same; is_at = (st.0, st.1, λ x. refl); holds = hd; same_lock = refl })
+      (λ few. record { you = me; kept = same; is_at = (st.0, st.1, ltb-true _ _ few, refl); holds = hd; same_lock = refl; same_ask = refl })
+      (λ many. record { you = me; kept = same; is_at = (st.0, st.1, refl); holds = hd; same_lock = refl; same_ask = refl })
 
   at_count_in : IsAt stage.CountIn call down me (Exchange Count call.loaded (call.loaded + 1)) → me.state.held ≡ hold_at stage.CountIn down call before
-      → Kept call.readers before (made (Exchange Count call.loaded (call.loaded + 1)) w) views k down (next_at stage.CountIn down w.count call)
+      → Kept call.readers (step_of_want call.want) before (made (Exchange Count call.loaded (call.loaded + 1)) w) views k down (next_at stage.CountIn down w.count call)
   at_count_in st hd =
-      exchanged call.readers before views k down (with_number Count (call.loaded + 1) w) w (goes_to call stage.WatchEpoch (Load Epoch)) (goes_to call stage.YieldAway Yield)
+      exchanged call.readers (step_of_want call.want) before views k down (with_number Count (call.loaded + 1) w) w (goes_to call stage.WatchEpoch (Load Epoch)) (goes_to call stage.YieldAway Yield)
       (w.count == call.loaded)
       (λ hits.
       let hit = eqb-true _ _ hits in
@@ -251,12 +269,13 @@ module _ (before : Hold) (views : List SleeperView) (k : ℕ) (down : Down) (w :
         is_at = (on call.want call.announced me you st.0 refl refl, refl, refl);
         holds = hd;
         same_lock = refl;
+        same_ask = refl;
       })
-      (λ misses. record { you = me; kept = same; is_at = (st.0, st.1, λ x. refl); holds = hd; same_lock = refl })
+      (λ misses. record { you = me; kept = same; is_at = (st.0, st.1, refl); holds = hd; same_lock = refl; same_ask = refl })
 
-  at_watch_epoch : IsAt stage.WatchEpoch call down me (Load Epoch) → me.state.held ≡ hold_at stage.WatchEpoch down call before → Kept call.readers before w views k down (next_at stage.WatchEpoch down w.epoch call)
+  at_watch_epoch : IsAt stage.WatchEpoch call down me (Load Epoch) → me.state.held ≡ hold_at stage.WatchEpoch down call before → Kept call.readers (step_of_want call.want) before w views k down (next_at stage.WatchEpoch down w.epoch call)
   at_watch_epoch st hd =
-      chosen (Kept call.readers before w views k down) (nat_lt w.epoch last_epoch) (goes_to (record call { epoch = w.epoch }) stage.LookCounted (Load Word))
+      chosen (Kept call.readers (step_of_want call.want) before w views k down) (nat_lt w.epoch last_epoch) (goes_to (record call { epoch = w.epoch }) stage.LookCounted (Load Word))
       (goes_to call stage.YieldCounted Yield)
       (λ early.
       let you = view_after_epoch w.epoch me in
@@ -266,23 +285,24 @@ module _ (before : Hold) (views : List SleeperView) (k : ℕ) (down : Down) (w :
         is_at = (on call.want call.announced me you st.0 refl refl, refl, refl);
         holds = hd;
         same_lock = refl;
+        same_ask = refl;
       })
-      (λ late. record { you = me; kept = same; is_at = (st.0, st.1, λ x. refl); holds = hd; same_lock = refl })
+      (λ late. record { you = me; kept = same; is_at = (st.0, st.1, refl); holds = hd; same_lock = refl; same_ask = refl })
 
-  at_look_counted : IsAt stage.LookCounted call down me (Load Word) → me.state.held ≡ hold_at stage.LookCounted down call before → Kept call.readers before w views k down (next_at stage.LookCounted down w.word call)
+  at_look_counted : IsAt stage.LookCounted call down me (Load Word) → me.state.held ≡ hold_at stage.LookCounted down call before → Kept call.readers (step_of_want call.want) before w views k down (next_at stage.LookCounted down w.word call)
   at_look_counted st hd =
       let you = view_after_load w.word me in
       let loaded = with_loaded call w.word in
       let acts : Acquiring call you = on call.want call.announced me you st.0 refl refl in
       let watches : you.watch ≡ Since call.epoch = looks_same w.word (Since call.epoch) refl me.watch st.1 in
-      chosen (λ r. Kept call.readers before w views k down (or_else (λ c. goes_to c stage.Sleep (Park c.epoch)) r)) (word_admits call.announced call.readers w.word call.want)
+      chosen (λ r. Kept call.readers (step_of_want call.want) before w views k down (or_else (λ c. goes_to c stage.Sleep (Park c.epoch)) r)) (word_admits call.announced call.readers w.word call.want)
       (record call { loaded = w.word; stage = stage.TryCounted }, Some (Exchange Word w.word (word_after w.word call.want))) (loaded, None)
-      (λ admits. record { you = you; kept = each.load; is_at = (acts, watches, refl, admits, refl); holds = hd; same_lock = refl })
-      (λ refuses. record { you = you; kept = each.load; is_at = (acts, watches, refl, refuses, refl); holds = hd; same_lock = refl })
+      (λ admits. record { you = you; kept = each.load; is_at = (acts, watches, refl, admits, refl); holds = hd; same_lock = refl; same_ask = refl })
+      (λ refuses. record { you = you; kept = each.load; is_at = (acts, watches, refl, refuses, refl); holds = hd; same_lock = refl; same_ask = refl })
 
-  at_try_counted : IsAt stage.TryCounted call down me (trial call) → me.state.held ≡ hold_at stage.TryCounted down call before → Kept call.readers before (made (trial call) w) views k down (next_at stage.TryCounted down w.word call)
+  at_try_counted : IsAt stage.TryCounted call down me (trial call) → me.state.held ≡ hold_at stage.TryCounted down call before → Kept call.readers (step_of_want call.want) before (made (trial call) w) views k down (next_at stage.TryCounted down w.word call)
   at_try_counted st hd =
-      exchanged call.readers before views k down (with_number Word (word_after call.loaded call.want) w) w (goes_to call stage.LeaveAcquired (Subtract Count 1)) (leave call)
+      exchanged call.readers (step_of_want call.want) before views k down (with_number Word (word_after call.loaded call.want) w) w (goes_to call stage.LeaveAcquired (Subtract Count 1)) (leave call)
       (w.word == call.loaded)
       (λ hits. record {
         you = view_after_win me call.want;
@@ -290,6 +310,7 @@ module _ (before : Hold) (views : List SleeperView) (k : ℕ) (down : Down) (w :
         is_at = (ap after_exchange st.1, refl, st.0.debt, gains call.want me st.0.awaited, refl);
         holds = ap (λ (h : Hold). hold_after h (step_of_want call.want)) hd;
         same_lock = refl;
+        same_ask = refl;
       })
       (λ misses.
       let you = view_after_loss w.word me in
@@ -299,24 +320,26 @@ module _ (before : Hold) (views : List SleeperView) (k : ℕ) (down : Down) (w :
         is_at = (on call.want call.announced me you st.0 refl refl, ap count_of_watch (looks_same w.word (Since call.epoch) refl me.watch st.1), refl);
         holds = hd;
         same_lock = refl;
+        same_ask = refl;
       })
 
-  at_sleep : (a : Action) (found : ℕ) → IsAt stage.Sleep call down me a → me.state.held ≡ hold_at stage.Sleep down call before → Kept call.readers before w views k down (next_at stage.Sleep down found call)
-  at_sleep a found st hd = record { you = me; kept = same; is_at = (st.0, ap count_of_watch st.1, refl); holds = hd; same_lock = refl }
+  at_sleep : (a : Action) (found : ℕ) → IsAt stage.Sleep call down me a → me.state.held ≡ hold_at stage.Sleep down call before → Kept call.readers (step_of_want call.want) before w views k down (next_at stage.Sleep down found call)
+  at_sleep a found st hd = record { you = me; kept = same; is_at = (st.0, ap count_of_watch st.1, refl); holds = hd; same_lock = refl; same_ask = refl }
 
-  at_yield_counted : (a : Action) → IsAt stage.YieldCounted call down me a → me.state.held ≡ hold_at stage.YieldCounted down call before → Kept call.readers before w views k down (leave call)
-  at_yield_counted a st hd = record { you = me; kept = same; is_at = (st.0, ap count_of_watch st.1, refl); holds = hd; same_lock = refl }
+  at_yield_counted : (a : Action) → IsAt stage.YieldCounted call down me a → me.state.held ≡ hold_at stage.YieldCounted down call before → Kept call.readers (step_of_want call.want) before w views k down (leave call)
+  at_yield_counted a st hd = record { you = me; kept = same; is_at = (st.0, ap count_of_watch st.1, refl); holds = hd; same_lock = refl; same_ask = refl }
 
-  at_leave_acquired : IsAt stage.LeaveAcquired call down me (Subtract Count 1) → me.state.held ≡ hold_at stage.LeaveAcquired down call before → Kept call.readers before (made (Subtract Count 1) w) views k down (acquired call)
+  at_leave_acquired : IsAt stage.LeaveAcquired call down me (Subtract Count 1) → me.state.held ≡ hold_at stage.LeaveAcquired down call before → Kept call.readers (step_of_want call.want) before (made (Subtract Count 1) w) views k down (acquired call)
   at_leave_acquired st hd = record {
     you = view_after_sleep me;
     kept = each.counts_out (ap count_of_watch st.0);
-    is_at = (ap watch_after_sleep st.1, st.2, st.3, λ x. refl);
+    is_at = (ap watch_after_sleep st.1, st.2, st.3, refl);
     holds = hd;
     same_lock = refl;
+    same_ask = refl;
   }
 
-  at_leave : IsAt stage.Leave call down me (Subtract Count 1) → me.state.held ≡ hold_at stage.Leave down call before → Kept call.readers before (made (Subtract Count 1) w) views k down (look_again call)
+  at_leave : IsAt stage.Leave call down me (Subtract Count 1) → me.state.held ≡ hold_at stage.Leave down call before → Kept call.readers (step_of_want call.want) before (made (Subtract Count 1) w) views k down (look_again call)
   at_leave st hd =
       let you = view_after_sleep me in
       record {
@@ -325,21 +348,22 @@ module _ (before : Hold) (views : List SleeperView) (k : ℕ) (down : Down) (w :
         is_at = (on call.want call.announced me you st.0 refl refl, woken me.state.loaded, refl);
         holds = hd;
         same_lock = refl;
+        same_ask = refl;
       }
     where
       woken : (loaded : Option ℕ) → after_exchange (watch_after_sleep loaded) ≡ Away
       woken (Some n) = refl
       woken None = refl
 
-  at_yield_away : (a : Action) → IsAt stage.YieldAway call down me a → me.state.held ≡ hold_at stage.YieldAway down call before → Kept call.readers before w views k down (look_again call)
-  at_yield_away a st hd = record { you = me; kept = same; is_at = (st.0, ap after_exchange st.1, refl); holds = hd; same_lock = refl }
+  at_yield_away : (a : Action) → IsAt stage.YieldAway call down me a → me.state.held ≡ hold_at stage.YieldAway down call before → Kept call.readers (step_of_want call.want) before w views k down (look_again call)
+  at_yield_away a st hd = record { you = me; kept = same; is_at = (st.0, ap after_exchange st.1, refl); holds = hd; same_lock = refl; same_ask = refl }
 
-  at_look_again : IsAt stage.LookAgain call down me (Load Word) → me.state.held ≡ hold_at stage.LookAgain down call before → Kept call.readers before w views k down (next_at stage.LookAgain down w.word call)
+  at_look_again : IsAt stage.LookAgain call down me (Load Word) → me.state.held ≡ hold_at stage.LookAgain down call before → Kept call.readers (step_of_want call.want) before w views k down (next_at stage.LookAgain down w.word call)
   at_look_again st hd =
       let you = view_after_load w.word me in
       let loaded = with_loaded call w.word in
       let acts : Acquiring call you = on call.want call.announced me you st.0 refl refl in
-      chosen (λ r. Kept call.readers before w views k down (or_else find_epoch r)) (word_admits call.announced call.readers w.word call.want)
+      chosen (λ r. Kept call.readers (step_of_want call.want) before w views k down (or_else find_epoch r)) (word_admits call.announced call.readers w.word call.want)
       (record call { loaded = w.word; stage = stage.TryAgain }, Some (Exchange Word w.word (word_after w.word call.want))) (loaded, None)
       (λ admits. record {
         you = you;
@@ -347,6 +371,7 @@ module _ (before : Hold) (views : List SleeperView) (k : ℕ) (down : Down) (w :
         is_at = (acts, looks_once w.word me.watch st.1, woken_at_free, refl, admits, refl);
         holds = hd;
         same_lock = refl;
+        same_ask = refl;
       })
       (λ refuses. record {
         you = you;
@@ -354,6 +379,7 @@ module _ (before : Hold) (views : List SleeperView) (k : ℕ) (down : Down) (w :
         is_at = (acts, taken refuses, refl);
         holds = hd;
         same_lock = refl;
+        same_ask = refl;
       })
     where
       -- the word is free, or the party has looked
@@ -374,15 +400,16 @@ module _ (before : Hold) (views : List SleeperView) (k : ℕ) (down : Down) (w :
               absurd (true≢false (sym admits ∙ (ap (λ n. word_admits call.announced call.readers n call.want) (sym (free refl)) ∙ refuses)))
           either false free = st.1
 
-  at_try_again : IsAt stage.TryAgain call down me (trial call) → me.state.held ≡ hold_at stage.TryAgain down call before → Kept call.readers before (made (trial call) w) views k down (next_at stage.TryAgain down w.word call)
+  at_try_again : IsAt stage.TryAgain call down me (trial call) → me.state.held ≡ hold_at stage.TryAgain down call before → Kept call.readers (step_of_want call.want) before (made (trial call) w) views k down (next_at stage.TryAgain down w.word call)
   at_try_again st hd =
-      exchanged call.readers before views k down (with_number Word (word_after call.loaded call.want) w) w (acquired call) (find_epoch call) (w.word == call.loaded)
+      exchanged call.readers (step_of_want call.want) before views k down (with_number Word (word_after call.loaded call.want) w) w (acquired call) (find_epoch call) (w.word == call.loaded)
       (λ hits. record {
         you = view_after_win me call.want;
         kept = won st.0 st.4 (eqb-true _ _ hits);
-        is_at = (st.1, st.0.debt, gains call.want me st.0.awaited, λ x. refl);
+        is_at = (st.1, st.0.debt, gains call.want me st.0.awaited, refl);
         holds = ap (λ (h : Hold). hold_after h (step_of_want call.want)) hd;
         same_lock = refl;
+        same_ask = refl;
       })
       (λ misses.
       let miss = eqb-false _ _ misses in
@@ -393,6 +420,7 @@ module _ (before : Hold) (views : List SleeperView) (k : ℕ) (down : Down) (w :
         is_at = (on call.want call.announced me you st.0 refl refl, looked me.watch st.1 (λ woken is. miss (is ∙ sym (st.2 woken))), refl);
         holds = hd;
         same_lock = refl;
+        same_ask = refl;
       })
     where
       looked : (x : Watch) → after_exchange x ≡ Away → (x ≡ Woken → w.word ≡ 0 → ⊥) → after_look w.word x ≡ Away
@@ -407,16 +435,16 @@ module _ (before : Hold) (views : List SleeperView) (k : ℕ) (down : Down) (w :
           either true free Restarts is other = is
           either false free y is other = is
 
-  at_find_epoch : IsAt stage.FindEpoch call down me (Load Epoch) → me.state.held ≡ hold_at stage.FindEpoch down call before → Kept call.readers before w views k down (next_at stage.FindEpoch down w.epoch call)
+  at_find_epoch : IsAt stage.FindEpoch call down me (Load Epoch) → me.state.held ≡ hold_at stage.FindEpoch down call before → Kept call.readers (step_of_want call.want) before w views k down (next_at stage.FindEpoch down w.epoch call)
   at_find_epoch st hd =
-      chosen (Kept call.readers before w views k down) (nat_lt w.epoch last_epoch) (to_wait call) (goes_to call stage.CloseCount (Exchange Count 0 closed_count))
+      chosen (Kept call.readers (step_of_want call.want) before w views k down) (nat_lt w.epoch last_epoch) (to_wait call) (goes_to call stage.CloseCount (Exchange Count 0 closed_count))
       (λ early. waits before views k down w call me same st.0 st.1 hd)
-      (λ late. record { you = me; kept = same; is_at = (st.0, st.1, refl); holds = hd; same_lock = refl })
+      (λ late. record { you = me; kept = same; is_at = (st.0, st.1, refl); holds = hd; same_lock = refl; same_ask = refl })
 
   at_close_count : IsAt stage.CloseCount call down me (Exchange Count 0 closed_count) → me.state.held ≡ hold_at stage.CloseCount down call before
-      → Kept call.readers before (made (Exchange Count 0 closed_count) w) views k down (next_at stage.CloseCount down w.count call)
+      → Kept call.readers (step_of_want call.want) before (made (Exchange Count 0 closed_count) w) views k down (next_at stage.CloseCount down w.count call)
   at_close_count st hd =
-      exchanged call.readers before views k down (with_number Count closed_count w) w (goes_to call stage.RestartEpochs Restart) (to_wait call) (w.count == 0)
+      exchanged call.readers (step_of_want call.want) before views k down (with_number Count closed_count w) w (goes_to call stage.RestartEpochs Restart) (to_wait call) (w.count == 0)
       (λ hits.
       let you = with_watch me Restarts in
       record {
@@ -425,41 +453,43 @@ module _ (before : Hold) (views : List SleeperView) (k : ℕ) (down : Down) (w :
         is_at = (on call.want call.announced me you st.0 refl refl, refl, refl);
         holds = hd;
         same_lock = refl;
+        same_ask = refl;
       })
       (λ misses. waits before views k down w call me same st.0 st.1 hd)
 
-  at_restart_epochs : IsAt stage.RestartEpochs call down me Restart → me.state.held ≡ hold_at stage.RestartEpochs down call before → Kept call.readers before (made Restart w) views k down (next_at stage.RestartEpochs down 0 call)
-  at_restart_epochs st hd = record { you = me; kept = each.restarts st.1; is_at = (st.0, st.1, refl); holds = hd; same_lock = refl }
+  at_restart_epochs : IsAt stage.RestartEpochs call down me Restart → me.state.held ≡ hold_at stage.RestartEpochs down call before → Kept call.readers (step_of_want call.want) before (made Restart w) views k down (next_at stage.RestartEpochs down 0 call)
+  at_restart_epochs st hd = record { you = me; kept = each.restarts st.1; is_at = (st.0, st.1, refl); holds = hd; same_lock = refl; same_ask = refl }
 
   at_open_count : IsAt stage.OpenCount call down me (Subtract Count closed_count) → me.state.held ≡ hold_at stage.OpenCount down call before
-      → Kept call.readers before (made (Subtract Count closed_count) w) views k down (to_wait call)
+      → Kept call.readers (step_of_want call.want) before (made (Subtract Count closed_count) w) views k down (to_wait call)
   at_open_count st hd =
       let you = with_watch me Away in
       waits before views k down (with_number Count (w.count - closed_count) w) call you (each.opens st.1) (on call.want call.announced me you st.0 refl refl) refl hd
 
   at_take : IsAt stage.Take call down me (Subtract Word (amount down)) → me.state.held ≡ hold_at stage.Take down call before
-      → Kept call.readers before (made (Subtract Word (amount down)) w) views k down (next_at stage.Take down w.word call)
+      → Kept call.readers (step_of_down down) before (made (Subtract Word (amount down)) w) views k down (next_at stage.Take down w.word call)
   at_take st hd = record {
     you = view_after_take (limits_of call) w.word me down;
     kept = each.take down st.0;
     is_at = (st.1, ap (debt_after (has_to_wake down (with_loaded call w.word))) st.2, refl);
     holds = ap (λ (h : Hold). hold_after h (step_of_down down)) hd;
     same_lock = refl;
+    same_ask = refl;
   }
 
-  at_look_for_sleepers : IsAt stage.LookForSleepers call down me (Load Count) → me.state.held ≡ hold_at stage.LookForSleepers down call before → Kept call.readers before w views k down (next_at stage.LookForSleepers down w.count call)
+  at_look_for_sleepers : IsAt stage.LookForSleepers call down me (Load Count) → me.state.held ≡ hold_at stage.LookForSleepers down call before → Kept call.readers (step_of_down down) before w views k down (next_at stage.LookForSleepers down w.count call)
   at_look_for_sleepers st hd =
       either (w.count == 0) (has_to_wake down call) (λ e. eqb-true _ _ e) st.1
     where
       either : (none wakes : Bool) → (none ≡ true → w.count ≡ 0) → me.debt ≡ debt_after wakes Nothing
-          → Kept call.readers before w views k down (if not none && wakes then goes_to call stage.NoteEpoch (Load Epoch) else ended true call)
-      either true wakes empty owes = record { you = with_debt me Nothing; kept = each.finds_none (empty refl); is_at = (st.0, refl, λ x. refl); holds = hd; same_lock = refl }
-      either false true empty owes = record { you = me; kept = same; is_at = (st.0, owes, refl); holds = hd; same_lock = refl }
-      either false false empty owes = record { you = me; kept = same; is_at = (st.0, owes, λ x. refl); holds = hd; same_lock = refl }
+          → Kept call.readers (step_of_down down) before w views k down (if not none && wakes then goes_to call stage.NoteEpoch (Load Epoch) else ended true call)
+      either true wakes empty owes = record { you = with_debt me Nothing; kept = each.finds_none (empty refl); is_at = (st.0, refl, refl); holds = hd; same_lock = refl; same_ask = refl }
+      either false true empty owes = record { you = me; kept = same; is_at = (st.0, owes, refl); holds = hd; same_lock = refl; same_ask = refl }
+      either false false empty owes = record { you = me; kept = same; is_at = (st.0, owes, refl); holds = hd; same_lock = refl; same_ask = refl }
 
-  at_note_epoch : IsAt stage.NoteEpoch call down me (Load Epoch) → me.state.held ≡ hold_at stage.NoteEpoch down call before → Kept call.readers before w views k down (next_at stage.NoteEpoch down w.epoch call)
+  at_note_epoch : IsAt stage.NoteEpoch call down me (Load Epoch) → me.state.held ≡ hold_at stage.NoteEpoch down call before → Kept call.readers (step_of_down down) before w views k down (next_at stage.NoteEpoch down w.epoch call)
   at_note_epoch st hd =
-      chosen (Kept call.readers before w views k down) (nat_lt w.epoch last_epoch)
+      chosen (Kept call.readers (step_of_down down) before w views k down) (nat_lt w.epoch last_epoch)
       (goes_to (record call { epoch = w.epoch }) stage.EndEpoch (Exchange Epoch w.epoch (w.epoch + 1))) (ended true call)
       (λ early. record {
         you = with_debt me (OwesAt w.epoch);
@@ -467,18 +497,19 @@ module _ (before : Hold) (views : List SleeperView) (k : ℕ) (down : Down) (w :
         is_at = (st.0, refl, refl);
         holds = hd;
         same_lock = refl;
+        same_ask = refl;
       })
-      (λ late. record { you = with_debt me Nothing; kept = each.finds_last (ltb-false _ _ late); is_at = (st.0, refl, λ x. refl); holds = hd; same_lock = refl })
+      (λ late. record { you = with_debt me Nothing; kept = each.finds_last (ltb-false _ _ late); is_at = (st.0, refl, refl); holds = hd; same_lock = refl; same_ask = refl })
     where
       owes_something : Owes ≢ Nothing
       owes_something e = cc
 
   at_end_epoch : IsAt stage.EndEpoch call down me (Exchange Epoch call.epoch (call.epoch + 1)) → me.state.held ≡ hold_at stage.EndEpoch down call before
-      → Kept call.readers before (made (Exchange Epoch call.epoch (call.epoch + 1)) w) views k down (next_at stage.EndEpoch down w.epoch call)
+      → Kept call.readers (step_of_down down) before (made (Exchange Epoch call.epoch (call.epoch + 1)) w) views k down (next_at stage.EndEpoch down w.epoch call)
   at_end_epoch st hd =
       either (w.epoch == call.epoch)
       (λ hits. subst (λ n. KeepsWakes (limits_of call) w.word w.count (n + 1) (slice_set views k (view_after_end (changes_of views) me))) (eqb-true _ _ hits) (each.ends (owes_now (eqb-true _ _ hits))))
-      (λ misses. each.finds_ended call.epoch st.1 (eqb-false _ _ misses)) (wakes_one call && nat_lt (call.epoch + 1) last_epoch)
+      (λ misses. each.finds_ended call.epoch st.1 (eqb-false _ _ misses)) (wakes_one call && nat_lt (call.epoch + 1) last_epoch) refl
     where
       owes_now : w.epoch ≡ call.epoch → me.debt ≡ OwesAt w.epoch
       owes_now hit = subst (λ n. me.debt ≡ OwesAt n) (sym hit) st.1
@@ -486,36 +517,36 @@ module _ (before : Hold) (views : List SleeperView) (k : ℕ) (down : Down) (w :
       either : (b : Bool)
           → (b ≡ true → KeepsWakes (limits_of call) w.word w.count (call.epoch + 1) (slice_set views k (view_after_end (changes_of views) me)))
           → (b ≡ false → KeepsWakes (limits_of call) w.word w.count w.epoch (slice_set views k (with_debt me Nothing)))
-          → (one : Bool)
-          → Kept call.readers before (if b then with_number Epoch (call.epoch + 1) w else w) views k down
+          → (one : Bool) → (wakes_one call && nat_lt (call.epoch + 1) last_epoch) ≡ one
+          → Kept call.readers (step_of_down down) before (if b then with_number Epoch (call.epoch + 1) w else w) views k down
           (if not b then ended true call else if one then goes_to call stage.Wake WakeOne else goes_to call stage.Wake WakeAll)
-      either true hit miss true = record { you = view_after_end (changes_of views) me; kept = hit refl; is_at = (st.0, refl, λ x. refl); holds = hd; same_lock = refl }
-      either true hit miss false = record { you = view_after_end (changes_of views) me; kept = hit refl; is_at = (st.0, refl, λ x. refl); holds = hd; same_lock = refl }
-      either false hit miss one = record { you = with_debt me Nothing; kept = miss refl; is_at = (st.0, refl, λ x. refl); holds = hd; same_lock = refl }
+      either true hit miss true one = record { you = view_after_end (changes_of views) me; kept = hit refl; is_at = (st.0, refl, ap (λ (b : Bool). if b then WakeOne else WakeAll) (sym one)); holds = hd; same_lock = refl; same_ask = refl }
+      either true hit miss false one = record { you = view_after_end (changes_of views) me; kept = hit refl; is_at = (st.0, refl, ap (λ (b : Bool). if b then WakeOne else WakeAll) (sym one)); holds = hd; same_lock = refl; same_ask = refl }
+      either false hit miss one is = record { you = with_debt me Nothing; kept = miss refl; is_at = (st.0, refl, refl); holds = hd; same_lock = refl; same_ask = refl }
 
-  at_wake : (a : Action) → IsAt stage.Wake call down me a → me.state.held ≡ hold_at stage.Wake down call before → Kept call.readers before w views k down (ended true call)
-  at_wake a st hd = record { you = me; kept = same; is_at = (st.0, st.1, λ x. refl); holds = hd; same_lock = refl }
+  at_wake : (a : Action) → IsAt stage.Wake call down me a → me.state.held ≡ hold_at stage.Wake down call before → Kept call.readers (step_of_down down) before w views k down (ended true call)
+  at_wake a st hd = record { you = me; kept = same; is_at = (st.0, st.1, refl); holds = hd; same_lock = refl; same_ask = refl }
 
   -- a step whose action is known, and so what it does to the words
   module _ (action : Action) (found : ℕ) where
-    on_action : (a : Action) (next : ℕ → Progress) → action ≡ a → (IsAnswer a w found → Kept call.readers before (made a w) views k down (next found))
-        → IsAnswer action w found → Kept call.readers before (made action w) views k down (next found)
-    on_action a next e f = subst (λ x. IsAnswer x w found → Kept call.readers before (made x w) views k down (next found)) (sym e) f
+    on_action : {asked : LockStep} (a : Action) (next : ℕ → Progress) → action ≡ a → (IsAnswer a w found → Kept call.readers asked before (made a w) views k down (next found))
+        → IsAnswer action w found → Kept call.readers asked before (made action w) views k down (next found)
+    on_action {asked = asked} a next e f = subst (λ x. IsAnswer x w found → Kept call.readers asked before (made x w) views k down (next found)) (sym e) f
 
     -- an action whose answer is the number at a place
-    on_answer : (a : Action) (n : ℕ) (next : ℕ → Progress) → action ≡ a → (IsAnswer a w found → found ≡ n)
-        → Kept call.readers before (made a w) views k down (next n) → IsAnswer action w found → Kept call.readers before (made action w) views k down (next found)
-    on_answer a n next e finds f =
-        on_action a next e (λ answer. subst (λ m. Kept call.readers before (made a w) views k down (next m)) (sym (finds answer)) f)
+    on_answer : {asked : LockStep} (a : Action) (n : ℕ) (next : ℕ → Progress) → action ≡ a → (IsAnswer a w found → found ≡ n)
+        → Kept call.readers asked before (made a w) views k down (next n) → IsAnswer action w found → Kept call.readers asked before (made action w) views k down (next found)
+    on_answer {asked = asked} a n next e finds f =
+        on_action a next e (λ answer. subst (λ m. Kept call.readers asked before (made a w) views k down (next m)) (sym (finds answer)) f)
 
-    on_pause : (next : Progress) → LeavesWords action → Kept call.readers before w views k down next → Kept call.readers before (made action w) views k down next
-    on_pause next leaves f = subst (λ v. Kept call.readers before v views k down next) (sym (leaves w)) f
+    on_pause : {asked : LockStep} (next : Progress) → LeavesWords action → Kept call.readers asked before w views k down next → Kept call.readers asked before (made action w) views k down next
+    on_pause {asked = asked} next leaves f = subst (λ v. Kept call.readers asked before v views k down next) (sym (leaves w)) f
 
-    by_stage : (s : Stage) → IsAt s call down me action → me.state.held ≡ hold_at s down call before → is_over s ≡ false → IsAnswer action w found → Kept call.readers before (made action w) views k down (next_at s down found call)
+    by_stage : (s : Stage) → IsAt s call down me action → me.state.held ≡ hold_at s down call before → is_over s ≡ false → IsAnswer action w found → Kept call.readers (asked_at s down call.want) before (made action w) views k down (next_at s down found call)
     by_stage stage.Look st hd going answer = on_answer (Load Word) w.word (λ n. next_at stage.Look down n call) st.2 (λ e. e) (at_look (st.0, st.1, refl) hd) answer
     by_stage stage.Try st hd going answer =
         on_answer (trial call) w.word (λ n. next_at stage.Try down n call) st.4 (λ e. e) (at_try (st.0, st.1, st.2, st.3, refl) hd) answer
-    by_stage stage.Pause st hd going answer = on_pause (next_at stage.Pause down found call) st.2 (at_pause action st hd)
+    by_stage stage.Pause st hd going answer = on_pause (next_at stage.Pause down found call) (rest_leaves action st.2) (at_pause action st hd)
     by_stage stage.LookToAnnounce st hd going answer =
         on_answer (Load Word) w.word (λ n. next_at stage.LookToAnnounce down n call) st.4 (λ e. e)
         (at_look_to_announce (st.0, st.1, st.2, st.3, refl) hd) answer
@@ -535,11 +566,11 @@ module _ (before : Hold) (views : List SleeperView) (k : ℕ) (down : Down) (w :
         on_answer (trial call) w.word (λ n. next_at stage.TryCounted down n call) st.4 (λ e. e) (at_try_counted (st.0, st.1, st.2, st.3, refl) hd) answer
     by_stage stage.Sleep st hd going answer =
         on_action (Park call.epoch) (λ n. next_at stage.Sleep down n call) st.4 (λ e. at_sleep action found st hd) answer
-    by_stage stage.YieldCounted st hd going answer = on_pause (leave call) st.2 (at_yield_counted action st hd)
+    by_stage stage.YieldCounted st hd going answer = on_pause (leave call) (same_leaves st.2 (rest_leaves Yield tt)) (at_yield_counted action st hd)
     by_stage stage.LeaveAcquired st hd going answer =
         on_answer (Subtract Count 1) w.count (λ n. acquired call) st.4 (λ e. e) (at_leave_acquired (st.0, st.1, st.2, st.3, refl) hd) answer
     by_stage stage.Leave st hd going answer = on_answer (Subtract Count 1) w.count (λ n. look_again call) st.2 (λ e. e) (at_leave (st.0, st.1, refl) hd) answer
-    by_stage stage.YieldAway st hd going answer = on_pause (look_again call) st.2 (at_yield_away action st hd)
+    by_stage stage.YieldAway st hd going answer = on_pause (look_again call) (same_leaves st.2 (rest_leaves Yield tt)) (at_yield_away action st hd)
     by_stage stage.LookAgain st hd going answer =
         on_answer (Load Word) w.word (λ n. next_at stage.LookAgain down n call) st.2 (λ e. e) (at_look_again (st.0, st.1, refl) hd) answer
     by_stage stage.TryAgain st hd going answer =
@@ -564,7 +595,7 @@ module _ (before : Hold) (views : List SleeperView) (k : ℕ) (down : Down) (w :
     by_stage stage.EndEpoch st hd going answer =
         on_answer (Exchange Epoch call.epoch (call.epoch + 1)) w.epoch (λ n. next_at stage.EndEpoch down n call) st.2 (λ e. e)
         (at_end_epoch (st.0, st.1, refl) hd) answer
-    by_stage stage.Wake st hd going answer = on_pause (ended true call) st.2 (at_wake action st hd)
+    by_stage stage.Wake st hd going answer = on_pause (ended true call) (same_leaves st.2 (wake_leaves call.readers (call.epoch + 1))) (at_wake action st hd)
     by_stage stage.Acquired st hd going answer = absurd (true≢false going)
     by_stage stage.Refused st hd going answer = absurd (true≢false going)
     by_stage stage.Ended st hd going answer = absurd (true≢false going)

@@ -1,7 +1,8 @@
 -- Runs: any number of threads with one lock, which make single atomic steps in any order.
-use Rattle.std.specs.Prelude.{◌≡◌, ℕ, ◌+◌, Bool, true, false, not, ◌&&◌, List, [], ◌∷◌, ◌++◌, map, slice_get, slice_set, Option, Some, None, if◌then◌else◌, ⊤, IsTrue}
+use Rattle.std.specs.Prelude.{◌≡◌, ℕ, ◌+◌, Bool, true, false, not, ◌&&◌, List, [], ◌∷◌, ◌++◌, map, slice_get, slice_set, Option, Some, None, is_some, if◌then◌else◌, ⊤, IsTrue}
 use Rattle.lock_base.specs.declared.machine.hold.Hold.{Hold}
-use Rattle.lock_base.specs.Holds.{no_hold, hold_has}
+use Rattle.lock_base.specs.declared.machine.lock_step.LockStep.{LockStep}
+use Rattle.lock_base.specs.Holds.{no_hold, hold_has, hold_after}
 use Rattle.lock_base.specs.Limits.{IsLimit}
 use Rattle.lock_word.specs.declared.want.ExWant.{ExWant}
 use Rattle.lock_word.specs.declared.down.Down.{Down}
@@ -18,10 +19,12 @@ use Rattle.lock_steps.specs.declared.act.Act.TheVariants.{Join, Acquire, Release
 use Rattle.lock_steps.specs.declared.stage.Stage.{Stage}
 use Rattle.lock_steps.specs.declared.stage.Stage.TheVariants as stage
 use Rattle.lock_steps.specs.Machine.{Progress, acquiring, taking, next_of, has_to_wake}
-use Rattle.lock_steps.specs.StepLaws.{Words, number_at, made, hold_at, is_over}
+use Rattle.lock_steps.specs.StepLaws.{Words, number_at, made, wake_at, hold_at, is_over}
 
--- a call that has not ended: what it releases if it is a release, the call, and the action that it asks for
+-- a call that has not ended: the change that it was asked to make, what it releases if it is a release, the call, and the
+-- action that it asks for
 pub record Underway : Type 0 where
+  pub asked : LockStep
   pub down : Down
   pub call : Call
   pub action : Action
@@ -65,15 +68,15 @@ may_acquire t want = rests t.underway && (is_awaited want && (hold_has t.held (s
 abbrev pub may_release : Thread → Down → Bool
 may_release t release = rests t.underway && hold_has t.held (step_of_down release)
 
-abbrev pub in_call : Thread → Down → Progress → Thread
-in_call t release next = record t { underway = Some record { down = release; call = next.0; action = next.1 } }
+abbrev pub in_call : Thread → LockStep → Down → Progress → Thread
+in_call t asked release next = record t { underway = Some record { asked = asked; down = release; call = next.0; action = next.1 } }
 
 -- the thread goes on with its call, or the call has ended
-abbrev pub goes_on : Thread → Down → Progress → Thread
-goes_on t release next =
+abbrev pub goes_on : Thread → LockStep → Down → Progress → Thread
+goes_on t asked release next =
     if is_over next.0.stage
     then record { held = hold_at next.0.stage release next.0 t.held; underway = None }
-    else in_call t release next
+    else in_call t asked release next
 
 -- what a step is answered: the number in the word that it reads, or this one
 abbrev pub answer : Action → Words → ℕ → ℕ
@@ -89,11 +92,11 @@ with_thread s k t = record s { threads = slice_set s.threads k t }
 abbrev pub acquire_by : LockInUse → ℕ → ExWant → Bool → Bool → Option Thread → LockInUse
 acquire_by s k want blocks announces None = s
 acquire_by s k want blocks announces (Some t) =
-    if may_acquire t want then with_thread s k (in_call t down.Shared (acquiring s.readers want blocks announces)) else s
+    if may_acquire t want then with_thread s k (in_call t (step_of_want want) down.Shared (acquiring s.readers want blocks announces)) else s
 
 abbrev pub release_by : LockInUse → ℕ → Down → Option Thread → LockInUse
 release_by s k release None = s
-release_by s k release (Some t) = if may_release t release then with_thread s k (in_call t release (taking s.readers release)) else s
+release_by s k release (Some t) = if may_release t release then with_thread s k (in_call t (step_of_down release) release (taking s.readers release)) else s
 
 -- the call after its step
 abbrev pub next_in : LockInUse → ℕ → Underway → Progress
@@ -105,7 +108,7 @@ step_in s k told t (Some u) =
     record {
       readers = s.readers;
       words = made u.action s.words;
-      threads = slice_set s.threads k (goes_on t u.down (next_in s told u));
+      threads = slice_set s.threads k (goes_on t u.asked u.down (next_in s told u));
     }
 
 abbrev pub step_by : LockInUse → ℕ → ℕ → Option Thread → LockInUse
@@ -137,31 +140,43 @@ pub record SomeThreadIsDue (s : LockInUse) : Type 0 where
   pub calls : thread.underway ≡ Some underway
   pub due : IsDueAt s.words.epoch underway.call.stage underway.down underway.call
 
-abbrev pub is_wake : Action → Bool
-is_wake action.WakeOne = true
-is_wake action.WakeAll = true
-is_wake other = false
+-- what an action tells the caller at the end of a call
+abbrev pub told_by : Action → Option Bool
+told_by (action.End answer) = Some answer
+told_by other = None
 
--- the next step of the thread is a wake-up
+-- the thread after a step, by what the step tells its caller: the call goes on; it has made its change; or it has changed
+-- nothing
+abbrev pub IsAsTold : Thread → LockStep → Thread → Option Bool → Type 0
+IsAsTold t asked after None = IsTrue (is_some after.underway)
+IsAsTold t asked after (Some true) = (after.underway ≡ None) × (after.held.bag ≡ (hold_after t.held asked).bag)
+IsAsTold t asked after (Some false) = after ≡ record t { underway = None }
+
+-- the epoch at which an action parks
+abbrev pub parks_at : Action → Option ℕ
+parks_at (action.Park epoch) = Some epoch
+parks_at other = None
+
+-- the next step of the thread is the wake-up of all; or of one, in a lock for one reader before its last epoch
 pub record WakesNext (s : LockInUse) (k : ℕ) : Type 0 where
   pub thread : Thread
   pub underway : Underway
   pub is : slice_get s.threads k ≡ Some thread
   pub calls : thread.underway ≡ Some underway
-  pub wakes : IsTrue (is_wake underway.action)
+  pub wakes : underway.action ≡ wake_at s.readers s.words.epoch
 
 -- what holds after any acts
 pub record ThreadsAreServed (s : LockInUse) : Type 0 where
   -- the word is the sum of what the threads hold, which is compatible, with at most one bar
   pub coded : s.words.word ≡ word_of (all_of (map (λ (t : Thread). hold_of t) s.threads))
   pub legal : IsLegalBarredBag s.readers (all_of (map (λ (t : Thread). hold_of t) s.threads))
-  -- if the word admits what a thread sleeps for in the present epoch, some thread is due
+  -- if the word admits what a thread parks for in the present epoch, some thread is due
   pub none_forgotten : (k : ℕ) (t : Thread) (u : Underway) → slice_get s.threads k ≡ Some t → t.underway ≡ Some u
-      → u.call.stage ≡ stage.Sleep → u.call.epoch ≡ s.words.epoch
+      → parks_at u.action ≡ Some s.words.epoch
       → IsTrue (word_admits u.call.announced s.readers s.words.word u.call.want) → SomeThreadIsDue s
-  -- a thread whose call is refused holds what it held when the call began: so the call leaves no bar
-  pub refused : (k told : ℕ) (t : Thread) (u : Underway) → slice_get s.threads k ≡ Some t → t.underway ≡ Some u
-      → (next_in s told u).0.stage ≡ stage.Refused → (goes_on t u.down (next_in s told u)).held ≡ t.held
+  -- a call tells true where it has made its change, and false where it has changed nothing and leaves no bar
+  pub told : (k found : ℕ) (t : Thread) (u : Underway) → slice_get s.threads k ≡ Some t → t.underway ≡ Some u
+      → IsAsTold t u.asked (goes_on t u.asked u.down (next_in s found u)) (told_by (next_in s found u).1)
   -- a step that ends an epoch is followed by a wake-up
   pub wakes : (k told : ℕ) → (after_act s (Step k told)).words.epoch ≡ s.words.epoch + 1
       → WakesNext (after_act s (Step k told)) k

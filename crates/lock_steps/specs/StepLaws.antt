@@ -1,5 +1,5 @@
 -- What the steps of a call mean: whatever all other calls do, each step keeps the rule by which no wake-up is lost.
-use Rattle.std.specs.Prelude.{◌≡◌, ℕ, ◌+◌, ◌-◌, ◌^◌, ◌<◌, Bool, true, false, ◌==◌, nat_lt, List, slice_get, slice_set, Some, None, if◌then◌else◌, ⊤, IsTrue}
+use Rattle.std.specs.Prelude.{◌≡◌, ℕ, ◌+◌, ◌-◌, ◌^◌, ◌<◌, Bool, true, false, ◌&&◌, ◌==◌, nat_lt, List, slice_get, slice_set, Some, None, if◌then◌else◌, ⊤, IsTrue}
 use Rattle.lock_base.specs.declared.machine.mode.Mode.TheVariants as mode
 use Rattle.lock_base.specs.declared.machine.mode_step.ModeStep.TheVariants.{Release}
 use Rattle.lock_base.specs.declared.machine.lock_step.LockStep.{LockStep}
@@ -76,6 +76,16 @@ IsAnswer (End b) w found = ⊤
 abbrev pub LeavesWords : Action → Type 0
 LeavesWords a = (w : Words) → made a w ≡ w
 
+-- an action that only spends time
+abbrev pub IsRest : Action → Type 0
+IsRest (Spin n) = ⊤
+IsRest Yield = ⊤
+IsRest other = ⊥
+
+-- the wake-up after this epoch has begun: of one in a lock for one reader, unless it is the last epoch, and else of all
+abbrev pub wake_at : ℕ → ℕ → Action
+wake_at readers epoch = if (readers == 1) && nat_lt epoch last_epoch then WakeOne else WakeAll
+
 abbrev pub limits_of : Call → WakeLimits
 limits_of call = record { readers = call.readers; last_epoch = last_epoch; wakes_one = wakes_one call }
 
@@ -112,7 +122,7 @@ trial call = Exchange Word call.loaded (word_after call.loaded call.want)
 abbrev pub IsAt : Stage → Call → Down → SleeperView → Action → Type 0
 IsAt stage.Look call down v a = Acquiring call v × (v.watch ≡ Away) × (a ≡ Load Word)
 IsAt stage.Try call down v a = Acquiring call v × (v.watch ≡ Away) × (v.state.loaded ≡ Some call.loaded) × IsTrue (word_admits call.announced call.readers call.loaded call.want) × (a ≡ trial call)
-IsAt stage.Pause call down v a = Acquiring call v × (v.watch ≡ Away) × LeavesWords a
+IsAt stage.Pause call down v a = Acquiring call v × (v.watch ≡ Away) × IsRest a
 IsAt stage.LookToAnnounce call down v a = Acquiring call v × (v.watch ≡ Away) × (call.announced ≡ false) × (wakes_one call ≡ false) × (a ≡ Load Word)
 IsAt stage.Announce call down v a =
     Acquiring call v × (v.watch ≡ Away) × (call.announced ≡ false) × (wakes_one call ≡ false) × (v.state.loaded ≡ Some call.loaded)
@@ -123,10 +133,10 @@ IsAt stage.WatchEpoch call down v a = Acquiring call v × (v.watch ≡ Counted) 
 IsAt stage.LookCounted call down v a = Acquiring call v × (v.watch ≡ Since call.epoch) × (a ≡ Load Word)
 IsAt stage.TryCounted call down v a = Acquiring call v × (v.watch ≡ Since call.epoch) × (v.state.loaded ≡ Some call.loaded) × IsTrue (word_admits call.announced call.readers call.loaded call.want) × (a ≡ trial call)
 IsAt stage.Sleep call down v a = Acquiring call v × (v.watch ≡ Since call.epoch) × (v.state.loaded ≡ Some call.loaded) × (word_admits call.announced call.readers call.loaded call.want ≡ false) × (a ≡ Park call.epoch)
-IsAt stage.YieldCounted call down v a = Acquiring call v × (v.watch ≡ Counted) × LeavesWords a
+IsAt stage.YieldCounted call down v a = Acquiring call v × (v.watch ≡ Counted) × (a ≡ Yield)
 IsAt stage.LeaveAcquired call down v a = (v.watch ≡ Since call.epoch) × (v.state.loaded ≡ None) × (v.debt ≡ Nothing) × Gained call v × (a ≡ Subtract Count 1)
 IsAt stage.Leave call down v a = Acquiring call v × (count_of_watch v.watch ≡ 1) × (a ≡ Subtract Count 1)
-IsAt stage.YieldAway call down v a = Acquiring call v × (v.watch ≡ Away) × LeavesWords a
+IsAt stage.YieldAway call down v a = Acquiring call v × (v.watch ≡ Away) × (a ≡ Yield)
 IsAt stage.LookAgain call down v a = Acquiring call v × (after_exchange v.watch ≡ Away) × (a ≡ Load Word)
 IsAt stage.TryAgain call down v a =
     Acquiring call v × (after_exchange v.watch ≡ Away) × (v.watch ≡ Woken → call.loaded ≡ 0) × (v.state.loaded ≡ Some call.loaded)
@@ -139,11 +149,11 @@ IsAt stage.Take call down v a = IsTrue (hold_has v.state.held (step_of_down down
 IsAt stage.LookForSleepers call down v a = (v.watch ≡ Away) × (v.debt ≡ debt_after (has_to_wake down call) Nothing) × (a ≡ Load Count)
 IsAt stage.NoteEpoch call down v a = (v.watch ≡ Away) × (v.debt ≡ Owes) × (a ≡ Load Epoch)
 IsAt stage.EndEpoch call down v a = (v.watch ≡ Away) × (v.debt ≡ OwesAt call.epoch) × (a ≡ Exchange Epoch call.epoch (call.epoch + 1))
-IsAt stage.Wake call down v a = (v.watch ≡ Away) × (v.debt ≡ Nothing) × LeavesWords a
+IsAt stage.Wake call down v a = (v.watch ≡ Away) × (v.debt ≡ Nothing) × (a ≡ wake_at call.readers (call.epoch + 1))
 -- a call that acquired holds what it wanted, and one that did not holds what it held
-IsAt stage.Acquired call down v a = (v.watch ≡ Away) × (v.debt ≡ Nothing) × Gained call v × LeavesWords a
-IsAt stage.Refused call down v a = Acquiring call v × (v.watch ≡ Away) × LeavesWords a
-IsAt stage.Ended call down v a = (v.watch ≡ Away) × (v.debt ≡ Nothing) × LeavesWords a
+IsAt stage.Acquired call down v a = (v.watch ≡ Away) × (v.debt ≡ Nothing) × Gained call v × (a ≡ End true)
+IsAt stage.Refused call down v a = Acquiring call v × (v.watch ≡ Away) × (a ≡ End false)
+IsAt stage.Ended call down v a = (v.watch ≡ Away) × (v.debt ≡ Nothing) × (a ≡ End true)
 
 -- what the party holds whose call is at this stage, if it held this when the call began: a call that acquires holds what it
 -- wants from its exchange on, and one that releases has released from its subtraction on
@@ -158,6 +168,16 @@ hold_at stage.Wake down call before = hold_after before (step_of_down down)
 hold_at stage.Ended down call before = hold_after before (step_of_down down)
 hold_at waiting down call before = record before { announced = call.announced }
 
+-- the change that a call makes, by its stage
+abbrev pub asked_at : Stage → Down → ExWant → LockStep
+asked_at stage.Take down want = step_of_down down
+asked_at stage.LookForSleepers down want = step_of_down down
+asked_at stage.NoteEpoch down want = step_of_down down
+asked_at stage.EndEpoch down want = step_of_down down
+asked_at stage.Wake down want = step_of_down down
+asked_at stage.Ended down want = step_of_down down
+asked_at acquiring down want = step_of_want want
+
 -- the call has ended
 abbrev pub is_over : Stage → Bool
 is_over stage.Acquired = true
@@ -165,14 +185,15 @@ is_over stage.Refused = true
 is_over stage.Ended = true
 is_over going = false
 
--- a state of the words and of all parties that keeps the rule, and in which the party at k awaits its next answer; it held
--- this when the call began
-pub record Kept (readers : ℕ) (before : Hold) (w : Words) (views : List SleeperView) (k : ℕ) (down : Down) (next : Progress) : Type 0 where
+-- a state of the words and of all parties that keeps the rule, and in which the party at k awaits its next answer; it was asked
+-- for this change, and held this, when the call began
+pub record Kept (readers : ℕ) (asked : LockStep) (before : Hold) (w : Words) (views : List SleeperView) (k : ℕ) (down : Down) (next : Progress) : Type 0 where
   pub you : SleeperView
   pub kept : KeepsWakes (limits_of next.0) w.word w.count w.epoch (slice_set views k you)
   pub is_at : IsAt next.0.stage next.0 down you next.1
   pub holds : you.state.held ≡ hold_at next.0.stage down next.0 before
   pub same_lock : next.0.readers ≡ readers
+  pub same_ask : asked_at next.0.stage down next.0.want ≡ asked
 
 -- THE LAW: take any state of the words and of all parties that keeps the rule. Let one party make the action that its
 -- call asks for, in one atomic step, and give the call what it found. The rule holds again, the party is where its next
@@ -183,11 +204,11 @@ StepsKeepTheRule =
     → (before : Hold)
     → IsLimit call.readers → KeepsWakes (limits_of call) w.word w.count w.epoch views → slice_get views k ≡ Some me
     → IsAt call.stage call down me action → me.state.held ≡ hold_at call.stage down call before → is_over call.stage ≡ false
-    → IsAnswer action w found → Kept call.readers before (made action w) views k down (next_of down found call)
+    → IsAnswer action w found
+    → Kept call.readers (asked_at call.stage down call.want) before (made action w) views k down (next_of down found call)
 
 -- so no parked call is forgotten: if the word admits what it sleeps for, in the present epoch, some party is in the middle
--- of a release and has yet to look for sleepers or to end the epoch; or, in a mutex, an epoch has ended since the word last
--- changed
+-- of a release and has yet to look for sleepers or to end the epoch
 abbrev pub NoParkedCallIsForgotten : Type 0
 NoParkedCallIsForgotten =
     (w : Words) (views : List SleeperView) (k : ℕ) (me : SleeperView) (call : Call) (down : Down) (action : Action)
