@@ -13,7 +13,7 @@ use Rattle.lock_steps.specs.declared.event_stage.EventStage.{EventStage}
 use Rattle.lock_steps.specs.declared.event_stage.EventStage.TheVariants as stage
 use Rattle.lock_steps.specs.Machine.{last_epoch, closed_count}
 use Rattle.lock_steps.specs.StepLaws.{Words, with_number, made}
-use Rattle.lock_steps.specs.Runs.{answer}
+use Rattle.lock_steps.specs.Runs.{answer, parks_at}
 use Rattle.lock_steps.specs.Events.{waiting, notifying, action_at, action_of, event_to, event_at}
 use Rattle.lock_steps.specs.EventRuns.{Begun, EventsInUse, new_events, with_call, before_after, step_of_call, after_event, after_events, is_registered, count_at, counts_of, ReachesAt, Reaches, wake_of, WaitsAreReached, EveryWaitIsReached}
 use Rattle.lock_steps.proofs.Steps.{chosen}
@@ -315,7 +315,7 @@ module _ (s : EventsInUse) (h : IsKept s) (k : ℕ) (b : Begun) (at : slice_get 
     sleep is = stays stage.Sleep stage.Leave is refl refl (not (told == 0)) tt (λ epoch watched noted. tt) never
 
     yield_counted : b.call.stage ≡ stage.YieldCounted → IsKept (next_from stage.YieldCounted told)
-    yield_counted is = stays stage.YieldCounted stage.Leave is refl refl b.call.late tt (λ epoch watched noted. tt) never
+    yield_counted is = stays stage.YieldCounted stage.Leave is refl refl (not (told == 0)) tt (λ epoch watched noted. tt) never
 
     leave : b.call.stage ≡ stage.Leave → IsKept (next_from stage.Leave told)
     leave is =
@@ -559,6 +559,36 @@ unlocking stage.NoteEpoch call is = cc
 unlocking stage.EndEpoch call is = cc
 unlocking stage.Notified call is = cc
 
+-- only at one stage a call parks, and at its epoch
+record ParksAt (at : EventStage) (call : EventCall) (epoch : ℕ) : Type 0 where
+  sleeps : at ≡ stage.Sleep
+  same : call.epoch ≡ epoch
+
+parked : (at : EventStage) (call : EventCall) (epoch : ℕ) → parks_at (action_at at call) ≡ Some epoch → ParksAt at call epoch
+parked stage.Sleep call epoch is = record { sleeps = refl; same = same_Some call.epoch epoch is }
+parked stage.Wake call epoch is = either call.all is
+  where
+    either : (all : Bool) → parks_at (wake_of all) ≡ Some epoch → ParksAt stage.Wake call epoch
+    either true e = cc
+    either false e = cc
+parked stage.FindCount call epoch is = cc
+parked stage.CountIn call epoch is = cc
+parked stage.YieldAway call epoch is = cc
+parked stage.WatchEpoch call epoch is = cc
+parked stage.Unlock call epoch is = cc
+parked stage.YieldCounted call epoch is = cc
+parked stage.Leave call epoch is = cc
+parked stage.FindEpoch call epoch is = cc
+parked stage.CloseCount call epoch is = cc
+parked stage.RestartEpochs call epoch is = cc
+parked stage.OpenCount call epoch is = cc
+parked stage.Lock call epoch is = cc
+parked stage.Waited call epoch is = cc
+parked stage.FindWaits call epoch is = cc
+parked stage.NoteEpoch call epoch is = cc
+parked stage.EndEpoch call epoch is = cc
+parked stage.Notified call epoch is = cc
+
 wakes_next : (at : EventStage) (found : ℕ) (call : EventCall) → at ≡ stage.EndEpoch → action_of (event_at at found call) ≡ wake_of call.all
 wakes_next at found call is = subst (λ x. action_of (event_at x found call) ≡ wake_of call.all) (sym is) refl
 
@@ -566,12 +596,15 @@ reached : (s : EventsInUse) → IsKept s → WaitsAreReached s
 reached s h =
     record {
       reached = h.reached;
-      sleeps = λ k n wait note iw inn sleeping now over.
+      sleeps = λ k n wait note iw inn parks over.
           elim (cases_lt n wait.before) [
             | inl earlier ↦ earlier
             | inr later ↦
                 absurd
-                (let registered : IsTrue (is_registered wait.call.stage) = subst (λ x. IsTrue (is_registered x)) (sym sleeping) refl in
+                (let there = parked wait.call.stage wait.call s.words.epoch parks in
+                let sleeping = there.sleeps in
+                let now = there.same in
+                let registered : IsTrue (is_registered wait.call.stage) = subst (λ x. IsTrue (is_registered x)) (sym sleeping) refl in
                 let early : wait.call.epoch < last_epoch = subst (λ x. Knows x wait.call) sleeping (h.each k wait iw).knows in
                 let ended : wait.call.epoch < s.words.epoch
                 = subst (λ x. ReachesAt x s.words.epoch wait.call.epoch note.call.epoch) over (h.reached k n wait note iw inn registered early later) in

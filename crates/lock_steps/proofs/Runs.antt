@@ -33,7 +33,7 @@ use Rattle.lock_steps.specs.declared.act.Act.{Act}
 use Rattle.lock_steps.specs.declared.act.Act.TheVariants as act
 use Rattle.lock_steps.specs.declared.stage.Stage.{Stage}
 use Rattle.lock_steps.specs.declared.stage.Stage.TheVariants as stage
-use Rattle.lock_steps.specs.Machine.{Progress, acquiring, taking, next_of, next_at, ended, goes_to, wakes_one, has_to_wake, last_epoch, closed_count}
+use Rattle.lock_steps.specs.Machine.{Progress, acquiring, taking, next_at, ended, goes_to, wakes_one, has_to_wake, last_epoch, closed_count}
 use Rattle.lock_steps.specs.StepLaws.{Words, with_number, made, IsAnswer, LeavesWords, limits_of, trial, IsRest, wake_at, IsAt, asked_at, hold_at, is_over, Kept}
 use Rattle.lock_steps.specs.Runs.{Underway, Thread, LockInUse, next_in, new_thread, new_lock, hold_in, hold_of, rests, may_acquire, may_release, in_call, goes_on, answer, with_thread, acquire_by, release_by, step_in, step_by, after_act, after_acts, IsDueAt, SomeThreadIsDue, told_by, IsAsTold, parks_at, WakesNext, ThreadsAreServed, EveryRunIsServed}
 use Rattle.lock_steps.proofs.Refusals.{Honest, honest_next, honest_start, refusal_keeps}

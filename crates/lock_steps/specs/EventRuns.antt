@@ -9,7 +9,7 @@ use Rattle.lock_steps.specs.declared.event_stage.EventStage.{EventStage}
 use Rattle.lock_steps.specs.declared.event_stage.EventStage.TheVariants as stage
 use Rattle.lock_steps.specs.Machine.{last_epoch, closed_count}
 use Rattle.lock_steps.specs.StepLaws.{Words, made}
-use Rattle.lock_steps.specs.Runs.{answer}
+use Rattle.lock_steps.specs.Runs.{answer, parks_at}
 use Rattle.lock_steps.specs.Events.{waiting, notifying, action_of, event_next}
 
 -- a call, and how many calls had begun when it registered, if it is a wait
@@ -102,9 +102,9 @@ pub record WaitsAreReached (s : EventsInUse) : Type 0 where
   pub reached : (k n : ℕ) (wait note : Begun) → slice_get s.calls k ≡ Some wait → slice_get s.calls n ≡ Some note
       → IsTrue (is_registered wait.call.stage) → wait.call.epoch < last_epoch → wait.before ≤ n
       → Reaches s.words.epoch wait.call.epoch note.call
-  -- where a wait sleeps in the present epoch, each notification that has ended began before the wait registered
+  -- where a wait parks in the present epoch, each notification that has ended began before the wait registered
   pub sleeps : (k n : ℕ) (wait note : Begun) → slice_get s.calls k ≡ Some wait → slice_get s.calls n ≡ Some note
-      → wait.call.stage ≡ stage.Sleep → wait.call.epoch ≡ s.words.epoch → note.call.stage ≡ stage.Notified → n < wait.before
+      → parks_at (action_of wait.call) ≡ Some s.words.epoch → note.call.stage ≡ stage.Notified → n < wait.before
   -- a wait that is to release its mutex has registered
   pub unlocks : (k : ℕ) (wait : Begun) → slice_get s.calls k ≡ Some wait → action_of wait.call ≡ action.Unlock
       → IsTrue (is_registered wait.call.stage)

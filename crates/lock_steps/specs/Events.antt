@@ -51,7 +51,7 @@ event_at YieldAway found call = event_to FindCount call
 event_at WatchEpoch found call = event_to Unlock (record call { epoch = found })
 event_at Unlock found call = if nat_lt call.epoch last_epoch then event_to Sleep call else event_to YieldCounted call
 event_at Sleep found call = event_to Leave (record call { late = not (found == 0) })
-event_at YieldCounted found call = event_to Leave call
+event_at YieldCounted found call = event_to Leave (record call { late = not (found == 0) })
 event_at Leave found call = event_to FindEpoch call
 event_at FindEpoch found call = if nat_lt found last_epoch then event_to Lock call else event_to CloseCount call
 event_at CloseCount found call = if found == 0 then event_to RestartEpochs call else event_to Lock call

@@ -89,11 +89,8 @@ impl EventCall {
                     self.to(EventStage::YieldCounted, Action::Yield)
                 }
             }
-            EventStage::Sleep => {
+            EventStage::Sleep | EventStage::YieldCounted => {
                 self.late = found != 0;
-                self.to(EventStage::Leave, Action::Subtract(Place::Count, 1))
-            }
-            EventStage::YieldCounted => {
                 self.to(EventStage::Leave, Action::Subtract(Place::Count, 1))
             }
             EventStage::Leave => self.to(EventStage::FindEpoch, Action::Load(Place::Epoch)),
