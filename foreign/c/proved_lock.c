@@ -31,6 +31,14 @@ static void spin(uint64_t times) {
     }
 }
 
+/* Returns whether the deadline has passed, as one that is no valid time has. */
+static bool has_passed(const struct timespec *deadline) {
+    struct timespec now;
+    if (!deadline) return false;
+    clock_gettime(CLOCK_MONOTONIC, &now);
+    return (unsigned long)deadline->tv_nsec > 999999999 || now.tv_sec > deadline->tv_sec || (now.tv_sec == deadline->tv_sec && now.tv_nsec >= deadline->tv_nsec);
+}
+
 /* Makes a step on the words, and returns its answer. */
 static uint64_t make(proved_words *w, struct lock_step s, const struct timespec *deadline) {
     uint64_t *const places[] = {&w->word, &w->count, &w->epoch};
@@ -47,7 +55,7 @@ static uint64_t make(proved_words *w, struct lock_step s, const struct timespec 
     case LOCK_WAKE_ONE: futex(place, FUTEX_WAKE, 1, 0); break;
     case LOCK_WAKE_ALL: futex(place, FUTEX_WAKE, INT_MAX, 0); break;
     case LOCK_SPIN: spin((uint64_t)1 << s.first % 32); break;
-    case LOCK_YIELD: sched_yield(); break;
+    case LOCK_YIELD: sched_yield(); return has_passed(deadline);
     }
     return 0;
 }

@@ -341,6 +341,12 @@ static void conditions(void) {
     MUST(!proved_cond_wait_until(&not_full, &queue, &deadline) && !is_before(&deadline));
     MUST(!proved_cond_wait_until(&not_full, &queue, &(struct timespec){-1, 0}));
     MUST(!proved_mutex_try_lock(&queue));
+    /* in the last epoch a wait yields while another waiter is counted, and sees its deadline */
+    static proved_cond last;
+    last.words = (proved_words){0, 1, UINT32_MAX};
+    MUST(!proved_cond_wait_until(&last, &queue, &deadline) && !proved_cond_wait_until(&last, &queue, &(struct timespec){-1, 0}));
+    deadline = in_nanoseconds(60000000000);
+    MUST(proved_cond_wait_until(&last, &queue, &deadline) && last.words.count == 1);
     proved_mutex_unlock(&queue);
     not_empty.words.epoch = UINT32_MAX - 20; /* soon the epochs begin anew */
     run(produces_or_consumes);

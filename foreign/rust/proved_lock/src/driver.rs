@@ -104,29 +104,36 @@ const WAIT_BITSET_PRIVATE: c_int = 128 + 9;
 const WAKE_PRIVATE: c_int = 128 + 1;
 const ANY_BIT: u32 = u32::MAX;
 const ETIMEDOUT: c_int = 110;
-#[cfg(feature = "std")]
 const CLOCK_MONOTONIC: c_int = 1;
 
 unsafe extern "C" {
     fn syscall(number: c_long, ...) -> c_long;
     safe fn __errno_location() -> *const c_int;
     safe fn sched_yield() -> c_int;
-    #[cfg(feature = "std")]
     safe fn clock_gettime(clock: c_int, time: &mut Timespec) -> c_int;
 }
 
 /// Seconds and nanoseconds of the clock that does not go back.
 #[repr(C)]
-#[derive(Debug)]
+#[derive(Debug, PartialEq, PartialOrd)]
 pub(crate) struct Timespec(i64, i64);
 
-#[cfg(feature = "std")]
 impl Timespec {
-    /// The kernel's time at this deadline, or later. There is none if it is too far away.
-    pub(crate) fn at(deadline: Instant) -> Option<Timespec> {
-        let left = deadline.saturating_duration_since(Instant::now());
+    fn now() -> Timespec {
         let mut now = Timespec(0, 0);
         clock_gettime(CLOCK_MONOTONIC, &mut now);
+        now
+    }
+
+    fn has_passed(&self) -> bool {
+        Timespec::now() >= *self
+    }
+
+    /// The kernel's time at this deadline, or later. There is none if it is too far away.
+    #[cfg(feature = "std")]
+    pub(crate) fn at(deadline: Instant) -> Option<Timespec> {
+        let left = deadline.saturating_duration_since(Instant::now());
+        let now = Timespec::now();
         let end = Duration::new(u64::try_from(now.0).ok()?, u32::try_from(now.1).ok()?).checked_add(left)?;
         Some(Timespec(i64::try_from(end.as_secs()).ok()?, end.subsec_nanos().into()))
     }
@@ -174,6 +181,7 @@ impl Words {
             SPIN => (0..1u64 << (step.first % 32)).for_each(|_| spin_loop()),
             YIELD => {
                 sched_yield();
+                return deadline.is_some_and(Timespec::has_passed).into();
             }
             _ => {}
         }
@@ -251,6 +259,18 @@ mod tests {
         let deadline = Timespec::at(Instant::now() + SHORT);
         assert!(words.wait(notify_and_be_late, || (), deadline.as_ref()));
         assert!(!words.wait(|| sleep(2 * SHORT), || (), Timespec::at(Instant::now() + SHORT).as_ref()));
+    }
+
+    /// In the last epoch a wait yields instead of sleeping while another one is counted, and sees its deadline.
+    #[test]
+    fn a_wait_in_the_last_epoch_times_out() {
+        let words = Words::new();
+        words.0[1].store(1, SeqCst);
+        words.0[2].store(u32::MAX.into(), SeqCst);
+        for (left, is_in_time) in [(Duration::ZERO, false), (Duration::from_secs(60), true)] {
+            let deadline = Timespec::at(Instant::now() + left);
+            assert_eq!(words.wait(|| (), || (), deadline.as_ref()), is_in_time, "{left:?}");
+        }
     }
 
     /// The kernel's time at a deadline is not before it, and a deadline that has passed is one still.
