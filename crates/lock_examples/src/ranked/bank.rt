@@ -56,7 +56,8 @@ pub fn transfer<R: RawMutex, B: Rank>(
     true
 }
 
-/// Moves one unit between two accounts and back, so often. Threads that do so in both directions never stop.
+/// Moves one unit between two accounts and back, `times` times. `lock_two` acquires both accounts in the order of their places,
+/// so threads that do so in both directions do not wait for each other.
 pub fn transfer_both_ways<R: RawMutex, B: Rank>(
     accounts: &Accounts<R>,
     order: &mut Order<'_, B>,
