@@ -1,4 +1,6 @@
 mod EventRuns
+mod Fits
 mod Refusals
 mod Runs
+mod Sleeping
 mod Steps

@@ -40,60 +40,60 @@ use Rattle.lock_steps.proofs.Refusals.{Honest, honest_next, honest_start, refusa
 use Rattle.lock_steps.proofs.Steps.{chosen, rest_leaves, same_leaves, wake_leaves, steps_keep_the_rule, no_parked_call_is_forgotten}
 
 -- a thread, and what the rule knows of it
-record Pair : Type 0 where
-  thread : Thread
-  view : SleeperView
+pub record Pair : Type 0 where
+  pub thread : Thread
+  pub view : SleeperView
 
-abbrev threads_of : List Pair → List Thread
+abbrev pub threads_of : List Pair → List Thread
 threads_of pairs = map (λ (p : Pair). p.thread) pairs
 
-abbrev views_of : List Pair → List SleeperView
+abbrev pub views_of : List Pair → List SleeperView
 views_of pairs = map (λ (p : Pair). p.view) pairs
 
 -- the thread's call is at a step, or it is in no call and owes nothing
-abbrev IsIn : ℕ → Option Underway → SleeperView → Type 0
+abbrev pub IsIn : ℕ → Option Underway → SleeperView → Type 0
 IsIn readers None v = (v.watch ≡ Away) × (v.debt ≡ Nothing)
 IsIn readers (Some u) v =
     IsAt u.call.stage u.call u.down v u.action × (is_over u.call.stage ≡ false) × (u.call.readers ≡ readers)
     × (asked_at u.call.stage u.down u.call.want ≡ u.asked)
 
 -- what a thread's call does with the bar
-abbrev HonestIn : Hold → Option Underway → Type 0
+abbrev pub HonestIn : Hold → Option Underway → Type 0
 HonestIn held None = ⊤
 HonestIn held (Some u) = Honest held u.call
 
-record Matches (readers : ℕ) (t : Thread) (v : SleeperView) : Type 0 where
-  honest : HonestIn t.held t.underway
-  holds : v.state.held ≡ hold_of t
-  is_in : IsIn readers t.underway v
+pub record Matches (readers : ℕ) (t : Thread) (v : SleeperView) : Type 0 where
+  pub honest : HonestIn t.held t.underway
+  pub holds : v.state.held ≡ hold_of t
+  pub is_in : IsIn readers t.underway v
 
-abbrev limits : ℕ → WakeLimits
+abbrev pub limits : ℕ → WakeLimits
 limits readers = record { readers = readers; last_epoch = last_epoch; wakes_one = readers == 1 }
 
-abbrev KeepsLock : ℕ → Words → List SleeperView → Type 0
+abbrev pub KeepsLock : ℕ → Words → List SleeperView → Type 0
 KeepsLock readers w views = KeepsWakes (limits readers) w.word w.count w.epoch views
 
-record IsKept (s : LockInUse) : Type 0 where
-  pairs : List Pair
-  range : IsLimit s.readers
-  threads : s.threads ≡ threads_of pairs
-  kept : KeepsLock s.readers s.words (views_of pairs)
-  each : (k : ℕ) (p : Pair) → slice_get pairs k ≡ Some p → Matches s.readers p.thread p.view
+pub record IsKept (s : LockInUse) : Type 0 where
+  pub pairs : List Pair
+  pub range : IsLimit s.readers
+  pub threads : s.threads ≡ threads_of pairs
+  pub kept : KeepsLock s.readers s.words (views_of pairs)
+  pub each : (k : ℕ) (p : Pair) → slice_get pairs k ≡ Some p → Matches s.readers p.thread p.view
 
 -- lists
 
 -- an element of a mapped list is that of an element
-record Origin (A B : Type 0) (f : A → B) (xs : List A) (k : ℕ) (y : B) : Type 0 where
-  x : A
-  at : slice_get xs k ≡ Some x
-  same : f x ≡ y
+pub record Origin (A B : Type 0) (f : A → B) (xs : List A) (k : ℕ) (y : B) : Type 0 where
+  pub x : A
+  pub at : slice_get xs k ≡ Some x
+  pub same : f x ≡ y
 
 origin : {A B : Type 0} (f : A → B) (xs : List A) (k : ℕ) (y : B) → slice_get (map f xs) k ≡ Some y → Origin A B f xs k y
 origin f [] k y h = cc
 origin f (x ∷ xs) zero y h = record { x = x; at = refl; same = same_Some (f x) y h }
 origin f (x ∷ xs) (suc k) y h = let o = origin f xs k y h in record { x = o.x; at = o.at; same = o.same }
 
-put : {A : Type 0} (xs : List A) (k : ℕ) (x y : A) → slice_get xs k ≡ Some x → slice_get (slice_set xs k y) k ≡ Some y
+pub put : {A : Type 0} (xs : List A) (k : ℕ) (x y : A) → slice_get xs k ≡ Some x → slice_get (slice_set xs k y) k ≡ Some y
 put [] k x y h = cc
 put (z ∷ xs) zero x y h = refl
 put (z ∷ xs) (suc k) x y h = put xs k x y h
@@ -103,14 +103,14 @@ put (z ∷ xs) (suc k) x y h = put xs k x y h
 mutex_start : (readers : ℕ) → IsTrue (readers == 1) → readers ≡ 1
 mutex_start readers one = eqb-true _ _ one
 
-abbrev new_pair : Pair
+abbrev pub new_pair : Pair
 new_pair = record { thread = new_thread; view = new_sleeper }
 
 new_matches : (readers : ℕ) (p : Pair) → p ≡ new_pair → Matches readers p.thread p.view
 new_matches readers p e =
     subst (λ (q : Pair). Matches readers q.thread q.view) (sym e) record { honest = tt; holds = refl; is_in = (refl, refl) }
 
-kept_at_start : (readers : ℕ) → IsLimit readers → IsKept (new_lock readers)
+pub kept_at_start : (readers : ℕ) → IsLimit readers → IsKept (new_lock readers)
 kept_at_start readers range =
     record {
       pairs = new_pair ∷ [];
@@ -126,7 +126,7 @@ kept_at_start readers range =
 
 -- a thread joins
 
-kept_after_join : (s : LockInUse) → IsKept s → IsKept (after_act s act.Join)
+pub kept_after_join : (s : LockInUse) → IsKept s → IsKept (after_act s act.Join)
 kept_after_join s h =
     record {
       pairs = h.pairs ++ new_pair ∷ [];
@@ -145,13 +145,13 @@ kept_after_join s h =
 -- what is known of a thread of the lock
 
 module _ (s : LockInUse) (h : IsKept s) (k : ℕ) (t : Thread) (at : slice_get s.threads k ≡ Some t) where
-  found : Origin Pair Thread (λ (p : Pair). p.thread) h.pairs k t
+  pub found : Origin Pair Thread (λ (p : Pair). p.thread) h.pairs k t
   found = origin (λ (p : Pair). p.thread) h.pairs k t (subst (λ ts. slice_get ts k ≡ Some t) h.threads at)
 
-  abbrev me : SleeperView
+  abbrev pub me : SleeperView
   me = found.x.view
 
-  me_at : slice_get (views_of h.pairs) k ≡ Some me
+  pub me_at : slice_get (views_of h.pairs) k ≡ Some me
   me_at = rw (slice_get-map (λ (p : Pair). p.view) h.pairs k, found.at) refl
 
   matches : Matches s.readers t me
@@ -263,7 +263,7 @@ goes_on_matches readers t asked release next you is_at held same asks honest =
 
 module _ (s : LockInUse) (h : IsKept s) (k told : ℕ) (t : Thread) (at : slice_get s.threads k ≡ Some t) (u : Underway)
     (calls : t.underway ≡ Some u) where
-  is_in : IsIn s.readers (Some u) (me s h k t at)
+  pub is_in : IsIn s.readers (Some u) (me s h k t at)
   is_in = subst (λ x. IsIn s.readers x (me s h k t at)) calls (matches s h k t at).is_in
 
   is_held : (me s h k t at).state.held ≡ hold_at u.call.stage u.down u.call t.held
@@ -285,7 +285,7 @@ module _ (s : LockInUse) (h : IsKept s) (k told : ℕ) (t : Thread) (at : slice_
       steps_keep_the_rule s.words (views_of h.pairs) k (me s h k t at) u.call u.down u.action (answer u.action s.words told) t.held
       (subst IsLimit (sym is_in.2) h.range) kept_here (me_at s h k t at) is_in.0 is_held is_in.1 (is_answer u.action s.words told)
 
-  kept_after_step : IsKept (step_in s k told t (Some u))
+  pub kept_after_step : IsKept (step_in s k told t (Some u))
   kept_after_step =
       let same = stepped.same_lock ∙ is_in.2 in
       replaced s h k t at (made u.action s.words) (goes_on t u.asked u.down next) stepped.you
@@ -294,14 +294,14 @@ module _ (s : LockInUse) (h : IsKept s) (k told : ℕ) (t : Thread) (at : slice_
 
 -- acts
 
-acquired_by : (s : LockInUse) (h : IsKept s) (k : ℕ) (want : ExWant) (blocks announces : Bool) (o : Option Thread) → slice_get s.threads k ≡ o
+pub acquired_by : (s : LockInUse) (h : IsKept s) (k : ℕ) (want : ExWant) (blocks announces : Bool) (o : Option Thread) → slice_get s.threads k ≡ o
     → IsKept (acquire_by s k want blocks announces o)
 acquired_by s h k want blocks announces None at = h
 acquired_by s h k want blocks announces (Some t) at =
     chosen IsKept (may_acquire t want) (with_thread s k (in_call t (step_of_want want) down.Shared (acquiring s.readers want blocks announces))) s
     (λ may. acquires s h k t at want blocks announces may) (λ may_not. h)
 
-released_by : (s : LockInUse) (h : IsKept s) (k : ℕ) (release : Down) (o : Option Thread) → slice_get s.threads k ≡ o
+pub released_by : (s : LockInUse) (h : IsKept s) (k : ℕ) (release : Down) (o : Option Thread) → slice_get s.threads k ≡ o
     → IsKept (release_by s k release o)
 released_by s h k release None at = h
 released_by s h k release (Some t) at =
@@ -440,7 +440,7 @@ parked stage.Acquired call release v a epoch st parks = no_park a (End true) epo
 parked stage.Refused call release v a epoch st parks = no_park a (End false) epoch st.2 refl parks
 parked stage.Ended call release v a epoch st parks = no_park a (End true) epoch st.2 refl parks
 
-none_forgotten : (s : LockInUse) (h : IsKept s) (k : ℕ) (t : Thread) (u : Underway) → slice_get s.threads k ≡ Some t → t.underway ≡ Some u
+pub none_forgotten : (s : LockInUse) (h : IsKept s) (k : ℕ) (t : Thread) (u : Underway) → slice_get s.threads k ≡ Some t → t.underway ≡ Some u
     → parks_at u.action ≡ Some s.words.epoch
     → IsTrue (word_admits u.call.announced s.readers s.words.word u.call.want) → SomeThreadIsDue s
 none_forgotten s h k t u at calls parks admits =
@@ -647,6 +647,13 @@ ends_at w call release v a told stage.Acquired st ends = absurd (calm w a (End t
 ends_at w call release v a told stage.Refused st ends = absurd (calm w a (End false) st.2 (never w.epoch) ends)
 ends_at w call release v a told stage.Ended st ends = absurd (calm w a (End true) st.2 (never w.epoch) ends)
 
+pub still_going : (t : Thread) (asked : LockStep) (release : Down) (next : Progress) → is_over next.0.stage ≡ false
+    → goes_on t asked release next ≡ in_call t asked release next
+still_going t asked release next going =
+    chosen (λ (x : Thread). x ≡ in_call t asked release next) (is_over next.0.stage)
+    (record { held = hold_at next.0.stage release next.0 t.held; underway = None }) (in_call t asked release next)
+    (λ over. absurd (true≢false (sym over ∙ going))) (λ same. refl)
+
 wakes_in : (s : LockInUse) (h : IsKept s) (k told : ℕ) (t : Thread) → slice_get s.threads k ≡ Some t → (o : Option Underway) → t.underway ≡ o
     → (step_in s k told t o).words.epoch ≡ s.words.epoch + 1 → WakesNext (step_in s k told t o) k
 wakes_in s h k told t at None calls ends = absurd (never s.words.epoch ends)
@@ -661,20 +668,13 @@ wakes_in s h k told t at (Some u) calls ends =
       calls = refl;
       wakes = wakes.wakes ∙ rw (where_it_is.2, sym ends) refl;
     }
-  where
-    still_going : (t : Thread) (asked : LockStep) (release : Down) (next : Progress) → is_over next.0.stage ≡ false
-        → goes_on t asked release next ≡ in_call t asked release next
-    still_going t asked release next going =
-        chosen (λ (x : Thread). x ≡ in_call t asked release next) (is_over next.0.stage)
-        (record { held = hold_at next.0.stage release next.0 t.held; underway = None }) (in_call t asked release next)
-        (λ over. absurd (true≢false (sym over ∙ going))) (λ same. refl)
 
 wakes_by : (s : LockInUse) (h : IsKept s) (k told : ℕ) (o : Option Thread) → slice_get s.threads k ≡ o
     → (step_by s k told o).words.epoch ≡ s.words.epoch + 1 → WakesNext (step_by s k told o) k
 wakes_by s h k told None at ends = absurd (never s.words.epoch ends)
 wakes_by s h k told (Some t) at ends = wakes_in s h k told t at t.underway refl ends
 
-served : (s : LockInUse) → IsKept s → ThreadsAreServed s
+pub served : (s : LockInUse) → IsKept s → ThreadsAreServed s
 served s h =
     record {
       coded = h.kept.rule.coded ∙ ap (λ hs. word_of (all_of hs)) (shown_holds s h);

@@ -117,7 +117,7 @@ module _ (before : Hold) (views : List SleeperView) (k : ℕ) (down : Down) (w :
       (λ many. waits call you kept acts away hd))
 
 -- a free word admits what a party may wait for
-admits_free : (want : ExWant) (announced : Bool) (readers : ℕ) (v : SleeperView) → IsLimit readers → Acquires want announced v
+pub admits_free : (want : ExWant) (announced : Bool) (readers : ℕ) (v : SleeperView) → IsLimit readers → Acquires want announced v
     → WordShows readers 0 v.state.held → word_admits announced readers 0 want ≡ true
 admits_free want.Shared announced readers v range acts shown = let positive = range.0 in grind arith
 admits_free want.Exclusive announced readers v range acts shown = refl

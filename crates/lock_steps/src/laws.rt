@@ -1,6 +1,7 @@
 //! What the steps mean. Each law is the contract of a function with an empty body.
 ghost use Rattle.lock_steps.specs.StepLaws.{CallsBegin, StepsKeepTheRule, NoParkedCallIsForgotten};
 ghost use Rattle.lock_steps.specs.Runs.{EveryRunIsServed};
+ghost use Rattle.lock_steps.specs.Sleeping.{EverySleeperIsServed};
 ghost use Rattle.lock_steps.specs.EventRuns.{EveryWaitIsReached};
 
 /// Takes a new lock and any acts of any number of threads, in any order, one atomic step at a time.
@@ -10,6 +11,16 @@ ghost use Rattle.lock_steps.specs.EventRuns.{EveryWaitIsReached};
 /// release: it has yet to look for sleepers or to end the epoch. A step that ends an epoch is followed by a wake-up.
 pub fn every_run_is_served()
     ensures { EveryRunIsServed }
+{}
+
+/// Takes a new lock and any acts of any number of threads, on a kernel by which threads sleep.
+///
+/// A thread falls asleep in its park if it finds the epoch that it parks for. A wake-up of one wakes any of the threads that
+/// sleep, and a sleep may end early. If the word admits what a thread sleeps for, in whatever epoch, some other thread is awake
+/// in the middle of a release: it has yet to look for sleepers, to end the epoch, or to wake. In a mutex, it may instead be a
+/// thread that was woken, and that has yet to look at the free word or to exchange it.
+pub fn every_sleeper_is_served()
+    ensures { EverySleeperIsServed }
 {}
 
 /// Each step of each call keeps the rule by which no wake-up is lost, and the caller holds what the stage of the call says.

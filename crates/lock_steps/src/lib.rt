@@ -20,7 +20,7 @@ pub use event_act::EventAct;
 pub use event_call::EventCall;
 pub use event_stage::EventStage;
 pub use laws::{
-    calls_begin, every_run_is_served, every_wait_is_reached, no_parked_call_is_forgotten,
-    steps_keep_the_rule,
+    calls_begin, every_run_is_served, every_sleeper_is_served, every_wait_is_reached,
+    no_parked_call_is_forgotten, steps_keep_the_rule,
 };
 pub use stage::Stage;
