@@ -1,4 +1,4 @@
--- A held lock that was settled after a refused upgrade.
+-- What a refused upgrade leaves: the same guard.
 use Rattle.std.proofs.Common.{◌≡◌, true, refl, ap, ◌∙◌, Option, Some, None, Result, Ok, Err}
 use Rattle.std.specs.Prelude.{IfErr, IfNone, is_some, is_ok}
 use Rattle.lock_guard.specs.declared.guard.inner.Inner.{Inner}
@@ -25,3 +25,10 @@ module _ {L V K W X : Type 0} {r : release.Ghosts L K W} {g : _} where
   same_if_refused one held inner filled own None (Ok token) taken is back put = cc
   same_if_refused one held inner filled own None (Err token) {shown = shown} taken is back put =
       ap one (same_held_at (with_inner held inner filled own) held refl (put ∙ ap (λ k. Filled k shown) back ∙ taken))
+
+  -- the guard of a held lock that was taken apart, made again with the token that is back
+  pub same_with_token : {G : Type 0} (one : Held L V K W X r g → G) (made held : Held L V K W X r g) {back token : K} {shown : V}
+      → made.lock ≡ held.lock → made.inner ≡ Filled back shown → back ≡ token → Filled token shown ≡ held.inner
+      → one made ≡ one held
+  same_with_token one made held {shown = shown} lock inner back taken =
+      ap one (same_held_at made held lock (inner ∙ ap (λ k. Filled k shown) back ∙ taken))

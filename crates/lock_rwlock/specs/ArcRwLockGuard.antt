@@ -3,7 +3,6 @@ use Rattle.std.specs.Prelude.{◌≡◌}
 use Rattle.std.specs.Arc.{arc_value}
 use Rattle.std.specs.declared.alloc.Global.{Global}
 use Rattle.std.specs.declared.sync.Arc.{Arc}
-use Rattle.lock_guard.specs.declared.guard.inner.Inner.{Inner}
 use Rattle.lock_rwlock.specs.declared.lock.RwLock.{RwLock}
 use Rattle.lock_rwlock.specs.declared.arc.guard.ArcModeGuard.{ArcModeGuard}
 use Rattle.lock_rwlock.specs.declared.arc.owned.OwnedInMode.{OwnedInMode}
@@ -12,13 +11,6 @@ module _ {M R T A B C D V K W X : Type 0} {r : _} {g : _} where
   -- the lock that a guard is of, in whatever mode
   abbrev pub arc_of : ArcModeGuard (OwnedInMode M R T A B C D) V K W X r g → Arc (RwLock R T) Global
   arc_of guard = guard.held.lock.rwlock
-
-  -- the lock in its mode, and what has the token
-  abbrev pub lock_of : ArcModeGuard (OwnedInMode M R T A B C D) V K W X r g → OwnedInMode M R T A B C D
-  lock_of guard = guard.held.lock
-
-  abbrev pub inner_of : ArcModeGuard (OwnedInMode M R T A B C D) V K W X r g → Inner K V
-  inner_of guard = guard.held.inner
 
   -- the guard is one of this lock
   abbrev pub IsArcGuardOf : Arc (RwLock R T) Global → ArcModeGuard (OwnedInMode M R T A B C D) V K W X r g → Type 0

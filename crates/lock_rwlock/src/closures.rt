@@ -47,40 +47,11 @@ pub(crate) fn with_upgraded<R: RawRwLockUpgradeDowngrade, T, U, F: FnOnce(&mut T
     (rwlock.raw.downgrade_to_upgradable(token), answer)
 }
 
-/// Runs `f` on the value if the raw lock upgraded the token, and downgrades the token. If the raw lock refused, returns
-/// the token with `shown`, and does not call `f`.
+/// Runs `f` on the value if the raw lock upgraded the token, downgrades the token, and fills `inner` with it. If the raw
+/// lock refused, fills `inner` with the token and `shown`, and does not call `f`.
 ///
 /// `shown` is the caller's access to the value. It is dropped before the value's lock is acquired for writing.
-fn with_if_upgraded<R: RawRwLockUpgradeDowngrade, T, V: Drop, U, F: FnOnce(&mut T) -> U>(
-    rwlock: &RwLock<R, T>,
-    shown: V,
-    upgraded: Result<R::ExclusiveGuard, R::UpgradableGuard>,
-    f: F,
-) -> Result<(R::UpgradableGuard, U), Inner<R::UpgradableGuard, V>>
-where
-    F: Drop,
-    requires callable { F.IsAlwaysCallable f }
-    requires own { IfOk upgraded (λ token. R.owns_exclusive rwlock.now.raw token ≡ true) }
-    requires same { IfErr upgraded (λ token. R.owns_upgradable rwlock.now.raw token ≡ true) }
-    ensures own { IfOk result (λ made. R.owns_upgradable rwlock.now.raw made.0 ≡ true) }
-    ensures still_own { IfErr result (λ same. owns (R.owns_upgradable rwlock.now.raw) same ≡ true) }
-    ensures called { is_ok result ≡ is_ok upgraded }
-    ensures answer { IfOk result (λ made. AnswersSomeValue F.FnOnce f made.1) }
-    ensures filled { IfErr result (λ same. is_filled same ≡ true) }
-    ensures refused { IfErr upgraded (λ token. IfErr result (λ same. same ≡ Filled token shown)) }
-{
-    match upgraded {
-        Ok(token) => {
-            drop(shown);
-            let answer = write_with(rwlock, f);
-            Ok((rwlock.raw.downgrade_to_upgradable(token), answer))
-        }
-        Err(token) => Err(Inner::Filled(token, shown)),
-    }
-}
-
-/// `with_if_upgraded` for a guard whose token and `shown` were taken out of `inner`. It fills `inner` again.
-pub(crate) fn settle_if_upgraded<
+pub(crate) fn with_if_upgraded<
     R: RawRwLockUpgradeDowngrade,
     T,
     L: Acquire<Token = R::UpgradableGuard>,
@@ -108,6 +79,13 @@ where
     ensures answer { IfSome result (AnswersSomeValue F.FnOnce f) }
     ensures refused { IfErr upgraded (λ token. inner.new ≡ Filled token shown) }
 {
-    let made = with_if_upgraded(rwlock, shown, upgraded, f);
-    inner.settle(lock, made)
+    match upgraded {
+        Ok(token) => {
+            drop(shown);
+            let answer = write_with(rwlock, f);
+            let token = rwlock.raw.downgrade_to_upgradable(token);
+            inner.settle(lock, Ok((token, answer)))
+        }
+        Err(token) => inner.settle(lock, Err(Inner::Filled(token, shown))),
+    }
 }

@@ -1,24 +1,22 @@
 //! The upgradable read guard.
-ghost use Rattle.std.specs.Prelude.{◌≡◌, true, IfSome, IfNone, IfOk, IfErr, MatchResult, is_ok};
+ghost use Rattle.std.specs.Prelude.{◌≡◌, IfSome, IfNone, MatchResult};
 ghost use Rattle.std.specs.Sync.RwLock.{read_guard_value};
 ghost use Rattle.lock_guard.specs.Closure.{AnswersSomeValue};
 
 use super::{RwLockGuard, RwLockReadGuard, RwLockWriteGuard, guard};
-use crate::closures::{settle_if_upgraded, with_upgraded};
+use crate::closures::{with_if_upgraded, with_upgraded};
 use crate::lock::RwLock;
 use crate::mode::{InMode, Upgradable};
 use crate::upgrade::{AtOnce, For, TryUpgrade, Until};
 use lock_guard::guard::{Acquire, Held, Inner};
 use lock_guard::raw::{RawRwLockUpgrade, RawRwLockUpgradeDowngrade, RawRwLockUpgradeTimed};
-use std::sync;
 
 /// An upgradable read guard: it reads the value, next to readers, and can become the writer. It releases the lock on
 /// drop.
 pub type RwLockUpgradableReadGuard<'a, R, T> = RwLockGuard<InMode<'a, Upgradable, R, T>>;
 
 impl<'a, R: RawRwLockUpgrade, T> RwLockGuard<InMode<'a, Upgradable, R, T>> {
-    ghost use Rattle.lock_guard.specs.declared.guard.inner.Inner.TheVariants.{Filled};
-    ghost use Rattle.lock_rwlock.specs.RwLockGuard.{IsGuardOf, SameLock, held_of};
+    ghost use Rattle.lock_rwlock.specs.RwLockGuard.{IsGuardOf, SameLock};
 
     /// Returns the lock of the guard.
     pub fn rwlock(guard: &RwLockUpgradableReadGuard<'a, R, T>) -> &'a RwLock<R, T>
@@ -52,23 +50,7 @@ impl<'a, R: RawRwLockUpgrade, T> RwLockGuard<InMode<'a, Upgradable, R, T>> {
         ensures { MatchResult result (SameLock guard.entry) (λ same. same ≡ guard.entry) }
     {
         let (lock, token, shown) = guard.held.into_parts();
-        let answer = attempt.make(&lock.rwlock.raw, token);
-        RwLockUpgradableReadGuard::upgraded(lock, shown, answer)
-    }
-
-    /// Makes the guard of the token that the raw lock returned. An upgradable token keeps the value's lock that it had.
-    fn upgraded(
-        lock: InMode<'a, Upgradable, R, T>,
-        shown: sync::RwLockReadGuard<'a, T>,
-        answer: Result<R::ExclusiveGuard, R::UpgradableGuard>,
-    ) -> Result<RwLockWriteGuard<'a, R, T>, RwLockUpgradableReadGuard<'a, R, T>>
-        requires own { IfOk answer (λ token. R.owns_exclusive lock.rwlock.now.raw token ≡ true) }
-        requires same { IfErr answer (λ token. R.owns_upgradable lock.rwlock.now.raw token ≡ true) }
-        ensures upgraded { is_ok result ≡ is_ok answer }
-        ensures lock { MatchResult result (IsGuardOf lock.entry.rwlock) (λ same. (held_of same).lock ≡ lock.entry) }
-        ensures again { IfErr answer (λ token. IfErr result (λ same. (held_of same).inner ≡ Filled token shown.entry)) }
-    {
-        match answer {
+        match attempt.make(&lock.rwlock.raw, token) {
             Ok(token) => {
                 drop(shown);
                 Ok(guard!(lock.rwlock, token))
@@ -166,7 +148,7 @@ impl<'a, R: RawRwLockUpgradeDowngrade, T> RwLockGuard<InMode<'a, Upgradable, R, 
         let lock = &held.lock;
         let (token, shown) = held.inner.take().into_parts();
         let upgraded = attempt.make(&lock.rwlock.raw, token);
-        settle_if_upgraded(&mut held.inner, lock, lock.rwlock, shown, upgraded, f)
+        with_if_upgraded(&mut held.inner, lock, lock.rwlock, shown, upgraded, f)
     }
 }
 

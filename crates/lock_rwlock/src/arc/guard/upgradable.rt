@@ -1,15 +1,11 @@
 //! What an upgradable guard can do besides.
-ghost use Rattle.std.specs.Prelude.{◌≡◌, true, IfSome, IfNone, IfOk, IfErr, MatchResult, is_ok};
-ghost use Rattle.std.specs.Arc.{arc_value};
+ghost use Rattle.std.specs.Prelude.{◌≡◌, IfSome, IfNone, MatchResult};
 ghost use Rattle.lock_guard.specs.Closure.{AnswersSomeValue};
-ghost use Rattle.lock_guard.specs.declared.guard.inner.Inner.TheVariants.{Filled};
-ghost use Rattle.lock_rwlock.specs.RwLock.{raw_of};
-ghost use Rattle.lock_rwlock.specs.ArcRwLockGuard.{arc_of, lock_of, inner_of};
+ghost use Rattle.lock_rwlock.specs.ArcRwLockGuard.{arc_of};
 
 use super::{ArcModeGuard, ArcRwLockReadGuard, ArcRwLockUpgradableReadGuard, ArcRwLockWriteGuard};
 use crate::arc::owned::OwnedInMode;
-use crate::closures::{settle_if_upgraded, with_upgraded};
-use crate::lock::RwLock;
+use crate::closures::{with_if_upgraded, with_upgraded};
 use crate::mode::Upgradable;
 use crate::upgrade::{AtOnce, For, TryUpgrade, Until};
 use lock_guard::guard::{Held, Inner};
@@ -44,23 +40,7 @@ impl<R: RawRwLockUpgrade + Drop, T: Drop> ArcModeGuard<OwnedInMode<Upgradable, R
             (λ same. same ≡ guard) }
     {
         let (lock, token, ()) = guard.held.into_parts();
-        let answer = attempt.make(&lock.rwlock.raw, token);
-        ArcModeGuard::upgraded(lock, answer)
-    }
-
-    /// Makes the guard of the token that the raw lock returned.
-    fn upgraded(
-        lock: OwnedInMode<Upgradable, R, T>,
-        answer: Result<R::ExclusiveGuard, R::UpgradableGuard>,
-    ) -> Result<ArcRwLockWriteGuard<R, T>, ArcRwLockUpgradableReadGuard<R, T>>
-        requires own { IfOk answer (λ token. R.owns_exclusive (raw_of (arc_value lock.rwlock)) token ≡ true) }
-        requires same { IfErr answer (λ token. R.owns_upgradable (raw_of (arc_value lock.rwlock)) token ≡ true) }
-        ensures upgraded { is_ok result ≡ is_ok answer }
-        ensures lock { MatchResult result (λ upgraded. arc_of upgraded ≡ lock.rwlock)
-            (λ same. lock_of same ≡ lock) }
-        ensures again { IfErr answer (λ token. IfErr result (λ same. inner_of same ≡ Filled token tt)) }
-    {
-        match answer {
+        match attempt.make(&lock.rwlock.raw, token) {
             Ok(token) => Ok(ArcModeGuard::new(lock.rwlock, token)),
             Err(token) => {
                 let inner = Inner::Filled(token, ());
@@ -148,7 +128,7 @@ impl<R: RawRwLockUpgradeDowngrade + Drop, T: Drop> ArcModeGuard<OwnedInMode<Upgr
         let lock = &held.lock;
         let (token, ()) = held.inner.take().into_parts();
         let upgraded = attempt.make(&lock.rwlock.raw, token);
-        settle_if_upgraded(&mut held.inner, lock, &lock.rwlock, (), upgraded, f)
+        with_if_upgraded(&mut held.inner, lock, &lock.rwlock, (), upgraded, f)
     }
 }
 

@@ -1,9 +1,8 @@
-use Rattle.lock_rwlock.proofs.SameGuard.{upgraded_or_same}
+use Rattle.std.proofs.Common.{refl}
+use Rattle.lock_rwlock.proofs.Refused.{same_with_token}
 use Rattle.lock_rwlock.proofs.guard.upgradable.RwLockGuard+InMode+Upgradable+R+T.try_upgrade_by.Goals as goal
 
-pub returns : goal.returns
-returns g c =
+pub returns-in-Err : goal.returns-in-Err
+returns-in-Err g c =
     let parts = c.into_parts-token.ensures in
-    let upgraded = c.upgraded.ensures in
-    upgraded_or_same c.args.guard c.upgraded.result c.make-answer.result parts.lock parts.inner c.make-answer.ensures.back
-    upgraded.upgraded upgraded.lock upgraded.again
+    same_with_token (λ held. record { held = held }) _ c.args.guard.held parts.lock refl c.in-Err.ensures.back parts.inner
