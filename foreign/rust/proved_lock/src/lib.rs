@@ -2,7 +2,7 @@
 //!
 //! The types are those of [`lock_api`] over the raw locks [`RawMutex`] and [`RawRwLock`], with the names of `parking_lot`. A
 //! call is a state machine: the archive `liblock_c.a` returns the atomic step that comes next, and this crate makes it. It is
-//! proved of the machine that threads hold compatible modes, and that a call which parks in the present epoch is not forgotten.
+//! proved of the machine that threads hold compatible modes, and that no thread that sleeps is forgotten.
 //!
 //! Trusted are the loop that makes the steps, futex, and the inline first step of an uncontended call. A test compares that step
 //! with the archive.
