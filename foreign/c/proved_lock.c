@@ -36,7 +36,8 @@ static bool has_passed(const struct timespec *deadline) {
     struct timespec now;
     if (!deadline) return false;
     clock_gettime(CLOCK_MONOTONIC, &now);
-    return (unsigned long)deadline->tv_nsec > 999999999 || now.tv_sec > deadline->tv_sec || (now.tv_sec == deadline->tv_sec && now.tv_nsec >= deadline->tv_nsec);
+    if (deadline->tv_nsec < 0 || deadline->tv_nsec > 999999999) return true;
+    return now.tv_sec > deadline->tv_sec || (now.tv_sec == deadline->tv_sec && now.tv_nsec >= deadline->tv_nsec);
 }
 
 /* Makes a step on the words, and returns its answer. */
