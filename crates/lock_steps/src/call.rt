@@ -1,5 +1,5 @@
 //! A call, step by step.
-ghost use Rattle.std.specs.Prelude.{◌≡◌, ◌==◌, ◌||◌};
+ghost use Rattle.std.specs.Prelude.{◌≡◌, ◌<◌, ◌==◌, ◌||◌};
 
 use crate::action::{Action, Place};
 use crate::stage::Stage;
@@ -42,7 +42,7 @@ pub struct Call {
 }
 
 impl Call {
-    ghost use Rattle.lock_steps.specs.Machine.{acquiring, taking, next_of, goes_to, ended, acquired, refused, wakes_one, with_loaded, tries, pause, to_wait, to_count, leave, look_again, find_epoch, has_to_wake};
+    ghost use Rattle.lock_steps.specs.Machine.{acquiring, taking, next_of, next_at, goes_to, ended, acquired, refused, wakes_one, with_loaded, tries, pause, to_wait, to_count, leave, look_again, find_epoch, has_to_wake, closed_count, last_epoch};
     ghost use Rattle.lock_word.specs.Word.{word_exchanged};
 
     /// Begins a call that acquires or upgrades. Returns the call and its first action.
@@ -90,139 +90,49 @@ impl Call {
         ensures { (self.new, result) ≡ next_of down found self.old }
     {
         match self.stage {
-            Stage::Look => match self.tries(Stage::Try, found) {
-                Some(action) => action,
-                None => self.pause(),
-            },
-            Stage::Try => {
-                if found == self.loaded {
-                    self.acquired()
-                } else {
-                    self.pause()
-                }
-            }
+            Stage::Look => self.look(found),
+            Stage::Try if found == self.loaded => self.acquired(),
+            Stage::Try => self.pause(),
             Stage::Pause => self.to(Stage::Look, Action::Load(Place::Word)),
-            Stage::LookToAnnounce => {
-                self.loaded = found;
-                match ExWant::Announce.exchanged(false, self.readers, found) {
-                    Some(next) => {
-                        self.to(Stage::Announce, Action::Exchange(Place::Word, found, next))
-                    }
-                    None => self.to_count(),
-                }
+            Stage::LookToAnnounce => self.look_to_announce(found),
+            Stage::Announce => self.announce(found),
+            Stage::FindCount => self.find_count(found),
+            Stage::CountIn if found == self.loaded => {
+                self.to(Stage::WatchEpoch, Action::Load(Place::Epoch))
             }
-            Stage::Announce => {
-                self.announced = found == self.loaded;
-                self.to_count()
+            Stage::CountIn => self.to(Stage::YieldAway, Action::Yield),
+            Stage::WatchEpoch => self.watch_epoch(found),
+            Stage::LookCounted => self.look_counted(found),
+            Stage::TryCounted if found == self.loaded => {
+                self.to(Stage::LeaveAcquired, Action::Subtract(Place::Count, 1))
             }
-            Stage::FindCount => {
-                if found >= CLOSED_COUNT - 1 {
-                    return self.to(Stage::YieldAway, Action::Yield);
-                }
-                self.loaded = found;
-                self.to(
-                    Stage::CountIn,
-                    Action::Exchange(Place::Count, found, found + 1),
-                )
-            }
-            Stage::CountIn => {
-                if found == self.loaded {
-                    self.to(Stage::WatchEpoch, Action::Load(Place::Epoch))
-                } else {
-                    self.to(Stage::YieldAway, Action::Yield)
-                }
-            }
-            Stage::WatchEpoch => {
-                if found >= LAST_EPOCH {
-                    return self.to(Stage::YieldCounted, Action::Yield);
-                }
-                self.epoch = found;
-                self.to(Stage::LookCounted, Action::Load(Place::Word))
-            }
-            Stage::LookCounted => match self.tries(Stage::TryCounted, found) {
-                Some(action) => action,
-                None => {
-                    let epoch = self.epoch;
-                    self.to(Stage::Sleep, Action::Park(epoch))
-                }
-            },
-            Stage::TryCounted => {
-                if found == self.loaded {
-                    self.to(Stage::LeaveAcquired, Action::Subtract(Place::Count, 1))
-                } else {
-                    self.leave()
-                }
-            }
-            Stage::Sleep => {
-                self.late = found != 0 && !self.announces;
-                self.leave()
-            }
-            Stage::YieldCounted => self.leave(),
+            Stage::TryCounted | Stage::YieldCounted => self.leave(),
+            Stage::Sleep => self.wake_up(found),
             Stage::LeaveAcquired => self.acquired(),
-            Stage::Wake => self.end(true),
             Stage::Leave | Stage::YieldAway => {
                 self.to(Stage::LookAgain, Action::Load(Place::Word))
             }
-            Stage::LookAgain => match self.tries(Stage::TryAgain, found) {
-                Some(action) => action,
-                None => self.find_epoch(),
-            },
-            Stage::TryAgain => {
-                if found == self.loaded {
-                    self.acquired()
-                } else {
-                    self.find_epoch()
-                }
-            }
-            Stage::FindEpoch => {
-                if found < LAST_EPOCH {
-                    return self.to_wait();
-                }
-                self.to(
-                    Stage::CloseCount,
-                    Action::Exchange(Place::Count, 0, CLOSED_COUNT),
-                )
-            }
-            Stage::CloseCount => {
-                if found != 0 {
-                    return self.to_wait();
-                }
-                self.to(Stage::RestartEpochs, Action::Restart)
-            }
+            Stage::LookAgain => self.look_again(found),
+            Stage::TryAgain if found == self.loaded => self.acquired(),
+            Stage::TryAgain => self.find_epoch(),
+            Stage::FindEpoch if found >= LAST_EPOCH => self.to(
+                Stage::CloseCount,
+                Action::Exchange(Place::Count, 0, CLOSED_COUNT),
+            ),
+            Stage::CloseCount if found == 0 => self.to(Stage::RestartEpochs, Action::Restart),
+            Stage::FindEpoch | Stage::CloseCount | Stage::OpenCount => self.to_wait(),
             Stage::RestartEpochs => self.to(
                 Stage::OpenCount,
                 Action::Subtract(Place::Count, CLOSED_COUNT),
             ),
-            Stage::OpenCount => self.to_wait(),
-            Stage::Take => {
-                self.loaded = found;
-                self.to(Stage::LookForSleepers, Action::Load(Place::Count))
+            Stage::Take => self.look_for_sleepers(found),
+            Stage::LookForSleepers if found != 0 && self.has_to_wake(down) => {
+                self.to(Stage::NoteEpoch, Action::Load(Place::Epoch))
             }
-            Stage::LookForSleepers => {
-                if found != 0 && self.has_to_wake(down) {
-                    self.to(Stage::NoteEpoch, Action::Load(Place::Epoch))
-                } else {
-                    self.end(true)
-                }
-            }
-            Stage::NoteEpoch => {
-                if found >= LAST_EPOCH {
-                    return self.end(true);
-                }
-                self.epoch = found;
-                self.to(
-                    Stage::EndEpoch,
-                    Action::Exchange(Place::Epoch, found, found + 1),
-                )
-            }
-            Stage::EndEpoch => {
-                if found != self.epoch {
-                    self.end(true)
-                } else if self.wakes_one() && self.epoch < LAST_EPOCH - 1 {
-                    self.to(Stage::Wake, Action::WakeOne)
-                } else {
-                    self.to(Stage::Wake, Action::WakeAll)
-                }
+            Stage::NoteEpoch if found < LAST_EPOCH => self.end_epoch(found),
+            Stage::EndEpoch if found == self.epoch => self.wake(),
+            Stage::LookForSleepers | Stage::NoteEpoch | Stage::EndEpoch | Stage::Wake => {
+                self.end(true)
             }
             Stage::Acquired | Stage::Refused | Stage::Ended => self.end(false),
         }
@@ -233,6 +143,114 @@ impl Call {
         ensures { result ≡ wakes_one self.now }
     {
         self.readers == 1
+    }
+
+    /// Tries at the first look of a round.
+    fn look(&mut self, word: u64) -> Action
+        ensures { (self.new, result) ≡ next_at Stage.Look Down.Shared word self.old }
+    {
+        match self.tries(Stage::Try, word) {
+            Some(action) => action,
+            None => self.pause(),
+        }
+    }
+
+    fn look_to_announce(&mut self, word: u64) -> Action
+        ensures { (self.new, result) ≡ next_at Stage.LookToAnnounce Down.Shared word self.old }
+    {
+        self.loaded = word;
+        match ExWant::Announce.exchanged(false, self.readers, word) {
+            Some(next) => self.to(Stage::Announce, Action::Exchange(Place::Word, word, next)),
+            None => self.to_count(),
+        }
+    }
+
+    fn announce(&mut self, found: u64) -> Action
+        ensures { (self.new, result) ≡ next_at Stage.Announce Down.Shared found self.old }
+    {
+        self.announced = found == self.loaded;
+        self.to_count()
+    }
+
+    fn find_count(&mut self, count: u64) -> Action
+        ensures { (self.new, result) ≡ next_at Stage.FindCount Down.Shared count self.old }
+    {
+        if count >= CLOSED_COUNT - 1 {
+            return self.to(Stage::YieldAway, Action::Yield);
+        }
+        self.loaded = count;
+        self.to(
+            Stage::CountIn,
+            Action::Exchange(Place::Count, count, count + 1),
+        )
+    }
+
+    fn watch_epoch(&mut self, epoch: u64) -> Action
+        ensures { (self.new, result) ≡ next_at Stage.WatchEpoch Down.Shared epoch self.old }
+    {
+        if epoch >= LAST_EPOCH {
+            return self.to(Stage::YieldCounted, Action::Yield);
+        }
+        self.epoch = epoch;
+        self.to(Stage::LookCounted, Action::Load(Place::Word))
+    }
+
+    /// Tries at the look of a counted waiter, which sleeps if it is refused.
+    fn look_counted(&mut self, word: u64) -> Action
+        ensures { (self.new, result) ≡ next_at Stage.LookCounted Down.Shared word self.old }
+    {
+        if let Some(action) = self.tries(Stage::TryCounted, word) {
+            return action;
+        }
+        let epoch = self.epoch;
+        self.to(Stage::Sleep, Action::Park(epoch))
+    }
+
+    /// Ends a sleep. An answer other than 0 says that the deadline has passed.
+    fn wake_up(&mut self, answer: u64) -> Action
+        ensures { (self.new, result) ≡ next_at Stage.Sleep Down.Shared answer self.old }
+    {
+        self.late = answer != 0 && !self.announces;
+        self.leave()
+    }
+
+    /// Tries at the look after a sleep.
+    fn look_again(&mut self, word: u64) -> Action
+        ensures { (self.new, result) ≡ next_at Stage.LookAgain Down.Shared word self.old }
+    {
+        match self.tries(Stage::TryAgain, word) {
+            Some(action) => action,
+            None => self.find_epoch(),
+        }
+    }
+
+    fn look_for_sleepers(&mut self, word: u64) -> Action
+        ensures { (self.new, result) ≡ next_at Stage.Take Down.Shared word self.old }
+    {
+        self.loaded = word;
+        self.to(Stage::LookForSleepers, Action::Load(Place::Count))
+    }
+
+    fn end_epoch(&mut self, epoch: u64) -> Action
+        requires { epoch < last_epoch }
+        ensures { (self.new, result) ≡ next_at Stage.NoteEpoch Down.Shared epoch self.old }
+    {
+        self.epoch = epoch;
+        self.to(
+            Stage::EndEpoch,
+            Action::Exchange(Place::Epoch, epoch, epoch + 1),
+        )
+    }
+
+    /// Wakes all sleepers after the end of the epoch. A mutex wakes one, unless the last epoch begins.
+    fn wake(&mut self) -> Action
+        ensures { (self.new, result) ≡ next_at Stage.EndEpoch Down.Shared self.old.epoch self.old }
+    {
+        if self.wakes_one() && self.epoch < LAST_EPOCH - 1 {
+            self.to(Stage::Wake, Action::WakeOne)
+        } else {
+            self.to(Stage::Wake, Action::WakeAll)
+        }
     }
 
     fn to(&mut self, stage: Stage, action: Action) -> Action
