@@ -4,6 +4,8 @@ ghost use Rattle.std.specs.Thread.{IsSync};
 
 use crate::tests::counter::{Adder, Counter};
 use lock_ruled::{AddsOne, SameView, Sums};
+use lock_test_support::answer::equal;
+use std::alloc::Global;
 use std::sync::Wait;
 use std::test::Fail;
 use std::thread::{Threads, join};
@@ -18,7 +20,7 @@ const CASES: [(bool, u64, (bool, bool)); 3] = [
 ];
 
 /// The instant that is so many milliseconds from now.
-fn after<K: Clock>(clock: &K, millis: u64) -> Result<Instant, Fail> {
+pub fn after<K: Clock>(clock: &K, millis: u64) -> Result<Instant, Fail> {
     let deadline = Instant::now(clock)?.checked_add(Duration::from_millis(millis));
     Ok(deadline.ok_or("there is such an instant")?)
 }
@@ -55,23 +57,49 @@ fn is_five_until<R: Wait + Clock>(rt: &R, counter: &Counter, user: Adder, deadli
     }
 }
 
+/// Makes both calls, beside a user that holds the mutex if one does. Returns whether they acquire.
+fn acquire_beside<R: Wait + Clock>(
+    rt: &R,
+    counter: &Counter,
+    users: (Adder, Adder),
+    is_held: bool,
+    deadline: Instant,
+) -> (bool, bool)
+    requires holder { users.0.mutex ≡ counter.now }
+    requires waiter { users.1.mutex ≡ counter.now }
+{
+    let (holder, waiter) = users;
+    if !is_held {
+        return acquire_until(rt, counter, waiter, deadline);
+    }
+    let held = counter.lock(rt, holder);
+    let seen = acquire_until(rt, counter, waiter, deadline);
+    drop(counter.unlock_ready::<SameView>(held));
+    seen
+}
+
+/// Whether both calls acquire as they should, and whether the deadline is over unless both do.
+fn check_case<R: Wait + Clock>(
+    rt: &R,
+    alloc: Global,
+    case: (bool, u64, (bool, bool)),
+) -> Result<(), Fail> {
+    let (is_held, value, acquired) = case;
+    let (counter, user) = Counter::new(alloc, value)?;
+    let users = counter.split_ready::<Sums>(user);
+    let deadline = after(rt, 20)?;
+    let seen = acquire_beside(rt, &counter, users, is_held, deadline);
+    let is_over = Instant::now(rt)? >= deadline;
+    equal(
+        (is_held, value, seen, is_over || seen == (true, true)),
+        (is_held, value, acquired, true),
+    )
+}
+
 #[test]
 fn refused_waits_last_until_their_deadline(rt: HostRuntime) -> Result<(), Fail> {
-    for (is_held, value, acquired) in CASES {
-        let (counter, user) = Counter::new(rt.alloc(), value)?;
-        let (holder, waiter) = counter.split_ready::<Sums>(user);
-        let deadline = after(&rt, 20)?;
-        let seen = if is_held {
-            let held = counter.lock(&rt, holder);
-            let seen = acquire_until(&rt, &counter, waiter, deadline);
-            drop(counter.unlock_ready::<SameView>(held));
-            seen
-        } else {
-            acquire_until(&rt, &counter, waiter, deadline)
-        };
-        assert_eq!(rt; seen, acquired);
-        let is_over = Instant::now(&rt)? >= deadline;
-        assert!(rt; is_over || acquired == (true, true));
+    for case in CASES {
+        check_case(&rt, rt.alloc(), case)?;
     }
     Ok(())
 }
@@ -111,11 +139,14 @@ fn is_five_beside<R: Threads + Wait + Clock + Sync>(
 }
 
 /// The deadline is past the end of any test.
+fn check_wake<R: Threads + Wait + Clock + Sync>(rt: &R, alloc: Global) -> Result<(), Fail> {
+    let (counter, user) = Counter::new(alloc, 4)?;
+    let (adder, waiter) = counter.split_ready::<Sums>(user);
+    let deadline = after(rt, 3_600_000)?;
+    equal(is_five_beside(rt, &counter, adder, waiter, deadline), true)
+}
+
 #[test]
 fn unlock_wakes_before_the_deadline(rt: HostRuntime) -> Result<(), Fail> {
-    let (counter, user) = Counter::new(rt.alloc(), 4)?;
-    let (adder, waiter) = counter.split_ready::<Sums>(user);
-    let deadline = after(&rt, 3_600_000)?;
-    assert!(rt; is_five_beside(&rt, &counter, adder, waiter, deadline));
-    Ok(())
+    check_wake(&rt, rt.alloc())
 }

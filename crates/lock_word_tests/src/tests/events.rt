@@ -1,4 +1,5 @@
 //! Threads sleep on an event count, and its epochs begin anew after the last.
+use lock_test_support::answer::equal;
 use lock_wake::EventCount;
 use std::sync::Wait;
 use std::test::Fail;
@@ -13,15 +14,20 @@ fn sleeps_out<R: Wait + Clock>(rt: &R, events: &EventCount) -> Result<bool, Fail
     Ok(matches!(start.elapsed(rt), Ok(slept) if slept >= time))
 }
 
+/// Whether the second wait lasts, how many waiters a notification of one finds while one is registered, and how many one
+/// of all finds after that.
+fn seen<R: Wait + Clock>(rt: &R, events: &EventCount) -> Result<(bool, u64, u64), Fail> {
+    let registered = events.register(rt);
+    events.sleep(rt, registered);
+    let lasts = sleeps_out(rt, events)?;
+    let registered = events.register(rt);
+    let one = events.notify_one().waiters();
+    events.sleep(rt, registered);
+    Ok((lasts, one, events.notify_all().waiters()))
+}
+
 #[test]
 fn epochs_begin_anew_after_the_last(rt: HostRuntime) -> Result<(), Fail> {
     let events = EventCount::at_epoch(rt.alloc(), u32::MAX)?;
-    let registered = events.register(&rt);
-    events.sleep(&rt, registered);
-    assert!(rt; sleeps_out(&rt, &events)?);
-    let registered = events.register(&rt);
-    assert!(rt; events.notify_one().waiters() == 1);
-    events.sleep(&rt, registered);
-    assert!(rt; events.notify_all().waiters() == 0);
-    Ok(())
+    equal(seen(&rt, &events)?, (true, 1, 0))
 }

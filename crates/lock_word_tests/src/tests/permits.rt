@@ -2,7 +2,10 @@
 ghost use Rattle.std.specs.Prelude.{◌≡◌, ◌≤◌};
 ghost use Rattle.std.specs.Thread.{IsSync};
 
+use crate::tests::deadlines::after;
 use lock_ruled::{Holder, Semaphore};
+use lock_test_support::answer::equal;
+use std::alloc::Global;
 use std::sync::Wait;
 use std::test::Fail;
 use std::thread::{Threads, join};
@@ -47,37 +50,68 @@ fn released_permit_wakes_sleeper(rt: HostRuntime) -> Result<(), Fail> {
     Ok(())
 }
 
+/// Acquires the permits by a try, and releases them. Returns whether they were given.
+fn is_given<R: Wait>(rt: &R, semaphore: &Semaphore, holder: Holder, permits: u64) -> (Holder, bool)
+    requires { holder.mutex ≡ semaphore.now }
+    ensures { (result.0.mutex ≡ semaphore.now) × (result.0.parts ≡ holder.parts) }
+{
+    match semaphore.try_acquire(rt, holder, permits) {
+        Ok(holder) => (semaphore.release(rt, holder, permits), true),
+        Err(same) => (same, false),
+    }
+}
+
+/// Acquires the permits by the deadline, and keeps them. Returns whether they were given.
+fn is_given_until<R: Wait + Clock>(
+    rt: &R,
+    semaphore: &Semaphore,
+    holder: Holder,
+    permits: u64,
+    deadline: Instant,
+) -> (Holder, bool)
+    requires { holder.mutex ≡ semaphore.now }
+    ensures { (result.0.mutex ≡ semaphore.now) × (result.0.parts ≡ holder.parts) }
+{
+    match semaphore.acquire_until(rt, holder, permits, deadline) {
+        Ok(holder) => (holder, true),
+        Err(same) => (same, false),
+    }
+}
+
+/// Whether four permits are given, what a closure under three returns, whether three are given, how many are free after
+/// that, and whether four are given until the deadline.
+type Seen = (bool, u64, bool, u64, bool);
+
+fn seen_of_three<R: Wait + Clock>(
+    rt: &R,
+    semaphore: &Semaphore,
+    holder: Holder,
+    deadline: Instant,
+) -> (Holder, Seen)
+    requires { holder.mutex ≡ semaphore.now }
+    ensures { (result.0.mutex ≡ semaphore.now) × (result.0.parts ≡ holder.parts) }
+{
+    let (holder, four) = is_given(rt, semaphore, holder, 4);
+    let (holder, answer) = semaphore.with_permits(rt, holder, 3, || 7u64);
+    let (holder, three) = is_given(rt, semaphore, holder, 3);
+    let (holder, free) = semaphore.available_permits(rt, holder);
+    let (holder, late) = is_given_until(rt, semaphore, holder, 4, deadline);
+    (holder, (four, answer, three, free, late))
+}
+
+/// After three permits are used, one of two holders keeps two, which do not come back.
+fn check_three<R: Wait + Clock>(rt: &R, alloc: Global) -> Result<(), Fail> {
+    let (semaphore, holder) = Semaphore::new(alloc, 3)?;
+    let deadline = after(rt, 20)?;
+    let (holder, seen) = seen_of_three(rt, &semaphore, holder, deadline);
+    let (first, second) = semaphore.split(holder);
+    let (first, two) = is_given_until(rt, &semaphore, first, 2, deadline);
+    let holder = semaphore.join(first, second);
+    let left = semaphore.into_permits(holder);
+    equal((seen, two, left), ((false, 7, true, 3, false), true, 1))
+}
+
 #[test]
 fn permits_that_stay_away_are_refused(rt: HostRuntime) -> Result<(), Fail> {
-    let (semaphore, holder) = Semaphore::new(rt.alloc(), 3)?;
-    let holder = match semaphore.try_acquire(&rt, holder, 4) {
-        Ok(_) => panic!(rt; "there are three permits"),
-        Err(same) => same,
-    };
-    let (holder, answer) = semaphore.with_permits(&rt, holder, 3, || 7u64);
-    assert!(rt; answer == 7);
-    let holder = match semaphore.try_acquire(&rt, holder, 3) {
-        Ok(holder) => semaphore.release(&rt, holder, 3),
-        Err(_) => panic!(rt; "three permits are free"),
-    };
-    let (holder, free) = semaphore.available_permits(&rt, holder);
-    assert!(rt; free == 3);
-    let deadline = Instant::now(&rt)
-        .ok()
-        .and_then(|now| now.checked_add(Duration::from_millis(20)));
-    let Some(deadline) = deadline else {
-        return Ok(());
-    };
-    let holder = match semaphore.acquire_until(&rt, holder, 4, deadline) {
-        Ok(_) => panic!(rt; "there are three permits"),
-        Err(same) => same,
-    };
-    let (first, second) = semaphore.split(holder);
-    let first = match semaphore.acquire_until(&rt, first, 2, deadline) {
-        Ok(first) => first,
-        Err(_) => panic!(rt; "two permits were free"),
-    };
-    let holder = semaphore.join(first, second);
-    assert!(rt; semaphore.into_permits(holder) == 1);
-    Ok(())
+    check_three(&rt, rt.alloc())
 }

@@ -3,6 +3,7 @@ ghost use Rattle.std.specs.Prelude.{◌≡◌};
 
 use crate::tests::WRITER;
 use lock_base::machine::Mode;
+use lock_test_support::answer::equal;
 use lock_word::ExWant;
 use lock_word::seated::{Attempt, Party, SeatedLock};
 use std::hint::spin_loop;
@@ -36,24 +37,47 @@ fn meet<R: Wait>(
     (party, seen)
 }
 
+/// The word while the party holds exclusively, how many such holds it has, and the word after its release.
+fn write_alone<R: Wait>(rt: &R, lock: &SeatedLock, mut party: Party) -> [u64; 3]
+    requires { party.lock ≡ lock.now }
+{
+    lock.acquire(rt, &mut party, ExWant::Exclusive);
+    let word = lock.load(&mut party);
+    let holds = party.holds(Mode::Exclusive);
+    if holds == 1 {
+        lock.release(&mut party, Mode::Exclusive);
+    }
+    [word, holds, lock.load(&mut party)]
+}
+
+/// Whether two readers see one another, and what the first sees when it writes after that.
+fn meet_and_write<R: Threads + Wait + Sync>(
+    rt: &R,
+    lock: &SeatedLock,
+    a: Party,
+    b: Party,
+) -> ([bool; 2], [u64; 3])
+    requires first { a.lock ≡ lock.now }
+    requires second { b.lock ≡ lock.now }
+{
+    let first = AtomicBool::new(false);
+    let second = AtomicBool::new(false);
+    let ((a, saw_second), (_, saw_first)) = join(
+        rt,
+        || meet(rt, lock, a, &first, &second),
+        || meet(rt, lock, b, &second, &first),
+    );
+    ([saw_second, saw_first], write_alone(rt, lock, a))
+}
+
 #[test]
 fn two_readers_meet(rt: HostRuntime) -> Result<(), Fail> {
     let (lock, party) = SeatedLock::new(rt.alloc(), 2)?;
     let (a, b) = lock.split(party);
-    let first = AtomicBool::new(false);
-    let second = AtomicBool::new(false);
-    let ((mut a, saw_second), (_b, saw_first)) = join(
-        &rt,
-        || meet(&rt, &lock, a, &first, &second),
-        || meet(&rt, &lock, b, &second, &first),
-    );
-    assert!(rt; saw_second && saw_first);
-    lock.acquire(&rt, &mut a, ExWant::Exclusive);
-    assert!(rt; lock.load(&mut a) == WRITER);
-    assert!(rt; a.holds(Mode::Exclusive) == 1);
-    lock.release(&mut a, Mode::Exclusive);
-    assert!(rt; lock.load(&mut a) == 0);
-    Ok(())
+    equal(
+        meet_and_write(&rt, &lock, a, b),
+        ([true; 2], [WRITER, 1, 0]),
+    )
 }
 
 /// Attempts once to acquire exclusively. The holder swaps the flag from false to true and back, and releases. Returns
