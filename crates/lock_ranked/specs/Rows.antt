@@ -1,9 +1,10 @@
 -- The mutexes of a row.
 use Rattle.std.specs.Prelude.{◌≡◌, ℕ, List, map, slice_index_or, vec_len}
 use Rattle.lock_mutex.specs.declared.borrowed.BorrowedMutex.{BorrowedMutex}
+use Rattle.lock_mutex.specs.declared.guard.Guard.{Guard}
 use Rattle.lock_mutex.specs.declared.mutex.Mutex.{Mutex}
 use Rattle.lock_ranked.specs.Guards.{mutex_of}
-use Rattle.lock_ranked.specs.declared.guard.RankedGuard.{RankedGuard}
+use Rattle.lock_ranked.specs.declared.ranked.Ranked.{Ranked}
 use Rattle.lock_ranked.specs.declared.row.places.RankedMutexRow.{RankedMutexRow}
 
 module _ {R T K : Type 0} where
@@ -17,9 +18,9 @@ module _ {R T K : Type 0} where
 
 module _ {R T B K K' V Z W X : Type 0} {r : _} {g : _} where
   -- the guard is one of the mutex at this place
-  abbrev pub IsGuardAt : RankedMutexRow R T K' → ℕ → RankedGuard (BorrowedMutex R T) B K V Z W X r g → Type 0
+  abbrev pub IsGuardAt : RankedMutexRow R T K' → ℕ → Ranked (Guard (BorrowedMutex R T) V Z W X r g) B K → Type 0
   IsGuardAt row place guard = mutex_of guard ≡ slice_index_or (mutexes_of row) place (mutex_of guard)
 
   -- there is one guard of each mutex, in the order of places
-  abbrev pub AreGuardsOf : RankedMutexRow R T K' → List (RankedGuard (BorrowedMutex R T) B K V Z W X r g) → Type 0
+  abbrev pub AreGuardsOf : RankedMutexRow R T K' → List (Ranked (Guard (BorrowedMutex R T) V Z W X r g) B K) → Type 0
   AreGuardsOf row guards = map mutex_of guards ≡ mutexes_of row

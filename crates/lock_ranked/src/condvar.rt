@@ -7,7 +7,7 @@ ghost use Rattle.lock_mutex.specs.WaitsWhile.{WaitsWhile, has_timed_out};
 ghost use Rattle.lock_ranked.specs.Condvars.{plain_of};
 ghost use Rattle.lock_ranked.specs.Guards.{held_of};
 
-use crate::guard::RankedMutexGuard;
+use crate::mutex::RankedMutexGuard;
 use crate::order::Order;
 use crate::rank::{AtRank, Rank};
 use lock_base::raw::Fault;
@@ -66,12 +66,11 @@ impl<C: RawCondvar> RankedCondvar<C> {
     pub fn wait<'o, T, K: Rank>(
         &self,
         guard: &mut RankedMutexGuard<'_, 'o, C::RawMutex, T, AtRank<0>, K>,
-        order: &mut Order<'o, K>,
+        _order: &mut Order<'o, K>,
     )
         ensures lock { (held_of guard.new).lock ≡ (held_of guard.old).lock }
         ensures waited { HasWaited (C.waited (raw_condvar_of (plain_of self.now))) }
     {
-        let _ = order;
         self.condvar.wait(&mut guard.guard);
     }
 
@@ -79,7 +78,7 @@ impl<C: RawCondvar> RankedCondvar<C> {
     pub fn wait_while<'o, T, K: Rank, F: FnMut(&mut T) -> bool>(
         &self,
         guard: &mut RankedMutexGuard<'_, 'o, C::RawMutex, T, AtRank<0>, K>,
-        order: &mut Order<'o, K>,
+        _order: &mut Order<'o, K>,
         condition: F,
     )
         requires { F.IsAlwaysCallable condition }
@@ -88,7 +87,6 @@ impl<C: RawCondvar> RankedCondvar<C> {
             (held_value mutex_guard_value (held_of guard.old)) false
             (held_value mutex_guard_value (held_of guard.new)) }
     {
-        let _ = order;
         self.condvar.wait_while(&mut guard.guard, condition);
     }
 }
@@ -101,14 +99,13 @@ where
     pub fn wait_until<'o, T, K: Rank>(
         &self,
         guard: &mut RankedMutexGuard<'_, 'o, C::RawMutex, T, AtRank<0>, K>,
-        order: &mut Order<'o, K>,
+        _order: &mut Order<'o, K>,
         deadline: <C::RawMutex as RawMutexTimed>::Instant,
     ) -> WaitTimeoutResult
         ensures lock { (held_of guard.new).lock ≡ (held_of guard.old).lock }
         ensures waited { HasWaited (λ token.
             C.waited_until (raw_condvar_of (plain_of self.now)) token deadline (has_timed_out result)) }
     {
-        let _ = order;
         self.condvar.wait_until(&mut guard.guard, deadline)
     }
 
@@ -117,12 +114,11 @@ where
     pub fn wait_for<'o, T, K: Rank>(
         &self,
         guard: &mut RankedMutexGuard<'_, 'o, C::RawMutex, T, AtRank<0>, K>,
-        order: &mut Order<'o, K>,
+        _order: &mut Order<'o, K>,
         timeout: <C::RawMutex as RawMutexTimed>::Duration,
     ) -> WaitTimeoutResult
         ensures { (held_of guard.new).lock ≡ (held_of guard.old).lock }
     {
-        let _ = order;
         self.condvar.wait_for(&mut guard.guard, timeout)
     }
 
@@ -130,7 +126,7 @@ where
     pub fn wait_while_until<'o, T, K: Rank, F: FnMut(&mut T) -> bool>(
         &self,
         guard: &mut RankedMutexGuard<'_, 'o, C::RawMutex, T, AtRank<0>, K>,
-        order: &mut Order<'o, K>,
+        _order: &mut Order<'o, K>,
         condition: F,
         deadline: <C::RawMutex as RawMutexTimed>::Instant,
     ) -> WaitTimeoutResult
@@ -140,7 +136,6 @@ where
             (held_value mutex_guard_value (held_of guard.old)) (has_timed_out result)
             (held_value mutex_guard_value (held_of guard.new)) }
     {
-        let _ = order;
         self.condvar
             .wait_while_until(&mut guard.guard, condition, deadline)
     }
@@ -150,7 +145,7 @@ where
     pub fn wait_while_for<'o, T, K: Rank, F: FnMut(&mut T) -> bool>(
         &self,
         guard: &mut RankedMutexGuard<'_, 'o, C::RawMutex, T, AtRank<0>, K>,
-        order: &mut Order<'o, K>,
+        _order: &mut Order<'o, K>,
         condition: F,
         timeout: <C::RawMutex as RawMutexTimed>::Duration,
     ) -> WaitTimeoutResult
@@ -160,7 +155,6 @@ where
             (held_value mutex_guard_value (held_of guard.old)) (has_timed_out result)
             (held_value mutex_guard_value (held_of guard.new)) }
     {
-        let _ = order;
         self.condvar
             .wait_while_for(&mut guard.guard, condition, timeout)
     }

@@ -13,11 +13,10 @@
 #![tactic(auto)]
 
 mod condvar;
-mod guard;
-mod mapped;
 mod mutex;
 mod order;
 mod rank;
+mod ranked;
 mod reentrant_mutex;
 mod row;
 mod rwlock;
@@ -25,18 +24,15 @@ mod rwlock_guard;
 mod threads;
 
 pub use condvar::RankedCondvar;
-pub use guard::{RankedGuard, RankedMutexGuard};
-pub use mapped::{
-    RankedMapped, RankedMappedMutexGuard, RankedMappedRwLockReadGuard, RankedMappedRwLockWriteGuard,
-};
-pub use mutex::RankedMutex;
-pub use order::{Order, ThreadOrder};
+pub use mutex::{RankedGuard, RankedMappedMutexGuard, RankedMutex, RankedMutexGuard};
+pub use order::{Acquired, Order, ThreadOrder};
 pub use rank::{AtRank, Rank, Under};
-pub use reentrant_mutex::{RankedReentrantMutex, RankedReentrantMutexGuard};
+pub use ranked::{PlainGuardMut, Ranked, RankedLock, RankedMapped};
+pub use reentrant_mutex::{RankedLevel, RankedReentrantMutex, RankedReentrantMutexGuard};
 pub use row::RankedMutexRow;
 pub use rwlock::RankedRwLock;
 pub use rwlock_guard::{
-    RankedRwLockGuard, RankedRwLockReadGuard, RankedRwLockUpgradableReadGuard,
-    RankedRwLockWriteGuard,
+    RankedMappedRwLockReadGuard, RankedMappedRwLockWriteGuard, RankedRwLockGuard,
+    RankedRwLockReadGuard, RankedRwLockUpgradableReadGuard, RankedRwLockWriteGuard,
 };
 pub use threads::{RankedThread, join_ranked, spawn_ranked};

@@ -1,7 +1,8 @@
 //! The order in which one thread acquires.
-ghost use Rattle.std.specs.Prelude.{◌<◌, ◌≤◌};
+ghost use Rattle.std.specs.Prelude.{◌≡◌, ◌<◌, ◌≤◌};
 
-use crate::rank::{AtRank, Rank};
+use crate::rank::{AtRank, Rank, Under};
+use crate::ranked::Ranked;
 use std::marker::PhantomData;
 
 /// The permission of one thread to block for locks whose rank is above `K`.
@@ -26,27 +27,37 @@ use std::marker::PhantomData;
 /// ```
 #[derive(Drop)]
 pub struct Order<'o, K: Rank> {
-    holds: PhantomData<&'o mut ()>,
-    stays: PhantomData<*mut ()>,
-    rank: PhantomData<K>,
+    under: PhantomData<Under<'o, K>>,
 }
 
 impl<'o, K: Rank> Order<'o, K> {
     fn new() -> Order<'o, K> {
-        Order {
-            holds: PhantomData,
-            stays: PhantomData,
-            rank: PhantomData,
-        }
+        Order { under: PhantomData }
     }
 }
 
+/// What an acquisition returns: the guard at `K`, and the order at `N` for the acquisitions after it.
+pub type Acquired<'o, G, B, K, N> = (Ranked<G, Under<'o, B>, K>, Order<'o, N>);
+
 impl<B: Rank> Order<'_, B> {
-    /// Borrows the order for an acquisition of a lock at `K`, and returns one at `N`. No other code makes a higher order.
+    /// Borrows the order for an acquisition of a lock at `K`, and returns one at `N`. Only it and `acquired` make a higher
+    /// order.
     pub(crate) fn above<'o, K: Rank, N: Rank>(&'o mut self) -> Order<'o, N>
         requires { (B.rank < N.rank) × (K.rank ≤ N.rank) }
     {
         Order::new()
+    }
+
+    /// `above`, with the guard of the acquisition.
+    #[inline(always)]
+    pub(crate) fn acquired<'o, G, K: Rank, N: Rank>(
+        &'o mut self,
+        guard: G,
+    ) -> Acquired<'o, G, B, K, N>
+        requires { (B.rank < N.rank) × (K.rank ≤ N.rank) }
+        ensures { result.0.guard ≡ guard }
+    {
+        (Ranked::new(guard), self.above::<K, N>())
     }
 }
 

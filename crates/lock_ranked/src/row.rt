@@ -5,7 +5,7 @@ ghost use Rattle.std.specs.Prelude.{◌≡◌, ◌≢◌, ◌<◌, IfOk, IsOkUnl
 ghost use Rattle.lock_ranked.specs.Lines.{next_of, row_of};
 ghost use Rattle.lock_ranked.specs.Rows.{places_of, AreGuardsOf, IsGuardAt};
 
-use crate::guard::RankedMutexGuard;
+use crate::mutex::RankedMutexGuard;
 use crate::order::Order;
 use crate::rank::Rank;
 use lock_base::raw::Fault;
@@ -14,21 +14,8 @@ use places::Line;
 pub use places::RankedMutexRow;
 use std::alloc::Global;
 
-/// Acquisitions of places. Only a `Line` reaches the mutexes, and it acquires upward.
+/// Acquisitions of several places. Only a `Line` makes them, and it acquires upward.
 impl<R: RawMutex, T, K: Rank> RankedMutexRow<R, T, K> {
-    /// Acquires the mutex at `place`, blocking until it is available.
-    pub fn lock<'a, 'o, B: Rank>(
-        &'a self,
-        order: &'o mut Order<'_, B>,
-        place: usize,
-    ) -> (RankedMutexGuard<'a, 'o, R, T, B, K>, Order<'o, K>)
-        requires rank { B.rank < K.rank }
-        requires place { place < places_of self.now }
-        ensures { IsGuardAt self.now place result.0 }
-    {
-        Line::lock_only(self, order, place)
-    }
-
     /// Acquires two of the mutexes, the one at the lower place first. It returns their guards in the order of the
     /// arguments. Neither guard can wait on a condition variable.
     pub fn lock_two<'a, 'o, B: Rank>(

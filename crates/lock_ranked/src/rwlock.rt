@@ -3,18 +3,13 @@ ghost use Rattle.std.specs.Prelude.{◌≡◌, ◌↔◌, ◌<◌, ◌≤◌, If
 ghost use Rattle.lock_base.specs.Limits.{IsLimit, IsMakerFault};
 ghost use Rattle.lock_ranked.specs.RwLockGuards.{plain_of, IsGuardOf};
 
-use crate::order::Order;
+use crate::order::{Acquired, Order};
 use crate::rank::Rank;
-use crate::rwlock_guard::{
-    RankedRwLockGuard, RankedRwLockReadGuard, RankedRwLockUpgradableReadGuard,
-    RankedRwLockWriteGuard,
-};
+use crate::ranked::RankedLock;
 use lock_base::raw::Fault;
 use lock_guard::raw::{RawRwLock, RawRwLockTimed, RawRwLockUpgrade, RawRwLockUpgradeTimed};
-use lock_rwlock::RwLock;
+use lock_rwlock::{RwLock, RwLockReadGuard, RwLockUpgradableReadGuard, RwLockWriteGuard};
 use std::alloc::Global;
-use std::fmt;
-use std::marker::PhantomData;
 
 /// A reader-writer lock of rank `K`, over any raw lock. A blocking acquisition in any mode requires that the thread holds
 /// nothing at `K` or above, so a reader never reads the same lock again.
@@ -33,11 +28,7 @@ use std::marker::PhantomData;
 ///     *limit
 /// }
 /// ```
-#[derive(Drop)]
-pub struct RankedRwLock<R, T, K: Rank> {
-    rwlock: RwLock<R, T>,
-    rank: PhantomData<K>,
-}
+pub type RankedRwLock<R, T, K> = RankedLock<RwLock<R, T>, K>;
 
 impl<R: RawRwLock, T, K: Rank> RankedRwLock<R, T, K> {
     /// Makes an unlocked lock over a new raw lock with `DEFAULT_READERS`. The value is dropped if there is no memory.
@@ -63,20 +54,15 @@ impl<R: RawRwLock, T, K: Rank> RankedRwLock<R, T, K> {
         ensures in_range { IfOk result (λ _. IsLimit readers) }
         ensures fault { IfErr result IsMakerFault }
     {
-        match RwLock::with_readers(alloc, waiter, readers, value) {
-            Ok(rwlock) => Ok(RankedRwLock::from_rwlock(rwlock)),
-            Err(fault) => Err(fault),
-        }
+        let rwlock = RwLock::with_readers(alloc, waiter, readers, value)?;
+        Ok(RankedRwLock::from_rwlock(rwlock))
     }
 
     /// Gives a lock its rank.
     pub fn from_rwlock(rwlock: RwLock<R, T>) -> RankedRwLock<R, T, K>
         ensures { plain_of result ≡ rwlock }
     {
-        RankedRwLock {
-            rwlock,
-            rank: PhantomData,
-        }
+        RankedLock::of(rwlock)
     }
 
     /// Consumes the lock, and returns the value.
@@ -84,81 +70,66 @@ impl<R: RawRwLock, T, K: Rank> RankedRwLock<R, T, K> {
     where
         R: Drop,
     {
-        let RankedRwLock { rwlock, rank: _ } = self;
-        rwlock.into_inner()
+        self.lock.into_inner()
     }
 
     /// Returns the value. No locking is needed, since the lock is borrowed exclusively.
     pub fn get_mut(&mut self) -> &mut T {
-        self.rwlock.get_mut()
+        self.lock.get_mut()
     }
 
     /// Returns what the raw lock says: whether it is held in any mode. The answer may be stale at once.
     pub fn is_locked(&self) -> bool {
-        self.rwlock.is_locked()
+        self.lock.is_locked()
     }
 
     /// Returns what the raw lock says: whether it is held exclusively. The answer may be stale at once.
     pub fn is_locked_exclusive(&self) -> bool {
-        self.rwlock.is_locked_exclusive()
+        self.lock.is_locked_exclusive()
     }
 
     /// Acquires the lock shared, blocking until it is available. The order that it returns is at `K`.
     pub fn read<'a, 'o, B: Rank>(
         &'a self,
         order: &'o mut Order<'_, B>,
-    ) -> (RankedRwLockReadGuard<'a, 'o, R, T, B, K>, Order<'o, K>)
+    ) -> Acquired<'o, RwLockReadGuard<'a, R, T>, B, K, K>
         requires { B.rank < K.rank }
         ensures { IsGuardOf self.now result.0 }
     {
-        (
-            RankedRwLockGuard::new(self.rwlock.read()),
-            order.above::<K, K>(),
-        )
+        order.acquired(self.lock.read())
     }
 
-    /// Acquires the lock shared without blocking, whatever its rank, or returns `None` if the raw lock refuses. The
-    /// order that it returns is at `N`.
+    /// Acquires the lock shared without blocking, whatever its rank, or returns `None` if the raw lock refuses.
     pub fn try_read<'a, 'o, B: Rank, N: Rank>(
         &'a self,
         order: &'o mut Order<'_, B>,
-    ) -> Option<(RankedRwLockReadGuard<'a, 'o, R, T, B, K>, Order<'o, N>)>
+    ) -> Option<Acquired<'o, RwLockReadGuard<'a, R, T>, B, K, N>>
         requires { (B.rank < N.rank) × (K.rank ≤ N.rank) }
         ensures { IfSome result (λ got. IsGuardOf self.now got.0) }
     {
-        Some((
-            RankedRwLockGuard::new(self.rwlock.try_read()?),
-            order.above::<K, N>(),
-        ))
+        Some(order.acquired(self.lock.try_read()?))
     }
 
     /// Acquires the lock exclusively, blocking until it is available. The order that it returns is at `K`.
     pub fn write<'a, 'o, B: Rank>(
         &'a self,
         order: &'o mut Order<'_, B>,
-    ) -> (RankedRwLockWriteGuard<'a, 'o, R, T, B, K>, Order<'o, K>)
+    ) -> Acquired<'o, RwLockWriteGuard<'a, R, T>, B, K, K>
         requires { B.rank < K.rank }
         ensures { IsGuardOf self.now result.0 }
     {
-        (
-            RankedRwLockGuard::new(self.rwlock.write()),
-            order.above::<K, K>(),
-        )
+        order.acquired(self.lock.write())
     }
 
-    /// Acquires the lock exclusively without blocking, whatever its rank, or returns `None` if the raw lock refuses. The
-    /// order that it returns is at `N`.
+    /// Acquires the lock exclusively without blocking, whatever its rank, or returns `None` if the raw lock refuses.
     pub fn try_write<'a, 'o, B: Rank, N: Rank>(
         &'a self,
         order: &'o mut Order<'_, B>,
-    ) -> Option<(RankedRwLockWriteGuard<'a, 'o, R, T, B, K>, Order<'o, N>)>
+    ) -> Option<Acquired<'o, RwLockWriteGuard<'a, R, T>, B, K, N>>
         requires { (B.rank < N.rank) × (K.rank ≤ N.rank) }
         ensures { IfSome result (λ got. IsGuardOf self.now got.0) }
     {
-        Some((
-            RankedRwLockGuard::new(self.rwlock.try_write()?),
-            order.above::<K, N>(),
-        ))
+        Some(order.acquired(self.lock.try_write()?))
     }
 }
 
@@ -168,14 +139,11 @@ impl<R: RawRwLockTimed, T, K: Rank> RankedRwLock<R, T, K> {
         &'a self,
         order: &'o mut Order<'_, B>,
         timeout: R::Duration,
-    ) -> Option<(RankedRwLockReadGuard<'a, 'o, R, T, B, K>, Order<'o, N>)>
+    ) -> Option<Acquired<'o, RwLockReadGuard<'a, R, T>, B, K, N>>
         requires { (B.rank < N.rank) × (K.rank ≤ N.rank) }
         ensures { IfSome result (λ got. IsGuardOf self.now got.0) }
     {
-        Some((
-            RankedRwLockGuard::new(self.rwlock.try_read_for(timeout)?),
-            order.above::<K, N>(),
-        ))
+        Some(order.acquired(self.lock.try_read_for(timeout)?))
     }
 
     /// `try_read`, where the raw lock may block until `deadline`.
@@ -183,14 +151,11 @@ impl<R: RawRwLockTimed, T, K: Rank> RankedRwLock<R, T, K> {
         &'a self,
         order: &'o mut Order<'_, B>,
         deadline: R::Instant,
-    ) -> Option<(RankedRwLockReadGuard<'a, 'o, R, T, B, K>, Order<'o, N>)>
+    ) -> Option<Acquired<'o, RwLockReadGuard<'a, R, T>, B, K, N>>
         requires { (B.rank < N.rank) × (K.rank ≤ N.rank) }
         ensures { IfSome result (λ got. IsGuardOf self.now got.0) }
     {
-        Some((
-            RankedRwLockGuard::new(self.rwlock.try_read_until(deadline)?),
-            order.above::<K, N>(),
-        ))
+        Some(order.acquired(self.lock.try_read_until(deadline)?))
     }
 
     /// `try_write`, where the raw lock may block for at most `timeout`.
@@ -198,14 +163,11 @@ impl<R: RawRwLockTimed, T, K: Rank> RankedRwLock<R, T, K> {
         &'a self,
         order: &'o mut Order<'_, B>,
         timeout: R::Duration,
-    ) -> Option<(RankedRwLockWriteGuard<'a, 'o, R, T, B, K>, Order<'o, N>)>
+    ) -> Option<Acquired<'o, RwLockWriteGuard<'a, R, T>, B, K, N>>
         requires { (B.rank < N.rank) × (K.rank ≤ N.rank) }
         ensures { IfSome result (λ got. IsGuardOf self.now got.0) }
     {
-        Some((
-            RankedRwLockGuard::new(self.rwlock.try_write_for(timeout)?),
-            order.above::<K, N>(),
-        ))
+        Some(order.acquired(self.lock.try_write_for(timeout)?))
     }
 
     /// `try_write`, where the raw lock may block until `deadline`.
@@ -213,14 +175,11 @@ impl<R: RawRwLockTimed, T, K: Rank> RankedRwLock<R, T, K> {
         &'a self,
         order: &'o mut Order<'_, B>,
         deadline: R::Instant,
-    ) -> Option<(RankedRwLockWriteGuard<'a, 'o, R, T, B, K>, Order<'o, N>)>
+    ) -> Option<Acquired<'o, RwLockWriteGuard<'a, R, T>, B, K, N>>
         requires { (B.rank < N.rank) × (K.rank ≤ N.rank) }
         ensures { IfSome result (λ got. IsGuardOf self.now got.0) }
     {
-        Some((
-            RankedRwLockGuard::new(self.rwlock.try_write_until(deadline)?),
-            order.above::<K, N>(),
-        ))
+        Some(order.acquired(self.lock.try_write_until(deadline)?))
     }
 }
 
@@ -229,37 +188,22 @@ impl<R: RawRwLockUpgrade, T, K: Rank> RankedRwLock<R, T, K> {
     pub fn upgradable_read<'a, 'o, B: Rank>(
         &'a self,
         order: &'o mut Order<'_, B>,
-    ) -> (
-        RankedRwLockUpgradableReadGuard<'a, 'o, R, T, B, K>,
-        Order<'o, K>,
-    )
+    ) -> Acquired<'o, RwLockUpgradableReadGuard<'a, R, T>, B, K, K>
         requires { B.rank < K.rank }
         ensures { IsGuardOf self.now result.0 }
     {
-        (
-            RankedRwLockGuard::new(self.rwlock.upgradable_read()),
-            order.above::<K, K>(),
-        )
+        order.acquired(self.lock.upgradable_read())
     }
 
-    /// Acquires the lock upgradable without blocking, whatever its rank, or returns `None` if the raw lock refuses. The
-    /// order that it returns is at `N`.
+    /// Acquires the lock upgradable without blocking, whatever its rank, or returns `None` if the raw lock refuses.
     pub fn try_upgradable_read<'a, 'o, B: Rank, N: Rank>(
         &'a self,
         order: &'o mut Order<'_, B>,
-    ) -> Option<
-        (
-            RankedRwLockUpgradableReadGuard<'a, 'o, R, T, B, K>,
-            Order<'o, N>,
-        ),
-    >
+    ) -> Option<Acquired<'o, RwLockUpgradableReadGuard<'a, R, T>, B, K, N>>
         requires { (B.rank < N.rank) × (K.rank ≤ N.rank) }
         ensures { IfSome result (λ got. IsGuardOf self.now got.0) }
     {
-        Some((
-            RankedRwLockGuard::new(self.rwlock.try_upgradable_read()?),
-            order.above::<K, N>(),
-        ))
+        Some(order.acquired(self.lock.try_upgradable_read()?))
     }
 }
 
@@ -269,19 +213,11 @@ impl<R: RawRwLockUpgradeTimed, T, K: Rank> RankedRwLock<R, T, K> {
         &'a self,
         order: &'o mut Order<'_, B>,
         timeout: R::Duration,
-    ) -> Option<
-        (
-            RankedRwLockUpgradableReadGuard<'a, 'o, R, T, B, K>,
-            Order<'o, N>,
-        ),
-    >
+    ) -> Option<Acquired<'o, RwLockUpgradableReadGuard<'a, R, T>, B, K, N>>
         requires { (B.rank < N.rank) × (K.rank ≤ N.rank) }
         ensures { IfSome result (λ got. IsGuardOf self.now got.0) }
     {
-        Some((
-            RankedRwLockGuard::new(self.rwlock.try_upgradable_read_for(timeout)?),
-            order.above::<K, N>(),
-        ))
+        Some(order.acquired(self.lock.try_upgradable_read_for(timeout)?))
     }
 
     /// `try_upgradable_read`, where the raw lock may block until `deadline`.
@@ -289,24 +225,10 @@ impl<R: RawRwLockUpgradeTimed, T, K: Rank> RankedRwLock<R, T, K> {
         &'a self,
         order: &'o mut Order<'_, B>,
         deadline: R::Instant,
-    ) -> Option<
-        (
-            RankedRwLockUpgradableReadGuard<'a, 'o, R, T, B, K>,
-            Order<'o, N>,
-        ),
-    >
+    ) -> Option<Acquired<'o, RwLockUpgradableReadGuard<'a, R, T>, B, K, N>>
         requires { (B.rank < N.rank) × (K.rank ≤ N.rank) }
         ensures { IfSome result (λ got. IsGuardOf self.now got.0) }
     {
-        Some((
-            RankedRwLockGuard::new(self.rwlock.try_upgradable_read_until(deadline)?),
-            order.above::<K, N>(),
-        ))
-    }
-}
-
-impl<R: RawRwLock, T: fmt::Debug, K: Rank> fmt::Debug for RankedRwLock<R, T, K> {
-    fn fmt<W: fmt::Write>(&self, f: &mut fmt::Formatter<W>) -> fmt::Result {
-        self.rwlock.fmt(f)
+        Some(order.acquired(self.lock.try_upgradable_read_until(deadline)?))
     }
 }

@@ -34,8 +34,9 @@ pub fn spawn_ranked<
 
 impl<T> RankedThread<T> {
     /// Blocks until the thread ends, and returns its result. The order at 0 shows that the caller holds no ranked lock.
-    pub fn join<R: Threads>(self, rt: &R, order: &mut Order<'_, AtRank<0>>) -> T {
-        let _ = order;
+    ///
+    /// No contract says what the result is: std's handle does not tell which closure ran. `join_ranked` says it.
+    pub fn join<R: Threads>(self, rt: &R, _order: &mut Order<'_, AtRank<0>>) -> T {
         let RankedThread { handle } = self;
         handle.join(rt)
     }
@@ -48,11 +49,12 @@ pub fn join_ranked<
     G: FnOnce(ThreadOrder) -> B,
     A: Send,
     B,
->(rt: &R, order: &mut Order<'_, AtRank<0>>, left: F, right: G) -> (A, B)
+>(rt: &R, _order: &mut Order<'_, AtRank<0>>, left: F, right: G) -> (A, B)
     requires left { F.IsAlwaysCallable left }
     requires right { G.IsAlwaysCallable right }
+    ensures left { (own : _) × F.post left own result.0 }
+    ensures right { (own : _) × G.post right own result.1 }
 {
-    let _ = order;
     thread::join(
         rt,
         move || left(ThreadOrder::start()),

@@ -1,13 +1,14 @@
-//! The mutexes of a row, which only a `Line` acquires.
+//! The mutexes of a row. Only a `Line` acquires several of them.
 ghost use Rattle.std.specs.Prelude.{◌≡◌, ◌+◌, ◌<◌, ◌≤◌, vec_len};
 ghost use Rattle.lock_ranked.specs.Lines.{next_of, row_of};
 ghost use Rattle.lock_ranked.specs.Rows.{mutexes_of, places_of, IsGuardAt};
 
-use crate::guard::{RankedGuard, RankedMutexGuard};
-use crate::order::Order;
+use crate::mutex::RankedMutexGuard;
+use crate::order::{Acquired, Order};
 use crate::rank::Rank;
+use crate::ranked::Ranked;
 use lock_guard::raw::RawMutex;
-use lock_mutex::Mutex;
+use lock_mutex::{Mutex, MutexGuard};
 use std::marker::PhantomData;
 use std::snapshot::Snapshot;
 
@@ -55,6 +56,21 @@ impl<R, T, K: Rank> RankedMutexRow<R, T, K> {
     }
 }
 
+impl<R: RawMutex, T, K: Rank> RankedMutexRow<R, T, K> {
+    /// Acquires the mutex at `place`, blocking until it is available.
+    pub fn lock<'a, 'o, B: Rank>(
+        &'a self,
+        order: &'o mut Order<'_, B>,
+        place: usize,
+    ) -> Acquired<'o, MutexGuard<'a, R, T>, B, K, K>
+        requires rank { B.rank < K.rank }
+        requires place { place < places_of self.now }
+        ensures { IsGuardAt self.now place result.0 }
+    {
+        order.acquired(self.mutexes[place].lock())
+    }
+}
+
 /// The permission to acquire the mutexes of a row, each at a higher place than the last one. It has no bytes but a
 /// reference to the row.
 #[derive(Drop)]
@@ -88,33 +104,11 @@ impl<'a, 'o, R: RawMutex, T, K: Rank> Line<'a, 'o, R, T, K> {
         ensures next { next_of self.new ≡ place + 1 }
     {
         self.next = Snapshot::of(&(place + 1));
-        RankedGuard::new(self.row.mutexes[place].lock())
-    }
-
-    /// Acquires the mutex at `place` alone, blocking until it is available.
-    #[inline(always)]
-    pub fn lock_only<B: Rank>(
-        row: &'a RankedMutexRow<R, T, K>,
-        order: &'o mut Order<'_, B>,
-        place: usize,
-    ) -> (RankedMutexGuard<'a, 'o, R, T, B, K>, Order<'o, K>)
-        requires rank { B.rank < K.rank }
-        requires place { place < places_of row.now }
-        ensures { IsGuardAt row.now place result.0 }
-    {
-        (
-            RankedGuard::new(row.mutexes[place].lock()),
-            order.above::<K, K>(),
-        )
+        Ranked::new(self.row.mutexes[place].lock())
     }
 
     /// Ends the acquisitions. The order that it returns is at `K`.
     pub fn end(self) -> Order<'o, K> {
-        let Line {
-            row: _,
-            next: _,
-            above,
-        } = self;
-        above
+        self.above
     }
 }
