@@ -9,7 +9,8 @@
 //! forgotten (`mem::forget`, a cycle of `Rc`), that each holder releases in the end, and what plain locks, channels and IO
 //! do next to the ranked locks.
 //!
-//! An order and the rank of a guard have no bytes, and no call here does more than the plain lock's.
+//! An order and a rank have no bytes, and no call here does more than the plain lock's. No contract says that a `try_*`
+//! succeeds, since the plain lock's says it of no raw lock.
 #![tactic(auto)]
 
 mod condvar;

@@ -2,7 +2,7 @@
 ghost use Rattle.std.specs.Prelude.{◌≡◌};
 ghost use Rattle.std.specs.Borrow.{Lends, sem};
 
-use crate::rank::Rank;
+use crate::rank::{AtRank, Rank, Under};
 use lock_base::project::Project;
 use lock_guard::guard::{Acquire, Held, LockGuard, LockGuardMut, Mapped, ValueGuardMut};
 use lock_mutex::Guard;
@@ -63,6 +63,11 @@ impl<G, B: Rank, K: Rank> Ranked<G, B, K> {
         self.guard
     }
 }
+
+/// A rank adds no bytes to a lock, and none to a guard.
+const _: () = prove!(std::mem::size_of::<RankedLock<u64, AtRank<1>>>() == 8);
+
+const _: () = prove!(std::mem::size_of::<Ranked<u64, Under<'static, AtRank<0>>, AtRank<1>>>() == 8);
 
 /// Gives the guard of either answer the ranks of the guard that was asked.
 macro_rules! ranked {

@@ -118,7 +118,7 @@ impl<R: RawMutexTimed, T, K: Rank> RankedReentrantMutex<R, T, K> {
     }
 }
 
-/// A plain guard with the party whose level it is. A plain guard does not tell its party.
+/// A plain guard with the party whose level it is. It has 8 bytes more, since a plain guard does not tell its party.
 #[derive(Drop)]
 pub struct RankedLevel<'a, R: RawMutex, T> {
     guard: ReentrantMutexGuard<'a, R, T>,
