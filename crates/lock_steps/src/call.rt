@@ -12,8 +12,8 @@ pub const LAST_EPOCH: u64 = 4_294_967_295;
 /// The count of sleepers while the epochs begin anew.
 pub const CLOSED_COUNT: u64 = 9_223_372_036_854_775_808;
 
-/// How often a call yields before it sleeps. While a sleeper is counted, each release makes a wake-up. A driver in C or Rust
-/// makes it by a call of the kernel, which costs more than some yields.
+/// How often a call yields before it sleeps. While a mutex counts a sleeper, also one that was just woken, each release makes
+/// a wake-up. In C and Rust that is a call of the kernel.
 const YIELDS: u32 = 70;
 
 /// A call between two of its steps.
