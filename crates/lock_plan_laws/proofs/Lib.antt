@@ -21,4 +21,5 @@ pub mod OrderedWorlds
 pub mod NoStop
 pub mod OrderChecks
 pub mod OrderExamples
+pub mod LockOrders
 pub mod Holders

@@ -5,4 +5,5 @@ pub mod MachineStops
 pub mod Ranks
 pub mod OrderChecks
 pub mod OrderExamples
+pub mod LockOrders
 pub mod Holders

@@ -13,10 +13,14 @@ use Rattle.lock_plan.specs.declared.program.Place.{Place}
 use Rattle.lock_plan.specs.Known.{PlaceFault, Known, known_of}
 use Rattle.lock_plan.specs.Worlds.{act_in}
 
+-- whether the lock with this hold is not held, or is below the other lock
+abbrev pub is_below : (ℕ → ℕ) → ℕ → ℕ → Hold → Bool
+is_below rank lock held h = (tokens h.bag == 0) || nat_lt (rank held) (rank lock)
+
 -- whether the lock is above all locks that are held; the holds are those of the locks from `from` on
 abbrev pub is_above : (ℕ → ℕ) → ℕ → ℕ → List Hold → Bool
 is_above rank lock from [] = true
-is_above rank lock from (h ∷ hs) = ((tokens h.bag == 0) || nat_lt (rank from) (rank lock)) && is_above rank lock (from + 1) hs
+is_above rank lock from (h ∷ hs) = is_below rank lock from h && is_above rank lock (from + 1) hs
 
 abbrev pub goes_up : (ℕ → ℕ) → List Hold → ℕ → LockStep → Bool
 goes_up rank holds lock (Modes (Acquire mode)) = is_above rank lock 0 holds

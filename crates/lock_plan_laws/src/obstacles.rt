@@ -1,0 +1,72 @@
+//! Where an order of the locks says nothing of a plan. No proof rests on these functions.
+use crate::order::{is_covered, is_free};
+use lock_base::machine::{Hold, LockStep, Mode, ModeStep};
+use lock_plan::{Act, Obstacle, Place, PlanLock, Signal};
+use std::alloc::AllocError;
+
+/// Adds each reentrant lock, the first act that an order does not cover, and the first party that ends while it holds a lock.
+pub(crate) fn add_obstacles(
+    found: &mut Vec<Obstacle>,
+    locks: &[PlanLock],
+    programs: &[Vec<Place>],
+    known: &[Vec<Option<Vec<Hold>>>],
+) -> Result<(), AllocError> {
+    for lock in 0..locks.len() {
+        if !is_covered(locks[lock]) {
+            found.push(Obstacle::Reentrant(lock))?;
+        }
+    }
+    if let Some(uncovered) = first_uncovered(programs) {
+        found.push(uncovered)?;
+    }
+    if let Some(end) = first_end(programs, known) {
+        found.push(end)?;
+    }
+    Ok(())
+}
+
+/// Returns the first act that an order does not cover. A row that idles comes last: some other act starts it.
+fn first_uncovered(programs: &[Vec<Place>]) -> Option<Obstacle> {
+    let mut idle = None;
+    for party in 0..programs.len() {
+        for place in 0..programs[party].len() {
+            let act = programs[party][place].act;
+            if act == Act::Signal(Signal::Idle) {
+                idle = Some(Obstacle::Uncovered(party, place));
+            } else if !is_act_covered(act) {
+                return Some(Obstacle::Uncovered(party, place));
+            }
+        }
+    }
+    idle
+}
+
+/// Returns whether an order covers the act: it is no upgrade, announcement or signal.
+fn is_act_covered(act: Act) -> bool {
+    match act {
+        Act::Call(call) => !matches!(
+            call.step,
+            LockStep::Announce | LockStep::Modes(ModeStep::Change(_, Mode::Exclusive))
+        ),
+        Act::Try(_) | Act::Choose(_) => true,
+        Act::Signal(_) => false,
+    }
+}
+
+/// Returns the first party that ends while it holds a lock, and that lock.
+fn first_end(programs: &[Vec<Place>], known: &[Vec<Option<Vec<Hold>>>]) -> Option<Obstacle> {
+    for party in 0..programs.len() {
+        if let Some(lock) = held_at_end(known, party, programs[party].len()) {
+            return Some(Obstacle::Ends(party, lock));
+        }
+    }
+    None
+}
+
+/// Returns the first lock that a party holds at its end.
+fn held_at_end(known: &[Vec<Option<Vec<Hold>>>], party: usize, end: usize) -> Option<usize> {
+    match known.get(party)?.get(end) {
+        Some(Some(holds)) => holds.iter().position(|hold| !is_free(*hold)),
+        _ => None,
+    }
+}
