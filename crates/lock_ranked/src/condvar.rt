@@ -2,6 +2,7 @@
 ghost use Rattle.std.specs.Prelude.{◌≡◌, false, IsOkUnless};
 ghost use Rattle.std.specs.Sync.Mutex.{mutex_guard_value};
 ghost use Rattle.lock_guard.specs.Held.{held_value};
+ghost use Rattle.lock_guard.specs.Waits.{WaitedFor};
 ghost use Rattle.lock_mutex.specs.Condvar.{raw_condvar_of, HasWaited};
 ghost use Rattle.lock_mutex.specs.WaitsWhile.{WaitsWhile, has_timed_out};
 ghost use Rattle.lock_ranked.specs.Condvars.{plain_of};
@@ -117,7 +118,10 @@ where
         _order: &mut Order<'o, K>,
         timeout: <C::RawMutex as RawMutexTimed>::Duration,
     ) -> WaitTimeoutResult
-        ensures { (held_of guard.new).lock ≡ (held_of guard.old).lock }
+        ensures lock { (held_of guard.new).lock ≡ (held_of guard.old).lock }
+        ensures waited { HasWaited (λ token.
+            WaitedFor (C.waited (raw_condvar_of (plain_of self.now)) token)
+            (C.waited_until (raw_condvar_of (plain_of self.now)) token) (has_timed_out result)) }
     {
         self.condvar.wait_for(&mut guard.guard, timeout)
     }
