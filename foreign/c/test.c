@@ -368,6 +368,13 @@ static void tries_and_deadlines(void) {
     MUST(proved_mutex_lock_until(&mutex, &deadline));
     proved_mutex_unlock(&mutex);
 
+    /* in the last epoch a call yields while another waiter is counted, and sees its deadline */
+    static proved_mutex last;
+    proved_mutex_lock(&last);
+    last.words.count = 1;
+    last.words.epoch = UINT32_MAX;
+    MUST(!proved_mutex_lock_until(&last, &deadline) && !proved_mutex_lock_until(&last, &(struct timespec){-1, 0}));
+
     static proved_rwlock zeroed;
     MUST(proved_rwlock_lock_shared_until(&zeroed, &deadline) && proved_rwlock_lock_upgradable_until(&zeroed, &deadline));
 

@@ -107,7 +107,8 @@ fits_at stage.TryCounted down found call =
     (λ hit. plain call stage.LeaveAcquired (Subtract Count 1) refl refl refl) (λ miss. plain call stage.Leave (Subtract Count 1) refl refl refl)
 fits_at stage.Sleep down found call =
     plain (record call { late = not (found == 0) && not call.announces }) stage.Leave (Subtract Count 1) refl refl refl
-fits_at stage.YieldCounted down found call = plain call stage.Leave (Subtract Count 1) refl refl refl
+fits_at stage.YieldCounted down found call =
+    plain (record call { late = not (found == 0) && not call.announces }) stage.Leave (Subtract Count 1) refl refl refl
 fits_at stage.LeaveAcquired down found call = plain call stage.Acquired (End true) refl refl refl
 fits_at stage.Leave down found call = plain call stage.LookAgain (Load Word) refl refl refl
 fits_at stage.YieldAway down found call = plain call stage.LookAgain (Load Word) refl refl refl

@@ -192,7 +192,7 @@ module _ (held : Hold) where
         chosen Goes (found == call.loaded) (goes_to call stage.LeaveAcquired (Subtract Count 1)) (leave call) (λ hit w. absurd (false≢true w))
         (λ miss w. plain call b stage.Leave refl refl)
     honest_at stage.Sleep is = sleeps (bound stage.Sleep is refl)
-    honest_at stage.YieldCounted is = λ w. plain call (bound stage.YieldCounted is refl) stage.Leave refl refl
+    honest_at stage.YieldCounted is = sleeps (bound stage.YieldCounted is refl)
     honest_at stage.LeaveAcquired is = λ w. absurd (false≢true w)
     honest_at stage.Leave is = λ w. plain call (bound stage.Leave is refl) stage.LookAgain refl refl
     honest_at stage.YieldAway is = λ w. plain call (bound stage.YieldAway is refl) stage.LookAgain refl refl

@@ -326,8 +326,9 @@ module _ (before : Hold) (views : List SleeperView) (k : ℕ) (down : Down) (w :
   at_sleep : (a : Action) (found : ℕ) → IsAt stage.Sleep call down me a → me.state.held ≡ hold_at stage.Sleep down call before → Kept call.readers (step_of_want call.want) before w views k down (next_at stage.Sleep down found call)
   at_sleep a found st hd = record { you = me; kept = same; is_at = (st.0, ap count_of_watch st.1, refl); holds = hd; same_lock = refl; same_ask = refl }
 
-  at_yield_counted : (a : Action) → IsAt stage.YieldCounted call down me a → me.state.held ≡ hold_at stage.YieldCounted down call before → Kept call.readers (step_of_want call.want) before w views k down (leave call)
-  at_yield_counted a st hd = record { you = me; kept = same; is_at = (st.0, ap count_of_watch st.1, refl); holds = hd; same_lock = refl; same_ask = refl }
+  at_yield_counted : (a : Action) (found : ℕ) → IsAt stage.YieldCounted call down me a → me.state.held ≡ hold_at stage.YieldCounted down call before
+      → Kept call.readers (step_of_want call.want) before w views k down (next_at stage.YieldCounted down found call)
+  at_yield_counted a found st hd = record { you = me; kept = same; is_at = (st.0, ap count_of_watch st.1, refl); holds = hd; same_lock = refl; same_ask = refl }
 
   at_leave_acquired : IsAt stage.LeaveAcquired call down me (Subtract Count 1) → me.state.held ≡ hold_at stage.LeaveAcquired down call before → Kept call.readers (step_of_want call.want) before (made (Subtract Count 1) w) views k down (acquired call)
   at_leave_acquired st hd = record {
@@ -566,7 +567,7 @@ module _ (before : Hold) (views : List SleeperView) (k : ℕ) (down : Down) (w :
         on_answer (trial call) w.word (λ n. next_at stage.TryCounted down n call) st.4 (λ e. e) (at_try_counted (st.0, st.1, st.2, st.3, refl) hd) answer
     by_stage stage.Sleep st hd going answer =
         on_action (Park call.epoch) (λ n. next_at stage.Sleep down n call) st.4 (λ e. at_sleep action found st hd) answer
-    by_stage stage.YieldCounted st hd going answer = on_pause (leave call) (same_leaves st.2 (rest_leaves Yield tt)) (at_yield_counted action st hd)
+    by_stage stage.YieldCounted st hd going answer = on_pause (next_at stage.YieldCounted down found call) (same_leaves st.2 (rest_leaves Yield tt)) (at_yield_counted action found st hd)
     by_stage stage.LeaveAcquired st hd going answer =
         on_answer (Subtract Count 1) w.count (λ n. acquired call) st.4 (λ e. e) (at_leave_acquired (st.0, st.1, st.2, st.3, refl) hd) answer
     by_stage stage.Leave st hd going answer = on_answer (Subtract Count 1) w.count (λ n. look_again call) st.2 (λ e. e) (at_leave (st.0, st.1, refl) hd) answer

@@ -129,7 +129,7 @@ next_at stage.LookCounted down found call = or_else (λ c. goes_to c stage.Sleep
 next_at stage.TryCounted down found call =
     if found == call.loaded then goes_to call stage.LeaveAcquired (Subtract Count 1) else leave call
 next_at stage.Sleep down found call = leave (record call { late = not (found == 0) && not call.announces })
-next_at stage.YieldCounted down found call = leave call
+next_at stage.YieldCounted down found call = leave (record call { late = not (found == 0) && not call.announces })
 next_at stage.LeaveAcquired down found call = acquired call
 next_at stage.Leave down found call = look_again call
 next_at stage.YieldAway down found call = look_again call

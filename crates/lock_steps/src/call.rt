@@ -106,8 +106,8 @@ impl Call {
             Stage::TryCounted if found == self.loaded => {
                 self.to(Stage::LeaveAcquired, Action::Subtract(Place::Count, 1))
             }
-            Stage::TryCounted | Stage::YieldCounted => self.leave(),
-            Stage::Sleep => self.wake_up(found),
+            Stage::TryCounted => self.leave(),
+            Stage::Sleep | Stage::YieldCounted => self.wake_up(found),
             Stage::LeaveAcquired => self.acquired(),
             Stage::Leave | Stage::YieldAway => {
                 self.to(Stage::LookAgain, Action::Load(Place::Word))
@@ -206,7 +206,7 @@ impl Call {
         self.to(Stage::Sleep, Action::Park(epoch))
     }
 
-    /// Ends a sleep. An answer other than 0 says that the deadline has passed.
+    /// Ends a sleep, or the yield in its place. An answer other than 0 says that the deadline has passed.
     fn wake_up(&mut self, answer: u64) -> Action
         ensures { (self.new, result) ≡ next_at Stage.Sleep Down.Shared answer self.old }
     {
