@@ -5,3 +5,4 @@ pub mod Rows
 pub mod MappedGuards
 pub mod ReentrantGuards
 pub mod Condvars
+pub mod Moments

@@ -3,7 +3,8 @@
 //! A lock has a [`Rank`] in its type, and a thread has one [`Order`]. `lock` requires that the lock's rank is above all
 //! ranks that the order holds. A plan whose parties acquire so, and end with nothing held, never stops, for any number
 //! of parties: `ordered_plans_never_stop` in `lock_plan_laws`. Each contract here is that law's premise for one call.
-//! That the calls of a thread are a run of such a plan is read, and not proved.
+//! That the calls of a thread are a run of such a plan is read, and not proved. [`laws`] has the same at one moment of
+//! running threads.
 //!
 //! Four things are left to the reader: that each thread calls [`ThreadOrder::start`] at most once, that no guard is
 //! forgotten (`mem::forget`, a cycle of `Rc`), that each holder releases in the end, and what plain locks, channels and IO
@@ -14,6 +15,7 @@
 #![tactic(auto)]
 
 mod condvar;
+pub mod laws;
 mod mutex;
 mod order;
 mod rank;

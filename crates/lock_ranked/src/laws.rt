@@ -1,7 +1,5 @@
-//! The law of locks with ranks at one moment. It is the contract of a function with an empty body.
-#![tactic(auto)]
-
-ghost use Rattle.lock_ranked_laws.specs.Sleeping.{SomeHolderIsAwake};
+//! The law of threads with ranked locks, at one moment. It is the contract of a function with an empty body.
+ghost use Rattle.lock_ranked.specs.Moments.{SomeHolderIsAwake};
 
 /// If a thread sleeps for a lock, some holder or pending writer is awake. The premises: each thread sleeps above all that
 /// it holds, as the contracts of ranked locks require, and no release is in progress.

@@ -17,7 +17,7 @@ use Rattle.lock_sleepers.specs.declared.sleeper.WakeLimits.{WakeLimits}
 use Rattle.lock_sleepers.specs.declared.sleeper.SleeperView.{SleeperView}
 use Rattle.lock_sleepers.specs.Sleepers.{states_of, Sleeps, SleepersAreRefused}
 use Rattle.lock_wake.specs.WakeSeats.{sleepers_of, word_in, epoch_in}
-use Rattle.lock_ranked_laws.specs.Sleeping.{Moment, SeatOf, SleepsFor, HoldsLock, IsPending, IsInOrder, SomeHolderIsAwake}
+use Rattle.lock_ranked.specs.Moments.{Moment, SeatOf, SleepsFor, HoldsLock, IsPending, IsInOrder, SomeHolderIsAwake}
 
 abbrev tokens_of : SleeperView → ℕ
 tokens_of v = tokens v.state.held.bag
