@@ -1,320 +1,36 @@
 -- No thread that sleeps is forgotten.
-use Rattle.std.proofs.Common.{◌≡◌, ◌≢◌, ℕ, zero, suc, ◌+◌, ◌%◌, ◌^◌, ◌<◌, ◌≤◌, Bool, true, false, not, ◌&&◌, ◌||◌, ◌==◌, nat_lt, List, [], ◌∷◌, ◌++◌, slice_get, slice_set, Option, Some, None, if◌then◌else◌, IsTrue, ◌⊎◌, inl, inr, refl, sym, ap, subst, ◌∙◌, arith}
-use Rattle.std.proofs.lemmas.Bool.{eqb-true, eqb-false, true≢false, false≢true, and_parts, or_left, or_right}
+use Rattle.std.proofs.Common.{◌≡◌, ◌≢◌, ℕ, ◌+◌, ◌%◌, ◌^◌, ◌<◌, ◌≤◌, Bool, true, false, not, ◌&&◌, ◌||◌, ◌==◌, nat_lt, List, [], ◌∷◌, slice_get, slice_set, Option, Some, None, if◌then◌else◌, IsTrue, ◌⊎◌, inl, inr, refl, sym, ap, subst, ◌∙◌, arith}
+use Rattle.std.proofs.lemmas.Bool.{eqb-true, eqb-false, true≢false, false≢true, and_parts}
 use Rattle.std.proofs.lemmas.Option.{same_Some}
 use Rattle.lock_base.specs.Limits.{IsLimit}
 use Rattle.lock_word.specs.declared.want.ExWant.{ExWant}
-use Rattle.lock_word.specs.declared.want.ExWant.TheVariants as want
 use Rattle.lock_word.specs.declared.down.Down.{Down}
 use Rattle.lock_word.specs.declared.down.Down.TheVariants as down
-use Rattle.lock_word.specs.Word.{word_admits, word_after, amount, step_of_want, step_of_down}
+use Rattle.lock_word.specs.Word.{word_admits, amount, step_of_want, step_of_down}
 use Rattle.lock_word.specs.Rule.{WordShows}
 use Rattle.lock_word.proofs.Holders.{sum_by-slice_set, le-sum_by}
 use Rattle.lock_word.proofs.Rules.{each_after, element_of_longer, shows}
-use Rattle.lock_sleepers.specs.declared.sleeper.Watch.TheVariants.{Restarts}
 use Rattle.lock_sleepers.specs.declared.sleeper.SleeperView.{SleeperView}
 use Rattle.lock_sleepers.specs.Sleepers.{count_of_watch, states_of}
 use Rattle.lock_sleepers.specs.Wakes.{IsWithin, new_sleeper}
 use Rattle.lock_sleepers.proofs.Wakes.{state_at}
 use Rattle.lock_steps.specs.declared.action.Action.{Action}
-use Rattle.lock_steps.specs.declared.action.Action.TheVariants.{Load, Exchange, Subtract, Park, WakeOne, WakeAll, Yield, End}
-use Rattle.lock_steps.specs.declared.action.Place.TheVariants.{Word, Count, Epoch}
+use Rattle.lock_steps.specs.declared.action.Action.TheVariants.{Load, Subtract, Park, WakeOne, WakeAll}
+use Rattle.lock_steps.specs.declared.action.Place.TheVariants.{Word}
 use Rattle.lock_steps.specs.declared.call.Call.{Call}
 use Rattle.lock_steps.specs.declared.act.Act.{Act}
 use Rattle.lock_steps.specs.declared.act.Act.TheVariants as act
 use Rattle.lock_steps.specs.declared.stage.Stage.{Stage}
 use Rattle.lock_steps.specs.declared.stage.Stage.TheVariants as stage
-use Rattle.lock_steps.specs.Machine.{Progress, acquiring, taking, next_at, ended, goes_to, or_else, find_epoch, with_loaded, wakes_one, has_to_wake, last_epoch, closed_count}
-use Rattle.lock_steps.specs.StepLaws.{Words, with_number, made, LeavesWords, IsAt, hold_at, is_over}
+use Rattle.lock_steps.specs.Machine.{Progress, acquiring, taking, wakes_one, last_epoch, closed_count}
+use Rattle.lock_steps.specs.StepLaws.{Words, made, IsAt, hold_at, is_over}
 use Rattle.lock_steps.specs.Runs.{Underway, Thread, LockInUse, next_in, new_thread, rests, may_acquire, may_release, in_call, goes_on, answer, with_thread, acquire_by, release_by, step_in, after_act, IsDueAt, SomeThreadIsDue, parks_at}
 use Rattle.lock_steps.specs.Sleeping.{LockWithSleepers, is_listed, without, new_lock_awake, falls_asleep, stepped, wake, wake_one, wake_all, woken_by, sleeper_in, sleeper_by, after_act_asleep, after_acts_asleep, IsParked, ServesAt, SomeThreadServes, admits_sleeper, SleepersAreServed, EverySleeperIsServed}
+use Rattle.lock_steps.proofs.Listed.{listed_without, still_listed, gone_without, listed_in_both, listed_first, not_listed, neither, false_unless, is_first, other_stays, in_longer}
+use Rattle.lock_steps.proofs.Serving.{is_one, SomeThreadWakesAll, PastIsServed, Sleeper, KeepsSleepers, MovesAt, moves_at, Serving, goes_on_serving, takes_at, take_serves, end_wakes, waker_leaves, restarter_watches, no_call}
 use Rattle.lock_steps.proofs.Fits.{parks, is_wake, sleeps_at, wakes_at, ends_at, Fits, fits_next, fits_start}
 use Rattle.lock_steps.proofs.Runs.{IsKept, IsIn, limits, views_of, me, me_at, is_in, kept_at_start, kept_after_join, acquired_by, released_by, kept_after_step, none_forgotten, served, put, still_going}
-use Rattle.lock_steps.proofs.Steps.{chosen, rest_leaves, same_leaves, wake_leaves, admits_free}
-
--- lists of numbers
-
-listed_without : (k j : ℕ) (js : List ℕ) → IsTrue (is_listed j (without k js)) → (j ≢ k) × IsTrue (is_listed j js)
-listed_without k j [] h = absurd (false≢true h)
-listed_without k j (i ∷ is) h = either (k == i) refl (j == i) refl (listed_without k j is) h
-  where
-    either : (b : Bool) → (k == i) ≡ b → (c : Bool) → (j == i) ≡ c
-        → (IsTrue (is_listed j (without k is)) → (j ≢ k) × IsTrue (is_listed j is))
-        → IsTrue (is_listed j (if b then without k is else i ∷ without k is)) → (j ≢ k) × IsTrue (c || is_listed j is)
-    either true same c at rest x = let r = rest x in (r.0, or_right c _ r.1)
-    either false other true at rest x = ((λ e. eqb-false _ _ other (sym e ∙ eqb-true _ _ at)), refl)
-    either false other false at rest x = rest (subst (λ c. IsTrue (c || is_listed j (without k is))) at x)
-
-still_listed : (k j : ℕ) (js : List ℕ) → j ≢ k → is_listed j (without k js) ≡ is_listed j js
-still_listed k j [] differs = refl
-still_listed k j (i ∷ is) differs = either (k == i) refl (j == i) refl (still_listed k j is differs)
-  where
-    either : (b : Bool) → (k == i) ≡ b → (c : Bool) → (j == i) ≡ c → is_listed j (without k is) ≡ is_listed j is
-        → is_listed j (if b then without k is else i ∷ without k is) ≡ (c || is_listed j is)
-    either true same true at rest = absurd (differs (eqb-true _ _ at ∙ sym (eqb-true _ _ same)))
-    either true same false at rest = rest
-    either false other c at rest = ap (λ b. b || is_listed j (without k is)) at ∙ ap (λ b. c || b) rest
-
-gone_without : (k : ℕ) (js : List ℕ) → is_listed k (without k js) ≡ false
-gone_without k [] = refl
-gone_without k (i ∷ is) = either (k == i) refl (gone_without k is)
-  where
-    either : (b : Bool) → (k == i) ≡ b → is_listed k (without k is) ≡ false → is_listed k (if b then without k is else i ∷ without k is) ≡ false
-    either true same rest = rest
-    either false other rest = ap (λ b. b || is_listed k (without k is)) other ∙ rest
-
-listed_in_both : (j : ℕ) (xs ys : List ℕ) → IsTrue (is_listed j (xs ++ ys)) → IsTrue (is_listed j xs) ⊎ IsTrue (is_listed j ys)
-listed_in_both j [] ys h = inr h
-listed_in_both j (x ∷ xs) ys h = either (j == x) (listed_in_both j xs ys) h
-  where
-    either : (b : Bool) → (IsTrue (is_listed j (xs ++ ys)) → IsTrue (is_listed j xs) ⊎ IsTrue (is_listed j ys))
-        → IsTrue (b || is_listed j (xs ++ ys)) → IsTrue (b || is_listed j xs) ⊎ IsTrue (is_listed j ys)
-    either true rest y = inl refl
-    either false rest y = rest y
-
-listed_first : (j k : ℕ) (js : List ℕ) → IsTrue (is_listed j (k ∷ js)) → (j ≡ k) ⊎ IsTrue (is_listed j js)
-listed_first j k js h = either (j == k) refl h
-  where
-    either : (b : Bool) → (j == k) ≡ b → IsTrue (b || is_listed j js) → (j ≡ k) ⊎ IsTrue (is_listed j js)
-    either true same x = inl (eqb-true _ _ same)
-    either false other x = inr x
-
-not_listed : (j k : ℕ) (js : List ℕ) → j ≢ k → is_listed j js ≡ false → is_listed j (k ∷ js) ≡ false
-not_listed j k js differs none = either (j == k) refl
-  where
-    either : (b : Bool) → (j == k) ≡ b → (b || is_listed j js) ≡ false
-    either true same = absurd (differs (eqb-true _ _ same))
-    either false other = none
-
-neither : (a b : Bool) → not (a || b) ≡ true → b ≡ true → ⊥
-neither true b none is_so = false≢true none
-neither false true none is_so = false≢true none
-neither false false none is_so = false≢true is_so
-
-false_unless : (b : Bool) → (b ≡ true → ⊥) → b ≡ false
-false_unless true never = absurd (never refl)
-false_unless false never = refl
-
-is_first : (k : ℕ) (js : List ℕ) → IsTrue (is_listed k (k ∷ js))
-is_first k js = grind arith
-
-other_stays : {A : Type 0} (xs : List A) (k j : ℕ) (y z : A) → j ≢ k → slice_get xs j ≡ Some z → slice_get (slice_set xs k y) j ≡ Some z
-other_stays [] k j y z differs h = cc
-other_stays (x ∷ xs) zero zero y z differs h = absurd (differs refl)
-other_stays (x ∷ xs) zero (suc j) y z differs h = h
-other_stays (x ∷ xs) (suc k) zero y z differs h = h
-other_stays (x ∷ xs) (suc k) (suc j) y z differs h = other_stays xs k j y z (λ e. differs (ap suc e)) h
-
-in_longer : {A : Type 0} (xs : List A) (y z : A) (j : ℕ) → slice_get xs j ≡ Some z → slice_get (xs ++ y ∷ []) j ≡ Some z
-in_longer [] y z j h = cc
-in_longer (x ∷ xs) y z zero h = h
-in_longer (x ∷ xs) y z (suc j) h = in_longer xs y z j h
-
--- what is kept
-
--- a release wakes one sleeper in this epoch
-abbrev is_one : LockInUse → Bool
-is_one lock = (lock.readers == 1) && nat_lt lock.words.epoch last_epoch
-
-record SomeThreadWakesAll (lock : LockInUse) : Type 0 where
-  number : ℕ
-  thread : Thread
-  underway : Underway
-  is : slice_get lock.threads number ≡ Some thread
-  calls : thread.underway ≡ Some underway
-  wakes : underway.action ≡ WakeAll
-
--- those that sleep in an epoch that is past are served
-record PastIsServed (s : LockWithSleepers) : Type 0 where
-  one : IsTrue (is_one s.lock) → s.lock.words.word ≡ 0 → SomeThreadServes s
-  all : is_one s.lock ≡ false → SomeThreadWakesAll s.lock
-
-record Sleeper (s : LockWithSleepers) (k : ℕ) : Type 0 where
-  parked : IsParked s.lock k
-  since : (parked.underway.call.epoch ≡ s.lock.words.epoch) ⊎ PastIsServed s
-
-record KeepsSleepers (s : LockWithSleepers) : Type 0 where
-  kept : IsKept s.lock
-  fits : (k : ℕ) (t : Thread) (u : Underway) → slice_get s.lock.threads k ≡ Some t → t.underway ≡ Some u → Fits u.call u.action
-  bounded : s.lock.words.epoch ≤ last_epoch
-  asleep : (k : ℕ) → IsTrue (is_listed k s.asleep) → Sleeper s k
-  woken : (k : ℕ) → IsTrue (is_listed k s.woken) → IsParked s.lock k
-  apart : (k : ℕ) → IsTrue (is_listed k s.woken) → is_listed k s.asleep ≡ false
-
--- what a step does to the words
-
--- the epoch stays, and the word too, or it is not free
-abbrev Moves : Words → Words → Type 0
-Moves w v = (v.epoch ≡ w.epoch) × ((v.word ≡ w.word) ⊎ (v.word ≢ 0))
-
-abbrev MovesAt : Stage → Words → Call → Words → Type 0
-MovesAt stage.Take w call v = v.epoch ≡ w.epoch
-MovesAt stage.EndEpoch w call v = Moves w v ⊎ ((w.epoch ≡ call.epoch) × (v.epoch ≡ w.epoch + 1))
-MovesAt stage.RestartEpochs w call v = v.epoch ≡ 0
-MovesAt other w call v = Moves w v
-
-after_is_taken : (word : ℕ) (want : ExWant) → word_after word want ≢ 0
-after_is_taken word want.Shared e = omega arith
-after_is_taken word want.Exclusive e = omega arith
-after_is_taken word want.Upgradable e = omega arith
-after_is_taken word want.Upgrade e = omega arith
-after_is_taken word want.Announce e = omega arith
-
-module _ (w : Words) (a : Action) where
-  leaves : LeavesWords a → Moves w (made a w)
-  leaves same = (ap (λ (x : Words). x.epoch) (same w), inl (ap (λ (x : Words). x.word) (same w)))
-
-  by_action : (b : Action) → a ≡ b → Moves w (made b w) → Moves w (made a w)
-  by_action b e moves = subst (λ x. Moves w (made x w)) (sym e) moves
-
-  exchanges : (loaded : ℕ) (want : ExWant) → a ≡ Exchange Word loaded (word_after loaded want) → Moves w (made a w)
-  exchanges loaded want e =
-      by_action (Exchange Word loaded (word_after loaded want)) e
-      (chosen (Moves w) (w.word == loaded) (with_number Word (word_after loaded want) w) w (λ hit. (refl, inr (after_is_taken loaded want)))
-      (λ miss. (refl, inl refl)))
-
-  counts : (old new : ℕ) → a ≡ Exchange Count old new → Moves w (made a w)
-  counts old new e =
-      by_action (Exchange Count old new) e
-      (chosen (Moves w) (w.count == old) (with_number Count new w) w (λ hit. (refl, inl refl)) (λ miss. (refl, inl refl)))
-
-  moves_at : (at : Stage) (call : Call) (release : Down) (v : SleeperView) → IsAt at call release v a → MovesAt at w call (made a w)
-  moves_at stage.Look call release v st = by_action (Load Word) st.2 (refl, inl refl)
-  moves_at stage.Try call release v st = exchanges call.loaded call.want st.4
-  moves_at stage.Pause call release v st = leaves (rest_leaves a st.2)
-  moves_at stage.LookToAnnounce call release v st = by_action (Load Word) st.4 (refl, inl refl)
-  moves_at stage.Announce call release v st = exchanges call.loaded want.Announce st.6
-  moves_at stage.FindCount call release v st = by_action (Load Count) st.2 (refl, inl refl)
-  moves_at stage.CountIn call release v st = counts call.loaded (call.loaded + 1) st.3
-  moves_at stage.WatchEpoch call release v st = by_action (Load Epoch) st.2 (refl, inl refl)
-  moves_at stage.LookCounted call release v st = by_action (Load Word) st.2 (refl, inl refl)
-  moves_at stage.TryCounted call release v st = exchanges call.loaded call.want st.4
-  moves_at stage.Sleep call release v st = by_action (Park call.epoch) st.4 (refl, inl refl)
-  moves_at stage.YieldCounted call release v st = by_action Yield st.2 (refl, inl refl)
-  moves_at stage.LeaveAcquired call release v st = by_action (Subtract Count 1) st.4 (refl, inl refl)
-  moves_at stage.Leave call release v st = by_action (Subtract Count 1) st.2 (refl, inl refl)
-  moves_at stage.YieldAway call release v st = by_action Yield st.2 (refl, inl refl)
-  moves_at stage.LookAgain call release v st = by_action (Load Word) st.2 (refl, inl refl)
-  moves_at stage.TryAgain call release v st = exchanges call.loaded call.want st.5
-  moves_at stage.FindEpoch call release v st = by_action (Load Epoch) st.2 (refl, inl refl)
-  moves_at stage.CloseCount call release v st = counts 0 closed_count st.2
-  moves_at stage.RestartEpochs call release v st = subst (λ x. (made x w).epoch ≡ 0) (sym st.2) refl
-  moves_at stage.OpenCount call release v st = by_action (Subtract Count closed_count) st.2 (refl, inl refl)
-  moves_at stage.Take call release v st = subst (λ x. (made x w).epoch ≡ w.epoch) (sym st.3) refl
-  moves_at stage.LookForSleepers call release v st = by_action (Load Count) st.2 (refl, inl refl)
-  moves_at stage.NoteEpoch call release v st = by_action (Load Epoch) st.2 (refl, inl refl)
-  moves_at stage.EndEpoch call release v st =
-      subst (λ x. MovesAt stage.EndEpoch w call (made x w)) (sym st.2)
-      (chosen (MovesAt stage.EndEpoch w call) (w.epoch == call.epoch) (with_number Epoch (call.epoch + 1) w) w
-      (λ hit. inr (eqb-true _ _ hit, ap (λ n. n + 1) (sym (eqb-true _ _ hit)))) (λ miss. inl (refl, inl refl)))
-  moves_at stage.Wake call release v st = leaves (same_leaves st.2 (wake_leaves call.readers (call.epoch + 1)))
-  moves_at stage.Acquired call release v st = by_action (End true) st.3 (refl, inl refl)
-  moves_at stage.Refused call release v st = by_action (End false) st.2 (refl, inl refl)
-  moves_at stage.Ended call release v st = by_action (End true) st.2 (refl, inl refl)
-
--- a thread that serves goes on to serve
-
-record Serving (epoch : ℕ) (release : Down) (next : Progress) : Type 0 where
-  going : is_over next.0.stage ≡ false
-  serves : (is_woken : Bool) → ServesAt epoch is_woken next.0.stage release next.0
-
-module _ (w : Words) (release : Down) (call : Call) (v : SleeperView) (a : Action) (told : ℕ) (one : wakes_one call ≡ true) (range : IsLimit call.readers)
-    (early : IsTrue (nat_lt w.epoch last_epoch)) (counted : w.count ≢ 0) (free : w.word ≡ 0) (shown : WordShows call.readers w.word v.state.held) where
-  abbrev Goes : Stage → Action → Type 0
-  Goes at b = Serving w.epoch release (next_at at release (answer b w told) call)
-
-  looks_for : IsTrue (has_to_wake release call) → Goes stage.LookForSleepers (Load Count)
-  looks_for has = either (w.count == 0) (has_to_wake release call) (λ e. counted (eqb-true _ _ e)) has
-    where
-      either : (none wakes : Bool) → (none ≡ true → ⊥) → IsTrue wakes
-          → Serving w.epoch release (if not none && wakes then goes_to call stage.NoteEpoch (Load Epoch) else ended true call)
-      either true wakes some h = absurd (some refl)
-      either false true some h = record { going = refl; serves = λ b. tt }
-      either false false some h = absurd (false≢true h)
-
-  notes : Goes stage.NoteEpoch (Load Epoch)
-  notes =
-      chosen (Serving w.epoch release) (nat_lt w.epoch last_epoch)
-      (goes_to (record call { epoch = w.epoch }) stage.EndEpoch (Exchange Epoch w.epoch (w.epoch + 1))) (ended true call)
-      (λ e. record { going = refl; serves = λ b. refl }) (λ late. absurd (true≢false (sym early ∙ late)))
-
-  looks_again : word_admits call.announced call.readers w.word call.want ≡ true → Goes stage.LookAgain (Load Word)
-  looks_again admits =
-      chosen (λ r. Serving w.epoch release (or_else find_epoch r)) (word_admits call.announced call.readers w.word call.want)
-      (record call { loaded = w.word; stage = stage.TryAgain }, Some (Exchange Word w.word (word_after w.word call.want))) (with_loaded call w.word, None)
-      (λ e. record { going = refl; serves = λ b. is_free b }) (λ e. absurd (true≢false (sym admits ∙ e)))
-    where
-      is_free : Bool → IsTrue (wakes_one call && (w.word == 0))
-      is_free b = rw (one, free) refl
-
-  goes_on_serving : (at : Stage) (is_woken : Bool) → IsAt at call release v a → ServesAt w.epoch is_woken at release call → wakes_at at ≡ false
-      → (made a w).word ≡ 0 → (made a w).epoch ≡ w.epoch → Goes at a
-  goes_on_serving stage.LookForSleepers is_woken st serves calm still same =
-      subst (Goes stage.LookForSleepers) (sym st.2) (looks_for serves)
-  goes_on_serving stage.NoteEpoch is_woken st serves calm still same = subst (Goes stage.NoteEpoch) (sym st.2) notes
-  goes_on_serving stage.EndEpoch is_woken st serves calm still same =
-      absurd (ends (w.epoch == call.epoch) refl (subst (λ x. (made x w).epoch ≡ w.epoch) st.2 same))
-    where
-      ends : (b : Bool) → (w.epoch == call.epoch) ≡ b → (if b then with_number Epoch (call.epoch + 1) w else w).epoch ≡ w.epoch → ⊥
-      ends true hit e = omega arith
-      ends false miss e = eqb-false _ _ miss (sym serves)
-  goes_on_serving stage.Wake is_woken st serves calm still same = absurd (true≢false calm)
-  goes_on_serving stage.Sleep is_woken st serves calm still same = record { going = refl; serves = λ b. one }
-  goes_on_serving stage.Leave is_woken st serves calm still same = record { going = refl; serves = λ b. one }
-  goes_on_serving stage.LookAgain is_woken st serves calm still same =
-      subst (Goes stage.LookAgain) (sym st.2)
-      (looks_again
-      (subst (λ n. word_admits call.announced call.readers n call.want ≡ true) (sym free)
-      (admits_free call.want call.announced call.readers v range st.0 (subst (λ n. WordShows call.readers n v.state.held) free shown))))
-  goes_on_serving stage.TryAgain is_woken st serves calm still same =
-      absurd (takes (w.word == call.loaded) refl (subst (λ x. (made x w).word ≡ 0) st.5 still))
-    where
-      takes : (b : Bool) → (w.word == call.loaded) ≡ b → (if b then with_number Word (word_after call.loaded call.want) w else w).word ≡ 0 → ⊥
-      takes true hit e = after_is_taken call.loaded call.want e
-      takes false miss e = eqb-false _ _ miss (free ∙ sym (eqb-true _ _ (and_parts _ _ serves).1))
-  goes_on_serving other is_woken st serves calm still same = absurd serves
-
--- a subtraction leaves a release to look for sleepers
-abbrev takes_at : Stage → Bool
-takes_at stage.Take = true
-takes_at other = false
-
-take_serves : (at : Stage) (release : Down) (call : Call) (found epoch : ℕ) → takes_at at ≡ true → wakes_one call ≡ true
-    → Serving epoch release (next_at at release found call)
-take_serves stage.Take release call found epoch is one = record { going = refl; serves = λ b. or_left _ _ one }
-take_serves other release call found epoch is one = absurd (false≢true is)
-
--- a call that ended an epoch wakes
-record Ended (one : Bool) (release : Down) (next : Progress) : Type 0 where
-  going : is_over next.0.stage ≡ false
-  serves : (epoch : ℕ) (is_woken : Bool) → ServesAt epoch is_woken next.0.stage release next.0
-  all : one ≡ false → next.1 ≡ WakeAll
-
-end_wakes : (at : Stage) (w : Words) (release : Down) (call : Call) (v : SleeperView) (a : Action) (told : ℕ) → ends_at at ≡ true
-    → IsAt at call release v a → w.epoch ≡ call.epoch
-    → Ended (wakes_one call && nat_lt (call.epoch + 1) last_epoch) release (next_at at release (answer a w told) call)
-end_wakes stage.EndEpoch w release call v a told is st hit =
-    subst (λ x. Ended (wakes_one call && nat_lt (call.epoch + 1) last_epoch) release (next_at stage.EndEpoch release (answer x w told) call)) (sym st.2)
-    (either (w.epoch == call.epoch) refl (wakes_one call && nat_lt (call.epoch + 1) last_epoch))
-  where
-    either : (b : Bool) → (w.epoch == call.epoch) ≡ b → (one : Bool)
-        → Ended one release (if not b then ended true call else if one then goes_to call stage.Wake WakeOne else goes_to call stage.Wake WakeAll)
-    either true same true = record { going = refl; serves = λ e b. tt; all = λ not_one. absurd (true≢false not_one) }
-    either true same false = record { going = refl; serves = λ e b. tt; all = λ not_one. refl }
-    either false other one = absurd (eqb-false _ _ other hit)
-end_wakes other w release call v a told is st hit = absurd (false≢true is)
-
--- a wake-up leaves the words
-waker_leaves : (at : Stage) (call : Call) (release : Down) (v : SleeperView) (a : Action) → wakes_at at ≡ true → IsAt at call release v a → LeavesWords a
-waker_leaves stage.Wake call release v a is st = same_leaves st.2 (wake_leaves call.readers (call.epoch + 1))
-waker_leaves other call release v a is st = absurd (false≢true is)
-
-restarter_watches : (at : Stage) (call : Call) (release : Down) (v : SleeperView) (a : Action) → at ≡ stage.RestartEpochs → IsAt at call release v a
-    → v.watch ≡ Restarts
-restarter_watches at call release v a is st = (subst (λ x. IsAt x call release v a) is st).1
-
-no_call : (u : Underway) → None ≡ Some u → Fits u.call u.action
-no_call u e = cc
+use Rattle.lock_steps.proofs.Steps.{chosen, admits_free}
 
 -- a thread of the lock, and its call
 
