@@ -1,4 +1,4 @@
-pub mod Keyed
-pub mod Owned
+pub mod OwnerTables
+pub mod OwnerCalls
 pub mod Guards
 pub mod ArcGuards

@@ -3,8 +3,8 @@
 
 mod arc;
 mod arc_guard;
-mod keyed_mutex;
 mod mapped;
+mod owner_table;
 mod raw_reentrant_mutex;
 mod reentrant_mutex;
 mod reentrant_mutex_guard;

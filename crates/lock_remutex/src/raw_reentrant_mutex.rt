@@ -1,9 +1,9 @@
-ghost use Rattle.std.specs.Prelude.{◌≡◌, ◌↔◌, true, None, IfOk, IfErr, IfSome, IsOkUnless};
+ghost use Rattle.std.specs.Prelude.{◌≡◌, ◌↔◌, true, IfOk, IfErr, IfSome, IsOkUnless};
 ghost use Rattle.lock_base.specs.Limits.{IsLimit, IsMakerFault};
 
-use crate::keyed_mutex::{KeyRule, KeyedMutex};
+use crate::owner_table::{OwnerKey, OwnerTable, TokenRule};
 use lock_base::machine::PartyId;
-use lock_base::raw::{Fault, Levels, is_limit};
+use lock_base::raw::{DEFAULT_LEVELS, Fault, is_limit};
 use lock_guard::raw::{RawMutex, RawMutexFair, RawMutexTimed};
 use std::alloc::Global;
 use std::marker::{Model, PhantomData};
@@ -15,20 +15,20 @@ pub struct OwnTokens<R> {
     raw: PhantomData<R>,
 }
 
-impl<R: RawMutex> KeyRule<Snapshot<R>, Levels<R::Guard>> for OwnTokens<R> {
-    ghost use Rattle.lock_remutex.specs.Owned.{OwnsToken};
+impl<R: RawMutex> TokenRule<Snapshot<R>, R::Guard> for OwnTokens<R> {
+    ghost use Rattle.std.specs.Prelude.{◌≡◌, true};
 
-    ghost fits = { λ key levels. OwnsToken (R.is_own key.value) levels };
+    ghost fits = { λ key token. R.is_own key.value token ≡ true };
 }
 
 /// A raw mutex that the owning party may acquire again, up to a limit of levels.
 ///
-/// The owner's token lies behind a mutex of its own, which makes the lock `Sync` for tokens that are `Send`. A lock that
-/// is dropped while owned forgets the token. Contracts see the lock as its raw lock.
+/// The owner's token lies in the slot of a table, which makes the lock `Sync` for tokens that are `Send`. A lock that is
+/// dropped while owned forgets the token. Contracts see the lock as its raw lock.
 #[derive(Drop)]
 pub struct RawReentrantMutex<R: RawMutex> {
     raw: R,
-    levels: KeyedMutex<Snapshot<R>, Levels<R::Guard>, OwnTokens<R>>,
+    owner: OwnerTable<Snapshot<R>, R::Guard, OwnTokens<R>>,
 }
 
 impl<R: RawMutex> Model for RawReentrantMutex<R> {
@@ -38,7 +38,7 @@ impl<R: RawMutex> Model for RawReentrantMutex<R> {
 
     ghost view = { λ lock. lock.raw };
 
-    ghost invariant = { λ lock. lock.levels.key.value ≡ lock.raw };
+    ghost invariant = { λ lock. lock.owner.key.raw.value ≡ lock.raw };
 }
 
 impl<R: RawMutex + Drop> RawReentrantMutex<R>
@@ -62,7 +62,7 @@ where
             return Err(Fault::BadLimits);
         }
         let raw = R::new(alloc, waiter)?;
-        RawReentrantMutex::over(alloc, raw, Levels::new(levels)?)
+        RawReentrantMutex::over(alloc, raw, levels)
     }
 
     /// Makes a lock of `DEFAULT_LEVELS` over a given raw lock. The raw lock is dropped if there is no memory.
@@ -70,19 +70,23 @@ where
         ensures fault { IsOkUnless result Fault.OutOfMemory }
         ensures raw { IfOk result (λ lock. lock ≡ raw) }
     {
-        RawReentrantMutex::over(alloc, raw, Levels::default())
+        RawReentrantMutex::over(alloc, raw, DEFAULT_LEVELS)
     }
 
-    /// Makes a lock of levels without an owner.
-    fn over(alloc: Global, raw: R, levels: Levels<R::Guard>) -> Result<Self, Fault>
-        requires { levels.owner ≡ None }
+    /// Makes a lock without an owner.
+    fn over(alloc: Global, raw: R, levels: u64) -> Result<Self, Fault>
+        requires { IsLimit levels }
         ensures fault { IsOkUnless result Fault.OutOfMemory }
         ensures raw { IfOk result (λ lock. lock ≡ raw) }
     {
-        let Ok(levels) = KeyedMutex::new(alloc, &Snapshot::of(&raw), levels) else {
+        let key = OwnerKey {
+            raw: Snapshot::of(&raw),
+            limit: levels,
+        };
+        let Ok(owner) = OwnerTable::new(alloc, &key) else {
             return Err(Fault::OutOfMemory);
         };
-        Ok(RawReentrantMutex { raw, levels })
+        Ok(RawReentrantMutex { raw, owner })
     }
 }
 
@@ -91,7 +95,7 @@ impl<R: RawMutex> RawReentrantMutex<R> {
     pub(crate) fn into_raw(self) -> R
         ensures { result ≡ self }
     {
-        let RawReentrantMutex { raw, levels: _ } = self;
+        let RawReentrantMutex { raw, owner: _ } = self;
         raw
     }
 
@@ -143,28 +147,19 @@ impl<R: RawMutex> RawReentrantMutex<R> {
 
     /// Returns whether the party owns the lock. The answer may be stale at once if other threads act for the party.
     pub fn is_owned_by_current_thread(&self, party: PartyId) -> bool {
-        let (levels, out) = self.levels.lock(self.raw.waiter());
-        let level = levels.level(party);
-        self.levels.unlock(levels, out);
-        level > 0
+        self.owner.is_owner(self.raw.waiter(), party)
     }
 
     /// Returns whether any party owns the lock. The answer may be stale at once.
     pub(crate) fn is_owned(&self) -> bool {
-        let (levels, out) = self.levels.lock(self.raw.waiter());
-        let is_owned = levels.is_owned();
-        self.levels.unlock(levels, out);
-        is_owned
+        self.owner.is_owned()
     }
 
     /// Acquires a further level if the party owns the lock, or answers false.
     fn again(&self, party: PartyId) -> Result<bool, Fault>
         ensures { IfErr result (λ fault. fault ≡ Fault.FullCount) }
     {
-        let (mut levels, out) = self.levels.lock(self.raw.waiter());
-        let answer = levels.again(party);
-        self.levels.unlock(levels, out);
-        answer
+        self.owner.again(self.raw.waiter(), party).0
     }
 
     /// Acquires the party's first level, with this token. If there is an owner it answers false and unlocks the token:
@@ -172,9 +167,7 @@ impl<R: RawMutex> RawReentrantMutex<R> {
     fn first(&self, party: PartyId, token: R::Guard) -> bool
         requires { R.is_own self.now token ≡ true }
     {
-        let (mut levels, out) = self.levels.lock(self.raw.waiter());
-        let back = levels.first(party, token);
-        self.levels.unlock(levels, out);
+        let (back, _) = self.owner.first(party, token);
         match back {
             Some(token) => {
                 self.raw.unlock(token);
@@ -199,10 +192,7 @@ impl<R: RawMutex> RawReentrantMutex<R> {
         ensures fault { IfErr result (λ fault. fault ≡ Fault.Foreign) }
         ensures own { IfOk result (λ last. IfSome last (λ token. R.is_own self.now token ≡ true)) }
     {
-        let (mut levels, out) = self.levels.lock(self.raw.waiter());
-        let answer = levels.leave(party);
-        self.levels.unlock(levels, out);
-        answer
+        self.owner.leave(self.raw.waiter(), party).0
     }
 }
 
@@ -240,10 +230,7 @@ impl<R: RawMutexFair> RawReentrantMutex<R> {
         ensures fault { IfErr result (λ fault. fault ≡ Fault.Foreign) }
         ensures own { IfOk result (λ last. IfSome last (λ token. R.is_own self.now token ≡ true)) }
     {
-        let (mut levels, out) = self.levels.lock(self.raw.waiter());
-        let answer = levels.leave_sole(party);
-        self.levels.unlock(levels, out);
-        answer
+        self.owner.leave_sole(self.raw.waiter(), party).0
     }
 
     /// `lock`, which tries again also where the party has all its levels.

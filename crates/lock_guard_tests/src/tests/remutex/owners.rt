@@ -7,7 +7,7 @@ use lock_recorder::RawCall::{Lock, TryLock, Unlock, UnlockFair};
 use lock_remutex::RawReentrantMutex;
 use lock_test_support::answer::equal;
 use lock_test_support::raw_lock::{AdmitsAll, Watch};
-use lock_test_support::two_parties;
+use lock_test_support::{party, two_parties};
 use std::alloc::Global;
 use std::clone::Clone;
 use std::sync::Wait;
@@ -63,8 +63,10 @@ fn answer<R: RawMutexFair>(
     Ok(true)
 }
 
-fn check_answers<R: RawMutexFair>(lock: &RawReentrantMutex<R>) -> Result<(), Fail> {
-    let (one, two) = two_parties()?;
+fn check_answers<R: RawMutexFair>(
+    lock: &RawReentrantMutex<R>,
+    (one, two): (PartyId, PartyId),
+) -> Result<(), Fail> {
     for (call, act, is_first, wanted, is_owned) in ANSWERED {
         let found = answer(lock, act, if is_first { one } else { two });
         let owned = lock.is_owned_by_current_thread(one);
@@ -74,10 +76,14 @@ fn check_answers<R: RawMutexFair>(lock: &RawReentrantMutex<R>) -> Result<(), Fai
 }
 
 /// Another party's token is released at once, since it came too early.
-fn check_calls<W: Wait + Clone + Drop>(alloc: Global, waiter: W) -> Result<(), Fail> {
+fn check_calls<W: Wait + Clone + Drop>(
+    alloc: Global,
+    waiter: W,
+    parties: (PartyId, PartyId),
+) -> Result<(), Fail> {
     let raw: AdmitsAll<W> = RawMutex::new(alloc, waiter)?;
     let mut watch = Watch::new(raw.log()?);
-    check_answers(&RawReentrantMutex::from_raw(alloc, raw)?)?;
+    check_answers(&RawReentrantMutex::from_raw(alloc, raw)?, parties)?;
     watch.saw(&[
         Lock(Exclusive),
         TryLock(Exclusive),
@@ -92,5 +98,18 @@ fn check_calls<W: Wait + Clone + Drop>(alloc: Global, waiter: W) -> Result<(), F
 
 #[test]
 fn a_raw_lock_that_lies_makes_no_second_owner(rt: HostRuntime) -> Result<(), Fail> {
-    check_calls(rt.alloc(), rt)
+    check_calls(rt.alloc(), rt, two_parties()?)
+}
+
+/// Ids from 2^32 on do not fit into the owner word.
+#[test]
+fn parties_of_large_ids_get_the_same_answers(rt: HostRuntime) -> Result<(), Fail> {
+    check_calls(rt.alloc(), rt, (party(1 << 32)?, party(u64::MAX)?))
+}
+
+/// A party whose id fits meets an owner whose id does not, and the other way round.
+#[test]
+fn a_large_id_and_a_small_one_get_the_same_answers(rt: HostRuntime) -> Result<(), Fail> {
+    check_calls(rt.alloc(), rt, (party(1 << 32)?, party(1)?))?;
+    check_calls(rt.alloc(), rt, (party(1)?, party(1 << 32)?))
 }

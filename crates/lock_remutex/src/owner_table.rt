@@ -1,0 +1,310 @@
+//! The owner of a reentrant lock, its levels and its token, in a table that calls compare by one load.
+mod call;
+mod large;
+mod rule;
+
+ghost use Rattle.std.specs.Prelude.{◌≡◌, ◌≢◌, ◌<◌, ℕ, IfOk, IfErr, IfSome};
+ghost use Rattle.lock_base.specs.Limits.{IsLimit};
+ghost use Rattle.lock_base.specs.Levels.{Levels, GivesTokenBack};
+ghost use Rattle.lock_base.specs.Party.{id_of};
+ghost use Rattle.lock_remutex.specs.declared.owner_table.rule.OwnerStep.TheVariants.{Saw, Made};
+ghost use Rattle.lock_remutex.specs.OwnerTables.{party_in, count_in, owned_at, made_by, IsAtHome, IsWord};
+ghost use Rattle.lock_remutex.specs.OwnerCalls.{Again, First, Leaves, LeavesSole, IsTaken};
+
+use atomic_table::{Refused, Table};
+pub use call::Call;
+use call::Section;
+use lock_base::machine::PartyId;
+use lock_base::raw::{Fault, Levels};
+use lock_guard::forget;
+pub use rule::{OwnerKey, OwnerRule, OwnerView, TokenRule};
+use rule::{Look, Put, Recount, Take};
+use std::alloc::{AllocError, AllocFailed, Global};
+use std::marker::Model;
+use std::sync::Wait;
+
+/// The index of the owner word.
+///
+/// The word is `FREE`, `BUSY`, `LARGE`, or the owner's id in its high half and the number of its levels in its low half.
+const OWNER: usize = 0;
+
+/// The index of the large id, a hint: the last id that did not fit into the owner word.
+const LARGE_ID: usize = 1;
+
+/// The owner word while there is no owner.
+const FREE: u64 = 0;
+
+/// The owner word while a call has taken the levels.
+const BUSY: u64 = 1;
+
+/// The owner word while the owner's id does not fit into it.
+const LARGE: u64 = 2;
+
+/// The owner word of the party 1 at no level. Ids fit into the owner word below it.
+const PARTY: u64 = 1 << 32;
+
+/// The owner of a reentrant lock, its levels and its token.
+///
+/// The owner word names the owner and counts its levels, so a further level is one load and one exchange. No call
+/// blocks. A call that makes an owner, or takes the last level, takes the levels from the slot and puts them back. Of
+/// the calls of an owner whose id does not fit, each does.
+pub struct OwnerTable<K, T, P: TokenRule<K, T>> {
+    table: Table<Option<Levels<T>>, OwnerView<K, T>, OwnerKey<K>, OwnerRule<P>, Global>,
+    limit: u64,
+}
+
+impl<K, T, P: TokenRule<K, T>> Model for OwnerTable<K, T, P> {
+    ghost use Rattle.std.specs.Prelude.{◌≡◌};
+    ghost use Rattle.lock_base.specs.Limits.{IsLimit};
+    ghost use Rattle.lock_remutex.specs.OwnerTables.{TableView};
+
+    ghost Value = { TableView K };
+
+    ghost view = { λ t. record { id = t.table.shared.table_id; key = t.table.shared.key } };
+
+    ghost invariant = { λ t. (t.table.shared.table_id.words ≡ 2) × (t.table.shared.table_id.slots ≡ 1)
+        × (t.limit ≡ t.table.shared.key.limit) × IsLimit t.limit };
+}
+
+impl<K, T, P: TokenRule<K, T>> OwnerTable<K, T, P> {
+    /// Makes a table without an owner.
+    pub fn new(alloc: Global, key: &OwnerKey<K>) -> Result<OwnerTable<K, T, P>, AllocError>
+        requires { IsLimit key.now.limit }
+        ensures { IfOk result (λ made. made.key ≡ key.now) }
+    {
+        let Ok(levels) = Levels::new(key.limit) else {
+            unreachable!()
+        };
+        let mut slots = Vec::new(alloc);
+        match slots.push(Some(levels)) {
+            Ok(()) => {}
+            Err(AllocFailed { value }) => {
+                forget(value);
+                slots.destroy_empty();
+                return Err(AllocError);
+            }
+        }
+        match Table::new(alloc, &[FREE, 0], slots, key) {
+            Ok((table, _)) => Ok(OwnerTable {
+                table,
+                limit: key.limit,
+            }),
+            Err(Refused { mut slots }) => {
+                forget(slots.pop());
+                slots.destroy_empty();
+                Err(AllocError)
+            }
+        }
+    }
+
+    /// Adds a level if the party is the owner, or answers false.
+    ///
+    /// # Errors
+    ///
+    /// `FullCount` if the owner has as many levels as the limit.
+    pub fn again<W: Wait>(&self, rt: &W, party: PartyId) -> (Result<bool, Fault>, Call<K, T>)
+        ensures table { result.1.table ≡ self.now }
+        ensures did { Again self.now.key.limit (id_of party) result.0 result.1.step }
+    {
+        let id = party.get();
+        if id >= PARTY {
+            return self.again_large(rt, party);
+        }
+        for _ in rt.forever() {
+            let (word, call) = self.look();
+            if word / PARTY != id {
+                return (Ok(false), call);
+            }
+            if word % PARTY == self.limit {
+                return (Err(Fault::FullCount), call);
+            }
+            if let Ok(call) = self.recount(call, word, word + 1) {
+                return (Ok(true), call);
+            }
+        }
+        unreachable!()
+    }
+
+    /// Makes the party the owner at level 1, or returns the token if there is an owner.
+    pub fn first(&self, party: PartyId, token: T) -> (Option<T>, Call<K, T>)
+        requires { P.fits self.now.key.raw token }
+        ensures table { result.1.table ≡ self.now }
+        ensures did { First (id_of party) token result.0 result.1.step }
+    {
+        let (_, call) = self.look();
+        let (mut levels, mut section) = match self.take(call, FREE) {
+            Ok(taken) => taken,
+            Err(call) => return (Some(token), call),
+        };
+        let back = levels.first(party, token);
+        let word = self.word_of(&mut section, party);
+        (back, self.put(word, levels, section))
+    }
+
+    /// Removes one level of the owner, and returns the token with the last level.
+    ///
+    /// # Errors
+    ///
+    /// `Foreign` if the party is not the owner.
+    pub fn leave<W: Wait>(&self, rt: &W, party: PartyId) -> (Result<Option<T>, Fault>, Call<K, T>)
+        ensures table { result.1.table ≡ self.now }
+        ensures did { Leaves (id_of party) result.0 result.1.step }
+        ensures fits { IfOk result.0 (λ last. IfSome last (P.fits self.now.key.raw)) }
+    {
+        let id = party.get();
+        if id >= PARTY {
+            return self.leave_large(rt, party);
+        }
+        for _ in rt.forever() {
+            let (word, call) = self.look();
+            if word / PARTY != id {
+                return (Err(Fault::Foreign), call);
+            }
+            if word % PARTY > 1 {
+                if let Ok(call) = self.recount(call, word, word - 1) {
+                    return (Ok(None), call);
+                }
+            } else if let Ok((token, call)) = self.leave_last(call, party, word) {
+                return (Ok(Some(token)), call);
+            }
+        }
+        unreachable!()
+    }
+
+    /// `leave` if the party has one level. With more levels it changes nothing.
+    pub fn leave_sole<W: Wait>(
+        &self,
+        rt: &W,
+        party: PartyId,
+    ) -> (Result<Option<T>, Fault>, Call<K, T>)
+        ensures table { result.1.table ≡ self.now }
+        ensures did { LeavesSole (id_of party) result.0 result.1.step }
+        ensures fits { IfOk result.0 (λ last. IfSome last (P.fits self.now.key.raw)) }
+    {
+        let id = party.get();
+        if id >= PARTY {
+            return self.leave_sole_large(rt, party);
+        }
+        for _ in rt.forever() {
+            let (word, call) = self.look();
+            if word / PARTY != id {
+                return (Err(Fault::Foreign), call);
+            }
+            if word % PARTY > 1 {
+                return (Ok(None), call);
+            }
+            if let Ok((token, call)) = self.leave_last(call, party, word) {
+                return (Ok(Some(token)), call);
+            }
+        }
+        unreachable!()
+    }
+
+    /// Returns whether the party is the owner. The answer may be stale at once if other threads act for the party.
+    pub fn is_owner<W: Wait>(&self, rt: &W, party: PartyId) -> bool {
+        let id = party.get();
+        if id >= PARTY {
+            return self.is_large_owner(rt, party);
+        }
+        self.table.shared.peek(OWNER) / PARTY == id
+    }
+
+    /// Returns whether there is an owner, or a call is about to make one. The answer may be stale at once.
+    pub fn is_owned(&self) -> bool {
+        self.table.shared.peek(OWNER) != FREE
+    }
+
+    /// Begins a call by a load of the owner word.
+    fn look(&self) -> (u64, Call<K, T>)
+        ensures table { result.1.table ≡ self.now }
+        ensures step { result.1.step ≡ Saw result.0 }
+        ensures word { IsWord self.now.key.limit result.0 }
+        ensures limit { IsLimit self.now.key.limit }
+    {
+        let (word, seat) = self.table.shared.load_new_seat::<Look>(OWNER);
+        (word, Call { seat })
+    }
+
+    /// Exchanges the word for one that names the same owner at other levels, or ends if the word has changed.
+    fn recount(&self, call: Call<K, T>, word: u64, next: u64) -> Result<Call<K, T>, ()>
+        requires table { call.table ≡ self.now }
+        requires named { (0 < party_in word) × (party_in next ≡ party_in word) }
+        requires word { IsWord self.now.key.limit word }
+        requires next { IsWord self.now.key.limit next }
+        ensures table { IfOk result (λ call. call.table ≡ self.now) }
+        ensures made { IfOk result (λ call. (token : T) × (call.step ≡ Made
+            (owned_at self.now.key.limit (party_in word) (count_in word) token)
+            (owned_at self.now.key.limit (party_in word) (count_in next) token))) }
+    {
+        let Call { mut seat } = call;
+        let shared = &self.table.shared;
+        if shared.compare_exchange::<Recount>(&mut seat, OWNER, word, next) != word {
+            return Err(());
+        }
+        Ok(Call { seat })
+    }
+
+    /// Takes the levels by an exchange of this word, or returns the call that found another word.
+    fn take(&self, call: Call<K, T>, word: u64) -> Result<(Levels<T>, Section<K, T>), Call<K, T>>
+        requires table { call.table ≡ self.now }
+        requires idle { word ≢ 1 }
+        ensures taken { IfOk result (λ taken. IsTaken P.fits self.now word taken.0 taken.1) }
+        ensures table { IfErr result (λ call. call.table ≡ self.now) }
+        ensures saw { IfErr result (λ call. (found : ℕ) × (call.step ≡ Saw found) × (found ≢ word)) }
+    {
+        let Call { mut seat } = call;
+        let shared = &self.table.shared;
+        if shared.compare_exchange::<Take<P>>(&mut seat, OWNER, word, BUSY) != word {
+            return Err(Call { seat });
+        }
+        match shared.exchange(&mut seat, 0, None) {
+            Some(levels) => Ok((levels, Section { seat })),
+            None => unreachable!(),
+        }
+    }
+
+    /// Puts the levels back, at this word.
+    fn put(&self, word: u64, levels: Levels<T>, section: Section<K, T>) -> Call<K, T>
+        requires table { section.table ≡ self.now }
+        requires idle { word ≢ 1 }
+        requires home { IsAtHome (P.fits self.now.key.raw) self.now.key.limit word levels }
+        ensures table { result.table ≡ self.now }
+        ensures step { result.step ≡ made_by section.step levels }
+    {
+        let Section { mut seat } = section;
+        match self.table.shared.exchange(&mut seat, 0, Some(levels)) {
+            None => {}
+            Some(_levels) => unreachable!(),
+        }
+        self.table.shared.swap::<Put>(&mut seat, OWNER, word);
+        Call { seat }
+    }
+
+    /// Takes the only level of the owner that this word names, or ends if the word has changed.
+    fn leave_last(&self, call: Call<K, T>, party: PartyId, word: u64) -> Result<(T, Call<K, T>), ()>
+        requires table { call.table ≡ self.now }
+        requires sole { (0 < id_of party) × (party_in word ≡ id_of party) × (count_in word ≡ 1) }
+        ensures table { IfOk result (λ left. left.1.table ≡ self.now) }
+        ensures did { IfOk result (λ left. (old : Levels T) × (new : Levels T)
+            × (left.1.step ≡ Made old new) × GivesTokenBack old new (id_of party) left.0) }
+        ensures fits { IfOk result (λ left. P.fits self.now.key.raw left.0) }
+    {
+        let Ok((mut levels, section)) = self.take(call, word) else {
+            return Err(());
+        };
+        match levels.leave(party) {
+            Ok(Some(token)) => Ok((token, self.put(FREE, levels, section))),
+            Ok(None) | Err(_) => unreachable!(),
+        }
+    }
+}
+
+impl<K, T, P: TokenRule<K, T>> Drop for OwnerTable<K, T, P> {
+    /// Forgets the levels, whose token need not be `Drop`.
+    fn drop(self) {
+        let OwnerTable { table, limit: _ } = self;
+        let mut closed = table.close();
+        forget(closed.take(0));
+        closed.free();
+    }
+}

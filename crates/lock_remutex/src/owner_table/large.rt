@@ -1,0 +1,149 @@
+//! The calls of a party whose id does not fit into the owner word. Each takes the levels.
+ghost use Rattle.std.specs.Prelude.{ℕ, ◌≡◌, ◌≢◌, ◌<◌, ◌≤◌, ◌^◌, IfOk, IfErr, IfSome};
+ghost use Rattle.lock_base.specs.Party.{id_of};
+ghost use Rattle.lock_remutex.specs.declared.owner_table.rule.OwnerStep.TheVariants.{Saw};
+ghost use Rattle.lock_remutex.specs.OwnerTables.{party_in, word_at, made_by, IsLarge};
+ghost use Rattle.lock_remutex.specs.OwnerCalls.{Again, Leaves, LeavesSole, IsTaken};
+
+use crate::owner_table::call::{Call, Section};
+use crate::owner_table::rule::{Hint, TokenRule};
+use crate::owner_table::{BUSY, FREE, LARGE, LARGE_ID, OWNER, OwnerTable, PARTY};
+use lock_base::machine::PartyId;
+use lock_base::raw::{Fault, Levels};
+use std::sync::Wait;
+use std::thread;
+
+impl<K, T, P: TokenRule<K, T>> OwnerTable<K, T, P> {
+    /// `again`, by a large id.
+    #[cold]
+    #[inline(never)]
+    pub(super) fn again_large<W: Wait>(
+        &self,
+        rt: &W,
+        party: PartyId,
+    ) -> (Result<bool, Fault>, Call<K, T>)
+        requires { 2 ^ 32 ≤ id_of party }
+        ensures table { result.1.table ≡ self.now }
+        ensures did { Again self.now.key.limit (id_of party) result.0 result.1.step }
+    {
+        let (mut levels, section) = match self.enter_large(rt, party) {
+            Ok(taken) => taken,
+            Err(call) => return (Ok(false), call),
+        };
+        let answer = levels.again(party);
+        (answer, self.put_large(levels, section))
+    }
+
+    /// `leave`, by a large id.
+    #[cold]
+    #[inline(never)]
+    pub(super) fn leave_large<W: Wait>(
+        &self,
+        rt: &W,
+        party: PartyId,
+    ) -> (Result<Option<T>, Fault>, Call<K, T>)
+        requires { 2 ^ 32 ≤ id_of party }
+        ensures table { result.1.table ≡ self.now }
+        ensures did { Leaves (id_of party) result.0 result.1.step }
+        ensures fits { IfOk result.0 (λ last. IfSome last (P.fits self.now.key.raw)) }
+    {
+        let (mut levels, section) = match self.enter_large(rt, party) {
+            Ok(taken) => taken,
+            Err(call) => return (Err(Fault::Foreign), call),
+        };
+        let answer = levels.leave(party);
+        (answer, self.put_large(levels, section))
+    }
+
+    /// `leave_sole`, by a large id.
+    #[cold]
+    #[inline(never)]
+    pub(super) fn leave_sole_large<W: Wait>(
+        &self,
+        rt: &W,
+        party: PartyId,
+    ) -> (Result<Option<T>, Fault>, Call<K, T>)
+        requires { 2 ^ 32 ≤ id_of party }
+        ensures table { result.1.table ≡ self.now }
+        ensures did { LeavesSole (id_of party) result.0 result.1.step }
+        ensures fits { IfOk result.0 (λ last. IfSome last (P.fits self.now.key.raw)) }
+    {
+        let (mut levels, section) = match self.enter_large(rt, party) {
+            Ok(taken) => taken,
+            Err(call) => return (Err(Fault::Foreign), call),
+        };
+        let answer = levels.leave_sole(party);
+        (answer, self.put_large(levels, section))
+    }
+
+    /// `is_owner`, of a large id.
+    #[cold]
+    #[inline(never)]
+    pub(super) fn is_large_owner<W: Wait>(&self, rt: &W, party: PartyId) -> bool
+        requires { 2 ^ 32 ≤ id_of party }
+    {
+        let (levels, section) = match self.enter_large(rt, party) {
+            Ok(taken) => taken,
+            Err(_) => return false,
+        };
+        let level = levels.level(party);
+        self.put_large(levels, section);
+        level > 0
+    }
+
+    /// Returns the owner word of the party at level 1. A large id goes into the hint.
+    pub(super) fn word_of(&self, section: &mut Section<K, T>, party: PartyId) -> u64
+        requires { section.old.table ≡ self.now }
+        ensures section { section.new ≡ section.old }
+        ensures named { id_of party < 2 ^ 32 → result ≡ word_at (id_of party) 1 }
+        ensures large { 2 ^ 32 ≤ id_of party → result ≡ 2 }
+    {
+        let id = party.get();
+        if id < PARTY {
+            return id * PARTY + 1;
+        }
+        let seat = &mut section.seat;
+        self.table.shared.store::<Hint>(seat, LARGE_ID, id);
+        LARGE
+    }
+
+    /// Takes the levels if the party may be the owner, and otherwise returns the call that found that it is not.
+    ///
+    /// A party that owns the lock can find the levels taken by another of its threads. It waits until they are back.
+    fn enter_large<W: Wait>(
+        &self,
+        rt: &W,
+        party: PartyId,
+    ) -> Result<(Levels<T>, Section<K, T>), Call<K, T>>
+        requires { 2 ^ 32 ≤ id_of party }
+        ensures taken { IfOk result (λ taken. IsTaken P.fits self.now 2 taken.0 taken.1) }
+        ensures table { IfErr result (λ call. call.table ≡ self.now) }
+        ensures saw { IfErr result (λ call. (found : ℕ) × (call.step ≡ Saw found) × (party_in found ≢ id_of party)) }
+    {
+        for _ in rt.forever() {
+            let (word, call) = self.look();
+            let is_settled = word == FREE || word > LARGE;
+            if is_settled || self.table.shared.peek(LARGE_ID) != party.get() {
+                return Err(call);
+            }
+            if word == LARGE {
+                if let Ok(taken) = self.take(call, LARGE) {
+                    return Ok(taken);
+                }
+            }
+            thread::yield_now();
+        }
+        unreachable!()
+    }
+
+    /// Puts the levels back, which have no owner or one with a large id.
+    fn put_large(&self, levels: Levels<T>, section: Section<K, T>) -> Call<K, T>
+        requires table { section.table ≡ self.now }
+        requires large { IsLarge (P.fits self.now.key.raw) self.now.key.limit levels }
+        ensures table { result.table ≡ self.now }
+        ensures step { result.step ≡ made_by section.step levels }
+    {
+        let word = if levels.is_owned() { LARGE } else { FREE };
+        self.put(word, levels, section)
+    }
+}
