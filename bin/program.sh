@@ -40,8 +40,8 @@ case $bytes in
     0 | [1-9]*) [ -n "${bytes##*[!0-9]*}" ] && [ "$bytes" != "$words" ] && words="${words%"$bytes"}N" ;;
 esac
 case "$name:$#:$words" in
-    lockreplay:1:table | lockreplay:1:word | lockreplay:1:steps | lockexplore:0: | lockexplore:1:lanes | lockexplore:1:svg) ;;
-    'lockexplore:2:--memory N' | 'lockexplore:3:lanes --memory N' | 'lockexplore:3:svg --memory N') ;;
+    lockreplay:1:table | lockreplay:1:word | lockreplay:1:steps | lockexplore:0: | lockexplore:1:lanes | lockexplore:1:svg | lockexplore:1:order) ;;
+    'lockexplore:2:--memory N' | 'lockexplore:3:lanes --memory N' | 'lockexplore:3:svg --memory N' | 'lockexplore:3:order --memory N') ;;
     lockexplore:1:-h | lockexplore:1:--help)
         usage
         echo

@@ -112,6 +112,10 @@ class Plan(NamedTuple):
     def number_of(self, name):
         return [it.name for it in self.parties].index(name)
 
+    def is_any_number(self):
+        """Whether a party stands for any number."""
+        return any(it.name.endswith("*") for it in self.parties)
+
     def is_started(self, party):
         """Whether a line starts the party."""
         return any(it.word == "start" and it.name == party.name for it in self.mentions)
@@ -144,9 +148,15 @@ def read_plan(text):
             raise Fault(f"line {mention.number}: unknown party")
     for party in plan.parties:
         party.program.extend(places(party.lines))
+    for party in plan.parties:
+        holds_by_place(plan, party)
+    return plan
+
+
+def check_states(plan):
+    """Makes a fault of a plan with too many states to search."""
     if math.prod(points(plan, party) for party in plan.parties) * 2 ** len(plan.flags) > MOST_NUMBERED:
         raise Fault("too many states")
-    return plan
 
 
 def read_line(plan, number, fields):
@@ -250,9 +260,14 @@ def add_line(plan, line):
 
 
 def read_parties(plan, line, rest):
-    """Adds a party, or as many copies of one as the field after its name says, and returns whether the line is right."""
+    """Adds a party, or as many copies of one as the field after its name says, and returns whether the line is right.
+
+    A `*` stands for any number, of which the plan has one party.
+    """
     if not rest:
         names = [line.name]
+    elif rest == ["*"]:
+        names = [f"{line.name}.*"]
     elif len(rest) == 1 and LIMIT.fullmatch(rest[0].encode("latin-1")) and int(rest[0]) <= MOST_COPIES:
         names = [f"{line.name}.{copy}" for copy in range(1, int(rest[0]) + 1)]
     else:

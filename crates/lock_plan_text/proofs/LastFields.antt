@@ -7,9 +7,11 @@ use Rattle.lock_base.specs.declared.machine.kind.Kind.{Kind}
 use Rattle.lock_base.specs.declared.machine.kind.Kind.TheVariants.{Mutex, RwLock, Reentrant}
 use Rattle.lock_script.specs.Lines.{fields_of}
 use Rattle.lock_script.proofs.NumberTexts.{line-one_field}
+use Rattle.lock_plan_text.specs.declared.parser.plan_line.Parties.{Parties}
+use Rattle.lock_plan_text.specs.declared.parser.plan_line.Parties.TheVariants.{One, Copies, Any}
 use Rattle.lock_plan_text.specs.declared.parser.plan_line.PlanLine.{PlanLine}
 use Rattle.lock_plan_text.specs.declared.parser.plan_line.PlanLine.TheVariants.{Lock, Party}
-use Rattle.lock_plan_text.specs.PlanLines.{IsCount, IsPlanLine, kind_word, last_fields, limit_fields, line_word, party_word}
+use Rattle.lock_plan_text.specs.PlanLines.{IsCopies, IsCount, IsPlanLine, copy_fields, kind_word, last_fields, limit_fields, line_word, party_word}
 
 -- each text has a field
 pub has_field : (text : List ℕ) → [] ≡ fields_of text → ⊥
@@ -47,13 +49,19 @@ no_lock_line last RwLock limit bar false same is = false≢true (ap (λ word. by
 no_lock_line last Reentrant limit bar true same is = false≢true (ap (λ word. bytes_eq word (codes "server")) same)
 no_lock_line last Reentrant limit bar false same is = false≢true (ap (λ word. bytes_eq word (codes "party")) same)
 
--- a line of a party with a field after the name has copies
-pub copies_line : (last : List ℕ) → ((count : ℕ) → IsCount count → decimal count ∷ [] ≡ fields_of last → ⊥)
+-- a line of parties with a field after the name says how many there are
+pub copies_line : (last : List ℕ) → ((parties : Parties) → IsCopies parties → copy_fields parties ≡ fields_of last → ⊥)
     → (serves : Bool) (line : PlanLine) → IsPlanLine line → line_word line ≡ party_word serves → last_fields line ≡ fields_of last → ⊥
 copies_line last none serves (Lock lock) ok same is = no_lock_line last lock.kind lock.limit lock.bar serves same is
-copies_line last none serves (Party any None) ok same is = has_field last is
-copies_line last none serves (Party any (Some count)) ok same is = none count ok is
+copies_line last none serves (Party any parties) ok same is = none parties ok is
 copies_line last none serves line ok same is = has_field last is
+
+-- a field that is no count and no `*` says of no line how many parties there are
+pub no_parties : (last : List ℕ) → (last ≡ codes "*" → ⊥) → ((count : ℕ) → IsCount count → decimal count ∷ [] ≡ fields_of last → ⊥)
+    → (parties : Parties) → IsCopies parties → copy_fields parties ≡ fields_of last → ⊥
+no_parties last differs none One ok is = has_field last is
+no_parties last differs none (Copies count) ok is = none count ok is
+no_parties last differs none Any ok is = differs (sym (line-one_field last (codes "*") (sym is)))
 
 -- what always holds, holds of no value
 pub if_any : {A : Type 0} (o : Option A) (X : Type 0) → X → IfNone o X

@@ -1,4 +1,5 @@
 mod AlikeParties
+mod Appended
 mod CopyNames
 mod DraftCopies
 mod FaultPlaces
@@ -18,3 +19,4 @@ mod Rows
 mod SameLines
 mod Ties
 mod Unknowns
+pub mod DraftFaults

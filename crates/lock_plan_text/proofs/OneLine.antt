@@ -1,8 +1,8 @@
 -- Two lines with the same fields are the same.
-use Rattle.std.proofs.Common.{◌≡◌, ℕ, Bool, true, false, ◌&&◌, List, [], ◌∷◌, get_or, Option, Some, None, cond, codes, decimal, refl, ap, sym, ◌∙◌, arith}
+use Rattle.std.proofs.Common.{◌≡◌, ℕ, ◌<◌, ◌^◌, Bool, true, false, ◌&&◌, List, [], ◌∷◌, get_or, Option, Some, None, cond, codes, decimal, refl, ap, sym, ◌∙◌, arith}
 use Rattle.std.specs.Prelude.{bytes_eq}
 use Rattle.std.proofs.lemmas.Bool.{false≢true}
-use Rattle.std.proofs.lemmas.Fmt.{decimal_injective}
+use Rattle.std.proofs.lemmas.Fmt.{decimal_injective, first_decimal}
 use Rattle.lock_base.specs.declared.machine.kind.Kind.{Kind}
 use Rattle.lock_base.specs.declared.machine.kind.Kind.TheVariants.{Mutex, RwLock, Reentrant}
 use Rattle.lock_base.specs.declared.machine.mode.Mode.TheVariants.{Shared, Exclusive, Upgradable}
@@ -13,6 +13,8 @@ use Rattle.lock_base.specs.Modes.{is_move}
 use Rattle.lock_plan_text.specs.Words.{step_word}
 use Rattle.lock_plan_text.specs.declared.parser.block_line.BlockWord.{BlockWord}
 use Rattle.lock_plan_text.specs.declared.parser.block_line.BlockWord.TheVariants as block
+use Rattle.lock_plan_text.specs.declared.parser.plan_line.Parties.{Parties}
+use Rattle.lock_plan_text.specs.declared.parser.plan_line.Parties.TheVariants as parties
 use Rattle.lock_plan_text.specs.declared.parser.plan_line.PlanLine.{PlanLine}
 use Rattle.lock_plan_text.specs.declared.parser.named_word.NamedWord.{NamedWord}
 use Rattle.lock_plan_text.specs.declared.parser.named_word.NamedWord.TheVariants as named
@@ -29,7 +31,7 @@ of_kind kind = Lock (record { kind = kind; limit = 0; bar = false })
 
 abbrev bare : PlanLine → PlanLine
 bare (Lock lock) = of_kind lock.kind
-bare (Party serves copies) = Party serves None
+bare (Party serves copies) = Party serves parties.One
 bare (Call is_rwlock step) = Call is_rwlock step
 bare (Named word) = Named word
 
@@ -39,8 +41,8 @@ by_word word =
     cond (bytes_eq word (codes "mutex")) (Some (of_kind Mutex))
     (cond (bytes_eq word (codes "rwlock")) (Some (of_kind RwLock))
     (cond (bytes_eq word (codes "reentrant")) (Some (of_kind Reentrant))
-    (cond (bytes_eq word (codes "party")) (Some (Party false None))
-    (cond (bytes_eq word (codes "server")) (Some (Party true None))
+    (cond (bytes_eq word (codes "party")) (Some (Party false parties.One))
+    (cond (bytes_eq word (codes "server")) (Some (Party true parties.One))
     (cond (bytes_eq word (codes "lock")) (Some (Call false (Modes (Acquire Exclusive))))
     (cond (bytes_eq word (codes "unlock")) (Some (Call false (Modes (Release Exclusive))))
     (cond (bytes_eq word (codes "read")) (Some (Call true (Modes (Acquire Shared))))
@@ -104,7 +106,7 @@ unfolding by_word
 named_by_word named.Flag = refl
 named_by_word word = refl
 
-party_by_word : (serves : Bool) → by_word (party_word serves) ≡ Some (Party serves None)
+party_by_word : (serves : Bool) → by_word (party_word serves) ≡ Some (Party serves parties.One)
 unfolding by_word
 party_by_word false = refl
 party_by_word true = refl
@@ -145,15 +147,26 @@ abbrev serves_of : PlanLine → Bool
 serves_of (Party serves copies) = serves
 serves_of line = false
 
-same_copies : (serves : Bool) (copies other : Option ℕ) → IsCopies copies → IsCopies other → copy_fields copies ≡ copy_fields other
+-- a number's text begins with a digit
+no_star : (count : ℕ) → 0 < count → count < 2 ^ 64 → decimal count ≡ codes "*" → ⊥
+no_star count some less is =
+    let first = first_decimal count some less in
+    let star : get_or (decimal count) 0 0 ≡ 42 = ap (λ (text : List ℕ). get_or text 0 0) is in
+    omega (arith, first, star)
+
+same_copies : (serves : Bool) (copies other : Parties) → IsCopies copies → IsCopies other → copy_fields copies ≡ copy_fields other
     → Party serves copies ≡ Party serves other
-same_copies serves None None ok good same = refl
-same_copies serves None (Some other) ok good same = cc
-same_copies serves (Some count) None ok good same = cc
-same_copies serves (Some count) (Some other) ok good same =
+same_copies serves parties.One parties.One ok good same = refl
+same_copies serves parties.Any parties.Any ok good same = refl
+same_copies serves (parties.Copies count) parties.Any ok good same =
+    let text : decimal count ≡ codes "*" = cc in absurd (no_star count ok.0 (omega (arith, ok.1)) text)
+same_copies serves parties.Any (parties.Copies count) ok good same =
+    let text : codes "*" ≡ decimal count = cc in absurd (no_star count good.0 (omega (arith, good.1)) (sym text))
+same_copies serves (parties.Copies count) (parties.Copies other) ok good same =
     let text : decimal count ≡ decimal other = cc in
     let counts : count ≡ other = decimal_injective count other (omega (arith, ok.1)) (omega (arith, good.1)) text in
-    ap (λ (n : ℕ). Party serves (Some n)) counts
+    ap (λ (n : ℕ). Party serves (parties.Copies n)) counts
+same_copies serves copies other ok good same = cc
 
 same_lines : (line other : PlanLine) → bare line ≡ bare other → IsPlanLine line → IsPlanLine other → last_fields line ≡ last_fields other → line ≡ other
 same_lines (Lock lock) (Lock other) is ok good same =

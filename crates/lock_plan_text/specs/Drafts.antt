@@ -20,6 +20,8 @@ use Rattle.lock_plan_text.specs.declared.parser.named_word.NamedWord.{NamedWord}
 use Rattle.lock_plan_text.specs.declared.parser.named_word.NamedWord.TheVariants.{Flag, Condvar, Set, Clear, If, NotifyOne, NotifyAll, Start, Join}
 use Rattle.lock_plan_text.specs.declared.parser.open_block.OpenBlock.{OpenBlock}
 use Rattle.lock_plan_text.specs.declared.parser.plain_line.PlainLine.TheVariants as plain
+use Rattle.lock_plan_text.specs.declared.parser.plan_line.Parties.{Parties}
+use Rattle.lock_plan_text.specs.declared.parser.plan_line.Parties.TheVariants.{One, Copies, Any}
 use Rattle.lock_plan_text.specs.declared.parser.plan_line.PlanLine.TheVariants.{Lock, Party, Call, Named}
 use Rattle.lock_plan_text.specs.declared.parser.text_line.TextLine.{TextLine}
 use Rattle.lock_plan_text.specs.declared.parser.text_line.TextLine.TheVariants.{Plan, Try, Word, Wait}
@@ -151,9 +153,14 @@ abbrev pub copy_names : List ℕ → ℕ → ℕ → List (List ℕ)
 copy_names name done zero = []
 copy_names name done (suc left) = copy_name name (done + 1) ∷ copy_names name (done + 1) left
 
-abbrev pub party_names : List ℕ → Option ℕ → List (List ℕ)
-party_names name None = name ∷ []
-party_names name (Some count) = copy_names name 0 count
+-- the name of a party that stands for any number
+abbrev pub any_name : List ℕ → List ℕ
+any_name name = name ++ codes ".*"
+
+abbrev pub party_names : List ℕ → Parties → List (List ℕ)
+party_names name One = name ∷ []
+party_names name (Copies count) = copy_names name 0 count
+party_names name Any = any_name name ∷ []
 
 -- the call with this word on the lock with this number, and on the lock of this name
 abbrev pub call_on : Draft → Bool → LockStep → ℕ → PlanCall

@@ -8,6 +8,7 @@ pub mod PartyLines
 pub mod Copies
 pub mod PlanFaults
 pub mod Drafted
+pub mod Texts
 pub mod Meanings
 pub mod CallOrigins
 pub mod FaultLines
@@ -17,3 +18,4 @@ pub mod Steps
 pub mod Stops
 pub mod Answers
 pub mod Lanes
+pub mod Orders

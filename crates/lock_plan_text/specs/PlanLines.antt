@@ -1,5 +1,5 @@
 -- The lines of a plan: each is given by the fields that it prints as.
-use Rattle.std.specs.Prelude.{◌≡◌, ℕ, ◌<◌, ◌≤◌, Option, Some, None, Bool, true, false, ◌&&◌, ◌||◌, ◌==◌, nat_lt, IsTrue, List, [], ◌∷◌, length, codes, decimal, if◌then◌else◌}
+use Rattle.std.specs.Prelude.{◌≡◌, ℕ, ◌<◌, ◌≤◌, Bool, true, false, ◌&&◌, ◌||◌, ◌==◌, nat_lt, IsTrue, List, [], ◌∷◌, length, codes, decimal, if◌then◌else◌}
 use Rattle.std.specs.Bool.{⊤}
 use Rattle.std.specs.Char.{is_ascii_alphanumeric}
 use Rattle.std.specs.List.{list_all}
@@ -18,6 +18,8 @@ use Rattle.lock_plan_text.specs.declared.parser.block_line.BlockWord.TheVariants
 use Rattle.lock_plan_text.specs.declared.parser.line_names.LineNames.{LineNames}
 use Rattle.lock_plan_text.specs.declared.parser.named_word.NamedWord.{NamedWord}
 use Rattle.lock_plan_text.specs.declared.parser.named_word.NamedWord.TheVariants.{Flag, Condvar, Set, Clear, If, NotifyOne, NotifyAll, Start, Join}
+use Rattle.lock_plan_text.specs.declared.parser.plan_line.Parties.{Parties}
+use Rattle.lock_plan_text.specs.declared.parser.plan_line.Parties.TheVariants.{One, Copies, Any}
 use Rattle.lock_plan_text.specs.declared.parser.plan_line.PlanLine.{PlanLine}
 use Rattle.lock_plan_text.specs.declared.parser.plan_line.PlanLine.TheVariants.{Lock, Party, Call, Named}
 use Rattle.lock_plan_text.specs.declared.parser.text_line.TextLine.{TextLine}
@@ -69,9 +71,10 @@ limit_fields RwLock limit bar = decimal limit ∷ (if bar then codes "bar" ∷ [
 limit_fields Reentrant limit bar = decimal limit ∷ []
 
 -- the fields after the name of a party
-abbrev pub copy_fields : Option ℕ → List (List ℕ)
-copy_fields None = []
-copy_fields (Some count) = decimal count ∷ []
+abbrev pub copy_fields : Parties → List (List ℕ)
+copy_fields One = []
+copy_fields (Copies count) = decimal count ∷ []
+copy_fields Any = codes "*" ∷ []
 
 abbrev pub last_fields : PlanLine → List (List ℕ)
 last_fields (Lock lock) = limit_fields lock.kind lock.limit lock.bar
@@ -95,9 +98,10 @@ IsCount count = (0 < count) × (count ≤ 64)
 abbrev pub IsCountField : List ℕ → Type 0
 IsCountField field = (count : ℕ) × (IsCount count × (decimal count ≡ field))
 
-abbrev pub IsCopies : Option ℕ → Type 0
-IsCopies None = ⊤
-IsCopies (Some count) = IsCount count
+abbrev pub IsCopies : Parties → Type 0
+IsCopies One = ⊤
+IsCopies (Copies count) = IsCount count
+IsCopies Any = ⊤
 
 -- a lock of a line: what the line does not print is fixed
 abbrev pub IsLineLock : Kind → ℕ → Bool → Type 0

@@ -12,7 +12,7 @@ mod printer;
 
 pub use names::Names;
 pub use parser::{
-    NamedPlan, PlanTextFault, calls_have_lines, parse_plan, texts_fit_machines,
-    texts_have_one_meaning,
+    NamedPlan, PlanText, PlanTextFault, calls_have_lines, parse_plan, parse_text,
+    texts_fit_machines, texts_have_one_meaning,
 };
-pub use printer::{draw_picture, write_answer, write_call, write_drawing};
+pub use printer::{draw_picture, write_answer, write_call, write_drawing, write_order};

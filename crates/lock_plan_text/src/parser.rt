@@ -4,6 +4,7 @@
 //! party that it says, and `open_block` tests that they fit. `party_lines` puts rows in place of names, `program`
 //! makes places of lines, and `named_plan` makes the plan.
 mod add_named;
+mod any_number;
 mod block_line;
 mod block_word;
 mod copies;
@@ -22,6 +23,7 @@ mod party_lines;
 mod place;
 mod plain_line;
 mod plan_line;
+mod plan_text;
 mod program;
 mod reading;
 mod scan;
@@ -32,4 +34,6 @@ mod wait_line;
 
 pub use fault::PlanTextFault;
 pub use meaning::{calls_have_lines, texts_fit_machines, texts_have_one_meaning};
-pub use named_plan::{NamedPlan, parse_plan};
+pub(crate) use named_plan::number_of;
+pub use named_plan::{NamedPlan, parse_plan, parse_text};
+pub use plan_text::PlanText;

@@ -6,6 +6,7 @@ mod answer;
 mod cell;
 mod lanes;
 mod mark;
+mod order;
 mod picture;
 mod signal;
 mod stand;
@@ -15,5 +16,6 @@ mod words;
 
 pub use answer::write_answer;
 pub use lanes::write_drawing;
+pub use order::write_order;
 pub use picture::draw_picture;
 pub use step::write_call;

@@ -1,15 +1,22 @@
 -- A fault of a plain text, with the numbers of the script's lines, is one of the script.
-use Rattle.std.proofs.Common.{◌≡◌, ℕ, ◌+◌, List, length, refl, sym, ap, ◌∙◌, subst}
+use Rattle.std.proofs.Common.{◌≡◌, ℕ, ◌+◌, Bool, true, List, length, Result, Ok, Err, refl, sym, ap, ◌∙◌, string_bytes, subst}
+use Rattle.std.specs.Prelude.{IfOk, String}
+use Rattle.std.specs.Global.{Global}
 use Rattle.lock_script.specs.Lines.{lines_of}
 use Rattle.lock_plan_text.specs.declared.parser.fault.PlanTextFault.{PlanTextFault}
 use Rattle.lock_plan_text.specs.declared.parser.fault.PlanTextFault.TheVariants.{BadLine, UnknownParty, Call, TooLarge, TooLong, Full, OutOfMemory, InputFailed, OutputFailed}
 use Rattle.lock_plan.specs.Memory.{IsSearchFault}
-use Rattle.lock_plan_text.specs.Drafted.{IsPlanOf}
-use Rattle.lock_plan_text.specs.PlanFaults.{of_search}
+use Rattle.lock_plan_text.specs.Drafted.{IsPlanOf, drafted}
+use Rattle.lock_plan_text.specs.Drafts.{IsDraftOf}
+use Rattle.lock_plan_text.specs.declared.parser.plan_text.PlanText.{PlanText}
+use Rattle.lock_plan_text.specs.PlanFaults.{IsPlanTextFault, of_search}
 use Rattle.lock_plan_text.specs.declared.parser.named_plan.NamedPlan.{NamedPlan}
 use Rattle.step_search.specs.declared.fault.SearchFault.{SearchFault}
 use Rattle.step_search.specs.declared.fault.SearchFault.TheVariants as search
 use Rattle.lockexplore.specs.PlainTexts.{line_number, number_in, numbers_from, plain_text}
+use Rattle.lockexplore.specs.declared.arguments.Form.{Form}
+use Rattle.lockexplore.specs.declared.verdict.Verdict.{Verdict}
+use Rattle.lockexplore.specs.PlanAnswers.{IsAnswerBy, IsOrderAnswer, IsPlanAnswer, is_by_order}
 use Rattle.lockexplore.specs.Explorations.{IsPlanFault, IsScriptFault, renumbered}
 
 pub script_fault : (script : List ℕ) (memory : ℕ) (fault : PlanTextFault) → IsPlanFault (plain_text script) memory fault
@@ -39,3 +46,27 @@ pub search_fault : (bytes : List ℕ) (memory : ℕ) (named : NamedPlan) (fault 
     → IsSearchFault named.plan memory fault → IsPlanFault bytes memory (of_search fault)
 search_fault bytes memory named (search.Full count) plan is = (named, (plan, is))
 search_fault bytes memory named search.OutOfMemory plan is = tt
+
+-- a fault of parsing the bytes is one of the answer to them
+pub parse_fault : (bytes : List ℕ) (memory : ℕ) (fault : PlanTextFault) → IsPlanTextFault bytes fault → IsPlanFault bytes memory fault
+parse_fault bytes memory (BadLine line) is = is
+parse_fault bytes memory (UnknownParty line) is = is
+parse_fault bytes memory (Call line why) is = is
+parse_fault bytes memory TooLarge is = is
+parse_fault bytes memory TooLong is = is
+parse_fault bytes memory (Full count) is = absurd is
+parse_fault bytes memory OutOfMemory is = is
+parse_fault bytes memory InputFailed is = is
+parse_fault bytes memory OutputFailed is = is
+
+-- the order of a plan is its answer, where an order is looked for
+pub by_order_answer : (form : Form) (bytes : List ℕ) (plan : PlanText) (r : Result (Verdict × String Global) PlanTextFault)
+    → IsDraftOf bytes (drafted plan.draft) → is_by_order form plan ≡ true
+    → IfOk r (λ answer. IsOrderAnswer plan answer.0 (string_bytes answer.1))
+    → IfOk r (λ answer. IsPlanAnswer form bytes answer.0 (string_bytes answer.1))
+by_order_answer form bytes plan (Ok answer) makes by found = record {
+  plan = plan;
+  is = makes;
+  answer = subst (λ (b : Bool). IsAnswerBy b form bytes plan answer.0 (string_bytes answer.1)) (sym by) found;
+}
+by_order_answer form bytes plan (Err fault) makes by found = found

@@ -1,20 +1,27 @@
 -- The answer to the text of a plan.
-use Rattle.std.specs.Prelude.{◌≡◌, ℕ, Bool, List, ◌++◌, ⊤, Option, Some, None, Vec}
+use Rattle.std.specs.Prelude.{◌≡◌, ℕ, Bool, true, false, List, map, ◌++◌, ⊤, Option, Some, None, Vec}
 use Rattle.std.specs.Global.{Global}
 use Rattle.lock_plan.specs.declared.lock.PlanLock.{PlanLock}
 use Rattle.lock_plan.specs.declared.program.Place.{Place}
 use Rattle.lock_plan.specs.declared.program.Step.{Step}
+use Rattle.lock_plan.specs.declared.lock_order.LockOrder.{LockOrder}
+use Rattle.lock_plan.specs.declared.lock_order.LockOrder.TheVariants.{Kept, Broken}
+use Rattle.lock_plan_laws.specs.LockOrders.{IsLockOrder}
 use Rattle.lock_plan.specs.Copies.{IsCountUpTo}
 use Rattle.lock_plan.specs.Stops.{programs_of}
 use Rattle.lock_plan.specs.Worlds as plans
 use Rattle.lock_plan_text.specs.Answers.{answer_text}
 use Rattle.lock_plan_text.specs.Lanes.{drawing_text}
 use Rattle.lock_plan_text.specs.declared.parser.named_plan.NamedPlan.{NamedPlan}
-use Rattle.lock_plan_text.specs.Drafted.{IsPlanOf}
+use Rattle.lock_plan_text.specs.declared.parser.plan_text.PlanText.{PlanText}
+use Rattle.lock_plan_text.specs.Drafted.{IsPlanOf, drafted}
+use Rattle.lock_plan_text.specs.Drafts.{IsDraftOf}
+use Rattle.lock_plan_text.specs.Orders.{order_text}
+use Rattle.lock_plan_text.specs.Texts.{is_any_number}
 use Rattle.lockexplore.specs.declared.arguments.Form.{Form}
-use Rattle.lockexplore.specs.declared.arguments.Form.TheVariants.{Answer, Lanes, Svg}
+use Rattle.lockexplore.specs.declared.arguments.Form.TheVariants.{Answer, Lanes, Svg, Order}
 use Rattle.lockexplore.specs.declared.verdict.Verdict.{Verdict}
-use Rattle.lockexplore.specs.declared.verdict.Verdict.TheVariants.{NeverStops, Stops}
+use Rattle.lockexplore.specs.declared.verdict.Verdict.TheVariants.{NeverStops, Stops, Unordered}
 
 abbrev pub verdict_of : Option (Vec Step Global) → Verdict
 verdict_of None = NeverStops
@@ -35,9 +42,11 @@ IsTextIn Lanes named trace visited text =
     text ≡ answer_text named.plan.locks.items (programs_of named.plan) named.names trace visited
     ++ drawing_text named.plan.locks.items (programs_of named.plan) named.names trace
 IsTextIn Svg named trace visited text = ⊤
+IsTextIn Order named trace visited text =
+    text ≡ answer_text named.plan.locks.items (programs_of named.plan) named.names trace visited
 
 -- the bytes are the text of a plan, and the verdict and the text are what a search of it finds
-pub record IsPlanAnswer (form : Form) (bytes : List ℕ) (verdict : Verdict) (text : List ℕ) : Type 0 where
+pub record IsSearchAnswer (form : Form) (bytes : List ℕ) (verdict : Verdict) (text : List ℕ) : Type 0 where
   pub named : NamedPlan
   pub plan : IsPlanOf bytes named
   pub trace : Option (Vec Step Global)
@@ -45,3 +54,30 @@ pub record IsPlanAnswer (form : Form) (bytes : List ℕ) (verdict : Verdict) (te
   pub found : IsFound named.plan.servers.items named.plan.copies.items named.plan.locks.items (programs_of named.plan) trace visited
   pub verdict_is : verdict ≡ verdict_of trace
   pub text_is : IsTextIn form named trace visited text
+
+abbrev pub order_verdict : LockOrder → Verdict
+order_verdict (Kept locks) = NeverStops
+order_verdict (Broken obstacles) = Unordered
+
+-- the verdict and the text are what a look for an order finds. With an order, no run of the parties stops, however many there
+-- are of each
+pub record IsOrderAnswer (plan : PlanText) (verdict : Verdict) (text : List ℕ) : Type 0 where
+  pub order : LockOrder
+  pub found : IsLockOrder plan.draft.locks.items (map (λ v. v.items) plan.programs.items) order
+  pub verdict_is : verdict ≡ order_verdict order
+  pub text_is : text ≡ order_text plan order
+
+-- whether an order is looked for, in place of a search
+abbrev pub is_by_order : Form → PlanText → Bool
+is_by_order Order plan = true
+is_by_order form plan = is_any_number plan
+
+abbrev pub IsAnswerBy : Bool → Form → List ℕ → PlanText → Verdict → List ℕ → Type 0
+IsAnswerBy true form bytes plan verdict text = IsOrderAnswer plan verdict text
+IsAnswerBy false form bytes plan verdict text = IsSearchAnswer form bytes verdict text
+
+-- the bytes say the plan, and the verdict and the text are the answer to it
+pub record IsPlanAnswer (form : Form) (bytes : List ℕ) (verdict : Verdict) (text : List ℕ) : Type 0 where
+  pub plan : PlanText
+  pub is : IsDraftOf bytes (drafted plan.draft)
+  pub answer : IsAnswerBy (is_by_order form plan) form bytes plan verdict text

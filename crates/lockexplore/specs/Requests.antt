@@ -1,7 +1,7 @@
 -- What the words after the program's name ask for.
 use Rattle.std.specs.Prelude.{◌≡◌, ℕ, ◌<◌, ◌^◌, ◌⊎◌, ⊤, List, [], ◌∷◌, ◌++◌, Option, Some, None, codes, decimal}
 use Rattle.lockexplore.specs.declared.arguments.Form.{Form}
-use Rattle.lockexplore.specs.declared.arguments.Form.TheVariants.{Answer, Lanes, Svg}
+use Rattle.lockexplore.specs.declared.arguments.Form.TheVariants.{Answer, Lanes, Svg, Order}
 use Rattle.lockexplore.specs.declared.arguments.Request.{Request}
 use Rattle.lockexplore.specs.declared.arguments.Request.TheVariants.{Explore, Help, Version}
 
@@ -9,6 +9,7 @@ abbrev pub form_words : Form → List (List ℕ)
 form_words Answer = []
 form_words Lanes = codes "lanes" ∷ []
 form_words Svg = codes "svg" ∷ []
+form_words Order = codes "order" ∷ []
 
 abbrev pub memory_words : Option ℕ → List (List ℕ)
 memory_words None = []

@@ -13,6 +13,8 @@ pub(crate) enum Form {
     Lanes,
     /// A picture in SVG.
     Svg,
+    /// Lines of text: an order of the locks, without a search.
+    Order,
 }
 
 /// What the words ask for.
@@ -71,6 +73,7 @@ impl Form {
         match word {
             "lanes" => Some(Form::Lanes),
             "svg" => Some(Form::Svg),
+            "order" => Some(Form::Order),
             _ => None,
         }
     }

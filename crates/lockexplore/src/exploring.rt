@@ -1,17 +1,22 @@
 //! From a reader's plan to a writer's answer.
-ghost use Rattle.std.specs.Prelude.{◌≡◌, IfErr, IfOk, string_bytes};
+ghost use Rattle.std.specs.Prelude.{◌≡◌, ◌⊎◌, Some, IfErr, IfOk, string_bytes};
 ghost use Rattle.std.specs.Io.KnownBytes.{Keeps};
 ghost use Rattle.lock_script.specs.Replays.{ReadsScript};
 ghost use Rattle.lockexplore.specs.PlainTexts.{plain_text};
-ghost use Rattle.lockexplore.specs.PlanAnswers.{IsPlanAnswer, IsTextIn};
+ghost use Rattle.lock_plan_text.specs.declared.parser.fault.PlanTextFault.TheVariants.{OutOfMemory};
+ghost use Rattle.lock_plan_text.specs.Drafted.{drafted};
+ghost use Rattle.lock_plan_text.specs.PlanFaults.{draft_fault};
+ghost use Rattle.lockexplore.specs.PlanAnswers.{IsOrderAnswer, IsPlanAnswer, IsTextIn, is_by_order};
 ghost use Rattle.lockexplore.specs.Explorations.{AppendsPlanAnswer, ExplainsPlanFault, IsBeforePlanAnswer, IsPlanFault, IsScriptFault};
 
 use crate::arguments::Form;
 use crate::plain::PlainText;
 use crate::verdict::Verdict;
 use lock_plan::{Explored, explore};
+use lock_plan_laws::find_order;
 use lock_plan_text::{
-    NamedPlan, PlanTextFault, draw_picture, parse_plan, write_answer, write_drawing,
+    NamedPlan, PlanText, PlanTextFault, draw_picture, parse_text, write_answer, write_drawing,
+    write_order,
 };
 use lock_script::{put, read_script};
 use std::alloc::{AllocError, Global};
@@ -71,7 +76,8 @@ fn plan_answer(
 ///
 /// # Errors
 ///
-/// Those of [`parse_plan`], then `Full` or `OutOfMemory`.
+/// Those of [`parse_text`], then those of [`order_answer`], or else those of [`PlanText::into_plan`], `Full` and
+/// `OutOfMemory`.
 fn plain_answer(
     alloc: Global,
     form: Form,
@@ -81,10 +87,40 @@ fn plain_answer(
     ensures answer { IfOk result (λ answer. IsPlanAnswer form plain.now answer.0 (string_bytes answer.1)) }
     ensures fault { IfErr result (IsPlanFault plain.now memory) }
 {
-    let named = parse_plan(alloc, plain)?;
+    let plan = parse_text(alloc, plain)?;
+    if is_by_order(form, &plan) {
+        return order_answer(alloc, &plan);
+    }
+    let named = plan.into_plan(alloc)?;
     let explored = explore(alloc, &named.plan, memory)?;
     let text = answer_of(alloc, form, &named, &explored)?;
     Ok((Verdict::of(&explored), text))
+}
+
+/// Returns whether an order is looked for, in place of a search.
+fn is_by_order(form: Form, plan: &PlanText) -> bool
+    ensures { result ≡ is_by_order form plan.now }
+{
+    form == Form::Order || plan.is_any_number()
+}
+
+/// Returns whether the locks of a plan have an order, and the text of the answer.
+///
+/// # Errors
+///
+/// `Call` with the line of the first act, party by party, that can never be made. `OutOfMemory`.
+fn order_answer(alloc: Global, plan: &PlanText) -> Result<(Verdict, String), PlanTextFault>
+    ensures answer { IfOk result (λ answer. IsOrderAnswer plan.now answer.0 (string_bytes answer.1)) }
+    ensures fault { IfErr result (λ fault. (draft_fault (drafted plan.now.draft) ≡ Some fault) ⊎ (fault ≡ OutOfMemory)) }
+{
+    match find_order(alloc, plan.locks(), plan.programs()) {
+        Ok(order) => {
+            let mut text = String::new(alloc);
+            write_order(alloc, &mut text, plan, &order)?;
+            Ok((Verdict::of_order(&order), text))
+        }
+        Err(fault) => Err(plan.fault_by_line(alloc, fault)),
+    }
 }
 
 /// Returns the answer to a plan in a form, of what a search found.

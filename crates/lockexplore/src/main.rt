@@ -18,7 +18,7 @@ use std::process::ExitCode;
 use std::rt::Env;
 use std::{env, io};
 
-const USAGE: &str = "usage: lockexplore [lanes | svg] [--memory BYTES]";
+const USAGE: &str = "usage: lockexplore [lanes | svg | order] [--memory BYTES]";
 
 /// What `--help` prints below the usage line.
 const HELP: &str = "\
@@ -26,17 +26,18 @@ Reads a plan of lock calls from standard input, and prints whether its parties c
 
   lanes           also draws the steps into a deadlock, with a column for each party
   svg             prints a picture in SVG instead
+  order           looks for an order of the locks instead, which holds for any number of parties
   --memory BYTES  limits the search; the default is half of the machine's memory
   --help          prints this help
   --version       prints the day of this version
 
-The status is 0 without a deadlock, 3 with one, 1 for a fault, and 2 for other words.
+The status is 0 without a deadlock, 3 with one or without an order, 1 for a fault, and 2 for other words.
 docs/PLANS.md has the format of plans.";
 
 /// The day of the newest section of CHANGES.
 const VERSION: &str = "lockexplore 2026-11-27";
 
-/// The status of an answer that names a stop.
+/// The status of an answer that names a stop, or that there is no order.
 const STOPS: u8 = 3;
 
 fn main(rt: HostRuntime) -> ExitCode {
@@ -60,7 +61,7 @@ fn explored(rt: &HostRuntime, form: Form, memory: Option<u64>) -> ExitCode {
     };
     match explore_plan(rt.alloc(), form, bytes, &mut rt.stdin(), &mut rt.stdout()) {
         Ok(Verdict::NeverStops) => ExitCode::SUCCESS,
-        Ok(Verdict::Stops) => ExitCode::from(STOPS),
+        Ok(Verdict::Stops | Verdict::Unordered) => ExitCode::from(STOPS),
         Err(fault) => told(rt, fault),
     }
 }

@@ -1,20 +1,33 @@
 //! Copies of a party.
-ghost use Rattle.std.specs.Prelude.{◌≡◌, ◌↔◌, ℕ, Some, IfNone, IfOk, IfSome, IsSome, decimal, string_bytes};
+ghost use Rattle.std.specs.Prelude.{◌≡◌, ◌↔◌, ◌∷◌, [], ℕ, IfNone, IfOk, IfSome, IsSome, decimal, string_bytes};
+ghost use Rattle.lock_plan_text.specs.declared.parser.plan_line.Parties.{Parties};
 ghost use Rattle.lock_script.specs.Lines.{fields_of};
-ghost use Rattle.lock_plan_text.specs.PlanLines.{IsCount, IsCountField, copy_fields};
+ghost use Rattle.lock_plan_text.specs.PlanLines.{IsCopies, IsCount, IsCountField, copy_fields};
 ghost use Rattle.lock_plan_text.specs.Copies.{copies_in, is_copy};
 ghost use Rattle.lock_plan_text.specs.Drafted.{drafted};
-ghost use Rattle.lock_plan_text.specs.Drafts.{copy_name};
+ghost use Rattle.lock_plan_text.specs.Drafts.{any_name, copy_name};
 
 use crate::parser::draft::PlanDraft;
+use crate::parser::plan_line::Parties;
 use itoa::Buffer;
 use lock_script::{first_field, unsigned};
 use std::alloc::{AllocError, Global};
 
+/// Reads how many parties a line makes from the field after the name: a count, or `*` for any number.
+pub(crate) fn parties(last: &str) -> Option<Parties>
+    ensures parties { IfSome result (λ parties. IsCopies parties × (copy_fields parties ≡ fields_of last.now)) }
+    ensures bad { IfNone result ((parties : Parties) → IsCopies parties → copy_fields parties ≡ fields_of last.now → ⊥) }
+{
+    match last {
+        "*" => Some(Parties::Any),
+        _ => Some(Parties::Copies(copies(last)?)),
+    }
+}
+
 /// Reads how many copies there are of a party from the field after its name.
-pub(crate) fn copies(last: &str) -> Option<u64>
-    ensures count { IfSome result (λ count. IsCount count × (copy_fields (Some count) ≡ fields_of last.now)) }
-    ensures bad { IfNone result ((count : ℕ) → IsCount count → copy_fields (Some count) ≡ fields_of last.now → ⊥) }
+fn copies(last: &str) -> Option<u64>
+    ensures count { IfSome result (λ count. IsCount count × (decimal count ∷ [] ≡ fields_of last.now)) }
+    ensures bad { IfNone result ((count : ℕ) → IsCount count → decimal count ∷ [] ≡ fields_of last.now → ⊥) }
 {
     let None = first_field(last) else {
         return None;
@@ -45,6 +58,15 @@ pub(crate) fn copy_name(alloc: Global, name: &str, copy: u64) -> Result<String, 
     let mut text = String::from_str(alloc, name)?;
     text.push_str(".")?;
     text.push_str(Buffer::new().format(copy))?;
+    Ok(text)
+}
+
+/// Makes the name of a party that stands for any number.
+pub(crate) fn any_name(alloc: Global, name: &str) -> Result<String, AllocError>
+    ensures { IfOk result (λ text. string_bytes text ≡ any_name name.now) }
+{
+    let mut text = String::from_str(alloc, name)?;
+    text.push_str(".*")?;
     Ok(text)
 }
 

@@ -8,11 +8,11 @@ ghost use Rattle.lock_plan_text.specs.PlanLines.{names_of, one_name};
 
 use crate::names::Names;
 use crate::parser::block_line::BlockLine;
-use crate::parser::copies::copy_name;
+use crate::parser::copies::{any_name, copy_name};
 use crate::parser::line_names::LineNames;
 use crate::parser::open_block::OpenBlocks;
 use crate::parser::place::{place_of, push_from};
-use crate::parser::plan_line::PlanLine;
+use crate::parser::plan_line::{Parties, PlanLine};
 use crate::parser::text_line::TextLine;
 use lock_plan::PlanLock;
 use std::alloc::{AllocError, Global};
@@ -79,8 +79,8 @@ impl PlanDraft {
     {
         match line {
             TextLine::Plan(PlanLine::Lock(lock)) => self.add_lock(alloc, lock, names.name),
-            TextLine::Plan(PlanLine::Party(is_server, copies)) => {
-                self.add_parties(alloc, is_server, copies, names.name)
+            TextLine::Plan(PlanLine::Party(is_server, parties)) => {
+                self.add_parties(alloc, is_server, parties, names.name)
             }
             TextLine::Plan(PlanLine::Named(word)) => self.add_named(alloc, number, word, names),
             TextLine::Plan(PlanLine::Call(..))
@@ -121,25 +121,29 @@ impl PlanDraft {
         Ok(true)
     }
 
-    /// Adds a party, or copies of one, unless one of the names is there or a block is open.
+    /// Adds the parties of a line, unless one of their names is there or a block is open.
     fn add_parties(
         &mut self,
         alloc: Global,
         is_server: bool,
-        copies: Option<u64>,
+        parties: Parties,
         name: &str,
     ) -> Result<bool, AllocError>
         ensures { IfOk result (λ is_added. with_line (drafted self.old) 0
-            (text.Plan (line.Party is_server copies)) (one_name name.now)
+            (text.Plan (line.Party is_server parties)) (one_name name.now)
             ≡ (if is_added then Some (drafted self.new) else None)) }
     {
         if !self.blocks.are_none() {
             return Ok(false);
         }
         self.first = self.parties.len();
-        match copies {
-            None => self.add_party(alloc, is_server, name),
-            Some(count) => self.add_copies(alloc, is_server, name, count),
+        match parties {
+            Parties::One => self.add_party(alloc, is_server, name),
+            Parties::Copies(count) => self.add_copies(alloc, is_server, name, count),
+            Parties::Any => {
+                let name = any_name(alloc, name)?;
+                self.add_party(alloc, is_server, name.as_str())
+            }
         }
     }
 

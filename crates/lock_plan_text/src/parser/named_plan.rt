@@ -1,16 +1,16 @@
 //! Parsing a plan.
 ghost use Rattle.std.specs.Prelude.{◌≡◌, ◌⊎◌, map, Some, None, IfErr, IfOk};
 ghost use Rattle.lock_plan_text.specs.declared.parser.fault.PlanTextFault.TheVariants.{OutOfMemory};
-ghost use Rattle.lock_plan.specs.Copies.{AreAlike};
-ghost use Rattle.lock_plan_text.specs.Copies.{copies_in};
 ghost use Rattle.lock_plan_text.specs.Drafted.{IsMadeOf, IsPlanOf, drafted};
 ghost use Rattle.lock_plan_text.specs.PartyLines.{flag_program, number_of, programs_in};
-ghost use Rattle.lock_plan_text.specs.PlanFaults.{IsPlanTextFault, draft_fault, unknown_line};
+ghost use Rattle.lock_plan_text.specs.PlanFaults.{IsPlanTextFault, draft_fault};
+ghost use Rattle.lock_plan_text.specs.Drafts.{IsDraftOf};
 
 use crate::names::Names;
 use crate::parser::draft::PlanDraft;
 use crate::parser::fault::PlanTextFault;
 use crate::parser::lines::parse_lines;
+use crate::parser::plan_text::PlanText;
 use crate::parser::program::{program_of, step_numbers};
 use lock_plan::{Act, Place, Plan, PlanFault, Signal};
 use std::alloc::{AllocError, Global};
@@ -27,43 +27,60 @@ pub struct NamedPlan {
 ///
 /// # Errors
 ///
-/// `BadLine` with the number of the first bad line, counted from 1. Then `UnknownParty` with the first line that starts or
-/// joins a party which has no line. Then `Call` with the line of the first act, party by party, that can never be made. Then
-/// `TooLarge`. `OutOfMemory` at any time.
+/// Those of [`parse_text`], then those of [`PlanText::into_plan`].
 pub fn parse_plan(alloc: Global, bytes: &[u8]) -> Result<NamedPlan, PlanTextFault>
     ensures plan { IfOk result (IsPlanOf bytes.now) }
+    ensures fault { IfErr result (IsPlanTextFault bytes.now) }
+{
+    let text = parse_text(alloc, bytes)?;
+    text.into_plan(alloc)
+}
+
+/// Parses the lines of a plan, and makes its programs.
+///
+/// # Errors
+///
+/// `BadLine` with the number of the first bad line, counted from 1. Then `UnknownParty` with the first line that starts or
+/// joins a party which has no line. `OutOfMemory` at any time.
+pub fn parse_text(alloc: Global, bytes: &[u8]) -> Result<PlanText, PlanTextFault>
+    ensures text { IfOk result (λ text. IsDraftOf bytes.now (drafted text.draft)) }
     ensures fault { IfErr result (IsPlanTextFault bytes.now) }
 {
     let draft = parse_lines(alloc, bytes)?;
     if let Some(number) = draft.unknown_line() {
         return Err(PlanTextFault::UnknownParty(number));
     }
-    plan_of(alloc, draft)
+    let programs = programs_of(alloc, &draft)?;
+    Ok(PlanText { draft, programs })
 }
 
-/// Makes the plan of a draft with no unknown party.
-fn plan_of(alloc: Global, draft: PlanDraft) -> Result<NamedPlan, PlanTextFault>
-    requires known { unknown_line (drafted draft) ≡ None }
-    requires copies { AreAlike (programs_in (drafted draft)) (drafted draft).servers (copies_in (drafted draft)) }
-    ensures plan { IfOk result (IsMadeOf (drafted draft)) }
-    ensures fault { IfErr result (λ fault. (draft_fault (drafted draft) ≡ Some fault) ⊎ (fault ≡ OutOfMemory)) }
-{
-    let programs = programs_of(alloc, &draft)?;
-    let copies = draft.copies_in(alloc)?;
-    let mut draft = draft;
-    let locks = replace(&mut draft.locks, Vec::new(alloc));
-    let servers = replace(&mut draft.servers, Vec::new(alloc));
-    match Plan::new(alloc, locks, programs, servers, copies) {
-        Ok(plan) => Ok(NamedPlan {
-            plan,
-            names: draft.names,
-        }),
-        Err(PlanFault::Call(party, place, fault)) => {
-            let number = number_of(alloc, &draft, party, place)?;
-            Err(PlanTextFault::Call(number, fault))
+impl PlanText {
+    /// Makes the plan.
+    ///
+    /// # Errors
+    ///
+    /// `Call` with the line of the first act, party by party, that can never be made. Then `TooLarge`. `OutOfMemory` at any
+    /// time.
+    pub fn into_plan(self, alloc: Global) -> Result<NamedPlan, PlanTextFault>
+        ensures plan { IfOk result (IsMadeOf (drafted self.draft)) }
+        ensures fault { IfErr result (λ fault. (draft_fault (drafted self.draft) ≡ Some fault) ⊎ (fault ≡ OutOfMemory)) }
+    {
+        let mut draft = self.draft;
+        let copies = draft.copies_in(alloc)?;
+        let locks = replace(&mut draft.locks, Vec::new(alloc));
+        let servers = replace(&mut draft.servers, Vec::new(alloc));
+        match Plan::new(alloc, locks, self.programs, servers, copies) {
+            Ok(plan) => Ok(NamedPlan {
+                plan,
+                names: draft.names,
+            }),
+            Err(PlanFault::Call(party, place, fault)) => {
+                let number = number_of(alloc, &draft, party, place)?;
+                Err(PlanTextFault::Call(number, fault))
+            }
+            Err(PlanFault::TooLarge) => Err(PlanTextFault::TooLarge),
+            Err(PlanFault::OutOfMemory) => Err(PlanTextFault::OutOfMemory),
         }
-        Err(PlanFault::TooLarge) => Err(PlanTextFault::TooLarge),
-        Err(PlanFault::OutOfMemory) => Err(PlanTextFault::OutOfMemory),
     }
 }
 
@@ -99,7 +116,7 @@ fn flag_program(alloc: Global) -> Result<Vec<Place>, AllocError>
 }
 
 /// Returns the number of the line of a party's place.
-fn number_of(
+pub(crate) fn number_of(
     alloc: Global,
     draft: &PlanDraft,
     party: usize,

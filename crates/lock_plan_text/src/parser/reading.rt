@@ -6,12 +6,12 @@ ghost use Rattle.lock_plan_text.specs.PlanLines.{IsPlanLine, IsVerb, Says, TextN
 ghost use Rattle.lock_plan_text.specs.Words.{step_word};
 
 use crate::parser::block_word::block_word;
-use crate::parser::copies::copies;
+use crate::parser::copies::parties;
 use crate::parser::limit::{reentrant, rwlock};
 use crate::parser::line_names::{LineNames, no_names, one_name};
 use crate::parser::name::is_name;
 use crate::parser::named_word::named_word;
-use crate::parser::plan_line::PlanLine;
+use crate::parser::plan_line::{Parties, PlanLine};
 use crate::parser::text_line::TextLine;
 use crate::parser::verb::verb;
 use crate::parser::wait::read_wait;
@@ -104,8 +104,8 @@ fn short_line(word: &str) -> Option<PlanLine>
             limit: 1,
             bar: false,
         })),
-        "party" => Some(PlanLine::Party(false, None)),
-        "server" => Some(PlanLine::Party(true, None)),
+        "party" => Some(PlanLine::Party(false, Parties::One)),
+        "server" => Some(PlanLine::Party(true, Parties::One)),
         _ => match verb(word) {
             Some((is_rwlock, step)) => Some(PlanLine::Call(is_rwlock, step)),
             None => Some(PlanLine::Named(named_word(word)?)),
@@ -113,13 +113,13 @@ fn short_line(word: &str) -> Option<PlanLine>
     }
 }
 
-/// Reads a line of copies of a party with these fields after the name.
+/// Reads a line of parties with these fields after the name.
 fn party_line(is_server: bool, last: &str) -> Option<PlanLine>
     ensures line { IfSome result (λ line. IsPlanLine line × ((line_word line ≡ party_word is_server) × (last_fields line ≡ fields_of last.now))) }
     ensures bad { IfNone result ((line : PlanLine) → IsPlanLine line → line_word line ≡ party_word is_server → last_fields line ≡ fields_of last.now → ⊥) }
 {
-    let count = copies(last)?;
-    Some(PlanLine::Party(is_server, Some(count)))
+    let parties = parties(last)?;
+    Some(PlanLine::Party(is_server, parties))
 }
 
 /// Reads a line with these fields after the name.

@@ -1,0 +1,60 @@
+//! The text of a plan that has no unknown party.
+ghost use Rattle.std.specs.Prelude.{◌≡◌, map, None};
+ghost use Rattle.lock_plan.specs.Copies.{AreAlike};
+ghost use Rattle.lock_plan_text.specs.Copies.{copies_in};
+ghost use Rattle.lock_plan_text.specs.Drafted.{drafted};
+ghost use Rattle.lock_plan_text.specs.PartyLines.{programs_in};
+ghost use Rattle.lock_plan_text.specs.PlanFaults.{unknown_line};
+
+use crate::parser::draft::PlanDraft;
+use crate::parser::fault::PlanTextFault;
+use crate::parser::named_plan::number_of;
+use lock_plan::{Place, PlanFault, PlanLock};
+use std::alloc::Global;
+
+/// What the lines of a plan say, and the programs of its parties and flags.
+#[derive(Drop)]
+pub struct PlanText {
+    pub(crate) draft: PlanDraft,
+    pub(crate) programs: Vec<Vec<Place>>,
+    ghost known: { unknown_line (drafted draft) ≡ None },
+    ghost made: { map (λ v. v.items) programs.items ≡ programs_in (drafted draft) },
+    ghost alike: { AreAlike (programs_in (drafted draft)) (drafted draft).servers (copies_in (drafted draft)) },
+}
+
+impl PlanText {
+    ghost use Rattle.std.specs.Prelude.{◌≡◌, ◌⊎◌};
+    ghost use Rattle.lock_plan_text.specs.declared.parser.fault.PlanTextFault.TheVariants.{OutOfMemory};
+    ghost use Rattle.lock_plan_text.specs.Drafted.{drafted};
+    ghost use Rattle.lock_plan_text.specs.PlanFaults.{by_line};
+
+    /// Returns the locks.
+    pub fn locks(&self) -> &[PlanLock]
+        ensures { result.now ≡ self.now.draft.locks.items }
+    {
+        self.draft.locks.as_slice()
+    }
+
+    /// Returns the program of each party, and then those of the flags.
+    pub fn programs(&self) -> &[Vec<Place>]
+        ensures { result.now ≡ self.now.programs.items }
+    {
+        self.programs.as_slice()
+    }
+
+    /// Returns a fault of the plan, with the line of the text in place of the party and its place.
+    pub fn fault_by_line(&self, alloc: Global, fault: PlanFault) -> PlanTextFault
+        ensures { (result ≡ by_line (drafted self.now.draft) fault) ⊎ (result ≡ OutOfMemory) }
+    {
+        match fault {
+            PlanFault::Call(party, place, why) => {
+                match number_of(alloc, &self.draft, party, place) {
+                    Ok(number) => PlanTextFault::Call(number, why),
+                    Err(fault) => fault,
+                }
+            }
+            PlanFault::TooLarge => PlanTextFault::TooLarge,
+            PlanFault::OutOfMemory => PlanTextFault::OutOfMemory,
+        }
+    }
+}
