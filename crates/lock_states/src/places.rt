@@ -39,9 +39,7 @@ impl Places {
         ensures chained { 0 < places → IfOk result (λ p. IsChain p.places places (Some (places - 1))) }
         ensures count { IfOk result (λ p. p.count ≡ 0) }
     {
-        let Ok(mut free) = Vec::with_capacity(alloc, places) else {
-            return Err(Fault::OutOfMemory);
-        };
+        let mut free = Vec::with_capacity(alloc, places)?;
         let mut start = None;
         for place in 0..places {
             free.push_reserved(Place::Free(start));

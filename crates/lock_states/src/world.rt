@@ -59,9 +59,7 @@ impl World {
         if !is_limit(parties) || !is_limit(readers) {
             return Err(Fault::BadLimits);
         }
-        let Ok(parties) = vec![in alloc; WorldParty::idle(); parties as usize] else {
-            return Err(Fault::OutOfMemory);
-        };
+        let parties = vec![in alloc; WorldParty::idle(); parties as usize]?;
         Ok(World {
             word: 0,
             readers,
@@ -166,9 +164,7 @@ impl World {
     {
         // Reading a field gives the proof the invariant of the world.
         let _ = &self.word;
-        let Ok(mut made) = Vec::with_capacity(alloc, steps.len()) else {
-            return Err(Fault::OutOfMemory);
-        };
+        let mut made = Vec::with_capacity(alloc, steps.len())?;
         for step in steps {
             let outcome = self.step(*step);
             made.push_reserved(outcome);

@@ -6,5 +6,5 @@ use Rattle.lock_states.proofs.world.World.new.Goals as goal
 pub invariant_of-result : goal.invariant_of-result
 invariant_of-result c =
     let range : IsLimit c.args.readers = (omega arith, omega arith) in
-    rw (c.in-Ok.ensures.items_if_clones_equal (λ y e. e), c.idle.ensures)
+    rw (c.in_ok-parties.ensures.items_if_clones_equal (λ y e. e), c.idle.ensures)
     (reachable_new c.args.parties c.args.readers range)

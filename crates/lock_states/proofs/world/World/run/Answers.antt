@@ -19,8 +19,8 @@ returns-clause-run c =
     let after : c.loop-step.self ≡ world_after c.args.self.now c.args.steps.now = grind (arith, common_steps) in
     rw after (run_on_all c.args.self.now c.args.steps.now h)
 
-pub returns-in_default-clause-bar : goal.returns-in_default-clause-bar
-returns-in_default-clause-bar c = bar_of_reached c.args.self.now (subst IsReachable c.self.view_is c.self.invariant)
+pub returns-in_err-made-clause-bar : goal.returns-in_err-made-clause-bar
+returns-in_err-made-clause-bar c = bar_of_reached c.args.self.now (subst IsReachable c.self.view_is c.self.invariant)
 
 pub returns-clause-bar : goal.returns-clause-bar
 returns-clause-bar c = bar_of_reached c.loop-step.self c.loop-step.invariant.reached
