@@ -1,5 +1,5 @@
 -- Waiters that sleep: who sleeps, who is due to wake them, and that no sleeper is forgotten.
-use Rattle.std.specs.Prelude.{◌≡◌, ℕ, ◌^◌, ◌<◌, ◌≤◌, Bool, false, ◌⊎◌, List, map, sum_by, slice_get, Some, ⊤, IsTrue}
+use Rattle.std.specs.Prelude.{◌≡◌, ℕ, ◌-◌, ◌^◌, ◌<◌, ◌≤◌, Bool, false, ◌⊎◌, List, map, sum_by, slice_get, Some, ⊤, IsTrue}
 use Rattle.lock_base.specs.Holds.{hold_has}
 use Rattle.lock_word.specs.declared.want.ExWant.{ExWant}
 use Rattle.lock_word.specs.declared.party.WorldParty.{WorldParty}
@@ -20,6 +20,10 @@ states_of views = map (λ (v : SleeperView). v.state) views
 -- how often the word has changed: each change is a win of one party
 abbrev pub changes_of : List SleeperView → ℕ
 changes_of views = all_wins (states_of views)
+
+-- the epoch at which no thread sleeps: a thread that parks compares 32 bits
+abbrev pub last_epoch : ℕ
+last_epoch = 2 ^ 32 - 1
 
 -- the count while the epochs begin anew: no waiter is counted then
 abbrev pub closed_count : ℕ

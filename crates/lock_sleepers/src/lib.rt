@@ -2,10 +2,12 @@
 //! them. It knows no threads: `lock_wake` carries it out on words of threads.
 #![tactic(auto)]
 
+mod epochs;
 mod laws;
 mod pauses;
 mod sleeper;
 
+pub use epochs::{CLOSED_COUNT, LAST_EPOCH};
 pub use laws::steps_keep_wakes;
 pub use pauses::{PAUSES, SPINS};
 pub use sleeper::{Debt, SleeperView, WakeLimits, Watch};

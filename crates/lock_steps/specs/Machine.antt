@@ -5,6 +5,7 @@ use Rattle.lock_word.specs.declared.want.ExWant.TheVariants as want
 use Rattle.lock_word.specs.declared.down.Down.{Down}
 use Rattle.lock_word.specs.Word.{word_admits, word_after, amount}
 use Rattle.lock_word.specs.Unblocking.{word_unblocks}
+pub use Rattle.lock_sleepers.specs.Sleepers.{last_epoch, closed_count}
 use Rattle.lock_steps.specs.declared.action.Action.{Action}
 use Rattle.lock_steps.specs.declared.action.Action.TheVariants.{Load, Exchange, Subtract, Restart, Park, WakeOne, WakeAll, Spin, Yield, End}
 use Rattle.lock_steps.specs.declared.action.Place.TheVariants.{Word, Count, Epoch}
@@ -99,12 +100,6 @@ look_again call = goes_to call stage.LookAgain (Load Word)
 
 abbrev pub find_epoch : Call → Progress
 find_epoch call = goes_to call stage.FindEpoch (Load Epoch)
-
-abbrev pub last_epoch : ℕ
-last_epoch = 4294967295
-
-abbrev pub closed_count : ℕ
-closed_count = 9223372036854775808
 
 abbrev pub has_to_wake : Down → Call → Bool
 has_to_wake down call = wakes_one call || word_unblocks call.readers call.loaded (call.loaded - amount down)

@@ -3,14 +3,8 @@ ghost use Rattle.std.specs.Prelude.{◌≡◌, ◌<◌, ◌==◌, ◌||◌};
 
 use crate::action::{Action, Place};
 use crate::stage::Stage;
-use lock_sleepers::SPINS;
+use lock_sleepers::{CLOSED_COUNT, LAST_EPOCH, SPINS};
 use lock_word::{Down, ExWant, Occupancy, unblocks};
-
-/// The last epoch. No thread sleeps in it, because a sleep compares 32 bits.
-pub const LAST_EPOCH: u64 = 4_294_967_295;
-
-/// The count of sleepers while the epochs begin anew.
-pub const CLOSED_COUNT: u64 = 9_223_372_036_854_775_808;
 
 /// How often a call yields before it sleeps. While a mutex counts a sleeper, also one that was just woken, each release makes
 /// a wake-up. In C and Rust that is a call of the kernel.

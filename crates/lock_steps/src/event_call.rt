@@ -2,8 +2,8 @@
 ghost use Rattle.std.specs.Prelude.{◌≡◌};
 
 use crate::action::{Action, Place};
-use crate::call::{CLOSED_COUNT, LAST_EPOCH};
 use crate::event_stage::EventStage;
+use lock_sleepers::{CLOSED_COUNT, LAST_EPOCH};
 
 /// A call on a condition variable between two of its steps: a wait, or a notification.
 ///

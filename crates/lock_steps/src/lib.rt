@@ -15,7 +15,7 @@ mod stage;
 
 pub use act::Act;
 pub use action::{Action, Place};
-pub use call::{CLOSED_COUNT, Call, LAST_EPOCH};
+pub use call::Call;
 pub use event_act::EventAct;
 pub use event_call::EventCall;
 pub use event_stage::EventStage;
