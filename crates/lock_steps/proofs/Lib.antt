@@ -1,5 +1,6 @@
+mod ActionKinds
 mod EventRuns
-mod Fits
+mod Moves
 mod Refusals
 mod Runs
 mod Listed

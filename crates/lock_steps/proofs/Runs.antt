@@ -10,10 +10,9 @@ use Rattle.lock_base.specs.declared.machine.lock_step.LockStep.TheVariants.{Mode
 use Rattle.lock_base.specs.Holds.{hold_has, hold_after}
 use Rattle.lock_base.specs.Limits.{IsLimit}
 use Rattle.lock_word.specs.declared.want.ExWant.{ExWant}
-use Rattle.lock_word.specs.declared.want.ExWant.TheVariants as want
 use Rattle.lock_word.specs.declared.down.Down.{Down}
 use Rattle.lock_word.specs.declared.down.Down.TheVariants as down
-use Rattle.lock_word.specs.Word.{word_of, word_admits, word_after, amount, step_of_want, step_of_down}
+use Rattle.lock_word.specs.Word.{word_of, word_admits, step_of_want, step_of_down}
 use Rattle.lock_word.specs.BarredBags.{IsLegalBarredBag}
 use Rattle.lock_word.specs.Holders.{all_of}
 use Rattle.lock_word.specs.Rule.{holds}
@@ -27,17 +26,19 @@ use Rattle.lock_sleepers.specs.Wakes.{KeepsWakes, new_sleeper, debt_after}
 use Rattle.lock_sleepers.proofs.Wakes.{starts, joins}
 use Rattle.lock_steps.specs.declared.action.Action.{Action}
 use Rattle.lock_steps.specs.declared.action.Action.TheVariants.{Load, Exchange, Subtract, Restart, Park, WakeOne, WakeAll, Spin, Yield, Unlock, Lock, End}
-use Rattle.lock_steps.specs.declared.action.Place.TheVariants.{Word, Count, Epoch}
+use Rattle.lock_steps.specs.declared.action.Place.TheVariants.{Epoch}
 use Rattle.lock_steps.specs.declared.call.Call.{Call}
 use Rattle.lock_steps.specs.declared.act.Act.{Act}
 use Rattle.lock_steps.specs.declared.act.Act.TheVariants as act
 use Rattle.lock_steps.specs.declared.stage.Stage.{Stage}
 use Rattle.lock_steps.specs.declared.stage.Stage.TheVariants as stage
-use Rattle.lock_steps.specs.Machine.{Progress, acquiring, taking, next_at, ended, goes_to, wakes_one, has_to_wake, last_epoch, closed_count}
-use Rattle.lock_steps.specs.StepLaws.{Words, with_number, made, IsAnswer, LeavesWords, limits_of, trial, IsRest, wake_at, IsAt, asked_at, hold_at, is_over, Kept}
+use Rattle.lock_steps.specs.Machine.{Progress, acquiring, taking, next_at, ended, goes_to, wakes_one, has_to_wake, last_epoch}
+use Rattle.lock_steps.specs.StepLaws.{Words, with_number, made, IsAnswer, limits_of, wake_at, IsAt, asked_at, hold_at, is_over, Kept}
 use Rattle.lock_steps.specs.Runs.{Underway, Thread, LockInUse, next_in, new_thread, new_lock, hold_in, hold_of, rests, may_acquire, may_release, in_call, goes_on, answer, with_thread, acquire_by, release_by, step_in, step_by, after_act, after_acts, IsDueAt, SomeThreadIsDue, told_by, IsAsTold, parks_at, WakesNext, ThreadsAreServed, EveryRunIsServed}
+use Rattle.lock_steps.proofs.ActionKinds.{epoch_at, told_at, parks_as, tells_as}
+use Rattle.lock_steps.proofs.Moves.{MovesAt, moves_at}
 use Rattle.lock_steps.proofs.Refusals.{Honest, honest_next, honest_start, refusal_keeps}
-use Rattle.lock_steps.proofs.Steps.{chosen, rest_leaves, same_leaves, wake_leaves, steps_keep_the_rule, no_parked_call_is_forgotten}
+use Rattle.lock_steps.proofs.Steps.{chosen, steps_keep_the_rule, no_parked_call_is_forgotten}
 
 -- a thread, and what the rule knows of it
 pub record Pair : Type 0 where
@@ -390,55 +391,13 @@ record ParksAt (at : Stage) (call : Call) (epoch : ℕ) : Type 0 where
   sleeps : at ≡ stage.Sleep
   same : call.epoch ≡ epoch
 
-no_park : {A : Type 0} (a b : Action) (epoch : ℕ) → a ≡ b → parks_at b ≡ None → parks_at a ≡ Some epoch → A
-no_park a b epoch e none parks = absurd (none_not_some (sym none ∙ (ap parks_at (sym e) ∙ parks)))
-  where
-    none_not_some : {n : ℕ} → None ≡ Some n → ⊥
-    none_not_some e = cc
-
-rest_parks : (a : Action) → IsRest a → parks_at a ≡ None
-rest_parks (Spin n) rests = refl
-rest_parks Yield rests = refl
-rest_parks other rests = absurd rests
-
-wake_parks : (readers epoch : ℕ) → parks_at (wake_at readers epoch) ≡ None
-wake_parks readers epoch =
-    chosen (λ (a : Action). parks_at a ≡ None) ((readers == 1) && nat_lt epoch last_epoch) WakeOne WakeAll (λ one. refl) (λ all. refl)
-
 parked : (at : Stage) (call : Call) (release : Down) (v : SleeperView) (a : Action) (epoch : ℕ) → IsAt at call release v a
     → parks_at a ≡ Some epoch → ParksAt at call epoch
-parked stage.Look call release v a epoch st parks = no_park a (Load Word) epoch st.2 refl parks
-parked stage.Try call release v a epoch st parks = no_park a (trial call) epoch st.4 refl parks
-parked stage.Pause call release v a epoch st parks = no_park a a epoch refl (rest_parks a st.2) parks
-parked stage.LookToAnnounce call release v a epoch st parks = no_park a (Load Word) epoch st.4 refl parks
-parked stage.Announce call release v a epoch st parks =
-    no_park a (Exchange Word call.loaded (word_after call.loaded want.Announce)) epoch st.6 refl parks
-parked stage.FindCount call release v a epoch st parks = no_park a (Load Count) epoch st.2 refl parks
-parked stage.CountIn call release v a epoch st parks = no_park a (Exchange Count call.loaded (call.loaded + 1)) epoch st.3 refl parks
-parked stage.WatchEpoch call release v a epoch st parks = no_park a (Load Epoch) epoch st.2 refl parks
-parked stage.LookCounted call release v a epoch st parks = no_park a (Load Word) epoch st.2 refl parks
-parked stage.TryCounted call release v a epoch st parks = no_park a (trial call) epoch st.4 refl parks
-parked stage.Sleep call release v a epoch st parks =
-    record { sleeps = refl; same = same_Some call.epoch epoch (ap parks_at (sym st.4) ∙ parks) }
-parked stage.YieldCounted call release v a epoch st parks = no_park a Yield epoch st.2 refl parks
-parked stage.LeaveAcquired call release v a epoch st parks = no_park a (Subtract Count 1) epoch st.4 refl parks
-parked stage.Leave call release v a epoch st parks = no_park a (Subtract Count 1) epoch st.2 refl parks
-parked stage.YieldAway call release v a epoch st parks = no_park a Yield epoch st.2 refl parks
-parked stage.LookAgain call release v a epoch st parks = no_park a (Load Word) epoch st.2 refl parks
-parked stage.TryAgain call release v a epoch st parks = no_park a (trial call) epoch st.5 refl parks
-parked stage.FindEpoch call release v a epoch st parks = no_park a (Load Epoch) epoch st.2 refl parks
-parked stage.CloseCount call release v a epoch st parks = no_park a (Exchange Count 0 closed_count) epoch st.2 refl parks
-parked stage.RestartEpochs call release v a epoch st parks = no_park a Restart epoch st.2 refl parks
-parked stage.OpenCount call release v a epoch st parks = no_park a (Subtract Count closed_count) epoch st.2 refl parks
-parked stage.Take call release v a epoch st parks = no_park a (Subtract Word (amount release)) epoch st.3 refl parks
-parked stage.LookForSleepers call release v a epoch st parks = no_park a (Load Count) epoch st.2 refl parks
-parked stage.NoteEpoch call release v a epoch st parks = no_park a (Load Epoch) epoch st.2 refl parks
-parked stage.EndEpoch call release v a epoch st parks = no_park a (Exchange Epoch call.epoch (call.epoch + 1)) epoch st.2 refl parks
-parked stage.Wake call release v a epoch st parks =
-    no_park a (wake_at call.readers (call.epoch + 1)) epoch st.2 (wake_parks call.readers (call.epoch + 1)) parks
-parked stage.Acquired call release v a epoch st parks = no_park a (End true) epoch st.3 refl parks
-parked stage.Refused call release v a epoch st parks = no_park a (End false) epoch st.2 refl parks
-parked stage.Ended call release v a epoch st parks = no_park a (End true) epoch st.2 refl parks
+parked at call release v a epoch st parks = sleeps at (sym (parks_as at call release v a st) ∙ parks)
+  where
+    sleeps : (at : Stage) → epoch_at at call.epoch ≡ Some epoch → ParksAt at call epoch
+    sleeps stage.Sleep is = record { sleeps = refl; same = same_Some call.epoch epoch is }
+    sleeps other is = cc
 
 pub none_forgotten : (s : LockInUse) (h : IsKept s) (k : ℕ) (t : Thread) (u : Underway) → slice_get s.threads k ≡ Some t → t.underway ≡ Some u
     → parks_at u.action ≡ Some s.words.epoch
@@ -480,57 +439,6 @@ module _ (t : Thread) (asked : LockStep) (release : Down) (next : Progress) wher
       (record { held = hold_at next.0.stage release next.0 t.held; underway = None }) (in_call t asked release next)
       (λ over. absurd (true≢false (sym over ∙ tells.at_end))) (λ going. refl))
 
--- an action that does not end the call
-tells_nothing : (a b : Action) → a ≡ b → told_by b ≡ None → told_by a ≡ None
-tells_nothing a b e none = ap told_by e ∙ none
-
-rest_tells : (a : Action) → IsRest a → told_by a ≡ None
-rest_tells (Spin n) rests = refl
-rest_tells Yield rests = refl
-rest_tells other rests = absurd rests
-
-wake_tells : (readers epoch : ℕ) → told_by (wake_at readers epoch) ≡ None
-wake_tells readers epoch =
-    chosen (λ (a : Action). told_by a ≡ None) ((readers == 1) && nat_lt epoch last_epoch) WakeOne WakeAll (λ one. refl) (λ all. refl)
-
--- what a call at this stage tells its caller
-abbrev told_at : Stage → Option Bool
-told_at stage.Acquired = Some true
-told_at stage.Refused = Some false
-told_at stage.Ended = Some true
-told_at going = None
-
-tells_at : (at : Stage) (call : Call) (release : Down) (v : SleeperView) (a : Action) → IsAt at call release v a → told_by a ≡ told_at at
-tells_at stage.Look call release v a st = tells_nothing a (Load Word) st.2 refl
-tells_at stage.Try call release v a st = tells_nothing a (trial call) st.4 refl
-tells_at stage.Pause call release v a st = rest_tells a st.2
-tells_at stage.LookToAnnounce call release v a st = tells_nothing a (Load Word) st.4 refl
-tells_at stage.Announce call release v a st = tells_nothing a (Exchange Word call.loaded (word_after call.loaded want.Announce)) st.6 refl
-tells_at stage.FindCount call release v a st = tells_nothing a (Load Count) st.2 refl
-tells_at stage.CountIn call release v a st = tells_nothing a (Exchange Count call.loaded (call.loaded + 1)) st.3 refl
-tells_at stage.WatchEpoch call release v a st = tells_nothing a (Load Epoch) st.2 refl
-tells_at stage.LookCounted call release v a st = tells_nothing a (Load Word) st.2 refl
-tells_at stage.TryCounted call release v a st = tells_nothing a (trial call) st.4 refl
-tells_at stage.Sleep call release v a st = tells_nothing a (Park call.epoch) st.4 refl
-tells_at stage.YieldCounted call release v a st = tells_nothing a Yield st.2 refl
-tells_at stage.LeaveAcquired call release v a st = tells_nothing a (Subtract Count 1) st.4 refl
-tells_at stage.Leave call release v a st = tells_nothing a (Subtract Count 1) st.2 refl
-tells_at stage.YieldAway call release v a st = tells_nothing a Yield st.2 refl
-tells_at stage.LookAgain call release v a st = tells_nothing a (Load Word) st.2 refl
-tells_at stage.TryAgain call release v a st = tells_nothing a (trial call) st.5 refl
-tells_at stage.FindEpoch call release v a st = tells_nothing a (Load Epoch) st.2 refl
-tells_at stage.CloseCount call release v a st = tells_nothing a (Exchange Count 0 closed_count) st.2 refl
-tells_at stage.RestartEpochs call release v a st = tells_nothing a Restart st.2 refl
-tells_at stage.OpenCount call release v a st = tells_nothing a (Subtract Count closed_count) st.2 refl
-tells_at stage.Take call release v a st = tells_nothing a (Subtract Word (amount release)) st.3 refl
-tells_at stage.LookForSleepers call release v a st = tells_nothing a (Load Count) st.2 refl
-tells_at stage.NoteEpoch call release v a st = tells_nothing a (Load Epoch) st.2 refl
-tells_at stage.EndEpoch call release v a st = tells_nothing a (Exchange Epoch call.epoch (call.epoch + 1)) st.2 refl
-tells_at stage.Wake call release v a st = tells_nothing a (wake_at call.readers (call.epoch + 1)) st.2 (wake_tells call.readers (call.epoch + 1))
-tells_at stage.Acquired call release v a st = ap told_by st.3
-tells_at stage.Refused call release v a st = ap told_by st.2
-tells_at stage.Ended call release v a st = ap told_by st.2
-
 -- the modes that a thread holds after its call made its change
 granted : (t : Thread) (asked : LockStep) (release : Down) (call : Call) (at : Stage) → told_at at ≡ Some true
     → asked_at at release call.want ≡ asked → (hold_at at release call t.held).bag ≡ (hold_after t.held asked).bag
@@ -547,7 +455,7 @@ module _ (s : LockInUse) (h : IsKept s) (k found : ℕ) (t : Thread) (at : slice
   tells : (over : Bool) (told : Option Bool) → is_over after.0.stage ≡ over → told_at after.0.stage ≡ told → Tells t u.asked u.down after over told
   tells over told is said =
       let kept = stepped s h k found t at u calls in
-      record { at_end = is; said = tells_at after.0.stage after.0 u.down kept.you after.1 kept.is_at ∙ said }
+      record { at_end = is; said = tells_as after.0.stage after.0 u.down kept.you after.1 kept.is_at ∙ said }
 
   made_it : told_at after.0.stage ≡ Some true → (hold_at after.0.stage u.down after.0 t.held).bag ≡ (hold_after t.held u.asked).bag
   made_it said =
@@ -567,67 +475,19 @@ is_told s h k found t u at calls = by_stage s h k found t at u calls (next_in s 
 
 -- a step that ends an epoch
 
--- the step is not the next epoch
-abbrev IsCalm : Words → Action → Type 0
-IsCalm w a = (made a w).epoch ≡ w.epoch + 1 → ⊥
-
 never : (n : ℕ) → n ≡ n + 1 → ⊥
 never n e = omega arith
-
-never_zero : (n : ℕ) → 0 ≡ n + 1 → ⊥
-never_zero n e = omega arith
-
-same_epoch : (w : Words) (b : Bool) (v : Words) → v.epoch ≡ w.epoch → (if b then v else w).epoch ≡ w.epoch + 1 → ⊥
-same_epoch w true v same ends = never w.epoch (sym same ∙ ends)
-same_epoch w false v same ends = never w.epoch ends
-
-calm : (w : Words) (a b : Action) → a ≡ b → IsCalm w b → IsCalm w a
-calm w a b e c = subst (IsCalm w) (sym e) c
-
-calm_pause : (w : Words) (a : Action) → LeavesWords a → IsCalm w a
-calm_pause w a leaves ends = never w.epoch (sym (ap (λ (x : Words). x.epoch) (leaves w)) ∙ ends)
 
 record WakesAfter (epoch : ℕ) (readers : ℕ) (next : Progress) : Type 0 where
   wakes : next.1 ≡ wake_at readers (epoch + 1)
   going : is_over next.0.stage ≡ false
 
+-- only the exchange that a release makes ends an epoch
 ends_at : (w : Words) (call : Call) (release : Down) (v : SleeperView) (a : Action) (told : ℕ) (at : Stage) → IsAt at call release v a
-    → (made a w).epoch ≡ w.epoch + 1 → WakesAfter w.epoch call.readers (next_at at release (answer a w told) call)
-ends_at w call release v a told stage.Look st ends = absurd (calm w a (Load Word) st.2 (never w.epoch) ends)
-ends_at w call release v a told stage.Try st ends =
-    absurd (calm w a (trial call) st.4 (same_epoch w (w.word == call.loaded) (with_number Word (word_after call.loaded call.want) w) refl) ends)
-ends_at w call release v a told stage.Pause st ends = absurd (calm_pause w a (rest_leaves a st.2) ends)
-ends_at w call release v a told stage.LookToAnnounce st ends = absurd (calm w a (Load Word) st.4 (never w.epoch) ends)
-ends_at w call release v a told stage.Announce st ends =
-    absurd
-    (calm w a (Exchange Word call.loaded (word_after call.loaded want.Announce)) st.6
-    (same_epoch w (w.word == call.loaded) (with_number Word (word_after call.loaded want.Announce) w) refl) ends)
-ends_at w call release v a told stage.FindCount st ends = absurd (calm w a (Load Count) st.2 (never w.epoch) ends)
-ends_at w call release v a told stage.CountIn st ends =
-    absurd
-    (calm w a (Exchange Count call.loaded (call.loaded + 1)) st.3
-    (same_epoch w (w.count == call.loaded) (with_number Count (call.loaded + 1) w) refl) ends)
-ends_at w call release v a told stage.WatchEpoch st ends = absurd (calm w a (Load Epoch) st.2 (never w.epoch) ends)
-ends_at w call release v a told stage.LookCounted st ends = absurd (calm w a (Load Word) st.2 (never w.epoch) ends)
-ends_at w call release v a told stage.TryCounted st ends =
-    absurd (calm w a (trial call) st.4 (same_epoch w (w.word == call.loaded) (with_number Word (word_after call.loaded call.want) w) refl) ends)
-ends_at w call release v a told stage.Sleep st ends = absurd (calm w a (Park call.epoch) st.4 (never w.epoch) ends)
-ends_at w call release v a told stage.YieldCounted st ends = absurd (calm w a Yield st.2 (never w.epoch) ends)
-ends_at w call release v a told stage.LeaveAcquired st ends = absurd (calm w a (Subtract Count 1) st.4 (never w.epoch) ends)
-ends_at w call release v a told stage.Leave st ends = absurd (calm w a (Subtract Count 1) st.2 (never w.epoch) ends)
-ends_at w call release v a told stage.YieldAway st ends = absurd (calm w a Yield st.2 (never w.epoch) ends)
-ends_at w call release v a told stage.LookAgain st ends = absurd (calm w a (Load Word) st.2 (never w.epoch) ends)
-ends_at w call release v a told stage.TryAgain st ends =
-    absurd (calm w a (trial call) st.5 (same_epoch w (w.word == call.loaded) (with_number Word (word_after call.loaded call.want) w) refl) ends)
-ends_at w call release v a told stage.FindEpoch st ends = absurd (calm w a (Load Epoch) st.2 (never w.epoch) ends)
-ends_at w call release v a told stage.CloseCount st ends =
-    absurd (calm w a (Exchange Count 0 closed_count) st.2 (same_epoch w (w.count == 0) (with_number Count closed_count w) refl) ends)
-ends_at w call release v a told stage.RestartEpochs st ends = absurd (calm w a Restart st.2 (never_zero w.epoch) ends)
-ends_at w call release v a told stage.OpenCount st ends = absurd (calm w a (Subtract Count closed_count) st.2 (never w.epoch) ends)
-ends_at w call release v a told stage.Take st ends = absurd (calm w a (Subtract Word (amount release)) st.3 (never w.epoch) ends)
-ends_at w call release v a told stage.LookForSleepers st ends = absurd (calm w a (Load Count) st.2 (never w.epoch) ends)
-ends_at w call release v a told stage.NoteEpoch st ends = absurd (calm w a (Load Epoch) st.2 (never w.epoch) ends)
-ends_at w call release v a told stage.EndEpoch st ends =
+    → MovesAt at w call (made a w) → (made a w).epoch ≡ w.epoch + 1 → WakesAfter w.epoch call.readers (next_at at release (answer a w told) call)
+ends_at w call release v a told stage.Take st same ends = absurd (never w.epoch (sym same ∙ ends))
+ends_at w call release v a told stage.RestartEpochs st restarts ends = absurd (let zero = restarts in omega arith)
+ends_at w call release v a told stage.EndEpoch st moves ends =
     subst (λ x. (made x w).epoch ≡ w.epoch + 1 → WakesAfter w.epoch call.readers (next_at stage.EndEpoch release (answer x w told) call)) (sym st.2)
     (either (w.epoch == call.epoch) (λ hits. eqb-true _ _ hits) (wakes_one call && nat_lt (call.epoch + 1) last_epoch) refl) ends
   where
@@ -641,11 +501,7 @@ ends_at w call release v a told stage.EndEpoch st ends =
     either true hit true is e = record { wakes = wakes_now (hit refl) true is; going = refl }
     either true hit false is e = record { wakes = wakes_now (hit refl) false is; going = refl }
     either false hit one is e = absurd (never w.epoch e)
-ends_at w call release v a told stage.Wake st ends =
-    absurd (calm_pause w a (same_leaves st.2 (wake_leaves call.readers (call.epoch + 1))) ends)
-ends_at w call release v a told stage.Acquired st ends = absurd (calm w a (End true) st.3 (never w.epoch) ends)
-ends_at w call release v a told stage.Refused st ends = absurd (calm w a (End false) st.2 (never w.epoch) ends)
-ends_at w call release v a told stage.Ended st ends = absurd (calm w a (End true) st.2 (never w.epoch) ends)
+ends_at w call release v a told other st moves ends = absurd (never w.epoch (sym moves.0 ∙ ends))
 
 pub still_going : (t : Thread) (asked : LockStep) (release : Down) (next : Progress) → is_over next.0.stage ≡ false
     → goes_on t asked release next ≡ in_call t asked release next
@@ -660,7 +516,9 @@ wakes_in s h k told t at None calls ends = absurd (never s.words.epoch ends)
 wakes_in s h k told t at (Some u) calls ends =
     let now = next s h k told t at u calls in
     let where_it_is = is_in s h k told t at u calls in
-    let wakes = ends_at s.words u.call u.down (me s h k t at) u.action told u.call.stage (is_in s h k told t at u calls).0 ends in
+    let mine = me s h k t at in
+    let moves = moves_at s.words u.action u.call.stage u.call u.down mine where_it_is.0 in
+    let wakes = ends_at s.words u.call u.down mine u.action told u.call.stage where_it_is.0 moves ends in
     record {
       thread = in_call t u.asked u.down now;
       underway = record { asked = u.asked; down = u.down; call = now.0; action = now.1 };

@@ -9,7 +9,7 @@ use Rattle.lock_word.specs.declared.down.Down.TheVariants as down
 use Rattle.lock_word.specs.Word.{word_admits, amount, step_of_want, step_of_down}
 use Rattle.lock_word.specs.Rule.{WordShows}
 use Rattle.lock_word.proofs.Holders.{sum_by-slice_set, le-sum_by}
-use Rattle.lock_word.proofs.Rules.{each_after, element_of_longer, shows}
+use Rattle.lock_word.proofs.Rules.{shows}
 use Rattle.lock_sleepers.specs.declared.sleeper.SleeperView.{SleeperView}
 use Rattle.lock_sleepers.specs.Sleepers.{count_of_watch, states_of}
 use Rattle.lock_sleepers.specs.Wakes.{IsWithin, new_sleeper}
@@ -23,12 +23,13 @@ use Rattle.lock_steps.specs.declared.act.Act.TheVariants as act
 use Rattle.lock_steps.specs.declared.stage.Stage.{Stage}
 use Rattle.lock_steps.specs.declared.stage.Stage.TheVariants as stage
 use Rattle.lock_steps.specs.Machine.{Progress, acquiring, taking, wakes_one, last_epoch, closed_count}
-use Rattle.lock_steps.specs.StepLaws.{Words, made, IsAt, hold_at, is_over}
+use Rattle.lock_steps.specs.StepLaws.{Words, made, IsAt, is_over}
 use Rattle.lock_steps.specs.Runs.{Underway, Thread, LockInUse, next_in, new_thread, rests, may_acquire, may_release, in_call, goes_on, answer, with_thread, acquire_by, release_by, step_in, after_act, IsDueAt, SomeThreadIsDue, parks_at}
 use Rattle.lock_steps.specs.Sleeping.{LockWithSleepers, is_listed, without, new_lock_awake, falls_asleep, stepped, wake, wake_one, wake_all, woken_by, sleeper_in, sleeper_by, after_act_asleep, after_acts_asleep, IsParked, ServesAt, SomeThreadServes, admits_sleeper, SleepersAreServed, EverySleeperIsServed}
 use Rattle.lock_steps.proofs.Listed.{listed_without, still_listed, gone_without, listed_in_both, listed_first, not_listed, neither, false_unless, is_first, other_stays, in_longer}
-use Rattle.lock_steps.proofs.Serving.{is_one, SomeThreadWakesAll, PastIsServed, Sleeper, KeepsSleepers, MovesAt, moves_at, Serving, goes_on_serving, takes_at, take_serves, end_wakes, waker_leaves, restarter_watches, no_call}
-use Rattle.lock_steps.proofs.Fits.{parks, is_wake, sleeps_at, wakes_at, ends_at, Fits, fits_next, fits_start}
+use Rattle.lock_steps.proofs.Serving.{is_one, SomeThreadWakesAll, PastIsServed, Sleeper, KeepsSleepers, Serving, goes_on_serving, takes_at, take_serves, end_wakes, waker_leaves, restarter_watches}
+use Rattle.lock_steps.proofs.ActionKinds.{is_wake, epoch_at, wakes_at, parks_as, wakes_as}
+use Rattle.lock_steps.proofs.Moves.{MovesAt, moves_at}
 use Rattle.lock_steps.proofs.Runs.{IsKept, IsIn, limits, views_of, me, me_at, is_in, kept_at_start, kept_after_join, acquired_by, released_by, kept_after_step, none_forgotten, served, put, still_going}
 use Rattle.lock_steps.proofs.Steps.{chosen, admits_free}
 
@@ -78,8 +79,7 @@ module _ (s : LockWithSleepers) (h : KeepsSleepers s) where
   -- the threads in a call are the same ones
 
   module _ (lock : LockInUse) (new_kept : IsKept lock) (same_readers : lock.readers ≡ s.lock.readers) (same_words : lock.words ≡ s.lock.words)
-      (stays : (k : ℕ) (t : Thread) (u : Underway) → slice_get s.lock.threads k ≡ Some t → t.underway ≡ Some u → slice_get lock.threads k ≡ Some t)
-      (new_fits : (k : ℕ) (t : Thread) (u : Underway) → slice_get lock.threads k ≡ Some t → t.underway ≡ Some u → Fits u.call u.action) where
+      (stays : (k : ℕ) (t : Thread) (u : Underway) → slice_get s.lock.threads k ≡ Some t → t.underway ≡ Some u → slice_get lock.threads k ≡ Some t) where
     same_one : is_one lock ≡ is_one s.lock
     same_one = rw (same_readers, same_words) refl
 
@@ -129,7 +129,6 @@ module _ (s : LockWithSleepers) (h : KeepsSleepers s) where
     kept_still =
         record {
           kept = new_kept;
-          fits = new_fits;
           bounded = subst (λ (w : Words). w.epoch ≤ last_epoch) (sym same_words) h.bounded;
           asleep = λ k l. sleeper_still k (h.asleep k l);
           woken = λ k l. parked_still k (h.woken k l);
@@ -139,14 +138,10 @@ module _ (s : LockWithSleepers) (h : KeepsSleepers s) where
   -- a thread begins a call
 
   begins : (k : ℕ) (t x : Thread) (u : Underway) → slice_get s.lock.threads k ≡ Some t → t.underway ≡ None → x.underway ≡ Some u
-      → Fits u.call u.action → IsKept (with_thread s.lock k x) → KeepsSleepers (record s { lock = with_thread s.lock k x })
-  begins k t x u at rest calls fits new_kept =
+      → IsKept (with_thread s.lock k x) → KeepsSleepers (record s { lock = with_thread s.lock k x })
+  begins k t x u at rest calls new_kept =
       kept_still (with_thread s.lock k x) new_kept refl refl
       (λ j y z is in_a_call. other_stays s.lock.threads k j x y (λ e. busy j y z is in_a_call e) is)
-      (λ j y z is in_a_call.
-      each_after (λ (y : Thread). (z : Underway) → y.underway ≡ Some z → Fits z.call z.action) s.lock.threads k x
-      (λ z e. subst (λ (o : Underway). Fits o.call o.action) (same_Some u z (sym calls ∙ e)) fits)
-      (λ i y other is_too z e. h.fits i y z is_too e) j y is z in_a_call)
     where
       busy : (j : ℕ) (y : Thread) (z : Underway) → slice_get s.lock.threads j ≡ Some y → y.underway ≡ Some z → j ≡ k → ⊥
       busy j y z is in_a_call e =
@@ -157,7 +152,7 @@ module _ (s : LockWithSleepers) (h : KeepsSleepers s) where
           nothing z e = cc
 
   unchanged : KeepsSleepers (record s { lock = s.lock })
-  unchanged = kept_still s.lock h.kept refl refl (λ k t u is calls. is) (λ k t u is calls. h.fits k t u is calls)
+  unchanged = kept_still s.lock h.kept refl refl (λ k t u is calls. is)
 
 -- a step of a thread
 
@@ -184,8 +179,8 @@ module _ (s : LockWithSleepers) (h : KeepsSleepers s) (k told : ℕ) (t : Thread
   here : IsIn s.lock.readers (Some u) (view s h k t at)
   here = in_call_at s h k t at u calls
 
-  fit : Fits u.call u.action
-  fit = h.fits k t u at calls
+  wakes_here : is_wake u.action ≡ wakes_at u.call.stage
+  wakes_here = wakes_as u.call.stage u.call u.down (view s h k t at) u.action here.0
 
   is_mutex : IsTrue (is_one s.lock) → wakes_one u.call ≡ true
   is_mutex one = subst (λ n. (n == 1) ≡ true) (sym here.2) (and_parts _ _ one).0
@@ -200,31 +195,20 @@ module _ (s : LockWithSleepers) (h : KeepsSleepers s) (k told : ℕ) (t : Thread
         sleeps = p.sleeps;
       }
 
-  fits_after : (j : ℕ) (x : Thread) (y : Underway) → slice_get after.threads j ≡ Some x → x.underway ≡ Some y → Fits y.call y.action
-  fits_after j x y is in_a_call =
-      each_after (λ (z : Thread). (o : Underway) → z.underway ≡ Some o → Fits o.call o.action) s.lock.threads k new
-      (chosen (λ (z : Thread). (o : Underway) → z.underway ≡ Some o → Fits o.call o.action) (is_over next.0.stage)
-      (record { held = hold_at next.0.stage u.down next.0 t.held; underway = None }) (in_call t u.asked u.down next)
-      (λ over o e. no_call o e)
-      (λ going o e.
-      subst (λ (z : Underway). Fits z.call z.action) (same_Some (record { asked = u.asked; down = u.down; call = next.0; action = next.1 }) o e)
-      (fits_next u.down (answer u.action w told) u.call)))
-      (λ i z other is_too o e. h.fits i z o is_too e) j x is y in_a_call
-
   moves : MovesAt u.call.stage w u.call v
   moves = moves_at w u.action u.call.stage u.call u.down (view s h k t at) here.0
 
-  bounded_after : (st : Stage) → (IsTrue (ends_at st) → u.call.epoch < last_epoch) → MovesAt st w u.call v → v.epoch ≤ last_epoch
-  bounded_after stage.Take ends m = let b = h.bounded in omega arith
-  bounded_after stage.EndEpoch ends m =
+  bounded_after : (st : Stage) → IsAt st u.call u.down (view s h k t at) u.action → MovesAt st w u.call v → v.epoch ≤ last_epoch
+  bounded_after stage.Take is_at m = let b = h.bounded in omega arith
+  bounded_after stage.EndEpoch is_at m =
       let b = h.bounded in
-      let e = ends refl in
+      let e = is_at.3 in
       elim m [
         | inl calm ↦ (let c = calm.0 in omega arith)
         | inr hit ↦ (let x = hit.0 in let y = hit.1 in omega arith)
       ]
-  bounded_after stage.RestartEpochs ends m = omega arith
-  bounded_after other ends m = let b = h.bounded in let c = m.0 in omega arith
+  bounded_after stage.RestartEpochs is_at m = omega arith
+  bounded_after other is_at m = let b = h.bounded in let c = m.0 in omega arith
 
   -- the thread serves after its step
   serves_next : is_over next.0.stage ≡ false
@@ -308,7 +292,7 @@ module _ (s : LockWithSleepers) (h : KeepsSleepers s) (k told : ℕ) (t : Thread
                     serves_on same (p.one one free) (λ is_woken serves.
                     goes_on_serving w u.down u.call (view s h k t at) u.action told (is_mutex one) (subst IsLimit (sym here.2) h.kept.range) early counted free
                     (subst (λ n. WordShows n w.word (view s h k t at).state.held) (sym here.2) (shown_to s h k t at)) u.call.stage is_woken here.0 serves
-                    (sym fit.wakes ∙ calm) free_after same)
+                    (sym wakes_here ∙ calm) free_after same)
                     )
                 | inr taken ↦ absurd (taken free_after)
               ];
@@ -327,7 +311,7 @@ module _ (s : LockWithSleepers) (h : KeepsSleepers s) (k told : ℕ) (t : Thread
 
     past_after_end : u.call.stage ≡ stage.EndEpoch → w.epoch ≡ u.call.epoch → v.epoch ≡ w.epoch + 1 → PastIsServed quiet
     past_after_end is hit more =
-        let on = end_wakes u.call.stage w u.down u.call (view s h k t at) u.action told (ap ends_at is) here.0 hit in
+        let on = end_wakes u.call.stage w u.down u.call (view s h k t at) u.action told is here.0 hit in
         record {
           one = λ one free. serves_next on.going (on.serves v.epoch (is_listed k quiet.woken));
           all = λ not_one. record {
@@ -378,8 +362,7 @@ module _ (s : LockWithSleepers) (h : KeepsSleepers s) (k told : ℕ) (t : Thread
     kept_after_quiet_step =
         record {
           kept = kept_after_step s.lock h.kept k told t at u calls;
-          fits = fits_after;
-          bounded = bounded_after u.call.stage fit.ends moves;
+          bounded = bounded_after u.call.stage here.0 moves;
           asleep = λ j l.
               let was = listed_without k j s.asleep l in
               let z = h.asleep j was.1 in
@@ -390,11 +373,8 @@ module _ (s : LockWithSleepers) (h : KeepsSleepers s) (k told : ℕ) (t : Thread
 
   -- a wake-up
   module _ (wakes : is_wake u.action ≡ true) where
-    wakes_here : wakes_at u.call.stage ≡ true
-    wakes_here = sym fit.wakes ∙ wakes
-
     same_words : v ≡ w
-    same_words = waker_leaves u.call.stage u.call u.down (view s h k t at) u.action wakes_here here.0 w
+    same_words = waker_leaves u.call.stage u.call u.down (view s h k t at) u.action (sym wakes_here ∙ wakes) here.0 w
 
     same_epoch_after : v.epoch ≡ w.epoch
     same_epoch_after = ap (λ (x : Words). x.epoch) same_words
@@ -412,7 +392,6 @@ module _ (s : LockWithSleepers) (h : KeepsSleepers s) (k told : ℕ) (t : Thread
     kept_after_wake_all =
         record {
           kept = kept_after_step s.lock h.kept k told t at u calls;
-          fits = fits_after;
           bounded = bounded_still;
           asleep = λ j l. absurd (false≢true l);
           woken = λ j l. elim (listed_in_both j quiet.asleep quiet.woken l) [ inl slept ↦ asleep_after j slept | inr was ↦ woken_after j was ];
@@ -466,7 +445,6 @@ module _ (s : LockWithSleepers) (h : KeepsSleepers s) (k told : ℕ) (t : Thread
       kept_after_wake_of =
           record {
             kept = kept_after_step s.lock h.kept k told t at u calls;
-            fits = fits_after;
             bounded = bounded_still;
             asleep = λ j l.
                 let still = listed_without x j quiet.asleep l in
@@ -499,7 +477,6 @@ module _ (s : LockWithSleepers) (h : KeepsSleepers s) (k told : ℕ) (t : Thread
     kept_after_wake_one one [] none =
         record {
           kept = kept_after_step s.lock h.kept k told t at u calls;
-          fits = fits_after;
           bounded = bounded_still;
           asleep = λ j l. absurd (false≢true (subst (λ js. IsTrue (is_listed j js)) none l));
           woken = woken_after;
@@ -510,17 +487,21 @@ module _ (s : LockWithSleepers) (h : KeepsSleepers s) (k told : ℕ) (t : Thread
         kept_after_wake_of one x (subst (λ js. IsTrue (is_listed x js)) (sym some) (picked told i is))
 
   -- a thread falls asleep
-  falls : (a : Action) → falls_asleep s k a ≡ true → parks a ≡ true
-  falls (Park e) is_so = refl
-  falls other is_so = absurd (false≢true is_so)
+  falls : (a : Action) → falls_asleep s k a ≡ true → (st : Stage) → parks_at a ≡ epoch_at st u.call.epoch → st ≡ stage.Sleep
+  falls (Park e) is_so stage.Sleep parks = refl
+  falls (Park e) is_so other parks = cc
+  falls other is_so st parks = absurd (false≢true is_so)
 
   awake_before : (a : Action) → falls_asleep s k a ≡ true → not (is_listed k s.asleep || is_listed k s.woken) ≡ true
   awake_before (Park e) is_so = (and_parts _ _ is_so).0
   awake_before other is_so = absurd (false≢true is_so)
 
-  asleep_now : falls_asleep s k u.action ≡ true → u.call.stage ≡ stage.Sleep → u.call.epoch ≡ w.epoch
-  asleep_now is_so sleeps =
-      let st = subst (λ x. IsAt x u.call u.down (view s h k t at) u.action) sleeps here.0 in
+  falls_here : falls_asleep s k u.action ≡ true → u.call.stage ≡ stage.Sleep
+  falls_here is_so = falls u.action is_so u.call.stage (parks_as u.call.stage u.call u.down (view s h k t at) u.action here.0)
+
+  asleep_now : falls_asleep s k u.action ≡ true → u.call.epoch ≡ w.epoch
+  asleep_now is_so =
+      let st = subst (λ x. IsAt x u.call u.down (view s h k t at) u.action) (falls_here is_so) here.0 in
       let fell : falls_asleep s k (Park u.call.epoch) ≡ true = subst (λ a. falls_asleep s k a ≡ true) st.4 is_so in
       let low : u.call.epoch % 2 ^ 32 ≡ w.epoch % 2 ^ 32 = eqb-true _ _ (and_parts _ _ fell).1 in
       let within = subst (IsWithin (limits s.lock.readers) w.epoch) st.1 (h.kept.kept.within k (view s h k t at) (me_at s.lock h.kept k t at)) in
@@ -533,13 +514,12 @@ module _ (s : LockWithSleepers) (h : KeepsSleepers s) (k told : ℕ) (t : Thread
   kept_after_fall is_so =
       record {
         kept = h.kept;
-        fits = h.fits;
         bounded = h.bounded;
         asleep = λ j l.
             elim (listed_first j k s.asleep l) [
               | inl is_k ↦ subst (Sleeper (record s { asleep = k ∷ s.asleep })) (sym is_k) record {
-                parked = record { thread = t; underway = u; is = at; calls = calls; sleeps = sleeps u.call.stage refl (sym fit.parks ∙ falls u.action is_so) };
-                since = inl (asleep_now is_so (sleeps u.call.stage refl (sym fit.parks ∙ falls u.action is_so)));
+                parked = record { thread = t; underway = u; is = at; calls = calls; sleeps = falls_here is_so };
+                since = inl (asleep_now is_so);
               }
               | inr slept ↦ (let z = h.asleep j slept in record { parked = z.parked; since = elim z.since [ inl now ↦ inl now | inr past ↦ inr (same_past past) ] })
             ];
@@ -547,10 +527,6 @@ module _ (s : LockWithSleepers) (h : KeepsSleepers s) (k told : ℕ) (t : Thread
         apart = λ j l. not_listed j k s.asleep (λ is_k. unwoken (subst (λ n. IsTrue (is_listed n s.woken)) is_k l)) (h.apart j l);
       }
     where
-      sleeps : (st : Stage) → u.call.stage ≡ st → sleeps_at st ≡ true → u.call.stage ≡ stage.Sleep
-      sleeps stage.Sleep is is_so = is
-      sleeps other is is_so = absurd (false≢true is_so)
-
       unwoken : IsTrue (is_listed k s.woken) → ⊥
       unwoken l = neither (is_listed k s.asleep) (is_listed k s.woken) (awake_before u.action is_so) l
 
@@ -559,7 +535,7 @@ module _ (s : LockWithSleepers) (h : KeepsSleepers s) (k told : ℕ) (t : Thread
       woken_server x is_k =
           let same = same_call s h k t x.thread u x.underway at calls (subst (λ n. slice_get s.lock.threads n ≡ Some x.thread) is_k x.is) x.calls in
           let stage_is : x.underway.call.stage ≡ stage.Sleep =
-          ap (λ (y : Underway). y.call.stage) same ∙ sleeps u.call.stage refl (sym fit.parks ∙ falls u.action is_so)
+          ap (λ (y : Underway). y.call.stage) same ∙ falls_here is_so
           in
           subst (λ n. IsTrue (is_listed n s.woken)) is_k
           (and_parts (wakes_one x.underway.call) (is_listed x.number s.woken) (subst (λ st. ServesAt w.epoch (is_listed x.number s.woken) st x.underway.down x.underway.call) stage_is x.serves)).1
@@ -598,11 +574,6 @@ module _ (s : LockWithSleepers) (h : KeepsSleepers s) where
   after_join =
       kept_still s h (after_act s.lock act.Join) (kept_after_join s.lock h.kept) refl refl
       (λ k t u is calls. in_longer s.lock.threads new_thread t k is)
-      (λ k t u is calls.
-      elim (element_of_longer s.lock.threads new_thread t k is) [
-        | inl old ↦ h.fits k t u old calls
-        | inr new ↦ no_call u (ap (λ (x : Thread). x.underway) (sym new) ∙ calls)
-      ])
 
   at_rest : (t : Thread) → IsTrue (rests t.underway) → t.underway ≡ None
   at_rest t is_so = either t.underway is_so
@@ -626,7 +597,7 @@ module _ (s : LockWithSleepers) (h : KeepsSleepers s) where
           → KeepsSleepers (record s { lock = if b then with_thread s.lock k (acquirer t want blocks announces) else s.lock })
       either true may kept =
           begins s h k t (acquirer t want blocks announces) (record { asked = step_of_want want; down = down.Shared; call = (acquiring s.lock.readers want blocks announces).0; action = Load Word }) at
-          (at_rest t (and_parts _ _ may).0) refl (fits_start (acquiring s.lock.readers want blocks announces).0 stage.Look (Load Word) refl refl refl) kept
+          (at_rest t (and_parts _ _ may).0) refl kept
       either false may_not kept = unchanged s h
 
   after_release : (k : ℕ) (release : Down) (o : Option Thread) → slice_get s.lock.threads k ≡ o
@@ -638,8 +609,7 @@ module _ (s : LockWithSleepers) (h : KeepsSleepers s) where
           → KeepsSleepers (record s { lock = if b then with_thread s.lock k (releaser t release) else s.lock })
       either true may kept =
           begins s h k t (releaser t release) (record { asked = step_of_down release; down = release; call = (taking s.lock.readers release).0; action = Subtract Word (amount release) }) at
-          (at_rest t (and_parts _ _ may).0) refl
-          (fits_start (taking s.lock.readers release).0 stage.Take (Subtract Word (amount release)) refl refl refl) kept
+          (at_rest t (and_parts _ _ may).0) refl kept
       either false may_not kept = unchanged s h
 
   sleeper_after_in : (k told : ℕ) (t : Thread) → slice_get s.lock.threads k ≡ Some t → (o : Option Underway) → t.underway ≡ o
@@ -668,11 +638,6 @@ start : (readers : ℕ) → IsLimit readers → KeepsSleepers (new_lock_awake re
 start readers range =
     record {
       kept = kept_at_start readers range;
-      fits = λ k t u is calls.
-          elim (element_of_longer [] new_thread t k is) [
-            | inl old ↦ cc
-            | inr new ↦ no_call u (ap (λ (x : Thread). x.underway) (sym new) ∙ calls)
-          ];
       bounded = omega arith;
       asleep = λ k l. absurd (false≢true l);
       woken = λ k l. absurd (false≢true l);
@@ -714,7 +679,8 @@ module _ (s : LockWithSleepers) (h : KeepsSleepers s) where
 
   someone_wakes : SomeThreadWakesAll s.lock → SomeThreadServes s
   someone_wakes x =
-      let fit = h.fits x.number x.thread x.underway x.is x.calls in
+      let here = in_call_at s h x.number x.thread x.is x.underway x.calls in
+      let wakes = sym (wakes_as x.underway.call.stage x.underway.call x.underway.down (view s h x.number x.thread x.is) x.underway.action here.0) in
       record {
         number = x.number;
         thread = x.thread;
@@ -723,10 +689,10 @@ module _ (s : LockWithSleepers) (h : KeepsSleepers s) where
         calls = x.calls;
         serves =
             wake_serves s.lock.words.epoch (is_listed x.number s.woken) x.underway.call.stage x.underway.down x.underway.call
-            (sym fit.wakes ∙ ap is_wake x.wakes);
+            (wakes ∙ ap is_wake x.wakes);
         awake =
             awake_elsewhere x.number x.thread x.underway x.is x.calls
-            (λ sleeps. false≢true (ap wakes_at (sym sleeps) ∙ (sym fit.wakes ∙ ap is_wake x.wakes)));
+            (λ sleeps. false≢true (ap wakes_at (sym sleeps) ∙ (wakes ∙ ap is_wake x.wakes)));
       }
 
   forgotten_by_none : (k : ℕ) (t : Thread) (u : Underway) → IsTrue (is_listed k s.asleep) → slice_get s.lock.threads k ≡ Some t

@@ -495,7 +495,7 @@ module _ (before : Hold) (views : List SleeperView) (k : ℕ) (down : Down) (w :
       (λ early. record {
         you = with_debt me (OwesAt w.epoch);
         kept = each.notes (λ nothing. owes_something (sym st.1 ∙ nothing));
-        is_at = (st.0, refl, refl);
+        is_at = (st.0, refl, refl, ltb-true _ _ early);
         holds = hd;
         same_lock = refl;
         same_ask = refl;
@@ -595,7 +595,7 @@ module _ (before : Hold) (views : List SleeperView) (k : ℕ) (down : Down) (w :
         on_answer (Load Epoch) w.epoch (λ n. next_at stage.NoteEpoch down n call) st.2 (λ e. e) (at_note_epoch (st.0, st.1, refl) hd) answer
     by_stage stage.EndEpoch st hd going answer =
         on_answer (Exchange Epoch call.epoch (call.epoch + 1)) w.epoch (λ n. next_at stage.EndEpoch down n call) st.2 (λ e. e)
-        (at_end_epoch (st.0, st.1, refl) hd) answer
+        (at_end_epoch (st.0, st.1, refl, st.3) hd) answer
     by_stage stage.Wake st hd going answer = on_pause (ended true call) (same_leaves st.2 (wake_leaves call.readers (call.epoch + 1))) (at_wake action st hd)
     by_stage stage.Acquired st hd going answer = absurd (true≢false going)
     by_stage stage.Refused st hd going answer = absurd (true≢false going)

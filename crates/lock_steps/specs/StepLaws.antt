@@ -148,7 +148,7 @@ IsAt stage.OpenCount call down v a = Acquiring call v × (v.watch ≡ Restarts) 
 IsAt stage.Take call down v a = IsTrue (hold_has v.state.held (step_of_down down)) × (v.watch ≡ Away) × (v.debt ≡ Nothing) × (a ≡ Subtract Word (amount down))
 IsAt stage.LookForSleepers call down v a = (v.watch ≡ Away) × (v.debt ≡ debt_after (has_to_wake down call) Nothing) × (a ≡ Load Count)
 IsAt stage.NoteEpoch call down v a = (v.watch ≡ Away) × (v.debt ≡ Owes) × (a ≡ Load Epoch)
-IsAt stage.EndEpoch call down v a = (v.watch ≡ Away) × (v.debt ≡ OwesAt call.epoch) × (a ≡ Exchange Epoch call.epoch (call.epoch + 1))
+IsAt stage.EndEpoch call down v a = (v.watch ≡ Away) × (v.debt ≡ OwesAt call.epoch) × (a ≡ Exchange Epoch call.epoch (call.epoch + 1)) × (call.epoch < last_epoch)
 IsAt stage.Wake call down v a = (v.watch ≡ Away) × (v.debt ≡ Nothing) × (a ≡ wake_at call.readers (call.epoch + 1))
 -- a call that acquired holds what it wanted, and one that did not holds what it held
 IsAt stage.Acquired call down v a = (v.watch ≡ Away) × (v.debt ≡ Nothing) × Gained call v × (a ≡ End true)
