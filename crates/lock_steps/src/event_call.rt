@@ -24,8 +24,7 @@ pub struct EventCall {
 }
 
 impl EventCall {
-    ghost use Rattle.lock_steps.specs.declared.event_stage.EventStage.TheVariants.{Wake, Notified};
-    ghost use Rattle.lock_steps.specs.Events.{waiting, notifying, event_next, action_of, event_to};
+    ghost use Rattle.lock_steps.specs.Events.{waiting, notifying, event_at, event_next, action_of, event_to};
 
     /// Begins a wait, whose caller holds the mutex. Returns the call and its first action.
     pub fn wait() -> (EventCall, Action)
@@ -61,38 +60,16 @@ impl EventCall {
         ensures action { result ≡ action_of self.new }
     {
         match self.stage {
-            EventStage::FindCount => {
-                if found >= CLOSED_COUNT - 1 {
-                    return self.to(EventStage::YieldAway, Action::Yield);
-                }
-                self.loaded = found;
-                self.to(
-                    EventStage::CountIn,
-                    Action::Exchange(Place::Count, found, found + 1),
-                )
-            }
+            EventStage::FindCount => self.find_count(found),
             EventStage::CountIn if found == self.loaded => {
                 self.to(EventStage::WatchEpoch, Action::Load(Place::Epoch))
             }
             EventStage::CountIn | EventStage::YieldAway => {
                 self.to(EventStage::FindCount, Action::Load(Place::Count))
             }
-            EventStage::WatchEpoch => {
-                self.epoch = found;
-                self.to(EventStage::Unlock, Action::Unlock)
-            }
-            EventStage::Unlock => {
-                let epoch = self.epoch;
-                if epoch < LAST_EPOCH {
-                    self.to(EventStage::Sleep, Action::Park(epoch))
-                } else {
-                    self.to(EventStage::YieldCounted, Action::Yield)
-                }
-            }
-            EventStage::Sleep | EventStage::YieldCounted => {
-                self.late = found != 0;
-                self.to(EventStage::Leave, Action::Subtract(Place::Count, 1))
-            }
+            EventStage::WatchEpoch => self.watch_epoch(found),
+            EventStage::Unlock => self.sleep(),
+            EventStage::Sleep | EventStage::YieldCounted => self.wake_up(found),
             EventStage::Leave => self.to(EventStage::FindEpoch, Action::Load(Place::Epoch)),
             EventStage::FindEpoch if found >= LAST_EPOCH => self.to(
                 EventStage::CloseCount,
@@ -108,31 +85,90 @@ impl EventCall {
             EventStage::FindEpoch | EventStage::CloseCount | EventStage::OpenCount => {
                 self.to(EventStage::Lock, Action::Lock)
             }
-            EventStage::Lock | EventStage::Waited => {
-                let is_in_time = !self.late;
-                self.to(EventStage::Waited, Action::End(is_in_time))
-            }
-            EventStage::FindWaits => {
-                self.loaded = found % CLOSED_COUNT;
-                if found == 0 {
-                    return self.end_notification();
-                }
-                self.to(EventStage::NoteEpoch, Action::Load(Place::Epoch))
-            }
-            EventStage::NoteEpoch => {
-                self.epoch = found;
-                if found >= LAST_EPOCH {
-                    return self.wake();
-                }
-                self.to(
-                    EventStage::EndEpoch,
-                    Action::Exchange(Place::Epoch, found, found + 1),
-                )
-            }
+            EventStage::Lock | EventStage::Waited => self.end_wait(),
+            EventStage::FindWaits => self.find_waits(found),
+            EventStage::NoteEpoch => self.end_epoch(found),
             // If another call ended the epoch, that one may wake one thread alone.
             EventStage::EndEpoch => self.wake(),
             EventStage::Wake | EventStage::Notified => self.end_notification(),
         }
+    }
+
+    fn find_count(&mut self, count: u64) -> Action
+        ensures call { self.new ≡ event_at EventStage.FindCount count self.old }
+        ensures action { result ≡ action_of self.new }
+    {
+        if count >= CLOSED_COUNT - 1 {
+            return self.to(EventStage::YieldAway, Action::Yield);
+        }
+        self.loaded = count;
+        self.to(
+            EventStage::CountIn,
+            Action::Exchange(Place::Count, count, count + 1),
+        )
+    }
+
+    /// Registers a counted wait, and then releases the mutex.
+    fn watch_epoch(&mut self, epoch: u64) -> Action
+        ensures call { self.new ≡ event_at EventStage.WatchEpoch epoch self.old }
+        ensures action { result ≡ action_of self.new }
+    {
+        self.epoch = epoch;
+        self.to(EventStage::Unlock, Action::Unlock)
+    }
+
+    fn sleep(&mut self) -> Action
+        ensures call { self.new ≡ event_at EventStage.Unlock 0 self.old }
+        ensures action { result ≡ action_of self.new }
+    {
+        let epoch = self.epoch;
+        if epoch < LAST_EPOCH {
+            self.to(EventStage::Sleep, Action::Park(epoch))
+        } else {
+            self.to(EventStage::YieldCounted, Action::Yield)
+        }
+    }
+
+    /// Ends a sleep, or the yield in its place. An answer other than 0 says that the deadline has passed.
+    fn wake_up(&mut self, answer: u64) -> Action
+        ensures call { self.new ≡ event_at EventStage.Sleep answer self.old }
+        ensures action { result ≡ action_of self.new }
+    {
+        self.late = answer != 0;
+        self.to(EventStage::Leave, Action::Subtract(Place::Count, 1))
+    }
+
+    fn end_wait(&mut self) -> Action
+        ensures call { self.new ≡ event_to EventStage.Waited self.old }
+        ensures action { result ≡ action_of self.new }
+    {
+        let is_in_time = !self.late;
+        self.to(EventStage::Waited, Action::End(is_in_time))
+    }
+
+    fn find_waits(&mut self, count: u64) -> Action
+        ensures call { self.new ≡ event_at EventStage.FindWaits count self.old }
+        ensures action { result ≡ action_of self.new }
+    {
+        self.loaded = count % CLOSED_COUNT;
+        if count == 0 {
+            return self.end_notification();
+        }
+        self.to(EventStage::NoteEpoch, Action::Load(Place::Epoch))
+    }
+
+    fn end_epoch(&mut self, epoch: u64) -> Action
+        ensures call { self.new ≡ event_at EventStage.NoteEpoch epoch self.old }
+        ensures action { result ≡ action_of self.new }
+    {
+        self.epoch = epoch;
+        if epoch >= LAST_EPOCH {
+            return self.wake();
+        }
+        self.to(
+            EventStage::EndEpoch,
+            Action::Exchange(Place::Epoch, epoch, epoch + 1),
+        )
     }
 
     fn to(&mut self, stage: EventStage, action: Action) -> Action
@@ -144,7 +180,7 @@ impl EventCall {
     }
 
     fn wake(&mut self) -> Action
-        ensures call { self.new ≡ event_to Wake self.old }
+        ensures call { self.new ≡ event_to EventStage.Wake self.old }
         ensures action { result ≡ action_of self.new }
     {
         let action = if self.all {
@@ -156,7 +192,7 @@ impl EventCall {
     }
 
     fn end_notification(&mut self) -> Action
-        ensures call { self.new ≡ event_to Notified self.old }
+        ensures call { self.new ≡ event_to EventStage.Notified self.old }
         ensures action { result ≡ action_of self.new }
     {
         let found_some = self.loaded != 0;

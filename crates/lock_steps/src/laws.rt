@@ -9,6 +9,8 @@ ghost use Rattle.lock_steps.specs.EventRuns.{EveryWaitIsReached};
 /// The threads hold nothing at first. They acquire, upgrade, downgrade and release. What they hold is compatible, and the
 /// word is its sum. If the word admits what a thread sleeps for in the present epoch, some thread is in the middle of a
 /// release: it has yet to look for sleepers or to end the epoch. A step that ends an epoch is followed by a wake-up.
+///
+/// A call that ends with true has made its change. One that ends with false has changed nothing, and leaves no bar.
 pub fn every_run_is_served()
     ensures { EveryRunIsServed }
 {}
