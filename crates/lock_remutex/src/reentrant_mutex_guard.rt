@@ -13,7 +13,7 @@ pub struct ReentrantMutexGuard<'a, R: RawMutex, T> {
 impl<'a, R: RawMutex, T> ReentrantMutexGuard<'a, R, T> {
     ghost use Rattle.std.specs.Prelude.{◌≡◌, IfOk, IfErr, MatchResult};
     ghost use Rattle.lock_base.specs.Party.{id_of};
-    ghost use Rattle.lock_remutex.specs.Guards.{guard_lock, IsGuardOf, IsSameGuard};
+    ghost use Rattle.lock_remutex.specs.Guards.{guard_lock, guard_party, IsGuardOf, IsSameGuard};
 
     /// Makes the guard of a level that the party has.
     pub(crate) fn new(remutex: &'a ReentrantMutex<R, T>, party: PartyId) -> Self
@@ -27,6 +27,13 @@ impl<'a, R: RawMutex, T> ReentrantMutexGuard<'a, R, T> {
         ensures { result ≡ guard_lock guard.now }
     {
         guard.remutex
+    }
+
+    /// Returns the party whose level the guard is.
+    pub fn party(guard: &Self) -> PartyId
+        ensures { id_of result ≡ guard_party guard.now }
+    {
+        guard.party
     }
 
     /// Releases one level, runs `f`, and acquires one level again, as `lock`.
