@@ -3,23 +3,12 @@ use Rattle.std.proofs.Common.{◌≡◌, ◌≢◌, ℕ, ◌+◌, ◌-◌, ◌<�
 use Rattle.std.specs.Prelude.{nat_lt, ◌&&◌, ◌||◌, ◌↔◌, IsSome, IfSome, IsErr, IfOk, MatchBool}
 use Rattle.std.specs.Option.{option_map_or}
 use Rattle.std.specs.Result.{result_unwrap_or}
-use Rattle.std.proofs.lemmas.Bool.{eq-eqb, ne_eqb, eqb-true, eqb-false, lt-ltb}
+use Rattle.std.proofs.lemmas.Bool.{eq-eqb, ne_eqb, eqb-true, eqb-false, lt-ltb, and_parts, and_right, not_from_true}
+use Rattle.std.proofs.lemmas.List.{nil_from_length}
 use Rattle.lock_base.specs.declared.raw.fault.Fault.{Fault}
 use Rattle.lock_base.specs.Entries.{Entry, all_of_party, some_of_party}
 use Rattle.lock_base.specs.Levels.{Levels, Owner, IsLawful, GainsLevel, level_of}
 use Rattle.lock_desk.specs.Owners.{OwnsLevels, may_add_level, HasAddedLevel, one_level_less}
-
-and_left : (a b : Bool) → a && b ≡ true → a ≡ true
-and_left true b h = refl
-and_left false b h = h
-
-pub and_right : (a b : Bool) → a && b ≡ true → b ≡ true
-and_right true b h = h
-and_right false b h = cc
-
-no_length : {X : Type 0} (xs : List X) → length xs ≡ 0 → xs ≡ []
-no_length [] e = refl
-no_length (x ∷ xs) e = absurd (omega arith)
 
 -- entries that all belong to one party all belong to another if the two are one
 party_of_all : (q p : ℕ) (xs : List Entry) → 0 < length xs → all_of_party q xs ≡ true → all_of_party p xs ≡ nat_eq q p
@@ -28,7 +17,7 @@ party_of_all q p (x ∷ xs) l a =
     elim (nat_eq q p) as (λ b. nat_eq q p ≡ b → all_of_party p (x ∷ xs) ≡ b) [
       | true ↦ λ e. subst (λ r. all_of_party r (x ∷ xs) ≡ true) (eqb-true q p e) a
       | false ↦ λ e.
-          let first : x.party ≡ q = eqb-true x.party q (and_left (nat_eq x.party q) _ a) in
+          let first : x.party ≡ q = eqb-true x.party q (and_parts (nat_eq x.party q) _ a).0 in
           let other : nat_eq x.party p ≡ false = ap (λ r. nat_eq r p) first ∙ e in
           rw other refl
     ] refl
@@ -36,8 +25,8 @@ party_of_all q p (x ∷ xs) l a =
 some_of_all : (q p : ℕ) (xs : List Entry) → 0 < length xs → all_of_party q xs ≡ true → some_of_party p xs ≡ nat_eq q p
 some_of_all q p [] l a = absurd (omega arith)
 some_of_all q p (x ∷ xs) l a =
-    let first : x.party ≡ q = eqb-true x.party q (and_left (nat_eq x.party q) _ a) in
-    rw first (rest_of xs (and_right (nat_eq x.party q) _ a))
+    let first : x.party ≡ q = eqb-true x.party q (and_parts (nat_eq x.party q) _ a).0 in
+    rw first (rest_of xs (and_parts (nat_eq x.party q) _ a).1)
   where
     once_more : (b c : Bool) → b || c ≡ b → b || (b || c) ≡ b
     once_more true c h = refl
@@ -50,8 +39,8 @@ some_of_all q p (x ∷ xs) l a =
     rest_of : (xs : List Entry) → all_of_party q xs ≡ true → nat_eq q p || some_of_party p xs ≡ nat_eq q p
     rest_of [] a = or_false (nat_eq q p)
     rest_of (x ∷ xs) a =
-        let next : x.party ≡ q = eqb-true x.party q (and_left (nat_eq x.party q) _ a) in
-        rw next (once_more (nat_eq q p) (some_of_party p xs) (rest_of xs (and_right (nat_eq x.party q) _ a)))
+        let next : x.party ≡ q = eqb-true x.party q (and_parts (nat_eq x.party q) _ a).0 in
+        rw next (once_more (nat_eq q p) (some_of_party p xs) (rest_of xs (and_parts (nat_eq x.party q) _ a).1))
 
 module _ {K : Type 0} where
   -- the levels of a party, by the owner
@@ -62,7 +51,7 @@ module _ {K : Type 0} where
 
   pub owns_same : (owner : Option (Owner K)) (xs ys : List Entry) → OwnsLevels owner xs → length xs ≡ length ys
       → ((p : ℕ) → all_of_party p xs ≡ all_of_party p ys) → OwnsLevels owner ys
-  owns_same None xs ys h l a = no_length ys (sym l ∙ ap length h)
+  owns_same None xs ys h l a = nil_from_length ys (sym l ∙ ap length h)
   owns_same (Some o) xs ys h l a = (h.0, sym l ∙ h.1, sym (a o.party) ∙ h.2)
 
   pub owns_less : (owner : Option (Owner K)) (q : ℕ) (xs ys : List Entry) → OwnsLevels owner xs
@@ -72,11 +61,11 @@ module _ {K : Type 0} where
   owns_less (Some o) q xs ys h l a = less_by (nat_eq o.count 1) refl
     where
       less_by : (b : Bool) → nat_eq o.count 1 ≡ b → OwnsLevels (cond b None (Some (record o { count = o.count - 1 }))) ys
-      less_by true e = let one = eqb-true o.count 1 e in no_length ys (omega (arith, h.1))
+      less_by true e = let one = eqb-true o.count 1 e in nil_from_length ys (omega (arith, h.1))
       less_by false e = let more = eqb-false o.count 1 e in (
         omega (arith, h.0),
         omega (arith, h.1, h.0),
-        and_right (nat_eq q o.party) (all_of_party o.party ys) (sym (a o.party) ∙ h.2),
+        (and_parts (nat_eq q o.party) (all_of_party o.party ys) (sym (a o.party) ∙ h.2)).1,
       )
 
   pub owns_more : (limit party : ℕ) (owner new : Option (Owner K)) (xs ys : List Entry) → OwnsLevels owner xs
@@ -87,7 +76,7 @@ module _ {K : Type 0} where
       (omega arith, omega (arith, ap length h), a party ∙ rw (eq-eqb party party refl, h) refl) in
       subst (λ w. OwnsLevels w ys) (sym e.1) first
   owns_more limit party (Some o) new xs ys h m e l a =
-      let same : o.party ≡ party = eqb-true o.party party (and_left (nat_eq o.party party) _ m) in
+      let same : o.party ≡ party = eqb-true o.party party (and_parts (nat_eq o.party party) _ m).0 in
       let next : OwnsLevels (Some (record o { count = o.count + 1 })) ys =
       (omega arith, omega (arith, h.1), a o.party ∙ rw (eq-eqb party o.party (sym same), h.2) refl) in
       subst (λ w. OwnsLevels w ys) (sym e) next
@@ -97,7 +86,7 @@ module _ {K : Type 0} where
       → ((p : ℕ) → all_of_party p xs ≡ nat_eq q p && all_of_party p ys) → count_for q owner ≡ length xs
   holder_owns None q xs ys h l a = absurd (omega (arith, ap length h))
   holder_owns (Some o) q xs ys h l a =
-      let same : q ≡ o.party = eqb-true q o.party (and_left (nat_eq q o.party) _ (sym (a o.party) ∙ h.2)) in
+      let same : q ≡ o.party = eqb-true q o.party (and_parts (nat_eq q o.party) _ (sym (a o.party) ∙ h.2)).0 in
       rw (eq-eqb o.party q (sym same)) (sym h.1)
 
   -- the owner admits the parties that the held entries admit
@@ -155,10 +144,6 @@ module _ {K : Type 0} where
       → result_unwrap_or r false ≡ may_add_level l.limit p l.owner
   again_admits l m p r owned lawful full more = by_answer r full more ∙ sym (may_by l.limit p l.owner owned lawful.1)
     where
-      last_test : (a b : Bool) → b ≡ true → a && not b ≡ false
-      last_test true b e = rw e refl
-      last_test false b e = refl
-
       by_answer : (r : Result Bool Fault) → IsErr r ↔ (level_of l p ≡ l.limit)
           → IfOk r (λ more. MatchBool more (GainsLevel l m p) ((level_of l p ≡ 0) × (m ≡ l)))
           → result_unwrap_or r false ≡ (not (nat_eq (level_of l p) 0) && not (nat_eq (level_of l p) l.limit))
@@ -167,8 +152,8 @@ module _ {K : Type 0} where
           sym (rw (ne_eqb (level_of l p) 0 (λ e. let h = more.owned in absurd (omega arith)), ne_eqb (level_of l p) l.limit below) refl)
       by_answer (Ok false) full more = sym (rw (more.0) refl)
       by_answer (Err f) full more =
-          sym (last_test (not (nat_eq (level_of l p) 0)) (nat_eq (level_of l p) l.limit)
-          (eq-eqb (level_of l p) l.limit (full.0 refl)))
+          sym (and_right (not (nat_eq (level_of l p) 0)) (not (nat_eq (level_of l p) l.limit))
+          (not_from_true (nat_eq (level_of l p) l.limit) (eq-eqb (level_of l p) l.limit (full.0 refl))))
 
 -- what is not something is nothing
 pub not_some : {X : Type 0} (o : Option X) → (IsSome o → false ≡ true) → o ≡ None
