@@ -4,17 +4,17 @@ use Rattle.std.specs.Prelude.{slice_get}
 use Rattle.std.proofs.lemmas.Option.{slice_get_within, get_or_from_slice_get}
 use Rattle.std.proofs.lemmas.List.{get_or_past}
 use Rattle.lock_base.specs.declared.machine.mode.Mode.{Mode}
-use Rattle.lock_base.specs.declared.machine.mode.Mode.TheVariants.{Shared, Exclusive, Upgradable}
 use Rattle.lock_base.specs.declared.machine.bag.Bag.{Bag}
 use Rattle.lock_base.specs.Modes.{one_more, one_less, count_of}
 use Rattle.lock_base.specs.Tokens.{SameBag, bag_of_tokens}
+use Rattle.lock_base.proofs.ModeLemmas.{one_less-one_more, count-one_more}
 use Rattle.lock_base.proofs.TokenBags.{same_length, bag_of_same}
 use Rattle.lock_word.proofs.Bars.{other_stays}
 use Rattle.lock_states.specs.declared.places.Place.{Place}
 use Rattle.lock_states.specs.declared.places.Place.TheVariants.{Free, Taken}
 use Rattle.lock_states.specs.Places.{mode_in, modes_in, IsChain}
 use Rattle.lock_states.specs.TableState.{tokens_from, tokens_of, IsTable}
-use Rattle.lock_states.proofs.TableTokens.{taken, freed, changed}
+use Rattle.lock_states.proofs.TableTokens.{get_set, taken, freed, changed}
 
 pub length-modes_in : (ps : List Place) → length (modes_in ps) ≡ length ps
 length-modes_in [] = refl
@@ -29,11 +29,6 @@ pub modes_in-get : (ps : List Place) (i : ℕ) (p : Place) → slice_get ps i �
 modes_in-get [] i p e = cc
 modes_in-get (q ∷ ps) zero p e = let is : q ≡ p = cc in ap (λ w. Some (mode_in w)) is
 modes_in-get (q ∷ ps) (suc i) p e = modes_in-get ps i p e
-
-get_set : (ps : List Place) (i : ℕ) (p q : Place) → slice_get ps i ≡ Some q → slice_get (set ps i p) i ≡ Some p
-get_set [] i p q e = cc
-get_set (r ∷ ps) zero p q e = refl
-get_set (r ∷ ps) (suc i) p q e = get_set ps i p q e
 
 -- a start has at most one length of chain
 pub one_chain : (ps : List Place) (m n : ℕ) (start : Option ℕ) → IsChain ps m start → IsChain ps n start → m ≡ n
@@ -92,16 +87,6 @@ rest_of ps (suc n) at start next c e there =
       ),
     )
 
-more_less : (b : Bag) (mode : Mode) → one_less (one_more b mode) mode ≡ b
-more_less b Shared = let e : b.shared + 1 - 1 ≡ b.shared = omega arith in ap (λ n. record b { shared = n }) e
-more_less b Exclusive = let e : b.exclusive + 1 - 1 ≡ b.exclusive = omega arith in ap (λ n. record b { exclusive = n }) e
-more_less b Upgradable = let e : b.upgradable + 1 - 1 ≡ b.upgradable = omega arith in ap (λ n. record b { upgradable = n }) e
-
-counted_more : (b : Bag) (mode : Mode) → 0 < count_of (one_more b mode) mode
-counted_more b Shared = omega arith
-counted_more b Exclusive = omega arith
-counted_more b Upgradable = omega arith
-
 -- the first free place is taken
 pub filled : (ps : List Place) (bag : Bag) (start next : Option ℕ) (readers at : ℕ) (mode : Mode)
     → IsTable ps bag start readers → start ≡ Some at → slice_get ps at ≡ Some (Free next)
@@ -138,11 +123,11 @@ vacated ps bag start readers at mode t there =
     let longer = same_length same in
     let number = ap (λ w. length (tokens_of w)) modes in
     let long = length-set ps at (Free start) in (
-      rw whole (counted_more left mode),
+      rw whole (count-one_more left mode),
       record {
         places = rw long t.places;
         limit = t.limit;
-        counted = ap (λ b. one_less b mode) whole ∙ more_less left mode ∙ sym (ap (λ w. bag_of_tokens (tokens_of w)) modes);
+        counted = ap (λ b. one_less b mode) whole ∙ one_less-one_more left mode ∙ sym (ap (λ w. bag_of_tokens (tokens_of w)) modes);
         free = suc t.free;
         all = omega (arith, t.all, longer, number, long);
         chain = (
@@ -247,10 +232,10 @@ remoded ps bag start readers at from to t there =
     let modes = modes_in-set ps at (Taken to) in
     let left : Bag = bag_of_tokens (tokens_of (set (modes_in ps) at None)) in
     let whole : bag ≡ one_more left from = t.counted ∙ bag_of_same _ _ out in
-    let less : one_less bag from ≡ left = ap (λ b. one_less b from) whole ∙ more_less left from in
+    let less : one_less bag from ≡ left = ap (λ b. one_less b from) whole ∙ one_less-one_more left from in
     let number = ap (λ w. length (tokens_of w)) modes in
     let long = length-set ps at (Taken to) in (
-      rw whole (counted_more left from),
+      rw whole (count-one_more left from),
       record {
         places = rw long t.places;
         limit = t.limit;
