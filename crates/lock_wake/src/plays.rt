@@ -1,4 +1,4 @@
-//! The kinds of step on the three words, and what each tells the party that makes it.
+//! The kinds of step on the three words, and what each tells the party that makes it. An event count has some of them.
 ghost use Rattle.lock_wake.specs.Plays.{Loads, Exchanges, Takes, CountsIn, CountsOut, LooksForSleepers, Closes, Opens, Watches, Notes, BeginsAnew};
 
 use crate::rule::WakeView;
@@ -25,7 +25,7 @@ impl Play<(), WakeView> for Take {
     ghost then = { Takes };
 }
 
-/// An exchange of the count that counts the party as a sleeper.
+/// An exchange of the count that counts the party.
 pub(crate) struct CountIn;
 
 impl Play<(), WakeView> for CountIn {

@@ -3,10 +3,9 @@ ghost use Rattle.std.specs.Prelude.{◌≡◌, ◌↔◌, ◌<◌, ◌^◌, IfOk
 ghost use Rattle.lock_base.specs.Limits.{IsLimit, IsMakerFault};
 
 use crate::rule::{WakeRule, WakeView};
-use crate::sleepers::LAST_EPOCH;
 use atomic_table::Table;
 use lock_base::raw::{Fault, is_limit};
-use lock_sleepers::WakeLimits;
+use lock_sleepers::{LAST_EPOCH, WakeLimits};
 use lock_word::{has_exclusive, has_tokens};
 use std::alloc::Global;
 use std::marker::Model;

@@ -17,9 +17,9 @@ use crate::plays::{
     RestartEpochs, Take, WatchEpoch,
 };
 use crate::rule::WakeView;
-use crate::sleepers::CLOSED_COUNT;
 use crate::word_lock::{COUNT, EPOCH, WORD, WordLock};
 use atomic_table::Play;
+use lock_sleepers::CLOSED_COUNT;
 use lock_word::seated::Attempt;
 use lock_word::{Down, ExWant};
 use std::sync::Wait;
