@@ -1,8 +1,8 @@
 //! How a release wakes the users that sleep.
-ghost use Rattle.std.specs.Prelude.{◌≡◌, ℕ};
+ghost use Rattle.std.specs.Prelude.{◌≡◌};
 ghost use Rattle.lock_ruled.specs.declared.rule.UserStage.TheVariants.{Free, Owes};
 ghost use Rattle.lock_ruled.specs.Plays.{at_stage, EndsEpoch};
-ghost use Rattle.lock_wake.specs.OwedWakes.{owed_after};
+ghost use Rattle.lock_wake.specs.OwedWakes.{owed};
 ghost use Rattle.lock_wake.specs.declared.owed_wake.Whom.TheVariants.{All};
 
 use crate::mutex::{EPOCH, LAST_EPOCH, RuledMutex};
@@ -26,13 +26,13 @@ impl<T: Drop, V, P: MutexRule<T, V>> RuledMutex<T, V, P> {
         requires owes { seat.old.me.0.stage ≡ Owes }
         ensures seat { seat.new.table_id ≡ seat.old.table_id }
         ensures done { seat.new.me ≡ at_stage seat.old.me Free }
-        ensures wake { (epoch : ℕ) × (result ≡ owed_after 1 epoch epoch All) }
+        ensures wake { result ≡ owed 1 All }
     {
         let shared = &self.table.shared;
         let epoch = shared.load::<NoteEpoch>(seat, EPOCH);
         if epoch < LAST_EPOCH {
             shared.compare_exchange::<EndEpoch>(seat, EPOCH, epoch, epoch + 1);
         }
-        OwedWake::after_exchange(EPOCH, epoch, epoch, Whom::All)
+        OwedWake::new(EPOCH, Whom::All)
     }
 }

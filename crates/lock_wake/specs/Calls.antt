@@ -23,6 +23,7 @@ use Rattle.lock_wake.specs.declared.rule.WakeView.{WakeView}
 use Rattle.lock_wake.specs.declared.owed_wake.Whom.{Whom}
 use Rattle.lock_wake.specs.declared.owed_wake.Whom.TheVariants.{Nobody, One, All}
 use Rattle.lock_wake.specs.declared.owed_wake.OwedWake.{OwedWake}
+use Rattle.lock_wake.specs.OwedWakes.{owed}
 
 -- a word lock: its identity, and its limits
 pub record WordLockView : Type 0 where
@@ -144,8 +145,8 @@ whom_of limits epoch = if limits.wakes_one && nat_lt (epoch + 1) limits.last_epo
 
 -- the wake-up at the epoch that a call owes which tried to end this epoch, by whether it ended it
 abbrev pub owed_wake : WakeLimits → ℕ → Option ℕ → OwedWake
-owed_wake limits epoch None = record { word = 2; whom = Nobody }
-owed_wake limits epoch (Some changes) = record { word = 2; whom = whom_of limits epoch }
+owed_wake limits epoch None = owed 2 Nobody
+owed_wake limits epoch (Some changes) = owed 2 (whom_of limits epoch)
 
 -- the call came back from a sleep, and has yet to look, or did not sleep
 pub record CameBack (before after : CallView) : Type 0 where

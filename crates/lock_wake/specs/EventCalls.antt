@@ -5,6 +5,7 @@ use Rattle.lock_wake.specs.declared.sleepers.stage.CallStage.{CallStage}
 use Rattle.lock_wake.specs.declared.owed_wake.OwedWake.{OwedWake}
 use Rattle.lock_wake.specs.declared.owed_wake.Whom.TheVariants.{One, All}
 use Rattle.lock_wake.specs.EventCounts.{closed_count}
+use Rattle.lock_wake.specs.OwedWakes.{owed}
 pub use Rattle.lock_wake.specs.EventSeals.{Ended, Asleep, Keeper}
 
 -- a call: its event count, its number in the order in which calls began, and its stage
@@ -19,4 +20,4 @@ waiters_of count = count % closed_count
 
 -- the wake-up that a notification of all or of one owes, at the word of the epoch
 abbrev pub owed_to : Bool → OwedWake
-owed_to all = record { word = 1; whom = if all then All else One }
+owed_to all = owed 1 (if all then All else One)
