@@ -11,8 +11,8 @@ use crate::released::Changed;
 use crate::rule::{MutexRule, SlotRule, UserView, ViewUpdate};
 use crate::user::User;
 use atomic_table::{Join, Seat, Split, Table};
-use crossbeam_utils::Backoff;
 use lock_base::raw::Fault;
+use lock_wake::Pauses;
 use std::alloc::Global;
 use std::marker::Model;
 use std::sync::Wait;
@@ -34,9 +34,6 @@ pub(crate) const AWAITED: u64 = 2;
 
 /// The epoch at which no user sleeps. It is never reached: each epoch takes a release.
 pub(crate) const LAST_EPOCH: u64 = u64::MAX;
-
-/// How often a blocked call tries again before it sleeps.
-const TRIES: u32 = 10;
 
 /// A mutex under a rule: a word, an epoch, and one slot for the value. `lock` exchanges the value out of the slot, and
 /// `unlock` exchanges it back in.
@@ -189,14 +186,14 @@ impl<T: Drop, V, P: MutexRule<T, V>> RuledMutex<T, V, P> {
             == FREE
     }
 
-    /// Tries a few times, with growing pauses.
+    /// Tries a few times, each after a pause.
     pub(crate) fn try_with_backoff(&self, seat: &mut Seat<Option<T>, UserView<T, V>>) -> bool
         requires { MayAcquire self.now seat.old }
         ensures { MayHaveAcquired P.rule result seat.old seat.new }
     {
-        let backoff = Backoff::new();
-        for _ in 0..TRIES {
-            backoff.snooze();
+        let mut pauses = Pauses::new();
+        for _ in 0..Pauses::MOST {
+            pauses.pause();
             if self.try_acquire(seat) {
                 return true;
             }

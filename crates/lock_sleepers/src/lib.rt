@@ -9,5 +9,5 @@ mod sleeper;
 
 pub use epochs::{CLOSED_COUNT, LAST_EPOCH};
 pub use laws::steps_keep_wakes;
-pub use pauses::{PAUSES, SPINS};
+pub use pauses::SPINS;
 pub use sleeper::{Debt, SleeperView, WakeLimits, Watch};

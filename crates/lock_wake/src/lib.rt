@@ -24,6 +24,7 @@ pub use call::WordToken;
 pub use deadline::time_left;
 pub use laws::{every_state_forgets_none, every_state_wakes_the_registered};
 pub use owed_wake::{OwedWake, Whom};
+pub use pauses::Pauses;
 pub use rule::{WakeRule, WakeView};
 pub use sleepers::{CallStage, CountRule, EventCount, Notified, Registered, Registration, Slept};
 pub use word_lock::WordLock;

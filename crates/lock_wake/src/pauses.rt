@@ -1,26 +1,30 @@
 //! The pauses of a contended call before it sleeps.
-use lock_sleepers::{PAUSES, SPINS};
+use lock_sleepers::SPINS;
 use std::hint::spin_loop;
 use std::thread;
 
 /// The pauses of a contended call between its attempts: spins that double, and then yields.
 #[derive(Drop)]
-pub(crate) struct Pauses {
+pub struct Pauses {
     made: u32,
 }
 
 impl Pauses {
-    pub(crate) fn new() -> Pauses {
+    /// How many pauses a call makes before it sleeps. With more spins, or fewer yields, four threads acquire a mutex less often.
+    pub const MOST: u32 = 20;
+
+    /// Begins with the shortest pause.
+    pub fn new() -> Pauses {
         Pauses { made: 0 }
     }
 
     /// Returns whether the call has made them all.
     pub(crate) fn are_over(&self) -> bool {
-        self.made >= PAUSES
+        self.made >= Pauses::MOST
     }
 
     /// Makes the next pause.
-    pub(crate) fn pause(&mut self) {
+    pub fn pause(&mut self) {
         if self.made < SPINS {
             for _ in 0..1u32 << self.made {
                 spin_loop();
