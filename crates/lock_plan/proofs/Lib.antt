@@ -15,6 +15,7 @@ pub mod Tables
 pub mod FewHeld
 pub mod Landing
 pub mod StepNumbers
+pub mod WaysFor
 pub mod Right
 pub mod Moves
 pub mod Ways

@@ -1,5 +1,6 @@
 pub mod Holds
 pub mod Signals
+pub mod Ways
 pub mod Worlds
 pub mod CallFaults
 pub mod Known

@@ -9,7 +9,7 @@ use Rattle.lock_plan.specs.declared.program.Place.{Place}
 use Rattle.lock_plan.specs.Checks.{fit_machines, fits_machine}
 use Rattle.lock_plan.specs.Known.{Known, PlaceFault, known_of}
 use Rattle.lock_plan.specs.Worlds.{no_lock}
-use Rattle.lock_plan_laws.specs.LockOrders.{AreKept, AreKnown, AreOf, IsKept, are_covered, is_covered, rank_in}
+use Rattle.lock_plan_laws.specs.LockOrders.{AreKept, AreKnown, EachRunsOneOf, IsKept, are_covered, is_covered, rank_in}
 use Rattle.lock_plan_laws.specs.OrderChecks.{is_ordered, keeps_known}
 use Rattle.lock_plan_laws.specs.Ranks.{IsOrdered, IsOrderedPlan}
 use Rattle.lock_plan_laws.proofs.NoStop.{never_stop}
@@ -63,7 +63,7 @@ module _ (order : List ℕ) (locks : List PlanLock) (programs : List (List Place
       ordered_is (rank_in order) locks (get_or programs p [])
       (ap (keeps_known (rank_in order) (get_or programs p [])) (known_at_party p lt) ∙ kept p lt)
 
-  in_order : are_covered locks ≡ true → (parties : List (List Place)) → AreOf programs parties → IsOrderedPlan (rank_in order) locks parties
+  in_order : are_covered locks ≡ true → (parties : List (List Place)) → EachRunsOneOf programs parties → IsOrderedPlan (rank_in order) locks parties
   in_order covered parties are = record {
     machines = fit locks covered;
     single = single locks covered;

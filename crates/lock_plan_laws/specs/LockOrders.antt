@@ -40,15 +40,15 @@ abbrev pub AreKept : List ℕ → List (List Place) → List Known → Type 0
 AreKept order programs known = (party : ℕ) → party < length programs
     → keeps_from (rank_in order) (get_or programs party []) 0 (get_or known party []) ≡ true
 
--- each party has one of the programs
-abbrev pub AreOf : List (List Place) → List (List Place) → Type 0
-AreOf programs parties = (party : ℕ) → party < length parties
+-- each party runs one of the programs
+abbrev pub EachRunsOneOf : List (List Place) → List (List Place) → Type 0
+EachRunsOneOf programs parties = (party : ℕ) → party < length parties
     → (program : ℕ) × ((program < length programs) × (get_or parties party [] ≡ get_or programs program []))
 
 -- any number of parties with these programs are in order, and no run of theirs stops
 pub record IsKept (locks : List PlanLock) (programs : List (List Place)) (order : List ℕ) : Type 0 where
-  pub ordered : (parties : List (List Place)) → AreOf programs parties → IsOrderedPlan (rank_in order) locks parties
-  pub never_stops : (servers : List Bool) (parties : List (List Place)) → AreOf programs parties → NeverStops servers locks parties
+  pub ordered : (parties : List (List Place)) → EachRunsOneOf programs parties → IsOrderedPlan (rank_in order) locks parties
+  pub never_stops : (servers : List Bool) (parties : List (List Place)) → EachRunsOneOf programs parties → NeverStops servers locks parties
 
 abbrev pub IsLockOrder : List PlanLock → List (List Place) → LockOrder → Type 0
 IsLockOrder locks programs (Kept order) = IsKept locks programs order.items

@@ -1,4 +1,4 @@
-//! A look for an order of the locks that all programs keep.
+//! The search for an order of the locks that all programs keep.
 ghost use Rattle.std.specs.Prelude.{◌≡◌, ◌==◌, [], map, not, option_map, IfErr, IfOk, IsTrue};
 ghost use Rattle.std.proofs.Common.{get_or};
 ghost use Rattle.std.specs.List.{list_all};
@@ -33,7 +33,9 @@ pub fn find_order(
     Ok(order)
 }
 
-/// Does the same, of what a party with each of the programs holds.
+/// Returns an order of the locks that each of the programs keeps, or why none was found.
+///
+/// `known` is what a party with each program holds at each place.
 fn order_of(
     alloc: Global,
     locks: &[PlanLock],
