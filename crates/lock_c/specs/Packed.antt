@@ -8,7 +8,7 @@ use Rattle.lock_steps.specs.declared.action.Action.{Action}
 use Rattle.lock_steps.specs.declared.action.Action.TheVariants.{Load, Exchange, Subtract, Restart, Park, WakeOne, WakeAll, Spin, Yield, Unlock, Lock, End}
 use Rattle.lock_steps.specs.declared.action.Place.{Place}
 use Rattle.lock_steps.specs.declared.action.Place.TheVariants.{Word, Count, Epoch}
-use Rattle.lock_steps.specs.declared.call.Call.{Call}
+use Rattle.lock_steps.specs.declared.word_call.WordCall.{WordCall}
 use Rattle.lock_steps.specs.declared.stage.Stage.{Stage}
 use Rattle.lock_steps.specs.declared.stage.Stage.TheVariants as stage
 use Rattle.lock_steps.specs.declared.event_call.EventCall.{EventCall}
@@ -68,7 +68,7 @@ abbrev pub stage_of : ℕ → Stage
 stage_of n =
     if n == 0 then stage.Look else if n == 1 then stage.Try else if n == 2 then stage.Pause else if n == 3 then stage.LookToAnnounce else if n == 4 then stage.Announce else if n == 5 then stage.FindCount else if n == 6 then stage.CountIn else if n == 7 then stage.WatchEpoch else if n == 8 then stage.LookCounted else if n == 9 then stage.TryCounted else if n == 10 then stage.Sleep else if n == 11 then stage.YieldCounted else if n == 12 then stage.LeaveAcquired else if n == 13 then stage.Leave else if n == 14 then stage.YieldAway else if n == 15 then stage.LookAgain else if n == 16 then stage.TryAgain else if n == 17 then stage.FindEpoch else if n == 18 then stage.CloseCount else if n == 19 then stage.RestartEpochs else if n == 20 then stage.OpenCount else if n == 21 then stage.Take else if n == 22 then stage.LookForSleepers else if n == 23 then stage.NoteEpoch else if n == 24 then stage.EndEpoch else if n == 25 then stage.Wake else if n == 26 then stage.Acquired else if n == 27 then stage.Refused else stage.Ended
 
-abbrev pub unpacked : LockCall → Call
+abbrev pub unpacked : LockCall → WordCall
 unpacked c = record {
   readers = c.readers;
   stage = stage_of c.stage;
@@ -82,7 +82,7 @@ unpacked c = record {
   epoch = c.epoch;
 }
 
-abbrev pub packed : Call → ℕ → LockCall
+abbrev pub packed : WordCall → ℕ → LockCall
 packed call code = record {
   readers = call.readers;
   loaded = call.loaded;
@@ -157,7 +157,7 @@ step_of (End b) = step (if b then 10 else 9) 0 0 0
 
 -- a call that crosses to C and back is the same
 abbrev pub PackingKeepsCalls : Type 0
-PackingKeepsCalls = (call : Call) (code : ℕ) → want_of code ≡ call.want → unpacked (packed call code) ≡ call
+PackingKeepsCalls = (call : WordCall) (code : ℕ) → want_of code ≡ call.want → unpacked (packed call code) ≡ call
 
 -- so is a wait or a notification
 abbrev pub PackingKeepsEvents : Type 0

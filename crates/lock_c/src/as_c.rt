@@ -7,9 +7,9 @@ use crate::codes::{
     want_of_code,
 };
 use crate::{LockCall, LockEvent, LockStep};
-use lock_steps::{Action, Call, EventCall, Place};
+use lock_steps::{Action, EventCall, Place, WordCall};
 
-pub(crate) fn packed(call: &Call, code: u32) -> LockCall
+pub(crate) fn packed(call: &WordCall, code: u32) -> LockCall
     ensures { result ≡ packed call.now code }
 {
     LockCall {
@@ -26,10 +26,10 @@ pub(crate) fn packed(call: &Call, code: u32) -> LockCall
     }
 }
 
-pub(crate) fn unpacked(call: &LockCall) -> Call
+pub(crate) fn unpacked(call: &LockCall) -> WordCall
     ensures { result ≡ unpacked call.now }
 {
-    Call {
+    WordCall {
         readers: call.readers,
         stage: stage_of_number(call.stage),
         want: want_of_code(call.code),

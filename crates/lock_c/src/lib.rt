@@ -16,9 +16,9 @@ mod laws;
 use as_c::{packed, packed_event, step_of, unpacked, unpacked_event};
 use codes::{down_of_code, want_of_code};
 pub use laws::{packing_keeps_calls, packing_keeps_events};
-use lock_steps::{Call, EventCall};
+use lock_steps::{EventCall, WordCall};
 
-/// A call between two of its steps, as in `lock_steps::Call`. One thread has it at a time.
+/// A call between two of its steps, as in `lock_steps::WordCall`. One thread has it at a time.
 #[repr(C)]
 #[derive(Drop)]
 pub struct LockCall {
@@ -75,7 +75,12 @@ pub extern "C" fn lock_c_acquire(
     ensures call { call.new ≡ packed (acquiring readers (want_of code) (is_set blocks) (is_set announces)).0 code }
     ensures step { result ≡ step_of (acquiring readers (want_of code) (is_set blocks) (is_set announces)).1 }
 {
-    let (begun, action) = Call::acquire(readers, want_of_code(code), blocks != 0, announces != 0);
+    let (begun, action) = WordCall::acquire(
+        readers,
+        want_of_code(code),
+        blocks != 0,
+        announces != 0,
+    );
     *call = packed(&begun, code);
     step_of(action)
 }
@@ -89,7 +94,7 @@ pub extern "C" fn lock_c_release(call: &mut LockCall, readers: u64, code: u32) -
     ensures call { call.new ≡ packed (taking readers (down_of code)).0 code }
     ensures step { result ≡ step_of (taking readers (down_of code)).1 }
 {
-    let (begun, action) = Call::take(readers, down_of_code(code));
+    let (begun, action) = WordCall::take(readers, down_of_code(code));
     *call = packed(&begun, code);
     step_of(action)
 }

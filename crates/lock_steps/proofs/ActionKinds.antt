@@ -5,7 +5,7 @@ use Rattle.lock_word.specs.declared.down.Down.{Down}
 use Rattle.lock_sleepers.specs.declared.sleeper.SleeperView.{SleeperView}
 use Rattle.lock_steps.specs.declared.action.Action.{Action}
 use Rattle.lock_steps.specs.declared.action.Action.TheVariants.{WakeOne, WakeAll, Spin, Yield}
-use Rattle.lock_steps.specs.declared.call.Call.{Call}
+use Rattle.lock_steps.specs.declared.word_call.WordCall.{WordCall}
 use Rattle.lock_steps.specs.declared.stage.Stage.{Stage}
 use Rattle.lock_steps.specs.declared.stage.Stage.TheVariants as stage
 use Rattle.lock_steps.specs.Machine.{last_epoch}
@@ -54,7 +54,7 @@ wakes : (readers epoch : ℕ) → kind_of (wake_at readers epoch) ≡ kind_of Wa
 wakes readers epoch =
     chosen (λ (a : Action). kind_of a ≡ kind_of WakeAll) ((readers == 1) && nat_lt epoch last_epoch) WakeOne WakeAll (λ one. refl) (λ all. refl)
 
-pub kinds : (at : Stage) (call : Call) (release : Down) (v : SleeperView) (a : Action) → IsAt at call release v a → kind_of a ≡ kind_at at call.epoch
+pub kinds : (at : Stage) (call : WordCall) (release : Down) (v : SleeperView) (a : Action) → IsAt at call release v a → kind_of a ≡ kind_at at call.epoch
 kinds stage.Look call release v a st = ap kind_of st.2
 kinds stage.Try call release v a st = ap kind_of st.4
 kinds stage.Pause call release v a st = rests a st.2
@@ -85,12 +85,12 @@ kinds stage.Acquired call release v a st = ap kind_of st.3
 kinds stage.Refused call release v a st = ap kind_of st.2
 kinds stage.Ended call release v a st = ap kind_of st.2
 
-pub parks_as : (at : Stage) (call : Call) (release : Down) (v : SleeperView) (a : Action) → IsAt at call release v a
+pub parks_as : (at : Stage) (call : WordCall) (release : Down) (v : SleeperView) (a : Action) → IsAt at call release v a
     → parks_at a ≡ epoch_at at call.epoch
 parks_as at call release v a st = ap (λ (x : Kind). x.parks) (kinds at call release v a st)
 
-pub tells_as : (at : Stage) (call : Call) (release : Down) (v : SleeperView) (a : Action) → IsAt at call release v a → told_by a ≡ told_at at
+pub tells_as : (at : Stage) (call : WordCall) (release : Down) (v : SleeperView) (a : Action) → IsAt at call release v a → told_by a ≡ told_at at
 tells_as at call release v a st = ap (λ (x : Kind). x.tells) (kinds at call release v a st)
 
-pub wakes_as : (at : Stage) (call : Call) (release : Down) (v : SleeperView) (a : Action) → IsAt at call release v a → is_wake a ≡ wakes_at at
+pub wakes_as : (at : Stage) (call : WordCall) (release : Down) (v : SleeperView) (a : Action) → IsAt at call release v a → is_wake a ≡ wakes_at at
 wakes_as at call release v a st = ap (λ (x : Kind). x.wakes) (kinds at call release v a st)

@@ -9,7 +9,7 @@ use Rattle.lock_sleepers.specs.declared.sleeper.SleeperView.{SleeperView}
 use Rattle.lock_steps.specs.declared.action.Action.{Action}
 use Rattle.lock_steps.specs.declared.action.Action.TheVariants.{Load, Exchange, Subtract, Park, Yield, End}
 use Rattle.lock_steps.specs.declared.action.Place.TheVariants.{Word, Count, Epoch}
-use Rattle.lock_steps.specs.declared.call.Call.{Call}
+use Rattle.lock_steps.specs.declared.word_call.WordCall.{WordCall}
 use Rattle.lock_steps.specs.declared.stage.Stage.{Stage}
 use Rattle.lock_steps.specs.declared.stage.Stage.TheVariants as stage
 use Rattle.lock_steps.specs.Machine.{closed_count}
@@ -20,7 +20,7 @@ use Rattle.lock_steps.proofs.Steps.{chosen, rest_leaves, same_leaves, wake_leave
 abbrev pub Moves : Words → Words → Type 0
 Moves w v = (v.epoch ≡ w.epoch) × ((v.word ≡ w.word) ⊎ (v.word ≢ 0))
 
-abbrev pub MovesAt : Stage → Words → Call → Words → Type 0
+abbrev pub MovesAt : Stage → Words → WordCall → Words → Type 0
 MovesAt stage.Take w call v = v.epoch ≡ w.epoch
 MovesAt stage.EndEpoch w call v = Moves w v ⊎ ((w.epoch ≡ call.epoch) × (v.epoch ≡ w.epoch + 1))
 MovesAt stage.RestartEpochs w call v = v.epoch ≡ 0
@@ -51,7 +51,7 @@ module _ (w : Words) (a : Action) where
       by_action (Exchange Count old new) e
       (chosen (Moves w) (w.count == old) (with_number Count new w) w (λ hit. (refl, inl refl)) (λ miss. (refl, inl refl)))
 
-  pub moves_at : (at : Stage) (call : Call) (release : Down) (v : SleeperView) → IsAt at call release v a → MovesAt at w call (made a w)
+  pub moves_at : (at : Stage) (call : WordCall) (release : Down) (v : SleeperView) → IsAt at call release v a → MovesAt at w call (made a w)
   moves_at stage.Look call release v st = by_action (Load Word) st.2 (refl, inl refl)
   moves_at stage.Try call release v st = exchanges call.loaded call.want st.4
   moves_at stage.Pause call release v st = leaves (rest_leaves a st.2)

@@ -7,7 +7,7 @@ use Rattle.lock_word.specs.declared.down.Down.{Down}
 use Rattle.lock_word.specs.Word.{word_admits, word_after}
 use Rattle.lock_steps.specs.declared.action.Action.TheVariants.{Load, Exchange, Subtract, Restart, Park, WakeOne, WakeAll, Spin, Yield}
 use Rattle.lock_steps.specs.declared.action.Place.TheVariants.{Word, Count, Epoch}
-use Rattle.lock_steps.specs.declared.call.Call.{Call}
+use Rattle.lock_steps.specs.declared.word_call.WordCall.{WordCall}
 use Rattle.lock_steps.specs.declared.stage.Stage.{Stage}
 use Rattle.lock_steps.specs.declared.stage.Stage.TheVariants as stage
 use Rattle.lock_steps.specs.Machine.{most_spins, most_pauses, Progress, goes_to, ended, acquired, refused, with_loaded, wakes_one, to_count, to_wait, pause, tries, or_else, leave, find_epoch, last_epoch, closed_count, has_to_wake, next_at, next_of}
@@ -41,14 +41,14 @@ is_asking stage.Announce = true
 is_asking other = false
 
 -- the thread began the call without a bar. Only a call that announces sets one, and it has no deadline
-pub record Bound (held : Hold) (call : Call) : Type 0 where
+pub record Bound (held : Hold) (call : WordCall) : Type 0 where
   pub free : held.announced ≡ false
   pub asked : call.announced ≡ true → call.announces ≡ true
   pub on_time : call.late ≡ true → call.announces ≡ false
   pub early : IsTrue (is_early call.stage) → call.announced ≡ false
   pub asks : IsTrue (is_asking call.stage) → call.announces ≡ true
 
-abbrev pub Honest : Hold → Call → Type 0
+abbrev pub Honest : Hold → WordCall → Type 0
 Honest held call = IsTrue (waits_at call.stage) → Bound held call
 
 module _ (held : Hold) where
@@ -56,7 +56,7 @@ module _ (held : Hold) where
   Goes next = Honest held next.0
 
   -- to a stage that is neither early nor asks
-  plain : (call : Call) → Bound held call → (at : Stage) → is_early at ≡ false → is_asking at ≡ false → Bound held (record call { stage = at })
+  plain : (call : WordCall) → Bound held call → (at : Stage) → is_early at ≡ false → is_asking at ≡ false → Bound held (record call { stage = at })
   plain call b at late quiet =
       record {
         free = b.free;
@@ -66,23 +66,23 @@ module _ (held : Hold) where
         asks = λ a. absurd (true≢false (sym a ∙ quiet));
       }
 
-  early_at : (call : Call) → Bound held call → (at : Stage) → is_asking at ≡ false → call.announced ≡ false → Bound held (record call { stage = at })
+  early_at : (call : WordCall) → Bound held call → (at : Stage) → is_asking at ≡ false → call.announced ≡ false → Bound held (record call { stage = at })
   early_at call b at quiet none =
       record { free = b.free; asked = b.asked; on_time = b.on_time; early = λ e. none; asks = λ a. absurd (true≢false (sym a ∙ quiet)) }
 
-  asking_at : (call : Call) → Bound held call → (at : Stage) → is_early at ≡ false → call.announces ≡ true → Bound held (record call { stage = at })
+  asking_at : (call : WordCall) → Bound held call → (at : Stage) → is_early at ≡ false → call.announces ≡ true → Bound held (record call { stage = at })
   asking_at call b at late asks =
       record { free = b.free; asked = b.asked; on_time = b.on_time; early = λ e. absurd (true≢false (sym e ∙ late)); asks = λ a. asks }
 
   -- a call whose deadline has passed has set no bar
-  late_is_unbarred : (call : Call) → Bound held call → call.late ≡ true → call.announced ≡ false
+  late_is_unbarred : (call : WordCall) → Bound held call → call.late ≡ true → call.announced ≡ false
   late_is_unbarred call b late = either call.announced refl
     where
       either : (announced : Bool) → call.announced ≡ announced → announced ≡ false
       either false is = refl
       either true is = absurd (true≢false (sym (b.asked is) ∙ b.on_time late))
 
-  waits : (call : Call) → Bound held call → Goes (to_wait call)
+  waits : (call : WordCall) → Bound held call → Goes (to_wait call)
   waits call b =
       chosen Goes call.late (refused call)
       (if call.announces && (not call.announced && not (wakes_one call)) then goes_to call stage.LookToAnnounce (Load Word) else to_count call)
@@ -91,9 +91,9 @@ module _ (held : Hold) where
       chosen Goes (call.announces && (not call.announced && not (wakes_one call))) (goes_to call stage.LookToAnnounce (Load Word)) (to_count call)
       (λ asks w. asking_at call b stage.LookToAnnounce refl (and_parts _ _ asks).0) (λ misses w. plain call b stage.FindCount refl refl))
 
-  pauses : (call : Call) → Bound held call → call.announced ≡ false → Goes (pause call)
+  pauses : (call : WordCall) → Bound held call → call.announced ≡ false → Goes (pause call)
   pauses call b none =
-      let again : Call = record call { pauses = call.pauses + 1 } in
+      let again : WordCall = record call { pauses = call.pauses + 1 } in
       let more : Bound held again = record { free = b.free; asked = b.asked; on_time = b.on_time; early = b.early; asks = b.asks } in
       chosen Goes (not call.blocks) (refused call)
       (if nat_lt call.pauses most_pauses then goes_to again stage.Pause (if nat_lt call.pauses most_spins then Spin call.pauses else Yield) else to_wait call)
@@ -102,13 +102,13 @@ module _ (held : Hold) where
       chosen Goes (nat_lt call.pauses most_pauses) (goes_to again stage.Pause (if nat_lt call.pauses most_spins then Spin call.pauses else Yield)) (to_wait call)
       (λ few w. early_at again more stage.Pause refl none) (λ many. waits call b))
 
-  loads : (call : Call) (word : ℕ) → Bound held call → Bound held (with_loaded call word)
+  loads : (call : WordCall) (word : ℕ) → Bound held call → Bound held (with_loaded call word)
   loads call word b = record { free = b.free; asked = b.asked; on_time = b.on_time; early = b.early; asks = b.asks }
 
-  notes : (call : Call) (epoch : ℕ) → Bound held call → Bound held (record call { epoch = epoch })
+  notes : (call : WordCall) (epoch : ℕ) → Bound held call → Bound held (record call { epoch = epoch })
   notes call epoch b = record { free = b.free; asked = b.asked; on_time = b.on_time; early = b.early; asks = b.asks }
 
-  module _ (call : Call) (down : Down) (found : ℕ) (h : Honest held call) where
+  module _ (call : WordCall) (down : Down) (found : ℕ) (h : Honest held call) where
     bound : (at : Stage) → call.stage ≡ at → IsTrue (waits_at at) → Bound held call
     bound at is w = h (subst (λ x. IsTrue (waits_at x)) (sym is) w)
 
@@ -119,7 +119,7 @@ module _ (held : Hold) where
     asking at is b a = b.asks (subst (λ x. IsTrue (is_asking x)) (sym is) a)
 
     -- an exchange of the loaded word, or else something else
-    trying : (at : Stage) (other : Call → Progress) → Bound held (record call { loaded = found; stage = at }) → Goes (other (with_loaded call found))
+    trying : (at : Stage) (other : WordCall → Progress) → Bound held (record call { loaded = found; stage = at }) → Goes (other (with_loaded call found))
         → Goes (or_else other (tries at found call))
     trying at other b miss =
         chosen (λ r. Goes (or_else other r)) (word_admits call.announced call.readers found call.want)
@@ -232,21 +232,21 @@ module _ (held : Hold) where
     honest_at stage.Refused is = over false
     honest_at stage.Ended is = over false
 
-pub honest_next : (held : Hold) (call : Call) (down : Down) (found : ℕ) → Honest held call → Honest held (next_of down found call).0
+pub honest_next : (held : Hold) (call : WordCall) (down : Down) (found : ℕ) → Honest held call → Honest held (next_of down found call).0
 honest_next held call down found h = honest_at held call down found h call.stage refl
 
 same_bar : (held : Hold) (announced : Bool) → held.announced ≡ announced → record held { announced = announced } ≡ held
 same_bar held announced is = subst (λ b. record held { announced = b } ≡ held) is refl
 
 -- who is refused holds what it held
-pub refusal_keeps : (held : Hold) (call : Call) (down : Down) → Honest held call → call.stage ≡ stage.Refused → hold_at call.stage down call held ≡ held
+pub refusal_keeps : (held : Hold) (call : WordCall) (down : Down) → Honest held call → call.stage ≡ stage.Refused → hold_at call.stage down call held ≡ held
 refusal_keeps held call down h is =
     let b = h (subst (λ x. IsTrue (waits_at x)) (sym is) refl) in
     let none = b.early (subst (λ x. IsTrue (is_early x)) (sym is) refl) in
     subst (λ x. hold_at x down call held ≡ held) (sym is) (same_bar held call.announced (b.free ∙ sym none))
 
 -- a call that begins without a bar
-pub honest_start : (held : Hold) (call : Call) → held.announced ≡ false → call.announced ≡ false → call.late ≡ false → is_asking call.stage ≡ false → Honest held call
+pub honest_start : (held : Hold) (call : WordCall) → held.announced ≡ false → call.announced ≡ false → call.late ≡ false → is_asking call.stage ≡ false → Honest held call
 honest_start held call free none in_time quiet w =
     record {
       free = free;

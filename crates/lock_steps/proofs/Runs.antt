@@ -27,9 +27,9 @@ use Rattle.lock_sleepers.proofs.Wakes.{starts, joins}
 use Rattle.lock_steps.specs.declared.action.Action.{Action}
 use Rattle.lock_steps.specs.declared.action.Action.TheVariants.{Load, Exchange, Subtract, Restart, Park, WakeOne, WakeAll, Spin, Yield, Unlock, Lock, End}
 use Rattle.lock_steps.specs.declared.action.Place.TheVariants.{Epoch}
-use Rattle.lock_steps.specs.declared.call.Call.{Call}
-use Rattle.lock_steps.specs.declared.act.Act.{Act}
-use Rattle.lock_steps.specs.declared.act.Act.TheVariants as act
+use Rattle.lock_steps.specs.declared.word_call.WordCall.{WordCall}
+use Rattle.lock_steps.specs.declared.word_act.WordAct.{WordAct}
+use Rattle.lock_steps.specs.declared.word_act.WordAct.TheVariants as act
 use Rattle.lock_steps.specs.declared.stage.Stage.{Stage}
 use Rattle.lock_steps.specs.declared.stage.Stage.TheVariants as stage
 use Rattle.lock_steps.specs.Machine.{Progress, acquiring, taking, next_at, ended, goes_to, wakes_one, has_to_wake, last_epoch}
@@ -244,7 +244,7 @@ is_answer Lock w told = tt
 is_answer (End b) w told = tt
 
 -- a call that has ended owes nothing
-owes_nothing : (at : Stage) (call : Call) (release : Down) (v : SleeperView) (a : Action) → is_over at ≡ true → IsAt at call release v a
+owes_nothing : (at : Stage) (call : WordCall) (release : Down) (v : SleeperView) (a : Action) → is_over at ≡ true → IsAt at call release v a
     → (v.watch ≡ Away) × (v.debt ≡ Nothing)
 owes_nothing stage.Acquired call release v a over st = (st.0, st.1)
 owes_nothing stage.Refused call release v a over st = (st.1, st.0.debt)
@@ -318,13 +318,13 @@ stepped_by : (s : LockInUse) (h : IsKept s) (k told : ℕ) (o : Option Thread) �
 stepped_by s h k told None at = h
 stepped_by s h k told (Some t) at = stepped_in s h k told t at t.underway refl
 
-kept_after_act : (s : LockInUse) → IsKept s → (a : Act) → IsKept (after_act s a)
+kept_after_act : (s : LockInUse) → IsKept s → (a : WordAct) → IsKept (after_act s a)
 kept_after_act s h act.Join = kept_after_join s h
 kept_after_act s h (act.Acquire k want blocks announces) = acquired_by s h k want blocks announces (slice_get s.threads k) refl
 kept_after_act s h (act.Release k release) = released_by s h k release (slice_get s.threads k) refl
 kept_after_act s h (act.Step k told) = stepped_by s h k told (slice_get s.threads k) refl
 
-kept_after_acts : (s : LockInUse) → IsKept s → (acts : List Act) → IsKept (after_acts s acts)
+kept_after_acts : (s : LockInUse) → IsKept s → (acts : List WordAct) → IsKept (after_acts s acts)
 kept_after_acts s h [] = h
 kept_after_acts s h (a ∷ acts) = kept_after_acts (after_act s a) (kept_after_act s h a) acts
 
@@ -346,7 +346,7 @@ owed : (epoch : ℕ) (b : Bool) → IsDue epoch (debt_after b Nothing) → IsTru
 owed epoch true due = refl
 owed epoch false due = absurd due
 
-due_at : (epoch : ℕ) (at : Stage) (call : Call) (release : Down) (v : SleeperView) (a : Action) → IsAt at call release v a
+due_at : (epoch : ℕ) (at : Stage) (call : WordCall) (release : Down) (v : SleeperView) (a : Action) → IsAt at call release v a
     → IsDue epoch v.debt → IsDueAt epoch at release call
 due_at epoch stage.LookForSleepers call release v a st due = owed epoch (has_to_wake release call) (subst (IsDue epoch) st.1 due)
 due_at epoch stage.NoteEpoch call release v a st due = tt
@@ -387,11 +387,11 @@ due_thread s h someone = in_thread o.x.thread.underway refl
     }
 
 -- only a call at Sleep parks, and at its epoch
-record ParksAt (at : Stage) (call : Call) (epoch : ℕ) : Type 0 where
+record ParksAt (at : Stage) (call : WordCall) (epoch : ℕ) : Type 0 where
   sleeps : at ≡ stage.Sleep
   same : call.epoch ≡ epoch
 
-parked : (at : Stage) (call : Call) (release : Down) (v : SleeperView) (a : Action) (epoch : ℕ) → IsAt at call release v a
+parked : (at : Stage) (call : WordCall) (release : Down) (v : SleeperView) (a : Action) (epoch : ℕ) → IsAt at call release v a
     → parks_at a ≡ Some epoch → ParksAt at call epoch
 parked at call release v a epoch st parks = sleeps at (sym (parks_as at call release v a st) ∙ parks)
   where
@@ -440,7 +440,7 @@ module _ (t : Thread) (asked : LockStep) (release : Down) (next : Progress) wher
       (λ over. absurd (true≢false (sym over ∙ tells.at_end))) (λ going. refl))
 
 -- the modes that a thread holds after its call made its change
-granted : (t : Thread) (asked : LockStep) (release : Down) (call : Call) (at : Stage) → told_at at ≡ Some true
+granted : (t : Thread) (asked : LockStep) (release : Down) (call : WordCall) (at : Stage) → told_at at ≡ Some true
     → asked_at at release call.want ≡ asked → (hold_at at release call t.held).bag ≡ (hold_after t.held asked).bag
 granted t asked release call stage.Acquired is asks =
     same_modes t.held call.announced (step_of_want call.want) ∙ ap (λ (step : LockStep). (hold_after t.held step).bag) asks
@@ -483,7 +483,7 @@ record WakesAfter (epoch : ℕ) (readers : ℕ) (next : Progress) : Type 0 where
   going : is_over next.0.stage ≡ false
 
 -- only the exchange that a release makes ends an epoch
-ends_at : (w : Words) (call : Call) (release : Down) (v : SleeperView) (a : Action) (told : ℕ) (at : Stage) → IsAt at call release v a
+ends_at : (w : Words) (call : WordCall) (release : Down) (v : SleeperView) (a : Action) (told : ℕ) (at : Stage) → IsAt at call release v a
     → MovesAt at w call (made a w) → (made a w).epoch ≡ w.epoch + 1 → WakesAfter w.epoch call.readers (next_at at release (answer a w told) call)
 ends_at w call release v a told stage.Take st same ends = absurd (never w.epoch (sym same ∙ ends))
 ends_at w call release v a told stage.RestartEpochs st restarts ends = absurd (let zero = restarts in omega arith)

@@ -10,7 +10,7 @@ use Rattle.lock_sleepers.specs.declared.sleeper.SleeperView.{SleeperView}
 use Rattle.lock_steps.specs.declared.action.Action.{Action}
 use Rattle.lock_steps.specs.declared.action.Action.TheVariants.{Load, Exchange, WakeOne, WakeAll}
 use Rattle.lock_steps.specs.declared.action.Place.TheVariants.{Word, Count, Epoch}
-use Rattle.lock_steps.specs.declared.call.Call.{Call}
+use Rattle.lock_steps.specs.declared.word_call.WordCall.{WordCall}
 use Rattle.lock_steps.specs.declared.stage.Stage.{Stage}
 use Rattle.lock_steps.specs.declared.stage.Stage.TheVariants as stage
 use Rattle.lock_steps.specs.Machine.{Progress, next_at, ended, goes_to, or_else, find_epoch, with_loaded, wakes_one, has_to_wake, last_epoch}
@@ -58,7 +58,7 @@ pub record Serving (epoch : ℕ) (release : Down) (next : Progress) : Type 0 whe
   pub going : is_over next.0.stage ≡ false
   pub serves : (is_woken : Bool) → ServesAt epoch is_woken next.0.stage release next.0
 
-module _ (w : Words) (release : Down) (call : Call) (v : SleeperView) (a : Action) (told : ℕ) (one : wakes_one call ≡ true) (range : IsLimit call.readers)
+module _ (w : Words) (release : Down) (call : WordCall) (v : SleeperView) (a : Action) (told : ℕ) (one : wakes_one call ≡ true) (range : IsLimit call.readers)
     (early : IsTrue (nat_lt w.epoch last_epoch)) (counted : w.count ≢ 0) (free : w.word ≡ 0) (shown : WordShows call.readers w.word v.state.held) where
   abbrev Goes : Stage → Action → Type 0
   Goes at b = Serving w.epoch release (next_at at release (answer b w told) call)
@@ -119,7 +119,7 @@ abbrev pub takes_at : Stage → Bool
 takes_at stage.Take = true
 takes_at other = false
 
-pub take_serves : (at : Stage) (release : Down) (call : Call) (found epoch : ℕ) → takes_at at ≡ true → wakes_one call ≡ true
+pub take_serves : (at : Stage) (release : Down) (call : WordCall) (found epoch : ℕ) → takes_at at ≡ true → wakes_one call ≡ true
     → Serving epoch release (next_at at release found call)
 take_serves stage.Take release call found epoch is one = record { going = refl; serves = λ b. or_left _ _ one }
 take_serves other release call found epoch is one = absurd (false≢true is)
@@ -130,7 +130,7 @@ pub record Ended (one : Bool) (release : Down) (next : Progress) : Type 0 where
   pub serves : (epoch : ℕ) (is_woken : Bool) → ServesAt epoch is_woken next.0.stage release next.0
   pub all : one ≡ false → next.1 ≡ WakeAll
 
-pub end_wakes : (at : Stage) (w : Words) (release : Down) (call : Call) (v : SleeperView) (a : Action) (told : ℕ) → at ≡ stage.EndEpoch
+pub end_wakes : (at : Stage) (w : Words) (release : Down) (call : WordCall) (v : SleeperView) (a : Action) (told : ℕ) → at ≡ stage.EndEpoch
     → IsAt at call release v a → w.epoch ≡ call.epoch
     → Ended (wakes_one call && nat_lt (call.epoch + 1) last_epoch) release (next_at at release (answer a w told) call)
 end_wakes stage.EndEpoch w release call v a told is st hit =
@@ -145,10 +145,10 @@ end_wakes stage.EndEpoch w release call v a told is st hit =
 end_wakes other w release call v a told is st hit = cc
 
 -- a wake-up leaves the words
-pub waker_leaves : (at : Stage) (call : Call) (release : Down) (v : SleeperView) (a : Action) → wakes_at at ≡ true → IsAt at call release v a → LeavesWords a
+pub waker_leaves : (at : Stage) (call : WordCall) (release : Down) (v : SleeperView) (a : Action) → wakes_at at ≡ true → IsAt at call release v a → LeavesWords a
 waker_leaves stage.Wake call release v a is st = same_leaves st.2 (wake_leaves call.readers (call.epoch + 1))
 waker_leaves other call release v a is st = absurd (false≢true is)
 
-pub restarter_watches : (at : Stage) (call : Call) (release : Down) (v : SleeperView) (a : Action) → at ≡ stage.RestartEpochs → IsAt at call release v a
+pub restarter_watches : (at : Stage) (call : WordCall) (release : Down) (v : SleeperView) (a : Action) → at ≡ stage.RestartEpochs → IsAt at call release v a
     → v.watch ≡ Restarts
 restarter_watches at call release v a is st = (subst (λ x. IsAt x call release v a) is st).1

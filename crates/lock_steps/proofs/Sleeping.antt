@@ -17,9 +17,9 @@ use Rattle.lock_sleepers.proofs.Wakes.{state_at}
 use Rattle.lock_steps.specs.declared.action.Action.{Action}
 use Rattle.lock_steps.specs.declared.action.Action.TheVariants.{Load, Subtract, Park, WakeOne, WakeAll}
 use Rattle.lock_steps.specs.declared.action.Place.TheVariants.{Word}
-use Rattle.lock_steps.specs.declared.call.Call.{Call}
-use Rattle.lock_steps.specs.declared.act.Act.{Act}
-use Rattle.lock_steps.specs.declared.act.Act.TheVariants as act
+use Rattle.lock_steps.specs.declared.word_call.WordCall.{WordCall}
+use Rattle.lock_steps.specs.declared.word_act.WordAct.{WordAct}
+use Rattle.lock_steps.specs.declared.word_act.WordAct.TheVariants as act
 use Rattle.lock_steps.specs.declared.stage.Stage.{Stage}
 use Rattle.lock_steps.specs.declared.stage.Stage.TheVariants as stage
 use Rattle.lock_steps.specs.Machine.{Progress, acquiring, taking, wakes_one, last_epoch, closed_count}
@@ -621,7 +621,7 @@ module _ (s : LockWithSleepers) (h : KeepsSleepers s) where
   sleeper_after_by k told None at = h
   sleeper_after_by k told (Some t) at = sleeper_after_in k told t at t.underway refl
 
-  kept_after_act_asleep : (a : Act) → KeepsSleepers (after_act_asleep s a)
+  kept_after_act_asleep : (a : WordAct) → KeepsSleepers (after_act_asleep s a)
   kept_after_act_asleep act.Join = after_join
   kept_after_act_asleep (act.Acquire k want blocks announces) =
       after_acquire k want blocks announces (slice_get s.lock.threads k) refl
@@ -630,7 +630,7 @@ module _ (s : LockWithSleepers) (h : KeepsSleepers s) where
       after_release k release (slice_get s.lock.threads k) refl (released_by s.lock h.kept k release (slice_get s.lock.threads k) refl)
   kept_after_act_asleep (act.Step k told) = sleeper_after_by k told (slice_get s.lock.threads k) refl
 
-kept_after_acts_asleep : (s : LockWithSleepers) → KeepsSleepers s → (acts : List Act) → KeepsSleepers (after_acts_asleep s acts)
+kept_after_acts_asleep : (s : LockWithSleepers) → KeepsSleepers s → (acts : List WordAct) → KeepsSleepers (after_acts_asleep s acts)
 kept_after_acts_asleep s h [] = h
 kept_after_acts_asleep s h (a ∷ acts) = kept_after_acts_asleep (after_act_asleep s a) (kept_after_act_asleep s h a) acts
 
@@ -646,14 +646,14 @@ start readers range =
 
 -- who is due serves
 
-due_serves : (epoch : ℕ) (is_woken : Bool) (at : Stage) (release : Down) (call : Call) → IsDueAt epoch at release call
+due_serves : (epoch : ℕ) (is_woken : Bool) (at : Stage) (release : Down) (call : WordCall) → IsDueAt epoch at release call
     → ServesAt epoch is_woken at release call
 due_serves epoch is_woken stage.LookForSleepers release call due = due
 due_serves epoch is_woken stage.NoteEpoch release call due = tt
 due_serves epoch is_woken stage.EndEpoch release call due = due
 due_serves epoch is_woken other release call due = absurd due
 
-wake_serves : (epoch : ℕ) (is_woken : Bool) (at : Stage) (release : Down) (call : Call) → wakes_at at ≡ true → ServesAt epoch is_woken at release call
+wake_serves : (epoch : ℕ) (is_woken : Bool) (at : Stage) (release : Down) (call : WordCall) → wakes_at at ≡ true → ServesAt epoch is_woken at release call
 wake_serves epoch is_woken stage.Wake release call is = tt
 wake_serves epoch is_woken other release call is = absurd (false≢true is)
 

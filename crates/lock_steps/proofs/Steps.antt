@@ -22,7 +22,7 @@ use Rattle.lock_sleepers.proofs.Wakes.{state_at, each_step}
 use Rattle.lock_steps.specs.declared.action.Action.{Action}
 use Rattle.lock_steps.specs.declared.action.Action.TheVariants.{Load, Exchange, Subtract, Restart, Park, WakeOne, WakeAll, Spin, Yield}
 use Rattle.lock_steps.specs.declared.action.Place.TheVariants.{Word, Count, Epoch}
-use Rattle.lock_steps.specs.declared.call.Call.{Call}
+use Rattle.lock_steps.specs.declared.word_call.WordCall.{WordCall}
 use Rattle.lock_steps.specs.declared.stage.Stage.{Stage}
 use Rattle.lock_steps.specs.declared.stage.Stage.TheVariants as stage
 use Rattle.lock_steps.specs.Machine.{most_spins, most_pauses, Progress, goes_to, ended, acquired, refused, with_loaded, wakes_one, to_count, to_wait, pause, or_else, leave, look_again, find_epoch, last_epoch, closed_count, has_to_wake, next_at}
@@ -82,7 +82,7 @@ on want announced v u acts held debt =
 
 module _ (before : Hold) (views : List SleeperView) (k : ℕ) (down : Down) (w : Words) where
   -- a call that goes on to wait
-  waits : (call : Call) (you : SleeperView) → KeepsWakes (limits_of call) w.word w.count w.epoch (slice_set views k you) → Acquiring call you
+  waits : (call : WordCall) (you : SleeperView) → KeepsWakes (limits_of call) w.word w.count w.epoch (slice_set views k you) → Acquiring call you
       → you.watch ≡ Away → you.state.held ≡ record before { announced = call.announced } → Kept call.readers (step_of_want call.want) before w views k down (to_wait call)
   waits call you kept acts away hd =
       chosen (Kept call.readers (step_of_want call.want) before w views k down) call.late (refused call)
@@ -96,10 +96,10 @@ module _ (before : Hold) (views : List SleeperView) (k : ℕ) (down : Down) (w :
       record { you = you; kept = kept; is_at = (acts, away, not-true _ both.0, not-true _ both.1, refl); holds = hd; same_lock = refl; same_ask = refl })
       (λ misses. record { you = you; kept = kept; is_at = (acts, away, refl); holds = hd; same_lock = refl; same_ask = refl }))
 
-  pauses : (call : Call) (you : SleeperView) → KeepsWakes (limits_of call) w.word w.count w.epoch (slice_set views k you) → Acquiring call you
+  pauses : (call : WordCall) (you : SleeperView) → KeepsWakes (limits_of call) w.word w.count w.epoch (slice_set views k you) → Acquiring call you
       → you.watch ≡ Away → you.state.held ≡ record before { announced = call.announced } → Kept call.readers (step_of_want call.want) before w views k down (pause call)
   pauses call you kept acts away hd =
-      let again : Call = record call { pauses = call.pauses + 1 } in
+      let again : WordCall = record call { pauses = call.pauses + 1 } in
       chosen (Kept call.readers (step_of_want call.want) before w views k down) (not call.blocks) (refused call)
       (if nat_lt call.pauses most_pauses then goes_to again stage.Pause (if nat_lt call.pauses most_spins then Spin call.pauses else Yield) else to_wait call)
       (λ tries. record { you = you; kept = kept; is_at = (acts, away, refl); holds = hd; same_lock = refl; same_ask = refl })
@@ -134,7 +134,7 @@ gains want.Upgradable v awaited = grind arith
 gains want.Upgrade v awaited = grind arith
 gains want.Announce v awaited = absurd (true≢false (sym awaited))
 
-module _ (before : Hold) (views : List SleeperView) (k : ℕ) (down : Down) (w : Words) (me : SleeperView) (call : Call) (range : IsLimit call.readers)
+module _ (before : Hold) (views : List SleeperView) (k : ℕ) (down : Down) (w : Words) (me : SleeperView) (call : WordCall) (range : IsLimit call.readers)
     (kept : KeepsWakes (limits_of call) w.word w.count w.epoch views) (at : slice_get views k ≡ Some me) where
   each : EachStepKeeps (limits_of call) w.word w.count w.epoch views k me
   each = each_step (limits_of call) w.word w.count w.epoch views k me range kept at

@@ -9,16 +9,16 @@ pub use Rattle.lock_sleepers.specs.Sleepers.{last_epoch, closed_count}
 use Rattle.lock_steps.specs.declared.action.Action.{Action}
 use Rattle.lock_steps.specs.declared.action.Action.TheVariants.{Load, Exchange, Subtract, Restart, Park, WakeOne, WakeAll, Spin, Yield, End}
 use Rattle.lock_steps.specs.declared.action.Place.TheVariants.{Word, Count, Epoch}
-use Rattle.lock_steps.specs.declared.call.Call.{Call}
+use Rattle.lock_steps.specs.declared.word_call.WordCall.{WordCall}
 use Rattle.lock_steps.specs.declared.stage.Stage.{Stage}
 use Rattle.lock_steps.specs.declared.stage.Stage.TheVariants as stage
 
 -- a call, and the action that it asks for
 abbrev pub Progress : Type 0
-Progress = Call × Action
+Progress = WordCall × Action
 
 -- a call that begins
-abbrev pub begun : ℕ → Stage → ExWant → Bool → Bool → Call
+abbrev pub begun : ℕ → Stage → ExWant → Bool → Bool → WordCall
 begun readers at wish blocks announces = record {
   readers = readers;
   stage = at;
@@ -38,28 +38,28 @@ acquiring readers wish blocks announces = (begun readers stage.Look wish blocks 
 abbrev pub taking : ℕ → Down → Progress
 taking readers down = (begun readers stage.Take want.Shared false false, Subtract Word (amount down))
 
-abbrev pub goes_to : Call → Stage → Action → Progress
+abbrev pub goes_to : WordCall → Stage → Action → Progress
 goes_to call at action = (record call { stage = at }, action)
 
-abbrev pub ended : Bool → Call → Progress
+abbrev pub ended : Bool → WordCall → Progress
 ended answer call = goes_to call stage.Ended (End answer)
 
-abbrev pub acquired : Call → Progress
+abbrev pub acquired : WordCall → Progress
 acquired call = goes_to call stage.Acquired (End true)
 
-abbrev pub refused : Call → Progress
+abbrev pub refused : WordCall → Progress
 refused call = goes_to call stage.Refused (End false)
 
-abbrev pub with_loaded : Call → ℕ → Call
+abbrev pub with_loaded : WordCall → ℕ → WordCall
 with_loaded call word = record call { loaded = word }
 
-abbrev pub wakes_one : Call → Bool
+abbrev pub wakes_one : WordCall → Bool
 wakes_one call = call.readers == 1
 
-abbrev pub to_count : Call → Progress
+abbrev pub to_count : WordCall → Progress
 to_count call = goes_to call stage.FindCount (Load Count)
 
-abbrev pub to_wait : Call → Progress
+abbrev pub to_wait : WordCall → Progress
 to_wait call =
     if call.late then refused call
     else if call.announces && (not call.announced && not (wakes_one call)) then goes_to call stage.LookToAnnounce (Load Word)
@@ -75,36 +75,36 @@ most_yields = 70
 abbrev pub most_pauses : ℕ
 most_pauses = most_spins + most_yields
 
-abbrev pub pause : Call → Progress
+abbrev pub pause : WordCall → Progress
 pause call =
     if not call.blocks then refused call
     else if nat_lt call.pauses most_pauses then goes_to (record call { pauses = call.pauses + 1 }) stage.Pause (if nat_lt call.pauses most_spins then Spin call.pauses else Yield)
     else to_wait call
 
 -- the word was loaded: an exchange, where it admits what is wanted
-abbrev pub tries : Stage → ℕ → Call → Call × Option Action
+abbrev pub tries : Stage → ℕ → WordCall → WordCall × Option Action
 tries trying word call =
     if word_admits call.announced call.readers word call.want
     then (record call { loaded = word; stage = trying }, Some (Exchange Word word (word_after word call.want)))
     else (with_loaded call word, None)
 
-abbrev pub or_else : (Call → Progress) → Call × Option Action → Progress
+abbrev pub or_else : (WordCall → Progress) → WordCall × Option Action → Progress
 or_else other (call, Some action) = (call, action)
 or_else other (call, None) = other call
 
-abbrev pub leave : Call → Progress
+abbrev pub leave : WordCall → Progress
 leave call = goes_to call stage.Leave (Subtract Count 1)
 
-abbrev pub look_again : Call → Progress
+abbrev pub look_again : WordCall → Progress
 look_again call = goes_to call stage.LookAgain (Load Word)
 
-abbrev pub find_epoch : Call → Progress
+abbrev pub find_epoch : WordCall → Progress
 find_epoch call = goes_to call stage.FindEpoch (Load Epoch)
 
-abbrev pub has_to_wake : Down → Call → Bool
+abbrev pub has_to_wake : Down → WordCall → Bool
 has_to_wake down call = wakes_one call || word_unblocks call.readers call.loaded (call.loaded - amount down)
 
-abbrev pub next_at : Stage → Down → ℕ → Call → Progress
+abbrev pub next_at : Stage → Down → ℕ → WordCall → Progress
 next_at stage.Look down found call = or_else pause (tries stage.Try found call)
 next_at stage.Try down found call = if found == call.loaded then acquired call else pause call
 next_at stage.Pause down found call = goes_to call stage.Look (Load Word)
@@ -150,5 +150,5 @@ next_at stage.Acquired down found call = ended false call
 next_at stage.Refused down found call = ended false call
 next_at stage.Ended down found call = ended false call
 
-abbrev pub next_of : Down → ℕ → Call → Progress
+abbrev pub next_of : Down → ℕ → WordCall → Progress
 next_of down found call = next_at call.stage down found call

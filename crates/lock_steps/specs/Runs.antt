@@ -13,9 +13,9 @@ use Rattle.lock_word.specs.BarredBags.{IsLegalBarredBag}
 use Rattle.lock_word.specs.Holders.{all_of}
 use Rattle.lock_steps.specs.declared.action.Action.{Action}
 use Rattle.lock_steps.specs.declared.action.Action.TheVariants as action
-use Rattle.lock_steps.specs.declared.call.Call.{Call}
-use Rattle.lock_steps.specs.declared.act.Act.{Act}
-use Rattle.lock_steps.specs.declared.act.Act.TheVariants.{Join, Acquire, Release, Step}
+use Rattle.lock_steps.specs.declared.word_call.WordCall.{WordCall}
+use Rattle.lock_steps.specs.declared.word_act.WordAct.{WordAct}
+use Rattle.lock_steps.specs.declared.word_act.WordAct.TheVariants.{Join, Acquire, Release, Step}
 use Rattle.lock_steps.specs.declared.stage.Stage.{Stage}
 use Rattle.lock_steps.specs.declared.stage.Stage.TheVariants as stage
 use Rattle.lock_steps.specs.Machine.{Progress, acquiring, taking, next_of, has_to_wake}
@@ -26,7 +26,7 @@ use Rattle.lock_steps.specs.StepLaws.{Words, number_at, made, wake_at, hold_at, 
 pub record Underway : Type 0 where
   pub asked : LockStep
   pub down : Down
-  pub call : Call
+  pub call : WordCall
   pub action : Action
 
 -- a thread: what it held when its last call ended, and the call that has not
@@ -115,18 +115,18 @@ abbrev pub step_by : LockInUse → ℕ → ℕ → Option Thread → LockInUse
 step_by s k told None = s
 step_by s k told (Some t) = step_in s k told t t.underway
 
-abbrev pub after_act : LockInUse → Act → LockInUse
+abbrev pub after_act : LockInUse → WordAct → LockInUse
 after_act s Join = record s { threads = s.threads ++ new_thread ∷ [] }
 after_act s (Acquire k want blocks announces) = acquire_by s k want blocks announces (slice_get s.threads k)
 after_act s (Release k release) = release_by s k release (slice_get s.threads k)
 after_act s (Step k told) = step_by s k told (slice_get s.threads k)
 
-abbrev pub after_acts : LockInUse → List Act → LockInUse
+abbrev pub after_acts : LockInUse → List WordAct → LockInUse
 after_acts s [] = s
 after_acts s (a ∷ acts) = after_acts (after_act s a) acts
 
 -- a release that unblocks a waiter has yet to look for sleepers, or to end this epoch
-abbrev pub IsDueAt : ℕ → Stage → Down → Call → Type 0
+abbrev pub IsDueAt : ℕ → Stage → Down → WordCall → Type 0
 IsDueAt epoch stage.LookForSleepers release call = IsTrue (has_to_wake release call)
 IsDueAt epoch stage.NoteEpoch release call = ⊤
 IsDueAt epoch stage.EndEpoch release call = call.epoch ≡ epoch
@@ -183,4 +183,4 @@ pub record ThreadsAreServed (s : LockInUse) : Type 0 where
 
 -- THE THEOREM: after any acts of any number of threads, from a new lock on
 abbrev pub EveryRunIsServed : Type 0
-EveryRunIsServed = (readers : ℕ) (acts : List Act) → IsLimit readers → ThreadsAreServed (after_acts (new_lock readers) acts)
+EveryRunIsServed = (readers : ℕ) (acts : List WordAct) → IsLimit readers → ThreadsAreServed (after_acts (new_lock readers) acts)

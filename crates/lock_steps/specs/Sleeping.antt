@@ -5,9 +5,9 @@ use Rattle.lock_word.specs.declared.down.Down.{Down}
 use Rattle.lock_word.specs.Word.{word_admits}
 use Rattle.lock_steps.specs.declared.action.Action.{Action}
 use Rattle.lock_steps.specs.declared.action.Action.TheVariants as action
-use Rattle.lock_steps.specs.declared.act.Act.{Act}
-use Rattle.lock_steps.specs.declared.act.Act.TheVariants.{Step}
-use Rattle.lock_steps.specs.declared.call.Call.{Call}
+use Rattle.lock_steps.specs.declared.word_act.WordAct.{WordAct}
+use Rattle.lock_steps.specs.declared.word_act.WordAct.TheVariants.{Step}
+use Rattle.lock_steps.specs.declared.word_call.WordCall.{WordCall}
 use Rattle.lock_steps.specs.declared.stage.Stage.{Stage}
 use Rattle.lock_steps.specs.declared.stage.Stage.TheVariants as stage
 use Rattle.lock_steps.specs.Machine.{wakes_one, has_to_wake}
@@ -68,11 +68,11 @@ abbrev pub sleeper_by : LockWithSleepers → ℕ → ℕ → Option Thread → L
 sleeper_by s k told None = s
 sleeper_by s k told (Some t) = sleeper_in s k told t t.underway
 
-abbrev pub after_act_asleep : LockWithSleepers → Act → LockWithSleepers
+abbrev pub after_act_asleep : LockWithSleepers → WordAct → LockWithSleepers
 after_act_asleep s (Step k told) = sleeper_by s k told (slice_get s.lock.threads k)
 after_act_asleep s other = record s { lock = after_act s.lock other }
 
-abbrev pub after_acts_asleep : LockWithSleepers → List Act → LockWithSleepers
+abbrev pub after_acts_asleep : LockWithSleepers → List WordAct → LockWithSleepers
 after_acts_asleep s [] = s
 after_acts_asleep s (a ∷ acts) = after_acts_asleep (after_act_asleep s a) acts
 
@@ -85,7 +85,7 @@ pub record IsParked (lock : LockInUse) (k : ℕ) : Type 0 where
   pub sleeps : underway.call.stage ≡ stage.Sleep
 
 -- a thread at this stage is on its way to wake a sleeper, or to acquire in its place
-abbrev pub ServesAt : (epoch : ℕ) → (is_woken : Bool) → Stage → Down → Call → Type 0
+abbrev pub ServesAt : (epoch : ℕ) → (is_woken : Bool) → Stage → Down → WordCall → Type 0
 -- a release that unblocks a waiter has yet to look for sleepers, to end this epoch, or to wake
 ServesAt epoch is_woken stage.LookForSleepers release call = IsTrue (has_to_wake release call)
 ServesAt epoch is_woken stage.NoteEpoch release call = ⊤
@@ -109,7 +109,7 @@ pub record SomeThreadServes (s : LockWithSleepers) : Type 0 where
   pub awake : is_listed number s.asleep ≡ false
 
 -- the word admits what the call sleeps for. In a mutex, it is free
-abbrev pub admits_sleeper : ℕ → ℕ → Call → Bool
+abbrev pub admits_sleeper : ℕ → ℕ → WordCall → Bool
 admits_sleeper readers word call = if readers == 1 then word == 0 else word_admits call.announced readers word call.want
 
 -- what holds after any acts
@@ -123,4 +123,4 @@ pub record SleepersAreServed (s : LockWithSleepers) : Type 0 where
 -- THE THEOREM: after any acts of any number of threads, from a new lock on
 abbrev pub EverySleeperIsServed : Type 0
 EverySleeperIsServed =
-    (readers : ℕ) (acts : List Act) → IsLimit readers → SleepersAreServed (after_acts_asleep (new_lock_awake readers) acts)
+    (readers : ℕ) (acts : List WordAct) → IsLimit readers → SleepersAreServed (after_acts_asleep (new_lock_awake readers) acts)

@@ -22,7 +22,7 @@ use Rattle.lock_steps.specs.declared.action.Action.{Action}
 use Rattle.lock_steps.specs.declared.action.Action.TheVariants.{Load, Exchange, Subtract, Restart, Park, WakeOne, WakeAll, Spin, Yield, Unlock, Lock, End}
 use Rattle.lock_steps.specs.declared.action.Place.{Place}
 use Rattle.lock_steps.specs.declared.action.Place.TheVariants.{Word, Count, Epoch}
-use Rattle.lock_steps.specs.declared.call.Call.{Call}
+use Rattle.lock_steps.specs.declared.word_call.WordCall.{WordCall}
 use Rattle.lock_steps.specs.declared.stage.Stage.{Stage}
 use Rattle.lock_steps.specs.declared.stage.Stage.TheVariants as stage
 use Rattle.lock_steps.specs.Machine.{Progress, acquiring, taking, next_of, wakes_one, has_to_wake, last_epoch, closed_count}
@@ -86,7 +86,7 @@ IsRest other = ⊥
 abbrev pub wake_at : ℕ → ℕ → Action
 wake_at readers epoch = if (readers == 1) && nat_lt epoch last_epoch then WakeOne else WakeAll
 
-abbrev pub limits_of : Call → WakeLimits
+abbrev pub limits_of : WordCall → WakeLimits
 limits_of call = record { readers = call.readers; last_epoch = last_epoch; wakes_one = wakes_one call }
 
 -- the party acquires this: it holds what the exchange takes, its bar is as said, and it owes no wake-up
@@ -96,11 +96,11 @@ pub record Acquires (want : ExWant) (announced : Bool) (v : SleeperView) : Type 
   pub bar : announced ≡ v.state.held.announced
   pub debt : v.debt ≡ Nothing
 
-abbrev pub Acquiring : Call → SleeperView → Type 0
+abbrev pub Acquiring : WordCall → SleeperView → Type 0
 Acquiring call v = Acquires call.want call.announced v
 
 -- the party's open load admits what it wants
-pub record MayTry (call : Call) (v : SleeperView) : Type 0 where
+pub record MayTry (call : WordCall) (v : SleeperView) : Type 0 where
   pub loaded : v.state.loaded ≡ Some call.loaded
   pub admits : IsTrue (word_admits call.announced call.readers call.loaded call.want)
 
@@ -112,14 +112,14 @@ gained want.Upgradable = Modes (Release mode.Upgradable)
 gained want.Upgrade = Modes (Release mode.Exclusive)
 gained want.Announce = Withdraw
 
-abbrev pub Gained : Call → SleeperView → Type 0
+abbrev pub Gained : WordCall → SleeperView → Type 0
 Gained call v = IsTrue (hold_has v.state.held (gained call.want))
 
-abbrev pub trial : Call → Action
+abbrev pub trial : WordCall → Action
 trial call = Exchange Word call.loaded (word_after call.loaded call.want)
 
 -- the party is where its call awaits the answer to this action
-abbrev pub IsAt : Stage → Call → Down → SleeperView → Action → Type 0
+abbrev pub IsAt : Stage → WordCall → Down → SleeperView → Action → Type 0
 IsAt stage.Look call down v a = Acquiring call v × (v.watch ≡ Away) × (a ≡ Load Word)
 IsAt stage.Try call down v a = Acquiring call v × (v.watch ≡ Away) × (v.state.loaded ≡ Some call.loaded) × IsTrue (word_admits call.announced call.readers call.loaded call.want) × (a ≡ trial call)
 IsAt stage.Pause call down v a = Acquiring call v × (v.watch ≡ Away) × IsRest a
@@ -157,7 +157,7 @@ IsAt stage.Ended call down v a = (v.watch ≡ Away) × (v.debt ≡ Nothing) × (
 
 -- what the party holds whose call is at this stage, if it held this when the call began: a call that acquires holds what it
 -- wants from its exchange on, and one that releases has released from its subtraction on
-abbrev pub hold_at : Stage → Down → Call → Hold → Hold
+abbrev pub hold_at : Stage → Down → WordCall → Hold → Hold
 hold_at stage.LeaveAcquired down call before = hold_after (record before { announced = call.announced }) (step_of_want call.want)
 hold_at stage.Acquired down call before = hold_after (record before { announced = call.announced }) (step_of_want call.want)
 hold_at stage.Take down call before = before
@@ -200,7 +200,7 @@ pub record Kept (readers : ℕ) (asked : LockStep) (before : Hold) (w : Words) (
 -- action is to be made, and it holds what that stage says.
 abbrev pub StepsKeepTheRule : Type 0
 StepsKeepTheRule =
-    (w : Words) (views : List SleeperView) (k : ℕ) (me : SleeperView) (call : Call) (down : Down) (action : Action) (found : ℕ)
+    (w : Words) (views : List SleeperView) (k : ℕ) (me : SleeperView) (call : WordCall) (down : Down) (action : Action) (found : ℕ)
     → (before : Hold)
     → IsLimit call.readers → KeepsWakes (limits_of call) w.word w.count w.epoch views → slice_get views k ≡ Some me
     → IsAt call.stage call down me action → me.state.held ≡ hold_at call.stage down call before → is_over call.stage ≡ false
@@ -211,7 +211,7 @@ StepsKeepTheRule =
 -- of a release and has yet to look for sleepers or to end the epoch
 abbrev pub NoParkedCallIsForgotten : Type 0
 NoParkedCallIsForgotten =
-    (w : Words) (views : List SleeperView) (k : ℕ) (me : SleeperView) (call : Call) (down : Down) (action : Action)
+    (w : Words) (views : List SleeperView) (k : ℕ) (me : SleeperView) (call : WordCall) (down : Down) (action : Action)
     → KeepsWakes (limits_of call) w.word w.count w.epoch views → slice_get views k ≡ Some me
     → IsAt stage.Sleep call down me action → call.epoch ≡ w.epoch
     → IsTrue (word_admits call.announced call.readers w.word call.want)

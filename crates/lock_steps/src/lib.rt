@@ -4,18 +4,16 @@
 //! can have the protocol of `lock_wake`, and each of its steps is chosen by proved code.
 #![tactic(auto)]
 
-mod act;
 mod action;
-mod call;
 mod event_act;
 mod event_call;
 mod event_stage;
 mod laws;
 mod stage;
+mod word_act;
+mod word_call;
 
-pub use act::Act;
 pub use action::{Action, Place};
-pub use call::Call;
 pub use event_act::EventAct;
 pub use event_call::EventCall;
 pub use event_stage::EventStage;
@@ -24,3 +22,5 @@ pub use laws::{
     no_parked_call_is_forgotten, steps_keep_the_rule,
 };
 pub use stage::Stage;
+pub use word_act::WordAct;
+pub use word_call::WordCall;

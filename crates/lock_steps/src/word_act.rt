@@ -1,9 +1,9 @@
-//! The acts of a run of threads with one lock.
+//! The acts of a run of threads with one word lock.
 
 use lock_word::{Down, ExWant};
 
-/// One act of a run of threads with one lock. Threads are numbered from 0. It exists in contracts only.
-pub enum Act {
+/// One act of a run of threads with one word lock. Threads are numbered from 0. It exists in contracts only.
+pub enum WordAct {
     /// A new thread joins, which holds nothing.
     Join,
     /// The thread begins to acquire or upgrade: what it wants, whether it blocks, and whether it announces itself.

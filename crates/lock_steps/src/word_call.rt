@@ -1,4 +1,4 @@
-//! A call, step by step.
+//! A call on a word lock, step by step.
 ghost use Rattle.std.specs.Prelude.{◌≡◌, ◌<◌, ◌==◌, ◌||◌};
 
 use crate::action::{Action, Place};
@@ -10,9 +10,9 @@ use lock_word::{Down, ExWant, Occupancy, unblocks};
 /// a wake-up. In C and Rust that is a call of the kernel.
 const YIELDS: u32 = 70;
 
-/// A call between two of its steps.
+/// A call on a word lock between two of its steps.
 #[derive(Clone, Copy, PartialEq, Eq, Debug)]
-pub struct Call {
+pub struct WordCall {
     /// The readers' limit of the lock. A lock for one reader is a mutex.
     pub readers: u64,
     /// The step whose answer the call awaits.
@@ -35,15 +35,15 @@ pub struct Call {
     pub epoch: u64,
 }
 
-impl Call {
+impl WordCall {
     ghost use Rattle.lock_steps.specs.Machine.{acquiring, taking, next_of, next_at, goes_to, ended, acquired, refused, wakes_one, with_loaded, tries, pause, to_wait, to_count, leave, look_again, find_epoch, has_to_wake, closed_count, last_epoch};
     ghost use Rattle.lock_word.specs.Word.{word_exchanged};
 
     /// Begins a call that acquires or upgrades. Returns the call and its first action.
-    pub fn acquire(readers: u64, want: ExWant, blocks: bool, announces: bool) -> (Call, Action)
+    pub fn acquire(readers: u64, want: ExWant, blocks: bool, announces: bool) -> (WordCall, Action)
         ensures { result ≡ acquiring readers want blocks announces }
     {
-        let call = Call {
+        let call = WordCall {
             readers,
             stage: Stage::Look,
             want,
@@ -59,10 +59,10 @@ impl Call {
     }
 
     /// Begins a call that releases or downgrades. Returns the call and its first action.
-    pub fn take(readers: u64, down: Down) -> (Call, Action)
+    pub fn take(readers: u64, down: Down) -> (WordCall, Action)
         ensures { result ≡ taking readers down }
     {
-        let call = Call {
+        let call = WordCall {
             readers,
             stage: Stage::Take,
             want: ExWant::Shared,
@@ -79,7 +79,7 @@ impl Call {
 
     /// Takes the answer to the last action, and returns the next action.
     ///
-    /// `down` is what a call of [`Call::take`] releases. A call of [`Call::acquire`] does not read it.
+    /// `down` is what a call of [`WordCall::take`] releases. A call of [`WordCall::acquire`] does not read it.
     pub fn next(&mut self, down: Down, found: u64) -> Action
         ensures { (self.new, result) ≡ next_of down found self.old }
     {
