@@ -16,6 +16,7 @@ pub mod FewHeld
 pub mod Landing
 pub mod StepNumbers
 pub mod WaysFor
+pub mod Releases
 pub mod Right
 pub mod Moves
 pub mod Ways

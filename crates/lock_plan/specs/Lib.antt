@@ -1,6 +1,7 @@
 pub mod Holds
 pub mod Signals
 pub mod Ways
+pub mod Releases
 pub mod Worlds
 pub mod CallFaults
 pub mod Known
