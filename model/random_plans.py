@@ -2,13 +2,11 @@
 import random
 from typing import NamedTuple
 
-# how many calls a party has at most, by the number of parties, so that a plan has some thousands of worlds at most
-MOST_CALLS = {1: 12, 2: 14, 3: 9, 4: 6, 5: 5}
-# the same for plans with blocks, of which a part has so many calls at most
-MOST_WITH_BLOCKS = {1: 12, 2: 9, 3: 6, 4: 4, 5: 3}
-# the same for plans with flags, condition variables, starts and joins
-MOST_WITH_SIGNALS = {1: 12, 2: 12, 3: 9, 4: 6, 5: 5}
-MOST_IN_PART = 3
+# how many calls a party has at most, for 1 to 5 parties, so that a plan has some thousands of worlds at most
+MOST_CALLS = [12, 14, 9, 6, 5]
+MOST_WITH_BLOCKS = [12, 9, 6, 4, 3]
+MOST_WITH_SIGNALS = [12, 12, 9, 6, 5]
+MOST_IN_PART = 3  # of a block
 RELEASES = {
     "mutex": {"exclusive": "unlock"},
     "reentrant": {"exclusive": "unlock"},
@@ -22,10 +20,15 @@ CHANGES = {
 }
 TRIED = {"lock", "read", "write", "upgradable_read", "upgrade"}
 # texts and lines with which a plan may become wrong
-SPOILS = ["", " ", "\n", "x", "0", "\r", "\u00e9", " bar", "4294967296", "lock0", "party p1\n", "server p 2\n", "mutex lock0\n", "end\n"]
-SPOILS += [" not", " until flag0", "flag flag0\n", "condvar cond0\n", "start p1\n"]
-STRAYS = ["set flag0", "if flag0", "wait cond0 lock0", "start p1", "join p9", "notify_all cond0"]
+SPOILS = [
+    "", " ", "\n", "x", "0", "\r", "\u00e9", " bar", "4294967296", "lock0", "party p1\n", "server p 2\n", "mutex lock0\n",
+    "end\n", " not", " until flag0", "flag flag0\n", "condvar cond0\n", "start p1\n",
+]
+STRAY_BLOCKS = ["repeat", "either", "else", "or", "end"]
+STRAY_SIGNALS = ["set flag0", "if flag0", "wait cond0 lock0", "start p1", "join p9", "notify_all cond0"]
 ACQUISITIONS = [("read", "shared"), ("read", "shared"), ("write", "exclusive"), ("upgradable_read", "upgradable")]
+ANY_CALL = ["lock", "announce", *(word for word, _ in ACQUISITIONS)]
+ANY_CALL += [*(word for those in RELEASES.values() for word in those.values()), "upgrade", "downgrade"]
 
 
 def random_plan(number):
@@ -38,10 +41,10 @@ def random_plan(number):
     has_blocks = rng.random() < 1 / 3
     heads = random_heads(rng)
     total = sum(len(names) for _, names in heads)
-    most = (MOST_WITH_BLOCKS if has_blocks else MOST_CALLS)[total]
+    most = (MOST_WITH_BLOCKS if has_blocks else MOST_CALLS)[total - 1]
     signals = None
     if rng.random() < 1 / 2:
-        most = MOST_WITH_SIGNALS[total] - has_blocks
+        most = MOST_WITH_SIGNALS[total - 1] - has_blocks
         signals = random_signals(rng, lines, kinds, heads)
     maker = Maker(rng, kinds, limits, rng.random() < 0.5, has_blocks, signals)
     is_chain = signals and signals.condvars and len(heads) == total and rng.random() < 0.5
@@ -88,14 +91,14 @@ def chain_lines(rng, signals, number):
 def with_faults(rng, lines, locks, has_blocks):
     """The lines, of which one may be wrong, twice there, or missing."""
     if rng.random() < 0.06:
-        lines.insert(rng.randint(0, len(lines)), f"{rng.choice(any_call())} {rng.choice(locks)}")
+        lines.insert(rng.randint(0, len(lines)), f"{rng.choice(ANY_CALL)} {rng.choice(locks)}")
     if rng.random() < 0.06:
         twice = rng.randrange(len(lines))
         lines.insert(twice, lines[twice])
     if rng.random() < (0.06 if has_blocks else 0.01):
-        lines.insert(rng.randint(0, len(lines)), rng.choice(["repeat", "either", "else", "or", "end", f"try lock {rng.choice(locks)}"]))
+        lines.insert(rng.randint(0, len(lines)), rng.choice([*STRAY_BLOCKS, f"try lock {rng.choice(locks)}"]))
     if rng.random() < 0.02:
-        lines.insert(rng.randint(0, len(lines)), rng.choice(STRAYS))
+        lines.insert(rng.randint(0, len(lines)), rng.choice(STRAY_SIGNALS))
     if has_blocks and rng.random() < 0.04:
         del lines[rng.randrange(len(lines))]
     return lines
@@ -105,11 +108,6 @@ def lock_line(rng, name, kind, limit):
     if kind == "mutex":
         return f"mutex {name}"
     return f"{kind} {name} {limit}" + (" bar" if kind == "rwlock" and rng.random() < 0.5 else "")
-
-
-def any_call():
-    found = ["lock", "announce", *(word for word, _ in ACQUISITIONS)]
-    return found + [word for those in RELEASES.values() for word in those.values()] + ["upgrade", "downgrade"]
 
 
 class Signals(NamedTuple):
