@@ -32,8 +32,7 @@ pub fn desk_answers<R: RawState>(alloc: Global, script: Vec<u8>) -> Result<Strin
     ensures fault { IfErr result (IsParsingFault IsMaker IsCall (lines_of script.items)) }
 {
     let parsed: DeskScript = parse(alloc, script.as_slice())?;
-    let text = answers_to::<R>(alloc, &parsed, emptied(script))?;
-    Ok(text)
+    answers_to::<R>(alloc, &parsed, emptied(script)).map_err(|_| ReplayFault::OutOfMemory)
 }
 
 /// Appends the answers to a maker and its calls, a line each. If the maker is refused, that is the only answer.
@@ -41,7 +40,7 @@ fn answers_to<R: RawState>(
     alloc: Global,
     script: &DeskScript,
     mut text: String,
-) -> Result<String, AllocError>
+) -> Result<String, Fault>
     requires { string_bytes text ≡ [] }
     ensures { IfOk result (λ text. Answers script.now.maker script.now.calls.items (string_bytes text)) }
 {
@@ -53,7 +52,7 @@ fn answers_to<R: RawState>(
         Err(Fault::BadLimits) => {
             write_answer(&mut text, Answer::Reply(Reply::Refused(Fault::BadLimits)))?;
         }
-        Err(_) => return Err(AllocError),
+        Err(fault) => return Err(fault),
     }
     Ok(text)
 }
@@ -65,16 +64,14 @@ fn write_calls<R: RawState>(
     text: &mut String,
     mut desk: Desk<R, Pair>,
     calls: &[Call<PairOp>],
-) -> Result<(), AllocError>
+) -> Result<(), Fault>
     ensures { OnOk result
         (string_bytes text.new ≡ string_bytes text.old ++ reply_lines (replies meaning desk calls.now)) }
 {
     let mut rest = calls;
     while !rest.is_empty() {
         let (block, after) = rest.split_at(rest.len().min(BLOCK));
-        let Ok(replies) = desk.run(alloc, block) else {
-            return Err(AllocError);
-        };
+        let replies = desk.run(alloc, block)?;
         write_replies(text, replies.as_slice())?;
         rest = after;
     }

@@ -27,12 +27,11 @@ pub fn world_answers(alloc: Global, script: Vec<u8>) -> Result<String, ReplayFau
     ensures fault { IfErr result (IsParsingFault IsWorldMaker IsWorldCall (lines_of script.items)) }
 {
     let parsed: WorldScript = parse(alloc, script.as_slice())?;
-    let text = answers_to(alloc, &parsed, emptied(script))?;
-    Ok(text)
+    answers_to(alloc, &parsed, emptied(script)).map_err(|_| ReplayFault::OutOfMemory)
 }
 
 /// Appends the answers to a maker and its lines, a line each. If the maker is refused, that is the only answer.
-fn answers_to(alloc: Global, script: &WorldScript, mut text: String) -> Result<String, AllocError>
+fn answers_to(alloc: Global, script: &WorldScript, mut text: String) -> Result<String, Fault>
     requires { string_bytes text ≡ [] }
     ensures { IfOk result (λ text. WorldAnswers script.now.maker script.now.calls.items (string_bytes text)) }
 {
@@ -44,7 +43,7 @@ fn answers_to(alloc: Global, script: &WorldScript, mut text: String) -> Result<S
         Err(Fault::BadLimits) => {
             write_answer(&mut text, Answer::Reply(Reply::Refused(Fault::BadLimits)))?;
         }
-        Err(_) => return Err(AllocError),
+        Err(fault) => return Err(fault),
     }
     Ok(text)
 }
