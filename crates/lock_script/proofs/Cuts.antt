@@ -1,19 +1,16 @@
 -- The place that a search found, and where a text may be cut: before and after an ASCII byte at that place.
-use Rattle.std.proofs.Common.{◌≡◌, ◌==◌, ℕ, ◌<◌, ◌+◌, List, length, Bool, true, false, cond, Some, None, arith, get_or}
+use Rattle.std.proofs.Common.{◌≡◌, ◌==◌, ℕ, ◌<◌, ◌+◌, List, length, Bool, Some, arith, get_or}
 use Rattle.std.specs.Prelude.{position, nat_lt}
 use Rattle.std.specs.List.{position_or_len}
 use Rattle.std.specs.Str.{IsUtf8, IsCharBoundary}
 use Rattle.std.proofs.lemmas.Bool.Decides.{nat_tests}
 use Rattle.std.proofs.lemmas.List.Quantifiers.{position-Some}
+use Rattle.std.proofs.lemmas.Option.{cond_some}
 use Rattle.std.proofs.lemmas.Str.{IsCharBoundary-before_ascii, IsCharBoundary-after_ascii}
-
-found_of : (t : Bool) (n at : ℕ) → cond t (Some n) None ≡ Some at → n ≡ at
-found_of true n at found = cc
-found_of false n at found = cc
 
 -- the place that a search found is that of the first byte that passes
 pub place_found : (p : ℕ → Bool) (text : List ℕ) (at : ℕ) → position p text ≡ Some at → position_or_len p text ≡ at
-place_found p text at found = found_of (nat_lt (position_or_len p text) (length text)) (position_or_len p text) at found
+place_found p text at found = (cond_some (nat_lt (position_or_len p text) (length text)) (position_or_len p text) at found).1
 
 abbrev pub is_byte : ℕ → ℕ → Bool
 is_byte b byte = byte == b

@@ -1,7 +1,7 @@
 use Rattle.std.proofs.Common.{◌++◌, take, arith}
 use Rattle.std.proofs.lemmas.List.{length-append, length-take, length-take-le}
 use Rattle.std.proofs.lemmas.Result.{err_from_is_err_and}
-use Rattle.lock_script.proofs.KnownStreams.{Consumes-kept, Consumes-more}
+use Rattle.std.proofs.KnownBytes.{Consumes-kept, Consumes-trans}
 use Rattle.lock_script.proofs.reading.read_script.Goals as goal
 
 pub returns-in_err-count-clause-fault : goal.returns-in_err-count-clause-fault
@@ -20,7 +20,7 @@ returns-in_err-keep-clause-fault g c =
     rw (told.1, told.2, c.in_err-keep.ensures.fault) (
       c.loop.script.items ++ read,
       (
-        Consumes-more _ _ _ c.loop.script.items read c.loop.invariant.1 c.in_ok-count.ensures.read,
+        Consumes-trans _ _ _ c.loop.script.items read c.loop.invariant.1 c.in_ok-count.ensures.read,
         rw (length-append c.loop.script.items read) (omega (arith, c.read_once.auto.chunk)),
       ),
     )
