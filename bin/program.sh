@@ -34,29 +34,21 @@ usage() {
 }
 
 # wrong words get the usage line of the program, as a request for help gets its help, and compile nothing
-words=$*
-bytes=${words##*--memory }
-case $bytes in
-    0 | [1-9]*) [ -n "${bytes##*[!0-9]*}" ] && [ "$bytes" != "$words" ] && words="${words%"$bytes"}N" ;;
-esac
-case "$name:$#:$words" in
-    lockreplay:1:table | lockreplay:1:word | lockreplay:1:steps | lockexplore:0: | lockexplore:1:lanes | lockexplore:1:svg | lockexplore:1:order) ;;
-    'lockexplore:2:--memory N' | 'lockexplore:3:lanes --memory N' | 'lockexplore:3:svg --memory N' | 'lockexplore:3:order --memory N') ;;
-    lockexplore:1:-h | lockexplore:1:--help)
+forms='lockreplay (table|word|steps)|lockexplore( lanes| svg| order)?( --memory (0|[1-9][0-9]*))?'
+words=$name${1+ $*}
+case $words in
+    'lockexplore -h' | 'lockexplore --help')
         usage
         echo
         constant HELP
         exit
         ;;
-    lockexplore:1:--version)
+    'lockexplore --version')
         sed -n 's/^const VERSION: &str = "\(.*\)";$/\1/p' "$root/crates/$name/src/main.rt"
         exit
         ;;
-    *)
-        usage >&2
-        exit 2
-        ;;
 esac
+printf '%s\n' "$words" | grep -Exq "$forms" || { usage >&2; exit 2; }
 is_up_to_date && exec "$program" "$@"
 # Says what takes so long. A reader of this script's output must not wait for the sleep.
 tell_late() {
