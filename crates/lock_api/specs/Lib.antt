@@ -91,6 +91,7 @@ pub use Rattle.lock_ranked.specs.Rows as RankedRows
 pub use Rattle.lock_ranked.specs.MappedGuards as RankedMappedGuards
 pub use Rattle.lock_ranked.specs.ReentrantGuards as RankedReentrantGuards
 pub use Rattle.lock_ranked.specs.Condvars as RankedCondvars
+pub use Rattle.lock_raws.specs.Downgrades
 pub use Rattle.lock_raws.specs.TokenArbiter
 pub use Rattle.lock_raws.specs.Waking
 pub use Rattle.lock_raws.specs.Journal

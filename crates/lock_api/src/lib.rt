@@ -150,7 +150,6 @@ pub use lock_raws::upgraded;
 pub use lock_raws_fair::FairArbiter;
 pub use lock_raws_fair::FairCore;
 pub use lock_raws_fair::FairRaw;
-pub use lock_raws_fair::FairTiming;
 pub use lock_raws_fair::FairToken;
 pub use lock_raws_fair::FairWake;
 pub use lock_raws_fair::Line;

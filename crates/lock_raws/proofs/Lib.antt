@@ -1,3 +1,2 @@
 pub mod Legal
 pub mod JournalLemmas
-pub mod Unblocked

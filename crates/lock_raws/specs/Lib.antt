@@ -1,3 +1,4 @@
+pub mod Downgrades
 pub mod TokenArbiter
 pub mod Waking
 pub mod Journal

@@ -1,7 +1,8 @@
 //! The core of a raw lock.
-ghost use Rattle.std.specs.Prelude.{◌≡◌, ◌↔◌, Bool, true, IfSome, IfErr, IfOk};
+ghost use Rattle.std.specs.Prelude.{◌≡◌, ◌↔◌, Bool, true, IsTrue, IfSome, IfErr, IfOk};
 ghost use Rattle.lock_base.specs.declared.machine.mode.Mode.{Mode};
 ghost use Rattle.lock_base.specs.Limits.{IsLimit, IsMakerFault};
+ghost use Rattle.lock_raws.specs.Downgrades.{is_downgrade};
 
 use lock_base::machine::Mode;
 use lock_base::raw::Fault;
@@ -60,9 +61,12 @@ pub trait LockCore: Sized + Drop {
     fn try_acquire(&self, mode: Mode) -> Option<Self::Token>
         ensures { IfSome result (λ token. holds self.now mode token ≡ true) };
 
-    /// Tries to acquire the mode until `deadline`.
-    fn try_acquire_until(&self, mode: Mode, deadline: Self::Instant) -> Option<Self::Token>
-        ensures { IfSome result (λ token. holds self.now mode token ≡ true) };
+    /// Tries to acquire the mode until `deadline`. A core that measures no time leaves it a plain try.
+    fn try_acquire_until(&self, mode: Mode, _deadline: Self::Instant) -> Option<Self::Token>
+        ensures { IfSome result (λ token. holds self.now mode token ≡ true) }
+    {
+        self.try_acquire(mode)
+    }
 
     /// Releases a token of the mode.
     fn release(&self, token: Self::Token, mode: Mode)
@@ -79,30 +83,25 @@ pub trait LockCore: Sized + Drop {
         ensures held { IfOk result (λ upgraded. holds self.now Mode.Exclusive upgraded ≡ true) }
         ensures back { IfErr result (λ back. back ≡ token) };
 
-    /// Tries to make an upgradable token exclusive until `deadline`, or returns it unchanged.
+    /// Tries to make an upgradable token exclusive until `deadline`, or returns it unchanged. A core that measures no time
+    /// leaves it a plain try.
     fn try_upgrade_until(
         &self,
         token: Self::Token,
-        deadline: Self::Instant,
+        _deadline: Self::Instant,
     ) -> Result<Self::Token, Self::Token>
         requires { holds self.now Mode.Upgradable token ≡ true }
         ensures held { IfOk result (λ upgraded. holds self.now Mode.Exclusive upgraded ≡ true) }
-        ensures back { IfErr result (λ back. back ≡ token) };
+        ensures back { IfErr result (λ back. back ≡ token) }
+    {
+        self.try_upgrade(token)
+    }
 
-    /// Makes an exclusive token shared.
-    fn downgrade(&self, token: Self::Token) -> Self::Token
-        requires { holds self.now Mode.Exclusive token ≡ true }
-        ensures { holds self.now Mode.Shared result ≡ true };
-
-    /// Makes an exclusive token upgradable.
-    fn downgrade_to_upgradable(&self, token: Self::Token) -> Self::Token
-        requires { holds self.now Mode.Exclusive token ≡ true }
-        ensures { holds self.now Mode.Upgradable result ≡ true };
-
-    /// Makes an upgradable token shared.
-    fn downgrade_upgradable(&self, token: Self::Token) -> Self::Token
-        requires { holds self.now Mode.Upgradable token ≡ true }
-        ensures { holds self.now Mode.Shared result ≡ true };
+    /// Downgrades a token from one mode to another.
+    fn downgrade(&self, token: Self::Token, from: Mode, to: Mode) -> Self::Token
+        requires down { IsTrue (is_downgrade from to) }
+        requires held { holds self.now from token ≡ true }
+        ensures { holds self.now to result ≡ true };
 
     /// Returns the instant that is `timeout` from now, or `None` if it cannot be represented.
     fn instant_after(&self, timeout: Self::Duration) -> Option<Self::Instant>;

@@ -1,7 +1,4 @@
 //! An arbiter behind a std mutex.
-ghost use Rattle.std.specs.Prelude.{◌≡◌, IsTrue};
-ghost use Rattle.lock_base.specs.Modes.{is_move};
-
 use crate::announcing::admit_or_announce;
 use crate::arbiter::{Arbiter, upgraded};
 use crate::lock_core::LockCore;
@@ -21,7 +18,7 @@ use std::sync::{Mutex, MutexGuard, Wait};
 /// one that is woken. A writer that acquires clears its bar and wakes no waiter, since none is admitted next to it.
 ///
 /// A call with a token that is not held in its mode is ignored: a release changes nothing, and a change of mode returns
-/// the same token.
+/// the same token. A timed try is a plain try: it does not block.
 #[derive(Drop)]
 pub struct Monitor<A: Arbiter, W: Wait + Clone + Drop> {
     pub(crate) waiter: W,
@@ -42,17 +39,6 @@ impl<A: Arbiter, W: Wait + Clone + Drop> Monitor<A, W> {
     /// Locks the arbiter. Each call holds this lock for a moment.
     pub(crate) fn arbiter(&self) -> MutexGuard<'_, A> {
         lock_std(&self.arbiter, &self.waiter)
-    }
-
-    /// Downgrades a token.
-    fn downgrade_to(&self, token: A::Token, from: Mode, to: Mode) -> A::Token
-        requires { IsTrue (is_move from to) }
-    {
-        let mut arbiter = self.arbiter();
-        let (token, wake) = unblocking::downgrade_to(&mut *arbiter, token, from, to);
-        drop(arbiter);
-        self.waiters.wake(wake);
-        token
     }
 }
 
@@ -109,11 +95,6 @@ impl<A: Arbiter, W: Wait + Clone + Drop> LockCore for Monitor<A, W> {
         self.arbiter().admit(mode)
     }
 
-    /// A timed try is a plain try: it does not block.
-    fn try_acquire_until(&self, mode: Mode, _deadline: ()) -> Option<A::Token> {
-        self.try_acquire(mode)
-    }
-
     fn release(&self, token: A::Token, mode: Mode) {
         let mut arbiter = self.arbiter();
         let wake = unblocking::give_back(&mut *arbiter, token, mode);
@@ -139,21 +120,12 @@ impl<A: Arbiter, W: Wait + Clone + Drop> LockCore for Monitor<A, W> {
         upgraded(arbiter.change(token, Mode::Upgradable, Mode::Exclusive))
     }
 
-    /// A timed try is a plain try: it does not block.
-    fn try_upgrade_until(&self, token: A::Token, _deadline: ()) -> Result<A::Token, A::Token> {
-        self.try_upgrade(token)
-    }
-
-    fn downgrade(&self, token: A::Token) -> A::Token {
-        self.downgrade_to(token, Mode::Exclusive, Mode::Shared)
-    }
-
-    fn downgrade_to_upgradable(&self, token: A::Token) -> A::Token {
-        self.downgrade_to(token, Mode::Exclusive, Mode::Upgradable)
-    }
-
-    fn downgrade_upgradable(&self, token: A::Token) -> A::Token {
-        self.downgrade_to(token, Mode::Upgradable, Mode::Shared)
+    fn downgrade(&self, token: A::Token, from: Mode, to: Mode) -> A::Token {
+        let mut arbiter = self.arbiter();
+        let (token, wake) = unblocking::downgrade(&mut *arbiter, token, from, to);
+        drop(arbiter);
+        self.waiters.wake(wake);
+        token
     }
 
     fn instant_after(&self, _timeout: ()) -> Option<()> {

@@ -26,11 +26,9 @@ impl<C: LockCore> RawMutex for RawLock<C> {
     }
 
     fn lock(&self) -> ExclusiveToken<C::Token> {
-        let token = match self.core.try_acquire(Mode::Exclusive) {
-            Some(token) => token,
-            None => self.core.acquire(Mode::Exclusive),
-        };
-        ExclusiveToken { token }
+        ExclusiveToken {
+            token: self.acquire(Mode::Exclusive),
+        }
     }
 
     fn try_lock(&self) -> Option<ExclusiveToken<C::Token>> {

@@ -4,7 +4,7 @@ use crate::sleeping_condvar::SleepingCondvar;
 use crate::timing::Timing;
 use crate::word_core::WordCore;
 use lock_base::machine::Mode;
-use lock_wake::{WordLock, WordToken};
+use lock_wake::{WordLock, WordToken, time_left};
 use std::sync::Wait;
 use std::time::{Clock, Duration, Instant};
 
@@ -25,6 +25,10 @@ impl<W: Wait + Clock> Timing<W> for RealTime {
 
     fn instant_after(waiter: &W, timeout: Duration) -> Option<Instant> {
         Instant::now(waiter).ok()?.checked_add(timeout)
+    }
+
+    fn time_left(waiter: &W, deadline: &Instant) -> Option<Duration> {
+        time_left(waiter, *deadline)
     }
 
     fn acquire_until(

@@ -34,11 +34,9 @@ impl<C: LockCore> RawRwLock for RawLock<C> {
     }
 
     fn lock_shared(&self) -> SharedToken<C::Token> {
-        let token = match self.core.try_acquire(Mode::Shared) {
-            Some(token) => token,
-            None => self.core.acquire(Mode::Shared),
-        };
-        SharedToken { token }
+        SharedToken {
+            token: self.acquire(Mode::Shared),
+        }
     }
 
     fn try_lock_shared(&self) -> Option<SharedToken<C::Token>> {
@@ -90,9 +88,8 @@ impl<C: LockCore> RawRwLockFair for RawLock<C> {
 
 impl<C: LockCore> RawRwLockDowngrade for RawLock<C> {
     fn downgrade(&self, token: ExclusiveToken<C::Token>) -> SharedToken<C::Token> {
-        SharedToken {
-            token: self.core.downgrade(token.token),
-        }
+        let token = self.core.downgrade(token.token, Mode::Exclusive, Mode::Shared);
+        SharedToken { token }
     }
 }
 
@@ -128,11 +125,9 @@ impl<C: LockCore> RawRwLockUpgrade for RawLock<C> {
     ghost owns_upgradable = { λ raw token. C.holds raw.core Mode.Upgradable token.token };
 
     fn lock_upgradable(&self) -> UpgradableToken<C::Token> {
-        let token = match self.core.try_acquire(Mode::Upgradable) {
-            Some(token) => token,
-            None => self.core.acquire(Mode::Upgradable),
-        };
-        UpgradableToken { token }
+        UpgradableToken {
+            token: self.acquire(Mode::Upgradable),
+        }
     }
 
     fn try_lock_upgradable(&self) -> Option<UpgradableToken<C::Token>> {
@@ -169,18 +164,16 @@ impl<C: LockCore> RawRwLockUpgradeFair for RawLock<C> {
 
 impl<C: LockCore> RawRwLockUpgradeDowngrade for RawLock<C> {
     fn downgrade_upgradable(&self, token: UpgradableToken<C::Token>) -> SharedToken<C::Token> {
-        SharedToken {
-            token: self.core.downgrade_upgradable(token.token),
-        }
+        let token = self.core.downgrade(token.token, Mode::Upgradable, Mode::Shared);
+        SharedToken { token }
     }
 
     fn downgrade_to_upgradable(
         &self,
         token: ExclusiveToken<C::Token>,
     ) -> UpgradableToken<C::Token> {
-        UpgradableToken {
-            token: self.core.downgrade_to_upgradable(token.token),
-        }
+        let token = self.core.downgrade(token.token, Mode::Exclusive, Mode::Upgradable);
+        UpgradableToken { token }
     }
 }
 

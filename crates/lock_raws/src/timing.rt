@@ -6,6 +6,7 @@ ghost use Rattle.lock_wake.specs.Calls.{IsTokenOf};
 use lock_base::machine::Mode;
 use lock_wake::{WordLock, WordToken};
 use std::sync::Wait;
+use std::time::Duration;
 
 /// How long timed calls block. The waiter may provide a clock.
 pub trait Timing<W: Wait>: Drop {
@@ -17,6 +18,9 @@ pub trait Timing<W: Wait>: Drop {
 
     /// Returns the instant that is `timeout` from now, or `None` if it cannot be represented.
     fn instant_after(waiter: &W, timeout: Self::Duration) -> Option<Self::Instant>;
+
+    /// Returns the time until `deadline`, or `None` if it has passed.
+    fn time_left(waiter: &W, deadline: &Self::Instant) -> Option<Duration>;
 
     /// Acquires the mode, blocking until `deadline`.
     fn acquire_until(
@@ -38,7 +42,7 @@ pub trait Timing<W: Wait>: Drop {
         ensures { MatchResult result (IsTokenOf lock.now Exclusive) (λ back. back ≡ token) };
 }
 
-/// Measures no time: a timed try is a plain try, and does not block.
+/// Measures no time: each deadline has passed. A timed try is a plain try, and does not block.
 #[derive(Drop)]
 pub struct NoTime;
 
@@ -51,6 +55,10 @@ impl<W: Wait> Timing<W> for NoTime {
         ensures { IsSome result }
     {
         Some(())
+    }
+
+    fn time_left(_waiter: &W, _deadline: &()) -> Option<Duration> {
+        None
     }
 
     fn acquire_until(lock: &WordLock, _waiter: &W, mode: Mode, _deadline: ()) -> Option<WordToken> {

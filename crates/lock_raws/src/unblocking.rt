@@ -6,7 +6,7 @@ ghost use Rattle.lock_raws.specs.Waking.{wakes};
 
 use crate::arbiter::Arbiter;
 use crate::wake::Wake;
-use lock_base::machine::{Bag, Mode, ModeStep};
+use lock_base::machine::{Bag, Mode};
 use lock_word::Occupancy;
 
 /// Releases a token. Returns which waiters to wake.
@@ -16,15 +16,12 @@ pub(crate) fn give_back<A: Arbiter>(arbiter: &mut A, token: A::Token, mode: Mode
         (bag_of_tokens (A.tokens_out arbiter.old)) (bag_of_tokens (A.tokens_out arbiter.new)) }
 {
     let before = arbiter.bag();
-    if !arbiter.give_back(token, mode) {
-        return Wake::nobody();
-    }
-    let after = before.after(ModeStep::Release(mode));
-    decide(arbiter, before, after)
+    arbiter.give_back(token, mode);
+    decide(arbiter, before)
 }
 
 /// Downgrades a token, or returns it unchanged if it is not held. Returns which waiters to wake too.
-pub(crate) fn downgrade_to<A: Arbiter>(
+pub(crate) fn downgrade<A: Arbiter>(
     arbiter: &mut A,
     token: A::Token,
     from: Mode,
@@ -37,26 +34,27 @@ pub(crate) fn downgrade_to<A: Arbiter>(
         (bag_of_tokens (A.tokens_out arbiter.old)) (bag_of_tokens (A.tokens_out arbiter.new)) }
 {
     let before = arbiter.bag();
-    match arbiter.change(token, from, to) {
-        Ok(next) => {
-            let after = before.after(ModeStep::Change(from, to));
-            (next, decide(arbiter, before, after))
-        }
-        Err(same) => (same.token, Wake::nobody()),
-    }
+    let token = match arbiter.change(token, from, to) {
+        Ok(next) => next,
+        Err(same) => same.token,
+    };
+    (token, decide(arbiter, before))
 }
 
-/// Decides which waiters a step between two bags wakes.
-fn decide<A: Arbiter>(arbiter: &A, before: Bag, after: Bag) -> Wake
-    requires before_small { tokens before < 2 ^ 64 }
-    requires after_small { tokens after < 2 ^ 64 }
-    ensures { result ≡ wakes (A.reader_limit arbiter.now) (A.bar arbiter.now) before after }
+/// Decides which waiters a step wakes, from the bag before it.
+fn decide<A: Arbiter>(arbiter: &A, before: Bag) -> Wake
+    requires { tokens before < 2 ^ 64 }
+    ensures { result ≡ wakes (A.reader_limit arbiter.now) (A.bar arbiter.now) before
+        (bag_of_tokens (A.tokens_out arbiter.now)) }
 {
     let barred = arbiter.barred();
     let before = Occupancy {
         bag: before,
         barred,
     };
-    let after = Occupancy { bag: after, barred };
+    let after = Occupancy {
+        bag: arbiter.bag(),
+        barred,
+    };
     Wake::decide(arbiter.readers(), before, after)
 }

@@ -31,6 +31,7 @@ pub struct WordCore<W: Wait + Clone + Drop, T: Timing<W>> {
     timing: PhantomData<T>,
 }
 
+#[tactic(auto, using(lock_wake::proofs::Own::token_of, lock_wake::proofs::Own::own_token))]
 impl<W: Wait + Clone + Drop, T: Timing<W>> LockCore for WordCore<W, T> {
     type Token = WordToken;
 
@@ -68,42 +69,34 @@ impl<W: Wait + Clone + Drop, T: Timing<W>> LockCore for WordCore<W, T> {
         self.lock.is_locked_exclusive()
     }
 
-    #[tactic(auto, using(lock_wake::proofs::Own::own_token))]
     fn acquire(&self, mode: Mode) -> WordToken {
         self.lock.acquire(&self.waiter, mode)
     }
 
-    #[tactic(auto, using(lock_wake::proofs::Own::own_token))]
     fn acquire_announced(&self) -> WordToken {
         self.lock.acquire_announced(&self.waiter)
     }
 
-    #[tactic(auto, using(lock_wake::proofs::Own::own_token))]
     fn try_acquire(&self, mode: Mode) -> Option<WordToken> {
         self.lock.try_acquire(mode)
     }
 
-    #[tactic(auto, using(lock_wake::proofs::Own::own_token))]
     fn try_acquire_until(&self, mode: Mode, deadline: T::Instant) -> Option<WordToken> {
         T::acquire_until(&self.lock, &self.waiter, mode, deadline)
     }
 
-    #[tactic(auto, using(lock_wake::proofs::Own::token_of))]
     fn release(&self, token: WordToken, mode: Mode) {
         self.lock.release(token, mode);
     }
 
-    #[tactic(auto, using(lock_wake::proofs::Own::token_of, lock_wake::proofs::Own::own_token))]
     fn upgrade(&self, token: WordToken) -> WordToken {
         self.lock.upgrade(&self.waiter, token)
     }
 
-    #[tactic(auto, using(lock_wake::proofs::Own::token_of, lock_wake::proofs::Own::own_token))]
     fn try_upgrade(&self, token: WordToken) -> Result<WordToken, WordToken> {
         self.lock.try_upgrade(token)
     }
 
-    #[tactic(auto, using(lock_wake::proofs::Own::token_of, lock_wake::proofs::Own::own_token))]
     fn try_upgrade_until(
         &self,
         token: WordToken,
@@ -112,19 +105,12 @@ impl<W: Wait + Clone + Drop, T: Timing<W>> LockCore for WordCore<W, T> {
         T::upgrade_until(&self.lock, &self.waiter, token, deadline)
     }
 
-    #[tactic(auto, using(lock_wake::proofs::Own::token_of, lock_wake::proofs::Own::own_token))]
-    fn downgrade(&self, token: WordToken) -> WordToken {
-        self.lock.downgrade(token)
-    }
-
-    #[tactic(auto, using(lock_wake::proofs::Own::token_of, lock_wake::proofs::Own::own_token))]
-    fn downgrade_to_upgradable(&self, token: WordToken) -> WordToken {
-        self.lock.downgrade_to_upgradable(token)
-    }
-
-    #[tactic(auto, using(lock_wake::proofs::Own::token_of, lock_wake::proofs::Own::own_token))]
-    fn downgrade_upgradable(&self, token: WordToken) -> WordToken {
-        self.lock.downgrade_upgradable(token)
+    fn downgrade(&self, token: WordToken, from: Mode, to: Mode) -> WordToken {
+        match (from, to) {
+            (Mode::Exclusive, Mode::Shared) => self.lock.downgrade(token),
+            (Mode::Exclusive, _) => self.lock.downgrade_to_upgradable(token),
+            (_, _) => self.lock.downgrade_upgradable(token),
+        }
     }
 
     fn instant_after(&self, timeout: T::Duration) -> Option<T::Instant> {

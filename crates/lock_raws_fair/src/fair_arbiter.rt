@@ -5,7 +5,7 @@ use crate::fair_wake::FairWake;
 use crate::line::{Line, Ticket};
 use lock_base::machine::{Bag, Mode};
 use lock_base::raw::Fault;
-use lock_raws::Arbiter;
+use lock_raws::{Arbiter, upgraded};
 use std::alloc::Global;
 use std::marker::Model;
 pub use token::{FairToken, PendingUpgrade};
@@ -47,7 +47,8 @@ impl<A: Arbiter> FairArbiter<A> {
     ghost use Rattle.lock_raws_fair.specs.declared.line.TheConstants.{TIMED_SPAN};
     ghost use Rattle.lock_raws_fair.specs.Tickets.{Makes, empty_line, span, may_leave};
     ghost use Rattle.lock_raws_fair.specs.LineLaws.{IsReached, IsEarliest};
-    ghost use Rattle.lock_raws_fair.specs.FairState.{FairState, may_pass, may_enter, is_downgrade, KeepsTokens, KeepsLine};
+    ghost use Rattle.lock_raws.specs.Downgrades.{is_downgrade};
+    ghost use Rattle.lock_raws_fair.specs.FairState.{FairState, may_pass, may_enter, KeepsTokens, KeepsLine};
     ghost use Rattle.lock_raws_fair.specs.FairWaking.{WakesAfterLineStep, WakesAfterTokenStep};
 
     /// Makes an arbiter without tokens and with an empty line.
@@ -243,19 +244,12 @@ impl<A: Arbiter> FairArbiter<A> {
         ensures kept { KeepsLine self.old self.new }
     {
         let FairToken { token, mode } = held;
-        match self.arbiter.change(token, mode, Mode::Exclusive) {
+        match upgraded(self.arbiter.change(token, mode, Mode::Exclusive)) {
             Ok(token) => Ok(FairToken {
                 token,
                 mode: Mode::Exclusive,
             }),
-            Err(same) if same.is_out => Err(FairToken {
-                token: same.token,
-                mode,
-            }),
-            Err(same) => Ok(FairToken {
-                token: same.token,
-                mode: Mode::Exclusive,
-            }),
+            Err(token) => Err(FairToken { token, mode }),
         }
     }
 

@@ -2,10 +2,9 @@
 ghost use Rattle.std.specs.Prelude.{◌≡◌, true, IsTrue, IfSome, IfNone, IfOk, IfErr, OnErr, is_some};
 ghost use Rattle.std.specs.Bool.{OnTrue};
 ghost use Rattle.lock_base.specs.declared.machine.mode.Mode.TheVariants.{Upgradable, Exclusive};
-ghost use Rattle.lock_raws_fair.specs.FairState.{is_downgrade, same_mode};
+ghost use Rattle.lock_raws_fair.specs.FairState.{same_mode};
 
 use crate::fair_arbiter::{FairArbiter, FairToken, PendingUpgrade};
-use crate::fair_timing::FairTiming;
 use crate::fair_wake::FairWake;
 use crate::line::Ticket;
 use crate::turn::{NOBODY, UPGRADE};
@@ -13,7 +12,7 @@ use crate::waiters::Waiters;
 use lock_base::machine::Mode;
 use lock_base::raw::Fault;
 use lock_guard::lock_std;
-use lock_raws::{Arbiter, LockCore, NoTime, RawLock, RealTime, TableArbiter};
+use lock_raws::{Arbiter, LockCore, NoTime, RawLock, RealTime, TableArbiter, Timing};
 use lock_wake::{EventCount, Registered};
 use std::alloc::Global;
 use std::clone::Clone;
@@ -37,14 +36,14 @@ const SPINNERS: u64 = 4;
 
 /// A `LockCore`: a std `Mutex` around a `FairArbiter`, and event counts on which waiters sleep.
 #[derive(Drop)]
-pub struct FairCore<A: Arbiter, W: Wait + Clone + Drop, T: FairTiming<W>> {
+pub struct FairCore<A: Arbiter, W: Wait + Clone + Drop, T: Timing<W>> {
     waiter: W,
     state: Mutex<FairArbiter<A>>,
     waiters: Waiters,
     timing: PhantomData<T>,
 }
 
-impl<A: Arbiter, W: Wait + Clone + Drop, T: FairTiming<W>> FairCore<A, W, T> {
+impl<A: Arbiter, W: Wait + Clone + Drop, T: Timing<W>> FairCore<A, W, T> {
     /// Locks the state. Each call holds this lock for a moment.
     fn state(&self) -> MutexGuard<'_, FairArbiter<A>> {
         lock_std(&self.state, &self.waiter)
@@ -60,7 +59,7 @@ impl<A: Arbiter, W: Wait + Clone + Drop, T: FairTiming<W>> FairCore<A, W, T> {
         ensures { OnTrue result (IsTrue (is_some deadline.now)) }
     {
         match deadline {
-            Some(deadline) => T::is_over(&self.waiter, deadline),
+            Some(deadline) => T::time_left(&self.waiter, deadline).is_none(),
             None => false,
         }
     }
@@ -69,11 +68,13 @@ impl<A: Arbiter, W: Wait + Clone + Drop, T: FairTiming<W>> FairCore<A, W, T> {
     fn sleep(&self, events: &EventCount, registered: Registered, deadline: &Option<T::Instant>)
         requires { registered.events ≡ events.now }
     {
-        match deadline {
-            Some(deadline) => T::sleep_until(events, &self.waiter, registered, deadline),
-            None => {
-                events.sleep(&self.waiter, registered);
-            }
+        let Some(deadline) = deadline else {
+            events.sleep(&self.waiter, registered);
+            return;
+        };
+        match T::time_left(&self.waiter, deadline) {
+            Some(left) => events.sleep_for(&self.waiter, registered, left),
+            None => events.leave(registered),
         }
     }
 
@@ -181,20 +182,9 @@ impl<A: Arbiter, W: Wait + Clone + Drop, T: FairTiming<W>> FairCore<A, W, T> {
         }
         unreachable!()
     }
-
-    fn downgrade_to(&self, token: FairToken<A::Token>, to: Mode) -> FairToken<A::Token>
-        requires { IsTrue (is_downgrade token.mode to) }
-        ensures { result.mode ≡ to }
-    {
-        let mut state = self.state();
-        let (token, woken) = state.downgrade(token, to);
-        drop(state);
-        woken.wake(&self.waiters);
-        token
-    }
 }
 
-impl<A: Arbiter, W: Wait + Clone + Drop, T: FairTiming<W>> LockCore for FairCore<A, W, T> {
+impl<A: Arbiter, W: Wait + Clone + Drop, T: Timing<W>> LockCore for FairCore<A, W, T> {
     type Token = FairToken<A::Token>;
 
     type Waiter = W;
@@ -272,16 +262,13 @@ impl<A: Arbiter, W: Wait + Clone + Drop, T: FairTiming<W>> LockCore for FairCore
         self.upgrade_until(token, &Some(deadline))
     }
 
-    fn downgrade(&self, token: FairToken<A::Token>) -> FairToken<A::Token> {
-        self.downgrade_to(token, Mode::Shared)
-    }
-
-    fn downgrade_to_upgradable(&self, token: FairToken<A::Token>) -> FairToken<A::Token> {
-        self.downgrade_to(token, Mode::Upgradable)
-    }
-
-    fn downgrade_upgradable(&self, token: FairToken<A::Token>) -> FairToken<A::Token> {
-        self.downgrade_to(token, Mode::Shared)
+    /// The token knows its mode.
+    fn downgrade(&self, token: FairToken<A::Token>, _from: Mode, to: Mode) -> FairToken<A::Token> {
+        let mut state = self.state();
+        let (token, woken) = state.downgrade(token, to);
+        drop(state);
+        woken.wake(&self.waiters);
+        token
     }
 
     fn instant_after(&self, timeout: T::Duration) -> Option<T::Instant> {

@@ -6,7 +6,6 @@
 
 mod fair_arbiter;
 mod fair_core;
-mod fair_timing;
 mod fair_wake;
 mod laws;
 mod line;
@@ -15,7 +14,6 @@ mod waiters;
 
 pub use fair_arbiter::{FairArbiter, FairToken, PendingUpgrade};
 pub use fair_core::{FairCore, FairRaw, TimedFairRaw};
-pub use fair_timing::FairTiming;
 pub use fair_wake::FairWake;
 pub use laws::{
     idle_locks_admit, nobody_is_overtaken, nobody_passes_an_upgrade, overtaking_is_bounded,

@@ -1,7 +1,7 @@
+use Rattle.std.proofs.lemmas.Bool.{OnTrue_at}
 use Rattle.lock_base.specs.declared.machine.mode_step.ModeStep.TheVariants.{Release}
 use Rattle.lock_base.proofs.TokenSteps.{releases}
 use Rattle.lock_raws.proofs.JournalLemmas.{recording_stepped}
-use Rattle.lock_raws.proofs.Unblocked.{on_true}
 use Rattle.lock_raws.proofs.recording_arbiter.RecordingArbiterArbiter.give_back.Goals as goal
 
 pub invariant_of-self-2 : goal.invariant_of-self-2
@@ -9,5 +9,5 @@ invariant_of-self-2 g c =
     let e = c.give_back.ensures in
     let was_out = c.if-not-give_back.false in
     recording_stepped (Release c.args.mode) c.self.invariant
-    (releases (g.A.Arbiter.reader_limit c.self.inside.arbiter) c.args.mode (e.was_out.0 was_out) (on_true c.give_back.result was_out e.removed))
+    (releases (g.A.Arbiter.reader_limit c.self.inside.arbiter) c.args.mode (e.was_out.0 was_out) (OnTrue_at was_out e.removed))
     e.limit_kept c.write.ensures
