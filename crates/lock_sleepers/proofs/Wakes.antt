@@ -1,5 +1,5 @@
 -- Each kind of step of one party keeps the rule by which no wake-up is lost.
-use Rattle.std.proofs.Common.{◌≡◌, ◌≢◌, ℕ, not, zero, suc, ◌+◌, ◌-◌, ◌<◌, ◌≤◌, Bool, true, false, ◌==◌, if◌then◌else◌, ◌⊎◌, inl, inr, List, [], ◌∷◌, ◌++◌, sum_by, slice_get, slice_set, Option, Some, None, IsTrue, refl, sym, ap, subst, ◌∙◌, arith}
+use Rattle.std.proofs.Common.{◌≡◌, ◌≢◌, ℕ, not, ◌+◌, ◌-◌, ◌<◌, ◌≤◌, Bool, true, false, ◌==◌, if◌then◌else◌, ◌⊎◌, inl, inr, List, [], ◌∷◌, ◌++◌, sum_by, slice_get, slice_set, Option, Some, None, IsTrue, refl, sym, ap, subst, ◌∙◌, arith}
 use Rattle.std.proofs.lemmas.Bool.{false≢true, true≢false, or_parts, cases_eq, cases_Bool, false_from_ne_true}
 use Rattle.std.proofs.lemmas.List.{map-set, map-append}
 use Rattle.std.proofs.lemmas.List.Sums.{sum_by-append}
@@ -14,7 +14,7 @@ use Rattle.lock_word.specs.Turns.{idle}
 use Rattle.lock_word.specs.Rule.{all_wins, KeepsRule}
 use Rattle.lock_word.proofs.Holders.{sum_by-slice_set, le-sum_by}
 use Rattle.lock_word.proofs.Rules.{all_wins_set, changed_or_not, slice_set_same, keeps_load, keeps_unloaded, keeps_lost, keeps_exchange, keeps_take, keeps_newcomer, shows, element_of_longer}
-use Rattle.lock_word.proofs.Bars.{other_stays}
+use Rattle.lock_word.proofs.Lists.{placed, other_stays, in_longer}
 use Rattle.lock_word.proofs.Reached.{packed_word}
 use Rattle.lock_sleepers.specs.declared.sleeper.WakeLimits.{WakeLimits}
 use Rattle.lock_sleepers.specs.declared.sleeper.Watch.{Watch}
@@ -31,11 +31,6 @@ use Rattle.lock_word.proofs.Unblocking.{exchanges_unblock_nobody, unblocks_misse
 use Rattle.lock_sleepers.proofs.Mutex.{awaited_where_one, stays_unbarred, refuses_once_taken}
 
 -- lists of views of which one is changed
-
-placed : {A : Type 0} (xs : List A) (k : ℕ) (x y : A) → slice_get xs k ≡ Some x → slice_get (slice_set xs k y) k ≡ Some y
-placed [] k x y h = cc
-placed (z ∷ xs) zero x y h = refl
-placed (z ∷ xs) (suc k) x y h = placed xs k x y h
 
 pub states_of-set : (views : List SleeperView) (k : ℕ) (you : SleeperView)
     → states_of (slice_set views k you) ≡ slice_set (states_of views) k you.state
@@ -647,11 +642,6 @@ module _ (limits : WakeLimits) (word count epoch : ℕ) (views : List SleeperVie
 
 -- the first party, and one more
 
-in_longer : {A : Type 0} (xs : List A) (y : A) (j : ℕ) (z : A) → slice_get xs j ≡ Some z → slice_get (xs ++ y ∷ []) j ≡ Some z
-in_longer [] y j z h = cc
-in_longer (x ∷ xs) y zero z h = h
-in_longer (x ∷ xs) y (suc j) z h = in_longer xs y j z h
-
 pub starts : (limits : WakeLimits) → IsLimit limits.readers → IsMutexWord limits 0 → KeepsWakes limits 0 0 0 (new_sleeper ∷ [])
 starts limits range mutex =
     record {
@@ -716,7 +706,7 @@ joins limits word count epoch views kept =
                   | inl someone ↦ inl record {
                     number = someone.number;
                     view = someone.view;
-                    is = in_longer views new_sleeper someone.number someone.view someone.is;
+                    is = in_longer views new_sleeper someone.view someone.number someone.is;
                     due = someone.due;
                   }
                   | inr one ↦ inr (
@@ -725,7 +715,7 @@ joins limits word count epoch views kept =
                     record {
                       number = one.2.number;
                       view = one.2.view;
-                      is = in_longer views new_sleeper one.2.number one.2.view one.2.is;
+                      is = in_longer views new_sleeper one.2.view one.2.number one.2.is;
                       ended = one.2.ended ∙ ap Some (sym (changes_longer views));
                     },
                   )

@@ -9,12 +9,12 @@ use Rattle.lock_base.specs.Modes.{one_more, one_less, count_of}
 use Rattle.lock_base.specs.Tokens.{SameBag, bag_of_tokens}
 use Rattle.lock_base.proofs.ModeLemmas.{one_less-one_more, count-one_more}
 use Rattle.lock_base.proofs.TokenBags.{same_length, bag_of_same}
-use Rattle.lock_word.proofs.Bars.{other_stays}
+use Rattle.lock_word.proofs.Lists.{placed, other_stays, in_longer}
 use Rattle.lock_states.specs.declared.places.Place.{Place}
 use Rattle.lock_states.specs.declared.places.Place.TheVariants.{Free, Taken}
 use Rattle.lock_states.specs.Places.{mode_in, modes_in, IsChain}
 use Rattle.lock_states.specs.TableState.{tokens_from, tokens_of, IsTable}
-use Rattle.lock_states.proofs.TableTokens.{get_set, taken, freed, changed}
+use Rattle.lock_states.proofs.TableTokens.{taken, freed, changed}
 
 pub length-modes_in : (ps : List Place) → length (modes_in ps) ≡ length ps
 length-modes_in [] = refl
@@ -134,7 +134,7 @@ vacated ps bag start readers at mode t there =
           at,
           start,
           refl,
-          get_set ps at (Free start) (Taken mode) there,
+          placed ps at (Taken mode) (Free start) there,
           chain_set ps at (Free start) t.free start (λ m below. taken_is_off ps at mode there m) t.chain,
         );
       },
@@ -158,18 +158,13 @@ none_from first (Taken mode ∷ ps) h = let e = h.0 in cc
 pub none_taken : (ps : List Place) → AllFree ps → tokens_of (modes_in ps) ≡ []
 none_taken ps h = none_from 0 ps h
 
-get_before : (ps : List Place) (p q : Place) (i : ℕ) → slice_get ps i ≡ Some q → slice_get (ps ++ p ∷ []) i ≡ Some q
-get_before [] p q i e = cc
-get_before (r ∷ ps) p q zero e = e
-get_before (r ∷ ps) p q (suc i) e = get_before ps p q i e
-
 get_last : (ps : List Place) (p : Place) → slice_get (ps ++ p ∷ []) (length ps) ≡ Some p
 get_last [] p = refl
 get_last (r ∷ ps) p = get_last ps p
 
 chain_before : (ps : List Place) (p : Place) (n : ℕ) (start : Option ℕ) → IsChain ps n start → IsChain (ps ++ p ∷ []) n start
 chain_before ps p zero start c = c
-chain_before ps p (suc n) start c = (c.0, c.1, c.2, get_before ps p (Free c.1) c.0 c.3, chain_before ps p n c.1 c.4)
+chain_before ps p (suc n) start c = (c.0, c.1, c.2, in_longer ps p (Free c.1) c.0 c.3, chain_before ps p n c.1 c.4)
 
 -- one free place more, which names the one before it
 pub chain_push : (ps : List Place) (place : ℕ) (start : Option ℕ) → length ps ≡ place → IsChain ps place start

@@ -11,20 +11,12 @@ use Rattle.lock_word.specs.Rule.{holds, held_by_all, KeepsRule}
 use Rattle.lock_word.specs.Worlds.{WorldState, IsReachable}
 use Rattle.lock_word.specs.Claims.{IsAnnounced, BarIsOfOne}
 use Rattle.lock_word.proofs.Holders.{sum_by-slice_set, le-sum_by}
+use Rattle.lock_word.proofs.Lists.{other_stays}
 use Rattle.lock_word.proofs.Words.{parts_of_word}
 use Rattle.lock_word.proofs.Rules.{holds_at, part_of_parties}
 
 abbrev bar_of : Hold → ℕ
 bar_of h = bars_of h.announced
-
--- an element of a list of which another was changed stays where it was
-pub other_stays : {A : Type 0} (xs : List A) (k j : ℕ) (y z : A) → j ≢ k → slice_get xs j ≡ Some z
-    → slice_get (slice_set xs k y) j ≡ Some z
-other_stays [] k j y z other h = h
-other_stays (x ∷ xs) zero zero y z other h = absurd (other refl)
-other_stays (x ∷ xs) zero (suc j) y z other h = h
-other_stays (x ∷ xs) (suc k) zero y z other h = h
-other_stays (x ∷ xs) (suc k) (suc j) y z other h = other_stays xs k j y z (λ e. other (ap suc e)) h
 
 -- two parties that have announced themselves have two bars
 two_bars : (hs : List Hold) (k j : ℕ) (a b : Hold) → j ≢ k → slice_get hs k ≡ Some a → slice_get hs j ≡ Some b

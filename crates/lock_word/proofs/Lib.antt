@@ -1,3 +1,4 @@
+pub mod Lists
 pub mod Holders
 pub mod Words
 pub mod Rules
