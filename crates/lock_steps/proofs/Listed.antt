@@ -1,5 +1,5 @@
 -- Lists of the numbers of threads: of those that sleep, and of those that were woken.
-use Rattle.std.proofs.Common.{◌≡◌, ◌≢◌, ℕ, zero, suc, Bool, true, false, not, ◌||◌, ◌==◌, List, [], ◌∷◌, ◌++◌, slice_get, slice_set, Some, if◌then◌else◌, IsTrue, ◌⊎◌, inl, inr, refl, sym, ap, subst, ◌∙◌, arith}
+use Rattle.std.proofs.Common.{◌≡◌, ◌≢◌, ℕ, Bool, true, false, not, ◌||◌, ◌==◌, List, [], ◌∷◌, ◌++◌, if◌then◌else◌, IsTrue, ◌⊎◌, inl, inr, refl, sym, ap, subst, ◌∙◌, arith}
 use Rattle.std.proofs.lemmas.Bool.{eqb-true, eqb-false, false≢true, or_right}
 use Rattle.lock_steps.specs.Sleeping.{is_listed, without}
 
@@ -60,21 +60,5 @@ neither true b none is_so = false≢true none
 neither false true none is_so = false≢true none
 neither false false none is_so = false≢true is_so
 
-pub false_unless : (b : Bool) → (b ≡ true → ⊥) → b ≡ false
-false_unless true never = absurd (never refl)
-false_unless false never = refl
-
 pub is_first : (k : ℕ) (js : List ℕ) → IsTrue (is_listed k (k ∷ js))
 is_first k js = grind arith
-
-pub other_stays : {A : Type 0} (xs : List A) (k j : ℕ) (y z : A) → j ≢ k → slice_get xs j ≡ Some z → slice_get (slice_set xs k y) j ≡ Some z
-other_stays [] k j y z differs h = cc
-other_stays (x ∷ xs) zero zero y z differs h = absurd (differs refl)
-other_stays (x ∷ xs) zero (suc j) y z differs h = h
-other_stays (x ∷ xs) (suc k) zero y z differs h = h
-other_stays (x ∷ xs) (suc k) (suc j) y z differs h = other_stays xs k j y z (λ e. differs (ap suc e)) h
-
-pub in_longer : {A : Type 0} (xs : List A) (y z : A) (j : ℕ) → slice_get xs j ≡ Some z → slice_get (xs ++ y ∷ []) j ≡ Some z
-in_longer [] y z j h = cc
-in_longer (x ∷ xs) y z zero h = h
-in_longer (x ∷ xs) y z (suc j) h = in_longer xs y z j h

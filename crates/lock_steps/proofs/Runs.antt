@@ -16,6 +16,7 @@ use Rattle.lock_word.specs.Word.{word_of, word_admits, step_of_want, step_of_dow
 use Rattle.lock_word.specs.BarredBags.{IsLegalBarredBag}
 use Rattle.lock_word.specs.Holders.{all_of}
 use Rattle.lock_word.specs.Rule.{holds}
+use Rattle.lock_word.proofs.Lists.{placed}
 use Rattle.lock_word.proofs.Rules.{slice_set_same, each_after, element_of_longer}
 use Rattle.lock_sleepers.specs.declared.sleeper.WakeLimits.{WakeLimits}
 use Rattle.lock_sleepers.specs.declared.sleeper.Watch.TheVariants.{Away}
@@ -93,11 +94,6 @@ origin : {A B : Type 0} (f : A → B) (xs : List A) (k : ℕ) (y : B) → slice_
 origin f [] k y h = cc
 origin f (x ∷ xs) zero y h = record { x = x; at = refl; same = same_Some (f x) y h }
 origin f (x ∷ xs) (suc k) y h = let o = origin f xs k y h in record { x = o.x; at = o.at; same = o.same }
-
-pub put : {A : Type 0} (xs : List A) (k : ℕ) (x y : A) → slice_get xs k ≡ Some x → slice_get (slice_set xs k y) k ≡ Some y
-put [] k x y h = cc
-put (z ∷ xs) zero x y h = refl
-put (z ∷ xs) (suc k) x y h = put xs k x y h
 
 -- the start
 
@@ -522,7 +518,7 @@ wakes_in s h k told t at (Some u) calls ends =
     record {
       thread = in_call t u.asked u.down now;
       underway = record { asked = u.asked; down = u.down; call = now.0; action = now.1 };
-      is = put s.threads k t (goes_on t u.asked u.down now) at ∙ ap Some (still_going t u.asked u.down now wakes.going);
+      is = placed s.threads k t (goes_on t u.asked u.down now) at ∙ ap Some (still_going t u.asked u.down now wakes.going);
       calls = refl;
       wakes = wakes.wakes ∙ rw (where_it_is.2, sym ends) refl;
     }

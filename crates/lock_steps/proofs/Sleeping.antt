@@ -1,6 +1,6 @@
 -- No thread that sleeps is forgotten.
 use Rattle.std.proofs.Common.{◌≡◌, ◌≢◌, ℕ, ◌+◌, ◌%◌, ◌^◌, ◌<◌, ◌≤◌, Bool, true, false, not, ◌&&◌, ◌||◌, ◌==◌, nat_lt, List, [], ◌∷◌, slice_get, slice_set, Option, Some, None, if◌then◌else◌, IsTrue, ◌⊎◌, inl, inr, refl, sym, ap, subst, ◌∙◌, arith}
-use Rattle.std.proofs.lemmas.Bool.{eqb-true, eqb-false, true≢false, false≢true, and_parts}
+use Rattle.std.proofs.lemmas.Bool.{eqb-true, eqb-false, true≢false, false≢true, and_parts, false_from_ne_true}
 use Rattle.std.proofs.lemmas.Option.{same_Some}
 use Rattle.lock_base.specs.Limits.{IsLimit}
 use Rattle.lock_word.specs.declared.want.ExWant.{ExWant}
@@ -9,6 +9,7 @@ use Rattle.lock_word.specs.declared.down.Down.TheVariants as down
 use Rattle.lock_word.specs.Word.{word_admits, amount, step_of_want, step_of_down}
 use Rattle.lock_word.specs.Rule.{WordShows}
 use Rattle.lock_word.proofs.Holders.{sum_by-slice_set, le-sum_by}
+use Rattle.lock_word.proofs.Lists.{placed, other_stays, in_longer}
 use Rattle.lock_word.proofs.Rules.{shows}
 use Rattle.lock_sleepers.specs.declared.sleeper.SleeperView.{SleeperView}
 use Rattle.lock_sleepers.specs.Sleepers.{count_of_watch, states_of}
@@ -26,11 +27,11 @@ use Rattle.lock_steps.specs.Machine.{Progress, acquiring, taking, wakes_one, las
 use Rattle.lock_steps.specs.StepLaws.{Words, made, IsAt, is_over}
 use Rattle.lock_steps.specs.Runs.{Underway, Thread, LockInUse, next_in, new_thread, rests, may_acquire, may_release, in_call, goes_on, answer, with_thread, acquire_by, release_by, step_in, after_act, IsDueAt, SomeThreadIsDue, parks_at}
 use Rattle.lock_steps.specs.Sleeping.{LockWithSleepers, is_listed, without, new_lock_awake, falls_asleep, stepped, wake, wake_one, wake_all, woken_by, sleeper_in, sleeper_by, after_act_asleep, after_acts_asleep, IsParked, ServesAt, SomeThreadServes, admits_sleeper, SleepersAreServed, EverySleeperIsServed}
-use Rattle.lock_steps.proofs.Listed.{listed_without, still_listed, gone_without, listed_in_both, listed_first, not_listed, neither, false_unless, is_first, other_stays, in_longer}
+use Rattle.lock_steps.proofs.Listed.{listed_without, still_listed, gone_without, listed_in_both, listed_first, not_listed, neither, is_first}
 use Rattle.lock_steps.proofs.Serving.{is_one, SomeThreadWakesAll, PastIsServed, Sleeper, KeepsSleepers, Serving, goes_on_serving, takes_at, take_serves, end_wakes, waker_leaves, restarter_watches}
 use Rattle.lock_steps.proofs.ActionKinds.{is_wake, epoch_at, wakes_at, parks_as, wakes_as}
 use Rattle.lock_steps.proofs.Moves.{MovesAt, moves_at}
-use Rattle.lock_steps.proofs.Runs.{IsKept, IsIn, limits, views_of, me, me_at, is_in, kept_at_start, kept_after_join, acquired_by, released_by, kept_after_step, none_forgotten, served, put, still_going}
+use Rattle.lock_steps.proofs.Runs.{IsKept, IsIn, limits, views_of, me, me_at, is_in, kept_at_start, kept_after_join, acquired_by, released_by, kept_after_step, none_forgotten, served, still_going}
 use Rattle.lock_steps.proofs.Steps.{chosen, admits_free}
 
 -- a thread of the lock, and its call
@@ -218,7 +219,7 @@ module _ (s : LockWithSleepers) (h : KeepsSleepers s) (k told : ℕ) (t : Thread
         number = k;
         thread = in_call t u.asked u.down next;
         underway = record { asked = u.asked; down = u.down; call = next.0; action = next.1 };
-        is = put s.lock.threads k t new at ∙ ap Some (still_going t u.asked u.down next going);
+        is = placed s.lock.threads k t new at ∙ ap Some (still_going t u.asked u.down next going);
         calls = refl;
         serves = serves;
         awake = gone_without k s.asleep;
@@ -318,7 +319,7 @@ module _ (s : LockWithSleepers) (h : KeepsSleepers s) (k told : ℕ) (t : Thread
             number = k;
             thread = in_call t u.asked u.down next;
             underway = record { asked = u.asked; down = u.down; call = next.0; action = next.1 };
-            is = put s.lock.threads k t new at ∙ ap Some (still_going t u.asked u.down next on.going);
+            is = placed s.lock.threads k t new at ∙ ap Some (still_going t u.asked u.down next on.going);
             calls = refl;
             wakes = on.all (same_test ∙ not_one);
           };
@@ -661,7 +662,7 @@ module _ (s : LockWithSleepers) (h : KeepsSleepers s) where
   awake_elsewhere : (k : ℕ) (t : Thread) (u : Underway) → slice_get s.lock.threads k ≡ Some t → t.underway ≡ Some u
       → (u.call.stage ≡ stage.Sleep → ⊥) → is_listed k s.asleep ≡ false
   awake_elsewhere k t u at calls elsewhere =
-      false_unless (is_listed k s.asleep) (λ l. elsewhere (parked_at s h k t u at calls (h.asleep k l).parked))
+      false_from_ne_true (is_listed k s.asleep) (λ l. elsewhere (parked_at s h k t u at calls (h.asleep k l).parked))
 
   someone_due : SomeThreadIsDue s.lock → SomeThreadServes s
   someone_due x =
