@@ -13,6 +13,7 @@ pub mod TablePoints
 pub mod Rows
 pub mod Tables
 pub mod FewHeld
+pub mod HeldRows
 pub mod Landing
 pub mod StepNumbers
 pub mod WaysFor
