@@ -1,28 +1,16 @@
 -- The tickets that wait rise, and each other issued ticket was removed.
 use Rattle.std.proofs.Common.{◌≡◌, ℕ, ◌+◌, ◌<◌, ◌≤◌, Bool, true, false, ◌||◌, List, [], ◌∷◌, ◌++◌, refl, sym, ap, ◌∙◌, arith}
 use Rattle.std.specs.Prelude.{◌≢◌, ◌==◌, if◌then◌else◌, IsTrue, ⊤}
-use Rattle.std.proofs.lemmas.Bool.{false≢true}
+use Rattle.std.proofs.lemmas.Bool.{false≢true, or_right, or_left, or_parts, or_from}
 use Rattle.std.proofs.lemmas.Bool.Decides.{nat_tests}
 use Rattle.lock_raws_fair.specs.declared.line.step.LineStep.{LineStep}
 use Rattle.lock_raws_fair.specs.declared.line.step.LineStep.TheVariants.{Arrive, Enter, Leave, Pass}
 use Rattle.lock_raws_fair.specs.Tickets.{Line, empty_line, leads, is_among, without, permits, line_after}
 use Rattle.lock_raws_fair.specs.LineLaws.{removes}
 
-or_right : (a b : Bool) → b ≡ true → (a || b) ≡ true
-or_right true b is = refl
-or_right false b is = is
-
 or_more : (a b c : Bool) → (b ≡ true → c ≡ true) → (a || b) ≡ true → (a || c) ≡ true
 or_more true b c more is = refl
 or_more false b c more is = more is
-
-pub or_left : (a b : Bool) → a ≡ true → (a || b) ≡ true
-or_left true b is = refl
-or_left false b is = absurd (false≢true is)
-
-pub or_none : (a b : Bool) → (a || b) ≡ false → (a ≡ false) × (b ≡ false)
-or_none true b is = absurd (false≢true (sym is))
-or_none false b is = (refl, is)
 
 abbrev pub IsRising : ℕ → List ℕ → Type 0
 IsRising n [] = ⊤
@@ -101,9 +89,6 @@ pub or_false : (a : Bool) → a ≡ (a || false)
 or_false true = refl
 or_false false = refl
 
-neither : (a b : Bool) → a ≡ false → b ≡ false → (a || b) ≡ false
-neither a b not_a not_b = rw (not_a, not_b) refl
-
 pub in_order_map : {line : Line} (before after : ℕ → Bool) → ((s : ℕ) → before s ≡ after s) → IsInOrder line before → IsInOrder line after
 in_order_map before after same kept = record {
   rises = kept.rises;
@@ -141,11 +126,11 @@ gone_in_order line t removed kept here = record {
         or_left (removed s) false (kept.known s below (sym (not_among_without line.waiting t s other) ∙ gone)))
   ] refl;
   waits = λ s among.
-      neither (removed s) (t == s) (kept.waits s (among_without line.waiting t s among)) (still_waits line.waiting t s among);
+      or_from (removed s) (t == s) (kept.waits s (among_without line.waiting t s among)) (still_waits line.waiting t s among);
   fresh = λ s above.
       let below : t < line.issued = kept.under t here in
       let other : (t == s) ≡ false = grind (arith, nat_tests) in
-      neither (removed s) (t == s) (kept.fresh s above) other;
+      or_from (removed s) (t == s) (kept.fresh s above) other;
 }
 
 arrived_under : (line : Line) (s : ℕ) → (is_among line.waiting s ≡ true → s < line.issued)
@@ -157,8 +142,8 @@ arrived_under line s under among =
 arrived_known : (line : Line) (s : ℕ) (known : Bool) → (s < line.issued → is_among line.waiting s ≡ false → known ≡ true)
     → s < line.issued + 1 → (is_among line.waiting s || ((line.issued == s) || false)) ≡ false → known ≡ true
 arrived_known line s known was below gone =
-    let parts = or_none (is_among line.waiting s) ((line.issued == s) || false) gone in
-    let other = or_none (line.issued == s) false parts.1 in
+    let parts = or_parts (is_among line.waiting s) ((line.issued == s) || false) gone in
+    let other = or_parts (line.issued == s) false parts.1 in
     let not_last : (line.issued == s) ≡ false = other.0 in
     let earlier : s < line.issued = grind (arith, nat_tests) in
     was earlier parts.0

@@ -1,13 +1,13 @@
 -- No run admits a later ticket before an earlier one.
 use Rattle.std.proofs.Common.{◌≡◌, ℕ, ◌+◌, ◌<◌, ◌≤◌, Bool, true, false, ◌||◌, List, [], ◌∷◌, ◌++◌, refl, sym, ap, ◌∙◌, arith}
 use Rattle.std.specs.Prelude.{◌≢◌, ◌==◌, if◌then◌else◌, IsTrue}
-use Rattle.std.proofs.lemmas.Bool.{false≢true}
+use Rattle.std.proofs.lemmas.Bool.{false≢true, false_from_ne_true, or_parts}
 use Rattle.std.proofs.lemmas.Bool.Decides.{nat_tests}
 use Rattle.lock_raws_fair.specs.declared.line.step.LineStep.{LineStep}
 use Rattle.lock_raws_fair.specs.declared.line.step.LineStep.TheVariants.{Arrive, Enter, Leave, Pass}
 use Rattle.lock_raws_fair.specs.Tickets.{Line, empty_line, is_nobody, leads, is_among, without, permits, line_after}
 use Rattle.lock_raws_fair.specs.LineLaws.{IsLineRun, removes, is_removed, arrivals, admissions, place_of, StillWaits, NobodyIsOvertaken}
-use Rattle.lock_raws_fair.proofs.Order.{rising_first, leads_among, IsInOrder, in_order_map, step_in_order, empty_in_order, or_false, or_none, not_among_without, among_append}
+use Rattle.lock_raws_fair.proofs.Order.{rising_first, leads_among, IsInOrder, in_order_map, step_in_order, empty_in_order, or_false, not_among_without, among_append}
 
 -- the line where a step of a run is made
 record IsAt (line : Line) (removed : ℕ → Bool) (before : List LineStep) (step : LineStep) (here : Line) : Type 0 where
@@ -47,10 +47,6 @@ reached line removed (first ∷ before) after step last kept run =
       },
     )
 
-not_true : (b : Bool) → (b ≡ true → ⊥) → b ≡ false
-not_true true refuted = absurd (refuted refl)
-not_true false refuted = refl
-
 nobody_among : (xs : List ℕ) (s : ℕ) → is_nobody xs ≡ true → is_among xs s ≡ false
 nobody_among [] s none = refl
 nobody_among (x ∷ xs) s none = absurd (false≢true none)
@@ -84,7 +80,7 @@ nobody_is_overtaken_law = record {
       let order = found.1.order in
       let leading : leads here.waiting t ≡ true = found.1.permitted in (
         waiter before (Enter t) here t found.1 (leads_among here.waiting t leading),
-        λ s earlier. not_among before (Enter t) here s found.1 (not_true (is_among here.waiting s) (λ (among : is_among here.waiting s ≡ true).
+        λ s earlier. not_among before (Enter t) here s found.1 (false_from_ne_true (is_among here.waiting s) (λ (among : is_among here.waiting s ≡ true).
             let later : t ≤ s = rising_first 0 here.waiting t s order.rises leading among in omega arith)),
       );
   leaves = λ before after t last run.
@@ -138,13 +134,13 @@ overtaking_is_bounded_law (Arrive ∷ steps) old new t among run unremoved =
     let rest = overtaking_is_bounded_law steps (line_after old Arrive) new t among' run.1 unremoved in
     omega arith
 overtaking_is_bounded_law (Enter s ∷ steps) old new t among run unremoved =
-    let parts = or_none (s == t) (is_removed steps t) unremoved in
+    let parts = or_parts (s == t) (is_removed steps t) unremoved in
     let other = differ s t parts.0 in
     let nearer = place_entered old.waiting s t other run.0 in
     let rest = overtaking_is_bounded_law steps (line_after old (Enter s)) new t (still old.waiting s t other among) run.1 parts.1 in
     omega arith
 overtaking_is_bounded_law (Leave s ∷ steps) old new t among run unremoved =
-    let parts = or_none (s == t) (is_removed steps t) unremoved in
+    let parts = or_parts (s == t) (is_removed steps t) unremoved in
     let other = differ s t parts.0 in
     let nearer = place_without old.waiting s t other in
     let rest = overtaking_is_bounded_law steps (line_after old (Leave s)) new t (still old.waiting s t other among) run.1 parts.1 in
