@@ -100,7 +100,6 @@ pub use lock_ranked::Rank;
 pub use lock_ranked::Ranked;
 pub use lock_ranked::RankedCondvar;
 pub use lock_ranked::RankedGuard;
-pub use lock_ranked::RankedLevel;
 pub use lock_ranked::RankedLock;
 pub use lock_ranked::RankedMapped;
 pub use lock_ranked::RankedMappedMutexGuard;

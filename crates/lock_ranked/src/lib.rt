@@ -31,7 +31,7 @@ pub use mutex::{RankedGuard, RankedMappedMutexGuard, RankedMutex, RankedMutexGua
 pub use order::{Acquired, Order, ThreadOrder};
 pub use rank::{AtRank, Rank, Under};
 pub use ranked::{PlainGuardMut, Ranked, RankedLock, RankedMapped};
-pub use reentrant_mutex::{RankedLevel, RankedReentrantMutex, RankedReentrantMutexGuard};
+pub use reentrant_mutex::{RankedReentrantMutex, RankedReentrantMutexGuard};
 pub use row::RankedMutexRow;
 pub use rwlock::RankedRwLock;
 pub use rwlock_guard::{

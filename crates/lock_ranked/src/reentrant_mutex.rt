@@ -12,7 +12,6 @@ use lock_base::raw::Fault;
 use lock_guard::raw::{RawMutex, RawMutexTimed};
 use lock_remutex::{ReentrantMutex, ReentrantMutexGuard};
 use std::alloc::Global;
-use std::ops::Deref;
 
 /// A reentrant mutex of rank `K`. The first acquisition requires that the thread holds nothing at `K` or above; the guard
 /// gives the owner further levels.
@@ -52,13 +51,12 @@ impl<R: RawMutex, T, K: Rank> RankedReentrantMutex<R, T, K> {
         &'a self,
         order: &'o mut Order<'_, B>,
         party: PartyId,
-    ) -> Result<Acquired<'o, RankedLevel<'a, R, T>, B, K, K>, Fault>
+    ) -> Result<Acquired<'o, ReentrantMutexGuard<'a, R, T>, B, K, K>, Fault>
         requires { B.rank < K.rank }
         ensures guard { IfOk result (λ got. IsLevelOf (plain_of self.now) (id_of party) got.0) }
         ensures fault { IfErr result (λ fault. fault ≡ Fault.FullCount) }
     {
-        let guard = self.lock.lock(party)?;
-        Ok(order.acquired(RankedLevel { guard, party }))
+        Ok(order.acquired(self.lock.lock(party)?))
     }
 
     /// Acquires one level for the party without blocking, whatever the lock's rank, or returns `None`.
@@ -70,7 +68,7 @@ impl<R: RawMutex, T, K: Rank> RankedReentrantMutex<R, T, K> {
         &'a self,
         order: &'o mut Order<'_, B>,
         party: PartyId,
-    ) -> Result<Option<Acquired<'o, RankedLevel<'a, R, T>, B, K, N>>, Fault>
+    ) -> Result<Option<Acquired<'o, ReentrantMutexGuard<'a, R, T>, B, K, N>>, Fault>
         requires { (B.rank < N.rank) × (K.rank ≤ N.rank) }
         ensures guard { IfOk result (λ got. IfSome got (λ level. IsLevelOf (plain_of self.now) (id_of party) level.0)) }
         ensures fault { IfErr result (λ fault. fault ≡ Fault.FullCount) }
@@ -78,7 +76,7 @@ impl<R: RawMutex, T, K: Rank> RankedReentrantMutex<R, T, K> {
         let Some(guard) = self.lock.try_lock(party)? else {
             return Ok(None);
         };
-        Ok(Some(order.acquired(RankedLevel { guard, party })))
+        Ok(Some(order.acquired(guard)))
     }
 }
 
@@ -89,7 +87,7 @@ impl<R: RawMutexTimed, T, K: Rank> RankedReentrantMutex<R, T, K> {
         order: &'o mut Order<'_, B>,
         party: PartyId,
         timeout: R::Duration,
-    ) -> Result<Option<Acquired<'o, RankedLevel<'a, R, T>, B, K, N>>, Fault>
+    ) -> Result<Option<Acquired<'o, ReentrantMutexGuard<'a, R, T>, B, K, N>>, Fault>
         requires { (B.rank < N.rank) × (K.rank ≤ N.rank) }
         ensures guard { IfOk result (λ got. IfSome got (λ level. IsLevelOf (plain_of self.now) (id_of party) level.0)) }
         ensures fault { IfErr result (λ fault. fault ≡ Fault.FullCount) }
@@ -97,7 +95,7 @@ impl<R: RawMutexTimed, T, K: Rank> RankedReentrantMutex<R, T, K> {
         let Some(guard) = self.lock.try_lock_for(party, timeout)? else {
             return Ok(None);
         };
-        Ok(Some(order.acquired(RankedLevel { guard, party })))
+        Ok(Some(order.acquired(guard)))
     }
 
     /// `try_lock`, where the raw lock may block until `deadline`.
@@ -106,7 +104,7 @@ impl<R: RawMutexTimed, T, K: Rank> RankedReentrantMutex<R, T, K> {
         order: &'o mut Order<'_, B>,
         party: PartyId,
         deadline: R::Instant,
-    ) -> Result<Option<Acquired<'o, RankedLevel<'a, R, T>, B, K, N>>, Fault>
+    ) -> Result<Option<Acquired<'o, ReentrantMutexGuard<'a, R, T>, B, K, N>>, Fault>
         requires { (B.rank < N.rank) × (K.rank ≤ N.rank) }
         ensures guard { IfOk result (λ got. IfSome got (λ level. IsLevelOf (plain_of self.now) (id_of party) level.0)) }
         ensures fault { IfErr result (λ fault. fault ≡ Fault.FullCount) }
@@ -114,32 +112,13 @@ impl<R: RawMutexTimed, T, K: Rank> RankedReentrantMutex<R, T, K> {
         let Some(guard) = self.lock.try_lock_until(party, deadline)? else {
             return Ok(None);
         };
-        Ok(Some(order.acquired(RankedLevel { guard, party })))
-    }
-}
-
-/// A plain guard with the party whose level it is. It has 8 bytes more, since a plain guard does not tell its party.
-#[derive(Drop)]
-pub struct RankedLevel<'a, R: RawMutex, T> {
-    guard: ReentrantMutexGuard<'a, R, T>,
-    party: PartyId,
-}
-
-impl<R: RawMutex, T> Deref for RankedLevel<'_, R, T> {
-    ghost use Rattle.lock_remutex.specs.Guards.{guard_value};
-
-    type Target = T;
-
-    ghost deref_gives = { λ level value. guard_value level.guard ≡ value };
-
-    fn deref(&self) -> &T {
-        &self.guard
+        Ok(Some(order.acquired(guard)))
     }
 }
 
 /// One level of a ranked reentrant mutex, which reads the value. It releases the level on drop, and until then the order
 /// of the first acquisition is borrowed.
-pub type RankedReentrantMutexGuard<'a, R, T, B, K> = Ranked<RankedLevel<'a, R, T>, B, K>;
+pub type RankedReentrantMutexGuard<'a, R, T, B, K> = Ranked<ReentrantMutexGuard<'a, R, T>, B, K>;
 
 impl<'a, R: RawMutex, T, B: Rank, K: Rank> RankedReentrantMutexGuard<'a, R, T, B, K> {
     /// Acquires a further level for the owner, at any rank. It never blocks.
@@ -151,11 +130,8 @@ impl<'a, R: RawMutex, T, B: Rank, K: Rank> RankedReentrantMutexGuard<'a, R, T, B
         ensures guard { IfOk result (IsLevelOf (remutex_of guard.now) (owner_of guard.now)) }
         ensures fault { IfErr result (λ fault. fault ≡ Fault.FullCount) }
     {
-        let RankedLevel { guard, party } = &guard.guard;
-        let next = ReentrantMutexGuard::remutex(guard).lock(*party)?;
-        Ok(Ranked::new(RankedLevel {
-            guard: next,
-            party: *party,
-        }))
+        let party = ReentrantMutexGuard::party(&guard.guard);
+        let next = ReentrantMutexGuard::remutex(&guard.guard).lock(party)?;
+        Ok(Ranked::new(next))
     }
 }
