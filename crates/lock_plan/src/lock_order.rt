@@ -1,6 +1,6 @@
 //! An order of a plan's locks, or why its programs keep none. Parties, places and locks are counted from 0.
 
-/// What a look for an order of the locks found.
+/// What a search for an order of the locks found.
 #[derive(Drop)]
 pub enum LockOrder {
     /// The locks, in an order that each program keeps.
