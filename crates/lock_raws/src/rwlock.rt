@@ -88,7 +88,9 @@ impl<C: LockCore> RawRwLockFair for RawLock<C> {
 
 impl<C: LockCore> RawRwLockDowngrade for RawLock<C> {
     fn downgrade(&self, token: ExclusiveToken<C::Token>) -> SharedToken<C::Token> {
-        let token = self.core.downgrade(token.token, Mode::Exclusive, Mode::Shared);
+        let token = self
+            .core
+            .downgrade(token.token, Mode::Exclusive, Mode::Shared);
         SharedToken { token }
     }
 }
@@ -164,7 +166,9 @@ impl<C: LockCore> RawRwLockUpgradeFair for RawLock<C> {
 
 impl<C: LockCore> RawRwLockUpgradeDowngrade for RawLock<C> {
     fn downgrade_upgradable(&self, token: UpgradableToken<C::Token>) -> SharedToken<C::Token> {
-        let token = self.core.downgrade(token.token, Mode::Upgradable, Mode::Shared);
+        let token = self
+            .core
+            .downgrade(token.token, Mode::Upgradable, Mode::Shared);
         SharedToken { token }
     }
 
@@ -172,7 +176,9 @@ impl<C: LockCore> RawRwLockUpgradeDowngrade for RawLock<C> {
         &self,
         token: ExclusiveToken<C::Token>,
     ) -> UpgradableToken<C::Token> {
-        let token = self.core.downgrade(token.token, Mode::Exclusive, Mode::Upgradable);
+        let token = self
+            .core
+            .downgrade(token.token, Mode::Exclusive, Mode::Upgradable);
         UpgradableToken { token }
     }
 }
