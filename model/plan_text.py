@@ -113,7 +113,7 @@ class Plan(NamedTuple):
         return [it.name for it in self.parties].index(name)
 
     def is_any_number(self):
-        """Whether a party stands for any number."""
+        """Whether the plan has any number of parties of some name."""
         return any(it.name.endswith("*") for it in self.parties)
 
     def is_started(self, party):
@@ -262,7 +262,7 @@ def add_line(plan, line):
 def read_parties(plan, line, rest):
     """Adds a party, or as many copies of one as the field after its name says, and returns whether the line is right.
 
-    A `*` stands for any number, of which the plan has one party.
+    A `*` makes any number of parties, of which the plan has one.
     """
     if not rest:
         names = [line.name]

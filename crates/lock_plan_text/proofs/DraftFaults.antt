@@ -1,6 +1,6 @@
 -- The faults of a draft.
 use Rattle.std.proofs.Common.{◌≡◌, ℕ, Bool, true, false, List, Option, Some, None, Result, Ok, Err, refl, sym, ap, ◌∙◌, subst, inl, inr}
-use Rattle.std.specs.Prelude.{◌⊎◌, ◌^◌, if◌then◌else◌, nat_lt, IfErr, option_map}
+use Rattle.std.specs.Prelude.{◌⊎◌, ◌^◌, if◌then◌else◌, nat_lt, IfErr, IfOk, option_map}
 use Rattle.std.proofs.lemmas.Bool.{false≢true}
 use Rattle.lock_plan.specs.declared.fault.PlanFault.{PlanFault}
 use Rattle.lock_plan.specs.declared.fault.PlanFault.TheVariants as plan
@@ -58,6 +58,11 @@ order_told draft programs fault told known made (inl is) (inl same) =
     let first : plan_fault draft.locks (programs_in draft) ≡ Some fault =
     ap (λ (o : Option PlanFault). or_fault o (if nat_lt (size (all_views draft.locks (programs_in draft))) (2 ^ 64) then None else Some plan.TooLarge)) (ap (parties_fault draft.locks 0) (sym made) ∙ is) in
     inl (ap (or_plan_fault draft) known ∙ ap (option_map (by_line draft)) first ∙ ap Some (sym same))
+
+-- what follows from each value
+pub if_ok : {X E : Type 0} (P Q : X → Type 0) → ((x : X) → P x → Q x) → (r : Result X E) → IfOk r P → IfOk r Q
+if_ok P Q follows (Ok x) is = follows x is
+if_ok P Q follows (Err e) is = is
 
 -- what follows from each error
 pub if_err : {X E : Type 0} (P Q : E → Type 0) → ((e : E) → P e → Q e) → (r : Result X E) → IfErr r P → IfErr r Q

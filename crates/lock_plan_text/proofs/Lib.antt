@@ -1,3 +1,4 @@
+mod AddedNames
 mod AlikeParties
 mod Appended
 mod CopyNames
@@ -13,6 +14,7 @@ mod Mentions
 mod OneDraft
 mod OneLine
 mod Origins
+mod ParsedLines
 mod Past
 mod Positions
 mod Rows

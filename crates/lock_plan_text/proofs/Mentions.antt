@@ -109,12 +109,12 @@ met_mention text draft number called was one = by_place (place_of draft.mentions
     by_place : (o : Option ℕ) → place_of draft.mentions called ≡ o → Met text (after o).mentions (after o).mention_lines (number + 1)
     by_place None is = met_new text draft.mentions draft.mention_lines number called was one
     by_place (Some i) is =
-        let found = position-Some (λ other. bytes_eq other called) draft.mentions i [] is in
+        let found = position-Some (λ other. bytes_eq called other) draft.mentions i [] is in
         let inside : i < length draft.mention_lines = omega (arith, found.0, was.long) in
         met_more text draft.mentions draft.mention_lines number was
         (λ name mention. (
           i,
-          (inside, (same_bytes (get_or draft.mentions i []) called found.1 ∙ sym (one name mention), omega (arith, was.below i inside))),
+          (inside, (sym (same_bytes called (get_or draft.mentions i []) found.1) ∙ sym (one name mention), omega (arith, was.below i inside))),
         ))
 
 -- the mentions are the same

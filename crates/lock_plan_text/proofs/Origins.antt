@@ -152,7 +152,7 @@ made_lock text draft lock name made = record {
   tied = same_tied text draft (with_lock draft lock name)
       (record {
         locks = λ called i e. (
-            let found = position-push (λ other. bytes_eq other called) draft.lock_names name i e in
+            let found = position-push (λ other. bytes_eq called other) draft.lock_names name i e in
             (found.1, get_or-append draft.locks (lock ∷ []) no_lock i (omega (arith, found.0, made.named)))
             );
         flags = λ called i e. e;
@@ -164,7 +164,7 @@ made_lock text draft lock name made = record {
 }
 
 more_names : (names : List (List ℕ)) (name called : List ℕ) (i : ℕ) → place_of names called ≡ Some i → place_of (names ++ name ∷ []) called ≡ Some i
-more_names names name called i e = (position-push (λ other. bytes_eq other called) names name i e).1
+more_names names name called i e = (position-push (λ other. bytes_eq called other) names name i e).1
 
 made_flag : (text : ℕ → List ℕ) (draft : Draft) (name : List ℕ) → Made text draft → Made text (with_flag draft name)
 made_flag text draft name made = record {

@@ -14,19 +14,19 @@ use Rattle.lock_plan_text.specs.PlanFaults.{unknown_line}
 abbrev pub drafted : PlanDraft → Draft
 drafted draft = record {
   locks = draft.locks.items;
-  lock_names = map string_bytes draft.names.locks.items;
-  flag_names = map string_bytes draft.names.flags.items;
-  cond_names = map string_bytes draft.names.conds.items;
+  lock_names = map string_bytes draft.names.locks.keys;
+  flag_names = map string_bytes draft.names.flags.keys;
+  cond_names = map string_bytes draft.names.conds.keys;
   parties = map (λ v. v.items) draft.parties.items;
-  party_names = map string_bytes draft.names.parties.items;
+  party_names = map string_bytes draft.names.parties.keys;
   servers = draft.servers.items;
   copies = draft.copies.items;
   first = draft.first;
   numbers = map (λ v. v.items) draft.numbers.items;
   blocks = opened draft.blocks;
-  mentions = map string_bytes draft.mentions.items;
+  mentions = map string_bytes draft.mentions.keys;
   mention_lines = draft.mention_lines.items;
-  started = map string_bytes draft.started.items;
+  started = map string_bytes draft.started.keys;
 }
 
 -- the plan and the names are those of the draft, each party that a line mentions has a line, and each act can be made
@@ -35,10 +35,10 @@ pub record IsMadeOf (draft : Draft) (named : NamedPlan) : Type 0 where
   pub programs : programs_of named.plan ≡ programs_in draft
   pub servers : named.plan.servers.items ≡ draft.servers
   pub copies : named.plan.copies.items ≡ unnamed_copies (programs_in draft) (copies_in draft)
-  pub lock_names : map string_bytes named.names.locks.items ≡ draft.lock_names
-  pub party_names : map string_bytes named.names.parties.items ≡ draft.party_names
-  pub flag_names : map string_bytes named.names.flags.items ≡ draft.flag_names
-  pub cond_names : map string_bytes named.names.conds.items ≡ draft.cond_names
+  pub lock_names : map string_bytes named.names.locks.keys ≡ draft.lock_names
+  pub party_names : map string_bytes named.names.parties.keys ≡ draft.party_names
+  pub flag_names : map string_bytes named.names.flags.keys ≡ draft.flag_names
+  pub cond_names : map string_bytes named.names.conds.keys ≡ draft.cond_names
   pub known : unknown_line draft ≡ None
   pub right : plan_fault draft.locks (programs_in draft) ≡ None
 

@@ -75,7 +75,7 @@ no_draft = record {
 
 -- the place of a name
 abbrev pub place_of : List (List ℕ) → List ℕ → Option ℕ
-place_of names name = position (λ other. bytes_eq other name) names
+place_of names name = position (λ other. bytes_eq name other) names
 
 module _ {X : Type 0} where
   -- lists with one more item in each from a place on
@@ -153,7 +153,7 @@ abbrev pub copy_names : List ℕ → ℕ → ℕ → List (List ℕ)
 copy_names name done zero = []
 copy_names name done (suc left) = copy_name name (done + 1) ∷ copy_names name (done + 1) left
 
--- the name of a party that stands for any number
+-- the name of any number of parties
 abbrev pub any_name : List ℕ → List ℕ
 any_name name = name ++ codes ".*"
 

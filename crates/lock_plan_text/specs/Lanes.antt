@@ -1,7 +1,9 @@
 -- The drawing of a trace: a column for each party, a row for each step, and a row of what parties wait for.
-use Rattle.std.specs.Prelude.{ℕ, zero, suc, ◌-◌, Bool, true, false, not, ◌==◌, if◌then◌else◌, List, [], ◌∷◌, ◌++◌, length, replicate, codes, Option, Some, None, Vec}
+use Rattle.std.specs.Prelude.{ℕ, zero, suc, ◌-◌, max, Bool, true, false, ◌==◌, if◌then◌else◌, List, [], ◌∷◌, ◌++◌, length, replicate, codes, Option, Some, None, Vec}
 use Rattle.std.specs.Global.{Global}
+use Rattle.std.specs.List.{flat_map}
 use Rattle.std.proofs.Common.{get_or}
+use Rattle.step_search.specs.Walks.{each_below}
 use Rattle.lock_plan.specs.declared.lock.PlanLock.{PlanLock}
 use Rattle.lock_plan.specs.declared.plan.Plan.{Plan}
 use Rattle.lock_plan.specs.declared.program.Act.{Act}
@@ -14,7 +16,7 @@ use Rattle.lock_plan.specs.declared.program.Step.{Step}
 use Rattle.lock_plan.specs.declared.turn.Turn.{Turn}
 use Rattle.lock_plan.specs.declared.turn.Turn.TheVariants.{Goes, Announces, Waits, Refused}
 use Rattle.lock_plan.specs.Signals.{idles}
-use Rattle.lock_plan.specs.Worlds.{Stand, no_stand, turn_of, is_refused, first_world}
+use Rattle.lock_plan.specs.Worlds.{Stand, no_stand, turn_of, first_world}
 use Rattle.lock_plan.specs.Stops.{world_of}
 use Rattle.lock_plan_text.specs.declared.printer.cell.Row.{Row}
 use Rattle.lock_plan_text.specs.declared.printer.cell.Row.TheVariants.{Parties, After, Stop}
@@ -24,31 +26,40 @@ use Rattle.lock_plan_text.specs.declared.names.Names.{Names}
 use Rattle.lock_plan_text.specs.Names.{name_of, row_name}
 use Rattle.lock_plan_text.specs.Marks.{locks_held, marks_text}
 use Rattle.lock_plan_text.specs.Signals.{act_at, sleep_of}
-use Rattle.lock_plan_text.specs.Steps.{stepped, last_world}
+use Rattle.lock_plan_text.specs.Steps.{stepped}
 
--- a cell with spaces up to the width of a column, at least one
-abbrev pub padded : List ℕ → List ℕ
-padded cell = cell ++ (codes " " ++ replicate (19 - length cell) 32)
+-- the width of a column with these rows, which has this width without them: that of its widest cell
+abbrev pub width_over : ℕ → List (ℕ → List ℕ) → ℕ → ℕ
+width_over width [] party = width
+width_over width (row ∷ rows) party = width_over (max width (length (row party))) rows party
+
+-- the widths of the columns: at least 19, before the space between two columns
+abbrev pub widths_of : List (ℕ → List ℕ) → ℕ → List ℕ
+widths_of rows parties = each_below (width_over 19 rows) parties
+
+-- a cell with spaces up to the width of its column, and a space
+abbrev pub padded : ℕ → List ℕ → List ℕ
+padded width cell = cell ++ (codes " " ++ replicate (width - length cell) 32)
 
 -- the first cells of a row
-abbrev pub cells_text : (ℕ → List ℕ) → ℕ → List ℕ
-cells_text cell zero = []
-cells_text cell (suc n) = cells_text cell n ++ padded (cell n)
+abbrev pub cells_text : List ℕ → (ℕ → List ℕ) → ℕ → List ℕ
+cells_text widths cell zero = []
+cells_text widths cell (suc n) = cells_text widths cell n ++ padded (get_or widths n 0) (cell n)
 
 -- a row of so many cells; the last has no spaces after it
-abbrev pub row_text : (ℕ → List ℕ) → ℕ → List ℕ
-row_text cell zero = codes "\n"
-row_text cell (suc n) = cells_text cell n ++ (cell n ++ codes "\n")
+abbrev pub row_text : List ℕ → ℕ → (ℕ → List ℕ) → List ℕ
+row_text widths zero cell = codes "\n"
+row_text widths (suc n) cell = cells_text widths cell n ++ (cell n ++ codes "\n")
 
 -- what a party holds; a dot for nothing, or a dash where it idles
 abbrev pub held_text : Names → Bool → List Marked → List ℕ
 held_text names idle [] = if idle then codes "-" else codes "."
-held_text names idle (m ∷ marks) = marks_text Letters names.locks.items (m ∷ marks)
+held_text names idle (m ∷ marks) = marks_text Letters names.locks.keys (m ∷ marks)
 
 -- the condition variable on which a party sleeps
 abbrev pub sleep_text : Names → Option ℕ → List ℕ
 sleep_text names None = []
-sleep_text names (Some cond) = codes " zz " ++ name_of names.conds.items cond
+sleep_text names (Some cond) = codes " zz " ++ name_of names.conds.keys cond
 
 -- a cell after a step: whether the party made it, what the party holds, and whether it sleeps
 abbrev pub step_cell : List PlanLock → Names → List Stand → ℕ → ℕ → List ℕ
@@ -57,50 +68,53 @@ step_cell locks names w mover party =
     ++ (held_text names (idles (act_at w party)) (locks_held (get_or w party no_stand).holds (length locks))
     ++ sleep_text names (sleep_of w party))
 
--- whether a stop is about a party with this turn: where a call is refused, about refused calls alone
-abbrev pub is_stop_turn : Bool → Option Turn → Bool
-is_stop_turn refused None = false
-is_stop_turn refused (Some Goes) = false
-is_stop_turn refused (Some Announces) = false
-is_stop_turn refused (Some Waits) = not refused
-is_stop_turn refused (Some Refused) = true
+-- whether a party with this turn waits or is refused
+abbrev pub is_stop_turn : Option Turn → Bool
+is_stop_turn None = false
+is_stop_turn (Some Goes) = false
+is_stop_turn (Some Announces) = false
+is_stop_turn (Some Waits) = true
+is_stop_turn (Some Refused) = true
 
 -- an arrow to what a party with this act waits for: a lock, a condition variable or a row
 abbrev pub signal_arrow : Names → Signal → List ℕ
-signal_arrow names (Sleep cond) = codes "-> " ++ name_of names.conds.items cond
+signal_arrow names (Sleep cond) = codes "-> " ++ name_of names.conds.keys cond
 signal_arrow names (Join row) = codes "-> " ++ row_name names row
 signal_arrow names signal = codes "."
 
 abbrev pub arrow_text : Names → Option Act → List ℕ
 arrow_text names None = codes "."
-arrow_text names (Some (Call call)) = codes "-> " ++ name_of names.locks.items call.lock
+arrow_text names (Some (Call call)) = codes "-> " ++ name_of names.locks.keys call.lock
 arrow_text names (Some (Try call)) = codes "."
 arrow_text names (Some (Choose block)) = codes "."
 arrow_text names (Some (act.Signal signal)) = signal_arrow names signal
 
 -- a cell of the last row
-abbrev pub stop_cell : List PlanLock → Names → List Stand → Bool → ℕ → List ℕ
-stop_cell locks names w refused party =
-    if is_stop_turn refused (turn_of locks w party) then arrow_text names (act_at w party) else codes "."
+abbrev pub stop_cell : List PlanLock → Names → List Stand → ℕ → List ℕ
+stop_cell locks names w party =
+    if is_stop_turn (turn_of locks w party) then arrow_text names (act_at w party) else codes "."
 
 abbrev pub cell_of : Plan → Names → Row → ℕ → List ℕ
-cell_of plan names Parties = name_of names.parties.items
+cell_of plan names Parties = name_of names.parties.keys
 cell_of plan names (After node mover) = step_cell plan.locks.items names (world_of plan node) mover
-cell_of plan names (Stop node refused) = stop_cell plan.locks.items names (world_of plan node) refused
+cell_of plan names (Stop node) = stop_cell plan.locks.items names (world_of plan node)
 
--- a row after each step
-abbrev pub step_rows : List PlanLock → Names → List Stand → List Step → List ℕ
-step_rows locks names w [] = []
-step_rows locks names w (step ∷ trace) =
-    row_text (step_cell locks names (stepped locks w step) step.party) (length names.parties.items)
-    ++ step_rows locks names (stepped locks w step) trace
+-- the cells of the rows from a world on: one after each step, and one of what parties wait for after the last
+abbrev pub rows_from : List PlanLock → Names → List Stand → List Step → List (ℕ → List ℕ)
+rows_from locks names w [] = stop_cell locks names w ∷ []
+rows_from locks names w (step ∷ trace) =
+    step_cell locks names (stepped locks w step) step.party ∷ rows_from locks names (stepped locks w step) trace
+
+-- the cells of all rows, of which the first has the names
+abbrev pub rows_of : List PlanLock → Names → List Stand → List Step → List (ℕ → List ℕ)
+rows_of locks names w trace = name_of names.parties.keys ∷ rows_from locks names w trace
+
+-- rows of so many cells, in columns as wide as their widest cells
+abbrev pub rows_text : List (ℕ → List ℕ) → ℕ → List ℕ
+rows_text rows parties = flat_map (row_text (widths_of rows parties) parties) rows
 
 abbrev pub lanes_text : List PlanLock → Names → List Stand → List Step → List ℕ
-lanes_text locks names w trace =
-    let stop = last_world locks w trace in
-    let parties = length names.parties.items in
-    row_text (name_of names.parties.items) parties
-    ++ (step_rows locks names w trace ++ row_text (stop_cell locks names stop (is_refused locks stop)) parties)
+lanes_text locks names w trace = rows_text (rows_of locks names w trace) (length names.parties.keys)
 
 -- the drawing below an answer, if there is a trace
 abbrev pub drawing_text : List PlanLock → List (List Place) → Names → Option (Vec Step Global) → List ℕ

@@ -14,10 +14,10 @@ use Rattle.lock_plan_text.specs.PartyLines.{number_of}
 use Rattle.lock_plan_text.specs.Texts.{is_any_number}
 
 abbrev pub lock_name : PlanText → ℕ → List ℕ
-lock_name text lock = name_of text.draft.names.locks.items lock
+lock_name text lock = name_of text.draft.names.locks.keys lock
 
 abbrev pub party_name : PlanText → ℕ → List ℕ
-party_name text party = name_of text.draft.names.parties.items party
+party_name text party = name_of text.draft.names.parties.keys party
 
 -- what comes before the name of the first lock, and of each other one
 abbrev pub separator : Bool → List ℕ
@@ -47,7 +47,7 @@ wait_line text wait =
 -- an act of which the order says nothing; a row past the parties is a flag
 abbrev pub uncovered_line : PlanText → ℕ → ℕ → List ℕ
 uncovered_line text party place =
-    if nat_lt party (length text.draft.names.parties.items)
+    if nat_lt party (length text.draft.names.parties.keys)
     then at_line text party place ++ codes "an order covers no upgrade, announcement or signal\n"
     else codes "an order covers no flag\n"
 
@@ -58,7 +58,7 @@ obstacle_line text (Ends party lock) =
     party_name text party ++ (codes " ends" ++ holds_text text lock)
 obstacle_line text (Reentrant lock) = lock_name text lock ++ codes ": an order covers no reentrant lock\n"
 
--- what to do where a party stands for any number
+-- what to do where there are any number of parties
 abbrev pub advice : Bool → List ℕ
 advice true = codes "give a number in place of * to search all interleavings\n"
 advice false = []

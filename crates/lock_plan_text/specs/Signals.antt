@@ -45,7 +45,7 @@ rows_text names (row ∷ rows) = join_by (row_name names) (codes ", ") (row ∷ 
 
 -- a notification: its condition variable, and the rows that it wakes
 abbrev pub notice_text : Names → ℕ → List ℕ → List ℕ
-notice_text names cond rows = name_of names.conds.items cond ++ (codes ": wakes " ++ rows_text names rows)
+notice_text names cond rows = name_of names.conds.keys cond ++ (codes ": wakes " ++ rows_text names rows)
 
 abbrev pub start_word : Bool → List ℕ
 start_word true = codes "start "

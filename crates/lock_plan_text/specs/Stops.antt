@@ -1,15 +1,21 @@
 -- The stop of a trace: what it is, who is stopped, and who holds what.
-use Rattle.std.specs.Prelude.{ℕ, Bool, true, false, not, ◌||◌, if◌then◌else◌, List, [], ◌++◌, codes}
+use Rattle.std.specs.Prelude.{ℕ, ◌-◌, ◌==◌, ◌&&◌, Bool, true, false, not, List, [], ◌∷◌, ◌++◌, codes, decimal}
 use Rattle.std.specs.List.{flat_map}
+use Rattle.std.proofs.Common.{get_or}
+use Rattle.lock_base.specs.declared.machine.lock_step.LockStep.{LockStep}
+use Rattle.lock_base.specs.declared.machine.lock_step.LockStep.TheVariants.{Modes, Announce, Withdraw}
+use Rattle.lock_base.specs.declared.machine.mode_step.ModeStep.TheVariants.{Acquire, Release, Change}
+use Rattle.lock_base.specs.Modes.{is_exclusive}
 use Rattle.lock_plan.specs.declared.lock.PlanLock.{PlanLock}
 use Rattle.lock_plan.specs.declared.program.Act.{Act}
 use Rattle.lock_plan.specs.declared.program.Act.TheVariants as act
 use Rattle.lock_plan.specs.declared.program.Act.TheVariants.{Call, Try, Choose}
 use Rattle.lock_plan.specs.declared.program.Signal.{Signal}
 use Rattle.lock_plan.specs.declared.program.Signal.TheVariants.{Sleep, Join}
+use Rattle.lock_plan.specs.declared.stop.PartyHold.{PartyHold}
 use Rattle.lock_plan.specs.declared.stop.Stopped.{Stopped}
-use Rattle.lock_plan.specs.Worlds.{Stand, is_refused}
-use Rattle.lock_plan.specs.Stops.{all_stopped}
+use Rattle.lock_plan.specs.Worlds.{Stand, no_lock}
+use Rattle.lock_plan.specs.Stops.{all_holds, all_stopped}
 use Rattle.lock_plan_text.specs.declared.printer.mark.Style.TheVariants.{Words}
 use Rattle.lock_plan_text.specs.declared.names.Names.{Names}
 use Rattle.lock_plan_text.specs.Names.{name_of, row_name}
@@ -27,7 +33,7 @@ says false = codes " waits for "
 
 -- what a party with this act waits for: its call, a notification, or the end of a row
 abbrev pub signal_awaited : Names → Signal → List ℕ
-signal_awaited names (Sleep cond) = codes "notify " ++ name_of names.conds.items cond
+signal_awaited names (Sleep cond) = codes "notify " ++ name_of names.conds.keys cond
 signal_awaited names (Join row) = codes "join " ++ row_name names row
 signal_awaited names signal = []
 
@@ -37,27 +43,50 @@ awaited_text locks names (Try call) = []
 awaited_text locks names (Choose block) = []
 awaited_text locks names (act.Signal signal) = signal_awaited names signal
 
+-- whether a step adds a reader
+abbrev pub adds_reader : LockStep → Bool
+adds_reader (Modes (Acquire mode)) = not (is_exclusive mode)
+adds_reader (Modes (Release mode)) = false
+adds_reader (Modes (Change from to)) = false
+adds_reader Announce = false
+adds_reader Withdraw = false
+
+-- of the room for so many readers, how much these holds leave
+abbrev pub room_after : ℕ → List PartyHold → ℕ
+room_after room [] = room
+room_after room (h ∷ holds) = room_after ((room - h.hold.bag.shared) - h.hold.bag.upgradable) holds
+
+-- whether a step waits for a lock that has all its readers
+abbrev pub is_full : ℕ → List PartyHold → LockStep → Bool
+is_full limit holds step = adds_reader step && (room_after limit holds == 0)
+
+abbrev pub limit_text : Bool → ℕ → List ℕ
+limit_text true limit = codes " (limit " ++ (decimal limit ++ codes ")")
+limit_text false limit = []
+
+-- who holds a lock; if it has all its readers, each hold and the limit
+abbrev pub holds_text : Names → Bool → ℕ → List PartyHold → List ℕ
+holds_text names full limit holds =
+    marks_text Words names.parties.keys (holders full holds) ++ limit_text full limit
+
+abbrev pub call_holders : Names → PlanLock → List PartyHold → LockStep → List ℕ
+call_holders names lock holds step = codes ": " ++ holds_text names (is_full lock.limit holds step) lock.limit holds
+
 -- who holds the lock of a call
-abbrev pub holders_text : Names → List Stand → Act → List ℕ
-holders_text names w (Call call) = codes ": " ++ marks_text Words names.parties.items (holders w call.lock)
-holders_text names w (Try call) = []
-holders_text names w (Choose block) = []
-holders_text names w (act.Signal signal) = []
+abbrev pub holders_text : List PlanLock → Names → List Stand → Act → List ℕ
+holders_text locks names w (Call call) =
+    call_holders names (get_or locks call.lock no_lock) (all_holds w call.lock) call.step
+holders_text locks names w (Try call) = []
+holders_text locks names w (Choose block) = []
+holders_text locks names w (act.Signal signal) = []
 
 -- the line of a stopped party
 abbrev pub stopped_line : List PlanLock → Names → List Stand → Stopped → List ℕ
 stopped_line locks names w s =
-    name_of names.parties.items s.party
+    name_of names.parties.keys s.party
     ++ (says s.is_refused
     ++ (awaited_text locks names s.act
-    ++ (holders_text names w s.act ++ codes "\n")))
-
--- where a call is refused, the stop is about refused calls alone
-abbrev pub is_about : Bool → Stopped → Bool
-is_about refused s = not refused || s.is_refused
-
-abbrev pub line_if : List PlanLock → Names → List Stand → Stopped → List ℕ
-line_if locks names w s = if is_about (is_refused locks w) s then stopped_line locks names w s else []
+    ++ (holders_text locks names w s.act ++ codes "\n")))
 
 abbrev pub stop_lines : List PlanLock → Names → List Stand → List ℕ
-stop_lines locks names w = flat_map (line_if locks names w) (all_stopped locks w)
+stop_lines locks names w = flat_map (stopped_line locks names w) (all_stopped locks w)

@@ -15,4 +15,4 @@ pub use parser::{
     NamedPlan, PlanText, PlanTextFault, calls_have_lines, parse_plan, parse_text,
     texts_fit_machines, texts_have_one_meaning,
 };
-pub use printer::{draw_picture, write_answer, write_call, write_drawing, write_order};
+pub use printer::{draw_picture, write_answer, write_drawing, write_order};

@@ -18,4 +18,3 @@ pub use answer::write_answer;
 pub use lanes::write_drawing;
 pub use order::write_order;
 pub use picture::draw_picture;
-pub use step::write_call;

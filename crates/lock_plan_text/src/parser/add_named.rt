@@ -2,7 +2,7 @@
 use crate::parser::draft::PlanDraft;
 use crate::parser::line_names::LineNames;
 use crate::parser::named_word::NamedWord;
-use crate::parser::place::place_of;
+use crate::parser::place::{add_name, place_of};
 use crate::parser::plan_line::PlanLine;
 use crate::parser::text_line::TextLine;
 use std::alloc::{AllocError, Global};
@@ -33,7 +33,7 @@ impl PlanDraft {
                     return Ok(false);
                 }
                 self.mention(alloc, number, names.name)?;
-                self.started.push(String::from_str(alloc, names.name)?)?;
+                add_name(&mut self.started, alloc, names.name)?;
             }
             NamedWord::Join => self.mention(alloc, number, names.name)?,
             _ => {}
@@ -46,11 +46,10 @@ impl PlanDraft {
         ensures { IfOk result (λ is_added. with_named (drafted self.old) 0 Flag (one_name name.now)
             ≡ (if is_added then Some (drafted self.new) else None)) }
     {
-        if !self.blocks.are_none() || place_of(self.names.flags.as_slice(), name).is_some() {
+        if !self.blocks.are_none() {
             return Ok(false);
         }
-        self.names.flags.push(String::from_str(alloc, name)?)?;
-        Ok(true)
+        add_name(&mut self.names.flags, alloc, name)
     }
 
     /// Adds a condition variable, unless its name is there or a block is open.
@@ -58,11 +57,10 @@ impl PlanDraft {
         ensures { IfOk result (λ is_added. with_named (drafted self.old) 0 Condvar (one_name name.now)
             ≡ (if is_added then Some (drafted self.new) else None)) }
     {
-        if !self.blocks.are_none() || place_of(self.names.conds.as_slice(), name).is_some() {
+        if !self.blocks.are_none() {
             return Ok(false);
         }
-        self.names.conds.push(String::from_str(alloc, name)?)?;
-        Ok(true)
+        add_name(&mut self.names.conds, alloc, name)
     }
 
     /// Returns whether a line may start the party of this name.
@@ -77,15 +75,14 @@ impl PlanDraft {
     pub(crate) fn is_started(&self, name: &str) -> bool
         ensures { result ≡ is_started (drafted self.now) name.now }
     {
-        place_of(self.started.as_slice(), name).is_some()
+        place_of(&self.started, name).is_some()
     }
 
     /// Adds the name after a `start` or a `join`, unless it is there.
     fn mention(&mut self, alloc: Global, number: u64, name: &str) -> Result<(), AllocError>
         ensures { OnOk result (drafted self.new ≡ with_mention (drafted self.old) number name.now) }
     {
-        if place_of(self.mentions.as_slice(), name).is_none() {
-            self.mentions.push(String::from_str(alloc, name)?)?;
+        if add_name(&mut self.mentions, alloc, name)? {
             self.mention_lines.push(number)?;
         }
         Ok(())

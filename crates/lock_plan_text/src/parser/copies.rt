@@ -61,7 +61,7 @@ pub(crate) fn copy_name(alloc: Global, name: &str, copy: u64) -> Result<String, 
     Ok(text)
 }
 
-/// Makes the name of a party that stands for any number.
+/// Makes the name of any number of parties.
 pub(crate) fn any_name(alloc: Global, name: &str) -> Result<String, AllocError>
     ensures { IfOk result (λ text. string_bytes text ≡ any_name name.now) }
 {

@@ -11,9 +11,10 @@ use crate::parser::block_line::BlockLine;
 use crate::parser::copies::{any_name, copy_name};
 use crate::parser::line_names::LineNames;
 use crate::parser::open_block::OpenBlocks;
-use crate::parser::place::{place_of, push_from};
+use crate::parser::place::{add_name, push_from};
 use crate::parser::plan_line::{Parties, PlanLine};
 use crate::parser::text_line::TextLine;
+use indexmap::IndexSet;
 use lock_plan::PlanLock;
 use std::alloc::{AllocError, Global};
 
@@ -34,11 +35,11 @@ pub(crate) struct PlanDraft {
     pub(crate) blocks: OpenBlocks,
     pub(crate) names: Names,
     /// The names after `start` and `join`, each once.
-    pub(crate) mentions: Vec<String>,
+    pub(crate) mentions: IndexSet<String>,
     /// The first line with each of them.
     pub(crate) mention_lines: Vec<u64>,
     /// The names after `start`.
-    pub(crate) started: Vec<String>,
+    pub(crate) started: IndexSet<String>,
 }
 
 impl PlanDraft {
@@ -55,14 +56,14 @@ impl PlanDraft {
             numbers: Vec::new(alloc),
             blocks: OpenBlocks::new(alloc),
             names: Names {
-                locks: Vec::new(alloc),
-                parties: Vec::new(alloc),
-                flags: Vec::new(alloc),
-                conds: Vec::new(alloc),
+                locks: IndexSet::new(alloc),
+                parties: IndexSet::new(alloc),
+                flags: IndexSet::new(alloc),
+                conds: IndexSet::new(alloc),
             },
-            mentions: Vec::new(alloc),
+            mentions: IndexSet::new(alloc),
             mention_lines: Vec::new(alloc),
-            started: Vec::new(alloc),
+            started: IndexSet::new(alloc),
         }
     }
 
@@ -113,11 +114,13 @@ impl PlanDraft {
             (text.Plan (line.Lock lock)) (one_name name.now)
             ≡ (if is_added then Some (drafted self.new) else None)) }
     {
-        if !self.blocks.are_none() || place_of(self.names.locks.as_slice(), name).is_some() {
+        if !self.blocks.are_none() {
+            return Ok(false);
+        }
+        if !add_name(&mut self.names.locks, alloc, name)? {
             return Ok(false);
         }
         self.locks.push(lock)?;
-        self.names.locks.push(String::from_str(alloc, name)?)?;
         Ok(true)
     }
 
@@ -173,14 +176,13 @@ impl PlanDraft {
         ensures { IfOk result (λ is_added. with_parties (drafted self.old) is_server (name.now ∷ [])
             ≡ (if is_added then Some (drafted self.new) else None)) }
     {
-        if place_of(self.names.parties.as_slice(), name).is_some() {
+        if !add_name(&mut self.names.parties, alloc, name)? {
             return Ok(false);
         }
         self.copies.push(self.first < self.parties.len())?;
         self.parties.push(Vec::new(alloc))?;
         self.numbers.push(Vec::new(alloc))?;
         self.servers.push(is_server)?;
-        self.names.parties.push(String::from_str(alloc, name)?)?;
         Ok(true)
     }
 

@@ -22,11 +22,11 @@ pub(crate) fn parse_lines(alloc: Global, bytes: &[u8]) -> Result<PlanDraft, Plan
     ensures draft { IfOk result (λ draft. IsDraftOf bytes.now (drafted draft)) }
     ensures fault { IfErr result (IsLineFault bytes.now) }
 {
-    let mut draft = PlanDraft::new(alloc);
     let mut rest = Part::of(bytes);
     if rest.bytes().is_empty() {
         return Err(PlanTextFault::BadLine(1));
     }
+    let mut draft = PlanDraft::new(alloc);
     let mut number = 1u64;
     while !rest.bytes().is_empty() {
         let (text, after) = rest.first_line();

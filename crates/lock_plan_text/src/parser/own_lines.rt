@@ -59,9 +59,9 @@ impl PlanDraft {
     fn named_line(&self, word: NamedWord, name: &str) -> Option<BlockLine>
         ensures { result ≡ named_line (drafted self.now) word name.now }
     {
-        let flags = self.names.flags.as_slice();
-        let conds = self.names.conds.as_slice();
-        let mentions = self.mentions.as_slice();
+        let flags = &self.names.flags;
+        let conds = &self.names.conds;
+        let mentions = &self.mentions;
         let line = match word {
             NamedWord::Flag | NamedWord::Condvar => return None,
             NamedWord::If => return Some(BlockLine::If(place_of(flags, name)?)),
@@ -85,10 +85,10 @@ impl PlanDraft {
         ensures { IfOk result (λ lines. option_map (λ v. v.items) lines
             ≡ own_lines (drafted self.now) (text.Wait wait) (names_of names.entry)) }
     {
-        let Some(cond) = place_of(self.names.conds.as_slice(), names.name) else {
+        let Some(cond) = place_of(&self.names.conds, names.name) else {
             return Ok(None);
         };
-        let Some(lock) = place_of(self.names.locks.as_slice(), names.mutex) else {
+        let Some(lock) = place_of(&self.names.locks, names.mutex) else {
             return Ok(None);
         };
         match wait {
@@ -129,7 +129,7 @@ impl PlanDraft {
             ≡ option_map (until_lines (drafted self.now) value cond lock)
             (place_of (drafted self.now).flag_names flag.now)) }
     {
-        let Some(flag) = place_of(self.names.flags.as_slice(), flag) else {
+        let Some(flag) = place_of(&self.names.flags, flag) else {
             return Ok(None);
         };
         let mut lines = Vec::new(alloc);
@@ -145,7 +145,7 @@ impl PlanDraft {
     fn call(&self, is_rwlock: bool, step: LockStep, name: &str) -> Option<PlanCall>
         ensures { result ≡ named_call (drafted self.now) is_rwlock step name.now }
     {
-        let lock = place_of(self.names.locks.as_slice(), name)?;
+        let lock = place_of(&self.names.locks, name)?;
         let step = step_on(is_rwlock, step, self.kind(lock));
         Some(PlanCall { lock, step })
     }

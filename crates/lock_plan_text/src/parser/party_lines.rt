@@ -59,8 +59,9 @@ impl PlanDraft {
     fn unknown_mention(&self) -> Option<usize>
         ensures { result ≡ unknown_mention (drafted self.now) }
     {
-        let parties = self.names.parties.as_slice();
+        let parties = &self.names.parties;
         self.mentions
+            .as_slice()
             .iter()
             .position(|name| place_of(parties, name.as_str()).is_none())
     }
@@ -114,7 +115,7 @@ impl PlanDraft {
         ensures { result ≡ party_row (drafted self.now) mention }
     {
         let name = name_at(self.mentions.as_slice(), mention);
-        place_of(self.names.parties.as_slice(), name).unwrap_or(0)
+        place_of(&self.names.parties, name).unwrap_or(0)
     }
 }
 

@@ -1,14 +1,34 @@
-//! Finding names, and adding to the last of several lists.
-ghost use Rattle.std.specs.Prelude.{◌≡◌, map, string_bytes, OnOk};
+//! Finding and adding names, and adding to the last of several lists.
+ghost use Rattle.std.specs.Prelude.{◌≡◌, ◌++◌, ◌∷◌, [], if◌then◌else◌, is_some, map, not, string_bytes, IfOk, OnOk};
 ghost use Rattle.lock_plan_text.specs.Drafts.{onto_from, place_of};
 
-use std::alloc::AllocError;
+use indexmap::IndexSet;
+use std::alloc::{AllocError, Global};
 
 /// Finds a name.
-pub(crate) fn place_of(names: &[String], name: &str) -> Option<usize>
-    ensures { result ≡ place_of (map string_bytes names.now) name.now }
+pub(crate) fn place_of(names: &IndexSet<String>, name: &str) -> Option<usize>
+    ensures { result ≡ place_of (map string_bytes names.now.keys) name.now }
 {
-    names.iter().position(|other| other.as_str() == name)
+    names.get_index_of(name)
+}
+
+/// Adds a name, and returns whether it is new.
+pub(crate) fn add_name(
+    names: &mut IndexSet<String>,
+    alloc: Global,
+    name: &str,
+) -> Result<bool, AllocError>
+    ensures new { IfOk result (λ is_new. is_some (place_of (map string_bytes names.old.keys) name.now) ≡ not is_new) }
+    ensures names { IfOk result (λ is_new. map string_bytes names.new.keys
+        ≡ (if is_new then map string_bytes names.old.keys ++ name.now ∷ [] else map string_bytes names.old.keys)) }
+{
+    let is_there = place_of(names, name).is_some();
+    if is_there {
+        return Ok(false);
+    }
+    let key = String::from_str(alloc, name)?;
+    names.insert(key)?;
+    Ok(true)
 }
 
 /// Adds an item to each list from this place on.

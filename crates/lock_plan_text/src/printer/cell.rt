@@ -20,8 +20,8 @@ pub(crate) enum Row {
     Parties,
     /// What the parties hold at a node, after a step of this party.
     After(usize, usize),
-    /// What the parties wait for at a node, in which a call is refused or not.
-    Stop(usize, bool),
+    /// What the parties wait for at a node.
+    Stop(usize),
 }
 
 /// Appends the cell of a party.
@@ -38,9 +38,7 @@ pub(crate) fn write_cell(
     match row {
         Row::Parties => write_name(text, names.parties.as_slice(), party),
         Row::After(node, mover) => write_step_cell(alloc, text, plan, names, node, mover, party),
-        Row::Stop(node, is_refused) => {
-            write_stop_cell(alloc, text, plan, names, node, is_refused, party)
-        }
+        Row::Stop(node) => write_stop_cell(alloc, text, plan, names, node, party),
     }
 }
 
@@ -112,7 +110,7 @@ fn locks_held(
 {
     let mut marks = Vec::new(alloc);
     for lock in 0..plan.locks().len() {
-        add_marks(&mut marks, lock, hold_at(plan, node, party, lock))?;
+        add_marks(&mut marks, false, lock, hold_at(plan, node, party, lock))?;
     }
     Ok(marks)
 }
@@ -124,13 +122,12 @@ fn write_stop_cell(
     plan: &Plan,
     names: &Names,
     node: usize,
-    is_refused: bool,
     party: usize,
 ) -> Result<(), AllocError>
     ensures { OnOk result (string_bytes text.new ≡ string_bytes text.old
-        ++ stop_cell plan.now.locks.items names.now (world_of plan.now node) is_refused party) }
+        ++ stop_cell plan.now.locks.items names.now (world_of plan.now node) party) }
 {
-    if is_stop_turn(is_refused, turn_at(alloc, plan, node, party)?) {
+    if is_stop_turn(turn_at(alloc, plan, node, party)?) {
         write_arrow(text, names, act_at(plan, node, party))
     } else {
         text.push('.')
@@ -168,13 +165,9 @@ fn write_signal_arrow(text: &mut String, names: &Names, signal: Signal) -> Resul
     }
 }
 
-/// Returns whether a stop is about a party with this turn: where a call is refused, about refused calls alone.
-fn is_stop_turn(is_refused: bool, turn: Option<Turn>) -> bool
-    ensures { result ≡ is_stop_turn is_refused turn }
+/// Returns whether a party with this turn waits or is refused.
+fn is_stop_turn(turn: Option<Turn>) -> bool
+    ensures { result ≡ is_stop_turn turn }
 {
-    match turn {
-        None | Some(Turn::Goes | Turn::Announces) => false,
-        Some(Turn::Waits) => !is_refused,
-        Some(Turn::Refused) => true,
-    }
+    matches!(turn, Some(Turn::Waits | Turn::Refused))
 }

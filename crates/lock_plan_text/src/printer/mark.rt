@@ -1,6 +1,6 @@
 //! What parties hold, mode by mode, and its text.
 ghost use Rattle.std.specs.Prelude.{◌≡◌, ◌++◌, OnOk, string_bytes};
-ghost use Rattle.lock_plan_text.specs.Marks.{mark_if, marks_of, mark_text, gap_text, marked_text, marks_text};
+ghost use Rattle.lock_plan_text.specs.Marks.{mark_if, times, shared_marks, marks_of, mark_text, gap_text, marked_text, marks_text};
 
 use crate::names::write_name;
 use lock_base::machine::Hold;
@@ -61,18 +61,38 @@ pub(crate) enum Style {
     Letters,
 }
 
-/// Adds each mode of a hold, and its announcement.
+/// Adds each mode of a hold, or each time that it is held, and its announcement.
 pub(crate) fn add_marks(
     marks: &mut Vec<Marked>,
+    is_each: bool,
     number: usize,
     hold: Hold,
 ) -> Result<(), AllocError>
-    ensures { OnOk result (marks.new.items ≡ marks.old.items ++ marks_of number hold) }
+    ensures { OnOk result (marks.new.items ≡ marks.old.items ++ marks_of is_each number hold) }
 {
-    add_mark_if(marks, number, Mark::Shared, hold.bag.shared > 0)?;
+    add_shared_marks(marks, number, times(is_each, hold.bag.shared))?;
     add_mark_if(marks, number, Mark::Exclusive, hold.bag.exclusive > 0)?;
     add_mark_if(marks, number, Mark::Upgradable, hold.bag.upgradable > 0)?;
     add_mark_if(marks, number, Mark::Announced, hold.announced)
+}
+
+/// Returns how often a mode that is held so many times is listed: each time, or once.
+fn times(is_each: bool, count: u64) -> u64
+    ensures { result ≡ times is_each count }
+{
+    if is_each { count } else { count.min(1) }
+}
+
+fn add_shared_marks(marks: &mut Vec<Marked>, number: usize, count: u64) -> Result<(), AllocError>
+    ensures { OnOk result (marks.new.items ≡ marks.old.items ++ shared_marks number count) }
+{
+    for _time in 0..count {
+        marks.push(Marked {
+            number,
+            mark: Mark::Shared,
+        })?;
+    }
+    Ok(())
 }
 
 fn add_mark_if(

@@ -15,7 +15,7 @@ use layout::Layout;
 use lock_plan::{Explored, Plan, Step};
 use std::alloc::{AllocError, Global};
 use svg::{Spot, Svg};
-use waits::{draw_waits, stopped_of, write_stopped};
+use waits::{draw_waits, write_stopped};
 
 /// Returns the answer to a plan as a picture in SVG.
 ///
@@ -97,7 +97,7 @@ fn picture_of_run(plan: &Plan, names: &Names, run: &Run) -> Result<String, Alloc
         write_bars(&mut svg, plan, names, run, &layout, party)?;
     }
     write_steps(&mut svg, plan, names, run, &layout)?;
-    let list = stopped_of(run.alloc, plan, run.last)?;
+    let list = plan.stopped(run.alloc, run.last)?;
     for stopped in &list {
         write_stopped(&mut svg, plan, names, &layout, stopped)?;
     }

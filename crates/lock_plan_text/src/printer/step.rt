@@ -1,7 +1,6 @@
 //! The steps of a trace.
 ghost use Rattle.std.specs.Prelude.{◌≡◌, ◌<◌, ◌++◌, Option, OnOk, IfOk, string_bytes};
 ghost use Rattle.std.proofs.Common.{get_or};
-ghost use Rattle.lock_base.specs.Kind.{is_rwlock};
 ghost use Rattle.lock_plan.specs.Worlds.{no_lock, first_world, turn_of};
 ghost use Rattle.lock_plan.specs.Stops.{programs_of, world_of};
 ghost use Rattle.lock_plan_text.specs.Signals.{sleep_of};
@@ -11,8 +10,8 @@ use crate::names::{Names, write_name};
 use crate::printer::signal::{write_choice, write_signal};
 use crate::printer::stand::{act_at, sleep_of, turn_at};
 use crate::printer::words::step_word;
-use lock_base::machine::LockStep;
-use lock_plan::{Act, Plan, PlanCall, Step, Turn};
+use lock_base::machine::{Kind, LockStep};
+use lock_plan::{Act, Plan, PlanCall, PlanLock, Step, Turn};
 use std::alloc::{AllocError, Global};
 
 /// A step, and the nodes before and after it.
@@ -173,7 +172,7 @@ fn made_step(turn: Option<Turn>, step: LockStep) -> LockStep
 }
 
 /// Appends a call: its word and its lock.
-pub fn write_call(
+pub(crate) fn write_call(
     text: &mut String,
     plan: &Plan,
     names: &Names,
@@ -181,17 +180,22 @@ pub fn write_call(
 ) -> Result<(), AllocError>
     ensures { OnOk result (string_bytes text.new ≡ string_bytes text.old ++ call_text plan.now.locks.items names.now call) }
 {
-    text.push_str(step_word(is_rwlock(plan, call.lock), call.step))?;
+    let is_rwlock = lock_at(plan, call.lock).kind.is_rwlock();
+    text.push_str(step_word(is_rwlock, call.step))?;
     text.push(' ')?;
     write_name(text, names.locks.as_slice(), call.lock)
 }
 
-/// Returns whether the lock with this number is a reader-writer lock.
-fn is_rwlock(plan: &Plan, lock: usize) -> bool
-    ensures { result ≡ is_rwlock (get_or plan.now.locks.items lock no_lock).kind }
+/// Returns the lock with this number.
+pub(crate) fn lock_at(plan: &Plan, lock: usize) -> PlanLock
+    ensures { result ≡ get_or plan.now.locks.items lock no_lock }
 {
     match plan.locks().get(lock) {
-        Some(lock) => lock.kind.is_rwlock(),
-        None => false,
+        Some(lock) => *lock,
+        None => PlanLock {
+            kind: Kind::Mutex,
+            limit: 0,
+            bar: false,
+        },
     }
 }

@@ -3,12 +3,14 @@ ghost use Rattle.std.specs.Prelude.{◌≡◌, ◌++◌, OnOk, IfOk, string_byte
 ghost use Rattle.lock_plan.specs.Worlds.{is_refused};
 ghost use Rattle.lock_plan.specs.Stops.{world_of};
 ghost use Rattle.lock_plan_text.specs.Marks.{holders};
-ghost use Rattle.lock_plan_text.specs.Stops.{stop_word, says, signal_awaited, awaited_text, holders_text, stopped_line, stop_lines, is_about};
+ghost use Rattle.lock_plan_text.specs.Stops.{adds_reader, awaited_text, call_holders, holders_text, holds_text, is_full, limit_text, room_after, says, signal_awaited, stop_lines, stop_word, stopped_line};
 
 use crate::names::{Names, write_name, write_row_name};
 use crate::printer::mark::{Marked, Style, add_marks, write_marks};
-use crate::printer::step::write_call;
-use lock_plan::{Act, Plan, Signal, Stopped, Turn};
+use crate::printer::step::{lock_at, write_call};
+use itoa::Buffer;
+use lock_base::machine::{LockStep, Mode, ModeStep};
+use lock_plan::{Act, PartyHold, Plan, PlanLock, Signal, Stopped, Turn};
 use std::alloc::{AllocError, Global};
 
 /// Returns whether the next call of some party is refused at a node.
@@ -30,7 +32,7 @@ pub(crate) fn stop_word(is_refused: bool) -> &'static str
     if is_refused { "refused" } else { "deadlock" }
 }
 
-/// Appends a line for each party that the stop at a node is about.
+/// Appends a line for each party that waits or is refused at a node.
 pub(crate) fn write_stop_lines(
     alloc: Global,
     text: &mut String,
@@ -41,21 +43,11 @@ pub(crate) fn write_stop_lines(
     ensures { OnOk result (string_bytes text.new ≡ string_bytes text.old
         ++ stop_lines plan.now.locks.items names.now (world_of plan.now node)) }
 {
-    let is_refused = is_refused(alloc, plan, node)?;
     let list = plan.stopped(alloc, node)?;
     for stopped in &list {
-        if is_about(is_refused, stopped) {
-            write_stopped(alloc, text, plan, names, node, stopped)?;
-        }
+        write_stopped(alloc, text, plan, names, node, stopped)?;
     }
     Ok(())
-}
-
-/// Returns whether a stop is about the party: where a call is refused, about refused calls alone.
-pub(crate) fn is_about(is_refused: bool, stopped: &Stopped) -> bool
-    ensures { result ≡ is_about is_refused stopped.now }
-{
-    !is_refused || stopped.is_refused
 }
 
 /// Appends the line of a stopped party.
@@ -130,29 +122,101 @@ fn write_holders(
     act: Act,
 ) -> Result<(), AllocError>
     ensures { OnOk result (string_bytes text.new ≡ string_bytes text.old
-        ++ holders_text names.now (world_of plan.now node) act) }
+        ++ holders_text plan.now.locks.items names.now (world_of plan.now node) act) }
 {
-    let Act::Call(call) = act else {
-        return Ok(());
-    };
-    let marks = holders(alloc, plan, node, call.lock)?;
+    match act {
+        Act::Call(call) => {
+            let holds = plan.holds_of(alloc, node, call.lock)?;
+            let lock = lock_at(plan, call.lock);
+            write_call_holders(alloc, text, names, lock, holds.as_slice(), call.step)
+        }
+        Act::Try(_) | Act::Choose(_) | Act::Signal(_) => Ok(()),
+    }
+}
+
+/// Appends who holds the lock for which a step waits.
+fn write_call_holders(
+    alloc: Global,
+    text: &mut String,
+    names: &Names,
+    lock: PlanLock,
+    holds: &[PartyHold],
+    step: LockStep,
+) -> Result<(), AllocError>
+    ensures { OnOk result (string_bytes text.new ≡ string_bytes text.old ++ call_holders names.now lock holds.now step) }
+{
     text.push_str(": ")?;
-    write_marks(
-        text,
-        Style::Words,
-        names.parties.as_slice(),
-        marks.as_slice(),
+    let is_full = is_full(lock.limit, holds, step);
+    write_holds(alloc, text, names, is_full, lock.limit, holds)
+}
+
+/// Returns whether a step waits for a lock that has all its readers.
+fn is_full(limit: u64, holds: &[PartyHold], step: LockStep) -> bool
+    ensures { result ≡ is_full limit holds.now step }
+{
+    adds_reader(step) && room_after(limit, holds) == 0
+}
+
+/// Returns whether a step adds a reader.
+fn adds_reader(step: LockStep) -> bool
+    ensures { result ≡ adds_reader step }
+{
+    matches!(
+        step,
+        LockStep::Modes(ModeStep::Acquire(Mode::Shared | Mode::Upgradable))
     )
 }
 
-/// Returns which parties hold a lock at a node, and in which modes.
-fn holders(alloc: Global, plan: &Plan, node: usize, lock: usize) -> Result<Vec<Marked>, AllocError>
-    ensures { IfOk result (λ marks. marks.items ≡ holders (world_of plan.now node) lock) }
+/// Returns how much of the room for so many readers holds leave.
+fn room_after(limit: u64, holds: &[PartyHold]) -> u64
+    ensures { result ≡ room_after limit holds.now }
 {
-    let holds = plan.holds_of(alloc, node, lock)?;
+    let mut room = limit;
+    for it in holds {
+        let bag = it.hold.bag;
+        room = room
+            .saturating_sub(bag.shared)
+            .saturating_sub(bag.upgradable);
+    }
+    room
+}
+
+/// Appends who holds a lock; if it has all its readers, each hold and the limit.
+fn write_holds(
+    alloc: Global,
+    text: &mut String,
+    names: &Names,
+    is_full: bool,
+    limit: u64,
+    holds: &[PartyHold],
+) -> Result<(), AllocError>
+    ensures { OnOk result (string_bytes text.new ≡ string_bytes text.old ++ holds_text names.now is_full limit holds.now) }
+{
+    let marks = holders(alloc, is_full, holds)?;
+    let parties = names.parties.as_slice();
+    write_marks(text, Style::Words, parties, marks.as_slice())?;
+    write_limit(text, is_full, limit)
+}
+
+/// Appends the limit of a lock that has all its readers.
+fn write_limit(text: &mut String, is_full: bool, limit: u64) -> Result<(), AllocError>
+    ensures { OnOk result (string_bytes text.new ≡ string_bytes text.old ++ limit_text is_full limit) }
+{
+    if !is_full {
+        return Ok(());
+    }
+    text.push_str(" (limit ")?;
+    text.push_str(Buffer::new().format(limit))?;
+    text.push_str(")")
+}
+
+/// Returns which parties have these holds, and in which modes.
+fn holders(alloc: Global, is_each: bool, holds: &[PartyHold]) -> Result<Vec<Marked>, AllocError>
+    ensures { IfOk result (λ marks. marks.items ≡ holders is_each holds.now) }
+{
     let mut marks = Vec::new(alloc);
-    for it in &holds {
-        add_marks(&mut marks, it.party, it.hold)?;
+    for it in holds {
+        add_marks(&mut marks, is_each, it.party, it.hold)?;
     }
     Ok(marks)
 }

@@ -50,7 +50,7 @@ impl Layout {
     /// The layout of a run.
     pub(crate) fn of_run(plan: &Plan, names: &Names, run: &Run) -> Result<Layout, AllocError> {
         let mut letters = 10;
-        for name in &names.parties {
+        for name in names.parties.as_slice() {
             letters = letters.max(name.len());
         }
         for made in &run.steps {

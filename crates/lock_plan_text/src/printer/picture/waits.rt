@@ -1,27 +1,11 @@
-//! The parties that a stop is about, and an arrow from each to the parties that it waits for.
+//! What stopped parties wait for, and an arrow from each to the parties that it waits for.
 use crate::names::Names;
 use crate::printer::picture::Run;
 use crate::printer::picture::layout::Layout;
 use crate::printer::picture::svg::{Spot, Svg};
-use crate::printer::stop::{is_about, is_refused, write_awaited};
+use crate::printer::stop::write_awaited;
 use lock_plan::{Act, Plan, Signal, Stopped};
 use std::alloc::{AllocError, Global};
-
-/// Returns the parties that the stop at a node is about.
-pub(crate) fn stopped_of(
-    alloc: Global,
-    plan: &Plan,
-    node: usize,
-) -> Result<Vec<Stopped>, AllocError> {
-    let is_refused = is_refused(alloc, plan, node)?;
-    let mut list = Vec::new(alloc);
-    for stopped in &plan.stopped(alloc, node)? {
-        if is_about(is_refused, stopped) {
-            list.push(*stopped)?;
-        }
-    }
-    Ok(list)
-}
 
 /// Writes what a stopped party waits for below its line.
 pub(crate) fn write_stopped(

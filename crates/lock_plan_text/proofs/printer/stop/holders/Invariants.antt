@@ -6,4 +6,5 @@ use Rattle.lock_plan_text.proofs.printer.stop.holders.Given as goal
 
 abbrev pub invariant-loop-it : goal.invariant-loop-it
 invariant-loop-it l =
-    l.marks.items ++ flat_map (λ h. marks_of h.party h.hold) (drop l.it-index l.it-items) ≡ flat_map (λ h. marks_of h.party h.hold) l.it-items
+    l.marks.items ++ flat_map (λ h. marks_of l.is_each h.party h.hold) (drop l.it-index l.holds)
+    ≡ flat_map (λ h. marks_of l.is_each h.party h.hold) l.holds

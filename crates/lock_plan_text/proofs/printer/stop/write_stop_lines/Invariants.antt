@@ -2,10 +2,10 @@
 use Rattle.std.proofs.Common.{◌≡◌, ◌++◌, drop, string_bytes}
 use Rattle.std.specs.List.{flat_map}
 use Rattle.lock_plan.specs.Stops.{world_of}
-use Rattle.lock_plan_text.specs.Stops.{line_if}
+use Rattle.lock_plan_text.specs.Stops.{stopped_line}
 use Rattle.lock_plan_text.proofs.printer.stop.write_stop_lines.Given as goal
 
 abbrev pub invariant-loop-stopped : goal.invariant-loop-stopped
 invariant-loop-stopped l =
-    string_bytes l.text ++ flat_map (line_if l.plan.locks.items l.names (world_of l.plan l.node)) (drop l.stopped-index l.stopped-items)
-    ≡ string_bytes l.initial.text ++ flat_map (line_if l.plan.locks.items l.names (world_of l.plan l.node)) l.stopped-items
+    string_bytes l.text ++ flat_map (stopped_line l.plan.locks.items l.names (world_of l.plan l.node)) (drop l.stopped-index l.stopped-items)
+    ≡ string_bytes l.initial.text ++ flat_map (stopped_line l.plan.locks.items l.names (world_of l.plan l.node)) l.stopped-items
