@@ -61,3 +61,8 @@ returns-in_err-named-clause-fault c =
     rw (told.1, told.2)
     (parse_fault c.args.plain.now c.args.memory c.in_err-named.field-0.0
     (draft_told c.args.plain.now draft c.in_err-named.field-0.0 c.in_ok-plan.ensures.text c.in_err-named.ensures.fault))
+
+pub returns-in_err-text-clause-fault : goal.returns-in_err-text-clause-fault
+returns-in_err-text-clause-fault c =
+    let told = err_from_is_err_and c.from_residual-in_err-text.result c.from_residual-in_err-text.ensures.1 in
+    rw (told.1, told.2) tt
