@@ -4,7 +4,7 @@ use std::hint::spin_loop;
 use std::sync::atomic::{AtomicU64, Ordering};
 
 /// How often a waiter looks for its turn before it sleeps.
-const LOOKS: u32 = 500;
+const LOOKS: u32 = 2_500;
 
 /// In place of a ticket: nobody has the turn. No lock issues so many tickets.
 pub(crate) const NOBODY: u64 = u64::MAX - 1;
