@@ -1,4 +1,6 @@
 //! The pauses of a contended call before it sleeps.
+ghost use Rattle.std.specs.Prelude.{◌≡◌, ◌+◌, ◌<◌, ◌^◌, not, nat_lt};
+
 use lock_sleepers::SPINS;
 use std::hint::spin_loop;
 use std::thread;
@@ -14,17 +16,23 @@ impl Pauses {
     pub const MOST: u32 = 20;
 
     /// Begins with the shortest pause.
-    pub fn new() -> Pauses {
+    pub fn new() -> Pauses
+        ensures { result.made ≡ 0 }
+    {
         Pauses { made: 0 }
     }
 
     /// Returns whether the call has made them all.
-    pub(crate) fn are_over(&self) -> bool {
+    pub(crate) fn are_over(&self) -> bool
+        ensures { result ≡ not (nat_lt self.now.made 20) }
+    {
         self.made >= Pauses::MOST
     }
 
     /// Makes the next pause.
-    pub fn pause(&mut self) {
+    pub fn pause(&mut self)
+        ensures { self.old.made + 1 < 2 ^ 32 → self.new.made ≡ self.old.made + 1 }
+    {
         if self.made < SPINS {
             for _ in 0..1u32 << self.made {
                 spin_loop();
