@@ -34,7 +34,7 @@ usage() {
 }
 
 # wrong words get the usage line of the program, as a request for help gets its help, and compile nothing
-forms='lockreplay (table|word|steps)|lockexplore( lanes| svg| order)?( --memory (0|[1-9][0-9]*))?'
+forms='lockreplay (table|word|steps)|lockexplore( lanes| svg| order)?( --memory (0|[1-9][0-9]*))?( [^- ][^ ]*)*'
 words=$name${1+ $*}
 case $words in
     'lockexplore -h' | 'lockexplore --help')
@@ -56,6 +56,17 @@ tell_late() {
     echo "$name: compiling without its proof, in about half a minute; bin/build makes the proved program" >&2
 }
 
+# The program without its proof runs in another folder, so it gets whole names of files.
+before=
+for word do
+    shift
+    case $before,$word in
+        ,lanes | ,svg | ,order | *,/* | *,--memory | --memory,*) ;;
+        *) [ "$name" = lockreplay ] || word=$PWD/$word ;;
+    esac
+    set -- "$@" "$word"
+    before=$word
+done
 tell_late &
 late=$!
 try "$@"

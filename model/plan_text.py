@@ -23,20 +23,25 @@ CHANGED = {
 }
 CALLS = {*ACQUIRED, *RELEASED, *CHANGED}
 TRIED = {"lock", "read", "write", "upgradable_read", "upgrade"}
-# lines with one name: of a flag, a condition variable or a party
-NAMES_FLAG = {"set", "clear", "if"}
-NAMES_CONDVAR = {"notify_one", "notify_all"}
-NAMES_PARTY = {"start", "join"}
-# lines with which a block begins, and those of them to which a party comes back at its end
-BEGINS = {"try", "repeat", "either", "if", "until"}
-LOOPS = {"repeat", "until"}
-# which block may be open at a line of a block, and what is open after it
-OPENS = {"repeat": "repeat", "either": "either"}
-TURNS = {("else", "try"): "else", ("else", "if"): "else", ("or", "either"): "or", ("or", "or"): "or"}
-ENDS = {"repeat", "else", "or"}
-WORD = re.compile(rb"[^ \t\r]+")
-NAME = re.compile(rb"[A-Za-z0-9_.-]+")
-LIMIT = re.compile(rb"[1-9][0-9]{0,9}")
+# lines of one word, each of a block
+BLOCK_WORDS = {"repeat", "forever", "either", "else", "or", "end", "leave", "return"}
+# words of a text with which a block begins, lines with which one begins, and those of them to which a party comes back at its end
+BLOCKS = {"repeat", "forever", "either", "try", "if"}
+BEGINS = {*BLOCKS, "until", "timed sleep"}
+LOOPS = {"repeat", "until", "forever"}
+# what a line in the midst of a block makes of it, by the line with which the block began or went on; and what may come before its end
+TURNS = {("else", "try"): "else", ("else", "if"): "else", ("else", "timed sleep"): "else", ("or", "either"): "or", ("or", "or"): "or"}
+ENDS = {*LOOPS, "else", "or"}
+PARTS = {"else", "or", "end"}
+JUMPS = {"leave", "return"}
+SLEEPS = {"sleep", "timed sleep"}
+DECLARED = {"mutex", "rwlock", "reentrant", "flag", "condvar"}
+WORD = re.compile(r"[^ \t\r]+")
+NAME = re.compile(r"[A-Za-z0-9_.-]+")
+LIMIT = re.compile(r"[1-9][0-9]{0,9}")
+# the name of a line that expands to several, and a word of a line that is another one for each party
+ROW = re.compile(r"([^[]*)\[([0-9]+)\]")
+INDEX = re.compile(r"([^[]*)\[i(?:\+([1-9]|[1-5][0-9]|6[0-4]))?\]")
 LARGEST_LIMIT = 2**32 - 1
 LONGEST_INPUT = 2**20
 MOST_NUMBERED = 2**64 - 1
@@ -62,20 +67,19 @@ class Call(NamedTuple):
 class Line(NamedTuple):
     """A line of a party: a word of a block, `call` or `try` with a call, or a word with a name.
 
-    A line `wait` of the text becomes three: `wait` with the release of its mutex, `sleep`, and the call that acquires the mutex
-    again. With a flag, they lie between `until` and `end`.
+    A line `wait` of the text becomes several: see `wait_lines`.
     """
 
     number: int
     word: str
     call: Call | None = None
     name: str = ""
-    # the value of the flag at which `until` ends
+    # the value of the flag at which `until` ends, and which `assert` wants
     value: bool = True
 
 
 class Place(NamedTuple):
-    """A place of a program: its line, the place after it, and the one after a refused try or where a block is passed.
+    """A place of a program: its line, the place after it, and the one after a refused try or a timeout, or where a block is passed.
 
     A block `if` is passed where its flag is false.
     """
@@ -86,10 +90,10 @@ class Place(NamedTuple):
 
 
 class Party(NamedTuple):
-    """A party with the number of the line that made it, its lines, and its program."""
+    """A party with the number of the first party that its line makes, its lines, and its program."""
 
     name: str
-    line: int
+    first: int
     lines: list
     is_server: bool
     program: list
@@ -116,41 +120,102 @@ class Plan(NamedTuple):
         """Whether the plan has any number of parties of some name."""
         return any(it.name.endswith("*") for it in self.parties)
 
-    def is_started(self, party):
-        """Whether a line starts the party."""
-        return any(it.word == "start" and it.name == party.name for it in self.mentions)
+    def is_started(self, name):
+        """Whether a line starts the party with this name."""
+        return any(it.word == "start" and it.name == name for it in self.mentions)
 
     def copies(self):
         """The runs of parties that one line makes and that no line names, each a part of the list of parties."""
         named = {it.name for it in self.mentions}
-        runs = itertools.groupby(enumerate(self.parties), lambda it: (it[1].line, it[1].name in named))
+        runs = itertools.groupby(enumerate(self.parties), lambda it: (it[1].first, it[1].name in named))
         numbers = [[number for number, _ in run] for (_, is_named), run in runs if not is_named]
         return [slice(it[0], it[-1] + 1) for it in numbers if len(it) > 1]
 
 
 def read_plan(text):
     """The plan of these bytes, or a fault."""
-    if len(text) > LONGEST_INPUT:
+    lines = text.decode("latin-1").removesuffix("\n").split("\n") if text else []
+    words = [(number, WORD.findall(line.partition("#")[0])) for number, line in enumerate(lines, 1)]
+    words = [] if len(text) > LONGEST_INPUT else expanded([it for it in words if it[1]])
+    if len(text) > LONGEST_INPUT or length_of(words) > LONGEST_INPUT:
         raise Fault("input too long")
     plan = Plan({}, [], [], [], [], [], [])
-    lines = text.split(b"\n")
-    if not lines[-1]:
-        lines.pop()
-    words = [(number, WORD.findall(line.partition(b"#")[0])) for number, line in enumerate(lines, 1)]
-    words = [(number, fields) for number, fields in words if fields]
     for number, fields in words:
         if not read_line(plan, number, fields):
             raise Fault(f"bad line {number}")
     if plan.open or not words:
         raise Fault(f"bad line {len(lines) + 1}")
+    names = {it.name for it in plan.parties}
     for mention in plan.mentions:
-        if all(it.name != mention.name for it in plan.parties):
+        if mention.name not in names:
             raise Fault(f"line {mention.number}: unknown party")
+    check_begun(plan)
     for party in plan.parties:
         party.program.extend(places(party.lines))
     for party in plan.parties:
         holds_by_place(plan, party)
     return plan
+
+
+def expanded(lines):
+    """The lines, each a number and its words, with those that are short for several expanded."""
+    found = [it for line in lines for it in rows(*line)]
+    heads = [at for at, (_, words) in enumerate(found) if words[0] in ("party", "server")]
+    parts = [found[begin:end] for begin, end in itertools.pairwise([*heads, len(found)])]
+    return turns([*found[: heads[0] if heads else None], *[it for part in parts for it in by_index(part)]])
+
+
+def rows(number, words):
+    """The lines for which a line with the name `NAME[N]` stands."""
+    row = ROW.fullmatch(words[1]) if words[0] in DECLARED and len(words) > 1 else None
+    count = number_of(row[2], MOST_COPIES) if row else 0
+    return [(number, [words[0], f"{row[1]}.{copy}", *words[2:]]) for copy in range(1, count + 1)] or [(number, words)]
+
+
+def by_index(lines):
+    """The lines of a line of parties and those below it, for each of its parties where a word has an index."""
+    (number, head), *below = lines
+    count = number_of(head[2], MOST_COPIES) if len(head) == 3 else 0
+    if not count or not any(INDEX.fullmatch(word) for _, words in below for word in words):
+        return lines
+    found = []
+    for copy in range(count):
+        found.append((number, [head[0], f"{head[1]}.{copy + 1}"]))
+        found += [(line, [indexed(it, copy, count) for it in words]) for line, words in below]
+    return found
+
+
+def indexed(word, copy, count):
+    """The word in the lines of a party with so many others before it, of so many in all."""
+    found = INDEX.fullmatch(word)
+    return f"{found[1]}.{(copy + int(found[2] or 0)) % count + 1}" if found else word
+
+
+def turns(lines):
+    """The lines, where those of a block `repeat N` come N times."""
+    found, opened = [], []
+    for line in lines:
+        words = line[1]
+        if words[0] in BLOCKS:
+            opened.append((number_of(words[1], MOST_COPIES) if words[0] == "repeat" and len(words) == 2 else 0, len(found)))
+        count, at = opened.pop() if words == ["end"] and opened else (0, 0)
+        if count < 2:
+            found.append(line)
+            continue
+        found[at:] = found[at + 1 :] * count
+        if length_of(found) > LONGEST_INPUT:
+            break
+    return found
+
+
+def length_of(lines):
+    """The length of a text of these lines in bytes."""
+    return len("\n".join(" ".join(words) for _, words in lines))
+
+
+def number_of(word, most):
+    """The number that a word is, from 1 to `most` and without leading zeros, or 0."""
+    return int(word) if LIMIT.fullmatch(word) and int(word) <= most else 0
 
 
 def check_states(plan):
@@ -159,139 +224,127 @@ def check_states(plan):
         raise Fault("too many states")
 
 
-def read_line(plan, number, fields):
+def check_begun(plan):
+    """Makes a fault of a plan with a party that never begins: a line starts it, but none of a party that begins."""
+    starts = {it.name: it.number for it in plan.mentions if it.word == "start"}
+    lines = {it.name: it.lines for it in plan.parties}
+    begun = [it for it in lines if it not in starts]
+    for name in begun:
+        begun += [it.name for it in lines[name] if it.word == "start"]
+    for name in lines if len(begun) < len(lines) else []:
+        if name not in begun:
+            raise Fault(f"line {starts[name]}: never begins")
+
+
+def read_line(plan, number, words):
     """Adds what the line says to the plan, and returns whether it is in the format."""
-    word, *rest = [it.decode("latin-1") for it in fields]
-    if word in ("repeat", "either", "else", "or", "end"):
-        return not rest and plan.parties != [] and read_block(plan, number, word)
-    if word == "try":
-        is_right = rest[:1] and rest[0] in TRIED and len(plan.open) < MOST_OPEN
-        plan.open.append("try")
-        return is_right and read_call(plan, Line(number, "try"), rest)
-    if not rest or not NAME.fullmatch(fields[1]):
-        return False
-    if word in CALLS:
-        return read_call(plan, Line(number, "call"), [word, *rest])
-    if word == "wait":
-        return read_wait(plan, number, rest)
-    name, *rest = rest
-    if word in NAMES_FLAG | NAMES_CONDVAR | NAMES_PARTY:
-        return not rest and plan.parties != [] and read_signal(plan, Line(number, word, name=name))
-    if plan.open:
-        return False
-    if word in ("party", "server"):
-        return read_parties(plan, Line(number, word, name=name), rest)
-    if word in ("flag", "condvar"):
-        return read_name(plan.flags if word == "flag" else plan.condvars, name, rest)
-    lock = read_lock(word, rest)
-    if lock is None or name in plan.locks:
-        return False
-    plan.locks[name] = lock
-    return True
+    lines = lines_of(plan, number, words)
+    if lines:
+        return plan.parties != [] and all(add_line(plan, it) for it in lines)
+    return not plan.open and len(words) > 1 and NAME.fullmatch(words[1]) is not None and read_names(plan, *words)
 
 
-def read_name(names, name, rest):
-    """Adds the name of a line, and returns whether it is new and the last field."""
-    is_right = not rest and name not in names
-    names.append(name)
-    return is_right
+def lines_of(plan, number, words):
+    """The lines of a party which these words of a line say, or none where they say no such line."""
+    match words:
+        case [word] if word in BLOCK_WORDS:
+            return [Line(number, word)]
+        case ["try", word, lock] if word in TRIED and lock in plan.locks:
+            return [Line(number, "try", Call(word, lock))]
+        case [word, lock] if word in CALLS and lock in plan.locks:
+            return [Line(number, "call", Call(word, lock))]
+        case [("start" | "join") as word, name] if NAME.fullmatch(name):
+            return [Line(number, word, name=name)]
+        case [("set" | "clear" | "if") as word, name] if name in plan.flags:
+            return [Line(number, word, name=name)]
+        case [("notify_one" | "notify_all") as word, name] if name in plan.condvars:
+            return [Line(number, word, name=name)]
+        case ["assert", *test] | ["repeat", "until", *test]:
+            return test_lines(plan, number, "assert" if words[0] == "assert" else "until", test)
+        case ["wait", condvar, mutex, *rest] if condvar in plan.condvars and mutex in plan.locks:
+            return wait_lines(plan, number, condvar, mutex, rest)
+    return []
 
 
-def read_signal(plan, line):
-    """Adds a line with a word and a name, and returns whether it is right."""
-    if line.word in NAMES_FLAG and line.name not in plan.flags or line.word in NAMES_CONDVAR and line.name not in plan.condvars:
-        return False
-    if line.word == "start":
-        has_start = any(it.word == "start" and it.name == line.name for it in plan.mentions)
-        if has_start or "repeat" in plan.open or len(plan.called) > 1:
-            return False
-    if line.word in NAMES_PARTY:
-        plan.mentions.append(line)
-    if line.word == "if":
-        if len(plan.open) == MOST_OPEN:
-            return False
-        plan.open.append("if")
-    add_line(plan, line)
-    return True
+def test_lines(plan, number, word, test):
+    """The line with this word and this test, `FLAG` or `not FLAG`, or none where it is no test."""
+    is_not = test[:1] == ["not"] and len(test) == 2
+    return [Line(number, word, name=test[-1], value=not is_not)] if len(test) == 1 + is_not and test[-1] in plan.flags else []
 
 
-def read_wait(plan, number, fields):
-    """Adds the lines of a wait with these fields after its word, and returns whether it is right."""
-    condvar, mutex, until = fields[0], "".join(fields[1:2]), fields[2:]
-    if condvar not in plan.condvars or mutex not in plan.locks or plan.parties == []:
-        return False
-    release = Line(number, "wait", Call("unlock", mutex), condvar)
-    lines = [release, Line(number, "sleep", name=condvar), Line(number, "call", Call("lock", mutex))]
-    if until:
-        is_not = until[1:2] == ["not"] and len(until) == 3
-        if until[0] != "until" or len(until) != 2 + is_not or until[-1] not in plan.flags or len(plan.open) == MOST_OPEN:
-            return False
-        lines = [Line(number, "until", name=until[-1], value=not is_not), *lines, Line(number, "end")]
-    for line in lines:
-        add_line(plan, line)
-    return True
+def wait_lines(plan, number, condvar, mutex, rest):
+    """The lines of a wait, or none where the words after its mutex are wrong.
 
-
-def read_block(plan, number, word):
-    """Adds a line of a block, and returns whether a block that fits is open."""
-    if word in OPENS and len(plan.open) < MOST_OPEN:
-        plan.open.append(OPENS[word])
-    elif plan.open and word == "end" and plan.open[-1] in ENDS:
-        plan.open.pop()
-    elif plan.open and (word, plan.open[-1]) in TURNS:
-        plan.open[-1] = TURNS[word, plan.open[-1]]
-    else:
-        return False
-    add_line(plan, Line(number, word))
-    return True
-
-
-def read_call(plan, line, fields):
-    """Adds a line with the call of these fields, and returns whether it is right."""
-    if len(fields) != 2 or not plan.parties or fields[1] not in plan.locks:
-        return False
-    add_line(plan, line._replace(call=Call(*fields)))
-    return True
+    They are `wait` with the release of the mutex, `sleep`, and the call that acquires the mutex again. With a flag, they lie between
+    `until` and `end`. A `timed sleep` begins a block of two parts: the first for a party that is woken, the second after a timeout.
+    """
+    is_timed = rest[-2:] == ["or", "timeout"]
+    rest = rest[:-2] if is_timed else rest
+    until = test_lines(plan, number, "until", rest[1:]) if rest[:1] == ["until"] else []
+    if rest and not until:
+        return []
+    release, lock = Line(number, "wait", Call("unlock", mutex), condvar), Line(number, "call", Call("lock", mutex))
+    sleep = Line(number, "timed sleep" if is_timed else "sleep", name=condvar)
+    second, leave, end = (Line(number, it) for it in ("else", "leave", "end"))
+    if not until:
+        return [release, sleep, *([second, end] if is_timed else []), lock]
+    return [*until, release, sleep, lock, *([second, lock, leave, end] if is_timed else []), end]
 
 
 def add_line(plan, line):
+    """Adds a line to the parties whose lines come here, and returns whether it fits them and the open blocks."""
+    word, inner, is_in_loop = line.word, "".join(plan.open[-1:]), any(it in LOOPS for it in plan.open)
+    if word == "start" and (plan.is_started(line.name) or is_in_loop or len(plan.called) > 1):
+        return False
+    if word == "leave" and not is_in_loop or word == "return" and not inner:
+        return False
+    if word in BEGINS:
+        plan.open.append(word)
+    elif word == "end" and inner in ENDS:
+        plan.open.pop()
+    elif word in PARTS:
+        if (word, inner) not in TURNS:
+            return False
+        plan.open[-1] = TURNS[word, inner]
+    if word in ("start", "join"):
+        plan.mentions.append(line)
     for party in plan.called:
         party.lines.append(line)
+    return len(plan.open) <= MOST_OPEN
 
 
-def read_parties(plan, line, rest):
+def read_names(plan, word, name, *rest):
+    """Adds the lock, flag, condition variable or parties of a line with this word and this name, and returns whether it is right."""
+    if word in ("party", "server"):
+        return read_parties(plan, word == "server", name, rest)
+    if word in ("flag", "condvar"):
+        names = plan.flags if word == "flag" else plan.condvars
+        names.append(name)
+        return not rest and names.count(name) == 1
+    has_bar = word == "rwlock" and rest[1:] == ("bar",)
+    limit = 1 if word == "mutex" else number_of("".join(rest[:1]), LARGEST_LIMIT)
+    is_right = word in ("mutex", "rwlock", "reentrant") and len(rest) == (word != "mutex") + has_bar and limit and name not in plan.locks
+    plan.locks[name] = Lock(word, limit, has_bar)
+    return is_right
+
+
+def read_parties(plan, is_server, name, rest):
     """Adds a party, or as many copies of one as the field after its name says, and returns whether the line is right.
 
     A `*` makes any number of parties, of which the plan has one.
     """
-    if not rest:
-        names = [line.name]
-    elif rest == ["*"]:
-        names = [f"{line.name}.*"]
-    elif len(rest) == 1 and LIMIT.fullmatch(rest[0].encode("latin-1")) and int(rest[0]) <= MOST_COPIES:
-        names = [f"{line.name}.{copy}" for copy in range(1, int(rest[0]) + 1)]
-    else:
+    count = number_of("".join(rest), MOST_COPIES)
+    names = [f"{name}.{copy}" for copy in range(1, count + 1)] if rest else [name]
+    names = [f"{name}.*"] if rest == ("*",) else names
+    if len(rest) > 1 or not names or any(it.name in names for it in plan.parties):
         return False
-    if any(it.name in names for it in plan.parties):
-        return False
-    plan.called[:] = [Party(it, line.number, [], line.word == "server", []) for it in names]
+    plan.called[:] = [Party(it, len(plan.parties), [], is_server, []) for it in names]
     plan.parties.extend(plan.called)
     return True
 
 
-def read_lock(word, rest):
-    """The lock of a line, or None where its word or the fields after its name are not in the format."""
-    if word == "mutex" and not rest:
-        return Lock(word, 1, False)
-    has_bar = word == "rwlock" and rest[1:] == ["bar"]
-    if word not in ("rwlock", "reentrant") or len(rest) != 1 + has_bar or not LIMIT.fullmatch(rest[0].encode("latin-1")):
-        return None
-    limit = int(rest[0])
-    return Lock(word, limit, has_bar) if limit <= LARGEST_LIMIT else None
-
-
 def places(lines):
-    """The program of these lines. Each line is a place, but for `else`, `end`, and an `or` that ends the last choice of its branch."""
+    """The program of these lines. Each line is a place, but for jumps, `else`, `end`, and an `or` that ends the last choice of its branch."""
     steps = [it for it in range(len(lines)) if is_step(lines, it)]
     number = {it: at for at, it in enumerate(steps)} | {len(lines): len(steps)}
     program = []
@@ -308,12 +361,12 @@ def places(lines):
 def is_step(lines, it):
     """Whether a party makes a step at the line: at an `or` it does where another `or` of the block follows."""
     word = lines[it].word
-    return word not in ("else", "or", "end") or word == "or" and lines[boundary(lines, it)].word == "or"
+    return word not in PARTS | JUMPS or word == "or" and lines[boundary(lines, it)].word == "or"
 
 
 def has_two_ways(line):
     """Whether a party goes on from the line in one of two ways."""
-    return line.word in BEGINS or line.word == "or"
+    return line.word in BEGINS - {"forever"} or line.word == "or"
 
 
 def boundary(lines, it):
@@ -321,7 +374,7 @@ def boundary(lines, it):
     depth = 0
     for at in range(it + 1, len(lines)):
         word = lines[at].word
-        if depth == 0 and word in ("else", "or", "end"):
+        if depth == 0 and word in PARTS:
             return at
         depth += (word in BEGINS) - (word == "end")
     raise AssertionError("a block is not ended")
@@ -329,32 +382,38 @@ def boundary(lines, it):
 
 def land(lines, at):
     """The line of the step that comes next where a party comes before a line."""
-    if at == len(lines) or lines[at].word not in ("else", "or", "end"):
+    word = lines[at].word if at < len(lines) else "return"
+    if word not in PARTS | JUMPS:
         return at
-    if lines[at].word == "end":
-        begin = beginning(lines, at)
-        return begin if lines[begin].word in LOOPS else land(lines, at + 1)
-    end = at
-    while lines[end].word != "end":
-        end = boundary(lines, end)
-    return land(lines, end + 1)
+    if word == "return":
+        return len(lines)
+    begin = beginning(lines, at)
+    while word == "leave" and lines[begin].word not in LOOPS:
+        begin = beginning(lines, begin)
+    if word == "end" and lines[begin].word in LOOPS:
+        return begin
+    while lines[at := boundary(lines, begin)].word != "end":
+        begin = at
+    return land(lines, at + 1)
 
 
-def beginning(lines, end):
-    """The line that begins the block with this end."""
+def beginning(lines, at):
+    """The line that begins the block which the line ends or lies in."""
     depth = 0
-    for at in range(end - 1, -1, -1):
+    for at in range(at - 1, -1, -1):
         word = lines[at].word
         if depth == 0 and word in BEGINS:
             return at
         depth += (word == "end") - (word in BEGINS)
-    raise AssertionError("an end has no beginning")
+    raise AssertionError("no block is open at the line")
 
 
 def holds_by_place(plan, party):
     """What the party holds at each place, the end included, where that is a function of the place; else a fault."""
     known = {0: ()}
     for at, place in enumerate(party.program):
+        if at not in known:
+            raise Fault(f"line {place.line.number}: never reached")
         holds, call = known[at], place.line.call
         why = call_fault(plan, holds, call) if call else None
         if place.line.word == "wait" and plan.locks[call.lock].kind != "mutex":
@@ -392,7 +451,7 @@ def points(plan, party):
     """How many states the party may have: before its start, at each place and the end, and announced on the way to a write."""
     known = holds_by_place(plan, party)
     announced = [it for it, place in enumerate(party.program) if place.line.word == "call" and announces_itself(plan, known[it], place.line.call)]
-    return plan.is_started(party) + len(party.program) + 1 + len(announced)
+    return plan.is_started(party.name) + len(party.program) + 1 + len(announced)
 
 
 def announces_itself(plan, holds, call):

@@ -1,5 +1,6 @@
 """Random plans: the same number makes the same plan on every machine."""
 import random
+import re
 from typing import NamedTuple
 
 # how many calls a party has at most, for 1 to 5 parties, so that a plan has some thousands of worlds at most
@@ -22,35 +23,48 @@ TRIED = {"lock", "read", "write", "upgradable_read", "upgrade"}
 # texts and lines with which a plan may become wrong
 SPOILS = [
     "", " ", "\n", "x", "0", "\r", "\u00e9", " bar", "4294967296", "lock0", "party p1\n", "server p 2\n", "mutex lock0\n",
-    "end\n", " not", " until flag0", "flag flag0\n", "condvar cond0\n", "start p1\n",
+    "end\n", " not", " until flag0", "flag flag0\n", "condvar cond0\n", "start p1\n", " or timeout", "[i]", "[i+1]", "[2]", " 2",
+    "repeat 2\n", "leave\n", "return\n",
 ]
-STRAY_BLOCKS = ["repeat", "either", "else", "or", "end"]
-STRAY_SIGNALS = ["set flag0", "if flag0", "wait cond0 lock0", "start p1", "join p9", "notify_all cond0"]
+STRAY_BLOCKS = ["repeat", "either", "else", "or", "end", "forever", "repeat 2", "leave", "return"]
+STRAY_SIGNALS = [
+    "set flag0", "if flag0", "wait cond0 lock0", "start p1", "join p9", "notify_all cond0", "assert flag0", "repeat until flag0",
+    "wait cond0 lock0 until flag0 or timeout",
+]
 ACQUISITIONS = [("read", "shared"), ("read", "shared"), ("write", "exclusive"), ("upgradable_read", "upgradable")]
 ANY_CALL = ["lock", "announce", *(word for word, _ in ACQUISITIONS)]
 ANY_CALL += [*(word for those in RELEASES.values() for word in those.values()), "upgrade", "downgrade"]
 
 
 def random_plan(number):
-    """The bytes of a plan. Half of the plans have signals. One in six has a line that may be wrong."""
+    """The bytes of a plan. Half of the plans have signals. One in six has a line that may be wrong.
+
+    Where parties have copies, some plans have a row with a lock for each copy, which all or some of these parties name by index.
+    """
     rng = random.Random(number)
     locks = [f"lock{it}" for it in range(rng.randint(1, 3))]
     kinds = {it: rng.choice(["mutex", "rwlock", "rwlock", "rwlock", "reentrant"]) for it in locks}
     limits = {it: rng.randint(1, 3) for it in locks}
     lines = [lock_line(rng, it, kinds[it], limits[it]) for it in locks]
-    has_blocks = rng.random() < 1 / 3
+    has_blocks = rng.random() < 1 / 2
     heads = random_heads(rng)
     total = sum(len(names) for _, names in heads)
     most = (MOST_WITH_BLOCKS if has_blocks else MOST_CALLS)[total - 1]
+    most_copies = max(len(names) for _, names in heads)
+    has_row = most_copies > 1 and rng.random() < 0.5
+    if has_row:
+        most -= most // 4
+        lines.append(row_line(rng, most_copies, kinds, limits))
     signals = None
     if rng.random() < 1 / 2:
-        most = MOST_WITH_SIGNALS[total - 1] - has_blocks
+        most = MOST_WITH_SIGNALS[total - 1] - has_blocks - has_row
         signals = random_signals(rng, lines, kinds, heads)
     maker = Maker(rng, kinds, limits, rng.random() < 0.5, has_blocks, signals)
     is_chain = signals and signals.condvars and len(heads) == total and rng.random() < 0.5
     for at, (head, names) in enumerate(heads):
         lines += [head, *chain_lines(rng, signals, at)] if is_chain else [head]
-        lines += maker.party_lines(rng.randint(0, most // 2 if is_chain else most), names)
+        found = maker.party_lines(rng.randint(0, most // 2 if is_chain else most), names)
+        lines += by_index(rng, found) if has_row and (len(names) > 1 or rng.random() < 0.05) else found
     text = "\n".join(with_faults(rng, lines, locks, has_blocks)) + "\n" * rng.randint(0, 1)
     return spoilt(rng, text).encode() if rng.random() < 0.06 else text.encode()
 
@@ -84,7 +98,7 @@ def chain_lines(rng, signals, number):
     signals.unstarted.clear()
     if number + 1 == len(signals.parties):
         return ["lock lock0", *[f"set {it}" for it in flags], f"notify_{rng.choice(['one', 'all'])} {condvar}", "unlock lock0"]
-    until = "".join(f" until {it}" for it in flags)
+    until = "".join(f" until {it}" for it in flags) + rng.choice(["", "", " or timeout"])
     return ["lock lock0", f"start {signals.parties[number + 1]}", f"wait {condvar} lock0{until}", "unlock lock0"]
 
 
@@ -102,6 +116,21 @@ def with_faults(rng, lines, locks, has_blocks):
     if has_blocks and rng.random() < 0.04:
         del lines[rng.randrange(len(lines))]
     return lines
+
+
+def row_line(rng, count, kinds, limits):
+    """The line of a row of so many locks, whose kinds and limits it adds."""
+    kind, limit = rng.choice(["mutex", "rwlock"]), rng.randint(1, 2)
+    for it in range(1, count + 1):
+        kinds[f"row.{it}"], limits[f"row.{it}"] = kind, limit
+    return lock_line(rng, f"row[{count}]", kind, limit)
+
+
+def by_index(rng, lines):
+    """The lines with an index in each name of a row, and in some names of parties."""
+    names = rng.choice(["row", "row", "row|p[0-9]"])
+    index = lambda it: f"{it[1]}[i]" if it[2] == "1" else f"{it[1]}[i+{int(it[2]) - 1}]"
+    return [re.sub(rf"({names})\.([0-9])$", index, it) for it in lines]
 
 
 def lock_line(rng, name, kind, limit):
@@ -132,6 +161,8 @@ class Maker(NamedTuple):
     def party_lines(self, most, names):
         """The lines of a line of parties with these names, with about as many calls as `most`."""
         found, held = self.lines([], most)
+        while len(found) << found.count("repeat 2") > 3 * most:
+            found, held = self.lines([], most)
         if self.signals and len(names) == 1:
             for name in sorted(self.signals.unstarted - {*names}):
                 if self.rng.random() < 0.7:
@@ -139,11 +170,15 @@ class Maker(NamedTuple):
                     found.insert(self.at_top(found), f"start {name}")
         if self.is_ordered or self.rng.random() < 0.7:
             found += self.releases_of(held)
+            if self.has_blocks and len(found) < 6 and self.rng.random() < 0.3:
+                found += ["forever", *self.part([]), "end"]
         return found
 
     def part(self, held):
         """The lines of a part of a block: the party has the same holds after them."""
         found, own = self.lines(held, self.rng.randint(0, MOST_IN_PART))
+        while len(found) > 3 * MOST_IN_PART:
+            found, own = self.lines(held, self.rng.randint(0, MOST_IN_PART))
         return found + self.releases_of(own)
 
     def lines(self, held, most):
@@ -173,7 +208,7 @@ class Maker(NamedTuple):
         """A place in the lines at which no loop is open."""
         depths = [0]
         for line in lines:
-            depths.append(depths[-1] + (line.split()[0] in ("repeat", "either", "try", "if")) - (line == "end"))
+            depths.append(depths[-1] + (line.split()[0] in ("repeat", "forever", "either", "try", "if")) - (line == "end"))
         return self.rng.choice([at for at, depth in enumerate(depths) if depth == 0])
 
     def signal(self, held):
@@ -182,21 +217,22 @@ class Maker(NamedTuple):
         found = [f"join {rng.choice(signals.parties)}"] if rng.random() < 0.3 else []
         flag = rng.choice(signals.flags) if signals.flags else None
         if flag:
-            found += [f"{rng.choice(['set', 'set', 'clear'])} {flag}"]
+            found += [f"{rng.choice(['set', 'set', 'set', 'clear', 'assert', 'assert not'])} {flag}"]
         if signals.condvars:
             condvar = rng.choice(signals.condvars)
             found += [f"notify_{rng.choice(['one', 'all'])} {condvar}"]
             until = f" until {rng.choice(['', '', 'not '])}{flag}" if flag and rng.random() < 0.7 else ""
+            until += rng.choice(["", "", " or timeout"])
             found += 2 * [f"wait {condvar} {lock}{until}" for lock, mode in held if self.kinds[lock] == "mutex" or rng.random() < 0.02]
         return [rng.choice(found)] if found else [f"join {rng.choice(signals.parties)}"]
 
     def block(self, held):
         """A block of a party with these holds, which has the same ones after it."""
-        word = self.rng.choice(["repeat", "either", "try"])
+        word = self.rng.choice(["repeat", "repeat", "either", "try"])
+        if word == "repeat":
+            return self.loop(held)
         if self.signals and self.signals.flags and self.rng.random() < 0.5:
             return [f"if {self.rng.choice(self.signals.flags)}", *self.part(held), "else", *self.part(held), "end"]
-        if word == "repeat":
-            return ["repeat", *self.part(held), "end"]
         if word == "either":
             parts = [["or", *self.part(held)] for _ in range(self.rng.randint(1, 3))]
             return ["either", *self.part(held), *[line for part in parts for line in part], "end"]
@@ -207,6 +243,22 @@ class Maker(NamedTuple):
         undone = "downgrade_to_upgradable" if given else RELEASES[self.kinds[lock]][taken]
         after = [it for it in held if it != (lock, given)] + [(lock, taken)]
         return [f"try {word} {lock}", *self.part(after), f"{undone} {lock}", "else", *self.part(held), "end"]
+
+    def loop(self, held):
+        """A loop of a party with these holds, or a block that is made twice."""
+        flags = self.signals.flags if self.signals else []
+        tests = [f"repeat until {self.rng.choice(['', 'not '])}{it}" for it in flags]
+        head = self.rng.choice(["repeat", "forever", "repeat 2", "repeat 2", *2 * tests])
+        ways_out = self.way_out(held, head == "forever") if head == "forever" or head != "repeat 2" and self.rng.random() < 0.6 else []
+        return [head, *self.part(held), *ways_out, *(self.part(held) if self.rng.random() < 0.3 else []), "end"]
+
+    def way_out(self, held, is_only):
+        """A branch of a party with these holds in which it may go out of a loop, or end."""
+        rng = self.rng
+        jump = ["leave"] if rng.random() < (0.8 if is_only else 0.4) else [*self.releases_of(held), "return"]
+        head, between = rng.choice([("either", "or"), *[(f"if {it}", "else") for it in (self.signals.flags if self.signals else [])]])
+        found = [head, *jump, between, "end"] if rng.random() < 0.5 else [head, between, *jump, "end"]
+        return ["repeat 2", *found, "end"] if rng.random() < 0.2 else found
 
     def releases_of(self, held):
         return [f"{RELEASES[self.kinds[lock]][mode]} {lock}" for lock, mode in reversed(held)]

@@ -33,7 +33,7 @@ impl fmt::Display for CallFault {
             CallFault::AlreadyAnnounced => "announced already",
             CallFault::NotAnnounced => "not announced",
             CallFault::HoldsDiffer => "holds differ",
-            CallFault::Unreached => "unreached",
+            CallFault::Unreached => "never reached",
         })
     }
 }

@@ -14,7 +14,7 @@ pub enum LockOrder {
 pub enum Obstacle {
     /// A wait that is against the other waits.
     Waits(HeldWait),
-    /// The act at this place of this party is an upgrade, an announcement or a signal.
+    /// The act at this place of this party is an upgrade, an announcement, a signal or a timed sleep.
     Uncovered(usize, usize),
     /// The party ends while it holds this lock.
     Ends(usize, usize),

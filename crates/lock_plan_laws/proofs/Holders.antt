@@ -1,5 +1,5 @@
 -- A chain of holders that wait would rise for ever.
-use Rattle.std.proofs.Common.{◌≡◌, ℕ, zero, suc, ◌+◌, ◌<◌, ◌≤◌, true, arith}
+use Rattle.std.proofs.Common.{◌≡◌, ℕ, zero, suc, ◌+◌, ◌≤◌, true, arith}
 use Rattle.lock_plan_laws.specs.Holders.{Moment, IsInOrder, SomeHolderDoesNotWait}
 
 module _ (rank : ℕ → ℕ) (top : ℕ) (m : Moment) (o : IsInOrder rank top m)

@@ -1,6 +1,5 @@
 -- Programs that keep an order are in it, for any number of parties.
-use Rattle.std.proofs.Common.{◌≡◌, ℕ, zero, suc, ◌+◌, ◌<◌, inl, inr, Bool, true, false, not, ◌&&◌, List, [], ◌∷◌, length, get_or, map, Result, Ok, refl, ap, sym, ◌∙◌, subst, arith}
-use Rattle.std.specs.List.{list_all}
+use Rattle.std.proofs.Common.{◌≡◌, ℕ, zero, suc, ◌+◌, ◌<◌, inl, inr, Bool, true, false, not, ◌&&◌, List, [], ◌∷◌, length, get_or, Result, Ok, refl, ap, sym, ◌∙◌, subst, arith}
 use Rattle.std.proofs.lemmas.Bool.{and_parts, cases_eq}
 use Rattle.std.proofs.lemmas.List.{get_or-map, length-map}
 use Rattle.lock_base.specs.Kind.{is_reentrant}
@@ -10,7 +9,7 @@ use Rattle.lock_plan.specs.Checks.{fit_machines, fits_machine}
 use Rattle.lock_plan.specs.Known.{Known, PlaceFault, known_of}
 use Rattle.lock_plan.specs.Worlds.{no_lock}
 use Rattle.lock_plan_laws.specs.LockOrders.{AreKept, AreKnown, EachRunsOneOf, IsKept, are_covered, is_covered, rank_in}
-use Rattle.lock_plan_laws.specs.OrderChecks.{is_ordered, keeps_known}
+use Rattle.lock_plan_laws.specs.OrderChecks.{keeps_known}
 use Rattle.lock_plan_laws.specs.Ranks.{IsOrdered, IsOrderedPlan}
 use Rattle.lock_plan_laws.proofs.NoStop.{never_stop}
 use Rattle.lock_plan_laws.proofs.OrderChecks.{ordered_is}

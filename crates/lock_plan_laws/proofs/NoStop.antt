@@ -1,6 +1,6 @@
 -- In a world of ordered programs some party has a step, or none is due. Of the parties that wait, take one that waits for the
 -- greatest rank: a holder of that lock does not wait.
-use Rattle.std.proofs.Common.{◌≡◌, ◌≢◌, ℕ, zero, suc, ◌+◌, ◌<◌, ◌≤◌, ◌⊎◌, inl, inr, Bool, true, false, not, ◌&&◌, ◌||◌, if◌then◌else◌, List, [], ◌∷◌, length, map, get_or, Option, Some, None, Ok, refl, ap, sym, ◌∙◌, subst, arith, IsTrue, eqb-true}
+use Rattle.std.proofs.Common.{◌≡◌, ℕ, zero, suc, ◌+◌, ◌<◌, ◌≤◌, ◌⊎◌, inl, inr, Bool, true, false, not, ◌&&◌, ◌||◌, if◌then◌else◌, List, [], ◌∷◌, length, map, get_or, Option, Some, None, Ok, refl, ap, sym, ◌∙◌, subst, arith, IsTrue}
 use Rattle.std.specs.Prelude.{◌==◌, is_some, nat_lt}
 use Rattle.std.proofs.lemmas.Bool.{false≢true, and_parts, cases_eq, cases_lt, eq-eqb, lt-ltb, ltb-true}
 use Rattle.std.proofs.lemmas.List.{get_or-map, get_or_past, length-map}
@@ -8,16 +8,15 @@ use Rattle.lock_base.specs.declared.machine.kind.Kind.{Kind}
 use Rattle.lock_base.specs.declared.machine.kind.Kind.TheVariants as kind
 use Rattle.lock_base.specs.declared.machine.mode.Mode.{Mode}
 use Rattle.lock_base.specs.declared.machine.mode.Mode.TheVariants.{Shared, Exclusive, Upgradable}
-use Rattle.lock_base.specs.declared.machine.mode_step.ModeStep.{ModeStep}
 use Rattle.lock_base.specs.declared.machine.mode_step.ModeStep.TheVariants.{Acquire, Release, Change}
 use Rattle.lock_base.specs.declared.machine.bag.Bag.{Bag}
 use Rattle.lock_base.specs.declared.machine.lock_step.LockStep.{LockStep}
 use Rattle.lock_base.specs.declared.machine.lock_step.LockStep.TheVariants as lock_step
 use Rattle.lock_base.specs.declared.machine.hold.Hold.{Hold}
-use Rattle.lock_base.specs.Modes.{tokens, readers, admits, is_exclusive, may_become}
+use Rattle.lock_base.specs.Modes.{tokens, readers, admits, is_exclusive}
 use Rattle.lock_base.specs.Operation.{Operation}
 use Rattle.lock_base.specs.Kind.{is_reentrant, is_rwlock}
-use Rattle.lock_base.specs.Bar.{bar_lets_pass, passes_bar, has_announced}
+use Rattle.lock_base.specs.Bar.{bar_lets_pass}
 use Rattle.lock_base.specs.Holds.{no_hold}
 use Rattle.lock_plan.specs.declared.call.PlanCall.{PlanCall}
 use Rattle.lock_plan.specs.declared.fault.CallFault.{CallFault}
@@ -26,17 +25,16 @@ use Rattle.lock_plan.specs.declared.lock.PlanLock.{PlanLock}
 use Rattle.lock_plan.specs.declared.program.Act.{Act}
 use Rattle.lock_plan.specs.declared.program.Act.TheVariants.{Call, Try, Choose, Signal}
 use Rattle.lock_plan.specs.declared.program.Place.{Place}
-use Rattle.lock_plan.specs.declared.turn.Turn.{Turn}
-use Rattle.lock_plan.specs.declared.turn.Turn.TheVariants.{Goes, Announces, Waits, Refused}
+use Rattle.lock_plan.specs.declared.turn.Turn.TheVariants.{Goes, Announces, Waits}
 use Rattle.lock_plan.specs.Holds.{is_write, announces_itself, admits_step, turn_on}
-use Rattle.lock_plan.specs.CallFaults.{call_fault, fault_on}
+use Rattle.lock_plan.specs.CallFaults.{fault_on}
 use Rattle.lock_plan.specs.Checks.{fits_machine, fits_kind, fit_machines}
 use Rattle.lock_plan.specs.Known.{Known, known_of}
-use Rattle.lock_plan.specs.Worlds.{Stand, no_stand, no_lock, act_of, acts_of, joined, bag_on, bar_from, lock_holds, reply_to, reply_of, reply_at, turn_by, turn_of, is_server, is_due, is_refused_turn, is_step_turn, some_below, is_stuck, is_refused, is_stop, first_world}
+use Rattle.lock_plan.specs.Worlds.{Stand, no_stand, no_lock, act_of, acts_of, bag_on, bar_from, lock_holds, reply_at, turn_by, turn_of, is_server, is_due, is_refused_turn, is_step_turn, some_below, is_stuck, is_refused, is_stop, first_world}
 use Rattle.lock_plan_laws.specs.Ranks.{is_ranked_step, IsOrderedPlan, OrderedPlansNeverStop, OrderedMachinesNeverStop}
 use Rattle.lock_plan_laws.proofs.Fits.{fits_by}
 use Rattle.lock_plan_laws.proofs.MachineStops.{never}
-use Rattle.lock_plan_laws.proofs.OrderedStands.{IsOrderedStand, IsFine, HasAnnounced, fine}
+use Rattle.lock_plan_laws.proofs.OrderedStands.{IsFine, fine}
 use Rattle.lock_plan_laws.proofs.OrderedWorlds.{AreOrdered, steps_ordered, starts_ordered}
 
 -- Numbers below a number

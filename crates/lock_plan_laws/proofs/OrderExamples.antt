@@ -1,5 +1,5 @@
 -- The examples of the order of ranks.
-use Rattle.std.proofs.Common.{◌≡◌, ℕ, zero, suc, ◌<◌, Bool, false, List, [], ◌∷◌, length, get_or, replicate, refl, sym, subst, arith}
+use Rattle.std.proofs.Common.{◌≡◌, ℕ, zero, suc, ◌<◌, false, [], length, get_or, replicate, refl, sym, subst, arith}
 use Rattle.lock_base.specs.Kind.{is_reentrant}
 use Rattle.lock_plan.specs.Worlds.{no_lock}
 use Rattle.lock_plan_laws.specs.Ranks.{IsOrdered}

@@ -1,25 +1,20 @@
 -- A party of an ordered program, at any of its places.
-use Rattle.std.proofs.Common.{◌≡◌, ℕ, zero, suc, ◌+◌, ◌<◌, ◌⊎◌, inl, inr, Bool, true, false, not, if◌then◌else◌, List, [], ◌∷◌, length, map, get_or, set, Option, Some, None, refl, ap, sym, ◌∙◌, subst, arith}
-use Rattle.std.specs.Prelude.{◌==◌, is_some}
-use Rattle.std.proofs.lemmas.Bool.{false≢true, cases_eq}
-use Rattle.std.proofs.lemmas.List.{get_or-set_same, get_or-set_other}
+use Rattle.std.proofs.Common.{◌≡◌, ℕ, zero, suc, ◌<◌, ◌⊎◌, inl, inr, true, false, List, [], ◌∷◌, get_or, set, Some, None, refl, ap, sym, ◌∙◌, subst}
+use Rattle.std.proofs.lemmas.Bool.{false≢true}
 use Rattle.lock_base.specs.declared.machine.mode.Mode.{Mode}
 use Rattle.lock_base.specs.declared.machine.mode_step.ModeStep.TheVariants.{Acquire}
-use Rattle.lock_base.specs.declared.machine.lock_step.LockStep.{LockStep}
 use Rattle.lock_base.specs.declared.machine.lock_step.LockStep.TheVariants as lock_step
 use Rattle.lock_base.specs.declared.machine.hold.Hold.{Hold}
 use Rattle.lock_base.specs.Modes.{tokens}
 use Rattle.lock_base.specs.Holds.{no_hold, hold_after}
 use Rattle.lock_plan.specs.declared.call.PlanCall.{PlanCall}
 use Rattle.lock_plan.specs.declared.lock.PlanLock.{PlanLock}
-use Rattle.lock_plan.specs.declared.program.Act.{Act}
-use Rattle.lock_plan.specs.declared.program.Act.TheVariants.{Call, Try, Choose, Signal}
+use Rattle.lock_plan.specs.declared.program.Act.TheVariants.{Call, Signal}
 use Rattle.lock_plan.specs.declared.program.Signal.{Signal as PlanSignal}
-use Rattle.lock_plan.specs.declared.program.Place.{Place}
 use Rattle.lock_plan.specs.Holds.{is_write}
 use Rattle.lock_plan.specs.CallFaults.{call_fault}
 use Rattle.lock_plan.specs.Known.{Known, known_at}
-use Rattle.lock_plan.specs.Worlds.{Stand, act_in, act_of, holds_after}
+use Rattle.lock_plan.specs.Worlds.{Stand, act_in, act_of}
 use Rattle.lock_plan_laws.specs.Ranks.{is_ranked_step, KeepsOrder}
 use Rattle.lock_plan_laws.proofs.KnownStands.{IsAhead, IsKnownStand, no_fault}
 

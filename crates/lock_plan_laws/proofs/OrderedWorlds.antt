@@ -1,7 +1,7 @@
 -- Each party of a world of ordered programs is ordered.
-use Rattle.std.proofs.Common.{◌≡◌, ℕ, zero, suc, ◌+◌, ◌<◌, ◌≤◌, ◌⊎◌, inl, inr, Bool, true, false, not, ◌&&◌, if◌then◌else◌, List, [], ◌∷◌, length, map, get_or, set, Option, Some, None, refl, ap, sym, ◌∙◌, subst, arith}
+use Rattle.std.proofs.Common.{◌≡◌, ℕ, suc, ◌<◌, ◌≤◌, ◌⊎◌, inl, inr, Bool, true, false, not, ◌&&◌, if◌then◌else◌, List, [], ◌∷◌, length, map, get_or, set, Option, Some, None, refl, ap, sym, ◌∙◌, subst, arith}
 use Rattle.std.specs.Prelude.{◌==◌, is_some}
-use Rattle.std.proofs.lemmas.Bool.{false≢true, cases_eq, cases_lt}
+use Rattle.std.proofs.lemmas.Bool.{cases_eq, cases_lt}
 use Rattle.std.proofs.lemmas.List.{get_or-set_same, get_or-set_other, get_or-map, get_or_past, length-set, length-map}
 use Rattle.lock_base.specs.declared.machine.lock_step.LockStep.{LockStep}
 use Rattle.lock_base.specs.declared.machine.lock_step.LockStep.TheVariants as lock_step
@@ -22,7 +22,7 @@ use Rattle.lock_plan.specs.Worlds.{Stand, no_stand, no_lock, act_of, acts_of, ne
 use Rattle.lock_plan.proofs.Ways.{only_some}
 use Rattle.lock_plan_laws.specs.Ranks.{IsOrdered}
 use Rattle.lock_plan_laws.proofs.KnownStands.{known_gone, known_announced, known_passed, known_chosen, known_first}
-use Rattle.lock_plan_laws.proofs.OrderedStands.{IsOrderedStand, IsFine, fine}
+use Rattle.lock_plan_laws.proofs.OrderedStands.{IsOrderedStand, fine}
 
 chosen : (l a b : Bool) → (if l then Goes else (if a && b then Announces else Waits)) ≡ Announces → a ≡ true
 chosen true a b e = cc

@@ -1,5 +1,5 @@
 -- The rows that an act moves keep what they hold, and scene and world stay tied.
-use Rattle.std.proofs.Common.{◌≡◌, ℕ, zero, suc, ◌+◌, ◌<◌, List, [], ◌∷◌, length, map, zip, get_or, set, sum_by, Option, Some, refl, ap, sym, ◌∙◌, subst, arith}
+use Rattle.std.proofs.Common.{◌≡◌, ℕ, zero, suc, ◌+◌, ◌<◌, false, List, [], ◌∷◌, length, map, zip, get_or, set, sum_by, Option, Some, refl, ap, sym, ◌∙◌, subst, arith}
 use Rattle.lock_base.specs.declared.machine.party.PartyId.{PartyId}
 use Rattle.lock_base.specs.declared.machine.hold.Hold.{Hold}
 use Rattle.lock_plan.specs.declared.lock.PlanLock.{PlanLock}
@@ -14,7 +14,7 @@ use Rattle.lock_plan.proofs.ExchangeWalks.{rows_long}
 use Rattle.lock_plan.proofs.Moves.{moved_has}
 use Rattle.lock_plan_laws.specs.Scenes.{Scene, row_at, rows_of, scene_at, scene_moved}
 use Rattle.lock_plan_laws.specs.Bridge.{AreDistinct}
-use Rattle.lock_plan_laws.proofs.KnownStands.{IsKnownStand, known_signalled, known_restarted}
+use Rattle.lock_plan_laws.proofs.KnownStands.{IsKnownStand, known_chosen, known_signalled, known_restarted}
 use Rattle.lock_plan_laws.proofs.Ties.{IsLockTied, IsTied, tied_still}
 
 -- however a row is moved, only its place changes
@@ -30,7 +30,8 @@ at_moved x m place = grind arith
 known_moved : (locks : List PlanLock) (x : Stand) → IsKnownStand locks x → (way row : ℕ) (a : Option Act)
     → IsKnownStand locks (stand_moved x (move_of a way row (act_of x) (is_flag x.program)))
 known_moved locks x k way row a =
-    moved_has (IsKnownStand locks) x k (known_signalled locks x k) (known_restarted locks x k) a way row
+    moved_has (IsKnownStand locks) x k (known_signalled locks x k) (λ block e. known_chosen locks x k false block e)
+    (known_restarted locks x k) a way row
 
 -- an act that is no signal moves no row
 pub rows_still : (a : Act) (way row : ℕ) (w : List Stand) → ((signal : Signal) → a ≡ act.Signal signal → ⊥)

@@ -8,16 +8,18 @@ use Rattle.lock_plan.specs.declared.lock.PlanLock.{PlanLock}
 use Rattle.lock_plan.specs.declared.program.Act.{Act}
 use Rattle.lock_plan.specs.declared.program.Act.TheVariants as act
 use Rattle.lock_plan.specs.declared.program.Place.{Place}
+use Rattle.lock_plan.specs.declared.program.Signal.TheVariants.{Assert}
 use Rattle.lock_plan.specs.declared.program.Step.{Step}
 use Rattle.lock_plan.specs.declared.turn.Turn.{Turn}
 use Rattle.lock_plan.specs.declared.turn.Turn.TheVariants.{Goes, Announces, Waits, Refused}
-use Rattle.lock_plan.specs.Signals.{idles}
+use Rattle.lock_plan.specs.Signals.{idles, has_value}
 use Rattle.lock_plan.specs.Worlds.{Stand, no_stand, no_lock, act_of, acts_of, reply_at, reply_of, turn_by, turn_of, is_goes, some_below, is_server, is_due, is_refused_turn, is_step_turn, is_stuck, is_refused, is_stop}
-use Rattle.lock_plan_laws.specs.Scenes.{Caller, Scene, act_at, IsStep, IsStuckScene, IsRefusedScene, IsStopScene}
+use Rattle.lock_plan_laws.specs.Scenes.{Caller, Scene, act_at, HasFalseAssertion, IsStep, IsStuckScene, IsRefusedScene, IsStopScene}
 use Rattle.lock_plan_laws.specs.Bridge.{AreDistinct}
 use Rattle.lock_plan_laws.proofs.Ties.{IsTied}
+use Rattle.lock_plan_laws.proofs.RowMoves.{acts_same}
 use Rattle.lock_plan_laws.proofs.Steps.{act_same, known}
-use Rattle.lock_plan_laws.proofs.Ways.{choice_way, signal_way, signal_never, turn_some, some_turn}
+use Rattle.lock_plan_laws.proofs.Ways.{choice_way, signal_way, signal_refused, turn_some, some_turn}
 use Rattle.lock_plan_laws.proofs.SceneSteps.{call_known, call_turn, called, tried, chosen, signalled, step_on}
 
 -- a number below that has it
@@ -66,18 +68,38 @@ module _ {O T A : Type 0} (meaning : O → Operation T A) (ids : ℕ → PartyId
         some_at (λ p. is_refused_turn (turn_of locks w p)) (length w) h.0.party (call_known meaning ids distinct locks bars programs w s used tied few h.0 Refused h.1 h.2)
         (ap is_refused_turn (call_turn meaning ids distinct locks bars programs w s used tied few h.0 Refused h.1 h.2))
 
+    false_here : HasFalseAssertion programs s → is_refused locks w ≡ true
+    false_here h =
+        let here : act_of (stand h.party) ≡ Some (act.Signal (Assert h.row h.value)) =
+        sym (act_same meaning ids distinct locks bars programs w s used tied h.party) ∙ h.here in
+        let other : has_value (acts_of w) h.row h.value ≡ false =
+        ap (λ (acts : List (Option Act)). has_value acts h.row h.value) (sym (acts_same ids distinct locks programs w s used tied)) ∙ h.is_false in
+        some_at (λ p. is_refused_turn (turn_of locks w p)) (length w) h.party
+        (known meaning ids distinct locks bars programs w s used tied h.party (act.Signal (Assert h.row h.value)) here)
+        (ap (λ (o : Option Act). is_refused_turn (turn_by (acts_of w) o (reply_of locks w h.party))) here
+        ∙ ap (λ (b : Bool). is_refused_turn (Some (if b then Goes else Refused))) other)
+
     refused_by : (p : ℕ) (o : Option Act) → act_of (get_or w p no_stand) ≡ o
-        → turn_by (acts_of w) o (reply_of locks w p) ≡ Some Refused → IsRefusedScene meaning ids locks programs s
+        → turn_by (acts_of w) o (reply_of locks w p) ≡ Some Refused
+        → IsRefusedScene meaning ids locks programs s ⊎ HasFalseAssertion programs s
     refused_by p None here is = cc
     refused_by p (Some (act.Call call)) here is =
         let taken : Step = record { party = p; way = 0 } in
         let h = called meaning ids distinct locks bars programs w s used tied few taken call Refused here refl is in
-        (record { step = taken; guard = h.0 }, h.1, h.2)
+        inl (record { step = taken; guard = h.0 }, h.1, h.2)
     refused_by p (Some (act.Try call)) here is = cc
     refused_by p (Some (act.Choose block)) here is = cc
-    refused_by p (Some (act.Signal signal)) here is = absurd (signal_never (acts_of w) signal is)
+    refused_by p (Some (act.Signal signal)) here is =
+        let h = signal_refused (acts_of w) signal is in
+        inr (record {
+          party = p;
+          row = h.0;
+          value = h.1;
+          here = act_same meaning ids distinct locks bars programs w s used tied p ∙ here ∙ ap (λ (a : _). Some (act.Signal a)) h.2;
+          is_false = ap (λ (acts : List (Option Act)). has_value acts h.0 h.1) (acts_same ids distinct locks programs w s used tied) ∙ h.3;
+        })
 
-    refused_back : is_refused locks w ≡ true → IsRefusedScene meaning ids locks programs s
+    refused_back : is_refused locks w ≡ true → IsRefusedScene meaning ids locks programs s ⊎ HasFalseAssertion programs s
     refused_back is =
         let found = some_found (λ p. is_refused_turn (turn_of locks w p)) (length w) is in
         refused_by found.0 (act_of (stand found.0)) refl (refused_is (turn_of locks w found.0) found.1)
@@ -175,11 +197,17 @@ module _ {O T A : Type 0} (meaning : O → Operation T A) (ids : ℕ → PartyId
 
     stop_here : (servers : List Bool) → IsStopScene meaning ids locks programs servers s → is_stop servers locks w ≡ true
     stop_here servers (inl h) = or_one (is_refused locks w) (is_stuck servers locks w) (inl (refused_here h))
-    stop_here servers (inr h) = or_one (is_refused locks w) (is_stuck servers locks w) (inr (stuck_here servers h))
+    stop_here servers (inr (inl h)) = or_one (is_refused locks w) (is_stuck servers locks w) (inl (false_here h))
+    stop_here servers (inr (inr h)) = or_one (is_refused locks w) (is_stuck servers locks w) (inr (stuck_here servers h))
+
+    stop_refused : (servers : List Bool) → IsRefusedScene meaning ids locks programs s ⊎ HasFalseAssertion programs s
+        → IsStopScene meaning ids locks programs servers s
+    stop_refused servers (inl h) = inl h
+    stop_refused servers (inr h) = inr (inl h)
 
     stop_by : (servers : List Bool) → (is_refused locks w ≡ true) ⊎ (is_stuck servers locks w ≡ true) → IsStopScene meaning ids locks programs servers s
-    stop_by servers (inl h) = inl (refused_back h)
-    stop_by servers (inr h) = inr (stuck_back servers h)
+    stop_by servers (inl h) = stop_refused servers (refused_back h)
+    stop_by servers (inr h) = inr (inr (stuck_back servers h))
 
     pub same_stop : (servers : List Bool) → IsStopScene meaning ids locks programs servers s ↔ (is_stop servers locks w ≡ true)
     same_stop servers = (

@@ -7,12 +7,12 @@ use Rattle.lock_plan.specs.declared.lock.PlanLock.{PlanLock}
 use Rattle.lock_plan.specs.declared.program.Act.{Act}
 use Rattle.lock_plan.specs.declared.program.Act.TheVariants as act
 use Rattle.lock_plan.specs.declared.program.Block.{Block}
-use Rattle.lock_plan.specs.declared.program.Block.TheVariants.{Repeat, Either, If}
+use Rattle.lock_plan.specs.declared.program.Block.TheVariants.{Repeat, Either, If, TimedSleep}
 use Rattle.lock_plan.specs.declared.program.Signal.{Signal}
-use Rattle.lock_plan.specs.declared.program.Signal.TheVariants.{Idle, Sleep, Start, Clear, Join, NotifyOne, NotifyAll}
+use Rattle.lock_plan.specs.declared.program.Signal.TheVariants.{Idle, Sleep, Start, Clear, Join, Assert, NotifyOne, NotifyAll}
 use Rattle.lock_plan.specs.declared.turn.Turn.{Turn}
 use Rattle.lock_plan.specs.declared.turn.Turn.TheVariants.{Goes, Waits, Refused}
-use Rattle.lock_plan.specs.Signals.{idles, sleeps_on, has_ended, lets_signal, lets, signal_turn}
+use Rattle.lock_plan.specs.Signals.{idles, sleeps_on, has_ended, has_value, lets_signal, lets, signal_turn}
 use Rattle.lock_plan.specs.Worlds.{reply_at, turn_by, is_step_turn}
 
 module _ {X : Type 0} where
@@ -38,6 +38,7 @@ module _ (acts : List (Option Act)) where
   pub choice_way : (block : Block) → (way : ℕ) × (lets acts way (Some (act.Choose block)) ≡ true)
   choice_way Repeat = (0, refl)
   choice_way Either = (0, refl)
+  choice_way (TimedSleep cond) = (1, refl)
   choice_way (If row) = by_end (has_ended acts row) refl
     where
       by_end : (b : Bool) → has_ended acts row ≡ b → (way : ℕ) × (lets acts way (Some (act.Choose (If row))) ≡ true)
@@ -48,6 +49,10 @@ module _ (acts : List (Option Act)) where
   goes_if true = refl
   goes_if false = refl
 
+  asserts_if : (b : Bool) → is_step_turn (Some (if b then Goes else Refused)) ≡ b
+  asserts_if true = refl
+  asserts_if false = refl
+
   -- a signal goes where it has a way
   pub signal_goes : (way : ℕ) (signal : Signal) → lets_signal acts way signal ≡ true
       → is_step_turn (signal_turn acts signal) ≡ true
@@ -56,6 +61,8 @@ module _ (acts : List (Option Act)) where
   signal_goes way (Start row) is = refl
   signal_goes way (Clear row) is = refl
   signal_goes way (Join row) is = goes_if (has_ended acts row) ∙ (and_parts (way == 0) (has_ended acts row) is).1
+  signal_goes way (Assert row value) is =
+      asserts_if (has_value acts row value) ∙ (and_parts (way == 0) (has_value acts row value) is).1
   signal_goes way (NotifyOne cond) is = refl
   signal_goes way (NotifyAll cond) is = refl
 
@@ -66,6 +73,7 @@ module _ (acts : List (Option Act)) where
   signal_way (Start row) is = (0, refl)
   signal_way (Clear row) is = (0, refl)
   signal_way (Join row) is = (0, sym (goes_if (has_ended acts row)) ∙ is)
+  signal_way (Assert row value) is = (0, sym (asserts_if (has_value acts row value)) ∙ is)
   signal_way (NotifyOne cond) is = by_sleeper (list_any (sleeps_on cond) acts) refl
     where
       by_sleeper : (b : Bool) → list_any (sleeps_on cond) acts ≡ b
@@ -78,10 +86,16 @@ module _ (acts : List (Option Act)) where
   join_never true is = cc
   join_never false is = cc
 
-  -- no signal is refused
-  pub signal_never : (signal : Signal) → signal_turn acts signal ≡ Some Refused → ⊥
-  signal_never (Join row) is = join_never (has_ended acts row) is
-  signal_never other is = cc
+  refused_if : (b : Bool) → Some (if b then Goes else Refused) ≡ Some Refused → b ≡ false
+  refused_if true is = cc
+  refused_if false is = refl
+
+  -- a signal is refused only where it is an assertion that is false
+  pub signal_refused : (signal : Signal) → signal_turn acts signal ≡ Some Refused
+      → (row : ℕ) × (value : Bool) × (signal ≡ Assert row value) × (has_value acts row value ≡ false)
+  signal_refused (Join row) is = absurd (join_never (has_ended acts row) is)
+  signal_refused (Assert row value) is = (row, value, refl, refused_if (has_value acts row value) is)
+  signal_refused other is = cc
 
   signal_some : (signal : Signal) → idles (Some (act.Signal signal)) ≡ false → is_some (signal_turn acts signal) ≡ true
   signal_some Idle there = cc

@@ -1,5 +1,5 @@
 -- Whether a program keeps the order of ranks, as a test.
-use Rattle.std.specs.Prelude.{◌≡◌, ℕ, ◌+◌, Bool, true, false, not, ◌&&◌, ◌||◌, ◌==◌, nat_lt, List, [], ◌∷◌, Option, Some, None, Result, Ok, Err}
+use Rattle.std.specs.Prelude.{ℕ, ◌+◌, Bool, true, false, not, ◌&&◌, ◌||◌, ◌==◌, nat_lt, List, [], ◌∷◌, Option, Some, None, Result, Ok, Err}
 use Rattle.std.specs.List.{list_all}
 use Rattle.lock_base.specs.declared.machine.mode_step.ModeStep.TheVariants.{Acquire, Release, Change}
 use Rattle.lock_base.specs.declared.machine.lock_step.LockStep.{LockStep}
@@ -9,6 +9,7 @@ use Rattle.lock_base.specs.Modes.{tokens, is_exclusive}
 use Rattle.lock_plan.specs.declared.lock.PlanLock.{PlanLock}
 use Rattle.lock_plan.specs.declared.program.Act.{Act}
 use Rattle.lock_plan.specs.declared.program.Act.TheVariants.{Call, Try, Choose, Signal}
+use Rattle.lock_plan.specs.declared.program.Block.TheVariants.{TimedSleep}
 use Rattle.lock_plan.specs.declared.program.Place.{Place}
 use Rattle.lock_plan.specs.Known.{PlaceFault, Known, known_of}
 use Rattle.lock_plan.specs.Worlds.{act_in}
@@ -29,10 +30,12 @@ goes_up rank holds lock (Modes (Change from to)) = not (is_exclusive to)
 goes_up rank holds lock Announce = false
 goes_up rank holds lock Withdraw = true
 
+-- an order covers no signal and no sleep
 abbrev pub keeps_order : (ℕ → ℕ) → List Hold → Option Act → Bool
 keeps_order rank holds None = list_all (λ h. tokens h.bag == 0) holds
 keeps_order rank holds (Some (Call call)) = goes_up rank holds call.lock call.step
 keeps_order rank holds (Some (Try call)) = true
+keeps_order rank holds (Some (Choose (TimedSleep cond))) = false
 keeps_order rank holds (Some (Choose block)) = true
 keeps_order rank holds (Some (Signal signal)) = false
 

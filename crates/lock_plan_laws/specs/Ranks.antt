@@ -13,7 +13,7 @@ use Rattle.lock_base.specs.Operation.{Operation}
 use Rattle.lock_plan.specs.declared.call.PlanCall.{PlanCall}
 use Rattle.lock_plan.specs.declared.lock.PlanLock.{PlanLock}
 use Rattle.lock_plan.specs.declared.program.Act.{Act}
-use Rattle.lock_plan.specs.declared.program.Act.TheVariants.{Call, Try, Choose, Signal}
+use Rattle.lock_plan.specs.declared.program.Act.TheVariants.{Call, Signal}
 use Rattle.lock_plan.specs.declared.program.Signal.{Signal as PlanSignal}
 use Rattle.lock_plan.specs.declared.program.Place.{Place}
 use Rattle.lock_plan.specs.Checks.{fit_machines}

@@ -14,10 +14,11 @@ use Rattle.lock_plan.specs.declared.program.Act.TheVariants as act
 use Rattle.lock_plan.specs.declared.program.Block.{Block}
 use Rattle.lock_plan.specs.declared.program.Place.{Place}
 use Rattle.lock_plan.specs.declared.program.Signal.{Signal}
+use Rattle.lock_plan.specs.declared.program.Signal.TheVariants.{Assert}
 use Rattle.lock_plan.specs.declared.program.Step.{Step}
 use Rattle.lock_plan.specs.declared.turn.Turn.{Turn}
 use Rattle.lock_plan.specs.declared.turn.Turn.TheVariants.{Goes, Announces, Waits, Refused}
-use Rattle.lock_plan.specs.Signals.{idles, lets}
+use Rattle.lock_plan.specs.Signals.{idles, has_value, lets}
 use Rattle.lock_plan.specs.Worlds.{Stand, no_lock, act_in, next_in, other_in, acts_of, rows_moved, is_server}
 use Rattle.lock_plan_laws.specs.MachineTurns.{Names, is_made, machine_turn, machine_try}
 
@@ -94,6 +95,14 @@ module _ {T : Type 0} (programs : List (List Place)) where
     pub leaves : after ≡ scene_at (scene_moved s (Some (act.Signal signal)) c.way) c.party
         (next_in (get_or programs c.party []) (get_or s.places c.party 0))
 
+  -- some party is at an assertion that is false
+  pub record HasFalseAssertion (s : Scene T) : Type 0 where
+    pub party : ℕ
+    pub row : ℕ
+    pub value : Bool
+    pub here : act_at s party ≡ Some (act.Signal (Assert row value))
+    pub is_false : has_value (acts_of (rows_of s)) row value ≡ false
+
 -- the limit of the machine of a lock
 abbrev pub limit_for : Kind → ℕ → ℕ
 limit_for Mutex limit = 1
@@ -154,4 +163,4 @@ module _ {O T A : Type 0} (meaning : O → Operation T A) (ids : ℕ → PartyId
   IsRefusedScene s = (c : Caller) × (after : Scene T) × HasTurn s c Refused after
 
   abbrev pub IsStopScene : List Bool → Scene T → Type 0
-  IsStopScene servers s = IsRefusedScene s ⊎ IsStuckScene servers s
+  IsStopScene servers s = IsRefusedScene s ⊎ HasFalseAssertion programs s ⊎ IsStuckScene servers s

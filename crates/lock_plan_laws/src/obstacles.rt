@@ -1,7 +1,7 @@
 //! Where an order of the locks says nothing of a plan. No proof rests on these functions.
 use crate::order::{is_covered, is_free};
 use lock_base::machine::{Hold, LockStep, Mode, ModeStep};
-use lock_plan::{Act, Obstacle, Place, PlanLock, Signal};
+use lock_plan::{Act, Block, Obstacle, Place, PlanLock, Signal};
 use std::alloc::AllocError;
 
 /// Adds each reentrant lock, the first act that an order does not cover, and the first party that ends while it holds a lock.
@@ -41,15 +41,15 @@ fn first_uncovered(programs: &[Vec<Place>]) -> Option<Obstacle> {
     idle
 }
 
-/// Returns whether an order covers the act: it is no upgrade, announcement or signal.
+/// Returns whether an order covers the act: it is no upgrade, announcement, signal or sleep.
 fn is_act_covered(act: Act) -> bool {
     match act {
         Act::Call(call) => !matches!(
             call.step,
             LockStep::Announce | LockStep::Modes(ModeStep::Change(_, Mode::Exclusive))
         ),
+        Act::Choose(Block::TimedSleep(_)) | Act::Signal(_) => false,
         Act::Try(_) | Act::Choose(_) => true,
-        Act::Signal(_) => false,
     }
 }
 

@@ -10,7 +10,7 @@ ghost use Rattle.lock_plan_laws.specs.OrderChecks.{goes_up, is_above, is_below, 
 use crate::held_waits::{against, held_waits, sorted};
 use crate::obstacles::add_obstacles;
 use lock_base::machine::{Hold, LockStep, Mode, ModeStep};
-use lock_plan::{Act, LockOrder, Place, PlanFault, PlanLock, act_in, known_holds};
+use lock_plan::{Act, Block, LockOrder, Place, PlanFault, PlanLock, act_in, known_holds};
 use std::alloc::{AllocError, Global};
 
 /// Returns an order of the locks that each of the programs keeps, or why none was found.
@@ -178,6 +178,7 @@ fn keeps_order(order: &[usize], holds: &[Hold], here: Option<Act>) -> bool
     match here {
         None => are_free(holds),
         Some(Act::Call(call)) => goes_up(order, holds, call.lock, call.step),
+        Some(Act::Choose(Block::TimedSleep(_))) => false,
         Some(Act::Try(_) | Act::Choose(_)) => true,
         Some(Act::Signal(_)) => false,
     }

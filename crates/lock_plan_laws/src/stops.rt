@@ -11,7 +11,7 @@ use lock_plan::{Plan, Step};
 /// What [`explore`](lock_plan::explore) answers about a plan holds of machines of guards.
 ///
 /// Each machine has room for as many guards as the programs have places.
-/// Flags, sleep, starts and joins follow the rules of the plan in both: a machine has none of them.
+/// Flags, sleep, starts, joins and assertions follow the rules of the plan in both: a machine has none of them.
 pub fn machines_stop_as_explored<T, O: Op<T>>(plan: &Plan)
     requires { IsTrue (fit_machines plan.now.locks.items) }
     ensures none { NeverStops plan.now.servers.items plan.now.locks.items (programs_of plan.now)

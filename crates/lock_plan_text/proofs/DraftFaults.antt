@@ -8,15 +8,17 @@ use Rattle.lock_plan.specs.declared.program.Place.{Place}
 use Rattle.lock_plan.specs.Checks.{IsFault, or_fault, parties_fault, plan_fault}
 use Rattle.lock_plan.specs.Points.{all_views, size}
 use Rattle.lock_plan_text.specs.declared.parser.fault.PlanTextFault.{PlanTextFault}
-use Rattle.lock_plan_text.specs.declared.parser.fault.PlanTextFault.TheVariants.{UnknownParty, Call, TooLarge, OutOfMemory}
+use Rattle.lock_plan_text.specs.declared.parser.fault.PlanTextFault.TheVariants.{UnknownParty, NeverBegins, Call, TooLarge, OutOfMemory}
+use Rattle.lock_plan_text.specs.Beginnings.{unbegun_line}
 use Rattle.lock_plan_text.specs.Drafts.{Draft, IsDraftOf}
 use Rattle.lock_plan_text.specs.PartyLines.{programs_in}
-use Rattle.lock_plan_text.specs.PlanFaults.{IsPlanTextFault, by_line, draft_fault, or_plan_fault, unknown_line}
+use Rattle.lock_plan_text.specs.PlanFaults.{IsPlanTextFault, by_line, draft_fault, or_later_fault, or_plan_fault, unknown_line}
 
 -- whether a draft can have the fault
 is_of_draft : Option PlanTextFault → Bool
 is_of_draft None = true
 is_of_draft (Some (UnknownParty line)) = true
+is_of_draft (Some (NeverBegins line)) = true
 is_of_draft (Some (Call line why)) = true
 is_of_draft (Some TooLarge) = true
 is_of_draft (Some OutOfMemory) = true
@@ -29,9 +31,14 @@ by_plan draft (Some (plan.Call party place why)) = refl
 by_plan draft (Some plan.TooLarge) = refl
 by_plan draft (Some plan.OutOfMemory) = refl
 
-by_text : (draft : Draft) (o : Option ℕ) → is_of_draft (or_plan_fault draft o) ≡ true
+by_start : (draft : Draft) (o : Option ℕ) → is_of_draft (or_plan_fault draft o) ≡ true
 unfolding is_of_draft
-by_text draft None = by_plan draft (plan_fault draft.locks (programs_in draft))
+by_start draft None = by_plan draft (plan_fault draft.locks (programs_in draft))
+by_start draft (Some line) = refl
+
+by_text : (draft : Draft) (o : Option ℕ) → is_of_draft (or_later_fault draft o) ≡ true
+unfolding is_of_draft
+by_text draft None = by_start draft (unbegun_line draft)
 by_text draft (Some line) = refl
 
 own : (draft : Draft) (fault : PlanTextFault) → draft_fault draft ≡ Some fault → is_of_draft (Some fault) ≡ true
@@ -43,21 +50,31 @@ pub draft_told : (bytes : List ℕ) (draft : Draft) (fault : PlanTextFault) → 
 unfolding is_of_draft
 draft_told bytes draft fault makes (inr same) = subst (IsPlanTextFault bytes) (sym same) tt
 draft_told bytes draft (UnknownParty line) makes (inl is) = (draft, (makes, is))
+draft_told bytes draft (NeverBegins line) makes (inl is) = (draft, (makes, is))
 draft_told bytes draft (Call line why) makes (inl is) = (draft, (makes, is))
 draft_told bytes draft TooLarge makes (inl is) = (draft, (makes, is))
 draft_told bytes draft OutOfMemory makes (inl is) = tt
 draft_told bytes draft fault makes (inl is) = absurd (false≢true (own draft fault is))
 
--- the fault of the first wrong act of a draft's programs is one of the draft
-pub order_told : (draft : Draft) (programs : List (List Place)) (fault : PlanFault) (told : PlanTextFault) → unknown_line draft ≡ None
-    → programs ≡ programs_in draft → IsFault (parties_fault draft.locks 0 programs) fault
+-- a fault of the plan of a draft's programs is one of the draft
+pub plan_told : (draft : Draft) (programs : List (List Place)) (fault : PlanFault) (told : PlanTextFault) → unknown_line draft ≡ None
+    → unbegun_line draft ≡ None → programs ≡ programs_in draft → IsFault (plan_fault draft.locks programs) fault
     → (told ≡ by_line draft fault) ⊎ (told ≡ OutOfMemory) → (draft_fault draft ≡ Some told) ⊎ (told ≡ OutOfMemory)
-order_told draft programs fault told known made is (inr out) = inr out
-order_told draft programs fault told known made (inr out) (inl same) = inr (same ∙ ap (by_line draft) out)
-order_told draft programs fault told known made (inl is) (inl same) =
-    let first : plan_fault draft.locks (programs_in draft) ≡ Some fault =
-    ap (λ (o : Option PlanFault). or_fault o (if nat_lt (size (all_views draft.locks (programs_in draft))) (2 ^ 64) then None else Some plan.TooLarge)) (ap (parties_fault draft.locks 0) (sym made) ∙ is) in
-    inl (ap (or_plan_fault draft) known ∙ ap (option_map (by_line draft)) first ∙ ap Some (sym same))
+plan_told draft programs fault told known begun made is (inr out) = inr out
+plan_told draft programs fault told known begun made (inr out) (inl same) = inr (same ∙ ap (by_line draft) out)
+plan_told draft programs fault told known begun made (inl is) (inl same) =
+    let first : plan_fault draft.locks (programs_in draft) ≡ Some fault = ap (plan_fault draft.locks) (sym made) ∙ is in
+    inl (ap (or_later_fault draft) known ∙ ap (or_plan_fault draft) begun ∙ ap (option_map (by_line draft)) first ∙ ap Some (sym same))
+
+-- so is the fault of the first wrong act
+pub order_told : (draft : Draft) (programs : List (List Place)) (fault : PlanFault) (told : PlanTextFault) → unknown_line draft ≡ None
+    → unbegun_line draft ≡ None → programs ≡ programs_in draft → IsFault (parties_fault draft.locks 0 programs) fault
+    → (told ≡ by_line draft fault) ⊎ (told ≡ OutOfMemory) → (draft_fault draft ≡ Some told) ⊎ (told ≡ OutOfMemory)
+order_told draft programs fault told known begun made (inr out) is = plan_told draft programs fault told known begun made (inr out) is
+order_told draft programs fault told known begun made (inl wrong) is =
+    plan_told draft programs fault told known begun made
+    (inl (ap (λ (o : Option PlanFault). or_fault o (if nat_lt (size (all_views draft.locks programs)) (2 ^ 64) then None else Some plan.TooLarge)) wrong))
+    is
 
 -- what follows from each value
 pub if_ok : {X E : Type 0} (P Q : X → Type 0) → ((x : X) → P x → Q x) → (r : Result X E) → IfOk r P → IfOk r Q

@@ -20,11 +20,12 @@ use Rattle.step_search.specs.Walks.{each_below}
 use Rattle.lock_plan_text.specs.declared.parser.block_line.BlockLine.{BlockLine}
 use Rattle.lock_plan_text.specs.declared.parser.fault.PlanTextFault.TheVariants as text
 use Rattle.lock_plan_text.specs.Blocks.{is_step, line_at, place_if, place_number, place_of_line, program_of, step_numbers}
+use Rattle.lock_plan_text.specs.Beginnings.{unbegun_line}
 use Rattle.lock_plan_text.specs.CallOrigins.{AreTied, IsLineOf, text_at}
 use Rattle.lock_plan_text.specs.Drafts.{Draft}
 use Rattle.lock_plan_text.specs.FaultLines.{FaultsHaveLines}
 use Rattle.lock_plan_text.specs.PartyLines.{flag_program, idle_lines, idle_numbers, in_rows, lines_of_party, number_of, numbers_of_party, party_lines, party_numbers, party_program, programs_in, starts}
-use Rattle.lock_plan_text.specs.PlanFaults.{by_line, or_plan_fault, unknown_line}
+use Rattle.lock_plan_text.specs.PlanFaults.{by_line, or_later_fault, or_plan_fault, unknown_line}
 use Rattle.lock_plan_text.proofs.FirstPlaces.{signal_first}
 use Rattle.lock_plan_text.proofs.KnownPlaces.{program_place}
 use Rattle.lock_plan_text.proofs.Origins.{calls_have_lines}
@@ -120,8 +121,8 @@ tied_lists T (xs ∷ xss) [] p tied = absurd tied
 tied_lists T (xs ∷ xss) (ys ∷ yss) zero tied = tied.0
 tied_lists T (xs ∷ xss) (ys ∷ yss) (suc p) tied = tied_lists T xss yss p tied.1
 
-told_of : (draft : Draft) (unknown : Option ℕ) (o : Option PlanFault) (number : ℕ) (why : CallFault)
-    → o ≡ plan_fault draft.locks (programs_in draft) → or_plan_fault draft unknown ≡ Some (text.Call number why)
+told_of : (draft : Draft) (unbegun : Option ℕ) (o : Option PlanFault) (number : ℕ) (why : CallFault)
+    → o ≡ plan_fault draft.locks (programs_in draft) → or_plan_fault draft unbegun ≡ Some (text.Call number why)
     → (p : ℕ) × ((k : ℕ) × ((o ≡ Some (plan.Call p k why)) × (number_of draft p k ≡ number)))
 told_of draft (Some line) o number why same is = cc
 told_of draft None None number why same is = let told : option_map (by_line draft) None ≡ Some (text.Call number why) = ap (option_map (by_line draft)) same ∙ is in cc
@@ -132,6 +133,11 @@ told_of draft None (Some plan.TooLarge) number why same is =
     let told : Some text.TooLarge ≡ Some (text.Call number why) = ap (option_map (by_line draft)) same ∙ is in cc
 told_of draft None (Some plan.OutOfMemory) number why same is =
     let told : Some text.OutOfMemory ≡ Some (text.Call number why) = ap (option_map (by_line draft)) same ∙ is in cc
+
+known_told : (draft : Draft) (unknown : Option ℕ) (number : ℕ) (why : CallFault)
+    → or_later_fault draft unknown ≡ Some (text.Call number why) → or_plan_fault draft (unbegun_line draft) ≡ Some (text.Call number why)
+known_told draft (Some line) number why is = cc
+known_told draft None number why is = is
 
 -- a step of a program's lines, other than idling at the first place, is an own line of the party
 record IsOwn (idles : Bool) (own : List BlockLine) (lines : List BlockLine) (numbers : List ℕ) (k number : ℕ) : Type 0 where
@@ -189,7 +195,8 @@ later_if false locks p k lines why is same = absurd (false≢true same)
 
 pub faults_have_lines : FaultsHaveLines
 faults_have_lines bytes draft number why makes is =
-    let told = told_of draft (unknown_line draft) (plan_fault draft.locks (programs_in draft)) number why refl is in
+    let told = told_of draft (unbegun_line draft) (plan_fault draft.locks (programs_in draft)) number why refl
+    (known_told draft (unknown_line draft) number why is) in
     let p = told.0 in
     let k = told.1.0 in
     let idles = starts draft p in

@@ -4,9 +4,9 @@ use Rattle.std.specs.Prelude.{not, ◌&&◌, ◌==◌, nat_lt}
 use Rattle.std.proofs.lemmas.Bool.{and_parts, eqb-true, lt-ltb}
 use Rattle.std.proofs.lemmas.List.{at_drop_more, drop_all, drop_more, length-drop}
 use Rattle.lock_plan_text.specs.declared.parser.block_line.BlockLine.{BlockLine}
-use Rattle.lock_plan_text.specs.declared.parser.block_line.BlockLine.TheVariants.{Call, Try, Word, If, Until, Plain}
-use Rattle.lock_plan_text.specs.declared.parser.block_line.BlockWord.TheVariants.{Repeat, Either, Else, Or, End}
-use Rattle.lock_plan_text.specs.Blocks.{beginning, beginning_from, begins, boundary, boundary_from, deeper, ends, higher, is_loop, land, land_from, line_at, parts}
+use Rattle.lock_plan_text.specs.declared.parser.block_line.BlockLine.TheVariants.{Call, Try, Word, If, Until, TimedSleep, Plain}
+use Rattle.lock_plan_text.specs.declared.parser.block_line.BlockWord.TheVariants.{Repeat, Forever, Either, Else, Or, End, Leave, Return}
+use Rattle.lock_plan_text.specs.Blocks.{beginning, beginning_from, begins, boundary, boundary_from, deeper, ends, higher, is_leave, is_loop, is_return, land, land_from, line_at, loop_depth, parts}
 
 -- where a party goes on that leaves a block by the line that parts it next
 abbrev pub left_by : List BlockLine → ℕ → ℕ
@@ -23,6 +23,10 @@ cond_same false a b n _ is = is
 left : (t : Bool) (a b : ℕ) → t ≡ true → cond t a b ≡ a
 left true a b is = refl
 left false a b is = cc
+
+right : (t : Bool) (a b : ℕ) → t ≡ false → cond t a b ≡ b
+right true a b is = cc
+right false a b is = refl
 
 land_past : (lines : List BlockLine) (i : ℕ) → length lines ≤ i → land lines i ≡ length lines
 land_past lines i past = ap (λ (rest : List BlockLine). land_from lines 0 i rest) (drop_all i lines past)
@@ -41,10 +45,12 @@ land_from_within lines leave i (line ∷ rest) within =
     let later : (n : ℕ) → land_from lines n (i + 1) rest ≤ length lines
     = λ n. land_from_within lines n (i + 1) rest (λ _. omega (arith, all)) in
     cond_within (nat_lt 0 leave) _ _ (length lines) (later (deeper leave line))
+    (cond_within (is_leave line) _ _ (length lines) (later (loop_depth lines i))
+    (cond_within (is_return line) _ _ (length lines) (omega arith)
     (cond_within (not (parts line)) _ _ (length lines) (omega (arith, all))
     (cond_within (not (ends line)) _ _ (length lines) (later 1)
     (cond_within (is_loop (line_at lines (beginning lines i))) _ _ (length lines)
-    (omega (arith, all, beginning_within lines 0 i)) (later 0))))
+    (omega (arith, all, beginning_within lines 0 i)) (later 0))))))
 
 pub land_within : (lines : List BlockLine) (i : ℕ) → land lines i ≤ length lines
 land_within lines i = land_from_within lines 0 i (drop i lines) (λ some. omega (arith, some, length-drop i lines))
@@ -56,16 +62,25 @@ deeper_suc zero (Word End) is = cc
 deeper_suc (suc depth) (Word End) is = omega arith
 deeper_suc depth (Word Else) is = refl
 deeper_suc depth (Word Or) is = refl
+deeper_suc depth (Word Leave) is = refl
+deeper_suc depth (Word Return) is = refl
 deeper_suc depth (Word Repeat) is = omega arith
+deeper_suc depth (Word Forever) is = omega arith
 deeper_suc depth (Word Either) is = omega arith
 deeper_suc depth (Call call) is = refl
 deeper_suc depth (Try call) is = omega arith
 deeper_suc depth (If flag) is = omega arith
 deeper_suc depth (Until flag value) is = omega arith
+deeper_suc depth (TimedSleep cond) is = omega arith
 deeper_suc depth (Plain line) is = refl
 
+-- a party that leaves blocks goes on to the next line
+pub leave_more : (lines : List BlockLine) (leave i : ℕ) (line : BlockLine) (rest : List BlockLine) → 0 < leave
+    → land_from lines leave i (line ∷ rest) ≡ land_from lines (deeper leave line) (i + 1) rest
+leave_more lines leave i line rest some = left (nat_lt 0 leave) _ _ (lt-ltb 0 leave some)
+
 -- the first of the lines that are left, and the rest
-first_left : (lines : List BlockLine) (i : ℕ) (line : BlockLine) (rest : List BlockLine) → line ∷ rest ≡ drop i lines
+pub first_left : (lines : List BlockLine) (i : ℕ) (line : BlockLine) (rest : List BlockLine) → line ∷ rest ≡ drop i lines
     → (line ≡ line_at lines i) × (rest ≡ drop (i + 1) lines)
 first_left lines i line rest is =
     let within : i < length lines = omega (arith, length-drop i lines, ap length is) in
@@ -87,11 +102,15 @@ leaves_here lines i (Word Or) rest is part =
     ap (λ (r : List BlockLine). land_from lines 0 i r) is
     ∙ ap (λ (l : BlockLine). cond (ends l) (land lines (i + 1)) (land lines i)) first.0
 leaves_here lines i (Word Repeat) rest is part = cc
+leaves_here lines i (Word Forever) rest is part = cc
+leaves_here lines i (Word Leave) rest is part = cc
+leaves_here lines i (Word Return) rest is part = cc
 leaves_here lines i (Word Either) rest is part = cc
 leaves_here lines i (Call call) rest is part = cc
 leaves_here lines i (Try call) rest is part = cc
 leaves_here lines i (If flag) rest is part = cc
 leaves_here lines i (Until flag value) rest is part = cc
+leaves_here lines i (TimedSleep cond) rest is part = cc
 leaves_here lines i (Plain line) rest is part = cc
 
 -- a party that leaves the block around a line, in which so many blocks are open, does so by the next line that parts it
@@ -115,11 +134,44 @@ leaves lines depth i (line ∷ rest) is =
         ∙ leaves_here lines i line rest is both.1
     by_test false e later = ap (λ (d : ℕ). land_from lines d (i + 1) rest) (deeper_suc depth line e) ∙ later
 
+-- a line that parts a block leads to no other line by itself
+no_jump : (line : BlockLine) → parts line ≡ true → (is_leave line ≡ false) × (is_return line ≡ false)
+no_jump (Word Else) is = (refl, refl)
+no_jump (Word Or) is = (refl, refl)
+no_jump (Word End) is = (refl, refl)
+no_jump (Word Repeat) is = cc
+no_jump (Word Forever) is = cc
+no_jump (Word Either) is = cc
+no_jump (Word Leave) is = cc
+no_jump (Word Return) is = cc
+no_jump (Call call) is = cc
+no_jump (Try call) is = cc
+no_jump (If flag) is = cc
+no_jump (Until flag value) is = cc
+no_jump (TimedSleep cond) is = cc
+no_jump (Plain line) is = cc
+
+-- a `leave` leads past the innermost loop, and a `return` past the last line
+pub leave_lands : (lines : List BlockLine) (i : ℕ) → i < length lines → is_leave (line_at lines i) ≡ true
+    → land lines i ≡ land_from lines (loop_depth lines i) (i + 1) (drop (i + 1) lines)
+leave_lands lines i within is =
+    at_drop_more (land_from lines 0 i) lines i (Word End) within ∙ left (is_leave (line_at lines i)) _ _ is
+
+pub return_lands : (lines : List BlockLine) (i : ℕ) → i < length lines → is_leave (line_at lines i) ≡ false
+    → is_return (line_at lines i) ≡ true → land lines i ≡ length lines
+return_lands lines i within is_no_leave is =
+    at_drop_more (land_from lines 0 i) lines i (Word End) within
+    ∙ right (is_leave (line_at lines i)) _ _ is_no_leave
+    ∙ left (is_return (line_at lines i)) _ _ is
+
 -- an `else` or an `or` leads past its block
 land_part : (lines : List BlockLine) (i : ℕ) → i < length lines → parts (line_at lines i) ≡ true
     → ends (line_at lines i) ≡ false → land lines i ≡ left_by lines (boundary lines i)
 land_part lines i within is_part is_no_end =
+    let jumps = no_jump (line_at lines i) is_part in
     at_drop_more (land_from lines 0 i) lines i (Word End) within
+    ∙ right (is_leave (line_at lines i)) _ _ jumps.0
+    ∙ right (is_return (line_at lines i)) _ _ jumps.1
     ∙ by_tests (parts (line_at lines i)) (ends (line_at lines i)) is_part is_no_end
     ∙ leaves lines 0 (i + 1) (drop (i + 1) lines) refl
   where

@@ -9,7 +9,9 @@ mod Lands
 mod StepPlaces
 mod FirstPlaces
 mod FitLocks
+mod Hops
 mod LastFields
+mod LoopDepths
 mod Mentions
 mod OneDraft
 mod OneLine

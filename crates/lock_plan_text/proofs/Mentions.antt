@@ -179,7 +179,7 @@ met_word text draft next number Condvar names was says is =
     met_other text draft next number (Plan (Named Condvar)) names was says refl
     (taken_same (is_open draft || is_some (place_of draft.cond_names names.name)) draft (with_cond draft names.name) next (refl, refl) is)
 met_word text draft next number Start names was says is =
-    let after = with_start (with_mention draft number names.name) names.name in
+    let after = with_start (with_mention draft number names.name) number names.name in
     met_same text after next (number + 1)
     (said_same after next number (Plan (Named Start)) names
     (let_in (may_start draft names.name) (with_said after number (Plan (Named Start)) names) next is))

@@ -1,5 +1,5 @@
 -- Two lines with the same fields are the same.
-use Rattle.std.proofs.Common.{◌≡◌, ℕ, ◌<◌, ◌^◌, Bool, true, false, ◌&&◌, List, [], ◌∷◌, get_or, Option, Some, None, cond, codes, decimal, refl, ap, sym, ◌∙◌, arith}
+use Rattle.std.proofs.Common.{◌≡◌, ℕ, ◌<◌, ◌^◌, Bool, true, false, ◌&&◌, List, [], ◌∷◌, ◌++◌, get_or, Option, Some, None, cond, codes, decimal, refl, ap, sym, ◌∙◌, arith}
 use Rattle.std.specs.Prelude.{bytes_eq}
 use Rattle.std.proofs.lemmas.Bool.{false≢true}
 use Rattle.std.proofs.lemmas.Fmt.{decimal_injective, first_decimal}
@@ -22,8 +22,8 @@ use Rattle.lock_plan_text.specs.declared.parser.plan_line.PlanLine.TheVariants.{
 use Rattle.lock_plan_text.specs.declared.parser.text_line.TextLine.{TextLine}
 use Rattle.lock_plan_text.specs.declared.parser.text_line.TextLine.TheVariants as text
 use Rattle.lock_plan_text.specs.declared.parser.wait_line.WaitLine.{WaitLine}
-use Rattle.lock_plan_text.specs.declared.parser.wait_line.WaitLine.TheVariants.{Once, Until, UntilNot}
-use Rattle.lock_plan_text.specs.PlanLines.{IsFlagField, IsNamed, IsOneName, IsTextLine, TextNames, block_word, has_flag, text_fields, IsCopies, IsLineLock, IsPlanLine, IsVerb, copy_fields, kind_word, last_fields, limit_fields, line_word, named_word, one_name, party_word, plan_fields, until_fields}
+use Rattle.lock_plan_text.specs.declared.parser.wait_line.WaitLine.TheVariants as wait
+use Rattle.lock_plan_text.specs.PlanLines.{IsFlagField, IsNamed, IsOneName, IsTextLine, TextNames, block_word, has_flag, text_fields, IsCopies, IsLineLock, IsPlanLine, IsVerb, copy_fields, kind_word, last_fields, limit_fields, line_word, look_fields, timeout_fields, named_word, one_name, party_word, plan_fields, until_fields}
 
 -- a line without the limit of its lock
 abbrev of_kind : Kind → PlanLine
@@ -192,18 +192,24 @@ one_plan_line line other name another ok good same =
 by_block_word : List ℕ → Option BlockWord
 by_block_word word =
     cond (bytes_eq word (codes "repeat")) (Some block.Repeat)
+    (cond (bytes_eq word (codes "forever")) (Some block.Forever)
     (cond (bytes_eq word (codes "either")) (Some block.Either)
     (cond (bytes_eq word (codes "else")) (Some block.Else)
     (cond (bytes_eq word (codes "or")) (Some block.Or)
-    (cond (bytes_eq word (codes "end")) (Some block.End) None))))
+    (cond (bytes_eq word (codes "end")) (Some block.End)
+    (cond (bytes_eq word (codes "leave")) (Some block.Leave)
+    (cond (bytes_eq word (codes "return")) (Some block.Return) None)))))))
 
 block_by_word : (word : BlockWord) → by_block_word (block_word word) ≡ Some word
 unfolding by_block_word
 block_by_word block.Repeat = refl
+block_by_word block.Forever = refl
 block_by_word block.Either = refl
 block_by_word block.Else = refl
 block_by_word block.Or = refl
 block_by_word block.End = refl
+block_by_word block.Leave = refl
+block_by_word block.Return = refl
 
 same_words : (word other : BlockWord) → block_word word ≡ block_word other → word ≡ other
 same_words word other is =
@@ -213,6 +219,14 @@ no_try : by_word (codes "try") ≡ None
 unfolding by_word
 no_try = refl
 
+no_repeat : by_word (codes "repeat") ≡ None
+unfolding by_word
+no_repeat = refl
+
+no_assert : by_word (codes "assert") ≡ None
+unfolding by_word
+no_assert = refl
+
 no_wait : by_word (codes "wait") ≡ None
 unfolding by_word
 no_wait = refl
@@ -220,6 +234,9 @@ no_wait = refl
 -- a line about a name is no try and no wait
 other_word : (line : PlanLine) (word : List ℕ) → by_word word ≡ None → IsPlanLine line → line_word line ≡ word → ⊥
 other_word line word none ok is = let known : Some (bare line) ≡ None = sym (line_by_word line ok) ∙ (ap by_word is ∙ none) in cc
+
+pub is_no_repeat : (line : PlanLine) → IsPlanLine line → line_word line ≡ codes "repeat" → ⊥
+is_no_repeat line ok is = other_word line (codes "repeat") no_repeat ok is
 
 -- a word is that of one call
 one_verb : (is_rwlock for_rwlock : Bool) (step other : LockStep) → IsVerb is_rwlock step → IsVerb for_rwlock other
@@ -238,18 +255,62 @@ same_names a b name mutex flag =
 same_one : (a b : TextNames) → IsOneName a → IsOneName b → a.name ≡ b.name → a ≡ b
 same_one a b one other name = one.1 ∙ ap one_name name ∙ sym other.1
 
-same_until : (wait other : WaitLine) (flag another : List ℕ) → IsFlagField (has_flag wait) flag → IsFlagField (has_flag other) another
-    → until_fields wait flag ≡ until_fields other another → (wait ≡ other) × (flag ≡ another)
-same_until Once Once flag another ok good same = (refl, ok ∙ sym good)
-same_until Until Until flag another ok good same = (refl, cc)
-same_until UntilNot UntilNot flag another ok good same = (refl, cc)
-same_until wait other flag another ok good same = cc
-
 -- lines whose first fields differ
-apart : (word other : List ℕ) (last more : List (List ℕ)) → bytes_eq word other ≡ false → bytes_eq other other ≡ true
+pub apart : (word other : List ℕ) (last more : List (List ℕ)) → bytes_eq word other ≡ false → bytes_eq other other ≡ true
     → word ∷ last ≡ other ∷ more → ⊥
 apart word other last more differ itself same =
     false≢true (sym differ ∙ ap (λ (fields : List (List ℕ)). bytes_eq (get_or fields 0 []) other) same ∙ itself)
+
+same_look : (value other : Bool) (flag another : List ℕ) → look_fields value flag ≡ look_fields other another
+    → (value ≡ other) × (flag ≡ another)
+same_look true true flag another same = (refl, cc)
+same_look false false flag another same = (refl, cc)
+same_look true false flag another same = cc
+same_look false true flag another same = cc
+
+some_look : (value : Bool) (flag : List ℕ) → [] ≡ look_fields value flag → ⊥
+some_look true flag is = cc
+some_look false flag is = cc
+
+same_timed : (value other : Bool) (flag another : List ℕ)
+    → look_fields value flag ++ timeout_fields ≡ look_fields other another ++ timeout_fields → (value ≡ other) × (flag ≡ another)
+same_timed true true flag another same = (refl, cc)
+same_timed false false flag another same = (refl, cc)
+same_timed true false flag another same = cc
+same_timed false true flag another same = cc
+
+-- one field or two, and three or four
+no_time : (value other : Bool) (flag another : List ℕ) → look_fields value flag ≡ look_fields other another ++ timeout_fields → ⊥
+no_time true true flag another same = cc
+no_time true false flag another same = cc
+no_time false true flag another same = cc
+no_time false false flag another same = cc
+
+same_until : (wait other : WaitLine) (flag another : List ℕ) → IsFlagField (has_flag wait) flag → IsFlagField (has_flag other) another
+    → until_fields wait flag ≡ until_fields other another → (wait ≡ other) × (flag ≡ another)
+same_until wait.Once wait.Once flag another ok good same = (refl, ok ∙ sym good)
+same_until (wait.Until value) (wait.Until other) flag another ok good same =
+    let looks : look_fields value flag ≡ look_fields other another = cc in
+    let both = same_look value other flag another looks in
+    (ap wait.Until both.0, both.1)
+same_until wait.OrTimeout wait.OrTimeout flag another ok good same = (refl, ok ∙ sym good)
+same_until (wait.UntilOrTimeout value) (wait.UntilOrTimeout other) flag another ok good same =
+    let looks : look_fields value flag ++ timeout_fields ≡ look_fields other another ++ timeout_fields = cc in
+    let both = same_timed value other flag another looks in
+    (ap wait.UntilOrTimeout both.0, both.1)
+same_until (wait.Until value) (wait.UntilOrTimeout other) flag another ok good same =
+    let looks : look_fields value flag ≡ look_fields other another ++ timeout_fields = cc in
+    absurd (no_time value other flag another looks)
+same_until (wait.UntilOrTimeout value) (wait.Until other) flag another ok good same =
+    let looks : look_fields other another ≡ look_fields value flag ++ timeout_fields = cc in
+    absurd (no_time other value another flag looks)
+same_until wait.OrTimeout (wait.Until other) flag another ok good same = absurd (apart (codes "or") (codes "until") _ _ refl refl same)
+same_until wait.OrTimeout (wait.UntilOrTimeout other) flag another ok good same =
+    absurd (apart (codes "or") (codes "until") _ _ refl refl same)
+same_until (wait.Until value) wait.OrTimeout flag another ok good same = absurd (apart (codes "until") (codes "or") _ _ refl refl same)
+same_until (wait.UntilOrTimeout value) wait.OrTimeout flag another ok good same =
+    absurd (apart (codes "until") (codes "or") _ _ refl refl same)
+same_until wait other flag another ok good same = cc
 
 pub one_line : (line other : TextLine) (names others : TextNames) → IsTextLine line → IsTextLine other → IsNamed line names
     → IsNamed other others → text_fields line names ≡ text_fields other others → (line ≡ other) × (names ≡ others)
@@ -258,6 +319,10 @@ one_line (text.Plan line) (text.Plan other) names others ok good named called sa
     (ap text.Plan both.0, same_one names others named called both.1)
 one_line (text.Plan line) (text.Try is_rwlock step) names others ok good named called same =
     let word : line_word line ≡ codes "try" = cc in absurd (other_word line (codes "try") no_try ok word)
+one_line (text.Plan line) (text.Until value) names others ok good named called same =
+    let word : line_word line ≡ codes "repeat" = cc in absurd (other_word line (codes "repeat") no_repeat ok word)
+one_line (text.Plan line) (text.Assert value) names others ok good named called same =
+    let word : line_word line ≡ codes "assert" = cc in absurd (other_word line (codes "assert") no_assert ok word)
 one_line (text.Plan line) (text.Wait wait) names others ok good named called same =
     let word : line_word line ≡ codes "wait" = cc in absurd (other_word line (codes "wait") no_wait ok word)
 one_line (text.Try is_rwlock step) (text.Plan other) names others ok good named called same =
@@ -267,12 +332,44 @@ one_line (text.Try is_rwlock step) (text.Try for_rwlock other) names others ok g
     let name : names.name ≡ others.name = cc in
     let both = one_verb is_rwlock for_rwlock step other ok.0 good.0 words in
     (ap (λ (b : Bool). text.Try b step) both.0 ∙ ap (text.Try for_rwlock) both.1, same_one names others named called name)
+one_line (text.Try is_rwlock step) (text.Until value) names others ok good named called same =
+    absurd (apart (codes "try") (codes "repeat") _ _ refl refl same)
+one_line (text.Try is_rwlock step) (text.Assert value) names others ok good named called same =
+    absurd (apart (codes "try") (codes "assert") _ _ refl refl same)
 one_line (text.Try is_rwlock step) (text.Wait wait) names others ok good named called same =
     absurd (apart (codes "try") (codes "wait") _ _ refl refl same)
+one_line (text.Until value) (text.Plan other) names others ok good named called same =
+    let word : line_word other ≡ codes "repeat" = cc in absurd (other_word other (codes "repeat") no_repeat good word)
+one_line (text.Until value) (text.Try for_rwlock other) names others ok good named called same =
+    absurd (apart (codes "repeat") (codes "try") _ _ refl refl same)
+one_line (text.Until value) (text.Until other) names others ok good named called same =
+    let looks : look_fields value names.name ≡ look_fields other others.name = cc in
+    let both = same_look value other names.name others.name looks in
+    (ap text.Until both.0, same_one names others named called both.1)
+one_line (text.Until value) (text.Assert other) names others ok good named called same =
+    absurd (apart (codes "repeat") (codes "assert") _ _ refl refl same)
+one_line (text.Until value) (text.Wait wait) names others ok good named called same =
+    absurd (apart (codes "repeat") (codes "wait") _ _ refl refl same)
+one_line (text.Assert value) (text.Plan other) names others ok good named called same =
+    let word : line_word other ≡ codes "assert" = cc in absurd (other_word other (codes "assert") no_assert good word)
+one_line (text.Assert value) (text.Try for_rwlock other) names others ok good named called same =
+    absurd (apart (codes "assert") (codes "try") _ _ refl refl same)
+one_line (text.Assert value) (text.Until other) names others ok good named called same =
+    absurd (apart (codes "assert") (codes "repeat") _ _ refl refl same)
+one_line (text.Assert value) (text.Assert other) names others ok good named called same =
+    let looks : look_fields value names.name ≡ look_fields other others.name = cc in
+    let both = same_look value other names.name others.name looks in
+    (ap text.Assert both.0, same_one names others named called both.1)
+one_line (text.Assert value) (text.Wait wait) names others ok good named called same =
+    absurd (apart (codes "assert") (codes "wait") _ _ refl refl same)
 one_line (text.Wait wait) (text.Plan other) names others ok good named called same =
     let word : line_word other ≡ codes "wait" = cc in absurd (other_word other (codes "wait") no_wait good word)
 one_line (text.Wait wait) (text.Try for_rwlock other) names others ok good named called same =
     absurd (apart (codes "wait") (codes "try") _ _ refl refl same)
+one_line (text.Wait wait) (text.Until value) names others ok good named called same =
+    absurd (apart (codes "wait") (codes "repeat") _ _ refl refl same)
+one_line (text.Wait wait) (text.Assert value) names others ok good named called same =
+    absurd (apart (codes "wait") (codes "assert") _ _ refl refl same)
 one_line (text.Wait wait) (text.Wait other) names others ok good named called same =
     let name : names.name ≡ others.name = cc in
     let mutex : names.mutex ≡ others.mutex = cc in
@@ -282,4 +379,8 @@ one_line (text.Wait wait) (text.Wait other) names others ok good named called sa
 one_line (text.Word word) (text.Word other) names others ok good named called same =
     let words : block_word word ≡ block_word other = cc in
     (ap text.Word (same_words word other words), named ∙ sym called)
+one_line (text.Word word) (text.Assert value) names others ok good named called same =
+    let none : [] ≡ look_fields value others.name = cc in absurd (some_look value others.name none)
+one_line (text.Assert value) (text.Word word) names others ok good named called same =
+    let none : [] ≡ look_fields value names.name = cc in absurd (some_look value names.name none)
 one_line line other names others ok good named called same = cc

@@ -86,7 +86,7 @@ said_lines draft next number (Some lines) is = (lines, (refl, is))
 -- what a flag, a condition variable, a mention, a start and the lines of a party keep, a line of a word and a name keeps
 pub named_kept : (P : Draft → Type 0) (draft next : Draft) (number : ℕ) (word : NamedWord) (names : TextNames)
     → P (with_flag draft names.name) → P (with_cond draft names.name) → P (with_mention draft number names.name)
-    → P (with_start (with_mention draft number names.name) names.name)
+    → P (with_start (with_mention draft number names.name) number names.name)
     → ((from : Draft) → P from → with_said from number (Plan (Named word)) names ≡ Some next → P next)
     → P draft → with_named draft number word names ≡ Some next → P next
 named_kept P draft next number Flag names flagged conded mentioned started said kept is =
@@ -94,7 +94,7 @@ named_kept P draft next number Flag names flagged conded mentioned started said 
 named_kept P draft next number Condvar names flagged conded mentioned started said kept is =
     subst P (taken (is_open draft || is_some (place_of draft.cond_names names.name)) (with_cond draft names.name) next is) conded
 named_kept P draft next number Start names flagged conded mentioned started said kept is =
-    let after = with_start (with_mention draft number names.name) names.name in
+    let after = with_start (with_mention draft number names.name) number names.name in
     said after started (let_in (may_start draft names.name) (with_said after number (Plan (Named Start)) names) next is)
 named_kept P draft next number Join names flagged conded mentioned started said kept is =
     said (with_mention draft number names.name) mentioned is
@@ -202,11 +202,11 @@ made_mention text draft number name made is = by_test (is_some (place_of draft.m
     }
 
 -- a draft that differs only in what no line of a party depends on
-made_same : (text : ℕ → List ℕ) (draft : Draft) (first : ℕ) (started : List (List ℕ)) → Made text draft
-    → Made text (record draft { first = first; started = started })
-made_same text draft first started made = record {
+made_same : (text : ℕ → List ℕ) (draft : Draft) (first : ℕ) (started : List (List ℕ)) (starters start_lines : List ℕ) → Made text draft
+    → Made text (record draft { first = first; started = started; starters = starters; start_lines = start_lines })
+made_same text draft first started starters start_lines made = record {
   named = made.named;
-  tied = same_tied text draft (record draft { first = first; started = started })
+  tied = same_tied text draft (record draft { first = first; started = started; starters = starters; start_lines = start_lines })
       (record { locks = λ called i e. (e, refl); flags = λ called i e. e; conds = λ called i e. e; mentions = λ called i e. e })
       made.tied;
   mentioned = made.mentioned;
@@ -252,9 +252,9 @@ made_named text draft next number Condvar names made says is =
     (made_cond text draft names.name made)
 made_named text draft next number Start names made says is =
     let mentioned = with_mention draft number names.name in
-    let after = with_start mentioned names.name in
+    let after = with_start mentioned number names.name in
     made_said text after next number (Plan (Named Start)) names
-    (made_same text mentioned mentioned.first (mentioned.started ++ names.name ∷ [])
+    (made_same text mentioned mentioned.first after.started after.starters after.start_lines
     (made_mention text draft number names.name made (mention_of text number Start names refl says)))
     says
     (let_in (may_start draft names.name) (with_said after number (Plan (Named Start)) names) next is)
@@ -270,7 +270,7 @@ made_line text draft next number (Plan (Lock lock)) names made says is =
     (made_lock text draft lock names.name made)
 made_line text draft next number (Plan (Party serves copies)) names made says is =
     let start : Draft = record draft { first = length draft.parties } in
-    made_parties text serves start next (party_names names.name copies) (made_same text draft (length draft.parties) draft.started made)
+    made_parties text serves start next (party_names names.name copies) (made_same text draft (length draft.parties) draft.started draft.starters draft.start_lines made)
     (passed (is_open draft) (with_parties start serves (party_names names.name copies)) next is)
 made_line text draft next number (Plan (Named word)) names made says is = made_named text draft next number word names made says is
 made_line text draft next number line names made says is = made_said text draft next number line names made says is

@@ -1,5 +1,5 @@
 -- Lines of a party stay what they are when a draft gets more names.
-use Rattle.std.proofs.Common.{◌≡◌, ℕ, Bool, true, false, List, [], ◌∷◌, ◌++◌, get_or, Option, Some, None, refl, ap, ◌∙◌}
+use Rattle.std.proofs.Common.{◌≡◌, ℕ, Bool, List, [], ◌∷◌, ◌++◌, get_or, Option, Some, None, refl, ap, ◌∙◌}
 use Rattle.std.specs.Prelude.{option_map}
 use Rattle.std.specs.Option.{option_and_then}
 use Rattle.lock_base.specs.declared.machine.lock_step.LockStep.{LockStep}
@@ -7,15 +7,16 @@ use Rattle.lock_plan.specs.declared.lock.PlanLock.{PlanLock}
 use Rattle.lock_plan.specs.Worlds.{no_lock}
 use Rattle.lock_plan_text.specs.declared.parser.block_line.BlockLine.{BlockLine}
 use Rattle.lock_plan_text.specs.declared.parser.block_line.BlockLine.TheVariants as block
+use Rattle.lock_plan_text.specs.declared.parser.plain_line.PlainLine.TheVariants as plain
 use Rattle.lock_plan_text.specs.declared.parser.block_line.BlockWord.TheVariants.{End}
 use Rattle.lock_plan_text.specs.declared.parser.named_word.NamedWord.{NamedWord}
 use Rattle.lock_plan_text.specs.declared.parser.named_word.NamedWord.TheVariants.{Set, Clear, If, NotifyOne, NotifyAll, Start, Join}
 use Rattle.lock_plan_text.specs.declared.parser.plan_line.PlanLine.TheVariants.{Call, Named}
 use Rattle.lock_plan_text.specs.declared.parser.text_line.TextLine.{TextLine}
-use Rattle.lock_plan_text.specs.declared.parser.text_line.TextLine.TheVariants.{Plan, Try, Word, Wait}
+use Rattle.lock_plan_text.specs.declared.parser.text_line.TextLine.TheVariants.{Plan, Try, Word, Until, Assert, Wait}
 use Rattle.lock_plan_text.specs.declared.parser.wait_line.WaitLine.{WaitLine}
-use Rattle.lock_plan_text.specs.declared.parser.wait_line.WaitLine.TheVariants.{Once, Until, UntilNot}
-use Rattle.lock_plan_text.specs.Drafts.{Draft, call_on, step_on, named_call, named_line, one_line, own_lines, place_of, sleep_lines, until_lines, wait_lines}
+use Rattle.lock_plan_text.specs.declared.parser.wait_line.WaitLine.TheVariants as wait
+use Rattle.lock_plan_text.specs.Drafts.{Draft, call_on, step_on, named_call, named_line, one_line, own_lines, place_of, sleep_lines, timed_lines, timed_until_lines, until_lines, wait_lines}
 use Rattle.lock_plan_text.specs.PlanLines.{TextNames}
 
 -- what the one draft finds by a name, the other finds too
@@ -68,17 +69,31 @@ module _ (draft next : Draft) (keeps : Keeps draft next) where
       → sleep_lines next cond lock ≡ sleep_lines draft cond lock
   sleep_kept cond lock same = rw same refl
 
+  timed_kept : (cond lock : ℕ) → get_or next.locks lock no_lock ≡ get_or draft.locks lock no_lock
+      → timed_lines next cond lock ≡ timed_lines draft cond lock
+  timed_kept cond lock same = rw same refl
+
+  timed_until_kept : (value : Bool) (cond lock flag : ℕ) → get_or next.locks lock no_lock ≡ get_or draft.locks lock no_lock
+      → timed_until_lines next value cond lock flag ≡ timed_until_lines draft value cond lock flag
+  timed_until_kept value cond lock flag same = rw same refl
+
   wait_kept : (wait : WaitLine) (cond lock : ℕ) (flag : List ℕ) → get_or next.locks lock no_lock ≡ get_or draft.locks lock no_lock
       → IsKept (wait_lines draft wait cond lock flag) (wait_lines next wait cond lock flag)
-  wait_kept Once cond lock flag same lines is = ap Some (sleep_kept cond lock same) ∙ is
-  wait_kept Until cond lock flag same lines is =
-      ap (λ (sleep : List BlockLine). option_map (λ (f : ℕ). block.Until f true ∷ (sleep ++ block.Word End ∷ [])) (place_of next.flag_names flag))
+  wait_kept wait.Once cond lock flag same lines is = ap Some (sleep_kept cond lock same) ∙ is
+  wait_kept (wait.Until value) cond lock flag same lines is =
+      ap (λ (sleep : List BlockLine). option_map (λ (f : ℕ). block.Until f value ∷ (sleep ++ block.Word End ∷ [])) (place_of next.flag_names flag))
       (sleep_kept cond lock same)
-      ∙ map_kept (until_lines draft true cond lock) _ _ (keeps.flags flag) lines is
-  wait_kept UntilNot cond lock flag same lines is =
-      ap (λ (sleep : List BlockLine). option_map (λ (f : ℕ). block.Until f false ∷ (sleep ++ block.Word End ∷ [])) (place_of next.flag_names flag))
-      (sleep_kept cond lock same)
-      ∙ map_kept (until_lines draft false cond lock) _ _ (keeps.flags flag) lines is
+      ∙ map_kept (until_lines draft value cond lock) _ _ (keeps.flags flag) lines is
+  wait_kept wait.OrTimeout cond lock flag same lines is = ap Some (timed_kept cond lock same) ∙ is
+  wait_kept (wait.UntilOrTimeout value) cond lock flag same lines is =
+      by_flag (place_of draft.flag_names flag) (keeps.flags flag) is
+    where
+      by_flag : (o : Option ℕ) → ((i : ℕ) → o ≡ Some i → place_of next.flag_names flag ≡ Some i)
+          → option_map (timed_until_lines draft value cond lock) o ≡ Some lines
+          → option_map (timed_until_lines next value cond lock) (place_of next.flag_names flag) ≡ Some lines
+      by_flag None kept e = cc
+      by_flag (Some i) kept e =
+          ap (option_map (timed_until_lines next value cond lock)) (kept i refl) ∙ ap Some (timed_until_kept value cond lock i same) ∙ e
 
   pub kept_lines : (said : TextLine) (names : TextNames) → IsKept (own_lines draft said names) (own_lines next said names)
   kept_lines (Plan (Call for_rwlock step)) names =
@@ -88,6 +103,10 @@ module _ (draft next : Draft) (keeps : Keeps draft next) where
   kept_lines (Try for_rwlock step) names =
       map_kept one_line _ _ (map_kept block.Try _ _ (call_kept for_rwlock step names.name))
   kept_lines (Word word) names = λ lines is. is
+  kept_lines (Until value) names =
+      map_kept one_line _ _ (map_kept (λ (flag : ℕ). block.Until flag value) _ _ (keeps.flags names.name))
+  kept_lines (Assert value) names =
+      map_kept one_line _ _ (map_kept (λ (flag : ℕ). block.Plain (plain.Assert flag value)) _ _ (keeps.flags names.name))
   kept_lines (Wait wait) names =
       then_kept _ _ _ _
       (λ cond found. (

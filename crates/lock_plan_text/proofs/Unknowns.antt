@@ -7,11 +7,12 @@ use Rattle.lock_plan.specs.declared.fault.PlanFault.{PlanFault}
 use Rattle.lock_plan.specs.declared.fault.PlanFault.TheVariants as plan
 use Rattle.lock_plan.specs.Checks.{plan_fault}
 use Rattle.lock_plan_text.specs.declared.parser.fault.PlanTextFault.TheVariants.{UnknownParty}
+use Rattle.lock_plan_text.specs.Beginnings.{unbegun_line}
 use Rattle.lock_plan_text.specs.CallOrigins.{text_at}
 use Rattle.lock_plan_text.specs.Drafts.{Draft, no_draft, place_of, texts_of}
 use Rattle.lock_plan_text.specs.FaultLines.{IsMention, UnknownsHaveLines}
 use Rattle.lock_plan_text.specs.PartyLines.{programs_in}
-use Rattle.lock_plan_text.specs.PlanFaults.{by_line, or_plan_fault, unknown_line, unknown_mention}
+use Rattle.lock_plan_text.specs.PlanFaults.{by_line, or_later_fault, or_plan_fault, unknown_line, unknown_mention}
 use Rattle.lock_plan_text.proofs.FaultPlaces.{tied_at}
 use Rattle.lock_plan_text.proofs.Mentions.{Met, met_all}
 use Rattle.lock_plan_text.proofs.Origins.{made_of}
@@ -22,9 +23,13 @@ not_told draft (Some (plan.Call p k why)) number is = cc
 not_told draft (Some plan.TooLarge) number is = cc
 not_told draft (Some plan.OutOfMemory) number is = cc
 
-told_by : (draft : Draft) (o : Option ℕ) (number : ℕ) → or_plan_fault draft o ≡ Some (UnknownParty number) → o ≡ Some number
+not_begun : (draft : Draft) (o : Option ℕ) (number : ℕ) → or_plan_fault draft o ≡ Some (UnknownParty number) → ⊥
+not_begun draft (Some line) number is = cc
+not_begun draft None number is = not_told draft (plan_fault draft.locks (programs_in draft)) number is
+
+told_by : (draft : Draft) (o : Option ℕ) (number : ℕ) → or_later_fault draft o ≡ Some (UnknownParty number) → o ≡ Some number
 told_by draft (Some line) number is = cc
-told_by draft None number is = absurd (not_told draft (plan_fault draft.locks (programs_in draft)) number is)
+told_by draft None number is = absurd (not_begun draft (unbegun_line draft) number is)
 
 mention_at : (draft : Draft) (o : Option ℕ) (number : ℕ) → option_map (λ i. get_or draft.mention_lines i 0) o ≡ Some number
     → (i : ℕ) × ((o ≡ Some i) × (get_or draft.mention_lines i 0 ≡ number))

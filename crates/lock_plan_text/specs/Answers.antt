@@ -4,7 +4,8 @@ use Rattle.std.specs.Global.{Global}
 use Rattle.lock_plan.specs.declared.lock.PlanLock.{PlanLock}
 use Rattle.lock_plan.specs.declared.program.Place.{Place}
 use Rattle.lock_plan.specs.declared.program.Step.{Step}
-use Rattle.lock_plan.specs.Worlds.{Stand, is_refused, first_world}
+use Rattle.lock_plan.specs.Worlds.{Stand, first_world}
+use Rattle.lock_plan.specs.Stops.{all_stopped}
 use Rattle.lock_plan_text.specs.declared.names.Names.{Names}
 use Rattle.lock_plan_text.specs.Steps.{last_world, steps_text}
 use Rattle.lock_plan_text.specs.Stops.{stop_word, stop_lines}
@@ -17,7 +18,7 @@ none_text visited = codes "no deadlock, " ++ (decimal visited ++ codes " states\
 abbrev pub trace_text : List PlanLock → Names → List Stand → List Step → List ℕ
 trace_text locks names w trace =
     let stop = last_world locks w trace in
-    stop_word (is_refused locks stop) ++ (codes "\n" ++ (steps_text locks names w trace ++ stop_lines locks names stop))
+    stop_word (all_stopped locks stop) ++ (codes "\n" ++ (steps_text locks names w trace ++ stop_lines locks names stop))
 
 -- the answer to a plan, of what a search found
 abbrev pub answer_text : List PlanLock → List (List Place) → Names → Option (Vec Step Global) → ℕ → List ℕ

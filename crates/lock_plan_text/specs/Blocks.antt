@@ -9,17 +9,19 @@ use Rattle.lock_plan.specs.declared.program.Signal.{Signal}
 use Rattle.lock_plan.specs.declared.program.Signal.TheVariants as signal
 use Rattle.lock_plan.specs.Points.{said_below}
 use Rattle.lock_plan_text.specs.declared.parser.block_line.BlockLine.{BlockLine}
-use Rattle.lock_plan_text.specs.declared.parser.block_line.BlockLine.TheVariants.{Call, Try, Word, If, Until, Plain}
-use Rattle.lock_plan_text.specs.declared.parser.block_line.BlockWord.TheVariants.{Repeat, Either, Else, Or, End}
+use Rattle.lock_plan_text.specs.declared.parser.block_line.BlockLine.TheVariants.{Call, Try, Word, If, Until, TimedSleep, Plain}
+use Rattle.lock_plan_text.specs.declared.parser.block_line.BlockWord.TheVariants.{Repeat, Forever, Either, Else, Or, End, Leave, Return}
 use Rattle.lock_plan_text.specs.declared.parser.plain_line.PlainLine.{PlainLine}
-use Rattle.lock_plan_text.specs.declared.parser.plain_line.PlainLine.TheVariants.{Idle, Set, Clear, Sleep, NotifyOne, NotifyAll, Start, Join}
+use Rattle.lock_plan_text.specs.declared.parser.plain_line.PlainLine.TheVariants.{Idle, Set, Clear, Assert, Sleep, NotifyOne, NotifyAll, Start, Join}
 
 -- whether a line begins a block, ends one, or parts one: an `else`, an `or` or an `end`
 abbrev pub begins : BlockLine → Bool
 begins (Try call) = true
 begins (If flag) = true
 begins (Until flag value) = true
+begins (TimedSleep cond) = true
 begins (Word Repeat) = true
+begins (Word Forever) = true
 begins (Word Either) = true
 begins line = false
 
@@ -33,7 +35,7 @@ parts (Word Or) = true
 parts (Word End) = true
 parts line = false
 
--- whether a line neither begins, parts nor ends a block
+-- whether a line is a step that does not begin a block
 abbrev pub is_alone : BlockLine → Bool
 is_alone (Call call) = true
 is_alone (Plain line) = true
@@ -47,7 +49,17 @@ is_or line = false
 abbrev pub is_loop : BlockLine → Bool
 is_loop (Until flag value) = true
 is_loop (Word Repeat) = true
+is_loop (Word Forever) = true
 is_loop line = false
+
+-- whether a line leads past the innermost loop, or past the last line
+abbrev pub is_leave : BlockLine → Bool
+is_leave (Word Leave) = true
+is_leave line = false
+
+abbrev pub is_return : BlockLine → Bool
+is_return (Word Return) = true
+is_return line = false
 
 -- the line with this number; past the last line there is an `end`
 abbrev pub line_at : List BlockLine → ℕ → BlockLine
@@ -79,17 +91,30 @@ beginning_from lines depth (suc i) =
 abbrev pub beginning : List BlockLine → ℕ → ℕ
 beginning lines i = beginning_from lines 0 i
 
+-- how many blocks are open at line `i` from the innermost loop on; `depth` blocks between are open
+abbrev pub loop_depth_from : List BlockLine → ℕ → ℕ → ℕ
+loop_depth_from lines depth zero = 0
+loop_depth_from lines depth (suc i) =
+    if (depth == 0) && begins (line_at lines i)
+    then (if is_loop (line_at lines i) then 1 else loop_depth_from lines 0 i + 1)
+    else loop_depth_from lines (higher depth (line_at lines i)) i
+
+abbrev pub loop_depth : List BlockLine → ℕ → ℕ
+loop_depth lines i = loop_depth_from lines 0 i
+
 -- the line of the next step of a party that reaches line `i`, the first of `rest`, and that first leaves `leave`
--- blocks: an `end` leads back to its loop, or past it; an `else` or an `or` leads past its block; past the last line
--- the party has ended
+-- blocks: an `end` leads back to its loop, or past it; an `else` or an `or` leads past its block, and a `leave` past the
+-- innermost loop; at a `return` and past the last line the party has ended
 abbrev pub land_from : List BlockLine → ℕ → ℕ → List BlockLine → ℕ
 land_from lines leave i [] = length lines
 land_from lines leave i (line ∷ rest) =
     if nat_lt 0 leave then land_from lines (deeper leave line) (i + 1) rest
+    else (if is_leave line then land_from lines (loop_depth lines i) (i + 1) rest
+    else (if is_return line then length lines
     else (if not (parts line) then i
     else (if not (ends line) then land_from lines 1 (i + 1) rest
     else (if is_loop (line_at lines (beginning lines i)) then beginning lines i
-    else land_from lines 0 (i + 1) rest)))
+    else land_from lines 0 (i + 1) rest)))))
 
 abbrev pub land : List BlockLine → ℕ → ℕ
 land lines i = land_from lines 0 i (drop i lines)
@@ -98,9 +123,13 @@ land lines i = land_from lines 0 i (drop i lines)
 abbrev pub AreLands : List BlockLine → ℕ → List ℕ → Type 0
 AreLands lines first lands = (i : ℕ) → first ≤ i → get_or lands i (length lines) ≡ land lines i
 
+-- whether a line neither parts a block nor only leads on
+abbrev pub is_act : BlockLine → Bool
+is_act line = not (parts line || (is_leave line || is_return line))
+
 -- whether a line is a step: an `or` is one if a further `or` of its block follows
 abbrev pub is_step : List BlockLine → ℕ → Bool
-is_step lines i = not (parts (line_at lines i)) || (is_or (line_at lines i) && is_or (line_at lines (boundary lines i)))
+is_step lines i = is_act (line_at lines i) || (is_or (line_at lines i) && is_or (line_at lines (boundary lines i)))
 
 -- the number of the place of a step: how many steps come before it
 abbrev pub place_number : List BlockLine → ℕ → ℕ
@@ -116,6 +145,7 @@ abbrev pub signal_of : PlainLine → Signal
 signal_of Idle = signal.Idle
 signal_of (Set flag) = signal.Start flag
 signal_of (Clear flag) = signal.Clear flag
+signal_of (Assert flag value) = signal.Assert flag value
 signal_of (Sleep cond) = signal.Sleep cond
 signal_of (NotifyOne cond) = signal.NotifyOne cond
 signal_of (NotifyAll cond) = signal.NotifyAll cond
@@ -134,10 +164,12 @@ abbrev pub place_for : BlockLine → ℕ → ℕ → Place
 place_for (Call call) inside past = one_way (act.Call call) inside
 place_for (Try call) inside past = two_ways (act.Try call) inside past
 place_for (Word Repeat) inside past = two_ways (act.Choose block.Repeat) inside past
+place_for (Word Forever) inside past = one_way (act.Choose block.Repeat) inside
 place_for (Word word) inside past = two_ways (act.Choose block.Either) inside past
 place_for (If flag) inside past = two_ways (act.Choose (block.If flag)) inside past
 place_for (Until flag true) inside past = two_ways (act.Choose (block.If flag)) past inside
 place_for (Until flag false) inside past = two_ways (act.Choose (block.If flag)) inside past
+place_for (TimedSleep cond) inside past = two_ways (act.Choose (block.TimedSleep cond)) inside past
 place_for (Plain line) inside past = one_way (act.Signal (signal_of line)) inside
 
 abbrev pub place_of_line : List BlockLine → ℕ → Place

@@ -5,6 +5,7 @@ use Rattle.lock_plan.specs.Copies.{unnamed_copies}
 use Rattle.lock_plan.specs.Stops.{programs_of}
 use Rattle.lock_plan_text.specs.declared.parser.draft.PlanDraft.{PlanDraft}
 use Rattle.lock_plan_text.specs.declared.parser.named_plan.NamedPlan.{NamedPlan}
+use Rattle.lock_plan_text.specs.Beginnings.{unbegun_line}
 use Rattle.lock_plan_text.specs.Copies.{copies_in}
 use Rattle.lock_plan_text.specs.Drafts.{Draft, IsDraftOf}
 use Rattle.lock_plan_text.specs.OpenBlocks.{opened}
@@ -14,32 +15,36 @@ use Rattle.lock_plan_text.specs.PlanFaults.{unknown_line}
 abbrev pub drafted : PlanDraft → Draft
 drafted draft = record {
   locks = draft.locks.items;
-  lock_names = map string_bytes draft.names.locks.keys;
-  flag_names = map string_bytes draft.names.flags.keys;
-  cond_names = map string_bytes draft.names.conds.keys;
+  lock_names = map string_bytes draft.names.locks;
+  flag_names = map string_bytes draft.names.flags;
+  cond_names = map string_bytes draft.names.conds;
   parties = map (λ v. v.items) draft.parties.items;
-  party_names = map string_bytes draft.names.parties.keys;
+  party_names = map string_bytes draft.names.parties;
   servers = draft.servers.items;
   copies = draft.copies.items;
   first = draft.first;
   numbers = map (λ v. v.items) draft.numbers.items;
   blocks = opened draft.blocks;
-  mentions = map string_bytes draft.mentions.keys;
+  mentions = map string_bytes draft.mentions;
   mention_lines = draft.mention_lines.items;
-  started = map string_bytes draft.started.keys;
+  started = map string_bytes draft.started;
+  starters = draft.starters.items;
+  start_lines = draft.start_lines.items;
 }
 
--- the plan and the names are those of the draft, each party that a line mentions has a line, and each act can be made
+-- the plan and the names are those of the draft, each party that a line mentions has a line, each party begins, and each
+-- act can be made
 pub record IsMadeOf (draft : Draft) (named : NamedPlan) : Type 0 where
   pub locks : named.plan.locks.items ≡ draft.locks
   pub programs : programs_of named.plan ≡ programs_in draft
   pub servers : named.plan.servers.items ≡ draft.servers
   pub copies : named.plan.copies.items ≡ unnamed_copies (programs_in draft) (copies_in draft)
-  pub lock_names : map string_bytes named.names.locks.keys ≡ draft.lock_names
-  pub party_names : map string_bytes named.names.parties.keys ≡ draft.party_names
-  pub flag_names : map string_bytes named.names.flags.keys ≡ draft.flag_names
-  pub cond_names : map string_bytes named.names.conds.keys ≡ draft.cond_names
+  pub lock_names : map string_bytes named.names.locks ≡ draft.lock_names
+  pub party_names : map string_bytes named.names.parties ≡ draft.party_names
+  pub flag_names : map string_bytes named.names.flags ≡ draft.flag_names
+  pub cond_names : map string_bytes named.names.conds ≡ draft.cond_names
   pub known : unknown_line draft ≡ None
+  pub begun : unbegun_line draft ≡ None
   pub right : plan_fault draft.locks (programs_in draft) ≡ None
 
 -- the bytes are the text of the plan

@@ -15,7 +15,7 @@ use Rattle.lock_plan.specs.declared.lock.PlanLock.{PlanLock}
 use Rattle.lock_plan.specs.Worlds.{no_lock}
 use Rattle.lock_plan_text.specs.declared.parser.block_line.BlockLine.{BlockLine}
 use Rattle.lock_plan_text.specs.declared.parser.block_line.BlockLine.TheVariants as block
-use Rattle.lock_plan_text.specs.declared.parser.block_line.BlockWord.TheVariants.{End}
+use Rattle.lock_plan_text.specs.declared.parser.block_line.BlockWord.TheVariants.{Else, End, Leave}
 use Rattle.lock_plan_text.specs.declared.parser.named_word.NamedWord.{NamedWord}
 use Rattle.lock_plan_text.specs.declared.parser.named_word.NamedWord.TheVariants.{Flag, Condvar, Set, Clear, If, NotifyOne, NotifyAll, Start, Join}
 use Rattle.lock_plan_text.specs.declared.parser.open_block.OpenBlock.{OpenBlock}
@@ -24,9 +24,9 @@ use Rattle.lock_plan_text.specs.declared.parser.plan_line.Parties.{Parties}
 use Rattle.lock_plan_text.specs.declared.parser.plan_line.Parties.TheVariants.{One, Copies, Any}
 use Rattle.lock_plan_text.specs.declared.parser.plan_line.PlanLine.TheVariants.{Lock, Party, Call, Named}
 use Rattle.lock_plan_text.specs.declared.parser.text_line.TextLine.{TextLine}
-use Rattle.lock_plan_text.specs.declared.parser.text_line.TextLine.TheVariants.{Plan, Try, Word, Wait}
+use Rattle.lock_plan_text.specs.declared.parser.text_line.TextLine.TheVariants.{Plan, Try, Word, Until, Assert, Wait}
 use Rattle.lock_plan_text.specs.declared.parser.wait_line.WaitLine.{WaitLine}
-use Rattle.lock_plan_text.specs.declared.parser.wait_line.WaitLine.TheVariants.{Once, Until, UntilNot}
+use Rattle.lock_plan_text.specs.declared.parser.wait_line.WaitLine.TheVariants as wait
 use Rattle.lock_plan_text.specs.OpenBlocks.{has_loop, open_after}
 use Rattle.lock_plan_text.specs.PlanLines.{Says, TextNames}
 use Rattle.lock_script.specs.Lines.{lines_of}
@@ -52,8 +52,10 @@ pub record Draft : Type 0 where
   -- the names after `start` and `join`, each once, and the first line with each
   pub mentions : List (List ℕ)
   pub mention_lines : List ℕ
-  -- the names after `start`
+  -- the names after `start`, the party whose line starts each, and that line
   pub started : List (List ℕ)
+  pub starters : List ℕ
+  pub start_lines : List ℕ
 
 abbrev pub no_draft : Draft
 no_draft = record {
@@ -71,6 +73,8 @@ no_draft = record {
   mentions = [];
   mention_lines = [];
   started = [];
+  starters = [];
+  start_lines = [];
 }
 
 -- the place of a name
@@ -122,8 +126,12 @@ abbrev pub may_start : Draft → List ℕ → Bool
 may_start draft name =
     not (is_started draft name) && ((length draft.parties == draft.first + 1) && not (has_loop draft.blocks))
 
-abbrev pub with_start : Draft → List ℕ → Draft
-with_start draft name = record draft { started = draft.started ++ name ∷ [] }
+abbrev pub with_start : Draft → ℕ → List ℕ → Draft
+with_start draft number name = record draft {
+  started = draft.started ++ name ∷ [];
+  starters = draft.starters ++ draft.first ∷ [];
+  start_lines = draft.start_lines ++ number ∷ [];
+}
 
 -- whether the next party is a further copy of the last line of parties
 abbrev pub is_further : Draft → Bool
@@ -213,22 +221,46 @@ mutex_step step Reentrant = no_step
 abbrev pub mutex_call : Draft → LockStep → ℕ → PlanCall
 mutex_call draft step lock = record { lock = lock; step = mutex_step step (get_or draft.locks lock no_lock).kind }
 
+abbrev pub unlock_line : Draft → ℕ → BlockLine
+unlock_line draft lock = block.Call (mutex_call draft (Modes (Release Exclusive)) lock)
+
+abbrev pub lock_line : Draft → ℕ → BlockLine
+lock_line draft lock = block.Call (mutex_call draft (Modes (Acquire Exclusive)) lock)
+
 -- a wait: it unlocks the mutex, sleeps and locks it again
 abbrev pub sleep_lines : Draft → ℕ → ℕ → List BlockLine
-sleep_lines draft cond lock =
-    block.Call (mutex_call draft (Modes (Release Exclusive)) lock)
-    ∷ block.Plain (plain.Sleep cond)
-    ∷ block.Call (mutex_call draft (Modes (Acquire Exclusive)) lock)
-    ∷ []
+sleep_lines draft cond lock = unlock_line draft lock ∷ block.Plain (plain.Sleep cond) ∷ lock_line draft lock ∷ []
 
 -- the same in a loop, which a party leaves where the flag has this value
 abbrev pub until_lines : Draft → Bool → ℕ → ℕ → ℕ → List BlockLine
 until_lines draft value cond lock flag = block.Until flag value ∷ (sleep_lines draft cond lock ++ block.Word End ∷ [])
 
+-- a wait that a timeout ends too
+abbrev pub timed_lines : Draft → ℕ → ℕ → List BlockLine
+timed_lines draft cond lock =
+    unlock_line draft lock ∷ block.TimedSleep cond ∷ block.Word Else ∷ block.Word End ∷ lock_line draft lock ∷ []
+
+-- the same in a loop, which a party leaves after a timeout too
+abbrev pub timed_until_lines : Draft → Bool → ℕ → ℕ → ℕ → List BlockLine
+timed_until_lines draft value cond lock flag =
+    block.Until flag value
+    ∷ unlock_line draft lock
+    ∷ block.TimedSleep cond
+    ∷ lock_line draft lock
+    ∷ block.Word Else
+    ∷ lock_line draft lock
+    ∷ block.Word Leave
+    ∷ block.Word End
+    ∷ block.Word End
+    ∷ []
+
 abbrev pub wait_lines : Draft → WaitLine → ℕ → ℕ → List ℕ → Option (List BlockLine)
-wait_lines draft Once cond lock flag = Some (sleep_lines draft cond lock)
-wait_lines draft Until cond lock flag = option_map (until_lines draft true cond lock) (place_of draft.flag_names flag)
-wait_lines draft UntilNot cond lock flag = option_map (until_lines draft false cond lock) (place_of draft.flag_names flag)
+wait_lines draft wait.Once cond lock flag = Some (sleep_lines draft cond lock)
+wait_lines draft (wait.Until value) cond lock flag =
+    option_map (until_lines draft value cond lock) (place_of draft.flag_names flag)
+wait_lines draft wait.OrTimeout cond lock flag = Some (timed_lines draft cond lock)
+wait_lines draft (wait.UntilOrTimeout value) cond lock flag =
+    option_map (timed_until_lines draft value cond lock) (place_of draft.flag_names flag)
 
 -- the lines of a party that a line of the text says; none if a name in it has no line
 abbrev pub own_lines : Draft → TextLine → TextNames → Option (List BlockLine)
@@ -240,6 +272,10 @@ own_lines draft (Plan (Named word)) names = option_map one_line (named_line draf
 own_lines draft (Try for_rwlock step) names =
     option_map one_line (option_map block.Try (named_call draft for_rwlock step names.name))
 own_lines draft (Word word) names = Some (one_line (block.Word word))
+own_lines draft (Until value) names =
+    option_map one_line (option_map (λ flag. block.Until flag value) (place_of draft.flag_names names.name))
+own_lines draft (Assert value) names =
+    option_map one_line (option_map (λ flag. block.Plain (plain.Assert flag value)) (place_of draft.flag_names names.name))
 own_lines draft (Wait wait) names =
     option_and_then
     (λ cond. option_and_then (λ lock. wait_lines draft wait cond lock names.flag) (place_of draft.lock_names names.mutex))
@@ -257,7 +293,7 @@ with_named draft number Condvar names =
     if is_open draft || is_some (place_of draft.cond_names names.name) then None else Some (with_cond draft names.name)
 with_named draft number Start names =
     if may_start draft names.name
-    then with_said (with_start (with_mention draft number names.name) names.name) number (Plan (Named Start)) names
+    then with_said (with_start (with_mention draft number names.name) number names.name) number (Plan (Named Start)) names
     else None
 with_named draft number Join names = with_said (with_mention draft number names.name) number (Plan (Named Join)) names
 with_named draft number word names = with_said draft number (Plan (Named word)) names

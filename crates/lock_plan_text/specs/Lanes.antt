@@ -11,7 +11,7 @@ use Rattle.lock_plan.specs.declared.program.Act.TheVariants as act
 use Rattle.lock_plan.specs.declared.program.Act.TheVariants.{Call, Try, Choose}
 use Rattle.lock_plan.specs.declared.program.Place.{Place}
 use Rattle.lock_plan.specs.declared.program.Signal.{Signal}
-use Rattle.lock_plan.specs.declared.program.Signal.TheVariants.{Sleep, Join}
+use Rattle.lock_plan.specs.declared.program.Signal.TheVariants.{Sleep, Join, Assert}
 use Rattle.lock_plan.specs.declared.program.Step.{Step}
 use Rattle.lock_plan.specs.declared.turn.Turn.{Turn}
 use Rattle.lock_plan.specs.declared.turn.Turn.TheVariants.{Goes, Announces, Waits, Refused}
@@ -54,12 +54,12 @@ row_text widths (suc n) cell = cells_text widths cell n ++ (cell n ++ codes "\n"
 -- what a party holds; a dot for nothing, or a dash where it idles
 abbrev pub held_text : Names → Bool → List Marked → List ℕ
 held_text names idle [] = if idle then codes "-" else codes "."
-held_text names idle (m ∷ marks) = marks_text Letters names.locks.keys (m ∷ marks)
+held_text names idle (m ∷ marks) = marks_text Letters names.locks (m ∷ marks)
 
 -- the condition variable on which a party sleeps
 abbrev pub sleep_text : Names → Option ℕ → List ℕ
 sleep_text names None = []
-sleep_text names (Some cond) = codes " zz " ++ name_of names.conds.keys cond
+sleep_text names (Some cond) = codes " zz " ++ name_of names.conds cond
 
 -- a cell after a step: whether the party made it, what the party holds, and whether it sleeps
 abbrev pub step_cell : List PlanLock → Names → List Stand → ℕ → ℕ → List ℕ
@@ -78,13 +78,14 @@ is_stop_turn (Some Refused) = true
 
 -- an arrow to what a party with this act waits for: a lock, a condition variable or a row
 abbrev pub signal_arrow : Names → Signal → List ℕ
-signal_arrow names (Sleep cond) = codes "-> " ++ name_of names.conds.keys cond
+signal_arrow names (Sleep cond) = codes "-> " ++ name_of names.conds cond
 signal_arrow names (Join row) = codes "-> " ++ row_name names row
+signal_arrow names (Assert row value) = codes "-> " ++ row_name names row
 signal_arrow names signal = codes "."
 
 abbrev pub arrow_text : Names → Option Act → List ℕ
 arrow_text names None = codes "."
-arrow_text names (Some (Call call)) = codes "-> " ++ name_of names.locks.keys call.lock
+arrow_text names (Some (Call call)) = codes "-> " ++ name_of names.locks call.lock
 arrow_text names (Some (Try call)) = codes "."
 arrow_text names (Some (Choose block)) = codes "."
 arrow_text names (Some (act.Signal signal)) = signal_arrow names signal
@@ -95,7 +96,7 @@ stop_cell locks names w party =
     if is_stop_turn (turn_of locks w party) then arrow_text names (act_at w party) else codes "."
 
 abbrev pub cell_of : Plan → Names → Row → ℕ → List ℕ
-cell_of plan names Parties = name_of names.parties.keys
+cell_of plan names Parties = name_of names.parties
 cell_of plan names (After node mover) = step_cell plan.locks.items names (world_of plan node) mover
 cell_of plan names (Stop node) = stop_cell plan.locks.items names (world_of plan node)
 
@@ -107,14 +108,14 @@ rows_from locks names w (step ∷ trace) =
 
 -- the cells of all rows, of which the first has the names
 abbrev pub rows_of : List PlanLock → Names → List Stand → List Step → List (ℕ → List ℕ)
-rows_of locks names w trace = name_of names.parties.keys ∷ rows_from locks names w trace
+rows_of locks names w trace = name_of names.parties ∷ rows_from locks names w trace
 
 -- rows of so many cells, in columns as wide as their widest cells
 abbrev pub rows_text : List (ℕ → List ℕ) → ℕ → List ℕ
 rows_text rows parties = flat_map (row_text (widths_of rows parties) parties) rows
 
 abbrev pub lanes_text : List PlanLock → Names → List Stand → List Step → List ℕ
-lanes_text locks names w trace = rows_text (rows_of locks names w trace) (length names.parties.keys)
+lanes_text locks names w trace = rows_text (rows_of locks names w trace) (length names.parties)
 
 -- the drawing below an answer, if there is a trace
 abbrev pub drawing_text : List PlanLock → List (List Place) → Names → Option (Vec Step Global) → List ℕ

@@ -17,5 +17,7 @@ pub mod Signals
 pub mod Steps
 pub mod Stops
 pub mod Answers
+pub mod Beginnings
 pub mod Lanes
+pub mod LineNumbers
 pub mod Orders

@@ -10,10 +10,10 @@ name_of names number = get_or (map string_bytes names) number []
 
 -- rows are the parties, and then the flags
 abbrev pub is_party : Names → ℕ → Bool
-is_party names row = nat_lt row (length names.parties.keys)
+is_party names row = nat_lt row (length names.parties)
 
 abbrev pub row_name : Names → ℕ → List ℕ
 row_name names row =
     if is_party names row
-    then name_of names.parties.keys row
-    else name_of names.flags.keys (row - length names.parties.keys)
+    then name_of names.parties row
+    else name_of names.flags (row - length names.parties)

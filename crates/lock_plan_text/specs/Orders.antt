@@ -6,7 +6,6 @@ use Rattle.lock_plan.specs.declared.lock_order.LockOrder.{LockOrder}
 use Rattle.lock_plan.specs.declared.lock_order.LockOrder.TheVariants.{Kept, Broken}
 use Rattle.lock_plan.specs.declared.lock_order.Obstacle.{Obstacle}
 use Rattle.lock_plan.specs.declared.lock_order.Obstacle.TheVariants.{Waits, Uncovered, Ends, Reentrant}
-use Rattle.lock_plan_text.specs.declared.names.Names.{Names}
 use Rattle.lock_plan_text.specs.declared.parser.plan_text.PlanText.{PlanText}
 use Rattle.lock_plan_text.specs.Drafted.{drafted}
 use Rattle.lock_plan_text.specs.Names.{name_of}
@@ -14,10 +13,10 @@ use Rattle.lock_plan_text.specs.PartyLines.{number_of}
 use Rattle.lock_plan_text.specs.Texts.{is_any_number}
 
 abbrev pub lock_name : PlanText → ℕ → List ℕ
-lock_name text lock = name_of text.draft.names.locks.keys lock
+lock_name text lock = name_of text.draft.names.locks lock
 
 abbrev pub party_name : PlanText → ℕ → List ℕ
-party_name text party = name_of text.draft.names.parties.keys party
+party_name text party = name_of text.draft.names.parties party
 
 -- what comes before the name of the first lock, and of each other one
 abbrev pub separator : Bool → List ℕ
@@ -28,9 +27,10 @@ abbrev pub order_names : PlanText → Bool → List ℕ → List ℕ
 order_names text first [] = []
 order_names text first (lock ∷ locks) = separator first ++ (lock_name text lock ++ order_names text false locks)
 
--- the line of a party's place
-abbrev pub at_line : PlanText → ℕ → ℕ → List ℕ
-at_line text party place = codes "line " ++ (decimal (number_of (drafted text.draft) party place) ++ codes ": ")
+-- the line of a party's place, by the number that each line has
+abbrev pub at_line : (ℕ → ℕ) → PlanText → ℕ → ℕ → List ℕ
+at_line number text party place =
+    codes "line " ++ (decimal (number (number_of (drafted text.draft) party place)) ++ codes ": ")
 
 -- the end of a line about a party that holds a lock
 abbrev pub holds_text : PlanText → ℕ → List ℕ
@@ -40,23 +40,23 @@ abbrev pub waits_text : PlanText → ℕ → ℕ → List ℕ
 waits_text text party lock = party_name text party ++ (codes " waits for " ++ lock_name text lock)
 
 -- a party waits for a lock while it holds another one
-abbrev pub wait_line : PlanText → HeldWait → List ℕ
-wait_line text wait =
-    at_line text wait.party wait.place ++ (waits_text text wait.party wait.wanted ++ holds_text text wait.held)
+abbrev pub wait_line : (ℕ → ℕ) → PlanText → HeldWait → List ℕ
+wait_line number text wait =
+    at_line number text wait.party wait.place ++ (waits_text text wait.party wait.wanted ++ holds_text text wait.held)
 
 -- an act of which the order says nothing; a row past the parties is a flag
-abbrev pub uncovered_line : PlanText → ℕ → ℕ → List ℕ
-uncovered_line text party place =
-    if nat_lt party (length text.draft.names.parties.keys)
-    then at_line text party place ++ codes "an order covers no upgrade, announcement or signal\n"
+abbrev pub uncovered_line : (ℕ → ℕ) → PlanText → ℕ → ℕ → List ℕ
+uncovered_line number text party place =
+    if nat_lt party (length text.draft.names.parties)
+    then at_line number text party place ++ codes "an order covers no upgrade, announcement or signal\n"
     else codes "an order covers no flag\n"
 
-abbrev pub obstacle_line : PlanText → Obstacle → List ℕ
-obstacle_line text (Waits wait) = wait_line text wait
-obstacle_line text (Uncovered party place) = uncovered_line text party place
-obstacle_line text (Ends party lock) =
+abbrev pub obstacle_line : (ℕ → ℕ) → PlanText → Obstacle → List ℕ
+obstacle_line number text (Waits wait) = wait_line number text wait
+obstacle_line number text (Uncovered party place) = uncovered_line number text party place
+obstacle_line number text (Ends party lock) =
     party_name text party ++ (codes " ends" ++ holds_text text lock)
-obstacle_line text (Reentrant lock) = lock_name text lock ++ codes ": an order covers no reentrant lock\n"
+obstacle_line number text (Reentrant lock) = lock_name text lock ++ codes ": an order covers no reentrant lock\n"
 
 -- what to do where there are any number of parties
 abbrev pub advice : Bool → List ℕ
@@ -66,9 +66,10 @@ advice false = []
 abbrev pub kept_text : PlanText → List ℕ → List ℕ
 kept_text text locks = codes "no deadlock, in order:" ++ (order_names text true locks ++ codes "\n")
 
-abbrev pub broken_text : PlanText → List Obstacle → List ℕ
-broken_text text obstacles = codes "no order\n" ++ (flat_map (obstacle_line text) obstacles ++ advice (is_any_number text))
+abbrev pub broken_text : (ℕ → ℕ) → PlanText → List Obstacle → List ℕ
+broken_text number text obstacles =
+    codes "no order\n" ++ (flat_map (obstacle_line number text) obstacles ++ advice (is_any_number text))
 
-abbrev pub order_text : PlanText → LockOrder → List ℕ
-order_text text (Kept locks) = kept_text text locks.items
-order_text text (Broken obstacles) = broken_text text obstacles.items
+abbrev pub order_text : (ℕ → ℕ) → PlanText → LockOrder → List ℕ
+order_text number text (Kept locks) = kept_text text locks.items
+order_text number text (Broken obstacles) = broken_text number text obstacles.items

@@ -8,7 +8,7 @@ use Rattle.lock_plan.specs.declared.program.Signal.TheVariants as signal
 use Rattle.lock_plan_text.specs.declared.parser.block_line.BlockLine.{BlockLine}
 use Rattle.lock_plan_text.specs.declared.parser.block_line.BlockLine.TheVariants.{If, Until, Plain}
 use Rattle.lock_plan_text.specs.declared.parser.plain_line.PlainLine.{PlainLine}
-use Rattle.lock_plan_text.specs.declared.parser.plain_line.PlainLine.TheVariants.{Idle, Set, Clear, Start, Join}
+use Rattle.lock_plan_text.specs.declared.parser.plain_line.PlainLine.TheVariants.{Idle, Set, Clear, Assert, Start, Join}
 use Rattle.lock_plan_text.specs.Blocks.{program_of, step_numbers}
 use Rattle.lock_plan_text.specs.Drafts.{Draft, is_started, place_of}
 use Rattle.step_search.specs.Walks.{each_below}
@@ -24,6 +24,7 @@ party_row draft mention = unwrap_or (place_of draft.party_names (get_or draft.me
 abbrev pub plain_in_rows : Draft → PlainLine → PlainLine
 plain_in_rows draft (Set flag) = Set (flag_row draft flag)
 plain_in_rows draft (Clear flag) = Clear (flag_row draft flag)
+plain_in_rows draft (Assert flag value) = Assert (flag_row draft flag) value
 plain_in_rows draft (Start mention) = Start (party_row draft mention)
 plain_in_rows draft (Join mention) = Join (party_row draft mention)
 plain_in_rows draft line = line

@@ -7,11 +7,12 @@ use Rattle.lock_plan.specs.declared.fault.PlanFault.{PlanFault}
 use Rattle.lock_plan.specs.declared.fault.PlanFault.TheVariants as plan
 use Rattle.lock_plan.specs.Checks.{plan_fault}
 use Rattle.lock_plan_text.specs.declared.parser.fault.PlanTextFault.{PlanTextFault}
-use Rattle.lock_plan_text.specs.declared.parser.fault.PlanTextFault.TheVariants.{BadLine, UnknownParty, Call, TooLarge, TooLong, Full, OutOfMemory, InputFailed, OutputFailed}
+use Rattle.lock_plan_text.specs.declared.parser.fault.PlanTextFault.TheVariants.{BadLine, UnknownParty, NeverBegins, Call, TooLarge, TooLong, Full, OutOfMemory, InputFailed, OutputFailed}
 use Rattle.lock_script.specs.declared.fault.ReplayFault.{ReplayFault}
 use Rattle.lock_script.specs.declared.fault.ReplayFault.TheVariants as script
 use Rattle.step_search.specs.declared.fault.SearchFault.{SearchFault}
 use Rattle.step_search.specs.declared.fault.SearchFault.TheVariants as search
+use Rattle.lock_plan_text.specs.Beginnings.{unbegun_line}
 use Rattle.lock_plan_text.specs.Drafts.{Draft, IsDraftOf, IsFirstBadLine, place_of}
 use Rattle.lock_plan_text.specs.PartyLines.{number_of, programs_in}
 
@@ -19,6 +20,7 @@ use Rattle.lock_plan_text.specs.PartyLines.{number_of, programs_in}
 abbrev pub IsLineFault : List ℕ → PlanTextFault → Type 0
 IsLineFault bytes (BadLine number) = IsFirstBadLine bytes number
 IsLineFault bytes (UnknownParty number) = ⊥
+IsLineFault bytes (NeverBegins number) = ⊥
 IsLineFault bytes (Call number why) = ⊥
 IsLineFault bytes TooLarge = ⊥
 IsLineFault bytes TooLong = ⊥
@@ -41,12 +43,16 @@ by_line draft plan.TooLarge = TooLarge
 by_line draft plan.OutOfMemory = OutOfMemory
 
 abbrev pub or_plan_fault : Draft → Option ℕ → Option PlanTextFault
-or_plan_fault draft (Some number) = Some (UnknownParty number)
+or_plan_fault draft (Some number) = Some (NeverBegins number)
 or_plan_fault draft None = option_map (by_line draft) (plan_fault draft.locks (programs_in draft))
+
+abbrev pub or_later_fault : Draft → Option ℕ → Option PlanTextFault
+or_later_fault draft (Some number) = Some (UnknownParty number)
+or_later_fault draft None = or_plan_fault draft (unbegun_line draft)
 
 -- why a draft is no plan
 abbrev pub draft_fault : Draft → Option PlanTextFault
-draft_fault draft = or_plan_fault draft (unknown_line draft)
+draft_fault draft = or_later_fault draft (unknown_line draft)
 
 -- the bytes make a draft with this fault
 abbrev pub HasFault : List ℕ → PlanTextFault → Type 0
@@ -56,6 +62,7 @@ HasFault bytes fault = (draft : Draft) × (IsDraftOf bytes draft × (draft_fault
 abbrev pub IsPlanTextFault : List ℕ → PlanTextFault → Type 0
 IsPlanTextFault bytes (BadLine number) = IsFirstBadLine bytes number
 IsPlanTextFault bytes (UnknownParty number) = HasFault bytes (UnknownParty number)
+IsPlanTextFault bytes (NeverBegins number) = HasFault bytes (NeverBegins number)
 IsPlanTextFault bytes (Call number why) = HasFault bytes (Call number why)
 IsPlanTextFault bytes TooLarge = HasFault bytes TooLarge
 IsPlanTextFault bytes TooLong = ⊥

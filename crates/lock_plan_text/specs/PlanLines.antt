@@ -1,5 +1,5 @@
 -- The lines of a plan: each is given by the fields that it prints as.
-use Rattle.std.specs.Prelude.{◌≡◌, ℕ, ◌<◌, ◌≤◌, Bool, true, false, ◌&&◌, ◌||◌, ◌==◌, nat_lt, IsTrue, List, [], ◌∷◌, length, codes, decimal, if◌then◌else◌}
+use Rattle.std.specs.Prelude.{◌≡◌, ℕ, ◌<◌, ◌≤◌, Bool, true, false, ◌&&◌, ◌||◌, ◌==◌, nat_lt, IsTrue, List, [], ◌∷◌, ◌++◌, length, codes, decimal, if◌then◌else◌}
 use Rattle.std.specs.Bool.{⊤}
 use Rattle.std.specs.Char.{is_ascii_alphanumeric}
 use Rattle.std.specs.List.{list_all}
@@ -14,7 +14,7 @@ use Rattle.lock_base.specs.Limits.{IsLimit}
 use Rattle.lock_plan.specs.CallFaults.{is_of_kind}
 use Rattle.lock_plan_text.specs.Words.{step_word}
 use Rattle.lock_plan_text.specs.declared.parser.block_line.BlockWord.{BlockWord}
-use Rattle.lock_plan_text.specs.declared.parser.block_line.BlockWord.TheVariants.{Repeat, Either, Else, Or, End}
+use Rattle.lock_plan_text.specs.declared.parser.block_line.BlockWord.TheVariants.{Repeat, Forever, Either, Else, Or, End, Leave, Return}
 use Rattle.lock_plan_text.specs.declared.parser.line_names.LineNames.{LineNames}
 use Rattle.lock_plan_text.specs.declared.parser.named_word.NamedWord.{NamedWord}
 use Rattle.lock_plan_text.specs.declared.parser.named_word.NamedWord.TheVariants.{Flag, Condvar, Set, Clear, If, NotifyOne, NotifyAll, Start, Join}
@@ -23,9 +23,9 @@ use Rattle.lock_plan_text.specs.declared.parser.plan_line.Parties.TheVariants.{O
 use Rattle.lock_plan_text.specs.declared.parser.plan_line.PlanLine.{PlanLine}
 use Rattle.lock_plan_text.specs.declared.parser.plan_line.PlanLine.TheVariants.{Lock, Party, Call, Named}
 use Rattle.lock_plan_text.specs.declared.parser.text_line.TextLine.{TextLine}
-use Rattle.lock_plan_text.specs.declared.parser.text_line.TextLine.TheVariants.{Plan, Try, Word, Wait}
+use Rattle.lock_plan_text.specs.declared.parser.text_line.TextLine.TheVariants.{Plan, Try, Word, Until, Assert, Wait}
 use Rattle.lock_plan_text.specs.declared.parser.wait_line.WaitLine.{WaitLine}
-use Rattle.lock_plan_text.specs.declared.parser.wait_line.WaitLine.TheVariants.{Once, Until, UntilNot}
+use Rattle.lock_plan_text.specs.declared.parser.wait_line.WaitLine.TheVariants as wait
 use Rattle.lock_script.specs.Lines.{fields_of}
 
 -- a letter, a digit, `_`, `-` or `.`
@@ -123,10 +123,13 @@ IsPlanLine (Named word) = ⊤
 
 abbrev pub block_word : BlockWord → List ℕ
 block_word Repeat = codes "repeat"
+block_word Forever = codes "forever"
 block_word Either = codes "either"
 block_word Else = codes "else"
 block_word Or = codes "or"
 block_word End = codes "end"
+block_word Leave = codes "leave"
+block_word Return = codes "return"
 
 -- the names of a line: that of a lock, a party, a flag or a condition variable, and those of the mutex and the flag of a wait;
 -- a name that a line does not have is empty
@@ -144,11 +147,20 @@ no_names = one_name []
 abbrev pub names_of : LineNames → TextNames
 names_of names = record { name = names.name.now; mutex = names.mutex.now; flag = names.flag.now }
 
+-- the fields of a flag that is to have a value
+abbrev pub look_fields : Bool → List ℕ → List (List ℕ)
+look_fields true flag = flag ∷ []
+look_fields false flag = codes "not" ∷ flag ∷ []
+
+abbrev pub timeout_fields : List (List ℕ)
+timeout_fields = codes "or" ∷ codes "timeout" ∷ []
+
 -- the fields of a wait after the name of its mutex
 abbrev pub until_fields : WaitLine → List ℕ → List (List ℕ)
-until_fields Once flag = []
-until_fields Until flag = codes "until" ∷ flag ∷ []
-until_fields UntilNot flag = codes "until" ∷ codes "not" ∷ flag ∷ []
+until_fields wait.Once flag = []
+until_fields (wait.Until value) flag = codes "until" ∷ look_fields value flag
+until_fields wait.OrTimeout flag = timeout_fields
+until_fields (wait.UntilOrTimeout value) flag = codes "until" ∷ (look_fields value flag ++ timeout_fields)
 
 abbrev pub wait_fields : WaitLine → TextNames → List (List ℕ)
 wait_fields wait names = names.name ∷ names.mutex ∷ until_fields wait names.flag
@@ -158,6 +170,8 @@ abbrev pub text_fields : TextLine → TextNames → List (List ℕ)
 text_fields (Plan line) names = plan_fields line names.name
 text_fields (Try is_rwlock step) names = codes "try" ∷ step_word is_rwlock step ∷ names.name ∷ []
 text_fields (Word word) names = block_word word ∷ []
+text_fields (Until value) names = codes "repeat" ∷ codes "until" ∷ look_fields value names.name
+text_fields (Assert value) names = codes "assert" ∷ look_fields value names.name
 text_fields (Wait wait) names = codes "wait" ∷ wait_fields wait names
 
 -- whether a call that does the step can be tried
@@ -171,6 +185,8 @@ abbrev pub IsTextLine : TextLine → Type 0
 IsTextLine (Plan line) = IsPlanLine line
 IsTextLine (Try is_rwlock step) = IsVerb is_rwlock step × IsTrue (is_tried step)
 IsTextLine (Word word) = ⊤
+IsTextLine (Until value) = ⊤
+IsTextLine (Assert value) = ⊤
 IsTextLine (Wait wait) = ⊤
 
 -- the names are one name
@@ -179,9 +195,10 @@ IsOneName names = IsTrue (is_name names.name) × (names ≡ one_name names.name)
 
 -- whether a wait names a flag
 abbrev pub has_flag : WaitLine → Bool
-has_flag Once = false
-has_flag Until = true
-has_flag UntilNot = true
+has_flag wait.Once = false
+has_flag (wait.Until value) = true
+has_flag wait.OrTimeout = false
+has_flag (wait.UntilOrTimeout value) = true
 
 -- the name of the flag of a wait, if there is one
 abbrev pub IsFlagField : Bool → List ℕ → Type 0
@@ -199,6 +216,8 @@ abbrev pub IsNamed : TextLine → TextNames → Type 0
 IsNamed (Plan line) names = IsOneName names
 IsNamed (Try is_rwlock step) names = IsOneName names
 IsNamed (Word word) names = names ≡ no_names
+IsNamed (Until value) names = IsOneName names
+IsNamed (Assert value) names = IsOneName names
 IsNamed (Wait wait) names = AreWaitNames (has_flag wait) names
 
 -- the text is such a line, with these names

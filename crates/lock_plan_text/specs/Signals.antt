@@ -5,9 +5,9 @@ use Rattle.std.proofs.Common.{get_or}
 use Rattle.lock_plan.specs.declared.program.Act.{Act}
 use Rattle.lock_plan.specs.declared.program.Act.TheVariants as act
 use Rattle.lock_plan.specs.declared.program.Block.{Block}
-use Rattle.lock_plan.specs.declared.program.Block.TheVariants.{Repeat, Either, If}
+use Rattle.lock_plan.specs.declared.program.Block.TheVariants.{Repeat, Either, If, TimedSleep}
 use Rattle.lock_plan.specs.declared.program.Signal.{Signal}
-use Rattle.lock_plan.specs.declared.program.Signal.TheVariants.{Idle, Sleep, Start, Clear, Join, NotifyOne, NotifyAll}
+use Rattle.lock_plan.specs.declared.program.Signal.TheVariants.{Idle, Sleep, Start, Clear, Join, Assert, NotifyOne, NotifyAll}
 use Rattle.lock_plan.specs.Points.{said_below}
 use Rattle.lock_plan.specs.Signals.{sleeps_on}
 use Rattle.lock_plan.specs.Worlds.{Stand, no_stand, act_of}
@@ -21,6 +21,7 @@ act_at w row = act_of (get_or w row no_stand)
 -- the condition variable on which a row with this act sleeps
 abbrev pub cond_of : Option Act → Option ℕ
 cond_of (Some (act.Signal (Sleep cond))) = Some cond
+cond_of (Some (act.Choose (TimedSleep cond))) = Some cond
 cond_of here = None
 
 -- the condition variable on which a row sleeps
@@ -45,11 +46,19 @@ rows_text names (row ∷ rows) = join_by (row_name names) (codes ", ") (row ∷ 
 
 -- a notification: its condition variable, and the rows that it wakes
 abbrev pub notice_text : Names → ℕ → List ℕ → List ℕ
-notice_text names cond rows = name_of names.conds.keys cond ++ (codes ": wakes " ++ rows_text names rows)
+notice_text names cond rows = name_of names.conds cond ++ (codes ": wakes " ++ rows_text names rows)
 
 abbrev pub start_word : Bool → List ℕ
 start_word true = codes "start "
 start_word false = codes "set "
+
+-- an assertion of a row
+abbrev pub assert_word : Bool → List ℕ
+assert_word true = codes "assert "
+assert_word false = codes "assert not "
+
+abbrev pub assert_text : Names → ℕ → Bool → List ℕ
+assert_text names row value = assert_word value ++ row_name names row
 
 -- a signal that goes this way from a world
 abbrev pub signal_text : Names → List Stand → ℕ → Signal → List ℕ
@@ -58,10 +67,11 @@ signal_text names w way (Sleep cond) = []
 signal_text names w way (Start row) = start_word (is_party names row) ++ row_name names row
 signal_text names w way (Clear row) = codes "clear " ++ row_name names row
 signal_text names w way (Join row) = codes "join " ++ row_name names row
+signal_text names w way (Assert row value) = assert_text names row value
 signal_text names w way (NotifyOne cond) = codes "notify_one " ++ notice_text names cond (woken way)
 signal_text names w way (NotifyAll cond) = codes "notify_all " ++ notice_text names cond (sleepers w cond)
 
--- a choice of the first way or the other one
+-- a choice of the first way or the other one; of a sleep, only the timeout is a step of the sleeper
 abbrev pub turn_text : Bool → List ℕ
 turn_text other = if other then codes ": past" else codes ": in"
 
@@ -70,3 +80,4 @@ choice_text names other Repeat = codes "repeat" ++ turn_text other
 choice_text names other Either = codes "either" ++ turn_text other
 choice_text names other (If row) =
     codes "if " ++ (row_name names row ++ (if other then codes ": false" else codes ": true"))
+choice_text names other (TimedSleep cond) = codes "timeout " ++ name_of names.conds cond

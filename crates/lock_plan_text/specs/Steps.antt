@@ -20,7 +20,7 @@ use Rattle.lock_plan_text.specs.Words.{step_word}
 -- a call: its word and its lock
 abbrev pub call_text : List PlanLock → Names → PlanCall → List ℕ
 call_text locks names call =
-    step_word (is_rwlock (get_or locks call.lock no_lock).kind) call.step ++ (codes " " ++ name_of names.locks.keys call.lock)
+    step_word (is_rwlock (get_or locks call.lock no_lock).kind) call.step ++ (codes " " ++ name_of names.locks call.lock)
 
 -- what a step does: the call, or an announcement for it
 abbrev pub made_step : Option Turn → LockStep → LockStep
@@ -36,7 +36,7 @@ made_call turn call = record { lock = call.lock; step = made_step turn call.step
 -- the release of a mutex, after which its party sleeps
 abbrev pub wait_text : Names → ℕ → ℕ → List ℕ
 wait_text names cond lock =
-    codes "wait " ++ (name_of names.conds.keys cond ++ (codes " " ++ name_of names.locks.keys lock))
+    codes "wait " ++ (name_of names.conds cond ++ (codes " " ++ name_of names.locks lock))
 
 -- what a call does in this turn, after which its party sleeps on this condition variable or on none
 abbrev pub call_by : List PlanLock → Names → Option Turn → Option ℕ → PlanCall → List ℕ
@@ -71,7 +71,7 @@ stepped locks w step = or_world w (world_step locks w step)
 -- the line of a step
 abbrev pub step_text : List PlanLock → Names → List Stand → Step → List ℕ
 step_text locks names w step =
-    name_of names.parties.keys step.party
+    name_of names.parties step.party
     ++ (codes " " ++ (made_text locks names w (stepped locks w step) step ++ codes "\n"))
 
 -- the world after a trace

@@ -1,6 +1,6 @@
 -- The stop of a trace: what it is, who is stopped, and who holds what.
-use Rattle.std.specs.Prelude.{ℕ, ◌-◌, ◌==◌, ◌&&◌, Bool, true, false, not, List, [], ◌∷◌, ◌++◌, codes, decimal}
-use Rattle.std.specs.List.{flat_map}
+use Rattle.std.specs.Prelude.{ℕ, ◌-◌, ◌==◌, ◌&&◌, Bool, true, false, not, if◌then◌else◌, List, [], ◌∷◌, ◌++◌, codes, decimal, Some, is_some}
+use Rattle.std.specs.List.{flat_map, list_any}
 use Rattle.std.proofs.Common.{get_or}
 use Rattle.lock_base.specs.declared.machine.lock_step.LockStep.{LockStep}
 use Rattle.lock_base.specs.declared.machine.lock_step.LockStep.TheVariants.{Modes, Announce, Withdraw}
@@ -11,30 +11,37 @@ use Rattle.lock_plan.specs.declared.program.Act.{Act}
 use Rattle.lock_plan.specs.declared.program.Act.TheVariants as act
 use Rattle.lock_plan.specs.declared.program.Act.TheVariants.{Call, Try, Choose}
 use Rattle.lock_plan.specs.declared.program.Signal.{Signal}
-use Rattle.lock_plan.specs.declared.program.Signal.TheVariants.{Sleep, Join}
+use Rattle.lock_plan.specs.declared.program.Signal.TheVariants.{Sleep, Join, Assert}
 use Rattle.lock_plan.specs.declared.stop.PartyHold.{PartyHold}
 use Rattle.lock_plan.specs.declared.stop.Stopped.{Stopped}
-use Rattle.lock_plan.specs.Worlds.{Stand, no_lock}
+use Rattle.lock_plan.specs.Worlds.{Stand, no_lock, call_in}
 use Rattle.lock_plan.specs.Stops.{all_holds, all_stopped}
 use Rattle.lock_plan_text.specs.declared.printer.mark.Style.TheVariants.{Words}
 use Rattle.lock_plan_text.specs.declared.names.Names.{Names}
 use Rattle.lock_plan_text.specs.Names.{name_of, row_name}
 use Rattle.lock_plan_text.specs.Marks.{holders, marks_text}
+use Rattle.lock_plan_text.specs.Signals.{assert_text}
 use Rattle.lock_plan_text.specs.Steps.{call_text}
 
--- the word for a stop
-abbrev pub stop_word : Bool → List ℕ
-stop_word true = codes "refused"
-stop_word false = codes "deadlock"
+-- whether a stopped party's call is refused
+abbrev pub is_refused_call : Stopped → Bool
+is_refused_call s = s.is_refused && is_some (call_in (Some s.act))
+
+-- the word for a stop with these stopped parties: if no call is refused, what is refused is an assertion
+abbrev pub stop_word : List Stopped → List ℕ
+stop_word list =
+    if list_any is_refused_call list then codes "refused"
+    else (if list_any (λ s. s.is_refused) list then codes "assertion" else codes "deadlock")
 
 abbrev pub says : Bool → List ℕ
 says true = codes " refused "
 says false = codes " waits for "
 
--- what a party with this act waits for: its call, a notification, or the end of a row
+-- what a party with this act waits for: its call, a notification, or the end of a row; or what it asserts
 abbrev pub signal_awaited : Names → Signal → List ℕ
-signal_awaited names (Sleep cond) = codes "notify " ++ name_of names.conds.keys cond
+signal_awaited names (Sleep cond) = codes "notify " ++ name_of names.conds cond
 signal_awaited names (Join row) = codes "join " ++ row_name names row
+signal_awaited names (Assert row value) = assert_text names row value
 signal_awaited names signal = []
 
 abbrev pub awaited_text : List PlanLock → Names → Act → List ℕ
@@ -67,7 +74,7 @@ limit_text false limit = []
 -- who holds a lock; if it has all its readers, each hold and the limit
 abbrev pub holds_text : Names → Bool → ℕ → List PartyHold → List ℕ
 holds_text names full limit holds =
-    marks_text Words names.parties.keys (holders full holds) ++ limit_text full limit
+    marks_text Words names.parties (holders full holds) ++ limit_text full limit
 
 abbrev pub call_holders : Names → PlanLock → List PartyHold → LockStep → List ℕ
 call_holders names lock holds step = codes ": " ++ holds_text names (is_full lock.limit holds step) lock.limit holds
@@ -83,7 +90,7 @@ holders_text locks names w (act.Signal signal) = []
 -- the line of a stopped party
 abbrev pub stopped_line : List PlanLock → Names → List Stand → Stopped → List ℕ
 stopped_line locks names w s =
-    name_of names.parties.keys s.party
+    name_of names.parties s.party
     ++ (says s.is_refused
     ++ (awaited_text locks names s.act
     ++ (holders_text locks names w s.act ++ codes "\n")))

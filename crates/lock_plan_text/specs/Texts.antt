@@ -8,4 +8,4 @@ abbrev pub has_star : List ℕ → Bool
 has_star name = list_any (λ byte. byte == 42) name
 
 abbrev pub is_any_number : PlanText → Bool
-is_any_number text = list_any (λ name. has_star (string_bytes name)) text.draft.names.parties.keys
+is_any_number text = list_any (λ name. has_star (string_bytes name)) text.draft.names.parties

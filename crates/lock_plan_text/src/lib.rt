@@ -6,10 +6,14 @@
 //! `PlanFaults` the faults. `Answers` is the text of an answer, and `Lanes` that of a drawing.
 #![tactic(auto)]
 
+mod line_numbers;
+mod name_set;
 mod names;
 mod parser;
 mod printer;
 
+pub use line_numbers::LineNumbers;
+pub use name_set::NameSet;
 pub use names::Names;
 pub use parser::{
     NamedPlan, PlanText, PlanTextFault, calls_have_lines, parse_plan, parse_text,

@@ -2,16 +2,16 @@
 ghost use Rattle.std.specs.Prelude.{◌≡◌, ◌++◌, OnOk, string_bytes};
 ghost use Rattle.lock_plan_text.specs.Names.{name_of, is_party, row_name};
 
-use indexmap::IndexSet;
+use crate::name_set::NameSet;
 use std::alloc::AllocError;
 
 /// The names of a plan's locks, parties, flags and condition variables, in the plan's order.
 #[derive(Drop)]
 pub struct Names {
-    pub locks: IndexSet<String>,
-    pub parties: IndexSet<String>,
-    pub flags: IndexSet<String>,
-    pub conds: IndexSet<String>,
+    pub locks: NameSet,
+    pub parties: NameSet,
+    pub flags: NameSet,
+    pub conds: NameSet,
 }
 
 /// Appends the name with this number.

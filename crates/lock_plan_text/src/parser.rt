@@ -5,6 +5,7 @@
 //! makes places of lines, and `named_plan` makes the plan.
 mod add_named;
 mod any_number;
+mod beginnings;
 mod block_line;
 mod block_word;
 mod copies;
@@ -13,6 +14,7 @@ mod fault;
 mod limit;
 mod line_names;
 mod lines;
+mod look;
 mod meaning;
 mod name;
 mod named_plan;

@@ -1,3 +1,11 @@
+mod Backs
+mod CountTexts
+mod Cuts
 mod Founds
+mod IndexTexts
 mod Lefts
+mod PartyCopies
+mod Puts
+mod RepeatBlocks
+mod Reversed
 mod TextFaults

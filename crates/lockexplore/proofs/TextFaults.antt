@@ -4,7 +4,7 @@ use Rattle.std.specs.Prelude.{IfOk, String}
 use Rattle.std.specs.Global.{Global}
 use Rattle.lock_script.specs.Lines.{lines_of}
 use Rattle.lock_plan_text.specs.declared.parser.fault.PlanTextFault.{PlanTextFault}
-use Rattle.lock_plan_text.specs.declared.parser.fault.PlanTextFault.TheVariants.{BadLine, UnknownParty, Call, TooLarge, TooLong, Full, OutOfMemory, InputFailed, OutputFailed}
+use Rattle.lock_plan_text.specs.declared.parser.fault.PlanTextFault.TheVariants.{BadLine, UnknownParty, NeverBegins, Call, TooLarge, TooLong, Full, OutOfMemory, InputFailed, OutputFailed}
 use Rattle.lock_plan.specs.Memory.{IsSearchFault}
 use Rattle.lock_plan_text.specs.Drafted.{IsPlanOf, drafted}
 use Rattle.lock_plan_text.specs.Drafts.{IsDraftOf}
@@ -13,7 +13,8 @@ use Rattle.lock_plan_text.specs.PlanFaults.{IsPlanTextFault, of_search}
 use Rattle.lock_plan_text.specs.declared.parser.named_plan.NamedPlan.{NamedPlan}
 use Rattle.step_search.specs.declared.fault.SearchFault.{SearchFault}
 use Rattle.step_search.specs.declared.fault.SearchFault.TheVariants as search
-use Rattle.lockexplore.specs.PlainTexts.{line_number, number_in, numbers_from, plain_text}
+use Rattle.lock_plan_text.specs.LineNumbers.{number_in}
+use Rattle.lockexplore.specs.PlainTexts.{line_number, numbers_of, plain_text}
 use Rattle.lockexplore.specs.declared.arguments.Form.{Form}
 use Rattle.lockexplore.specs.declared.verdict.Verdict.{Verdict}
 use Rattle.lockexplore.specs.PlanAnswers.{IsAnswerBy, IsOrderAnswer, IsPlanAnswer, is_by_order}
@@ -23,21 +24,22 @@ pub script_fault : (script : List ℕ) (memory : ℕ) (fault : PlanTextFault) �
     → IsScriptFault script memory (renumbered (line_number script) fault)
 script_fault script memory (BadLine line) is = (line, (refl, is))
 script_fault script memory (UnknownParty line) is = (line, (refl, is))
+script_fault script memory (NeverBegins line) is = (line, (refl, is))
 script_fault script memory (Call line why) is = (line, (refl, is))
 script_fault script memory TooLarge is = is
-script_fault script memory TooLong is = is
+script_fault script memory TooLong is = absurd is
 script_fault script memory (Full count) is = is
 script_fault script memory OutOfMemory is = is
 script_fault script memory InputFailed is = is
 script_fault script memory OutputFailed is = is
 
 pub told_fault : (script bytes numbers : List ℕ) (end memory : ℕ) (fault told : PlanTextFault) → bytes ≡ plain_text script
-    → numbers ≡ numbers_from 1 (lines_of script) → end ≡ length (lines_of script) + 1
+    → numbers ≡ numbers_of script → end ≡ length (lines_of script) + 1
     → told ≡ renumbered (number_in numbers end) fault → IsPlanFault bytes memory fault → IsScriptFault script memory told
 told_fault script bytes numbers end memory fault told text lines last is fault_is =
     let same : told ≡ renumbered (line_number script) fault =
     is ∙ ap (λ (ns : List ℕ). renumbered (number_in ns end) fault) lines
-    ∙ ap (λ (k : ℕ). renumbered (number_in (numbers_from 1 (lines_of script)) k) fault) last in
+    ∙ ap (λ (k : ℕ). renumbered (number_in (numbers_of script) k) fault) last in
     subst (IsScriptFault script memory) (sym same)
     (script_fault script memory fault (subst (λ (l : List ℕ). IsPlanFault l memory fault) text fault_is))
 
@@ -51,6 +53,7 @@ search_fault bytes memory named search.OutOfMemory plan is = tt
 pub parse_fault : (bytes : List ℕ) (memory : ℕ) (fault : PlanTextFault) → IsPlanTextFault bytes fault → IsPlanFault bytes memory fault
 parse_fault bytes memory (BadLine line) is = is
 parse_fault bytes memory (UnknownParty line) is = is
+parse_fault bytes memory (NeverBegins line) is = is
 parse_fault bytes memory (Call line why) is = is
 parse_fault bytes memory TooLarge is = is
 parse_fault bytes memory TooLong is = is
@@ -60,13 +63,13 @@ parse_fault bytes memory InputFailed is = is
 parse_fault bytes memory OutputFailed is = is
 
 -- the order of a plan is its answer, where an order is looked for
-pub by_order_answer : (form : Form) (bytes : List ℕ) (plan : PlanText) (r : Result (Verdict × String Global) PlanTextFault)
+pub by_order_answer : (form : Form) (number : ℕ → ℕ) (bytes : List ℕ) (plan : PlanText) (r : Result (Verdict × String Global) PlanTextFault)
     → IsDraftOf bytes (drafted plan.draft) → is_by_order form plan ≡ true
-    → IfOk r (λ answer. IsOrderAnswer plan answer.0 (string_bytes answer.1))
-    → IfOk r (λ answer. IsPlanAnswer form bytes answer.0 (string_bytes answer.1))
-by_order_answer form bytes plan (Ok answer) makes by found = record {
+    → IfOk r (λ answer. IsOrderAnswer number plan answer.0 (string_bytes answer.1))
+    → IfOk r (λ answer. IsPlanAnswer form number bytes answer.0 (string_bytes answer.1))
+by_order_answer form number bytes plan (Ok answer) makes by found = record {
   plan = plan;
   is = makes;
-  answer = subst (λ (b : Bool). IsAnswerBy b form bytes plan answer.0 (string_bytes answer.1)) (sym by) found;
+  answer = subst (λ (b : Bool). IsAnswerBy b form number bytes plan answer.0 (string_bytes answer.1)) (sym by) found;
 }
-by_order_answer form bytes plan (Err fault) makes by found = found
+by_order_answer form number bytes plan (Err fault) makes by found = found

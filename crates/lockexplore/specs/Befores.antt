@@ -3,14 +3,15 @@ use Rattle.std.specs.Prelude.{◌≡◌, ℕ, Bool, true, false, List, [], ◌�
 use Rattle.std.specs.List.{slice_split}
 use Rattle.lockexplore.specs.declared.plain.Before.{Before}
 use Rattle.lockexplore.specs.declared.plain.Before.TheVariants.{Nothing, Word, Blank}
-use Rattle.lockexplore.specs.PlainTexts.{are_some, is_blank, is_word, line_text, words_text}
+use Rattle.lockexplore.specs.PlainTexts.{are_some, is_blank, is_word}
+use Rattle.lockexplore.specs.Words.{joined, spaced}
 
 -- the parts of a line between blanks, of which the first goes on with a word if a byte of one comes before
 abbrev pub parts_text : Before → List (List ℕ) → List ℕ
-parts_text Nothing parts = line_text (filter is_word parts)
-parts_text Blank parts = words_text (filter is_word parts)
-parts_text Word [] = words_text []
-parts_text Word (part ∷ parts) = part ++ words_text (filter is_word parts)
+parts_text Nothing parts = joined (filter is_word parts)
+parts_text Blank parts = spaced (filter is_word parts)
+parts_text Word [] = spaced []
+parts_text Word (part ∷ parts) = part ++ spaced (filter is_word parts)
 
 abbrev pub parts_words : Before → List (List ℕ) → Bool
 parts_words Nothing parts = are_some (filter is_word parts)

@@ -1,4 +1,16 @@
 pub mod Requests
+pub mod Statuses
+pub mod PlainLines
+pub mod Counts
+pub mod Words
+pub mod Arrays
+pub mod ArrayParts
+pub mod Indices
+pub mod Copies
+pub mod Parties
+pub mod PartyParts
+pub mod Repeats
+pub mod RepeatParts
 pub mod PlainTexts
 pub mod Befores
 pub mod PlanAnswers

@@ -1,8 +1,14 @@
--- The plain text of a plan's text: its lines without comments, with one space between two words, and no line without words.
-use Rattle.std.specs.Prelude.{ℕ, ◌+◌, ◌-◌, ◌==◌, ◌||◌, Bool, true, false, if◌then◌else◌, List, [], ◌∷◌, ◌++◌, length, filter}
+-- The plain text of a plan's text: words with one space between two, no comments, and no lines without words. Lines that are
+-- short for several are expanded.
+use Rattle.std.specs.Prelude.{ℕ, ◌+◌, ◌≤◌, ◌==◌, ◌||◌, Bool, true, false, if◌then◌else◌, List, [], ◌∷◌, ◌⊎◌, length, filter, map}
 use Rattle.std.specs.List.{slice_split}
-use Rattle.std.proofs.Common.{get_or}
+use Rattle.lock_plan_text.specs.LineNumbers.{number_in}
 use Rattle.lock_script.specs.Lines.{lines_of}
+use Rattle.lockexplore.specs.Arrays.{arrayed}
+use Rattle.lockexplore.specs.Parties.{indexed}
+use Rattle.lockexplore.specs.PlainLines.{IsLongFrom, NumberedLine, text_of}
+use Rattle.lockexplore.specs.Repeats.{unrolled}
+use Rattle.lockexplore.specs.Words.{joined}
 
 -- a space, a tab or a carriage return
 abbrev pub is_blank : ℕ → Bool
@@ -21,15 +27,6 @@ is_word (byte ∷ bytes) = true
 abbrev pub words_of : List ℕ → List (List ℕ)
 words_of line = filter is_word (slice_split is_blank (without_comment line))
 
--- the words with a space between two of them, and a line feed at the end; nothing if there is no word
-abbrev pub words_text : List (List ℕ) → List ℕ
-words_text [] = 10 ∷ []
-words_text (word ∷ words) = 32 ∷ word ++ words_text words
-
-abbrev pub line_text : List (List ℕ) → List ℕ
-line_text [] = []
-line_text (word ∷ words) = word ++ words_text words
-
 abbrev pub are_some : List (List ℕ) → Bool
 are_some [] = false
 are_some (word ∷ words) = true
@@ -37,22 +34,40 @@ are_some (word ∷ words) = true
 abbrev pub has_words : List ℕ → Bool
 has_words line = are_some (words_of line)
 
-abbrev pub plain_lines : List (List ℕ) → List ℕ
-plain_lines [] = []
-plain_lines (line ∷ lines) = line_text (words_of line) ++ plain_lines lines
+-- the lines that have words, of those that are numbered from `number`
+abbrev pub numbered_from : ℕ → List (List ℕ) → List NumberedLine
+numbered_from number [] = []
+numbered_from number (line ∷ lines) =
+    if has_words line
+    then record { number = number; text = joined (words_of line) } ∷ numbered_from (number + 1) lines
+    else numbered_from (number + 1) lines
+
+abbrev pub script_lines : List ℕ → List NumberedLine
+script_lines bytes = numbered_from 1 (lines_of bytes)
+
+-- the expansion of lines
+abbrev pub expanded : List NumberedLine → List NumberedLine
+expanded lines = unrolled (indexed (arrayed lines))
 
 abbrev pub plain_text : List ℕ → List ℕ
-plain_text bytes = plain_lines (lines_of bytes)
+plain_text bytes = text_of (expanded (script_lines bytes))
 
--- the numbers of those lines that have words; the lines are numbered from `number`
-abbrev pub numbers_from : ℕ → List (List ℕ) → List ℕ
-numbers_from number [] = []
-numbers_from number (line ∷ lines) =
-    if has_words line then number ∷ numbers_from (number + 1) lines else numbers_from (number + 1) lines
+-- the plain text has at most as many bytes as a plan may have, and a line feed
+abbrev pub IsShort : List ℕ → Type 0
+IsShort bytes = length (plain_text bytes) ≤ 1048577
 
--- the number of a line of the plain text in the text, by these numbers; past the last line, that of the line after the text
-abbrev pub number_in : List ℕ → ℕ → ℕ → ℕ
-number_in numbers end line = get_or numbers (line - 1) end
+-- some of the last lines become too long by one of the three rules
+abbrev pub IsLongExpansion : List NumberedLine → Type 0
+IsLongExpansion lines =
+    IsLongFrom arrayed lines ⊎ (IsLongFrom indexed (arrayed lines) ⊎ IsLongFrom unrolled (indexed (arrayed lines)))
 
+abbrev pub IsTooLong : List ℕ → Type 0
+IsTooLong bytes = IsLongExpansion (script_lines bytes)
+
+-- the number in the text of each line of the plain text
+abbrev pub numbers_of : List ℕ → List ℕ
+numbers_of bytes = map (λ line. line.number) (expanded (script_lines bytes))
+
+-- the number in the text of a line of the plain text; past the last line, that of the line after the text
 abbrev pub line_number : List ℕ → ℕ → ℕ
-line_number bytes = number_in (numbers_from 1 (lines_of bytes)) (length (lines_of bytes) + 1)
+line_number bytes = number_in (numbers_of bytes) (length (lines_of bytes) + 1)

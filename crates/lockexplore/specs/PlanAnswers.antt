@@ -59,25 +59,25 @@ abbrev pub order_verdict : LockOrder → Verdict
 order_verdict (Kept locks) = NeverStops
 order_verdict (Broken obstacles) = Unordered
 
--- the verdict and the text are what a look for an order finds. With an order, no run of the parties stops, however many there
--- are of each
-pub record IsOrderAnswer (plan : PlanText) (verdict : Verdict) (text : List ℕ) : Type 0 where
+-- the verdict and the text are what a look for an order finds, with these numbers of the lines. With an order, no run of the
+-- parties stops, however many there are of each
+pub record IsOrderAnswer (number : ℕ → ℕ) (plan : PlanText) (verdict : Verdict) (text : List ℕ) : Type 0 where
   pub order : LockOrder
   pub found : IsLockOrder plan.draft.locks.items (map (λ v. v.items) plan.programs.items) order
   pub verdict_is : verdict ≡ order_verdict order
-  pub text_is : text ≡ order_text plan order
+  pub text_is : text ≡ order_text number plan order
 
 -- whether an order is looked for, in place of a search
 abbrev pub is_by_order : Form → PlanText → Bool
 is_by_order Order plan = true
 is_by_order form plan = is_any_number plan
 
-abbrev pub IsAnswerBy : Bool → Form → List ℕ → PlanText → Verdict → List ℕ → Type 0
-IsAnswerBy true form bytes plan verdict text = IsOrderAnswer plan verdict text
-IsAnswerBy false form bytes plan verdict text = IsSearchAnswer form bytes verdict text
+abbrev pub IsAnswerBy : Bool → Form → (ℕ → ℕ) → List ℕ → PlanText → Verdict → List ℕ → Type 0
+IsAnswerBy true form number bytes plan verdict text = IsOrderAnswer number plan verdict text
+IsAnswerBy false form number bytes plan verdict text = IsSearchAnswer form bytes verdict text
 
--- the bytes say the plan, and the verdict and the text are the answer to it
-pub record IsPlanAnswer (form : Form) (bytes : List ℕ) (verdict : Verdict) (text : List ℕ) : Type 0 where
+-- the bytes say the plan, and the verdict and the text are the answer to it, with these numbers of its lines
+pub record IsPlanAnswer (form : Form) (number : ℕ → ℕ) (bytes : List ℕ) (verdict : Verdict) (text : List ℕ) : Type 0 where
   pub plan : PlanText
   pub is : IsDraftOf bytes (drafted plan.draft)
-  pub answer : IsAnswerBy (is_by_order form plan) form bytes plan verdict text
+  pub answer : IsAnswerBy (is_by_order form plan) form number bytes plan verdict text

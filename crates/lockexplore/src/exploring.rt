@@ -2,21 +2,23 @@
 ghost use Rattle.std.specs.Prelude.{◌≡◌, ◌⊎◌, Some, IfErr, IfOk, string_bytes};
 ghost use Rattle.std.specs.Io.KnownBytes.{Keeps};
 ghost use Rattle.lock_script.specs.Replays.{ReadsScript};
-ghost use Rattle.lockexplore.specs.PlainTexts.{plain_text};
+ghost use Rattle.lockexplore.specs.PlainTexts.{IsShort, line_number, plain_text};
 ghost use Rattle.lock_plan_text.specs.declared.parser.fault.PlanTextFault.TheVariants.{OutOfMemory};
 ghost use Rattle.lock_plan_text.specs.Drafted.{drafted};
+ghost use Rattle.lock_plan_text.specs.LineNumbers.{number_by};
 ghost use Rattle.lock_plan_text.specs.PlanFaults.{draft_fault};
 ghost use Rattle.lockexplore.specs.PlanAnswers.{IsOrderAnswer, IsPlanAnswer, IsTextIn, is_by_order};
 ghost use Rattle.lockexplore.specs.Explorations.{AppendsPlanAnswer, ExplainsPlanFault, IsBeforePlanAnswer, IsPlanFault, IsScriptFault};
 
 use crate::arguments::Form;
+use crate::lines::LinesFault;
 use crate::plain::PlainText;
 use crate::verdict::Verdict;
 use lock_plan::{Explored, explore};
 use lock_plan_laws::find_order;
 use lock_plan_text::{
-    NamedPlan, PlanText, PlanTextFault, draw_picture, parse_text, write_answer, write_drawing,
-    write_order,
+    LineNumbers, NamedPlan, PlanText, PlanTextFault, draw_picture, parse_text, write_answer,
+    write_drawing, write_order,
 };
 use lock_script::{put, read_script};
 use std::alloc::{AllocError, Global};
@@ -26,9 +28,10 @@ use std::io::{Read, Write};
 ///
 /// # Errors
 ///
-/// In this order: a fault of reading, the first bad line, the first unknown party, the first call that can never be made,
-/// too many combinations, no memory for the search or the text, a fault of writing. If the reader does not say what it has
-/// ahead, the clauses speak only of the bytes that it gave.
+/// In this order: a fault of reading, a plan that is too long once it is written out, the first bad line, the first unknown
+/// party, the first party that never begins, the first call that can never be made, too many combinations, no memory for
+/// the search or the text, a fault of writing. If the reader does not say what it has ahead, the clauses speak only of the
+/// bytes that it gave.
 pub(crate) fn explore_plan<R: Read, W: Write>(
     alloc: Global,
     form: Form,
@@ -55,24 +58,29 @@ pub(crate) fn explore_plan<R: Read, W: Write>(
 ///
 /// # Errors
 ///
-/// Those of [`plain_answer`], with the lines' numbers in the script.
+/// `TooLong` and `OutOfMemory` of [`PlainText::of`], then those of [`plain_answer`], with the lines' numbers in the script.
 fn plan_answer(
     alloc: Global,
     form: Form,
     memory: usize,
     script: &[u8],
 ) -> Result<(Verdict, String), PlanTextFault>
-    ensures answer { IfOk result (λ answer. IsPlanAnswer form (plain_text script.now) answer.0 (string_bytes answer.1)) }
+    ensures answer { IfOk result (λ answer. IsPlanAnswer form (line_number script.now) (plain_text script.now) answer.0 (string_bytes answer.1)) }
+    ensures short { IfOk result (λ _. IsShort script.now) }
     ensures fault { IfErr result (IsScriptFault script.now memory) }
 {
-    let plain = PlainText::of(alloc, script)?;
-    match plain_answer(alloc, form, memory, plain.bytes.as_slice()) {
+    let plain = match PlainText::of(alloc, script) {
+        Ok(plain) => plain,
+        Err(LinesFault::TooLong) => return Err(PlanTextFault::TooLong),
+        Err(LinesFault::OutOfMemory) => return Err(PlanTextFault::OutOfMemory),
+    };
+    match plain_answer(alloc, form, memory, plain.bytes.as_slice(), &plain.lines) {
         Ok(answer) => Ok(answer),
         Err(fault) => Err(plain.renumbered(fault)),
     }
 }
 
-/// Returns whether a plan stops, and the text of the answer, of the plan's plain text.
+/// Returns whether a plan stops, and the text of the answer, of the plan's plain text and the numbers of its lines.
 ///
 /// # Errors
 ///
@@ -83,13 +91,14 @@ fn plain_answer(
     form: Form,
     memory: usize,
     plain: &[u8],
+    lines: &LineNumbers,
 ) -> Result<(Verdict, String), PlanTextFault>
-    ensures answer { IfOk result (λ answer. IsPlanAnswer form plain.now answer.0 (string_bytes answer.1)) }
+    ensures answer { IfOk result (λ answer. IsPlanAnswer form (number_by lines.now) plain.now answer.0 (string_bytes answer.1)) }
     ensures fault { IfErr result (IsPlanFault plain.now memory) }
 {
     let plan = parse_text(alloc, plain)?;
     if is_by_order(form, &plan) {
-        return order_answer(alloc, &plan);
+        return order_answer(alloc, &plan, lines);
     }
     let named = plan.into_plan(alloc)?;
     let explored = explore(alloc, &named.plan, memory)?;
@@ -104,19 +113,23 @@ fn is_by_order(form: Form, plan: &PlanText) -> bool
     form == Form::Order || plan.is_any_number()
 }
 
-/// Returns whether the locks of a plan have an order, and the text of the answer.
+/// Returns whether the locks of a plan have an order, and the text of the answer, with these numbers of the lines.
 ///
 /// # Errors
 ///
 /// `Call` with the line of the first act, party by party, that can never be made. `OutOfMemory`.
-fn order_answer(alloc: Global, plan: &PlanText) -> Result<(Verdict, String), PlanTextFault>
-    ensures answer { IfOk result (λ answer. IsOrderAnswer plan.now answer.0 (string_bytes answer.1)) }
+fn order_answer(
+    alloc: Global,
+    plan: &PlanText,
+    lines: &LineNumbers,
+) -> Result<(Verdict, String), PlanTextFault>
+    ensures answer { IfOk result (λ answer. IsOrderAnswer (number_by lines.now) plan.now answer.0 (string_bytes answer.1)) }
     ensures fault { IfErr result (λ fault. (draft_fault (drafted plan.now.draft) ≡ Some fault) ⊎ (fault ≡ OutOfMemory)) }
 {
     match find_order(alloc, plan.locks(), plan.programs()) {
         Ok(order) => {
             let mut text = String::new(alloc);
-            write_order(alloc, &mut text, plan, &order)?;
+            write_order(alloc, &mut text, plan, lines, &order)?;
             Ok((Verdict::of_order(&order), text))
         }
         Err(fault) => Err(plan.fault_by_line(alloc, fault)),

@@ -1,10 +1,12 @@
-//! Reads a plan of parties from standard input, and prints whether it can deadlock.
+//! Reads plans of parties from files or standard input, and prints whether they can deadlock.
 #![tactic(auto)]
 
 mod arguments;
 mod exploring;
+mod lines;
 mod machine;
 mod plain;
+mod status;
 #[cfg(test)]
 mod tests;
 mod verdict;
@@ -12,17 +14,19 @@ mod verdict;
 use crate::arguments::{Form, Request};
 use crate::exploring::explore_plan;
 use crate::machine::half_of_memory;
+use crate::status::Status;
 use crate::verdict::Verdict;
 use lock_plan_text::PlanTextFault;
+use std::io::{self, Write};
 use std::process::ExitCode;
 use std::rt::Env;
-use std::{env, io};
+use std::{env, fs};
 
-const USAGE: &str = "usage: lockexplore [lanes | svg | order] [--memory BYTES]";
+const USAGE: &str = "usage: lockexplore [lanes | svg | order] [--memory BYTES] [FILE..]";
 
 /// What `--help` prints below the usage line.
 const HELP: &str = "\
-Reads a plan of lock calls from standard input, and prints whether its parties can deadlock.
+Reads a plan of lock calls from each file, or from standard input, and prints whether its parties can deadlock.
 
   lanes           also draws the steps into a deadlock, with a column for each party
   svg             prints a picture in SVG instead
@@ -31,50 +35,120 @@ Reads a plan of lock calls from standard input, and prints whether its parties c
   --help          prints this help
   --version       prints the day of this version
 
-The status is 0 without a deadlock, 3 with one or without an order, 1 for a fault, and 2 for other words.
+The status is 0 without a deadlock, 3 with one or without an order, 1 for a fault, and 2 for other words. With several
+files, a fault is worse than a deadlock. Each answer is below the name of its file.
 docs/PLANS.md has the format of plans.";
 
 /// The day of the newest section of CHANGES.
 const VERSION: &str = "lockexplore 2026-11-27";
 
-/// The status of an answer that names a stop, or that there is no order.
-const STOPS: u8 = 3;
-
 fn main(rt: HostRuntime) -> ExitCode {
-    match asked(&rt) {
-        Ok(Some(Request::Explore(form, memory))) => explored(&rt, form, memory),
-        Ok(Some(Request::Help)) => printed(println!(rt; "{USAGE}\n\n{HELP}")),
-        Ok(Some(Request::Version)) => printed(println!(rt; "{VERSION}")),
-        Ok(None) => {
-            let _ = eprintln!(rt; "{USAGE}");
-            ExitCode::from(2)
+    let words = match words(&rt) {
+        Ok(Some(words)) => words,
+        Ok(None) => return usage(&rt),
+        Err(fault) => return told(&rt, fault),
+    };
+    match Request::with_files(words.as_slice()) {
+        Some((Request::Explore(form, memory), files)) => {
+            let bytes = memory_of(&rt, memory);
+            if files.is_empty() {
+                explored(&rt, form, bytes)
+            } else {
+                ExitCode::from(files_status(&rt, form, bytes, files).code())
+            }
         }
-        Err(fault) => told(&rt, fault),
+        Some((Request::Help, _)) => printed(println!(rt; "{USAGE}\n\n{HELP}")),
+        Some((Request::Version, _)) => printed(println!(rt; "{VERSION}")),
+        None => usage(&rt),
     }
 }
 
-/// Reads a plan, prints the answer in a form, and gives the status. The search has so many bytes, or the default.
-fn explored(rt: &HostRuntime, form: Form, memory: Option<u64>) -> ExitCode {
-    let bytes = match memory {
+/// Returns how many bytes a search has: so many, or the default.
+fn memory_of(rt: &HostRuntime, memory: Option<u64>) -> usize {
+    match memory {
         Some(bytes) => usize::try_from(bytes).unwrap_or(usize::MAX),
         None => half_of_memory(rt),
-    };
-    match explore_plan(rt.alloc(), form, bytes, &mut rt.stdin(), &mut rt.stdout()) {
-        Ok(Verdict::NeverStops) => ExitCode::SUCCESS,
-        Ok(Verdict::Stops | Verdict::Unordered) => ExitCode::from(STOPS),
+    }
+}
+
+/// Reads a plan from standard input, prints the answer in a form, and gives the status.
+fn explored(rt: &HostRuntime, form: Form, memory: usize) -> ExitCode {
+    match explore_plan(rt.alloc(), form, memory, &mut rt.stdin(), &mut rt.stdout()) {
+        Ok(verdict) => ExitCode::from(Status::of(verdict).code()),
         Err(fault) => told(rt, fault),
     }
 }
 
-/// Returns what the words after the program's name ask for, or `None` where the usage line is the answer.
-fn asked<R: Env + AllocGlobal>(rt: &R) -> Result<Option<Request>, PlanTextFault> {
-    let words = match env::args(rt) {
-        Ok(args) => args.skip(1).collect::<Vec<_>>(rt.alloc())?,
-        // A word that is not UTF-8 is none of the words.
-        Err(fault) if fault.kind() == io::ErrorKind::InvalidData => return Ok(None),
-        Err(_) => return Err(PlanTextFault::OutOfMemory),
+/// Prints the answer to each file's plan, and gives the worst status. Of several, each is below its name.
+fn files_status(rt: &HostRuntime, form: Form, memory: usize, files: &[String]) -> Status {
+    let mut status = Status::Fine;
+    let mut gap = "";
+    for file in files {
+        let above = if files.len() > 1 { Some(gap) } else { None };
+        let said = file_status(rt, form, memory, file.as_str(), above);
+        if said != Status::Faulty {
+            gap = "\n";
+        }
+        status = status.or_worse(said);
+    }
+    status
+}
+
+/// Prints the answer to a file's plan, perhaps below a gap and its name, and gives the status.
+fn file_status(
+    rt: &HostRuntime,
+    form: Form,
+    memory: usize,
+    file: &str,
+    above: Option<&str>,
+) -> Status {
+    let (verdict, text) = match answer(rt, form, memory, file) {
+        Ok(answer) => answer,
+        Err(fault) => return faulty(rt, file, fault),
     };
-    Ok(Request::of_words(words.as_slice()))
+    let named = match above {
+        Some(gap) => print!(rt; "{gap}{file}:\n"),
+        None => Ok(()),
+    };
+    match named.and_then(|()| rt.stdout().write_all(text.as_slice())) {
+        Ok(()) => Status::of(verdict),
+        Err(_) => faulty(rt, file, PlanTextFault::OutputFailed),
+    }
+}
+
+/// Makes the answer to a file's plan.
+fn answer(
+    rt: &HostRuntime,
+    form: Form,
+    memory: usize,
+    file: &str,
+) -> Result<(Verdict, Vec<u8>), PlanTextFault> {
+    let Ok(mut reader) = fs::open(rt, file) else {
+        return Err(PlanTextFault::InputFailed);
+    };
+    let mut text = Vec::new(rt.alloc());
+    let verdict = explore_plan(rt.alloc(), form, memory, &mut reader, &mut text)?;
+    Ok((verdict, text))
+}
+
+/// Prints the fault of a file, and gives the status.
+fn faulty(rt: &HostRuntime, file: &str, fault: PlanTextFault) -> Status {
+    let _ = eprintln!(rt; "{file}: {fault}");
+    Status::Faulty
+}
+
+/// Returns the words after the program's name, or `None` where one is not UTF-8.
+fn words<R: Env + AllocGlobal>(rt: &R) -> Result<Option<Vec<String>>, PlanTextFault> {
+    match env::args(rt) {
+        Ok(args) => Ok(Some(args.skip(1).collect::<Vec<_>>(rt.alloc())?)),
+        Err(fault) if fault.kind() == io::ErrorKind::InvalidData => Ok(None),
+        Err(_) => Err(PlanTextFault::OutOfMemory),
+    }
+}
+
+fn usage(rt: &impl Eprint) -> ExitCode {
+    let _ = eprintln!(rt; "{USAGE}");
+    ExitCode::from(2)
 }
 
 /// Returns the status of a run that only prints.

@@ -1,11 +1,17 @@
-//! The plain text of a plan: without comments and empty lines, and with one space between two words.
-ghost use Rattle.std.specs.Prelude.{◌≡◌, ◌==◌, ◌+◌, ◌<◌, ◌++◌, ◌∷◌, [], if◌then◌else◌, length, position, IfOk, IfSome, OnOk};
-ghost use Rattle.lockexplore.specs.PlainTexts.{has_words, is_blank, line_text, number_in, numbers_from, plain_text, without_comment, words_of};
+//! The plain text of a plan: without comments and empty lines, with one space between two words. Lines that are short
+//! for several are expanded.
+ghost use Rattle.std.specs.Prelude.{◌≡◌, ◌==◌, ◌+◌, ◌<◌, ◌≤◌, ◌++◌, ◌∷◌, [], if◌then◌else◌, length, map, position, IfErr, IfOk, IfSome, OnOk};
+ghost use Rattle.lockexplore.specs.PlainLines.{line_of, text_of};
+ghost use Rattle.lockexplore.specs.PlainTexts.{IsLongExpansion, IsShort, IsTooLong, expanded, has_words, is_blank, numbers_of, plain_text, script_lines, without_comment, words_of};
+ghost use Rattle.lockexplore.specs.Words.{joined};
 ghost use Rattle.lockexplore.specs.Befores.{IsPushed};
 ghost use Rattle.lockexplore.specs.Explorations.{renumbered};
+ghost use Rattle.lockexplore.specs.declared.lines.made.LinesFault.TheVariants.{TooLong};
+ghost use Rattle.lock_plan_text.specs.LineNumbers.{number_by};
 ghost use Rattle.lock_script.specs.Lines.{lines_of};
 
-use lock_plan_text::PlanTextFault;
+use crate::lines::{LinesFault, PlainLine, arrayed, indexed, unrolled};
+use lock_plan_text::{LineNumbers, PlanTextFault};
 use lock_script::Part;
 use std::alloc::{AllocError, Global};
 
@@ -13,10 +19,8 @@ use std::alloc::{AllocError, Global};
 #[derive(Drop)]
 pub(crate) struct PlainText {
     pub(crate) bytes: Vec<u8>,
-    /// The number in the plan's text of each line.
-    pub(crate) numbers: Vec<u64>,
-    /// The number of the line after the last one of the plan's text.
-    pub(crate) end: u64,
+    /// The numbers of its lines in the plan's text.
+    pub(crate) lines: LineNumbers,
 }
 
 /// What comes before a byte in its line.
@@ -32,53 +36,100 @@ pub(crate) enum Before {
 
 impl PlainText {
     /// Makes the plain text of a plan's text.
-    pub(crate) fn of(alloc: Global, text: &[u8]) -> Result<PlainText, AllocError>
+    pub(crate) fn of(alloc: Global, text: &[u8]) -> Result<PlainText, LinesFault>
         ensures text { IfOk result (λ plain. plain.bytes.items ≡ plain_text text.now) }
-        ensures numbers { IfOk result (λ plain. plain.numbers.items ≡ numbers_from 1 (lines_of text.now)) }
-        ensures end { IfOk result (λ plain. plain.end ≡ length (lines_of text.now) + 1) }
+        ensures short { IfOk result (λ _. IsShort text.now) }
+        ensures numbers { IfOk result (λ plain. plain.lines.numbers.items ≡ numbers_of text.now) }
+        ensures end { IfOk result (λ plain. plain.lines.end ≡ length (lines_of text.now) + 1) }
+        ensures long { IfErr result (λ fault. fault ≡ TooLong → IsTooLong text.now) }
     {
-        let mut bytes = Vec::new(alloc);
-        let mut numbers = Vec::new(alloc);
-        let mut end = 1u64;
-        let mut rest = Part::of(text);
-        while !rest.bytes().is_empty() {
-            let (line, after) = rest.first_line();
-            let is_added = push_line(&mut bytes, line.bytes())?;
-            push_if(&mut numbers, is_added, end)?;
-            rest = after;
-            end += 1;
-        }
+        let (written, end) = script_lines(alloc, text)?;
+        let lines = expanded(alloc, written)?;
         Ok(PlainText {
-            bytes,
-            numbers,
-            end,
+            bytes: text_of(alloc, lines.as_slice())?,
+            lines: LineNumbers {
+                numbers: numbers_of(alloc, lines.as_slice())?,
+                end,
+            },
         })
     }
 
     /// Returns a fault of the plain text with the number of its line in the plan's text.
     pub(crate) fn renumbered(&self, fault: PlanTextFault) -> PlanTextFault
-        ensures { result ≡ renumbered (number_in self.now.numbers.items self.now.end) fault }
+        ensures { result ≡ renumbered (number_by self.now.lines) fault }
     {
         match fault {
-            PlanTextFault::BadLine(line) => PlanTextFault::BadLine(self.number(line)),
-            PlanTextFault::UnknownParty(line) => PlanTextFault::UnknownParty(self.number(line)),
-            PlanTextFault::Call(line, why) => PlanTextFault::Call(self.number(line), why),
+            PlanTextFault::BadLine(line) => PlanTextFault::BadLine(self.lines.number(line)),
+            PlanTextFault::UnknownParty(line) => PlanTextFault::UnknownParty(
+                self.lines.number(line),
+            ),
+            PlanTextFault::NeverBegins(line) => PlanTextFault::NeverBegins(self.lines.number(line)),
+            PlanTextFault::Call(line, why) => PlanTextFault::Call(self.lines.number(line), why),
             fault => fault,
         }
     }
+}
 
-    /// Returns the number in the plan's text of a line; past the last line, that of the line after the text.
-    fn number(&self, line: u64) -> u64
-        ensures { result ≡ number_in self.now.numbers.items self.now.end line }
-    {
-        let place = line.saturating_sub(1) as usize;
-        self.numbers.get(place).copied().unwrap_or(self.end)
+/// Makes the lines of a plan's text that have words, and the number of the line after the last one.
+fn script_lines(alloc: Global, text: &[u8]) -> Result<(Vec<PlainLine>, u64), AllocError>
+    ensures lines { IfOk result (λ made. map line_of made.0.items ≡ script_lines text.now) }
+    ensures end { IfOk result (λ made. made.1 ≡ length (lines_of text.now) + 1) }
+{
+    let mut lines = Vec::new(alloc);
+    let mut end = 1u64;
+    let mut rest = Part::of(text);
+    while !rest.bytes().is_empty() {
+        let (line, after) = rest.first_line();
+        let mut text = Vec::new(alloc);
+        let has_words = push_words(&mut text, line.bytes())?;
+        push_if(&mut lines, has_words, PlainLine { number: end, text })?;
+        rest = after;
+        end += 1;
     }
+    Ok((lines, end))
+}
+
+/// Expands lines.
+fn expanded(alloc: Global, written: Vec<PlainLine>) -> Result<Vec<PlainLine>, LinesFault>
+    ensures lines { IfOk result (λ lines. map line_of lines.items ≡ expanded (map line_of written.items)) }
+    ensures short { IfOk result (λ lines. length (text_of (map line_of lines.items)) ≤ 1048577) }
+    ensures long { IfErr result (λ fault. fault ≡ TooLong → IsLongExpansion (map line_of written.items)) }
+{
+    let each = arrayed(alloc, written)?;
+    let parties = indexed(alloc, each)?;
+    unrolled(alloc, parties)
+}
+
+/// Makes the text of lines.
+fn text_of(alloc: Global, lines: &[PlainLine]) -> Result<Vec<u8>, AllocError>
+    ensures { IfOk result (λ text. text.items ≡ text_of (map line_of lines.now)) }
+{
+    let mut text = Vec::new(alloc);
+    let mut rest = lines;
+    while let Some((line, after)) = rest.split_first() {
+        text.extend_from_slice(line.text.as_slice())?;
+        text.push(b'\n')?;
+        rest = after;
+    }
+    Ok(text)
+}
+
+/// Makes the list of the numbers of lines.
+fn numbers_of(alloc: Global, lines: &[PlainLine]) -> Result<Vec<u64>, AllocError>
+    ensures { IfOk result (λ numbers. numbers.items ≡ map (λ line. line.number) (map line_of lines.now)) }
+{
+    let mut numbers = Vec::new(alloc);
+    let mut rest = lines;
+    while let Some((line, after)) = rest.split_first() {
+        numbers.push(line.number)?;
+        rest = after;
+    }
+    Ok(numbers)
 }
 
 /// Adds the words of a line, if it has any, and returns whether it has.
-fn push_line(text: &mut Vec<u8>, line: &[u8]) -> Result<bool, AllocError>
-    ensures text { IfOk result (λ _. text.new.items ≡ text.old.items ++ line_text (words_of line.now)) }
+fn push_words(text: &mut Vec<u8>, line: &[u8]) -> Result<bool, AllocError>
+    ensures text { IfOk result (λ _. text.new.items ≡ text.old.items ++ joined (words_of line.now)) }
     ensures words { IfOk result (λ is_added. is_added ≡ has_words line.now) }
 {
     let mut before = Before::Nothing;
@@ -89,19 +140,16 @@ fn push_line(text: &mut Vec<u8>, line: &[u8]) -> Result<bool, AllocError>
     }
     match before {
         Before::Nothing => Ok(false),
-        Before::Word | Before::Blank => {
-            text.push(b'\n')?;
-            Ok(true)
-        }
+        Before::Word | Before::Blank => Ok(true),
     }
 }
 
-/// Adds the number of a line that was added.
-fn push_if(numbers: &mut Vec<u64>, is_added: bool, number: u64) -> Result<(), AllocError>
-    ensures { OnOk result (numbers.new.items ≡ (if is_added then numbers.old.items ++ number ∷ [] else numbers.old.items)) }
+/// Adds a line that has words.
+fn push_if(lines: &mut Vec<PlainLine>, has_words: bool, line: PlainLine) -> Result<(), AllocError>
+    ensures { OnOk result (lines.new.items ≡ (if has_words then lines.old.items ++ line ∷ [] else lines.old.items)) }
 {
-    if is_added {
-        numbers.push(number)?;
+    if has_words {
+        lines.push(line)?;
     }
     Ok(())
 }

@@ -2,15 +2,14 @@
 use crate::parser::draft::PlanDraft;
 use crate::parser::line_names::LineNames;
 use crate::parser::named_word::NamedWord;
-use crate::parser::place::{add_name, place_of};
 use crate::parser::plan_line::PlanLine;
 use crate::parser::text_line::TextLine;
 use std::alloc::{AllocError, Global};
 
 impl PlanDraft {
-    ghost use Rattle.std.specs.Prelude.{◌≡◌, Some, None, IfOk, OnOk, if◌then◌else◌};
+    ghost use Rattle.std.specs.Prelude.{◌≡◌, false, Some, None, IfOk, OnOk, if◌then◌else◌};
     ghost use Rattle.lock_plan_text.specs.declared.parser.named_word.NamedWord.TheVariants.{Flag, Condvar};
-    ghost use Rattle.lock_plan_text.specs.Drafts.{is_started, may_start, with_mention, with_named};
+    ghost use Rattle.lock_plan_text.specs.Drafts.{is_started, may_start, with_mention, with_named, with_start};
     ghost use Rattle.lock_plan_text.specs.Drafted.{drafted};
     ghost use Rattle.lock_plan_text.specs.PlanLines.{names_of, one_name};
 
@@ -33,7 +32,7 @@ impl PlanDraft {
                     return Ok(false);
                 }
                 self.mention(alloc, number, names.name)?;
-                add_name(&mut self.started, alloc, names.name)?;
+                self.start(alloc, number, names.name)?;
             }
             NamedWord::Join => self.mention(alloc, number, names.name)?,
             _ => {}
@@ -49,7 +48,7 @@ impl PlanDraft {
         if !self.blocks.are_none() {
             return Ok(false);
         }
-        add_name(&mut self.names.flags, alloc, name)
+        self.names.flags.add(alloc, name)
     }
 
     /// Adds a condition variable, unless its name is there or a block is open.
@@ -60,7 +59,7 @@ impl PlanDraft {
         if !self.blocks.are_none() {
             return Ok(false);
         }
-        add_name(&mut self.names.conds, alloc, name)
+        self.names.conds.add(alloc, name)
     }
 
     /// Returns whether a line may start the party of this name.
@@ -75,14 +74,25 @@ impl PlanDraft {
     pub(crate) fn is_started(&self, name: &str) -> bool
         ensures { result ≡ is_started (drafted self.now) name.now }
     {
-        place_of(&self.started, name).is_some()
+        self.started.place_of(name).is_some()
+    }
+
+    /// Adds the name after a `start`.
+    fn start(&mut self, alloc: Global, number: u64, name: &str) -> Result<(), AllocError>
+        requires { is_started (drafted self.old) name.now ≡ false }
+        ensures { OnOk result (drafted self.new ≡ with_start (drafted self.old) number name.now) }
+    {
+        self.started.add(alloc, name)?;
+        self.starters.push(self.first)?;
+        self.start_lines.push(number)?;
+        Ok(())
     }
 
     /// Adds the name after a `start` or a `join`, unless it is there.
     fn mention(&mut self, alloc: Global, number: u64, name: &str) -> Result<(), AllocError>
         ensures { OnOk result (drafted self.new ≡ with_mention (drafted self.old) number name.now) }
     {
-        if add_name(&mut self.mentions, alloc, name)? {
+        if self.mentions.add(alloc, name)? {
             self.mention_lines.push(number)?;
         }
         Ok(())

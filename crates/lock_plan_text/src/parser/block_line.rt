@@ -2,7 +2,7 @@
 use crate::parser::plain_line::PlainLine;
 use lock_plan::PlanCall;
 
-/// A line of a party. A line of the text is one of these; a wait is three, or five with `until`.
+/// A line of a party. A line of the text is one of these, but a wait is several.
 ///
 /// The number of a flag, a condition variable or a mention of a party is its place in the text's list of that kind.
 /// Before a program is made, the number of a flag or a mention becomes that of its row.
@@ -15,6 +15,8 @@ pub(crate) enum BlockLine {
     If(usize),
     /// Begins a loop, which a party leaves where the flag has this value.
     Until(usize, bool),
+    /// Begins a block: a sleep on the condition variable. Its first part is for a notification, and its `else` for a timeout.
+    TimedSleep(usize),
     Plain(PlainLine),
 }
 
@@ -22,15 +24,21 @@ pub(crate) enum BlockLine {
 #[derive(Clone, Copy, PartialEq, Eq, Debug)]
 pub(crate) enum BlockWord {
     Repeat,
+    /// Begins a loop, which a party leaves nowhere but by a `leave` or a `return` inside.
+    Forever,
     Either,
     Else,
     Or,
     End,
+    /// Leads past the innermost loop.
+    Leave,
+    /// Leads past the last line.
+    Return,
 }
 
 impl BlockLine {
     ghost use Rattle.std.specs.Prelude.{◌≡◌};
-    ghost use Rattle.lock_plan_text.specs.Blocks.{begins, ends, is_alone, is_loop, is_or, parts};
+    ghost use Rattle.lock_plan_text.specs.Blocks.{begins, ends, is_act, is_alone, is_leave, is_loop, is_or, is_return, parts};
 
     /// Returns whether the line begins a block.
     pub(crate) fn begins(self) -> bool
@@ -41,11 +49,12 @@ impl BlockLine {
             BlockLine::Try(_)
                 | BlockLine::If(_)
                 | BlockLine::Until(..)
-                | BlockLine::Word(BlockWord::Repeat | BlockWord::Either)
+                | BlockLine::TimedSleep(_)
+                | BlockLine::Word(BlockWord::Repeat | BlockWord::Forever | BlockWord::Either)
         )
     }
 
-    /// Returns whether the line neither begins, parts nor ends a block.
+    /// Returns whether the line is a step that does not begin a block.
     pub(crate) fn is_alone(self) -> bool
         ensures { result ≡ is_alone self }
     {
@@ -69,6 +78,27 @@ impl BlockLine {
         matches!(self, BlockLine::Word(BlockWord::End))
     }
 
+    /// Returns whether the line leads past a loop.
+    pub(crate) fn is_leave(self) -> bool
+        ensures { result ≡ is_leave self }
+    {
+        matches!(self, BlockLine::Word(BlockWord::Leave))
+    }
+
+    /// Returns whether the line leads past the last line.
+    pub(crate) fn is_return(self) -> bool
+        ensures { result ≡ is_return self }
+    {
+        matches!(self, BlockLine::Word(BlockWord::Return))
+    }
+
+    /// Returns whether the line neither parts a block nor only leads on.
+    pub(crate) fn is_act(self) -> bool
+        ensures { result ≡ is_act self }
+    {
+        !(self.parts() || self.is_leave() || self.is_return())
+    }
+
     pub(crate) fn is_or(self) -> bool
         ensures { result ≡ is_or self }
     {
@@ -81,7 +111,7 @@ impl BlockLine {
     {
         matches!(
             self,
-            BlockLine::Until(..) | BlockLine::Word(BlockWord::Repeat)
+            BlockLine::Until(..) | BlockLine::Word(BlockWord::Repeat | BlockWord::Forever)
         )
     }
 }

@@ -11,10 +11,13 @@ pub(crate) fn block_word(word: &str) -> Option<BlockWord>
 {
     match word {
         "repeat" => Some(BlockWord::Repeat),
+        "forever" => Some(BlockWord::Forever),
         "either" => Some(BlockWord::Either),
         "else" => Some(BlockWord::Else),
         "or" => Some(BlockWord::Or),
         "end" => Some(BlockWord::End),
+        "leave" => Some(BlockWord::Leave),
+        "return" => Some(BlockWord::Return),
         _ => None,
     }
 }

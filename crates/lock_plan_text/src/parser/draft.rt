@@ -6,15 +6,15 @@ ghost use Rattle.lock_plan_text.specs.Drafts.{copy_names, no_draft, with_line, w
 ghost use Rattle.lock_plan_text.specs.Drafted.{drafted};
 ghost use Rattle.lock_plan_text.specs.PlanLines.{names_of, one_name};
 
+use crate::name_set::NameSet;
 use crate::names::Names;
 use crate::parser::block_line::BlockLine;
 use crate::parser::copies::{any_name, copy_name};
 use crate::parser::line_names::LineNames;
 use crate::parser::open_block::OpenBlocks;
-use crate::parser::place::{add_name, push_from};
+use crate::parser::place::push_from;
 use crate::parser::plan_line::{Parties, PlanLine};
 use crate::parser::text_line::TextLine;
-use indexmap::IndexSet;
 use lock_plan::PlanLock;
 use std::alloc::{AllocError, Global};
 
@@ -35,11 +35,15 @@ pub(crate) struct PlanDraft {
     pub(crate) blocks: OpenBlocks,
     pub(crate) names: Names,
     /// The names after `start` and `join`, each once.
-    pub(crate) mentions: IndexSet<String>,
+    pub(crate) mentions: NameSet,
     /// The first line with each of them.
     pub(crate) mention_lines: Vec<u64>,
     /// The names after `start`.
-    pub(crate) started: IndexSet<String>,
+    pub(crate) started: NameSet,
+    /// The party whose line starts each of them.
+    pub(crate) starters: Vec<usize>,
+    /// That line.
+    pub(crate) start_lines: Vec<u64>,
 }
 
 impl PlanDraft {
@@ -56,14 +60,16 @@ impl PlanDraft {
             numbers: Vec::new(alloc),
             blocks: OpenBlocks::new(alloc),
             names: Names {
-                locks: IndexSet::new(alloc),
-                parties: IndexSet::new(alloc),
-                flags: IndexSet::new(alloc),
-                conds: IndexSet::new(alloc),
+                locks: NameSet::new(alloc),
+                parties: NameSet::new(alloc),
+                flags: NameSet::new(alloc),
+                conds: NameSet::new(alloc),
             },
-            mentions: IndexSet::new(alloc),
+            mentions: NameSet::new(alloc),
             mention_lines: Vec::new(alloc),
-            started: IndexSet::new(alloc),
+            started: NameSet::new(alloc),
+            starters: Vec::new(alloc),
+            start_lines: Vec::new(alloc),
         }
     }
 
@@ -87,6 +93,8 @@ impl PlanDraft {
             TextLine::Plan(PlanLine::Call(..))
             | TextLine::Try(..)
             | TextLine::Word(_)
+            | TextLine::Until(_)
+            | TextLine::Assert(_)
             | TextLine::Wait(_) => self.add_said(alloc, number, line, names),
         }
     }
@@ -117,7 +125,7 @@ impl PlanDraft {
         if !self.blocks.are_none() {
             return Ok(false);
         }
-        if !add_name(&mut self.names.locks, alloc, name)? {
+        if !self.names.locks.add(alloc, name)? {
             return Ok(false);
         }
         self.locks.push(lock)?;
@@ -176,7 +184,7 @@ impl PlanDraft {
         ensures { IfOk result (λ is_added. with_parties (drafted self.old) is_server (name.now ∷ [])
             ≡ (if is_added then Some (drafted self.new) else None)) }
     {
-        if !add_name(&mut self.names.parties, alloc, name)? {
+        if !self.names.parties.add(alloc, name)? {
             return Ok(false);
         }
         self.copies.push(self.first < self.parties.len())?;

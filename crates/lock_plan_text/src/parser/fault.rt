@@ -14,6 +14,9 @@ pub enum PlanTextFault {
     /// The first line that starts or joins a party which has no line.
     #[error("line {0}: unknown party")]
     UnknownParty(u64),
+    /// The line that starts the first party that never begins: only parties that never begin start it.
+    #[error("line {0}: never begins")]
+    NeverBegins(u64),
     /// The line of the first act, party by party, that can never be made.
     #[error("line {0}: {1}")]
     Call(u64, CallFault),

@@ -41,7 +41,8 @@ pub fn parse_plan(alloc: Global, bytes: &[u8]) -> Result<NamedPlan, PlanTextFaul
 /// # Errors
 ///
 /// `BadLine` with the number of the first bad line, counted from 1. Then `UnknownParty` with the first line that starts or
-/// joins a party which has no line. `OutOfMemory` at any time.
+/// joins a party which has no line. Then `NeverBegins` with the line that starts the first party that never begins.
+/// `OutOfMemory` at any time.
 pub fn parse_text(alloc: Global, bytes: &[u8]) -> Result<PlanText, PlanTextFault>
     ensures text { IfOk result (λ text. IsDraftOf bytes.now (drafted text.draft)) }
     ensures fault { IfErr result (IsPlanTextFault bytes.now) }
@@ -49,6 +50,9 @@ pub fn parse_text(alloc: Global, bytes: &[u8]) -> Result<PlanText, PlanTextFault
     let draft = parse_lines(alloc, bytes)?;
     if let Some(number) = draft.unknown_line() {
         return Err(PlanTextFault::UnknownParty(number));
+    }
+    if let Some(number) = draft.unbegun_line(alloc)? {
+        return Err(PlanTextFault::NeverBegins(number));
     }
     let programs = programs_of(alloc, &draft)?;
     Ok(PlanText { draft, programs })
@@ -74,12 +78,28 @@ impl PlanText {
                 plan,
                 names: draft.names,
             }),
-            Err(PlanFault::Call(party, place, fault)) => {
-                let number = number_of(alloc, &draft, party, place)?;
-                Err(PlanTextFault::Call(number, fault))
-            }
-            Err(PlanFault::TooLarge) => Err(PlanTextFault::TooLarge),
-            Err(PlanFault::OutOfMemory) => Err(PlanTextFault::OutOfMemory),
+            Err(fault) => Err(draft.fault_by_line(alloc, fault)),
+        }
+    }
+}
+
+impl PlanDraft {
+    ghost use Rattle.std.specs.Prelude.{◌≡◌, ◌⊎◌};
+    ghost use Rattle.lock_plan_text.specs.declared.parser.fault.PlanTextFault.TheVariants.{OutOfMemory};
+    ghost use Rattle.lock_plan_text.specs.Drafted.{drafted};
+    ghost use Rattle.lock_plan_text.specs.PlanFaults.{by_line};
+
+    /// Returns a fault of the plan, with the line of the text in place of the party and its place.
+    pub(crate) fn fault_by_line(&self, alloc: Global, fault: PlanFault) -> PlanTextFault
+        ensures { (result ≡ by_line (drafted self.now) fault) ⊎ (result ≡ OutOfMemory) }
+    {
+        match fault {
+            PlanFault::Call(party, place, why) => match number_of(alloc, self, party, place) {
+                Ok(number) => PlanTextFault::Call(number, why),
+                Err(fault) => fault,
+            },
+            PlanFault::TooLarge => PlanTextFault::TooLarge,
+            PlanFault::OutOfMemory => PlanTextFault::OutOfMemory,
         }
     }
 }

@@ -5,9 +5,9 @@ use std::alloc::{AllocError, Global};
 /// An open block, by its part that is open.
 #[derive(Clone, Copy, PartialEq, Eq, Debug)]
 pub(crate) enum OpenBlock {
-    /// The first part of a try or an `if`.
+    /// The first part of a try, an `if` or a timed sleep.
     Try,
-    /// The last part of a try or an `if`.
+    /// The last part of one of these.
     Else,
     /// A loop.
     Repeat,
@@ -66,11 +66,15 @@ impl OpenBlocks {
     {
         match line {
             BlockLine::Call(_) | BlockLine::Plain(_) => Ok(true),
-            BlockLine::Try(_) | BlockLine::If(_) => self.begin(OpenBlock::Try),
-            BlockLine::Until(..) | BlockLine::Word(BlockWord::Repeat) => {
+            BlockLine::Try(_) | BlockLine::If(_) | BlockLine::TimedSleep(_) => {
+                self.begin(OpenBlock::Try)
+            }
+            BlockLine::Until(..) | BlockLine::Word(BlockWord::Repeat | BlockWord::Forever) => {
                 self.begin(OpenBlock::Repeat)
             }
             BlockLine::Word(BlockWord::Either) => self.begin(OpenBlock::Either),
+            BlockLine::Word(BlockWord::Leave) => Ok(self.has_loop()),
+            BlockLine::Word(BlockWord::Return) => Ok(!self.are_none()),
             BlockLine::Word(word) => self.turn_first(word),
         }
     }

@@ -5,7 +5,7 @@ ghost use Rattle.lock_base.specs.declared.machine.lock_step.LockStep.TheVariants
 ghost use Rattle.lock_base.specs.declared.machine.mode.Mode.TheVariants.{Exclusive};
 ghost use Rattle.lock_base.specs.declared.machine.mode_step.ModeStep.TheVariants.{Acquire, Release};
 ghost use Rattle.lock_plan.specs.Worlds.{no_lock};
-ghost use Rattle.lock_plan_text.specs.Drafts.{mutex_call, mutex_step, named_call, named_line, no_step, one_line, own_lines, place_of, sleep_lines, step_on, until_lines};
+ghost use Rattle.lock_plan_text.specs.Drafts.{mutex_call, mutex_step, named_call, named_line, no_step, one_line, own_lines, place_of, sleep_lines, step_on, timed_lines, timed_until_lines, until_lines};
 ghost use Rattle.lock_plan_text.specs.Drafted.{drafted};
 ghost use Rattle.lock_plan_text.specs.declared.parser.text_line.TextLine.TheVariants as text;
 ghost use Rattle.lock_plan_text.specs.PlanLines.{names_of};
@@ -14,7 +14,6 @@ use crate::parser::block_line::{BlockLine, BlockWord};
 use crate::parser::draft::PlanDraft;
 use crate::parser::line_names::LineNames;
 use crate::parser::named_word::NamedWord;
-use crate::parser::place::place_of;
 use crate::parser::plain_line::PlainLine;
 use crate::parser::plan_line::PlanLine;
 use crate::parser::text_line::TextLine;
@@ -51,6 +50,14 @@ impl PlanDraft {
                 None => Ok(None),
             },
             TextLine::Word(word) => one_line(alloc, BlockLine::Word(word)),
+            TextLine::Until(value) => match self.names.flags.place_of(names.name) {
+                Some(flag) => one_line(alloc, BlockLine::Until(flag, value)),
+                None => Ok(None),
+            },
+            TextLine::Assert(value) => match self.names.flags.place_of(names.name) {
+                Some(flag) => one_line(alloc, BlockLine::Plain(PlainLine::Assert(flag, value))),
+                None => Ok(None),
+            },
             TextLine::Wait(wait) => self.wait_lines(alloc, wait, names),
         }
     }
@@ -64,13 +71,13 @@ impl PlanDraft {
         let mentions = &self.mentions;
         let line = match word {
             NamedWord::Flag | NamedWord::Condvar => return None,
-            NamedWord::If => return Some(BlockLine::If(place_of(flags, name)?)),
-            NamedWord::Set => PlainLine::Set(place_of(flags, name)?),
-            NamedWord::Clear => PlainLine::Clear(place_of(flags, name)?),
-            NamedWord::NotifyOne => PlainLine::NotifyOne(place_of(conds, name)?),
-            NamedWord::NotifyAll => PlainLine::NotifyAll(place_of(conds, name)?),
-            NamedWord::Start => PlainLine::Start(place_of(mentions, name)?),
-            NamedWord::Join => PlainLine::Join(place_of(mentions, name)?),
+            NamedWord::If => return Some(BlockLine::If(flags.place_of(name)?)),
+            NamedWord::Set => PlainLine::Set(flags.place_of(name)?),
+            NamedWord::Clear => PlainLine::Clear(flags.place_of(name)?),
+            NamedWord::NotifyOne => PlainLine::NotifyOne(conds.place_of(name)?),
+            NamedWord::NotifyAll => PlainLine::NotifyAll(conds.place_of(name)?),
+            NamedWord::Start => PlainLine::Start(mentions.place_of(name)?),
+            NamedWord::Join => PlainLine::Join(mentions.place_of(name)?),
         };
         Some(BlockLine::Plain(line))
     }
@@ -85,16 +92,19 @@ impl PlanDraft {
         ensures { IfOk result (λ lines. option_map (λ v. v.items) lines
             ≡ own_lines (drafted self.now) (text.Wait wait) (names_of names.entry)) }
     {
-        let Some(cond) = place_of(&self.names.conds, names.name) else {
+        let Some(cond) = self.names.conds.place_of(names.name) else {
             return Ok(None);
         };
-        let Some(lock) = place_of(&self.names.locks, names.mutex) else {
+        let Some(lock) = self.names.locks.place_of(names.mutex) else {
             return Ok(None);
         };
         match wait {
             WaitLine::Once => self.sleep_lines(alloc, cond, lock),
-            WaitLine::Until => self.until_lines(alloc, true, cond, lock, names.flag),
-            WaitLine::UntilNot => self.until_lines(alloc, false, cond, lock, names.flag),
+            WaitLine::Until(value) => self.until_lines(alloc, value, cond, lock, names.flag),
+            WaitLine::OrTimeout => self.timed_lines(alloc, cond, lock),
+            WaitLine::UntilOrTimeout(value) => {
+                self.timed_until_lines(alloc, value, cond, lock, names.flag)
+            }
         }
     }
 
@@ -129,7 +139,7 @@ impl PlanDraft {
             ≡ option_map (until_lines (drafted self.now) value cond lock)
             (place_of (drafted self.now).flag_names flag.now)) }
     {
-        let Some(flag) = place_of(&self.names.flags, flag) else {
+        let Some(flag) = self.names.flags.place_of(flag) else {
             return Ok(None);
         };
         let mut lines = Vec::new(alloc);
@@ -141,11 +151,60 @@ impl PlanDraft {
         Ok(Some(lines))
     }
 
+    /// Returns the lines of one wait that a timeout ends too.
+    fn timed_lines(
+        &self,
+        alloc: Global,
+        cond: usize,
+        lock: usize,
+    ) -> Result<Option<Vec<BlockLine>>, AllocError>
+        ensures { IfOk result (λ lines. option_map (λ v. v.items) lines
+            ≡ Some (timed_lines (drafted self.now) cond lock)) }
+    {
+        let mut lines = Vec::new(alloc);
+        lines.push(BlockLine::Call(self.unlock(lock)))?;
+        lines.push(BlockLine::TimedSleep(cond))?;
+        lines.push(BlockLine::Word(BlockWord::Else))?;
+        lines.push(BlockLine::Word(BlockWord::End))?;
+        lines.push(BlockLine::Call(self.lock(lock)))?;
+        Ok(Some(lines))
+    }
+
+    /// Returns the lines of a loop of such waits, which a party leaves where the flag has this value or after a timeout,
+    /// unless the flag has no line.
+    fn timed_until_lines(
+        &self,
+        alloc: Global,
+        value: bool,
+        cond: usize,
+        lock: usize,
+        flag: &str,
+    ) -> Result<Option<Vec<BlockLine>>, AllocError>
+        ensures { IfOk result (λ lines. option_map (λ v. v.items) lines
+            ≡ option_map (timed_until_lines (drafted self.now) value cond lock)
+            (place_of (drafted self.now).flag_names flag.now)) }
+    {
+        let Some(flag) = self.names.flags.place_of(flag) else {
+            return Ok(None);
+        };
+        let mut lines = Vec::new(alloc);
+        lines.push(BlockLine::Until(flag, value))?;
+        lines.push(BlockLine::Call(self.unlock(lock)))?;
+        lines.push(BlockLine::TimedSleep(cond))?;
+        lines.push(BlockLine::Call(self.lock(lock)))?;
+        lines.push(BlockLine::Word(BlockWord::Else))?;
+        lines.push(BlockLine::Call(self.lock(lock)))?;
+        lines.push(BlockLine::Word(BlockWord::Leave))?;
+        lines.push(BlockLine::Word(BlockWord::End))?;
+        lines.push(BlockLine::Word(BlockWord::End))?;
+        Ok(Some(lines))
+    }
+
     /// Returns the call with this word on the lock of this name, if there is such a lock.
     fn call(&self, is_rwlock: bool, step: LockStep, name: &str) -> Option<PlanCall>
         ensures { result ≡ named_call (drafted self.now) is_rwlock step name.now }
     {
-        let lock = place_of(&self.names.locks, name)?;
+        let lock = self.names.locks.place_of(name)?;
         let step = step_on(is_rwlock, step, self.kind(lock));
         Some(PlanCall { lock, step })
     }

@@ -1,7 +1,6 @@
 //! The lines of a party's program, by rows: those of the parties, and then those of the flags.
 use crate::parser::block_line::BlockLine;
 use crate::parser::draft::PlanDraft;
-use crate::parser::place::place_of;
 use crate::parser::plain_line::PlainLine;
 use std::alloc::{AllocError, Global};
 
@@ -63,7 +62,7 @@ impl PlanDraft {
         self.mentions
             .as_slice()
             .iter()
-            .position(|name| place_of(parties, name.as_str()).is_none())
+            .position(|name| parties.place_of(name.as_str()).is_none())
     }
 
     /// Returns whether some line starts the party.
@@ -81,7 +80,10 @@ impl PlanDraft {
             BlockLine::If(flag) => BlockLine::If(self.flag_row(flag)?),
             BlockLine::Until(flag, value) => BlockLine::Until(self.flag_row(flag)?, value),
             BlockLine::Plain(line) => BlockLine::Plain(self.plain_in_rows(line)?),
-            BlockLine::Call(_) | BlockLine::Try(_) | BlockLine::Word(_) => line,
+            BlockLine::Call(_)
+            | BlockLine::Try(_)
+            | BlockLine::Word(_)
+            | BlockLine::TimedSleep(_) => line,
         };
         Some(found)
     }
@@ -93,6 +95,7 @@ impl PlanDraft {
         let found = match line {
             PlainLine::Set(flag) => PlainLine::Set(self.flag_row(flag)?),
             PlainLine::Clear(flag) => PlainLine::Clear(self.flag_row(flag)?),
+            PlainLine::Assert(flag, value) => PlainLine::Assert(self.flag_row(flag)?, value),
             PlainLine::Start(mention) => PlainLine::Start(self.party_row(mention)),
             PlainLine::Join(mention) => PlainLine::Join(self.party_row(mention)),
             PlainLine::Idle
@@ -115,7 +118,7 @@ impl PlanDraft {
         ensures { result ≡ party_row (drafted self.now) mention }
     {
         let name = name_at(self.mentions.as_slice(), mention);
-        place_of(&self.names.parties, name).unwrap_or(0)
+        self.names.parties.place_of(name).unwrap_or(0)
     }
 }
 
@@ -124,7 +127,7 @@ ghost use Rattle.std.proofs.Common.{get_or};
 ghost use Rattle.lock_plan_text.specs.Names.{name_of};
 
 /// Returns the name with this number, or an empty one if there is none.
-fn name_at(names: &[String], number: usize) -> &str
+pub(crate) fn name_at(names: &[String], number: usize) -> &str
     ensures { result.now ≡ name_of names.now number }
 {
     match names.get(number) {

@@ -11,6 +11,8 @@ pub(crate) enum PlainLine {
     Set(usize),
     /// Clears the flag.
     Clear(usize),
+    /// Asserts that the flag has this value.
+    Assert(usize, bool),
     /// Sleeps on the condition variable.
     Sleep(usize),
     /// Wakes one party that sleeps on the condition variable.

@@ -1,6 +1,7 @@
-//! The text of a plan that has no unknown party.
+//! The text of a plan whose parties are known and begin.
 ghost use Rattle.std.specs.Prelude.{◌≡◌, map, None};
 ghost use Rattle.lock_plan.specs.Copies.{AreAlike};
+ghost use Rattle.lock_plan_text.specs.Beginnings.{unbegun_line};
 ghost use Rattle.lock_plan_text.specs.Copies.{copies_in};
 ghost use Rattle.lock_plan_text.specs.Drafted.{drafted};
 ghost use Rattle.lock_plan_text.specs.PartyLines.{programs_in};
@@ -8,7 +9,6 @@ ghost use Rattle.lock_plan_text.specs.PlanFaults.{unknown_line};
 
 use crate::parser::draft::PlanDraft;
 use crate::parser::fault::PlanTextFault;
-use crate::parser::named_plan::number_of;
 use lock_plan::{Place, PlanFault, PlanLock};
 use std::alloc::Global;
 
@@ -18,6 +18,7 @@ pub struct PlanText {
     pub(crate) draft: PlanDraft,
     pub(crate) programs: Vec<Vec<Place>>,
     ghost known: { unknown_line (drafted draft) ≡ None },
+    ghost begun: { unbegun_line (drafted draft) ≡ None },
     ghost made: { map (λ v. v.items) programs.items ≡ programs_in (drafted draft) },
     ghost alike: { AreAlike (programs_in (drafted draft)) (drafted draft).servers (copies_in (drafted draft)) },
 }
@@ -46,15 +47,6 @@ impl PlanText {
     pub fn fault_by_line(&self, alloc: Global, fault: PlanFault) -> PlanTextFault
         ensures { (result ≡ by_line (drafted self.now.draft) fault) ⊎ (result ≡ OutOfMemory) }
     {
-        match fault {
-            PlanFault::Call(party, place, why) => {
-                match number_of(alloc, &self.draft, party, place) {
-                    Ok(number) => PlanTextFault::Call(number, why),
-                    Err(fault) => fault,
-                }
-            }
-            PlanFault::TooLarge => PlanTextFault::TooLarge,
-            PlanFault::OutOfMemory => PlanTextFault::OutOfMemory,
-        }
+        self.draft.fault_by_line(alloc, fault)
     }
 }

@@ -1,12 +1,11 @@
 //! The program of a party's lines.
 ghost use Rattle.std.specs.Prelude.{◌≡◌, ◌<◌, ◌≤◌, suc, length, IfOk};
-ghost use Rattle.std.proofs.Common.{get_or};
 ghost use Rattle.step_search.specs.Walks.{each_below};
 ghost use Rattle.lock_plan_text.specs.Blocks.{AreLands, is_step, one_way, other_line, place_for, place_number, place_of_line, program_of, signal_of, step_numbers, two_ways};
 
 use crate::parser::block_line::{BlockLine, BlockWord};
 use crate::parser::plain_line::PlainLine;
-use crate::parser::scan::{boundary, land_in, lands, line_at};
+use crate::parser::scan::{boundary, land_in, lands, line_at, number_at};
 use lock_plan::{Act, Block, Place, Signal};
 use std::alloc::{AllocError, Global};
 
@@ -50,7 +49,7 @@ fn is_step(lines: &[BlockLine], line: usize) -> bool
     match lines.get(line) {
         None => false,
         Some(here) => {
-            !here.parts() || here.is_or() && line_at(lines, boundary(lines, line)).is_or()
+            here.is_act() || here.is_or() && line_at(lines, boundary(lines, line)).is_or()
         }
     }
 }
@@ -79,11 +78,11 @@ fn place_at(lines: &[BlockLine], lands: &[usize], counts: &[usize], line: usize)
     ensures { result ≡ place_of_line lines.now line }
 {
     let here = line_at(lines, line);
-    let inside = count_before(counts, land_in(lines, lands, line + 1));
+    let inside = number_at(counts, land_in(lines, lands, line + 1));
     if here.is_alone() {
         return place_for(here, inside, inside);
     }
-    let past = count_before(counts, other_line(lines, lands, line));
+    let past = number_at(counts, other_line(lines, lands, line));
     place_for(here, inside, past)
 }
 
@@ -95,10 +94,12 @@ fn place_for(line: BlockLine, inside: usize, past: usize) -> Place
         BlockLine::Call(call) => one_way(Act::Call(call), inside),
         BlockLine::Try(call) => two_ways(Act::Try(call), inside, past),
         BlockLine::Word(BlockWord::Repeat) => two_ways(Act::Choose(Block::Repeat), inside, past),
+        BlockLine::Word(BlockWord::Forever) => one_way(Act::Choose(Block::Repeat), inside),
         BlockLine::Word(_) => two_ways(Act::Choose(Block::Either), inside, past),
         BlockLine::If(flag) | BlockLine::Until(flag, false) => {
             two_ways(Act::Choose(Block::If(flag)), inside, past)
         }
+        BlockLine::TimedSleep(cond) => two_ways(Act::Choose(Block::TimedSleep(cond)), inside, past),
         BlockLine::Until(flag, true) => two_ways(Act::Choose(Block::If(flag)), past, inside),
         BlockLine::Plain(line) => one_way(Act::Signal(signal_of(line)), inside),
     }
@@ -130,18 +131,12 @@ fn signal_of(line: PlainLine) -> Signal
         PlainLine::Idle => Signal::Idle,
         PlainLine::Set(row) | PlainLine::Start(row) => Signal::Start(row),
         PlainLine::Clear(row) => Signal::Clear(row),
+        PlainLine::Assert(row, value) => Signal::Assert(row, value),
         PlainLine::Sleep(cond) => Signal::Sleep(cond),
         PlainLine::NotifyOne(cond) => Signal::NotifyOne(cond),
         PlainLine::NotifyAll(cond) => Signal::NotifyAll(cond),
         PlainLine::Join(row) => Signal::Join(row),
     }
-}
-
-/// Returns how many steps come before a line.
-fn count_before(counts: &[usize], line: usize) -> usize
-    ensures { result ≡ get_or counts.now line 0 }
-{
-    counts.get(line).copied().unwrap_or(0)
 }
 
 /// Returns the line to which the other way of a step leads.

@@ -9,6 +9,7 @@ use crate::parser::block_word::block_word;
 use crate::parser::copies::parties;
 use crate::parser::limit::{reentrant, rwlock};
 use crate::parser::line_names::{LineNames, no_names, one_name};
+use crate::parser::look::{read_look, read_until};
 use crate::parser::name::is_name;
 use crate::parser::named_word::named_word;
 use crate::parser::plan_line::{Parties, PlanLine};
@@ -33,6 +34,14 @@ pub(crate) fn read_line(text: Part) -> Option<(TextLine, LineNames)>
         "try" => {
             let (is_rwlock, step, name) = read_try(rest)?;
             Some((TextLine::Try(is_rwlock, step), one_name(name)))
+        }
+        "repeat" => {
+            let (value, name) = read_until(rest)?;
+            Some((TextLine::Until(value), one_name(name)))
+        }
+        "assert" => {
+            let (value, name) = read_look(rest)?;
+            Some((TextLine::Assert(value), one_name(name)))
         }
         "wait" => {
             let (wait, names) = read_wait(rest)?;
@@ -76,7 +85,7 @@ fn is_tried(step: LockStep) -> bool
     )
 }
 
-/// Reads a line that is no try and no wait, and its name, by the first field and the others.
+/// Reads a line that is no try, no loop, no assertion and no wait, and its name, by the first field and the others.
 fn read_plan_line<'a>(word: &str, rest: &'a str) -> Option<(PlanLine, &'a str)>
     ensures said { IfSome result (λ found. IsPlanLine found.0 × (IsTrue (is_name found.1.now)
         × (plan_fields found.0 found.1.now ≡ word.now ∷ fields_of rest.now))) }

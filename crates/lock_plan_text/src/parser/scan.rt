@@ -1,6 +1,8 @@
 //! Looking through the lines of a party for the lines of a block.
-ghost use Rattle.std.specs.Prelude.{◌≡◌, ◌+◌, ◌<◌, ◌≤◌, ◌^◌, length, IfOk};
-ghost use Rattle.lock_plan_text.specs.Blocks.{AreLands, beginning, boundary, deeper, higher, land, line_at};
+ghost use Rattle.std.specs.Prelude.{◌≡◌, ◌+◌, ◌<◌, ◌≤◌, ◌^◌, drop, length, IfOk};
+ghost use Rattle.std.proofs.Common.{get_or};
+ghost use Rattle.step_search.specs.Walks.{each_below};
+ghost use Rattle.lock_plan_text.specs.Blocks.{AreLands, beginning, boundary, deeper, higher, land, land_from, line_at, loop_depth};
 
 use crate::parser::block_line::{BlockLine, BlockWord};
 use std::alloc::{AllocError, Global};
@@ -13,6 +15,13 @@ pub(crate) fn line_at(lines: &[BlockLine], number: usize) -> BlockLine
         .get(number)
         .copied()
         .unwrap_or(BlockLine::Word(BlockWord::End))
+}
+
+/// Looks up the number of a line, or 0 past the last one.
+pub(crate) fn number_at(numbers: &[usize], line: usize) -> usize
+    ensures { result ≡ get_or numbers.now line 0 }
+{
+    numbers.get(line).copied().unwrap_or(0)
 }
 
 /// Returns how many blocks are open after a line, of those that were open before it.
@@ -85,15 +94,76 @@ fn beginning(lines: &[BlockLine], line: usize) -> usize
     0
 }
 
+/// Returns for each line how many blocks are open there from the innermost loop on.
+fn loop_depths(alloc: Global, lines: &[BlockLine]) -> Result<Vec<usize>, AllocError>
+    ensures { IfOk result (λ depths. depths.items ≡ each_below (loop_depth lines.now) (length lines.now)) }
+{
+    let mut depths = Vec::new(alloc);
+    let mut depth = 0usize;
+    for line in 0..lines.len() {
+        depths.push(depth)?;
+        depth = depth_after(lines, depths.as_slice(), line, depth);
+    }
+    Ok(depths)
+}
+
+/// Returns how many blocks are open after a line from the innermost loop on, by how many are open before it.
+fn depth_after(lines: &[BlockLine], depths: &[usize], line: usize, depth: usize) -> usize
+    requires within { line < length lines.now }
+    requires depths { depths.now ≡ each_below (loop_depth lines.now) (line + 1) }
+    requires depth { depth ≡ loop_depth lines.now line }
+    requires few { depth ≤ line }
+    ensures value { result ≡ loop_depth lines.now (line + 1) }
+    ensures most { result ≤ line + 1 }
+{
+    let here = line_at(lines, line);
+    if here.is_loop() {
+        1
+    } else if here.begins() {
+        depth + 1
+    } else if here.ends() {
+        number_at(depths, beginning(lines, line))
+    } else {
+        depth
+    }
+}
+
+/// Returns a line from which a party lands as it does from this line when it leaves so many blocks. The walk ends at a
+/// `leave` of the same blocks, so that all walks from the lines of a loop take a time linear in its lines.
+fn past_blocks(lines: &[BlockLine], depths: &[usize], line: usize, blocks: usize) -> usize
+    requires depths { depths.now ≡ each_below (loop_depth lines.now) (length lines.now) }
+    requires within { line ≤ length lines.now }
+    requires few { blocks ≤ line }
+    ensures value { land lines.now result ≡ land_from lines.now blocks line (drop line lines.now) }
+    ensures after { line ≤ result }
+{
+    let mut at = line;
+    let mut rest = &lines[at..];
+    let mut left = blocks;
+    while let Some((first, after)) = rest.split_first() {
+        if left == 0 {
+            return at;
+        }
+        if first.is_leave() && number_at(depths, at) == left {
+            return at;
+        }
+        left = deeper(left, *first);
+        rest = after;
+        at += 1;
+    }
+    at
+}
+
 /// Returns for each line the line of the next step of a party that reaches it.
 pub(crate) fn lands(alloc: Global, lines: &[BlockLine]) -> Result<Vec<usize>, AllocError>
     ensures { IfOk result (λ lands. AreLands lines.now 0 lands.items) }
 {
+    let depths = loop_depths(alloc, lines)?;
     let mut lands = vec![in alloc; lines.len(); lines.len()]?;
     let mut at = lines.len();
     while at > 0 {
         at -= 1;
-        let landed = land(lines, lands.as_slice(), at);
+        let landed = land(lines, depths.as_slice(), lands.as_slice(), at);
         lands[at] = landed;
     }
     Ok(lands)
@@ -109,12 +179,20 @@ pub(crate) fn land_in(lines: &[BlockLine], lands: &[usize], line: usize) -> usiz
 }
 
 /// Returns the line of the next step of a party that reaches a line, given those of the lines after it.
-fn land(lines: &[BlockLine], lands: &[usize], line: usize) -> usize
+fn land(lines: &[BlockLine], depths: &[usize], lands: &[usize], line: usize) -> usize
+    requires depths { depths.now ≡ each_below (loop_depth lines.now) (length lines.now) }
     requires within { line < length lines.now }
     requires lands { AreLands lines.now (line + 1) lands.now }
     ensures { result ≡ land lines.now line }
 {
     let here = line_at(lines, line);
+    if here.is_leave() {
+        let past = past_blocks(lines, depths, line + 1, number_at(depths, line));
+        return land_in(lines, lands, past);
+    }
+    if here.is_return() {
+        return lines.len();
+    }
     if !here.parts() {
         return line;
     }

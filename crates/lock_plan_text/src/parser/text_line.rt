@@ -12,6 +12,10 @@ pub(crate) enum TextLine {
     Try(bool, LockStep),
     /// A line of a block. It names nothing.
     Word(BlockWord),
+    /// Begins a loop, which a party leaves where the flag that it names has this value.
+    Until(bool),
+    /// Asserts that the flag that it names has this value.
+    Assert(bool),
     /// A wait on a condition variable. It names its mutex too, and perhaps a flag.
     Wait(WaitLine),
 }

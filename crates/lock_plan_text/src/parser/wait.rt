@@ -1,9 +1,10 @@
 //! Reading a wait on a condition variable.
-ghost use Rattle.std.specs.Prelude.{◌≡◌, ◌∷◌, ℕ, List, IsTrue, IfNone, IfSome, codes};
+ghost use Rattle.std.specs.Prelude.{◌≡◌, ◌∷◌, ℕ, List, IfNone, IfSome};
 ghost use Rattle.lock_script.specs.Lines.{fields_of};
-ghost use Rattle.lock_plan_text.specs.PlanLines.{AreMutexAndFlag, AreWaitNames, IsFlagField, TextNames, has_flag, is_name, names_of, until_fields, wait_fields};
+ghost use Rattle.lock_plan_text.specs.PlanLines.{AreMutexAndFlag, AreWaitNames, IsFlagField, TextNames, has_flag, names_of, until_fields, wait_fields};
 
 use crate::parser::line_names::LineNames;
+use crate::parser::look::{is_timeout, read_timed_until, read_until};
 use crate::parser::name::is_name;
 use crate::parser::wait_line::WaitLine;
 use lock_script::first_field;
@@ -33,7 +34,7 @@ fn read_mutex(rest: &str) -> Option<(WaitLine, &str, &str)>
     let (wait, mutex, flag) = match first_field(rest) {
         None => (WaitLine::Once, rest, ""),
         Some((mutex, last)) => {
-            let (wait, flag) = read_until(last)?;
+            let (wait, flag) = read_end(last)?;
             (wait, mutex, flag)
         }
     };
@@ -43,39 +44,19 @@ fn read_mutex(rest: &str) -> Option<(WaitLine, &str, &str)>
     Some((wait, mutex, flag))
 }
 
-/// Reads the fields of a wait from `until` on.
-fn read_until(last: &str) -> Option<(WaitLine, &str)>
-    ensures said { IfSome result (λ found. IsTrue (has_flag found.0) × (IsTrue (is_name found.1.now)
-        × (until_fields found.0 found.1.now ≡ fields_of last.now))) }
+/// Reads the fields of a wait after the name of the mutex.
+fn read_end(fields: &str) -> Option<(WaitLine, &str)>
+    ensures said { IfSome result (λ found. IsFlagField (has_flag found.0) found.1.now
+        × (until_fields found.0 found.1.now ≡ fields_of fields.now)) }
     ensures bad { IfNone result ((wait : WaitLine) (flag : List ℕ) → IsFlagField (has_flag wait) flag
-        → until_fields wait flag ≡ fields_of last.now → ⊥) }
+        → until_fields wait flag ≡ fields_of fields.now → ⊥) }
 {
-    let (word, last) = first_field(last)?;
-    if word != "until" {
-        return None;
+    if is_timeout(fields) {
+        return Some((WaitLine::OrTimeout, ""));
     }
-    let (wait, flag) = read_flag(last)?;
-    if !is_name(flag) {
-        return None;
+    if let Some((value, flag)) = read_until(fields) {
+        return Some((WaitLine::Until(value), flag));
     }
-    Some((wait, flag))
-}
-
-/// Reads the fields of a wait after `until`.
-fn read_flag(last: &str) -> Option<(WaitLine, &str)>
-    ensures said { IfSome result (λ found. IsTrue (has_flag found.0)
-        × (until_fields found.0 found.1.now ≡ codes "until" ∷ fields_of last.now)) }
-    ensures bad { IfNone result ((wait : WaitLine) (flag : List ℕ)
-        → until_fields wait flag ≡ codes "until" ∷ fields_of last.now → ⊥) }
-{
-    let Some((word, flag)) = first_field(last) else {
-        return Some((WaitLine::Until, last));
-    };
-    if word != "not" {
-        return None;
-    }
-    let None = first_field(flag) else {
-        return None;
-    };
-    Some((WaitLine::UntilNot, flag))
+    let (value, flag) = read_timed_until(fields)?;
+    Some((WaitLine::UntilOrTimeout(value), flag))
 }

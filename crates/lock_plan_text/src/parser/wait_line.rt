@@ -5,8 +5,10 @@
 pub(crate) enum WaitLine {
     /// For one notification.
     Once,
-    /// Again and again, until the flag is true.
-    Until,
-    /// Again and again, until the flag is false.
-    UntilNot,
+    /// Again and again, until the flag has this value.
+    Until(bool),
+    /// For one notification or a timeout.
+    OrTimeout,
+    /// Again and again, until the flag has this value or there is a timeout.
+    UntilOrTimeout(bool),
 }

@@ -6,7 +6,7 @@ ghost use Rattle.lock_plan_text.specs.Answers.{none_text, trace_text, answer_tex
 
 use crate::names::Names;
 use crate::printer::step::{last_node, write_steps};
-use crate::printer::stop::{is_refused, stop_word, write_stop_lines};
+use crate::printer::stop::{stop_word, write_stop_lines};
 use itoa::Buffer;
 use lock_plan::{Explored, Plan, Step};
 use std::alloc::{AllocError, Global};
@@ -62,8 +62,9 @@ fn write_trace(
         ++ trace_text plan.now.locks.items names.now (first_world plan.now.locks.items (programs_of plan.now)) trace.now) }
 {
     let node = last_node(alloc, plan, trace)?;
-    text.push_str(stop_word(is_refused(alloc, plan, node)?))?;
+    let list = plan.stopped(alloc, node)?;
+    text.push_str(stop_word(list.as_slice()))?;
     text.push('\n')?;
     write_steps(alloc, text, plan, names, trace)?;
-    write_stop_lines(alloc, text, plan, names, node)
+    write_stop_lines(alloc, text, plan, names, node, list.as_slice())
 }

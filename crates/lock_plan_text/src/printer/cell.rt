@@ -157,7 +157,7 @@ fn write_signal_arrow(text: &mut String, names: &Names, signal: Signal) -> Resul
             text.push_str("-> ")?;
             write_name(text, names.conds.as_slice(), cond)
         }
-        Signal::Join(row) => {
+        Signal::Join(row) | Signal::Assert(row, _) => {
             text.push_str("-> ")?;
             write_row_name(text, names, row)
         }

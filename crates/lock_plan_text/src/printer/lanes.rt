@@ -77,7 +77,7 @@ fn write_rows(
     rows: &[Row],
 ) -> Result<(), AllocError>
     ensures { OnOk result (string_bytes text.new ≡ string_bytes text.old
-        ++ rows_text (map (cell_of plan.now names.now) rows.now) (length names.now.parties.keys)) }
+        ++ rows_text (map (cell_of plan.now names.now) rows.now) (length names.now.parties)) }
 {
     let widths = widths_of(alloc, plan, names, rows)?;
     for row in rows {
@@ -94,7 +94,7 @@ fn widths_of(
     rows: &[Row],
 ) -> Result<Vec<usize>, AllocError>
     ensures { IfOk result (λ widths. widths.items
-        ≡ widths_of (map (cell_of plan.now names.now) rows.now) (length names.now.parties.keys)) }
+        ≡ widths_of (map (cell_of plan.now names.now) rows.now) (length names.now.parties)) }
 {
     let mut widths = Vec::new(alloc);
     for party in 0..names.parties.len() {
@@ -132,7 +132,7 @@ fn write_row(
     row: Row,
 ) -> Result<(), AllocError>
     ensures { OnOk result (string_bytes text.new ≡ string_bytes text.old
-        ++ row_text widths.now (length names.now.parties.keys) (cell_of plan.now names.now row)) }
+        ++ row_text widths.now (length names.now.parties) (cell_of plan.now names.now row)) }
 {
     let Some(last) = names.parties.len().checked_sub(1) else {
         return text.push('\n');

@@ -2,22 +2,25 @@
 ghost use Rattle.std.specs.Prelude.{◌≡◌, ◌++◌, IfErr, OnOk, true, string_bytes};
 ghost use Rattle.lock_plan_text.specs.declared.parser.fault.PlanTextFault.TheVariants.{OutOfMemory};
 ghost use Rattle.std.specs.List.{flat_map};
+ghost use Rattle.lock_plan_text.specs.LineNumbers.{number_by};
 ghost use Rattle.lock_plan_text.specs.Orders.{advice, at_line, broken_text, holds_text, kept_text, lock_name, obstacle_line, order_names, order_text, party_name, separator, uncovered_line, wait_line, waits_text};
 
+use crate::line_numbers::LineNumbers;
 use crate::names::write_name;
 use crate::parser::{PlanText, PlanTextFault, number_of};
 use itoa::Buffer;
 use lock_plan::{HeldWait, LockOrder, Obstacle};
 use std::alloc::{AllocError, Global};
 
-/// Appends the order of the locks, or why none was found, with the lines that are in the way.
+/// Appends the order of the locks, or why none was found, with the lines that are in the way and the number of each.
 pub fn write_order(
     alloc: Global,
     text: &mut String,
     plan: &PlanText,
+    lines: &LineNumbers,
     order: &LockOrder,
 ) -> Result<(), PlanTextFault>
-    ensures text { OnOk result (string_bytes text.new ≡ string_bytes text.old ++ order_text plan.now order.now) }
+    ensures text { OnOk result (string_bytes text.new ≡ string_bytes text.old ++ order_text (number_by lines.now) plan.now order.now) }
     ensures fault { IfErr result (λ fault. fault ≡ OutOfMemory) }
 {
     match order {
@@ -25,7 +28,13 @@ pub fn write_order(
             write_kept(text, plan, locks.as_slice())?;
             Ok(())
         }
-        LockOrder::Broken(obstacles) => write_broken(alloc, text, plan, obstacles.as_slice()),
+        LockOrder::Broken(obstacles) => write_broken(
+            alloc,
+            text,
+            plan,
+            lines,
+            obstacles.as_slice(),
+        ),
     }
 }
 
@@ -44,13 +53,14 @@ fn write_broken(
     alloc: Global,
     text: &mut String,
     plan: &PlanText,
+    lines: &LineNumbers,
     obstacles: &[Obstacle],
 ) -> Result<(), PlanTextFault>
-    ensures text { OnOk result (string_bytes text.new ≡ string_bytes text.old ++ broken_text plan.now obstacles.now) }
+    ensures text { OnOk result (string_bytes text.new ≡ string_bytes text.old ++ broken_text (number_by lines.now) plan.now obstacles.now) }
     ensures fault { IfErr result (λ fault. fault ≡ OutOfMemory) }
 {
     text.push_str("no order\n")?;
-    write_obstacles(alloc, text, plan, obstacles)?;
+    write_obstacles(alloc, text, plan, lines, obstacles)?;
     text.push_str(advice(plan.is_any_number()))?;
     Ok(())
 }
@@ -101,13 +111,14 @@ fn write_obstacles(
     alloc: Global,
     text: &mut String,
     plan: &PlanText,
+    lines: &LineNumbers,
     obstacles: &[Obstacle],
 ) -> Result<(), PlanTextFault>
-    ensures text { OnOk result (string_bytes text.new ≡ string_bytes text.old ++ flat_map (obstacle_line plan.now) obstacles.now) }
+    ensures text { OnOk result (string_bytes text.new ≡ string_bytes text.old ++ flat_map (obstacle_line (number_by lines.now) plan.now) obstacles.now) }
     ensures fault { IfErr result (λ fault. fault ≡ OutOfMemory) }
 {
     for obstacle in obstacles {
-        write_obstacle(alloc, text, plan, *obstacle)?;
+        write_obstacle(alloc, text, plan, lines, *obstacle)?;
     }
     Ok(())
 }
@@ -117,14 +128,17 @@ fn write_obstacle(
     alloc: Global,
     text: &mut String,
     plan: &PlanText,
+    lines: &LineNumbers,
     obstacle: Obstacle,
 ) -> Result<(), PlanTextFault>
-    ensures text { OnOk result (string_bytes text.new ≡ string_bytes text.old ++ obstacle_line plan.now obstacle) }
+    ensures text { OnOk result (string_bytes text.new ≡ string_bytes text.old ++ obstacle_line (number_by lines.now) plan.now obstacle) }
     ensures fault { IfErr result (λ fault. fault ≡ OutOfMemory) }
 {
     match obstacle {
-        Obstacle::Waits(wait) => write_wait(alloc, text, plan, wait),
-        Obstacle::Uncovered(party, place) => write_uncovered(alloc, text, plan, party, place),
+        Obstacle::Waits(wait) => write_wait(alloc, text, plan, lines, wait),
+        Obstacle::Uncovered(party, place) => write_uncovered(
+            alloc, text, plan, lines, party, place,
+        ),
         Obstacle::Ends(party, lock) => {
             write_party(text, plan, party)?;
             text.push_str(" ends")?;
@@ -144,12 +158,13 @@ fn write_wait(
     alloc: Global,
     text: &mut String,
     plan: &PlanText,
+    lines: &LineNumbers,
     wait: HeldWait,
 ) -> Result<(), PlanTextFault>
-    ensures text { OnOk result (string_bytes text.new ≡ string_bytes text.old ++ wait_line plan.now wait) }
+    ensures text { OnOk result (string_bytes text.new ≡ string_bytes text.old ++ wait_line (number_by lines.now) plan.now wait) }
     ensures fault { IfErr result (λ fault. fault ≡ OutOfMemory) }
 {
-    write_line(alloc, text, plan, wait.party, wait.place)?;
+    write_line(alloc, text, plan, lines, wait.party, wait.place)?;
     write_waits(text, plan, wait.party, wait.wanted)?;
     write_holds(text, plan, wait.held)?;
     Ok(())
@@ -182,14 +197,15 @@ fn write_uncovered(
     alloc: Global,
     text: &mut String,
     plan: &PlanText,
+    lines: &LineNumbers,
     party: usize,
     place: usize,
 ) -> Result<(), PlanTextFault>
-    ensures text { OnOk result (string_bytes text.new ≡ string_bytes text.old ++ uncovered_line plan.now party place) }
+    ensures text { OnOk result (string_bytes text.new ≡ string_bytes text.old ++ uncovered_line (number_by lines.now) plan.now party place) }
     ensures fault { IfErr result (λ fault. fault ≡ OutOfMemory) }
 {
     if party < plan.draft.names.parties.len() {
-        write_line(alloc, text, plan, party, place)?;
+        write_line(alloc, text, plan, lines, party, place)?;
         text.push_str("an order covers no upgrade, announcement or signal\n")?;
     } else {
         text.push_str("an order covers no flag\n")?;
@@ -202,15 +218,16 @@ fn write_line(
     alloc: Global,
     text: &mut String,
     plan: &PlanText,
+    lines: &LineNumbers,
     party: usize,
     place: usize,
 ) -> Result<(), PlanTextFault>
-    ensures text { OnOk result (string_bytes text.new ≡ string_bytes text.old ++ at_line plan.now party place) }
+    ensures text { OnOk result (string_bytes text.new ≡ string_bytes text.old ++ at_line (number_by lines.now) plan.now party place) }
     ensures fault { IfErr result (λ fault. fault ≡ OutOfMemory) }
 {
     let number = number_of(alloc, &plan.draft, party, place)?;
     text.push_str("line ")?;
-    text.push_str(Buffer::new().format(number))?;
+    text.push_str(Buffer::new().format(lines.number(number)))?;
     text.push_str(": ")?;
     Ok(())
 }

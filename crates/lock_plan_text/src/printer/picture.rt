@@ -8,7 +8,7 @@ mod waits;
 use crate::names::{Names, write_name};
 use crate::printer::mark::Mark;
 use crate::printer::step::{Made, stepped, write_made};
-use crate::printer::stop::{is_refused, stop_word};
+use crate::printer::stop::stop_word;
 use bars::write_bars;
 use itoa::Buffer;
 use layout::Layout;
@@ -89,15 +89,14 @@ fn picture_of_none(alloc: Global, visited: usize) -> Result<String, AllocError> 
 fn picture_of_run(plan: &Plan, names: &Names, run: &Run) -> Result<String, AllocError> {
     let layout = Layout::of_run(plan, names, run)?;
     let mut svg = Svg::new(run.alloc, layout.width(), layout.height())?;
-    let word = stop_word(is_refused(run.alloc, plan, run.last)?);
-    svg.text("name", layout.title(), word)?;
+    let list = plan.stopped(run.alloc, run.last)?;
+    svg.text("name", layout.title(), stop_word(list.as_slice()))?;
     write_legend(&mut svg, &layout)?;
     for party in 0..names.parties.len() {
         write_column(&mut svg, names, &layout, party)?;
         write_bars(&mut svg, plan, names, run, &layout, party)?;
     }
     write_steps(&mut svg, plan, names, run, &layout)?;
-    let list = plan.stopped(run.alloc, run.last)?;
     for stopped in &list {
         write_stopped(&mut svg, plan, names, &layout, stopped)?;
     }

@@ -2,7 +2,7 @@
 ghost use Rattle.std.specs.Prelude.{◌≡◌, ◌++◌, OnOk, IfOk, string_bytes};
 ghost use Rattle.lock_plan.specs.Stops.{world_of};
 ghost use Rattle.lock_plan_text.specs.Names.{row_name};
-ghost use Rattle.lock_plan_text.specs.Signals.{sleepers, woken, rows_text, notice_text, start_word, signal_text, turn_text, choice_text};
+ghost use Rattle.lock_plan_text.specs.Signals.{sleepers, woken, rows_text, notice_text, start_word, assert_word, assert_text, signal_text, turn_text, choice_text};
 
 use crate::names::{Names, is_party, write_name, write_row_name};
 use crate::printer::stand::sleep_of;
@@ -32,6 +32,10 @@ pub(crate) fn write_choice(
             write_row_name(text, names, row)?;
             text.push_str(if other { ": false" } else { ": true" })
         }
+        Block::TimedSleep(cond) => {
+            text.push_str("timeout ")?;
+            write_name(text, names.conds.as_slice(), cond)
+        }
     }
 }
 
@@ -59,6 +63,7 @@ pub(crate) fn write_signal(
         Signal::Start(row) => write_with_row(text, start_word(is_party(names, row)), names, row),
         Signal::Clear(row) => write_with_row(text, "clear ", names, row),
         Signal::Join(row) => write_with_row(text, "join ", names, row),
+        Signal::Assert(row, value) => write_assert(text, names, row, value),
         Signal::NotifyOne(cond) => {
             let rows = woken(alloc, way)?;
             write_notice(text, "notify_one ", names, cond, rows.as_slice())
@@ -75,6 +80,24 @@ fn start_word(is_party: bool) -> &'static str
     ensures { result.now ≡ start_word is_party }
 {
     if is_party { "start " } else { "set " }
+}
+
+/// Appends an assertion of a row.
+pub(crate) fn write_assert(
+    text: &mut String,
+    names: &Names,
+    row: usize,
+    value: bool,
+) -> Result<(), AllocError>
+    ensures { OnOk result (string_bytes text.new ≡ string_bytes text.old ++ assert_text names.now row value) }
+{
+    write_with_row(text, assert_word(value), names, row)
+}
+
+fn assert_word(value: bool) -> &'static str
+    ensures { result.now ≡ assert_word value }
+{
+    if value { "assert " } else { "assert not " }
 }
 
 /// Appends a word and the name of a row.

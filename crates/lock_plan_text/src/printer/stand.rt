@@ -7,7 +7,7 @@ ghost use Rattle.lock_plan.specs.Stops.{world_of};
 ghost use Rattle.lock_plan_text.specs.Signals.{act_at, cond_of, sleep_of};
 
 use lock_base::machine::Hold;
-use lock_plan::{Act, Plan, Signal, Turn};
+use lock_plan::{Act, Block, Plan, Signal, Turn};
 use std::alloc::{AllocError, Global};
 
 /// Returns the next act of a row, or `None` where it has ended.
@@ -57,7 +57,7 @@ fn cond_of(act: Option<Act>) -> Option<usize>
     ensures { result ≡ cond_of act }
 {
     match act {
-        Some(Act::Signal(Signal::Sleep(cond))) => Some(cond),
+        Some(Act::Signal(Signal::Sleep(cond)) | Act::Choose(Block::TimedSleep(cond))) => Some(cond),
         _ => None,
     }
 }

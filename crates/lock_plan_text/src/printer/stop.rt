@@ -1,50 +1,64 @@
 //! The stopped parties, and who holds what.
 ghost use Rattle.std.specs.Prelude.{◌≡◌, ◌++◌, OnOk, IfOk, string_bytes};
-ghost use Rattle.lock_plan.specs.Worlds.{is_refused};
+ghost use Rattle.std.specs.List.{flat_map, list_any};
 ghost use Rattle.lock_plan.specs.Stops.{world_of};
 ghost use Rattle.lock_plan_text.specs.Marks.{holders};
-ghost use Rattle.lock_plan_text.specs.Stops.{adds_reader, awaited_text, call_holders, holders_text, holds_text, is_full, limit_text, room_after, says, signal_awaited, stop_lines, stop_word, stopped_line};
+ghost use Rattle.lock_plan_text.specs.Stops.{adds_reader, awaited_text, call_holders, holders_text, holds_text, is_full, is_refused_call, limit_text, room_after, says, signal_awaited, stop_word, stopped_line};
 
 use crate::names::{Names, write_name, write_row_name};
 use crate::printer::mark::{Marked, Style, add_marks, write_marks};
+use crate::printer::signal::write_assert;
 use crate::printer::step::{lock_at, write_call};
 use itoa::Buffer;
 use lock_base::machine::{LockStep, Mode, ModeStep};
-use lock_plan::{Act, PartyHold, Plan, PlanLock, Signal, Stopped, Turn};
+use lock_plan::{Act, PartyHold, Plan, PlanLock, Signal, Stopped};
 use std::alloc::{AllocError, Global};
 
-/// Returns whether the next call of some party is refused at a node.
-pub(crate) fn is_refused(alloc: Global, plan: &Plan, node: usize) -> Result<bool, AllocError>
-    ensures { IfOk result (λ it. it ≡ is_refused plan.now.locks.items (world_of plan.now node)) }
+/// Returns the word for a stop with these stopped parties.
+pub(crate) fn stop_word(list: &[Stopped]) -> &'static str
+    ensures { result.now ≡ stop_word list.now }
 {
-    let mut is_found = false;
-    for party in 0..plan.parties() {
-        let turn = plan.turn(alloc, node, party)?;
-        is_found = matches!(turn, Some(Turn::Refused)) || is_found;
+    if has_refused_call(list) {
+        "refused"
+    } else if has_refused(list) {
+        "assertion"
+    } else {
+        "deadlock"
     }
-    Ok(is_found)
 }
 
-/// Returns the word for a stop.
-pub(crate) fn stop_word(is_refused: bool) -> &'static str
-    ensures { result.now ≡ stop_word is_refused }
+fn has_refused_call(list: &[Stopped]) -> bool
+    ensures { result ≡ list_any is_refused_call list.now }
 {
-    if is_refused { "refused" } else { "deadlock" }
+    list.iter().any(|stopped| is_refused_call(*stopped))
 }
 
-/// Appends a line for each party that waits or is refused at a node.
+fn has_refused(list: &[Stopped]) -> bool
+    ensures { result ≡ list_any (λ s. s.is_refused) list.now }
+{
+    list.iter().any(|stopped| stopped.is_refused)
+}
+
+/// Returns whether a stopped party's call is refused.
+fn is_refused_call(stopped: Stopped) -> bool
+    ensures { result ≡ is_refused_call stopped }
+{
+    stopped.is_refused && stopped.act.call().is_some()
+}
+
+/// Appends a line for each of these parties, which wait or are refused at a node.
 pub(crate) fn write_stop_lines(
     alloc: Global,
     text: &mut String,
     plan: &Plan,
     names: &Names,
     node: usize,
+    list: &[Stopped],
 ) -> Result<(), AllocError>
     ensures { OnOk result (string_bytes text.new ≡ string_bytes text.old
-        ++ stop_lines plan.now.locks.items names.now (world_of plan.now node)) }
+        ++ flat_map (stopped_line plan.now.locks.items names.now (world_of plan.now node)) list.now) }
 {
-    let list = plan.stopped(alloc, node)?;
-    for stopped in &list {
+    for stopped in list {
         write_stopped(alloc, text, plan, names, node, stopped)?;
     }
     Ok(())
@@ -79,7 +93,7 @@ fn says(is_refused: bool) -> &'static str
     }
 }
 
-/// Appends what a party with this act waits for: its call, a notification, or the end of a row.
+/// Appends what a party with this act waits for: its call, a notification, or the end of a row; or what it asserts.
 pub(crate) fn write_awaited(
     text: &mut String,
     plan: &Plan,
@@ -108,6 +122,7 @@ fn write_signal_awaited(text: &mut String, names: &Names, signal: Signal) -> Res
             text.push_str("join ")?;
             write_row_name(text, names, row)
         }
+        Signal::Assert(row, value) => write_assert(text, names, row, value),
         _ => Ok(()),
     }
 }

@@ -92,7 +92,7 @@ fn write_bar(
         _ => spot,
     };
     svg.rect(held.mark.word(), spot, Layout::BAR, height)?;
-    let Some(name) = names.locks.get_index(held.lock) else {
+    let Some(name) = names.locks.as_slice().get(held.lock) else {
         return Ok(());
     };
     if name.len().saturating_mul(Layout::LETTER) > height {

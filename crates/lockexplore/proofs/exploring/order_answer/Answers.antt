@@ -23,7 +23,7 @@ pub returns-in-Err-clause-fault : goal.returns-in-Err-clause-fault
 returns-in-Err-clause-fault c =
     let plan = c.args.plan.now in
     let fault = c.in-Err.fault in
-    order_told (drafted plan.draft) (map (λ v. v.items) plan.programs.items) fault c.fault_by_line.result plan.known plan.made
+    order_told (drafted plan.draft) (map (λ v. v.items) plan.programs.items) fault c.fault_by_line.result plan.known plan.begun plan.made
     (subst (λ (ps : List (Vec Place Global)). IsFault (parties_fault plan.draft.locks.items 0 (map (λ v. v.items) ps)) fault) c.programs.ensures
     (subst (λ (ls : List PlanLock). IsFault (parties_fault ls 0 (map (λ v. v.items) c.programs.result.now)) fault) c.locks.ensures
     c.in-Err.ensures.wrong))

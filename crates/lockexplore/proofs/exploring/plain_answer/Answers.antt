@@ -4,6 +4,7 @@ use Rattle.std.proofs.lemmas.Result.{err_from_is_err_and}
 use Rattle.lock_plan.specs.Stops.{programs_of}
 use Rattle.lock_plan_text.specs.declared.parser.fault.PlanTextFault.TheVariants.{OutOfMemory}
 use Rattle.lock_plan_text.specs.Drafted.{drafted}
+use Rattle.lock_plan_text.specs.LineNumbers.{number_by}
 use Rattle.lock_plan_text.specs.PlanFaults.{draft_fault}
 use Rattle.lock_plan_text.proofs.DraftFaults.{draft_told, if_err}
 use Rattle.lockexplore.proofs.Founds.{found_of}
@@ -20,7 +21,7 @@ returns-clause-answer c =
     record {
       plan = plan;
       is = c.in_ok-plan.ensures.text;
-      answer = subst (λ (b : Bool). IsAnswerBy b c.args.form c.args.plain.now plan c.of.result (string_bytes c.in_ok-text.text)) (sym c.if-is_by_order.false ∙ c.is_by_order.ensures)
+      answer = subst (λ (b : Bool). IsAnswerBy b c.args.form (number_by c.args.lines.now) c.args.plain.now plan c.of.result (string_bytes c.in_ok-text.text)) (sym c.if-is_by_order.false ∙ c.is_by_order.ensures)
           (record {
             named = named;
             plan = (drafted plan.draft, (c.in_ok-plan.ensures.text, c.in_ok-named.ensures.plan));
@@ -43,7 +44,7 @@ returns-in_err-explored-clause-fault c =
 
 pub returns-then-is_by_order-clause-answer : goal.returns-then-is_by_order-clause-answer
 returns-then-is_by_order-clause-answer c =
-    by_order_answer c.args.form c.args.plain.now c.in_ok-plan.plan c.order_answer.result c.in_ok-plan.ensures.text
+    by_order_answer c.args.form (number_by c.args.lines.now) c.args.plain.now c.in_ok-plan.plan c.order_answer.result c.in_ok-plan.ensures.text
     (sym c.is_by_order.ensures ∙ c.if-is_by_order.true) c.order_answer.ensures.answer
 
 pub returns-then-is_by_order-clause-fault : goal.returns-then-is_by_order-clause-fault

@@ -5,8 +5,8 @@ use Rattle.lockexplore.proofs.exploring.plan_answer.Goals as goal
 
 pub returns-clause-fault : goal.returns-clause-fault
 returns-clause-fault c =
-    let plain = c.in_ok-plain.plain in
-    let ensures = c.in_ok-plain.ensures in
-    told_fault c.args.script.now plain.bytes.items plain.numbers.items plain.end c.args.memory c.in-Err.fault c.renumbered.result ensures.text
+    let plain = c.in-Ok.plain in
+    let ensures = c.in-Ok.ensures in
+    told_fault c.args.script.now plain.bytes.items plain.lines.numbers.items plain.lines.end c.args.memory c.in-Err.fault c.renumbered.result ensures.text
     ensures.numbers ensures.end c.renumbered.ensures
     (subst (λ (l : List ℕ). IsPlanFault l c.args.memory c.in-Err.fault) c.as_slice.ensures.value c.in-Err.ensures.fault)

@@ -1,6 +1,7 @@
-use Rattle.std.proofs.Common.{◌≡◌, ◌∙◌, true, false, arith, rules}
-use Rattle.lock_plan_text.specs.Blocks.{ends, line_at, parts}
-use Rattle.lock_plan_text.proofs.Lands.{part_ends, part_goes_on}
+use Rattle.std.proofs.Common.{◌≡◌, ◌∙◌, ℕ, ◌+◌, true, false, ap, sym, drop, length, arith, rules}
+use Rattle.lock_plan_text.specs.Blocks.{ends, is_leave, land_from, line_at, loop_depth, parts}
+use Rattle.lock_plan_text.proofs.Lands.{leave_lands, part_ends, part_goes_on}
+use Rattle.lock_plan_text.proofs.LoopDepths.{depth_at, depth_within}
 use Rattle.lock_plan_text.proofs.parser.scan.land.Goals as goal
 
 pub land_in-requires-then-ends-2 : goal.land_in-requires-then-ends-2
@@ -28,3 +29,21 @@ returns-else-ends-2 c =
     let is_no_end_there : ends (line_at lines next) ≡ false = search rules in
     c.land_in-else-ends-2.ensures.value
     ∙ part_goes_on lines c.args.line next c.requires.within is_part is_no_end c.boundary-next.ensures.value is_no_end_there
+
+pub past_blocks-past-requires-clause-few : goal.past_blocks-past-requires-clause-few
+past_blocks-past-requires-clause-few c =
+    let lines = c.args.lines.now in
+    let is : c.number_at.result ≡ loop_depth lines c.args.line
+    = c.number_at.ensures ∙ depth_at lines c.args.depths.now (length lines) c.args.line c.requires.depths c.requires.within in
+    omega (arith, is, depth_within lines c.args.line)
+
+pub returns-then-is_leave : goal.returns-then-is_leave
+returns-then-is_leave c =
+    let lines = c.args.lines.now in
+    let line = c.args.line in
+    let is_leave_here : is_leave (line_at lines line) ≡ true = search rules in
+    c.land_in.ensures.value
+    ∙ c.past_blocks-past.ensures.value
+    ∙ ap (λ (n : ℕ). land_from lines n (line + 1) (drop (line + 1) lines))
+    (c.number_at.ensures ∙ depth_at lines c.args.depths.now (length lines) line c.requires.depths c.requires.within)
+    ∙ sym (leave_lands lines line c.requires.within is_leave_here)

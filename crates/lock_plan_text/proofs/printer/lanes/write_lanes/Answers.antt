@@ -8,5 +8,5 @@ returns c =
     let names = c.args.names.now in
     let same = ap (map (cell_of c.args.plan.now names)) c.as_slice.ensures.value ∙ c.in_ok-rows.ensures names in
     subst (λ (rows : List (ℕ → List ℕ)). OnOk c.write_rows.result
-    (string_bytes c.write_rows.new.text ≡ string_bytes c.args.text.now ++ rows_text rows (length names.parties.keys))) same
+    (string_bytes c.write_rows.new.text ≡ string_bytes c.args.text.now ++ rows_text rows (length names.parties))) same
     c.write_rows.ensures

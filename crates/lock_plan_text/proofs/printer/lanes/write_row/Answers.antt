@@ -16,7 +16,7 @@ pub returns : goal.returns
 unfolding lib.Utf8.encode
 returns c =
     let party = c.loop-party.party in
-    let parties = length c.args.names.now.parties.keys in
+    let parties = length c.args.names.now.parties in
     let at_end : party ≡ c.in-Some.last = omega (arith, c.loop-party-test.false, c.loop-party.auto.party-end) in
     let are : parties ≡ suc party = omega (arith, at_end, c.in-Some.ensures, c.len.ensures) in
     row_end c.args.widths.now (cell_of c.args.plan.now c.args.names.now c.args.row) party parties

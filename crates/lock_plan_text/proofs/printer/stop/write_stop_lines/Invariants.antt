@@ -7,5 +7,5 @@ use Rattle.lock_plan_text.proofs.printer.stop.write_stop_lines.Given as goal
 
 abbrev pub invariant-loop-stopped : goal.invariant-loop-stopped
 invariant-loop-stopped l =
-    string_bytes l.text ++ flat_map (stopped_line l.plan.locks.items l.names (world_of l.plan l.node)) (drop l.stopped-index l.stopped-items)
-    ≡ string_bytes l.initial.text ++ flat_map (stopped_line l.plan.locks.items l.names (world_of l.plan l.node)) l.stopped-items
+    string_bytes l.text ++ flat_map (stopped_line l.plan.locks.items l.names (world_of l.plan l.node)) (drop l.stopped-index l.list)
+    ≡ string_bytes l.initial.text ++ flat_map (stopped_line l.plan.locks.items l.names (world_of l.plan l.node)) l.list

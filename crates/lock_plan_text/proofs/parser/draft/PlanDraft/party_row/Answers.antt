@@ -6,8 +6,8 @@ use Rattle.lock_plan_text.proofs.parser.draft.PlanDraft.party_row.Goals as goal
 
 pub returns : goal.returns
 returns c =
-    let parties = c.args.self.now.names.parties.keys in
+    let parties = c.args.self.now.names.parties in
     let name = c.name_at-name.ensures
-    ∙ ap (λ (names : List (String Global)). name_of names c.args.mention) c.as_slice.ensures.keys in
+    ∙ ap (λ (names : List (String Global)). name_of names c.args.mention) c.as_slice.ensures in
     let place = c.place_of.ensures ∙ ap (place_of (map string_bytes parties)) name in
     c.unwrap_or.ensures ∙ ap (λ (o : Option ℕ). unwrap_or o 0) place

@@ -9,8 +9,8 @@ use Rattle.lock_plan_text.proofs.parser.draft.PlanDraft.unknown_mention.Goals as
 pub returns : goal.returns
 returns c =
     let draft = c.args.self.now in
-    let parties = map string_bytes draft.names.parties.keys in
+    let parties = map string_bytes draft.names.parties in
     let test = λ (name : List ℕ). not (is_some (place_of parties name)) in
     position_from_yields_List (λ (name : String Global). test (string_bytes name)) _ _ c.position.result c.position.ensures.ran
-    (YieldsList-from_slice draft.mentions.keys cc) (λ x b q k. search (rules, tests))
-    ∙ sym (position-map string_bytes test draft.mentions.keys)
+    (YieldsList-from_slice draft.mentions cc) (λ x b q k. search (rules, tests))
+    ∙ sym (position-map string_bytes test draft.mentions)

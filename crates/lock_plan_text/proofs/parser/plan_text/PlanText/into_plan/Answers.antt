@@ -1,5 +1,10 @@
-use Rattle.std.proofs.Common.{rules, ◌∙◌, ap₂}
+use Rattle.std.proofs.Common.{rules, ◌∙◌, Vec, ap₂, map, subst}
+use Rattle.std.specs.Global.{Global}
+use Rattle.lock_plan.specs.declared.lock.PlanLock.{PlanLock}
+use Rattle.lock_plan.specs.Checks.{IsFault, plan_fault}
 use Rattle.lock_plan.specs.Copies.{unnamed_copies}
+use Rattle.lock_plan_text.specs.Drafted.{drafted}
+use Rattle.lock_plan_text.proofs.DraftFaults.{plan_told}
 use Rattle.lock_plan_text.proofs.parser.plan_text.PlanText.into_plan.Goals as goal
 
 pub returns-in-Ok-clause-plan : goal.returns-in-Ok-clause-plan
@@ -13,5 +18,14 @@ returns-in-Ok-clause-plan c = record {
   flag_names = search rules;
   cond_names = search rules;
   known = c.args.self.known;
+  begun = c.args.self.begun;
   right = search rules;
 }
+
+pub returns-in-Err-clause-fault : goal.returns-in-Err-clause-fault
+returns-in-Err-clause-fault c =
+    let programs = map (λ v. v.items) c.args.self.programs.items in
+    plan_told (drafted c.args.self.draft) programs c.in-Err.fault c.fault_by_line.result c.args.self.known c.args.self.begun c.args.self.made
+    (subst (λ (locks : Vec PlanLock Global). IsFault (plan_fault locks.items programs) c.in-Err.fault) c.replace-locks.ensures.value
+    c.in-Err.ensures.wrong)
+    c.fault_by_line.ensures
