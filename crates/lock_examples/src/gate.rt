@@ -13,7 +13,7 @@ use std::thread::{Threads, join, yield_now};
 pub fn close<R: Wait>(rt: &R, gate: &WordLock) -> WordToken
     ensures { IsTokenOf gate.now Exclusive result }
 {
-    gate.acquire_announced(rt)
+    gate.acquire(rt, Mode::Exclusive)
 }
 
 /// Opens the gate, and wakes all that sleep at it. The keeper is inside now.

@@ -74,7 +74,7 @@ impl<W: Wait + Clone + Drop, T: Timing<W>> LockCore for WordCore<W, T> {
     }
 
     fn acquire_announced(&self) -> WordToken {
-        self.lock.acquire_announced(&self.waiter)
+        self.lock.acquire(&self.waiter, Mode::Exclusive)
     }
 
     fn try_acquire(&self, mode: Mode) -> Option<WordToken> {

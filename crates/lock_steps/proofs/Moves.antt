@@ -62,7 +62,7 @@ module _ (w : Words) (a : Action) where
   moves_at stage.WatchEpoch call release v st = by_action (Load Epoch) st.2 (refl, inl refl)
   moves_at stage.LookCounted call release v st = by_action (Load Word) st.2 (refl, inl refl)
   moves_at stage.TryCounted call release v st = exchanges call.loaded call.want st.4
-  moves_at stage.Sleep call release v st = by_action (Park call.epoch) st.4 (refl, inl refl)
+  moves_at stage.Sleep call release v st = by_action (Park call.epoch) st.5 (refl, inl refl)
   moves_at stage.YieldCounted call release v st = by_action Yield st.2 (refl, inl refl)
   moves_at stage.LeaveAcquired call release v st = by_action (Subtract Count 1) st.4 (refl, inl refl)
   moves_at stage.Leave call release v st = by_action (Subtract Count 1) st.2 (refl, inl refl)

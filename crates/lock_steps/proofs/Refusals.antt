@@ -10,7 +10,7 @@ use Rattle.lock_steps.specs.declared.action.Place.TheVariants.{Word, Count, Epoc
 use Rattle.lock_steps.specs.declared.word_call.WordCall.{WordCall}
 use Rattle.lock_steps.specs.declared.stage.Stage.{Stage}
 use Rattle.lock_steps.specs.declared.stage.Stage.TheVariants as stage
-use Rattle.lock_steps.specs.Machine.{most_spins, most_pauses, Progress, goes_to, ended, acquired, refused, with_loaded, wakes_one, to_count, to_wait, pause, tries, or_else, leave, find_epoch, last_epoch, closed_count, has_to_wake, next_at, next_of}
+use Rattle.lock_steps.specs.Machine.{most_spins, most_pauses, Progress, goes_to, ended, acquired, refused, with_loaded, wakes_one, to_count, to_wait, pause, tries, or_else, leave, lacks_bar, park, find_epoch, last_epoch, closed_count, has_to_wake, next_at, next_of}
 use Rattle.lock_steps.specs.StepLaws.{hold_at}
 use Rattle.lock_steps.proofs.Steps.{chosen}
 
@@ -185,8 +185,10 @@ module _ (held : Hold) where
         (λ last w. plain call b stage.YieldCounted refl refl)
     honest_at stage.LookCounted is =
         let b = bound stage.LookCounted is refl in
-        trying stage.TryCounted (λ c. goes_to c stage.Sleep (Park c.epoch)) (plain (with_loaded call found) (loads call found b) stage.TryCounted refl refl)
-        (λ w. plain (with_loaded call found) (loads call found b) stage.Sleep refl refl)
+        let loaded = with_loaded call found in
+        trying stage.TryCounted park (plain loaded (loads call found b) stage.TryCounted refl refl)
+        (chosen Goes (lacks_bar loaded) (leave loaded) (goes_to loaded stage.Sleep (Park call.epoch))
+        (λ lacks w. plain loaded (loads call found b) stage.Leave refl refl) (λ has w. plain loaded (loads call found b) stage.Sleep refl refl))
     honest_at stage.TryCounted is =
         let b = bound stage.TryCounted is refl in
         chosen Goes (found == call.loaded) (goes_to call stage.LeaveAcquired (Subtract Count 1)) (leave call) (λ hit w. absurd (false≢true w))

@@ -23,7 +23,7 @@ use Rattle.lock_steps.specs.declared.word_act.WordAct.{WordAct}
 use Rattle.lock_steps.specs.declared.word_act.WordAct.TheVariants as act
 use Rattle.lock_steps.specs.declared.stage.Stage.{Stage}
 use Rattle.lock_steps.specs.declared.stage.Stage.TheVariants as stage
-use Rattle.lock_steps.specs.Machine.{Progress, acquiring, taking, wakes_one, last_epoch, closed_count}
+use Rattle.lock_steps.specs.Machine.{Progress, acquiring, taking, wakes_one, lacks_bar, last_epoch, closed_count}
 use Rattle.lock_steps.specs.StepLaws.{Words, made, IsAt, is_over}
 use Rattle.lock_steps.specs.Runs.{Underway, Thread, LockInUse, next_in, new_thread, rests, may_acquire, may_release, in_call, goes_on, answer, with_thread, acquire_by, release_by, step_in, after_act, IsDueAt, SomeThreadIsDue, parks_at}
 use Rattle.lock_steps.specs.Sleeping.{LockWithSleepers, is_listed, without, new_lock_awake, falls_asleep, stepped, wake, wake_one, wake_all, woken_by, sleeper_in, sleeper_by, after_act_asleep, after_acts_asleep, IsParked, ServesAt, SomeThreadServes, admits_sleeper, SleepersAreServed, EverySleeperIsServed}
@@ -503,7 +503,7 @@ module _ (s : LockWithSleepers) (h : KeepsSleepers s) (k told : ℕ) (t : Thread
   asleep_now : falls_asleep s k u.action ≡ true → u.call.epoch ≡ w.epoch
   asleep_now is_so =
       let st = subst (λ x. IsAt x u.call u.down (view s h k t at) u.action) (falls_here is_so) here.0 in
-      let fell : falls_asleep s k (Park u.call.epoch) ≡ true = subst (λ a. falls_asleep s k a ≡ true) st.4 is_so in
+      let fell : falls_asleep s k (Park u.call.epoch) ≡ true = subst (λ a. falls_asleep s k a ≡ true) st.5 is_so in
       let low : u.call.epoch % 2 ^ 32 ≡ w.epoch % 2 ^ 32 = eqb-true _ _ (and_parts _ _ fell).1 in
       let within = subst (IsWithin (limits s.lock.readers) w.epoch) st.1 (h.kept.kept.within k (view s h k t at) (me_at s.lock h.kept k t at)) in
       let bounded : w.epoch ≤ last_epoch = h.bounded in
@@ -696,6 +696,14 @@ module _ (s : LockWithSleepers) (h : KeepsSleepers s) where
             (λ sleeps. false≢true (ap wakes_at (sym sleeps) ∙ (wakes ∙ ap is_wake x.wakes)));
       }
 
+  at_sleep : (k : ℕ) (t : Thread) (u : Underway) (at : slice_get s.lock.threads k ≡ Some t) → t.underway ≡ Some u
+      → u.call.stage ≡ stage.Sleep → IsAt stage.Sleep u.call u.down (view s h k t at) u.action
+  at_sleep k t u at calls sleeps = subst (λ x. IsAt x u.call u.down (view s h k t at) u.action) sleeps (in_call_at s h k t at u calls).0
+
+  behind_a_bar : (k : ℕ) (t : Thread) (u : Underway) → IsTrue (is_listed k s.asleep) → slice_get s.lock.threads k ≡ Some t
+      → t.underway ≡ Some u → lacks_bar u.call ≡ false
+  behind_a_bar k t u l at calls = (at_sleep k t u at calls (parked_at s h k t u at calls (h.asleep k l).parked)).4
+
   forgotten_by_none : (k : ℕ) (t : Thread) (u : Underway) → IsTrue (is_listed k s.asleep) → slice_get s.lock.threads k ≡ Some t
       → t.underway ≡ Some u → IsTrue (admits_sleeper s.lock.readers s.lock.words.word u.call) → SomeThreadServes s
   forgotten_by_none k t u l at calls admits =
@@ -704,8 +712,8 @@ module _ (s : LockWithSleepers) (h : KeepsSleepers s) where
       let sleeps = parked_at s h k t u at calls z.parked in
       elim z.since [
         | inl now ↦ (
-            let st = subst (λ x. IsAt x u.call u.down (view s h k t at) u.action) sleeps (in_call_at s h k t at u calls).0 in
-            let parks_now = ap parks_at st.4 ∙ ap Some (sym (ap (λ (x : Underway). x.call.epoch) same) ∙ now) in
+            let st = at_sleep k t u at calls sleeps in
+            let parks_now = ap parks_at st.5 ∙ ap Some (sym (ap (λ (x : Underway). x.call.epoch) same) ∙ now) in
             someone_due (none_forgotten s.lock h.kept k t u at calls parks_now (admitted sleeps (s.lock.readers == 1) refl))
             )
         | inr past ↦ in_past past (is_one s.lock) refl
@@ -718,7 +726,7 @@ module _ (s : LockWithSleepers) (h : KeepsSleepers s) where
       admitted : u.call.stage ≡ stage.Sleep → (b : Bool) → (s.lock.readers == 1) ≡ b
           → IsTrue (word_admits u.call.announced s.lock.readers s.lock.words.word u.call.want)
       admitted sleeps true one =
-          let st = subst (λ x. IsAt x u.call u.down (view s h k t at) u.action) sleeps (in_call_at s h k t at u calls).0 in
+          let st = at_sleep k t u at calls sleeps in
           subst (λ n. word_admits u.call.announced s.lock.readers n u.call.want ≡ true) (sym (free one))
           (admits_free u.call.want u.call.announced s.lock.readers (view s h k t at) h.kept.range st.0
           (subst (λ n. WordShows s.lock.readers n (view s h k t at).state.held) (free one) (shown_to s h k t at)))
@@ -730,7 +738,7 @@ module _ (s : LockWithSleepers) (h : KeepsSleepers s) where
       in_past p false not_one = someone_wakes (p.all not_one)
 
   sleepers_are_served : SleepersAreServed s
-  sleepers_are_served = record { served = served s.lock h.kept; parked = λ k l. (h.asleep k l).parked; none_forgotten = forgotten_by_none }
+  sleepers_are_served = record { served = served s.lock h.kept; parked = λ k l. (h.asleep k l).parked; barred = behind_a_bar; none_forgotten = forgotten_by_none }
 
 pub every_sleeper_is_served : EverySleeperIsServed
 every_sleeper_is_served readers acts range =

@@ -25,7 +25,7 @@ use Rattle.lock_steps.specs.declared.action.Place.TheVariants.{Word, Count, Epoc
 use Rattle.lock_steps.specs.declared.word_call.WordCall.{WordCall}
 use Rattle.lock_steps.specs.declared.stage.Stage.{Stage}
 use Rattle.lock_steps.specs.declared.stage.Stage.TheVariants as stage
-use Rattle.lock_steps.specs.Machine.{most_spins, most_pauses, Progress, goes_to, ended, acquired, refused, with_loaded, wakes_one, to_count, to_wait, pause, or_else, leave, look_again, find_epoch, last_epoch, closed_count, has_to_wake, next_at}
+use Rattle.lock_steps.specs.Machine.{most_spins, most_pauses, Progress, goes_to, ended, acquired, refused, with_loaded, wakes_one, to_count, to_wait, pause, or_else, leave, lacks_bar, park, look_again, find_epoch, last_epoch, closed_count, has_to_wake, next_at}
 use Rattle.lock_steps.specs.StepLaws.{gained, Words, with_number, made, IsAnswer, LeavesWords, limits_of, Acquires, Acquiring, trial, IsRest, wake_at, IsAt, asked_at, hold_at, is_over, Kept, StepsKeepTheRule, NoParkedCallIsForgotten, CallsBegin}
 
 -- choices
@@ -295,10 +295,13 @@ module _ (before : Hold) (views : List SleeperView) (k : ℕ) (down : Down) (w :
       let loaded = with_loaded call w.word in
       let acts : Acquiring call you = on call.want call.announced me you st.0 refl refl in
       let watches : you.watch ≡ Since call.epoch = looks_same w.word (Since call.epoch) refl me.watch st.1 in
-      chosen (λ r. Kept call.readers (step_of_want call.want) before w views k down (or_else (λ c. goes_to c stage.Sleep (Park c.epoch)) r)) (word_admits call.announced call.readers w.word call.want)
+      chosen (λ r. Kept call.readers (step_of_want call.want) before w views k down (or_else park r)) (word_admits call.announced call.readers w.word call.want)
       (record call { loaded = w.word; stage = stage.TryCounted }, Some (Exchange Word w.word (word_after w.word call.want))) (loaded, None)
       (λ admits. record { you = you; kept = each.load; is_at = (acts, watches, refl, admits, refl); holds = hd; same_lock = refl; same_ask = refl })
-      (λ refuses. record { you = you; kept = each.load; is_at = (acts, watches, refl, refuses, refl); holds = hd; same_lock = refl; same_ask = refl })
+      (λ refuses.
+      chosen (Kept call.readers (step_of_want call.want) before w views k down) (lacks_bar loaded) (leave loaded) (goes_to loaded stage.Sleep (Park call.epoch))
+      (λ lacks. record { you = you; kept = each.load; is_at = (acts, ap count_of_watch watches, refl); holds = hd; same_lock = refl; same_ask = refl })
+      (λ has. record { you = you; kept = each.load; is_at = (acts, watches, refl, refuses, has, refl); holds = hd; same_lock = refl; same_ask = refl }))
 
   at_try_counted : IsAt stage.TryCounted call down me (trial call) → me.state.held ≡ hold_at stage.TryCounted down call before → Kept call.readers (step_of_want call.want) before (made (trial call) w) views k down (next_at stage.TryCounted down w.word call)
   at_try_counted st hd =
@@ -566,7 +569,7 @@ module _ (before : Hold) (views : List SleeperView) (k : ℕ) (down : Down) (w :
     by_stage stage.TryCounted st hd going answer =
         on_answer (trial call) w.word (λ n. next_at stage.TryCounted down n call) st.4 (λ e. e) (at_try_counted (st.0, st.1, st.2, st.3, refl) hd) answer
     by_stage stage.Sleep st hd going answer =
-        on_action (Park call.epoch) (λ n. next_at stage.Sleep down n call) st.4 (λ e. at_sleep action found st hd) answer
+        on_action (Park call.epoch) (λ n. next_at stage.Sleep down n call) st.5 (λ e. at_sleep action found st hd) answer
     by_stage stage.YieldCounted st hd going answer = on_pause (next_at stage.YieldCounted down found call) (same_leaves st.2 (rest_leaves Yield tt)) (at_yield_counted action found st hd)
     by_stage stage.LeaveAcquired st hd going answer =
         on_answer (Subtract Count 1) w.count (λ n. acquired call) st.4 (λ e. e) (at_leave_acquired (st.0, st.1, st.2, st.3, refl) hd) answer

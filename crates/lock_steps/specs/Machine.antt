@@ -3,7 +3,8 @@ use Rattle.std.specs.Prelude.{ℕ, ◌+◌, ◌-◌, ◌^◌, Bool, true, false,
 use Rattle.lock_word.specs.declared.want.ExWant.{ExWant}
 use Rattle.lock_word.specs.declared.want.ExWant.TheVariants as want
 use Rattle.lock_word.specs.declared.down.Down.{Down}
-use Rattle.lock_word.specs.Word.{word_admits, word_after, amount}
+use Rattle.lock_word.specs.BarredBags.{is_barred}
+use Rattle.lock_word.specs.Word.{barred_bag_of_word, word_admits, word_after, amount}
 use Rattle.lock_word.specs.Unblocking.{word_unblocks}
 pub use Rattle.lock_sleepers.specs.Sleepers.{last_epoch, closed_count}
 use Rattle.lock_steps.specs.declared.action.Action.{Action}
@@ -95,6 +96,14 @@ or_else other (call, None) = other call
 abbrev pub leave : WordCall → Progress
 leave call = goes_to call stage.Leave (Subtract Count 1)
 
+-- a call that announces itself sleeps only behind a bar, its own or another's, so that later readers do not overtake it
+abbrev pub lacks_bar : WordCall → Bool
+lacks_bar call = call.announces && (not (wakes_one call) && not (is_barred (barred_bag_of_word call.loaded)))
+
+-- a counted call that was refused sleeps, unless it lacks a bar
+abbrev pub park : WordCall → Progress
+park call = if lacks_bar call then leave call else goes_to call stage.Sleep (Park call.epoch)
+
 abbrev pub look_again : WordCall → Progress
 look_again call = goes_to call stage.LookAgain (Load Word)
 
@@ -120,7 +129,7 @@ next_at stage.CountIn down found call =
 next_at stage.WatchEpoch down found call =
     if nat_lt found last_epoch then goes_to (record call { epoch = found }) stage.LookCounted (Load Word)
     else goes_to call stage.YieldCounted Yield
-next_at stage.LookCounted down found call = or_else (λ c. goes_to c stage.Sleep (Park c.epoch)) (tries stage.TryCounted found call)
+next_at stage.LookCounted down found call = or_else park (tries stage.TryCounted found call)
 next_at stage.TryCounted down found call =
     if found == call.loaded then goes_to call stage.LeaveAcquired (Subtract Count 1) else leave call
 next_at stage.Sleep down found call = leave (record call { late = not (found == 0) && not call.announces })

@@ -10,7 +10,7 @@ use Rattle.lock_steps.specs.declared.word_act.WordAct.TheVariants.{Step}
 use Rattle.lock_steps.specs.declared.word_call.WordCall.{WordCall}
 use Rattle.lock_steps.specs.declared.stage.Stage.{Stage}
 use Rattle.lock_steps.specs.declared.stage.Stage.TheVariants as stage
-use Rattle.lock_steps.specs.Machine.{wakes_one, has_to_wake}
+use Rattle.lock_steps.specs.Machine.{wakes_one, lacks_bar, has_to_wake}
 use Rattle.lock_steps.specs.Runs.{Underway, Thread, LockInUse, new_lock, step_in, after_act, ThreadsAreServed}
 
 -- a lock in use, the numbers of the threads that sleep, and those of the threads that were woken and are still in their park
@@ -116,6 +116,9 @@ admits_sleeper readers word call = if readers == 1 then word == 0 else word_admi
 pub record SleepersAreServed (s : LockWithSleepers) : Type 0 where
   pub served : ThreadsAreServed s.lock
   pub parked : (k : ℕ) → IsTrue (is_listed k s.asleep) → IsParked s.lock k
+  -- a thread that announces itself found a bar, its own or another's, when it last looked at the word before it slept
+  pub barred : (k : ℕ) (t : Thread) (u : Underway) → IsTrue (is_listed k s.asleep) → slice_get s.lock.threads k ≡ Some t
+      → t.underway ≡ Some u → lacks_bar u.call ≡ false
   -- if the word admits what a thread sleeps for, in whatever epoch, some thread serves
   pub none_forgotten : (k : ℕ) (t : Thread) (u : Underway) → IsTrue (is_listed k s.asleep) → slice_get s.lock.threads k ≡ Some t
       → t.underway ≡ Some u → IsTrue (admits_sleeper s.lock.readers s.lock.words.word u.call) → SomeThreadServes s

@@ -25,7 +25,7 @@ use Rattle.lock_steps.specs.declared.action.Place.TheVariants.{Word, Count, Epoc
 use Rattle.lock_steps.specs.declared.word_call.WordCall.{WordCall}
 use Rattle.lock_steps.specs.declared.stage.Stage.{Stage}
 use Rattle.lock_steps.specs.declared.stage.Stage.TheVariants as stage
-use Rattle.lock_steps.specs.Machine.{Progress, acquiring, taking, next_of, wakes_one, has_to_wake, last_epoch, closed_count}
+use Rattle.lock_steps.specs.Machine.{Progress, acquiring, taking, next_of, wakes_one, lacks_bar, has_to_wake, last_epoch, closed_count}
 
 -- the three words of a lock
 pub record Words : Type 0 where
@@ -132,7 +132,7 @@ IsAt stage.CountIn call down v a = Acquiring call v × (v.watch ≡ Away) × (ca
 IsAt stage.WatchEpoch call down v a = Acquiring call v × (v.watch ≡ Counted) × (a ≡ Load Epoch)
 IsAt stage.LookCounted call down v a = Acquiring call v × (v.watch ≡ Since call.epoch) × (a ≡ Load Word)
 IsAt stage.TryCounted call down v a = Acquiring call v × (v.watch ≡ Since call.epoch) × (v.state.loaded ≡ Some call.loaded) × IsTrue (word_admits call.announced call.readers call.loaded call.want) × (a ≡ trial call)
-IsAt stage.Sleep call down v a = Acquiring call v × (v.watch ≡ Since call.epoch) × (v.state.loaded ≡ Some call.loaded) × (word_admits call.announced call.readers call.loaded call.want ≡ false) × (a ≡ Park call.epoch)
+IsAt stage.Sleep call down v a = Acquiring call v × (v.watch ≡ Since call.epoch) × (v.state.loaded ≡ Some call.loaded) × (word_admits call.announced call.readers call.loaded call.want ≡ false) × (lacks_bar call ≡ false) × (a ≡ Park call.epoch)
 IsAt stage.YieldCounted call down v a = Acquiring call v × (v.watch ≡ Counted) × (a ≡ Yield)
 IsAt stage.LeaveAcquired call down v a = (v.watch ≡ Since call.epoch) × (v.state.loaded ≡ None) × (v.debt ≡ Nothing) × Gained call v × (a ≡ Subtract Count 1)
 IsAt stage.Leave call down v a = Acquiring call v × (count_of_watch v.watch ≡ 1) × (a ≡ Subtract Count 1)

@@ -4,7 +4,7 @@ ghost use Rattle.std.specs.Prelude.{◌≡◌, ◌<◌, ◌==◌, ◌||◌};
 use crate::action::{Action, Place};
 use crate::stage::Stage;
 use lock_sleepers::{CLOSED_COUNT, LAST_EPOCH, SPINS};
-use lock_word::{Down, ExWant, Occupancy, unblocks};
+use lock_word::{Down, ExWant, Occupancy, has_bar, unblocks};
 
 /// How often a call yields before it sleeps. While a mutex counts a sleeper, also one that was just woken, each release makes
 /// a wake-up. In C and Rust that is a call of the kernel.
@@ -189,12 +189,16 @@ impl WordCall {
         self.to(Stage::LookCounted, Action::Load(Place::Word))
     }
 
-    /// Tries at the look of a counted waiter, which sleeps if it is refused.
+    /// Tries at the look of a counted waiter, which sleeps if it is refused. A call that announces itself sleeps only behind
+    /// a bar, its own or another's, so that later readers do not overtake it.
     fn look_counted(&mut self, word: u64) -> Action
         ensures { (self.new, result) ≡ next_at Stage.LookCounted Down.Shared word self.old }
     {
         if let Some(action) = self.tries(Stage::TryCounted, word) {
             return action;
+        }
+        if self.announces && !self.wakes_one() && !has_bar(word) {
+            return self.leave();
         }
         let epoch = self.epoch;
         self.to(Stage::Sleep, Action::Park(epoch))

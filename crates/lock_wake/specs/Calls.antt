@@ -1,18 +1,19 @@
 -- A call on a word lock, and the token of an acquisition, as contracts see them.
-use Rattle.std.specs.Prelude.{◌≡◌, ℕ, ◌+◌, Bool, true, false, ◌&&◌, nat_lt, if◌then◌else◌, [], Option, Some, None, ◌⊎◌, IsTrue}
+use Rattle.std.specs.Prelude.{◌≡◌, ℕ, ◌+◌, Bool, true, false, ◌&&◌, ◌||◌, nat_lt, if◌then◌else◌, [], Option, Some, None, ◌⊎◌, IsTrue}
 use Rattle.atomic_table.specs.Seated.{TableId}
 use Rattle.atomic_table.specs.Table.{Me}
 use Rattle.lock_base.specs.declared.machine.mode.Mode.{Mode}
 use Rattle.lock_base.specs.declared.machine.hold.Hold.{Hold}
 use Rattle.lock_base.specs.Modes.{empty_bag, one_more}
 use Rattle.lock_word.specs.declared.want.ExWant.{ExWant}
-use Rattle.lock_word.specs.declared.want.ExWant.TheVariants.{Announce}
+use Rattle.lock_word.specs.declared.want.ExWant.TheVariants.{Announce, Exclusive}
 use Rattle.lock_sleepers.specs.declared.sleeper.SleeperView.{SleeperView}
 use Rattle.lock_sleepers.specs.declared.sleeper.WakeLimits.{WakeLimits}
 use Rattle.lock_sleepers.specs.declared.sleeper.Watch.TheVariants.{Away}
 use Rattle.lock_sleepers.specs.declared.sleeper.Debt.TheVariants.{Nothing}
 use Rattle.lock_base.specs.Holds.{no_hold, hold_has, hold_after}
-use Rattle.lock_word.specs.Word.{step_of_want}
+use Rattle.lock_word.specs.BarredBags.{is_barred}
+use Rattle.lock_word.specs.Word.{barred_bag_of_word, step_of_want}
 use Rattle.lock_word.specs.Unblocking.{is_awaited}
 use Rattle.lock_sleepers.specs.Sleepers.{admits_to}
 use Rattle.lock_word.specs.Turns.{idle, with_load}
@@ -121,6 +122,12 @@ Tried want before (NotAdmitted word) after =
     (after ≡ after_load before word) × (admits_to before.lock.limits.readers word before.sleeper want ≡ false)
     × ComesTo before.sleeper.state.held before after
 Tried want before Changed after = ComesTo before.sleeper.state.held before after
+
+-- whether a call with a deadline or without one may sleep for this, whose last look found this word: a writer without a
+-- deadline sleeps only behind a bar, so that later readers do not overtake it. A lock that wakes one has no bar
+abbrev pub may_sleep_at : WakeLimits → Bool → ℕ → ExWant → Bool
+may_sleep_at limits has_deadline word Exclusive = limits.wakes_one || (has_deadline || is_barred (barred_bag_of_word word))
+may_sleep_at limits has_deadline word other = true
 
 -- any number of attempts that did not acquire, at most one of which announced the call
 pub record MayBeAnnounced (before after : CallView) : Type 0 where

@@ -1,6 +1,5 @@
 //! The calls that acquire a token.
 ghost use Rattle.std.specs.Prelude.{◌≡◌, IfSome};
-ghost use Rattle.lock_base.specs.declared.machine.mode.Mode.TheVariants.{Exclusive};
 ghost use Rattle.lock_wake.specs.Calls.{IsTokenOf};
 
 use crate::call::WordToken;
@@ -28,22 +27,17 @@ impl WordLock {
         }
     }
 
-    /// Acquires the mode, blocking: it spins for a moment, and then sleeps until a release unblocks some sleeper.
+    /// Acquires the mode, blocking: it spins for a moment, and then sleeps until a release unblocks some sleeper. A writer
+    /// sleeps only behind a bar: before it sleeps, it sets the bar unless it is set, which refuses later calls.
     #[tactic(auto, using(crate::proofs::Tokens::may_acquire, crate::proofs::Tokens::acquires, crate::proofs::Tokens::awaits))]
     pub fn acquire<R: Wait>(&self, rt: &R, mode: Mode) -> WordToken
         ensures { IsTokenOf self.now mode result }
     {
         let (_, mut call) = self.enter();
-        self.win(rt, &mut call, ExWant::of_mode(mode));
-        call.into_token()
-    }
-
-    /// Acquires exclusively, blocking. Before it sleeps, it sets the bar unless it is set, which refuses later calls.
-    pub fn acquire_announced<R: Wait>(&self, rt: &R) -> WordToken
-        ensures { IsTokenOf self.now Exclusive result }
-    {
-        let (_, mut call) = self.enter();
-        self.win_announced(rt, &mut call);
+        match mode {
+            Mode::Exclusive => self.win_announced(rt, &mut call),
+            Mode::Shared | Mode::Upgradable => self.win(rt, &mut call, ExWant::of_mode(mode)),
+        }
         call.into_token()
     }
 

@@ -1,14 +1,14 @@
 //! How a call waits: it counts itself as a sleeper, looks once more, and sleeps until the epoch ends.
-ghost use Rattle.std.specs.Prelude.{◌≡◌, true, false, None, IsTrue};
+ghost use Rattle.std.specs.Prelude.{◌≡◌, true, false, None, IsTrue, is_some};
 ghost use Rattle.lock_sleepers.specs.declared.sleeper.Watch.TheVariants.{Counted};
 ghost use Rattle.lock_word.specs.Unblocking.{is_awaited};
 ghost use Rattle.lock_sleepers.specs.Sleepers.{count_of_watch};
-ghost use Rattle.lock_wake.specs.Calls.{CameBack, ComesTo, MayAttempt, MayWait, Waited, away, won};
+ghost use Rattle.lock_wake.specs.Calls.{CameBack, ComesTo, MayAttempt, MayWait, Waited, away, may_sleep_at, won};
 
 use crate::call::Call;
 use crate::word_lock::WordLock;
-use lock_word::ExWant;
 use lock_word::seated::Attempt;
+use lock_word::{ExWant, has_bar};
 use std::sync::Wait;
 use std::thread;
 use std::time::Duration;
@@ -84,10 +84,23 @@ impl WordLock {
         match self.attempt(call, round.announced, round.want) {
             Attempt::Done => true,
             Attempt::Changed => false,
-            Attempt::NotAdmitted(_) => {
-                self.sleep(rt, call, epoch, round.want, round.left);
+            Attempt::NotAdmitted(word) => {
+                if self.may_sleep(round, word) {
+                    self.sleep(rt, call, epoch, round.want, round.left);
+                }
                 false
             }
+        }
+    }
+
+    /// Returns whether a call may sleep that found this word. A writer without a deadline sleeps only behind a bar, its own
+    /// or another's, so that later readers do not overtake it. A lock that wakes one has no bar.
+    fn may_sleep(&self, round: &Round, word: u64) -> bool
+        ensures { result ≡ may_sleep_at self.now.limits (is_some round.now.left) word round.now.want }
+    {
+        match round.want {
+            ExWant::Exclusive => self.limits.wakes_one || round.left.is_some() || has_bar(word),
+            _ => true,
         }
     }
 }

@@ -180,7 +180,7 @@ fn write_if_free<C: LockCore>(raw: &RawLock<C>, meeting: &Meeting) {
 
 /// Returns whether a reader is refused at last.
 fn await_bar<C: LockCore>(raw: &RawLock<C>) -> bool {
-    for _ in 0..100_000_000u32 {
+    for _ in 0..10_000_000u32 {
         match raw.try_lock_shared() {
             Some(shared) => raw.unlock_shared(shared),
             None => return true,
@@ -194,7 +194,9 @@ fn read_until_written<C: LockCore>(raw: &RawLock<C>, meeting: &Meeting) {
     for _ in RawRwLock::waiter(raw).forever() {
         let shared = raw.lock_shared();
         let is_over = meeting.is_written();
-        meeting.let_another_read();
+        if !is_over {
+            meeting.let_another_read();
+        }
         raw.unlock_shared(shared);
         if is_over {
             return;

@@ -44,7 +44,7 @@ impl Meeting {
     /// Looks for all other threads. Returns whether they came within some turns.
     pub fn sees_all(&self) -> bool {
         self.arrivals.fetch_add(1, Ordering::SeqCst);
-        for _ in 0..100_000_000u32 {
+        for _ in 0..10_000_000u32 {
             if self.arrivals.load(Ordering::SeqCst) >= self.threads {
                 return true;
             }
@@ -73,7 +73,7 @@ impl Meeting {
     /// some turns.
     pub fn let_another_read(&self) {
         let before = self.reads.fetch_add(1, Ordering::SeqCst).wrapping_add(1);
-        for _ in 0..1_000u32 {
+        for _ in 0..200u32 {
             if self.reads.load(Ordering::SeqCst) != before {
                 return;
             }

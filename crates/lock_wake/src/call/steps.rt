@@ -1,5 +1,5 @@
 //! The atomic steps of a call, on the word, on the count of sleepers and on the epoch.
-ghost use Rattle.std.specs.Prelude.{◌≡◌, ◌<◌, ◌≤◌, ◌^◌, true, false, None, IsTrue};
+ghost use Rattle.std.specs.Prelude.{◌≡◌, ◌<◌, ◌≤◌, ◌^◌, true, false, None, IsTrue, is_some};
 ghost use Rattle.lock_sleepers.specs.declared.sleeper.Watch.TheVariants.{Away, Counted, Woken};
 ghost use Rattle.lock_sleepers.specs.declared.sleeper.Debt.TheVariants.{Nothing, Owes, OwesAt};
 ghost use Rattle.lock_base.specs.Holds.{hold_has};
@@ -8,7 +8,7 @@ ghost use Rattle.lock_word.specs.Rule.{WordShows};
 ghost use Rattle.lock_sleepers.specs.Sleepers.{count_of_watch, Sleeps};
 ghost use Rattle.lock_sleepers.specs.Wakes.{may_want, with_watch, with_debt, view_after_take, view_after_epoch};
 ghost use Rattle.lock_wake.specs.Plays.{Ends};
-ghost use Rattle.lock_wake.specs.Calls.{Attempted, MayAttempt, with_sleeper, after_load, after_sleep, entered, owed_wake, settled};
+ghost use Rattle.lock_wake.specs.Calls.{Attempted, MayAttempt, with_sleeper, after_load, after_sleep, entered, may_sleep_at, owed_wake, settled};
 
 use crate::call::Call;
 use crate::owed_wake::{OwedWake, Whom};
@@ -178,7 +178,8 @@ impl WordLock {
         }
     }
 
-    /// Sleeps until the epoch ends, or for the time that is left. The rule promises that no such call is forgotten.
+    /// Sleeps until the epoch ends, or for the time that is left. The rule promises that no such call is forgotten. No other
+    /// function parks, so a writer without a deadline sleeps only behind a bar.
     pub(crate) fn sleep<R: Wait>(
         &self,
         rt: &R,
@@ -190,6 +191,7 @@ impl WordLock {
         requires lock { call.now.lock ≡ self.now }
         requires range { epoch < 2 ^ 32 }
         requires sleeps { Sleeps self.now.limits epoch call.now.sleeper want }
+        requires barred { IsTrue (may_sleep_at self.now.limits (is_some left) call.now.last want) }
     {
         let shared = &self.table.shared;
         match left {

@@ -37,8 +37,8 @@ const FAR: u64 = 1_000_000_000;
 #[derive(Clone, Copy, PartialEq, Eq, Debug)]
 enum Visit {
     Read,
+    WriteAndDowngrade,
     Write,
-    WriteAnnounced,
     Upgrade,
     GiveUp,
 }
@@ -47,8 +47,8 @@ enum Visit {
 fn make_visit<R: Wait + Clock>(rt: &R, lock: &WordLock, visit: Visit) {
     match visit {
         Visit::Read => read(rt, lock),
-        Visit::Write => write_and_downgrade(rt, lock),
-        Visit::WriteAnnounced => write_announced(rt, lock),
+        Visit::WriteAndDowngrade => write_and_downgrade(rt, lock),
+        Visit::Write => write(rt, lock),
         Visit::Upgrade => upgrade(rt, lock),
         Visit::GiveUp => give_up(rt, lock),
     }
@@ -68,8 +68,8 @@ fn write_and_downgrade<R: Wait>(rt: &R, lock: &WordLock) {
     lock.release(token, Mode::Shared);
 }
 
-fn write_announced<R: Wait>(rt: &R, lock: &WordLock) {
-    let token = lock.acquire_announced(rt);
+fn write<R: Wait>(rt: &R, lock: &WordLock) {
+    let token = lock.acquire(rt, Mode::Exclusive);
     rest(40);
     lock.release(token, Mode::Exclusive);
 }
@@ -105,25 +105,10 @@ fn give_up<R: Wait + Clock>(rt: &R, lock: &WordLock) {
 /// What the four threads of a run do.
 const RUNS: [[Visit; 4]; 5] = [
     [Visit::Write, Visit::Write, Visit::Write, Visit::Write],
-    [
-        Visit::Read,
-        Visit::Read,
-        Visit::Write,
-        Visit::WriteAnnounced,
-    ],
+    [Visit::Read, Visit::Read, Visit::Write, Visit::Write],
     [Visit::Upgrade, Visit::Read, Visit::Upgrade, Visit::Read],
-    [
-        Visit::Read,
-        Visit::Write,
-        Visit::GiveUp,
-        Visit::WriteAnnounced,
-    ],
-    [
-        Visit::WriteAnnounced,
-        Visit::Upgrade,
-        Visit::GiveUp,
-        Visit::Write,
-    ],
+    [Visit::Read, Visit::Write, Visit::GiveUp, Visit::Write],
+    [Visit::Write, Visit::Upgrade, Visit::GiveUp, Visit::Write],
 ];
 
 /// Four visits to a new lock, on a thread each. Returns whether the lock is free afterwards, and no call is counted.
@@ -202,7 +187,7 @@ fn a_waiting_writer_keeps_readers_out_and_is_woken(rt: HostRuntime) -> Result<()
         || read_and_refuse(&rt, &lock),
         || {
             let_be_held(&rt, &lock);
-            write_announced(&rt, &lock)
+            write(&rt, &lock)
         },
     );
     assert!(rt; is_refused, "the bar is set");
