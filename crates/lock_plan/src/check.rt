@@ -3,6 +3,8 @@ ghost use Rattle.std.specs.Prelude.{◌≡◌, ℕ, ◌<◌, ◌^◌, length, Op
 ghost use Rattle.std.proofs.Common.{get_or};
 ghost use Rattle.lock_base.specs.Modes.{is_move, tokens};
 ghost use Rattle.lock_base.specs.Holds.{no_hold};
+ghost use Rattle.lock_plan.specs.Worlds.{no_lock};
+ghost use Rattle.lock_plan.specs.Holds.{lines_up};
 ghost use Rattle.lock_plan.specs.CallFaults.{is_of_kind, is_over, lack_of, fault_on, call_fault};
 
 use crate::call::{PlanCall, is_write};
@@ -20,6 +22,15 @@ pub(crate) fn call_fault(locks: &[PlanLock], holds: &[Hold], call: PlanCall) -> 
         return Some(CallFault::UnknownLock);
     }
     fault_on(locks[call.lock], holds[call.lock], call.step)
+}
+
+/// Returns whether the call acquires a fair lock. Such a lock refuses a try while another party waits in line, and a plan
+/// does not say who came first.
+pub(crate) fn tries_fair(locks: &[PlanLock], call: PlanCall) -> bool
+    ensures { result ≡ lines_up (get_or locks.now call.lock no_lock) call.step }
+{
+    let lock = locks.get(call.lock).copied().unwrap_or(PlanLock::none());
+    lock.lines_up(call.step)
 }
 
 /// Returns why a call on this lock can never be made with this hold.

@@ -17,6 +17,8 @@ pub enum CallFault {
     AlreadyAnnounced,
     /// The party has not announced itself.
     NotAnnounced,
+    /// The call is a try to acquire a fair lock. Whether it is refused depends on who came before, which a plan does not say.
+    TriesFair,
     /// Two ways lead to the next place, and the party holds something else by each.
     HoldsDiffer,
     /// No earlier place leads to this one.
@@ -32,6 +34,7 @@ impl fmt::Display for CallFault {
             CallFault::TooManyLevels => "too many levels",
             CallFault::AlreadyAnnounced => "announced already",
             CallFault::NotAnnounced => "not announced",
+            CallFault::TriesFair => "try of a fair lock",
             CallFault::HoldsDiffer => "holds differ",
             CallFault::Unreached => "never reached",
         })

@@ -9,7 +9,7 @@ use Rattle.lock_plan.specs.declared.lock.PlanLock.{PlanLock}
 use Rattle.lock_plan.specs.declared.program.Act.{Act}
 use Rattle.lock_plan.specs.declared.program.Act.TheVariants.{Call, Try, Choose, Signal}
 use Rattle.lock_plan.specs.declared.program.Place.{Place}
-use Rattle.lock_plan.specs.CallFaults.{call_fault}
+use Rattle.lock_plan.specs.CallFaults.{call_fault, try_fault}
 use Rattle.lock_plan.specs.Checks.{program_fault}
 use Rattle.lock_plan.specs.Known.{PlaceFault, Known, acts, acts_at, acts_with, arrives, comes, fault_in, known_at, known_of, same_holds, then_known, unless, walked}
 use Rattle.lock_plan.specs.Worlds.{holds_after, next_in, no_place, other_in}
@@ -48,7 +48,7 @@ act_at locks program place (Call call) holds known =
     unless_at place (call_fault locks holds call) _
     (comes_at place known (next_in program place) (holds_after holds call.lock call.step))
 act_at locks program place (Try call) holds known =
-    unless_at place (call_fault locks holds call) _
+    unless_at place (try_fault locks holds call) _
     (then_at place _ _ (comes_at place known (next_in program place) (holds_after holds call.lock call.step))
     (λ after. comes_at place after (other_in program place) holds))
 act_at locks program place (Choose block) holds known =
