@@ -34,9 +34,11 @@ bar_of Mutex limit false e is = cc
 bar_of RwLock limit bar e is = refl
 bar_of Reentrant limit bar e is = let both = and_parts (nat_lt 0 limit) (not bar) e in absurd (false≢true (sym (not-true bar both.1) ∙ is))
 
-fit_at : (locks : List PlanLock) (l : ℕ) → fit_machines locks ≡ true → fits_machine (get_or locks l no_lock) ≡ true
+fit_at : (locks : List PlanLock) (l : ℕ) → fit_machines locks ≡ true
+    → let lock = get_or locks l no_lock in fits_kind lock.kind lock.limit lock.bar ≡ true
 fit_at [] l e = refl
-fit_at (lock ∷ locks) zero e = (and_parts (fits_machine lock) (fit_machines locks) e).0
+fit_at (lock ∷ locks) zero e =
+    (and_parts (fits_kind lock.kind lock.limit lock.bar) _ (and_parts (fits_machine lock) (fit_machines locks) e).0).0
 fit_at (lock ∷ locks) (suc l) e = fit_at locks l (and_parts (fits_machine lock) (fit_machines locks) e).1
 
 pub fits_by : (locks : List PlanLock) (programs : List (List Place)) (room : ℕ)

@@ -1,6 +1,6 @@
 -- A party stands at a place with what is known of it, or has announced itself there for a write.
 use Rattle.std.proofs.Common.{◌≡◌, ℕ, zero, suc, ◌+◌, ◌<◌, ◌⊎◌, inl, inr, Bool, true, false, nat_lt, if◌then◌else◌, List, [], ◌∷◌, length, get_or, Option, Some, None, Ok, refl, ap, sym, ◌∙◌, subst, arith}
-use Rattle.std.proofs.lemmas.Bool.{false≢true}
+use Rattle.std.proofs.lemmas.Bool.{and_parts, false≢true}
 use Rattle.std.proofs.lemmas.List.{length-set, get_or-set_same, get_or_past}
 use Rattle.lock_base.specs.declared.machine.mode.Mode.{Mode}
 use Rattle.lock_base.specs.declared.machine.mode_step.ModeStep.TheVariants.{Acquire}
@@ -29,18 +29,19 @@ use Rattle.lock_plan.proofs.Walked.{IsWalked, Passed, Leaves, walked_is}
 use Rattle.lock_plan.proofs.Announced.{Announces, announces, once, goes_same}
 
 -- the party has announced itself for the write at its place
-pub record IsAhead (known : Known) (x : Stand) : Type 0 where
+pub record IsAhead (locks : List PlanLock) (known : Known) (x : Stand) : Type 0 where
   pub call : PlanCall
   pub here : act_of x ≡ Some (Call call)
   pub before : List Hold
   pub is : known_at known x.place ≡ Some before
   pub announces : Announces before call
+  pub bars : (get_or locks call.lock no_lock).bar ≡ true
   pub holds : x.holds ≡ holds_after before call.lock lock_step.Announce
 
 pub record IsKnownStand (locks : List PlanLock) (x : Stand) : Type 0 where
   pub known : Known
   pub walked : IsWalked locks x.program (length x.program) known
-  pub is : (known_at known x.place ≡ Some x.holds) ⊎ IsAhead known x
+  pub is : (known_at known x.place ≡ Some x.holds) ⊎ IsAhead locks known x
 
 act_there : (program : List Place) (place : ℕ) (a : Act) → act_in program place ≡ Some a
     → (place < length program) × ((get_or program place no_place).act ≡ a)
@@ -87,7 +88,7 @@ module _ (locks : List PlanLock) where
       let h = at_act x k a e in
       subst (λ (hs : List Hold). Leaves locks x.program x.place a hs k.known) (same_holds h.before x.holds (sym h.is ∙ is)) h.leaves
 
-  pub ahead_leaves : (x : Stand) (k : IsKnownStand locks x) (ahead : IsAhead k.known x)
+  pub ahead_leaves : (x : Stand) (k : IsKnownStand locks x) (ahead : IsAhead locks k.known x)
       → Leaves locks x.program x.place (Call ahead.call) ahead.before k.known
   ahead_leaves x k ahead =
       let h = at_act x k (Call ahead.call) ahead.here in
@@ -95,7 +96,7 @@ module _ (locks : List PlanLock) where
       (same_holds h.before ahead.before (sym h.is ∙ ahead.is)) h.leaves
 
   -- the call of a party that is ahead is the one that it announced itself for
-  pub same_call : (x : Stand) (known : Known) (ahead : IsAhead known x) (a : Act) (call : PlanCall) → act_of x ≡ Some a
+  pub same_call : (x : Stand) (known : Known) (ahead : IsAhead locks known x) (a : Act) (call : PlanCall) → act_of x ≡ Some a
       → call_in (Some a) ≡ Some call → ahead.call ≡ call
   same_call x known ahead a call e of =
       let there : call_in (act_of x) ≡ Some ahead.call = ap call_in ahead.here in
@@ -107,7 +108,7 @@ module _ (locks : List PlanLock) where
       → call_fault locks x.holds call ≡ None
   no_fault x k a call e of = by_stand k.is
     where
-      by_stand : (known_at k.known x.place ≡ Some x.holds) ⊎ IsAhead k.known x → call_fault locks x.holds call ≡ None
+      by_stand : (known_at k.known x.place ≡ Some x.holds) ⊎ IsAhead locks k.known x → call_fault locks x.holds call ≡ None
       by_stand (inl is) = (plain_leaves x k a e is).right call of
       by_stand (inr ahead) =
           ap (λ (hs : List Hold). call_fault locks hs call) ahead.holds
@@ -120,7 +121,7 @@ module _ (locks : List PlanLock) where
       → IsKnownStand locks (gone x call)
   known_gone x k a call e of = record { known = k.known; walked = k.walked; is = inl (by_stand k.is) }
     where
-      by_stand : (known_at k.known x.place ≡ Some x.holds) ⊎ IsAhead k.known x
+      by_stand : (known_at k.known x.place ≡ Some x.holds) ⊎ IsAhead locks k.known x
           → known_at k.known (next_in x.program x.place) ≡ Some (holds_after x.holds call.lock call.step)
       by_stand (inl is) = (plain_leaves x k a e is).goes call of
       by_stand (inr ahead) =
@@ -133,7 +134,7 @@ module _ (locks : List PlanLock) where
   pub is_held : (x : Stand) → IsKnownStand locks x → IsHeld locks (length x.program) x.holds
   is_held x k = by_stand k.is
     where
-      by_stand : (known_at k.known x.place ≡ Some x.holds) ⊎ IsAhead k.known x → IsHeld locks (length x.program) x.holds
+      by_stand : (known_at k.known x.place ≡ Some x.holds) ⊎ IsAhead locks k.known x → IsHeld locks (length x.program) x.holds
       by_stand (inl is) = k.walked.held x.place x.holds is
       by_stand (inr ahead) =
           let many = length x.program in
@@ -164,13 +165,14 @@ module _ (locks : List PlanLock) where
       → IsKnownStand locks (announced_for x call)
   known_announced x k call e itself = record { known = k.known; walked = k.walked; is = inr (by_stand k.is) }
     where
-      by_stand : (known_at k.known x.place ≡ Some x.holds) ⊎ IsAhead k.known x → IsAhead k.known (announced_for x call)
+      by_stand : (known_at k.known x.place ≡ Some x.holds) ⊎ IsAhead locks k.known x → IsAhead locks k.known (announced_for x call)
       by_stand (inl is) = record {
         call = call;
         here = e;
         before = x.holds;
         is = is;
         announces = announces locks x.holds call (is_held x k).long itself;
+        bars = (and_parts (get_or locks call.lock no_lock).bar _ itself).0;
         holds = refl;
       }
       by_stand (inr ahead) =
@@ -188,7 +190,7 @@ module _ (locks : List PlanLock) where
       → IsKnownStand locks (at_place x (other_in x.program x.place) x.holds)
   known_passed x k call e = record { known = k.known; walked = k.walked; is = inl (by_stand k.is) }
     where
-      by_stand : (known_at k.known x.place ≡ Some x.holds) ⊎ IsAhead k.known x
+      by_stand : (known_at k.known x.place ≡ Some x.holds) ⊎ IsAhead locks k.known x
           → known_at k.known (other_in x.program x.place) ≡ Some x.holds
       by_stand (inl is) = (plain_leaves x k (Try call) e is).passes call refl
       by_stand (inr ahead) = let calls = ahead.here in cc
@@ -197,7 +199,7 @@ module _ (locks : List PlanLock) where
       → IsKnownStand locks (at_place x (if other then other_in x.program x.place else next_in x.program x.place) x.holds)
   known_chosen x k other block e = record { known = k.known; walked = k.walked; is = inl (by_stand k.is other) }
     where
-      by_stand : (known_at k.known x.place ≡ Some x.holds) ⊎ IsAhead k.known x → (other : Bool)
+      by_stand : (known_at k.known x.place ≡ Some x.holds) ⊎ IsAhead locks k.known x → (other : Bool)
           → known_at k.known (if other then other_in x.program x.place else next_in x.program x.place) ≡ Some x.holds
       by_stand (inl is) true = (plain_leaves x k (Choose block) e is).second block refl
       by_stand (inl is) false = (plain_leaves x k (Choose block) e is).first block refl
@@ -208,7 +210,7 @@ module _ (locks : List PlanLock) where
       → IsKnownStand locks (at_place x (next_in x.program x.place) x.holds)
   known_signalled x k signal e = record { known = k.known; walked = k.walked; is = inl (by_stand k.is) }
     where
-      by_stand : (known_at k.known x.place ≡ Some x.holds) ⊎ IsAhead k.known x
+      by_stand : (known_at k.known x.place ≡ Some x.holds) ⊎ IsAhead locks k.known x
           → known_at k.known (next_in x.program x.place) ≡ Some x.holds
       by_stand (inl is) = (plain_leaves x k (Signal signal) e is).signals signal refl
       by_stand (inr ahead) = let calls = ahead.here in cc
@@ -238,7 +240,7 @@ module _ (locks : List PlanLock) where
           let none : None ≡ Some x.holds = sym past ∙ is in
           cc
 
-      by_stand : (known_at k.known x.place ≡ Some x.holds) ⊎ IsAhead k.known x → known_at k.known 0 ≡ Some x.holds
+      by_stand : (known_at k.known x.place ≡ Some x.holds) ⊎ IsAhead locks k.known x → known_at k.known 0 ≡ Some x.holds
       by_stand (inl is) = same x.place is
       by_stand (inr ahead) =
           let there = act_there x.program x.place (Call ahead.call) ahead.here in

@@ -1,11 +1,12 @@
 -- What the answers of a search for a stop mean for machines.
-use Rattle.std.proofs.Common.{◌≡◌, ℕ, Bool, suc, ◌+◌, ◌<◌, ◌≤◌, ◌^◌, false, List, [], ◌∷◌, length, sum_by, Some, refl, sym, ap, ◌∙◌, arith}
+use Rattle.std.proofs.Common.{◌≡◌, ℕ, Bool, suc, ◌+◌, ◌<◌, ◌≤◌, ◌^◌, false, List, [], ◌∷◌, length, sum_by, Some, IsTrue, refl, sym, ap, ◌∙◌, arith}
 use Rattle.std.proofs.lemmas.Bool.{false≢true}
 use Rattle.lock_base.specs.declared.machine.party.PartyId.{PartyId}
 use Rattle.lock_base.specs.Operation.{Operation}
 use Rattle.lock_plan.specs.declared.lock.PlanLock.{PlanLock}
 use Rattle.lock_plan.specs.declared.program.Place.{Place}
 use Rattle.lock_plan.specs.declared.program.Step.{Step}
+use Rattle.lock_plan.specs.Checks.{none_fair}
 use Rattle.lock_plan.specs.Worlds.{Stand, first_world, world_after, is_stop, NeverStops, IsShortestStop}
 use Rattle.lock_plan_laws.specs.Scenes.{Caller, steps_of, Scene, IsStopScene}
 use Rattle.lock_plan_laws.specs.Bridge.{FitsMachines}
@@ -32,9 +33,9 @@ module _ {O T A : Type 0} (meaning : O → Operation T A) (servers : List Bool) 
   never none ids values room cs s into stops =
       no_stop ids values room cs s (λ w e. none (steps_of cs) w e) into stops
 
-  pub shortest : (trace : List Step) → length trace + 1 < 2 ^ 64 → IsShortestStop servers locks programs trace
+  pub shortest : IsTrue (none_fair locks) → (trace : List Step) → length trace + 1 < 2 ^ 64 → IsShortestStop servers locks programs trace
       → IsShortestStopOfMachines meaning servers locks programs trace
-  shortest trace few stop = record {
+  shortest plain trace few stop = record {
     stops = λ ids values room distinct enough.
         let fits = fit room enough in
         let w = stop.stops.0 in
@@ -43,7 +44,7 @@ module _ {O T A : Type 0} (meaning : O → Operation T A) (servers : List Bool) 
         let long : length back.0 ≡ length trace = sym (as_many back.0) ∙ ap length back.2 in
         let numbers : length back.0 + 1 < 2 ^ 64 = omega (arith, few, long) in
         let same = same_stops meaning ids locks programs values room back.0 back.1 w servers distinct fits numbers back.3 there in
-        (back.0, back.1, back.2, record { distinct = distinct; enough = enough; numbers = numbers; is_run = back.3 }, same.1 stop.stops.2);
+        (back.0, back.1, back.2, record { distinct = distinct; enough = enough; numbers = numbers; is_run = back.3 }, same.1 plain stop.stops.2);
     shortest = λ ids values room cs s less into stops.
         no_stop ids values room cs s (λ w e. stop.shortest (steps_of cs) w (omega (arith, less, as_many cs)) e) into stops;
   }

@@ -2,7 +2,7 @@
 -- greatest rank: a holder of that lock does not wait.
 use Rattle.std.proofs.Common.{◌≡◌, ℕ, zero, suc, ◌+◌, ◌<◌, ◌≤◌, ◌⊎◌, inl, inr, Bool, true, false, not, ◌&&◌, ◌||◌, if◌then◌else◌, List, [], ◌∷◌, length, map, get_or, Option, Some, None, Ok, refl, ap, sym, ◌∙◌, subst, arith, IsTrue}
 use Rattle.std.specs.Prelude.{◌==◌, is_some, nat_lt}
-use Rattle.std.proofs.lemmas.Bool.{false≢true, and_parts, cases_eq, cases_lt, eq-eqb, lt-ltb, ltb-true}
+use Rattle.std.proofs.lemmas.Bool.{false≢true, and_parts, cases_eq, cases_lt, eq-eqb, lt-ltb, ltb-true, eqb-true}
 use Rattle.std.proofs.lemmas.List.{get_or-map, get_or_past, length-map}
 use Rattle.lock_base.specs.declared.machine.kind.Kind.{Kind}
 use Rattle.lock_base.specs.declared.machine.kind.Kind.TheVariants as kind
@@ -25,16 +25,18 @@ use Rattle.lock_plan.specs.declared.lock.PlanLock.{PlanLock}
 use Rattle.lock_plan.specs.declared.program.Act.{Act}
 use Rattle.lock_plan.specs.declared.program.Act.TheVariants.{Call, Try, Choose, Signal}
 use Rattle.lock_plan.specs.declared.program.Place.{Place}
+use Rattle.lock_plan.specs.declared.turn.Turn.{Turn}
 use Rattle.lock_plan.specs.declared.turn.Turn.TheVariants.{Goes, Announces, Waits}
-use Rattle.lock_plan.specs.Holds.{is_write, announces_itself, admits_step, turn_on}
+use Rattle.lock_plan.specs.Holds.{is_write, announces_itself, lines_up, admits_step, turn_on}
 use Rattle.lock_plan.specs.CallFaults.{fault_on}
 use Rattle.lock_plan.specs.Checks.{fits_machine, fits_kind, fit_machines}
 use Rattle.lock_plan.specs.Known.{Known, known_of}
-use Rattle.lock_plan.specs.Worlds.{Stand, no_stand, no_lock, act_of, acts_of, bag_on, bar_from, lock_holds, reply_at, turn_by, turn_of, is_server, is_due, is_refused_turn, is_step_turn, some_below, is_stuck, is_refused, is_stop, first_world}
+use Rattle.lock_plan.specs.Worlds.{Stand, no_stand, no_lock, act_of, acts_of, bag_on, bar_from, lock_holds, reply_at, turn_by, turn_of, is_server, is_due, is_refused_turn, is_step_turn, some_below, line_of, waits_for, has_waiter, on_lock, goes_on, is_stuck, is_refused, is_stop, first_world}
 use Rattle.lock_plan_laws.specs.Ranks.{is_ranked_step, IsOrderedPlan, OrderedPlansNeverStop, OrderedMachinesNeverStop}
 use Rattle.lock_plan_laws.proofs.Fits.{fits_by}
 use Rattle.lock_plan_laws.proofs.MachineStops.{never}
 use Rattle.lock_plan_laws.proofs.OrderedStands.{IsFine, fine}
+use Rattle.lock_plan_laws.proofs.SceneStops.{some_found}
 use Rattle.lock_plan_laws.proofs.OrderedWorlds.{AreOrdered, steps_ordered, starts_ordered}
 
 -- Numbers below a number
@@ -181,6 +183,32 @@ and_not_true true true e = refl
 and_not_true true false e = cc
 and_not_true false b e = refl
 
+not_false : (b : Bool) → not b ≡ false → b ≡ true
+not_false true e = refl
+not_false false e = cc
+
+-- a lock with a bar has no line
+no_line : (lock : PlanLock) (s : LockStep) → fits_machine lock ≡ true → lock.bar ≡ true → lines_up lock s ≡ false
+no_line lock (lock_step.Modes (Acquire mode)) fits bars =
+    let no : (lock.fair && lock.bar) ≡ false = not_true _ (and_parts (fits_kind lock.kind lock.limit lock.bar) (not (lock.fair && lock.bar)) fits).1 in
+    and_false lock.fair lock.bar bars no
+  where
+    not_true : (b : Bool) → not b ≡ true → b ≡ false
+    not_true true e = cc
+    not_true false e = refl
+no_line lock (lock_step.Modes (Release mode)) fits bars = refl
+no_line lock (lock_step.Modes (Change from to)) fits bars = refl
+no_line lock lock_step.Announce fits bars = refl
+no_line lock lock_step.Withdraw fits bars = refl
+
+-- a step that lines up acquires
+lined_mode : (lock : PlanLock) (s : LockStep) → lines_up lock s ≡ true → (mode : Mode) × (s ≡ lock_step.Modes (Acquire mode))
+lined_mode lock (lock_step.Modes (Acquire mode)) e = (mode, refl)
+lined_mode lock (lock_step.Modes (Release mode)) e = cc
+lined_mode lock (lock_step.Modes (Change from to)) e = cc
+lined_mode lock lock_step.Announce e = cc
+lined_mode lock lock_step.Withdraw e = cc
+
 call_same : (a b : PlanCall) → Some (Call a) ≡ Some (Call b) → a ≡ b
 call_same a b e = cc
 
@@ -230,6 +258,18 @@ module _ (rank : ℕ → ℕ) (servers : List Bool) (locks : List PlanLock) (w :
     acquires : call.step ≡ lock_step.Modes (Acquire mode)
     refused : admits_step (Lock call.lock) (lock_holds hss p call.lock) (Acquire mode) ≡ false
 
+  -- the party waits for a lock that does not admit some party that waits for it, which may be this one
+  record HeldUp (p : ℕ) : Type 0 where
+    call : PlanCall
+    mode : Mode
+    here : act_of (stand p) ≡ Some (Call call)
+    acquires : call.step ≡ lock_step.Modes (Acquire mode)
+    waiter : ℕ
+    within : waiter < length w
+    blocked : Blocked waiter
+    same : blocked.call.lock ≡ call.lock
+    itself : lines_up (Lock call.lock) call.step ≡ false → waiter ≡ p
+
   blocked_by : (p : ℕ) → p < length w → (a : Act) → act_of (stand p) ≡ Some a
       → is_step_turn (turn_by (acts_of w) (Some a) (reply_at locks hss p (Some a))) ≡ false → Blocked p
   blocked_by p lt (Call call) e idle =
@@ -238,6 +278,69 @@ module _ (rank : ℕ → ℕ) (servers : List Bool) (locks : List PlanLock) (w :
   blocked_by p lt (Try call) e idle = cc
   blocked_by p lt (Choose block) e idle = cc
   blocked_by p lt (Signal signal) e idle = absurd ((fine_at p lt).no_signal signal e)
+
+  -- a party that is blocked holds itself up
+  by_itself : (p : ℕ) → p < length w → Blocked p → HeldUp p
+  by_itself p lt b = record {
+    call = b.call;
+    mode = b.mode;
+    here = b.here;
+    acquires = b.acquires;
+    waiter = p;
+    within = lt;
+    blocked = b;
+    same = refl;
+    itself = λ plain. refl;
+  }
+
+  -- a party that waits for the lock is blocked there
+  waiter_by : (l q : ℕ) → q < length w → (here : Option Act) → act_of (stand q) ≡ here → (turn : Option Turn)
+      → turn_by (acts_of w) here (reply_at locks hss q here) ≡ turn → waits_for l here turn ≡ true
+      → (b : Blocked q) × (b.call.lock ≡ l)
+  waiter_by l q lt (Some (Call call)) e (Some Waits) is waits =
+      let b = blocked_by q lt (Call call) e (ap is_step_turn is) in
+      let same : b.call ≡ call = call_same b.call call (sym b.here ∙ e) in
+      (b, ap (λ (k : PlanCall). k.lock) same ∙ eqb-true call.lock l waits)
+  waiter_by l q lt here e turn is waits = absurd (false≢true waits)
+
+  -- a party whose turn is a step may have come after another one
+  behind_by : (p : ℕ) → p < length w → (a : Act) → act_of (stand p) ≡ Some a
+      → on_lock (has_waiter locks w) (line_of locks (Some a)) ≡ true → HeldUp p
+  behind_by p lt (Call call) e on =
+      let l = call.lock in
+      let line = line_is (lines_up (Lock l) call.step) l on in
+      let found = some_found (λ q. waits_for l (act_of (stand q)) (turn_of locks w q)) (length w) line.1 in
+      let b = waiter_by l found.0 found.2 (act_of (stand found.0)) refl (turn_of locks w found.0) refl found.1 in
+      let mode = lined_mode (Lock l) call.step line.0 in
+      record {
+        call = call;
+        mode = mode.0;
+        here = e;
+        acquires = mode.1;
+        waiter = found.0;
+        within = found.2;
+        blocked = b.0;
+        same = b.1;
+        itself = λ plain. absurd (false≢true (sym plain ∙ line.0));
+      }
+    where
+      line_is : (b : Bool) (l : ℕ) → on_lock (has_waiter locks w) (if b then Some l else None) ≡ true
+          → (b ≡ true) × (has_waiter locks w l ≡ true)
+      line_is true l on = (refl, on)
+      line_is false l on = cc
+  behind_by p lt (Try call) e on = cc
+  behind_by p lt (Choose block) e on = cc
+  behind_by p lt (Signal signal) e on = cc
+
+  held_up : (p : ℕ) (lt : p < length w) (a : Act) (e : act_of (stand p) ≡ Some a) → goes_on locks w p ≡ false → HeldUp p
+  held_up p lt a e idle = by_step (is_step_turn (turn_of locks w p)) refl idle
+    where
+      by_step : (b : Bool) → is_step_turn (turn_of locks w p) ≡ b
+          → (b && not (on_lock (has_waiter locks w) (line_of locks (act_of (stand p))))) ≡ false → HeldUp p
+      by_step true steps none =
+          behind_by p lt a e
+          (ap (λ (o : Option Act). on_lock (has_waiter locks w) (line_of locks o)) (sym e) ∙ not_false _ none)
+      by_step false steps none = by_itself p lt (blocked_by p lt a e (ap is_step_turn (sym (turn_at p (Some a) e)) ∙ steps))
 
   refused_by : (p : ℕ) → p < length w → (here : Option Act) → act_of (stand p) ≡ here
       → is_refused_turn (turn_by (acts_of w) here (reply_at locks hss p here)) ≡ false
@@ -262,8 +365,11 @@ module _ (rank : ℕ → ℕ) (servers : List Bool) (locks : List PlanLock) (w :
       let below : b.call.lock < length locks = ltb-true b.call.lock (length locks) no.0 in
       let lock = Lock b.call.lock in
       let own = get_or (stand p).holds b.call.lock no_hold in
-      let no_fault : fault_on lock own (lock_step.Modes (Acquire b.mode)) ≡ None = ap (fault_on lock own) (sym b.acquires) ∙ no.1 in
-      (below, by_kind lock.kind lock.limit lock.bar b.mode (right_kind (is_exclusive b.mode || is_rwlock lock.kind) _ no_fault) (fits_at locks b.call.lock fit below))
+      let no_fault : fault_on lock own (lock_step.Modes (Acquire b.mode)) ≡ None = ap (fault_on lock own) (sym b.acquires) ∙ no.1 in (
+        below,
+        by_kind lock.kind lock.limit lock.bar b.mode (right_kind (is_exclusive b.mode || is_rwlock lock.kind) _ no_fault)
+            (and_parts (fits_kind lock.kind lock.limit lock.bar) _ (fits_at locks b.call.lock fit below)).0,
+      )
 
   -- a free lock refuses a party only by the bar of another one
   barred : (p : ℕ) (lt : p < length w) (b : Blocked p) → tokens (bag_on b.call.lock hss) ≡ 0
@@ -278,9 +384,9 @@ module _ (rank : ℕ → ℕ) (servers : List Bool) (locks : List PlanLock) (w :
       let open_now : admits lock.limit (bag_on l hss) b.mode ≡ true = free_admits lock.limit (bag_on l hss) b.mode free (within_and_limit p lt b).1 in
       and_false bar (admits lock.limit (bag_on l hss) b.mode) open_now by
 
-  module _ (still : (q : ℕ) → q < length w → is_step_turn (turn_of locks w q) ≡ false) where
-    blocked : (p : ℕ) → p < length w → (a : Act) → act_of (stand p) ≡ Some a → Blocked p
-    blocked p lt a e = blocked_by p lt a e (ap is_step_turn (sym (turn_at p (Some a) e)) ∙ still p lt)
+  module _ (still : (q : ℕ) → q < length w → goes_on locks w q ≡ false) where
+    held : (p : ℕ) → p < length w → (a : Act) → act_of (stand p) ≡ Some a → HeldUp p
+    held p lt a e = held_up p lt a e (still p lt)
 
     -- the party that set the bar of a free lock has a step
     free : (p : ℕ) (lt : p < length w) (b : Blocked p) → tokens (bag_on b.call.lock hss) ≡ 0 → ⊥
@@ -294,7 +400,13 @@ module _ (rank : ℕ → ℕ) (servers : List Bool) (locks : List PlanLock) (w :
         let announced : (get_or (stand q).holds l no_hold).announced ≡ true =
         ap (λ (hs : List Hold). (get_or hs l no_hold).announced) (sym (own_holds q below)) ∙ who.3 in
         let a = (fine_at q below).announced l announced in
-        let c = blocked q below (Call a.call) a.here in
+        let h = held q below (Call a.call) a.here in
+        let plain : lines_up (Lock h.call.lock) h.call.step ≡ false =
+        ap (λ (k : PlanCall). lines_up (Lock k.lock) k.step) (call_same h.call a.call (sym h.here ∙ a.here))
+        ∙ ap (λ (k : ℕ). lines_up (Lock k) a.call.step) a.on
+        ∙ no_line (Lock l) a.call.step (fits_at locks l fit (within_and_limit p lt b).0) (ap (λ (k : ℕ). (Lock k).bar) (sym a.on) ∙ a.bars) in
+        let itself : h.waiter ≡ q = h.itself plain in
+        let c : Blocked q = subst Blocked itself h.blocked in
         let same : a.call ≡ c.call = call_same a.call c.call (sym a.here ∙ c.here) in
         let on : c.call.lock ≡ l = ap (λ (k : PlanCall). k.lock) (sym same) ∙ a.on in
         let writes : is_exclusive c.mode ≡ true =
@@ -314,9 +426,10 @@ module _ (rank : ℕ → ℕ) (servers : List Bool) (locks : List PlanLock) (w :
           → 0 < tokens (get_or (stand q).holds l no_hold).bag → top ≤ suc (rank l + n) → (here : Option Act) → act_of (stand q) ≡ here → ⊥
       holder n later l q below holds le None e = let no = (fine_at q below).ended e l in omega (arith, holds, no)
       holder n later l q below holds le (Some a) e =
-          let c = blocked q below a e in
+          let c = held q below a e in
           let above = (fine_at q below).upward c.call c.mode c.here c.acquires l holds in
-          later q below c (omega (arith, above, le))
+          let same : rank c.blocked.call.lock ≡ rank c.call.lock = ap rank c.same in
+          later c.waiter c.within c.blocked (omega (arith, above, le, same))
 
       nobody : (n : ℕ) → NobodyFrom n
       nobody zero p lt b le = let h = high b.call.lock (within_and_limit p lt b).0 in omega (arith, h, le)
@@ -338,7 +451,8 @@ module _ (rank : ℕ → ℕ) (servers : List Bool) (locks : List PlanLock) (w :
     has_no_turn p lt None e = turn_at p None e
     has_no_turn p lt (Some a) e =
         let b = bound rank (length locks) in
-        absurd (nobody b.0 b.1 b.0 p lt (blocked p lt a e) (omega arith))
+        let h = held p lt a e in
+        absurd (nobody b.0 b.1 b.0 h.waiter h.within h.blocked (omega arith))
 
     none_due : some_below (λ p. is_due (is_server servers p) (turn_of locks w p)) (length w) ≡ false
     none_due =
@@ -346,12 +460,12 @@ module _ (rank : ℕ → ℕ) (servers : List Bool) (locks : List PlanLock) (w :
         (λ p lt. ap (is_due (is_server servers p)) (has_no_turn p lt (act_of (stand p)) refl))
 
   abbrev steps : Bool
-  steps = some_below (λ p. is_step_turn (turn_of locks w p)) (length w)
+  steps = some_below (goes_on locks w) (length w)
 
   not_stuck_by : (b : Bool) → steps ≡ b → is_stuck servers locks w ≡ false
   not_stuck_by true e = and_not_true (some_below (λ p. is_due (is_server servers p) (turn_of locks w p)) (length w)) steps e
   not_stuck_by false e =
-      ap (λ (d : Bool). d && not steps) (none_due (λ q lt. below_none (λ p. is_step_turn (turn_of locks w p)) (length w) q e lt))
+      ap (λ (d : Bool). d && not steps) (none_due (λ q lt. below_none (goes_on locks w) (length w) q e lt))
 
   pub no_stop : is_stop servers locks w ≡ false
   no_stop = ap (λ (b : Bool). b || is_stuck servers locks w) none_refused ∙ not_stuck_by steps refl

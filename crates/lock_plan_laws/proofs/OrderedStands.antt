@@ -14,7 +14,7 @@ use Rattle.lock_plan.specs.declared.program.Signal.{Signal as PlanSignal}
 use Rattle.lock_plan.specs.Holds.{is_write}
 use Rattle.lock_plan.specs.CallFaults.{call_fault}
 use Rattle.lock_plan.specs.Known.{Known, known_at}
-use Rattle.lock_plan.specs.Worlds.{Stand, act_in, act_of}
+use Rattle.lock_plan.specs.Worlds.{Stand, no_lock, act_in, act_of}
 use Rattle.lock_plan_laws.specs.Ranks.{is_ranked_step, KeepsOrder}
 use Rattle.lock_plan_laws.proofs.KnownStands.{IsAhead, IsKnownStand, no_fault}
 
@@ -24,11 +24,12 @@ pub record IsOrderedStand (rank : ℕ → ℕ) (locks : List PlanLock) (x : Stan
   pub keeps : (place : ℕ) (holds : List Hold) → known_at stands.known place ≡ Some holds → KeepsOrder rank holds (act_in x.program place)
 
 -- the party has announced itself for a write of this lock
-pub record HasAnnounced (x : Stand) (lock : ℕ) : Type 0 where
+pub record HasAnnounced (locks : List PlanLock) (x : Stand) (lock : ℕ) : Type 0 where
   pub call : PlanCall
   pub here : act_of x ≡ Some (Call call)
   pub on : call.lock ≡ lock
   pub writes : is_write call.step ≡ true
+  pub bars : (get_or locks call.lock no_lock).bar ≡ true
 
 -- what an ordered program says of the next act and of the holds
 pub record IsFine (rank : ℕ → ℕ) (locks : List PlanLock) (x : Stand) : Type 0 where
@@ -37,7 +38,7 @@ pub record IsFine (rank : ℕ → ℕ) (locks : List PlanLock) (x : Stand) : Typ
   pub ranked : (call : PlanCall) → act_of x ≡ Some (Call call) → is_ranked_step call.step ≡ true
   pub no_signal : (signal : PlanSignal) → act_of x ≡ Some (Signal signal) → ⊥
   pub ended : act_of x ≡ None → (lock : ℕ) → tokens (get_or x.holds lock no_hold).bag ≡ 0
-  pub announced : (lock : ℕ) → (get_or x.holds lock no_hold).announced ≡ true → HasAnnounced x lock
+  pub announced : (lock : ℕ) → (get_or x.holds lock no_hold).announced ≡ true → HasAnnounced locks x lock
   pub right : (call : PlanCall) → act_of x ≡ Some (Call call) → call_fault locks x.holds call ≡ None
 
 -- an announcement changes no bag
@@ -60,12 +61,12 @@ announced_by (h ∷ hs) (suc l) (suc k) silent now = ap suc (announced_by hs l k
 
 module _ (rank : ℕ → ℕ) (locks : List PlanLock) (x : Stand) where
   -- an act that has been announced is this call
-  no_end : (known : Known) → IsAhead known x → act_of x ≡ None → ⊥
+  no_end : (known : Known) → IsAhead locks known x → act_of x ≡ None → ⊥
   no_end known ahead e = let here = ahead.here in cc
 
   fine_by : (k : IsKnownStand locks x)
       → ((place : ℕ) (holds : List Hold) → known_at k.known place ≡ Some holds → KeepsOrder rank holds (act_in x.program place))
-      → (known_at k.known x.place ≡ Some x.holds) ⊎ IsAhead k.known x → IsFine rank locks x
+      → (known_at k.known x.place ≡ Some x.holds) ⊎ IsAhead locks k.known x → IsFine rank locks x
   fine_by k keeps (inl is) =
       let o : KeepsOrder rank x.holds (act_of x) = keeps x.place x.holds is in
       record {
@@ -92,6 +93,7 @@ module _ (rank : ℕ → ℕ) (locks : List PlanLock) (x : Stand) where
           on = announced_by ahead.before ahead.call.lock lock (o.silent lock)
               (ap (λ (hs : List Hold). (get_or hs lock no_hold).announced) (sym ahead.holds) ∙ now);
           writes = ahead.announces.writes;
+          bars = ahead.bars;
         };
         right = λ call e. no_fault locks x k (Call call) call e refl;
       }

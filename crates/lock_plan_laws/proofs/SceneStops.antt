@@ -1,5 +1,5 @@
 -- A scene stops exactly where the world stops that it is tied to.
-use Rattle.std.proofs.Common.{◌≡◌, ℕ, zero, suc, ◌+◌, ◌<◌, ◌^◌, Bool, true, false, not, ◌||◌, ◌⊎◌, inl, inr, ◌↔◌, if◌then◌else◌, List, length, map, get_or, Option, Some, None, is_some, IsTrue, refl, ap, sym, ◌∙◌, arith}
+use Rattle.std.proofs.Common.{◌≡◌, ℕ, zero, suc, ◌+◌, ◌<◌, ◌^◌, Bool, true, false, not, ◌||◌, ◌⊎◌, inl, inr, ◌&&◌, if◌then◌else◌, List, [], ◌∷◌, length, map, get_or, Option, Some, None, is_some, IsTrue, refl, ap, sym, ◌∙◌, arith}
 use Rattle.std.proofs.lemmas.Bool.{and_parts, and_from, or_cases, false≢true, not-true}
 use Rattle.lock_base.specs.declared.machine.party.PartyId.{PartyId}
 use Rattle.lock_base.specs.Operation.{Operation}
@@ -12,8 +12,13 @@ use Rattle.lock_plan.specs.declared.program.Signal.TheVariants.{Assert}
 use Rattle.lock_plan.specs.declared.program.Step.{Step}
 use Rattle.lock_plan.specs.declared.turn.Turn.{Turn}
 use Rattle.lock_plan.specs.declared.turn.Turn.TheVariants.{Goes, Announces, Waits, Refused}
+use Rattle.lock_base.specs.declared.machine.mode_step.ModeStep.TheVariants.{Acquire, Release, Change}
+use Rattle.lock_base.specs.declared.machine.lock_step.LockStep.{LockStep}
+use Rattle.lock_base.specs.declared.machine.lock_step.LockStep.TheVariants.{Modes, Announce, Withdraw}
+use Rattle.lock_plan.specs.Checks.{none_fair}
+use Rattle.lock_plan.specs.Holds.{lines_up}
 use Rattle.lock_plan.specs.Signals.{idles, has_value}
-use Rattle.lock_plan.specs.Worlds.{Stand, no_stand, no_lock, act_of, acts_of, reply_at, reply_of, turn_by, turn_of, is_goes, some_below, is_server, is_due, is_refused_turn, is_step_turn, is_stuck, is_refused, is_stop}
+use Rattle.lock_plan.specs.Worlds.{Stand, no_stand, no_lock, act_of, acts_of, reply_at, reply_of, turn_by, turn_of, is_goes, some_below, is_server, is_due, is_refused_turn, is_step_turn, line_of, has_waiter, on_lock, goes_on, is_stuck, is_refused, is_stop}
 use Rattle.lock_plan_laws.specs.Scenes.{Caller, Scene, act_at, HasFalseAssertion, IsStep, IsStuckScene, IsRefusedScene, IsStopScene}
 use Rattle.lock_plan_laws.specs.Bridge.{AreDistinct}
 use Rattle.lock_plan_laws.proofs.Ties.{IsTied}
@@ -34,13 +39,14 @@ some_at f (suc n) p lt is = by_last (f n) refl (some_at f n p)
         ap (λ (b : Bool). b || some_below f n) other
         ∙ rest (let apart : p ≡ n → ⊥ = λ same. false≢true (sym other ∙ ap f (sym same) ∙ is) in omega arith) is
 
-some_found : (f : ℕ → Bool) (n : ℕ) → some_below f n ≡ true → (p : ℕ) × (f p ≡ true)
+pub some_found : (f : ℕ → Bool) (n : ℕ) → some_below f n ≡ true → (p : ℕ) × (f p ≡ true) × (p < n)
 some_found f zero is = cc
 some_found f (suc n) is = by_last (f n) refl is (some_found f n)
   where
-    by_last : (b : Bool) → f n ≡ b → (b || some_below f n) ≡ true → (some_below f n ≡ true → (p : ℕ) × (f p ≡ true)) → (p : ℕ) × (f p ≡ true)
-    by_last true here any rest = (n, here)
-    by_last false other any rest = rest any
+    by_last : (b : Bool) → f n ≡ b → (b || some_below f n) ≡ true → (some_below f n ≡ true → (p : ℕ) × (f p ≡ true) × (p < n))
+        → (p : ℕ) × (f p ≡ true) × (p < suc n)
+    by_last true here any rest = (n, here, omega arith)
+    by_last false other any rest = let q = rest any in (q.0, q.1, omega (arith, q.2))
 
 refused_is : (o : Option Turn) → is_refused_turn o ≡ true → o ≡ Some Refused
 refused_is None is = cc
@@ -56,6 +62,34 @@ step_is (Some Goes) is = inl refl
 step_is (Some Announces) is = inr refl
 step_is (Some Waits) is = cc
 step_is (Some Refused) is = cc
+
+-- where no lock is fair, a party whose turn is a step goes on
+not_fair : (locks : List PlanLock) → IsTrue (none_fair locks) → (l : ℕ) → (get_or locks l no_lock).fair ≡ false
+not_fair [] plain l = refl
+not_fair (lock ∷ locks) plain zero = not-true lock.fair (and_parts (not lock.fair) (none_fair locks) plain).0
+not_fair (lock ∷ locks) plain (suc l) = not_fair locks (and_parts (not lock.fair) (none_fair locks) plain).1 l
+
+no_line : (lock : PlanLock) (a : LockStep) → lock.fair ≡ false → lines_up lock a ≡ false
+no_line lock (Modes (Acquire mode)) plain = plain
+no_line lock (Modes (Release mode)) plain = refl
+no_line lock (Modes (Change from to)) plain = refl
+no_line lock Announce plain = refl
+no_line lock Withdraw plain = refl
+
+no_line_of : (locks : List PlanLock) → IsTrue (none_fair locks) → (here : Option Act) → line_of locks here ≡ None
+no_line_of locks plain None = refl
+no_line_of locks plain (Some (act.Call call)) =
+    ap (λ (b : Bool). if b then Some call.lock else None) (no_line (get_or locks call.lock no_lock) call.step (not_fair locks plain call.lock))
+no_line_of locks plain (Some (act.Try call)) = refl
+no_line_of locks plain (Some (act.Choose block)) = refl
+no_line_of locks plain (Some (act.Signal signal)) = refl
+
+steps_on : (locks : List PlanLock) (w : List Stand) → IsTrue (none_fair locks) → (p : ℕ) → is_step_turn (turn_of locks w p) ≡ true
+    → goes_on locks w p ≡ true
+steps_on locks w plain p steps =
+    ap (λ (o : Option ℕ). is_step_turn (turn_of locks w p) && not (on_lock (has_waiter locks w) o))
+    (no_line_of locks plain (act_of (get_or w p no_stand)))
+    ∙ ap (λ (b : Bool). b && true) steps
 
 module _ {O T A : Type 0} (meaning : O → Operation T A) (ids : ℕ → PartyId) (distinct : AreDistinct ids) (locks : List PlanLock)
     (bars : (l : ℕ) → IsTrue (get_or locks l no_lock).bar → IsTrue (is_rwlock (get_or locks l no_lock).kind)) (programs : List (List Place)) where
@@ -138,15 +172,17 @@ module _ {O T A : Type 0} (meaning : O → Operation T A) (ids : ℕ → PartyId
         none _ h.0 (inr (inr (inr (inr h.1))))
 
     no_step_here : ((c : Caller) (after : Scene T) → IsStep meaning ids locks programs s c after → ⊥)
-        → some_below (λ p. is_step_turn (turn_of locks w p)) (length w) ≡ true → ⊥
+        → some_below (goes_on locks w) (length w) ≡ true → ⊥
     no_step_here none is =
-        let found = some_found (λ p. is_step_turn (turn_of locks w p)) (length w) is in
-        step_of_turn found.0 (act_of (stand found.0)) refl found.1 none
+        let found = some_found (goes_on locks w) (length w) is in
+        step_of_turn found.0 (act_of (stand found.0)) refl (and_parts (is_step_turn (turn_of locks w found.0)) _ found.1).0 none
 
-    step_there : (c : Caller) (after : Scene T) → IsStep meaning ids locks programs s c after
-        → some_below (λ p. is_step_turn (turn_of locks w p)) (length w) ≡ true
-    step_there c after h =
-        let one = step_on meaning ids distinct locks bars programs w s used tied few c after h in some_at (λ p. is_step_turn (turn_of locks w p)) (length w) c.party one.known one.has_step
+    -- a party whose turn is a step goes on, if no lock is fair
+    step_there : IsTrue (none_fair locks) → (c : Caller) (after : Scene T) → IsStep meaning ids locks programs s c after
+        → some_below (goes_on locks w) (length w) ≡ true
+    step_there plain c after h =
+        let one = step_on meaning ids distinct locks bars programs w s used tied few c after h in
+        some_at (goes_on locks w) (length w) c.party one.known (steps_on locks w plain c.party one.has_step)
 
     not_true : (b : Bool) → (b ≡ true → ⊥) → not b ≡ true
     not_true true h = absurd (h refl)
@@ -163,7 +199,7 @@ module _ {O T A : Type 0} (meaning : O → Operation T A) (ids : ℕ → PartyId
         (some_at (λ q. is_due (is_server servers q) (turn_of locks w q)) (length w) p
         (known meaning ids distinct locks bars programs w s used tied p h.due.1 here)
         (and_from (is_some (turn_of locks w p)) (not (is_server servers p)) some (ap not h.due.4)))
-        (not_true (some_below (λ q. is_step_turn (turn_of locks w q)) (length w)) (no_step_here h.none))
+        (not_true (some_below (goes_on locks w) (length w)) (no_step_here h.none))
 
     due_by : (servers : List Bool) (p : ℕ) (o : Option Act) → act_of (get_or w p no_stand) ≡ o
         → is_some (turn_by (acts_of w) o (reply_of locks w p)) ≡ true → is_server servers p ≡ false
@@ -178,16 +214,17 @@ module _ {O T A : Type 0} (meaning : O → Operation T A) (ids : ℕ → PartyId
       other,
     )
 
-    stuck_back : (servers : List Bool) → is_stuck servers locks w ≡ true → IsStuckScene meaning ids locks programs servers s
-    stuck_back servers is =
+    stuck_back : (servers : List Bool) → IsTrue (none_fair locks) → is_stuck servers locks w ≡ true
+        → IsStuckScene meaning ids locks programs servers s
+    stuck_back servers plain is =
         let both = and_parts (some_below (λ q. is_due (is_server servers q) (turn_of locks w q)) (length w))
-        (not (some_below (λ q. is_step_turn (turn_of locks w q)) (length w))) is in
+        (not (some_below (goes_on locks w) (length w))) is in
         let found = some_found (λ q. is_due (is_server servers q) (turn_of locks w q)) (length w) both.0 in
         let due = and_parts (is_some (turn_of locks w found.0)) (not (is_server servers found.0)) found.1 in
         record {
           due = due_by servers found.0 (act_of (stand found.0)) refl due.0 (not-true (is_server servers found.0) due.1);
           none = λ c after h.
-              false≢true (sym (not-true (some_below (λ q. is_step_turn (turn_of locks w q)) (length w)) both.1) ∙ step_there c after h);
+              false≢true (sym (not-true (some_below (goes_on locks w) (length w)) both.1) ∙ step_there plain c after h);
         }
 
     or_one : (a b : Bool) → (a ≡ true) ⊎ (b ≡ true) → (a || b) ≡ true
@@ -205,12 +242,13 @@ module _ {O T A : Type 0} (meaning : O → Operation T A) (ids : ℕ → PartyId
     stop_refused servers (inl h) = inl h
     stop_refused servers (inr h) = inr (inl h)
 
-    stop_by : (servers : List Bool) → (is_refused locks w ≡ true) ⊎ (is_stuck servers locks w ≡ true) → IsStopScene meaning ids locks programs servers s
-    stop_by servers (inl h) = stop_refused servers (refused_back h)
-    stop_by servers (inr h) = inr (inr (stuck_back servers h))
+    stop_by : (servers : List Bool) → IsTrue (none_fair locks) → (is_refused locks w ≡ true) ⊎ (is_stuck servers locks w ≡ true) → IsStopScene meaning ids locks programs servers s
+    stop_by servers plain (inl h) = stop_refused servers (refused_back h)
+    stop_by servers plain (inr h) = inr (inr (stuck_back servers plain h))
 
-    pub same_stop : (servers : List Bool) → IsStopScene meaning ids locks programs servers s ↔ (is_stop servers locks w ≡ true)
+    pub same_stop : (servers : List Bool) → (IsStopScene meaning ids locks programs servers s → is_stop servers locks w ≡ true)
+        × (IsTrue (none_fair locks) → is_stop servers locks w ≡ true → IsStopScene meaning ids locks programs servers s)
     same_stop servers = (
       stop_here servers,
-      λ is. stop_by servers (or_cases (is_refused locks w) (is_stuck servers locks w) is),
+      λ plain is. stop_by servers plain (or_cases (is_refused locks w) (is_stuck servers locks w) is),
     )

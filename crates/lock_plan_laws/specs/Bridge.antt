@@ -1,5 +1,5 @@
 -- The bridge: the scenes of a plan and its worlds make the same runs, and have the same stops.
-use Rattle.std.specs.Prelude.{◌≡◌, ℕ, ◌+◌, ◌<◌, ◌≤◌, ◌^◌, ◌==◌, Bool, true, if◌then◌else◌, List, [], ◌∷◌, length, map, sum_by, Some, Ok, IsTrue, ◌↔◌, option_map}
+use Rattle.std.specs.Prelude.{◌≡◌, ℕ, ◌+◌, ◌<◌, ◌≤◌, ◌^◌, ◌==◌, Bool, true, if◌then◌else◌, List, [], ◌∷◌, length, map, sum_by, Some, Ok, IsTrue, option_map}
 use Rattle.std.proofs.Common.{get_or}
 use Rattle.lock_base.specs.declared.machine.bag.Bag.{Bag}
 use Rattle.lock_base.specs.declared.machine.party.PartyId.{PartyId}
@@ -13,6 +13,7 @@ use Rattle.lock_base.specs.Holds.{no_hold}
 use Rattle.lock_plan.specs.declared.lock.PlanLock.{PlanLock}
 use Rattle.lock_plan.specs.declared.program.Place.{Place}
 use Rattle.lock_plan.specs.declared.program.Step.{Step}
+use Rattle.lock_plan.specs.Checks.{none_fair}
 use Rattle.lock_plan.specs.Known.{Known, known_of}
 use Rattle.lock_plan.specs.Worlds.{Stand, no_stand, no_lock, bag_on, bar_from, world_after, first_world, is_stop}
 use Rattle.lock_plan_laws.specs.Scenes.{Caller, steps_of, Scene, limit_for, first_scene, IsRun, IsStopScene}
@@ -73,7 +74,8 @@ module _ {O T A : Type 0} (meaning : O → Operation T A) where
       → (cs : List Caller) × (s : Scene T) × (steps_of cs ≡ steps)
       × IsRun meaning ids locks programs (first_scene locks programs values room) cs s × Shows ids locks programs w s
 
-  -- the machines stop exactly where the worlds do, whichever parties are servers, if the next guard can have a number, too
+  -- where the machines stop the worlds do, whichever parties are servers, if the next guard can have a number, too; and where
+  -- the worlds stop the machines do, if no lock is fair: a machine has no line of waiters
   abbrev pub StopsAreTheSame : Type 0
   StopsAreTheSame =
       (ids : ℕ → PartyId) (locks : List PlanLock) (programs : List (List Place)) (values : ℕ → T) (room : ℕ)
@@ -81,4 +83,5 @@ module _ {O T A : Type 0} (meaning : O → Operation T A) where
       → AreDistinct ids → FitsMachines locks programs room → length cs + 1 < 2 ^ 64
       → IsRun meaning ids locks programs (first_scene locks programs values room) cs s
       → world_after locks (first_world locks programs) (steps_of cs) ≡ Some w
-      → IsStopScene meaning ids locks programs servers s ↔ (is_stop servers locks w ≡ true)
+      → (IsStopScene meaning ids locks programs servers s → is_stop servers locks w ≡ true)
+      × (IsTrue (none_fair locks) → is_stop servers locks w ≡ true → IsStopScene meaning ids locks programs servers s)

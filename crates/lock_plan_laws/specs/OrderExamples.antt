@@ -13,7 +13,7 @@ use Rattle.lock_plan.specs.Worlds.{Stand, first_world, world_after, is_stop, Nev
 use Rattle.lock_plan_laws.specs.OrderChecks.{is_ordered}
 
 abbrev pub mutex : PlanLock
-mutex = record { kind = kind.Mutex; limit = 1; bar = false }
+mutex = record { kind = kind.Mutex; limit = 1; bar = false; fair = false }
 
 abbrev pub two_mutexes : List PlanLock
 two_mutexes = mutex ∷ mutex ∷ []

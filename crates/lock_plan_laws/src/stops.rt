@@ -1,6 +1,6 @@
 //! Machines of guards stop under a plan as its worlds do.
 ghost use Rattle.std.specs.Prelude.{List, IsTrue};
-ghost use Rattle.lock_plan.specs.Checks.{fit_machines};
+ghost use Rattle.lock_plan.specs.Checks.{fit_machines, none_fair};
 ghost use Rattle.lock_plan.specs.Stops.{programs_of};
 ghost use Rattle.lock_plan.specs.Worlds.{NeverStops, IsShortestStop};
 ghost use Rattle.lock_plan_laws.specs.MachineStops.{MachinesNeverStop, IsShortestStopOfMachines};
@@ -11,11 +11,12 @@ use lock_plan::{Plan, Step};
 /// What [`explore`](lock_plan::explore) answers about a plan holds of machines of guards.
 ///
 /// Each machine has room for as many guards as the programs have places.
-/// Flags, sleep, starts, joins and assertions follow the rules of the plan in both: a machine has none of them.
+/// A machine has no line of waiters, so it may go on where a plan with fair locks stops, and where no such plan stops, no run
+/// of its machines does. Flags, sleep, starts, joins and assertions follow the rules of the plan in both: a machine has none of them.
 pub fn machines_stop_as_explored<T, O: Op<T>>(plan: &Plan)
     requires { IsTrue (fit_machines plan.now.locks.items) }
     ensures none { NeverStops plan.now.servers.items plan.now.locks.items (programs_of plan.now)
         → MachinesNeverStop O.meaning plan.now.servers.items plan.now.locks.items (programs_of plan.now) }
-    ensures stop { (trace : List Step) → IsShortestStop plan.now.servers.items plan.now.locks.items (programs_of plan.now) trace
+    ensures stop { IsTrue (none_fair plan.now.locks.items) → (trace : List Step) → IsShortestStop plan.now.servers.items plan.now.locks.items (programs_of plan.now) trace
         → IsShortestStopOfMachines O.meaning plan.now.servers.items plan.now.locks.items (programs_of plan.now) trace }
 {}

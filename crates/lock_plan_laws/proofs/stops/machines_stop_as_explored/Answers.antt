@@ -13,7 +13,7 @@ returns g c =
     λ room enough. fits plan.locks.items (programs_of plan) room plan.right c.requires enough in
     record {
       none = never g.O.Op.meaning plan.servers.items plan.locks.items (programs_of plan) fit;
-      stop = λ trace stop.
-          shortest g.O.Op.meaning plan.servers.items plan.locks.items (programs_of plan) fit trace
+      stop = λ plain trace stop.
+          shortest g.O.Op.meaning plan.servers.items plan.locks.items (programs_of plan) fit plain trace
           (trace_fits plan.servers.items plan.locks.items (programs_of plan) plan.right trace stop) stop;
     }
