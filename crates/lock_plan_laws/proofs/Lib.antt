@@ -23,3 +23,4 @@ pub mod OrderChecks
 pub mod OrderExamples
 pub mod LockOrders
 pub mod Holders
+pub mod FairLines

@@ -29,7 +29,7 @@ use Rattle.lock_plan_laws.proofs.SceneSteps.{call_known, call_turn, called, trie
 
 -- a number below that has it
 
-some_at : (f : ℕ → Bool) (n p : ℕ) → p < n → f p ≡ true → some_below f n ≡ true
+pub some_at : (f : ℕ → Bool) (n p : ℕ) → p < n → f p ≡ true → some_below f n ≡ true
 some_at f zero p lt is = absurd (omega arith)
 some_at f (suc n) p lt is = by_last (f n) refl (some_at f n p)
   where

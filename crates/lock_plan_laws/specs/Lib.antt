@@ -7,3 +7,4 @@ pub mod OrderChecks
 pub mod OrderExamples
 pub mod LockOrders
 pub mod Holders
+pub mod Lines

@@ -22,11 +22,20 @@ use Rattle.lock_plan_text.proofs.Origins.{named_kept, own_lines_kept, parties_ke
 abbrev Fit : Draft → Type 0
 Fit draft = fit_machines draft.locks ≡ true
 
-kind_fits : (kind : Kind) (limit : ℕ) (bar : Bool) → IsLineLock kind limit bar → fits_kind kind limit bar ≡ true
-kind_fits Mutex limit bar ok = ap not ok.1
-kind_fits RwLock limit bar ok = grind (arith, nat_tests)
-kind_fits Reentrant limit bar ok =
-    let less : ltb 0 limit ≡ true = grind (arith, nat_tests, ok.0) in ap₂ (λ a b. a && b) less (ap not ok.1)
+no_both : (bar fair : Bool) → (bar && fair) ≡ false → not (fair && bar) ≡ true
+no_both true true e = cc
+no_both true false e = refl
+no_both false true e = refl
+no_both false false e = refl
+
+kind_fits : (kind : Kind) (limit : ℕ) (bar fair : Bool) → IsLineLock kind limit bar fair
+    → (fits_kind kind limit bar && not (fair && bar)) ≡ true
+kind_fits Mutex limit bar fair ok = ap₂ (λ a b. a && b) (ap not ok.1) (no_both bar fair (ap (λ b. b && fair) ok.1))
+kind_fits RwLock limit bar fair ok =
+    let less : ltb 0 limit ≡ true = grind (arith, nat_tests, ok.0) in ap₂ (λ a b. a && b) less (no_both bar fair ok.1)
+kind_fits Reentrant limit bar fair ok =
+    let less : ltb 0 limit ≡ true = grind (arith, nat_tests, ok.0) in
+    ap₂ (λ a b. a && b) (ap₂ (λ a b. a && b) less (ap not ok.1.0)) (no_both bar fair (ap (λ b. b && fair) ok.1.0))
 
 fit_lock : (draft : Draft) (lock : PlanLock) (name : List ℕ) → Fit draft → fits_machine lock ≡ true → Fit (with_lock draft lock name)
 fit_lock draft lock name fit fits =
@@ -60,7 +69,7 @@ fit_line : (draft next : Draft) (number : ℕ) (line : TextLine) (names : TextNa
     → with_line draft number line names ≡ Some next → Fit next
 fit_line draft next number (Plan (Lock lock)) names fit ok is =
     subst Fit (taken (is_open draft || is_some (place_of draft.lock_names names.name)) (with_lock draft lock names.name) next is)
-    (fit_lock draft lock names.name fit (kind_fits lock.kind lock.limit lock.bar ok))
+    (fit_lock draft lock names.name fit (kind_fits lock.kind lock.limit lock.bar lock.fair ok))
 fit_line draft next number (Plan (Party serves copies)) names fit ok is =
     let start : Draft = record draft { first = length draft.parties } in
     parties_kept Fit serves (λ d called kept. kept) start next (party_names names.name copies) fit

@@ -18,41 +18,46 @@ pub has_field : (text : List ℕ) → [] ≡ fields_of text → ⊥
 has_field text none =
     let count = length-slice_split (λ byte. byte == 32) text in omega (arith, count, ap length none)
 
--- a field and a text, which is not `bar`
-pub other_flag : (field flag : List ℕ) (limit : ℕ) (bar : Bool) → (flag ≡ codes "bar" → ⊥)
-    → limit_fields RwLock limit bar ≡ field ∷ fields_of flag → ⊥
-other_flag field flag limit true wrong is =
-    let one : fields_of flag ≡ codes "bar" ∷ [] = cc in wrong (sym (line-one_field flag (codes "bar") one))
-other_flag field flag limit false wrong is = let none : [] ≡ fields_of flag = cc in has_field flag none
+-- a field and a text, which is neither `bar` nor `fair`
+pub other_word : (field word : List ℕ) (limit : ℕ) (bar fair : Bool) → (word ≡ codes "bar" → ⊥) → (word ≡ codes "fair" → ⊥)
+    → limit_fields RwLock limit bar fair ≡ field ∷ fields_of word → ⊥
+other_word field word limit true fair no_bar no_fair is =
+    let one : fields_of word ≡ codes "bar" ∷ [] = cc in no_bar (sym (line-one_field word (codes "bar") one))
+other_word field word limit false true no_bar no_fair is =
+    let one : fields_of word ≡ codes "fair" ∷ [] = cc in no_fair (sym (line-one_field word (codes "fair") one))
+other_word field word limit false false no_bar no_fair is = let none : [] ≡ fields_of word = cc in has_field word none
 
-long_kind : (word last : List ℕ) → (word ≡ codes "rwlock" → ⊥) → (word ≡ codes "reentrant" → ⊥)
-    → (kind : Kind) (limit : ℕ) (bar : Bool) → kind_word kind ≡ word → limit_fields kind limit bar ≡ fields_of last → ⊥
-long_kind word last rwlock reentrant Mutex limit bar same is = has_field last is
-long_kind word last rwlock reentrant RwLock limit bar same is = rwlock (sym same)
-long_kind word last rwlock reentrant Reentrant limit bar same is = reentrant (sym same)
+-- the one field after the name of a mutex is `fair`
+pub other_mutex : (last : List ℕ) → (last ≡ codes "fair" → ⊥) → codes "fair" ∷ [] ≡ fields_of last → ⊥
+other_mutex last no_fair is = no_fair (sym (line-one_field last (codes "fair") (sym is)))
+
+long_kind : (word last : List ℕ) → (word ≡ codes "mutex" → ⊥) → (word ≡ codes "rwlock" → ⊥) → (word ≡ codes "reentrant" → ⊥)
+    → (kind : Kind) → kind_word kind ≡ word → ⊥
+long_kind word last mutex rwlock reentrant Mutex same = mutex (sym same)
+long_kind word last mutex rwlock reentrant RwLock same = rwlock (sym same)
+long_kind word last mutex rwlock reentrant Reentrant same = reentrant (sym same)
 
 -- a line with fields after the name is one of a lock with a limit
-pub long_line : (word last : List ℕ) → (word ≡ codes "rwlock" → ⊥) → (word ≡ codes "reentrant" → ⊥) → (word ≡ codes "party" → ⊥)
+pub long_line : (word last : List ℕ) → (word ≡ codes "mutex" → ⊥) → (word ≡ codes "rwlock" → ⊥) → (word ≡ codes "reentrant" → ⊥) → (word ≡ codes "party" → ⊥)
     → (word ≡ codes "server" → ⊥)
     → (line : PlanLine) → line_word line ≡ word → last_fields line ≡ fields_of last → ⊥
-long_line word last rwlock reentrant party server (Lock lock) same is =
-    long_kind word last rwlock reentrant lock.kind lock.limit lock.bar same is
-long_line word last rwlock reentrant party server (Party false copies) same is = party (sym same)
-long_line word last rwlock reentrant party server (Party true copies) same is = server (sym same)
-long_line word last rwlock reentrant party server line same is = has_field last is
+long_line word last mutex rwlock reentrant party server (Lock lock) same is = long_kind word last mutex rwlock reentrant lock.kind same
+long_line word last mutex rwlock reentrant party server (Party false copies) same is = party (sym same)
+long_line word last mutex rwlock reentrant party server (Party true copies) same is = server (sym same)
+long_line word last mutex rwlock reentrant party server line same is = has_field last is
 
-no_lock_line : (last : List ℕ) (kind : Kind) (limit : ℕ) (bar serves : Bool) → kind_word kind ≡ party_word serves
-    → limit_fields kind limit bar ≡ fields_of last → ⊥
-no_lock_line last Mutex limit bar serves same is = has_field last is
-no_lock_line last RwLock limit bar true same is = false≢true (ap (λ word. bytes_eq word (codes "server")) same)
-no_lock_line last RwLock limit bar false same is = false≢true (ap (λ word. bytes_eq word (codes "party")) same)
-no_lock_line last Reentrant limit bar true same is = false≢true (ap (λ word. bytes_eq word (codes "server")) same)
-no_lock_line last Reentrant limit bar false same is = false≢true (ap (λ word. bytes_eq word (codes "party")) same)
+no_lock_line : (kind : Kind) (serves : Bool) → kind_word kind ≡ party_word serves → ⊥
+no_lock_line Mutex true same = false≢true (ap (λ word. bytes_eq word (codes "server")) same)
+no_lock_line Mutex false same = false≢true (ap (λ word. bytes_eq word (codes "party")) same)
+no_lock_line RwLock true same = false≢true (ap (λ word. bytes_eq word (codes "server")) same)
+no_lock_line RwLock false same = false≢true (ap (λ word. bytes_eq word (codes "party")) same)
+no_lock_line Reentrant true same = false≢true (ap (λ word. bytes_eq word (codes "server")) same)
+no_lock_line Reentrant false same = false≢true (ap (λ word. bytes_eq word (codes "party")) same)
 
 -- a line of parties with a field after the name says how many there are
 pub copies_line : (last : List ℕ) → ((parties : Parties) → IsCopies parties → copy_fields parties ≡ fields_of last → ⊥)
     → (serves : Bool) (line : PlanLine) → IsPlanLine line → line_word line ≡ party_word serves → last_fields line ≡ fields_of last → ⊥
-copies_line last none serves (Lock lock) ok same is = no_lock_line last lock.kind lock.limit lock.bar serves same is
+copies_line last none serves (Lock lock) ok same is = no_lock_line lock.kind serves same
 copies_line last none serves (Party any parties) ok same is = none parties ok is
 copies_line last none serves line ok same is = has_field last is
 

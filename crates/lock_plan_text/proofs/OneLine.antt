@@ -23,11 +23,11 @@ use Rattle.lock_plan_text.specs.declared.parser.text_line.TextLine.{TextLine}
 use Rattle.lock_plan_text.specs.declared.parser.text_line.TextLine.TheVariants as text
 use Rattle.lock_plan_text.specs.declared.parser.wait_line.WaitLine.{WaitLine}
 use Rattle.lock_plan_text.specs.declared.parser.wait_line.WaitLine.TheVariants as wait
-use Rattle.lock_plan_text.specs.PlanLines.{IsFlagField, IsNamed, IsOneName, IsTextLine, TextNames, block_word, has_flag, text_fields, IsCopies, IsLineLock, IsPlanLine, IsVerb, copy_fields, kind_word, last_fields, limit_fields, line_word, look_fields, timeout_fields, named_word, one_name, party_word, plan_fields, until_fields}
+use Rattle.lock_plan_text.specs.PlanLines.{IsFlagField, IsNamed, IsOneName, IsTextLine, TextNames, block_word, has_flag, text_fields, IsCopies, IsLineLock, IsPlanLine, IsVerb, manner_fields, copy_fields, kind_word, last_fields, limit_fields, line_word, look_fields, timeout_fields, named_word, one_name, party_word, plan_fields, until_fields}
 
 -- a line without the limit of its lock
 abbrev of_kind : Kind → PlanLine
-of_kind kind = Lock (record { kind = kind; limit = 0; bar = false })
+of_kind kind = Lock (record { kind = kind; limit = 0; bar = false; fair = false })
 
 abbrev bare : PlanLine → PlanLine
 bare (Lock lock) = of_kind lock.kind
@@ -117,27 +117,42 @@ line_by_word (Party serves copies) ok = party_by_word serves
 line_by_word (Call is_rwlock step) ok = step_by_word is_rwlock step ok
 line_by_word (Named word) ok = named_by_word word
 
-same_limits : (kind : Kind) (limit other : ℕ) (bar flag : Bool) → IsLineLock kind limit bar → IsLineLock kind other flag
-    → limit_fields kind limit bar ≡ limit_fields kind other flag → (limit ≡ other) × (bar ≡ flag)
-same_limits Mutex limit other bar flag ok good same = (ok.0 ∙ sym good.0, ok.1 ∙ sym good.1)
-same_limits RwLock limit other true true ok good same =
-    let text : decimal limit ≡ decimal other = cc in (decimal_injective limit other (omega arith) (omega arith) text, refl)
-same_limits RwLock limit other true false ok good same = cc
-same_limits RwLock limit other false true ok good same = cc
-same_limits RwLock limit other false false ok good same =
-    let text : decimal limit ≡ decimal other = cc in (decimal_injective limit other (omega arith) (omega arith) text, refl)
-same_limits Reentrant limit other bar flag ok good same =
-    let text : decimal limit ≡ decimal other = cc in
-    (decimal_injective limit other (omega (arith, ok.0)) (omega (arith, good.0)) text, ok.1 ∙ sym good.1)
+same_manner : (bar fair flag line : Bool) → (bar && fair) ≡ false → (flag && line) ≡ false → manner_fields bar fair ≡ manner_fields flag line
+    → (bar ≡ flag) × (fair ≡ line)
+same_manner true true flag line ok good same = cc
+same_manner true false true true ok good same = cc
+same_manner true false true false ok good same = (refl, refl)
+same_manner true false false true ok good same = cc
+same_manner true false false false ok good same = cc
+same_manner false true true line ok good same = cc
+same_manner false true false true ok good same = (refl, refl)
+same_manner false true false false ok good same = cc
+same_manner false false true line ok good same = cc
+same_manner false false false true ok good same = cc
+same_manner false false false false ok good same = (refl, refl)
 
-same_locks : (kind like : Kind) (limit other : ℕ) (bar flag : Bool) → kind ≡ like → IsLineLock kind limit bar → IsLineLock like other flag
-    → limit_fields kind limit bar ≡ limit_fields like other flag
-    → Lock (record { kind = kind; limit = limit; bar = bar }) ≡ Lock (record { kind = like; limit = other; bar = flag })
-same_locks Mutex Mutex limit other bar flag is ok good same = let both = same_limits Mutex limit other bar flag ok good same in cc
-same_locks RwLock RwLock limit other bar flag is ok good same = let both = same_limits RwLock limit other bar flag ok good same in cc
-same_locks Reentrant Reentrant limit other bar flag is ok good same =
-    let both = same_limits Reentrant limit other bar flag ok good same in cc
-same_locks kind like limit other bar flag is ok good same = cc
+same_limits : (kind : Kind) (limit other : ℕ) (bar fair flag line : Bool) → IsLineLock kind limit bar fair → IsLineLock kind other flag line
+    → limit_fields kind limit bar fair ≡ limit_fields kind other flag line → (limit ≡ other) × ((bar ≡ flag) × (fair ≡ line))
+same_limits Mutex limit other bar fair flag line ok good same =
+    let manner = same_manner false fair false line refl refl same in (ok.0 ∙ sym good.0, (ok.1 ∙ sym good.1, manner.1))
+same_limits RwLock limit other bar fair flag line ok good same =
+    let text : decimal limit ≡ decimal other = cc in
+    let rest : manner_fields bar fair ≡ manner_fields flag line = cc in
+    (decimal_injective limit other (omega (arith, ok.0)) (omega (arith, good.0)) text, same_manner bar fair flag line ok.1 good.1 rest)
+same_limits Reentrant limit other bar fair flag line ok good same =
+    let text : decimal limit ≡ decimal other = cc in
+    (decimal_injective limit other (omega (arith, ok.0)) (omega (arith, good.0)) text, (ok.1.0 ∙ sym good.1.0, ok.1.1 ∙ sym good.1.1))
+
+same_locks : (kind like : Kind) (limit other : ℕ) (bar fair flag line : Bool) → kind ≡ like → IsLineLock kind limit bar fair
+    → IsLineLock like other flag line → limit_fields kind limit bar fair ≡ limit_fields like other flag line
+    → Lock (record { kind = kind; limit = limit; bar = bar; fair = fair }) ≡ Lock (record { kind = like; limit = other; bar = flag; fair = line })
+same_locks Mutex Mutex limit other bar fair flag line is ok good same =
+    let all = same_limits Mutex limit other bar fair flag line ok good same in cc
+same_locks RwLock RwLock limit other bar fair flag line is ok good same =
+    let all = same_limits RwLock limit other bar fair flag line ok good same in cc
+same_locks Reentrant Reentrant limit other bar fair flag line is ok good same =
+    let all = same_limits Reentrant limit other bar fair flag line ok good same in cc
+same_locks kind like limit other bar fair flag line is ok good same = cc
 
 abbrev kind_of : PlanLine → Kind
 kind_of (Lock lock) = lock.kind
@@ -171,7 +186,7 @@ same_copies serves copies other ok good same = cc
 same_lines : (line other : PlanLine) → bare line ≡ bare other → IsPlanLine line → IsPlanLine other → last_fields line ≡ last_fields other → line ≡ other
 same_lines (Lock lock) (Lock other) is ok good same =
     let kinds : lock.kind ≡ other.kind = ap kind_of is in
-    same_locks lock.kind other.kind lock.limit other.limit lock.bar other.bar kinds ok good same
+    same_locks lock.kind other.kind lock.limit other.limit lock.bar lock.fair other.bar other.fair kinds ok good same
 same_lines (Party serves copies) (Party waits other) is ok good same =
     let servers : serves ≡ waits = ap serves_of is in
     ap (λ (b : Bool). Party b copies) servers ∙ same_copies waits copies other ok good same

@@ -64,11 +64,17 @@ line_word (Party serves copies) = party_word serves
 line_word (Call is_rwlock step) = step_word is_rwlock step
 line_word (Named word) = named_word word
 
+-- the last field of a lock with a bar, and of a fair one
+abbrev pub manner_fields : Bool → Bool → List (List ℕ)
+manner_fields true fair = codes "bar" ∷ []
+manner_fields false true = codes "fair" ∷ []
+manner_fields false false = []
+
 -- the fields after the name of a lock
-abbrev pub limit_fields : Kind → ℕ → Bool → List (List ℕ)
-limit_fields Mutex limit bar = []
-limit_fields RwLock limit bar = decimal limit ∷ (if bar then codes "bar" ∷ [] else [])
-limit_fields Reentrant limit bar = decimal limit ∷ []
+abbrev pub limit_fields : Kind → ℕ → Bool → Bool → List (List ℕ)
+limit_fields Mutex limit bar fair = manner_fields false fair
+limit_fields RwLock limit bar fair = decimal limit ∷ manner_fields bar fair
+limit_fields Reentrant limit bar fair = decimal limit ∷ []
 
 -- the fields after the name of a party
 abbrev pub copy_fields : Parties → List (List ℕ)
@@ -77,7 +83,7 @@ copy_fields (Copies count) = decimal count ∷ []
 copy_fields Any = codes "*" ∷ []
 
 abbrev pub last_fields : PlanLine → List (List ℕ)
-last_fields (Lock lock) = limit_fields lock.kind lock.limit lock.bar
+last_fields (Lock lock) = limit_fields lock.kind lock.limit lock.bar lock.fair
 last_fields (Party serves copies) = copy_fields copies
 last_fields (Call is_rwlock step) = []
 last_fields (Named word) = []
@@ -104,10 +110,10 @@ IsCopies (Copies count) = IsCount count
 IsCopies Any = ⊤
 
 -- a lock of a line: what the line does not print is fixed
-abbrev pub IsLineLock : Kind → ℕ → Bool → Type 0
-IsLineLock Mutex limit bar = (limit ≡ 1) × (bar ≡ false)
-IsLineLock RwLock limit bar = IsLimit limit
-IsLineLock Reentrant limit bar = IsLimit limit × (bar ≡ false)
+abbrev pub IsLineLock : Kind → ℕ → Bool → Bool → Type 0
+IsLineLock Mutex limit bar fair = (limit ≡ 1) × (bar ≡ false)
+IsLineLock RwLock limit bar fair = IsLimit limit × ((bar && fair) ≡ false)
+IsLineLock Reentrant limit bar fair = IsLimit limit × ((bar ≡ false) × (fair ≡ false))
 
 -- the word is one for reader-writer locks, or one for mutexes, and these have the call
 abbrev pub IsVerb : Bool → LockStep → Type 0
@@ -116,7 +122,7 @@ IsVerb false step = IsTrue (is_of_kind Mutex step)
 
 -- a line with these values can be written
 abbrev pub IsPlanLine : PlanLine → Type 0
-IsPlanLine (Lock lock) = IsLineLock lock.kind lock.limit lock.bar
+IsPlanLine (Lock lock) = IsLineLock lock.kind lock.limit lock.bar lock.fair
 IsPlanLine (Party serves copies) = IsCopies copies
 IsPlanLine (Call is_rwlock step) = IsVerb is_rwlock step
 IsPlanLine (Named word) = ⊤

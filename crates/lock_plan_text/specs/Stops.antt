@@ -1,5 +1,5 @@
 -- The stop of a trace: what it is, who is stopped, and who holds what.
-use Rattle.std.specs.Prelude.{ℕ, ◌-◌, ◌==◌, ◌&&◌, Bool, true, false, not, if◌then◌else◌, List, [], ◌∷◌, ◌++◌, codes, decimal, Some, is_some}
+use Rattle.std.specs.Prelude.{ℕ, ◌-◌, ◌==◌, ◌&&◌, Bool, true, false, not, if◌then◌else◌, List, [], ◌∷◌, ◌++◌, codes, decimal, Option, Some, None, is_some}
 use Rattle.std.specs.List.{flat_map, list_any}
 use Rattle.std.proofs.Common.{get_or}
 use Rattle.lock_base.specs.declared.machine.lock_step.LockStep.{LockStep}
@@ -87,13 +87,18 @@ holders_text locks names w (Try call) = []
 holders_text locks names w (Choose block) = []
 holders_text locks names w (act.Signal signal) = []
 
+-- why a stopped party does not go on: who is ahead of it in the line of a lock, or who holds the lock of its call
+abbrev pub reason_text : List PlanLock → Names → List Stand → Act → Option ℕ → List ℕ
+reason_text locks names w here None = holders_text locks names w here
+reason_text locks names w here (Some first) = codes " behind " ++ name_of names.parties first
+
 -- the line of a stopped party
 abbrev pub stopped_line : List PlanLock → Names → List Stand → Stopped → List ℕ
 stopped_line locks names w s =
     name_of names.parties s.party
     ++ (says s.is_refused
     ++ (awaited_text locks names s.act
-    ++ (holders_text locks names w s.act ++ codes "\n")))
+    ++ (reason_text locks names w s.act s.behind ++ codes "\n")))
 
 abbrev pub stop_lines : List PlanLock → Names → List Stand → List ℕ
 stop_lines locks names w = flat_map (stopped_line locks names w) (all_stopped locks w)

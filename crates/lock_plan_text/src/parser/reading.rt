@@ -7,7 +7,7 @@ ghost use Rattle.lock_plan_text.specs.Words.{step_word};
 
 use crate::parser::block_word::block_word;
 use crate::parser::copies::parties;
-use crate::parser::limit::{reentrant, rwlock};
+use crate::parser::limit::{fair_mutex, reentrant, rwlock};
 use crate::parser::line_names::{LineNames, no_names, one_name};
 use crate::parser::look::{read_look, read_until};
 use crate::parser::name::is_name;
@@ -112,6 +112,7 @@ fn short_line(word: &str) -> Option<PlanLine>
             kind: Kind::Mutex,
             limit: 1,
             bar: false,
+            fair: false,
         })),
         "party" => Some(PlanLine::Party(false, Parties::One)),
         "server" => Some(PlanLine::Party(true, Parties::One)),
@@ -137,6 +138,7 @@ fn long_line(word: &str, last: &str) -> Option<PlanLine>
     ensures bad { IfNone result ((line : PlanLine) → IsPlanLine line → line_word line ≡ word.now → last_fields line ≡ fields_of last.now → ⊥) }
 {
     match word {
+        "mutex" => Some(PlanLine::Lock(fair_mutex(last)?)),
         "rwlock" => Some(PlanLine::Lock(rwlock(last)?)),
         "reentrant" => Some(PlanLine::Lock(reentrant(last)?)),
         "party" => party_line(false, last),

@@ -196,6 +196,7 @@ pub(crate) fn lock_at(plan: &Plan, lock: usize) -> PlanLock
             kind: Kind::Mutex,
             limit: 0,
             bar: false,
+            fair: false,
         },
     }
 }

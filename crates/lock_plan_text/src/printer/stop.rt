@@ -79,7 +79,13 @@ fn write_stopped(
     write_name(text, names.parties.as_slice(), stopped.party)?;
     text.push_str(says(stopped.is_refused))?;
     write_awaited(text, plan, names, stopped.act)?;
-    write_holders(alloc, text, plan, names, node, stopped.act)?;
+    match stopped.behind {
+        None => write_holders(alloc, text, plan, names, node, stopped.act)?,
+        Some(first) => {
+            text.push_str(" behind ")?;
+            write_name(text, names.parties.as_slice(), first)?;
+        }
+    }
     text.push('\n')
 }
 
