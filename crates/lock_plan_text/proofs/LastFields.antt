@@ -54,6 +54,21 @@ no_lock_line RwLock false same = false≢true (ap (λ word. bytes_eq word (codes
 no_lock_line Reentrant true same = false≢true (ap (λ word. bytes_eq word (codes "server")) same)
 no_lock_line Reentrant false same = false≢true (ap (λ word. bytes_eq word (codes "party")) same)
 
+mutex_kind : (last : List ℕ) → (codes "fair" ∷ [] ≡ fields_of last → ⊥) → (kind : Kind) (limit : ℕ) (bar fair : Bool)
+    → kind_word kind ≡ codes "mutex" → limit_fields kind limit bar fair ≡ fields_of last → ⊥
+mutex_kind last none Mutex limit bar true same is = none is
+mutex_kind last none Mutex limit bar false same is = has_field last is
+mutex_kind last none RwLock limit bar fair same is = false≢true (ap (λ word. bytes_eq word (codes "mutex")) same)
+mutex_kind last none Reentrant limit bar fair same is = false≢true (ap (λ word. bytes_eq word (codes "mutex")) same)
+
+-- a line of a mutex with a field after the name is one of a fair mutex
+pub mutex_line : (last : List ℕ) → (codes "fair" ∷ [] ≡ fields_of last → ⊥)
+    → (line : PlanLine) → line_word line ≡ codes "mutex" → last_fields line ≡ fields_of last → ⊥
+mutex_line last none (Lock lock) same is = mutex_kind last none lock.kind lock.limit lock.bar lock.fair same is
+mutex_line last none (Party true copies) same is = false≢true (ap (λ word. bytes_eq word (codes "mutex")) same)
+mutex_line last none (Party false copies) same is = false≢true (ap (λ word. bytes_eq word (codes "mutex")) same)
+mutex_line last none line same is = has_field last is
+
 -- a line of parties with a field after the name says how many there are
 pub copies_line : (last : List ℕ) → ((parties : Parties) → IsCopies parties → copy_fields parties ≡ fields_of last → ⊥)
     → (serves : Bool) (line : PlanLine) → IsPlanLine line → line_word line ≡ party_word serves → last_fields line ≡ fields_of last → ⊥
