@@ -22,7 +22,9 @@ CHANGED = {
     "downgrade_upgradable": ("upgradable", "shared"),
 }
 CALLS = {*ACQUIRED, *RELEASED, *CHANGED}
-TRIED = {"lock", "read", "write", "upgradable_read", "upgrade"}
+# calls that join the line of a fair lock, and calls that may be tried
+ACQUISITIONS = {"lock", "read", "write", "upgradable_read"}
+TRIED = {*ACQUISITIONS, "upgrade"}
 # lines of one word, each of a block
 BLOCK_WORDS = {"repeat", "forever", "either", "else", "or", "end", "leave", "return"}
 # words of a text with which a block begins, lines with which one begins, and those of them to which a party comes back at its end
@@ -54,9 +56,13 @@ class Fault(Exception):
 
 
 class Lock(NamedTuple):
+    """A lock, and the number of its line."""
+
     kind: str
     limit: int
     has_bar: bool
+    is_fair: bool
+    number: int
 
 
 class Call(NamedTuple):
@@ -241,7 +247,7 @@ def read_line(plan, number, words):
     lines = lines_of(plan, number, words)
     if lines:
         return plan.parties != [] and all(add_line(plan, it) for it in lines)
-    return not plan.open and len(words) > 1 and NAME.fullmatch(words[1]) is not None and read_names(plan, *words)
+    return not plan.open and len(words) > 1 and NAME.fullmatch(words[1]) is not None and read_names(plan, number, *words)
 
 
 def lines_of(plan, number, words):
@@ -313,7 +319,7 @@ def add_line(plan, line):
     return len(plan.open) <= MOST_OPEN
 
 
-def read_names(plan, word, name, *rest):
+def read_names(plan, number, word, name, *rest):
     """Adds the lock, flag, condition variable or parties of a line with this word and this name, and returns whether it is right."""
     if word in ("party", "server"):
         return read_parties(plan, word == "server", name, rest)
@@ -321,10 +327,11 @@ def read_names(plan, word, name, *rest):
         names = plan.flags if word == "flag" else plan.condvars
         names.append(name)
         return not rest and names.count(name) == 1
-    has_bar = word == "rwlock" and rest[1:] == ("bar",)
     limit = 1 if word == "mutex" else number_of("".join(rest[:1]), LARGEST_LIMIT)
-    is_right = word in ("mutex", "rwlock", "reentrant") and len(rest) == (word != "mutex") + has_bar and limit and name not in plan.locks
-    plan.locks[name] = Lock(word, limit, has_bar)
+    last = rest[word != "mutex" :]
+    has_bar, is_fair = word == "rwlock" and last == ("bar",), word != "reentrant" and last == ("fair",)
+    is_right = word in ("mutex", "rwlock", "reentrant") and limit and len(last) == has_bar + is_fair and name not in plan.locks
+    plan.locks[name] = Lock(word, limit, has_bar, is_fair, number)
     return is_right
 
 
@@ -418,6 +425,8 @@ def holds_by_place(plan, party):
         why = call_fault(plan, holds, call) if call else None
         if place.line.word == "wait" and plan.locks[call.lock].kind != "mutex":
             why = "wrong kind of lock"
+        if place.line.word == "try" and call.word in ACQUISITIONS and plan.locks[call.lock].is_fair:
+            why = "try of a fair lock"
         if why is not None:
             raise Fault(f"line {place.line.number}: {why}")
         ways = [(place.next, holds_after(holds, call) if call else holds)]
@@ -431,7 +440,7 @@ def holds_by_place(plan, party):
 
 def call_fault(plan, holds, call):
     """Why a party that holds this can never make the call, or None."""
-    kind, limit, _ = plan.locks[call.lock]
+    kind, limit, *_ = plan.locks[call.lock]
     word, announced = call.word, (call.lock, "announced")
     if (word in ("lock", "unlock")) != (kind != "rwlock"):
         return "wrong kind of lock"

@@ -22,7 +22,7 @@ CHANGES = {
 TRIED = {"lock", "read", "write", "upgradable_read", "upgrade"}
 # texts and lines with which a plan may become wrong
 SPOILS = [
-    "", " ", "\n", "x", "0", "\r", "\u00e9", " bar", "4294967296", "lock0", "party p1\n", "server p 2\n", "mutex lock0\n",
+    "", " ", "\n", "x", "0", "\r", "\u00e9", " bar", " fair", "4294967296", "lock0", "party p1\n", "server p 2\n", "mutex lock0\n",
     "end\n", " not", " until flag0", "flag flag0\n", "condvar cond0\n", "start p1\n", " or timeout", "[i]", "[i+1]", "[2]", " 2",
     "repeat 2\n", "leave\n", "return\n",
 ]
@@ -59,11 +59,14 @@ def random_plan(number):
     if rng.random() < 1 / 2:
         most = MOST_WITH_SIGNALS[total - 1] - has_blocks - has_row
         signals = random_signals(rng, lines, kinds, heads)
-    maker = Maker(rng, kinds, limits, rng.random() < 0.5, has_blocks, signals)
+    fair = {line.split()[1].partition("[")[0] for line in lines if line.endswith(" fair")}
+    maker = Maker(rng, kinds, limits, fair, rng.random() < 0.5, has_blocks, signals)
     is_chain = signals and signals.condvars and len(heads) == total and rng.random() < 0.5
+    shared = [it for it in locks if kinds[it] == "rwlock" and limits[it] > 1 and it in fair and not is_chain and rng.random() < 0.5][:1]
     for at, (head, names) in enumerate(heads):
         lines += [head, *chain_lines(rng, signals, at)] if is_chain else [head]
-        found = maker.party_lines(rng.randint(0, most // 2 if is_chain else most), names)
+        lines += [line for it in shared for line in maker.visit(it)]
+        found = maker.party_lines(rng.randint(0, most // 2 if is_chain or shared else most), names)
         lines += by_index(rng, found) if has_row and (len(names) > 1 or rng.random() < 0.05) else found
     text = "\n".join(with_faults(rng, lines, locks, has_blocks)) + "\n" * rng.randint(0, 1)
     return spoilt(rng, text).encode() if rng.random() < 0.06 else text.encode()
@@ -84,7 +87,7 @@ def random_heads(rng):
 
 def random_signals(rng, lines, kinds, heads):
     """The names for signals; adds the lines of flags and condition variables, and makes a lock a mutex."""
-    kinds["lock0"], lines[0] = "mutex", "mutex lock0"
+    kinds["lock0"], lines[0] = "mutex", lock_line(rng, "lock0", "mutex", 1)
     flags = [f"flag{it}" for it in range(rng.randint(0, 2))]
     condvars = [f"cond{it}" for it in range(rng.choice([0, 1, 1, 2]))]
     lines += [f"flag {it}" for it in flags] + [f"condvar {it}" for it in condvars]
@@ -135,8 +138,8 @@ def by_index(rng, lines):
 
 def lock_line(rng, name, kind, limit):
     if kind == "mutex":
-        return f"mutex {name}"
-    return f"{kind} {name} {limit}" + (" bar" if kind == "rwlock" and rng.random() < 0.5 else "")
+        return f"mutex {name}{rng.choice(['', '', ' fair'])}"
+    return f"{kind} {name} {limit}{rng.choice(['', ' bar', ' fair']) if kind == 'rwlock' else ''}"
 
 
 class Signals(NamedTuple):
@@ -154,6 +157,7 @@ class Maker(NamedTuple):
     rng: random.Random
     kinds: dict
     limits: dict
+    fair: set
     is_ordered: bool
     has_blocks: bool
     signals: Signals | None
@@ -173,6 +177,13 @@ class Maker(NamedTuple):
             if self.has_blocks and len(found) < 6 and self.rng.random() < 0.3:
                 found += ["forever", *self.part([]), "end"]
         return found
+
+    def visit(self, lock):
+        """The first lines of a party at a fair lock: mostly it reads twice, writes or upgrades."""
+        between = self.part([(lock, "shared")]) if self.rng.random() < 0.3 else []
+        reads = [f"read {lock}", *between, f"read {lock}", f"unlock_read {lock}", f"unlock_read {lock}"]
+        writes = [*self.rng.choice([[f"write {lock}"], [f"upgradable_read {lock}", f"upgrade {lock}"]]), f"unlock_write {lock}"]
+        return self.rng.choice([reads, reads, writes, writes, []])
 
     def part(self, held):
         """The lines of a part of a block: the party has the same holds after them."""
@@ -236,13 +247,20 @@ class Maker(NamedTuple):
         if word == "either":
             parts = [["or", *self.part(held)] for _ in range(self.rng.randint(1, 3))]
             return ["either", *self.part(held), *[line for part in parts for line in part], "end"]
-        tried = [it for it in self.changes(held) + self.acquisitions(held) if it[0] in TRIED]
+        tried = [it for it in self.changes(held) + self.acquisitions(held) if it[0] in TRIED and self.may_try(*it[:2])]
         if not tried:
             return []
         word, lock, given, taken = self.rng.choice(tried)
         undone = "downgrade_to_upgradable" if given else RELEASES[self.kinds[lock]][taken]
         after = [it for it in held if it != (lock, given)] + [(lock, taken)]
         return [f"try {word} {lock}", *self.part(after), f"{undone} {lock}", "else", *self.part(held), "end"]
+
+    def may_try(self, word, lock):
+        """Whether the call may be tried. A try that acquires a fair lock is a fault of the plan."""
+        return word == "upgrade" or not self.is_fair(lock) or self.rng.random() < 0.2
+
+    def is_fair(self, lock):
+        return lock.partition(".")[0] in self.fair
 
     def loop(self, held):
         """A loop of a party with these holds, or a block that is made twice."""
@@ -274,6 +292,8 @@ class Maker(NamedTuple):
         found = []
         for lock, kind in self.kinds.items():
             has, has_later = any(other == lock for other, _ in held), any(other > lock for other, _ in held)
+            if self.is_fair(lock) and 0 < held.count((lock, "shared")) < self.limits[lock]:
+                found += 2 * [("read", lock, None, "shared")]
             is_rare = has_later and self.is_ordered or has and kind != "reentrant"
             if is_rare and self.rng.random() < 0.9:
                 continue
