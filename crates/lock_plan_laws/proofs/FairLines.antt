@@ -2,7 +2,7 @@
 -- parties that wait at the end join last, those whose calls are not admitted first.
 use Rattle.std.proofs.Common.{◌≡◌, ℕ, zero, suc, ◌+◌, ◌<◌, ◌≤◌, ◌⊎◌, inl, inr, Bool, true, false, not, ◌&&◌, ◌||◌, ◌==◌, if◌then◌else◌, List, [], ◌∷◌, ◌++◌, length, map, get_or, Option, Some, None, option_map, refl, sym, ap, subst, ◌∙◌, arith}
 use Rattle.std.specs.List.{list_any}
-use Rattle.std.proofs.lemmas.Bool.{false≢true, and_parts, cases_lt, eq-eqb, eqb-true, eqb-false}
+use Rattle.std.proofs.lemmas.Bool.{false≢true, and_parts, or_cases, cases_lt, eq-eqb, eqb-true, eqb-false}
 use Rattle.std.proofs.lemmas.List.{get_or_past, append-nil, append_assoc}
 use Rattle.std.proofs.lemmas.Option.{same_Some}
 use Rattle.lock_base.specs.declared.machine.hold.Hold.{Hold}
@@ -21,16 +21,9 @@ use Rattle.lock_plan.specs.Holds.{announces_itself, admits_step, lines_up, turn_
 use Rattle.lock_plan.specs.Worlds.{Stand, no_stand, no_lock, lock_holds, act_of, acts_of, reply_at, turn_by, turn_of, line_of, waits_for, has_waiter, on_lock, goes_on, on_from, world_step, world_after, first_world, is_server, is_due, is_step_turn, is_stuck, some_below}
 use Rattle.lock_plan_laws.specs.Lines.{LinedWorld, here, is_listed, without, before, is_claim, is_change, claims, changes, is_waits, names_fair, is_behind, is_held_up, goes_in_line, joins, joined, stepped, lined_by, lined_on, lined_after, IsStuckInLine, first_lined, LinesStopAsWorlds}
 use Rattle.lock_plan_laws.proofs.SceneStops.{some_at, some_found}
+use Rattle.lock_plan_laws.proofs.NoStop.{none_below, below_none, not_false}
 
 -- Booleans
-
-not_false : (b : Bool) → not b ≡ false → b ≡ true
-not_false true e = refl
-not_false false e = cc
-
-or_parts : (a b : Bool) → (a || b) ≡ true → (a ≡ true) ⊎ (b ≡ true)
-or_parts true b e = inl refl
-or_parts false b e = inr e
 
 or_second : (a b : Bool) → b ≡ true → (a || b) ≡ true
 or_second true b e = refl
@@ -44,15 +37,6 @@ by_bool : {A : Type 0} (b : Bool) → (b ≡ true → A) → (b ≡ false → A)
 by_bool true so un = so refl
 by_bool false so un = un refl
 
-none_below : (f : ℕ → Bool) (n : ℕ) → ((p : ℕ) → p < n → f p ≡ false) → some_below f n ≡ false
-none_below f zero all = refl
-none_below f (suc n) all =
-    ap (λ (b : Bool). b || some_below f n) (all n (omega arith)) ∙ none_below f n (λ p lt. all p (omega arith))
-
-below_none : (f : ℕ → Bool) (n p : ℕ) → some_below f n ≡ false → p < n → f p ≡ false
-below_none f n p none lt =
-    by_bool (f p) (λ so. absurd (false≢true (sym none ∙ some_at f n p lt so))) (λ un. un)
-
 -- lists of numbers
 
 any_append : (f : ℕ → Bool) (xs ys : List ℕ) → list_any f (xs ++ ys) ≡ (list_any f xs || list_any f ys)
@@ -65,7 +49,7 @@ any_append f (x ∷ xs) ys = ap (λ (b : Bool). f x || b) (any_append f xs ys) �
 
 any_weaker : (f g : ℕ → Bool) → ((q : ℕ) → f q ≡ true → g q ≡ true) → (xs : List ℕ) → list_any f xs ≡ true → list_any g xs ≡ true
 any_weaker f g weaker [] e = cc
-any_weaker f g weaker (x ∷ xs) e = elim (or_parts (f x) (list_any f xs) e) [
+any_weaker f g weaker (x ∷ xs) e = elim (or_cases (f x) (list_any f xs) e) [
   | inl one ↦ ap (λ (b : Bool). b || list_any g xs) (weaker x one)
   | inr rest ↦ or_second (g x) (list_any g xs) (any_weaker f g weaker xs rest)
 ]
@@ -77,7 +61,7 @@ any_before f p (x ∷ xs) e = by_first (p == x) (any_before f p xs) e
     by_first : (b : Bool) → (list_any f (before p xs) ≡ true → list_any f xs ≡ true)
         → list_any f (if b then [] else x ∷ before p xs) ≡ true → (f x || list_any f xs) ≡ true
     by_first true later e = cc
-    by_first false later e = elim (or_parts (f x) (list_any f (before p xs)) e) [
+    by_first false later e = elim (or_cases (f x) (list_any f (before p xs)) e) [
       | inl one ↦ ap (λ (b : Bool). b || list_any f xs) one
       | inr rest ↦ or_second (f x) (list_any f xs) (later rest)
     ]
@@ -110,7 +94,7 @@ one_of g n false e = cc
 found_picked : (f g : ℕ → Bool) (n : ℕ) → list_any g (picked f n) ≡ true → (r : ℕ) × (g r ≡ true) × (f r ≡ true) × (r < n)
 found_picked f g zero e = cc
 found_picked f g (suc n) e =
-    elim (or_parts (list_any g (picked f n)) (list_any g (if f n then n ∷ [] else [])) (sym (any_append g (picked f n) (if f n then n ∷ [] else [])) ∙ e)) [
+    elim (or_cases (list_any g (picked f n)) (list_any g (if f n then n ∷ [] else [])) (sym (any_append g (picked f n) (if f n then n ∷ [] else [])) ∙ e)) [
       | inl early ↦ let r = found_picked f g n early in (r.0, r.1, r.2, omega (arith, r.3))
       | inr last ↦ let one = one_of g n (f n) last in (n, one.1, one.0, omega arith)
     ]
@@ -143,9 +127,6 @@ before_both p (x ∷ xs) ys none = by_first (p == x) (before_both p xs ys) none
     by_first false later e = ap (λ (zs : List ℕ). x ∷ zs) (later e)
 
 -- Calls
-
-call_same : (a b : PlanCall) → Some (Call a) ≡ Some (Call b) → a ≡ b
-call_same a b e = cc
 
 -- a claim that has no step waits, and a call that waits is a claim
 turn_waits : (a b : Bool) → is_step_turn (Some (if a then Goes else (if b then Announces else Waits))) ≡ false
@@ -384,7 +365,7 @@ module _ (locks : List PlanLock) (servers : List Bool) (s : LinedWorld) (stuck :
   ahead : (p lock : ℕ) → is_behind locks s p lock ≡ true → has_waiter locks w lock ≡ true
   ahead p lock behind =
       let some : list_any (λ q. claims lock (here s q)) s.waiting ≡ true =
-      elim (or_parts (list_any (λ q. claims lock (here s q)) (before p s.waiting)) (list_any (λ q. changes lock (here s q)) s.waiting) behind) [
+      elim (or_cases (list_any (λ q. claims lock (here s q)) (before p s.waiting)) (list_any (λ q. changes lock (here s q)) s.waiting) behind) [
         | inl came ↦ any_before (λ q. claims lock (here s q)) p s.waiting came
         | inr change ↦
             any_weaker (λ q. changes lock (here s q)) (λ q. claims lock (here s q)) (λ q e. (change_at locks w q lock e).0) s.waiting change

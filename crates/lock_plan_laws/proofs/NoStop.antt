@@ -41,7 +41,7 @@ use Rattle.lock_plan_laws.proofs.OrderedWorlds.{AreOrdered, steps_ordered, start
 
 -- Numbers below a number
 
-none_below : (f : ℕ → Bool) (n : ℕ) → ((p : ℕ) → p < n → f p ≡ false) → some_below f n ≡ false
+pub none_below : (f : ℕ → Bool) (n : ℕ) → ((p : ℕ) → p < n → f p ≡ false) → some_below f n ≡ false
 none_below f zero all = refl
 none_below f (suc n) all =
     ap (λ (b : Bool). b || some_below f n) (all n (omega arith)) ∙ none_below f n (λ p lt. all p (omega arith))
@@ -50,7 +50,7 @@ or_false : (a b : Bool) → (a || b) ≡ false → (a ≡ false) × (b ≡ false
 or_false true b e = cc
 or_false false b e = (refl, e)
 
-below_none : (f : ℕ → Bool) (n p : ℕ) → some_below f n ≡ false → p < n → f p ≡ false
+pub below_none : (f : ℕ → Bool) (n p : ℕ) → some_below f n ≡ false → p < n → f p ≡ false
 below_none f zero p e lt = absurd (omega arith)
 below_none f (suc n) p e lt =
     let two = or_false (f n) (some_below f n) e in
@@ -183,7 +183,7 @@ and_not_true true true e = refl
 and_not_true true false e = cc
 and_not_true false b e = refl
 
-not_false : (b : Bool) → not b ≡ false → b ≡ true
+pub not_false : (b : Bool) → not b ≡ false → b ≡ true
 not_false true e = refl
 not_false false e = cc
 
