@@ -130,7 +130,7 @@ static inline uint64_t proved_notify(proved_words *w, bool all) {
 static inline bool proved_cond_notify_one(proved_cond *c) { return proved_notify(&c->words, false) != 0; }
 static inline uint64_t proved_cond_notify_all(proved_cond *c) { return proved_notify(&c->words, true); }
 
-/* Reader-writer lock. A writer that waits with no deadline sets a bar: no new reader is admitted before it. A writer with a
+/* Reader-writer lock. A writer that waits with no deadline sets a bar, unless one is set: no new reader is admitted before it. A writer with a
  * deadline sets none, nor does an upgrade, so new readers may starve them. */
 static inline uint64_t proved_limit(const proved_rwlock *l) { return l->readers == 0 ? UINT32_MAX : l->readers; }
 static inline bool proved_rwlock_take(proved_rwlock *l, enum proved_mode mode) {

@@ -63,7 +63,7 @@ pub struct LockStep {
 /// Begins a call that acquires, and returns its first step.
 ///
 /// `code` is 0 for shared, 1 for exclusive, 2 for upgradable, and 3 for an upgrade. The call blocks unless `blocks` is 0. It
-/// sets the bar before it sleeps, unless `announces` is 0.
+/// sets the bar before it sleeps, or finds one, unless `announces` is 0 or `readers` is 1.
 #[unsafe(no_mangle)]
 pub extern "C" fn lock_c_acquire(
     call: &mut LockCall,

@@ -49,8 +49,8 @@ pub trait LockCore: Sized + Drop {
     fn acquire(&self, mode: Mode) -> Self::Token
         ensures { holds self.now mode result ≡ true };
 
-    /// Acquires exclusively, blocking until it is admitted. A core may refuse later threads meanwhile. `RawLock` calls
-    /// `try_acquire` first.
+    /// Acquires exclusively, blocking until it is admitted. A core may refuse later threads meanwhile. If its `acquire`
+    /// does so, it keeps this default. `RawLock` calls `try_acquire` first.
     fn acquire_announced(&self) -> Self::Token
         ensures { holds self.now Mode.Exclusive result ≡ true }
     {

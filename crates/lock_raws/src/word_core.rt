@@ -73,10 +73,6 @@ impl<W: Wait + Clone + Drop, T: Timing<W>> LockCore for WordCore<W, T> {
         self.lock.acquire(&self.waiter, mode)
     }
 
-    fn acquire_announced(&self) -> WordToken {
-        self.lock.acquire(&self.waiter, Mode::Exclusive)
-    }
-
     fn try_acquire(&self, mode: Mode) -> Option<WordToken> {
         self.lock.try_acquire(mode)
     }

@@ -96,7 +96,7 @@ or_else other (call, None) = other call
 abbrev pub leave : WordCall → Progress
 leave call = goes_to call stage.Leave (Subtract Count 1)
 
--- a call that announces itself sleeps only behind a bar, its own or another's, so that later readers do not overtake it
+-- a call that announces itself needs a bar before it sleeps, its own or another's, which keeps later readers out. A mutex has none
 abbrev pub lacks_bar : WordCall → Bool
 lacks_bar call = call.announces && (not (wakes_one call) && not (is_barred (barred_bag_of_word call.loaded)))
 

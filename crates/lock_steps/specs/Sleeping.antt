@@ -116,7 +116,7 @@ admits_sleeper readers word call = if readers == 1 then word == 0 else word_admi
 pub record SleepersAreServed (s : LockWithSleepers) : Type 0 where
   pub served : ThreadsAreServed s.lock
   pub parked : (k : ℕ) → IsTrue (is_listed k s.asleep) → IsParked s.lock k
-  -- a thread that announces itself found a bar, its own or another's, when it last looked at the word before it slept
+  -- a thread that sleeps and announces itself found a bar, its own or another's, when it last looked. A mutex has none
   pub barred : (k : ℕ) (t : Thread) (u : Underway) → IsTrue (is_listed k s.asleep) → slice_get s.lock.threads k ≡ Some t
       → t.underway ≡ Some u → lacks_bar u.call ≡ false
   -- if the word admits what a thread sleeps for, in whatever epoch, some thread serves

@@ -189,8 +189,8 @@ impl WordCall {
         self.to(Stage::LookCounted, Action::Load(Place::Word))
     }
 
-    /// Tries at the look of a counted waiter, which sleeps if it is refused. A call that announces itself sleeps only behind
-    /// a bar, its own or another's, so that later readers do not overtake it.
+    /// Tries at the look of a counted waiter, which sleeps if it is refused. A call that announces itself needs a bar, its
+    /// own or another's, which keeps later readers out. A mutex has none.
     fn look_counted(&mut self, word: u64) -> Action
         ensures { (self.new, result) ≡ next_at Stage.LookCounted Down.Shared word self.old }
     {

@@ -123,8 +123,8 @@ Tried want before (NotAdmitted word) after =
     × ComesTo before.sleeper.state.held before after
 Tried want before Changed after = ComesTo before.sleeper.state.held before after
 
--- whether a call with a deadline or without one may sleep for this, whose last look found this word: a writer without a
--- deadline sleeps only behind a bar, so that later readers do not overtake it. A lock that wakes one has no bar
+-- whether a call that wants this may sleep after it loaded this word. A writer without a deadline needs a bar, unless the lock
+-- wakes one and so has none
 abbrev pub may_sleep_at : WakeLimits → Bool → ℕ → ExWant → Bool
 may_sleep_at limits has_deadline word Exclusive = limits.wakes_one || (has_deadline || is_barred (barred_bag_of_word word))
 may_sleep_at limits has_deadline word other = true

@@ -27,8 +27,8 @@ impl WordLock {
         }
     }
 
-    /// Acquires the mode, blocking: it spins for a moment, and then sleeps until a release unblocks some sleeper. A writer
-    /// sleeps only behind a bar: before it sleeps, it sets the bar unless it is set, which refuses later calls.
+    /// Acquires the mode, blocking: it spins for a moment, and then sleeps until a release unblocks some sleeper. In a
+    /// lock for several readers a writer sets the bar before it sleeps, unless it is set. A bar refuses later calls.
     #[tactic(auto, using(crate::proofs::Tokens::may_acquire, crate::proofs::Tokens::acquires, crate::proofs::Tokens::awaits))]
     pub fn acquire<R: Wait>(&self, rt: &R, mode: Mode) -> WordToken
         ensures { IsTokenOf self.now mode result }

@@ -93,8 +93,8 @@ impl WordLock {
         }
     }
 
-    /// Returns whether a call may sleep that found this word. A writer without a deadline sleeps only behind a bar, its own
-    /// or another's, so that later readers do not overtake it. A lock that wakes one has no bar.
+    /// Returns whether a call may sleep that loaded this word. A writer without a deadline needs a bar, its own or another's,
+    /// which keeps later readers out. A lock that wakes one has no bar.
     fn may_sleep(&self, round: &Round, word: u64) -> bool
         ensures { result ≡ may_sleep_at self.now.limits (is_some round.now.left) word round.now.want }
     {

@@ -179,7 +179,8 @@ impl WordLock {
     }
 
     /// Sleeps until the epoch ends, or for the time that is left. The rule promises that no such call is forgotten. No other
-    /// function parks, so a writer without a deadline sleeps only behind a bar.
+    /// call of a `WordLock` parks. So in a lock for several readers a writer without a deadline sleeps only if it found a bar
+    /// when it last looked.
     pub(crate) fn sleep<R: Wait>(
         &self,
         rt: &R,
