@@ -6,3 +6,21 @@ mod parked_part;
 mod parts;
 mod raw_calls;
 mod threads;
+
+use lock_base::raw::Fault;
+use lock_guard::raw::RawMutex;
+use lock_mutex::Mutex;
+use lock_recorder::Recorder;
+use lock_test_support::raw_lock::Watch;
+use std::alloc::Global;
+
+/// A mutex over a raw lock whose calls are watched.
+pub fn watched<R: RawMutex + Drop, T: Drop>(
+    alloc: Global,
+    waiter: R::Waiter,
+    value: T,
+) -> Result<(Mutex<Recorder<R>, T>, Watch), Fault> {
+    let raw: Recorder<R> = RawMutex::new(alloc, waiter)?;
+    let watch = Watch::new(raw.log()?);
+    Ok((Mutex::from_raw(raw, value)?, watch))
+}

@@ -8,26 +8,40 @@ mod threads;
 mod upgrades;
 
 use crate::tests::Table;
+use lock_base::raw::Fault;
 use lock_guard::raw::{RawRwLock, RawRwLockFair, RawRwLockUpgradeDowngrade, RawRwLockUpgradeTimed};
-use lock_raws::RawLock;
+use lock_raws::{LockCore, RawLock};
 use lock_recorder::{Deadline, Recorder};
 use lock_rwlock::RwLock;
 use lock_test_support::answer::equal;
+use lock_test_support::project::Nested;
 use lock_test_support::raw_lock::Watch;
 use std::alloc::Global;
 use std::sync::Arc;
 use std::test::Fail;
 
-/// Guards of a pair in a pair, and the end of a lock.
-fn check_pair<R>(alloc: Global, waiter: R::Waiter) -> Result<(), Fail>
-where
-    R: RawRwLockFair + RawRwLockUpgradeDowngrade + RawRwLockUpgradeTimed + Drop,
-    R::Duration: Default,
-    R::Instant: Deadline<R::Waiter>,
-{
+/// A lock over a raw lock whose calls are watched.
+fn watched<R: RawRwLock + Drop, T: Drop>(
+    alloc: Global,
+    waiter: R::Waiter,
+    value: T,
+) -> Result<(RwLock<Recorder<R>, T>, Watch), Fault> {
     let raw: Recorder<R> = RawRwLock::new(alloc, waiter, 8)?;
-    let mut watch = Watch::new(raw.log()?);
-    let mut lock = RwLock::from_raw(raw, ((0, 0), 5))?;
+    let watch = Watch::new(raw.log()?);
+    Ok((RwLock::from_raw(raw, value)?, watch))
+}
+
+/// Guards of a pair in a pair, and the end of a lock.
+fn check_pair<R>(
+    alloc: Global,
+    (mut lock, mut watch): (RwLock<R, Nested>, Watch),
+) -> Result<(), Fail>
+where
+    R: RawRwLockFair
+        + RawRwLockUpgradeDowngrade
+        + RawRwLockUpgradeTimed<Duration = u64, Instant = u64>
+        + Drop,
+{
     texts::check_parts(alloc, &lock, &mut watch)?;
     raw_calls::check(&lock, &mut watch);
     *lock.get_mut() = ((5, 2), 1);
@@ -39,15 +53,11 @@ where
 }
 
 /// Guards of a number, `Arc` guards among them, and the end of the last reference.
-fn check_number<R>(alloc: Global, waiter: R::Waiter) -> Result<(), Fail>
+fn check_number<R>(alloc: Global, (lock, mut watch): (RwLock<R, u64>, Watch)) -> Result<(), Fail>
 where
-    R: RawRwLockUpgradeDowngrade + RawRwLockUpgradeTimed + Drop,
-    R::Duration: Default,
-    R::Instant: Deadline<R::Waiter>,
+    R: RawRwLockUpgradeDowngrade + RawRwLockUpgradeTimed<Duration = u64, Instant = u64> + Drop,
 {
-    let raw: Recorder<R> = RawRwLock::new(alloc, waiter, 8)?;
-    let mut watch = Watch::new(raw.log()?);
-    let lock = Arc::new(alloc, RwLock::from_raw(raw, 5)?)?;
+    let lock = Arc::new(alloc, lock)?;
     texts::check(alloc, &lock, &mut watch)?;
     arc::check(&lock, &mut watch)?;
     order::check(&lock, &mut watch)?;
@@ -56,20 +66,22 @@ where
     watch.verdict()
 }
 
-fn check<R>(alloc: Global, waiters: ([R::Waiter; 4], [R::Waiter; 2])) -> Result<(), Fail>
+fn check<C: LockCore>(alloc: Global, waiters: ([C::Waiter; 4], [C::Waiter; 2])) -> Result<(), Fail>
 where
-    R: RawRwLockFair + RawRwLockUpgradeDowngrade + RawRwLockUpgradeTimed + Drop,
-    R::Duration: Default,
-    R::Instant: Deadline<R::Waiter>,
+    C::Duration: Default,
+    C::Instant: Deadline<C::Waiter>,
 {
     let (of_makers, [first, last]) = waiters;
-    makers::check::<R>(alloc, of_makers)?;
-    check_pair::<R>(alloc, first)?;
-    check_number::<R>(alloc, last)
+    makers::check::<RawLock<C>>(alloc, of_makers)?;
+    check_pair(
+        alloc,
+        watched::<RawLock<C>, Nested>(alloc, first, ((0, 0), 5))?,
+    )?;
+    check_number(alloc, watched::<RawLock<C>, u64>(alloc, last, 5)?)
 }
 
 /// One test: each function that names the raw lock would have to be proved anew.
 #[test]
 fn guards_on_one_thread(rt: HostRuntime) -> Result<(), Fail> {
-    check::<RawLock<Table>>(rt.alloc(), ([rt; 4], [rt; 2]))
+    check::<Table>(rt.alloc(), ([rt; 4], [rt; 2]))
 }

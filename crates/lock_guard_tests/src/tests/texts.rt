@@ -13,7 +13,7 @@ use std::test::Fail;
 type Pair = (u64, u64);
 
 /// What prints, and whether it prints as it should.
-type Shown = (&'static str, bool);
+pub type Shown = (&'static str, bool);
 
 /// A mutex of 5, while it is free and while it is held, and its guard. Then the guard of a part, which is 5.
 fn of_a_mutex<R: RawMutex>(
@@ -33,7 +33,7 @@ fn of_a_mutex<R: RawMutex>(
     ]
 }
 
-fn are_right(shown: &[Shown]) -> Result<(), Fail> {
+pub fn are_right(shown: &[Shown]) -> Result<(), Fail> {
     for (what, is_shown) in shown {
         equal((*what, *is_shown), (*what, true))?;
     }

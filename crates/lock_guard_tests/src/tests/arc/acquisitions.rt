@@ -2,9 +2,9 @@
 use crate::tests::Table;
 use lock_base::machine::PartyId;
 use lock_base::raw::Fault;
-use lock_guard::raw::{RawMutex, RawMutexTimed, RawRwLock, RawRwLockUpgradeTimed};
+use lock_guard::raw::{RawMutex, RawMutexTimed, RawRwLock, RawRwLockTimed, RawRwLockUpgradeTimed};
 use lock_mutex::Mutex;
-use lock_raws::RawLock;
+use lock_raws::{LockCore, RawLock};
 use lock_remutex::ReentrantMutex;
 use lock_rwlock::{RwLock, RwLockArc, RwLockArcTimed, RwLockArcUpgrade, RwLockArcUpgradeTimed};
 use lock_test_support::answer::equal;
@@ -57,28 +57,45 @@ fn rwlock_ended<G: Drop, R: RawRwLock>(
     (is_given, is_held, lock.is_locked())
 }
 
-/// By readers, writers and upgradable readers.
+/// By readers and writers.
+fn ended_rwlocks<R: RawRwLockTimed<Duration = (), Instant = ()> + Drop>(
+    lock: &Arc<RwLock<R, u64>>,
+) -> [[Ended; 4]; 2] {
+    let read = [
+        rwlock_ended(lock, RwLock::read_arc(lock).map(Some)),
+        rwlock_ended(lock, RwLock::try_read_arc(lock)),
+        rwlock_ended(lock, RwLock::try_read_arc_for(lock, ())),
+        rwlock_ended(lock, RwLock::try_read_arc_until(lock, ())),
+    ];
+    let written = [
+        rwlock_ended(lock, RwLock::write_arc(lock).map(Some)),
+        rwlock_ended(lock, RwLock::try_write_arc(lock)),
+        rwlock_ended(lock, RwLock::try_write_arc_for(lock, ())),
+        rwlock_ended(lock, RwLock::try_write_arc_until(lock, ())),
+    ];
+    [read, written]
+}
+
+/// By upgradable readers.
+fn ended_upgradable<R: RawRwLockUpgradeTimed<Duration = (), Instant = ()> + Drop>(
+    lock: &Arc<RwLock<R, u64>>,
+) -> [Ended; 4] {
+    [
+        rwlock_ended(lock, RwLock::upgradable_read_arc(lock).map(Some)),
+        rwlock_ended(lock, RwLock::try_upgradable_read_arc(lock)),
+        rwlock_ended(lock, RwLock::try_upgradable_read_arc_for(lock, ())),
+        rwlock_ended(lock, RwLock::try_upgradable_read_arc_until(lock, ())),
+    ]
+}
+
 fn check_rwlock<R: RawRwLockUpgradeTimed<Duration = (), Instant = ()> + Drop>(
     alloc: Global,
     waiter: R::Waiter,
 ) -> Result<(), Fail> {
     let lock: RwLock<R, u64> = RwLock::new(alloc, waiter, 0)?;
     let lock = Arc::new(alloc, lock)?;
-    let ended = [
-        rwlock_ended(&lock, RwLock::read_arc(&lock).map(Some)),
-        rwlock_ended(&lock, RwLock::try_read_arc(&lock)),
-        rwlock_ended(&lock, RwLock::try_read_arc_for(&lock, ())),
-        rwlock_ended(&lock, RwLock::try_read_arc_until(&lock, ())),
-        rwlock_ended(&lock, RwLock::write_arc(&lock).map(Some)),
-        rwlock_ended(&lock, RwLock::try_write_arc(&lock)),
-        rwlock_ended(&lock, RwLock::try_write_arc_for(&lock, ())),
-        rwlock_ended(&lock, RwLock::try_write_arc_until(&lock, ())),
-        rwlock_ended(&lock, RwLock::upgradable_read_arc(&lock).map(Some)),
-        rwlock_ended(&lock, RwLock::try_upgradable_read_arc(&lock)),
-        rwlock_ended(&lock, RwLock::try_upgradable_read_arc_for(&lock, ())),
-        rwlock_ended(&lock, RwLock::try_upgradable_read_arc_until(&lock, ())),
-    ];
-    equal(ended, [FREED; 12])
+    let ended = (ended_rwlocks(&lock), ended_upgradable(&lock));
+    equal(ended, ([[FREED; 4]; 2], [FREED; 4]))
 }
 
 /// Ends the guard of the lock, if the acquisition gave one.
@@ -112,9 +129,20 @@ where
     equal(ended, [FREED; 4])
 }
 
+fn check<C: LockCore<Duration = (), Instant = ()>>(
+    alloc: Global,
+    waiters: [C::Waiter; 3],
+) -> Result<(), Fail>
+where
+    C::Token: Send,
+{
+    let [first, second, third] = waiters;
+    check_mutex::<RawLock<C>>(alloc, first)?;
+    check_rwlock::<RawLock<C>>(alloc, second)?;
+    check_reentrant_mutex::<RawLock<C>>(alloc, third, party(1)?)
+}
+
 #[test]
 fn each_acquisition_by_an_arc_ends_free(rt: HostRuntime) -> Result<(), Fail> {
-    check_mutex::<RawLock<Table>>(rt.alloc(), rt)?;
-    check_rwlock::<RawLock<Table>>(rt.alloc(), rt)?;
-    check_reentrant_mutex::<RawLock<Table>>(rt.alloc(), rt, party(1)?)
+    check::<Table>(rt.alloc(), [rt; 3])
 }

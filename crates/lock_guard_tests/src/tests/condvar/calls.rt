@@ -2,15 +2,19 @@
 use lock_guard::raw::{RawCondvarTimed, RawMutexTimed};
 use lock_mutex::{Condvar, MutexGuard};
 
-/// A wait of a condition variable, with its time. The first number of a loop says how many of its checks are true.
+/// When a wait times out.
 #[derive(Clone, Copy)]
-pub enum Call<T> {
-    Plain,
+pub enum End<T> {
+    Never,
     For(T),
     Until(T),
-    While(usize),
-    WhileFor(usize, T),
-    WhileUntil(usize, T),
+}
+
+/// A wait of a condition variable. The number of a loop says how many of its checks are true.
+#[derive(Clone, Copy)]
+pub enum Call<T> {
+    Once(End<T>),
+    While(usize, End<T>),
 }
 
 /// Makes a check, which is true for the first `trues` times.
@@ -18,6 +22,48 @@ fn check(trues: usize, checks: &mut usize) -> bool {
     let answer = *checks < trues;
     *checks = checks.wrapping_add(1);
     answer
+}
+
+/// Makes one wait. Returns whether it timed out.
+fn wait<T, C: RawCondvarTimed>(
+    condvar: &Condvar<C>,
+    checks: &mut MutexGuard<'_, C::RawMutex, usize>,
+    end: End<T>,
+) -> bool
+where
+    C::RawMutex: RawMutexTimed<Duration = T, Instant = T>,
+{
+    match end {
+        End::Never => {
+            condvar.wait(checks);
+            false
+        }
+        End::For(timeout) => condvar.wait_for(checks, timeout).timed_out(),
+        End::Until(deadline) => condvar.wait_until(checks, deadline).timed_out(),
+    }
+}
+
+/// Waits while the checks are true. Returns whether it timed out.
+fn wait_while<T, C: RawCondvarTimed>(
+    condvar: &Condvar<C>,
+    checks: &mut MutexGuard<'_, C::RawMutex, usize>,
+    trues: usize,
+    end: End<T>,
+) -> bool
+where
+    C::RawMutex: RawMutexTimed<Duration = T, Instant = T>,
+{
+    let is_true = |checks: &mut usize| check(trues, checks);
+    match end {
+        End::Never => {
+            condvar.wait_while(checks, is_true);
+            false
+        }
+        End::For(timeout) => condvar.wait_while_for(checks, is_true, timeout).timed_out(),
+        End::Until(deadline) => condvar
+            .wait_while_until(checks, is_true, deadline)
+            .timed_out(),
+    }
 }
 
 /// Makes the wait. Returns whether it timed out, and how many checks it made, which the value counts.
@@ -31,26 +77,8 @@ where
 {
     **checks = 0;
     let timed_out = match call {
-        Call::Plain => {
-            condvar.wait(checks);
-            false
-        }
-        Call::For(timeout) => condvar.wait_for(checks, timeout).timed_out(),
-        Call::Until(deadline) => condvar.wait_until(checks, deadline).timed_out(),
-        Call::While(trues) => {
-            condvar.wait_while(checks, |checks| check(trues, checks));
-            false
-        }
-        Call::WhileFor(trues, timeout) => {
-            condvar
-                .wait_while_for(checks, |checks| check(trues, checks), timeout)
-                .timed_out()
-        }
-        Call::WhileUntil(trues, deadline) => {
-            condvar
-                .wait_while_until(checks, |checks| check(trues, checks), deadline)
-                .timed_out()
-        }
+        Call::Once(end) => wait(condvar, checks, end),
+        Call::While(trues, end) => wait_while(condvar, checks, trues, end),
     };
     (timed_out, **checks)
 }

@@ -1,5 +1,7 @@
 //! A raw condition variable without instants, which keeps the default bodies of its trait.
-use super::calls::{Call, waited};
+use super::calls::Call::{Once, While};
+use super::calls::End::For;
+use super::calls::waited;
 use lock_base::raw::Fault;
 use lock_guard::raw::{RawCondvar, RawCondvarTimed, RawMutex, RawMutexTimed};
 use lock_mutex::{Condvar, Mutex};
@@ -52,8 +54,8 @@ fn answers<R: RawMutexTimed<Duration = (), Instant = ()>>(
     checks: &Mutex<R, usize>,
 ) -> [(bool, usize); 2] {
     let mut guard = checks.lock();
-    let plain = waited(condvar, &mut guard, Call::For(()));
-    [plain, waited(condvar, &mut guard, Call::WhileFor(1, ()))]
+    let plain = waited(condvar, &mut guard, Once(For(())));
+    [plain, waited(condvar, &mut guard, While(1, For(())))]
 }
 
 fn check<R: RawMutexTimed<Duration = (), Instant = ()> + Drop>(

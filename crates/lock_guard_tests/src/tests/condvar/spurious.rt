@@ -1,10 +1,12 @@
 //! Waits of a spurious condition variable, each of which releases the mutex.
-use super::calls::{Call, waited};
+use super::calls::Call::{self, Once, While};
+use super::calls::End::{For, Never, Until};
+use super::calls::waited;
 use crate::tests::Table;
 use lock_base::machine::Mode::Exclusive;
 use lock_guard::raw::{RawMutex, RawMutexTimed};
 use lock_mutex::{Condvar, Mutex};
-use lock_raws::{RawLock, SpuriousCondvar};
+use lock_raws::{LockCore, RawLock, SpuriousCondvar};
 use lock_recorder::RawCall::{Lock, Unlock};
 use lock_test_support::answer::equal;
 use lock_test_support::raw_lock::{AdmitsAll, Watch};
@@ -15,12 +17,12 @@ use std::test::Fail;
 
 /// Each wait, whether it times out, and how many checks it makes.
 const WAITS: [(Call<()>, bool, usize); 6] = [
-    (Call::Plain, false, 0),
-    (Call::For(()), true, 0),
-    (Call::Until(()), true, 0),
-    (Call::WhileUntil(0, ()), false, 1),
-    (Call::WhileUntil(1, ()), false, 2),
-    (Call::WhileUntil(2, ()), true, 2),
+    (Once(Never), false, 0),
+    (Once(For(())), true, 0),
+    (Once(Until(())), true, 0),
+    (While(0, Until(())), false, 1),
+    (While(1, Until(())), false, 2),
+    (While(2, Until(())), true, 2),
 ];
 
 /// Makes each wait of `WAITS` under one guard. Returns whether the mutex is held after them.
@@ -36,11 +38,11 @@ fn check_waits<R: RawMutexTimed<Duration = (), Instant = ()>>(
     Ok(checks.is_locked())
 }
 
-fn check<R: RawMutexTimed<Duration = (), Instant = ()> + Drop>(
+fn check<C: LockCore<Duration = (), Instant = ()>>(
     alloc: Global,
-    waiter: R::Waiter,
+    waiter: C::Waiter,
 ) -> Result<(), Fail> {
-    let condvar: Condvar<SpuriousCondvar<R>> = Condvar::default(alloc)?;
+    let condvar: Condvar<SpuriousCondvar<RawLock<C>>> = Condvar::default(alloc)?;
     let is_held = check_waits(&condvar, &Mutex::new(alloc, waiter, 0)?)?;
     let woken = (condvar.notify_one(), condvar.notify_all());
     equal((is_held, woken), (true, (false, 0)))
@@ -48,15 +50,15 @@ fn check<R: RawMutexTimed<Duration = (), Instant = ()> + Drop>(
 
 #[test]
 fn a_spurious_wait_ends_at_once(rt: HostRuntime) -> Result<(), Fail> {
-    check::<RawLock<Table>>(rt.alloc(), rt)
+    check::<Table>(rt.alloc(), rt)
 }
 
 /// Waits that release the mutex once.
 const ONCE: [Call<()>; 4] = [
-    Call::Plain,
-    Call::For(()),
-    Call::Until(()),
-    Call::WhileUntil(1, ()),
+    Once(Never),
+    Once(For(())),
+    Once(Until(())),
+    While(1, Until(())),
 ];
 
 /// Under one guard, each wait of `ONCE` releases the raw lock and acquires it again.

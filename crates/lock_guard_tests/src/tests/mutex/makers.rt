@@ -3,7 +3,7 @@ use crate::tests::Table;
 use lock_base::raw::Fault;
 use lock_guard::raw::RawMutex;
 use lock_mutex::{Condvar, Mutex};
-use lock_raws::{RawLock, SleepingCondvar};
+use lock_raws::{LockCore, RawLock, SleepingCondvar};
 use lock_recorder::Recorder;
 use lock_test_support::answer::{answers_or_lacks_memory, equal};
 use std::alloc::Global;
@@ -27,12 +27,12 @@ fn consumed<R: RawMutex + Drop>(maker: Maker, mutex: Mutex<Recorder<R>, u64>) ->
     (maker, value, raw.has_no_calls() && !raw.is_locked())
 }
 
-fn made<R: RawMutex + Drop>(alloc: Global, waiters: [R::Waiter; 3]) -> Result<[Made; 3], Fault> {
+fn made<C: LockCore>(alloc: Global, waiters: [C::Waiter; 3]) -> Result<[Made; 3], Fault> {
     let [first, second, third] = waiters;
     Ok([
-        consumed::<R>(Maker::New, Mutex::new(alloc, first, 5)?),
-        consumed::<R>(Maker::From, Mutex::from(alloc, second, 6)?),
-        consumed::<R>(Maker::Default, Mutex::default(alloc, third)?),
+        consumed::<RawLock<C>>(Maker::New, Mutex::new(alloc, first, 5)?),
+        consumed::<RawLock<C>>(Maker::From, Mutex::from(alloc, second, 6)?),
+        consumed::<RawLock<C>>(Maker::Default, Mutex::default(alloc, third)?),
     ])
 }
 
@@ -44,12 +44,12 @@ const WANTED: [Made; 3] = [
 
 #[test]
 fn makers_of_a_mutex_lock_nothing(rt: HostRuntime) -> Result<(), Fail> {
-    equal(made::<RawLock<Table>>(rt.alloc(), [rt; 3])?, WANTED)
+    equal(made::<Table>(rt.alloc(), [rt; 3])?, WANTED)
 }
 
 #[test]
 fn refused_memory_in_makers_of_a_mutex(rt: HostRuntime) -> Result<(), Fail> {
-    let made = made::<RawLock<Table>>(rt.alloc(), [rt; 3]);
+    let made = made::<Table>(rt.alloc(), [rt; 3]);
     answers_or_lacks_memory(&rt, made, WANTED)
 }
 

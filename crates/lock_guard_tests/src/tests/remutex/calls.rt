@@ -4,7 +4,7 @@ use lock_base::machine::Mode::Exclusive;
 use lock_base::machine::PartyId;
 use lock_base::raw::Fault;
 use lock_guard::raw::{RawMutex, RawMutexFair};
-use lock_raws::RawLock;
+use lock_raws::{LockCore, RawLock};
 use lock_recorder::Recorder;
 use lock_remutex::{
     ArcReentrantMutexGuard, MappedReentrantMutexGuard, ReentrantMutex, ReentrantMutexGuard,
@@ -62,6 +62,21 @@ fn inner_maps<R: RawMutexFair>(
     Some((missed, item))
 }
 
+/// Maps guards of the lock, and consumes it after a write.
+fn check_borrowed<R: RawMutexFair + Drop>(
+    lock: Paired<R>,
+    watch: &mut Watch,
+    party: PartyId,
+) -> Result<(R, (u64, u64)), Fail> {
+    let mut lock = lock;
+    maps(&lock, watch, party)?;
+    equal(inner_maps(&lock, watch, party), Some((5, 2)))?;
+    *lock.get_mut() = (3, 4);
+    let parts = lock.into_inner_with_raw();
+    watch.saw(&[]);
+    Ok(parts)
+}
+
 /// The guard of a lock that it owns a reference to, and the end of the last reference.
 fn ends<R: RawMutex + Drop>(
     lock: Arc<Paired<R>>,
@@ -76,28 +91,29 @@ fn ends<R: RawMutex + Drop>(
     Ok(())
 }
 
-fn check<R: RawMutexFair + Drop>(alloc: Global, waiter: R::Waiter) -> Result<(), Fail>
+fn check<R: RawMutexFair + Drop>(alloc: Global, raw: R, watch: Watch) -> Result<(), Fail>
 where
     R::Guard: Send,
 {
+    let mut watch = watch;
     let one = party(1)?;
-    let raw: Recorder<R> = RawMutex::new(alloc, waiter)?;
-    let mut watch = Watch::new(raw.log()?);
-    let mut lock = ReentrantMutex::from_raw(alloc, raw, (1, 2))?;
-    maps(&lock, &mut watch, one)?;
-    equal(inner_maps(&lock, &mut watch, one), Some((5, 2)))?;
-    *lock.get_mut() = (3, 4);
-    let (raw, value) = lock.into_inner_with_raw();
-    watch.saw(&[]);
-    ends(
-        Arc::new(alloc, ReentrantMutex::from_raw(alloc, raw, value)?)?,
-        &mut watch,
-        one,
-    )?;
+    let lock = ReentrantMutex::from_raw(alloc, raw, (1, 2))?;
+    let (raw, value) = check_borrowed(lock, &mut watch, one)?;
+    let lock = Arc::new(alloc, ReentrantMutex::from_raw(alloc, raw, value)?)?;
+    ends(lock, &mut watch, one)?;
     watch.verdict()
+}
+
+fn check_core<C: LockCore>(alloc: Global, waiter: C::Waiter) -> Result<(), Fail>
+where
+    C::Token: Send,
+{
+    let raw: Recorder<RawLock<C>> = RawMutex::new(alloc, waiter)?;
+    let watch = Watch::new(raw.log()?);
+    check(alloc, raw, watch)
 }
 
 #[test]
 fn maps_make_no_raw_calls(rt: HostRuntime) -> Result<(), Fail> {
-    check::<RawLock<Table>>(rt.alloc(), rt)
+    check_core::<Table>(rt.alloc(), rt)
 }

@@ -4,7 +4,7 @@ use lock_base::machine::Mode::Exclusive;
 use lock_base::machine::PartyId;
 use lock_base::raw::Fault::{self, FullCount};
 use lock_guard::raw::{RawMutex, RawMutexTimed};
-use lock_raws::RawLock;
+use lock_raws::{LockCore, RawLock};
 use lock_recorder::RawCall::{Lock, Unlock};
 use lock_recorder::{Deadline, Recorder};
 use lock_remutex::{ReentrantMutex, ReentrantMutexGuard};
@@ -111,8 +111,18 @@ where
     Ok(())
 }
 
+fn check<C: LockCore>(alloc: Global, waiters: [C::Waiter; 2]) -> Result<(), Fail>
+where
+    C::Token: Send,
+    C::Duration: Default,
+    C::Instant: Deadline<C::Waiter>,
+{
+    let [first, last] = waiters;
+    let value = check_borrowed::<RawLock<C>>(alloc, first)?;
+    check_arc::<RawLock<C>>(alloc, last, value)
+}
+
 #[test]
 fn a_full_count_is_refused(rt: HostRuntime) -> Result<(), Fail> {
-    let value = check_borrowed::<RawLock<Table>>(rt.alloc(), rt)?;
-    check_arc::<RawLock<Table>>(rt.alloc(), rt, value)
+    check::<Table>(rt.alloc(), [rt; 2])
 }

@@ -5,7 +5,7 @@ use lock_base::machine::Mode::Exclusive;
 use lock_base::machine::PartyId;
 use lock_base::raw::Fault;
 use lock_guard::raw::RawMutex;
-use lock_raws::RawLock;
+use lock_raws::{LockCore, RawLock};
 use lock_recorder::RawCall::Lock;
 use lock_recorder::Recorder;
 use lock_remutex::{RawReentrantMutex, ReentrantMutex};
@@ -71,6 +71,18 @@ where
     ])
 }
 
+/// `made`, over the raw lock of a core.
+fn made_over<C: LockCore>(
+    alloc: Global,
+    waiters: [C::Waiter; 5],
+    one: PartyId,
+) -> Result<[Made; 5], Fault>
+where
+    C::Token: Send,
+{
+    made::<RawLock<C>>(alloc, waiters, one)
+}
+
 const WANTED: [Made; 5] = [
     (Maker::New, 5, 100, true),
     (Maker::From, 6, 100, true),
@@ -81,10 +93,7 @@ const WANTED: [Made; 5] = [
 
 #[test]
 fn makers_of_a_reentrant_lock_lock_nothing(rt: HostRuntime) -> Result<(), Fail> {
-    equal(
-        made::<RawLock<Table>>(rt.alloc(), [rt; 5], party(1)?)?,
-        WANTED,
-    )
+    equal(made_over::<Table>(rt.alloc(), [rt; 5], party(1)?)?, WANTED)
 }
 
 /// A maker, the value of its lock, and how many of a hundred levels a party gets.
@@ -97,7 +106,7 @@ fn without_calls(made: [Made; 5]) -> [Levelled; 5] {
 
 #[test]
 fn refused_memory_in_makers_of_a_reentrant_lock(rt: HostRuntime) -> Result<(), Fail> {
-    let made = made::<RawLock<Table>>(rt.alloc(), [rt; 5], party(1)?);
+    let made = made_over::<Table>(rt.alloc(), [rt; 5], party(1)?);
     answers_or_lacks_memory(&rt, made.map(without_calls), without_calls(WANTED))
 }
 
@@ -113,21 +122,25 @@ fn check_or_lacks<R: RawMutex + Drop, E: Env>(
     }
 }
 
-fn check_raw_makers<R: RawMutex + Drop, E: Env>(
+fn check_raw_makers<C: LockCore, E: Env>(
     rt: &E,
     alloc: Global,
-    waiters: [R::Waiter; 2],
+    waiters: [C::Waiter; 2],
 ) -> Result<(), Fail>
 where
-    R::Guard: Send,
+    C::Token: Send,
 {
     let one = party(1)?;
     let [first, last] = waiters;
-    check_or_lacks(rt, RawReentrantMutex::<R>::new(alloc, first), one)?;
-    check_or_lacks(rt, RawReentrantMutex::<R>::with_levels(alloc, last, 3), one)
+    check_or_lacks(rt, RawReentrantMutex::<RawLock<C>>::new(alloc, first), one)?;
+    check_or_lacks(
+        rt,
+        RawReentrantMutex::<RawLock<C>>::with_levels(alloc, last, 3),
+        one,
+    )
 }
 
 #[test]
 fn refused_memory_raw_reentrant_mutex(rt: HostRuntime) -> Result<(), Fail> {
-    check_raw_makers::<RawLock<Table>, HostRuntime>(&rt, rt.alloc(), [rt; 2])
+    check_raw_makers::<Table, HostRuntime>(&rt, rt.alloc(), [rt; 2])
 }

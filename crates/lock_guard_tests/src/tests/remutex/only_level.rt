@@ -3,7 +3,7 @@ use crate::tests::Table;
 use lock_base::machine::PartyId;
 use lock_base::raw::Fault;
 use lock_guard::raw::RawMutex;
-use lock_raws::RawLock;
+use lock_raws::{LockCore, RawLock};
 use lock_remutex::{ReentrantMutex, ReentrantMutexGuard};
 use lock_test_support::answer::equal;
 use lock_test_support::raw_lock::AdmitsAll;
@@ -28,18 +28,18 @@ fn taken_meanwhile<R: RawMutex>(
     Some((fault, value, is_held, lock.is_locked()))
 }
 
-fn check_only_level<R: RawMutex + Drop>(alloc: Global, waiter: R::Waiter) -> Result<(), Fail>
+fn check_only_level<C: LockCore>(alloc: Global, waiter: C::Waiter) -> Result<(), Fail>
 where
-    R::Guard: Send,
+    C::Token: Send,
 {
-    let lock: ReentrantMutex<R, u8> = ReentrantMutex::with_levels(alloc, waiter, 1, 7)?;
+    let lock: ReentrantMutex<RawLock<C>, u8> = ReentrantMutex::with_levels(alloc, waiter, 1, 7)?;
     let seen = taken_meanwhile(&lock, party(1)?);
     equal(seen, Some((Fault::FullCount, 7, true, false)))
 }
 
 #[test]
 fn a_level_that_is_taken_meanwhile_ends_free(rt: HostRuntime) -> Result<(), Fail> {
-    check_only_level::<RawLock<Table>>(rt.alloc(), rt)
+    check_only_level::<Table>(rt.alloc(), rt)
 }
 
 /// Whether another party gets a guard beside the owner's, and whether the owner still owns the lock.

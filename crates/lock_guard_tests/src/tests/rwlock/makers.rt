@@ -44,42 +44,46 @@ fn readers_of_66<R: RawRwLock>(raw: &R) -> u64 {
     readers
 }
 
-/// Checks a lock, and that its maker made no raw call.
-fn check_made<R: RawRwLock + Drop>(made: Made<Recorder<R>>) -> Result<(), Fail> {
+/// A maker's name, whether it made no raw call, how many readers its lock admits, and its value.
+type Seen = (&'static str, bool, u64, u64);
+
+/// What a lock shows, and what it should.
+fn seen<R: RawRwLock + Drop>(made: Made<Recorder<R>>) -> (Result<Seen, Fault>, Seen) {
     let (name, lock, readers, value) = made;
-    let (raw, found) = lock?.into_inner_with_raw();
-    let has_no_calls = raw.has_no_calls();
-    equal(
-        (name, has_no_calls, readers_of_66(&raw), found),
-        (name, true, readers, value),
-    )
+    let found = lock.map(|lock| {
+        let (raw, found) = lock.into_inner_with_raw();
+        (name, raw.has_no_calls(), readers_of_66(&raw), found)
+    });
+    (found, (name, true, readers, value))
 }
 
 pub fn check<R: RawRwLock + Drop>(alloc: Global, waiters: [R::Waiter; 4]) -> Result<(), Fail> {
     let (new, from, default, with_readers) = made::<Recorder<R>>(alloc, waiters);
-    check_made(new)?;
-    check_made(from)?;
-    check_made(default)?;
-    check_made(with_readers)
+    for (found, wanted) in [seen(new), seen(from), seen(default), seen(with_readers)] {
+        equal(found, Ok(wanted))?;
+    }
+    Ok(())
 }
 
-/// Checks that the maker gave a lock of its value, or that it lacked memory.
-fn check_or_lacks<C: LockCore, E: Env>(rt: &E, made: Made<RawLock<C>>) -> Result<(), Fail> {
+type Named = (&'static str, u64);
+
+/// A maker's name and the value of its lock, and what they should be.
+fn named<R: RawRwLock + Drop>(made: Made<R>) -> (Result<Named, Fault>, Named) {
     let (name, lock, _, value) = made;
-    let found = lock.map(|lock| (name, lock.into_inner()));
-    answers_or_lacks_memory(rt, found, (name, value))
+    (lock.map(|lock| (name, lock.into_inner())), (name, value))
 }
 
+/// Checks that each maker gave a lock of its value, or that it lacked memory.
 fn check_all_or_lack<C: LockCore, E: Env>(
     rt: &E,
     alloc: Global,
     waiters: [C::Waiter; 4],
 ) -> Result<(), Fail> {
-    let (new, from, default, with_readers) = made(alloc, waiters);
-    check_or_lacks::<C, E>(rt, new)?;
-    check_or_lacks(rt, from)?;
-    check_or_lacks(rt, default)?;
-    check_or_lacks(rt, with_readers)
+    let (new, from, default, with_readers) = made::<RawLock<C>>(alloc, waiters);
+    for (found, wanted) in [named(new), named(from), named(default), named(with_readers)] {
+        answers_or_lacks_memory(rt, found, wanted)?;
+    }
+    Ok(())
 }
 
 #[test]

@@ -13,6 +13,10 @@ use std::sync::atomic::{AtomicBool, Ordering};
 use std::test::Fail;
 use std::thread;
 
+fn add_one<R: RawRwLock>(lock: &RwLock<R, u64>) {
+    lock.with_write(|value| *value = value.wrapping_add(1));
+}
+
 /// Adds 1 to the value while the guard, which was just acquired in the mode, is unlocked. It ends only if nothing is held
 /// then.
 fn add_while_unlocked<R: RawRwLock, L: Acquire>(
@@ -23,10 +27,7 @@ fn add_while_unlocked<R: RawRwLock, L: Acquire>(
 ) {
     let mut guard = guard;
     watch.saw(&[Lock(mode)]);
-    RwLockGuard::unlocked(&mut guard, || {
-        let mut value = lock.write();
-        *value = value.wrapping_add(1);
-    });
+    RwLockGuard::unlocked(&mut guard, || add_one(lock));
     watch.saw(&[Unlock(mode), Lock(Exclusive), Unlock(Exclusive), Lock(mode)]);
     drop(guard);
     watch.saw(&[Unlock(mode)]);
@@ -37,7 +38,7 @@ pub fn check<R: RawRwLockUpgrade>(lock: &RwLock<R, u64>, watch: &mut Watch) -> R
     add_while_unlocked(lock, lock.read(), Shared, watch);
     add_while_unlocked(lock, lock.write(), Exclusive, watch);
     add_while_unlocked(lock, lock.upgradable_read(), Upgradable, watch);
-    let value = *lock.read();
+    let value = lock.with_read(|value| *value);
     watch.saw(&[Lock(Shared), Unlock(Shared)]);
     equal(value, 8)
 }
@@ -49,10 +50,11 @@ fn write_once_another_asked<W: Wait, R: RawRwLock>(
     calls: &CallLog,
     is_held: &AtomicBool,
 ) {
-    let mut guard = lock.write();
-    is_held.store(true, Ordering::SeqCst);
-    wait_for_calls(waiter, calls, 2);
-    *guard = 5;
+    lock.with_write(|value| {
+        is_held.store(true, Ordering::SeqCst);
+        wait_for_calls(waiter, calls, 2);
+        *value = 5;
+    });
 }
 
 /// What another thread finds, which acquires exclusively once the value's lock is held.
@@ -62,7 +64,7 @@ fn find_once_held<W: Wait, R: RawRwLock>(
     is_held: &AtomicBool,
 ) -> u64 {
     wait_for_flag(waiter, is_held);
-    *lock.write()
+    lock.with_write(|value| *value)
 }
 
 /// It ends only if a thread calls the raw lock before it locks the value's lock.

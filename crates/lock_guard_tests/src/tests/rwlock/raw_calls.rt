@@ -1,5 +1,6 @@
 //! What the raw lock is asked by guards that borrow the lock, where no script of `conform/` makes the call.
 use lock_base::machine::Mode::{self, Exclusive, Shared, Upgradable};
+use lock_guard::guard::{AcquireFair, ValueGuard, ValueGuardMut};
 use lock_guard::raw::{
     RawRwLock, RawRwLockFair, RawRwLockUpgrade, RawRwLockUpgradeDowngrade, RawRwLockUpgradeFair,
     RawRwLockUpgradeTimed,
@@ -8,7 +9,9 @@ use lock_recorder::RawCall::{
     self, DowngradeToUpgradable, IsLocked, Lock, TryUpgrade, TryUpgradeFor, TryUpgradeUntil,
     Unlock, UnlockFair, Upgrade,
 };
-use lock_rwlock::{RwLock, RwLockReadGuard, RwLockUpgradableReadGuard, RwLockWriteGuard};
+use lock_rwlock::{
+    Mappable, RwLock, RwLockGuard, RwLockReadGuard, RwLockUpgradableReadGuard, RwLockWriteGuard,
+};
 use lock_test_support::project::{Item0, Nested, inner_item};
 use lock_test_support::raw_lock::{AdmitsAll, Watch, watch_fair_end, watch_write};
 use std::alloc::Global;
@@ -29,19 +32,64 @@ fn names<R: RawRwLock>(lock: &Paired<R>, watch: &mut Watch) {
     watch.saw_hold(writer, Exclusive);
 }
 
-/// A guard is mapped. What a mapped guard asks by itself is one code for all locks, and asked of a mutex.
-fn maps<R: RawRwLockFair>(lock: &Paired<R>, watch: &mut Watch) {
-    watch.saw_hold(RwLockReadGuard::map(lock.read(), Item0), Shared);
-    watch_fair_end(RwLockReadGuard::map(lock.read(), Item0), Shared, watch);
-    watch_write(RwLockWriteGuard::map(lock.write(), Item0), Exclusive, watch);
+/// A guard, which was just acquired in the mode, is mapped.
+fn map_and_hold<L: Mappable>(guard: RwLockGuard<L>, mode: Mode, watch: &mut Watch)
+where
+    L::Shown: ValueGuard<Value = Nested>,
+{
+    watch.saw_hold(RwLockGuard::map(guard, Item0), mode);
 }
 
-/// A guard is mapped to the item at this index of the inner pair, if it has one.
-fn try_maps<R: RawRwLock>(lock: &Paired<R>, index: usize, watch: &mut Watch) {
-    let part = RwLockReadGuard::try_map(lock.read(), inner_item(index));
-    watch.saw_hold(part, Shared);
-    let part = RwLockReadGuard::try_map_or_err(lock.read(), inner_item(index));
-    watch.saw_hold(part, Shared);
+/// Such a guard ends by a fair release.
+fn map_and_end<L: Mappable + AcquireFair>(guard: RwLockGuard<L>, mode: Mode, watch: &mut Watch)
+where
+    L::Shown: ValueGuard<Value = Nested>,
+{
+    watch_fair_end(RwLockGuard::map(guard, Item0), mode, watch);
+}
+
+/// Such a guard is written.
+fn map_and_write<L: Mappable>(guard: RwLockGuard<L>, mode: Mode, watch: &mut Watch)
+where
+    L::Shown: ValueGuard<Value = Nested> + ValueGuardMut,
+{
+    watch_write(RwLockGuard::map(guard, Item0), mode, watch);
+}
+
+/// A guard is mapped. What a mapped guard asks by itself is one code for all locks, and asked of a mutex.
+fn maps<R: RawRwLockFair>(lock: &Paired<R>, watch: &mut Watch) {
+    map_and_hold(lock.read(), Shared, watch);
+    map_and_end(lock.read(), Shared, watch);
+    map_and_write(lock.write(), Exclusive, watch);
+}
+
+/// A guard, which was just acquired in the mode, is mapped to the item at this index of the inner pair, if it has one.
+fn try_map_and_hold<L: Mappable>(guard: RwLockGuard<L>, index: usize, mode: Mode, watch: &mut Watch)
+where
+    L::Shown: ValueGuard<Value = Nested>,
+{
+    watch.saw_hold(RwLockGuard::try_map(guard, inner_item(index)), mode);
+}
+
+/// The same, by `try_map_or_err`.
+fn try_map_or_err_and_hold<L: Mappable>(
+    guard: RwLockGuard<L>,
+    index: usize,
+    mode: Mode,
+    watch: &mut Watch,
+)
+where
+    L::Shown: ValueGuard<Value = Nested>,
+{
+    watch.saw_hold(RwLockGuard::try_map_or_err(guard, inner_item(index)), mode);
+}
+
+/// Guards are mapped to an item that is there, and to one that is not.
+fn try_maps<R: RawRwLock>(lock: &Paired<R>, watch: &mut Watch) {
+    for index in [1, 2] {
+        try_map_and_hold(lock.read(), index, Shared, watch);
+        try_map_or_err_and_hold(lock.read(), index, Shared, watch);
+    }
 }
 
 /// Calls under an upgraded guard. Each closure looks at the raw lock.
@@ -83,8 +131,7 @@ pub fn check<
 >(lock: &Paired<R>, watch: &mut Watch) {
     names(lock, watch);
     maps(lock, watch);
-    try_maps(lock, 1, watch);
-    try_maps(lock, 2, watch);
+    try_maps(lock, watch);
     calls_under_an_upgrade(lock);
     watch.saw(&UNDER_AN_UPGRADE);
 }

@@ -1,8 +1,12 @@
 //! How a lock and its guards print, and the raw calls that this makes.
+use crate::tests::texts::{Shown, are_right};
 use lock_base::machine::Mode::{self, Exclusive, Shared, Upgradable};
+use lock_guard::guard::{Acquire, ValueGuard};
 use lock_guard::raw::{RawRwLock, RawRwLockUpgrade};
 use lock_recorder::RawCall::{Lock, TryLock, Unlock};
-use lock_rwlock::{RwLock, RwLockArc, RwLockArcUpgrade, RwLockReadGuard, RwLockWriteGuard};
+use lock_rwlock::{
+    ArcModeGuard, Mappable, ReadValue, RwLock, RwLockArc, RwLockArcUpgrade, RwLockGuard,
+};
 use lock_test_support::answer::{debug_is, equal, texts_are};
 use lock_test_support::project::{Item1, Nested};
 use lock_test_support::raw_lock::Watch;
@@ -11,16 +15,16 @@ use std::fmt::{Debug, Display};
 use std::sync::Arc;
 use std::test::Fail;
 
-/// Checks both texts of the guard, which was just acquired in the mode. They make no raw call.
+/// Whether both texts of the guard, which was just acquired in the mode, are right. They make no raw call.
 fn prints<G: Debug + Display + Drop>(
     alloc: Global,
     watch: &mut Watch,
-    case: (&str, G, Mode, &str),
-) -> Result<(), Fail> {
-    let (name, guard, mode, text) = case;
-    let is_right = texts_are(alloc, guard, text);
+    guard: G,
+    mode: Mode,
+) -> bool {
+    let is_right = texts_are(alloc, guard, "5");
     watch.saw(&[Lock(mode), Unlock(mode)]);
-    equal((name, is_right), (name, true))
+    is_right
 }
 
 /// The text of a lock of 5 tries to read.
@@ -47,6 +51,62 @@ fn lock_prints<R: RawRwLock>(
     equal([beside_a_reader, beside_a_writer], [true; 2])
 }
 
+/// `prints`, of a guard that borrows the lock.
+fn guard_prints<L: Acquire>(
+    alloc: Global,
+    watch: &mut Watch,
+    guard: RwLockGuard<L>,
+    mode: Mode,
+) -> bool
+where
+    L::Shown: ValueGuard<Value = u64>,
+{
+    prints(alloc, watch, guard, mode)
+}
+
+/// The texts of guards that borrow the lock.
+fn check_borrowing_guards<R: RawRwLockUpgrade>(
+    alloc: Global,
+    lock: &RwLock<R, u64>,
+    watch: &mut Watch,
+) -> Result<(), Fail> {
+    let reader = guard_prints(alloc, watch, lock.read(), Shared);
+    let writer = guard_prints(alloc, watch, lock.write(), Exclusive);
+    let upgradable = guard_prints(alloc, watch, lock.upgradable_read(), Upgradable);
+    are_right(&[
+        ("RwLockReadGuard", reader),
+        ("RwLockWriteGuard", writer),
+        ("RwLockUpgradableReadGuard", upgradable),
+    ])
+}
+
+/// `prints`, of a guard that owns a reference to the lock.
+fn arc_guard_prints<L: ReadValue<Value = u64>>(
+    alloc: Global,
+    watch: &mut Watch,
+    guard: ArcModeGuard<L>,
+    mode: Mode,
+) -> bool {
+    prints(alloc, watch, guard, mode)
+}
+
+/// The texts of guards that own a reference to the lock.
+fn check_owning_guards<R: RawRwLockUpgrade + Drop>(
+    alloc: Global,
+    lock: &Arc<RwLock<R, u64>>,
+    watch: &mut Watch,
+) -> Result<(), Fail> {
+    let reader = arc_guard_prints(alloc, watch, RwLock::read_arc(lock)?, Shared);
+    let writer = arc_guard_prints(alloc, watch, RwLock::write_arc(lock)?, Exclusive);
+    let guard = RwLock::upgradable_read_arc(lock)?;
+    let upgradable = arc_guard_prints(alloc, watch, guard, Upgradable);
+    are_right(&[
+        ("ArcRwLockReadGuard", reader),
+        ("ArcRwLockWriteGuard", writer),
+        ("ArcRwLockUpgradableReadGuard", upgradable),
+    ])
+}
+
 /// The texts of a lock of 5.
 pub fn check<R: RawRwLockUpgrade + Drop>(
     alloc: Global,
@@ -54,42 +114,33 @@ pub fn check<R: RawRwLockUpgrade + Drop>(
     watch: &mut Watch,
 ) -> Result<(), Fail> {
     lock_prints(alloc, lock, watch)?;
-    prints(alloc, watch, ("RwLockReadGuard", lock.read(), Shared, "5"))?;
-    prints(
-        alloc,
-        watch,
-        ("RwLockWriteGuard", lock.write(), Exclusive, "5"),
-    )?;
-    let guard = lock.upgradable_read();
-    prints(
-        alloc,
-        watch,
-        ("RwLockUpgradableReadGuard", guard, Upgradable, "5"),
-    )?;
-    let guard = RwLock::read_arc(lock)?;
-    prints(alloc, watch, ("ArcRwLockReadGuard", guard, Shared, "5"))?;
-    let guard = RwLock::write_arc(lock)?;
-    prints(alloc, watch, ("ArcRwLockWriteGuard", guard, Exclusive, "5"))?;
-    let guard = RwLock::upgradable_read_arc(lock)?;
-    prints(
-        alloc,
-        watch,
-        ("ArcRwLockUpgradableReadGuard", guard, Upgradable, "5"),
-    )
+    check_borrowing_guards(alloc, lock, watch)?;
+    check_owning_guards(alloc, lock, watch)
 }
 
-/// The texts of guards of a part, which is 5.
+/// Whether both texts of the guard's part, which is 5, are right.
+fn part_prints<L: Mappable>(
+    alloc: Global,
+    watch: &mut Watch,
+    guard: RwLockGuard<L>,
+    mode: Mode,
+) -> bool
+where
+    L::Shown: ValueGuard<Value = Nested>,
+{
+    prints(alloc, watch, RwLockGuard::map(guard, Item1), mode)
+}
+
+/// The texts of guards of a part.
 pub fn check_parts<R: RawRwLock>(
     alloc: Global,
     lock: &RwLock<R, Nested>,
     watch: &mut Watch,
 ) -> Result<(), Fail> {
-    let part = RwLockReadGuard::map(lock.read(), Item1);
-    prints(alloc, watch, ("MappedRwLockReadGuard", part, Shared, "5"))?;
-    let part = RwLockWriteGuard::map(lock.write(), Item1);
-    prints(
-        alloc,
-        watch,
-        ("MappedRwLockWriteGuard", part, Exclusive, "5"),
-    )
+    let read = part_prints(alloc, watch, lock.read(), Shared);
+    let written = part_prints(alloc, watch, lock.write(), Exclusive);
+    are_right(&[
+        ("MappedRwLockReadGuard", read),
+        ("MappedRwLockWriteGuard", written),
+    ])
 }

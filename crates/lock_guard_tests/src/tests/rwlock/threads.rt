@@ -19,8 +19,7 @@ impl<R: RawRwLock> Count for Counted<'_, R> {
     type Waiter = R::Waiter;
 
     fn add_one(&self) {
-        let mut count = self.0.write();
-        *count = count.wrapping_add(1);
+        self.0.with_write(|count| *count = count.wrapping_add(1));
     }
 }
 
@@ -41,8 +40,7 @@ fn sees_while_it_reads<R: RawRwLock>(
     mine: &AtomicBool,
     other: &AtomicBool,
 ) -> bool {
-    let _guard = lock.read();
-    sees_the_other(mine, other)
+    lock.with_read(|_| sees_the_other(mine, other))
 }
 
 /// Over a raw lock that admits everyone, so that only the value's lock excludes the threads.

@@ -1,7 +1,7 @@
 //! An upgradable guard of a pair, beside a reader and then alone, which ends as the guard of a part.
 use crate::tests::{Table, Word};
 use lock_guard::raw::{RawRwLockUpgradeDowngrade, RawRwLockUpgradeTimed};
-use lock_raws::RawLock;
+use lock_raws::{LockCore, RawLock};
 use lock_rwlock::{RwLock, RwLockReadGuard, RwLockUpgradableReadGuard, RwLockWriteGuard};
 use lock_test_support::answer::equal;
 use lock_test_support::project::Item0;
@@ -41,6 +41,17 @@ fn refused_by_each_try<'a, R: RawRwLockUpgradeTimed<Duration = (), Instant = ()>
     RwLockUpgradableReadGuard::try_upgrade_until(guard, ()).err()
 }
 
+/// The first item, by the guard of a part that the guard becomes.
+fn item_after_upgrades<
+    R: RawRwLockUpgradeTimed<Duration = (), Instant = ()> + RawRwLockUpgradeDowngrade,
+>(guard: RwLockUpgradableReadGuard<'_, R, Pair>) -> Option<u64> {
+    let writer = RwLockUpgradableReadGuard::upgrade(guard);
+    let guard = RwLockWriteGuard::downgrade_to_upgradable(writer);
+    let writer = RwLockUpgradableReadGuard::try_upgrade_for(guard, ()).ok()?;
+    let part = RwLockReadGuard::map(RwLockWriteGuard::downgrade(writer), Item0);
+    Some(*part)
+}
+
 /// What the tries answered beside a reader and alone, whether another upgradable guard was refused, the part, and whether
 /// the lock is held in the end.
 type Seen = (Applied, bool, Applied, u64, bool);
@@ -56,12 +67,7 @@ fn upgrades<R: RawRwLockUpgradeTimed<Duration = (), Instant = ()> + RawRwLockUpg
     let is_refused = lock.try_upgradable_read().is_none();
     drop(reader);
     let alone = add_by_each_try(&mut guard, &calls);
-    let writer = RwLockUpgradableReadGuard::upgrade(guard);
-    let guard = RwLockWriteGuard::downgrade_to_upgradable(writer);
-    let writer = RwLockUpgradableReadGuard::try_upgrade_for(guard, ()).ok()?;
-    let part = RwLockReadGuard::map(RwLockWriteGuard::downgrade(writer), Item0);
-    let item = *part;
-    drop(part);
+    let item = item_after_upgrades(guard)?;
     Some((beside, is_refused, alone, item, lock.is_locked()))
 }
 
@@ -73,17 +79,17 @@ const WANTED: Option<Seen> = Some((
     false,
 ));
 
-fn check<R: RawRwLockUpgradeTimed<Duration = (), Instant = ()> + RawRwLockUpgradeDowngrade + Drop>(
+fn check<C: LockCore<Duration = (), Instant = ()>>(
     name: &str,
     alloc: Global,
-    waiter: R::Waiter,
+    waiter: C::Waiter,
 ) -> Result<(), Fail> {
-    let lock: RwLock<R, Pair> = RwLock::with_readers(alloc, waiter, 8, (1, 2))?;
+    let lock: RwLock<RawLock<C>, Pair> = RwLock::with_readers(alloc, waiter, 8, (1, 2))?;
     equal((name, upgrades(&lock)), (name, WANTED))
 }
 
 #[test]
 fn a_refused_upgrade_calls_nothing(rt: HostRuntime) -> Result<(), Fail> {
-    check::<RawLock<Table>>("over a table", rt.alloc(), rt)?;
-    check::<RawLock<Word>>("over a word", rt.alloc(), rt)
+    check::<Table>("over a table", rt.alloc(), rt)?;
+    check::<Word>("over a word", rt.alloc(), rt)
 }

@@ -11,9 +11,10 @@ type Pair = (u64, u64);
 /// Adds 1 to both numbers, 10,000 times.
 fn write_pairs<R: RawRwLock>(lock: &RwLock<R, Pair>) {
     for _ in 0..10_000u32 {
-        let mut pair = lock.write();
-        pair.0 = pair.0.wrapping_add(1);
-        pair.1 = pair.1.wrapping_add(1);
+        lock.with_write(|pair| {
+            pair.0 = pair.0.wrapping_add(1);
+            pair.1 = pair.1.wrapping_add(1);
+        });
     }
 }
 
@@ -22,7 +23,7 @@ fn read_pairs<R: RawRwLock>(lock: &RwLock<R, Pair>) -> u64 {
     let mut wrong: u64 = 0;
     let mut last = 0;
     for _ in 0..10_000u32 {
-        let (one, other) = *lock.read();
+        let (one, other) = lock.with_read(|pair| *pair);
         if one != other || one < last {
             wrong = wrong.wrapping_add(1);
         }
