@@ -425,7 +425,7 @@ def holds_by_place(plan, party):
         why = call_fault(plan, holds, call) if call else None
         if place.line.word == "wait" and plan.locks[call.lock].kind != "mutex":
             why = "wrong kind of lock"
-        if place.line.word == "try" and call.word in ACQUISITIONS and plan.locks[call.lock].is_fair:
+        if place.line.word == "try" and call.word in ACQUISITIONS and plan.locks[call.lock].is_fair and why != "wrong kind of lock":
             why = "try of a fair lock"
         if why is not None:
             raise Fault(f"line {place.line.number}: {why}")

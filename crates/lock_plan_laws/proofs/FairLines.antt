@@ -1,14 +1,16 @@
--- Fair locks with their lines stop as the worlds of a plan do: a party may as well join a line just before it acquires, and the
--- parties that wait at the end join last, those whose calls are not admitted first.
+-- Runs with lines are stuck in the worlds in which the plan is. A run of the plan is a run in which nobody joins a line; the
+-- parties that wait in a stuck world join last, first those that their locks do not admit.
 use Rattle.std.proofs.Common.{◌≡◌, ℕ, zero, suc, ◌+◌, ◌<◌, ◌≤◌, ◌⊎◌, inl, inr, Bool, true, false, not, ◌&&◌, ◌||◌, ◌==◌, if◌then◌else◌, List, [], ◌∷◌, ◌++◌, length, map, get_or, Option, Some, None, option_map, refl, sym, ap, subst, ◌∙◌, arith}
 use Rattle.std.specs.List.{list_any}
-use Rattle.std.proofs.lemmas.Bool.{false≢true, and_parts, or_cases, cases_lt, eq-eqb, eqb-true, eqb-false}
+use Rattle.std.proofs.lemmas.Bool.{false≢true, and_parts, or_cases, or_right, not-true, cases_lt, eq-eqb, eqb-true, eqb-false}
 use Rattle.std.proofs.lemmas.List.{get_or_past, append-nil, append_assoc}
+use Rattle.std.proofs.lemmas.List.Folds.{list_any-append}
 use Rattle.std.proofs.lemmas.Option.{same_Some}
 use Rattle.lock_base.specs.declared.machine.hold.Hold.{Hold}
 use Rattle.lock_base.specs.declared.machine.mode_step.ModeStep.TheVariants.{Acquire, Release, Change}
 use Rattle.lock_base.specs.declared.machine.lock_step.LockStep.{LockStep}
 use Rattle.lock_base.specs.declared.machine.lock_step.LockStep.TheVariants.{Modes, Announce, Withdraw}
+use Rattle.lock_base.specs.Kind.{is_reentrant}
 use Rattle.lock_plan.specs.declared.call.PlanCall.{PlanCall}
 use Rattle.lock_plan.specs.declared.lock.PlanLock.{PlanLock}
 use Rattle.lock_plan.specs.declared.program.Act.{Act}
@@ -19,15 +21,11 @@ use Rattle.lock_plan.specs.declared.turn.Turn.{Turn}
 use Rattle.lock_plan.specs.declared.turn.Turn.TheVariants.{Goes, Announces, Waits, Refused}
 use Rattle.lock_plan.specs.Holds.{announces_itself, admits_step, lines_up, turn_on}
 use Rattle.lock_plan.specs.Worlds.{Stand, no_stand, no_lock, lock_holds, act_of, acts_of, reply_at, turn_by, turn_of, line_of, waits_for, has_waiter, on_lock, goes_on, on_from, world_step, world_after, first_world, is_server, is_due, is_step_turn, is_stuck, some_below}
-use Rattle.lock_plan_laws.specs.Lines.{LinedWorld, here, is_listed, without, before, is_claim, is_change, claims, changes, is_waits, names_fair, is_behind, is_held_up, goes_in_line, joins, joined, stepped, lined_by, lined_on, lined_after, IsStuckInLine, first_lined, LinesStopAsWorlds}
+use Rattle.lock_plan_laws.specs.Lines.{LinedWorld, here, is_listed, without, before, is_claim, is_change, claims, changes, is_waits, names_fair, is_behind, is_behind_some, goes_in_line, joins, joined, stepped, lined_by, lined_on, lined_after, IsStuckInLine, first_lined, LinesStopAsWorlds}
 use Rattle.lock_plan_laws.proofs.SceneStops.{some_at, some_found}
 use Rattle.lock_plan_laws.proofs.NoStop.{none_below, below_none, not_false}
 
 -- Booleans
-
-or_second : (a b : Bool) → b ≡ true → (a || b) ≡ true
-or_second true b e = refl
-or_second false b e = e
 
 and_false : (a b : Bool) → (a ≡ true → b ≡ false) → (a && b) ≡ false
 and_false true b h = h refl
@@ -39,19 +37,11 @@ by_bool false so un = un refl
 
 -- lists of numbers
 
-any_append : (f : ℕ → Bool) (xs ys : List ℕ) → list_any f (xs ++ ys) ≡ (list_any f xs || list_any f ys)
-any_append f [] ys = refl
-any_append f (x ∷ xs) ys = ap (λ (b : Bool). f x || b) (any_append f xs ys) ∙ or_assoc (f x) (list_any f xs) (list_any f ys)
-  where
-    or_assoc : (a b c : Bool) → (a || (b || c)) ≡ ((a || b) || c)
-    or_assoc true b c = refl
-    or_assoc false b c = refl
-
 any_weaker : (f g : ℕ → Bool) → ((q : ℕ) → f q ≡ true → g q ≡ true) → (xs : List ℕ) → list_any f xs ≡ true → list_any g xs ≡ true
 any_weaker f g weaker [] e = cc
 any_weaker f g weaker (x ∷ xs) e = elim (or_cases (f x) (list_any f xs) e) [
   | inl one ↦ ap (λ (b : Bool). b || list_any g xs) (weaker x one)
-  | inr rest ↦ or_second (g x) (list_any g xs) (any_weaker f g weaker xs rest)
+  | inr rest ↦ or_right (g x) (list_any g xs) (any_weaker f g weaker xs rest)
 ]
 
 any_before : (f : ℕ → Bool) (p : ℕ) (xs : List ℕ) → list_any f (before p xs) ≡ true → list_any f xs ≡ true
@@ -63,7 +53,7 @@ any_before f p (x ∷ xs) e = by_first (p == x) (any_before f p xs) e
     by_first true later e = cc
     by_first false later e = elim (or_cases (f x) (list_any f (before p xs)) e) [
       | inl one ↦ ap (λ (b : Bool). b || list_any f xs) one
-      | inr rest ↦ or_second (f x) (list_any f xs) (later rest)
+      | inr rest ↦ or_right (f x) (list_any f xs) (later rest)
     ]
 
 -- the first of a list that has it
@@ -94,7 +84,7 @@ one_of g n false e = cc
 found_picked : (f g : ℕ → Bool) (n : ℕ) → list_any g (picked f n) ≡ true → (r : ℕ) × (g r ≡ true) × (f r ≡ true) × (r < n)
 found_picked f g zero e = cc
 found_picked f g (suc n) e =
-    elim (or_cases (list_any g (picked f n)) (list_any g (if f n then n ∷ [] else [])) (sym (any_append g (picked f n) (if f n then n ∷ [] else [])) ∙ e)) [
+    elim (or_cases (list_any g (picked f n)) (list_any g (if f n then n ∷ [] else [])) (sym (list_any-append g (picked f n) (if f n then n ∷ [] else [])) ∙ e)) [
       | inl early ↦ let r = found_picked f g n early in (r.0, r.1, r.2, omega (arith, r.3))
       | inr last ↦ let one = one_of g n (f n) last in (n, one.1, one.0, omega arith)
     ]
@@ -102,12 +92,12 @@ found_picked f g (suc n) e =
 in_picked : (f g : ℕ → Bool) (n r : ℕ) → r < n → f r ≡ true → g r ≡ true → list_any g (picked f n) ≡ true
 in_picked f g zero r lt is has = absurd (omega arith)
 in_picked f g (suc n) r lt is has =
-    any_append g (picked f n) (if f n then n ∷ [] else [])
+    list_any-append g (picked f n) (if f n then n ∷ [] else [])
     ∙ elim (cases_lt r n) [
       | inl early ↦ ap (λ (b : Bool). b || list_any g (if f n then n ∷ [] else [])) (in_picked f g n r early is has)
       | inr late ↦
           let same : r ≡ n = omega arith in
-          or_second (list_any g (picked f n)) (list_any g (if f n then n ∷ [] else []))
+          or_right (list_any g (picked f n)) (list_any g (if f n then n ∷ [] else []))
           (ap (λ (b : Bool). list_any g (if b then n ∷ [] else [])) (ap f (sym same) ∙ is) ∙ ap (λ (b : Bool). b || false) (ap g (sym same) ∙ has))
     ]
 
@@ -170,17 +160,11 @@ change_no_line lock Announce e = refl
 change_no_line lock Withdraw e = refl
 
 lined_fair : (lock : PlanLock) (a : LockStep) → lines_up lock a ≡ true → (lock.fair ≡ true) × (is_claim a ≡ true)
-lined_fair lock (Modes (Acquire mode)) e = (e, refl)
+lined_fair lock (Modes (Acquire mode)) e = ((and_parts lock.fair (not (is_reentrant lock.kind)) e).0, refl)
 lined_fair lock (Modes (Change from to)) e = cc
 lined_fair lock (Modes (Release mode)) e = cc
 lined_fair lock Announce e = cc
 lined_fair lock Withdraw e = cc
-
-waits_or_steps : (t : Turn) → is_waits (Some t) ≡ true → t ≡ Waits
-waits_or_steps Goes e = cc
-waits_or_steps Announces e = cc
-waits_or_steps Waits e = refl
-waits_or_steps Refused e = cc
 
 module _ (locks : List PlanLock) (w : List Stand) where
   abbrev act : ℕ → Option Act
@@ -320,7 +304,7 @@ module _ (locks : List PlanLock) (servers : List Bool) (s : LinedWorld) (stuck :
   abbrev w : List Stand
   w = s.stands
 
-  idle : (q lock : ℕ) → claims lock (here s q) ≡ true → (is_step_turn (turn_of locks w q) && not (is_held_up locks s q)) ≡ false
+  idle : (q lock : ℕ) → claims lock (here s q) ≡ true → (is_step_turn (turn_of locks w q) && not (is_behind_some locks s q)) ≡ false
   idle q lock claim = below_none (goes_in_line locks s) (length w) q stuck.none_goes (in_world locks w q lock claim)
 
   -- a claim by a change waits by what is held
@@ -339,8 +323,8 @@ module _ (locks : List PlanLock) (servers : List Bool) (s : LinedWorld) (stuck :
   first lock h claim none =
       by_bool (is_step_turn (turn_of locks w h))
       (λ steps.
-      let held : is_held_up locks s h ≡ true =
-      not_false (is_held_up locks s h) (ap (λ (b : Bool). b && not (is_held_up locks s h)) (sym steps) ∙ idle h lock claim) in
+      let held : is_behind_some locks s h ≡ true =
+      not_false (is_behind_some locks s h) (ap (λ (b : Bool). b && not (is_behind_some locks s h)) (sym steps) ∙ idle h lock claim) in
       let line = line_found locks w (is_behind locks s h) (line_of locks (here s h)) held in
       let same : line.0 ≡ lock = one_claim h line.0 lock (lined_at locks w h line.0 line.1).claims_it claim in
       let behind : is_behind locks s h lock ≡ true = ap (is_behind locks s h) (sym same) ∙ line.2 in
@@ -377,9 +361,9 @@ module _ (locks : List PlanLock) (servers : List Bool) (s : LinedWorld) (stuck :
   stays_put p lt =
       and_false (is_step_turn (turn_of locks w p)) _
       (λ steps.
-      let held : is_held_up locks s p ≡ true =
-      not_false (is_held_up locks s p)
-      (ap (λ (b : Bool). b && not (is_held_up locks s p)) (sym steps) ∙ below_none (goes_in_line locks s) (length w) p stuck.none_goes lt) in
+      let held : is_behind_some locks s p ≡ true =
+      not_false (is_behind_some locks s p)
+      (ap (λ (b : Bool). b && not (is_behind_some locks s p)) (sym steps) ∙ below_none (goes_in_line locks s) (length w) p stuck.none_goes lt) in
       let line = line_found locks w (is_behind locks s p) (line_of locks (here s p)) held in
       ap (λ (o : Option ℕ). not (on_lock (has_waiter locks w) o)) line.1 ∙ ap not (ahead p line.0 line.2))
 
@@ -399,7 +383,7 @@ module _ (locks : List PlanLock) where
           → s.stands ≡ t.stands
       joined_same true e = ap (λ (x : LinedWorld). x.stands) (same_Some _ t e)
       joined_same false e = cc
-  step_on s t (inr step) e = inr (step, stepped_is (is_held_up locks s step.party) (world_step locks s.stands step) e)
+  step_on s t (inr step) e = inr (step, stepped_is (is_behind_some locks s step.party) (world_step locks s.stands step) e)
     where
       stepped_is : (b : Bool) (o : Option (List Stand))
           → (if b then None else option_map (λ w. record { stands = w; waiting = without step.party s.waiting }) o) ≡ Some t → o ≡ Some t.stands
@@ -450,7 +434,7 @@ module _ (locks : List PlanLock) where
           → ((u : List Stand) → world_after locks u steps ≡ Some w
           → lined_after locks (record { stands = u; waiting = [] }) (map inr steps) ≡ Some (record { stands = w; waiting = [] }))
           → on_from o (λ u. world_after locks u steps) ≡ Some w
-          → lined_on locks (if is_held_up locks (record { stands = v; waiting = [] }) step.party then None else option_map (λ u. record { stands = u; waiting = [] }) o)
+          → lined_on locks (if is_behind_some locks (record { stands = v; waiting = [] }) step.party then None else option_map (λ u. record { stands = u; waiting = [] }) o)
           (λ t. lined_after locks t (map inr steps)) ≡ Some (record { stands = w; waiting = [] })
       by_first None later e = cc
       by_first (Some u) later e =
@@ -539,11 +523,11 @@ module _ (locks : List PlanLock) (servers : List Bool) (w : List Stand) (stuck :
       in_picked waits_first (λ r. claims lock (act locks w r)) n q.0 q.2 first claim.0 in
       ap (λ (b : Bool). b || list_any (λ r. changes lock (act locks w r)) (leaders ++ rest))
       (ap (list_any (λ r. claims lock (act locks w r))) (before_both p leaders rest (not_leader p steps))
-      ∙ any_append (λ r. claims lock (act locks w r)) leaders (before p rest)
+      ∙ list_any-append (λ r. claims lock (act locks w r)) leaders (before p rest)
       ∙ ap (λ (b : Bool). b || list_any (λ r. claims lock (act locks w r)) (before p rest)) led)
 
   -- a party that comes behind is held up once the leaders have joined
-  held : (p : ℕ) (rest : List ℕ) → comes_behind p ≡ true → is_held_up locks (with_line (leaders ++ rest)) p ≡ true
+  held : (p : ℕ) (rest : List ℕ) → comes_behind p ≡ true → is_behind_some locks (with_line (leaders ++ rest)) p ≡ true
   held p rest behind =
       let both = and_parts (is_step_turn (turn p)) _ behind in
       let line = line_found locks w (has_waiter locks w) (line_of locks (act locks w p)) both.1 in
@@ -554,29 +538,25 @@ module _ (locks : List PlanLock) (servers : List Bool) (w : List Stand) (stuck :
 
   first_joins : (p : ℕ) → p < n → waits_first p ≡ true → joins locks (with_line (picked waits_first p)) p ≡ true
   first_joins p lt first =
-      ap (λ (b : Bool). not b && (waits_first p || is_held_up locks (with_line (picked waits_first p)) p)) (not_yet waits_first p)
-      ∙ ap (λ (b : Bool). b || is_held_up locks (with_line (picked waits_first p)) p) first
+      ap (λ (b : Bool). not b && (waits_first p || is_behind_some locks (with_line (picked waits_first p)) p)) (not_yet waits_first p)
+      ∙ ap (λ (b : Bool). b || is_behind_some locks (with_line (picked waits_first p)) p) first
 
   then_joins : (p : ℕ) → p < n → comes_behind p ≡ true → joins locks (with_line (leaders ++ picked comes_behind p)) p ≡ true
   then_joins p lt behind =
       let steps = (and_parts (is_step_turn (turn p)) _ behind).0 in
       let rest = picked comes_behind p in
       let none : is_listed p (leaders ++ rest) ≡ false =
-      any_append (λ q. p == q) leaders rest
+      list_any-append (λ q. p == q) leaders rest
       ∙ ap (λ (b : Bool). b || is_listed p rest) (not_leader p steps)
       ∙ not_yet comes_behind p in
-      ap (λ (b : Bool). not b && (waits_first p || is_held_up locks (with_line (leaders ++ rest)) p)) none
-      ∙ or_second (waits_first p) (is_held_up locks (with_line (leaders ++ rest)) p) (held p rest behind)
+      ap (λ (b : Bool). not b && (waits_first p || is_behind_some locks (with_line (leaders ++ rest)) p)) none
+      ∙ or_right (waits_first p) (is_behind_some locks (with_line (leaders ++ rest)) p) (held p rest behind)
 
   abbrev parts : (some_below (λ p. is_due (is_server servers p) (turn p)) n ≡ true) × (not (some_below (goes_on locks w) n) ≡ true)
   parts = and_parts (some_below (λ p. is_due (is_server servers p) (turn p)) n) (not (some_below (goes_on locks w) n)) stuck
 
-  not_true : (b : Bool) → not b ≡ true → b ≡ false
-  not_true true e = cc
-  not_true false e = refl
-
   still : (p : ℕ) → p < n → goes_on locks w p ≡ false
-  still p lt = below_none (goes_on locks w) n p (not_true _ parts.1) lt
+  still p lt = below_none (goes_on locks w) n p (not-true _ parts.1) lt
 
   -- a party with a step comes behind another one
   behind_other : (p : ℕ) → p < n → is_step_turn (turn p) ≡ true → comes_behind p ≡ true
@@ -587,19 +567,19 @@ module _ (locks : List PlanLock) (servers : List Bool) (w : List Stand) (stuck :
 
   none_goes : (p : ℕ) → p < n → goes_in_line locks (with_line waiting) p ≡ false
   none_goes p lt =
-      and_false (is_step_turn (turn p)) (not (is_held_up locks (with_line waiting) p))
+      and_false (is_step_turn (turn p)) (not (is_behind_some locks (with_line waiting) p))
       (λ steps. ap not (held p (picked comes_behind n) (behind_other p lt steps)))
 
   -- a leader has joined, and so has a party that comes behind
   leader_listed : (p : ℕ) → p < n → waits_first p ≡ true → is_listed p waiting ≡ true
   leader_listed p lt first =
-      any_append (λ q. p == q) leaders (picked comes_behind n)
+      list_any-append (λ q. p == q) leaders (picked comes_behind n)
       ∙ ap (λ (b : Bool). b || is_listed p (picked comes_behind n)) (in_picked waits_first (λ q. p == q) n p lt first (eq-eqb p p refl))
 
   follower_listed : (p : ℕ) → p < n → comes_behind p ≡ true → is_listed p waiting ≡ true
   follower_listed p lt behind =
-      any_append (λ q. p == q) leaders (picked comes_behind n)
-      ∙ or_second (is_listed p leaders) (is_listed p (picked comes_behind n)) (in_picked comes_behind (λ q. p == q) n p lt behind (eq-eqb p p refl))
+      list_any-append (λ q. p == q) leaders (picked comes_behind n)
+      ∙ or_right (is_listed p leaders) (is_listed p (picked comes_behind n)) (in_picked comes_behind (λ q. p == q) n p lt behind (eq-eqb p p refl))
 
   -- so has each party that acquires a fair lock
   lined_listed : (p lock : ℕ) → p < n → line_of locks (act locks w p) ≡ Some lock → is_listed p waiting ≡ true
@@ -613,18 +593,18 @@ module _ (locks : List PlanLock) (servers : List Bool) (w : List Stand) (stuck :
 
   none_joins : (p : ℕ) → p < n → joins locks (with_line waiting) p ≡ false
   none_joins p lt =
-      and_false (not (is_listed p waiting)) (waits_first p || is_held_up locks (with_line waiting) p)
+      and_false (not (is_listed p waiting)) (waits_first p || is_behind_some locks (with_line waiting) p)
       (λ absent.
-      let none : is_listed p waiting ≡ false = not_true (is_listed p waiting) absent in
+      let none : is_listed p waiting ≡ false = not-true (is_listed p waiting) absent in
       let no_leader : waits_first p ≡ false =
       by_bool (waits_first p) (λ so. absurd (false≢true (sym none ∙ leader_listed p lt so))) (λ un. un) in
-      let not_held : is_held_up locks (with_line waiting) p ≡ false =
-      by_bool (is_held_up locks (with_line waiting) p)
+      let not_held : is_behind_some locks (with_line waiting) p ≡ false =
+      by_bool (is_behind_some locks (with_line waiting) p)
       (λ so.
       let line = line_found locks w (is_behind locks (with_line waiting) p) (line_of locks (act locks w p)) so in
       absurd (false≢true (sym none ∙ lined_listed p line.0 lt line.1)))
       (λ un. un) in
-      ap (λ (b : Bool). b || is_held_up locks (with_line waiting) p) no_leader ∙ not_held)
+      ap (λ (b : Bool). b || is_behind_some locks (with_line waiting) p) no_leader ∙ not_held)
 
   stuck_in_line : IsStuckInLine locks servers (with_line waiting)
   stuck_in_line = record {
@@ -646,6 +626,7 @@ module _ (locks : List PlanLock) (servers : List Bool) (w : List Stand) (stuck :
 pub lines_stop_as_worlds : (servers : List Bool) (locks : List PlanLock) (programs : List (List Place)) → LinesStopAsWorlds servers locks programs
 lines_stop_as_worlds servers locks programs = record {
   worlds = λ acts s e. worlds locks acts (first_lined locks programs) s e;
+  reached = λ steps w e. (map inr steps, plain_run locks steps (first_world locks programs) w e);
   stuck = λ s stuck. stuck_in_world locks servers s stuck;
   back = λ steps w e stuck. (
     map inr steps ++ line_acts locks servers w stuck,

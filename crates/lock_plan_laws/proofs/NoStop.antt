@@ -191,7 +191,7 @@ not_false false e = cc
 no_line : (lock : PlanLock) (s : LockStep) → fits_machine lock ≡ true → lock.bar ≡ true → lines_up lock s ≡ false
 no_line lock (lock_step.Modes (Acquire mode)) fits bars =
     let no : (lock.fair && lock.bar) ≡ false = not_true _ (and_parts (fits_kind lock.kind lock.limit lock.bar) (not (lock.fair && lock.bar)) fits).1 in
-    and_false lock.fair lock.bar bars no
+    ap (λ (b : Bool). b && not (is_reentrant lock.kind)) (and_false lock.fair lock.bar bars no)
   where
     not_true : (b : Bool) → not b ≡ true → b ≡ false
     not_true true e = cc

@@ -3,7 +3,7 @@ use Rattle.std.proofs.Common.{◌≡◌, ℕ, zero, suc, ◌+◌, ◌<◌, ◌^�
 use Rattle.std.proofs.lemmas.Bool.{and_parts, and_from, or_cases, false≢true, not-true}
 use Rattle.lock_base.specs.declared.machine.party.PartyId.{PartyId}
 use Rattle.lock_base.specs.Operation.{Operation}
-use Rattle.lock_base.specs.Kind.{is_rwlock}
+use Rattle.lock_base.specs.Kind.{is_reentrant, is_rwlock}
 use Rattle.lock_plan.specs.declared.lock.PlanLock.{PlanLock}
 use Rattle.lock_plan.specs.declared.program.Act.{Act}
 use Rattle.lock_plan.specs.declared.program.Act.TheVariants as act
@@ -70,7 +70,7 @@ not_fair (lock ∷ locks) plain zero = not-true lock.fair (and_parts (not lock.f
 not_fair (lock ∷ locks) plain (suc l) = not_fair locks (and_parts (not lock.fair) (none_fair locks) plain).1 l
 
 no_line : (lock : PlanLock) (a : LockStep) → lock.fair ≡ false → lines_up lock a ≡ false
-no_line lock (Modes (Acquire mode)) plain = plain
+no_line lock (Modes (Acquire mode)) plain = ap (λ (b : Bool). b && not (is_reentrant lock.kind)) plain
 no_line lock (Modes (Release mode)) plain = refl
 no_line lock (Modes (Change from to)) plain = refl
 no_line lock Announce plain = refl

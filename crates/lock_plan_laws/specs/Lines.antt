@@ -1,4 +1,4 @@
--- Fair locks with their lines of waiters. A plan has no try of a fair lock.
+-- Fair locks with their lines of waiters. An accepted plan has no try of a fair lock (`try_fault`); here one would pass the line.
 use Rattle.std.specs.Prelude.{◌≡◌, ℕ, Bool, true, false, not, ◌&&◌, ◌||◌, ◌==◌, if◌then◌else◌, List, [], ◌∷◌, ◌++◌, length, Option, Some, None, option_map, ◌⊎◌}
 use Rattle.std.specs.List.{list_any}
 use Rattle.std.proofs.Common.{get_or, inl, inr}
@@ -34,7 +34,7 @@ abbrev pub before : ℕ → List ℕ → List ℕ
 before p [] = []
 before p (q ∷ qs) = if p == q then [] else q ∷ before p qs
 
--- whether a step can wait: an acquisition or an upgrade
+-- an acquisition, or a change of mode; of the changes, an upgrade alone ever waits
 abbrev pub is_claim : LockStep → Bool
 is_claim (Modes (Acquire mode)) = true
 is_claim (Modes (Change from to)) = true
@@ -68,18 +68,18 @@ module _ (locks : List PlanLock) where
   is_behind s p lock =
       list_any (λ q. claims lock (here s q)) (before p s.waiting) || list_any (λ q. changes lock (here s q)) s.waiting
 
-  abbrev pub is_held_up : LinedWorld → ℕ → Bool
-  is_held_up s p = on_lock (is_behind s p) (line_of locks (here s p))
+  abbrev pub is_behind_some : LinedWorld → ℕ → Bool
+  is_behind_some s p = on_lock (is_behind s p) (line_of locks (here s p))
 
   -- whether a party goes on now
   abbrev pub goes_in_line : LinedWorld → ℕ → Bool
-  goes_in_line s p = is_step_turn (turn_of locks s.stands p) && not (is_held_up s p)
+  goes_in_line s p = is_step_turn (turn_of locks s.stands p) && not (is_behind_some s p)
 
   -- whether a party joins the line: its call on a fair lock waits, or others came before
   abbrev pub joins : LinedWorld → ℕ → Bool
   joins s p =
       not (is_listed p s.waiting)
-      && ((is_waits (turn_of locks s.stands p) && names_fair locks (here s p)) || is_held_up s p)
+      && ((is_waits (turn_of locks s.stands p) && names_fair locks (here s p)) || is_behind_some s p)
 
   abbrev pub joined : LinedWorld → ℕ → Option LinedWorld
   joined s p = if joins s p then Some (record { stands = s.stands; waiting = s.waiting ++ p ∷ [] }) else None
@@ -87,7 +87,7 @@ module _ (locks : List PlanLock) where
   -- a step of a party that is not held up, which leaves the line
   abbrev pub stepped : LinedWorld → Step → Option LinedWorld
   stepped s step =
-      if is_held_up s step.party then None
+      if is_behind_some s step.party then None
       else option_map (λ w. record { stands = w; waiting = without step.party s.waiting }) (world_step locks s.stands step)
 
   -- a party joins, or makes a step
@@ -112,11 +112,12 @@ module _ (locks : List PlanLock) where
   abbrev pub first_lined : List (List Place) → LinedWorld
   first_lined programs = record { stands = first_world locks programs; waiting = [] }
 
--- a run with lines leads to a world of the plan, and where it is stuck, so is the plan; and to each world of the plan that is
--- stuck, a run with lines leads and is stuck there
+-- runs with lines lead to the worlds of the plan, and are stuck in the same ones
 pub record LinesStopAsWorlds (servers : List Bool) (locks : List PlanLock) (programs : List (List Place)) : Type 0 where
   pub worlds : (acts : List (ℕ ⊎ Step)) (s : LinedWorld) → lined_after locks (first_lined locks programs) acts ≡ Some s
       → (steps : List Step) × (world_after locks (first_world locks programs) steps ≡ Some s.stands)
+  pub reached : (steps : List Step) (w : List Stand) → world_after locks (first_world locks programs) steps ≡ Some w
+      → (acts : List (ℕ ⊎ Step)) × (lined_after locks (first_lined locks programs) acts ≡ Some (record { stands = w; waiting = [] }))
   pub stuck : (s : LinedWorld) → IsStuckInLine locks servers s → is_stuck servers locks s.stands ≡ true
   pub back : (steps : List Step) (w : List Stand) → world_after locks (first_world locks programs) steps ≡ Some w
       → is_stuck servers locks w ≡ true

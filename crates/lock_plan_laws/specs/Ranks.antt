@@ -31,7 +31,7 @@ is_ranked_step Withdraw = true
 
 -- what a party may do at a place where it has these holds
 pub record KeepsOrder (rank : ℕ → ℕ) (holds : List Hold) (here : Option Act) : Type 0 where
-  -- it blocks only for a lock that is above all locks that it holds; a try may take any
+  -- it blocks only for a lock that is above all locks that it holds; a try may take any that is not fair
   pub upward : (call : PlanCall) (mode : Mode) → here ≡ Some (Call call) → call.step ≡ Modes (Acquire mode)
       → (lock : ℕ) → 0 < tokens (get_or holds lock no_hold).bag → rank lock < rank call.lock
   pub ranked : (call : PlanCall) → here ≡ Some (Call call) → is_ranked_step call.step ≡ true

@@ -1,4 +1,4 @@
-//! Machines of guards stop under a plan as its worlds do.
+//! What the worlds of a plan say of machines of guards.
 ghost use Rattle.std.specs.Prelude.{List, IsTrue};
 ghost use Rattle.lock_plan.specs.Checks.{fit_machines, none_fair};
 ghost use Rattle.lock_plan.specs.Stops.{programs_of};
@@ -11,8 +11,8 @@ use lock_plan::{Plan, Step};
 /// What [`explore`](lock_plan::explore) answers about a plan holds of machines of guards.
 ///
 /// Each machine has room for as many guards as the programs have places.
-/// A machine has no line of waiters, so it may go on where a plan with fair locks stops, and where no such plan stops, no run
-/// of its machines does. Flags, sleep, starts, joins and assertions follow the rules of the plan in both: a machine has none of them.
+/// If a plan never stops, no run of its machines does. A machine has no line, so it may go on in a stop of a plan with fair
+/// locks. Flags, sleep, starts, joins and assertions follow the rules of the plan in both: a machine has none of them.
 pub fn machines_stop_as_explored<T, O: Op<T>>(plan: &Plan)
     requires { IsTrue (fit_machines plan.now.locks.items) }
     ensures none { NeverStops plan.now.servers.items plan.now.locks.items (programs_of plan.now)

@@ -1,5 +1,5 @@
 -- The drawing of a trace: a column for each party, a row for each step, and a row of what parties wait for.
-use Rattle.std.specs.Prelude.{ℕ, zero, suc, ◌-◌, max, Bool, true, false, ◌==◌, if◌then◌else◌, List, [], ◌∷◌, ◌++◌, length, replicate, codes, Option, Some, None, Vec}
+use Rattle.std.specs.Prelude.{ℕ, zero, suc, ◌-◌, max, Bool, true, false, ◌==◌, if◌then◌else◌, List, [], ◌∷◌, ◌++◌, length, replicate, codes, Option, Some, None, is_some, Vec}
 use Rattle.std.specs.Global.{Global}
 use Rattle.std.specs.List.{flat_map}
 use Rattle.std.proofs.Common.{get_or}
@@ -13,11 +13,9 @@ use Rattle.lock_plan.specs.declared.program.Place.{Place}
 use Rattle.lock_plan.specs.declared.program.Signal.{Signal}
 use Rattle.lock_plan.specs.declared.program.Signal.TheVariants.{Sleep, Join, Assert}
 use Rattle.lock_plan.specs.declared.program.Step.{Step}
-use Rattle.lock_plan.specs.declared.turn.Turn.{Turn}
-use Rattle.lock_plan.specs.declared.turn.Turn.TheVariants.{Goes, Announces, Waits, Refused}
 use Rattle.lock_plan.specs.Signals.{idles}
-use Rattle.lock_plan.specs.Worlds.{Stand, no_stand, turn_of, first_world}
-use Rattle.lock_plan.specs.Stops.{world_of}
+use Rattle.lock_plan.specs.Worlds.{Stand, no_stand, first_world}
+use Rattle.lock_plan.specs.Stops.{world_of, stopped_at}
 use Rattle.lock_plan_text.specs.declared.printer.cell.Row.{Row}
 use Rattle.lock_plan_text.specs.declared.printer.cell.Row.TheVariants.{Parties, After, Stop}
 use Rattle.lock_plan_text.specs.declared.printer.mark.Marked.{Marked}
@@ -68,14 +66,6 @@ step_cell locks names w mover party =
     ++ (held_text names (idles (act_at w party)) (locks_held (get_or w party no_stand).holds (length locks))
     ++ sleep_text names (sleep_of w party))
 
--- whether a party with this turn waits or is refused
-abbrev pub is_stop_turn : Option Turn → Bool
-is_stop_turn None = false
-is_stop_turn (Some Goes) = false
-is_stop_turn (Some Announces) = false
-is_stop_turn (Some Waits) = true
-is_stop_turn (Some Refused) = true
-
 -- an arrow to what a party with this act waits for: a lock, a condition variable or a row
 abbrev pub signal_arrow : Names → Signal → List ℕ
 signal_arrow names (Sleep cond) = codes "-> " ++ name_of names.conds cond
@@ -93,7 +83,7 @@ arrow_text names (Some (act.Signal signal)) = signal_arrow names signal
 -- a cell of the last row
 abbrev pub stop_cell : List PlanLock → Names → List Stand → ℕ → List ℕ
 stop_cell locks names w party =
-    if is_stop_turn (turn_of locks w party) then arrow_text names (act_at w party) else codes "."
+    if is_some (stopped_at locks w party) then arrow_text names (act_at w party) else codes "."
 
 abbrev pub cell_of : Plan → Names → Row → ℕ → List ℕ
 cell_of plan names Parties = name_of names.parties

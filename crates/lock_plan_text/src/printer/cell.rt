@@ -5,12 +5,12 @@ ghost use Rattle.lock_plan.specs.Signals.{idles};
 ghost use Rattle.lock_plan.specs.Worlds.{no_stand};
 ghost use Rattle.lock_plan.specs.Stops.{world_of};
 ghost use Rattle.lock_plan_text.specs.Marks.{locks_held};
-ghost use Rattle.lock_plan_text.specs.Lanes.{held_text, sleep_text, step_cell, is_stop_turn, signal_arrow, arrow_text, stop_cell, cell_of};
+ghost use Rattle.lock_plan_text.specs.Lanes.{held_text, sleep_text, step_cell, signal_arrow, arrow_text, stop_cell, cell_of};
 
 use crate::names::{Names, write_name, write_row_name};
 use crate::printer::mark::{Marked, Style, add_marks, write_marks};
-use crate::printer::stand::{act_at, hold_at, sleep_of, turn_at};
-use lock_plan::{Act, Plan, Signal, Turn};
+use crate::printer::stand::{act_at, hold_at, is_stopped, sleep_of};
+use lock_plan::{Act, Plan, Signal};
 use std::alloc::{AllocError, Global};
 
 /// A row of a drawing.
@@ -127,7 +127,7 @@ fn write_stop_cell(
     ensures { OnOk result (string_bytes text.new ≡ string_bytes text.old
         ++ stop_cell plan.now.locks.items names.now (world_of plan.now node) party) }
 {
-    if is_stop_turn(turn_at(alloc, plan, node, party)?) {
+    if is_stopped(alloc, plan, node, party)? {
         write_arrow(text, names, act_at(plan, node, party))
     } else {
         text.push('.')
@@ -163,11 +163,4 @@ fn write_signal_arrow(text: &mut String, names: &Names, signal: Signal) -> Resul
         }
         _ => text.push('.'),
     }
-}
-
-/// Returns whether a party with this turn waits or is refused.
-fn is_stop_turn(turn: Option<Turn>) -> bool
-    ensures { result ≡ is_stop_turn turn }
-{
-    matches!(turn, Some(Turn::Waits | Turn::Refused))
 }

@@ -21,8 +21,8 @@ use waits::{draw_waits, write_stopped};
 ///
 /// It shows what [`write_answer`](crate::write_answer) says. A dot marks each step, a bar each hold from the step that
 /// acquires it, in a color of its mode. Below the last step, an arrow leads from each party that waits to each holder of
-/// the lock, or to the party that it joins. The arrows of a circle of waiting parties are heavier. A flag has no column.
-/// Names are expected to have no character that SVG reserves; those of [`parse_plan`](crate::parse_plan) have none. No
+/// the lock, to the party that it is behind, or to the party that it joins. The arrows of a circle of waiting parties are
+/// heavier. A flag has no column. Names are expected to have no character that SVG reserves; those of [`parse_plan`](crate::parse_plan) have none. No
 /// contract names the bytes.
 pub fn draw_picture(
     alloc: Global,

@@ -1,9 +1,9 @@
 //! What a row does and holds at a node. A row past the last has ended and holds nothing.
-ghost use Rattle.std.specs.Prelude.{◌≡◌, IfOk};
+ghost use Rattle.std.specs.Prelude.{◌≡◌, is_some, IfOk};
 ghost use Rattle.std.proofs.Common.{get_or};
 ghost use Rattle.lock_base.specs.Holds.{no_hold};
 ghost use Rattle.lock_plan.specs.Worlds.{no_stand, turn_of};
-ghost use Rattle.lock_plan.specs.Stops.{world_of};
+ghost use Rattle.lock_plan.specs.Stops.{world_of, stopped_at};
 ghost use Rattle.lock_plan_text.specs.Signals.{act_at, cond_of, sleep_of};
 
 use lock_base::machine::Hold;
@@ -33,6 +33,22 @@ pub(crate) fn turn_at(
         return Ok(None);
     }
     plan.turn(alloc, node, row)
+}
+
+/// Returns whether the next act of a row waits, is refused, or is behind another party.
+pub(crate) fn is_stopped(
+    alloc: Global,
+    plan: &Plan,
+    node: usize,
+    row: usize,
+) -> Result<bool, AllocError>
+    ensures { IfOk result (λ stopped. stopped ≡ is_some (stopped_at plan.now.locks.items (world_of plan.now node) row)) }
+{
+    if row >= plan.parties() {
+        return Ok(false);
+    }
+    let stopped = plan.stopped_at(alloc, node, row)?;
+    Ok(stopped.is_some())
 }
 
 /// Returns what a row holds of a lock.

@@ -2,6 +2,7 @@
 use crate::names::Names;
 use crate::printer::picture::Run;
 use crate::printer::picture::svg::Spot;
+use crate::printer::picture::waits::write_reason;
 use crate::printer::stand::act_at;
 use crate::printer::step::write_made;
 use crate::printer::stop::write_awaited;
@@ -64,6 +65,11 @@ impl Layout {
                 write_awaited(&mut text, plan, names, act)?;
                 letters = letters.max(text.len());
             }
+        }
+        for stopped in &plan.stopped(run.alloc, run.last)? {
+            let mut text = String::new(run.alloc);
+            write_reason(&mut text, plan, names, stopped)?;
+            letters = letters.max(text.len());
         }
         Ok(Layout {
             parties: names.parties.len(),

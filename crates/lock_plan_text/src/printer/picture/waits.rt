@@ -1,5 +1,5 @@
 //! What stopped parties wait for, and an arrow from each to the parties that it waits for.
-use crate::names::Names;
+use crate::names::{Names, write_name};
 use crate::printer::picture::Run;
 use crate::printer::picture::layout::Layout;
 use crate::printer::picture::svg::{Spot, Svg};
@@ -30,11 +30,26 @@ pub(crate) fn write_stopped(
         ..spot
     };
     svg.open_text("call", below)?;
-    write_awaited(svg.inner(), plan, names, stopped.act)?;
+    write_reason(svg.inner(), plan, names, stopped)?;
     svg.close_text()
 }
 
-/// A party that waits, and one that it waits for: a holder of this lock, or the party that it joins.
+/// Appends what a stopped party waits for, and behind whom.
+pub(crate) fn write_reason(
+    text: &mut String,
+    plan: &Plan,
+    names: &Names,
+    stopped: &Stopped,
+) -> Result<(), AllocError> {
+    write_awaited(text, plan, names, stopped.act)?;
+    if let Some(first) = stopped.behind {
+        text.push_str(" behind ")?;
+        write_name(text, names.parties.as_slice(), first)?;
+    }
+    Ok(())
+}
+
+/// A party that waits, and one that it waits for: a holder of this lock, the party that it joins, or the one that it is behind.
 #[derive(Clone, Copy)]
 struct Edge {
     waiter: usize,
@@ -83,6 +98,14 @@ fn edges_of(
 ) -> Result<Vec<Edge>, AllocError> {
     let mut edges = Vec::new(alloc);
     for stopped in list {
+        if let Some(first) = stopped.behind {
+            edges.push(Edge {
+                waiter: stopped.party,
+                awaited: first,
+                lock: None,
+            })?;
+            continue;
+        }
         match stopped.act {
             Act::Call(call) => {
                 add_holders(alloc, &mut edges, plan, node, stopped.party, call.lock)?
