@@ -21,7 +21,7 @@ use Rattle.lock_plan.specs.declared.turn.Turn.{Turn}
 use Rattle.lock_plan.specs.declared.turn.Turn.TheVariants.{Goes, Announces, Waits, Refused}
 use Rattle.lock_plan.specs.Holds.{announces_itself, admits_step, lines_up, turn_on}
 use Rattle.lock_plan.specs.Worlds.{Stand, no_stand, no_lock, lock_holds, act_of, acts_of, reply_at, turn_by, turn_of, line_of, waits_for, has_waiter, on_lock, goes_on, on_from, world_step, world_after, first_world, is_server, is_due, is_step_turn, is_stuck, some_below}
-use Rattle.lock_plan_laws.specs.Lines.{LinedWorld, here, is_listed, without, before, is_claim, is_change, claims, changes, is_waits, names_fair, is_behind, is_behind_some, goes_in_line, joins, joined, stepped, lined_by, lined_on, lined_after, IsStuckInLine, first_lined, LinesStopAsWorlds}
+use Rattle.lock_plan_laws.specs.Lines.{LinedWorld, here, is_listed, without, before, is_claim, is_change, claims, changes, is_waits, names_fair, on_call, is_behind, is_behind_some, goes_in_line, joins, joined, stepped, lined_by, lined_on, lined_after, IsStuckInLine, first_lined, LinesStopAsWorlds}
 use Rattle.lock_plan_laws.proofs.SceneStops.{some_at, some_found}
 use Rattle.lock_plan_laws.proofs.NoStop.{none_below, below_none, not_false}
 
@@ -166,6 +166,43 @@ lined_fair lock (Modes (Release mode)) e = cc
 lined_fair lock Announce e = cc
 lined_fair lock Withdraw e = cc
 
+-- the call of an act of which this is so
+call_of : (f : PlanCall → Bool) (o : Option Act) → on_call f o ≡ true → (call : PlanCall) × (o ≡ Some (Call call)) × (f call ≡ true)
+call_of f None e = cc
+call_of f (Some (Call call)) e = (call, refl, e)
+call_of f (Some (Try call)) e = cc
+call_of f (Some (Choose block)) e = cc
+call_of f (Some (Signal signal)) e = cc
+
+wait_of : (lock : ℕ) (o : Option Act) (t : Option Turn) → waits_for lock o t ≡ true
+    → (call : PlanCall) × (o ≡ Some (Call call)) × (t ≡ Some Waits) × ((call.lock == lock) ≡ true)
+wait_of lock (Some (Call call)) (Some Waits) e = (call, refl, refl, e)
+wait_of lock o t e = absurd (false≢true e)
+
+line_call : (locks : List PlanLock) (lock : ℕ) (o : Option Act) → line_of locks o ≡ Some lock
+    → (call : PlanCall) × (o ≡ Some (Call call)) × (lines_up (get_or locks call.lock no_lock) call.step ≡ true) × (call.lock ≡ lock)
+line_call locks lock (Some (Call call)) e = by_line (lines_up (get_or locks call.lock no_lock) call.step) refl e
+  where
+    by_line : (b : Bool) → lines_up (get_or locks call.lock no_lock) call.step ≡ b → (if b then Some call.lock else None) ≡ Some lock
+        → (other : PlanCall) × (Some (Call call) ≡ Some (Call other)) × (lines_up (get_or locks other.lock no_lock) other.step ≡ true)
+        × (other.lock ≡ lock)
+    by_line true up e = (call, refl, up, same_Some call.lock lock e)
+    by_line false up e = cc
+line_call locks lock None e = cc
+line_call locks lock (Some (Try call)) e = cc
+line_call locks lock (Some (Choose block)) e = cc
+line_call locks lock (Some (Signal signal)) e = cc
+
+-- an act claims one lock
+one_claim : (a b : ℕ) (o : Option Act) → claims a o ≡ true → claims b o ≡ true → a ≡ b
+one_claim a b (Some (Call call)) one other =
+    sym (eqb-true call.lock a (and_parts (call.lock == a) (is_claim call.step) one).0)
+    ∙ eqb-true call.lock b (and_parts (call.lock == b) (is_claim call.step) other).0
+one_claim a b None one other = cc
+one_claim a b (Some (Try call)) one other = cc
+one_claim a b (Some (Choose block)) one other = cc
+one_claim a b (Some (Signal signal)) one other = cc
+
 module _ (locks : List PlanLock) (w : List Stand) where
   abbrev act : ℕ → Option Act
   act q = act_of (get_or w q no_stand)
@@ -186,110 +223,61 @@ module _ (locks : List PlanLock) (w : List Stand) where
   -- a party whose claim has no step waits for the lock
   claimed : (q lock : ℕ) → claims lock (act q) ≡ true → is_step_turn (turn_of locks w q) ≡ false
       → waits_for lock (act q) (turn_of locks w q) ≡ true
-  claimed q lock claim idle = by_act (act q) refl claim
-    where
-      by_act : (o : Option Act) → act q ≡ o → claims lock o ≡ true → waits_for lock (act q) (turn_of locks w q) ≡ true
-      by_act (Some (Call call)) e claim =
-          let both = and_parts (call.lock == lock) (is_claim call.step) claim in
-          let turn = turn_at q (Some (Call call)) e in
-          let waits = claim_waits (get_or locks call.lock no_lock) hss q call.lock call.step both.1 (ap is_step_turn (sym turn) ∙ idle) in
-          ap (λ (o : Option Act). waits_for lock o (turn_of locks w q)) e
-          ∙ ap (waits_for lock (Some (Call call))) (turn ∙ ap (λ (t : Turn). Some t) waits)
-          ∙ both.0
-      by_act None e claim = cc
-      by_act (Some (Try call)) e claim = cc
-      by_act (Some (Choose block)) e claim = cc
-      by_act (Some (Signal signal)) e claim = cc
+  claimed q lock claim idle =
+      let c = call_of (λ call. (call.lock == lock) && is_claim call.step) (act q) claim in
+      let both = and_parts (c.0.lock == lock) (is_claim c.0.step) c.2 in
+      let turn = turn_at q (Some (Call c.0)) c.1 in
+      let waits = claim_waits (get_or locks c.0.lock no_lock) hss q c.0.lock c.0.step both.1 (ap is_step_turn (sym turn) ∙ idle) in
+      ap (λ (o : Option Act). waits_for lock o (turn_of locks w q)) c.1
+      ∙ ap (waits_for lock (Some (Call c.0))) (turn ∙ ap (λ (t : Turn). Some t) waits)
+      ∙ both.0
 
   -- a party that waits for a lock claims it
   waiting_claims : (q lock : ℕ) → waits_for lock (act q) (turn_of locks w q) ≡ true
       → (claims lock (act q) ≡ true) × (is_waits (turn_of locks w q) ≡ true)
-  waiting_claims q lock waits = by_act (act q) refl waits
-    where
-      by_turn : (call : PlanCall) (t : Turn) → act q ≡ Some (Call call) → turn_of locks w q ≡ Some t
-          → turn_on (get_or locks call.lock no_lock) (lock_holds hss q call.lock) call.step ≡ t → waits_for lock (Some (Call call)) (Some t) ≡ true
-          → (claims lock (act q) ≡ true) × (is_waits (turn_of locks w q) ≡ true)
-      by_turn call Waits e is on same = (
-        ap (claims lock) e ∙ ap (λ (b : Bool). b && is_claim call.step) same ∙ waits_claims (get_or locks call.lock no_lock) hss q call.lock call.step on,
-        ap is_waits is,
+  waiting_claims q lock waits =
+      let c = wait_of lock (act q) (turn_of locks w q) waits in
+      let turn = same_Some _ _ (sym (turn_at q (Some (Call c.0)) c.1) ∙ c.2) in (
+        ap (claims lock) c.1
+            ∙ ap (λ (b : Bool). b && is_claim c.0.step) c.3
+            ∙ waits_claims (get_or locks c.0.lock no_lock) hss q c.0.lock c.0.step turn,
+        ap is_waits c.2,
       )
-      by_turn call Goes e is on same = cc
-      by_turn call Announces e is on same = cc
-      by_turn call Refused e is on same = cc
-
-      by_act : (o : Option Act) → act q ≡ o → waits_for lock o (turn_of locks w q) ≡ true
-          → (claims lock (act q) ≡ true) × (is_waits (turn_of locks w q) ≡ true)
-      by_act (Some (Call call)) e waits =
-          let turn = turn_at q (Some (Call call)) e in
-          by_turn call _ e turn refl (ap (waits_for lock (Some (Call call))) (sym turn) ∙ waits)
-      by_act None e waits = cc
-      by_act (Some (Try call)) e waits = cc
-      by_act (Some (Choose block)) e waits = cc
-      by_act (Some (Signal signal)) e waits = cc
 
   -- what a party that lines up at a lock does there
   record LinesUp (p lock : ℕ) : Type 0 where
     claims_it : claims lock (act p) ≡ true
-    changes_none : (other : ℕ) → changes other (act p) ≡ false
     fair : (get_or locks lock no_lock).fair ≡ true
     names : names_fair locks (act p) ≡ true
 
   lined_at : (p lock : ℕ) → line_of locks (act p) ≡ Some lock → LinesUp p lock
-  lined_at p lock e = by_act (act p) refl e
-    where
-      by_line : (call : PlanCall) (b : Bool) → act p ≡ Some (Call call) → lines_up (get_or locks call.lock no_lock) call.step ≡ b
-          → (if b then Some call.lock else None) ≡ Some lock → LinesUp p lock
-      by_line call true e up is =
-          let same : call.lock ≡ lock = same_Some call.lock lock is in
-          let two = lined_fair (get_or locks call.lock no_lock) call.step up in
-          record {
-            claims_it = ap (claims lock) e ∙ ap (λ (b : Bool). b && is_claim call.step) (eq-eqb call.lock lock same) ∙ two.1;
-            changes_none = λ other.
-                ap (changes other) e
-                ∙ and_false (call.lock == other) (is_change call.step)
-                (λ so. by_bool (is_change call.step)
-                (λ change. absurd (false≢true (sym (change_no_line (get_or locks call.lock no_lock) call.step change) ∙ up))) (λ un. un));
-            fair = ap (λ (l : ℕ). (get_or locks l no_lock).fair) (sym same) ∙ two.0;
-            names = ap (names_fair locks) e ∙ two.0;
-          }
-      by_line call false e up is = cc
-
-      by_act : (o : Option Act) → act p ≡ o → line_of locks o ≡ Some lock → LinesUp p lock
-      by_act (Some (Call call)) e is = by_line call (lines_up (get_or locks call.lock no_lock) call.step) e refl is
-      by_act None e is = cc
-      by_act (Some (Try call)) e is = cc
-      by_act (Some (Choose block)) e is = cc
-      by_act (Some (Signal signal)) e is = cc
+  lined_at p lock e =
+      let c = line_call locks lock (act p) e in
+      let two = lined_fair (get_or locks c.0.lock no_lock) c.0.step c.2 in
+      record {
+        claims_it = ap (claims lock) c.1 ∙ ap (λ (b : Bool). b && is_claim c.0.step) (eq-eqb c.0.lock lock c.3) ∙ two.1;
+        fair = ap (λ (l : ℕ). (get_or locks l no_lock).fair) (sym c.3) ∙ two.0;
+        names = ap (names_fair locks) c.1 ∙ two.0;
+      }
 
   -- a claim of a fair lock is a call on a fair lock; one that changes lines up nowhere
   claim_fair : (q lock : ℕ) → claims lock (act q) ≡ true → (get_or locks lock no_lock).fair ≡ true → names_fair locks (act q) ≡ true
-  claim_fair q lock claim fair = by_act (act q) refl claim
-    where
-      by_act : (o : Option Act) → act q ≡ o → claims lock o ≡ true → names_fair locks (act q) ≡ true
-      by_act (Some (Call call)) e claim =
-          let both = and_parts (call.lock == lock) (is_claim call.step) claim in
-          ap (names_fair locks) e ∙ ap (λ (l : ℕ). (get_or locks l no_lock).fair) (eqb-true call.lock lock both.0) ∙ fair
-      by_act None e claim = cc
-      by_act (Some (Try call)) e claim = cc
-      by_act (Some (Choose block)) e claim = cc
-      by_act (Some (Signal signal)) e claim = cc
+  claim_fair q lock claim fair =
+      let c = call_of (λ call. (call.lock == lock) && is_claim call.step) (act q) claim in
+      ap (names_fair locks) c.1
+      ∙ ap (λ (l : ℕ). (get_or locks l no_lock).fair) (eqb-true c.0.lock lock (and_parts (c.0.lock == lock) (is_claim c.0.step) c.2).0)
+      ∙ fair
 
   change_at : (q lock : ℕ) → changes lock (act q) ≡ true → (claims lock (act q) ≡ true) × (line_of locks (act q) ≡ None)
-  change_at q lock change = by_act (act q) refl change
-    where
-      by_act : (o : Option Act) → act q ≡ o → changes lock o ≡ true → (claims lock (act q) ≡ true) × (line_of locks (act q) ≡ None)
-      by_act (Some (Call call)) e change =
-          let both = and_parts (call.lock == lock) (is_change call.step) change in (
-            ap (claims lock) e ∙ ap (λ (b : Bool). b && is_claim call.step) both.0 ∙ change_claims call.step both.1,
-            ap (line_of locks) e
-                ∙ ap (λ (b : Bool). if b then Some call.lock else None) (change_no_line (get_or locks call.lock no_lock) call.step both.1),
-          )
-      by_act None e change = cc
-      by_act (Some (Try call)) e change = cc
-      by_act (Some (Choose block)) e change = cc
-      by_act (Some (Signal signal)) e change = cc
+  change_at q lock change =
+      let c = call_of (λ call. (call.lock == lock) && is_change call.step) (act q) change in
+      let both = and_parts (c.0.lock == lock) (is_change c.0.step) c.2 in (
+        ap (claims lock) c.1 ∙ ap (λ (b : Bool). b && is_claim c.0.step) both.0 ∙ change_claims c.0.step both.1,
+        ap (line_of locks) c.1
+            ∙ ap (λ (b : Bool). if b then Some c.0.lock else None) (change_no_line (get_or locks c.0.lock no_lock) c.0.step both.1),
+      )
 
-  -- the lock at whose line a party is held up
+  -- the lock at whose line a party is behind another one
   line_found : (f : ℕ → Bool) (o : Option ℕ) → on_lock f o ≡ true → (lock : ℕ) × (o ≡ Some lock) × (f lock ≡ true)
   line_found f None e = cc
   line_found f (Some lock) e = (lock, refl, e)
@@ -326,25 +314,13 @@ module _ (locks : List PlanLock) (servers : List Bool) (s : LinedWorld) (stuck :
       let held : is_behind_some locks s h ≡ true =
       not_false (is_behind_some locks s h) (ap (λ (b : Bool). b && not (is_behind_some locks s h)) (sym steps) ∙ idle h lock claim) in
       let line = line_found locks w (is_behind locks s h) (line_of locks (here s h)) held in
-      let same : line.0 ≡ lock = one_claim h line.0 lock (lined_at locks w h line.0 line.1).claims_it claim in
+      let same : line.0 ≡ lock = one_claim line.0 lock (here s h) (lined_at locks w h line.0 line.1).claims_it claim in
       let behind : is_behind locks s h lock ≡ true = ap (is_behind locks s h) (sym same) ∙ line.2 in
       let change : list_any (λ q. changes lock (here s q)) s.waiting ≡ true =
       ap (λ (b : Bool). b || list_any (λ q. changes lock (here s q)) s.waiting) (sym none) ∙ behind in
       let u = first_in (λ q. changes lock (here s q)) s.waiting change in
       changer u.0 lock u.1)
       (waits_there locks w h lock claim)
-    where
-      one_claim : (q a b : ℕ) → claims a (here s q) ≡ true → claims b (here s q) ≡ true → a ≡ b
-      one_claim q a b one other = by_act (here s q) one other
-        where
-          by_act : (o : Option Act) → claims a o ≡ true → claims b o ≡ true → a ≡ b
-          by_act (Some (Call call)) one other =
-              sym (eqb-true call.lock a (and_parts (call.lock == a) (is_claim call.step) one).0)
-              ∙ eqb-true call.lock b (and_parts (call.lock == b) (is_claim call.step) other).0
-          by_act None one other = cc
-          by_act (Some (Try call)) one other = cc
-          by_act (Some (Choose block)) one other = cc
-          by_act (Some (Signal signal)) one other = cc
 
   ahead : (p lock : ℕ) → is_behind locks s p lock ≡ true → has_waiter locks w lock ≡ true
   ahead p lock behind =

@@ -5,6 +5,7 @@ use Rattle.std.proofs.Common.{get_or, inl, inr}
 use Rattle.lock_base.specs.declared.machine.mode_step.ModeStep.TheVariants.{Acquire, Change}
 use Rattle.lock_base.specs.declared.machine.lock_step.LockStep.{LockStep}
 use Rattle.lock_base.specs.declared.machine.lock_step.LockStep.TheVariants.{Modes}
+use Rattle.lock_plan.specs.declared.call.PlanCall.{PlanCall}
 use Rattle.lock_plan.specs.declared.lock.PlanLock.{PlanLock}
 use Rattle.lock_plan.specs.declared.program.Act.{Act}
 use Rattle.lock_plan.specs.declared.program.Act.TheVariants.{Call}
@@ -44,14 +45,16 @@ abbrev pub is_change : LockStep → Bool
 is_change (Modes (Change from to)) = true
 is_change other = false
 
+abbrev pub on_call : (PlanCall → Bool) → Option Act → Bool
+on_call f (Some (Call call)) = f call
+on_call f other = false
+
 -- whether an act claims this lock, and whether it does so by a change of what its party holds
 abbrev pub claims : ℕ → Option Act → Bool
-claims lock (Some (Call call)) = (call.lock == lock) && is_claim call.step
-claims lock other = false
+claims lock act = on_call (λ call. (call.lock == lock) && is_claim call.step) act
 
 abbrev pub changes : ℕ → Option Act → Bool
-changes lock (Some (Call call)) = (call.lock == lock) && is_change call.step
-changes lock other = false
+changes lock act = on_call (λ call. (call.lock == lock) && is_change call.step) act
 
 abbrev pub is_waits : Option Turn → Bool
 is_waits (Some Waits) = true
@@ -59,8 +62,7 @@ is_waits other = false
 
 -- whether an act is a call on a fair lock
 abbrev pub names_fair : List PlanLock → Option Act → Bool
-names_fair locks (Some (Call call)) = (get_or locks call.lock no_lock).fair
-names_fair locks other = false
+names_fair locks act = on_call (λ call. (get_or locks call.lock no_lock).fair) act
 
 module _ (locks : List PlanLock) where
   -- whether a party is behind another one at a lock: one that came before, or an upgrade that waits
