@@ -35,7 +35,6 @@ LOOPS = {"repeat", "until", "forever"}
 TURNS = {("else", "try"): "else", ("else", "if"): "else", ("else", "timed sleep"): "else", ("or", "either"): "or", ("or", "or"): "or"}
 ENDS = {*LOOPS, "else", "or"}
 PARTS = {"else", "or", "end"}
-JUMPS = {"leave", "return"}
 SLEEPS = {"sleep", "timed sleep"}
 DECLARED = {"mutex", "rwlock", "reentrant", "flag", "condvar"}
 WORD = re.compile(r"[^ \t\r]+")
@@ -56,13 +55,10 @@ class Fault(Exception):
 
 
 class Lock(NamedTuple):
-    """A lock, and the number of its line."""
-
     kind: str
     limit: int
     has_bar: bool
     is_fair: bool
-    number: int
 
 
 class Call(NamedTuple):
@@ -248,7 +244,7 @@ def read_line(plan, number, words):
     lines = lines_of(plan, number, words)
     if lines:
         return plan.parties != [] and all(add_line(plan, it) for it in lines)
-    return not plan.open and len(words) > 1 and NAME.fullmatch(words[1]) is not None and read_names(plan, number, *words)
+    return not plan.open and len(words) > 1 and NAME.fullmatch(words[1]) is not None and read_names(plan, *words)
 
 
 def lines_of(plan, number, words):
@@ -320,7 +316,7 @@ def add_line(plan, line):
     return len(plan.open) <= MOST_OPEN
 
 
-def read_names(plan, number, word, name, *rest):
+def read_names(plan, word, name, *rest):
     """Adds the lock, flag, condition variable or parties of a line with this word and this name, and returns whether it is right."""
     if word in ("party", "server"):
         return read_parties(plan, word == "server", name, rest)
@@ -332,7 +328,7 @@ def read_names(plan, number, word, name, *rest):
     last = rest[word != "mutex" :]
     has_bar, is_fair = word == "rwlock" and last == ("bar",), word != "reentrant" and last == ("fair",)
     is_right = word in ("mutex", "rwlock", "reentrant") and limit and len(last) == has_bar + is_fair and name not in plan.locks
-    plan.locks[name] = Lock(word, limit, has_bar, is_fair, number)
+    plan.locks[name] = Lock(word, limit, has_bar, is_fair)
     return is_right
 
 
@@ -407,7 +403,7 @@ def find_holds(plan, party):
 def call_fault(plan, holds, line):
     """Why a party that holds this can never make the call of the line, or None."""
     word, lock = line.call
-    kind, limit, _, is_fair, _ = plan.locks[lock]
+    kind, limit, _, is_fair = plan.locks[lock]
     if (word in ("lock", "unlock")) != (kind != "rwlock") or line.word == "wait" and kind != "mutex":
         return "wrong kind of lock"
     if line.word == "try" and word in ACQUISITIONS and is_fair:
