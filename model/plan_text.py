@@ -205,9 +205,9 @@ def turns(lines):
         if count < 2:
             found.append(line)
             continue
+        if length_of(found[at + 1 :]) * count > LONGEST_INPUT:
+            raise Fault("input too long")
         found[at:] = found[at + 1 :] * count
-        if length_of(found) > LONGEST_INPUT:
-            break
     return found
 
 
