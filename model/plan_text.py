@@ -85,24 +85,25 @@ class Line(NamedTuple):
 
 
 class Place(NamedTuple):
-    """A place of a program: its line, the place after it, and the one after a refused try or a timeout, or where a block is passed.
+    """A place of a program: its line, the place after it, and the one after a refused try or a timeout, or where a part is passed.
 
-    A block `if` is passed where its flag is false.
+    The first part of an `if` is passed where its flag is false.
     """
 
     line: Line
     next: int
-    other: int
+    other: int | None
 
 
 class Party(NamedTuple):
-    """A party with the number of the first party that its line makes, its lines, and its program."""
+    """A party: the number of the first party that its line makes, its lines, its program, and what it holds at each place and the end."""
 
     name: str
     first: int
     lines: list
     is_server: bool
     program: list
+    holds: dict
 
 
 class Plan(NamedTuple):
@@ -159,7 +160,7 @@ def read_plan(text):
     for party in plan.parties:
         party.program.extend(places(party.lines))
     for party in plan.parties:
-        holds_by_place(plan, party)
+        find_holds(plan, party)
     return plan
 
 
@@ -345,122 +346,89 @@ def read_parties(plan, is_server, name, rest):
     names = [f"{name}.*"] if rest == ("*",) else names
     if len(rest) > 1 or not names or any(it.name in names for it in plan.parties):
         return False
-    plan.called[:] = [Party(it, len(plan.parties), [], is_server, []) for it in names]
+    plan.called[:] = [Party(it, len(plan.parties), [], is_server, [], {}) for it in names]
     plan.parties.extend(plan.called)
     return True
 
 
 def places(lines):
-    """The program of these lines. Each line is a place, but for jumps, `else`, `end`, and an `or` that ends the last choice of its branch."""
-    steps = [it for it in range(len(lines)) if is_step(lines, it)]
-    number = {it: at for at, it in enumerate(steps)} | {len(lines): len(steps)}
-    program = []
-    for it in steps:
-        after, other = number[land(lines, it + 1)], len(steps)
-        if has_two_ways(lines[it]):
-            last = boundary(lines, it)
-            to_or = lines[last].word == "or" and is_step(lines, last)
-            other = number[last if to_or else land(lines, last + 1)]
-        program.append(Place(lines[it], after, other))
-    return program
+    """The program of these lines. Each line is a place, but for jumps, `else`, `end`, and an `or` before the last part of its branch.
+
+    From the last line to the first, `after` is the line of the next step. Each open block has its begin, the next step after it, and
+    the step at which a part is passed, None below the last part.
+    """
+    opened, begins = [], {}
+    for at, line in enumerate(lines):
+        if line.word in BEGINS:
+            opened.append(at)
+        elif line.word == "end":
+            begins[at] = opened.pop()
+    ways, blocks, after = {}, [], len(lines)
+    for at, word in reversed([(at, line.word) for at, line in enumerate(lines)]):
+        begin, leave, past = blocks[-1] if blocks else (None, None, None)
+        if word == "end":
+            blocks.append((begins[at], after, None))
+            after = begins[at] if lines[begins[at]].word in LOOPS else after
+        elif word == "leave":
+            after = next(end for start, end, _ in reversed(blocks) if lines[start].word in LOOPS)
+        elif word == "return":
+            after = len(lines)
+        elif word in PARTS:
+            if past is not None:
+                ways[at] = after, past
+            blocks[-1] = begin, leave, after if past is None else at
+            after = leave
+        else:
+            if word in BEGINS:
+                blocks.pop()
+            is_branch = word in BEGINS - {"forever"}
+            ways[at] = after, (leave if past is None else past) if is_branch else None
+            after = at
+    number = {at: it for it, at in enumerate([*sorted(ways), len(lines)])} | {None: None}
+    return [Place(lines[at], number[after], number[other]) for at, (after, other) in sorted(ways.items())]
 
 
-def is_step(lines, it):
-    """Whether a party makes a step at the line: at an `or` it does where another `or` of the block follows."""
-    word = lines[it].word
-    return word not in PARTS | JUMPS or word == "or" and lines[boundary(lines, it)].word == "or"
-
-
-def has_two_ways(line):
-    """Whether a party goes on from the line in one of two ways."""
-    return line.word in BEGINS - {"forever"} or line.word == "or"
-
-
-def boundary(lines, it):
-    """The next line of the block that the line begins or is in the midst of: its `else`, `or` or `end`."""
-    depth = 0
-    for at in range(it + 1, len(lines)):
-        word = lines[at].word
-        if depth == 0 and word in PARTS:
-            return at
-        depth += (word in BEGINS) - (word == "end")
-    raise AssertionError("a block is not ended")
-
-
-def land(lines, at):
-    """The line of the step that comes next where a party comes before a line."""
-    word = lines[at].word if at < len(lines) else "return"
-    if word not in PARTS | JUMPS:
-        return at
-    if word == "return":
-        return len(lines)
-    begin = beginning(lines, at)
-    while word == "leave" and lines[begin].word not in LOOPS:
-        begin = beginning(lines, begin)
-    if word == "end" and lines[begin].word in LOOPS:
-        return begin
-    while lines[at := boundary(lines, begin)].word != "end":
-        begin = at
-    return land(lines, at + 1)
-
-
-def beginning(lines, at):
-    """The line that begins the block which the line ends or lies in."""
-    depth = 0
-    for at in range(at - 1, -1, -1):
-        word = lines[at].word
-        if depth == 0 and word in BEGINS:
-            return at
-        depth += (word == "end") - (word in BEGINS)
-    raise AssertionError("no block is open at the line")
-
-
-def holds_by_place(plan, party):
-    """What the party holds at each place, the end included, where that is a function of the place; else a fault."""
-    known = {0: ()}
-    for at, place in enumerate(party.program):
+def find_holds(plan, party):
+    """Finds what the party holds at each place, where that is a function of the place; else makes a fault."""
+    known = party.holds
+    known[0] = ()
+    for at, (line, after, other) in enumerate(party.program):
         if at not in known:
-            raise Fault(f"line {place.line.number}: never reached")
-        holds, call = known[at], place.line.call
-        why = call_fault(plan, holds, call) if call else None
-        if place.line.word == "wait" and plan.locks[call.lock].kind != "mutex":
-            why = "wrong kind of lock"
-        if place.line.word == "try" and call.word in ACQUISITIONS and plan.locks[call.lock].is_fair and why != "wrong kind of lock":
-            why = "try of a fair lock"
+            raise Fault(f"line {line.number}: never reached")
+        holds = known[at]
+        why = call_fault(plan, holds, line) if line.call else None
         if why is not None:
-            raise Fault(f"line {place.line.number}: {why}")
-        ways = [(place.next, holds_after(holds, call) if call else holds)]
-        if has_two_ways(place.line):
-            ways.append((place.other, holds))
-        for target, brought in ways:
-            if known.setdefault(target, brought) != brought:
-                raise Fault(f"line {place.line.number}: holds differ")
-    return known
+            raise Fault(f"line {line.number}: {why}")
+        for target, brought in [(after, holds_after(holds, line.call) if line.call else holds), (other, holds)]:
+            if target is not None and known.setdefault(target, brought) != brought:
+                raise Fault(f"line {line.number}: holds differ")
 
 
-def call_fault(plan, holds, call):
-    """Why a party that holds this can never make the call, or None."""
-    kind, limit, *_ = plan.locks[call.lock]
-    word, announced = call.word, (call.lock, "announced")
-    if (word in ("lock", "unlock")) != (kind != "rwlock"):
+def call_fault(plan, holds, line):
+    """Why a party that holds this can never make the call of the line, or None."""
+    word, lock = line.call
+    kind, limit, _, is_fair, _ = plan.locks[lock]
+    if (word in ("lock", "unlock")) != (kind != "rwlock") or line.word == "wait" and kind != "mutex":
         return "wrong kind of lock"
-    if word == "withdraw" and announced not in holds:
+    if line.word == "try" and word in ACQUISITIONS and is_fair:
+        return "try of a fair lock"
+    if word == "withdraw" and (lock, "announced") not in holds:
         return "not announced"
-    if word == "announce" and announced in holds:
+    if word == "announce" and (lock, "announced") in holds:
         return "announced already"
     needed = RELEASED.get(word) or CHANGED.get(word, [None])[0]
-    if needed is not None and (call.lock, needed) not in holds:
+    if needed is not None and (lock, needed) not in holds:
         return "not held"
-    if word == "lock" and kind == "reentrant" and holds.count((call.lock, "exclusive")) == limit:
+    if word == "lock" and kind == "reentrant" and holds.count((lock, "exclusive")) == limit:
         return "too many levels"
     return None
 
 
 def points(plan, party):
     """How many states the party may have: before its start, at each place and the end, and announced on the way to a write."""
-    known = holds_by_place(plan, party)
-    announced = [it for it, place in enumerate(party.program) if place.line.word == "call" and announces_itself(plan, known[it], place.line.call)]
-    return plan.is_started(party.name) + len(party.program) + 1 + len(announced)
+    calls = [(party.holds[it], place.line.call) for it, place in enumerate(party.program) if place.line.word == "call"]
+    announced = sum(announces_itself(plan, *it) for it in calls)
+    return plan.is_started(party.name) + len(party.program) + 1 + announced
 
 
 def announces_itself(plan, holds, call):
@@ -471,14 +439,9 @@ def announces_itself(plan, holds, call):
 def holds_after(holds, call):
     """What a party holds after a call that is admitted."""
     held = list(holds)
-    if call.word in RELEASED:
-        held.remove((call.lock, RELEASED[call.word]))
-    elif call.word in CHANGED:
-        before, after = CHANGED[call.word]
+    before, after = CHANGED.get(call.word, (RELEASED.get(call.word), ACQUIRED.get(call.word)))
+    if before is not None:
         held.remove((call.lock, before))
-        held.append((call.lock, after))
-    else:
-        held.append((call.lock, ACQUIRED[call.word]))
-        if call.word == "write" and (call.lock, "announced") in held:
-            held.remove((call.lock, "announced"))
-    return tuple(sorted(held))
+    elif call.word == "write" and (call.lock, "announced") in held:
+        held.remove((call.lock, "announced"))
+    return tuple(sorted(held + [(call.lock, after)] * (after is not None)))

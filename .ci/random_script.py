@@ -1,12 +1,5 @@
-#!/usr/bin/env python3
-"""Prints a random script for a shared lock. The same words give the same script.
-
-usage:  .ci/random-script mutex|rwlock|reentrant SEED LINES
-
-The first line draws the limits too. The lock admits most calls, or refuses a try; few lines are refused.
-"""
+"""Random scripts for shared locks. The lock admits most calls, or refuses a try; few lines are refused."""
 import random
-import sys
 
 FORMS = ["{}", "try_{}", "try_{}_for", "try_{}_until"]
 RELEASES = ["unlock", "unlock", "unlock_fair", "into_arc", "into_arc_fair"]
@@ -130,10 +123,9 @@ class Script:
             self.acquire()
 
 
-if __name__ == "__main__":
-    if len(sys.argv) != 4 or sys.argv[1] not in CALLS or not sys.argv[3].isdecimal():
-        sys.exit(__doc__)
-    script = Script(sys.argv[1], sys.argv[2])
-    while len(script.lines) < int(sys.argv[3]):
+def random_script(kind, seed, lines):
+    """A script of so many lines for a lock of this kind. The same words give the same script."""
+    script = Script(kind, seed)
+    while len(script.lines) < lines:
         script.add_line()
-    print(*script.lines, sep="\n")
+    return "".join(f"{it}\n" for it in script.lines)
