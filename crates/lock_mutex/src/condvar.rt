@@ -107,7 +107,7 @@ where
     {
         let sleep = UntilInstant {
             raw: &self.raw,
-            deadline,
+            deadline: &deadline,
         };
         let timed_out = sleep.sleep(&mut guard.held);
         WaitTimeoutResult { timed_out }
@@ -148,7 +148,7 @@ where
     {
         let sleep = UntilInstant {
             raw: &self.raw,
-            deadline,
+            deadline: &deadline,
         };
         let waiter = guard.held.lock.mutex.raw.waiter();
         let timed_out = sleep_while(waiter, &mut guard.held, sleep, condition);
