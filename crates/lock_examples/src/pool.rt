@@ -34,13 +34,8 @@ impl<R: RawMutex + Drop, T: Drop> Pool<R, T> {
         ensures kept { OnErr result (objects_of self.new ≡ objects_of self.old) }
     {
         let mutex = Mutex::new(alloc, waiter, object)?;
-        let Ok(shared) = Arc::new(alloc, mutex) else {
-            return Err(Fault::OutOfMemory);
-        };
-        let Ok(()) = self.objects.push(shared) else {
-            return Err(Fault::OutOfMemory);
-        };
-        Ok(())
+        let shared = Arc::new(alloc, mutex)?;
+        Ok(self.objects.push(shared)?)
     }
 
     /// Leases the first object that is free, or returns `None` if all are leased.

@@ -1,5 +1,9 @@
 ghost use Rattle.std.specs.Prelude.{◌≡◌, true, false, IsOkUnless};
 ghost use Rattle.std.specs.Sync.Mutex.{mutex_guard_value};
+ghost use Rattle.lock_guard.specs.Held.{held_value};
+ghost use Rattle.lock_guard.specs.Waits.{WaitedFor};
+ghost use Rattle.lock_mutex.specs.Condvar.{raw_condvar_of, HasWaited};
+ghost use Rattle.lock_mutex.specs.MutexGuard.{held_of};
 ghost use Rattle.lock_mutex.specs.WaitsWhile.{WaitsWhile, has_timed_out};
 
 use crate::sleep::{Sleep, UntilInstant, UntilNotified};
@@ -19,10 +23,6 @@ pub struct Condvar<C> {
 }
 
 impl<C: RawCondvar> Condvar<C> {
-    ghost use Rattle.lock_guard.specs.Held.{held_value};
-    ghost use Rattle.lock_mutex.specs.Condvar.{raw_condvar_of, HasWaited};
-    ghost use Rattle.lock_mutex.specs.MutexGuard.{held_of};
-
     /// Makes a condition variable over a new raw one.
     pub fn new(alloc: Global) -> Result<Condvar<C>, Fault>
         ensures { IsOkUnless result Fault.OutOfMemory }
@@ -90,11 +90,6 @@ impl<C: RawCondvarTimed> Condvar<C>
 where
     C::RawMutex: RawMutexTimed,
 {
-    ghost use Rattle.lock_guard.specs.Held.{held_value};
-    ghost use Rattle.lock_guard.specs.Waits.{WaitedFor};
-    ghost use Rattle.lock_mutex.specs.Condvar.{raw_condvar_of, HasWaited};
-    ghost use Rattle.lock_mutex.specs.MutexGuard.{held_of};
-
     /// `wait`, until `deadline`.
     pub fn wait_until<T>(
         &self,
@@ -107,7 +102,7 @@ where
     {
         let sleep = UntilInstant {
             raw: &self.raw,
-            deadline,
+            deadline: &deadline,
         };
         let timed_out = sleep.sleep(&mut guard.held);
         WaitTimeoutResult { timed_out }
@@ -148,7 +143,7 @@ where
     {
         let sleep = UntilInstant {
             raw: &self.raw,
-            deadline,
+            deadline: &deadline,
         };
         let waiter = guard.held.lock.mutex.raw.waiter();
         let timed_out = sleep_while(waiter, &mut guard.held, sleep, condition);

@@ -1,6 +1,8 @@
 //! The guard of a mutex.
 ghost use Rattle.std.specs.Prelude.{◌≡◌, Some};
 ghost use Rattle.std.specs.Borrow.{Lends, sem};
+ghost use Rattle.lock_guard.specs.Held.{held_value, held_with_value};
+ghost use Rattle.lock_mutex.specs.MutexGuard.{held_of, IsGuardOf};
 
 use crate::Mutex;
 use crate::borrowed::BorrowedMutex;
@@ -22,8 +24,6 @@ pub struct Guard<L: Acquire> {
 pub type MutexGuard<'a, R, T> = Guard<BorrowedMutex<'a, R, T>>;
 
 impl<'a, R: RawMutex, T> Guard<BorrowedMutex<'a, R, T>> {
-    ghost use Rattle.lock_mutex.specs.MutexGuard.{IsGuardOf};
-
     /// Returns the mutex of the guard.
     pub fn mutex(guard: &MutexGuard<'a, R, T>) -> &'a Mutex<R, T>
         ensures { IsGuardOf result guard.now }
@@ -33,8 +33,6 @@ impl<'a, R: RawMutex, T> Guard<BorrowedMutex<'a, R, T>> {
 }
 
 impl<L: Acquire> Guard<L> {
-    ghost use Rattle.lock_mutex.specs.MutexGuard.{held_of};
-
     /// Releases the mutex, runs `f`, and reacquires the mutex, blocking until it is available.
     pub fn unlocked<U, F: FnOnce() -> U>(guard: &mut Self, f: F) -> U
         requires { F.IsAlwaysCallable f }
@@ -46,8 +44,6 @@ impl<L: Acquire> Guard<L> {
 }
 
 impl<L: AcquireFair> Guard<L> {
-    ghost use Rattle.lock_mutex.specs.MutexGuard.{held_of};
-
     /// Releases the mutex by a fair release.
     pub fn unlock_fair(guard: Self) {
         guard.held.unlock_fair();
@@ -71,9 +67,6 @@ impl<L: AcquireFair> Guard<L> {
 }
 
 impl<L: Acquire> Deref for Guard<L> {
-    ghost use Rattle.lock_guard.specs.Held.{held_value};
-    ghost use Rattle.lock_mutex.specs.MutexGuard.{held_of};
-
     type Target = <L::Shown as ValueGuard>::Value;
 
     ghost deref_gives = { λ guard value. held_value L.Shown.value_of (held_of guard) ≡ Some value };
@@ -88,8 +81,6 @@ where
     L::Shown: ValueGuardMut,
 {
     ghost use Rattle.lock_mutex.specs.contracts.guard.Guard.{the_row};
-    ghost use Rattle.lock_guard.specs.Held.{held_value, held_with_value};
-    ghost use Rattle.lock_mutex.specs.MutexGuard.{held_of};
 
     ghost deref_mut_gives = { λ guard value. held_value L.Shown.value_of (held_of guard) ≡ Some value };
 

@@ -3,6 +3,7 @@ ghost use Rattle.std.specs.Prelude.{◌≡◌, Some};
 ghost use Rattle.lock_guard.specs.GuardPart.{guard_part, guard_miss};
 ghost use Rattle.lock_guard.specs.Held.{held_value};
 ghost use Rattle.lock_guard.specs.Mapped.{IsMapOf, IsMappedOr};
+ghost use Rattle.lock_mutex.specs.MutexGuard.{held_of};
 
 use crate::Guard;
 use crate::borrowed::BorrowedMutex;
@@ -13,8 +14,6 @@ use lock_guard::guard::{Acquire, Held, Mapped, ValueGuard};
 pub type MappedMutexGuard<'a, R, T, P> = Mapped<Held<BorrowedMutex<'a, R, T>>, P>;
 
 impl<L: Acquire> Guard<L> {
-    ghost use Rattle.lock_mutex.specs.MutexGuard.{held_of};
-
     /// Makes the guard of a part, by a projection that always has one. The mutex stays locked.
     pub fn map<P: View<<L::Shown as ValueGuard>::Value>>(
         guard: Self,

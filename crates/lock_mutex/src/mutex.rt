@@ -1,6 +1,8 @@
 //! A mutex over any raw lock.
 ghost use Rattle.std.specs.Prelude.{◌≡◌, IfSome, IsOkAnd, IsOkUnless};
 ghost use Rattle.lock_guard.specs.Closure.{ReadsSomeValue, AnswersSomeValue};
+ghost use Rattle.lock_mutex.specs.Mutex.{raw_of};
+ghost use Rattle.lock_mutex.specs.MutexGuard.{IsGuardOf};
 
 use crate::borrowed::BorrowedMutex;
 use crate::{Guard, MutexGuard};
@@ -23,9 +25,6 @@ pub struct Mutex<R, T> {
 }
 
 impl<R: RawMutex, T> Mutex<R, T> {
-    ghost use Rattle.lock_mutex.specs.Mutex.{raw_of};
-    ghost use Rattle.lock_mutex.specs.MutexGuard.{IsGuardOf};
-
     /// Makes an unlocked mutex over a new raw lock. The value is dropped if there is no memory.
     pub fn new(alloc: Global, waiter: R::Waiter, value: T) -> Result<Mutex<R, T>, Fault>
     where
@@ -146,8 +145,6 @@ impl<R: RawMutex, T> Mutex<R, T> {
 }
 
 impl<R: RawMutexTimed, T> Mutex<R, T> {
-    ghost use Rattle.lock_mutex.specs.MutexGuard.{IsGuardOf};
-
     /// Tries to acquire the mutex for at most `timeout`.
     pub fn try_lock_for(&self, timeout: R::Duration) -> Option<MutexGuard<'_, R, T>>
         ensures { IfSome result (IsGuardOf self.entry) }

@@ -22,14 +22,9 @@ pub trait Sleep<L: Acquire>: Drop {
 }
 
 /// A wait for a notification.
+#[derive_where(Clone, Copy)]
 pub struct UntilNotified<'c, C> {
     pub raw: &'c C,
-}
-
-impl<C> Drop for UntilNotified<'_, C> {
-    fn drop(self) {
-        let UntilNotified { raw: _ } = self;
-    }
 }
 
 impl<'a, C: RawCondvar, T> Sleep<BorrowedMutex<'a, C::RawMutex, T>> for UntilNotified<'_, C> {
@@ -46,18 +41,10 @@ impl<'a, C: RawCondvar, T> Sleep<BorrowedMutex<'a, C::RawMutex, T>> for UntilNot
 }
 
 /// A wait for a notification or an instant.
+#[derive_where(Clone, Copy)]
 pub struct UntilInstant<'c, C, I> {
     pub raw: &'c C,
-    pub deadline: I,
-}
-
-impl<C, I: Drop> Drop for UntilInstant<'_, C, I> {
-    fn drop(self) {
-        let UntilInstant {
-            raw: _,
-            deadline: _,
-        } = self;
-    }
+    pub deadline: &'c I,
 }
 
 impl<'a, C: RawCondvarTimed, T> Sleep<BorrowedMutex<'a, C::RawMutex, T>>
@@ -67,13 +54,13 @@ where
 {
     ghost may_answer = { λ _. ⊤ };
 
-    ghost slept = { λ sleep timed_out. HasWaited (λ token. C.waited_until sleep.raw.now token sleep.deadline timed_out) };
+    ghost slept = { λ sleep timed_out. HasWaited (λ token. C.waited_until sleep.raw.now token sleep.deadline.now timed_out) };
 
     fn sleep(&self, held: &mut Held<BorrowedMutex<'a, C::RawMutex, T>>) -> bool {
         let mutex = held.lock.mutex;
         let (next, timed_out) = self
             .raw
-            .wait_until(&mutex.raw, held.inner.empty(), &self.deadline);
+            .wait_until(&mutex.raw, held.inner.empty(), self.deadline);
         held.inner.fill(next, held.lock.lock_value());
         timed_out
     }

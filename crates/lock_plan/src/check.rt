@@ -29,8 +29,7 @@ pub(crate) fn call_fault(locks: &[PlanLock], holds: &[Hold], call: PlanCall) -> 
 pub(crate) fn tries_fair(locks: &[PlanLock], call: PlanCall) -> bool
     ensures { result ≡ lines_up (get_or locks.now call.lock no_lock) call.step }
 {
-    let lock = locks.get(call.lock).copied().unwrap_or(PlanLock::none());
-    lock.lines_up(call.step)
+    PlanLock::at(locks, call.lock).lines_up(call.step)
 }
 
 /// Returns why a call on this lock can never be made with this hold.

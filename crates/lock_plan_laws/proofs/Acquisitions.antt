@@ -31,22 +31,15 @@ use Rattle.lock_plan_laws.proofs.Columns.{hold_of}
 use Rattle.lock_plan_laws.proofs.Moves.{IsSeen}
 
 pub wanted_by_kind : (kind : Kind) (mode : Mode) → (is_exclusive mode || is_rwlock kind) ≡ true → has_want kind (want_for kind mode) ≡ true
-wanted_by_kind Mutex Shared h = cc
 wanted_by_kind Mutex Exclusive h = refl
-wanted_by_kind Mutex Upgradable h = cc
-wanted_by_kind RwLock Shared h = refl
 wanted_by_kind RwLock Exclusive h = refl
-wanted_by_kind RwLock Upgradable h = refl
-wanted_by_kind Reentrant Shared h = cc
 wanted_by_kind Reentrant Exclusive h = refl
-wanted_by_kind Reentrant Upgradable h = cc
+wanted_by_kind kind mode h = cc
 
 pub mode_wanted : (kind : Kind) (mode : Mode) → mode_of (want_for kind mode) ≡ mode
 mode_wanted kind Shared = refl
 mode_wanted Mutex Exclusive = refl
-mode_wanted RwLock Exclusive = refl
-mode_wanted Reentrant Exclusive = refl
-mode_wanted kind Upgradable = refl
+mode_wanted kind mode = refl
 
 -- of entries of one party, another has none
 one_owner : (q x : ℕ) (hs : List Entry) → all_of_party q hs ≡ true → some_of_party x hs ≡ true → q ≡ x

@@ -9,12 +9,12 @@ use Rattle.std.proofs.lemmas.Option.{same_Some}
 use Rattle.lock_base.specs.declared.machine.hold.Hold.{Hold}
 use Rattle.lock_base.specs.declared.machine.mode_step.ModeStep.TheVariants.{Acquire, Release, Change}
 use Rattle.lock_base.specs.declared.machine.lock_step.LockStep.{LockStep}
-use Rattle.lock_base.specs.declared.machine.lock_step.LockStep.TheVariants.{Modes, Announce, Withdraw}
+use Rattle.lock_base.specs.declared.machine.lock_step.LockStep.TheVariants.{Modes, Announce}
 use Rattle.lock_base.specs.Kind.{is_reentrant}
 use Rattle.lock_plan.specs.declared.call.PlanCall.{PlanCall}
 use Rattle.lock_plan.specs.declared.lock.PlanLock.{PlanLock}
 use Rattle.lock_plan.specs.declared.program.Act.{Act}
-use Rattle.lock_plan.specs.declared.program.Act.TheVariants.{Call, Try, Choose, Signal}
+use Rattle.lock_plan.specs.declared.program.Act.TheVariants.{Call}
 use Rattle.lock_plan.specs.declared.program.Place.{Place}
 use Rattle.lock_plan.specs.declared.program.Step.{Step}
 use Rattle.lock_plan.specs.declared.turn.Turn.{Turn}
@@ -129,50 +129,34 @@ claim_waits : (lock : PlanLock) (hss : List (List Hold)) (q l : ℕ) (a : LockSt
     → is_step_turn (Some (turn_on lock (lock_holds hss q l) a)) ≡ false → turn_on lock (lock_holds hss q l) a ≡ Waits
 claim_waits lock hss q l (Modes (Acquire mode)) is e = turn_waits _ _ e
 claim_waits lock hss q l (Modes (Change from to)) is e = turn_waits _ _ e
-claim_waits lock hss q l (Modes (Release mode)) is e = cc
-claim_waits lock hss q l Announce is e = cc
-claim_waits lock hss q l Withdraw is e = cc
+claim_waits lock hss q l a is e = cc
 
 refused_or_goes : (b : Bool) → (if b then Refused else Goes) ≡ Waits → ⊥
 refused_or_goes true e = cc
 refused_or_goes false e = cc
 
 waits_claims : (lock : PlanLock) (hss : List (List Hold)) (q l : ℕ) (a : LockStep) → turn_on lock (lock_holds hss q l) a ≡ Waits → is_claim a ≡ true
-waits_claims lock hss q l (Modes (Acquire mode)) e = refl
-waits_claims lock hss q l (Modes (Change from to)) e = refl
 waits_claims lock hss q l (Modes (Release mode)) e = cc
 waits_claims lock hss q l Announce e = absurd (refused_or_goes _ e)
-waits_claims lock hss q l Withdraw e = cc
+waits_claims lock hss q l a e = cc
 
 change_claims : (a : LockStep) → is_change a ≡ true → is_claim a ≡ true
-change_claims (Modes (Acquire mode)) e = refl
 change_claims (Modes (Change from to)) e = refl
-change_claims (Modes (Release mode)) e = cc
-change_claims Announce e = cc
-change_claims Withdraw e = cc
+change_claims a e = cc
 
 -- a claim that is no change lines up at a fair lock, and what lines up is a claim at a fair lock
 change_no_line : (lock : PlanLock) (a : LockStep) → is_change a ≡ true → lines_up lock a ≡ false
-change_no_line lock (Modes (Acquire mode)) e = cc
 change_no_line lock (Modes (Change from to)) e = refl
-change_no_line lock (Modes (Release mode)) e = refl
-change_no_line lock Announce e = refl
-change_no_line lock Withdraw e = refl
+change_no_line lock a e = cc
 
 lined_fair : (lock : PlanLock) (a : LockStep) → lines_up lock a ≡ true → (lock.fair ≡ true) × (is_claim a ≡ true)
 lined_fair lock (Modes (Acquire mode)) e = ((and_parts lock.fair (not (is_reentrant lock.kind)) e).0, refl)
-lined_fair lock (Modes (Change from to)) e = cc
-lined_fair lock (Modes (Release mode)) e = cc
-lined_fair lock Announce e = cc
-lined_fair lock Withdraw e = cc
+lined_fair lock a e = cc
 
 -- the call of an act of which this is so
 call_of : (f : PlanCall → Bool) (o : Option Act) → on_call f o ≡ true → (call : PlanCall) × (o ≡ Some (Call call)) × (f call ≡ true)
-call_of f None e = cc
 call_of f (Some (Call call)) e = (call, refl, e)
-call_of f (Some (Try call)) e = cc
-call_of f (Some (Choose block)) e = cc
-call_of f (Some (Signal signal)) e = cc
+call_of f o e = cc
 
 wait_of : (lock : ℕ) (o : Option Act) (t : Option Turn) → waits_for lock o t ≡ true
     → (call : PlanCall) × (o ≡ Some (Call call)) × (t ≡ Some Waits) × ((call.lock == lock) ≡ true)
@@ -188,20 +172,14 @@ line_call locks lock (Some (Call call)) e = by_line (lines_up (get_or locks call
         × (other.lock ≡ lock)
     by_line true up e = (call, refl, up, same_Some call.lock lock e)
     by_line false up e = cc
-line_call locks lock None e = cc
-line_call locks lock (Some (Try call)) e = cc
-line_call locks lock (Some (Choose block)) e = cc
-line_call locks lock (Some (Signal signal)) e = cc
+line_call locks lock o e = cc
 
 -- an act claims one lock
 one_claim : (a b : ℕ) (o : Option Act) → claims a o ≡ true → claims b o ≡ true → a ≡ b
 one_claim a b (Some (Call call)) one other =
     sym (eqb-true call.lock a (and_parts (call.lock == a) (is_claim call.step) one).0)
     ∙ eqb-true call.lock b (and_parts (call.lock == b) (is_claim call.step) other).0
-one_claim a b None one other = cc
-one_claim a b (Some (Try call)) one other = cc
-one_claim a b (Some (Choose block)) one other = cc
-one_claim a b (Some (Signal signal)) one other = cc
+one_claim a b o one other = cc
 
 module _ (locks : List PlanLock) (w : List Stand) where
   abbrev act : ℕ → Option Act
@@ -472,11 +450,8 @@ module _ (locks : List PlanLock) (servers : List Bool) (w : List Stand) (stuck :
   with_line list = record { stands = w; waiting = list }
 
   no_step : (o : Option Turn) → is_waits o ≡ true → is_step_turn o ≡ false
-  no_step None e = cc
-  no_step (Some Goes) e = cc
-  no_step (Some Announces) e = cc
   no_step (Some Waits) e = refl
-  no_step (Some Refused) e = cc
+  no_step o e = cc
 
   -- a party with a step is no leader
   not_leader : (p : ℕ) → is_step_turn (turn p) ≡ true → is_listed p leaders ≡ false

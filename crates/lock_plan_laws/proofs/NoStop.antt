@@ -8,7 +8,7 @@ use Rattle.lock_base.specs.declared.machine.kind.Kind.{Kind}
 use Rattle.lock_base.specs.declared.machine.kind.Kind.TheVariants as kind
 use Rattle.lock_base.specs.declared.machine.mode.Mode.{Mode}
 use Rattle.lock_base.specs.declared.machine.mode.Mode.TheVariants.{Shared, Exclusive, Upgradable}
-use Rattle.lock_base.specs.declared.machine.mode_step.ModeStep.TheVariants.{Acquire, Release, Change}
+use Rattle.lock_base.specs.declared.machine.mode_step.ModeStep.TheVariants.{Acquire, Change}
 use Rattle.lock_base.specs.declared.machine.bag.Bag.{Bag}
 use Rattle.lock_base.specs.declared.machine.lock_step.LockStep.{LockStep}
 use Rattle.lock_base.specs.declared.machine.lock_step.LockStep.TheVariants as lock_step
@@ -167,12 +167,8 @@ module _ (lock : PlanLock) (hss : List (List Hold)) (q l : ℕ) where
     waits (admits_step lock (lock_holds hss q l) (Acquire mode))
         (announces_itself lock (get_or (get_or hss q []) l no_hold) (lock_step.Modes (Acquire mode)) && not (is_some (bar_from 0 l hss))) e,
   )
-  step_blocks (lock_step.Modes (Release mode)) r e = cc
   step_blocks (lock_step.Modes (Change from Shared)) r e = cc
-  step_blocks (lock_step.Modes (Change from Exclusive)) r e = cc
-  step_blocks (lock_step.Modes (Change from Upgradable)) r e = cc
-  step_blocks lock_step.Announce r e = cc
-  step_blocks lock_step.Withdraw r e = cc
+  step_blocks s r e = cc
 
 and_false : (a b : Bool) → b ≡ true → (a && b) ≡ false → a ≡ false
 and_false true b t e = absurd (false≢true (sym e ∙ t))
@@ -196,18 +192,12 @@ no_line lock (lock_step.Modes (Acquire mode)) fits bars =
     not_true : (b : Bool) → not b ≡ true → b ≡ false
     not_true true e = cc
     not_true false e = refl
-no_line lock (lock_step.Modes (Release mode)) fits bars = refl
-no_line lock (lock_step.Modes (Change from to)) fits bars = refl
-no_line lock lock_step.Announce fits bars = refl
-no_line lock lock_step.Withdraw fits bars = refl
+no_line lock s fits bars = refl
 
 -- a step that lines up acquires
 lined_mode : (lock : PlanLock) (s : LockStep) → lines_up lock s ≡ true → (mode : Mode) × (s ≡ lock_step.Modes (Acquire mode))
 lined_mode lock (lock_step.Modes (Acquire mode)) e = (mode, refl)
-lined_mode lock (lock_step.Modes (Release mode)) e = cc
-lined_mode lock (lock_step.Modes (Change from to)) e = cc
-lined_mode lock lock_step.Announce e = cc
-lined_mode lock lock_step.Withdraw e = cc
+lined_mode lock s e = cc
 
 call_same : (a b : PlanCall) → Some (Call a) ≡ Some (Call b) → a ≡ b
 call_same a b e = cc

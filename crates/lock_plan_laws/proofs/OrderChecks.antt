@@ -12,7 +12,7 @@ use Rattle.lock_base.specs.Holds.{no_hold}
 use Rattle.lock_plan.specs.declared.call.PlanCall.{PlanCall}
 use Rattle.lock_plan.specs.declared.lock.PlanLock.{PlanLock}
 use Rattle.lock_plan.specs.declared.program.Act.{Act}
-use Rattle.lock_plan.specs.declared.program.Act.TheVariants.{Call, Try, Choose, Signal}
+use Rattle.lock_plan.specs.declared.program.Act.TheVariants.{Call, Signal}
 use Rattle.lock_plan.specs.declared.program.Place.{Place}
 use Rattle.lock_plan.specs.Known.{PlaceFault, Known, known_at, known_of}
 use Rattle.lock_plan.specs.Worlds.{act_in}
@@ -86,21 +86,14 @@ module _ (rank : ℕ → ℕ) where
     ended = λ is lock. cc;
     silent = all_silent holds silent;
   }
-  keeps_is holds (Some (Try call)) silent e = record {
-    upward = λ call mode is acquires lock some. cc;
-    ranked = λ call is. cc;
-    no_signal = λ signal is. cc;
-    ended = λ is lock. cc;
-    silent = all_silent holds silent;
-  }
-  keeps_is holds (Some (Choose block)) silent e = record {
-    upward = λ call mode is acquires lock some. cc;
-    ranked = λ call is. cc;
-    no_signal = λ signal is. cc;
-    ended = λ is lock. cc;
-    silent = all_silent holds silent;
-  }
   keeps_is holds (Some (Signal signal)) silent e = cc
+  keeps_is holds here silent e = record {
+    upward = λ call mode is acquires lock some. cc;
+    ranked = λ call is. cc;
+    no_signal = λ signal is. cc;
+    ended = λ is lock. cc;
+    silent = all_silent holds silent;
+  }
 
   at_place : (program : List Place) (from : ℕ) (known : Known) → keeps_from rank program from known ≡ true
       → (place : ℕ) (holds : List Hold) → known_at known place ≡ Some holds → keeps_at rank (act_in program (from + place)) (Some holds) ≡ true

@@ -84,11 +84,9 @@ module _ (rank : ℕ → ℕ) (locks : List PlanLock) where
 
     call_ordered : (call : PlanCall) (reply : Option Turn) (t : Stand) → act_of s ≡ Some (Call call) → Some (reply_to locks hss q call) ≡ reply
         → after_call s call reply ≡ Some t → O t
-    call_ordered call None t a is e = cc
     call_ordered call (Some Goes) t a is e = at_same (gone s call) t e (gone_ordered (Call call) call a refl)
     call_ordered call (Some Announces) t a is e = at_same (announced_for s call) t e (announced_ordered call a is)
-    call_ordered call (Some Waits) t a is e = cc
-    call_ordered call (Some Refused) t a is e = cc
+    call_ordered call reply t a is e = cc
 
     abbrev refused : Stand
     refused = at_place s (other_in s.program s.place) s.holds

@@ -11,10 +11,10 @@ use Rattle.lock_plan.specs.declared.program.Place.{Place}
 use Rattle.lock_plan.specs.declared.program.Signal.TheVariants.{Assert}
 use Rattle.lock_plan.specs.declared.program.Step.{Step}
 use Rattle.lock_plan.specs.declared.turn.Turn.{Turn}
-use Rattle.lock_plan.specs.declared.turn.Turn.TheVariants.{Goes, Announces, Waits, Refused}
-use Rattle.lock_base.specs.declared.machine.mode_step.ModeStep.TheVariants.{Acquire, Release, Change}
+use Rattle.lock_plan.specs.declared.turn.Turn.TheVariants.{Goes, Announces, Refused}
+use Rattle.lock_base.specs.declared.machine.mode_step.ModeStep.TheVariants.{Acquire}
 use Rattle.lock_base.specs.declared.machine.lock_step.LockStep.{LockStep}
-use Rattle.lock_base.specs.declared.machine.lock_step.LockStep.TheVariants.{Modes, Announce, Withdraw}
+use Rattle.lock_base.specs.declared.machine.lock_step.LockStep.TheVariants.{Modes}
 use Rattle.lock_plan.specs.Checks.{none_fair}
 use Rattle.lock_plan.specs.Holds.{lines_up}
 use Rattle.lock_plan.specs.Signals.{idles, has_value}
@@ -49,19 +49,14 @@ some_found f (suc n) is = by_last (f n) refl is (some_found f n)
     by_last false other any rest = let q = rest any in (q.0, q.1, omega (arith, q.2))
 
 refused_is : (o : Option Turn) → is_refused_turn o ≡ true → o ≡ Some Refused
-refused_is None is = cc
-refused_is (Some Goes) is = cc
-refused_is (Some Announces) is = cc
-refused_is (Some Waits) is = cc
 refused_is (Some Refused) is = refl
+refused_is o is = cc
 
 -- a step's turn
 step_is : (o : Option Turn) → is_step_turn o ≡ true → (o ≡ Some Goes) ⊎ (o ≡ Some Announces)
-step_is None is = cc
 step_is (Some Goes) is = inl refl
 step_is (Some Announces) is = inr refl
-step_is (Some Waits) is = cc
-step_is (Some Refused) is = cc
+step_is o is = cc
 
 -- where no lock is fair, a party whose turn is a step goes on
 not_fair : (locks : List PlanLock) → IsTrue (none_fair locks) → (l : ℕ) → (get_or locks l no_lock).fair ≡ false
@@ -71,18 +66,12 @@ not_fair (lock ∷ locks) plain (suc l) = not_fair locks (and_parts (not lock.fa
 
 no_line : (lock : PlanLock) (a : LockStep) → lock.fair ≡ false → lines_up lock a ≡ false
 no_line lock (Modes (Acquire mode)) plain = ap (λ (b : Bool). b && not (is_reentrant lock.kind)) plain
-no_line lock (Modes (Release mode)) plain = refl
-no_line lock (Modes (Change from to)) plain = refl
-no_line lock Announce plain = refl
-no_line lock Withdraw plain = refl
+no_line lock a plain = refl
 
 no_line_of : (locks : List PlanLock) → IsTrue (none_fair locks) → (here : Option Act) → line_of locks here ≡ None
-no_line_of locks plain None = refl
 no_line_of locks plain (Some (act.Call call)) =
     ap (λ (b : Bool). if b then Some call.lock else None) (no_line (get_or locks call.lock no_lock) call.step (not_fair locks plain call.lock))
-no_line_of locks plain (Some (act.Try call)) = refl
-no_line_of locks plain (Some (act.Choose block)) = refl
-no_line_of locks plain (Some (act.Signal signal)) = refl
+no_line_of locks plain here = refl
 
 steps_on : (locks : List PlanLock) (w : List Stand) → IsTrue (none_fair locks) → (p : ℕ) → is_step_turn (turn_of locks w p) ≡ true
     → goes_on locks w p ≡ true
@@ -116,13 +105,10 @@ module _ {O T A : Type 0} (meaning : O → Operation T A) (ids : ℕ → PartyId
     refused_by : (p : ℕ) (o : Option Act) → act_of (get_or w p no_stand) ≡ o
         → turn_by (acts_of w) o (reply_of locks w p) ≡ Some Refused
         → IsRefusedScene meaning ids locks programs s ⊎ HasFalseAssertion programs s
-    refused_by p None here is = cc
     refused_by p (Some (act.Call call)) here is =
         let taken : Step = record { party = p; way = 0 } in
         let h = called meaning ids distinct locks bars programs w s used tied few taken call Refused here refl is in
         inl (record { step = taken; guard = h.0 }, h.1, h.2)
-    refused_by p (Some (act.Try call)) here is = cc
-    refused_by p (Some (act.Choose block)) here is = cc
     refused_by p (Some (act.Signal signal)) here is =
         let h = signal_refused (acts_of w) signal is in
         inr (record {
@@ -132,6 +118,7 @@ module _ {O T A : Type 0} (meaning : O → Operation T A) (ids : ℕ → PartyId
           here = act_same meaning ids distinct locks bars programs w s used tied p ∙ here ∙ ap (λ (a : _). Some (act.Signal a)) h.2;
           is_false = ap (λ (acts : List (Option Act)). has_value acts h.0 h.1) (acts_same ids distinct locks programs w s used tied) ∙ h.3;
         })
+    refused_by p o here is = cc
 
     refused_back : is_refused locks w ≡ true → IsRefusedScene meaning ids locks programs s ⊎ HasFalseAssertion programs s
     refused_back is =

@@ -143,9 +143,7 @@ pub record IsSameTry {T A : Type 0} (ids : ℕ → PartyId) (locks : List PlanLo
 
 goes_is : (u : Turn) → is_goes (Some u) ≡ true → u ≡ Goes
 goes_is Goes is = refl
-goes_is Announces is = cc
-goes_is Waits is = cc
-goes_is Refused is = cc
+goes_is u is = cc
 
 module _ {O T A : Type 0} (meaning : O → Operation T A) (ids : ℕ → PartyId) (distinct : AreDistinct ids) (locks : List PlanLock)
     (bars : (l : ℕ) → IsTrue (get_or locks l no_lock).bar → IsTrue (is_rwlock (get_or locks l no_lock).kind))

@@ -83,9 +83,7 @@ module _ {T : Type 0} (lock : PlanLock) (a : LockStep) (after : Turn) (m next : 
 
   none_goes : (u : Turn) → is_goes (Some (announced_turn u)) ≡ false
   none_goes Goes = refl
-  none_goes Announces = refl
-  none_goes Waits = refl
-  none_goes Refused = refl
+  none_goes u = refl
 
   abbrev waiting : Bool → MachineTurn T
   waiting b = if b then record { turn = announced_turn after; machine = next } else record { turn = Waits; machine = m }

@@ -105,9 +105,8 @@ module _ (acts : List (Option Act)) where
   pub turn_some : (locks : List PlanLock) (hss : List (List Hold)) (p : ℕ) (a : Act) → idles (Some a) ≡ false
       → is_some (turn_by acts (Some a) (reply_at locks hss p (Some a))) ≡ true
   turn_some locks hss p (act.Call call) there = refl
-  turn_some locks hss p (act.Try call) there = refl
-  turn_some locks hss p (act.Choose block) there = refl
   turn_some locks hss p (act.Signal signal) there = signal_some signal there
+  turn_some locks hss p a there = refl
 
   pub some_turn : (a : Act) (reply : Option Turn) → is_some (turn_by acts (Some a) reply) ≡ true
       → idles (Some a) ≡ false

@@ -4,8 +4,8 @@ use Rattle.std.specs.Prelude.{not, ◌&&◌, ◌==◌, nat_lt}
 use Rattle.std.proofs.lemmas.Bool.{and_parts, eqb-true, lt-ltb}
 use Rattle.std.proofs.lemmas.List.{at_drop_more, drop_all, drop_more, length-drop}
 use Rattle.lock_plan_text.specs.declared.parser.block_line.BlockLine.{BlockLine}
-use Rattle.lock_plan_text.specs.declared.parser.block_line.BlockLine.TheVariants.{Call, Try, Word, If, Until, TimedSleep, Plain}
-use Rattle.lock_plan_text.specs.declared.parser.block_line.BlockWord.TheVariants.{Repeat, Forever, Either, Else, Or, End, Leave, Return}
+use Rattle.lock_plan_text.specs.declared.parser.block_line.BlockLine.TheVariants.{Word}
+use Rattle.lock_plan_text.specs.declared.parser.block_line.BlockWord.TheVariants.{Else, Or, End}
 use Rattle.lock_plan_text.specs.Blocks.{beginning, beginning_from, begins, boundary, boundary_from, deeper, ends, higher, is_leave, is_loop, is_return, land, land_from, line_at, loop_depth, parts}
 
 -- where a party goes on that leaves a block by the line that parts it next
@@ -60,19 +60,7 @@ deeper_suc : (depth : ℕ) (line : BlockLine) → ((depth == 0) && parts line) �
     → deeper (suc depth) line ≡ suc (deeper depth line)
 deeper_suc zero (Word End) is = cc
 deeper_suc (suc depth) (Word End) is = omega arith
-deeper_suc depth (Word Else) is = refl
-deeper_suc depth (Word Or) is = refl
-deeper_suc depth (Word Leave) is = refl
-deeper_suc depth (Word Return) is = refl
-deeper_suc depth (Word Repeat) is = omega arith
-deeper_suc depth (Word Forever) is = omega arith
-deeper_suc depth (Word Either) is = omega arith
-deeper_suc depth (Call call) is = refl
-deeper_suc depth (Try call) is = omega arith
-deeper_suc depth (If flag) is = omega arith
-deeper_suc depth (Until flag value) is = omega arith
-deeper_suc depth (TimedSleep cond) is = omega arith
-deeper_suc depth (Plain line) is = refl
+deeper_suc depth line is = omega arith
 
 -- a party that leaves blocks goes on to the next line
 pub leave_more : (lines : List BlockLine) (leave i : ℕ) (line : BlockLine) (rest : List BlockLine) → 0 < leave
@@ -101,17 +89,7 @@ leaves_here lines i (Word Or) rest is part =
     let first = first_left lines i (Word Or) rest is in
     ap (λ (r : List BlockLine). land_from lines 0 i r) is
     ∙ ap (λ (l : BlockLine). cond (ends l) (land lines (i + 1)) (land lines i)) first.0
-leaves_here lines i (Word Repeat) rest is part = cc
-leaves_here lines i (Word Forever) rest is part = cc
-leaves_here lines i (Word Leave) rest is part = cc
-leaves_here lines i (Word Return) rest is part = cc
-leaves_here lines i (Word Either) rest is part = cc
-leaves_here lines i (Call call) rest is part = cc
-leaves_here lines i (Try call) rest is part = cc
-leaves_here lines i (If flag) rest is part = cc
-leaves_here lines i (Until flag value) rest is part = cc
-leaves_here lines i (TimedSleep cond) rest is part = cc
-leaves_here lines i (Plain line) rest is part = cc
+leaves_here lines i line rest is part = cc
 
 -- a party that leaves the block around a line, in which so many blocks are open, does so by the next line that parts it
 leaves : (lines : List BlockLine) (depth i : ℕ) (rest : List BlockLine) → rest ≡ drop i lines
@@ -139,30 +117,13 @@ no_jump : (line : BlockLine) → parts line ≡ true → (is_leave line ≡ fals
 no_jump (Word Else) is = (refl, refl)
 no_jump (Word Or) is = (refl, refl)
 no_jump (Word End) is = (refl, refl)
-no_jump (Word Repeat) is = cc
-no_jump (Word Forever) is = cc
-no_jump (Word Either) is = cc
-no_jump (Word Leave) is = cc
-no_jump (Word Return) is = cc
-no_jump (Call call) is = cc
-no_jump (Try call) is = cc
-no_jump (If flag) is = cc
-no_jump (Until flag value) is = cc
-no_jump (TimedSleep cond) is = cc
-no_jump (Plain line) is = cc
+no_jump line is = cc
 
--- a `leave` leads past the innermost loop, and a `return` past the last line
+-- a `leave` leads past the innermost loop
 pub leave_lands : (lines : List BlockLine) (i : ℕ) → i < length lines → is_leave (line_at lines i) ≡ true
     → land lines i ≡ land_from lines (loop_depth lines i) (i + 1) (drop (i + 1) lines)
 leave_lands lines i within is =
     at_drop_more (land_from lines 0 i) lines i (Word End) within ∙ left (is_leave (line_at lines i)) _ _ is
-
-pub return_lands : (lines : List BlockLine) (i : ℕ) → i < length lines → is_leave (line_at lines i) ≡ false
-    → is_return (line_at lines i) ≡ true → land lines i ≡ length lines
-return_lands lines i within is_no_leave is =
-    at_drop_more (land_from lines 0 i) lines i (Word End) within
-    ∙ right (is_leave (line_at lines i)) _ _ is_no_leave
-    ∙ left (is_return (line_at lines i)) _ _ is
 
 -- an `else` or an `or` leads past its block
 land_part : (lines : List BlockLine) (i : ℕ) → i < length lines → parts (line_at lines i) ≡ true

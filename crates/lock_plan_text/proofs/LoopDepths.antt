@@ -7,34 +7,17 @@ use Rattle.std.proofs.lemmas.Option.{get_or_from_slice_get}
 use Rattle.lock_plan.proofs.EachBelow.{each_get}
 use Rattle.step_search.specs.Walks.{each_below}
 use Rattle.lock_plan_text.specs.declared.parser.block_line.BlockLine.{BlockLine}
-use Rattle.lock_plan_text.specs.declared.parser.block_line.BlockLine.TheVariants.{Call, Try, Word, If, Until, TimedSleep, Plain}
-use Rattle.lock_plan_text.specs.declared.parser.block_line.BlockWord.TheVariants.{Repeat, Forever, Either, Else, Or, End, Leave, Return}
+use Rattle.lock_plan_text.specs.declared.parser.block_line.BlockLine.TheVariants.{Word}
+use Rattle.lock_plan_text.specs.declared.parser.block_line.BlockWord.TheVariants.{End, Leave}
 use Rattle.lock_plan_text.specs.Blocks.{beginning, beginning_from, begins, deeper, ends, higher, is_leave, is_loop, line_at, loop_depth, loop_depth_from}
 
 -- a block more is open before a line, where one more is open after it
 higher_suc : (depth : ℕ) (line : BlockLine) → ((depth == 0) && begins line) ≡ false
     → higher (suc depth) line ≡ suc (higher depth line)
-higher_suc depth (Word End) is = omega arith
-higher_suc depth (Word Else) is = refl
-higher_suc depth (Word Or) is = refl
-higher_suc depth (Word Leave) is = refl
-higher_suc depth (Word Return) is = refl
-higher_suc zero (Word Repeat) is = cc
-higher_suc (suc depth) (Word Repeat) is = omega arith
-higher_suc zero (Word Forever) is = cc
-higher_suc (suc depth) (Word Forever) is = omega arith
-higher_suc zero (Word Either) is = cc
-higher_suc (suc depth) (Word Either) is = omega arith
-higher_suc depth (Call call) is = refl
-higher_suc zero (Try call) is = cc
-higher_suc (suc depth) (Try call) is = omega arith
-higher_suc zero (If flag) is = cc
-higher_suc (suc depth) (If flag) is = omega arith
-higher_suc zero (Until flag value) is = cc
-higher_suc (suc depth) (Until flag value) is = omega arith
-higher_suc zero (TimedSleep cond) is = cc
-higher_suc (suc depth) (TimedSleep cond) is = omega arith
-higher_suc depth (Plain line) is = refl
+higher_suc zero (Word End) is = refl
+higher_suc zero line is = cc
+higher_suc (suc depth) (Word End) is = omega arith
+higher_suc (suc depth) line is = omega arith
 
 higher_one : (line : BlockLine) → begins line ≡ true → higher 1 line ≡ 0
 higher_one line is = ap (λ (t : Bool). cond t (1 - 1) (cond (ends line) (1 + 1) 1)) is
@@ -79,19 +62,7 @@ depth_within lines i = depth_from_within lines 0 i
 -- a `leave` begins and ends no block
 pub leave_deeper : (line : BlockLine) (depth : ℕ) → is_leave line ≡ true → deeper depth line ≡ depth
 leave_deeper (Word Leave) depth is = refl
-leave_deeper (Word Return) depth is = refl
-leave_deeper (Word Else) depth is = refl
-leave_deeper (Word Or) depth is = refl
-leave_deeper (Word Repeat) depth is = cc
-leave_deeper (Word Forever) depth is = cc
-leave_deeper (Word Either) depth is = cc
-leave_deeper (Word End) depth is = cc
-leave_deeper (Call call) depth is = refl
-leave_deeper (Plain line) depth is = refl
-leave_deeper (Try call) depth is = cc
-leave_deeper (If flag) depth is = cc
-leave_deeper (Until flag value) depth is = cc
-leave_deeper (TimedSleep cond) depth is = cc
+leave_deeper line depth is = cc
 
 -- what the list of the depths has for a line
 pub depth_at : (lines : List BlockLine) (depths : List ℕ) (n i : ℕ) → depths ≡ each_below (loop_depth lines) n → i < n
@@ -99,22 +70,6 @@ pub depth_at : (lines : List BlockLine) (depths : List ℕ) (n i : ℕ) → dept
 depth_at lines depths n i are less =
     ap (λ (list : List ℕ). get_or list i 0) are
     ∙ get_or_from_slice_get (each_below (loop_depth lines) n) i (loop_depth lines i) 0 (each_get (loop_depth lines) n i less)
-
-loop_begins : (line : BlockLine) → is_loop line ≡ true → begins line ≡ true
-loop_begins (Until flag value) is = refl
-loop_begins (Word Repeat) is = refl
-loop_begins (Word Forever) is = refl
-loop_begins (Word Either) is = cc
-loop_begins (Word Else) is = cc
-loop_begins (Word Or) is = cc
-loop_begins (Word End) is = cc
-loop_begins (Word Leave) is = cc
-loop_begins (Word Return) is = cc
-loop_begins (Call call) is = cc
-loop_begins (Try call) is = cc
-loop_begins (If flag) is = cc
-loop_begins (TimedSleep cond) is = cc
-loop_begins (Plain line) is = cc
 
 -- how many are open after a line
 module _ (lines : List BlockLine) (i : ℕ) where
@@ -125,23 +80,8 @@ module _ (lines : List BlockLine) (i : ℕ) where
   next : loop_depth lines (i + 1) ≡ after (begins (line_at lines i)) (is_loop (line_at lines i)) (ends (line_at lines i))
   next = ap (loop_depth lines) (let e : i + 1 ≡ suc i = omega arith in e)
 
-  pub after_loop : is_loop (line_at lines i) ≡ true → 1 ≡ loop_depth lines (i + 1)
-  after_loop is =
-      sym (next ∙ ap (λ (t : Bool). after t (is_loop (line_at lines i)) (ends (line_at lines i))) (loop_begins (line_at lines i) is)
-      ∙ ap (λ (t : Bool). after true t (ends (line_at lines i))) is)
-
-  pub after_begin : is_loop (line_at lines i) ≡ false → begins (line_at lines i) ≡ true → loop_depth lines i + 1 ≡ loop_depth lines (i + 1)
-  after_begin no_loop is =
-      sym (next ∙ ap (λ (t : Bool). after t (is_loop (line_at lines i)) (ends (line_at lines i))) is
-      ∙ ap (λ (t : Bool). after true t (ends (line_at lines i))) no_loop)
-
   pub after_end : begins (line_at lines i) ≡ false → ends (line_at lines i) ≡ true
       → loop_depth lines (beginning lines i) ≡ loop_depth lines (i + 1)
   after_end no_begin is =
       sym (next ∙ ap (λ (t : Bool). after t (is_loop (line_at lines i)) (ends (line_at lines i))) no_begin
       ∙ ap (λ (t : Bool). after false (is_loop (line_at lines i)) t) is ∙ block_past lines 0 i)
-
-  pub after_other : begins (line_at lines i) ≡ false → ends (line_at lines i) ≡ false → loop_depth lines i ≡ loop_depth lines (i + 1)
-  after_other no_begin no_end =
-      sym (next ∙ ap (λ (t : Bool). after t (is_loop (line_at lines i)) (ends (line_at lines i))) no_begin
-      ∙ ap (λ (t : Bool). after false (is_loop (line_at lines i)) t) no_end)

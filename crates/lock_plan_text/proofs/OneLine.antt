@@ -94,10 +94,6 @@ step_by_word true Withdraw ok = refl
 step_by_word false (Modes (Acquire Exclusive)) ok = refl
 step_by_word false (Modes (Release Exclusive)) ok = refl
 step_by_word true (Modes (Change Shared Shared)) ok = absurd (false≢true ok)
-step_by_word true (Modes (Change Shared Exclusive)) ok = absurd (false≢true ok)
-step_by_word true (Modes (Change Shared Upgradable)) ok = absurd (false≢true ok)
-step_by_word true (Modes (Change Exclusive Exclusive)) ok = absurd (false≢true ok)
-step_by_word true (Modes (Change Upgradable Upgradable)) ok = absurd (false≢true ok)
 step_by_word false (Modes (Change from to)) ok = absurd (not_and (is_move from to) ok)
 step_by_word is_rwlock step ok = absurd (false≢true ok)
 
@@ -119,17 +115,11 @@ line_by_word (Named word) ok = named_by_word word
 
 same_manner : (bar fair flag line : Bool) → (bar && fair) ≡ false → (flag && line) ≡ false → manner_fields bar fair ≡ manner_fields flag line
     → (bar ≡ flag) × (fair ≡ line)
-same_manner true true flag line ok good same = cc
-same_manner true false true true ok good same = cc
 same_manner true false true false ok good same = (refl, refl)
 same_manner true false false true ok good same = cc
-same_manner true false false false ok good same = cc
-same_manner false true true line ok good same = cc
 same_manner false true false true ok good same = (refl, refl)
-same_manner false true false false ok good same = cc
-same_manner false false true line ok good same = cc
-same_manner false false false true ok good same = cc
 same_manner false false false false ok good same = (refl, refl)
+same_manner bar fair flag line ok good same = cc
 
 same_limits : (kind : Kind) (limit other : ℕ) (bar fair flag line : Bool) → IsLineLock kind limit bar fair → IsLineLock kind other flag line
     → limit_fields kind limit bar fair ≡ limit_fields kind other flag line → (limit ≡ other) × ((bar ≡ flag) × (fair ≡ line))
@@ -218,37 +208,24 @@ by_block_word word =
 block_by_word : (word : BlockWord) → by_block_word (block_word word) ≡ Some word
 unfolding by_block_word
 block_by_word block.Repeat = refl
-block_by_word block.Forever = refl
-block_by_word block.Either = refl
-block_by_word block.Else = refl
-block_by_word block.Or = refl
-block_by_word block.End = refl
-block_by_word block.Leave = refl
-block_by_word block.Return = refl
+block_by_word word = refl
 
 same_words : (word other : BlockWord) → block_word word ≡ block_word other → word ≡ other
 same_words word other is =
     let known : Some word ≡ Some other = sym (block_by_word word) ∙ (ap by_block_word is ∙ block_by_word other) in cc
 
-no_try : by_word (codes "try") ≡ None
-unfolding by_word
-no_try = refl
-
 no_repeat : by_word (codes "repeat") ≡ None
 unfolding by_word
 no_repeat = refl
 
-no_assert : by_word (codes "assert") ≡ None
-unfolding by_word
-no_assert = refl
-
-no_wait : by_word (codes "wait") ≡ None
-unfolding by_word
-no_wait = refl
-
--- a line about a name is no try and no wait
+-- a line about a name begins with another word than the others
 other_word : (line : PlanLine) (word : List ℕ) → by_word word ≡ None → IsPlanLine line → line_word line ≡ word → ⊥
 other_word line word none ok is = let known : Some (bare line) ≡ None = sym (line_by_word line ok) ∙ (ap by_word is ∙ none) in cc
+
+no_plan : (line : PlanLine) (name : List ℕ) (fields : List (List ℕ)) → IsPlanLine line → plan_fields line name ≡ fields
+    → by_word (get_or fields 0 []) ≡ None → ⊥
+no_plan line name fields ok same none =
+    other_word line (get_or fields 0 []) none ok (ap (λ (fs : List (List ℕ)). get_or fs 0 []) same)
 
 pub is_no_repeat : (line : PlanLine) → IsPlanLine line → line_word line ≡ codes "repeat" → ⊥
 is_no_repeat line ok is = other_word line (codes "repeat") no_repeat ok is
@@ -275,6 +252,17 @@ pub apart : (word other : List ℕ) (last more : List (List ℕ)) → bytes_eq w
     → word ∷ last ≡ other ∷ more → ⊥
 apart word other last more differ itself same =
     false≢true (sym differ ∙ ap (λ (fields : List (List ℕ)). bytes_eq (get_or fields 0 []) other) same ∙ itself)
+
+-- a number for each first field but those of plans and blocks
+abbrev first_word : List (List ℕ) → ℕ
+first_word fields =
+    let word = get_or fields 0 [] in
+    cond (bytes_eq word (codes "try")) 1
+    (cond (bytes_eq word (codes "repeat")) 2
+    (cond (bytes_eq word (codes "assert")) 3
+    (cond (bytes_eq word (codes "wait")) 4
+    (cond (bytes_eq word (codes "or")) 5
+    (cond (bytes_eq word (codes "until")) 6 0)))))
 
 same_look : (value other : Bool) (flag another : List ℕ) → look_fields value flag ≡ look_fields other another
     → (value ≡ other) × (flag ≡ another)
@@ -319,72 +307,34 @@ same_until (wait.Until value) (wait.UntilOrTimeout other) flag another ok good s
 same_until (wait.UntilOrTimeout value) (wait.Until other) flag another ok good same =
     let looks : look_fields other another ≡ look_fields value flag ++ timeout_fields = cc in
     absurd (no_time other value another flag looks)
-same_until wait.OrTimeout (wait.Until other) flag another ok good same = absurd (apart (codes "or") (codes "until") _ _ refl refl same)
-same_until wait.OrTimeout (wait.UntilOrTimeout other) flag another ok good same =
-    absurd (apart (codes "or") (codes "until") _ _ refl refl same)
-same_until (wait.Until value) wait.OrTimeout flag another ok good same = absurd (apart (codes "until") (codes "or") _ _ refl refl same)
-same_until (wait.UntilOrTimeout value) wait.OrTimeout flag another ok good same =
-    absurd (apart (codes "until") (codes "or") _ _ refl refl same)
-same_until wait other flag another ok good same = cc
+same_until wait other flag another ok good same =
+    let words : first_word (until_fields wait flag) ≡ first_word (until_fields other another) = ap first_word same in cc
 
 pub one_line : (line other : TextLine) (names others : TextNames) → IsTextLine line → IsTextLine other → IsNamed line names
     → IsNamed other others → text_fields line names ≡ text_fields other others → (line ≡ other) × (names ≡ others)
+unfolding by_word
 one_line (text.Plan line) (text.Plan other) names others ok good named called same =
     let both = one_plan_line line other names.name others.name ok good same in
     (ap text.Plan both.0, same_one names others named called both.1)
-one_line (text.Plan line) (text.Try is_rwlock step) names others ok good named called same =
-    let word : line_word line ≡ codes "try" = cc in absurd (other_word line (codes "try") no_try ok word)
-one_line (text.Plan line) (text.Until value) names others ok good named called same =
-    let word : line_word line ≡ codes "repeat" = cc in absurd (other_word line (codes "repeat") no_repeat ok word)
-one_line (text.Plan line) (text.Assert value) names others ok good named called same =
-    let word : line_word line ≡ codes "assert" = cc in absurd (other_word line (codes "assert") no_assert ok word)
-one_line (text.Plan line) (text.Wait wait) names others ok good named called same =
-    let word : line_word line ≡ codes "wait" = cc in absurd (other_word line (codes "wait") no_wait ok word)
-one_line (text.Try is_rwlock step) (text.Plan other) names others ok good named called same =
-    let word : line_word other ≡ codes "try" = cc in absurd (other_word other (codes "try") no_try good word)
+one_line (text.Plan line) (text.Word word) names others ok good named called same = cc
+one_line (text.Word word) (text.Plan line) names others ok good named called same = cc
+one_line (text.Plan line) other names others ok good named called same =
+    absurd (no_plan line names.name (text_fields other others) ok same refl)
+one_line line (text.Plan other) names others ok good named called same =
+    absurd (no_plan other others.name (text_fields line names) good (sym same) refl)
 one_line (text.Try is_rwlock step) (text.Try for_rwlock other) names others ok good named called same =
     let words : step_word is_rwlock step ≡ step_word for_rwlock other = cc in
     let name : names.name ≡ others.name = cc in
     let both = one_verb is_rwlock for_rwlock step other ok.0 good.0 words in
     (ap (λ (b : Bool). text.Try b step) both.0 ∙ ap (text.Try for_rwlock) both.1, same_one names others named called name)
-one_line (text.Try is_rwlock step) (text.Until value) names others ok good named called same =
-    absurd (apart (codes "try") (codes "repeat") _ _ refl refl same)
-one_line (text.Try is_rwlock step) (text.Assert value) names others ok good named called same =
-    absurd (apart (codes "try") (codes "assert") _ _ refl refl same)
-one_line (text.Try is_rwlock step) (text.Wait wait) names others ok good named called same =
-    absurd (apart (codes "try") (codes "wait") _ _ refl refl same)
-one_line (text.Until value) (text.Plan other) names others ok good named called same =
-    let word : line_word other ≡ codes "repeat" = cc in absurd (other_word other (codes "repeat") no_repeat good word)
-one_line (text.Until value) (text.Try for_rwlock other) names others ok good named called same =
-    absurd (apart (codes "repeat") (codes "try") _ _ refl refl same)
 one_line (text.Until value) (text.Until other) names others ok good named called same =
     let looks : look_fields value names.name ≡ look_fields other others.name = cc in
     let both = same_look value other names.name others.name looks in
     (ap text.Until both.0, same_one names others named called both.1)
-one_line (text.Until value) (text.Assert other) names others ok good named called same =
-    absurd (apart (codes "repeat") (codes "assert") _ _ refl refl same)
-one_line (text.Until value) (text.Wait wait) names others ok good named called same =
-    absurd (apart (codes "repeat") (codes "wait") _ _ refl refl same)
-one_line (text.Assert value) (text.Plan other) names others ok good named called same =
-    let word : line_word other ≡ codes "assert" = cc in absurd (other_word other (codes "assert") no_assert good word)
-one_line (text.Assert value) (text.Try for_rwlock other) names others ok good named called same =
-    absurd (apart (codes "assert") (codes "try") _ _ refl refl same)
-one_line (text.Assert value) (text.Until other) names others ok good named called same =
-    absurd (apart (codes "assert") (codes "repeat") _ _ refl refl same)
 one_line (text.Assert value) (text.Assert other) names others ok good named called same =
     let looks : look_fields value names.name ≡ look_fields other others.name = cc in
     let both = same_look value other names.name others.name looks in
     (ap text.Assert both.0, same_one names others named called both.1)
-one_line (text.Assert value) (text.Wait wait) names others ok good named called same =
-    absurd (apart (codes "assert") (codes "wait") _ _ refl refl same)
-one_line (text.Wait wait) (text.Plan other) names others ok good named called same =
-    let word : line_word other ≡ codes "wait" = cc in absurd (other_word other (codes "wait") no_wait good word)
-one_line (text.Wait wait) (text.Try for_rwlock other) names others ok good named called same =
-    absurd (apart (codes "wait") (codes "try") _ _ refl refl same)
-one_line (text.Wait wait) (text.Until value) names others ok good named called same =
-    absurd (apart (codes "wait") (codes "repeat") _ _ refl refl same)
-one_line (text.Wait wait) (text.Assert value) names others ok good named called same =
-    absurd (apart (codes "wait") (codes "assert") _ _ refl refl same)
 one_line (text.Wait wait) (text.Wait other) names others ok good named called same =
     let name : names.name ≡ others.name = cc in
     let mutex : names.mutex ≡ others.mutex = cc in
@@ -398,4 +348,5 @@ one_line (text.Word word) (text.Assert value) names others ok good named called 
     let none : [] ≡ look_fields value others.name = cc in absurd (some_look value others.name none)
 one_line (text.Assert value) (text.Word word) names others ok good named called same =
     let none : [] ≡ look_fields value names.name = cc in absurd (some_look value names.name none)
-one_line line other names others ok good named called same = cc
+one_line line other names others ok good named called same =
+    let words : first_word (text_fields line names) ≡ first_word (text_fields other others) = ap first_word same in cc

@@ -18,10 +18,8 @@ use Rattle.lock_plan_text.proofs.Mentions.{Met, met_all}
 use Rattle.lock_plan_text.proofs.Origins.{made_of}
 
 not_told : (draft : Draft) (o : Option PlanFault) (number : ℕ) → option_map (by_line draft) o ≡ Some (UnknownParty number) → ⊥
-not_told draft None number is = cc
-not_told draft (Some (plan.Call p k why)) number is = cc
 not_told draft (Some plan.TooLarge) number is = cc
-not_told draft (Some plan.OutOfMemory) number is = cc
+not_told draft o number is = cc
 
 not_begun : (draft : Draft) (o : Option ℕ) (number : ℕ) → or_plan_fault draft o ≡ Some (UnknownParty number) → ⊥
 not_begun draft (Some line) number is = cc

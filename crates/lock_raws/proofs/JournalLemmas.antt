@@ -77,15 +77,6 @@ module _ {K : Type 0} where
         (IsJournalOf-journal_after limit (bag_of_tokens old) journal step recording.kept made.permitted);
   }
 
-  -- after a call that made none
-  pub recording_kept : {old new : List (K × Mode)} {limit limit' : ℕ} {journal journal' : Journal} → IsRecording old limit journal
-      → new ≡ old → limit' ≡ limit → journal' ≡ journal
-      → IsRecording new limit' journal'
-  recording_kept recording same same_limit same_journal = record {
-    lawful = subst IsLimit (sym same_limit) recording.lawful;
-    kept = journal_along same_limit (ap bag_of_tokens same) same_journal recording.kept;
-  }
-
   -- with no token held, and nothing recorded
   pub new_recording : {ts : List (K × Mode)} {limit : ℕ} {journal : Journal} (room : ℕ) → IsLimit limit → ts ≡ [] → journal ≡ empty_journal room
       → IsRecording ts limit journal

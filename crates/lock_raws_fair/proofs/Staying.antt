@@ -114,11 +114,6 @@ staying_first next first left within stays =
     let e : next - first ≡ suc (next - (first + 1)) = omega arith in
     rw (e, low_stays left stays) refl
 
-pub staying_none : (next first left : ℕ) → next ≤ first → staying (next - first) first left ≡ []
-staying_none next first left none =
-    let e : next - first ≡ 0 = omega arith in
-    rw e refl
-
 pub none_behind_half : (n m left : ℕ) → n ≡ suc m → ((i : ℕ) → n ≤ i → bit_at left i ≡ 0) → (i : ℕ) → m ≤ i → bit_at (left / 2) i ≡ 0
 none_behind_half n m left is none i behind = sym (bit_at-suc left i) ∙ none (suc i) (omega arith)
 

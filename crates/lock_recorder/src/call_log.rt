@@ -18,23 +18,19 @@ impl CallLog {
     pub fn new(alloc: Global) -> Result<CallLog, Fault>
         ensures { IsOkUnless result Fault.OutOfMemory }
     {
-        match Arc::new(alloc, Mutex::new(Vec::new(alloc))) {
-            Ok(list) => Ok(CallLog { list, alloc }),
-            Err(_) => Err(Fault::OutOfMemory),
-        }
+        let list = Arc::new(alloc, Mutex::new(Vec::new(alloc)))?;
+        Ok(CallLog { list, alloc })
     }
 
     /// Returns the same list again.
     pub fn another(&self) -> Result<CallLog, Fault>
         ensures { IsOkUnless result Fault.OutOfMemory }
     {
-        match Arc::try_clone(&self.list) {
-            Ok(list) => Ok(CallLog {
-                list,
-                alloc: self.alloc,
-            }),
-            Err(_) => Err(Fault::OutOfMemory),
-        }
+        let list = Arc::try_clone(&self.list)?;
+        Ok(CallLog {
+            list,
+            alloc: self.alloc,
+        })
     }
 
     /// Appends a call. Without memory it is left out.

@@ -1,20 +1,20 @@
 //! The guard of a held lock.
 mod mapped;
-mod read;
 mod upgradable;
 mod write;
 
 ghost use Rattle.std.specs.Prelude.{◌≡◌, true, Some, IfOk, IfErr};
 ghost use Rattle.std.specs.Borrow.{Lends, sem};
+ghost use Rattle.lock_guard.specs.Held.{held_value, held_with_value};
+ghost use Rattle.lock_rwlock.specs.RwLockGuard.{held_of, IsGuardOf};
 
 use crate::lock::RwLock;
-use crate::mode::{InMode, ShowMode};
+use crate::mode::{InMode, Shared, ShowMode};
 use lock_guard::guard::{
     Acquire, AcquireFair, Held, LockGuard, LockGuardMut, ValueGuard, ValueGuardMut,
 };
 use lock_guard::raw::RawRwLock;
 pub use mapped::{Mappable, MappedRwLockReadGuard, MappedRwLockWriteGuard};
-pub use read::RwLockReadGuard;
 use std::fmt;
 use std::ops::{Deref, DerefMut};
 pub use upgradable::RwLockUpgradableReadGuard;
@@ -30,6 +30,9 @@ pub struct RwLockGuard<L: Acquire> {
     pub(crate) held: Held<L>,
 }
 
+/// A read guard: it reads the value, next to other readers, and releases the lock on drop.
+pub type RwLockReadGuard<'a, R, T> = RwLockGuard<InMode<'a, Shared, R, T>>;
+
 /// Makes the guard of a lock and its token, as `held!`.
 macro_rules! guard {
     ($rwlock:expr, $token:expr) => {
@@ -43,8 +46,6 @@ macro_rules! guard {
 pub(crate) use guard;
 
 impl<L: Acquire> RwLockGuard<L> {
-    ghost use Rattle.lock_rwlock.specs.RwLockGuard.{held_of};
-
     /// Releases the lock, runs `f`, and reacquires the lock in the same mode, blocking until it is available.
     pub fn unlocked<U, F: FnOnce() -> U>(guard: &mut Self, f: F) -> U
         requires { F.IsAlwaysCallable f }
@@ -56,8 +57,6 @@ impl<L: Acquire> RwLockGuard<L> {
 }
 
 impl<'a, M: ShowMode<'a, R, T>, R: RawRwLock, T> RwLockGuard<InMode<'a, M, R, T>> {
-    ghost use Rattle.lock_rwlock.specs.RwLockGuard.{IsGuardOf};
-
     /// Makes the guard of a token if the value's lock is free. Otherwise returns the token.
     pub(crate) fn try_new(rwlock: &'a RwLock<R, T>, token: M::Token) -> Result<Self, M::Token>
         requires { M.is_own rwlock.now.raw token ≡ true }
@@ -80,6 +79,13 @@ impl<'a, M: ShowMode<'a, R, T>, R: RawRwLock, T> RwLockGuard<InMode<'a, M, R, T>
         }
     }
 
+    /// Returns the lock of the guard.
+    pub fn rwlock(guard: &Self) -> &'a RwLock<R, T>
+        ensures { IsGuardOf result guard.now }
+    {
+        guard.held.lock.rwlock
+    }
+
     /// Releases the value's lock, and returns the lock with its token.
     pub(crate) fn into_token(self) -> (&'a RwLock<R, T>, M::Token)
         ensures lock { IsGuardOf result.0 self.entry }
@@ -91,8 +97,6 @@ impl<'a, M: ShowMode<'a, R, T>, R: RawRwLock, T> RwLockGuard<InMode<'a, M, R, T>
 }
 
 impl<L: AcquireFair> RwLockGuard<L> {
-    ghost use Rattle.lock_rwlock.specs.RwLockGuard.{held_of};
-
     /// Releases the lock by a fair release.
     pub fn unlock_fair(guard: Self) {
         guard.held.unlock_fair();
@@ -116,9 +120,6 @@ impl<L: AcquireFair> RwLockGuard<L> {
 }
 
 impl<L: Acquire> Deref for RwLockGuard<L> {
-    ghost use Rattle.lock_guard.specs.Held.{held_value};
-    ghost use Rattle.lock_rwlock.specs.RwLockGuard.{held_of};
-
     type Target = <L::Shown as ValueGuard>::Value;
 
     ghost deref_gives = { λ guard value. held_value L.Shown.value_of (held_of guard) ≡ Some value };
@@ -133,8 +134,6 @@ where
     L::Shown: ValueGuardMut,
 {
     ghost use Rattle.lock_rwlock.specs.contracts.guard.RwLockGuard.{the_row};
-    ghost use Rattle.lock_guard.specs.Held.{held_value, held_with_value};
-    ghost use Rattle.lock_rwlock.specs.RwLockGuard.{held_of};
 
     ghost deref_mut_gives = { λ guard value. held_value L.Shown.value_of (held_of guard) ≡ Some value };
 

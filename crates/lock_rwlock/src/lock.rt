@@ -2,6 +2,8 @@
 ghost use Rattle.std.specs.Prelude.{◌≡◌, ◌↔◌, IfSome, IfOk, IfErr, IsOkAnd, IsOkUnless};
 ghost use Rattle.lock_base.specs.Limits.{IsLimit, IsMakerFault};
 ghost use Rattle.lock_guard.specs.Closure.{ReadsSomeValue, AnswersSomeValue};
+ghost use Rattle.lock_rwlock.specs.RwLock.{raw_of};
+ghost use Rattle.lock_rwlock.specs.RwLockGuard.{IsGuardOf};
 
 use crate::guard::{RwLockReadGuard, RwLockUpgradableReadGuard, RwLockWriteGuard, guard};
 use lock_base::raw::{DEFAULT_READERS, Fault};
@@ -21,9 +23,6 @@ pub struct RwLock<R, T> {
 }
 
 impl<R: RawRwLock, T> RwLock<R, T> {
-    ghost use Rattle.lock_rwlock.specs.RwLock.{raw_of};
-    ghost use Rattle.lock_rwlock.specs.RwLockGuard.{IsGuardOf};
-
     /// Makes an unlocked lock over a new raw lock with `DEFAULT_READERS`. The value is dropped if there is no memory.
     pub fn new(alloc: Global, waiter: R::Waiter, value: T) -> Result<RwLock<R, T>, Fault>
     where
@@ -171,8 +170,6 @@ impl<R: RawRwLock, T> RwLock<R, T> {
 }
 
 impl<R: RawRwLockTimed, T> RwLock<R, T> {
-    ghost use Rattle.lock_rwlock.specs.RwLockGuard.{IsGuardOf};
-
     /// Tries to acquire the lock shared for at most `timeout`.
     pub fn try_read_for(&self, timeout: R::Duration) -> Option<RwLockReadGuard<'_, R, T>>
         ensures { IfSome result (IsGuardOf self.entry) }
@@ -203,8 +200,6 @@ impl<R: RawRwLockTimed, T> RwLock<R, T> {
 }
 
 impl<R: RawRwLockUpgrade, T> RwLock<R, T> {
-    ghost use Rattle.lock_rwlock.specs.RwLockGuard.{IsGuardOf};
-
     /// Acquires the lock upgradable, blocking until it is available. The guard reads, and can become the writer.
     pub fn upgradable_read(&self) -> RwLockUpgradableReadGuard<'_, R, T>
         ensures { IsGuardOf self.entry result }
@@ -221,8 +216,6 @@ impl<R: RawRwLockUpgrade, T> RwLock<R, T> {
 }
 
 impl<R: RawRwLockUpgradeTimed, T> RwLock<R, T> {
-    ghost use Rattle.lock_rwlock.specs.RwLockGuard.{IsGuardOf};
-
     /// Tries to acquire the lock upgradable for at most `timeout`.
     pub fn try_upgradable_read_for(
         &self,

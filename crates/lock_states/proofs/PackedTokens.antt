@@ -86,9 +86,6 @@ bag_of_tokens_in b =
     ∙ same_counts (plus (plus (plus empty_bag Upgradable b.upgradable) Exclusive b.exclusive) Shared b.shared) b
     (omega arith) (omega arith) (omega arith)
 
-pub length_of_tokens_in : (b : Bag) → length (tokens_in b) ≡ tokens b
-length_of_tokens_in b = sym (tokens-bag_of_tokens (tokens_in b)) ∙ ap tokens (bag_of_tokens_in b)
-
 -- a held token
 
 -- the token is not that of its mode

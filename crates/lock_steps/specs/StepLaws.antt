@@ -99,11 +99,6 @@ pub record Acquires (want : ExWant) (announced : Bool) (v : SleeperView) : Type 
 abbrev pub Acquiring : WordCall → SleeperView → Type 0
 Acquiring call v = Acquires call.want call.announced v
 
--- the party's open load admits what it wants
-pub record MayTry (call : WordCall) (v : SleeperView) : Type 0 where
-  pub loaded : v.state.loaded ≡ Some call.loaded
-  pub admits : IsTrue (word_admits call.announced call.readers call.loaded call.want)
-
 -- what a party that acquired this may release
 abbrev pub gained : ExWant → LockStep
 gained want.Shared = Modes (Release mode.Shared)

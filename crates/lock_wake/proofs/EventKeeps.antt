@@ -19,13 +19,6 @@ at_length [] i a e = absurd (some-ne-none a (sym e))
 at_length (x ∷ xs) zero a e = omega arith
 at_length (x ∷ xs) (suc i) a e = let h = at_length xs i a e in omega arith
 
--- the new one is the last
-snoc_is_last : {A : Type 0} (l : List A) (a b : A) (i : ℕ) → get_elem? (l ++ a ∷ []) i ≡ some b → length l ≤ i → a ≡ b
-snoc_is_last [] a b zero e h = some-injective a b e
-snoc_is_last [] a b (suc i) e h = absurd (some-ne-none b (sym e))
-snoc_is_last (x ∷ xs) a b zero e h = absurd (omega arith)
-snoc_is_last (x ∷ xs) a b (suc i) e h = snoc_is_last xs a b i e (omega arith)
-
 sum_set : (l : List CallStage) (i : ℕ) (a b : CallStage) → get_elem? l i ≡ some a
     → counts_of (set l i b) + count_of a ≡ counts_of l + count_of b
 sum_set [] i a b e = absurd (some-ne-none a (sym e))

@@ -1,6 +1,5 @@
 -- Lines that are made from the last one on.
-use Rattle.std.proofs.Common.{◌≡◌, ℕ, zero, suc, ◌≤◌, ◌<◌, ◌+◌, List, [], ◌∷◌, ◌++◌, length, map, refl, ap, ◌∙◌, subst, arith, append_assoc, length-append}
-use Rattle.std.proofs.lemmas.List.{map-append}
+use Rattle.std.proofs.Common.{◌≡◌, ℕ, zero, suc, ◌≤◌, ◌<◌, ◌+◌, List, ◌∷◌, ◌++◌, length, map, refl, subst, arith, length-append}
 use Rattle.lockexplore.specs.declared.lines.made.PlainLine.{PlainLine}
 use Rattle.lockexplore.specs.PlainLines.{IsLong, NumberedLine, line_of, put_down_from, text_of}
 
@@ -9,25 +8,6 @@ pub record IsLeft (P : List NumberedLine → Type 0) (left : List PlainLine) (al
   pub rest : List NumberedLine
   pub whole : all ≡ map line_of left ++ rest
   pub made : P rest
-
--- one line more is made
-pub next_left : (P Q : List NumberedLine → Type 0) (old new : List PlainLine) (line : PlainLine) (all : List NumberedLine)
-    → IsLeft P old all → old ≡ new ++ line ∷ [] → ((rest : List NumberedLine) → P rest → Q (line_of line ∷ rest)) → IsLeft Q new all
-next_left P Q old new line all was parts step = record {
-  rest = line_of line ∷ was.rest;
-  whole = was.whole ∙ ap (λ (ls : List PlainLine). map line_of ls ++ was.rest) parts
-      ∙ ap (λ (ls : List NumberedLine). ls ++ was.rest) (map-append line_of new (line ∷ []))
-      ∙ append_assoc (map line_of new) (line_of line ∷ []) was.rest;
-  made = step was.rest was.made;
-}
-
--- lines before others do not make them shorter
-pub length-text_of : (lines more : List NumberedLine) → length (text_of (lines ++ more)) ≡ length (text_of lines) + length (text_of more)
-length-text_of [] more = omega arith
-length-text_of (line ∷ lines) more =
-    let below = length-text_of lines more in
-    length-append line.text (10 ∷ text_of (lines ++ more))
-    ∙ omega (arith, below, length-append line.text (10 ∷ text_of lines))
 
 pub put_is_longer : (n : ℕ) (add : ℕ → List NumberedLine → List NumberedLine) (lines : List NumberedLine)
     → ((k : ℕ) (below : List NumberedLine) → length (text_of below) ≤ length (text_of (add k below)))

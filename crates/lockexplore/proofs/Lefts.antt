@@ -12,26 +12,18 @@ use Rattle.lockexplore.specs.Befores.{IsPushed, parts_text, parts_words, left_te
 text_step : (t : Bool) (before : Before) (byte : ℕ) (parts : List (List ℕ))
     → pushed_by t before byte ++ parts_text (next_by t before) parts ≡ parts_text before (cond t ([] ∷ parts) (onto_first byte parts))
 text_step true Nothing byte parts = refl
-text_step true Word byte parts = refl
-text_step true Blank byte parts = refl
 text_step false Nothing byte [] = refl
 text_step false Word byte [] = refl
 text_step false Blank byte [] = refl
-text_step false Nothing byte (part ∷ parts) = refl
-text_step false Word byte (part ∷ parts) = refl
-text_step false Blank byte (part ∷ parts) = refl
+text_step t before byte parts = refl
 
 words_step : (t : Bool) (before : Before) (byte : ℕ) (parts : List (List ℕ))
     → parts_words (next_by t before) parts ≡ parts_words before (cond t ([] ∷ parts) (onto_first byte parts))
 words_step true Nothing byte parts = refl
-words_step true Word byte parts = refl
-words_step true Blank byte parts = refl
 words_step false Nothing byte [] = refl
 words_step false Word byte [] = refl
 words_step false Blank byte [] = refl
-words_step false Nothing byte (part ∷ parts) = refl
-words_step false Word byte (part ∷ parts) = refl
-words_step false Blank byte (part ∷ parts) = refl
+words_step t before byte parts = refl
 
 pub left_after : (before : Before) (byte : ℕ) (line : List ℕ)
     → pushed_by (is_blank byte) before byte ++ left_text (next_by (is_blank byte) before) line ≡ left_text before (byte ∷ line)

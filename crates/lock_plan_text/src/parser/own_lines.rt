@@ -5,7 +5,7 @@ ghost use Rattle.lock_base.specs.declared.machine.lock_step.LockStep.TheVariants
 ghost use Rattle.lock_base.specs.declared.machine.mode.Mode.TheVariants.{Exclusive};
 ghost use Rattle.lock_base.specs.declared.machine.mode_step.ModeStep.TheVariants.{Acquire, Release};
 ghost use Rattle.lock_plan.specs.Worlds.{no_lock};
-ghost use Rattle.lock_plan_text.specs.Drafts.{mutex_call, mutex_step, named_call, named_line, no_step, one_line, own_lines, place_of, sleep_lines, step_on, timed_lines, timed_until_lines, until_lines};
+ghost use Rattle.lock_plan_text.specs.Drafts.{mutex_call, mutex_step, named_call, named_line, no_step, one_line, own_lines, step_on};
 ghost use Rattle.lock_plan_text.specs.Drafted.{drafted};
 ghost use Rattle.lock_plan_text.specs.declared.parser.text_line.TextLine.TheVariants as text;
 ghost use Rattle.lock_plan_text.specs.PlanLines.{names_of};
@@ -98,105 +98,26 @@ impl PlanDraft {
         let Some(lock) = self.names.locks.place_of(names.mutex) else {
             return Ok(None);
         };
-        match wait {
-            WaitLine::Once => self.sleep_lines(alloc, cond, lock),
-            WaitLine::Until(value) => self.until_lines(alloc, value, cond, lock, names.flag),
-            WaitLine::OrTimeout => self.timed_lines(alloc, cond, lock),
-            WaitLine::UntilOrTimeout(value) => {
-                self.timed_until_lines(alloc, value, cond, lock, names.flag)
+        let unlock = BlockLine::Call(self.unlock(lock));
+        let lock = BlockLine::Call(self.lock(lock));
+        let sleep = BlockLine::Plain(PlainLine::Sleep(cond));
+        let timed = BlockLine::TimedSleep(cond);
+        let part = BlockLine::Word(BlockWord::Else);
+        let end = BlockLine::Word(BlockWord::End);
+        let leave = BlockLine::Word(BlockWord::Leave);
+        let lines = match (wait, self.names.flags.place_of(names.flag)) {
+            (WaitLine::Once, _) => vec![in alloc; unlock, sleep, lock]?,
+            (WaitLine::OrTimeout, _) => vec![in alloc; unlock, timed, part, end, lock]?,
+            (WaitLine::Until(value), Some(flag)) => {
+                let until = BlockLine::Until(flag, value);
+                vec![in alloc; until, unlock, sleep, lock, end]?
             }
-        }
-    }
-
-    /// Returns the lines of one wait.
-    fn sleep_lines(
-        &self,
-        alloc: Global,
-        cond: usize,
-        lock: usize,
-    ) -> Result<Option<Vec<BlockLine>>, AllocError>
-        ensures { IfOk result (λ lines. option_map (λ v. v.items) lines
-            ≡ Some (sleep_lines (drafted self.now) cond lock)) }
-    {
-        let mut lines = Vec::new(alloc);
-        lines.push(BlockLine::Call(self.unlock(lock)))?;
-        lines.push(BlockLine::Plain(PlainLine::Sleep(cond)))?;
-        lines.push(BlockLine::Call(self.lock(lock)))?;
-        Ok(Some(lines))
-    }
-
-    /// Returns the lines of a loop of waits, which a party leaves where the flag has this value, unless the flag has no
-    /// line.
-    fn until_lines(
-        &self,
-        alloc: Global,
-        value: bool,
-        cond: usize,
-        lock: usize,
-        flag: &str,
-    ) -> Result<Option<Vec<BlockLine>>, AllocError>
-        ensures { IfOk result (λ lines. option_map (λ v. v.items) lines
-            ≡ option_map (until_lines (drafted self.now) value cond lock)
-            (place_of (drafted self.now).flag_names flag.now)) }
-    {
-        let Some(flag) = self.names.flags.place_of(flag) else {
-            return Ok(None);
+            (WaitLine::UntilOrTimeout(value), Some(flag)) => {
+                let until = BlockLine::Until(flag, value);
+                vec![in alloc; until, unlock, timed, lock, part, lock, leave, end, end]?
+            }
+            _ => return Ok(None),
         };
-        let mut lines = Vec::new(alloc);
-        lines.push(BlockLine::Until(flag, value))?;
-        lines.push(BlockLine::Call(self.unlock(lock)))?;
-        lines.push(BlockLine::Plain(PlainLine::Sleep(cond)))?;
-        lines.push(BlockLine::Call(self.lock(lock)))?;
-        lines.push(BlockLine::Word(BlockWord::End))?;
-        Ok(Some(lines))
-    }
-
-    /// Returns the lines of one wait that a timeout ends too.
-    fn timed_lines(
-        &self,
-        alloc: Global,
-        cond: usize,
-        lock: usize,
-    ) -> Result<Option<Vec<BlockLine>>, AllocError>
-        ensures { IfOk result (λ lines. option_map (λ v. v.items) lines
-            ≡ Some (timed_lines (drafted self.now) cond lock)) }
-    {
-        let mut lines = Vec::new(alloc);
-        lines.push(BlockLine::Call(self.unlock(lock)))?;
-        lines.push(BlockLine::TimedSleep(cond))?;
-        lines.push(BlockLine::Word(BlockWord::Else))?;
-        lines.push(BlockLine::Word(BlockWord::End))?;
-        lines.push(BlockLine::Call(self.lock(lock)))?;
-        Ok(Some(lines))
-    }
-
-    /// Returns the lines of a loop of such waits, which a party leaves where the flag has this value or after a timeout,
-    /// unless the flag has no line.
-    fn timed_until_lines(
-        &self,
-        alloc: Global,
-        value: bool,
-        cond: usize,
-        lock: usize,
-        flag: &str,
-    ) -> Result<Option<Vec<BlockLine>>, AllocError>
-        ensures { IfOk result (λ lines. option_map (λ v. v.items) lines
-            ≡ option_map (timed_until_lines (drafted self.now) value cond lock)
-            (place_of (drafted self.now).flag_names flag.now)) }
-    {
-        let Some(flag) = self.names.flags.place_of(flag) else {
-            return Ok(None);
-        };
-        let mut lines = Vec::new(alloc);
-        lines.push(BlockLine::Until(flag, value))?;
-        lines.push(BlockLine::Call(self.unlock(lock)))?;
-        lines.push(BlockLine::TimedSleep(cond))?;
-        lines.push(BlockLine::Call(self.lock(lock)))?;
-        lines.push(BlockLine::Word(BlockWord::Else))?;
-        lines.push(BlockLine::Call(self.lock(lock)))?;
-        lines.push(BlockLine::Word(BlockWord::Leave))?;
-        lines.push(BlockLine::Word(BlockWord::End))?;
-        lines.push(BlockLine::Word(BlockWord::End))?;
         Ok(Some(lines))
     }
 
@@ -246,9 +167,7 @@ impl PlanDraft {
 fn one_line(alloc: Global, line: BlockLine) -> Result<Option<Vec<BlockLine>>, AllocError>
     ensures { IfOk result (λ lines. option_map (λ v. v.items) lines ≡ Some (one_line line)) }
 {
-    let mut lines = Vec::new(alloc);
-    lines.push(line)?;
-    Ok(Some(lines))
+    Ok(Some(vec![in alloc; line]?))
 }
 
 /// Returns what a call does on a lock of this kind. If its word is one for another kind, no kind has the step.

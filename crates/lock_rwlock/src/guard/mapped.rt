@@ -3,6 +3,7 @@ ghost use Rattle.std.specs.Prelude.{◌≡◌, Some};
 ghost use Rattle.lock_guard.specs.GuardPart.{guard_part, guard_miss};
 ghost use Rattle.lock_guard.specs.Held.{held_value};
 ghost use Rattle.lock_guard.specs.Mapped.{IsMapOf, IsMappedOr};
+ghost use Rattle.lock_rwlock.specs.RwLockGuard.{held_of};
 
 use super::RwLockGuard;
 use crate::mode::{Exclusive, InMode, Shared};
@@ -24,8 +25,6 @@ impl<R: RawRwLock, T> Mappable for InMode<'_, Shared, R, T> {}
 impl<R: RawRwLock, T> Mappable for InMode<'_, Exclusive, R, T> {}
 
 impl<L: Mappable> RwLockGuard<L> {
-    ghost use Rattle.lock_rwlock.specs.RwLockGuard.{held_of};
-
     /// Makes the guard of a part, by a projection that always has one. The lock stays held.
     pub fn map<P: View<<L::Shown as ValueGuard>::Value>>(
         guard: Self,

@@ -2,10 +2,10 @@
 ghost use Rattle.std.specs.Prelude.{◌≡◌, IfSome, IfNone, MatchResult};
 ghost use Rattle.std.specs.Sync.RwLock.{read_guard_value};
 ghost use Rattle.lock_guard.specs.Closure.{AnswersSomeValue};
+ghost use Rattle.lock_rwlock.specs.RwLockGuard.{SameLock, ShowsSame};
 
 use super::{RwLockGuard, RwLockReadGuard, RwLockWriteGuard, guard};
 use crate::closures::{with_if_upgraded, with_upgraded};
-use crate::lock::RwLock;
 use crate::mode::{InMode, Upgradable};
 use crate::upgrade::{AtOnce, For, TryUpgrade, Until};
 use lock_guard::guard::{Acquire, Held, Inner};
@@ -16,15 +16,6 @@ use lock_guard::raw::{RawRwLockUpgrade, RawRwLockUpgradeDowngrade, RawRwLockUpgr
 pub type RwLockUpgradableReadGuard<'a, R, T> = RwLockGuard<InMode<'a, Upgradable, R, T>>;
 
 impl<'a, R: RawRwLockUpgrade, T> RwLockGuard<InMode<'a, Upgradable, R, T>> {
-    ghost use Rattle.lock_rwlock.specs.RwLockGuard.{IsGuardOf, SameLock};
-
-    /// Returns the lock of the guard.
-    pub fn rwlock(guard: &RwLockUpgradableReadGuard<'a, R, T>) -> &'a RwLock<R, T>
-        ensures { IsGuardOf result guard.now }
-    {
-        guard.held.lock.rwlock
-    }
-
     /// Upgrades the guard to a write guard, blocking until no other guard is held.
     pub fn upgrade(guard: RwLockUpgradableReadGuard<'a, R, T>) -> RwLockWriteGuard<'a, R, T>
         ensures { SameLock guard.entry result }
@@ -66,8 +57,6 @@ impl<'a, R: RawRwLockUpgrade, T> RwLockGuard<InMode<'a, Upgradable, R, T>> {
 }
 
 impl<'a, R: RawRwLockUpgradeTimed, T> RwLockGuard<InMode<'a, Upgradable, R, T>> {
-    ghost use Rattle.lock_rwlock.specs.RwLockGuard.{SameLock};
-
     /// `try_upgrade`, where the raw lock may block for at most `timeout`.
     pub fn try_upgrade_for(
         guard: RwLockUpgradableReadGuard<'a, R, T>,
@@ -90,8 +79,6 @@ impl<'a, R: RawRwLockUpgradeTimed, T> RwLockGuard<InMode<'a, Upgradable, R, T>> 
 }
 
 impl<'a, R: RawRwLockUpgradeDowngrade, T> RwLockGuard<InMode<'a, Upgradable, R, T>> {
-    ghost use Rattle.lock_rwlock.specs.RwLockGuard.{SameLock, ShowsSame};
-
     /// Downgrades the guard to a read guard, which shows the same value. It never blocks.
     pub fn downgrade(guard: RwLockUpgradableReadGuard<'a, R, T>) -> RwLockReadGuard<'a, R, T>
         ensures lock { SameLock guard.entry result }
@@ -155,8 +142,6 @@ impl<'a, R: RawRwLockUpgradeDowngrade, T> RwLockGuard<InMode<'a, Upgradable, R, 
 impl<'a, R: RawRwLockUpgradeTimed + RawRwLockUpgradeDowngrade, T> RwLockGuard<
     InMode<'a, Upgradable, R, T>,
 > {
-    ghost use Rattle.lock_rwlock.specs.RwLockGuard.{SameLock};
-
     /// `try_with_upgraded`, where the raw lock may block for at most `timeout`.
     pub fn try_with_upgraded_for<U, F: FnOnce(&mut T) -> U>(
         &mut self,

@@ -1,28 +1,15 @@
 //! The write guard.
 ghost use Rattle.std.specs.Prelude.{◌≡◌};
+ghost use Rattle.lock_rwlock.specs.RwLockGuard.{SameLock};
 
 use super::{RwLockGuard, RwLockReadGuard, RwLockUpgradableReadGuard, guard};
-use crate::lock::RwLock;
 use crate::mode::{Exclusive, InMode};
-use lock_guard::raw::{RawRwLock, RawRwLockDowngrade, RawRwLockUpgradeDowngrade};
+use lock_guard::raw::{RawRwLockDowngrade, RawRwLockUpgradeDowngrade};
 
 /// A write guard: it reads and writes the value, and releases the lock on drop.
 pub type RwLockWriteGuard<'a, R, T> = RwLockGuard<InMode<'a, Exclusive, R, T>>;
 
-impl<'a, R: RawRwLock, T> RwLockGuard<InMode<'a, Exclusive, R, T>> {
-    ghost use Rattle.lock_rwlock.specs.RwLockGuard.{IsGuardOf};
-
-    /// Returns the lock of the guard.
-    pub fn rwlock(guard: &RwLockWriteGuard<'a, R, T>) -> &'a RwLock<R, T>
-        ensures { IsGuardOf result guard.now }
-    {
-        guard.held.lock.rwlock
-    }
-}
-
 impl<'a, R: RawRwLockDowngrade, T> RwLockGuard<InMode<'a, Exclusive, R, T>> {
-    ghost use Rattle.lock_rwlock.specs.RwLockGuard.{SameLock};
-
     /// Downgrades the guard to a read guard.
     pub fn downgrade(guard: RwLockWriteGuard<'a, R, T>) -> RwLockReadGuard<'a, R, T>
         ensures { SameLock guard.entry result }
@@ -33,8 +20,6 @@ impl<'a, R: RawRwLockDowngrade, T> RwLockGuard<InMode<'a, Exclusive, R, T>> {
 }
 
 impl<'a, R: RawRwLockUpgradeDowngrade, T> RwLockGuard<InMode<'a, Exclusive, R, T>> {
-    ghost use Rattle.lock_rwlock.specs.RwLockGuard.{SameLock};
-
     /// Downgrades the guard to an upgradable read guard.
     pub fn downgrade_to_upgradable(
         guard: RwLockWriteGuard<'a, R, T>,
