@@ -36,10 +36,9 @@ enum Wrong {
     GivenBack(u64),
 }
 
-/// Makes the calls of a session, each with its expected reply, and compares the tokens that the desk spent with those
-/// that its raw state saw released.
-fn replay<R: RawState, O: Op<u64, Answer = u64>>(
-    desk: &mut CountedDesk<R>,
+/// Makes the calls of a session, each with its expected reply.
+fn make_calls<R: RawState, O: Op<u64, Answer = u64>>(
+    desk: &mut Desk<R, u64>,
     session: &[(Call<O>, Reply<u64>)],
 ) -> Result<(), Wrong> {
     for wanted in session {
@@ -48,6 +47,15 @@ fn replay<R: RawState, O: Op<u64, Answer = u64>>(
             return Err(Wrong::Reply(reply));
         }
     }
+    Ok(())
+}
+
+/// Makes the calls of a session, and compares the tokens that the desk spent with those that its raw state saw released.
+fn replay<R: RawState, O: Op<u64, Answer = u64>>(
+    desk: &mut CountedDesk<R>,
+    session: &[(Call<O>, Reply<u64>)],
+) -> Result<(), Wrong> {
+    make_calls(desk, session)?;
     let given_back = desk.raw().given_back();
     if given_back == desk.spent() {
         Ok(())
@@ -62,7 +70,7 @@ fn replay_over<R: RawState, O: Op<u64, Answer = u64>>(
     maker: Maker,
     session: &[(Call<O>, Reply<u64>)],
 ) -> Result<(), Wrong> {
-    match maker.desk::<R>(alloc) {
+    match maker.desk::<CountedState<R>>(alloc) {
         Ok(mut desk) => replay(&mut desk, session),
         Err(fault) => Err(Wrong::Unmade(fault)),
     }

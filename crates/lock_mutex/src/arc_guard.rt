@@ -32,10 +32,7 @@ impl<R: RawMutex + Drop, T: Drop> ArcGuard<OwnedMutex<R, T>> {
     }
 
     /// Makes the guard of the token, if the raw lock gave one.
-    pub(crate) fn of_token(
-        mutex: Arc<Mutex<R, T>>,
-        token: Option<R::Guard>,
-    ) -> Option<ArcMutexGuard<R, T>>
+    pub(crate) fn of_token(mutex: Arc<Mutex<R, T>>, token: Option<R::Guard>) -> Option<Self>
         requires { IfSome token (λ t. R.is_own (arc_value mutex).raw t ≡ true) }
         ensures some { is_some result ≡ is_some token }
         ensures lock { IfSome result (λ guard. arc_of guard ≡ mutex) }

@@ -125,7 +125,7 @@ impl<R: RawMutex, T> Mutex<R, T> {
         requires { F.IsAlwaysCallable f }
         ensures { ReadsSomeValue F.FnOnce f result }
     {
-        let value = self.value_guard();
+        let value = lock_std(&self.value, self.raw.waiter());
         f(&value)
     }
 
@@ -134,13 +134,8 @@ impl<R: RawMutex, T> Mutex<R, T> {
         requires { F.IsAlwaysCallable f }
         ensures { AnswersSomeValue F.FnOnce f result }
     {
-        let mut value = self.value_guard();
+        let mut value = lock_std(&self.value, self.raw.waiter());
         f(&mut value)
-    }
-
-    /// Locks the value's lock.
-    pub(crate) fn value_guard(&self) -> sync::MutexGuard<'_, T> {
-        lock_std(&self.value, self.raw.waiter())
     }
 }
 

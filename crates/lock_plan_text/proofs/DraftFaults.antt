@@ -26,10 +26,8 @@ is_of_draft (Some fault) = false
 
 by_plan : (draft : Draft) (o : Option PlanFault) → is_of_draft (option_map (by_line draft) o) ≡ true
 unfolding is_of_draft
-by_plan draft None = refl
-by_plan draft (Some (plan.Call party place why)) = refl
 by_plan draft (Some plan.TooLarge) = refl
-by_plan draft (Some plan.OutOfMemory) = refl
+by_plan draft o = refl
 
 by_start : (draft : Draft) (o : Option ℕ) → is_of_draft (or_plan_fault draft o) ≡ true
 unfolding is_of_draft

@@ -6,7 +6,7 @@ use Rattle.lock_plan.specs.Points.{listed, said_below}
 use Rattle.lock_plan.specs.Worlds.{no_place}
 use Rattle.lock_plan.proofs.EachBelow.{IsSaidAt, each_get, said_found, said_get}
 use Rattle.lock_plan_text.specs.declared.parser.block_line.BlockLine.{BlockLine}
-use Rattle.lock_plan_text.specs.declared.parser.block_line.BlockLine.TheVariants.{Call, Try, Word, If, Until, TimedSleep, Plain}
+use Rattle.lock_plan_text.specs.declared.parser.block_line.BlockLine.TheVariants.{Call, Word}
 use Rattle.lock_plan_text.specs.declared.parser.block_line.BlockWord.TheVariants.{End}
 use Rattle.lock_plan_text.specs.Blocks.{is_alone, is_step, land, line_at, number_if, other_line, place_for, place_if, place_number, place_of_line, program_of, step_numbers}
 
@@ -33,12 +33,7 @@ placed lines i line inside past is_line is_inside is_past =
 -- a line alone has one place after it
 alone : (line : BlockLine) (inside past another : ℕ) → is_alone line ≡ true → place_for line inside past ≡ place_for line inside another
 alone (Call call) inside past another is = refl
-alone (Plain line) inside past another is = refl
-alone (Try call) inside past another is = cc
-alone (If flag) inside past another is = cc
-alone (Until flag value) inside past another is = cc
-alone (TimedSleep cond) inside past another is = cc
-alone (Word word) inside past another is = cc
+alone line inside past another is = cc
 
 pub placed_alone : (lines : List BlockLine) (i : ℕ) (line : BlockLine) (inside : ℕ) → line ≡ line_at lines i → is_alone line ≡ true
     → inside ≡ place_number lines (land lines (i + 1)) → place_for line inside inside ≡ place_of_line lines i

@@ -29,9 +29,6 @@ filled [] a one = absurd (omega arith)
 filled (h ∷ []) a one = refl
 filled (h ∷ g ∷ hs) a one = absurd (omega arith)
 
-not_small : (n : ℕ) → n < 2 ^ 32 → party_in n ≡ 0
-not_small n small = omega arith
-
 module _ {K T : Type 0} (fits : K → T → Type 0) where
   abbrev Table : Type 0
   Table = State (std.Option (Levels T)) (OwnerView K T)

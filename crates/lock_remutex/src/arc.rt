@@ -26,7 +26,7 @@ impl<R: RawMutex + Drop, T: Drop> ReentrantMutex<R, T> {
         ensures fault { IfErr result IsArcFault }
     {
         let remutex = another_owner(this)?;
-        remutex.raw().lock(party)?;
+        remutex.raw.lock(party)?;
         Ok(ArcReentrantMutexGuard::new(remutex, party))
     }
 
@@ -44,7 +44,7 @@ impl<R: RawMutex + Drop, T: Drop> ReentrantMutex<R, T> {
         ensures fault { IfErr result IsArcFault }
     {
         let remutex = another_owner(this)?;
-        let has_level = remutex.raw().try_lock(party)?;
+        let has_level = remutex.raw.try_lock(party)?;
         Ok(ArcReentrantMutexGuard::if_level(remutex, party, has_level))
     }
 }
@@ -60,7 +60,7 @@ impl<R: RawMutexTimed + Drop, T: Drop> ReentrantMutex<R, T> {
         ensures fault { IfErr result IsArcFault }
     {
         let remutex = another_owner(this)?;
-        let has_level = remutex.raw().try_lock_for(party, timeout)?;
+        let has_level = remutex.raw.try_lock_for(party, timeout)?;
         Ok(ArcReentrantMutexGuard::if_level(remutex, party, has_level))
     }
 
@@ -74,7 +74,7 @@ impl<R: RawMutexTimed + Drop, T: Drop> ReentrantMutex<R, T> {
         ensures fault { IfErr result IsArcFault }
     {
         let remutex = another_owner(this)?;
-        let has_level = remutex.raw().try_lock_until(party, deadline)?;
+        let has_level = remutex.raw.try_lock_until(party, deadline)?;
         Ok(ArcReentrantMutexGuard::if_level(remutex, party, has_level))
     }
 }

@@ -53,7 +53,7 @@ impl<R: RawMutex + Drop, T: Drop> ArcReentrantMutexGuard<R, T> {
         ensures { result ≡ arc_of guard }
     {
         let ArcReentrantMutexGuard { remutex, party } = guard;
-        let _ = remutex.raw().unlock(party);
+        let _ = remutex.raw.unlock(party);
         remutex
     }
 
@@ -85,7 +85,7 @@ impl<R: RawMutex + Drop, T: Drop> ArcReentrantMutexGuard<R, T> {
         ensures party { IfOk result (λ back. arc_party back.0 ≡ id_of party) }
         ensures fault { IfErr result (λ refused. refused.0 ≡ Fault.FullCount) }
     {
-        match remutex.raw().lock(party) {
+        match remutex.raw.lock(party) {
             Ok(()) => Ok((ArcReentrantMutexGuard::new(remutex, party), answer)),
             Err(fault) => Err((fault, answer)),
         }
@@ -103,7 +103,7 @@ impl<R: RawMutexFair + Drop, T: Drop> ArcReentrantMutexGuard<R, T> {
         ensures { result ≡ arc_of guard }
     {
         let ArcReentrantMutexGuard { remutex, party } = guard;
-        let _ = remutex.raw().unlock_fair(party);
+        let _ = remutex.raw.unlock_fair(party);
         remutex
     }
 
@@ -126,7 +126,7 @@ impl<R: RawMutexFair + Drop, T: Drop> ArcReentrantMutexGuard<R, T> {
         ensures { IsSameArcGuard guard.old guard.new }
     {
         let party = guard.party;
-        let _ = guard.remutex.raw().bump(party);
+        let _ = guard.remutex.raw.bump(party);
     }
 }
 
@@ -138,7 +138,7 @@ impl<R: RawMutex + Drop, T: Drop> Deref for ArcReentrantMutexGuard<R, T> {
     fn deref(&self) -> &T
         ensures { result.now ≡ arc_guard_value self.now }
     {
-        self.remutex.value()
+        &self.remutex.value
     }
 }
 

@@ -1,4 +1,10 @@
 //! A mutex whose owner may acquire it again, with a value.
+ghost use Rattle.std.specs.Prelude.{◌≡◌, ◌↔◌, IsTrue, IsSome, IfOk, IfErr, IfSome, IsOkUnless};
+ghost use Rattle.std.specs.Borrow.{Lends, sem};
+ghost use Rattle.lock_base.specs.Limits.{IsLimit, IsMakerFault};
+ghost use Rattle.lock_base.specs.Party.{id_of};
+ghost use Rattle.lock_remutex.specs.Guards.{raw_of, value_of, with_value, IsGuardOf};
+
 use crate::raw_reentrant_mutex::RawReentrantMutex;
 use crate::reentrant_mutex_guard::ReentrantMutexGuard;
 use lock_base::machine::PartyId;
@@ -12,18 +18,14 @@ use std::alloc::Global;
 /// The raw lock's token lies behind a mutex of its own and must be `Send`.
 #[derive(Drop)]
 pub struct ReentrantMutex<R: RawMutex, T> {
-    raw: RawReentrantMutex<R>,
-    value: T,
+    pub(crate) raw: RawReentrantMutex<R>,
+    pub(crate) value: T,
 }
 
 impl<R: RawMutex + Drop, T: Sync> ReentrantMutex<R, T>
 where
     R::Guard: Send,
 {
-    ghost use Rattle.std.specs.Prelude.{◌≡◌, ◌↔◌, IfOk, IfErr, IsOkUnless};
-    ghost use Rattle.lock_base.specs.Limits.{IsLimit, IsMakerFault};
-    ghost use Rattle.lock_remutex.specs.Guards.{raw_of, value_of};
-
     /// Makes an unlocked lock of `DEFAULT_LEVELS` over a new raw lock. The value is dropped if there is no memory.
     pub fn new(alloc: Global, waiter: R::Waiter, value: T) -> Result<Self, Fault>
     where
@@ -87,10 +89,6 @@ where
 }
 
 impl<R: RawMutex, T> ReentrantMutex<R, T> {
-    ghost use Rattle.std.specs.Prelude.{◌≡◌, ◌↔◌, IsTrue, IsSome, IfOk, IfErr, IfSome};
-    ghost use Rattle.std.specs.Borrow.{Lends, sem};
-    ghost use Rattle.lock_base.specs.Party.{id_of};
-    ghost use Rattle.lock_remutex.specs.Guards.{raw_of, value_of, with_value, IsGuardOf};
     ghost use Rattle.lock_remutex.specs.contracts.reentrant_mutex.ReentrantMutex.{the_row};
 
     /// Consumes the lock, and returns the value.
@@ -166,24 +164,9 @@ impl<R: RawMutex, T> ReentrantMutex<R, T> {
         }
         Some(ReentrantMutexGuard::new(self, party))
     }
-
-    pub(crate) fn raw(&self) -> &RawReentrantMutex<R> {
-        &self.raw
-    }
-
-    /// Returns the value, for a guard of this lock, or while no party holds one.
-    pub(crate) fn value(&self) -> &T
-        ensures { result.now ≡ value_of self.now }
-    {
-        &self.value
-    }
 }
 
 impl<R: RawMutexTimed, T> ReentrantMutex<R, T> {
-    ghost use Rattle.std.specs.Prelude.{◌≡◌, IfOk, IfErr, IfSome};
-    ghost use Rattle.lock_base.specs.Party.{id_of};
-    ghost use Rattle.lock_remutex.specs.Guards.{IsGuardOf};
-
     /// `try_lock`, where the raw lock may block for at most `timeout`.
     pub fn try_lock_for(
         &self,

@@ -1,3 +1,7 @@
+ghost use Rattle.std.specs.Prelude.{◌≡◌, IfOk, IfErr, MatchResult};
+ghost use Rattle.lock_base.specs.Party.{id_of};
+ghost use Rattle.lock_remutex.specs.Guards.{guard_lock, guard_party, guard_value, IsGuardOf, IsSameGuard};
+
 use crate::reentrant_mutex::ReentrantMutex;
 use lock_base::machine::PartyId;
 use lock_base::raw::Fault;
@@ -11,10 +15,6 @@ pub struct ReentrantMutexGuard<'a, R: RawMutex, T> {
 }
 
 impl<'a, R: RawMutex, T> ReentrantMutexGuard<'a, R, T> {
-    ghost use Rattle.std.specs.Prelude.{◌≡◌, IfOk, IfErr, MatchResult};
-    ghost use Rattle.lock_base.specs.Party.{id_of};
-    ghost use Rattle.lock_remutex.specs.Guards.{guard_lock, guard_party, IsGuardOf, IsSameGuard};
-
     /// Makes the guard of a level that the party has.
     pub(crate) fn new(remutex: &'a ReentrantMutex<R, T>, party: PartyId) -> Self
         ensures { IsGuardOf remutex.entry (id_of party) result }
@@ -48,7 +48,7 @@ impl<'a, R: RawMutex, T> ReentrantMutexGuard<'a, R, T> {
         ensures fault { IfErr result (λ refused. refused.0 ≡ Fault.FullCount) }
     {
         let ReentrantMutexGuard { remutex, party } = guard;
-        let _ = remutex.raw().unlock(party);
+        let _ = remutex.raw.unlock(party);
         let answer = f();
         ReentrantMutexGuard::lock_again(remutex, party, answer)
     }
@@ -71,13 +71,10 @@ impl<'a, R: RawMutex, T> ReentrantMutexGuard<'a, R, T> {
 }
 
 impl<R: RawMutexFair, T> ReentrantMutexGuard<'_, R, T> {
-    ghost use Rattle.std.specs.Prelude.{◌≡◌, IfOk, IfErr, MatchResult};
-    ghost use Rattle.lock_remutex.specs.Guards.{IsSameGuard};
-
     /// Releases the level. With the last level it releases the raw lock by a fair release.
     pub fn unlock_fair(guard: Self) {
         let ReentrantMutexGuard { remutex, party } = guard;
-        let _ = remutex.raw().unlock_fair(party);
+        let _ = remutex.raw.unlock_fair(party);
     }
 
     /// `unlocked`, by a fair release.
@@ -88,7 +85,7 @@ impl<R: RawMutexFair, T> ReentrantMutexGuard<'_, R, T> {
         ensures fault { IfErr result (λ refused. refused.0 ≡ Fault.FullCount) }
     {
         let ReentrantMutexGuard { remutex, party } = guard;
-        let _ = remutex.raw().unlock_fair(party);
+        let _ = remutex.raw.unlock_fair(party);
         let answer = f();
         ReentrantMutexGuard::lock_again(remutex, party, answer)
     }
@@ -98,14 +95,11 @@ impl<R: RawMutexFair, T> ReentrantMutexGuard<'_, R, T> {
     pub fn bump(guard: &mut Self)
         ensures { IsSameGuard guard.old guard.new }
     {
-        let _ = guard.remutex.raw().bump(guard.party);
+        let _ = guard.remutex.raw.bump(guard.party);
     }
 }
 
 impl<R: RawMutex, T> Deref for ReentrantMutexGuard<'_, R, T> {
-    ghost use Rattle.std.specs.Prelude.{◌≡◌};
-    ghost use Rattle.lock_remutex.specs.Guards.{guard_value};
-
     type Target = T;
 
     ghost deref_gives = { λ guard value. guard_value guard ≡ value };
@@ -113,13 +107,13 @@ impl<R: RawMutex, T> Deref for ReentrantMutexGuard<'_, R, T> {
     fn deref(&self) -> &T
         ensures { result.now ≡ guard_value self.now }
     {
-        self.remutex.value()
+        &self.remutex.value
     }
 }
 
 impl<R: RawMutex, T> Drop for ReentrantMutexGuard<'_, R, T> {
     fn drop(self) {
         let ReentrantMutexGuard { remutex, party } = self;
-        let _ = remutex.raw().unlock(party);
+        let _ = remutex.raw.unlock(party);
     }
 }

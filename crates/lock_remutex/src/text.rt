@@ -10,10 +10,10 @@ use std::ops::Deref;
 /// Prints the value while no party owns the lock.
 impl<R: RawMutex, T: Debug> Debug for ReentrantMutex<R, T> {
     fn fmt<W: fmt::Write>(&self, f: &mut Formatter<W>) -> fmt::Result {
-        if self.raw().is_owned() {
+        if self.raw.is_owned() {
             return fmt_lock(f, "ReentrantMutex", &Locked);
         }
-        fmt_lock(f, "ReentrantMutex", self.value())
+        fmt_lock(f, "ReentrantMutex", &self.value)
     }
 }
 

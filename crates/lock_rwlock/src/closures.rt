@@ -6,6 +6,7 @@ ghost use Rattle.lock_guard.specs.declared.guard.inner.Inner.TheVariants.{Filled
 
 use crate::lock::RwLock;
 use crate::mode::{Exclusive, InMode, Shared};
+use crate::upgrade::Upgraded;
 use lock_guard::guard::{Acquire, Inner};
 use lock_guard::raw::{RawRwLock, RawRwLockUpgradeDowngrade};
 
@@ -62,7 +63,7 @@ pub(crate) fn with_if_upgraded<
     lock: &L,
     rwlock: &RwLock<R, T>,
     shown: L::Shown,
-    upgraded: Result<R::ExclusiveGuard, R::UpgradableGuard>,
+    upgraded: Upgraded<R>,
     f: F,
 ) -> Option<U>
 where

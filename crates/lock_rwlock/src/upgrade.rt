@@ -1,16 +1,18 @@
 //! The ways to try an upgrade of a token.
 ghost use Rattle.std.specs.Prelude.{◌≡◌, true, IfOk, IfErr};
 
-use lock_guard::raw::{RawRwLockUpgrade, RawRwLockUpgradeTimed};
+use lock_guard::raw::{RawRwLock, RawRwLockUpgrade, RawRwLockUpgradeTimed};
+
+/// The exclusive token of an upgrade, or the upgradable one if the raw lock refused.
+pub(crate) type Upgraded<R> = Result<
+    <R as RawRwLock>::ExclusiveGuard,
+    <R as RawRwLockUpgrade>::UpgradableGuard,
+>;
 
 /// A way to try to make an upgradable token of the raw lock exclusive.
 pub(crate) trait TryUpgrade<R: RawRwLockUpgrade>: Sized {
     /// Makes the token exclusive, or returns it unchanged if the raw lock refuses.
-    fn make(
-        self,
-        raw: &R,
-        token: R::UpgradableGuard,
-    ) -> Result<R::ExclusiveGuard, R::UpgradableGuard>
+    fn make(self, raw: &R, token: R::UpgradableGuard) -> Upgraded<R>
         requires { R.owns_upgradable raw.now token ≡ true }
         ensures own { IfOk result (λ upgraded. R.owns_exclusive raw.now upgraded ≡ true) }
         ensures back { IfErr result (λ back. back ≡ token) };
@@ -20,44 +22,28 @@ pub(crate) trait TryUpgrade<R: RawRwLockUpgrade>: Sized {
 #[derive(Drop)]
 pub(crate) struct AtOnce;
 
-/// A try that may block for at most `timeout`.
-pub(crate) struct For<R: RawRwLockUpgradeTimed> {
-    pub(crate) timeout: R::Duration,
-}
+/// A try that may block for at most this time.
+pub(crate) struct For<R: RawRwLockUpgradeTimed>(pub(crate) R::Duration);
 
-/// A try that may block until `deadline`.
-pub(crate) struct Until<R: RawRwLockUpgradeTimed> {
-    pub(crate) deadline: R::Instant,
-}
+/// A try that may block until this instant.
+pub(crate) struct Until<R: RawRwLockUpgradeTimed>(pub(crate) R::Instant);
 
 impl<R: RawRwLockUpgrade> TryUpgrade<R> for AtOnce {
-    fn make(
-        self,
-        raw: &R,
-        token: R::UpgradableGuard,
-    ) -> Result<R::ExclusiveGuard, R::UpgradableGuard> {
+    fn make(self, raw: &R, token: R::UpgradableGuard) -> Upgraded<R> {
         raw.try_upgrade(token)
     }
 }
 
 impl<R: RawRwLockUpgradeTimed> TryUpgrade<R> for For<R> {
-    fn make(
-        self,
-        raw: &R,
-        token: R::UpgradableGuard,
-    ) -> Result<R::ExclusiveGuard, R::UpgradableGuard> {
-        let For { timeout } = self;
+    fn make(self, raw: &R, token: R::UpgradableGuard) -> Upgraded<R> {
+        let For(timeout) = self;
         raw.try_upgrade_for(token, timeout)
     }
 }
 
 impl<R: RawRwLockUpgradeTimed> TryUpgrade<R> for Until<R> {
-    fn make(
-        self,
-        raw: &R,
-        token: R::UpgradableGuard,
-    ) -> Result<R::ExclusiveGuard, R::UpgradableGuard> {
-        let Until { deadline } = self;
+    fn make(self, raw: &R, token: R::UpgradableGuard) -> Upgraded<R> {
+        let Until(deadline) = self;
         raw.try_upgrade_until(token, deadline)
     }
 }

@@ -1,14 +1,14 @@
 //! Calls by the named public functions, instead of `apply`.
-use crate::tests::CountedDesk;
 use lock_base::machine::{Call, Form, Op, PartyId, Reply, Want};
 use lock_base::raw::{Fault, RawState};
+use lock_desk::Desk;
 
 /// The answer of a function that may not be admitted, or its refusal.
 type Answer<X> = Result<Option<X>, Fault>;
 
 /// `apply`, where a call with four forms is made by the function of its form.
 pub fn by_name<R: RawState, O: Op<u64, Answer = u64>>(
-    desk: &mut CountedDesk<R>,
+    desk: &mut Desk<R, u64>,
     call: &Call<O>,
 ) -> Reply<u64> {
     match call {
@@ -40,7 +40,7 @@ fn reply<X, F: FnOnce(X) -> Reply<u64>>(answer: Answer<X>, tell: F) -> Reply<u64
 }
 
 fn acquire<R: RawState>(
-    desk: &mut CountedDesk<R>,
+    desk: &mut Desk<R, u64>,
     want: Want,
     form: Form,
     party: PartyId,
@@ -53,7 +53,7 @@ fn acquire<R: RawState>(
     }
 }
 
-fn lock<R: RawState>(desk: &mut CountedDesk<R>, form: Form, party: PartyId) -> Answer<u64> {
+fn lock<R: RawState>(desk: &mut Desk<R, u64>, form: Form, party: PartyId) -> Answer<u64> {
     match form {
         Form::Block => desk.lock(party).map(Some),
         Form::Try => desk.try_lock(party),
@@ -62,7 +62,7 @@ fn lock<R: RawState>(desk: &mut CountedDesk<R>, form: Form, party: PartyId) -> A
     }
 }
 
-fn read<R: RawState>(desk: &mut CountedDesk<R>, form: Form, party: PartyId) -> Answer<u64> {
+fn read<R: RawState>(desk: &mut Desk<R, u64>, form: Form, party: PartyId) -> Answer<u64> {
     match form {
         Form::Block => desk.read(party).map(Some),
         Form::Try => desk.try_read(party),
@@ -71,7 +71,7 @@ fn read<R: RawState>(desk: &mut CountedDesk<R>, form: Form, party: PartyId) -> A
     }
 }
 
-fn write<R: RawState>(desk: &mut CountedDesk<R>, form: Form, party: PartyId) -> Answer<u64> {
+fn write<R: RawState>(desk: &mut Desk<R, u64>, form: Form, party: PartyId) -> Answer<u64> {
     match form {
         Form::Block => desk.write(party).map(Some),
         Form::Try => desk.try_write(party),
@@ -81,7 +81,7 @@ fn write<R: RawState>(desk: &mut CountedDesk<R>, form: Form, party: PartyId) -> 
 }
 
 fn upgradable_read<R: RawState>(
-    desk: &mut CountedDesk<R>,
+    desk: &mut Desk<R, u64>,
     form: Form,
     party: PartyId,
 ) -> Answer<u64> {
@@ -94,7 +94,7 @@ fn upgradable_read<R: RawState>(
 }
 
 fn upgrade<R: RawState>(
-    desk: &mut CountedDesk<R>,
+    desk: &mut Desk<R, u64>,
     form: Form,
     party: PartyId,
     guard: u64,
@@ -108,7 +108,7 @@ fn upgrade<R: RawState>(
 }
 
 fn with_upgraded<R: RawState, O: Op<u64, Answer = u64>>(
-    desk: &mut CountedDesk<R>,
+    desk: &mut Desk<R, u64>,
     form: Form,
     party: PartyId,
     guard: u64,

@@ -1,5 +1,4 @@
 //! Desks of the three kinds.
-use crate::tests::CountedDesk;
 use lock_base::raw::{Fault, RawState};
 use lock_desk::Desk;
 use std::alloc::Global;
@@ -13,7 +12,7 @@ pub enum Maker {
 }
 
 impl Maker {
-    pub fn desk<R: RawState>(self, alloc: Global) -> Result<CountedDesk<R>, Fault> {
+    pub fn desk<R: RawState>(self, alloc: Global) -> Result<Desk<R, u64>, Fault> {
         match self {
             Maker::Mutex(places, value) => Desk::mutex(alloc, places, value),
             Maker::RwLock(places, readers, value) => Desk::rwlock(alloc, places, readers, value),

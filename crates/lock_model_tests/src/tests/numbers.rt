@@ -1,8 +1,7 @@
 //! Guard numbers end at 2^64 - 1, over a table and over a packed word.
-use crate::tests::CountedDesk;
-use crate::tests::maker::Maker;
 use lock_base::machine::{PartyId, Way};
 use lock_base::raw::{Fault, RawState};
+use lock_desk::Desk;
 use lock_states::table::TokenTable;
 use lock_states::word::PackedWord;
 use lock_test_support::answer::equal;
@@ -23,7 +22,7 @@ enum Step {
 type Answer = Result<Option<u64>, Fault>;
 
 impl Step {
-    fn make<R: RawState>(self, desk: &mut CountedDesk<R>, party: PartyId) -> Answer {
+    fn make<R: RawState>(self, desk: &mut Desk<R, u64>, party: PartyId) -> Answer {
         match self {
             Step::SkipTo(next) => desk.skip_to(next).map(|()| None),
             Step::Lock => desk.lock(party).map(Some),
@@ -36,7 +35,7 @@ impl Step {
 /// Makes the steps at a mutex with so many places, and compares each answer.
 fn check<R: RawState>(alloc: Global, places: u64, rows: &[(Step, Answer)]) -> Result<(), Fail> {
     let one = party(1)?;
-    let mut desk: CountedDesk<R> = Maker::Mutex(places, 0).desk(alloc)?;
+    let mut desk: Desk<R, u64> = Desk::mutex(alloc, places, 0)?;
     for (step, wanted) in rows {
         equal((*step, step.make(&mut desk, one)), (*step, *wanted))?;
     }

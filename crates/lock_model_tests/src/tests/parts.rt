@@ -1,5 +1,6 @@
 //! A `Desk` lends its value, or a part of it, to closures. Each test runs over a table and over a packed word.
 use lock_base::machine::PartyId;
+use lock_base::project::{TryProject, TryView};
 use lock_base::raw::{Fault, RawState};
 use lock_desk::Desk;
 use lock_states::table::TokenTable;
@@ -23,24 +24,49 @@ fn check(rows: &[Row]) -> Result<(), Fail> {
     Ok(())
 }
 
+/// The part that `read_part` lends.
+fn item<R: RawState, P: TryView<(u64, u64), Part = u64>>(
+    desk: &PairDesk<R>,
+    one: PartyId,
+    part: &P,
+) -> Result<u64, Fault> {
+    desk.read_part(one, 1, part, |item| *item)
+}
+
+/// The part that `write_part` lends, which the closure replaces.
+fn replaced<R: RawState, P: TryProject<(u64, u64), Part = u64>>(
+    desk: &mut PairDesk<R>,
+    one: PartyId,
+    part: &P,
+    new: u64,
+) -> Result<u64, Fault> {
+    desk.write_part(one, 1, part, |item| mem::replace(item, new))
+}
+
+/// The first item of the pair that `with` lends.
+fn first<R: RawState>(desk: &PairDesk<R>, one: PartyId) -> Result<u64, Fault> {
+    desk.with(one, 1, |pair| pair.0)
+}
+
+/// The second item of the pair that `with_mut` lends, which the closure replaces.
+fn replaced_pair<R: RawState>(desk: &mut PairDesk<R>, one: PartyId) -> Result<u64, Fault> {
+    desk.with_mut(one, 1, |pair| mem::replace(pair, (3, 4)).1)
+}
+
 /// What a shared guard of `(1, 2)` lends.
 fn read_by_one<R: RawState>(desk: &mut PairDesk<R>, one: PartyId) -> [Row; 5] {
     [
         ("read", desk.read(one), Ok(1)),
-        ("with", desk.with(one, 1, |pair| pair.0), Ok(1)),
-        (
-            "read_part",
-            desk.read_part(one, 1, &Item1, |item| *item),
-            Ok(2),
-        ),
+        ("with", first(desk, one), Ok(1)),
+        ("read_part", item(desk, one, &Item1), Ok(2)),
         (
             "read_part of a third item",
-            desk.read_part(one, 1, &Nth(2), |item| *item),
+            item(desk, one, &Nth(2)),
             Err(Fault::NoFocus),
         ),
         (
             "write_part by a reader",
-            desk.write_part(one, 1, &Nth(2), |item| *item),
+            replaced(desk, one, &Nth(2), 0),
             Err(Fault::WrongMode),
         ),
     ]
@@ -50,19 +76,11 @@ fn read_by_one<R: RawState>(desk: &mut PairDesk<R>, one: PartyId) -> [Row; 5] {
 fn write_by_one<R: RawState>(desk: &mut PairDesk<R>, one: PartyId) -> [Row; 5] {
     [
         ("lock", desk.lock(one), Ok(1)),
-        (
-            "with_mut",
-            desk.with_mut(one, 1, |pair| mem::replace(pair, (3, 4)).1),
-            Ok(2),
-        ),
-        (
-            "write_part",
-            desk.write_part(one, 1, &Item0, |item| mem::replace(item, 9)),
-            Ok(3),
-        ),
+        ("with_mut", replaced_pair(desk, one), Ok(2)),
+        ("write_part", replaced(desk, one, &Item0, 9), Ok(3)),
         (
             "write_part of a third item",
-            desk.write_part(one, 1, &Nth(2), |item| *item),
+            replaced(desk, one, &Nth(2), 0),
             Err(Fault::NoFocus),
         ),
         ("park", desk.park(one, 1).map(|()| 0), Ok(0)),

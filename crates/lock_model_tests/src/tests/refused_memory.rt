@@ -1,4 +1,5 @@
 //! Each call that allocates, with an allocation refused, over a table and over a packed word.
+use crate::tests::counted_state::CountedState;
 use crate::tests::maker::Maker;
 use crate::tests::operations::Add;
 use crate::tests::{CountedDesk, Wrong, replay, replay_over};
@@ -103,7 +104,7 @@ fn ran_or_refused<R: RawState, E: Env>(
 }
 
 fn run_or_refused<R: RawState, E: Env>(rt: &E, alloc: Global, one: PartyId) -> Result<(), Fail> {
-    match Maker::RwLock(3, 2, 7).desk::<R>(alloc) {
+    match Maker::RwLock(3, 2, 7).desk::<CountedState<R>>(alloc) {
         Ok(mut desk) => ran_or_refused(rt, alloc, &mut desk, one),
         Err(fault) => lacks_memory(rt, fault),
     }

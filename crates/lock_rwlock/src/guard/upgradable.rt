@@ -17,7 +17,7 @@ pub type RwLockUpgradableReadGuard<'a, R, T> = RwLockGuard<InMode<'a, Upgradable
 
 impl<'a, R: RawRwLockUpgrade, T> RwLockGuard<InMode<'a, Upgradable, R, T>> {
     /// Upgrades the guard to a write guard, blocking until no other guard is held.
-    pub fn upgrade(guard: RwLockUpgradableReadGuard<'a, R, T>) -> RwLockWriteGuard<'a, R, T>
+    pub fn upgrade(guard: Self) -> RwLockWriteGuard<'a, R, T>
         ensures { SameLock guard.entry result }
     {
         let (rwlock, token) = guard.into_token();
@@ -25,9 +25,7 @@ impl<'a, R: RawRwLockUpgrade, T> RwLockGuard<InMode<'a, Upgradable, R, T>> {
     }
 
     /// Upgrades the guard without blocking, or returns it unchanged if the raw lock refuses.
-    pub fn try_upgrade(
-        guard: RwLockUpgradableReadGuard<'a, R, T>,
-    ) -> Result<RwLockWriteGuard<'a, R, T>, RwLockUpgradableReadGuard<'a, R, T>>
+    pub fn try_upgrade(guard: Self) -> Result<RwLockWriteGuard<'a, R, T>, Self>
         ensures { MatchResult result (SameLock guard.entry) (λ same. same ≡ guard.entry) }
     {
         RwLockUpgradableReadGuard::try_upgrade_by(guard, AtOnce)
@@ -35,9 +33,9 @@ impl<'a, R: RawRwLockUpgrade, T> RwLockGuard<InMode<'a, Upgradable, R, T>> {
 
     /// Tries to upgrade the guard, or returns it unchanged if the raw lock refuses.
     fn try_upgrade_by<A: TryUpgrade<R>>(
-        guard: RwLockUpgradableReadGuard<'a, R, T>,
+        guard: Self,
         attempt: A,
-    ) -> Result<RwLockWriteGuard<'a, R, T>, RwLockUpgradableReadGuard<'a, R, T>>
+    ) -> Result<RwLockWriteGuard<'a, R, T>, Self>
         ensures { MatchResult result (SameLock guard.entry) (λ same. same ≡ guard.entry) }
     {
         let (lock, token, shown) = guard.held.into_parts();
@@ -59,28 +57,28 @@ impl<'a, R: RawRwLockUpgrade, T> RwLockGuard<InMode<'a, Upgradable, R, T>> {
 impl<'a, R: RawRwLockUpgradeTimed, T> RwLockGuard<InMode<'a, Upgradable, R, T>> {
     /// `try_upgrade`, where the raw lock may block for at most `timeout`.
     pub fn try_upgrade_for(
-        guard: RwLockUpgradableReadGuard<'a, R, T>,
+        guard: Self,
         timeout: R::Duration,
-    ) -> Result<RwLockWriteGuard<'a, R, T>, RwLockUpgradableReadGuard<'a, R, T>>
+    ) -> Result<RwLockWriteGuard<'a, R, T>, Self>
         ensures { MatchResult result (SameLock guard.entry) (λ same. same ≡ guard.entry) }
     {
-        RwLockUpgradableReadGuard::try_upgrade_by(guard, For { timeout })
+        RwLockUpgradableReadGuard::try_upgrade_by(guard, For(timeout))
     }
 
     /// `try_upgrade`, where the raw lock may block until `deadline`.
     pub fn try_upgrade_until(
-        guard: RwLockUpgradableReadGuard<'a, R, T>,
+        guard: Self,
         deadline: R::Instant,
-    ) -> Result<RwLockWriteGuard<'a, R, T>, RwLockUpgradableReadGuard<'a, R, T>>
+    ) -> Result<RwLockWriteGuard<'a, R, T>, Self>
         ensures { MatchResult result (SameLock guard.entry) (λ same. same ≡ guard.entry) }
     {
-        RwLockUpgradableReadGuard::try_upgrade_by(guard, Until { deadline })
+        RwLockUpgradableReadGuard::try_upgrade_by(guard, Until(deadline))
     }
 }
 
 impl<'a, R: RawRwLockUpgradeDowngrade, T> RwLockGuard<InMode<'a, Upgradable, R, T>> {
     /// Downgrades the guard to a read guard, which shows the same value. It never blocks.
-    pub fn downgrade(guard: RwLockUpgradableReadGuard<'a, R, T>) -> RwLockReadGuard<'a, R, T>
+    pub fn downgrade(guard: Self) -> RwLockReadGuard<'a, R, T>
         ensures lock { SameLock guard.entry result }
         ensures value { ShowsSame read_guard_value guard.entry result }
     {
@@ -155,7 +153,7 @@ impl<'a, R: RawRwLockUpgradeTimed + RawRwLockUpgradeDowngrade, T> RwLockGuard<
         ensures lock { SameLock self.old self.new }
         ensures refused { IfNone result (self.new ≡ self.old) }
     {
-        self.try_with_upgraded_by(For { timeout }, f)
+        self.try_with_upgraded_by(For(timeout), f)
     }
 
     /// `try_with_upgraded`, where the raw lock may block until `deadline`.
@@ -171,6 +169,6 @@ impl<'a, R: RawRwLockUpgradeTimed + RawRwLockUpgradeDowngrade, T> RwLockGuard<
         ensures lock { SameLock self.old self.new }
         ensures refused { IfNone result (self.new ≡ self.old) }
     {
-        self.try_with_upgraded_by(Until { deadline }, f)
+        self.try_with_upgraded_by(Until(deadline), f)
     }
 }

@@ -11,7 +11,7 @@ pub type RwLockWriteGuard<'a, R, T> = RwLockGuard<InMode<'a, Exclusive, R, T>>;
 
 impl<'a, R: RawRwLockDowngrade, T> RwLockGuard<InMode<'a, Exclusive, R, T>> {
     /// Downgrades the guard to a read guard.
-    pub fn downgrade(guard: RwLockWriteGuard<'a, R, T>) -> RwLockReadGuard<'a, R, T>
+    pub fn downgrade(guard: Self) -> RwLockReadGuard<'a, R, T>
         ensures { SameLock guard.entry result }
     {
         let (rwlock, token) = guard.into_token();
@@ -21,9 +21,7 @@ impl<'a, R: RawRwLockDowngrade, T> RwLockGuard<InMode<'a, Exclusive, R, T>> {
 
 impl<'a, R: RawRwLockUpgradeDowngrade, T> RwLockGuard<InMode<'a, Exclusive, R, T>> {
     /// Downgrades the guard to an upgradable read guard.
-    pub fn downgrade_to_upgradable(
-        guard: RwLockWriteGuard<'a, R, T>,
-    ) -> RwLockUpgradableReadGuard<'a, R, T>
+    pub fn downgrade_to_upgradable(guard: Self) -> RwLockUpgradableReadGuard<'a, R, T>
         ensures { SameLock guard.entry result }
     {
         let (rwlock, token) = guard.into_token();

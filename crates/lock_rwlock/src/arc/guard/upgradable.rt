@@ -3,7 +3,7 @@ ghost use Rattle.std.specs.Prelude.{◌≡◌, IfSome, IfNone, MatchResult};
 ghost use Rattle.lock_guard.specs.Closure.{AnswersSomeValue};
 ghost use Rattle.lock_rwlock.specs.ArcRwLockGuard.{arc_of};
 
-use super::{ArcModeGuard, ArcRwLockReadGuard, ArcRwLockUpgradableReadGuard, ArcRwLockWriteGuard};
+use super::{ArcModeGuard, ArcRwLockReadGuard, ArcRwLockWriteGuard};
 use crate::arc::owned::OwnedInMode;
 use crate::closures::{with_if_upgraded, with_upgraded};
 use crate::mode::Upgradable;
@@ -13,7 +13,7 @@ use lock_guard::raw::{RawRwLockUpgrade, RawRwLockUpgradeDowngrade, RawRwLockUpgr
 
 impl<R: RawRwLockUpgrade + Drop, T: Drop> ArcModeGuard<OwnedInMode<Upgradable, R, T>> {
     /// Upgrades the guard to a write guard, blocking until no other guard is held.
-    pub fn upgrade(guard: ArcRwLockUpgradableReadGuard<R, T>) -> ArcRwLockWriteGuard<R, T>
+    pub fn upgrade(guard: Self) -> ArcRwLockWriteGuard<R, T>
         ensures { arc_of result ≡ arc_of guard }
     {
         let (rwlock, token) = guard.into_token();
@@ -22,9 +22,7 @@ impl<R: RawRwLockUpgrade + Drop, T: Drop> ArcModeGuard<OwnedInMode<Upgradable, R
     }
 
     /// Upgrades the guard without blocking, or returns it unchanged if the raw lock refuses.
-    pub fn try_upgrade(
-        guard: ArcRwLockUpgradableReadGuard<R, T>,
-    ) -> Result<ArcRwLockWriteGuard<R, T>, ArcRwLockUpgradableReadGuard<R, T>>
+    pub fn try_upgrade(guard: Self) -> Result<ArcRwLockWriteGuard<R, T>, Self>
         ensures { MatchResult result (λ upgraded. arc_of upgraded ≡ arc_of guard)
             (λ same. same ≡ guard) }
     {
@@ -33,9 +31,9 @@ impl<R: RawRwLockUpgrade + Drop, T: Drop> ArcModeGuard<OwnedInMode<Upgradable, R
 
     /// Tries to upgrade the guard, or returns it unchanged if the raw lock refuses.
     fn try_upgrade_by<A: TryUpgrade<R>>(
-        guard: ArcRwLockUpgradableReadGuard<R, T>,
+        guard: Self,
         attempt: A,
-    ) -> Result<ArcRwLockWriteGuard<R, T>, ArcRwLockUpgradableReadGuard<R, T>>
+    ) -> Result<ArcRwLockWriteGuard<R, T>, Self>
         ensures { MatchResult result (λ upgraded. arc_of upgraded ≡ arc_of guard)
             (λ same. same ≡ guard) }
     {
@@ -55,30 +53,30 @@ impl<R: RawRwLockUpgrade + Drop, T: Drop> ArcModeGuard<OwnedInMode<Upgradable, R
 impl<R: RawRwLockUpgradeTimed + Drop, T: Drop> ArcModeGuard<OwnedInMode<Upgradable, R, T>> {
     /// `try_upgrade`, where the raw lock may block for at most `timeout`.
     pub fn try_upgrade_for(
-        guard: ArcRwLockUpgradableReadGuard<R, T>,
+        guard: Self,
         timeout: R::Duration,
-    ) -> Result<ArcRwLockWriteGuard<R, T>, ArcRwLockUpgradableReadGuard<R, T>>
+    ) -> Result<ArcRwLockWriteGuard<R, T>, Self>
         ensures { MatchResult result (λ upgraded. arc_of upgraded ≡ arc_of guard)
             (λ same. same ≡ guard) }
     {
-        ArcModeGuard::try_upgrade_by(guard, For { timeout })
+        ArcModeGuard::try_upgrade_by(guard, For(timeout))
     }
 
     /// `try_upgrade`, where the raw lock may block until `deadline`.
     pub fn try_upgrade_until(
-        guard: ArcRwLockUpgradableReadGuard<R, T>,
+        guard: Self,
         deadline: R::Instant,
-    ) -> Result<ArcRwLockWriteGuard<R, T>, ArcRwLockUpgradableReadGuard<R, T>>
+    ) -> Result<ArcRwLockWriteGuard<R, T>, Self>
         ensures { MatchResult result (λ upgraded. arc_of upgraded ≡ arc_of guard)
             (λ same. same ≡ guard) }
     {
-        ArcModeGuard::try_upgrade_by(guard, Until { deadline })
+        ArcModeGuard::try_upgrade_by(guard, Until(deadline))
     }
 }
 
 impl<R: RawRwLockUpgradeDowngrade + Drop, T: Drop> ArcModeGuard<OwnedInMode<Upgradable, R, T>> {
     /// Downgrades the guard to a read guard.
-    pub fn downgrade(guard: ArcRwLockUpgradableReadGuard<R, T>) -> ArcRwLockReadGuard<R, T>
+    pub fn downgrade(guard: Self) -> ArcRwLockReadGuard<R, T>
         ensures { arc_of result ≡ arc_of guard }
     {
         let (rwlock, token) = guard.into_token();
@@ -148,7 +146,7 @@ impl<R: RawRwLockUpgradeTimed + RawRwLockUpgradeDowngrade + Drop, T: Drop> ArcMo
         ensures lock { arc_of self.new ≡ arc_of self.old }
         ensures refused { IfNone result (self.new ≡ self.old) }
     {
-        self.try_with_upgraded_by(For { timeout }, f)
+        self.try_with_upgraded_by(For(timeout), f)
     }
 
     /// `try_with_upgraded`, where the raw lock may block until `deadline`.
@@ -164,6 +162,6 @@ impl<R: RawRwLockUpgradeTimed + RawRwLockUpgradeDowngrade + Drop, T: Drop> ArcMo
         ensures lock { arc_of self.new ≡ arc_of self.old }
         ensures refused { IfNone result (self.new ≡ self.old) }
     {
-        self.try_with_upgraded_by(Until { deadline }, f)
+        self.try_with_upgraded_by(Until(deadline), f)
     }
 }

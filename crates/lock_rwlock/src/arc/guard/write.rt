@@ -3,7 +3,7 @@ ghost use Rattle.std.specs.Prelude.{◌≡◌};
 ghost use Rattle.lock_guard.specs.Closure.{AnswersSomeValue};
 ghost use Rattle.lock_rwlock.specs.ArcRwLockGuard.{arc_of};
 
-use super::{ArcModeGuard, ArcRwLockReadGuard, ArcRwLockUpgradableReadGuard, ArcRwLockWriteGuard};
+use super::{ArcModeGuard, ArcRwLockReadGuard, ArcRwLockUpgradableReadGuard};
 use crate::arc::owned::OwnedInMode;
 use crate::closures::write_with;
 use crate::mode::Exclusive;
@@ -11,7 +11,7 @@ use lock_guard::raw::{RawRwLock, RawRwLockDowngrade, RawRwLockUpgradeDowngrade};
 
 impl<R: RawRwLock + Drop, T: Drop> ArcModeGuard<OwnedInMode<Exclusive, R, T>> {
     /// Runs `f` on the value, which it may change, holding the value's lock for the length of the call.
-    pub fn with_mut<U, F: FnOnce(&mut T) -> U>(guard: &mut ArcRwLockWriteGuard<R, T>, f: F) -> U
+    pub fn with_mut<U, F: FnOnce(&mut T) -> U>(guard: &mut Self, f: F) -> U
         requires { F.IsAlwaysCallable f }
         ensures answer { AnswersSomeValue F.FnOnce f result }
         ensures lock { arc_of guard.new ≡ arc_of guard.old }
@@ -22,7 +22,7 @@ impl<R: RawRwLock + Drop, T: Drop> ArcModeGuard<OwnedInMode<Exclusive, R, T>> {
 
 impl<R: RawRwLockDowngrade + Drop, T: Drop> ArcModeGuard<OwnedInMode<Exclusive, R, T>> {
     /// Downgrades the guard to a read guard.
-    pub fn downgrade(guard: ArcRwLockWriteGuard<R, T>) -> ArcRwLockReadGuard<R, T>
+    pub fn downgrade(guard: Self) -> ArcRwLockReadGuard<R, T>
         ensures { arc_of result ≡ arc_of guard }
     {
         let (rwlock, token) = guard.into_token();
@@ -33,9 +33,7 @@ impl<R: RawRwLockDowngrade + Drop, T: Drop> ArcModeGuard<OwnedInMode<Exclusive, 
 
 impl<R: RawRwLockUpgradeDowngrade + Drop, T: Drop> ArcModeGuard<OwnedInMode<Exclusive, R, T>> {
     /// Downgrades the guard to an upgradable read guard.
-    pub fn downgrade_to_upgradable(
-        guard: ArcRwLockWriteGuard<R, T>,
-    ) -> ArcRwLockUpgradableReadGuard<R, T>
+    pub fn downgrade_to_upgradable(guard: Self) -> ArcRwLockUpgradableReadGuard<R, T>
         ensures { arc_of result ≡ arc_of guard }
     {
         let (rwlock, token) = guard.into_token();
