@@ -1,6 +1,4 @@
 //! How locks and guards print, by `Debug` and by `Display`.
-use lock_base::machine::PartyId;
-use lock_base::raw::Fault;
 use lock_guard::raw::RawMutex;
 use lock_mutex::{Condvar, Mutex, MutexGuard};
 use lock_raws::{SpuriousCondvar, WordRaw};
@@ -57,40 +55,24 @@ fn mutexes_and_guards_print_their_value(rt: HostRuntime) -> Result<(), Fail> {
     check_mutexes::<WordRaw<HostRuntime>>(rt.alloc(), [rt; 2])
 }
 
-/// The same of a reentrant mutex.
-fn of_a_reentrant_mutex<R: RawMutex>(
-    alloc: Global,
-    lock: &ReentrantMutex<R, u64>,
-    pair: &ReentrantMutex<R, Pair>,
-    one: PartyId,
-) -> Result<[Shown; 4], Fault> {
-    let free = debug_is(alloc, lock, "ReentrantMutex { data: 5 }");
+/// Over a raw lock that always says that it is free.
+#[test]
+fn reentrant_mutexes_and_guards_print_their_value(rt: HostRuntime) -> Result<(), Fail> {
+    let (alloc, one) = (rt.alloc(), party(1)?);
+    let lock: ReentrantMutex<AdmitsAll<HostRuntime>, u64> = ReentrantMutex::new(alloc, rt, 5)?;
+    let free = debug_is(alloc, &lock, "ReentrantMutex { data: 5 }");
     let guard = lock.lock(one)?;
-    let held = debug_is(alloc, lock, "ReentrantMutex { data: <locked> }");
+    let held = debug_is(alloc, &lock, "ReentrantMutex { data: <locked> }");
+    let pair: ReentrantMutex<AdmitsAll<HostRuntime>, Pair> = ReentrantMutex::new(
+        alloc,
+        rt,
+        (5, 2),
+    )?;
     let part = ReentrantMutexGuard::map(pair.lock(one)?, Item0);
-    Ok([
+    are_right(&[
         ("free ReentrantMutex", free),
         ("held ReentrantMutex", held),
         ("ReentrantMutexGuard", texts_are(alloc, guard, "5")),
         ("MappedReentrantMutexGuard", texts_are(alloc, part, "5")),
     ])
-}
-
-fn check_reentrant_mutexes<R: RawMutex + Drop>(
-    alloc: Global,
-    waiters: [R::Waiter; 2],
-) -> Result<(), Fail>
-where
-    R::Guard: Send,
-{
-    let [first, last] = waiters;
-    let lock: ReentrantMutex<R, u64> = ReentrantMutex::new(alloc, first, 5)?;
-    let pair: ReentrantMutex<R, Pair> = ReentrantMutex::new(alloc, last, (5, 2))?;
-    are_right(&of_a_reentrant_mutex(alloc, &lock, &pair, party(1)?)?)
-}
-
-/// Over a raw lock that always says that it is free.
-#[test]
-fn reentrant_mutexes_and_guards_print_their_value(rt: HostRuntime) -> Result<(), Fail> {
-    check_reentrant_mutexes::<AdmitsAll<HostRuntime>>(rt.alloc(), [rt; 2])
 }

@@ -2,7 +2,7 @@
 use crate::tests::Table;
 use lock_base::machine::PartyId;
 use lock_base::raw::Fault;
-use lock_guard::raw::{RawMutexTimed, RawRwLockTimed, RawRwLockUpgradeTimed};
+use lock_guard::raw::{RawMutex, RawMutexTimed, RawRwLock, RawRwLockTimed, RawRwLockUpgradeTimed};
 use lock_mutex::Mutex;
 use lock_raws::{LockCore, RawLock};
 use lock_remutex::ReentrantMutex;
@@ -18,15 +18,16 @@ type Ended = (bool, bool, bool);
 
 const FREED: Ended = (true, true, false);
 
-/// Ends the guard, if the acquisition gave one.
-fn ended<G: Drop, F: Fn() -> bool>(answer: Result<Option<G>, Fault>, is_locked: F) -> Ended
-    requires { F.IsAlwaysCallable is_locked }
-{
+/// Ends the guard of the mutex, if the acquisition gave one.
+fn mutex_ended<G: Drop, R: RawMutex>(
+    mutex: &Mutex<R, u64>,
+    answer: Result<Option<G>, Fault>,
+) -> Ended {
     let guard = answer.ok().flatten();
     let is_given = guard.is_some();
-    let is_held = is_locked();
+    let is_held = mutex.is_locked();
     drop(guard);
-    (is_given, is_held, is_locked())
+    (is_given, is_held, mutex.is_locked())
 }
 
 fn check_mutex<R: RawMutexTimed<Duration = (), Instant = ()> + Drop>(
@@ -35,32 +36,42 @@ fn check_mutex<R: RawMutexTimed<Duration = (), Instant = ()> + Drop>(
 ) -> Result<(), Fail> {
     let mutex: Mutex<R, u64> = Mutex::new(alloc, waiter, 0)?;
     let mutex = Arc::new(alloc, mutex)?;
-    let is_locked = || mutex.is_locked();
     let ended = [
-        ended(Mutex::lock_arc(&mutex).map(Some), is_locked),
-        ended(Mutex::try_lock_arc(&mutex), is_locked),
-        ended(Mutex::try_lock_arc_for(&mutex, ()), is_locked),
-        ended(Mutex::try_lock_arc_until(&mutex, ()), is_locked),
+        mutex_ended(&mutex, Mutex::lock_arc(&mutex).map(Some)),
+        mutex_ended(&mutex, Mutex::try_lock_arc(&mutex)),
+        mutex_ended(&mutex, Mutex::try_lock_arc_for(&mutex, ())),
+        mutex_ended(&mutex, Mutex::try_lock_arc_until(&mutex, ())),
     ];
     equal(ended, [FREED; 4])
+}
+
+/// Ends the guard of the lock, if the acquisition gave one.
+fn rwlock_ended<G: Drop, R: RawRwLock>(
+    lock: &RwLock<R, u64>,
+    answer: Result<Option<G>, Fault>,
+) -> Ended {
+    let guard = answer.ok().flatten();
+    let is_given = guard.is_some();
+    let is_held = lock.is_locked();
+    drop(guard);
+    (is_given, is_held, lock.is_locked())
 }
 
 /// By readers and writers.
 fn ended_rwlocks<R: RawRwLockTimed<Duration = (), Instant = ()> + Drop>(
     lock: &Arc<RwLock<R, u64>>,
 ) -> [[Ended; 4]; 2] {
-    let is_locked = || lock.is_locked();
     let read = [
-        ended(RwLock::read_arc(lock).map(Some), is_locked),
-        ended(RwLock::try_read_arc(lock), is_locked),
-        ended(RwLock::try_read_arc_for(lock, ()), is_locked),
-        ended(RwLock::try_read_arc_until(lock, ()), is_locked),
+        rwlock_ended(lock, RwLock::read_arc(lock).map(Some)),
+        rwlock_ended(lock, RwLock::try_read_arc(lock)),
+        rwlock_ended(lock, RwLock::try_read_arc_for(lock, ())),
+        rwlock_ended(lock, RwLock::try_read_arc_until(lock, ())),
     ];
     let written = [
-        ended(RwLock::write_arc(lock).map(Some), is_locked),
-        ended(RwLock::try_write_arc(lock), is_locked),
-        ended(RwLock::try_write_arc_for(lock, ()), is_locked),
-        ended(RwLock::try_write_arc_until(lock, ()), is_locked),
+        rwlock_ended(lock, RwLock::write_arc(lock).map(Some)),
+        rwlock_ended(lock, RwLock::try_write_arc(lock)),
+        rwlock_ended(lock, RwLock::try_write_arc_for(lock, ())),
+        rwlock_ended(lock, RwLock::try_write_arc_until(lock, ())),
     ];
     [read, written]
 }
@@ -69,12 +80,11 @@ fn ended_rwlocks<R: RawRwLockTimed<Duration = (), Instant = ()> + Drop>(
 fn ended_upgradable<R: RawRwLockUpgradeTimed<Duration = (), Instant = ()> + Drop>(
     lock: &Arc<RwLock<R, u64>>,
 ) -> [Ended; 4] {
-    let is_locked = || lock.is_locked();
     [
-        ended(RwLock::upgradable_read_arc(lock).map(Some), is_locked),
-        ended(RwLock::try_upgradable_read_arc(lock), is_locked),
-        ended(RwLock::try_upgradable_read_arc_for(lock, ()), is_locked),
-        ended(RwLock::try_upgradable_read_arc_until(lock, ()), is_locked),
+        rwlock_ended(lock, RwLock::upgradable_read_arc(lock).map(Some)),
+        rwlock_ended(lock, RwLock::try_upgradable_read_arc(lock)),
+        rwlock_ended(lock, RwLock::try_upgradable_read_arc_for(lock, ())),
+        rwlock_ended(lock, RwLock::try_upgradable_read_arc_until(lock, ())),
     ]
 }
 
@@ -88,6 +98,18 @@ fn check_rwlock<R: RawRwLockUpgradeTimed<Duration = (), Instant = ()> + Drop>(
     equal(ended, ([[FREED; 4]; 2], [FREED; 4]))
 }
 
+/// Ends the guard of the lock, if the acquisition gave one.
+fn reentrant_mutex_ended<G: Drop, R: RawMutex>(
+    lock: &ReentrantMutex<R, u64>,
+    answer: Result<Option<G>, Fault>,
+) -> Ended {
+    let guard = answer.ok().flatten();
+    let is_given = guard.is_some();
+    let is_held = lock.is_locked();
+    drop(guard);
+    (is_given, is_held, lock.is_locked())
+}
+
 fn check_reentrant_mutex<R: RawMutexTimed<Duration = (), Instant = ()> + Drop>(
     alloc: Global,
     waiter: R::Waiter,
@@ -98,15 +120,11 @@ where
 {
     let lock: ReentrantMutex<R, u64> = ReentrantMutex::new(alloc, waiter, 0)?;
     let lock = Arc::new(alloc, lock)?;
-    let is_locked = || lock.is_locked();
     let ended = [
-        ended(ReentrantMutex::lock_arc(&lock, one).map(Some), is_locked),
-        ended(ReentrantMutex::try_lock_arc(&lock, one), is_locked),
-        ended(ReentrantMutex::try_lock_arc_for(&lock, one, ()), is_locked),
-        ended(
-            ReentrantMutex::try_lock_arc_until(&lock, one, ()),
-            is_locked,
-        ),
+        reentrant_mutex_ended(&lock, ReentrantMutex::lock_arc(&lock, one).map(Some)),
+        reentrant_mutex_ended(&lock, ReentrantMutex::try_lock_arc(&lock, one)),
+        reentrant_mutex_ended(&lock, ReentrantMutex::try_lock_arc_for(&lock, one, ())),
+        reentrant_mutex_ended(&lock, ReentrantMutex::try_lock_arc_until(&lock, one, ())),
     ];
     equal(ended, [FREED; 4])
 }

@@ -3,13 +3,12 @@ use super::gated::Gated;
 use lock_guard::raw::{RawMutex, RawMutexFair};
 use lock_mutex::{Mutex, MutexGuard};
 use lock_recorder::CallLog;
-use lock_test_support::answer::equal;
 use lock_test_support::raw_lock::AdmitsAll;
 use lock_test_support::{wait_for_calls, wait_for_flag};
 use std::sync::Wait;
 use std::sync::atomic::{AtomicBool, Ordering};
 use std::test::Fail;
-use std::thread::{self, Threads};
+use std::thread;
 
 /// Once the raw lock got this many calls, holds the value's lock until two more came, and then writes 5.
 fn write_once_another_asked<W: Wait, R: RawMutex>(
@@ -43,23 +42,6 @@ fn read_once_held<W: Wait, R: RawMutex>(
     *guard
 }
 
-/// What one thread reads while another writes, once the raw lock got this many calls.
-fn read_beside_a_write<T: Threads + Wait + Sync, R: RawMutex + Sync>(
-    rt: &T,
-    mutex: &Mutex<R, u64>,
-    calls: &CallLog,
-    is_again: bool,
-    before: usize,
-) -> u64 {
-    let is_held = AtomicBool::new(false);
-    let ((), read) = thread::join(
-        rt,
-        || write_once_another_asked(mutex, rt, calls, &is_held, before),
-        || read_once_held(mutex, rt, &is_held, is_again),
-    );
-    read
-}
-
 /// It ends only if a thread calls the raw lock before it locks the value's lock, also on its way back from `unlocked`.
 #[test]
 fn the_raw_lock_is_asked_before_the_value_is_taken(rt: HostRuntime) -> Result<(), Fail> {
@@ -68,17 +50,19 @@ fn the_raw_lock_is_asked_before_the_value_is_taken(rt: HostRuntime) -> Result<()
         let raw: AdmitsAll<HostRuntime> = RawMutex::new(rt.alloc(), rt)?;
         let calls = raw.log()?;
         let mutex = Mutex::from_raw(raw, 0)?;
-        let read = read_beside_a_write(&rt, &mutex, &calls, is_again, before);
-        equal(
-            ("by unlocked", is_again, read),
-            ("by unlocked", is_again, 5),
-        )?;
+        let is_held = AtomicBool::new(false);
+        let ((), read) = thread::join(
+            &rt,
+            || write_once_another_asked(&mutex, &rt, &calls, &is_held, before),
+            || read_once_held(&mutex, &rt, &is_held, is_again),
+        );
+        assert_eq!(rt; read, 5, "by unlocked: {is_again}");
     }
     Ok(())
 }
 
 /// How a guard releases its mutex.
-#[derive(Clone, Copy, PartialEq, Debug)]
+#[derive(Clone, Copy)]
 enum End {
     Drop,
     UnlockFair,
@@ -109,27 +93,22 @@ fn read_before_release<W: Wait, R: RawMutex>(
     *guard
 }
 
-/// What one thread reads while another ends its guard.
-fn read_beside_an_end<T: Threads + Wait + Sync, R: RawMutexFair + Sync>(
-    rt: &T,
-    mutex: &Mutex<R, u64>,
-    end: End,
-) -> u64 {
-    let is_held = AtomicBool::new(false);
-    let ((), read) = thread::join(
-        rt,
-        || write_and_end(mutex, &is_held, end),
-        || read_before_release(mutex, rt, &is_held),
-    );
-    read
-}
-
 /// It ends only if a guard's drop, and a bump, release the value's lock before the raw lock.
 #[test]
 fn the_value_is_given_back_before_the_raw_lock(rt: HostRuntime) -> Result<(), Fail> {
-    for end in [End::Drop, End::UnlockFair, End::Bump] {
+    for (name, end) in [
+        ("drop", End::Drop),
+        ("unlock_fair", End::UnlockFair),
+        ("bump", End::Bump),
+    ] {
         let mutex: Mutex<Gated<HostRuntime>, u64> = Mutex::new(rt.alloc(), rt, 0)?;
-        equal((end, read_beside_an_end(&rt, &mutex, end)), (end, 5))?;
+        let is_held = AtomicBool::new(false);
+        let ((), read) = thread::join(
+            &rt,
+            || write_and_end(&mutex, &is_held, end),
+            || read_before_release(&mutex, &rt, &is_held),
+        );
+        assert_eq!(rt; read, 5, "{name}");
     }
     Ok(())
 }

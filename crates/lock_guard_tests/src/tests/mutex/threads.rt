@@ -3,11 +3,10 @@ use crate::tests::Word;
 use lock_guard::raw::RawMutex;
 use lock_mutex::{Condvar, Mutex};
 use lock_raws::{RawLock, SpuriousCondvar};
-use lock_test_support::answer::equal;
 use lock_test_support::raw_lock::AdmitsAll;
 use lock_test_support::{Count, add_in_four_threads};
 use std::test::Fail;
-use std::thread::{self, Threads};
+use std::thread;
 
 /// A mutex that threads count behind.
 #[derive(Drop)]
@@ -33,44 +32,29 @@ fn come_and_wait<R: RawMutex>(
     condvar.wait_while(&mut guard, |come| *come < all);
 }
 
-/// How far four threads count, so many times.
-fn counted<T: Threads + Sync, R: RawMutex + Drop + Sync>(
-    rt: &T,
-    mutex: Mutex<R, u64>,
-    times: u32,
-) -> u64 {
-    for _ in 0..times {
-        add_in_four_threads(rt, &Counted(&mutex));
-    }
-    mutex.into_inner()
-}
-
-/// How many of two threads came, which wait for each other.
-fn come<T: Threads, R: RawMutex + Drop + Sync>(
-    rt: &T,
-    mutex: Mutex<R, u64>,
-    condvar: &Condvar<SpuriousCondvar<R>>,
-) -> u64 {
-    thread::join(
-        rt,
-        || come_and_wait(&mutex, condvar, 2),
-        || come_and_wait(&mutex, condvar, 2),
-    );
-    mutex.into_inner()
-}
-
 /// Over a raw lock that admits everyone, so that only the value's lock excludes the threads.
 #[test]
 fn four_threads_count_and_two_wait_for_each_other(rt: HostRuntime) -> Result<(), Fail> {
     let counter: Mutex<AdmitsAll<HostRuntime>, u64> = Mutex::new(rt.alloc(), rt, 0)?;
-    equal(counted(&rt, counter, 1), 4_000)?;
-    let mutex: Mutex<AdmitsAll<HostRuntime>, u64> = Mutex::new(rt.alloc(), rt, 0)?;
+    add_in_four_threads(&rt, &Counted(&counter));
+    assert_eq!(rt; counter.into_inner(), 4_000);
+    let come: Mutex<AdmitsAll<HostRuntime>, u64> = Mutex::new(rt.alloc(), rt, 0)?;
     let condvar: Condvar<SpuriousCondvar<AdmitsAll<HostRuntime>>> = Condvar::new(rt.alloc())?;
-    equal(come(&rt, mutex, &condvar), 2)
+    thread::join(
+        &rt,
+        || come_and_wait(&come, &condvar, 2),
+        || come_and_wait(&come, &condvar, 2),
+    );
+    assert_eq!(rt; come.into_inner(), 2);
+    Ok(())
 }
 
 #[test]
 fn four_threads_count_behind_a_word(rt: HostRuntime) -> Result<(), Fail> {
     let counter: Mutex<RawLock<Word>, u64> = Mutex::new(rt.alloc(), rt, 0)?;
-    equal(counted(&rt, counter, 10), 40_000)
+    for _ in 0..10 {
+        add_in_four_threads(&rt, &Counted(&counter));
+    }
+    assert_eq!(rt; counter.into_inner(), 40_000);
+    Ok(())
 }

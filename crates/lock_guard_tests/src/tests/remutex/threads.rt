@@ -13,7 +13,7 @@ use lock_test_support::{party, two_parties, wait_for_calls, wait_for_flag, wait_
 use std::sync::Wait;
 use std::sync::atomic::{AtomicBool, AtomicU64, Ordering};
 use std::test::Fail;
-use std::thread::{self, Threads};
+use std::thread;
 
 /// Adds 1 a thousand times, by a separate read and write.
 fn count_up<R: RawMutex>(
@@ -30,29 +30,19 @@ fn count_up<R: RawMutex>(
     Ok(())
 }
 
-/// How far two parties count.
-fn counted<T: Threads, R: RawMutex + Drop + Sync>(
-    rt: &T,
-    count: ReentrantMutex<R, AtomicU64>,
-    (one, two): (PartyId, PartyId),
-) -> Result<u64, Fault>
-where
-    R::Guard: Send,
-{
-    let (first, second) = thread::join(rt, || count_up(&count, one), || count_up(&count, two));
-    first.and(second)?;
-    Ok(count.into_inner().load(Ordering::SeqCst))
-}
-
 #[test]
 fn two_parties_take_turns(rt: HostRuntime) -> Result<(), Fail> {
+    let (one, two) = two_parties()?;
     let zero = AtomicU64::new(0);
     let count: ReentrantMutex<RawLock<Table>, AtomicU64> = ReentrantMutex::new(
         rt.alloc(),
         rt,
         zero,
     )?;
-    equal(counted(&rt, count, two_parties()?), Ok(2_000))
+    let ends = thread::join(&rt, || count_up(&count, one), || count_up(&count, two));
+    equal(ends, (Ok(()), Ok(())))?;
+    assert_eq!(rt; count.into_inner().load(Ordering::SeqCst), 2_000);
+    Ok(())
 }
 
 /// Owns the lock, and says so, until the raw lock got six calls: one acquisition of the owner, and three of another
@@ -82,33 +72,19 @@ fn lock_once_owned<W: Wait, R: RawMutex>(
     Ok(lock.is_owned_by_current_thread(party))
 }
 
-/// What the two threads return.
-type Ends<T, U> = (Result<T, Fault>, Result<U, Fault>);
-
-fn own_and_lock<T: Threads + Wait + Sync, R: RawMutex + Sync>(
-    rt: &T,
-    lock: &ReentrantMutex<R, u8>,
-    calls: &CallLog,
-    (one, two): (PartyId, PartyId),
-) -> Ends<(), bool>
-where
-    R::Guard: Send,
-{
-    let is_owned = AtomicBool::new(false);
-    thread::join(
-        rt,
-        || own_for_six_calls(lock, one, rt, calls, &is_owned),
-        || lock_once_owned(lock, two, rt, &is_owned),
-    )
-}
-
 /// It ends only if `lock` calls such a raw lock again and again, and acquires in the end.
 #[test]
 fn lock_asks_again_while_another_owns(rt: HostRuntime) -> Result<(), Fail> {
+    let (one, two) = two_parties()?;
     let raw: AdmitsAll<HostRuntime> = RawMutex::new(rt.alloc(), rt)?;
     let calls = raw.log()?;
     let lock = ReentrantMutex::from_raw(rt.alloc(), raw, 0u8)?;
-    let ends = own_and_lock(&rt, &lock, &calls, two_parties()?);
+    let is_owned = AtomicBool::new(false);
+    let ends = thread::join(
+        &rt,
+        || own_for_six_calls(&lock, one, &rt, &calls, &is_owned),
+        || lock_once_owned(&lock, two, &rt, &is_owned),
+    );
     equal(ends, (Ok(()), Ok(true)))
 }
 
@@ -148,29 +124,20 @@ fn lock_during_bump<W: Wait, R: RawMutex>(
     Ok(())
 }
 
-fn bump_and_lock<T: Threads + Wait + Sync, R: RawMutexFair + Sync>(
-    rt: &T,
-    lock: &ReentrantMutex<R, u8>,
-    one: PartyId,
-) -> Ends<bool, ()>
-where
-    R::Guard: Send,
-{
-    let (is_held, is_over) = (AtomicBool::new(false), AtomicBool::new(false));
-    thread::join(
-        rt,
-        || bump(lock, one, rt, &is_held, &is_over),
-        || lock_during_bump(lock, one, rt, &is_held, &is_over),
-    )
-}
-
 #[test]
 fn a_bump_waits_for_a_level(rt: HostRuntime) -> Result<(), Fail> {
+    let one = party(1)?;
     let lock: ReentrantMutex<Gated<HostRuntime>, u8> = ReentrantMutex::with_levels(
         rt.alloc(),
         rt,
         1,
         0,
     )?;
-    equal(bump_and_lock(&rt, &lock, party(1)?), (Ok(true), Ok(())))
+    let (is_held, is_over) = (AtomicBool::new(false), AtomicBool::new(false));
+    let ends = thread::join(
+        &rt,
+        || bump(&lock, one, &rt, &is_held, &is_over),
+        || lock_during_bump(&lock, one, &rt, &is_held, &is_over),
+    );
+    equal(ends, (Ok(true), Ok(())))
 }

@@ -11,7 +11,7 @@ use lock_test_support::{wait_for_calls, wait_for_flag};
 use std::sync::Wait;
 use std::sync::atomic::{AtomicBool, Ordering};
 use std::test::Fail;
-use std::thread::{self, Threads};
+use std::thread;
 
 fn add_one<R: RawRwLock>(lock: &RwLock<R, u64>) {
     lock.with_write(|value| *value = value.wrapping_add(1));
@@ -67,26 +67,18 @@ fn find_once_held<W: Wait, R: RawRwLock>(
     lock.with_write(|value| *value)
 }
 
-/// What one thread finds while another writes.
-fn find_beside_a_write<T: Threads + Wait + Sync, R: RawRwLock + Sync>(
-    rt: &T,
-    lock: &RwLock<R, u64>,
-    calls: &CallLog,
-) -> u64 {
-    let is_held = AtomicBool::new(false);
-    let ((), found) = thread::join(
-        rt,
-        || write_once_another_asked(lock, rt, calls, &is_held),
-        || find_once_held(lock, rt, &is_held),
-    );
-    found
-}
-
 /// It ends only if a thread calls the raw lock before it locks the value's lock.
 #[test]
 fn the_raw_lock_is_asked_before_the_value_is_taken(rt: HostRuntime) -> Result<(), Fail> {
     let raw: AdmitsAll<HostRuntime> = RawRwLock::new(rt.alloc(), rt, 1)?;
     let calls = raw.log()?;
+    let is_held = AtomicBool::new(false);
     let lock = RwLock::from_raw(raw, 0)?;
-    equal(find_beside_a_write(&rt, &lock, &calls), 5)
+    let ((), found) = thread::join(
+        &rt,
+        || write_once_another_asked(&lock, &rt, &calls, &is_held),
+        || find_once_held(&lock, &rt, &is_held),
+    );
+    assert_eq!(rt; found, 5);
+    Ok(())
 }

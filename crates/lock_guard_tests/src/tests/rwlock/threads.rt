@@ -5,12 +5,11 @@ use crate::tests::Word;
 use lock_guard::raw::RawRwLock;
 use lock_raws::RawLock;
 use lock_rwlock::RwLock;
-use lock_test_support::answer::equal;
 use lock_test_support::raw_lock::AdmitsAll;
 use lock_test_support::{Count, add_in_four_threads};
 use std::sync::atomic::{AtomicBool, Ordering};
 use std::test::Fail;
-use std::thread::{self, Threads};
+use std::thread;
 
 /// A lock that threads count behind.
 #[derive(Drop)]
@@ -44,41 +43,30 @@ fn sees_while_it_reads<R: RawRwLock>(
     lock.with_read(|_| sees_the_other(mine, other))
 }
 
-/// Whether each of two readers sees the other.
-fn see_each_other<T: Threads, R: RawRwLock + Sync>(rt: &T, lock: &RwLock<R, u64>) -> (bool, bool) {
-    let (first, second) = (AtomicBool::new(false), AtomicBool::new(false));
-    thread::join(
-        rt,
-        || sees_while_it_reads(lock, &first, &second),
-        || sees_while_it_reads(lock, &second, &first),
-    )
-}
-
-/// How far four threads count, so many times.
-fn counted<T: Threads + Sync, R: RawRwLock + Drop + Sync>(
-    rt: &T,
-    lock: RwLock<R, u64>,
-    times: u32,
-) -> u64 {
-    for _ in 0..times {
-        add_in_four_threads(rt, &Counted(&lock));
-    }
-    lock.into_inner()
-}
-
 /// Over a raw lock that admits everyone, so that only the value's lock excludes the threads.
 #[test]
 fn four_threads_count_and_two_read_at_once(rt: HostRuntime) -> Result<(), Fail> {
     let lock: RwLock<AdmitsAll<HostRuntime>, u64> = RwLock::new(rt.alloc(), rt, 0)?;
-    equal(see_each_other(&rt, &lock), (true, true))?;
-    equal(counted(&rt, lock, 1), 4_000)
+    add_in_four_threads(&rt, &Counted(&lock));
+    let first = AtomicBool::new(false);
+    let second = AtomicBool::new(false);
+    let seen = thread::join(
+        &rt,
+        || sees_while_it_reads(&lock, &first, &second),
+        || sees_while_it_reads(&lock, &second, &first),
+    );
+    assert_eq!(rt; (seen, lock.into_inner()), ((true, true), 4_000));
+    Ok(())
 }
 
 #[test]
 fn four_threads_count_behind_a_word(rt: HostRuntime) -> Result<(), Fail> {
     for readers in [1, 4, 4_294_967_295] {
         let lock: RwLock<RawLock<Word>, u64> = RwLock::with_readers(rt.alloc(), rt, readers, 0)?;
-        equal(counted(&rt, lock, 10), 40_000)?;
+        for _ in 0..10 {
+            add_in_four_threads(&rt, &Counted(&lock));
+        }
+        assert_eq!(rt; lock.into_inner(), 40_000);
     }
     Ok(())
 }

@@ -3,9 +3,8 @@ use crate::tests::Word;
 use lock_guard::raw::RawRwLock;
 use lock_raws::RawLock;
 use lock_rwlock::RwLock;
-use lock_test_support::answer::equal;
 use std::test::Fail;
-use std::thread::{self, Threads};
+use std::thread;
 
 type Pair = (u64, u64);
 
@@ -33,19 +32,6 @@ fn read_pairs<R: RawRwLock>(lock: &RwLock<R, Pair>) -> u64 {
     wrong
 }
 
-/// What two readers find beside a writer, and the first number in the end.
-fn found_beside_a_writer<T: Threads + Sync, R: RawRwLock + Drop + Sync>(
-    rt: &T,
-    lock: RwLock<R, Pair>,
-) -> ((u64, u64), u64) {
-    let (wrong, ()) = thread::join(
-        rt,
-        || thread::join(rt, || read_pairs(&lock), || read_pairs(&lock)),
-        || write_pairs(&lock),
-    );
-    (wrong, lock.into_inner().0)
-}
-
 #[test]
 fn readers_see_no_half_of_a_pair(rt: HostRuntime) -> Result<(), Fail> {
     for readers in [1, 2, 64] {
@@ -55,7 +41,12 @@ fn readers_see_no_half_of_a_pair(rt: HostRuntime) -> Result<(), Fail> {
             readers,
             (0, 0),
         )?;
-        equal(found_beside_a_writer(&rt, lock), ((0, 0), 10_000))?;
+        let (wrong, ()) = thread::join(
+            &rt,
+            || thread::join(&rt, || read_pairs(&lock), || read_pairs(&lock)),
+            || write_pairs(&lock),
+        );
+        assert_eq!(rt; (wrong, lock.into_inner().0), ((0, 0), 10_000));
     }
     Ok(())
 }
