@@ -3,7 +3,7 @@ use crate::tests::{Table, Word};
 use lock_base::raw::Fault;
 use lock_guard::raw::RawMutex;
 use lock_mutex::{Condvar, Mutex};
-use lock_raws::{LockCore, RawLock, SleepingCondvar};
+use lock_raws::{RawLock, SleepingCondvar};
 use std::alloc::Global;
 use std::sync::Wait;
 use std::test::Fail;
@@ -79,25 +79,11 @@ fn sum_of_all<T: Threads + Sync, C: Room + Sync>(rt: &T, room: &C) -> u64 {
     one.wrapping_add(other)
 }
 
-/// The same, with a slot over the core.
-fn sum_over<T: Threads + Sync, C: LockCore + Sync>(
-    rt: &T,
-    alloc: Global,
-    waiter: C::Waiter,
-) -> Result<u64, Fault> {
-    let slot: Slot<RawLock<C>> = Slot::new(alloc, waiter)?;
-    Ok(sum_of_all(rt, &slot))
-}
-
 #[test]
 fn each_item_arrives_once(rt: HostRuntime) -> Result<(), Fail> {
-    assert_eq!(rt;
-        sum_over::<HostRuntime, Word>(&rt, rt.alloc(), rt),
-        Ok(200_010_000)
-    );
-    assert_eq!(rt;
-        sum_over::<HostRuntime, Table>(&rt, rt.alloc(), rt),
-        Ok(200_010_000)
-    );
+    let words: Slot<RawLock<Word>> = Slot::new(rt.alloc(), rt)?;
+    assert_eq!(rt; sum_of_all(&rt, &words), 200_010_000);
+    let tables: Slot<RawLock<Table>> = Slot::new(rt.alloc(), rt)?;
+    assert_eq!(rt; sum_of_all(&rt, &tables), 200_010_000);
     Ok(())
 }

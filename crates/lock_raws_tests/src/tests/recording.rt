@@ -13,7 +13,6 @@ use std::clone::Clone;
 use std::rt::Env;
 use std::sync::Wait;
 use std::test::Fail;
-use std::thread::Threads;
 use std::time::Clock;
 
 /// What a thread does with a lock that has room for so many steps, the steps that the lock writes, and whether it stops.
@@ -161,92 +160,40 @@ fn an_upgrade_is_the_fourth_step(rt: HostRuntime) -> Result<(), Fail> {
     check_fourth_step(rt.alloc(), rt, 4)
 }
 
-/// A raw lock whose steps can be read.
-trait Written: Acts {
-    fn steps(&self, alloc: Global) -> Result<Vec<ModeStep>, Fault>;
-
-    fn has_stopped(&self) -> bool;
-}
-
-impl<W: Wait + Clone + Drop> Written for RecordingRaw<W> {
-    fn steps(&self, alloc: Global) -> Result<Vec<ModeStep>, Fault> {
-        self.journal(alloc)
-    }
-
-    fn has_stopped(&self) -> bool {
-        self.stopped()
-    }
-}
-
 /// All acquire before the first releases.
 const READERS: &[Actions] = &[&[Lock(Shared), SeeAll, Unlock]];
 
-const OF_TWO: [ModeStep; 4] = [
-    Acquire(Shared),
-    Acquire(Shared),
-    Release(Shared),
-    Release(Shared),
-];
-
-const OF_FOUR: [[ModeStep; 4]; 2] = [[Acquire(Shared); 4], [Release(Shared); 4]];
-
-/// Readers in two threads and in four, with a lock for each.
-fn check_readers<R: Threads + Clock + Sync, L: Written + Sync>(
-    rt: &R,
-    alloc: Global,
-    [two, four]: [&L; 2],
-) -> Result<(), Fail> {
+#[test]
+fn steps_of_readers_are_written(rt: HostRuntime) -> Result<(), Fail> {
     let work = Work {
         first: READERS,
         others: READERS,
         times: 1,
     };
-    let wrong = [
-        in_two_threads(rt, two, &Meeting::of(2), &work),
-        in_four_threads(rt, four, &Meeting::of(4), &work),
-    ];
-    let (of_two, of_four) = (two.steps(alloc)?, four.steps(alloc)?);
-    let are_written = [
-        of_two.as_slice() == OF_TWO.as_slice(),
-        of_four.as_slice().starts_with(&OF_FOUR[0]),
-        of_four.as_slice().ends_with(&OF_FOUR[1]),
-    ];
-    equal(
-        (wrong, are_written, [two.has_stopped(), four.has_stopped()]),
-        ([None; 2], [true; 3], [false; 2]),
-    )
-}
-
-#[test]
-fn steps_of_readers_are_written(rt: HostRuntime) -> Result<(), Fail> {
     let two = RecordingRaw::with_room(rt.alloc(), rt, 2, 4)?;
+    let wrong = in_two_threads(&rt, &two, &Meeting::of(2), &work);
+    let steps = [
+        Acquire(Shared),
+        Acquire(Shared),
+        Release(Shared),
+        Release(Shared),
+    ];
+    assert!(rt; wrong.is_none() && two.journal(rt.alloc())?.as_slice() == steps.as_slice());
     let four = RecordingRaw::with_room(rt.alloc(), rt, 4, 8)?;
-    check_readers(&rt, rt.alloc(), [&two, &four])
+    let wrong = in_four_threads(&rt, &four, &Meeting::of(4), &work);
+    let [acquired, released] = [[Acquire(Shared); 4], [Release(Shared); 4]];
+    let written = four.journal(rt.alloc())?;
+    assert!(rt;
+        written.as_slice().starts_with(&acquired) && written.as_slice().ends_with(&released)
+    );
+    assert_eq!(rt;
+        (wrong, two.stopped(), four.stopped()),
+        (None, false, false)
+    );
+    Ok(())
 }
 
-/// Each write is two steps.
-fn check_writers<R: Threads + Clock + Sync, L: Written + Sync>(
-    rt: &R,
-    alloc: Global,
-    lock: &L,
-    list: &[Actions],
-    least: u64,
-) -> Result<(), Fail> {
-    let meeting = Meeting::of(4);
-    let work = Work {
-        first: list,
-        others: list,
-        times: 250,
-    };
-    let wrong = in_four_threads(rt, lock, &meeting, &work);
-    let steps = lock.steps(alloc)?.len() as u64;
-    equal(
-        (wrong, meeting.writes() >= least, steps, lock.has_stopped()),
-        (None, true, meeting.writes().wrapping_mul(2), false),
-    )
-}
-
-/// The writers block, or try.
+/// Each write is two steps, whether the writers block or try.
 #[test]
 fn steps_of_writers_are_written(rt: HostRuntime) -> Result<(), Fail> {
     let lists: [(&[Actions], u64); 2] = [
@@ -255,7 +202,18 @@ fn steps_of_writers_are_written(rt: HostRuntime) -> Result<(), Fail> {
     ];
     for (list, least) in lists {
         let raw = RecordingRaw::with_room(rt.alloc(), rt, 4, 2_000)?;
-        check_writers(&rt, rt.alloc(), &raw, list, least)?;
+        let meeting = Meeting::of(4);
+        let work = Work {
+            first: list,
+            others: list,
+            times: 250,
+        };
+        let wrong = in_four_threads(&rt, &raw, &meeting, &work);
+        let steps = raw.journal(rt.alloc())?.len() as u64;
+        equal(
+            (wrong, meeting.writes() >= least, steps, raw.stopped()),
+            (None, true, meeting.writes().wrapping_mul(2), false),
+        )?;
     }
     Ok(())
 }

@@ -43,6 +43,18 @@ pub struct Actor {
     pub digit: u64,
 }
 
+impl Actor {
+    /// Makes a thread that does nothing.
+    pub fn idle() -> Actor {
+        Actor {
+            arrived: 0,
+            timed_out: 0,
+            act: Act::Nothing,
+            digit: 0,
+        }
+    }
+}
+
 /// A lock, and what its threads note.
 #[derive(Drop)]
 struct Scene<W: Wait + Clock + Clone + Drop> {
@@ -63,6 +75,16 @@ impl<W: Wait + Clock + Clone + Drop> Scene<W> {
             Act::Pass => self.core.try_acquire(Mode::Exclusive),
             Act::Upgrade => self.core.try_acquire(Mode::Upgradable),
             _ => None,
+        }
+    }
+
+    fn play(&self, waiter: &W, actor: Actor) {
+        let held = self.start(actor);
+        self.started.fetch_add(1, Ordering::SeqCst);
+        wait_until(waiter, || self.has_come_to(actor));
+        match held {
+            Some(token) => self.end(actor, token),
+            None => self.acquire(actor),
         }
     }
 
@@ -123,43 +145,6 @@ impl<W: Wait + Clock + Clone + Drop> Scene<W> {
     }
 }
 
-/// What threads play.
-trait Played {
-    /// The permission to block.
-    type Waiter: Wait;
-
-    /// Plays the part of one thread.
-    fn play(&self, actor: Actor);
-}
-
-impl<W: Wait + Clock + Clone + Drop> Played for Scene<W> {
-    type Waiter = W;
-
-    fn play(&self, actor: Actor) {
-        let held = self.start(actor);
-        self.started.fetch_add(1, Ordering::SeqCst);
-        wait_until(self.core.waiter(), || self.has_come_to(actor));
-        match held {
-            Some(token) => self.end(actor, token),
-            None => self.acquire(actor),
-        }
-    }
-}
-
-/// Five threads play their parts.
-fn play_parts<R: Threads + Sync, S: Played + Sync>(rt: &R, scene: &S, actors: [Actor; 5]) {
-    let [a, b, c, d, e] = actors;
-    thread::join(
-        rt,
-        || thread::join(rt, || scene.play(a), || scene.play(b)),
-        || thread::join(
-            rt,
-            || scene.play(c),
-            || thread::join(rt, || scene.play(d), || scene.play(e)),
-        ),
-    );
-}
-
 /// Plays a scene of five threads. Returns their digits in the order of admission.
 pub fn play<R: Wait + Clock + Threads + Sync + Copy + Drop>(
     rt: &R,
@@ -172,6 +157,15 @@ pub fn play<R: Wait + Clock + Threads + Sync + Copy + Drop>(
         admitted: AtomicU64::new(0),
         timed_out: AtomicU64::new(0),
     };
-    play_parts(rt, &scene, actors);
+    let [a, b, c, d, e] = actors;
+    thread::join(
+        rt,
+        || thread::join(rt, || scene.play(rt, a), || scene.play(rt, b)),
+        || thread::join(
+            rt,
+            || scene.play(rt, c),
+            || thread::join(rt, || scene.play(rt, d), || scene.play(rt, e)),
+        ),
+    );
     Ok(scene.admitted.load(Ordering::SeqCst))
 }

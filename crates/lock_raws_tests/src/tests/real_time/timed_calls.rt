@@ -6,11 +6,10 @@ use lock_guard::raw::{
     RawMutexTimed, RawRwLock, RawRwLockTimed, RawRwLockUpgrade, RawRwLockUpgradeTimed,
 };
 use lock_raws::{LockCore, RawLock, TimedRaw};
-use lock_test_support::answer::equal;
 use lock_test_support::wait_for_flag;
 use std::sync::atomic::{AtomicBool, Ordering};
 use std::test::Fail;
-use std::thread::{self, Threads};
+use std::thread;
 use std::time::{Clock, Duration, Instant};
 
 /// Longer than any test lasts.
@@ -180,39 +179,26 @@ fn release_later<K: Clock, C: LockCore>(
     held.unlock();
 }
 
-/// Whether the call acquires, which another thread blocks for `short`.
-fn acquires_after_a_release<
-    R: Threads + Clock + Sync,
-    C: LockCore<Duration = Duration, Instant = Instant> + Sync,
->(rt: &R, raw: &RawLock<C>, want: Want, end: End) -> bool {
-    let is_held = AtomicBool::new(false);
-    let (is_acquired, ()) = thread::join(
-        rt,
-        || acquires_once_held(raw, want, end, &is_held),
-        || release_later(rt, raw, want, &is_held),
-    );
-    is_acquired
-}
-
 /// Each call, blocked and released. A timeout past the last instant never ends.
-fn check_calls<
-    R: Threads + Clock + Sync,
-    C: LockCore<Duration = Duration, Instant = Instant> + Sync,
->(rt: &R, raw: &RawLock<C>) -> Result<(), Fail> {
-    for (want, form) in CALLS {
-        let seen = acquires_beside(rt, raw, want, form)?;
-        let ends = [form.end(rt, long())?, End::For(Duration::MAX)];
-        let released = ends.map(|end| acquires_after_a_release(rt, raw, want, end));
-        equal(
-            (want, form, seen, released),
-            (want, form, (false, true), [true; 2]),
-        )?;
-    }
-    Ok(())
-}
-
 #[test]
 fn timed_calls_wait_for_their_time(rt: HostRuntime) -> Result<(), Fail> {
     let raw: TimedRaw<HostRuntime> = raw_rwlock(rt.alloc(), rt)?;
-    check_calls(&rt, &raw)
+    for (want, form) in CALLS {
+        let seen = acquires_beside(&rt, &raw, want, form)?;
+        if seen != (false, true) {
+            return Err(Fail::from((want, form, "timed out before its time", seen)));
+        }
+        for end in [form.end(&rt, long())?, End::For(Duration::MAX)] {
+            let is_held = AtomicBool::new(false);
+            let (is_acquired, ()) = thread::join(
+                &rt,
+                || acquires_once_held(&raw, want, end, &is_held),
+                || release_later(&rt, &raw, want, &is_held),
+            );
+            if !is_acquired {
+                return Err(Fail::from((want, form, "timed out after a release")));
+            }
+        }
+    }
+    Ok(())
 }

@@ -2,13 +2,11 @@
 use super::{is_over, raw_rwlock, short};
 use lock_guard::raw::{RawCondvar, RawCondvarTimed, RawMutex, RawMutexTimed};
 use lock_raws::{SleepingCondvar, TimedCondvar, TimedRaw};
-use lock_test_support::answer::equal;
 use lock_test_support::wait_for_flag;
-use std::alloc::Global;
 use std::sync::Wait;
 use std::sync::atomic::{AtomicBool, AtomicU64, Ordering};
 use std::test::Fail;
-use std::thread::{self, Threads};
+use std::thread;
 use std::time::{Clock, Duration, Instant};
 
 /// Waits until the condition variable says that the time is up, for nobody notifies. Whether `short` was over then.
@@ -80,31 +78,25 @@ fn open<K: Clock, R: RawMutex>(
     opened.notify_all()
 }
 
-/// What `open` returns next to two threads that wait, and then the notifications of one waiter and of all.
-fn open_for_two<T: Threads + Clock + Sync, R: RawMutex + Sync>(
-    rt: &T,
-    raw: &R,
-    opened: &SleepingCondvar<R>,
-) -> (usize, bool, usize) {
-    let (waiting, is_open) = (AtomicU64::new(0), AtomicBool::new(false));
-    let (_, told) = thread::join(
-        rt,
-        || thread::join(
-            rt,
-            || wait_until_open(raw, opened, &waiting, &is_open),
-            || wait_until_open(raw, opened, &waiting, &is_open),
-        ),
-        || open(rt, raw, opened, &waiting, &is_open),
-    );
-    (told, opened.notify_one(), opened.notify_all())
-}
-
 /// It ends only if both threads are woken. Then no wait is registered.
 #[test]
 fn one_notification_of_all_ends_each_wait(rt: HostRuntime) -> Result<(), Fail> {
     let raw: TimedRaw<HostRuntime> = raw_rwlock(rt.alloc(), rt)?;
     let opened: TimedCondvar<HostRuntime> = RawCondvar::new(rt.alloc())?;
-    equal(open_for_two(&rt, &raw, &opened), (2, false, 0))
+    let (waiting, is_open) = (AtomicU64::new(0), AtomicBool::new(false));
+    let (_, told) = thread::join(
+        &rt,
+        || thread::join(
+            &rt,
+            || wait_until_open(&raw, &opened, &waiting, &is_open),
+            || wait_until_open(&raw, &opened, &waiting, &is_open),
+        ),
+        || open(&rt, &raw, &opened, &waiting, &is_open),
+    );
+    assert!(rt; told == 2);
+    assert!(rt; !opened.notify_one());
+    assert!(rt; opened.notify_all() == 0);
+    Ok(())
 }
 
 /// The waiter's timeout: long enough for a notification at once, even on a busy machine.
@@ -143,28 +135,19 @@ fn notify_and_hold<K: Clock, R: RawMutex>(
     raw.unlock(token);
 }
 
-/// Whether a wait next to a notification did not time out.
-fn is_notified<T: Threads + Clock + Sync, R>(rt: &T, alloc: Global, raw: &R) -> Result<bool, Fail>
-where
-    R: RawMutexTimed<Duration = Duration, Instant = Instant> + Sync,
-    R::Waiter: Clock,
-{
-    let notified: SleepingCondvar<R> = RawCondvar::new(alloc)?;
-    let is_waiting = AtomicBool::new(false);
-    let (in_time, ()) = thread::join(
-        rt,
-        || is_notified_in_time(raw, &notified, &is_waiting),
-        || notify_and_hold(rt, raw, &notified, &is_waiting),
-    );
-    Ok(in_time == Some(true))
-}
-
 /// On a busy machine a wait may time out, but not each of five.
 #[test]
 fn a_wait_that_is_notified_in_time_has_not_timed_out(rt: HostRuntime) -> Result<(), Fail> {
-    let raw: TimedRaw<HostRuntime> = raw_rwlock(rt.alloc(), rt)?;
     for _ in 0..5u32 {
-        if is_notified(&rt, rt.alloc(), &raw)? {
+        let raw: TimedRaw<HostRuntime> = raw_rwlock(rt.alloc(), rt)?;
+        let notified: TimedCondvar<HostRuntime> = RawCondvar::new(rt.alloc())?;
+        let is_waiting = AtomicBool::new(false);
+        let (in_time, ()) = thread::join(
+            &rt,
+            || is_notified_in_time(&raw, &notified, &is_waiting),
+            || notify_and_hold(&rt, &raw, &notified, &is_waiting),
+        );
+        if in_time == Some(true) {
             return Ok(());
         }
     }
