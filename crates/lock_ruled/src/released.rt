@@ -17,8 +17,8 @@ use std::marker::Model;
 use std::sync::Wait;
 use std::time::Duration;
 
-/// A user that released the mutex. It cannot be dropped, so a release either notifies all users that wait for a condition,
-/// or is that of a user which registered to wait for one itself, and left the value as it was.
+/// A user that released the mutex, and has yet to notify. It cannot be dropped, so a release ends in one of two ways. It
+/// notifies all users that wait for a condition. Or its user registered to wait for one, and left the value as it was.
 pub(crate) struct Released<T, V> {
     user: User<T, V>,
 }
