@@ -1,10 +1,10 @@
-//! A call that has not ended.
+//! The seat of a call on an event count.
 use crate::sleepers::stage::CallStage;
 use atomic_table::Seat;
 use std::marker::Model;
 
-/// A call that has not ended. It cannot be dropped: `end` ends a wait, and `EventCount::wake` or
-/// `found_none` a notification.
+/// A wait or a notification that has not ended, by a new seat at the words of its event count. It cannot be dropped: `end`
+/// ends a wait, and `EventCount::wake` or `found_none` a notification.
 pub(crate) struct SeatedEventCall {
     pub(crate) seat: Seat<(), CallStage>,
 }
