@@ -6,8 +6,8 @@ use Rattle.lock_word.specs.declared.down.Down.{Down}
 use Rattle.lock_word.specs.declared.down.Down.TheVariants as down
 use Rattle.lock_steps.specs.declared.action.Action.{Action}
 use Rattle.lock_steps.specs.declared.action.Action.TheVariants.{Load, Exchange, Subtract, Restart, Park, WakeOne, WakeAll, Spin, Yield, Unlock, Lock, End}
-use Rattle.lock_steps.specs.declared.action.Place.{Place}
-use Rattle.lock_steps.specs.declared.action.Place.TheVariants.{Word, Count, Epoch}
+use Rattle.lock_steps.specs.declared.action.ActionPlace.{ActionPlace}
+use Rattle.lock_steps.specs.declared.action.ActionPlace.TheVariants.{Word, Count, Epoch}
 use Rattle.lock_steps.specs.declared.word_call.WordCall.{WordCall}
 use Rattle.lock_steps.specs.declared.stage.Stage.{Stage}
 use Rattle.lock_steps.specs.declared.stage.Stage.TheVariants as stage
@@ -16,7 +16,7 @@ use Rattle.lock_steps.specs.declared.event_stage.EventStage.{EventStage}
 use Rattle.lock_steps.specs.declared.event_stage.EventStage.TheVariants as event
 use Rattle.lock_c.specs.declared.LockCall.{LockCall}
 use Rattle.lock_c.specs.declared.LockEvent.{LockEvent}
-use Rattle.lock_c.specs.declared.LockStep.{LockStep}
+use Rattle.lock_c.specs.declared.LockAction.{LockAction}
 
 abbrev pub want_of : ℕ → ExWant
 want_of code =
@@ -133,15 +133,15 @@ packed_event call = record {
   late = bit call.late;
 }
 
-abbrev pub number_of_place : Place → ℕ
+abbrev pub number_of_place : ActionPlace → ℕ
 number_of_place Word = 0
 number_of_place Count = 1
 number_of_place Epoch = 2
 
-abbrev pub step : ℕ → ℕ → ℕ → ℕ → LockStep
+abbrev pub step : ℕ → ℕ → ℕ → ℕ → LockAction
 step action place first second = record { action = action; place = place; first = first; second = second }
 
-abbrev pub step_of : Action → LockStep
+abbrev pub step_of : Action → LockAction
 step_of (Load p) = step 0 (number_of_place p) 0 0
 step_of (Exchange p a b) = step 1 (number_of_place p) a b
 step_of (Subtract p a) = step 2 (number_of_place p) a 0

@@ -6,8 +6,8 @@ use crate::codes::{
     bit, event_stage_of_number, number_of_event_stage, number_of_stage, stage_of_number,
     want_of_code,
 };
-use crate::{LockCall, LockEvent, LockStep};
-use lock_steps::{Action, EventCall, Place, WordCall};
+use crate::{LockAction, LockCall, LockEvent};
+use lock_steps::{Action, ActionPlace, EventCall, WordCall};
 
 pub(crate) fn packed(call: &WordCall, code: u32) -> LockCall
     ensures { result ≡ packed call.now code }
@@ -67,20 +67,20 @@ pub(crate) fn unpacked_event(call: &LockEvent) -> EventCall
     }
 }
 
-fn number_of_place(place: Place) -> u32
+fn number_of_place(place: ActionPlace) -> u32
     ensures { result ≡ number_of_place place }
 {
     match place {
-        Place::Word => 0,
-        Place::Count => 1,
-        Place::Epoch => 2,
+        ActionPlace::Word => 0,
+        ActionPlace::Count => 1,
+        ActionPlace::Epoch => 2,
     }
 }
 
-fn step(action: u32, place: u32, first: u64, second: u64) -> LockStep
+fn step(action: u32, place: u32, first: u64, second: u64) -> LockAction
     ensures { result ≡ step action place first second }
 {
-    LockStep {
+    LockAction {
         action,
         place,
         first,
@@ -88,7 +88,7 @@ fn step(action: u32, place: u32, first: u64, second: u64) -> LockStep
     }
 }
 
-pub(crate) fn step_of(next: Action) -> LockStep
+pub(crate) fn step_of(next: Action) -> LockAction
     ensures { result ≡ step_of next }
 {
     match next {

@@ -50,7 +50,7 @@ pub struct LockEvent {
 /// The next step, as in `lock_steps::Action`.
 #[repr(C)]
 #[derive(Drop)]
-pub struct LockStep {
+pub struct LockAction {
     /// 0 load, 1 exchange, 2 subtract, 3 store, 4 park, 5 wake one, 6 wake all, 7 spin, 8 yield, 9 refused, 10 done,
     /// 11 unlock, 12 lock.
     pub action: u32,
@@ -71,7 +71,7 @@ pub extern "C" fn lock_c_acquire(
     code: u32,
     blocks: u8,
     announces: u8,
-) -> LockStep
+) -> LockAction
     ensures call { call.new ≡ packed (acquiring readers (want_of code) (is_set blocks) (is_set announces)).0 code }
     ensures step { result ≡ step_of (acquiring readers (want_of code) (is_set blocks) (is_set announces)).1 }
 {
@@ -90,7 +90,7 @@ pub extern "C" fn lock_c_acquire(
 /// `code` is 0 for a shared, 1 for an exclusive and 2 for an upgradable hold. It is 3 from exclusive to shared, 4 from
 /// exclusive to upgradable, and 5 from upgradable to shared.
 #[unsafe(no_mangle)]
-pub extern "C" fn lock_c_release(call: &mut LockCall, readers: u64, code: u32) -> LockStep
+pub extern "C" fn lock_c_release(call: &mut LockCall, readers: u64, code: u32) -> LockAction
     ensures call { call.new ≡ packed (taking readers (down_of code)).0 code }
     ensures step { result ≡ step_of (taking readers (down_of code)).1 }
 {
@@ -101,7 +101,7 @@ pub extern "C" fn lock_c_release(call: &mut LockCall, readers: u64, code: u32) -
 
 /// Takes the answer to the last step, and returns the next one.
 #[unsafe(no_mangle)]
-pub extern "C" fn lock_c_next(call: &mut LockCall, found: u64) -> LockStep
+pub extern "C" fn lock_c_next(call: &mut LockCall, found: u64) -> LockAction
     ensures call { call.new ≡ packed (next_of (down_of call.old.code) found (unpacked call.old)).0 call.old.code }
     ensures step { result ≡ step_of (next_of (down_of call.old.code) found (unpacked call.old)).1 }
 {
@@ -116,7 +116,7 @@ pub extern "C" fn lock_c_next(call: &mut LockCall, found: u64) -> LockStep
 ///
 /// The wait asks for the release of the mutex, and at its end for the acquisition.
 #[unsafe(no_mangle)]
-pub extern "C" fn lock_c_wait(call: &mut LockEvent) -> LockStep
+pub extern "C" fn lock_c_wait(call: &mut LockEvent) -> LockAction
     ensures call { call.new ≡ packed_event waiting }
     ensures step { result ≡ step_of (action_of waiting) }
 {
@@ -127,7 +127,7 @@ pub extern "C" fn lock_c_wait(call: &mut LockEvent) -> LockStep
 
 /// Begins a notification of all waits, or of one if `all` is 0, and returns its first step.
 #[unsafe(no_mangle)]
-pub extern "C" fn lock_c_notify(call: &mut LockEvent, all: u8) -> LockStep
+pub extern "C" fn lock_c_notify(call: &mut LockEvent, all: u8) -> LockAction
     ensures call { call.new ≡ packed_event (notifying (is_set all)) }
     ensures step { result ≡ step_of (action_of (notifying (is_set all))) }
 {
@@ -138,7 +138,7 @@ pub extern "C" fn lock_c_notify(call: &mut LockEvent, all: u8) -> LockStep
 
 /// Takes the answer to the last step of a wait or a notification, and returns the next one.
 #[unsafe(no_mangle)]
-pub extern "C" fn lock_c_next_event(call: &mut LockEvent, found: u64) -> LockStep
+pub extern "C" fn lock_c_next_event(call: &mut LockEvent, found: u64) -> LockAction
     ensures call { call.new ≡ packed_event (event_next found (unpacked_event call.old)) }
     ensures step { result ≡ step_of (action_of (event_next found (unpacked_event call.old))) }
 {

@@ -22,7 +22,7 @@ use Rattle.lock_base.proofs.HeldEntries.{more_than_parked}
 use Rattle.lock_base.proofs.Admissions.{fits_in_again}
 use Rattle.lock_desk.specs.declared.slot.GuardHold.{GuardHold}
 use Rattle.lock_desk.specs.declared.slot.GuardHold.TheVariants.{Parked, Token, Level}
-use Rattle.lock_desk.specs.declared.slot.Slot.{Slot}
+use Rattle.lock_desk.specs.declared.slot.GuardSlot.{GuardSlot}
 use Rattle.lock_desk.specs.Slots.{entries_of, slot_entry, tokens_in, token_in, is_held, is_level, is_token, NoHold}
 use Rattle.lock_desk.specs.Owners.{OwnsLevels, token_of_owner, one_level_less, may_add_level, HasAddedLevel}
 use Rattle.lock_desk.specs.Backing.{Backing, register_of, KeepsLimits, HasTokenOfOwner, bumps, held_of, Differs, AreHeldBy, AreBacked, BacksSlot, HasRoom, IsHeldIn, Releases, ReturnsToken, HasChangeable, HasExchanged}
@@ -32,15 +32,15 @@ use Rattle.lock_desk.proofs.Slots.{differs_found, differs_put, parked_held, park
 
 module _ {K : Type 0} where
   -- the tokens of all slots and the owner, by count
-  bag_count : (test : K × Mode → Bool) (ss : List (ℕ × Slot K)) (t : Backing K) → AreBacked ss t
+  bag_count : (test : K × Mode → Bool) (ss : List (ℕ × GuardSlot K)) (t : Backing K) → AreBacked ss t
       → count test t.tokens ≡ count test (tokens_in ss) + count test (token_of_owner t.levels.owner)
   bag_count test ss t b = b.bag.counts test ∙ count-append test (tokens_in ss) (token_of_owner t.levels.owner)
 
   -- one kind's holders
-  of_reentrant : (ss : List (ℕ × Slot K)) (t : Backing K) → is_reentrant t.kind ≡ true → AreBacked ss t → AreHeldBy true ss t.levels.owner
+  of_reentrant : (ss : List (ℕ × GuardSlot K)) (t : Backing K) → is_reentrant t.kind ≡ true → AreBacked ss t → AreHeldBy true ss t.levels.owner
   of_reentrant ss t e b = subst (λ n. AreHeldBy n ss t.levels.owner) e b.holders
 
-  of_others : (ss : List (ℕ × Slot K)) (t : Backing K) → is_reentrant t.kind ≡ false → AreBacked ss t → AreHeldBy false ss t.levels.owner
+  of_others : (ss : List (ℕ × GuardSlot K)) (t : Backing K) → is_reentrant t.kind ≡ false → AreBacked ss t → AreHeldBy false ss t.levels.owner
   of_others ss t e b = subst (λ n. AreHeldBy n ss t.levels.owner) e b.holders
 
   -- backings with the same kind and limit
@@ -54,7 +54,7 @@ module _ {K : Type 0} where
   still_positive old new k p = subst (λ n. 0 < n) (sym k.limit) p
 
   -- slots of which the tokens are these are backed, if the owner stays
-  same_owner : (ss : List (ℕ × Slot K)) (old new : Backing K) (tokens : List (K × Mode)) → KeepsLimits old new
+  same_owner : (ss : List (ℕ × GuardSlot K)) (old new : Backing K) (tokens : List (K × Mode)) → KeepsLimits old new
       → new.levels.owner ≡ old.levels.owner → 0 < old.levels.limit → SameBag new.tokens tokens
       → ((test : K × Mode → Bool) → count test tokens ≡ count test (tokens_in ss) + count test (token_of_owner old.levels.owner))
       → AreHeldBy (is_reentrant old.kind) ss old.levels.owner
@@ -87,7 +87,7 @@ module _ {K : Type 0} where
   }
 
   -- slots with the same tokens are backed where they are held by the same
-  alike_backed : (ss us : List (ℕ × Slot K)) (t : Backing K)
+  alike_backed : (ss us : List (ℕ × GuardSlot K)) (t : Backing K)
       → ((test : K × Mode → Bool) → count test (tokens_in us) ≡ count test (tokens_in ss))
       → ((n : Bool) → AreHeldBy n ss t.levels.owner → AreHeldBy n us t.levels.owner) → AreBacked ss t → AreBacked us t
   alike_backed ss us t same holders_by b = record {
@@ -106,11 +106,11 @@ module _ {K : Type 0} where
 
   -- Parked slots
 
-  parked_count : (test : K × Mode → Bool) (s : Slot K) (ss others : List (ℕ × Slot K)) → Differs s ss others
+  parked_count : (test : K × Mode → Bool) (s : GuardSlot K) (ss others : List (ℕ × GuardSlot K)) → Differs s ss others
       → s.hold ≡ Parked → count test (tokens_in ss) ≡ count test (tokens_in others)
   parked_count test s ss others d e = omega (arith, d.tokens test, ap (λ h. count test (token_in h s.mode)) e)
 
-  pub drop_parked : (s : Slot K) (ss others : List (ℕ × Slot K)) (t : Backing K) → Differs s ss others
+  pub drop_parked : (s : GuardSlot K) (ss others : List (ℕ × GuardSlot K)) (t : Backing K) → Differs s ss others
       → s.hold ≡ Parked → AreBacked ss t → AreBacked others t
   drop_parked s ss others t d e b =
       alike_backed ss others t (λ test. sym (parked_count test s ss others d e)) holders_by b
@@ -119,7 +119,7 @@ module _ {K : Type 0} where
       holders_by true h = ((d.less is_token h.0).1, owns_same t.levels.owner _ _ h.1 (parked_held s ss others d e) (parked_party s ss others d e))
       holders_by false h = ((d.less is_level h.0).1, h.1)
 
-  pub add_parked : (s : Slot K) (ss others : List (ℕ × Slot K)) (t : Backing K) → Differs s ss others → s.hold ≡ Parked
+  pub add_parked : (s : GuardSlot K) (ss others : List (ℕ × GuardSlot K)) (t : Backing K) → Differs s ss others → s.hold ≡ Parked
       → AreBacked others t → AreBacked ss t
   add_parked s ss others t d e b = alike_backed others ss t (λ test. parked_count test s ss others d e) holders_by b
     where
@@ -137,7 +137,7 @@ module _ {K : Type 0} where
   -- Slots with a token of their own
 
   -- the bag without the token of one slot
-  bag_beside : (s : Slot K) (ss others : List (ℕ × Slot K)) (k : K) (t : Backing K) → Differs s ss others
+  bag_beside : (s : GuardSlot K) (ss others : List (ℕ × GuardSlot K)) (k : K) (t : Backing K) → Differs s ss others
       → s.hold ≡ Token k → AreBacked ss t
       → SameBag t.tokens ((k, s.mode) ∷ (tokens_in others ++ token_of_owner t.levels.owner))
   bag_beside s ss others k t d e b = record {
@@ -191,7 +191,7 @@ module _ {K : Type 0} where
 
   -- Levels
 
-  bag_of_owner : (ss : List (ℕ × Slot K)) (t : Backing K) → NoHold is_token ss → AreBacked ss t → HasTokenOfOwner t
+  bag_of_owner : (ss : List (ℕ × GuardSlot K)) (t : Backing K) → NoHold is_token ss → AreBacked ss t → HasTokenOfOwner t
   bag_of_owner ss t none b = rw (no_tokens ss none) at b.bag
 
   -- an owner may hold its one token
@@ -204,7 +204,7 @@ module _ {K : Type 0} where
       one_token (Some o) = compatible_acquired 1 _ Exclusive (compatible_empty 1) refl
 
   -- an owner's levels are backed by its token
-  owner_backs : (ss : List (ℕ × Slot K)) (t : Backing K) → is_reentrant t.kind ≡ true → 0 < t.levels.limit
+  owner_backs : (ss : List (ℕ × GuardSlot K)) (t : Backing K) → is_reentrant t.kind ≡ true → 0 < t.levels.limit
       → NoHold is_token ss → OwnsLevels t.levels.owner (held_of ss) → HasTokenOfOwner t
       → AreBacked ss t
   owner_backs ss t n positive none owns p = record {
@@ -218,7 +218,7 @@ module _ {K : Type 0} where
       behind kind n = rw n refl
 
   -- only a reentrant lock has a level
-  reentrant_of_level : (s : Slot K) (ss others : List (ℕ × Slot K)) (t : Backing K) → Differs s ss others
+  reentrant_of_level : (s : GuardSlot K) (ss others : List (ℕ × GuardSlot K)) (t : Backing K) → Differs s ss others
       → s.hold ≡ Level → AreBacked ss t → is_reentrant t.kind ≡ true
   reentrant_of_level s ss others t d e b = by_nesting (is_reentrant t.kind) b.holders
     where
@@ -260,20 +260,20 @@ module _ {K : Type 0} where
 
   -- What is admitted
 
-  bag_of_slots : (ss : List (ℕ × Slot K)) (t : Backing K) → is_reentrant t.kind ≡ false → AreBacked ss t → SameBag t.tokens (tokens_in ss)
+  bag_of_slots : (ss : List (ℕ × GuardSlot K)) (t : Backing K) → is_reentrant t.kind ≡ false → AreBacked ss t → SameBag t.tokens (tokens_in ss)
   bag_of_slots ss t n b = record {
     counts =
         λ test. omega (arith, bag_count test ss t b, ap (λ o. count test (token_of_owner o)) (of_others ss t n b).1);
   }
 
   -- if guards are no levels, the bag of the tokens is that of the held entries
-  pub bag_of_held : (ss : List (ℕ × Slot K)) (t : Backing K) → is_reentrant t.kind ≡ false → AreBacked ss t
+  pub bag_of_held : (ss : List (ℕ × GuardSlot K)) (t : Backing K) → is_reentrant t.kind ≡ false → AreBacked ss t
       → bag_of_tokens t.tokens ≡ held_bag (entries_of ss)
   bag_of_held ss t n b =
       bag_of_same t.tokens (tokens_in ss) (bag_of_slots ss t n b) ∙ ap bag_of (modes_of-tokens_in ss (of_others ss t n b).0)
 
   -- the held tokens are those of the register
-  pub bag_of_register : (places last : ℕ) (ss : List (ℕ × Slot K)) (t : Backing K) → AreBacked ss t
+  pub bag_of_register : (places last : ℕ) (ss : List (ℕ × GuardSlot K)) (t : Backing K) → AreBacked ss t
       → bag_of_tokens t.tokens ≡ tokens_of (register_of t places last ss)
   bag_of_register places last ss t b = by_nesting (is_reentrant t.kind) refl
     where
@@ -288,12 +288,12 @@ module _ {K : Type 0} where
           rw n (bag_of_same t.tokens (token_of_owner t.levels.owner) (bag_of_owner ss t held.0 b) ∙ by_owner t.levels.owner held.1)
       by_nesting false n = rw n (bag_of_held ss t n b)
 
-  pub admitted_level : (r : Bool) (party : ℕ) (mode : Mode) (places last : ℕ) (ss : List (ℕ × Slot K)) (t : Backing K) → is_reentrant t.kind ≡ true
+  pub admitted_level : (r : Bool) (party : ℕ) (mode : Mode) (places last : ℕ) (ss : List (ℕ × GuardSlot K)) (t : Backing K) → is_reentrant t.kind ≡ true
       → r ≡ may_add_level t.levels.limit party t.levels.owner → AreBacked ss t → r ≡ admits_ignoring_bar (register_of t places last ss) party mode
   admitted_level r party mode places last ss t n e b =
       rw n (e ∙ may_add_level-held t.levels.limit party t.levels.owner (held_of ss) b.positive (of_reentrant ss t n b).1)
 
-  admitted_own : (r : Bool) (party : ℕ) (mode : Mode) (places last : ℕ) (ss : List (ℕ × Slot K)) (t : Backing K) → is_reentrant t.kind ≡ false
+  admitted_own : (r : Bool) (party : ℕ) (mode : Mode) (places last : ℕ) (ss : List (ℕ × GuardSlot K)) (t : Backing K) → is_reentrant t.kind ≡ false
       → r ≡ admits (token_limit t.kind t.levels.limit) (bag_of_tokens t.tokens) mode → AreBacked ss t
       → r ≡ admits_ignoring_bar (register_of t places last ss) party mode
   admitted_own r party mode places last ss t n e b =
@@ -316,7 +316,7 @@ module _ {K : Type 0} where
   serves_token party mode k seen old new same n keeps owner admits added =
       subst (λ t. BacksSlot party mode (Token k) t new) same (serves_own party mode k seen new n keeps owner admits added)
 
-  pub admitted_token : (r : Bool) (party : ℕ) (mode : Mode) (places last : ℕ) (ss : List (ℕ × Slot K)) (seen t : Backing K) → seen ≡ t
+  pub admitted_token : (r : Bool) (party : ℕ) (mode : Mode) (places last : ℕ) (ss : List (ℕ × GuardSlot K)) (seen t : Backing K) → seen ≡ t
       → is_reentrant seen.kind ≡ false → r ≡ admits (token_limit seen.kind seen.levels.limit) (bag_of_tokens seen.tokens) mode → AreBacked ss t
       → r ≡ admits_ignoring_bar (register_of t places last ss) party mode
   admitted_token r party mode places last ss seen t same n e b =
@@ -325,7 +325,7 @@ module _ {K : Type 0} where
 
   -- What room is left
 
-  tokens_fit : (ss : List (ℕ × Slot K)) → length (tokens_in ss) ≤ length ss
+  tokens_fit : (ss : List (ℕ × GuardSlot K)) → length (tokens_in ss) ≤ length ss
   tokens_fit [] = omega arith
   tokens_fit (s ∷ ss) = fit_one s.1.hold s.1.mode (length ss) (tokens_in ss) (tokens_fit ss)
     where
@@ -347,7 +347,7 @@ module _ {K : Type 0} where
   -- Whether a token is released
 
   -- what a hold says, from its entry and the guards that are left
-  pub told_of : (back held shown : Bool) (old new : Backing K) (places last : ℕ) (others left : List (ℕ × Slot K))
+  pub told_of : (back held shown : Bool) (old new : Backing K) (places last : ℕ) (others left : List (ℕ × GuardSlot K))
       → back ≡ (held && moves_token (register_of old places last others)) → held ≡ shown → new.kind ≡ old.kind
       → length (held_of others) ≡ length (held_of left) → back ≡ (shown && moves_token (register_of new places last left))
   told_of back held shown old new places last others left e f k l =
@@ -376,7 +376,7 @@ module _ {K : Type 0} where
 
   -- What the tokens and the levels show
 
-  some_token : (ss : List (ℕ × Slot K)) (t : Backing K) → AreBacked ss t → nat_eq (length t.tokens) 0 ≡ nat_eq (length (held_of ss)) 0
+  some_token : (ss : List (ℕ × GuardSlot K)) (t : Backing K) → AreBacked ss t → nat_eq (length t.tokens) 0 ≡ nat_eq (length (held_of ss)) 0
   some_token ss t b = by_nesting (is_reentrant t.kind) refl
     where
       by_owner : (o : Option (Owner K)) (xs : List Entry) → OwnsLevels o xs → nat_eq (length (token_of_owner o)) 0 ≡ nat_eq (length xs) 0
@@ -400,16 +400,16 @@ module _ {K : Type 0} where
           ap (λ k. nat_eq k 0) (same_length (bag_of_slots ss t n b) ∙ sym (length-modes_of (tokens_in ss))
           ∙ ap length (modes_of-tokens_in ss (of_others ss t n b).0) ∙ length-modes_of_entries (held_of ss))
 
-  pub any_held : (r : Bool) (ss : List (ℕ × Slot K)) (t : Backing K) → AreBacked ss t
+  pub any_held : (r : Bool) (ss : List (ℕ × GuardSlot K)) (t : Backing K) → AreBacked ss t
       → r ≡ not (nat_eq (length t.tokens) 0) → r ≡ not (nat_eq (length (held_of ss)) 0)
   any_held r ss t b e = e ∙ ap not (some_token ss t b)
 
-  pub owner_holds : (party : ℕ) (ss : List (ℕ × Slot K)) (t : Backing K) → is_reentrant t.kind ≡ true → AreBacked ss t
+  pub owner_holds : (party : ℕ) (ss : List (ℕ × GuardSlot K)) (t : Backing K) → is_reentrant t.kind ≡ true → AreBacked ss t
       → not (nat_eq (level_of t.levels party) 0) ≡ some_of_party party (held_of ss)
   owner_holds party ss t n b = levels_of_held party t.levels.owner (held_of ss) (of_reentrant ss t n b).1
 
   -- a party has as many levels as the limit exactly if as many are held
-  pub full_owner : (party places last : ℕ) (ss : List (ℕ × Slot K)) (t : Backing K) → AreBacked ss t
+  pub full_owner : (party places last : ℕ) (ss : List (ℕ × GuardSlot K)) (t : Backing K) → AreBacked ss t
       → nat_eq (level_of t.levels party) t.levels.limit ≡ is_full_count (register_of t places last ss) party
   full_owner party places last ss t b = by_nesting (is_reentrant t.kind) b.holders
     where
@@ -422,7 +422,7 @@ module _ {K : Type 0} where
   -- A changed mode
 
   -- a held slot of a lock that is not reentrant has a token
-  shows_token : (s : Slot K) (ss others : List (ℕ × Slot K)) (t : Backing K) → Differs s ss others
+  shows_token : (s : GuardSlot K) (ss others : List (ℕ × GuardSlot K)) (t : Backing K) → Differs s ss others
       → is_held s.hold ≡ true → is_reentrant t.kind ≡ false → AreBacked ss t → (k : K) × (s.hold ≡ Token k)
   shows_token s ss others t d e n b = by_hold s.hold refl e (d.less is_level (of_others ss t n b).0).0
     where
@@ -431,20 +431,20 @@ module _ {K : Type 0} where
       by_hold (Token k) i e l = (k, i)
       by_hold Level i e l = let u = ap is_level i in cc
 
-  pub changeable : (s : Slot K) (ss others : List (ℕ × Slot K)) (t : Backing K) (mode : Mode) → Differs s ss others
+  pub changeable : (s : GuardSlot K) (ss others : List (ℕ × GuardSlot K)) (t : Backing K) (mode : Mode) → Differs s ss others
       → is_held s.hold ≡ true → is_reentrant t.kind ≡ false → is_move s.mode mode ≡ true → AreBacked ss t
       → HasChangeable t.tokens s mode
   changeable s ss others t mode d e n m b =
       let k = shows_token s ss others t d e n b in
       (k.0, k.1, (s.mode, (m, (tokens_in others ++ token_of_owner t.levels.owner, bag_beside s ss others k.0 t d k.1 b))))
 
-  exchanged : (s u : Slot K) (ss us others : List (ℕ × Slot K)) (old new : Backing K) (mode : Mode)
+  exchanged : (s u : GuardSlot K) (ss us others : List (ℕ × GuardSlot K)) (old new : Backing K) (mode : Mode)
       → is_reentrant old.kind ≡ false → KeepsLimits old new → new.levels.owner ≡ old.levels.owner
       → IsTrue (is_move s.mode mode) → IsTrue (may_become (bag_of_tokens old.tokens) mode) → Differs s ss others
       → Differs u us others → HasExchanged old.tokens new.tokens s u mode → AreBacked ss old → AreBacked us new
   exchanged s u ss us others old new mode n keeps owner moves may d f (k, l, h, is, replaced) b =
-      let hold : u.hold ≡ Token l = ap (λ (w : Slot K). w.hold) is in
-      let to : u.mode ≡ mode = ap (λ (w : Slot K). w.mode) is in
+      let hold : u.hold ≡ Token l = ap (λ (w : GuardSlot K). w.hold) is in
+      let to : u.mode ≡ mode = ap (λ (w : GuardSlot K). w.mode) is in
       let rest : List (K × Mode) = tokens_in others ++ token_of_owner old.levels.owner in
       let beside : SameBag old.tokens ((k, s.mode) ∷ rest) = bag_beside s ss others k old d h b in
       let now : SameBag new.tokens ((l, mode) ∷ rest) = replaced s.mode rest beside in
@@ -468,7 +468,7 @@ module _ {K : Type 0} where
       (subst (λ w. AreHeldBy w us old.levels.owner) (sym n) (f.more is_level (ap is_level hold) (d.less is_level held.0).1, held.1))
       (subst (λ w. AreCompatible w (bag_of_tokens ((l, mode) ∷ rest))) (sym behind) after)
 
-  pub backed_after_change : (r : Bool) (n : ℕ) (ss : List (ℕ × Slot K)) (s u : Slot K) (old new : Backing K)
+  pub backed_after_change : (r : Bool) (n : ℕ) (ss : List (ℕ × GuardSlot K)) (s u : GuardSlot K) (old new : Backing K)
       (mode : Mode) → items.find n ss ≡ Some s → is_reentrant old.kind ≡ false → KeepsLimits old new
       → new.levels.owner ≡ old.levels.owner → IsTrue (is_move s.mode mode)
       → r ≡ may_become (bag_of_tokens old.tokens) mode
@@ -478,10 +478,10 @@ module _ {K : Type 0} where
       exchanged s u ss (items.put n u ss) (items.without n ss) old new mode alone keeps owner moves (sym may)
       (differs_found n ss s e) (differs_put n ss s u e) done b
   backed_after_change false n ss s u old new mode e alone keeps owner moves may done kept b =
-      let same : items.put n u ss ≡ ss = ap (λ (w : Slot K). items.put n w ss) kept.0 ∙ same_put n ss s e in
+      let same : items.put n u ss ≡ ss = ap (λ (w : GuardSlot K). items.put n w ss) kept.0 ∙ same_put n ss s e in
       subst (λ xs. AreBacked xs new) (sym same) (subst (λ t. AreBacked ss t) (sym kept.1) b)
 
-  pub shown_after_change : (r : Bool) (ts us : List (K × Mode)) (s t : Slot K) (mode : Mode)
+  pub shown_after_change : (r : Bool) (ts us : List (K × Mode)) (s t : GuardSlot K) (mode : Mode)
       → OnTrue r (HasExchanged ts us s t mode) → is_held s.hold ≡ true
       → OnTrue r (slot_entry t ≡ in_mode mode (slot_entry s))
   shown_after_change true ts us s t mode (k, l, h, is, replaced) held =
@@ -492,7 +492,7 @@ module _ {K : Type 0} where
   -- What is admitted again
 
   -- the party of a held slot has the levels of all held slots
-  held_levels : (s : Slot K) (ss others : List (ℕ × Slot K)) (t : Backing K) → is_reentrant t.kind ≡ true
+  held_levels : (s : GuardSlot K) (ss others : List (ℕ × GuardSlot K)) (t : Backing K) → is_reentrant t.kind ≡ true
       → Differs s ss others → is_held s.hold ≡ true → AreBacked ss t
       → level_of t.levels (id_of s.party) ≡ length (held_of ss)
   held_levels s ss others t n d e b =
@@ -500,7 +500,7 @@ module _ {K : Type 0} where
       (omega (arith, held_slot s ss others d e)) (held_party s ss others d e)
 
   -- the held guards are legal if this is no level, or the only one
-  held_legally : (ss : List (ℕ × Slot K)) (t : Backing K) → (is_reentrant t.kind ≡ true → length (held_of ss) ≡ 1) → AreBacked ss t
+  held_legally : (ss : List (ℕ × GuardSlot K)) (t : Backing K) → (is_reentrant t.kind ≡ true → length (held_of ss) ≡ 1) → AreBacked ss t
       → AreLegallyHeld (is_reentrant t.kind) t.levels.limit (entries_of ss)
   held_legally ss t alone b = by_nesting (is_reentrant t.kind) refl
     where
@@ -517,7 +517,7 @@ module _ {K : Type 0} where
           (subst (λ l. AreCompatible l (bag_of_tokens t.tokens)) behind b.compatible)
 
   -- a guard that releases its token is admitted again
-  pub fits_in_after_park : (n places last : ℕ) (ss : List (ℕ × Slot K)) (s : Slot K) (t : Backing K) → items.find n ss ≡ Some s
+  pub fits_in_after_park : (n places last : ℕ) (ss : List (ℕ × GuardSlot K)) (s : GuardSlot K) (t : Backing K) → items.find n ss ≡ Some s
       → is_held s.hold ≡ true → bumps t (id_of s.party) ≡ true → AreBacked ss t
       → admits_ignoring_bar (with_change (register_of t places last ss) n parked_entry) (id_of s.party) s.mode ≡ true
   fits_in_after_park n places last ss s t e held may b =
@@ -529,7 +529,7 @@ module _ {K : Type 0} where
       fits_in_again (with_change (register_of t places last ss) n parked_entry) (id_of s.party) (slot_entry s) (entries_of ss)
       (more_than_parked n (slot_entry s) (entries_of ss) place held) (λ nested. refl) (held_legally ss t one b)
 
-  pub bumps_backed : (n places last : ℕ) (ss : List (ℕ × Slot K)) (s : Slot K) (t : Backing K)
+  pub bumps_backed : (n places last : ℕ) (ss : List (ℕ × GuardSlot K)) (s : GuardSlot K) (t : Backing K)
       → items.find n ss ≡ Some s → is_held s.hold ≡ true → AreBacked ss t
       → bumps t (id_of s.party) ≡ bumps_token (register_of t places last ss)
   bumps_backed n places last ss s t e held b = by_nesting (is_reentrant t.kind) refl

@@ -1,6 +1,6 @@
 pub mod Guards
 pub mod RwLockGuards
-pub mod Lines
+pub mod RowOrders
 pub mod Rows
 pub mod MappedGuards
 pub mod ReentrantGuards

@@ -2,7 +2,7 @@
 mod places;
 
 ghost use Rattle.std.specs.Prelude.{◌≡◌, ◌≢◌, ◌<◌, IfOk, IsOkUnless};
-ghost use Rattle.lock_ranked.specs.Lines.{next_of, row_of};
+ghost use Rattle.lock_ranked.specs.RowOrders.{next_of, row_of};
 ghost use Rattle.lock_ranked.specs.Rows.{places_of, AreGuardsOf, IsGuardAt};
 
 use crate::mutex::RankedMutexGuard;
@@ -10,11 +10,11 @@ use crate::order::Order;
 use crate::rank::Rank;
 use lock_base::raw::Fault;
 use lock_guard::raw::RawMutex;
-use places::Line;
 pub use places::RankedMutexRow;
+use places::RowOrder;
 use std::alloc::Global;
 
-/// Acquisitions of several places. Only a `Line` makes them, and it acquires upward.
+/// Acquisitions of several places. Only a `RowOrder` makes them, and it acquires upward.
 impl<R: RawMutex, T, K: Rank> RankedMutexRow<R, T, K> {
     /// Acquires two of the mutexes, the one at the lower place first. It returns their guards in the order of the
     /// arguments. Neither guard can wait on a condition variable.
@@ -35,15 +35,15 @@ impl<R: RawMutex, T, K: Rank> RankedMutexRow<R, T, K> {
         ensures left { IsGuardAt self.now left result.0 }
         ensures right { IsGuardAt self.now right result.1 }
     {
-        let mut line = Line::start(self, order);
+        let mut row_order = RowOrder::start(self, order);
         if left < right {
-            let first = line.lock(left);
-            let second = line.lock(right);
-            (first, second, line.end())
+            let first = row_order.lock(left);
+            let second = row_order.lock(right);
+            (first, second, row_order.end())
         } else {
-            let second = line.lock(right);
-            let first = line.lock(left);
-            (first, second, line.end())
+            let second = row_order.lock(right);
+            let first = row_order.lock(left);
+            (first, second, row_order.end())
         }
     }
 
@@ -61,11 +61,11 @@ impl<R: RawMutex, T, K: Rank> RankedMutexRow<R, T, K> {
         ensures guards { IfOk result (λ all. AreGuardsOf self.now all.0.items) }
         ensures fault { IsOkUnless result Fault.OutOfMemory }
     {
-        let mut line = Line::start(self, order);
+        let mut row_order = RowOrder::start(self, order);
         let mut guards = Vec::new(alloc);
         for place in 0..self.len() {
-            guards.push(line.lock(place))?;
+            guards.push(row_order.lock(place))?;
         }
-        Ok((guards, line.end()))
+        Ok((guards, row_order.end()))
     }
 }

@@ -3,7 +3,7 @@ use crate::announcing::admit_or_announce;
 use crate::arbiter::{Arbiter, upgraded};
 use crate::lock_core::LockCore;
 use crate::unblocking;
-use crate::wake::Waiters;
+use crate::wake::MonitorWaiters;
 use lock_base::machine::Mode;
 use lock_base::raw::Fault;
 use lock_guard::lock_std;
@@ -23,7 +23,7 @@ use std::sync::{Mutex, MutexGuard, Wait};
 pub struct Monitor<A: Arbiter, W: Wait + Clone + Drop> {
     pub(crate) waiter: W,
     pub(crate) arbiter: Mutex<A>,
-    waiters: Waiters,
+    waiters: MonitorWaiters,
 }
 
 impl<A: Arbiter, W: Wait + Clone + Drop> Monitor<A, W> {
@@ -32,7 +32,7 @@ impl<A: Arbiter, W: Wait + Clone + Drop> Monitor<A, W> {
         Monitor {
             waiter,
             arbiter: Mutex::new(arbiter),
-            waiters: Waiters::new(),
+            waiters: MonitorWaiters::new(),
         }
     }
 

@@ -9,7 +9,7 @@ mod waiters;
 use lock_wake::Whom;
 use lock_word::{Occupancy, unblocks};
 use std::marker::Model;
-pub(crate) use waiters::Waiters;
+pub(crate) use waiters::MonitorWaiters;
 
 /// A wake that is decided and not made yet. Contracts see which waiters it wakes.
 ///

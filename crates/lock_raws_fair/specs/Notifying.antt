@@ -1,11 +1,11 @@
 -- Which waiters of a fair lock a wake notifies.
 use Rattle.std.specs.Prelude.{◌≡◌, ◌%◌, true, is_some, IfSome, slice_index_or}
-use Rattle.lock_raws_fair.specs.declared.waiters.Waiters.{Waiters}
+use Rattle.lock_raws_fair.specs.declared.waiters.FairWaiters.{FairWaiters}
 use Rattle.lock_raws_fair.specs.declared.fair_wake.FairWake.{FairWake}
 use Rattle.lock_raws_fair.specs.declared.fair_wake.FairNotified.{FairNotified}
 
 -- each waiter that is to be woken is notified where it sleeps, with all that sleep there, and no other
-pub record NotifiesEach (woken : FairWake) (waiters : Waiters) (notified : FairNotified) : Type 0 where
+pub record NotifiesEach (woken : FairWake) (waiters : FairWaiters) (notified : FairNotified) : Type 0 where
   pub ticket : is_some notified.ticket ≡ is_some woken.ticket
   pub there : IfSome woken.ticket (λ number.
       IfSome notified.ticket (λ n. (n.events ≡ slice_index_or waiters.tickets (number % 8) n.events) × (n.all ≡ true)))

@@ -8,7 +8,7 @@ use crate::fair_arbiter::{FairArbiter, FairToken, PendingUpgrade};
 use crate::fair_wake::FairWake;
 use crate::line::Ticket;
 use crate::turn::{NOBODY, UPGRADE};
-use crate::waiters::Waiters;
+use crate::waiters::FairWaiters;
 use lock_base::machine::Mode;
 use lock_base::raw::Fault;
 use lock_guard::lock_std;
@@ -39,7 +39,7 @@ const SPINNERS: u64 = 4;
 pub struct FairCore<A: Arbiter, W: Wait + Clone + Drop, T: Timing<W>> {
     waiter: W,
     state: Mutex<FairArbiter<A>>,
-    waiters: Waiters,
+    waiters: FairWaiters,
     timing: PhantomData<T>,
 }
 
@@ -200,7 +200,7 @@ impl<A: Arbiter, W: Wait + Clone + Drop, T: Timing<W>> LockCore for FairCore<A, 
         Ok(FairCore {
             waiter,
             state: Mutex::new(arbiter),
-            waiters: Waiters::new(alloc)?,
+            waiters: FairWaiters::new(alloc)?,
             timing: PhantomData,
         })
     }

@@ -8,7 +8,7 @@ ghost use Rattle.lock_raws_fair.specs.Notifying.{NotifiesEach};
 
 use crate::fair_arbiter::FairArbiter;
 use crate::line::TIMED_SPAN;
-use crate::waiters::Waiters;
+use crate::waiters::FairWaiters;
 use lock_base::machine::Bag;
 use lock_raws::Arbiter;
 use lock_wake::Notified;
@@ -67,7 +67,7 @@ impl FairWake {
 
     /// Wakes these waiters. Returns a notification for each.
     #[inline(always)]
-    pub(crate) fn wake(self, waiters: &Waiters) -> FairNotified
+    pub(crate) fn wake(self, waiters: &FairWaiters) -> FairNotified
         ensures { NotifiesEach self waiters.now result }
     {
         let FairWake {

@@ -14,14 +14,14 @@ pub(crate) const UPGRADE: u64 = u64::MAX;
 
 /// The ticket that was woken last. It is a hint: a waiter that sees a stale one loses a moment, and no wake-up.
 #[derive(Drop)]
-pub(crate) struct Turn {
+pub(crate) struct TurnHint {
     /// Spinning waiters load it, so it shares no cache line with the state.
     ticket: CachePadded<AtomicU64>,
 }
 
-impl Turn {
-    pub(crate) fn new() -> Turn {
-        Turn {
+impl TurnHint {
+    pub(crate) fn new() -> TurnHint {
+        TurnHint {
             ticket: CachePadded::new(AtomicU64::new(NOBODY)),
         }
     }

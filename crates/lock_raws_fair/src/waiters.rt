@@ -3,28 +3,28 @@ ghost use Rattle.std.specs.Prelude.{◌≡◌, ◌%◌, true, IfErr, MatchOption
 ghost use Rattle.lock_base.specs.declared.raw.fault.Fault.TheVariants as fault;
 
 use crate::line::Ticket;
-use crate::turn::{Turn, UPGRADE};
+use crate::turn::{TurnHint, UPGRADE};
 use lock_base::raw::Fault;
 use lock_wake::{EventCount, Notified};
 use std::alloc::Global;
 
 /// The event counts on which the waiters of a fair lock sleep, and whose turn it is.
 #[derive(Drop)]
-pub(crate) struct Waiters {
+pub(crate) struct FairWaiters {
     /// A ticket waits on the event count of its number, so a notification reaches every eighth ticket.
     tickets: [EventCount; 8],
     /// The holder whose upgrade waits.
     pub(crate) upgrader: EventCount,
     /// The callers without a ticket.
     ticketless: EventCount,
-    pub(crate) turn: Turn,
+    pub(crate) turn: TurnHint,
 }
 
-impl Waiters {
-    pub(crate) fn new(alloc: Global) -> Result<Waiters, Fault>
+impl FairWaiters {
+    pub(crate) fn new(alloc: Global) -> Result<FairWaiters, Fault>
         ensures { IfErr result (λ error. error ≡ fault.OutOfMemory) }
     {
-        Ok(Waiters {
+        Ok(FairWaiters {
             tickets: [
                 EventCount::new(alloc)?,
                 EventCount::new(alloc)?,
@@ -37,7 +37,7 @@ impl Waiters {
             ],
             upgrader: EventCount::new(alloc)?,
             ticketless: EventCount::new(alloc)?,
-            turn: Turn::new(),
+            turn: TurnHint::new(),
         })
     }
 

@@ -12,13 +12,13 @@ ghost use Rattle.lock_remutex.specs.OwnerTables.{party_in, count_in, owned_at, m
 ghost use Rattle.lock_remutex.specs.OwnerCalls.{Again, First, Leaves, LeavesSole, IsTaken};
 
 use atomic_table::{Refused, Table};
-pub use call::Call;
+pub use call::OwnerCall;
 use call::Section;
 use lock_base::machine::PartyId;
 use lock_base::raw::{Fault, Levels};
 use lock_guard::forget;
 pub use rule::{OwnerKey, OwnerRule, OwnerView, TokenRule};
-use rule::{Look, Put, Recount, Take};
+use rule::{LookAtOwner, PutLevels, Recount, TakeLevels};
 use std::alloc::{AllocError, AllocFailed, Global};
 use std::marker::Model;
 use std::sync::Wait;
@@ -102,7 +102,7 @@ impl<K, T, P: TokenRule<K, T>> OwnerTable<K, T, P> {
     /// # Errors
     ///
     /// `FullCount` if the owner has as many levels as the limit.
-    pub fn again<W: Wait>(&self, rt: &W, party: PartyId) -> (Result<bool, Fault>, Call<K, T>)
+    pub fn again<W: Wait>(&self, rt: &W, party: PartyId) -> (Result<bool, Fault>, OwnerCall<K, T>)
         ensures table { result.1.table ≡ self.now }
         ensures did { Again self.now.key.limit (id_of party) result.0 result.1.step }
     {
@@ -126,7 +126,7 @@ impl<K, T, P: TokenRule<K, T>> OwnerTable<K, T, P> {
     }
 
     /// Makes the party the owner at level 1, or returns the token if there is an owner.
-    pub fn first(&self, party: PartyId, token: T) -> (Option<T>, Call<K, T>)
+    pub fn first(&self, party: PartyId, token: T) -> (Option<T>, OwnerCall<K, T>)
         requires { P.fits self.now.key.raw token }
         ensures table { result.1.table ≡ self.now }
         ensures did { First (id_of party) token result.0 result.1.step }
@@ -146,7 +146,11 @@ impl<K, T, P: TokenRule<K, T>> OwnerTable<K, T, P> {
     /// # Errors
     ///
     /// `Foreign` if the party is not the owner.
-    pub fn leave<W: Wait>(&self, rt: &W, party: PartyId) -> (Result<Option<T>, Fault>, Call<K, T>)
+    pub fn leave<W: Wait>(
+        &self,
+        rt: &W,
+        party: PartyId,
+    ) -> (Result<Option<T>, Fault>, OwnerCall<K, T>)
         ensures table { result.1.table ≡ self.now }
         ensures did { Leaves (id_of party) result.0 result.1.step }
         ensures fits { IfOk result.0 (λ last. IfSome last (P.fits self.now.key.raw)) }
@@ -176,7 +180,7 @@ impl<K, T, P: TokenRule<K, T>> OwnerTable<K, T, P> {
         &self,
         rt: &W,
         party: PartyId,
-    ) -> (Result<Option<T>, Fault>, Call<K, T>)
+    ) -> (Result<Option<T>, Fault>, OwnerCall<K, T>)
         ensures table { result.1.table ≡ self.now }
         ensures did { LeavesSole (id_of party) result.0 result.1.step }
         ensures fits { IfOk result.0 (λ last. IfSome last (P.fits self.now.key.raw)) }
@@ -215,18 +219,18 @@ impl<K, T, P: TokenRule<K, T>> OwnerTable<K, T, P> {
     }
 
     /// Begins a call by a load of the owner word.
-    fn look(&self) -> (u64, Call<K, T>)
+    fn look(&self) -> (u64, OwnerCall<K, T>)
         ensures table { result.1.table ≡ self.now }
         ensures step { result.1.step ≡ Saw result.0 }
         ensures word { IsWord self.now.key.limit result.0 }
         ensures limit { IsLimit self.now.key.limit }
     {
-        let (word, seat) = self.table.shared.load_new_seat::<Look>(OWNER);
-        (word, Call { seat })
+        let (word, seat) = self.table.shared.load_new_seat::<LookAtOwner>(OWNER);
+        (word, OwnerCall { seat })
     }
 
     /// Exchanges the word for one that names the same owner at other levels, or ends if the word has changed.
-    fn recount(&self, call: Call<K, T>, word: u64, next: u64) -> Result<Call<K, T>, ()>
+    fn recount(&self, call: OwnerCall<K, T>, word: u64, next: u64) -> Result<OwnerCall<K, T>, ()>
         requires table { call.table ≡ self.now }
         requires named { (0 < party_in word) × (party_in next ≡ party_in word) }
         requires word { IsWord self.now.key.limit word }
@@ -236,26 +240,30 @@ impl<K, T, P: TokenRule<K, T>> OwnerTable<K, T, P> {
             (owned_at self.now.key.limit (party_in word) (count_in word) token)
             (owned_at self.now.key.limit (party_in word) (count_in next) token))) }
     {
-        let Call { mut seat } = call;
+        let OwnerCall { mut seat } = call;
         let shared = &self.table.shared;
         if shared.compare_exchange::<Recount>(&mut seat, OWNER, word, next) != word {
             return Err(());
         }
-        Ok(Call { seat })
+        Ok(OwnerCall { seat })
     }
 
     /// Takes the levels by an exchange of this word, or returns the call that found another word.
-    fn take(&self, call: Call<K, T>, word: u64) -> Result<(Levels<T>, Section<K, T>), Call<K, T>>
+    fn take(
+        &self,
+        call: OwnerCall<K, T>,
+        word: u64,
+    ) -> Result<(Levels<T>, Section<K, T>), OwnerCall<K, T>>
         requires table { call.table ≡ self.now }
         requires idle { word ≢ 1 }
         ensures taken { IfOk result (λ taken. IsTaken P.fits self.now word taken.0 taken.1) }
         ensures table { IfErr result (λ call. call.table ≡ self.now) }
         ensures saw { IfErr result (λ call. (found : ℕ) × (call.step ≡ Saw found) × (found ≢ word)) }
     {
-        let Call { mut seat } = call;
+        let OwnerCall { mut seat } = call;
         let shared = &self.table.shared;
-        if shared.compare_exchange::<Take<P>>(&mut seat, OWNER, word, BUSY) != word {
-            return Err(Call { seat });
+        if shared.compare_exchange::<TakeLevels<P>>(&mut seat, OWNER, word, BUSY) != word {
+            return Err(OwnerCall { seat });
         }
         match shared.exchange(&mut seat, 0, None) {
             Some(levels) => Ok((levels, Section { seat })),
@@ -264,7 +272,7 @@ impl<K, T, P: TokenRule<K, T>> OwnerTable<K, T, P> {
     }
 
     /// Puts the levels back, at this word.
-    fn put(&self, word: u64, levels: Levels<T>, section: Section<K, T>) -> Call<K, T>
+    fn put(&self, word: u64, levels: Levels<T>, section: Section<K, T>) -> OwnerCall<K, T>
         requires table { section.table ≡ self.now }
         requires idle { word ≢ 1 }
         requires home { IsAtHome (P.fits self.now.key.raw) self.now.key.limit word levels }
@@ -276,12 +284,17 @@ impl<K, T, P: TokenRule<K, T>> OwnerTable<K, T, P> {
             None => {}
             Some(_levels) => unreachable!(),
         }
-        self.table.shared.swap::<Put>(&mut seat, OWNER, word);
-        Call { seat }
+        self.table.shared.swap::<PutLevels>(&mut seat, OWNER, word);
+        OwnerCall { seat }
     }
 
     /// Takes the only level of the owner that this word names, or ends if the word has changed.
-    fn leave_last(&self, call: Call<K, T>, party: PartyId, word: u64) -> Result<(T, Call<K, T>), ()>
+    fn leave_last(
+        &self,
+        call: OwnerCall<K, T>,
+        party: PartyId,
+        word: u64,
+    ) -> Result<(T, OwnerCall<K, T>), ()>
         requires table { call.table ≡ self.now }
         requires sole { (0 < id_of party) × (party_in word ≡ id_of party) × (count_in word ≡ 1) }
         ensures table { IfOk result (λ left. left.1.table ≡ self.now) }

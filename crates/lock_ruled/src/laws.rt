@@ -6,8 +6,8 @@ use crate::rule::{MutexRule, SlotRule, UserView};
 use crate::shared_semaphore::{PermitRule, PermitView};
 use atomic_table::TableRule;
 
-/// Between any two steps of any threads, the rule of the mutex holds of one value and of the views of all users with a
-/// part. That value lies in the slot while the mutex is free. Otherwise it is the value that the one holder acquired.
+/// Between any two steps of any threads, the mutex's rule holds of one value and the views of all users with a part. That
+/// value lies in the slot while the mutex is free. Otherwise it is the value that the one holder acquired.
 pub fn every_state_is_ruled<T, V, P: MutexRule<T, V>>()
     ensures { EveryStateIsRuled P.rule ⟦<SlotRule<P> as TableRule<Option<T>, UserView<T, V>, T>>⟧.holds }
 {}

@@ -41,9 +41,9 @@ impl<T, V> Play<Option<T>, UserView<T, V>> for Open {
 }
 
 /// A load of the epoch by a user that is to be blocked.
-pub(crate) struct WatchEpoch;
+pub(crate) struct WatchMutexEpoch;
 
-impl<T, V> Play<Option<T>, UserView<T, V>> for WatchEpoch {
+impl<T, V> Play<Option<T>, UserView<T, V>> for WatchMutexEpoch {
     ghost then = { λ s. WatchesEpoch };
 }
 
@@ -55,9 +55,9 @@ impl<T, V> Play<Option<T>, UserView<T, V>> for Leave {
 }
 
 /// A load of the epoch by a due user.
-pub(crate) struct NoteEpoch;
+pub(crate) struct NoteMutexEpoch;
 
-impl<T, V> Play<Option<T>, UserView<T, V>> for NoteEpoch {
+impl<T, V> Play<Option<T>, UserView<T, V>> for NoteMutexEpoch {
     ghost then = { λ s. NotesEpoch };
 }
 

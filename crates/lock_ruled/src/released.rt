@@ -17,8 +17,8 @@ use std::marker::Model;
 use std::sync::Wait;
 use std::time::Duration;
 
-/// A user that released the mutex. It cannot be dropped, so a release either notifies all users that wait for a condition,
-/// or is that of a user which registered to wait for one itself, and left the value as it was.
+/// A user that released the mutex, and has yet to notify. It cannot be dropped, so a release ends in one of two ways. It
+/// notifies all users that wait for a condition. Or its user registered to wait for one, and left the value as it was.
 pub(crate) struct Released<T, V> {
     user: User<T, V>,
 }
@@ -47,11 +47,11 @@ impl Model for Changed {
 
 /// A user's wait for a condition: it registered, and then released the mutex. It cannot be dropped: `Changed::sleep` or
 /// `leave` ends it.
-pub(crate) struct Waiting {
+pub(crate) struct ConditionWait {
     registered: Registered,
 }
 
-impl Model for Waiting {
+impl Model for ConditionWait {
     ghost use Rattle.atomic_table.specs.Seated.{TableId};
 
     ghost Value = { TableId };
@@ -76,10 +76,10 @@ impl Changed {
     }
 
     /// Sleeps until an `unlock` since the registration, or for this time. It may end spuriously.
-    pub(crate) fn sleep<R: Wait>(&self, rt: &R, waiting: Waiting, time: Option<Duration>)
+    pub(crate) fn sleep<R: Wait>(&self, rt: &R, waiting: ConditionWait, time: Option<Duration>)
         requires { waiting ≡ self.now }
     {
-        let Waiting { registered } = waiting;
+        let ConditionWait { registered } = waiting;
         match time {
             Some(time) => self.events.sleep_for(rt, registered, time),
             None => {
@@ -89,10 +89,10 @@ impl Changed {
     }
 
     /// Ends a wait without a sleep.
-    pub(crate) fn leave(&self, waiting: Waiting)
+    pub(crate) fn leave(&self, waiting: ConditionWait)
         requires { waiting ≡ self.now }
     {
-        let Waiting { registered } = waiting;
+        let ConditionWait { registered } = waiting;
         self.events.leave(registered);
     }
 }
@@ -116,14 +116,14 @@ impl<T: Drop, V, P: MutexRule<T, V>> RuledMutex<T, V, P> {
         &self,
         guard: RuledGuard<T, V>,
         registered: Registered,
-    ) -> (User<T, V>, Waiting)
+    ) -> (User<T, V>, ConditionWait)
         requires mutex { guard.user.mutex ≡ self.now }
         requires unchanged { guard.value ≡ guard.taken }
         ensures user { result.0 ≡ guard.user }
         ensures waiting { result.1 ≡ registered.events }
     {
         let Released { user } = self.release::<Stay>(guard);
-        (user, Waiting { registered })
+        (user, ConditionWait { registered })
     }
 
     /// Releases the mutex as `unlock` does, but wakes no user that waits for a condition.

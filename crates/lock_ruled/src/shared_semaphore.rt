@@ -9,7 +9,7 @@ mod plays;
 mod rule;
 mod token;
 
-use crate::shared_semaphore::plays::Look;
+use crate::shared_semaphore::plays::LookAtPermits;
 use atomic_table::Table;
 pub use guard::{ArcPermitGuard, PermitGuard};
 use lock_base::raw::Fault;
@@ -150,6 +150,6 @@ impl SharedSemaphore {
     pub fn available_permits(&self) -> u64
         ensures { result ≤ self.now.permits }
     {
-        self.table.shared.load_new_seat::<Look>(FREE).0
+        self.table.shared.load_new_seat::<LookAtPermits>(FREE).0
     }
 }

@@ -6,7 +6,7 @@ ghost use Rattle.lock_ruled.specs.Plays.{HasAcquired, at_stage};
 ghost use Rattle.lock_ruled.specs.Acquiring.{MayAcquire, Acquired};
 
 use crate::mutex::{AWAITED, EPOCH, FREE, LAST_EPOCH, RuledMutex, WORD};
-use crate::plays::{Leave, MarkAwaited, WatchEpoch};
+use crate::plays::{Leave, MarkAwaited, WatchMutexEpoch};
 use crate::rule::{MutexRule, UserView};
 use atomic_table::Seat;
 use std::sync::Wait;
@@ -37,7 +37,7 @@ impl<T: Drop, V, P: MutexRule<T, V>> RuledMutex<T, V, P> {
         ensures held { IfSome result (λ epoch. seat.new.me ≡ at_stage seat.old.me (Sleeps epoch)) }
     {
         let shared = &self.table.shared;
-        let epoch = shared.load::<WatchEpoch>(seat, EPOCH);
+        let epoch = shared.load::<WatchMutexEpoch>(seat, EPOCH);
         if shared.swap::<MarkAwaited<P>>(seat, WORD, AWAITED) == FREE {
             None
         } else {

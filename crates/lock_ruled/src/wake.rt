@@ -6,15 +6,15 @@ ghost use Rattle.lock_wake.specs.OwedWakes.{owed};
 ghost use Rattle.lock_wake.specs.declared.owed_wake.Whom.TheVariants.{All};
 
 use crate::mutex::{EPOCH, LAST_EPOCH, RuledMutex};
-use crate::plays::NoteEpoch;
+use crate::plays::NoteMutexEpoch;
 use crate::rule::{MutexRule, UserView};
 use atomic_table::{Play, Seat};
 use lock_wake::{OwedWake, Whom};
 
 /// An exchange that ends the epoch. Only `end_epoch` makes it, so whoever ends an epoch owes its wake-up.
-pub struct EndEpoch;
+pub struct EndMutexEpoch;
 
-impl<T, V> Play<Option<T>, UserView<T, V>> for EndEpoch {
+impl<T, V> Play<Option<T>, UserView<T, V>> for EndMutexEpoch {
     ghost then = { λ s. EndsEpoch };
 }
 
@@ -29,9 +29,9 @@ impl<T: Drop, V, P: MutexRule<T, V>> RuledMutex<T, V, P> {
         ensures wake { result ≡ owed 1 All }
     {
         let shared = &self.table.shared;
-        let epoch = shared.load::<NoteEpoch>(seat, EPOCH);
+        let epoch = shared.load::<NoteMutexEpoch>(seat, EPOCH);
         if epoch < LAST_EPOCH {
-            shared.compare_exchange::<EndEpoch>(seat, EPOCH, epoch, epoch + 1);
+            shared.compare_exchange::<EndMutexEpoch>(seat, EPOCH, epoch, epoch + 1);
         }
         OwedWake::new(EPOCH, Whom::All)
     }

@@ -24,7 +24,7 @@ pub use answer::{Answer, write_answer};
 pub use arguments::which;
 pub use choice::Which;
 pub use fault::ReplayFault;
-pub use line::{Line, first_field};
+pub use line::{ScriptLine, first_field};
 pub use maker::Maker;
 pub use number::unsigned;
 pub use pair::{Pair, PairOp};

@@ -6,7 +6,7 @@ ghost use Rattle.lock_script.specs.Parts.{bytes_of};
 use crate::part::Part;
 
 /// What a line of one kind of script says.
-pub trait Line: Sized {
+pub trait ScriptLine: Sized {
     // The fields of its line.
     ghost fields: { Self → List (List ℕ) };
 
@@ -20,7 +20,7 @@ pub trait Line: Sized {
 }
 
 /// Reads a line, or returns `None` for a bad one. A line that is not UTF-8 is bad.
-pub fn read_line<L: Line>(line: Part) -> Option<L>
+pub fn read_line<L: ScriptLine>(line: Part) -> Option<L>
     ensures fields { IfSome result (λ asked. L.fields asked ≡ fields_of (bytes_of line.entry)) }
     ensures some { IsSome result ↔ IsLine L.makes (bytes_of line.entry) }
 {

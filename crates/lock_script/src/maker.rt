@@ -5,7 +5,7 @@ ghost use Rattle.lock_script.specs.CallLines.{pair_fields};
 ghost use Rattle.lock_script.specs.Numbers.{AreTwo, IsSigned};
 ghost use Rattle.lock_script.specs.Words.{AreLimitAndPair};
 
-use crate::line::{Line, first_field};
+use crate::line::{ScriptLine, first_field};
 use crate::number::{signed, unsigned};
 use crate::pair::Pair;
 
@@ -17,7 +17,7 @@ pub enum Maker {
     Reentrant(u64, u64, Pair),
 }
 
-impl Line for Maker {
+impl ScriptLine for Maker {
     ghost use Rattle.lock_script.specs.CallLines.{maker_fields};
     ghost use Rattle.lock_script.specs.Words.{IsMaker};
 

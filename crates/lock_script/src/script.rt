@@ -4,7 +4,7 @@ ghost use Rattle.lock_script.specs.Faults.{IsParsingFault};
 ghost use Rattle.lock_script.specs.Lines.{AreLines, fields_of, lines_of};
 
 use crate::fault::ReplayFault;
-use crate::line::{Line, read_line};
+use crate::line::{ScriptLine, read_line};
 use crate::part::Part;
 use std::alloc::Global;
 
@@ -20,7 +20,7 @@ pub struct ParsedScript<M, C> {
 /// # Errors
 ///
 /// `BadLine` with the number of the first bad line, counted from 1. `OutOfMemory`.
-pub fn parse<M: Line + Drop, C: Line + Drop>(
+pub fn parse<M: ScriptLine + Drop, C: ScriptLine + Drop>(
     alloc: Global,
     bytes: &[u8],
 ) -> Result<ParsedScript<M, C>, ReplayFault>

@@ -3,7 +3,7 @@ ghost use Rattle.std.specs.Prelude.{◌≡◌, ◌↔◌, ◌∷◌, [], IfSome,
 ghost use Rattle.lock_script.specs.Words.{IsOneOf};
 ghost use Rattle.lock_script.specs.WorldLines.{IsChange, down_word, down_words, party_questions, want_word, want_words, world_call_fields};
 
-use crate::line::{Line, first_field};
+use crate::line::{ScriptLine, first_field};
 use crate::number::unsigned;
 use lock_word::{AtomicStep, Down, ExWant};
 
@@ -21,7 +21,7 @@ pub enum WorldCall {
     Announced(u64),
 }
 
-impl Line for WorldCall {
+impl ScriptLine for WorldCall {
     ghost use Rattle.lock_script.specs.WorldLines.{IsWorldCall};
 
     ghost fields = { world_call_fields };

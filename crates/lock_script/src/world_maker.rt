@@ -4,7 +4,7 @@ ghost use Rattle.lock_script.specs.Lines.{fields_of};
 ghost use Rattle.lock_script.specs.Numbers.{AreTwo, IsUnsigned};
 ghost use Rattle.lock_script.specs.WorldLines.{limit_fields};
 
-use crate::line::{Line, first_field};
+use crate::line::{ScriptLine, first_field};
 use crate::number::unsigned;
 
 /// The world that a script makes: its parties, and its readers' limit.
@@ -14,7 +14,7 @@ pub struct WorldMaker {
     pub readers: u64,
 }
 
-impl Line for WorldMaker {
+impl ScriptLine for WorldMaker {
     ghost use Rattle.lock_script.specs.WorldLines.{IsWorldMaker, world_maker_fields};
 
     ghost fields = { world_maker_fields };

@@ -5,7 +5,7 @@ use Rattle.std.proofs.lemmas.Bool.{eqb-true, eqb-false, ltb-true, ltb-false, fal
 use Rattle.std.proofs.lemmas.Option.{same_Some, slice_get_within}
 use Rattle.lock_word.proofs.Rules.{changed_or_not, element_of_longer}
 use Rattle.lock_steps.specs.declared.action.Action.TheVariants as action
-use Rattle.lock_steps.specs.declared.action.Place.TheVariants.{Count, Epoch}
+use Rattle.lock_steps.specs.declared.action.ActionPlace.TheVariants.{Count, Epoch}
 use Rattle.lock_steps.specs.declared.event_act.EventAct.{EventAct}
 use Rattle.lock_steps.specs.declared.event_act.EventAct.TheVariants as act
 use Rattle.lock_steps.specs.declared.event_call.EventCall.{EventCall}

@@ -8,7 +8,7 @@ use Rattle.lock_word.specs.Word.{word_after}
 use Rattle.lock_sleepers.specs.declared.sleeper.SleeperView.{SleeperView}
 use Rattle.lock_steps.specs.declared.action.Action.{Action}
 use Rattle.lock_steps.specs.declared.action.Action.TheVariants.{Load, Exchange, Subtract, Park, Yield, End}
-use Rattle.lock_steps.specs.declared.action.Place.TheVariants.{Word, Count, Epoch}
+use Rattle.lock_steps.specs.declared.action.ActionPlace.TheVariants.{Word, Count, Epoch}
 use Rattle.lock_steps.specs.declared.word_call.WordCall.{WordCall}
 use Rattle.lock_steps.specs.declared.stage.Stage.{Stage}
 use Rattle.lock_steps.specs.declared.stage.Stage.TheVariants as stage

@@ -27,7 +27,7 @@ use Rattle.lock_sleepers.specs.Wakes.{KeepsWakes, new_sleeper, debt_after}
 use Rattle.lock_sleepers.proofs.Wakes.{starts, joins}
 use Rattle.lock_steps.specs.declared.action.Action.{Action}
 use Rattle.lock_steps.specs.declared.action.Action.TheVariants.{Load, Exchange, Subtract, Restart, Park, WakeOne, WakeAll, Spin, Yield, Unlock, Lock, End}
-use Rattle.lock_steps.specs.declared.action.Place.TheVariants.{Epoch}
+use Rattle.lock_steps.specs.declared.action.ActionPlace.TheVariants.{Epoch}
 use Rattle.lock_steps.specs.declared.word_call.WordCall.{WordCall}
 use Rattle.lock_steps.specs.declared.word_act.WordAct.{WordAct}
 use Rattle.lock_steps.specs.declared.word_act.WordAct.TheVariants as act

@@ -17,7 +17,7 @@ use Rattle.lock_sleepers.specs.Wakes.{IsWithin, new_sleeper}
 use Rattle.lock_sleepers.proofs.Wakes.{state_at}
 use Rattle.lock_steps.specs.declared.action.Action.{Action}
 use Rattle.lock_steps.specs.declared.action.Action.TheVariants.{Load, Subtract, Park, WakeOne, WakeAll}
-use Rattle.lock_steps.specs.declared.action.Place.TheVariants.{Word}
+use Rattle.lock_steps.specs.declared.action.ActionPlace.TheVariants.{Word}
 use Rattle.lock_steps.specs.declared.word_call.WordCall.{WordCall}
 use Rattle.lock_steps.specs.declared.word_act.WordAct.{WordAct}
 use Rattle.lock_steps.specs.declared.word_act.WordAct.TheVariants as act

@@ -2,7 +2,7 @@
 use Rattle.std.specs.Prelude.{ℕ, ◌+◌, ◌%◌, Bool, false, not, ◌==◌, nat_lt, if◌then◌else◌}
 use Rattle.lock_steps.specs.declared.action.Action.{Action}
 use Rattle.lock_steps.specs.declared.action.Action.TheVariants as action
-use Rattle.lock_steps.specs.declared.action.Place.TheVariants.{Count, Epoch}
+use Rattle.lock_steps.specs.declared.action.ActionPlace.TheVariants.{Count, Epoch}
 use Rattle.lock_steps.specs.declared.event_call.EventCall.{EventCall}
 use Rattle.lock_steps.specs.declared.event_stage.EventStage.{EventStage}
 use Rattle.lock_steps.specs.declared.event_stage.EventStage.TheVariants.{FindCount, CountIn, YieldAway, WatchEpoch, Unlock, Sleep, YieldCounted, Leave, FindEpoch, CloseCount, RestartEpochs, OpenCount, Lock, Waited, FindWaits, NoteEpoch, EndEpoch, Wake, Notified}

@@ -9,7 +9,7 @@ use Rattle.lock_word.specs.Unblocking.{word_unblocks}
 pub use Rattle.lock_sleepers.specs.Sleepers.{last_epoch, closed_count}
 use Rattle.lock_steps.specs.declared.action.Action.{Action}
 use Rattle.lock_steps.specs.declared.action.Action.TheVariants.{Load, Exchange, Subtract, Restart, Park, WakeOne, WakeAll, Spin, Yield, End}
-use Rattle.lock_steps.specs.declared.action.Place.TheVariants.{Word, Count, Epoch}
+use Rattle.lock_steps.specs.declared.action.ActionPlace.TheVariants.{Word, Count, Epoch}
 use Rattle.lock_steps.specs.declared.word_call.WordCall.{WordCall}
 use Rattle.lock_steps.specs.declared.stage.Stage.{Stage}
 use Rattle.lock_steps.specs.declared.stage.Stage.TheVariants as stage

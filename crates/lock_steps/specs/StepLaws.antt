@@ -20,8 +20,8 @@ use Rattle.lock_sleepers.specs.Sleepers.{count_of_watch, SomeoneIsDue}
 use Rattle.lock_sleepers.specs.Wakes.{KeepsWakes, after_exchange, debt_after}
 use Rattle.lock_steps.specs.declared.action.Action.{Action}
 use Rattle.lock_steps.specs.declared.action.Action.TheVariants.{Load, Exchange, Subtract, Restart, Park, WakeOne, WakeAll, Spin, Yield, Unlock, Lock, End}
-use Rattle.lock_steps.specs.declared.action.Place.{Place}
-use Rattle.lock_steps.specs.declared.action.Place.TheVariants.{Word, Count, Epoch}
+use Rattle.lock_steps.specs.declared.action.ActionPlace.{ActionPlace}
+use Rattle.lock_steps.specs.declared.action.ActionPlace.TheVariants.{Word, Count, Epoch}
 use Rattle.lock_steps.specs.declared.word_call.WordCall.{WordCall}
 use Rattle.lock_steps.specs.declared.stage.Stage.{Stage}
 use Rattle.lock_steps.specs.declared.stage.Stage.TheVariants as stage
@@ -33,12 +33,12 @@ pub record Words : Type 0 where
   pub count : ℕ
   pub epoch : ℕ
 
-abbrev pub number_at : Place → Words → ℕ
+abbrev pub number_at : ActionPlace → Words → ℕ
 number_at Word w = w.word
 number_at Count w = w.count
 number_at Epoch w = w.epoch
 
-abbrev pub with_number : Place → ℕ → Words → Words
+abbrev pub with_number : ActionPlace → ℕ → Words → Words
 with_number Word n w = record w { word = n }
 with_number Count n w = record w { count = n }
 with_number Epoch n w = record w { epoch = n }

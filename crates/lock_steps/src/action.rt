@@ -2,7 +2,7 @@
 
 /// One of the three words of a lock.
 #[derive(Clone, Copy, PartialEq, Eq, Debug)]
-pub enum Place {
+pub enum ActionPlace {
     /// The packed word.
     Word,
     /// The count of sleepers.
@@ -15,11 +15,11 @@ pub enum Place {
 #[derive(Clone, Copy, PartialEq, Eq, Debug)]
 pub enum Action {
     /// Loads the word. The answer is its value.
-    Load(Place),
+    Load(ActionPlace),
     /// Replaces the first number by the second one, if the word has the first. The answer is the value before.
-    Exchange(Place, u64, u64),
+    Exchange(ActionPlace, u64, u64),
     /// Subtracts the number. The answer is the value before.
-    Subtract(Place, u64),
+    Subtract(ActionPlace, u64),
     /// Stores 0 in the epoch.
     Restart,
     /// Sleeps while the low 32 bits of the epoch are those of the number. A sleep may end early. The answer is 1 if the

@@ -1,7 +1,7 @@
 //! A call on a condition variable, step by step.
 ghost use Rattle.std.specs.Prelude.{◌≡◌};
 
-use crate::action::{Action, Place};
+use crate::action::{Action, ActionPlace};
 use crate::event_stage::EventStage;
 use lock_sleepers::{CLOSED_COUNT, LAST_EPOCH};
 
@@ -37,7 +37,7 @@ impl EventCall {
             loaded: 0,
             epoch: 0,
         };
-        (call, Action::Load(Place::Count))
+        (call, Action::Load(ActionPlace::Count))
     }
 
     /// Begins a notification of all waits, or of one. Returns the call and its first action.
@@ -51,7 +51,7 @@ impl EventCall {
             loaded: 0,
             epoch: 0,
         };
-        (call, Action::Load(Place::Count))
+        (call, Action::Load(ActionPlace::Count))
     }
 
     /// Takes the answer to the last action, and returns the next action.
@@ -62,25 +62,25 @@ impl EventCall {
         match self.stage {
             EventStage::FindCount => self.find_count(found),
             EventStage::CountIn if found == self.loaded => {
-                self.to(EventStage::WatchEpoch, Action::Load(Place::Epoch))
+                self.to(EventStage::WatchEpoch, Action::Load(ActionPlace::Epoch))
             }
             EventStage::CountIn | EventStage::YieldAway => {
-                self.to(EventStage::FindCount, Action::Load(Place::Count))
+                self.to(EventStage::FindCount, Action::Load(ActionPlace::Count))
             }
             EventStage::WatchEpoch => self.watch_epoch(found),
             EventStage::Unlock => self.sleep(),
             EventStage::Sleep | EventStage::YieldCounted => self.wake_up(found),
-            EventStage::Leave => self.to(EventStage::FindEpoch, Action::Load(Place::Epoch)),
+            EventStage::Leave => self.to(EventStage::FindEpoch, Action::Load(ActionPlace::Epoch)),
             EventStage::FindEpoch if found >= LAST_EPOCH => self.to(
                 EventStage::CloseCount,
-                Action::Exchange(Place::Count, 0, CLOSED_COUNT),
+                Action::Exchange(ActionPlace::Count, 0, CLOSED_COUNT),
             ),
             EventStage::CloseCount if found == 0 => {
                 self.to(EventStage::RestartEpochs, Action::Restart)
             }
             EventStage::RestartEpochs => self.to(
                 EventStage::OpenCount,
-                Action::Subtract(Place::Count, CLOSED_COUNT),
+                Action::Subtract(ActionPlace::Count, CLOSED_COUNT),
             ),
             EventStage::FindEpoch | EventStage::CloseCount | EventStage::OpenCount => {
                 self.to(EventStage::Lock, Action::Lock)
@@ -104,7 +104,7 @@ impl EventCall {
         self.loaded = count;
         self.to(
             EventStage::CountIn,
-            Action::Exchange(Place::Count, count, count + 1),
+            Action::Exchange(ActionPlace::Count, count, count + 1),
         )
     }
 
@@ -135,7 +135,7 @@ impl EventCall {
         ensures action { result ≡ action_of self.new }
     {
         self.late = answer != 0;
-        self.to(EventStage::Leave, Action::Subtract(Place::Count, 1))
+        self.to(EventStage::Leave, Action::Subtract(ActionPlace::Count, 1))
     }
 
     fn end_wait(&mut self) -> Action
@@ -154,7 +154,7 @@ impl EventCall {
         if count == 0 {
             return self.end_notification();
         }
-        self.to(EventStage::NoteEpoch, Action::Load(Place::Epoch))
+        self.to(EventStage::NoteEpoch, Action::Load(ActionPlace::Epoch))
     }
 
     fn end_epoch(&mut self, epoch: u64) -> Action
@@ -167,7 +167,7 @@ impl EventCall {
         }
         self.to(
             EventStage::EndEpoch,
-            Action::Exchange(Place::Epoch, epoch, epoch + 1),
+            Action::Exchange(ActionPlace::Epoch, epoch, epoch + 1),
         )
     }
 

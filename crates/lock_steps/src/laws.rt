@@ -20,7 +20,7 @@ pub fn every_run_is_served()
 /// A thread falls asleep in its park if it finds the epoch that it parks for. A wake-up of one wakes any of the threads that
 /// sleep, and a sleep may end early. If the word admits what a thread sleeps for, in whatever epoch, some other thread is awake
 /// in the middle of a release: it has yet to look for sleepers, to end the epoch, or to wake. In a mutex, it may instead be a
-/// thread that was woken, and that has yet to look at the free word or to exchange it.
+/// woken thread, which has yet to look at the free word or to exchange it.
 pub fn every_sleeper_is_served()
     ensures { EverySleeperIsServed }
 {}

@@ -13,7 +13,7 @@ mod stage;
 mod word_act;
 mod word_call;
 
-pub use action::{Action, Place};
+pub use action::{Action, ActionPlace};
 pub use event_act::EventAct;
 pub use event_call::EventCall;
 pub use event_stage::EventStage;

@@ -1,7 +1,7 @@
 //! A call on a word lock, step by step.
 ghost use Rattle.std.specs.Prelude.{◌≡◌, ◌<◌, ◌==◌, ◌||◌};
 
-use crate::action::{Action, Place};
+use crate::action::{Action, ActionPlace};
 use crate::stage::Stage;
 use lock_sleepers::{CLOSED_COUNT, LAST_EPOCH, SPINS};
 use lock_word::{Down, ExWant, Occupancy, has_bar, unblocks};
@@ -55,7 +55,7 @@ impl WordCall {
             loaded: 0,
             epoch: 0,
         };
-        (call, Action::Load(Place::Word))
+        (call, Action::Load(ActionPlace::Word))
     }
 
     /// Begins a call that releases or downgrades. Returns the call and its first action.
@@ -74,7 +74,7 @@ impl WordCall {
             loaded: 0,
             epoch: 0,
         };
-        (call, Action::Subtract(Place::Word, down.amount()))
+        (call, Action::Subtract(ActionPlace::Word, down.amount()))
     }
 
     /// Takes the answer to the last action, and returns the next action.
@@ -87,41 +87,44 @@ impl WordCall {
             Stage::Look => self.look(found),
             Stage::Try if found == self.loaded => self.acquired(),
             Stage::Try => self.pause(),
-            Stage::Pause => self.to(Stage::Look, Action::Load(Place::Word)),
+            Stage::Pause => self.to(Stage::Look, Action::Load(ActionPlace::Word)),
             Stage::LookToAnnounce => self.look_to_announce(found),
             Stage::Announce => self.announce(found),
             Stage::FindCount => self.find_count(found),
             Stage::CountIn if found == self.loaded => {
-                self.to(Stage::WatchEpoch, Action::Load(Place::Epoch))
+                self.to(Stage::WatchEpoch, Action::Load(ActionPlace::Epoch))
             }
             Stage::CountIn => self.to(Stage::YieldAway, Action::Yield),
             Stage::WatchEpoch => self.watch_epoch(found),
             Stage::LookCounted => self.look_counted(found),
             Stage::TryCounted if found == self.loaded => {
-                self.to(Stage::LeaveAcquired, Action::Subtract(Place::Count, 1))
+                self.to(
+                    Stage::LeaveAcquired,
+                    Action::Subtract(ActionPlace::Count, 1),
+                )
             }
             Stage::TryCounted => self.leave(),
             Stage::Sleep | Stage::YieldCounted => self.wake_up(found),
             Stage::LeaveAcquired => self.acquired(),
             Stage::Leave | Stage::YieldAway => {
-                self.to(Stage::LookAgain, Action::Load(Place::Word))
+                self.to(Stage::LookAgain, Action::Load(ActionPlace::Word))
             }
             Stage::LookAgain => self.look_again(found),
             Stage::TryAgain if found == self.loaded => self.acquired(),
             Stage::TryAgain => self.find_epoch(),
             Stage::FindEpoch if found >= LAST_EPOCH => self.to(
                 Stage::CloseCount,
-                Action::Exchange(Place::Count, 0, CLOSED_COUNT),
+                Action::Exchange(ActionPlace::Count, 0, CLOSED_COUNT),
             ),
             Stage::CloseCount if found == 0 => self.to(Stage::RestartEpochs, Action::Restart),
             Stage::FindEpoch | Stage::CloseCount | Stage::OpenCount => self.to_wait(),
             Stage::RestartEpochs => self.to(
                 Stage::OpenCount,
-                Action::Subtract(Place::Count, CLOSED_COUNT),
+                Action::Subtract(ActionPlace::Count, CLOSED_COUNT),
             ),
             Stage::Take => self.look_for_sleepers(found),
             Stage::LookForSleepers if found != 0 && self.has_to_wake(down) => {
-                self.to(Stage::NoteEpoch, Action::Load(Place::Epoch))
+                self.to(Stage::NoteEpoch, Action::Load(ActionPlace::Epoch))
             }
             Stage::NoteEpoch if found < LAST_EPOCH => self.end_epoch(found),
             Stage::EndEpoch if found == self.epoch => self.wake(),
@@ -154,7 +157,10 @@ impl WordCall {
     {
         self.loaded = word;
         match ExWant::Announce.exchanged(false, self.readers, word) {
-            Some(next) => self.to(Stage::Announce, Action::Exchange(Place::Word, word, next)),
+            Some(next) => self.to(
+                Stage::Announce,
+                Action::Exchange(ActionPlace::Word, word, next),
+            ),
             None => self.to_count(),
         }
     }
@@ -175,7 +181,7 @@ impl WordCall {
         self.loaded = count;
         self.to(
             Stage::CountIn,
-            Action::Exchange(Place::Count, count, count + 1),
+            Action::Exchange(ActionPlace::Count, count, count + 1),
         )
     }
 
@@ -186,7 +192,7 @@ impl WordCall {
             return self.to(Stage::YieldCounted, Action::Yield);
         }
         self.epoch = epoch;
-        self.to(Stage::LookCounted, Action::Load(Place::Word))
+        self.to(Stage::LookCounted, Action::Load(ActionPlace::Word))
     }
 
     /// Tries at the look of a counted waiter, which sleeps if it is refused. A call that announces itself needs a bar, its
@@ -226,7 +232,7 @@ impl WordCall {
         ensures { (self.new, result) ≡ next_at Stage.Take Down.Shared word self.old }
     {
         self.loaded = word;
-        self.to(Stage::LookForSleepers, Action::Load(Place::Count))
+        self.to(Stage::LookForSleepers, Action::Load(ActionPlace::Count))
     }
 
     fn end_epoch(&mut self, epoch: u64) -> Action
@@ -236,7 +242,7 @@ impl WordCall {
         self.epoch = epoch;
         self.to(
             Stage::EndEpoch,
-            Action::Exchange(Place::Epoch, epoch, epoch + 1),
+            Action::Exchange(ActionPlace::Epoch, epoch, epoch + 1),
         )
     }
 
@@ -282,7 +288,7 @@ impl WordCall {
     {
         self.loaded = word;
         let next = self.want.exchanged(self.announced, self.readers, word)?;
-        Some(self.to(trying, Action::Exchange(Place::Word, word, next)))
+        Some(self.to(trying, Action::Exchange(ActionPlace::Word, word, next)))
     }
 
     /// Before it sleeps, a call spins and yields for a few pauses.
@@ -312,7 +318,7 @@ impl WordCall {
             return self.refused();
         }
         if self.announces && !self.announced && !self.wakes_one() {
-            return self.to(Stage::LookToAnnounce, Action::Load(Place::Word));
+            return self.to(Stage::LookToAnnounce, Action::Load(ActionPlace::Word));
         }
         self.to_count()
     }
@@ -320,19 +326,19 @@ impl WordCall {
     fn to_count(&mut self) -> Action
         ensures { (self.new, result) ≡ to_count self.old }
     {
-        self.to(Stage::FindCount, Action::Load(Place::Count))
+        self.to(Stage::FindCount, Action::Load(ActionPlace::Count))
     }
 
     fn leave(&mut self) -> Action
         ensures { (self.new, result) ≡ leave self.old }
     {
-        self.to(Stage::Leave, Action::Subtract(Place::Count, 1))
+        self.to(Stage::Leave, Action::Subtract(ActionPlace::Count, 1))
     }
 
     fn find_epoch(&mut self) -> Action
         ensures { (self.new, result) ≡ find_epoch self.old }
     {
-        self.to(Stage::FindEpoch, Action::Load(Place::Epoch))
+        self.to(Stage::FindEpoch, Action::Load(ActionPlace::Epoch))
     }
 
     /// Whether the subtraction unblocks some waiter. In a mutex it may always.

@@ -5,7 +5,7 @@ ghost use Rattle.lock_sleepers.specs.declared.sleeper.Watch.TheVariants.{Away};
 ghost use Rattle.lock_sleepers.specs.Wakes.{may_want};
 ghost use Rattle.lock_wake.specs.Calls.{ComesTo, MayAttempt, MayBeAnnounced, MayWait, Tried, Waited, won};
 
-use crate::call::Call;
+use crate::call::SeatedCall;
 use crate::deadline::time_left;
 use crate::pauses::Pauses;
 use crate::waits::Round;
@@ -17,7 +17,7 @@ use std::time::{Clock, Instant};
 
 impl WordLock {
     /// Loads the word, and then exchanges it at most once.
-    pub(crate) fn attempt(&self, call: &mut Call, announced: bool, want: ExWant) -> Attempt
+    pub(crate) fn attempt(&self, call: &mut SeatedCall, announced: bool, want: ExWant) -> Attempt
         requires attempt { MayAttempt self.now want announced call.old }
         requires may { IsTrue (may_want self.now.limits want) }
         ensures { Tried want call.old result call.new }
@@ -31,7 +31,7 @@ impl WordLock {
     /// Attempts until it succeeds. Kept off the uncontended path.
     #[cold]
     #[inline(never)]
-    pub(crate) fn win<R: Wait>(&self, rt: &R, call: &mut Call, want: ExWant)
+    pub(crate) fn win<R: Wait>(&self, rt: &R, call: &mut SeatedCall, want: ExWant)
         requires { MayWait self.now want false call.old }
         ensures { ComesTo (won want call.old) call.old call.new }
     {
@@ -58,7 +58,7 @@ impl WordLock {
     pub(crate) fn win_until<R: Wait + Clock>(
         &self,
         rt: &R,
-        call: &mut Call,
+        call: &mut SeatedCall,
         want: ExWant,
         deadline: Instant,
     ) -> bool
@@ -87,7 +87,7 @@ impl WordLock {
     /// Attempts to acquire exclusively until it succeeds. It announces the call before it sleeps.
     #[cold]
     #[inline(never)]
-    pub(crate) fn win_announced<R: Wait>(&self, rt: &R, call: &mut Call)
+    pub(crate) fn win_announced<R: Wait>(&self, rt: &R, call: &mut SeatedCall)
         requires { MayWait self.now Exclusive false call.old }
         ensures { ComesTo (won Exclusive call.old) call.old call.new }
     {
@@ -111,7 +111,7 @@ impl WordLock {
 
     /// Announces the call if it is not announced and no bar is set. A lock that wakes one has no bar. Returns whether the
     /// call is announced now.
-    fn announce(&self, call: &mut Call, announced: bool) -> bool
+    fn announce(&self, call: &mut SeatedCall, announced: bool) -> bool
         requires attempt { MayAttempt self.now Announce announced call.old }
         requires away { call.old.sleeper.watch ≡ Away }
         ensures bar { result ≡ call.new.sleeper.state.held.announced }

@@ -13,11 +13,11 @@ pub use token::WordToken;
 ///
 /// It has no `Drop`, so a body cannot forget one that still counts as a sleeper or owes a wake-up. A call ends by `leave`,
 /// or becomes the token of what it acquired.
-pub(crate) struct Call {
+pub(crate) struct SeatedCall {
     seat: Seat<(), WakeView>,
 }
 
-impl Model for Call {
+impl Model for SeatedCall {
     ghost use Rattle.std.specs.Prelude.{◌≡◌, []};
     ghost use Rattle.lock_sleepers.specs.Wakes.{unnumbered};
     ghost use Rattle.lock_wake.specs.Calls.{CallView};
@@ -34,12 +34,12 @@ impl Model for Call {
     ghost invariant = { λ c. c.seat.me.1 ≡ [] };
 }
 
-impl Call {
+impl SeatedCall {
     /// Ends a call that leaves no token.
     pub(crate) fn leave(self)
         requires { IsIdle self }
     {
-        let Call { seat } = self;
+        let SeatedCall { seat } = self;
         drop(seat);
     }
 }

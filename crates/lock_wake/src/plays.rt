@@ -5,23 +5,23 @@ use crate::rule::WakeView;
 use atomic_table::Play;
 
 /// A load of the word.
-pub(crate) struct LoadWord;
+pub(crate) struct LoadLockWord;
 
-impl Play<(), WakeView> for LoadWord {
+impl Play<(), WakeView> for LoadLockWord {
     ghost then = { Loads };
 }
 
 /// An exchange of the word that acquires, upgrades or sets the bar.
-pub(crate) struct Exchange;
+pub(crate) struct ExchangeLockWord;
 
-impl Play<(), WakeView> for Exchange {
+impl Play<(), WakeView> for ExchangeLockWord {
     ghost then = { Exchanges };
 }
 
 /// A subtraction from the word that releases, downgrades or clears the bar.
-pub(crate) struct Take;
+pub(crate) struct TakeFromLockWord;
 
-impl Play<(), WakeView> for Take {
+impl Play<(), WakeView> for TakeFromLockWord {
     ghost then = { Takes };
 }
 

@@ -8,14 +8,14 @@ ghost use Rattle.lock_word.specs.Unblocking.{word_unblocks};
 ghost use Rattle.lock_sleepers.specs.Wakes.{has_to_wake, debt_after};
 ghost use Rattle.lock_wake.specs.Calls.{ComesTo, settled};
 
-use crate::call::Call;
+use crate::call::SeatedCall;
 use crate::word_lock::WordLock;
 use lock_word::{Down, Occupancy, unblocks};
 
 impl WordLock {
     /// Subtracts from the word, and then looks for sleepers. If there are any and the take has to wake, it ends the
     /// epoch and wakes.
-    pub(crate) fn take_and_wake(&self, call: &mut Call, down: Down)
+    pub(crate) fn take_and_wake(&self, call: &mut SeatedCall, down: Down)
         requires lock { call.old.lock ≡ self.now }
         requires holds { IsTrue (hold_has call.old.sleeper.state.held (step_of_down down)) }
         requires at_rest { call.old.sleeper.debt ≡ Nothing }
@@ -32,7 +32,7 @@ impl WordLock {
     /// take always does. Kept off the uncontended path.
     #[cold]
     #[inline(never)]
-    fn wake(&self, call: &mut Call, before: u64, after: u64)
+    fn wake(&self, call: &mut SeatedCall, before: u64, after: u64)
         requires lock { call.old.lock ≡ self.now }
         requires owes { call.old.sleeper.debt ≡ debt_after (has_to_wake self.now.limits before after) Nothing }
         requires taken { call.old.sleeper.ended_at ≡ None }

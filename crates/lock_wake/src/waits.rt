@@ -5,7 +5,7 @@ ghost use Rattle.lock_word.specs.Unblocking.{is_awaited};
 ghost use Rattle.lock_sleepers.specs.Sleepers.{count_of_watch};
 ghost use Rattle.lock_wake.specs.Calls.{CameBack, ComesTo, MayAttempt, MayWait, Waited, away, may_sleep_at, won};
 
-use crate::call::Call;
+use crate::call::SeatedCall;
 use crate::word_lock::WordLock;
 use lock_word::seated::Attempt;
 use lock_word::{ExWant, has_bar};
@@ -38,7 +38,7 @@ impl Round {
 
 impl WordLock {
     /// One round of a waiter. A woken call looks at the word before it does anything else. Returns whether it acquired.
-    pub(crate) fn wait_once<R: Wait>(&self, rt: &R, call: &mut Call, round: &Round) -> bool
+    pub(crate) fn wait_once<R: Wait>(&self, rt: &R, call: &mut SeatedCall, round: &Round) -> bool
         requires { MayWait self.now round.now.want round.now.announced call.old }
         ensures { Waited round.now.want result call.old call.new }
     {
@@ -53,7 +53,7 @@ impl WordLock {
     }
 
     /// Counts the call as a sleeper, tries again, and sleeps if the word refuses. Returns whether it acquired.
-    fn sleep_once<R: Wait>(&self, rt: &R, call: &mut Call, round: &Round) -> bool
+    fn sleep_once<R: Wait>(&self, rt: &R, call: &mut SeatedCall, round: &Round) -> bool
         requires { MayWait self.now round.now.want round.now.announced call.old }
         ensures acquired { result ≡ true → ComesTo (won round.now.want call.old) call.old call.new }
         ensures refused { result ≡ false → CameBack call.old call.new }
@@ -68,7 +68,7 @@ impl WordLock {
     }
 
     /// Loads the epoch, tries again, and if the word refuses, sleeps until the epoch ends.
-    fn try_or_sleep<R: Wait>(&self, rt: &R, call: &mut Call, round: &Round) -> bool
+    fn try_or_sleep<R: Wait>(&self, rt: &R, call: &mut SeatedCall, round: &Round) -> bool
         requires attempt { MayAttempt self.now round.now.want round.now.announced call.old }
         requires awaited { IsTrue (is_awaited round.now.want) }
         requires counted { call.old.sleeper.watch ≡ Counted }

@@ -1,6 +1,6 @@
-//! The mutexes of a row. Only a `Line` acquires several of them.
+//! The mutexes of a row. Only a `RowOrder` acquires several of them.
 ghost use Rattle.std.specs.Prelude.{◌≡◌, ◌+◌, ◌<◌, ◌≤◌, vec_len};
-ghost use Rattle.lock_ranked.specs.Lines.{next_of, row_of};
+ghost use Rattle.lock_ranked.specs.RowOrders.{next_of, row_of};
 ghost use Rattle.lock_ranked.specs.Rows.{mutexes_of, places_of, IsGuardAt};
 
 use crate::mutex::RankedMutexGuard;
@@ -74,20 +74,20 @@ impl<R: RawMutex, T, K: Rank> RankedMutexRow<R, T, K> {
 /// The permission to acquire the mutexes of a row, each at a higher place than the last one. It has no bytes but a
 /// reference to the row.
 #[derive(Drop)]
-pub struct Line<'a, 'o, R, T, K: Rank> {
+pub struct RowOrder<'a, 'o, R, T, K: Rank> {
     row: &'a RankedMutexRow<R, T, K>,
     next: Snapshot<usize>,
     above: Order<'o, K>,
 }
 
-impl<'a, 'o, R: RawMutex, T, K: Rank> Line<'a, 'o, R, T, K> {
+impl<'a, 'o, R: RawMutex, T, K: Rank> RowOrder<'a, 'o, R, T, K> {
     /// Starts at the first place, in an order that is borrowed for as long as the guards live.
     pub fn start<B: Rank>(row: &'a RankedMutexRow<R, T, K>, order: &'o mut Order<'_, B>) -> Self
         requires { B.rank < K.rank }
         ensures row { row_of result ≡ row.now }
         ensures next { next_of result ≡ 0 }
     {
-        Line {
+        RowOrder {
             row,
             next: Snapshot::of(&0),
             above: order.above::<K, K>(),

@@ -6,17 +6,17 @@ use std::sync::{Condvar, MutexGuard, Wait};
 
 /// The threads that wait for a change of what a std mutex protects.
 #[derive(Drop)]
-pub(crate) struct Waiters {
+pub(crate) struct MonitorWaiters {
     changed: Condvar,
     /// How many threads wait. It changes only under the mutex, so a call that had the mutex knows of all that wait for
     /// it.
     waiting: AtomicU64,
 }
 
-impl Waiters {
+impl MonitorWaiters {
     /// Makes a value without waiters.
-    pub(crate) fn new() -> Waiters {
-        Waiters {
+    pub(crate) fn new() -> MonitorWaiters {
+        MonitorWaiters {
             changed: Condvar::new(),
             waiting: AtomicU64::new(0),
         }

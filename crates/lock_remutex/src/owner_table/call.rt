@@ -6,11 +6,11 @@ use std::marker::Model;
 
 /// A call on a table. Contracts see its table and its last step. It has no bytes.
 #[derive(Drop)]
-pub struct Call<K, T> {
+pub struct OwnerCall<K, T> {
     pub(super) seat: Seat<Option<Levels<T>>, OwnerView<K, T>>,
 }
 
-impl<K, T> Model for Call<K, T> {
+impl<K, T> Model for OwnerCall<K, T> {
     ghost use Rattle.std.specs.Prelude.{◌≡◌, []};
     ghost use Rattle.lock_remutex.specs.OwnerTables.{CallView};
 

@@ -5,7 +5,7 @@ ghost use Rattle.lock_remutex.specs.declared.owner_table.rule.OwnerStep.TheVaria
 ghost use Rattle.lock_remutex.specs.OwnerTables.{party_in, word_at, made_by, IsLarge};
 ghost use Rattle.lock_remutex.specs.OwnerCalls.{Again, Leaves, LeavesSole, IsTaken};
 
-use crate::owner_table::call::{Call, Section};
+use crate::owner_table::call::{OwnerCall, Section};
 use crate::owner_table::rule::{Hint, TokenRule};
 use crate::owner_table::{BUSY, FREE, LARGE, LARGE_ID, OWNER, OwnerTable, PARTY};
 use lock_base::machine::PartyId;
@@ -21,7 +21,7 @@ impl<K, T, P: TokenRule<K, T>> OwnerTable<K, T, P> {
         &self,
         rt: &W,
         party: PartyId,
-    ) -> (Result<bool, Fault>, Call<K, T>)
+    ) -> (Result<bool, Fault>, OwnerCall<K, T>)
         requires { 2 ^ 32 ≤ id_of party }
         ensures table { result.1.table ≡ self.now }
         ensures did { Again self.now.key.limit (id_of party) result.0 result.1.step }
@@ -41,7 +41,7 @@ impl<K, T, P: TokenRule<K, T>> OwnerTable<K, T, P> {
         &self,
         rt: &W,
         party: PartyId,
-    ) -> (Result<Option<T>, Fault>, Call<K, T>)
+    ) -> (Result<Option<T>, Fault>, OwnerCall<K, T>)
         requires { 2 ^ 32 ≤ id_of party }
         ensures table { result.1.table ≡ self.now }
         ensures did { Leaves (id_of party) result.0 result.1.step }
@@ -62,7 +62,7 @@ impl<K, T, P: TokenRule<K, T>> OwnerTable<K, T, P> {
         &self,
         rt: &W,
         party: PartyId,
-    ) -> (Result<Option<T>, Fault>, Call<K, T>)
+    ) -> (Result<Option<T>, Fault>, OwnerCall<K, T>)
         requires { 2 ^ 32 ≤ id_of party }
         ensures table { result.1.table ≡ self.now }
         ensures did { LeavesSole (id_of party) result.0 result.1.step }
@@ -114,7 +114,7 @@ impl<K, T, P: TokenRule<K, T>> OwnerTable<K, T, P> {
         &self,
         rt: &W,
         party: PartyId,
-    ) -> Result<(Levels<T>, Section<K, T>), Call<K, T>>
+    ) -> Result<(Levels<T>, Section<K, T>), OwnerCall<K, T>>
         requires { 2 ^ 32 ≤ id_of party }
         ensures taken { IfOk result (λ taken. IsTaken P.fits self.now 2 taken.0 taken.1) }
         ensures table { IfErr result (λ call. call.table ≡ self.now) }
@@ -137,7 +137,7 @@ impl<K, T, P: TokenRule<K, T>> OwnerTable<K, T, P> {
     }
 
     /// Puts the levels back, which have no owner or one with a large id.
-    fn put_large(&self, levels: Levels<T>, section: Section<K, T>) -> Call<K, T>
+    fn put_large(&self, levels: Levels<T>, section: Section<K, T>) -> OwnerCall<K, T>
         requires table { section.table ≡ self.now }
         requires large { IsLarge (P.fits self.now.key.raw) self.now.key.limit levels }
         ensures table { result.table ≡ self.now }

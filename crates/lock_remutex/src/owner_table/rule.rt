@@ -49,9 +49,9 @@ impl<K, T, P: TokenRule<K, T>> TableRule<Option<Levels<T>>, OwnerView<K, T>, Own
 }
 
 /// A load of the owner word.
-pub(super) struct Look;
+pub(super) struct LookAtOwner;
 
-impl<K, T> Play<Option<Levels<T>>, OwnerView<K, T>> for Look {
+impl<K, T> Play<Option<Levels<T>>, OwnerView<K, T>> for LookAtOwner {
     ghost use Rattle.lock_remutex.specs.OwnerTables.{Looks};
 
     ghost then = { Looks };
@@ -67,20 +67,20 @@ impl<K, T> Play<Option<Levels<T>>, OwnerView<K, T>> for Recount {
 }
 
 /// An exchange of the owner word that takes the levels.
-pub(super) struct Take<P> {
+pub(super) struct TakeLevels<P> {
     rule: PhantomData<P>,
 }
 
-impl<K, T, P: TokenRule<K, T>> Play<Option<Levels<T>>, OwnerView<K, T>> for Take<P> {
+impl<K, T, P: TokenRule<K, T>> Play<Option<Levels<T>>, OwnerView<K, T>> for TakeLevels<P> {
     ghost use Rattle.lock_remutex.specs.OwnerTables.{Takes};
 
     ghost then = { Takes P.fits };
 }
 
 /// A swap of the owner word that puts the levels back.
-pub(super) struct Put;
+pub(super) struct PutLevels;
 
-impl<K, T> Play<Option<Levels<T>>, OwnerView<K, T>> for Put {
+impl<K, T> Play<Option<Levels<T>>, OwnerView<K, T>> for PutLevels {
     ghost use Rattle.lock_remutex.specs.OwnerTables.{Puts};
 
     ghost then = { λ s. Puts };

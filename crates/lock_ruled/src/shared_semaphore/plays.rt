@@ -5,22 +5,22 @@ use crate::shared_semaphore::rule::PermitView;
 use atomic_table::Play;
 
 /// A load.
-pub(crate) struct Look;
+pub(crate) struct LookAtPermits;
 
-impl Play<(), PermitView> for Look {
+impl Play<(), PermitView> for LookAtPermits {
     ghost then = { λ s. Looks };
 }
 
 /// An exchange that acquires permits.
-pub(crate) struct Take;
+pub(crate) struct TakePermits;
 
-impl Play<(), PermitView> for Take {
+impl Play<(), PermitView> for TakePermits {
     ghost then = { Takes };
 }
 
 /// An addition that releases permits.
-pub(crate) struct Give;
+pub(crate) struct GivePermits;
 
-impl Play<(), PermitView> for Give {
+impl Play<(), PermitView> for GivePermits {
     ghost then = { Gives };
 }

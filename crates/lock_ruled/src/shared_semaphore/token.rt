@@ -2,7 +2,7 @@
 ghost use Rattle.std.specs.Prelude.{◌≡◌, ◌≤◌, true, IfSome};
 ghost use Rattle.lock_ruled.specs.Accounts.{token_of};
 
-use crate::shared_semaphore::plays::{Give, Look, Take};
+use crate::shared_semaphore::plays::{GivePermits, LookAtPermits, TakePermits};
 use crate::shared_semaphore::rule::PermitView;
 use crate::shared_semaphore::{FREE, SharedSemaphore};
 use atomic_table::Seat;
@@ -77,7 +77,7 @@ impl SharedSemaphore {
         ensures token { IfSome result (λ token. token ≡ token_of self.now permits) }
         ensures within { IfSome result (λ _. permits ≤ self.now.permits) }
     {
-        let (mut free, mut seat) = self.table.shared.load_new_seat::<Look>(FREE);
+        let (mut free, mut seat) = self.table.shared.load_new_seat::<LookAtPermits>(FREE);
         for _ in rt.forever() {
             if free < permits {
                 return None;
@@ -85,7 +85,7 @@ impl SharedSemaphore {
             let found = self
                 .table
                 .shared
-                .compare_exchange::<Take>(&mut seat, FREE, free, free - permits);
+                .compare_exchange::<TakePermits>(&mut seat, FREE, free, free - permits);
             if found == free {
                 return Some(PermitToken { seat, permits });
             }
@@ -101,7 +101,7 @@ impl SharedSemaphore {
         let PermitToken { mut seat, permits } = token;
         self.table
             .shared
-            .fetch_add::<Give>(&mut seat, FREE, permits);
+            .fetch_add::<GivePermits>(&mut seat, FREE, permits);
         ReleasedPermits { seat }
     }
 }

@@ -10,11 +10,11 @@ ghost use Rattle.lock_sleepers.specs.Wakes.{may_want, with_watch, with_debt, vie
 ghost use Rattle.lock_wake.specs.Plays.{Ends};
 ghost use Rattle.lock_wake.specs.Calls.{Attempted, MayAttempt, with_sleeper, after_load, after_sleep, entered, may_sleep_at, owed_wake, settled};
 
-use crate::call::Call;
+use crate::call::SeatedCall;
 use crate::owed_wake::{OwedWake, Whom};
 use crate::plays::{
-    CloseCount, CountIn, CountOut, Exchange, LoadWord, LookForSleepers, NoteEpoch, OpenCount,
-    RestartEpochs, Take, WatchEpoch,
+    CloseCount, CountIn, CountOut, ExchangeLockWord, LoadLockWord, LookForSleepers, NoteEpoch,
+    OpenCount, RestartEpochs, TakeFromLockWord, WatchEpoch,
 };
 use crate::rule::WakeView;
 use crate::word_lock::{COUNT, EPOCH, WORD, WordLock};
@@ -34,26 +34,26 @@ impl Play<(), WakeView> for EndEpoch {
 
 impl WordLock {
     /// Begins a call, by a load of the word.
-    pub(crate) fn enter(&self) -> (u64, Call)
+    pub(crate) fn enter(&self) -> (u64, SeatedCall)
         ensures { result.1 ≡ entered self.now result.0 }
     {
-        let (word, seat) = self.table.shared.load_new_seat::<LoadWord>(WORD);
-        (word, Call { seat })
+        let (word, seat) = self.table.shared.load_new_seat::<LoadLockWord>(WORD);
+        (word, SeatedCall { seat })
     }
 
     /// Loads the word. It encodes what all parties hold now, and the bar.
-    pub(crate) fn load_word(&self, call: &mut Call) -> u64
+    pub(crate) fn load_word(&self, call: &mut SeatedCall) -> u64
         requires { call.old.lock ≡ self.now }
         ensures loaded { call.new ≡ after_load call.old result }
         ensures shows { WordShows self.now.limits.readers result call.old.sleeper.state.held }
     {
-        self.table.shared.load::<LoadWord>(&mut call.seat, WORD)
+        self.table.shared.load::<LoadLockWord>(&mut call.seat, WORD)
     }
 
     /// Exchanges the word that the call loaded, if that word admits `want` and is still there.
     pub(crate) fn exchange(
         &self,
-        call: &mut Call,
+        call: &mut SeatedCall,
         word: u64,
         announced: bool,
         want: ExWant,
@@ -68,14 +68,14 @@ impl WordLock {
             return Attempt::NotAdmitted(word);
         };
         let shared = &self.table.shared;
-        if shared.compare_exchange::<Exchange>(&mut call.seat, WORD, word, next) != word {
+        if shared.compare_exchange::<ExchangeLockWord>(&mut call.seat, WORD, word, next) != word {
             return Attempt::Changed;
         }
         Attempt::Done
     }
 
     /// Subtracts from the word, and returns the word before. The call is due if it has to wake.
-    pub(crate) fn subtract(&self, call: &mut Call, down: Down) -> u64
+    pub(crate) fn subtract(&self, call: &mut SeatedCall, down: Down) -> u64
         requires lock { call.old.lock ≡ self.now }
         requires holds { IsTrue (hold_has call.old.sleeper.state.held (step_of_down down)) }
         ensures done { call.new ≡ with_sleeper call.old (view_after_take self.now.limits result call.old.sleeper down) }
@@ -83,11 +83,11 @@ impl WordLock {
     {
         self.table
             .shared
-            .fetch_sub::<Take>(&mut call.seat, WORD, down.amount())
+            .fetch_sub::<TakeFromLockWord>(&mut call.seat, WORD, down.amount())
     }
 
     /// Counts the call as a sleeper, by one exchange. Returns false if the count changed, or is full.
-    pub(crate) fn count_in(&self, call: &mut Call) -> bool
+    pub(crate) fn count_in(&self, call: &mut SeatedCall) -> bool
         requires lock { call.old.lock ≡ self.now }
         requires away { call.old.sleeper.watch ≡ Away }
         ensures counted { result ≡ true → call.new ≡ with_sleeper call.old (with_watch call.old.sleeper Counted) }
@@ -102,7 +102,7 @@ impl WordLock {
     }
 
     /// Takes the call out of the count. If it may have slept, it has to look at the word.
-    pub(crate) fn count_out(&self, call: &mut Call)
+    pub(crate) fn count_out(&self, call: &mut SeatedCall)
         requires lock { call.old.lock ≡ self.now }
         requires counted { count_of_watch call.old.sleeper.watch ≡ 1 }
         ensures { call.new ≡ after_sleep call.old }
@@ -113,7 +113,7 @@ impl WordLock {
     }
 
     /// Returns whether any call is counted as a sleeper. If none is, the call owes nothing.
-    pub(crate) fn finds_sleepers(&self, call: &mut Call) -> bool
+    pub(crate) fn finds_sleepers(&self, call: &mut SeatedCall) -> bool
         requires lock { call.old.lock ≡ self.now }
         ensures some { result ≡ true → call.new ≡ call.old }
         ensures none { result ≡ false → call.new ≡ with_sleeper call.old (with_debt call.old.sleeper Nothing) }
@@ -125,7 +125,7 @@ impl WordLock {
     }
 
     /// Loads the epoch, for a counted call, whose next look at the word counts.
-    pub(crate) fn watch_epoch(&self, call: &mut Call) -> u64
+    pub(crate) fn watch_epoch(&self, call: &mut SeatedCall) -> u64
         requires lock { call.old.lock ≡ self.now }
         requires counted { count_of_watch call.old.sleeper.watch ≡ 1 }
         ensures watches { result < self.now.limits.last_epoch → call.new ≡ with_sleeper call.old (view_after_epoch result call.old.sleeper) }
@@ -135,7 +135,7 @@ impl WordLock {
     }
 
     /// Loads the epoch that a due call has to end. At the last epoch it owes nothing.
-    pub(crate) fn note_epoch(&self, call: &mut Call) -> u64
+    pub(crate) fn note_epoch(&self, call: &mut SeatedCall) -> u64
         requires lock { call.old.lock ≡ self.now }
         requires owes { call.old.sleeper.debt ≡ Owes }
         ensures owes { result < self.now.limits.last_epoch → call.new ≡ with_sleeper call.old (with_debt call.old.sleeper (OwesAt result)) }
@@ -145,7 +145,7 @@ impl WordLock {
     }
 
     /// Ends the epoch, unless some other call did. All are awake when the last epoch begins.
-    pub(crate) fn end_epoch(&self, call: &mut Call, epoch: u64) -> OwedWake
+    pub(crate) fn end_epoch(&self, call: &mut SeatedCall, epoch: u64) -> OwedWake
         requires lock { call.old.lock ≡ self.now }
         requires owes { call.old.sleeper.debt ≡ OwesAt epoch }
         requires early { epoch < self.now.limits.last_epoch }
@@ -162,7 +162,7 @@ impl WordLock {
     }
 
     /// Begins the epochs anew if the epoch is the last and no call is counted. It closes the count meanwhile.
-    pub(crate) fn restart_if_last(&self, call: &mut Call)
+    pub(crate) fn restart_if_last(&self, call: &mut SeatedCall)
         requires lock { call.old.lock ≡ self.now }
         requires away { call.old.sleeper.watch ≡ Away }
         ensures { call.new ≡ call.old }
@@ -184,7 +184,7 @@ impl WordLock {
     pub(crate) fn sleep<R: Wait>(
         &self,
         rt: &R,
-        call: &Call,
+        call: &SeatedCall,
         epoch: u64,
         want: ExWant,
         left: Option<Duration>,

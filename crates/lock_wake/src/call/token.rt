@@ -2,7 +2,7 @@
 ghost use Rattle.std.specs.Prelude.{◌≡◌};
 ghost use Rattle.lock_wake.specs.Calls.{IsDone, IsTokenSeat, token_of};
 
-use crate::call::Call;
+use crate::call::SeatedCall;
 use crate::rule::WakeView;
 use atomic_table::Seat;
 use std::marker::Model;
@@ -42,24 +42,24 @@ impl WordToken {
     }
 
     /// Begins a call that changes or releases the token.
-    pub(crate) fn into_call(self) -> Call
+    pub(crate) fn into_call(self) -> SeatedCall
         ensures lock { result.lock ≡ self.lock }
         ensures held { result.sleeper.state.held ≡ self.held }
         ensures done { IsDone result }
     {
         let WordToken { seat } = self;
-        Call { seat }
+        SeatedCall { seat }
     }
 }
 
-impl Call {
+impl SeatedCall {
     /// Ends a call that leaves a token.
     pub(crate) fn into_token(self) -> WordToken
         requires { IsDone self }
         ensures lock { result.lock ≡ self.lock }
         ensures held { result.held ≡ self.sleeper.state.held }
     {
-        let Call { seat } = self;
+        let SeatedCall { seat } = self;
         WordToken::new(seat)
     }
 }

@@ -1,15 +1,15 @@
-//! A call that has not ended.
+//! The seat of a call on an event count.
 use crate::sleepers::stage::CallStage;
 use atomic_table::Seat;
 use std::marker::Model;
 
-/// A call that has not ended. It cannot be dropped: `end` ends a wait, and `EventCount::wake` or
-/// `found_none` a notification.
-pub(crate) struct EventCall {
+/// A wait or a notification that has not ended, by a new seat at the words of its event count. It cannot be dropped: `end`
+/// ends a wait, and `EventCount::wake` or `found_none` a notification.
+pub(crate) struct SeatedEventCall {
     pub(crate) seat: Seat<(), CallStage>,
 }
 
-impl Model for EventCall {
+impl Model for SeatedEventCall {
     ghost use Rattle.lock_wake.specs.EventCalls.{Call};
 
     ghost Value = { Call };
@@ -17,7 +17,7 @@ impl Model for EventCall {
     ghost view = { λ c. record { events = c.seat.table_id; number = c.seat.id; stage = c.seat.me.0 } };
 }
 
-impl EventCall {
+impl SeatedEventCall {
     ghost use Rattle.std.specs.Prelude.{◌≡◌};
     ghost use Rattle.lock_wake.specs.declared.sleepers.stage.CallStage.TheVariants.{Away};
 
@@ -25,7 +25,7 @@ impl EventCall {
     pub(crate) fn end(self)
         requires { self.stage ≡ Away }
     {
-        let EventCall { seat } = self;
+        let SeatedEventCall { seat } = self;
         drop(seat);
     }
 }

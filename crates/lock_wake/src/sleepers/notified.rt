@@ -5,7 +5,7 @@ ghost use Rattle.lock_wake.specs.EventPlays.{reached_of};
 ghost use Rattle.lock_wake.specs.EventCalls.{owed_to};
 
 use crate::owed_wake::OwedWake;
-use crate::sleepers::call::EventCall;
+use crate::sleepers::call::SeatedEventCall;
 use crate::sleepers::event_count::{EPOCH, EventCount};
 use crate::sleepers::plays::{WakeAll, WakeOne};
 use crate::sleepers::stage::CallStage;
@@ -50,13 +50,13 @@ impl Notified {
 
 impl EventCount {
     /// Ends a notification that found no wait.
-    pub(crate) fn found_none(&self, call: EventCall, all: bool) -> Notified
+    pub(crate) fn found_none(&self, call: SeatedEventCall, all: bool) -> Notified
         requires events { call.events ≡ self.now }
         requires none { call.stage ≡ FoundNone }
         ensures events { result.events ≡ self.now }
         ensures all { result.all ≡ all }
     {
-        let EventCall { seat } = call;
+        let SeatedEventCall { seat } = call;
         Notified {
             seat,
             waits: 0,
@@ -65,14 +65,20 @@ impl EventCount {
     }
 
     /// Makes the wake-up of one thread or of all, after the epoch has ended.
-    pub(crate) fn wake(&self, call: EventCall, owed: OwedWake, waits: u64, all: bool) -> Notified
+    pub(crate) fn wake(
+        &self,
+        call: SeatedEventCall,
+        owed: OwedWake,
+        waits: u64,
+        all: bool,
+    ) -> Notified
         requires events { call.events ≡ self.now }
         requires owes { call.stage ≡ OwesWake waits (reached_of call.stage) }
         requires owed { owed ≡ owed_to all }
         ensures events { result.events ≡ self.now }
         ensures all { result.all ≡ all }
     {
-        let EventCall { mut seat } = call;
+        let SeatedEventCall { mut seat } = call;
         let shared = &self.table.shared;
         owed.make(shared);
         if all {

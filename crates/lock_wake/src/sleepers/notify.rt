@@ -6,7 +6,7 @@ ghost use Rattle.lock_wake.specs.EventCalls.{owed_to};
 
 use crate::owed_wake::{OwedWake, Whom};
 use crate::plays::NoteEpoch;
-use crate::sleepers::call::EventCall;
+use crate::sleepers::call::SeatedEventCall;
 use crate::sleepers::event_count::{COUNT, EPOCH, EventCount};
 use crate::sleepers::notified::Notified;
 use crate::sleepers::plays::Begin;
@@ -15,9 +15,9 @@ use atomic_table::Play;
 use lock_sleepers::LAST_EPOCH;
 
 /// An exchange that ends the epoch. Only `end_epoch` makes it, so whoever ends an epoch owes its wake-up.
-pub struct EndEpoch;
+pub struct EndEventEpoch;
 
-impl Play<(), CallStage> for EndEpoch {
+impl Play<(), CallStage> for EndEventEpoch {
     ghost then = { λ s me found. Ends s me };
 }
 
@@ -51,18 +51,18 @@ impl EventCount {
     }
 
     /// Begins a notification, by a load of the count.
-    fn begin(&self) -> (EventCall, u64)
+    fn begin(&self) -> (SeatedEventCall, u64)
         ensures events { result.0.events ≡ self.now }
         ensures none { result.1 ≡ 0 → result.0.stage ≡ FoundNone }
         ensures some { result.1 ≢ 0 → result.0.stage ≡ Owes result.1 }
     {
         let (waits, seat) = self.table.shared.load_new_seat::<Begin>(COUNT);
-        (EventCall { seat }, waits)
+        (SeatedEventCall { seat }, waits)
     }
 
     /// Ends the epoch, unless another notification did since the load. Either way this one owes its wake-up: the other may
     /// wake one thread alone.
-    fn end_epoch(&self, call: &mut EventCall, waits: u64, all: bool) -> OwedWake
+    fn end_epoch(&self, call: &mut SeatedEventCall, waits: u64, all: bool) -> OwedWake
         requires events { call.old.events ≡ self.now }
         requires owes { call.old.stage ≡ Owes waits }
         ensures call { call.new ≡ record call.old { stage = OwesWake waits (reached_of call.new.stage) } }
@@ -71,7 +71,7 @@ impl EventCount {
         let shared = &self.table.shared;
         let epoch = shared.load::<NoteEpoch>(&mut call.seat, EPOCH);
         if epoch < LAST_EPOCH {
-            shared.compare_exchange::<EndEpoch>(&mut call.seat, EPOCH, epoch, epoch + 1);
+            shared.compare_exchange::<EndEventEpoch>(&mut call.seat, EPOCH, epoch, epoch + 1);
         }
         OwedWake::new(EPOCH, if all { Whom::All } else { Whom::One })
     }

@@ -1,12 +1,12 @@
 //! A registered wait.
-use crate::sleepers::call::EventCall;
+use crate::sleepers::call::SeatedEventCall;
 use std::marker::Model;
 
 /// A registered wait: notifications that begin from now on end its sleep. Contracts see it as a `Call`.
 ///
 /// It cannot be dropped: `sleep`, `sleep_for` or `leave` ends it.
 pub struct Registered {
-    pub(crate) call: EventCall,
+    pub(crate) call: SeatedEventCall,
     pub(crate) epoch: u64,
 }
 

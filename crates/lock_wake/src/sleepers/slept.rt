@@ -3,7 +3,7 @@ ghost use Rattle.std.specs.Prelude.{◌≡◌, Option, option_map, Bool};
 ghost use Rattle.std.specs.Time.{instant_nanos};
 ghost use Rattle.lock_wake.specs.declared.sleepers.stage.CallStage.TheVariants.{Away};
 
-use crate::sleepers::call::EventCall;
+use crate::sleepers::call::SeatedEventCall;
 use crate::sleepers::stage::CallStage;
 use atomic_table::Seat;
 use std::marker::Model;
@@ -32,13 +32,13 @@ impl Model for Slept {
 }
 
 impl Slept {
-    pub(crate) fn new(call: EventCall, deadline: Option<Instant>, timed_out: bool) -> Slept
+    pub(crate) fn new(call: SeatedEventCall, deadline: Option<Instant>, timed_out: bool) -> Slept
         requires { call.stage ≡ Away }
         ensures wait { (result.events ≡ call.events) × (result.number ≡ call.number) }
         ensures deadline { result.deadline ≡ option_map instant_nanos deadline }
         ensures timed_out { result.timed_out ≡ timed_out }
     {
-        let EventCall { seat } = call;
+        let SeatedEventCall { seat } = call;
         Slept {
             seat,
             deadline,

@@ -6,7 +6,7 @@ ghost use Rattle.lock_wake.specs.EventCounts.{count_of};
 
 use crate::deadline::time_left;
 use crate::plays::{CloseCount, CountIn, CountOut, RestartEpochs};
-use crate::sleepers::call::EventCall;
+use crate::sleepers::call::SeatedEventCall;
 use crate::sleepers::event_count::{COUNT, EPOCH, EventCount};
 use crate::sleepers::plays::{Arrive, Register};
 use crate::sleepers::registered::Registered;
@@ -26,7 +26,7 @@ impl EventCount {
         ensures { result.events ≡ self.now }
     {
         let (mut count, seat) = self.table.shared.load_new_seat::<Arrive>(COUNT);
-        let mut call = EventCall { seat };
+        let mut call = SeatedEventCall { seat };
         for _ in rt.forever() {
             let found = self.count_in(&mut call, count);
             if found == count {
@@ -105,7 +105,7 @@ impl EventCount {
     }
 
     /// Takes a registered wait out of the count.
-    fn count_away(&self, registered: Registered) -> EventCall
+    fn count_away(&self, registered: Registered) -> SeatedEventCall
         requires { registered.events ≡ self.now }
         ensures wait { (result.events ≡ self.now) × (result.number ≡ registered.number) }
         ensures away { result.stage ≡ Away }
@@ -117,7 +117,7 @@ impl EventCount {
     }
 
     /// Counts the wait by one exchange, unless the count changed or is full. Returns the count that it found.
-    fn count_in(&self, call: &mut EventCall, count: u64) -> u64
+    fn count_in(&self, call: &mut SeatedEventCall, count: u64) -> u64
         requires events { call.old.events ≡ self.now }
         requires away { call.old.stage ≡ Away }
         ensures counted { result ≡ count → call.new ≡ record call.old { stage = Counted } }
@@ -132,7 +132,7 @@ impl EventCount {
     }
 
     /// Loads the epoch, which registers a counted wait.
-    fn watch(&self, mut call: EventCall) -> Registered
+    fn watch(&self, mut call: SeatedEventCall) -> Registered
         requires events { call.events ≡ self.now }
         requires counted { call.stage ≡ Counted }
         ensures { result.events ≡ self.now }
@@ -141,7 +141,7 @@ impl EventCount {
         Registered { call, epoch }
     }
 
-    fn count_out(&self, call: &mut EventCall)
+    fn count_out(&self, call: &mut SeatedEventCall)
         requires events { call.old.events ≡ self.now }
         requires counted { count_of call.old.stage ≡ 1 }
         ensures { call.new ≡ record call.old { stage = Away } }
@@ -152,7 +152,7 @@ impl EventCount {
     }
 
     /// Begins the epochs anew if the epoch is the last and no wait is counted. It closes the count meanwhile.
-    fn restart_if_last(&self, call: &mut EventCall)
+    fn restart_if_last(&self, call: &mut SeatedEventCall)
         requires events { call.old.events ≡ self.now }
         requires away { call.old.stage ≡ Away }
         ensures { call.new ≡ call.old }

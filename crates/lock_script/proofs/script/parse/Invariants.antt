@@ -8,11 +8,11 @@ use Rattle.lock_script.proofs.script.parse.Given as goal
 
 abbrev pub invariant-loop-rest : goal.invariant-loop-rest
 invariant-loop-rest g l = record {
-  lines : g.M.Line.fields l.maker ∷ (map g.C.Line.fields l.calls.items ++ map fields_of (lines_of (bytes_of l.rest))) ≡ map fields_of (lines_of l.bytes);
+  lines : g.M.ScriptLine.fields l.maker ∷ (map g.C.ScriptLine.fields l.calls.items ++ map fields_of (lines_of (bytes_of l.rest))) ≡ map fields_of (lines_of l.bytes);
   count : vec_len l.calls + (1 + length (lines_of (bytes_of l.rest))) ≡ length (lines_of l.bytes);
   next : l.number ≡ vec_len l.calls + 2;
-  good : AllByRecursion (IsLine g.C.Line.makes) (lines_of (bytes_of l.rest)) → AreLines g.M.Line.makes g.C.Line.makes (lines_of l.bytes);
-  first : (bad : ℕ) → IsFirstOther g.C.Line.makes (lines_of (bytes_of l.rest)) l.number bad → IsFirstBad g.M.Line.makes g.C.Line.makes (lines_of l.bytes) bad;
+  good : AllByRecursion (IsLine g.C.ScriptLine.makes) (lines_of (bytes_of l.rest)) → AreLines g.M.ScriptLine.makes g.C.ScriptLine.makes (lines_of l.bytes);
+  first : (bad : ℕ) → IsFirstOther g.C.ScriptLine.makes (lines_of (bytes_of l.rest)) l.number bad → IsFirstBad g.M.ScriptLine.makes g.C.ScriptLine.makes (lines_of l.bytes) bad;
 }
 
 abbrev pub decreases-loop-rest : goal.decreases-loop-rest

@@ -1,6 +1,6 @@
 use Rattle.std.proofs.Common.{refl}
 use Rattle.lock_script.proofs.LineFields.{change_of_call, fields_of-change}
-use Rattle.lock_script.proofs.world_call.WorldCallLine.read.Goals as goal
+use Rattle.lock_script.proofs.world_call.WorldCallScriptLine.read.Goals as goal
 
 pub returns-clause-some : goal.returns-clause-some
 returns-clause-some c =
