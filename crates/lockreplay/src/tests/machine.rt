@@ -6,12 +6,15 @@ use std::rt::Env;
 use std::test::Fail;
 
 /// The words after the program's name, and the machine that they choose.
-const CHOICES: [(&[&[u8]], Option<Which>); 8] = [
+const CHOICES: [(&[&[u8]], Option<Which>); 11] = [
     (&[b"table"], Some(Which::Table)),
     (&[b"word"], Some(Which::Word)),
     (&[b"steps"], Some(Which::Steps)),
     (&[], None),
     (&[b"Table"], None),
+    (&[b"tables"], None),
+    (&[b""], None),
+    (&[b"table", b"table"], None),
     (&[b"table", b"word"], None),
     (&[b"\xff"], None),
     (&[b"table", b"\xff"], None),

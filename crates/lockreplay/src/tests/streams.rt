@@ -7,7 +7,7 @@ use std::rt::Env;
 use std::test::Fail;
 
 /// Fails with this kind once, at one of its calls.
-#[derive(Drop)]
+#[derive(Clone, Copy)]
 struct Fails {
     calls: u64,
     at: u64,
@@ -83,21 +83,43 @@ fn never() -> Fails {
     failing(u64::MAX, ErrorKind::TimedOut)
 }
 
-/// What a replay of this script told, with the writer, of at most so many bytes a write, that it wrote to.
-fn replayed<R: Read>(
+/// Replays a script that is read at most `most` bytes a call, and returns what the writer, of at most `width` bytes a call,
+/// was asked. The replay tells this and writes this.
+fn check(
     alloc: Global,
-    reader: &mut R,
-    fails: Fails,
-    most: usize,
-) -> (Result<(), ReplayFault>, Narrow) {
-    let mut writer = Narrow {
-        fails,
+    (left, reads, most): (&[u8], Fails, usize),
+    (writes, width): (Fails, usize),
+    wanted: Result<(), ReplayFault>,
+    kept: &[u8],
+) -> Result<Vec<Asked>, Fail> {
+    let mut reader = Slow {
+        fails: reads,
+        left,
         most,
+    };
+    let mut writer = Narrow {
+        fails: writes,
+        most: width,
         asked: Vec::new(alloc),
         kept: Vec::new(alloc),
     };
-    let told = replay(alloc, Which::Table, reader, &mut writer);
-    (told, writer)
+    let told = replay(alloc, Which::Table, &mut reader, &mut writer);
+    if told != wanted {
+        return Err(Fail::new("told otherwise"));
+    }
+    if writer.kept.as_slice() != kept {
+        return Err(Fail::new("written otherwise"));
+    }
+    Ok(writer.asked)
+}
+
+/// The writer was asked this.
+fn check_asked(asked: Vec<Asked>, wanted: &[Asked]) -> Result<(), Fail> {
+    if asked.as_slice() == wanted {
+        Ok(())
+    } else {
+        Err(Fail::new("asked otherwise"))
+    }
 }
 
 /// Of 38 bytes.
@@ -105,23 +127,16 @@ const SCRIPT: &[u8] = b"mutex 4 0 0\nlock 1\npark 1 1\nis_locked\n";
 
 const ANSWERS: &[u8] = b"ok\nguard 1\nok\nno\n";
 
-#[test]
-fn a_failing_reader_is_told(rt: HostRuntime) -> Result<(), Fail> {
-    for at in 0..5 {
-        let mut reader = Slow {
-            fails: failing(at, ErrorKind::TimedOut),
-            left: SCRIPT,
-            most: 10,
-        };
-        let (told, writer) = replayed(rt.alloc(), &mut reader, never(), 4);
-        assert_eq!(rt; told, Err(ReplayFault::InputFailed), "at {at}");
-        assert!(rt; writer.asked.is_empty(), "at {at}");
-    }
-    Ok(())
+/// Nothing is written of a script that is not read to its end.
+fn check_failing_reader(alloc: Global, at: u64) -> Result<(), Fail> {
+    let reads = failing(at, ErrorKind::TimedOut);
+    let wanted = Err(ReplayFault::InputFailed);
+    let asked = check(alloc, (SCRIPT, reads, 10), (never(), 4), wanted, b"")?;
+    check_asked(asked, &[])
 }
 
-#[test]
-fn a_writer_that_fails_once_has_a_beginning(rt: HostRuntime) -> Result<(), Fail> {
+/// A writer that fails once has a beginning of the answers.
+fn check_failing_writer(alloc: Global, at: u64) -> Result<(), Fail> {
     let answers = b"ok\nguard 1\n";
     let calls = [
         Asked::Write(11),
@@ -129,129 +144,85 @@ fn a_writer_that_fails_once_has_a_beginning(rt: HostRuntime) -> Result<(), Fail>
         Asked::Write(3),
         Asked::Flush,
     ];
-    for at in 0..5 {
-        let mut script: &[u8] = b"mutex 4 0 0\nlock 1\n";
-        let (told, writer) = replayed(rt.alloc(), &mut script, failing(at, ErrorKind::TimedOut), 4);
-        let wanted = if at == 4 {
-            Ok(())
-        } else {
-            Err(ReplayFault::OutputFailed)
-        };
-        assert_eq!(rt; told, wanted, "at {at}");
-        let made = (at as usize + 1).min(calls.len());
-        assert_eq!(rt; writer.asked.as_slice(), &calls[..made], "at {at}");
-        let kept = (4 * at as usize).min(answers.len());
-        assert_eq!(rt; writer.kept.as_slice(), &answers[..kept], "at {at}");
-    }
-    Ok(())
-}
-
-#[test]
-fn interrupted_calls_are_made_again(rt: HostRuntime) -> Result<(), Fail> {
-    for at in 0..3 {
-        let mut reader = Slow {
-            fails: failing(at, ErrorKind::Interrupted),
-            left: SCRIPT,
-            most: 10,
-        };
-        let (told, writer) = replayed(
-            rt.alloc(),
-            &mut reader,
-            failing(at, ErrorKind::Interrupted),
-            4,
-        );
-        assert_eq!(rt; told, Ok(()), "at {at}");
-        assert_eq!(rt; writer.kept.as_slice(), ANSWERS, "at {at}");
-    }
-    Ok(())
-}
-
-#[test]
-fn a_byte_at_a_time_is_read_and_written(rt: HostRuntime) -> Result<(), Fail> {
-    let mut reader = Slow {
-        fails: never(),
-        left: SCRIPT,
-        most: 1,
+    let wanted = if at == 4 {
+        Ok(())
+    } else {
+        Err(ReplayFault::OutputFailed)
     };
-    let (told, writer) = replayed(rt.alloc(), &mut reader, never(), 1);
-    assert_eq!(rt; told, Ok(()));
-    assert_eq!(rt; writer.kept.as_slice(), ANSWERS);
-    assert_eq!(rt; writer.asked.len(), ANSWERS.len() + 1);
+    let kept = (at as usize).saturating_mul(4).min(answers.len());
+    let asked = check(
+        alloc,
+        (b"mutex 4 0 0\nlock 1\n", never(), 64),
+        (failing(at, ErrorKind::TimedOut), 4),
+        wanted,
+        &answers[..kept],
+    )?;
+    let made = (at as usize).saturating_add(1).min(calls.len());
+    check_asked(asked, &calls[..made])
+}
+
+/// Interrupted calls are made again.
+fn check_interrupted(alloc: Global, at: u64) -> Result<(), Fail> {
+    let fails = failing(at, ErrorKind::Interrupted);
+    check(alloc, (SCRIPT, fails, 10), (fails, 4), Ok(()), ANSWERS)?;
     Ok(())
 }
 
-#[test]
-fn a_bad_script_writes_nothing(rt: HostRuntime) -> Result<(), Fail> {
-    let mut script: &[u8] = b"mutex 4 0 0\nlock 1\nlock\n";
-    let (told, writer) = replayed(rt.alloc(), &mut script, never(), 4);
-    assert_eq!(rt; told, Err(ReplayFault::BadLine(3)));
-    assert!(rt; writer.asked.is_empty());
-    Ok(())
-}
-
-#[test]
-fn a_script_is_read_to_the_first_byte_past_the_limit(rt: HostRuntime) -> Result<(), Fail> {
-    assert_eq!(rt; SCRIPT_LIMIT, 1_048_576);
-    for (length, want, left) in [
-        (1_048_576, ReplayFault::BadLine(1), 0),
-        (1_048_577, ReplayFault::TooLong, 0),
-        (1_048_677, ReplayFault::TooLong, 100),
-    ] {
-        let script = vec![in rt.alloc(); b'x'; length]?;
-        let mut reader = script.as_slice();
-        let (told, writer) = replayed(rt.alloc(), &mut reader, never(), 4);
-        assert_eq!(rt; told, Err(want), "of {length}");
-        assert_eq!(rt; reader.len(), left, "of {length}");
-        assert!(rt; writer.asked.is_empty(), "of {length}");
+/// A script can be read and its answers written a byte at a time.
+fn check_bytes(alloc: Global) -> Result<(), Fail> {
+    let asked = check(alloc, (SCRIPT, never(), 1), (never(), 1), Ok(()), ANSWERS)?;
+    if asked.len() == ANSWERS.len() + 1 {
+        Ok(())
+    } else {
+        Err(Fail::new("asked otherwise"))
     }
-    Ok(())
 }
 
-/// As many bytes as a script may have, of good lines.
-fn longest_script(alloc: Global) -> io::Result<String> {
-    let mut text = String::from_str(alloc, "mutex 1 1000 10\n")?;
-    for _ in 0..174_760u32 {
-        text.push_str("spent\n")?;
+/// Nothing is written of a script with a bad line.
+fn check_bad_script(alloc: Global) -> Result<(), Fail> {
+    let script = b"mutex 4 0 0\nlock 1\nlock\n";
+    let wanted = Err(ReplayFault::BadLine(3));
+    let asked = check(alloc, (script, never(), 64), (never(), 4), wanted, b"")?;
+    check_asked(asked, &[])
+}
+
+#[test]
+fn readers_and_writers_may_fail(rt: HostRuntime) -> Result<(), Fail> {
+    for at in 0..5 {
+        check_failing_reader(rt.alloc(), at)?;
+        check_failing_writer(rt.alloc(), at)?;
     }
-    Ok(text)
+    for at in 0..3 {
+        check_interrupted(rt.alloc(), at)?;
+    }
+    check_bytes(rt.alloc())?;
+    check_bad_script(rt.alloc())
 }
 
-#[test]
-fn lines_decide_up_to_the_limit_and_not_past_it(rt: HostRuntime) -> Result<(), Fail> {
-    let mut script = longest_script(rt.alloc())?;
-    assert_eq!(rt; script.len(), SCRIPT_LIMIT);
-    let mut answers = Vec::new(rt.alloc());
-    let told = replay(
-        rt.alloc(),
-        Which::Table,
-        &mut script.as_bytes(),
-        &mut answers,
-    );
-    assert_eq!(rt; told, Ok(()));
-    assert_eq!(rt; answers.len(), 3 + 174_760 * 8);
-    script.push('\n')?;
-    let mut answers = Vec::new(rt.alloc());
-    let told = replay(
-        rt.alloc(),
-        Which::Word,
-        &mut script.as_bytes(),
-        &mut answers,
-    );
-    assert_eq!(rt; told, Err(ReplayFault::TooLong));
-    assert!(rt; answers.is_empty());
-    Ok(())
+/// A script of this length, of one bad line, is refused, and so many bytes of it are not read.
+fn check_length(
+    alloc: Global,
+    length: usize,
+    wanted: ReplayFault,
+    left: usize,
+) -> Result<(), Fail> {
+    let script = vec![in alloc; b'x'; length]?;
+    let mut reader = script.as_slice();
+    let mut out = Vec::new(alloc);
+    let told = replay(alloc, Which::Table, &mut reader, &mut out);
+    if told == Err(wanted) && reader.len() == left && out.is_empty() {
+        return Ok(());
+    }
+    Err(Fail::new(length))
 }
 
+const _: () = prove!(SCRIPT_LIMIT == 1_048_576);
+
 #[test]
-fn the_last_line_may_lack_its_end(rt: HostRuntime) -> Result<(), Fail> {
-    let mut script: &[u8] = b"mutex 4 -9223372036854775808 0\nlock 1\nget 1 1 0";
-    let (told, writer) = replayed(rt.alloc(), &mut script, never(), 4);
-    assert_eq!(rt; told, Ok(()));
-    assert_eq!(rt;
-        writer.kept.as_slice(),
-        b"ok\nguard 1\nvalue -9223372036854775808\n".as_slice()
-    );
-    Ok(())
+fn scripts_are_read_to_the_first_byte_past_the_limit(rt: HostRuntime) -> Result<(), Fail> {
+    check_length(rt.alloc(), 1_048_576, ReplayFault::BadLine(1), 0)?;
+    check_length(rt.alloc(), 1_048_577, ReplayFault::TooLong, 0)?;
+    check_length(rt.alloc(), 1_048_677, ReplayFault::TooLong, 100)
 }
 
 /// The script has these answers, or lacks memory in a run that refuses some, and nothing is written.
@@ -279,12 +250,7 @@ fn refused_memory_replay(rt: HostRuntime) -> Result<(), Fail> {
     let script: &[u8] = b"rwlock 2 2 1 2\nread 1\nget 1 1 0\nspent\n";
     let answers: &[u8] = b"ok\nguard 1\nvalue 1\ncount 0\n";
     answered_or_refused(&rt, Which::Table, script, answers)?;
-    answered_or_refused(&rt, Which::Word, script, answers)
-}
-
-/// Also run with one allocation after another refused.
-#[test]
-fn refused_memory_replay_of_steps(rt: HostRuntime) -> Result<(), Fail> {
+    answered_or_refused(&rt, Which::Word, script, answers)?;
     let script: &[u8] = b"world 2 2\nload 1\nexchange 1 shared\nword\n";
     let answers: &[u8] = b"ok\nloaded 0\ndone\ncount 1\n";
     answered_or_refused(&rt, Which::Steps, script, answers)
