@@ -7,12 +7,12 @@ use Rattle.std.proofs.lemmas.Option.{slice_get_within, get_or_from_slice_get}
 use Rattle.lock_base.specs.declared.machine.reply.Reply.{Reply}
 use Rattle.lock_conform.specs.declared.comparison.Comparison.{Comparison}
 use Rattle.lock_conform.specs.declared.difference.Difference.{Difference}
-use Rattle.lock_conform.specs.declared.entry.Entry.{Entry}
+use Rattle.lock_conform.specs.declared.report_entry.ReportEntry.{ReportEntry}
 use Rattle.lock_conform.specs.Done.{lines_done}
 use Rattle.lock_conform.specs.Entries.{replies_of, IsSilentIfRefused}
 
 -- so they are with the next reply
-pub one_more : (entries : List Entry) (replies : List (Reply ℤ)) (entry : Entry)
+pub one_more : (entries : List ReportEntry) (replies : List (Reply ℤ)) (entry : ReportEntry)
     → replies_of entries ≡ take (length entries) replies
     → slice_get replies (length entries) ≡ Some entry.reply
     → replies_of (entries ++ entry ∷ []) ≡ take (length (entries ++ entry ∷ [])) replies
@@ -26,16 +26,16 @@ one_more entries replies entry first next =
     ) refl
 
 -- if as many are answered as there are replies, they are all the replies
-pub all_answered : (entries : List Entry) (replies : List (Reply ℤ))
+pub all_answered : (entries : List ReportEntry) (replies : List (Reply ℤ))
     → replies_of entries ≡ take (length entries) replies → length replies ≤ length entries
     → replies_of entries ≡ replies
 all_answered entries replies first enough = first ∙ take_all (length entries) replies enough
 
-pub all_silent : (entries : List Entry) → All IsSilentIfRefused entries
+pub all_silent : (entries : List ReportEntry) → All IsSilentIfRefused entries
 all_silent entries k d within = (get_or entries k d).silent
 
 -- they are with the next reply, if there is memory for it
-pub one_more_if : (is_pushed : Bool) (entries new : List Entry) (replies : List (Reply ℤ)) (entry : Entry)
+pub one_more_if : (is_pushed : Bool) (entries new : List ReportEntry) (replies : List (Reply ℤ)) (entry : ReportEntry)
     → new ≡ (if is_pushed then entries ++ entry ∷ [] else entries)
     → replies_of entries ≡ take (length entries) replies
     → slice_get replies (length entries) ≡ Some entry.reply

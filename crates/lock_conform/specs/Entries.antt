@@ -1,13 +1,13 @@
 -- The entries of a report.
 use Rattle.std.specs.Prelude.{◌≡◌, ℤ, List, [], map}
 use Rattle.lock_base.specs.declared.machine.reply.Reply.{Reply}
-use Rattle.lock_conform.specs.declared.entry.Entry.{Entry}
+use Rattle.lock_conform.specs.declared.report_entry.ReportEntry.{ReportEntry}
 use Rattle.lock_conform.specs.Refusals.{IsOutright}
 
 -- the replies of the entries
-abbrev pub replies_of : List Entry → List (Reply ℤ)
+abbrev pub replies_of : List ReportEntry → List (Reply ℤ)
 replies_of entries = map (λ entry. entry.reply) entries
 
 -- an entry of a refused call has no raw calls, unless the call would block
-abbrev pub IsSilentIfRefused : Entry → Type 0
+abbrev pub IsSilentIfRefused : ReportEntry → Type 0
 IsSilentIfRefused entry = IsOutright entry.reply → entry.raw_calls.items ≡ []

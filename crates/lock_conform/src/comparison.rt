@@ -4,12 +4,12 @@ ghost use Rattle.lock_conform.specs.Differences.{IsAt};
 ghost use Rattle.lock_conform.specs.Entries.{replies_of};
 
 use crate::difference::Difference;
-use crate::entry::Entry;
-use crate::line::Line;
 use crate::lines::Lines;
 use crate::report::Report;
+use crate::report_entry::ReportEntry;
+use crate::script_line::ScriptLine;
 use lock_base::machine::Reply;
-use lock_recorder::CallLog;
+use lock_test_support::raw_lock::CallLog;
 use std::alloc::{AllocError, Global};
 
 /// The lines of a script, and the answers of a lock so far: the first replies of the `Desk`, up to a difference.
@@ -17,7 +17,7 @@ use std::alloc::{AllocError, Global};
 pub struct Comparison {
     alloc: Global,
     lines: Lines,
-    entries: Vec<Entry>,
+    entries: Vec<ReportEntry>,
     difference: Option<Difference>,
     log: CallLog,
     /// A party announced itself. The shared locks have no such call, so no later call is made on the lock.
@@ -66,7 +66,7 @@ impl Comparison {
     }
 
     /// Returns the next line.
-    pub fn next(&self) -> Line
+    pub fn next(&self) -> ScriptLine
         requires { lines_done self.now < length self.now.lines.replies.items }
     {
         self.lines.line(self.entries.len())
@@ -78,7 +78,7 @@ impl Comparison {
     }
 
     /// Returns whether the line is made on the lock. After an announcement, which the shared locks lack, no line is.
-    pub fn makes(&self, line: Line) -> bool
+    pub fn makes(&self, line: ScriptLine) -> bool
         ensures { IsTrue result → ¬ IsOutright line.wanted }
     {
         line.is_made() && !self.is_barred
@@ -113,7 +113,7 @@ impl Comparison {
         } else {
             Vec::new(self.alloc)
         };
-        let entry = Entry {
+        let entry = ReportEntry {
             reply: line.wanted,
             raw_calls,
         };

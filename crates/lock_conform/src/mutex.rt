@@ -4,7 +4,7 @@ ghost use Rattle.lock_script.specs.Session.{HasLimits, replies_to};
 ghost use Rattle.lock_conform.specs.Makers.{IsRunFault, kind_of};
 ghost use Rattle.lock_conform.specs.Reports.{IsReport};
 
-use crate::driven::{After, Driven, call_any, unlocked};
+use crate::driven::{After, Driven, ScriptGuard};
 use crate::manner::Manner;
 use crate::operation::{ask, change};
 use crate::parts::{RunParts, run_parts, shared};
@@ -12,10 +12,11 @@ use crate::report::Report;
 use crate::script_run::run_on;
 use lock_base::machine::{Call, Form, Kind, PartyId, Reply, Want, Way};
 use lock_base::raw::Fault;
+use lock_guard::guard::{AcquireFair, ValueGuard};
 use lock_guard::raw::{RawMutexFair, RawMutexTimed};
-use lock_mutex::{ArcMutexGuard, Mutex, MutexGuard};
-use lock_recorder::Deadline;
+use lock_mutex::{ArcMutexGuard, Guard, Mutex, MutexGuard};
 use lock_script::{DeskScript, Pair, PairOp};
+use lock_test_support::raw_lock::Deadline;
 use std::alloc::Global;
 use std::sync::Arc;
 
@@ -74,21 +75,46 @@ where
         tried.ok_or(Fault::WouldWait)
     }
 
-    fn unlocked<U, F: FnOnce() -> U>(guard: Self::Guard, way: Way, f: F) -> After<Self::Guard, U> {
-        unlocked!(MutexGuard, guard, way, f)
-    }
-
-    fn call_guard(guard: Self::Guard, call: Call<PairOp>) -> After<Self::Guard, Reply<i64>> {
+    fn change_guard(guard: Self::Guard, call: Call<PairOp>) -> After<Self::Guard, Reply<i64>> {
         let mut guard = guard;
-        if let Call::Change(_, _, operation) = call {
-            let reply = change(operation, &mut guard);
-            return (Some(guard), reply);
-        }
-        call_any!(borrowing MutexGuard, guard, call, operation => ask(operation, &guard))
+        let reply = match call {
+            Call::Change(_, _, operation) => change(operation, &mut guard),
+            _ => Reply::Refused(Fault::WrongKind),
+        };
+        (Some(guard), reply)
     }
 
     fn call_lock(&self, call: Call<PairOp>) -> Reply<i64> {
         call_mutex(self, call)
+    }
+}
+
+impl<L: AcquireFair> ScriptGuard for Guard<L>
+where
+    L::Shown: ValueGuard<Value = Pair>,
+{
+    fn release(self, way: Way) {
+        match way {
+            Way::Plain | Way::IntoArc => drop(self),
+            Way::Fair | Way::IntoArcFair => Guard::unlock_fair(self),
+        }
+    }
+
+    fn bumped(mut self) -> Self {
+        Guard::bump(&mut self);
+        self
+    }
+
+    fn asked(&self, operation: PairOp) -> Reply<i64> {
+        ask(operation, self)
+    }
+
+    fn unlocked<U, F: FnOnce() -> U>(mut self, way: Way, f: F) -> After<Self, U> {
+        let answer = match way {
+            Way::Plain | Way::IntoArc => Guard::unlocked(&mut self, f),
+            Way::Fair | Way::IntoArcFair => Guard::unlocked_fair(&mut self, f),
+        };
+        (Some(self), answer)
     }
 }
 
@@ -108,24 +134,47 @@ where
         tried.ok_or(Fault::WouldWait)
     }
 
-    fn unlocked<U, F: FnOnce() -> U>(guard: Self::Guard, way: Way, f: F) -> After<Self::Guard, U> {
-        unlocked!(ArcMutexGuard, guard, way, f)
-    }
-
-    fn call_guard(guard: Self::Guard, call: Call<PairOp>) -> After<Self::Guard, Reply<i64>> {
+    fn change_guard(guard: Self::Guard, call: Call<PairOp>) -> After<Self::Guard, Reply<i64>> {
         let mut guard = guard;
-        if let Call::Change(_, _, operation) = call {
-            let put = |pair: &mut Pair| change(operation, pair);
-            let reply = ArcMutexGuard::with_mut(&mut guard, put);
-            return (Some(guard), reply);
-        }
-        call_any!(owning ArcMutexGuard, guard, call, operation => {
-            ArcMutexGuard::with(&guard, |pair: &Pair| ask(operation, pair))
-        })
+        let reply = match call {
+            Call::Change(_, _, operation) => {
+                ArcMutexGuard::with_mut(&mut guard, |pair: &mut Pair| change(operation, pair))
+            }
+            _ => Reply::Refused(Fault::WrongKind),
+        };
+        (Some(guard), reply)
     }
 
     fn call_lock(&self, call: Call<PairOp>) -> Reply<i64> {
         call_mutex(self, call)
+    }
+}
+
+impl<R: RawMutexFair + Drop> ScriptGuard for ArcMutexGuard<R, Pair> {
+    fn release(self, way: Way) {
+        match way {
+            Way::Plain => drop(self),
+            Way::Fair => ArcMutexGuard::unlock_fair(self),
+            Way::IntoArc => drop(ArcMutexGuard::into_arc(self)),
+            Way::IntoArcFair => drop(ArcMutexGuard::into_arc_fair(self)),
+        }
+    }
+
+    fn bumped(mut self) -> Self {
+        ArcMutexGuard::bump(&mut self);
+        self
+    }
+
+    fn asked(&self, operation: PairOp) -> Reply<i64> {
+        ArcMutexGuard::with(self, |pair: &Pair| ask(operation, pair))
+    }
+
+    fn unlocked<U, F: FnOnce() -> U>(mut self, way: Way, f: F) -> After<Self, U> {
+        let answer = match way {
+            Way::Plain | Way::IntoArc => ArcMutexGuard::unlocked(&mut self, f),
+            Way::Fair | Way::IntoArcFair => ArcMutexGuard::unlocked_fair(&mut self, f),
+        };
+        (Some(self), answer)
     }
 }
 

@@ -6,8 +6,8 @@ ghost use Rattle.lock_conform.specs.Makers.{IsRunFault, kind_of};
 use crate::lines::Lines;
 use lock_base::machine::Kind;
 use lock_base::raw::Fault;
-use lock_recorder::{CallLog, Recorder};
 use lock_script::{DeskScript, Maker, Pair};
+use lock_test_support::raw_lock::{CallLog, Recorder};
 use std::alloc::Global;
 use std::sync::Arc;
 

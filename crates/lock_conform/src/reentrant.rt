@@ -1,10 +1,10 @@
 //! Scripts on a reentrant mutex.
-ghost use Rattle.std.specs.Prelude.{◌≡◌, ◌↔◌, IfOk, IfErr, IsOkUnless};
+ghost use Rattle.std.specs.Prelude.{◌≡◌, ◌↔◌, IfOk, IfErr, IsOkUnless, MatchResult};
 ghost use Rattle.lock_script.specs.Session.{HasLimits, replies_to};
 ghost use Rattle.lock_conform.specs.Makers.{IsRunFault, kind_of};
 ghost use Rattle.lock_conform.specs.Reports.{IsReport};
 
-use crate::driven::{After, Driven, call_any};
+use crate::driven::{After, Driven, ScriptGuard};
 use crate::manner::Manner;
 use crate::operation::ask;
 use crate::parts::{RunParts, run_parts, shared};
@@ -13,9 +13,9 @@ use crate::script_run::run_on;
 use lock_base::machine::{Call, Form, Kind, PartyId, Reply, Want, Way};
 use lock_base::raw::Fault;
 use lock_guard::raw::{RawMutexFair, RawMutexTimed};
-use lock_recorder::Deadline;
 use lock_remutex::{ArcReentrantMutexGuard, ReentrantMutex, ReentrantMutexGuard};
 use lock_script::{DeskScript, Pair, PairOp};
+use lock_test_support::raw_lock::Deadline;
 use std::alloc::Global;
 use std::sync::Arc;
 
@@ -59,21 +59,6 @@ where
     Ok(run_on(alloc, &lock, parts.log, parts.lines, manner.park_by)?)
 }
 
-/// Releases a level for the length of a closure. It gives the guard, unless no level was left for it, and the closure's
-/// answer.
-macro_rules! unlocked {
-    ($type:ident, $guard:expr, $way:expr, $f:expr) => {{
-        let back = match $way {
-            Way::Plain | Way::IntoArc => $type::unlocked($guard, $f),
-            Way::Fair | Way::IntoArcFair => $type::unlocked_fair($guard, $f),
-        };
-        match back {
-            Ok((guard, done)) => (Some(guard), done),
-            Err((_, done)) => (None, done),
-        }
-    }};
-}
-
 impl<'a, R> Driven for &'a ReentrantMutex<R, Pair>
 where
     R: RawMutexFair + RawMutexTimed<Duration = u64, Instant = u64>,
@@ -91,16 +76,38 @@ where
         tried.ok_or(Fault::WouldWait)
     }
 
-    fn unlocked<U, F: FnOnce() -> U>(guard: Self::Guard, way: Way, f: F) -> After<Self::Guard, U> {
-        unlocked!(ReentrantMutexGuard, guard, way, f)
-    }
-
-    fn call_guard(guard: Self::Guard, call: Call<PairOp>) -> After<Self::Guard, Reply<i64>> {
-        call_any!(borrowing ReentrantMutexGuard, guard, call, operation => ask(operation, &guard))
+    /// No guard has such a call.
+    fn change_guard(guard: Self::Guard, _call: Call<PairOp>) -> After<Self::Guard, Reply<i64>> {
+        (Some(guard), Reply::Refused(Fault::WrongKind))
     }
 
     fn call_lock(&self, call: Call<PairOp>) -> Reply<i64> {
         call_reentrant(self, call)
+    }
+}
+
+impl<R: RawMutexFair> ScriptGuard for ReentrantMutexGuard<'_, R, Pair> {
+    fn release(self, way: Way) {
+        match way {
+            Way::Plain | Way::IntoArc => drop(self),
+            Way::Fair | Way::IntoArcFair => ReentrantMutexGuard::unlock_fair(self),
+        }
+    }
+
+    fn bumped(mut self) -> Self {
+        ReentrantMutexGuard::bump(&mut self);
+        self
+    }
+
+    fn asked(&self, operation: PairOp) -> Reply<i64> {
+        ask(operation, self)
+    }
+
+    fn unlocked<U, F: FnOnce() -> U>(self, way: Way, f: F) -> After<Self, U> {
+        after_unlocked(match way {
+            Way::Plain | Way::IntoArc => ReentrantMutexGuard::unlocked(self, f),
+            Way::Fair | Way::IntoArcFair => ReentrantMutexGuard::unlocked_fair(self, f),
+        })
     }
 }
 
@@ -120,16 +127,50 @@ where
         tried.ok_or(Fault::WouldWait)
     }
 
-    fn unlocked<U, F: FnOnce() -> U>(guard: Self::Guard, way: Way, f: F) -> After<Self::Guard, U> {
-        unlocked!(ArcReentrantMutexGuard, guard, way, f)
-    }
-
-    fn call_guard(guard: Self::Guard, call: Call<PairOp>) -> After<Self::Guard, Reply<i64>> {
-        call_any!(owning ArcReentrantMutexGuard, guard, call, operation => ask(operation, &guard))
+    /// No guard has such a call.
+    fn change_guard(guard: Self::Guard, _call: Call<PairOp>) -> After<Self::Guard, Reply<i64>> {
+        (Some(guard), Reply::Refused(Fault::WrongKind))
     }
 
     fn call_lock(&self, call: Call<PairOp>) -> Reply<i64> {
         call_reentrant(self, call)
+    }
+}
+
+impl<R: RawMutexFair + Drop> ScriptGuard for ArcReentrantMutexGuard<R, Pair> {
+    fn release(self, way: Way) {
+        match way {
+            Way::Plain => drop(self),
+            Way::Fair => ArcReentrantMutexGuard::unlock_fair(self),
+            Way::IntoArc => drop(ArcReentrantMutexGuard::into_arc(self)),
+            Way::IntoArcFair => drop(ArcReentrantMutexGuard::into_arc_fair(self)),
+        }
+    }
+
+    fn bumped(mut self) -> Self {
+        ArcReentrantMutexGuard::bump(&mut self);
+        self
+    }
+
+    fn asked(&self, operation: PairOp) -> Reply<i64> {
+        ask(operation, self)
+    }
+
+    fn unlocked<U, F: FnOnce() -> U>(self, way: Way, f: F) -> After<Self, U> {
+        after_unlocked(match way {
+            Way::Plain | Way::IntoArc => ArcReentrantMutexGuard::unlocked(self, f),
+            Way::Fair | Way::IntoArcFair => ArcReentrantMutexGuard::unlocked_fair(self, f),
+        })
+    }
+}
+
+/// Returns the guard, unless no level was left for it, and the closure's answer.
+fn after_unlocked<G, U>(back: Result<(G, U), (Fault, U)>) -> After<G, U>
+    ensures { MatchResult back (λ kept. result.1 ≡ kept.1) (λ refused. result.1 ≡ refused.1) }
+{
+    match back {
+        Ok((guard, answer)) => (Some(guard), answer),
+        Err((_, answer)) => (None, answer),
     }
 }
 

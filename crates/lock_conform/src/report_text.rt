@@ -3,11 +3,11 @@ ghost use Rattle.std.specs.Prelude.{◌≡◌, ◌++◌, IfOk, OnOk, string_byte
 ghost use Rattle.std.specs.List.{flat_map};
 ghost use Rattle.lock_conform.specs.Texts.{entry_text, raw_call_lines, report_text};
 
-use crate::entry::Entry;
 use crate::report::Report;
+use crate::report_entry::ReportEntry;
 use lock_base::machine::Reply;
-use lock_recorder::RawCall;
 use lock_script::{Answer, write_answer};
+use lock_test_support::raw_lock::RawCall;
 use std::alloc::{AllocError, Global};
 
 /// Returns the answers, a line each, as `lockreplay` prints them. If `prints_calls` is set, a line for each raw call
@@ -27,7 +27,11 @@ pub fn write_report(
 }
 
 /// Appends the answers, each with the raw calls of its line.
-fn write_entries(text: &mut String, entries: &[Entry], prints_calls: bool) -> Result<(), AllocError>
+fn write_entries(
+    text: &mut String,
+    entries: &[ReportEntry],
+    prints_calls: bool,
+) -> Result<(), AllocError>
     ensures { OnOk result (string_bytes text.new
         ≡ string_bytes text.old ++ flat_map (entry_text prints_calls) entries.now) }
 {

@@ -4,25 +4,26 @@ ghost use Rattle.lock_script.specs.Session.{HasLimits, replies_to};
 ghost use Rattle.lock_conform.specs.Makers.{IsRunFault, kind_of};
 ghost use Rattle.lock_conform.specs.Reports.{IsReport};
 
-use crate::driven::{After, Driven, call_any, unlocked};
+use crate::driven::{After, Driven, ScriptGuard};
 use crate::manner::Manner;
 use crate::operation::{ask, change};
 use crate::parts::{RunParts, run_parts, shared};
 use crate::report::Report;
-use crate::rw_guard::{RwGuard, call_by_mode, in_each_mode};
+use crate::rw_guard::{AnyGuard, RwDriven, acquire_in, change_in_mode};
 use crate::script_run::run_on;
 use lock_base::machine::{Call, Form, Kind, PartyId, Reply, Want, Way};
 use lock_base::raw::Fault;
+use lock_guard::guard::{AcquireFair, ValueGuard};
 use lock_guard::raw::{
     RawRwLock, RawRwLockUpgradeDowngrade, RawRwLockUpgradeFair, RawRwLockUpgradeTimed,
 };
-use lock_recorder::Deadline;
 use lock_rwlock::{
-    ArcRwLockGuard, ArcRwLockReadGuard, ArcRwLockUpgradableReadGuard, ArcRwLockWriteGuard, RwLock,
-    RwLockArc, RwLockArcTimed, RwLockArcUpgrade, RwLockArcUpgradeTimed, RwLockGuard,
-    RwLockReadGuard, RwLockUpgradableReadGuard, RwLockWriteGuard,
+    ArcRwLockGuard, ArcRwLockReadGuard, ArcRwLockUpgradableReadGuard, ArcRwLockWriteGuard,
+    FairMode, RwLock, RwLockArc, RwLockArcTimed, RwLockArcUpgrade, RwLockArcUpgradeTimed,
+    RwLockGuard, RwLockReadGuard, RwLockUpgradableReadGuard, RwLockWriteGuard,
 };
 use lock_script::{DeskScript, Pair, PairOp};
+use lock_test_support::raw_lock::Deadline;
 use std::alloc::Global;
 use std::sync::Arc;
 
@@ -73,51 +74,131 @@ where
         + RawRwLockUpgradeDowngrade
         + RawRwLockUpgradeTimed<Duration = u64, Instant = u64>,
 {
-    type Guard = RwGuard<
-        RwLockReadGuard<'a, R, Pair>,
-        RwLockWriteGuard<'a, R, Pair>,
-        RwLockUpgradableReadGuard<'a, R, Pair>,
-    >;
+    type Guard = AnyGuard<Self>;
 
     fn acquire(&self, want: Want, form: Form, _party: PartyId) -> Result<Self::Guard, Fault> {
-        let lock: &'a RwLock<R, Pair> = self;
-        Ok(match want {
-            Want::Lock => return Err(Fault::WrongKind),
-            Want::Read => RwGuard::Reader(match form {
-                Form::Block => lock.read(),
-                Form::Try => got(lock.try_read())?,
-                Form::For => got(lock.try_read_for(0))?,
-                Form::Until => got(lock.try_read_until(0))?,
-            }),
-            Want::Write => RwGuard::Writer(match form {
-                Form::Block => lock.write(),
-                Form::Try => got(lock.try_write())?,
-                Form::For => got(lock.try_write_for(0))?,
-                Form::Until => got(lock.try_write_until(0))?,
-            }),
-            Want::UpgradableRead => RwGuard::Upgradable(match form {
-                Form::Block => lock.upgradable_read(),
-                Form::Try => got(lock.try_upgradable_read())?,
-                Form::For => got(lock.try_upgradable_read_for(0))?,
-                Form::Until => got(lock.try_upgradable_read_until(0))?,
-            }),
-        })
+        acquire_in(self, want, form)
     }
 
-    fn unlocked<U, F: FnOnce() -> U>(guard: Self::Guard, way: Way, f: F) -> After<Self::Guard, U> {
-        in_each_mode!(guard, guard => unlocked!(RwLockGuard, guard, way, f))
-    }
-
-    fn call_guard(guard: Self::Guard, call: Call<PairOp>) -> After<Self::Guard, Reply<i64>> {
-        call_by_mode!(
-            RwLockWriteGuard RwLockUpgradableReadGuard, guard, call, held,
-            operation => change(operation, &mut held),
-            call => call_any!(borrowing RwLockGuard, held, call, operation => ask(operation, &held))
-        )
+    fn change_guard(guard: Self::Guard, call: Call<PairOp>) -> After<Self::Guard, Reply<i64>> {
+        change_in_mode::<Self>(guard, call)
     }
 
     fn call_lock(&self, call: Call<PairOp>) -> Reply<i64> {
         call_rwlock(self, call)
+    }
+}
+
+impl<'a, R> RwDriven for &'a RwLock<R, Pair>
+where
+    R: RawRwLockUpgradeFair
+        + RawRwLockUpgradeDowngrade
+        + RawRwLockUpgradeTimed<Duration = u64, Instant = u64>,
+{
+    type Reader = RwLockReadGuard<'a, R, Pair>;
+
+    type Writer = RwLockWriteGuard<'a, R, Pair>;
+
+    type Upgradable = RwLockUpgradableReadGuard<'a, R, Pair>;
+
+    fn read(&self, form: Form) -> Result<Self::Reader, Fault> {
+        let lock: &'a RwLock<R, Pair> = self;
+        got(match form {
+            Form::Block => Some(lock.read()),
+            Form::Try => lock.try_read(),
+            Form::For => lock.try_read_for(0),
+            Form::Until => lock.try_read_until(0),
+        })
+    }
+
+    fn write(&self, form: Form) -> Result<Self::Writer, Fault> {
+        let lock: &'a RwLock<R, Pair> = self;
+        got(match form {
+            Form::Block => Some(lock.write()),
+            Form::Try => lock.try_write(),
+            Form::For => lock.try_write_for(0),
+            Form::Until => lock.try_write_until(0),
+        })
+    }
+
+    fn upgradable_read(&self, form: Form) -> Result<Self::Upgradable, Fault> {
+        let lock: &'a RwLock<R, Pair> = self;
+        got(match form {
+            Form::Block => Some(lock.upgradable_read()),
+            Form::Try => lock.try_upgradable_read(),
+            Form::For => lock.try_upgradable_read_for(0),
+            Form::Until => lock.try_upgradable_read_until(0),
+        })
+    }
+
+    fn change(mut writer: Self::Writer, operation: PairOp) -> (Self::Writer, Reply<i64>) {
+        let reply = change(operation, &mut writer);
+        (writer, reply)
+    }
+
+    fn downgrade(writer: Self::Writer) -> Self::Reader {
+        RwLockWriteGuard::downgrade(writer)
+    }
+
+    fn downgrade_to_upgradable(writer: Self::Writer) -> Self::Upgradable {
+        RwLockWriteGuard::downgrade_to_upgradable(writer)
+    }
+
+    fn downgrade_upgradable(guard: Self::Upgradable) -> Self::Reader {
+        RwLockUpgradableReadGuard::downgrade(guard)
+    }
+
+    fn upgrade(guard: Self::Upgradable, form: Form) -> Result<Self::Writer, Self::Upgradable> {
+        match form {
+            Form::Block => Ok(RwLockUpgradableReadGuard::upgrade(guard)),
+            Form::Try => RwLockUpgradableReadGuard::try_upgrade(guard),
+            Form::For => RwLockUpgradableReadGuard::try_upgrade_for(guard, 0),
+            Form::Until => RwLockUpgradableReadGuard::try_upgrade_until(guard, 0),
+        }
+    }
+
+    fn with_upgraded(
+        mut guard: Self::Upgradable,
+        form: Form,
+        operation: PairOp,
+    ) -> (Self::Upgradable, Reply<i64>) {
+        let apply = |pair: &mut Pair| change(operation, pair);
+        let tried = match form {
+            Form::Block => Some(guard.with_upgraded(apply)),
+            Form::Try => guard.try_with_upgraded(apply),
+            Form::For => guard.try_with_upgraded_for(0, apply),
+            Form::Until => guard.try_with_upgraded_until(0, apply),
+        };
+        (guard, tried.unwrap_or(Reply::NoGuard))
+    }
+}
+
+impl<L: AcquireFair> ScriptGuard for RwLockGuard<L>
+where
+    L::Shown: ValueGuard<Value = Pair>,
+{
+    fn release(self, way: Way) {
+        match way {
+            Way::Plain | Way::IntoArc => drop(self),
+            Way::Fair | Way::IntoArcFair => RwLockGuard::unlock_fair(self),
+        }
+    }
+
+    fn bumped(mut self) -> Self {
+        RwLockGuard::bump(&mut self);
+        self
+    }
+
+    fn asked(&self, operation: PairOp) -> Reply<i64> {
+        ask(operation, self)
+    }
+
+    fn unlocked<U, F: FnOnce() -> U>(mut self, way: Way, f: F) -> After<Self, U> {
+        let answer = match way {
+            Way::Plain | Way::IntoArc => RwLockGuard::unlocked(&mut self, f),
+            Way::Fair | Way::IntoArcFair => RwLockGuard::unlocked_fair(&mut self, f),
+        };
+        (Some(self), answer)
     }
 }
 
@@ -128,52 +209,131 @@ where
         + RawRwLockUpgradeTimed<Duration = u64, Instant = u64>
         + Drop,
 {
-    type Guard = RwGuard<
-        ArcRwLockReadGuard<R, Pair>,
-        ArcRwLockWriteGuard<R, Pair>,
-        ArcRwLockUpgradableReadGuard<R, Pair>,
-    >;
+    type Guard = AnyGuard<Self>;
 
     fn acquire(&self, want: Want, form: Form, _party: PartyId) -> Result<Self::Guard, Fault> {
-        Ok(match want {
-            Want::Lock => return Err(Fault::WrongKind),
-            Want::Read => RwGuard::Reader(match form {
-                Form::Block => RwLock::read_arc(self)?,
-                Form::Try => got(RwLock::try_read_arc(self)?)?,
-                Form::For => got(RwLock::try_read_arc_for(self, 0)?)?,
-                Form::Until => got(RwLock::try_read_arc_until(self, 0)?)?,
-            }),
-            Want::Write => RwGuard::Writer(match form {
-                Form::Block => RwLock::write_arc(self)?,
-                Form::Try => got(RwLock::try_write_arc(self)?)?,
-                Form::For => got(RwLock::try_write_arc_for(self, 0)?)?,
-                Form::Until => got(RwLock::try_write_arc_until(self, 0)?)?,
-            }),
-            Want::UpgradableRead => RwGuard::Upgradable(match form {
-                Form::Block => RwLock::upgradable_read_arc(self)?,
-                Form::Try => got(RwLock::try_upgradable_read_arc(self)?)?,
-                Form::For => got(RwLock::try_upgradable_read_arc_for(self, 0)?)?,
-                Form::Until => got(RwLock::try_upgradable_read_arc_until(self, 0)?)?,
-            }),
-        })
+        acquire_in(self, want, form)
     }
 
-    fn unlocked<U, F: FnOnce() -> U>(guard: Self::Guard, way: Way, f: F) -> After<Self::Guard, U> {
-        in_each_mode!(guard, guard => unlocked!(ArcRwLockGuard, guard, way, f))
-    }
-
-    fn call_guard(guard: Self::Guard, call: Call<PairOp>) -> After<Self::Guard, Reply<i64>> {
-        call_by_mode!(
-            ArcRwLockWriteGuard ArcRwLockUpgradableReadGuard, guard, call, held,
-            operation => ArcRwLockGuard::with_mut(&mut held, |pair: &mut Pair| change(operation, pair)),
-            call => call_any!(owning ArcRwLockGuard, held, call, operation => {
-                ArcRwLockGuard::with(&held, |pair: &Pair| ask(operation, pair))
-            })
-        )
+    fn change_guard(guard: Self::Guard, call: Call<PairOp>) -> After<Self::Guard, Reply<i64>> {
+        change_in_mode::<Self>(guard, call)
     }
 
     fn call_lock(&self, call: Call<PairOp>) -> Reply<i64> {
         call_rwlock(self, call)
+    }
+}
+
+impl<R> RwDriven for Arc<RwLock<R, Pair>>
+where
+    R: RawRwLockUpgradeFair
+        + RawRwLockUpgradeDowngrade
+        + RawRwLockUpgradeTimed<Duration = u64, Instant = u64>
+        + Drop,
+{
+    type Reader = ArcRwLockReadGuard<R, Pair>;
+
+    type Writer = ArcRwLockWriteGuard<R, Pair>;
+
+    type Upgradable = ArcRwLockUpgradableReadGuard<R, Pair>;
+
+    fn read(&self, form: Form) -> Result<Self::Reader, Fault> {
+        got(match form {
+            Form::Block => Some(RwLock::read_arc(self)?),
+            Form::Try => RwLock::try_read_arc(self)?,
+            Form::For => RwLock::try_read_arc_for(self, 0)?,
+            Form::Until => RwLock::try_read_arc_until(self, 0)?,
+        })
+    }
+
+    fn write(&self, form: Form) -> Result<Self::Writer, Fault> {
+        got(match form {
+            Form::Block => Some(RwLock::write_arc(self)?),
+            Form::Try => RwLock::try_write_arc(self)?,
+            Form::For => RwLock::try_write_arc_for(self, 0)?,
+            Form::Until => RwLock::try_write_arc_until(self, 0)?,
+        })
+    }
+
+    fn upgradable_read(&self, form: Form) -> Result<Self::Upgradable, Fault> {
+        got(match form {
+            Form::Block => Some(RwLock::upgradable_read_arc(self)?),
+            Form::Try => RwLock::try_upgradable_read_arc(self)?,
+            Form::For => RwLock::try_upgradable_read_arc_for(self, 0)?,
+            Form::Until => RwLock::try_upgradable_read_arc_until(self, 0)?,
+        })
+    }
+
+    fn change(mut writer: Self::Writer, operation: PairOp) -> (Self::Writer, Reply<i64>) {
+        let reply = ArcRwLockGuard::with_mut(
+            &mut writer,
+            |pair: &mut Pair| change(operation, pair),
+        );
+        (writer, reply)
+    }
+
+    fn downgrade(writer: Self::Writer) -> Self::Reader {
+        ArcRwLockWriteGuard::downgrade(writer)
+    }
+
+    fn downgrade_to_upgradable(writer: Self::Writer) -> Self::Upgradable {
+        ArcRwLockWriteGuard::downgrade_to_upgradable(writer)
+    }
+
+    fn downgrade_upgradable(guard: Self::Upgradable) -> Self::Reader {
+        ArcRwLockUpgradableReadGuard::downgrade(guard)
+    }
+
+    fn upgrade(guard: Self::Upgradable, form: Form) -> Result<Self::Writer, Self::Upgradable> {
+        match form {
+            Form::Block => Ok(ArcRwLockUpgradableReadGuard::upgrade(guard)),
+            Form::Try => ArcRwLockUpgradableReadGuard::try_upgrade(guard),
+            Form::For => ArcRwLockUpgradableReadGuard::try_upgrade_for(guard, 0),
+            Form::Until => ArcRwLockUpgradableReadGuard::try_upgrade_until(guard, 0),
+        }
+    }
+
+    fn with_upgraded(
+        mut guard: Self::Upgradable,
+        form: Form,
+        operation: PairOp,
+    ) -> (Self::Upgradable, Reply<i64>) {
+        let apply = |pair: &mut Pair| change(operation, pair);
+        let tried = match form {
+            Form::Block => Some(guard.with_upgraded(apply)),
+            Form::Try => guard.try_with_upgraded(apply),
+            Form::For => guard.try_with_upgraded_for(0, apply),
+            Form::Until => guard.try_with_upgraded_until(0, apply),
+        };
+        (guard, tried.unwrap_or(Reply::NoGuard))
+    }
+}
+
+impl<M: FairMode<R>, R: RawRwLock + Drop> ScriptGuard for ArcRwLockGuard<M, R, Pair> {
+    fn release(self, way: Way) {
+        match way {
+            Way::Plain => drop(self),
+            Way::Fair => ArcRwLockGuard::unlock_fair(self),
+            Way::IntoArc => drop(ArcRwLockGuard::into_arc(self)),
+            Way::IntoArcFair => drop(ArcRwLockGuard::into_arc_fair(self)),
+        }
+    }
+
+    fn bumped(mut self) -> Self {
+        ArcRwLockGuard::bump(&mut self);
+        self
+    }
+
+    fn asked(&self, operation: PairOp) -> Reply<i64> {
+        ArcRwLockGuard::with(self, |pair: &Pair| ask(operation, pair))
+    }
+
+    fn unlocked<U, F: FnOnce() -> U>(mut self, way: Way, f: F) -> After<Self, U> {
+        let answer = match way {
+            Way::Plain | Way::IntoArc => ArcRwLockGuard::unlocked(&mut self, f),
+            Way::Fair | Way::IntoArcFair => ArcRwLockGuard::unlocked_fair(&mut self, f),
+        };
+        (Some(self), answer)
     }
 }
 

@@ -5,16 +5,16 @@ ghost use Rattle.lock_conform.specs.Refusals.{IsOutright};
 ghost use Rattle.lock_conform.specs.Reports.{IsReport};
 
 use crate::comparison::Comparison;
-use crate::driven::Driven;
-use crate::guards::{Guards, Slot};
-use crate::line::Line;
+use crate::driven::{Driven, ScriptGuard, call_guard};
 use crate::lines::Lines;
 use crate::manner::ParkBy;
 use crate::report::Report;
+use crate::script_guards::{GuardState, ScriptGuards};
+use crate::script_line::ScriptLine;
 use lock_base::machine::{Call, Form, PartyId, Reply, Want, Way};
 use lock_base::raw::Fault;
-use lock_recorder::CallLog;
 use lock_script::PairOp;
+use lock_test_support::raw_lock::CallLog;
 use std::alloc::{AllocError, Global};
 
 /// Makes the lines of a script on a lock, whose raw calls the log records.
@@ -28,7 +28,7 @@ pub fn run_on<D: Driven>(
     ensures { IfOk result (IsReport lines.calls.items lines.replies.items) }
 {
     let comparison = Comparison::new(alloc, lines, log);
-    let mut guards = Guards::new(alloc);
+    let mut guards = ScriptGuards::new(alloc);
     let comparison = match park_by {
         ParkBy::Release => {
             let end = comparison.lines().len();
@@ -43,7 +43,7 @@ pub fn run_on<D: Driven>(
 /// Makes the lines up to the line `end`.
 fn make_lines<D: Driven>(
     driven: &D,
-    guards: &mut Guards<D::Guard>,
+    guards: &mut ScriptGuards<D::Guard>,
     mut comparison: Comparison,
     end: usize,
 ) -> Result<Comparison, AllocError>
@@ -63,7 +63,7 @@ fn make_lines<D: Driven>(
 /// Makes all lines. Those until a parked guard is resumed are made in a closure of `unlocked`.
 fn make_lines_unlocked<D: Driven>(
     driven: &D,
-    guards: &mut Guards<D::Guard>,
+    guards: &mut ScriptGuards<D::Guard>,
     mut comparison: Comparison,
 ) -> Result<Comparison, AllocError>
     ensures lines { IfOk result (λ made. made.lines ≡ comparison.lines) }
@@ -84,7 +84,7 @@ fn make_lines_unlocked<D: Driven>(
 /// Answers the next line by the lock's reply, or by the `Desk`'s if the line is not made.
 fn make_next<D: Driven>(
     driven: &D,
-    guards: &mut Guards<D::Guard>,
+    guards: &mut ScriptGuards<D::Guard>,
     comparison: Comparison,
 ) -> Result<Comparison, AllocError>
     requires { lines_done comparison < length comparison.lines.replies.items }
@@ -138,7 +138,7 @@ fn parked_until(comparison: &Comparison) -> Option<ParkedUntil>
 /// Parks a guard by `unlocked`, whose closure makes the lines until the guard is resumed.
 fn park_unlocked<D: Driven>(
     driven: &D,
-    guards: &mut Guards<D::Guard>,
+    guards: &mut ScriptGuards<D::Guard>,
     comparison: Comparison,
     parked: ParkedUntil,
 ) -> Result<Comparison, AllocError>
@@ -149,15 +149,15 @@ fn park_unlocked<D: Driven>(
     let Some((want, guard)) = guards.take_held(parked.number) else {
         return answered(comparison, Reply::Refused(Fault::UnknownGuard));
     };
-    guards.put(parked.number, Slot::Parked(want));
-    let (guard, made) = D::unlocked(guard, parked.way, || {
+    guards.put(parked.number, GuardState::Parked(want));
+    let (guard, made) = guard.unlocked(parked.way, || {
         make_lines_within(driven, guards, comparison, parked.end)
     });
-    let slot = match guard {
-        Some(guard) => Slot::Held(want, guard),
-        None => Slot::Gone,
+    let state = match guard {
+        Some(guard) => GuardState::Held(want, guard),
+        None => GuardState::Gone,
     };
-    guards.put(parked.number, slot);
+    guards.put(parked.number, state);
     answered(made?, Reply::Done)
 }
 
@@ -165,7 +165,7 @@ fn park_unlocked<D: Driven>(
 /// the parked guard would block on them.
 fn make_lines_within<D: Driven>(
     driven: &D,
-    guards: &mut Guards<D::Guard>,
+    guards: &mut ScriptGuards<D::Guard>,
     comparison: Comparison,
     end: usize,
 ) -> Result<Comparison, AllocError>
@@ -201,8 +201,8 @@ fn answered(mut comparison: Comparison, reply: Reply<i64>) -> Result<Comparison,
 /// Makes a line on the lock, and returns its reply.
 fn make_line<D: Driven>(
     driven: &D,
-    guards: &mut Guards<D::Guard>,
-    line: Line,
+    guards: &mut ScriptGuards<D::Guard>,
+    line: ScriptLine,
 ) -> Result<Reply<i64>, AllocError>
     requires { ¬ IsOutright line.wanted }
 {
@@ -248,21 +248,21 @@ fn acquire<D: Driven>(
 /// Acquires a parked guard again.
 fn resume<D: Driven>(
     driven: &D,
-    guards: &mut Guards<D::Guard>,
+    guards: &mut ScriptGuards<D::Guard>,
     form: Form,
     party: PartyId,
     number: u64,
 ) -> Result<Reply<i64>, AllocError> {
-    let Slot::Parked(want) = guards.take(number) else {
+    let GuardState::Parked(want) = guards.take(number) else {
         return Ok(Reply::Refused(Fault::UnknownGuard));
     };
     match acquire(driven, want, form, party)? {
         Some(guard) => {
-            guards.put(number, Slot::Held(want, guard));
+            guards.put(number, GuardState::Held(want, guard));
             Ok(Reply::Done)
         }
         None => {
-            guards.put(number, Slot::Parked(want));
+            guards.put(number, GuardState::Parked(want));
             Ok(Reply::NoGuard)
         }
     }
@@ -270,7 +270,7 @@ fn resume<D: Driven>(
 
 /// Makes a call on a held guard. A guard that is parked is released.
 fn make_on_guard<D: Driven>(
-    guards: &mut Guards<D::Guard>,
+    guards: &mut ScriptGuards<D::Guard>,
     call: Call<PairOp>,
     number: u64,
 ) -> Reply<i64> {
@@ -278,17 +278,23 @@ fn make_on_guard<D: Driven>(
         return Reply::Refused(Fault::UnknownGuard);
     };
     let (call, released) = match call {
-        Call::Park(party, _) => (Call::Unlock(party, number, Way::Plain), Slot::Parked(want)),
-        Call::ParkFair(party, _) => (Call::Unlock(party, number, Way::Fair), Slot::Parked(want)),
-        call => (call, Slot::Gone),
+        Call::Park(party, _) => (
+            Call::Unlock(party, number, Way::Plain),
+            GuardState::Parked(want),
+        ),
+        Call::ParkFair(party, _) => (
+            Call::Unlock(party, number, Way::Fair),
+            GuardState::Parked(want),
+        ),
+        call => (call, GuardState::Gone),
     };
-    let (guard, reply) = D::call_guard(guard, call);
-    let slot = match guard {
-        Some(guard) if reply == Reply::Done => Slot::Held(want_after(call, want), guard),
-        Some(guard) => Slot::Held(want, guard),
+    let (guard, reply) = call_guard::<D>(guard, call);
+    let state = match guard {
+        Some(guard) if reply == Reply::Done => GuardState::Held(want_after(call, want), guard),
+        Some(guard) => GuardState::Held(want, guard),
         None => released,
     };
-    guards.put(number, slot);
+    guards.put(number, state);
     reply
 }
 

@@ -17,8 +17,8 @@ use lock_guard::raw::{
 };
 use lock_raws::{LockCore, Monitor, NoTime, RawLock, RealTime, Recorded, TableArbiter, WordCore};
 use lock_raws_fair::FairCore;
-use lock_recorder::Deadline;
 use lock_script::{DeskScript, Maker};
+use lock_test_support::raw_lock::Deadline;
 use std::alloc::Global;
 use std::clone::Clone;
 use std::sync::Wait;

@@ -10,8 +10,7 @@ mod threads;
 use lock_base::raw::Fault;
 use lock_guard::raw::RawMutex;
 use lock_mutex::Mutex;
-use lock_recorder::Recorder;
-use lock_test_support::raw_lock::Watch;
+use lock_test_support::raw_lock::{CallWatch, Recorder};
 use std::alloc::Global;
 
 /// A mutex over a raw lock whose calls are watched.
@@ -19,8 +18,8 @@ pub fn watched<R: RawMutex + Drop, T: Drop>(
     alloc: Global,
     waiter: R::Waiter,
     value: T,
-) -> Result<(Mutex<Recorder<R>, T>, Watch), Fault> {
+) -> Result<(Mutex<Recorder<R>, T>, CallWatch), Fault> {
     let raw: Recorder<R> = RawMutex::new(alloc, waiter)?;
-    let watch = Watch::new(raw.log()?);
+    let watch = CallWatch::new(raw.log()?);
     Ok((Mutex::from_raw(raw, value)?, watch))
 }

@@ -11,11 +11,10 @@ use crate::tests::Table;
 use lock_base::raw::Fault;
 use lock_guard::raw::{RawRwLock, RawRwLockFair, RawRwLockUpgradeDowngrade, RawRwLockUpgradeTimed};
 use lock_raws::{LockCore, RawLock};
-use lock_recorder::{Deadline, Recorder};
 use lock_rwlock::RwLock;
 use lock_test_support::answer::equal;
 use lock_test_support::project::Nested;
-use lock_test_support::raw_lock::Watch;
+use lock_test_support::raw_lock::{CallWatch, Deadline, Recorder};
 use std::alloc::Global;
 use std::sync::Arc;
 use std::test::Fail;
@@ -25,16 +24,16 @@ fn watched<R: RawRwLock + Drop, T: Drop>(
     alloc: Global,
     waiter: R::Waiter,
     value: T,
-) -> Result<(RwLock<Recorder<R>, T>, Watch), Fault> {
+) -> Result<(RwLock<Recorder<R>, T>, CallWatch), Fault> {
     let raw: Recorder<R> = RawRwLock::new(alloc, waiter, 8)?;
-    let watch = Watch::new(raw.log()?);
+    let watch = CallWatch::new(raw.log()?);
     Ok((RwLock::from_raw(raw, value)?, watch))
 }
 
 /// Guards of a pair in a pair, and the end of a lock.
 fn check_pair<R>(
     alloc: Global,
-    (mut lock, mut watch): (RwLock<R, Nested>, Watch),
+    (mut lock, mut watch): (RwLock<R, Nested>, CallWatch),
 ) -> Result<(), Fail>
 where
     R: RawRwLockFair
@@ -53,7 +52,10 @@ where
 }
 
 /// Guards of a number, `Arc` guards among them, and the end of the last reference.
-fn check_number<R>(alloc: Global, (lock, mut watch): (RwLock<R, u64>, Watch)) -> Result<(), Fail>
+fn check_number<R>(
+    alloc: Global,
+    (lock, mut watch): (RwLock<R, u64>, CallWatch),
+) -> Result<(), Fail>
 where
     R: RawRwLockUpgradeDowngrade + RawRwLockUpgradeTimed<Duration = u64, Instant = u64> + Drop,
 {

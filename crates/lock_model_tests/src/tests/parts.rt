@@ -7,7 +7,7 @@ use lock_states::table::TokenTable;
 use lock_states::word::PackedWord;
 use lock_test_support::answer::equal;
 use lock_test_support::party;
-use lock_test_support::project::{Item0, Item1, Nth};
+use lock_test_support::project::{Item0, Item1, NthItem};
 use std::alloc::Global;
 use std::mem;
 use std::test::Fail;
@@ -61,12 +61,12 @@ fn read_by_one<R: RawState>(desk: &mut PairDesk<R>, one: PartyId) -> [Row; 5] {
         ("read_part", item(desk, one, &Item1), Ok(2)),
         (
             "read_part of a third item",
-            item(desk, one, &Nth(2)),
+            item(desk, one, &NthItem(2)),
             Err(Fault::NoFocus),
         ),
         (
             "write_part by a reader",
-            replaced(desk, one, &Nth(2), 0),
+            replaced(desk, one, &NthItem(2), 0),
             Err(Fault::WrongMode),
         ),
     ]
@@ -80,7 +80,7 @@ fn write_by_one<R: RawState>(desk: &mut PairDesk<R>, one: PartyId) -> [Row; 5] {
         ("write_part", replaced(desk, one, &Item0, 9), Ok(3)),
         (
             "write_part of a third item",
-            replaced(desk, one, &Nth(2), 0),
+            replaced(desk, one, &NthItem(2), 0),
             Err(Fault::NoFocus),
         ),
         ("park", desk.park(one, 1).map(|()| 0), Ok(0)),

@@ -1,11 +1,11 @@
 //! The raw lock that admits everything, for readers and writers.
 use crate::raw_lock::admits_all::AdmitsAll;
+use crate::raw_lock::raw_call::RawCall;
 use lock_base::machine::Mode;
 use lock_base::raw::{Fault, is_limit};
 use lock_guard::raw::{
     GuardSend, RawMutex, RawRwLock, RawRwLockFair, RawRwLockUpgrade, RawRwLockUpgradeFair,
 };
-use lock_recorder::RawCall;
 use std::alloc::Global;
 use std::clone::Clone;
 use std::sync::Wait;

@@ -1,15 +1,15 @@
-//! What guards of a part ask the raw lock, whatever the lock. Each guard was just acquired in the mode.
-use crate::raw_lock::watch::Watch;
+//! Checks of the raw calls of a mapped guard, which was acquired in the mode since the last check.
+use crate::raw_lock::call_watch::CallWatch;
+use crate::raw_lock::raw_call::RawCall::{Lock, UnlockFair};
 use lock_base::machine::Mode;
 use lock_base::project::{Project, TryView};
 use lock_guard::guard::{LockGuardFair, LockGuardMut, Mapped};
-use lock_recorder::RawCall::{Lock, UnlockFair};
 
-/// It is read, and ends by a fair release.
+/// Reads the part, and releases the guard by a fair release.
 pub fn watch_fair_end<G: LockGuardFair, P: TryView<G::Value>>(
     part: Mapped<G, P>,
     mode: Mode,
-    watch: &mut Watch,
+    watch: &mut CallWatch,
 ) {
     Mapped::get(&part);
     watch.saw(&[Lock(mode)]);
@@ -17,11 +17,11 @@ pub fn watch_fair_end<G: LockGuardFair, P: TryView<G::Value>>(
     watch.saw(&[UnlockFair(mode)]);
 }
 
-/// It is written.
+/// Writes the part, and drops the guard.
 pub fn watch_write<G: LockGuardMut, P: Project<G::Value, Part = (u64, u64)> + Copy>(
     part: Mapped<G, P>,
     mode: Mode,
-    watch: &mut Watch,
+    watch: &mut CallWatch,
 ) {
     let mut part = part;
     *part = (5, 2);

@@ -7,9 +7,9 @@ use lock_base::machine::Mode::Exclusive;
 use lock_guard::raw::{RawMutex, RawMutexTimed};
 use lock_mutex::{Condvar, Mutex};
 use lock_raws::{LockCore, RawLock, SpuriousCondvar};
-use lock_recorder::RawCall::{Lock, Unlock};
 use lock_test_support::answer::equal;
-use lock_test_support::raw_lock::{AdmitsAll, Watch};
+use lock_test_support::raw_lock::RawCall::{Lock, Unlock};
+use lock_test_support::raw_lock::{AdmitsAll, CallWatch};
 use std::alloc::Global;
 use std::clone::Clone;
 use std::sync::Wait;
@@ -65,7 +65,7 @@ const ONCE: [Call<()>; 4] = [
 fn watch_releases<R: RawMutexTimed<Duration = (), Instant = ()>>(
     condvar: &Condvar<SpuriousCondvar<R>>,
     checks: &Mutex<R, usize>,
-    watch: &mut Watch,
+    watch: &mut CallWatch,
 ) {
     let mut guard = checks.lock();
     watch.saw(&[Lock(Exclusive)]);
@@ -79,7 +79,7 @@ fn watch_releases<R: RawMutexTimed<Duration = (), Instant = ()>>(
 
 fn check_releases<W: Wait + Clone + Drop>(alloc: Global, waiter: W) -> Result<(), Fail> {
     let raw: AdmitsAll<W> = RawMutex::new(alloc, waiter)?;
-    let mut watch = Watch::new(raw.log()?);
+    let mut watch = CallWatch::new(raw.log()?);
     let condvar = Condvar::new(alloc)?;
     watch_releases(&condvar, &Mutex::from_raw(raw, 0)?, &mut watch);
     watch.verdict()

@@ -4,8 +4,8 @@ use lock_base::raw::Fault;
 use lock_guard::raw::RawMutex;
 use lock_mutex::{Condvar, Mutex};
 use lock_raws::{LockCore, RawLock, SleepingCondvar};
-use lock_recorder::Recorder;
 use lock_test_support::answer::{answers_or_lacks_memory, equal};
+use lock_test_support::raw_lock::Recorder;
 use std::alloc::Global;
 use std::test::Fail;
 

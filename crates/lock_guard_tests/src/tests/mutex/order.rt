@@ -2,8 +2,7 @@
 use super::gated::Gated;
 use lock_guard::raw::{RawMutex, RawMutexFair};
 use lock_mutex::{Mutex, MutexGuard};
-use lock_recorder::CallLog;
-use lock_test_support::raw_lock::AdmitsAll;
+use lock_test_support::raw_lock::{AdmitsAll, CallLog};
 use lock_test_support::{wait_for_calls, wait_for_flag};
 use std::sync::Wait;
 use std::sync::atomic::{AtomicBool, Ordering};

@@ -7,10 +7,10 @@ use lock_guard::guard::{Acquire, AcquireFair, Mapped, ValueGuard, ValueGuardMut}
 use lock_guard::raw::{RawMutex, RawMutexFair};
 use lock_mutex::{Guard, Mutex};
 use lock_raws::{LockCore, RawLock};
-use lock_recorder::RawCall::{IsLocked, Lock, Unlock, UnlockFair};
 use lock_test_support::answer::equal;
-use lock_test_support::project::{Item0, Item1, Nested, Nth, inner_item};
-use lock_test_support::raw_lock::Watch;
+use lock_test_support::project::{Item0, Item1, Nested, NthItem, inner_item};
+use lock_test_support::raw_lock::CallWatch;
+use lock_test_support::raw_lock::RawCall::{IsLocked, Lock, Unlock, UnlockFair};
 use std::alloc::Global;
 use std::test::Fail;
 
@@ -36,10 +36,10 @@ fn miss_and_write<R: RawMutex, L: Acquire>(
 where
     L::Shown: ValueGuard<Value = Pair> + ValueGuardMut,
 {
-    let guard = Guard::try_map(guard, Nth(2)).err()?;
+    let guard = Guard::try_map(guard, NthItem(2)).err()?;
     let is_locked = mutex.is_locked();
-    let (guard, missed) = Guard::try_map_or_err(guard, Nth(5)).err()?;
-    let mut second = Guard::try_map(guard, Nth(1)).ok()?;
+    let (guard, missed) = Guard::try_map_or_err(guard, NthItem(5)).err()?;
+    let mut second = Guard::try_map(guard, NthItem(1)).ok()?;
     let item = *Mapped::get(&second)?;
     *Mapped::get_mut(&mut second)? = 8;
     Some((is_locked, missed, item))
@@ -52,14 +52,14 @@ where
 {
     let (guard, at_once) = Guard::try_map_or_err(guard, inner_item(4)).err()?;
     let first = Guard::map(guard, Item0);
-    let (_, in_turn) = Mapped::try_map_or_err(first, Nth(4)).err()?;
+    let (_, in_turn) = Mapped::try_map_or_err(first, NthItem(4)).err()?;
     Some([at_once, in_turn])
 }
 
 /// Misses and writes parts of a pair in a pair. Returns the raw lock.
 fn check_nested<R: RawMutexFair + Drop>(
     mutex: Mutex<R, Nested>,
-    watch: &mut Watch,
+    watch: &mut CallWatch,
 ) -> Result<R, Fail> {
     let mut mutex = mutex;
     *mutex.get_mut() = ((1, 2), 3);
@@ -74,7 +74,10 @@ fn check_nested<R: RawMutexFair + Drop>(
 }
 
 /// Misses and writes items of a pair.
-fn check_pair<R: RawMutex + Drop>(mutex: Mutex<R, Pair>, watch: &mut Watch) -> Result<(), Fail> {
+fn check_pair<R: RawMutex + Drop>(
+    mutex: Mutex<R, Pair>,
+    watch: &mut CallWatch,
+) -> Result<(), Fail> {
     let seen = miss_and_write(&mutex, mutex.lock());
     equal(seen, Some((true, 5, 2)))?;
     watch.saw(&[Lock(Exclusive), IsLocked, Unlock(Exclusive)]);

@@ -1,10 +1,9 @@
 //! The calls that raw locks get by default bodies, and the record of them.
 use lock_base::machine::Mode::Exclusive;
 use lock_guard::raw::{RawMutex, RawMutexFair};
-use lock_recorder::CallLog;
-use lock_recorder::RawCall::{self, Lock, Unlock, UnlockFair};
 use lock_test_support::answer::equal;
-use lock_test_support::raw_lock::{AdmitsAll, Watch};
+use lock_test_support::raw_lock::RawCall::{self, Lock, Unlock, UnlockFair};
+use lock_test_support::raw_lock::{AdmitsAll, CallLog, CallWatch};
 use std::alloc::Global;
 use std::clone::Clone;
 use std::sync::Wait;
@@ -12,7 +11,7 @@ use std::test::Fail;
 
 /// Whether a look at a raw lock that was locked and unlocked sees these calls, and whether the look after it sees none.
 fn looks<R: RawMutex>(raw: &R, calls: CallLog, wanted: &[RawCall]) -> (bool, bool) {
-    let mut watch = Watch::new(calls);
+    let mut watch = CallWatch::new(calls);
     raw.unlock(raw.lock());
     watch.saw(wanted);
     let is_right = watch.is_right();
@@ -48,7 +47,7 @@ fn a_watch_tells_of_other_calls(rt: HostRuntime) -> Result<(), Fail> {
 
 fn check_bump<W: Wait + Clone + Drop>(alloc: Global, waiter: W) -> Result<(), Fail> {
     let raw: AdmitsAll<W> = RawMutex::new(alloc, waiter)?;
-    let mut watch = Watch::new(raw.log()?);
+    let mut watch = CallWatch::new(raw.log()?);
     raw.unlock(RawMutexFair::bump(&raw, RawMutex::lock(&raw)));
     watch.saw(&[
         Lock(Exclusive),

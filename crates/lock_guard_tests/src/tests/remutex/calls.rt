@@ -5,14 +5,13 @@ use lock_base::machine::PartyId;
 use lock_base::raw::Fault;
 use lock_guard::raw::{RawMutex, RawMutexFair};
 use lock_raws::{LockCore, RawLock};
-use lock_recorder::Recorder;
 use lock_remutex::{
     ArcReentrantMutexGuard, MappedReentrantMutexGuard, ReentrantMutex, ReentrantMutexGuard,
 };
 use lock_test_support::answer::equal;
 use lock_test_support::party;
-use lock_test_support::project::{Item0, Item1, Nth};
-use lock_test_support::raw_lock::{Watch, watch_fair_end};
+use lock_test_support::project::{Item0, Item1, NthItem};
+use lock_test_support::raw_lock::{CallWatch, Recorder, watch_fair_end};
 use std::alloc::Global;
 use std::sync::Arc;
 use std::test::Fail;
@@ -21,7 +20,11 @@ use std::test::Fail;
 type Paired<R> = ReentrantMutex<R, (u64, u64)>;
 
 /// Maps a guard that was just acquired: by a part that is there, and by one that is not.
-fn maps<R: RawMutexFair>(lock: &Paired<R>, watch: &mut Watch, party: PartyId) -> Result<(), Fault> {
+fn maps<R: RawMutexFair>(
+    lock: &Paired<R>,
+    watch: &mut CallWatch,
+    party: PartyId,
+) -> Result<(), Fault> {
     watch.saw_hold(
         ReentrantMutexGuard::map(lock.lock(party)?, Item0),
         Exclusive,
@@ -33,11 +36,11 @@ fn maps<R: RawMutexFair>(lock: &Paired<R>, watch: &mut Watch, party: PartyId) ->
     );
     for index in [1, 2] {
         watch.saw_hold(
-            ReentrantMutexGuard::try_map(lock.lock(party)?, Nth(index)),
+            ReentrantMutexGuard::try_map(lock.lock(party)?, NthItem(index)),
             Exclusive,
         );
         watch.saw_hold(
-            ReentrantMutexGuard::try_map_or_err(lock.lock(party)?, Nth(index)),
+            ReentrantMutexGuard::try_map_or_err(lock.lock(party)?, NthItem(index)),
             Exclusive,
         );
     }
@@ -48,12 +51,12 @@ fn maps<R: RawMutexFair>(lock: &Paired<R>, watch: &mut Watch, party: PartyId) ->
 /// Returns the last miss and the item.
 fn inner_maps<R: RawMutexFair>(
     lock: &Paired<R>,
-    watch: &mut Watch,
+    watch: &mut CallWatch,
     party: PartyId,
 ) -> Option<(usize, u64)> {
     let outer = lock.lock(party).ok()?;
-    let guard = ReentrantMutexGuard::try_map(lock.lock(party).ok()?, Nth(2)).err()?;
-    let (guard, missed) = ReentrantMutexGuard::try_map_or_err(guard, Nth(5)).err()?;
+    let guard = ReentrantMutexGuard::try_map(lock.lock(party).ok()?, NthItem(2)).err()?;
+    let (guard, missed) = ReentrantMutexGuard::try_map_or_err(guard, NthItem(5)).err()?;
     let part = ReentrantMutexGuard::map(guard, Item1);
     let item = *part;
     MappedReentrantMutexGuard::unlock_fair(part);
@@ -65,7 +68,7 @@ fn inner_maps<R: RawMutexFair>(
 /// Maps guards of the lock, and consumes it after a write.
 fn check_borrowed<R: RawMutexFair + Drop>(
     lock: Paired<R>,
-    watch: &mut Watch,
+    watch: &mut CallWatch,
     party: PartyId,
 ) -> Result<(R, (u64, u64)), Fail> {
     let mut lock = lock;
@@ -80,7 +83,7 @@ fn check_borrowed<R: RawMutexFair + Drop>(
 /// The guard of a lock that it owns a reference to, and the end of the last reference.
 fn ends<R: RawMutex + Drop>(
     lock: Arc<Paired<R>>,
-    watch: &mut Watch,
+    watch: &mut CallWatch,
     party: PartyId,
 ) -> Result<(), Fault> {
     let guard = ReentrantMutex::lock_arc(&lock, party)?;
@@ -91,7 +94,7 @@ fn ends<R: RawMutex + Drop>(
     Ok(())
 }
 
-fn check<R: RawMutexFair + Drop>(alloc: Global, raw: R, watch: Watch) -> Result<(), Fail>
+fn check<R: RawMutexFair + Drop>(alloc: Global, raw: R, watch: CallWatch) -> Result<(), Fail>
 where
     R::Guard: Send,
 {
@@ -109,7 +112,7 @@ where
     C::Token: Send,
 {
     let raw: Recorder<RawLock<C>> = RawMutex::new(alloc, waiter)?;
-    let watch = Watch::new(raw.log()?);
+    let watch = CallWatch::new(raw.log()?);
     check(alloc, raw, watch)
 }
 

@@ -5,12 +5,11 @@ use lock_base::machine::PartyId;
 use lock_base::raw::Fault::{self, FullCount};
 use lock_guard::raw::{RawMutex, RawMutexTimed};
 use lock_raws::{LockCore, RawLock};
-use lock_recorder::RawCall::{Lock, Unlock};
-use lock_recorder::{Deadline, Recorder};
 use lock_remutex::{ReentrantMutex, ReentrantMutexGuard};
 use lock_test_support::answer::equal;
 use lock_test_support::party;
-use lock_test_support::raw_lock::Watch;
+use lock_test_support::raw_lock::RawCall::{Lock, Unlock};
+use lock_test_support::raw_lock::{CallWatch, Deadline, Recorder};
 use std::alloc::Global;
 use std::sync::Arc;
 use std::test::Fail;
@@ -77,7 +76,7 @@ where
         equal((call, fault), (call, Some(FullCount)))?;
     }
     let (raw, value) = lock.into_inner_with_raw();
-    let mut watch = Watch::new(raw.log()?);
+    let mut watch = CallWatch::new(raw.log()?);
     watch.saw(&[
         Lock(Exclusive),
         Unlock(Exclusive),

@@ -6,12 +6,11 @@ use lock_base::machine::PartyId;
 use lock_base::raw::Fault;
 use lock_guard::raw::RawMutex;
 use lock_raws::{LockCore, RawLock};
-use lock_recorder::RawCall::Lock;
-use lock_recorder::Recorder;
 use lock_remutex::{RawReentrantMutex, ReentrantMutex};
 use lock_test_support::answer::{answers_or_lacks_memory, equal, lacks_memory};
 use lock_test_support::party;
-use lock_test_support::raw_lock::Watch;
+use lock_test_support::raw_lock::RawCall::Lock;
+use lock_test_support::raw_lock::{CallWatch, Recorder};
 use std::alloc::Global;
 use std::mem;
 use std::rt::Env;
@@ -39,7 +38,7 @@ fn consumed<R: RawMutex + Drop>(
 ) -> Result<Made, Fault> {
     let levels = levels(&lock, party);
     let (raw, value) = lock.into_inner_with_raw();
-    let mut watch = Watch::new(raw.log()?);
+    let mut watch = CallWatch::new(raw.log()?);
     watch.saw(&[Lock(Exclusive)]);
     Ok((maker, value, levels, watch.is_right()))
 }

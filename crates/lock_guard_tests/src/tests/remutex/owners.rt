@@ -3,10 +3,10 @@ use lock_base::machine::Mode::Exclusive;
 use lock_base::machine::PartyId;
 use lock_base::raw::Fault::{self, Foreign};
 use lock_guard::raw::{RawMutex, RawMutexFair};
-use lock_recorder::RawCall::{Lock, TryLock, Unlock, UnlockFair};
 use lock_remutex::RawReentrantMutex;
 use lock_test_support::answer::equal;
-use lock_test_support::raw_lock::{AdmitsAll, Watch};
+use lock_test_support::raw_lock::RawCall::{Lock, TryLock, Unlock, UnlockFair};
+use lock_test_support::raw_lock::{AdmitsAll, CallWatch};
 use lock_test_support::{party, two_parties};
 use std::alloc::Global;
 use std::clone::Clone;
@@ -82,7 +82,7 @@ fn check_calls<W: Wait + Clone + Drop>(
     parties: (PartyId, PartyId),
 ) -> Result<(), Fail> {
     let raw: AdmitsAll<W> = RawMutex::new(alloc, waiter)?;
-    let mut watch = Watch::new(raw.log()?);
+    let mut watch = CallWatch::new(raw.log()?);
     check_answers(&RawReentrantMutex::from_raw(alloc, raw)?, parties)?;
     watch.saw(&[
         Lock(Exclusive),

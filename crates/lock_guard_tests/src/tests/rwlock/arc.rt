@@ -3,10 +3,10 @@ use super::raw_calls::UNDER_AN_UPGRADE;
 use lock_base::machine::Mode::Shared;
 use lock_base::raw::Fault;
 use lock_guard::raw::{RawRwLock, RawRwLockUpgradeDowngrade, RawRwLockUpgradeTimed};
-use lock_recorder::RawCall::{Lock, Unlock};
 use lock_rwlock::{ArcRwLockGuard, ArcRwLockReadGuard, RwLock, RwLockArc, RwLockArcUpgrade};
 use lock_test_support::answer::equal;
-use lock_test_support::raw_lock::Watch;
+use lock_test_support::raw_lock::CallWatch;
+use lock_test_support::raw_lock::RawCall::{Lock, Unlock};
 use std::sync::Arc;
 use std::test::Fail;
 
@@ -46,7 +46,7 @@ fn calls_under_an_upgrade<
 /// Guards of a lock of 5, whose calls are watched from here on.
 pub fn check<
     R: RawRwLockUpgradeTimed<Duration = u64, Instant = u64> + RawRwLockUpgradeDowngrade + Drop,
->(lock: &Owned<R>, watch: &mut Watch) -> Result<(), Fail> {
+>(lock: &Owned<R>, watch: &mut CallWatch) -> Result<(), Fail> {
     calls_under_an_upgrade(lock)?;
     watch.saw(&UNDER_AN_UPGRADE);
     let sum = read_by_two(lock)?;

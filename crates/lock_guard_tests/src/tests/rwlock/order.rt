@@ -2,11 +2,10 @@
 use lock_base::machine::Mode::{self, Exclusive, Shared, Upgradable};
 use lock_guard::guard::Acquire;
 use lock_guard::raw::{RawRwLock, RawRwLockUpgrade};
-use lock_recorder::CallLog;
-use lock_recorder::RawCall::{Lock, Unlock};
 use lock_rwlock::{RwLock, RwLockGuard};
 use lock_test_support::answer::equal;
-use lock_test_support::raw_lock::{AdmitsAll, Watch};
+use lock_test_support::raw_lock::RawCall::{Lock, Unlock};
+use lock_test_support::raw_lock::{AdmitsAll, CallLog, CallWatch};
 use lock_test_support::{wait_for_calls, wait_for_flag};
 use std::sync::Wait;
 use std::sync::atomic::{AtomicBool, Ordering};
@@ -23,7 +22,7 @@ fn add_while_unlocked<R: RawRwLock, L: Acquire>(
     lock: &RwLock<R, u64>,
     guard: RwLockGuard<L>,
     mode: Mode,
-    watch: &mut Watch,
+    watch: &mut CallWatch,
 ) {
     let mut guard = guard;
     watch.saw(&[Lock(mode)]);
@@ -34,7 +33,10 @@ fn add_while_unlocked<R: RawRwLock, L: Acquire>(
 }
 
 /// A guard in each mode is unlocked, of a lock of 5.
-pub fn check<R: RawRwLockUpgrade>(lock: &RwLock<R, u64>, watch: &mut Watch) -> Result<(), Fail> {
+pub fn check<R: RawRwLockUpgrade>(
+    lock: &RwLock<R, u64>,
+    watch: &mut CallWatch,
+) -> Result<(), Fail> {
     add_while_unlocked(lock, lock.read(), Shared, watch);
     add_while_unlocked(lock, lock.write(), Exclusive, watch);
     add_while_unlocked(lock, lock.upgradable_read(), Upgradable, watch);

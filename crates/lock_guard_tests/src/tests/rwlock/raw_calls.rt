@@ -5,15 +5,15 @@ use lock_guard::raw::{
     RawRwLock, RawRwLockFair, RawRwLockUpgrade, RawRwLockUpgradeDowngrade, RawRwLockUpgradeFair,
     RawRwLockUpgradeTimed,
 };
-use lock_recorder::RawCall::{
-    self, DowngradeToUpgradable, IsLocked, Lock, TryUpgrade, TryUpgradeFor, TryUpgradeUntil,
-    Unlock, UnlockFair, Upgrade,
-};
 use lock_rwlock::{
     Mappable, RwLock, RwLockGuard, RwLockReadGuard, RwLockUpgradableReadGuard, RwLockWriteGuard,
 };
 use lock_test_support::project::{Item0, Nested, inner_item};
-use lock_test_support::raw_lock::{AdmitsAll, Watch, watch_fair_end, watch_write};
+use lock_test_support::raw_lock::RawCall::{
+    self, DowngradeToUpgradable, IsLocked, Lock, TryUpgrade, TryUpgradeFor, TryUpgradeUntil,
+    Unlock, UnlockFair, Upgrade,
+};
+use lock_test_support::raw_lock::{AdmitsAll, CallWatch, watch_fair_end, watch_write};
 use std::alloc::Global;
 use std::clone::Clone;
 use std::sync::Wait;
@@ -23,7 +23,7 @@ use std::test::Fail;
 type Paired<R> = RwLock<R, Nested>;
 
 /// A guard names its lock.
-fn names<R: RawRwLock>(lock: &Paired<R>, watch: &mut Watch) {
+fn names<R: RawRwLock>(lock: &Paired<R>, watch: &mut CallWatch) {
     let reader = lock.read();
     RwLockReadGuard::rwlock(&reader);
     watch.saw_hold(reader, Shared);
@@ -33,7 +33,7 @@ fn names<R: RawRwLock>(lock: &Paired<R>, watch: &mut Watch) {
 }
 
 /// A guard, which was just acquired in the mode, is mapped.
-fn map_and_hold<L: Mappable>(guard: RwLockGuard<L>, mode: Mode, watch: &mut Watch)
+fn map_and_hold<L: Mappable>(guard: RwLockGuard<L>, mode: Mode, watch: &mut CallWatch)
 where
     L::Shown: ValueGuard<Value = Nested>,
 {
@@ -41,7 +41,7 @@ where
 }
 
 /// Such a guard ends by a fair release.
-fn map_and_end<L: Mappable + AcquireFair>(guard: RwLockGuard<L>, mode: Mode, watch: &mut Watch)
+fn map_and_end<L: Mappable + AcquireFair>(guard: RwLockGuard<L>, mode: Mode, watch: &mut CallWatch)
 where
     L::Shown: ValueGuard<Value = Nested>,
 {
@@ -49,7 +49,7 @@ where
 }
 
 /// Such a guard is written.
-fn map_and_write<L: Mappable>(guard: RwLockGuard<L>, mode: Mode, watch: &mut Watch)
+fn map_and_write<L: Mappable>(guard: RwLockGuard<L>, mode: Mode, watch: &mut CallWatch)
 where
     L::Shown: ValueGuard<Value = Nested> + ValueGuardMut,
 {
@@ -57,14 +57,19 @@ where
 }
 
 /// A guard is mapped. What a mapped guard asks by itself is one code for all locks, and asked of a mutex.
-fn maps<R: RawRwLockFair>(lock: &Paired<R>, watch: &mut Watch) {
+fn maps<R: RawRwLockFair>(lock: &Paired<R>, watch: &mut CallWatch) {
     map_and_hold(lock.read(), Shared, watch);
     map_and_end(lock.read(), Shared, watch);
     map_and_write(lock.write(), Exclusive, watch);
 }
 
 /// A guard, which was just acquired in the mode, is mapped to the item at this index of the inner pair, if it has one.
-fn try_map_and_hold<L: Mappable>(guard: RwLockGuard<L>, index: usize, mode: Mode, watch: &mut Watch)
+fn try_map_and_hold<L: Mappable>(
+    guard: RwLockGuard<L>,
+    index: usize,
+    mode: Mode,
+    watch: &mut CallWatch,
+)
 where
     L::Shown: ValueGuard<Value = Nested>,
 {
@@ -76,7 +81,7 @@ fn try_map_or_err_and_hold<L: Mappable>(
     guard: RwLockGuard<L>,
     index: usize,
     mode: Mode,
-    watch: &mut Watch,
+    watch: &mut CallWatch,
 )
 where
     L::Shown: ValueGuard<Value = Nested>,
@@ -85,7 +90,7 @@ where
 }
 
 /// Guards are mapped to an item that is there, and to one that is not.
-fn try_maps<R: RawRwLock>(lock: &Paired<R>, watch: &mut Watch) {
+fn try_maps<R: RawRwLock>(lock: &Paired<R>, watch: &mut CallWatch) {
     for index in [1, 2] {
         try_map_and_hold(lock.read(), index, Shared, watch);
         try_map_or_err_and_hold(lock.read(), index, Shared, watch);
@@ -128,7 +133,7 @@ pub fn check<
     R: RawRwLockUpgradeTimed<Duration = u64, Instant = u64>
         + RawRwLockFair
         + RawRwLockUpgradeDowngrade,
->(lock: &Paired<R>, watch: &mut Watch) {
+>(lock: &Paired<R>, watch: &mut CallWatch) {
     names(lock, watch);
     maps(lock, watch);
     try_maps(lock, watch);
@@ -141,7 +146,7 @@ fn bumped(mode: Mode) -> [RawCall; 4] {
     [Lock(mode), UnlockFair(mode), Lock(mode), Unlock(mode)]
 }
 
-fn watch_bumps<R: RawRwLockUpgradeFair>(raw: &R, watch: &mut Watch) {
+fn watch_bumps<R: RawRwLockUpgradeFair>(raw: &R, watch: &mut CallWatch) {
     raw.unlock_shared(raw.bump_shared(raw.lock_shared()));
     watch.saw(&bumped(Shared));
     raw.unlock_exclusive(raw.bump_exclusive(raw.lock_exclusive()));
@@ -152,7 +157,7 @@ fn watch_bumps<R: RawRwLockUpgradeFair>(raw: &R, watch: &mut Watch) {
 
 fn check_bumps<W: Wait + Clone + Drop>(alloc: Global, waiter: W) -> Result<(), Fail> {
     let raw: AdmitsAll<W> = RawRwLock::new(alloc, waiter, 1)?;
-    let mut watch = Watch::new(raw.log()?);
+    let mut watch = CallWatch::new(raw.log()?);
     watch_bumps(&raw, &mut watch);
     watch.verdict()
 }

@@ -3,13 +3,13 @@ use crate::tests::texts::{Shown, are_right};
 use lock_base::machine::Mode::{self, Exclusive, Shared, Upgradable};
 use lock_guard::guard::{Acquire, ValueGuard};
 use lock_guard::raw::{RawRwLock, RawRwLockUpgrade};
-use lock_recorder::RawCall::{Lock, TryLock, Unlock};
 use lock_rwlock::{
     ArcModeGuard, Mappable, ReadValue, RwLock, RwLockArc, RwLockArcUpgrade, RwLockGuard,
 };
 use lock_test_support::answer::{debug_is, equal, texts_are};
 use lock_test_support::project::{Item1, Nested};
-use lock_test_support::raw_lock::Watch;
+use lock_test_support::raw_lock::CallWatch;
+use lock_test_support::raw_lock::RawCall::{Lock, TryLock, Unlock};
 use std::alloc::Global;
 use std::fmt::{Debug, Display};
 use std::sync::Arc;
@@ -18,7 +18,7 @@ use std::test::Fail;
 /// Whether both texts of the guard, which was just acquired in the mode, are right. They make no raw call.
 fn prints<G: Debug + Display + Drop>(
     alloc: Global,
-    watch: &mut Watch,
+    watch: &mut CallWatch,
     guard: G,
     mode: Mode,
 ) -> bool {
@@ -31,7 +31,7 @@ fn prints<G: Debug + Display + Drop>(
 fn lock_prints<R: RawRwLock>(
     alloc: Global,
     lock: &RwLock<R, u64>,
-    watch: &mut Watch,
+    watch: &mut CallWatch,
 ) -> Result<(), Fail> {
     let reader = lock.read();
     let beside_a_reader = debug_is(alloc, lock, "RwLock { data: 5 }");
@@ -54,7 +54,7 @@ fn lock_prints<R: RawRwLock>(
 /// `prints`, of a guard that borrows the lock.
 fn guard_prints<L: Acquire>(
     alloc: Global,
-    watch: &mut Watch,
+    watch: &mut CallWatch,
     guard: RwLockGuard<L>,
     mode: Mode,
 ) -> bool
@@ -68,7 +68,7 @@ where
 fn check_borrowing_guards<R: RawRwLockUpgrade>(
     alloc: Global,
     lock: &RwLock<R, u64>,
-    watch: &mut Watch,
+    watch: &mut CallWatch,
 ) -> Result<(), Fail> {
     let reader = guard_prints(alloc, watch, lock.read(), Shared);
     let writer = guard_prints(alloc, watch, lock.write(), Exclusive);
@@ -83,7 +83,7 @@ fn check_borrowing_guards<R: RawRwLockUpgrade>(
 /// `prints`, of a guard that owns a reference to the lock.
 fn arc_guard_prints<L: ReadValue<Value = u64>>(
     alloc: Global,
-    watch: &mut Watch,
+    watch: &mut CallWatch,
     guard: ArcModeGuard<L>,
     mode: Mode,
 ) -> bool {
@@ -94,7 +94,7 @@ fn arc_guard_prints<L: ReadValue<Value = u64>>(
 fn check_owning_guards<R: RawRwLockUpgrade + Drop>(
     alloc: Global,
     lock: &Arc<RwLock<R, u64>>,
-    watch: &mut Watch,
+    watch: &mut CallWatch,
 ) -> Result<(), Fail> {
     let reader = arc_guard_prints(alloc, watch, RwLock::read_arc(lock)?, Shared);
     let writer = arc_guard_prints(alloc, watch, RwLock::write_arc(lock)?, Exclusive);
@@ -111,7 +111,7 @@ fn check_owning_guards<R: RawRwLockUpgrade + Drop>(
 pub fn check<R: RawRwLockUpgrade + Drop>(
     alloc: Global,
     lock: &Arc<RwLock<R, u64>>,
-    watch: &mut Watch,
+    watch: &mut CallWatch,
 ) -> Result<(), Fail> {
     lock_prints(alloc, lock, watch)?;
     check_borrowing_guards(alloc, lock, watch)?;
@@ -121,7 +121,7 @@ pub fn check<R: RawRwLockUpgrade + Drop>(
 /// Whether both texts of the guard's part, which is 5, are right.
 fn part_prints<L: Mappable>(
     alloc: Global,
-    watch: &mut Watch,
+    watch: &mut CallWatch,
     guard: RwLockGuard<L>,
     mode: Mode,
 ) -> bool
@@ -135,7 +135,7 @@ where
 pub fn check_parts<R: RawRwLock>(
     alloc: Global,
     lock: &RwLock<R, Nested>,
-    watch: &mut Watch,
+    watch: &mut CallWatch,
 ) -> Result<(), Fail> {
     let read = part_prints(alloc, watch, lock.read(), Shared);
     let written = part_prints(alloc, watch, lock.write(), Exclusive);

@@ -1,7 +1,7 @@
 //! The recording raw lock, for readers and writers.
-use crate::deadline::Deadline;
-use crate::raw_call::RawCall;
-use crate::recorder::Recorder;
+use crate::raw_lock::deadline::Deadline;
+use crate::raw_lock::raw_call::RawCall;
+use crate::raw_lock::recorder::Recorder;
 use lock_base::machine::Mode;
 use lock_base::raw::Fault;
 use lock_guard::raw::{

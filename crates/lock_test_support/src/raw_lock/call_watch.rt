@@ -1,29 +1,29 @@
-//! A look at the calls that came, one after another.
+//! Checks of recorded calls, one after another.
 ghost use Rattle.std.specs.Prelude.{◌≡◌, None, IsSome, MatchBool, MatchResult};
 
+use crate::raw_lock::call_log::CallLog;
+use crate::raw_lock::raw_call::RawCall;
 use lock_base::machine::Mode;
-use lock_recorder::{CallLog, RawCall};
 use std::test::Fail;
 
-/// Compares the calls that came since the look before with those that are wanted, and remembers where they first
-/// differed.
+/// Compares the calls that a raw lock recorded since the last check with the wanted ones, and keeps the first difference.
 #[derive(Drop)]
-pub struct Watch {
+pub struct CallWatch {
     log: CallLog,
     looks: u64,
     wrong: Option<(u64, Option<Vec<RawCall>>)>,
 }
 
-impl Watch {
-    pub fn new(log: CallLog) -> Watch {
-        Watch {
+impl CallWatch {
+    pub fn new(log: CallLog) -> CallWatch {
+        CallWatch {
             log,
             looks: 0,
             wrong: None,
         }
     }
 
-    /// Just these calls came since the look before, and none is being written down.
+    /// Checks that exactly these calls were recorded since the last check, and that no thread is recording one.
     pub fn saw(&mut self, wanted: &[RawCall]) {
         self.looks = self.looks.wrapping_add(1);
         let came = self.log.take();
@@ -32,18 +32,18 @@ impl Watch {
         }
     }
 
-    /// Whether each look saw the calls that were wanted.
+    /// Returns whether each check found the wanted calls.
     pub fn is_right(&self) -> bool
         ensures { MatchBool result (self.now.wrong ≡ None) (IsSome self.now.wrong) }
     {
         self.wrong.is_none()
     }
 
-    /// Which look was the first to see other calls, and those.
+    /// Fails with the number of the first check that found other calls, and with those calls.
     pub fn verdict(self) -> Result<(), Fail>
         ensures { MatchResult result (λ _. self.wrong ≡ None) (λ _. IsSome self.wrong) }
     {
-        let Watch {
+        let CallWatch {
             log: _,
             looks: _,
             wrong,
@@ -54,7 +54,7 @@ impl Watch {
         }
     }
 
-    /// What was just acquired in the mode, by a guard or by what came of one, is held until it is dropped.
+    /// Checks that the guard was acquired in the mode since the last check, and that its drop releases that mode.
     pub fn saw_hold<G: Drop>(&mut self, held: G, mode: Mode) {
         self.saw(&[RawCall::Lock(mode)]);
         drop(held);

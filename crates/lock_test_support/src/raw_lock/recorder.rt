@@ -1,7 +1,7 @@
 //! A raw lock that records the calls made on it.
-use crate::call_log::CallLog;
-use crate::deadline::Deadline;
-use crate::raw_call::RawCall;
+use crate::raw_lock::call_log::CallLog;
+use crate::raw_lock::deadline::Deadline;
+use crate::raw_lock::raw_call::RawCall;
 use lock_base::machine::Mode;
 use lock_base::raw::Fault;
 use lock_guard::raw::{RawMutex, RawMutexFair, RawMutexTimed};

@@ -3,14 +3,14 @@ use lock_base::machine::{Call, Form, Reply};
 use lock_base::raw::Fault;
 use lock_script::PairOp;
 
-/// A call, and the reply of the `Desk`.
+/// A line of a script: a call, and the reply of the `Desk`.
 #[derive(Clone, Copy)]
-pub struct Line {
+pub struct ScriptLine {
     pub call: Call<PairOp>,
     pub wanted: Reply<i64>,
 }
 
-impl Line {
+impl ScriptLine {
     ghost use Rattle.std.specs.Prelude.{◌≡◌, IsTrue};
     ghost use Rattle.lock_conform.specs.Refusals.{IsOutright};
 

@@ -5,9 +5,9 @@ use lock_base::project::TryProject;
 
 /// The item of a pair of numbers at this index. The miss of a pair without it is the index.
 #[derive(Clone, Copy, Debug)]
-pub struct Nth(pub usize);
+pub struct NthItem(pub usize);
 
-impl TryProject<(u64, u64)> for Nth {
+impl TryProject<(u64, u64)> for NthItem {
     type Part = u64;
 
     type Miss = usize;
@@ -29,7 +29,7 @@ impl TryProject<(u64, u64)> for Nth {
         }
     }
 
-    fn get_mut<'a>(whole: &'a mut (u64, u64), projection: &Nth) -> Option<&'a mut u64>
+    fn get_mut<'a>(whole: &'a mut (u64, u64), projection: &NthItem) -> Option<&'a mut u64>
     where
         Self: 'a,
     {

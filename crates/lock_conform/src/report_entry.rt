@@ -3,12 +3,12 @@ ghost use Rattle.std.specs.Prelude.{◌≡◌, []};
 ghost use Rattle.lock_conform.specs.Refusals.{IsOutright};
 
 use lock_base::machine::Reply;
-use lock_recorder::RawCall;
+use lock_test_support::raw_lock::RawCall;
 
 /// The answer to a line of a script, and the raw calls that the line made. A call that the `Desk` refuses makes none,
 /// unless it is refused because it would block.
 #[derive(Drop)]
-pub struct Entry {
+pub struct ReportEntry {
     pub reply: Reply<i64>,
     pub raw_calls: Vec<RawCall>,
     pub ghost silent: { IsOutright reply → raw_calls.items ≡ [] },

@@ -1,2 +1,0 @@
-pub mod ModeWords
-pub mod RawCalls
