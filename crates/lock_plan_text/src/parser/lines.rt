@@ -1,8 +1,8 @@
 //! Parsing the lines of a plan.
-ghost use Rattle.std.specs.Prelude.{◌≡◌, IfErr, IfOk};
+ghost use Rattle.std.specs.Prelude.{◌≡◌, IfErr, IfOk, OnOk};
 ghost use Rattle.std.specs.Bool.{MatchBool};
 ghost use Rattle.lock_script.specs.Parts.{bytes_of};
-ghost use Rattle.lock_plan_text.specs.Drafts.{Adds, IsBad, IsDraftOf};
+ghost use Rattle.lock_plan_text.specs.Drafts.{Adds, IsBad, IsDraftOf, no_draft};
 ghost use Rattle.lock_plan_text.specs.Drafted.{drafted};
 ghost use Rattle.lock_plan_text.specs.PlanFaults.{IsLineFault};
 
@@ -22,15 +22,27 @@ pub(crate) fn parse_lines(alloc: Global, bytes: &[u8]) -> Result<PlanDraft, Plan
     ensures draft { IfOk result (λ draft. IsDraftOf bytes.now (drafted draft)) }
     ensures fault { IfErr result (IsLineFault bytes.now) }
 {
+    let mut draft = PlanDraft::new(alloc);
+    match add_lines(&mut draft, alloc, bytes) {
+        Ok(()) => Ok(draft),
+        Err(fault) => Err(fault),
+    }
+}
+
+/// Adds the lines of a plan to the draft of no lines.
+fn add_lines(draft: &mut PlanDraft, alloc: Global, bytes: &[u8]) -> Result<(), PlanTextFault>
+    requires { drafted draft.old ≡ no_draft }
+    ensures draft { OnOk result (IsDraftOf bytes.now (drafted draft.new)) }
+    ensures fault { IfErr result (IsLineFault bytes.now) }
+{
     let mut rest = Part::of(bytes);
     if rest.bytes().is_empty() {
         return Err(PlanTextFault::BadLine(1));
     }
-    let mut draft = PlanDraft::new(alloc);
     let mut number = 1u64;
     while !rest.bytes().is_empty() {
         let (text, after) = rest.first_line();
-        if !add_text(&mut draft, alloc, number, text)? {
+        if !add_text(draft, alloc, number, text)? {
             return Err(PlanTextFault::BadLine(number));
         }
         rest = after;
@@ -39,7 +51,7 @@ pub(crate) fn parse_lines(alloc: Global, bytes: &[u8]) -> Result<PlanDraft, Plan
     if !draft.blocks.are_none() {
         return Err(PlanTextFault::BadLine(number));
     }
-    Ok(draft)
+    Ok(())
 }
 
 /// Adds a line to a draft, and returns whether it is a line that the draft takes.

@@ -3,7 +3,8 @@ ghost use Rattle.std.specs.Prelude.{◌≡◌, ◌⊎◌, map, Some, None, IfErr
 ghost use Rattle.lock_plan_text.specs.declared.parser.fault.PlanTextFault.TheVariants.{OutOfMemory};
 ghost use Rattle.lock_plan_text.specs.Drafted.{IsMadeOf, IsPlanOf, drafted};
 ghost use Rattle.lock_plan_text.specs.PartyLines.{flag_program, number_of, programs_in};
-ghost use Rattle.lock_plan_text.specs.PlanFaults.{IsPlanTextFault, draft_fault};
+ghost use Rattle.lock_plan_text.specs.PlanFaults.{IsPlanTextFault, draft_fault, unknown_line};
+ghost use Rattle.lock_plan_text.specs.Beginnings.{unbegun_line};
 ghost use Rattle.lock_plan_text.specs.Drafts.{IsDraftOf};
 
 use crate::names::Names;
@@ -48,14 +49,27 @@ pub fn parse_text(alloc: Global, bytes: &[u8]) -> Result<PlanText, PlanTextFault
     ensures fault { IfErr result (IsPlanTextFault bytes.now) }
 {
     let draft = parse_lines(alloc, bytes)?;
+    match known_programs(alloc, &draft) {
+        Ok(programs) => Ok(PlanText { draft, programs }),
+        Err(fault) => Err(fault),
+    }
+}
+
+/// Makes the programs of a draft whose parties are known and begin.
+fn known_programs(alloc: Global, draft: &PlanDraft) -> Result<Vec<Vec<Place>>, PlanTextFault>
+    ensures known { IfOk result (λ _. unknown_line (drafted draft.now) ≡ None) }
+    ensures begun { IfOk result (λ _. unbegun_line (drafted draft.now) ≡ None) }
+    ensures programs { IfOk result (λ programs. map (λ v. v.items) programs.items ≡ programs_in (drafted draft.now)) }
+    ensures fault { IfErr result (λ fault. (draft_fault (drafted draft.now) ≡ Some fault) ⊎ (fault ≡ OutOfMemory)) }
+{
     if let Some(number) = draft.unknown_line() {
         return Err(PlanTextFault::UnknownParty(number));
     }
     if let Some(number) = draft.unbegun_line(alloc)? {
         return Err(PlanTextFault::NeverBegins(number));
     }
-    let programs = programs_of(alloc, &draft)?;
-    Ok(PlanText { draft, programs })
+    let programs = programs_of(alloc, draft)?;
+    Ok(programs)
 }
 
 impl PlanText {

@@ -1,7 +1,7 @@
 use Rattle.std.proofs.Common.{rules}
-use Rattle.std.proofs.lemmas.Result.{err_from_is_err_and}
 use Rattle.lock_plan_text.specs.Drafted.{drafted}
 use Rattle.lock_plan_text.proofs.AlikeParties.{text_alike}
+use Rattle.lock_plan_text.proofs.DraftFaults.{draft_told}
 use Rattle.lock_plan_text.proofs.parser.named_plan.parse_text.Goals as goal
 
 pub invariant_of-result : goal.invariant_of-result
@@ -12,12 +12,6 @@ invariant_of-result c = record {
   alike = text_alike c.args.bytes.now (drafted c.in_ok-draft.draft) c.in_ok-draft.ensures.draft;
 }
 
-pub returns-in_err-programs-clause-fault : goal.returns-in_err-programs-clause-fault
-returns-in_err-programs-clause-fault c =
-    let told = err_from_is_err_and c.from_residual-in_err-programs.result c.from_residual-in_err-programs.ensures.1 in
-    rw (told.1, told.2, c.in_err-programs.ensures.fault) tt
-
-pub returns-in_err-number-clause-fault : goal.returns-in_err-number-clause-fault
-returns-in_err-number-clause-fault c =
-    let told = err_from_is_err_and c.from_residual-in_err-number.result c.from_residual-in_err-number.ensures.1 in
-    rw (told.1, told.2) tt
+pub returns-in-Err-clause-fault : goal.returns-in-Err-clause-fault
+returns-in-Err-clause-fault c =
+    draft_told c.args.bytes.now (drafted c.in_ok-draft.draft) c.in-Err.fault c.in_ok-draft.ensures.draft c.in-Err.ensures.fault

@@ -5,21 +5,21 @@ use Rattle.lock_script.specs.Parts.{bytes_of}
 use Rattle.lock_plan_text.specs.Drafted.{drafted}
 use Rattle.lock_plan_text.specs.Drafts.{is_open}
 use Rattle.lock_plan_text.proofs.ParsedLines.{all_first, all_made, closed_at_end, is_free, is_held, is_more, is_none, more_first, more_made, next_bad, open_at_end}
-use Rattle.lock_plan_text.proofs.parser.lines.parse_lines.Goals as goal
+use Rattle.lock_plan_text.proofs.parser.lines.add_lines.Goals as goal
 
 pub loop-rest-init : goal.loop-rest-init
 loop-rest-init c =
     let bytes = c.args.bytes.now in
     let rest = bytes_of c.of-rest.result in
-    let draft = drafted c.new-draft.result in
+    let draft = drafted c.args.draft.now in
     let long : length rest ≡ length bytes = ap length c.of-rest.ensures in
     let read : length c.bytes.result.now ≡ length bytes = ap length c.bytes.ensures ∙ long in
     let read_more : 0 < length c.bytes.result.now = is_more _ (sym c.is_empty.ensures ∙ c.if-is_empty.false) in
     let more : 0 < length bytes = omega (arith, read, read_more) in
     record {
       next = omega (arith, long);
-      made = λ end made. all_made bytes rest draft end c.of-rest.ensures more c.new-draft.ensures made;
-      first = λ bad first. all_first bytes rest draft bad c.of-rest.ensures more c.new-draft.ensures first;
+      made = λ end made. all_made bytes rest draft end c.of-rest.ensures more c.requires made;
+      first = λ bad first. all_first bytes rest draft bad c.of-rest.ensures more c.requires first;
     }
 
 pub returns-in_err-add_text-clause-fault : goal.returns-in_err-add_text-clause-fault

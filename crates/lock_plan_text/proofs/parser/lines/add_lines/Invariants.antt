@@ -4,7 +4,7 @@ use Rattle.lock_script.specs.Lines.{lines_of}
 use Rattle.lock_script.specs.Parts.{bytes_of}
 use Rattle.lock_plan_text.specs.Drafted.{drafted}
 use Rattle.lock_plan_text.specs.Drafts.{Draft, IsDraftOf, IsFirstBadFrom, IsFirstBadLine, Make}
-use Rattle.lock_plan_text.proofs.parser.lines.parse_lines.Given as goal
+use Rattle.lock_plan_text.proofs.parser.lines.add_lines.Given as goal
 
 abbrev pub invariant-loop-rest : goal.invariant-loop-rest
 invariant-loop-rest l = record {
