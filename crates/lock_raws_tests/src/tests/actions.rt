@@ -1,17 +1,18 @@
 //! What threads do with a raw lock, as lists.
-use super::held::Held;
+use super::held::RawHold;
 use super::meeting::Meeting;
 use lock_base::machine::Mode::{self, Exclusive, Shared};
 use lock_guard::forget;
 use lock_guard::raw::RawRwLock;
 use lock_raws::{LockCore, RawLock};
+use std::alloc::{AllocError, Global};
 use std::sync::Wait;
 use std::thread::{self, Threads};
 use std::time::{Clock, Duration};
 
 /// What a thread does next. It holds at most one token, and keeps what it holds at its end.
 #[derive(Clone, Copy, PartialEq, Debug)]
-pub enum Action {
+pub enum ThreadAction {
     /// Acquires a token of the mode, blocking.
     Lock(Mode),
     /// Tries the mode, which must be admitted.
@@ -24,6 +25,8 @@ pub enum Action {
     To(Mode),
     /// Upgrades the token, by a try first.
     TryUpgrade,
+    /// Upgrades the token by a try, which must be admitted.
+    MustUpgrade,
     Bump,
     Unlock,
     /// Waits until all threads have come.
@@ -46,10 +49,10 @@ pub enum Action {
     ReadUntilWritten,
 }
 
-pub type Actions = &'static [Action];
+pub type Actions = &'static [ThreadAction];
 
 /// A raw lock that threads share.
-pub trait Acts {
+pub trait Acts: Sized + Drop {
     /// The permission to block.
     type Waiter: Wait;
 
@@ -60,10 +63,10 @@ pub trait Acts {
         meeting: &Meeting,
         lists: &[Actions],
         times: u32,
-    ) -> Option<Action>;
+    ) -> Option<ThreadAction>;
 
-    /// Returns whether a token is held.
-    fn is_held(&self) -> bool;
+    /// Returns whether a token is held, and whether an exclusive one is.
+    fn is_held(&self) -> [bool; 2];
 }
 
 impl<C: LockCore> Acts for RawLock<C> {
@@ -75,8 +78,8 @@ impl<C: LockCore> Acts for RawLock<C> {
         meeting: &Meeting,
         lists: &[Actions],
         times: u32,
-    ) -> Option<Action> {
-        let mut held = Held::Nothing;
+    ) -> Option<ThreadAction> {
+        let mut held = RawHold::Nothing;
         let mut wrong = None;
         for _ in 0..times {
             for list in lists {
@@ -93,8 +96,8 @@ impl<C: LockCore> Acts for RawLock<C> {
         wrong
     }
 
-    fn is_held(&self) -> bool {
-        RawRwLock::is_locked(self)
+    fn is_held(&self) -> [bool; 2] {
+        [RawRwLock::is_locked(self), self.is_locked_exclusive()]
     }
 }
 
@@ -103,34 +106,35 @@ fn acted<'a, C: LockCore, K: Clock>(
     raw: &'a RawLock<C>,
     clock: &K,
     meeting: &Meeting,
-    held: Held<'a, C>,
-    action: Action,
-) -> (Held<'a, C>, bool) {
+    held: RawHold<'a, C>,
+    action: ThreadAction,
+) -> (RawHold<'a, C>, bool) {
     match action {
-        Action::Lock(mode) => {
+        ThreadAction::Lock(mode) => {
             held.unlock();
-            (Held::lock(raw, mode), true)
+            (RawHold::lock(raw, mode), true)
         }
-        Action::Try(mode) => match Held::try_lock(raw, mode) {
+        ThreadAction::Try(mode) => match RawHold::try_lock(raw, mode) {
             Some(token) => {
                 held.unlock();
                 (token, true)
             }
             None => (held, false),
         },
-        Action::WriteOrRead => {
+        ThreadAction::WriteOrRead => {
             held.unlock();
-            match Held::try_lock(raw, Exclusive) {
+            match RawHold::try_lock(raw, Exclusive) {
                 Some(token) => (token, true),
-                None => (Held::lock(raw, Shared), true),
+                None => (RawHold::lock(raw, Shared), true),
             }
         }
-        Action::To(mode) => (held.change(mode), true),
-        Action::TryUpgrade => (held.try_upgrade(), true),
-        Action::Bump => (held.bump(), true),
-        Action::Unlock => {
+        ThreadAction::To(mode) => (held.change(mode), true),
+        ThreadAction::TryUpgrade => (held.try_upgrade().0, true),
+        ThreadAction::MustUpgrade => held.try_upgrade(),
+        ThreadAction::Bump => (held.bump(), true),
+        ThreadAction::Unlock => {
             held.unlock();
-            (Held::Nothing, true)
+            (RawHold::Nothing, true)
         }
         other => (held, is_right(raw, clock, meeting, other)),
     }
@@ -141,20 +145,20 @@ fn is_right<C: LockCore, K: Clock>(
     raw: &RawLock<C>,
     clock: &K,
     meeting: &Meeting,
-    action: Action,
+    action: ThreadAction,
 ) -> bool {
     match action {
-        Action::Meet => meeting.meet(RawRwLock::waiter(raw)),
-        Action::SeeAll => return meeting.sees_all(),
-        Action::Refused(mode) => return is_refused(raw, mode),
-        Action::Sleep => clock.sleep(Duration::from_millis(50)),
-        Action::Yield => thread::yield_now(),
-        Action::AwaitBar => return await_bar(raw),
-        Action::Write => meeting.write(),
-        Action::WriteIfFree => write_if_free(raw, meeting),
-        Action::AwaitWrite => meeting.await_write(RawRwLock::waiter(raw)),
-        Action::Unwritten => return !meeting.is_written(),
-        Action::ReadUntilWritten => read_until_written(raw, meeting),
+        ThreadAction::Meet => meeting.meet(RawRwLock::waiter(raw)),
+        ThreadAction::SeeAll => return meeting.sees_all(),
+        ThreadAction::Refused(mode) => return is_refused(raw, mode),
+        ThreadAction::Sleep => clock.sleep(Duration::from_millis(50)),
+        ThreadAction::Yield => thread::yield_now(),
+        ThreadAction::AwaitBar => return await_bar(raw),
+        ThreadAction::Write => meeting.write(),
+        ThreadAction::WriteIfFree => write_if_free(raw, meeting),
+        ThreadAction::AwaitWrite => meeting.await_write(RawRwLock::waiter(raw)),
+        ThreadAction::Unwritten => return !meeting.is_written(),
+        ThreadAction::ReadUntilWritten => read_until_written(raw, meeting),
         _ => {}
     }
     true
@@ -162,7 +166,7 @@ fn is_right<C: LockCore, K: Clock>(
 
 /// Returns whether a try of the mode is refused.
 fn is_refused<C: LockCore>(raw: &RawLock<C>, mode: Mode) -> bool {
-    match Held::try_lock(raw, mode) {
+    match RawHold::try_lock(raw, mode) {
         Some(token) => {
             token.unlock();
             false
@@ -172,7 +176,7 @@ fn is_refused<C: LockCore>(raw: &RawLock<C>, mode: Mode) -> bool {
 }
 
 fn write_if_free<C: LockCore>(raw: &RawLock<C>, meeting: &Meeting) {
-    if let Some(token) = Held::try_lock(raw, Exclusive) {
+    if let Some(token) = RawHold::try_lock(raw, Exclusive) {
         meeting.write();
         token.unlock();
     }
@@ -204,45 +208,30 @@ fn read_until_written<C: LockCore>(raw: &RawLock<C>, meeting: &Meeting) {
     }
 }
 
-/// What the first of several threads does, and each other, so many times.
-#[derive(Drop)]
-pub struct Work<'a> {
-    pub first: &'a [Actions],
-    pub others: &'a [Actions],
-    pub times: u32,
-}
+/// What the first of several threads does, what each other does, and how often.
+pub type Work<'a> = (&'a [Actions], &'a [Actions], u32);
 
-/// Returns the first action of two threads that went wrong.
-pub fn in_two_threads<R: Threads + Clock + Sync, L: Acts + Sync>(
+/// Returns the first action of so many threads that went wrong, and how many writes there were.
+pub fn in_threads<R: Threads + Clock + Sync, L: Acts + Sync>(
     rt: &R,
+    alloc: Global,
     lock: &L,
-    meeting: &Meeting,
-    work: &Work<'_>,
-) -> Option<Action> {
-    let (one, other) = thread::join(
+    threads: u32,
+    (first, others, times): Work<'_>,
+) -> Result<(Option<ThreadAction>, u64), AllocError> {
+    let meeting = Meeting::of(threads);
+    let wrong = thread::map_indices(
         rt,
-        || lock.act(rt, meeting, work.first, work.times),
-        || lock.act(rt, meeting, work.others, work.times),
-    );
-    one.or(other)
-}
-
-/// Returns the first action of four threads that went wrong.
-pub fn in_four_threads<R: Threads + Clock + Sync, L: Acts + Sync>(
-    rt: &R,
-    lock: &L,
-    meeting: &Meeting,
-    work: &Work<'_>,
-) -> Option<Action> {
-    let others = Work {
-        first: work.others,
-        others: work.others,
-        times: work.times,
-    };
-    let (one, other) = thread::join(
-        rt,
-        || in_two_threads(rt, lock, meeting, work),
-        || in_two_threads(rt, lock, meeting, &others),
-    );
-    one.or(other)
+        alloc,
+        threads as usize,
+        &|index| {
+            let lists = if index == 0 { first } else { others };
+            lock.act(rt, &meeting, lists, times)
+        },
+    )?;
+    let mut first = None;
+    for action in &wrong {
+        first = first.or(*action);
+    }
+    Ok((first, meeting.writes()))
 }

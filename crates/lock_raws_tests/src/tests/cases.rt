@@ -1,12 +1,14 @@
 //! Threads that wait for one another at a raw lock. Each case ends only if every waiter is woken.
-use super::actions::Action::{
-    self, AwaitBar, AwaitWrite, Lock, Meet, ReadUntilWritten, Sleep, To, Try, TryUpgrade, Unlock,
+use super::actions::ThreadAction::{
+    AwaitBar, AwaitWrite, Lock, Meet, ReadUntilWritten, Sleep, To, Try, TryUpgrade, Unlock,
     Unwritten, Write, WriteOrRead, Yield,
 };
-use super::actions::{Actions, Acts, Work, in_four_threads, in_two_threads};
+use super::actions::{Actions, Acts, in_threads};
 use super::meeting::Meeting;
 use lock_base::machine::Mode::{Exclusive, Shared, Upgradable};
+use lock_guard::raw::RawRwLock;
 use lock_test_support::answer::equal;
+use std::alloc::Global;
 use std::test::Fail;
 use std::thread::Threads;
 use std::time::{Clock, Duration, Instant};
@@ -17,7 +19,7 @@ const READER: Actions = &[Meet, Lock(Shared), Meet, Unlock];
 const WRITER: Actions = &[Meet, Lock(Exclusive), Write, Unlock, Meet];
 
 /// What the first thread does with a lock of four readers, and each of three others.
-const CASES: [(&str, Actions, Actions); 11] = [
+const CASES: [(&'static str, Actions, Actions); 11] = [
     (
         "a writer's end wakes readers",
         &[Lock(Exclusive), Meet, Sleep, Unlock, Meet],
@@ -67,19 +69,7 @@ const CASES: [(&str, Actions, Actions); 11] = [
         &[Meet, Lock(Exclusive), Unlock],
         &[Lock(Shared), Meet, Sleep, Unlock],
     ),
-    (
-        "waiting writers refuse readers, and only while they wait",
-        &[
-            Lock(Shared),
-            Meet,
-            AwaitBar,
-            Unlock,
-            Meet,
-            Try(Shared),
-            Unlock,
-        ],
-        WRITER,
-    ),
+    WAITING_WRITERS,
     (
         "waiting writers do not acquire during a single downgrade",
         &[
@@ -116,7 +106,22 @@ const CASES: [(&str, Actions, Actions); 11] = [
     WRITER_AMONG_READERS,
 ];
 
-const WRITER_AMONG_READERS: (&str, Actions, Actions) = (
+/// One writer refuses readers, too, next to a single reader.
+const WAITING_WRITERS: (&'static str, Actions, Actions) = (
+    "waiting writers refuse readers, and only while they wait",
+    &[
+        Lock(Shared),
+        Meet,
+        AwaitBar,
+        Unlock,
+        Meet,
+        Try(Shared),
+        Unlock,
+    ],
+    WRITER,
+);
+
+const WRITER_AMONG_READERS: (&'static str, Actions, Actions) = (
     "a writer acquires among readers without a pause",
     &[Meet, Sleep, Lock(Exclusive), Write, Unlock],
     &[Meet, ReadUntilWritten],
@@ -156,95 +161,65 @@ const SHORT_RUNS: [Actions; 9] = [
     &[Meet, WriteOrRead, Yield, To(Shared), Meet, Unlock],
 ];
 
+/// A readers' limit, and what four threads make again and again at a lock of that limit, how many times twenty.
+pub type Contention = (u64, &'static [Actions], u32);
+
+/// Without a meeting.
+pub const ROUNDS: [Contention; 2] = [(4, &[ROUND], 50), (1, &[ROUND], 50)];
+
+/// 5,100 short runs.
+pub const RUNS_OF_FOUR_READERS: [Contention; 1] = [(4, &SHORT_RUNS, 85)];
+
+/// 5,000 short runs.
+pub const RUNS_OF_ONE_READER: [Contention; 1] = [(1, &[ROUND, ROUND, &[Meet]], 250)];
+
 fn check_case<R: Threads + Clock + Sync, L: Acts + Sync>(
     rt: &R,
+    alloc: Global,
     lock: &L,
-    case: &(&str, Actions, Actions),
+    threads: u32,
+    (name, first, others): (&'static str, Actions, Actions),
 ) -> Result<(), Fail> {
-    let (name, first, others) = *case;
-    let work = Work {
-        first: &[first],
-        others: &[others],
-        times: 1,
-    };
-    let wrong = in_four_threads(rt, lock, &Meeting::of(4), &work);
-    equal((name, wrong, lock.is_held()), (name, None, false))
+    let (wrong, _) = in_threads(rt, alloc, lock, threads, (&[first], &[others], 1))?;
+    equal((name, wrong, lock.is_held()), (name, None, [false; 2]))
 }
 
-/// A writer that waits next to a single reader refuses a second one, and only while it waits.
-fn write_beside_a_reader<R: Threads + Clock + Sync, L: Acts + Sync>(
-    rt: &R,
-    lock: &L,
-) -> Result<(), Fail> {
-    let work = Work {
-        first: &[&[Lock(Shared), Meet, AwaitBar, Unlock]],
-        others: &[&[Meet, Lock(Exclusive), Unlock]],
-        times: 1,
-    };
-    let wrong = in_two_threads(rt, lock, &Meeting::of(2), &work);
-    let wrong_after = lock.act(rt, &Meeting::of(1), &[&[Try(Shared), Unlock]], 1);
-    equal((wrong, wrong_after), (None, None))
+/// Each case with a lock of four readers, and the one for a single reader with a lock of one. A reader is admitted once
+/// all other threads have ended.
+pub fn check_cases<R, L>(rt: &R, alloc: Global) -> Result<(), Fail>
+where
+    R: Threads + Clock + Sync + Copy,
+    L: Acts + RawRwLock<Waiter = R> + Sync,
+{
+    let (four, one): (L, L) = (
+        RawRwLock::new(alloc, *rt, 4)?,
+        RawRwLock::new(alloc, *rt, 1)?,
+    );
+    for case in CASES {
+        check_case(rt, alloc, &four, 4, case)?;
+    }
+    check_case(rt, alloc, &one, 4, WRITER_AMONG_READERS)?;
+    check_case(rt, alloc, &four, 2, WAITING_WRITERS)?;
+    let wrong = four.act(rt, &Meeting::of(1), &[&[Try(Shared), Unlock]], 1);
+    equal(wrong, None)
 }
 
-/// Four threads that make the same lists again and again: so many times twenty, or as often as a loaded machine does in 10
-/// seconds.
-fn contend<R: Threads + Clock + Sync, L: Acts + Sync>(
-    rt: &R,
-    lock: &L,
-    lists: &[Actions],
-    twenties: u32,
-) -> Result<(), Fail> {
-    let work = Work {
-        first: lists,
-        others: lists,
-        times: 20,
-    };
-    let start = Instant::now(rt)?;
-    for _ in 0..twenties {
-        let wrong = in_four_threads(rt, lock, &Meeting::of(4), &work);
-        equal((wrong, lock.is_held()), (None, false))?;
-        if start.elapsed(rt)? >= Duration::from_secs(10) {
-            break;
+/// The threads go on for at most 10 seconds, if the machine is loaded.
+pub fn contend<R, L>(rt: &R, alloc: Global, contentions: &[Contention]) -> Result<(), Fail>
+where
+    R: Threads + Clock + Sync + Copy,
+    L: Acts + RawRwLock<Waiter = R> + Sync,
+{
+    for (readers, lists, twenties) in contentions {
+        let lock: L = RawRwLock::new(alloc, *rt, *readers)?;
+        let start = Instant::now(rt)?;
+        for _ in 0..*twenties {
+            let (wrong, _) = in_threads(rt, alloc, &lock, 4, (*lists, *lists, 20))?;
+            equal((wrong, lock.is_held()), (None, [false; 2]))?;
+            if start.elapsed(rt)? >= Duration::from_secs(10) {
+                break;
+            }
         }
     }
     Ok(())
-}
-
-/// Each case with a lock of four readers, and the one for a single reader with a lock of one.
-pub fn check_cases<R: Threads + Clock + Sync, L: Acts + Sync>(
-    rt: &R,
-    four: &L,
-    one: &L,
-) -> Result<(), Fail> {
-    for case in &CASES {
-        check_case(rt, four, case)?;
-    }
-    check_case(rt, one, &WRITER_AMONG_READERS)?;
-    write_beside_a_reader(rt, four)
-}
-
-/// Rounds without a meeting, with a lock of four readers and with a lock of one.
-pub fn contend_in_rounds<R: Threads + Clock + Sync, L: Acts + Sync>(
-    rt: &R,
-    four: &L,
-    one: &L,
-) -> Result<(), Fail> {
-    contend(rt, four, &[ROUND], 50)?;
-    contend(rt, one, &[ROUND], 50)
-}
-
-/// 5,100 short runs.
-pub fn contend_in_short_runs<R: Threads + Clock + Sync, L: Acts + Sync>(
-    rt: &R,
-    four: &L,
-) -> Result<(), Fail> {
-    contend(rt, four, &SHORT_RUNS, 85)
-}
-
-/// 5,000 short runs with a lock of one reader.
-pub fn contend_for_one_reader<R: Threads + Clock + Sync, L: Acts + Sync>(
-    rt: &R,
-    one: &L,
-) -> Result<(), Fail> {
-    contend(rt, one, &[ROUND, ROUND, &[Meet]], 250)
 }

@@ -1,8 +1,8 @@
 //! Tokens of another lock, which a lock over a table ignores.
 use lock_base::machine::Mode::Shared;
-use lock_base::machine::ModeStep::{self, Acquire, Release};
+use lock_base::machine::ModeStep::{Acquire, Release};
 use lock_guard::raw::{RawRwLock, RawRwLockDowngrade};
-use lock_raws::RecordingRaw;
+use lock_raws::{Arbiter, Monitor, RawLock, RecordingArbiter, TableArbiter};
 use lock_test_support::answer::equal;
 use std::alloc::Global;
 use std::clone::Clone;
@@ -10,9 +10,9 @@ use std::sync::Wait;
 use std::test::Fail;
 
 /// Releases a token of the one at the other, which has a reader of its own. Returns whether each is held after that.
-fn unlock_the_other<W: Wait + Clone + Drop>(
-    one: &RecordingRaw<W>,
-    other: &RecordingRaw<W>,
+fn unlock_the_other<A: Arbiter, W: Wait + Clone + Drop>(
+    one: &RawLock<Monitor<A, W>>,
+    other: &RawLock<Monitor<A, W>>,
 ) -> [bool; 2] {
     let shared = other.lock_shared();
     other.unlock_exclusive(one.lock_exclusive());
@@ -22,9 +22,9 @@ fn unlock_the_other<W: Wait + Clone + Drop>(
 }
 
 /// Downgrades a token of the one at the other, and releases it there. Returns whether that is held after each.
-fn downgrade_at_the_other<W: Wait + Clone + Drop>(
-    one: &RecordingRaw<W>,
-    other: &RecordingRaw<W>,
+fn downgrade_at_the_other<A: Arbiter, W: Wait + Clone + Drop>(
+    one: &RawLock<Monitor<A, W>>,
+    other: &RawLock<Monitor<A, W>>,
 ) -> [bool; 2] {
     let shared = other.downgrade(one.lock_exclusive());
     let is_held = RawRwLock::is_locked(other);
@@ -33,12 +33,12 @@ fn downgrade_at_the_other<W: Wait + Clone + Drop>(
 }
 
 /// They also write no step.
-fn check<W: Wait + Clone + Drop>(alloc: Global, waiters: [W; 3]) -> Result<(), Fail> {
+fn check<A: Arbiter, W: Wait + Clone + Drop>(alloc: Global, waiters: [W; 3]) -> Result<(), Fail> {
     let [first, second, third] = waiters;
-    let one = RecordingRaw::with_room(alloc, first, 1, 4)?;
-    let other = RecordingRaw::with_room(alloc, second, 1, 4)?;
+    let one: RawLock<Monitor<RecordingArbiter<A>, W>> = RawLock::with_room(alloc, first, 1, 4)?;
+    let other: RawLock<Monitor<RecordingArbiter<A>, W>> = RawLock::with_room(alloc, second, 1, 4)?;
     equal(unlock_the_other(&one, &other), [true, true])?;
-    let third = RecordingRaw::with_room(alloc, third, 1, 4)?;
+    let third: RawLock<Monitor<RecordingArbiter<A>, W>> = RawLock::with_room(alloc, third, 1, 4)?;
     equal(downgrade_at_the_other(&third, &other), [false, false])?;
     let steps = other.journal(alloc)?;
     equal(
@@ -49,5 +49,5 @@ fn check<W: Wait + Clone + Drop>(alloc: Global, waiters: [W; 3]) -> Result<(), F
 
 #[test]
 fn foreign_tokens_are_ignored(rt: HostRuntime) -> Result<(), Fail> {
-    check(rt.alloc(), [rt; 3])
+    check::<TableArbiter, HostRuntime>(rt.alloc(), [rt; 3])
 }

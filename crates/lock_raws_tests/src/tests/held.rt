@@ -31,98 +31,102 @@ pub struct Upgrader<'a, C: LockCore> {
 }
 
 /// At most one token, with the lock that holds it.
-pub enum Held<'a, C: LockCore> {
+pub enum RawHold<'a, C: LockCore> {
     Nothing,
     Reader(Reader<'a, C>),
     Writer(Writer<'a, C>),
     Upgrader(Upgrader<'a, C>),
 }
 
-impl<'a, C: LockCore> Held<'a, C> {
-    pub fn reader(raw: &'a RawLock<C>, token: SharedToken<C::Token>) -> Held<'a, C>
+impl<'a, C: LockCore> RawHold<'a, C> {
+    pub fn reader(raw: &'a RawLock<C>, token: SharedToken<C::Token>) -> RawHold<'a, C>
         requires { C.holds raw.now.core Mode.Shared token.token ≡ true }
     {
-        Held::Reader(Reader { raw, token })
+        RawHold::Reader(Reader { raw, token })
     }
 
-    pub fn writer(raw: &'a RawLock<C>, token: ExclusiveToken<C::Token>) -> Held<'a, C>
+    pub fn writer(raw: &'a RawLock<C>, token: ExclusiveToken<C::Token>) -> RawHold<'a, C>
         requires { C.holds raw.now.core Mode.Exclusive token.token ≡ true }
     {
-        Held::Writer(Writer { raw, token })
+        RawHold::Writer(Writer { raw, token })
     }
 
-    pub fn upgrader(raw: &'a RawLock<C>, token: UpgradableToken<C::Token>) -> Held<'a, C>
+    pub fn upgrader(raw: &'a RawLock<C>, token: UpgradableToken<C::Token>) -> RawHold<'a, C>
         requires { C.holds raw.now.core Mode.Upgradable token.token ≡ true }
     {
-        Held::Upgrader(Upgrader { raw, token })
+        RawHold::Upgrader(Upgrader { raw, token })
     }
 
     /// Acquires a token of the mode, blocking until it is admitted.
-    pub fn lock(raw: &'a RawLock<C>, mode: Mode) -> Held<'a, C> {
+    pub fn lock(raw: &'a RawLock<C>, mode: Mode) -> RawHold<'a, C> {
         match mode {
-            Shared => Held::reader(raw, raw.lock_shared()),
-            Exclusive => Held::writer(raw, raw.lock_exclusive()),
-            Upgradable => Held::upgrader(raw, raw.lock_upgradable()),
+            Shared => RawHold::reader(raw, raw.lock_shared()),
+            Exclusive => RawHold::writer(raw, raw.lock_exclusive()),
+            Upgradable => RawHold::upgrader(raw, raw.lock_upgradable()),
         }
     }
 
     /// `lock` without blocking.
-    pub fn try_lock(raw: &'a RawLock<C>, mode: Mode) -> Option<Held<'a, C>> {
+    pub fn try_lock(raw: &'a RawLock<C>, mode: Mode) -> Option<RawHold<'a, C>> {
         Some(match mode {
-            Shared => Held::reader(raw, raw.try_lock_shared()?),
-            Exclusive => Held::writer(raw, raw.try_lock_exclusive()?),
-            Upgradable => Held::upgrader(raw, raw.try_lock_upgradable()?),
+            Shared => RawHold::reader(raw, raw.try_lock_shared()?),
+            Exclusive => RawHold::writer(raw, raw.try_lock_exclusive()?),
+            Upgradable => RawHold::upgrader(raw, raw.try_lock_upgradable()?),
         })
     }
 
     /// Releases the token, if there is one.
     pub fn unlock(self) {
         match self {
-            Held::Nothing => {}
-            Held::Reader(Reader { raw, token }) => raw.unlock_shared(token),
-            Held::Writer(Writer { raw, token }) => raw.unlock_exclusive(token),
-            Held::Upgrader(Upgrader { raw, token }) => raw.unlock_upgradable(token),
+            RawHold::Nothing => {}
+            RawHold::Reader(Reader { raw, token }) => raw.unlock_shared(token),
+            RawHold::Writer(Writer { raw, token }) => raw.unlock_exclusive(token),
+            RawHold::Upgrader(Upgrader { raw, token }) => raw.unlock_upgradable(token),
         }
     }
 
     /// Upgrades or downgrades the token to the mode. A token that cannot be, stays.
-    pub fn change(self, to: Mode) -> Held<'a, C> {
+    pub fn change(self, to: Mode) -> RawHold<'a, C> {
         match (self, to) {
-            (Held::Upgrader(Upgrader { raw, token }), Exclusive) => {
-                Held::writer(raw, raw.upgrade(token))
+            (RawHold::Upgrader(Upgrader { raw, token }), Exclusive) => {
+                RawHold::writer(raw, raw.upgrade(token))
             }
-            (Held::Upgrader(Upgrader { raw, token }), Shared) => {
-                Held::reader(raw, raw.downgrade_upgradable(token))
+            (RawHold::Upgrader(Upgrader { raw, token }), Shared) => {
+                RawHold::reader(raw, raw.downgrade_upgradable(token))
             }
-            (Held::Writer(Writer { raw, token }), Shared) => {
-                Held::reader(raw, raw.downgrade(token))
+            (RawHold::Writer(Writer { raw, token }), Shared) => {
+                RawHold::reader(raw, raw.downgrade(token))
             }
-            (Held::Writer(Writer { raw, token }), Upgradable) => {
-                Held::upgrader(raw, raw.downgrade_to_upgradable(token))
+            (RawHold::Writer(Writer { raw, token }), Upgradable) => {
+                RawHold::upgrader(raw, raw.downgrade_to_upgradable(token))
             }
             (held, _) => held,
         }
     }
 
-    /// Upgrades the token by a try, and by a blocking call if the try is refused.
-    pub fn try_upgrade(self) -> Held<'a, C> {
+    /// Upgrades the token by a try, and by a blocking call if the try is refused. Also returns whether the try upgraded
+    /// it.
+    pub fn try_upgrade(self) -> (RawHold<'a, C>, bool) {
         match self {
-            Held::Upgrader(Upgrader { raw, token }) => match raw.try_upgrade(token) {
-                Ok(token) => Held::writer(raw, token),
-                Err(token) => Held::writer(raw, raw.upgrade(token)),
+            RawHold::Upgrader(Upgrader { raw, token }) => match raw.try_upgrade(token) {
+                Ok(token) => (RawHold::writer(raw, token), true),
+                Err(token) => (RawHold::writer(raw, raw.upgrade(token)), false),
             },
-            held => held,
+            held => (held, false),
         }
     }
 
     /// Bumps the token, if there is one.
-    pub fn bump(self) -> Held<'a, C> {
+    pub fn bump(self) -> RawHold<'a, C> {
         match self {
-            Held::Nothing => Held::Nothing,
-            Held::Reader(Reader { raw, token }) => Held::reader(raw, raw.bump_shared(token)),
-            Held::Writer(Writer { raw, token }) => Held::writer(raw, raw.bump_exclusive(token)),
-            Held::Upgrader(Upgrader { raw, token }) => {
-                Held::upgrader(raw, raw.bump_upgradable(token))
+            RawHold::Nothing => RawHold::Nothing,
+            RawHold::Reader(Reader { raw, token }) => RawHold::reader(raw, raw.bump_shared(token)),
+            RawHold::Writer(Writer { raw, token }) => RawHold::writer(
+                raw,
+                raw.bump_exclusive(token),
+            ),
+            RawHold::Upgrader(Upgrader { raw, token }) => {
+                RawHold::upgrader(raw, raw.bump_upgradable(token))
             }
         }
     }

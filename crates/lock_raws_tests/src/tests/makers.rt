@@ -1,8 +1,7 @@
 //! Makers of raw locks to which memory is refused.
-use super::{Word, raw_rwlock};
 use lock_base::raw::Fault;
 use lock_guard::raw::{RawMutex, RawRwLock};
-use lock_raws::{LockCore, Monitor, RawLock, Recorded};
+use lock_raws::{LockCore, Monitor, NoTime, RawLock, Recorded, WordCore};
 use lock_test_support::answer::{equal, lacks_memory};
 use std::alloc::Global;
 use std::rt::Env;
@@ -25,12 +24,13 @@ fn check_makers<E: Env, C: LockCore>(
     let [first, second] = waiters;
     let mutex: Result<RawLock<C>, Fault> = RawMutex::new(alloc, first);
     is_free(rt, mutex)?;
-    is_free(rt, raw_rwlock::<C>(alloc, second, 4))
+    let rwlock: Result<RawLock<C>, Fault> = RawRwLock::new(alloc, second, 4);
+    is_free(rt, rwlock)
 }
 
 #[test]
 fn refused_memory_in_makers_on_a_word(rt: HostRuntime) -> Result<(), Fail> {
-    check_makers::<HostRuntime, Word>(&rt, rt.alloc(), [rt; 2])
+    check_makers::<HostRuntime, WordCore<HostRuntime, NoTime>>(&rt, rt.alloc(), [rt; 2])
 }
 
 #[test]

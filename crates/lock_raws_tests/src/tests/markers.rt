@@ -1,8 +1,9 @@
 //! Which tokens and guards another thread may have. The compiler refuses `GuardNoSend` as an argument of `hand_over`.
-use crate::tests::Word;
-use lock_guard::raw::{GuardNoSend, GuardSend};
-use lock_raws::RawLock;
+use lock_guard::raw::{GuardNoSend, GuardSend, RawRwLock};
+use lock_raws::WordRaw;
 use lock_rwlock::RwLock;
+use lock_test_support::answer::equal;
+use std::alloc::Global;
 use std::ops::Deref;
 use std::test::Fail;
 use std::thread::{self, Threads};
@@ -33,12 +34,25 @@ fn read_in_two_threads<R: Threads, G: Deref<Target = u64> + Sync>(rt: &R, guard:
     thread::join(rt, || **guard, || **guard)
 }
 
+/// What two threads read through one guard, and the value of the lock.
+fn read_and_end<T: Threads, R: RawRwLock + Drop + Sync>(
+    rt: &T,
+    alloc: Global,
+    waiter: R::Waiter,
+) -> Result<((u64, u64), u64), Fail>
+where
+    R::SharedGuard: Sync,
+    R::Waiter: Send,
+{
+    let lock: RwLock<R, u64> = RwLock::new(alloc, waiter, 7)?;
+    let guard = lock.read();
+    let seen = read_in_two_threads(rt, &guard);
+    drop(guard);
+    Ok((seen, lock.into_inner()))
+}
+
 #[test]
 fn threads_read_through_one_guard(rt: HostRuntime) -> Result<(), Fail> {
-    let lock: RwLock<RawLock<Word>, u64> = RwLock::new(rt.alloc(), rt, 7)?;
-    let guard = lock.read();
-    let seen = read_in_two_threads(&rt, &guard);
-    drop(guard);
-    assert_eq!(rt; (seen, lock.into_inner()), ((7, 7), 7));
-    Ok(())
+    let seen = read_and_end::<HostRuntime, WordRaw<HostRuntime>>(&rt, rt.alloc(), rt)?;
+    equal(seen, ((7, 7), 7))
 }

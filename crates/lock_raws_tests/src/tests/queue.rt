@@ -1,11 +1,10 @@
 //! Producers and consumers that sleep on condition variables.
-use crate::tests::{Table, Word};
 use lock_base::raw::Fault;
 use lock_guard::raw::RawMutex;
 use lock_mutex::{Condvar, Mutex};
-use lock_raws::{RawLock, SleepingCondvar};
+use lock_raws::{SleepingCondvar, TokenRaw, WordRaw};
+use lock_test_support::answer::equal;
 use std::alloc::Global;
-use std::sync::Wait;
 use std::test::Fail;
 use std::thread::{self, Threads};
 
@@ -14,38 +13,23 @@ const EACH: u64 = 10_000;
 
 /// Room for one item.
 #[derive(Drop)]
-struct Slot<R: RawMutex> {
+struct OneItem<R: RawMutex> {
     item: Mutex<R, Option<u64>>,
     filled: Condvar<SleepingCondvar<R>>,
     emptied: Condvar<SleepingCondvar<R>>,
 }
 
-impl<R: RawMutex + Drop> Slot<R> {
-    fn new(alloc: Global, waiter: R::Waiter) -> Result<Slot<R>, Fault> {
-        Ok(Slot {
+impl<R: RawMutex + Drop> OneItem<R> {
+    fn new(alloc: Global, waiter: R::Waiter) -> Result<OneItem<R>, Fault> {
+        Ok(OneItem {
             item: Mutex::new(alloc, waiter, None)?,
             filled: Condvar::new(alloc)?,
             emptied: Condvar::new(alloc)?,
         })
     }
-}
 
-/// What two threads each do at a time.
-trait Room {
-    /// The permission to block.
-    type Waiter: Wait;
-
-    /// Puts this item and those after it, each once there is room.
-    fn produce(&self, first: u64);
-
-    /// Takes items, each once there is one, and returns their sum.
-    fn consume(&self) -> u64;
-}
-
-impl<R: RawMutex> Room for Slot<R> {
-    type Waiter = R::Waiter;
-
-    fn produce(&self, first: u64) {
+    /// Puts this item and those after it, each once there is room. Takes none, so their sum is 0.
+    fn produce(&self, first: u64) -> u64 {
         for index in 0..EACH {
             let mut slot = self.item.lock();
             self.emptied.wait_while(&mut slot, |slot| slot.is_some());
@@ -53,8 +37,10 @@ impl<R: RawMutex> Room for Slot<R> {
             drop(slot);
             self.filled.notify_one();
         }
+        0
     }
 
+    /// Takes items, each once there is one, and returns their sum.
     fn consume(&self) -> u64 {
         let mut sum: u64 = 0;
         for _ in 0..EACH {
@@ -70,20 +56,31 @@ impl<R: RawMutex> Room for Slot<R> {
 }
 
 /// The sum of 1 to 20,000, if each item is taken once.
-fn sum_of_all<T: Threads + Sync, C: Room + Sync>(rt: &T, room: &C) -> u64 {
-    let (_, (one, other)) = thread::join(
+fn sum_of_all<T: Threads + Sync, R: RawMutex + Drop + Sync>(
+    rt: &T,
+    alloc: Global,
+    waiter: R::Waiter,
+) -> Result<u64, Fail>
+where
+    R::Waiter: Send,
+{
+    let slot: OneItem<R> = OneItem::new(alloc, waiter)?;
+    let sums = thread::map_indices(
         rt,
-        || thread::join(rt, || room.produce(1), || room.produce(1 + EACH)),
-        || thread::join(rt, || room.consume(), || room.consume()),
-    );
-    one.wrapping_add(other)
+        alloc,
+        4,
+        &|thread| match thread {
+            0 => slot.produce(1),
+            1 => slot.produce(1 + EACH),
+            _ => slot.consume(),
+        },
+    )?;
+    Ok(sums[2].wrapping_add(sums[3]))
 }
 
 #[test]
 fn each_item_arrives_once(rt: HostRuntime) -> Result<(), Fail> {
-    let words: Slot<RawLock<Word>> = Slot::new(rt.alloc(), rt)?;
-    assert_eq!(rt; sum_of_all(&rt, &words), 200_010_000);
-    let tables: Slot<RawLock<Table>> = Slot::new(rt.alloc(), rt)?;
-    assert_eq!(rt; sum_of_all(&rt, &tables), 200_010_000);
-    Ok(())
+    let on_word = sum_of_all::<HostRuntime, WordRaw<HostRuntime>>(&rt, rt.alloc(), rt)?;
+    let over_table = sum_of_all::<HostRuntime, TokenRaw<HostRuntime>>(&rt, rt.alloc(), rt)?;
+    equal([on_word, over_table], [200_010_000; 2])
 }

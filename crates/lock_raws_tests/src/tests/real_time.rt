@@ -2,10 +2,13 @@
 mod timed_calls;
 mod waits;
 
-use lock_base::raw::Fault;
-use lock_guard::raw::RawRwLock;
-use std::alloc::Global;
+use lock_raws::LockCore;
 use std::time::{Clock, Duration, Instant};
+
+/// A core that measures time.
+pub trait TimedCore: LockCore<Duration = Duration, Instant = Instant> {}
+
+impl<C: LockCore<Duration = Duration, Instant = Instant>> TimedCore for C {}
 
 /// How long a call that is refused waits.
 fn short() -> Duration {
@@ -15,9 +18,4 @@ fn short() -> Duration {
 /// Whether `short` is over since then.
 fn is_over<K: Clock>(clock: &K, start: Instant) -> bool {
     matches!(start.elapsed(clock), Ok(time) if time >= short())
-}
-
-/// A raw lock of the waiter.
-fn raw_rwlock<R: RawRwLock>(alloc: Global, waiter: R::Waiter) -> Result<R, Fault> {
-    RawRwLock::new(alloc, waiter, 4)
 }

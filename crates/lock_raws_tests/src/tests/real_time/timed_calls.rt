@@ -1,25 +1,22 @@
 //! Every timed call: it times out no sooner than its time, and a release before that lets it acquire.
-use super::{is_over, raw_rwlock, short};
-use crate::tests::held::Held;
-use lock_base::machine::Mode::{Exclusive, Shared};
+use super::{TimedCore, is_over, short};
+use crate::tests::held::RawHold;
+use lock_base::machine::Mode;
 use lock_guard::raw::{
     RawMutexTimed, RawRwLock, RawRwLockTimed, RawRwLockUpgrade, RawRwLockUpgradeTimed,
 };
-use lock_raws::{LockCore, RawLock, TimedRaw};
+use lock_raws::{LockCore, RawLock, RealTime, WordCore};
+use lock_test_support::answer::equal;
 use lock_test_support::wait_for_flag;
+use std::alloc::Global;
 use std::sync::atomic::{AtomicBool, Ordering};
 use std::test::Fail;
-use std::thread;
+use std::thread::{self, Threads};
 use std::time::{Clock, Duration, Instant};
-
-/// Longer than any test lasts.
-fn long() -> Duration {
-    Duration::from_secs(3_600)
-}
 
 /// What a timed call acquires.
 #[derive(Clone, Copy, PartialEq, Debug)]
-enum Want {
+enum Acquisition {
     Lock,
     Shared,
     Exclusive,
@@ -28,84 +25,53 @@ enum Want {
     Upgrade,
 }
 
-/// Whether a timed call takes a timeout or a deadline.
-#[derive(Clone, Copy, PartialEq, Debug)]
-enum Form {
-    For,
-    Until,
-}
+use Acquisition::{Exclusive, Lock, Shared, Upgradable, Upgrade};
 
-const CALLS: [(Want, Form); 10] = [
-    (Want::Lock, Form::For),
-    (Want::Lock, Form::Until),
-    (Want::Shared, Form::For),
-    (Want::Shared, Form::Until),
-    (Want::Exclusive, Form::For),
-    (Want::Exclusive, Form::Until),
-    (Want::Upgradable, Form::For),
-    (Want::Upgradable, Form::Until),
-    (Want::Upgrade, Form::For),
-    (Want::Upgrade, Form::Until),
-];
-
-/// A timeout or a deadline.
+/// When a timed call ends.
 #[derive(Clone, Copy)]
-enum End {
+enum TimeLimit {
     For(Duration),
     Until(Instant),
 }
 
-impl Form {
-    /// The timeout, or the deadline that is so long from now.
-    fn end<K: Clock>(self, clock: &K, time: Duration) -> Result<End, Fail> {
-        if self == Form::For {
-            return Ok(End::For(time));
-        }
-        let deadline = Instant::now(clock)?.checked_add(time);
-        Ok(End::Until(deadline.ok_or("there is such an instant")?))
+use TimeLimit::{For, Until};
+
+/// Returns the timeout, or the deadline that is so long from now.
+fn limit<K: Clock>(clock: &K, is_deadline: bool, time: Duration) -> Result<TimeLimit, Fail> {
+    if !is_deadline {
+        return Ok(For(time));
     }
+    let deadline = Instant::now(clock)?.checked_add(time);
+    Ok(Until(deadline.ok_or("there is such an instant")?))
 }
 
 /// Makes the timed call. An upgradable token that is not upgraded is released.
-fn acquired<C: LockCore<Duration = Duration, Instant = Instant>>(
+fn acquired<C: TimedCore>(
     raw: &RawLock<C>,
-    want: Want,
-    end: End,
-) -> Option<Held<'_, C>> {
-    Some(match (want, end) {
-        (Want::Lock, End::For(time)) => Held::writer(raw, raw.try_lock_for(time)?),
-        (Want::Lock, End::Until(deadline)) => Held::writer(raw, raw.try_lock_until(deadline)?),
-        (Want::Shared, End::For(time)) => Held::reader(raw, raw.try_lock_shared_for(time)?),
-        (Want::Shared, End::Until(deadline)) => Held::reader(
-            raw,
-            raw.try_lock_shared_until(deadline)?,
-        ),
-        (Want::Exclusive, End::For(time)) => Held::writer(raw, raw.try_lock_exclusive_for(time)?),
-        (Want::Exclusive, End::Until(deadline)) => {
-            Held::writer(raw, raw.try_lock_exclusive_until(deadline)?)
-        }
-        (Want::Upgradable, End::For(time)) => Held::upgrader(
-            raw,
-            raw.try_lock_upgradable_for(time)?,
-        ),
-        (Want::Upgradable, End::Until(deadline)) => {
-            Held::upgrader(raw, raw.try_lock_upgradable_until(deadline)?)
-        }
-        (Want::Upgrade, end) => return upgraded(raw, end),
+    what: Acquisition,
+    limit: TimeLimit,
+) -> Option<RawHold<'_, C>> {
+    Some(match (what, limit) {
+        (Lock, For(time)) => RawHold::writer(raw, raw.try_lock_for(time)?),
+        (Lock, Until(end)) => RawHold::writer(raw, raw.try_lock_until(end)?),
+        (Shared, For(time)) => RawHold::reader(raw, raw.try_lock_shared_for(time)?),
+        (Shared, Until(end)) => RawHold::reader(raw, raw.try_lock_shared_until(end)?),
+        (Exclusive, For(time)) => RawHold::writer(raw, raw.try_lock_exclusive_for(time)?),
+        (Exclusive, Until(end)) => RawHold::writer(raw, raw.try_lock_exclusive_until(end)?),
+        (Upgradable, For(time)) => RawHold::upgrader(raw, raw.try_lock_upgradable_for(time)?),
+        (Upgradable, Until(end)) => RawHold::upgrader(raw, raw.try_lock_upgradable_until(end)?),
+        (Upgrade, limit) => return upgraded(raw, limit),
     })
 }
 
-fn upgraded<C: LockCore<Duration = Duration, Instant = Instant>>(
-    raw: &RawLock<C>,
-    end: End,
-) -> Option<Held<'_, C>> {
+fn upgraded<C: TimedCore>(raw: &RawLock<C>, limit: TimeLimit) -> Option<RawHold<'_, C>> {
     let token = raw.lock_upgradable();
-    let answer = match end {
-        End::For(time) => raw.try_upgrade_for(token, time),
-        End::Until(deadline) => raw.try_upgrade_until(token, deadline),
+    let answer = match limit {
+        For(time) => raw.try_upgrade_for(token, time),
+        Until(end) => raw.try_upgrade_until(token, end),
     };
     match answer {
-        Ok(token) => Some(Held::writer(raw, token)),
+        Ok(token) => Some(RawHold::writer(raw, token)),
         Err(token) => {
             raw.unlock_upgradable(token);
             None
@@ -114,12 +80,8 @@ fn upgraded<C: LockCore<Duration = Duration, Instant = Instant>>(
 }
 
 /// Whether the call acquires. It releases at once.
-fn acquires<C: LockCore<Duration = Duration, Instant = Instant>>(
-    raw: &RawLock<C>,
-    want: Want,
-    end: End,
-) -> bool {
-    match acquired(raw, want, end) {
+fn acquires<C: TimedCore>(raw: &RawLock<C>, what: Acquisition, limit: TimeLimit) -> bool {
+    match acquired(raw, what, limit) {
         Some(held) => {
             held.unlock();
             true
@@ -129,76 +91,93 @@ fn acquires<C: LockCore<Duration = Duration, Instant = Instant>>(
 }
 
 /// Acquires a token that blocks the call.
-fn block<C: LockCore>(raw: &RawLock<C>, want: Want) -> Held<'_, C> {
-    let mode = if want == Want::Upgrade {
-        Shared
-    } else {
-        Exclusive
-    };
-    Held::lock(raw, mode)
+fn block<C: LockCore>(raw: &RawLock<C>, what: Acquisition) -> RawHold<'_, C> {
+    match what {
+        Upgrade => RawHold::lock(raw, Mode::Shared),
+        _ => RawHold::lock(raw, Mode::Exclusive),
+    }
 }
 
 /// Whether the call acquires within `short`, next to a token that blocks it, and whether `short` was over when it
 /// returned.
-fn acquires_beside<K: Clock, C: LockCore<Duration = Duration, Instant = Instant>>(
+fn acquires_beside<K: Clock, C: TimedCore>(
     clock: &K,
     raw: &RawLock<C>,
-    want: Want,
-    form: Form,
-) -> Result<(bool, bool), Fail> {
+    what: Acquisition,
+    is_deadline: bool,
+) -> Result<[bool; 2], Fail> {
     let start = Instant::now(clock)?;
-    let end = form.end(clock, short())?;
-    let held = block(raw, want);
-    let is_acquired = acquires(raw, want, end);
+    let limit = limit(clock, is_deadline, short())?;
+    let held = block(raw, what);
+    let is_acquired = acquires(raw, what, limit);
     let was_over = is_over(clock, start);
     held.unlock();
-    Ok((is_acquired, was_over))
-}
-
-/// Whether the call acquires, which begins once another thread holds a token that blocks it.
-fn acquires_once_held<C: LockCore<Duration = Duration, Instant = Instant>>(
-    raw: &RawLock<C>,
-    want: Want,
-    end: End,
-    is_held: &AtomicBool,
-) -> bool {
-    wait_for_flag(RawRwLock::waiter(raw), is_held);
-    acquires(raw, want, end)
+    Ok([is_acquired, was_over])
 }
 
 /// Holds a token that blocks the call for `short`, and releases it.
 fn release_later<K: Clock, C: LockCore>(
     clock: &K,
     raw: &RawLock<C>,
-    want: Want,
+    what: Acquisition,
     is_held: &AtomicBool,
 ) {
-    let held = block(raw, want);
+    let held = block(raw, what);
     is_held.store(true, Ordering::SeqCst);
     clock.sleep(short());
     held.unlock();
 }
 
-/// Each call, blocked and released. A timeout past the last instant never ends.
-#[test]
-fn timed_calls_wait_for_their_time(rt: HostRuntime) -> Result<(), Fail> {
-    let raw: TimedRaw<HostRuntime> = raw_rwlock(rt.alloc(), rt)?;
-    for (want, form) in CALLS {
-        let seen = acquires_beside(&rt, &raw, want, form)?;
-        if seen != (false, true) {
-            return Err(Fail::from((want, form, "timed out before its time", seen)));
-        }
-        for end in [form.end(&rt, long())?, End::For(Duration::MAX)] {
-            let is_held = AtomicBool::new(false);
-            let (is_acquired, ()) = thread::join(
-                &rt,
-                || acquires_once_held(&raw, want, end, &is_held),
-                || release_later(&rt, &raw, want, &is_held),
-            );
-            if !is_acquired {
-                return Err(Fail::from((want, form, "timed out after a release")));
-            }
+/// Whether the call acquires, which begins once another thread holds a token that blocks it for `short`.
+fn acquires_after_a_release<R: Threads + Clock + Sync, C: TimedCore + Sync>(
+    rt: &R,
+    raw: &RawLock<C>,
+    what: Acquisition,
+    limit: TimeLimit,
+) -> bool
+where
+    C::Waiter: Send,
+{
+    let is_held = AtomicBool::new(false);
+    let (is_acquired, ()) = thread::join(
+        rt,
+        || {
+            wait_for_flag(RawRwLock::waiter(raw), &is_held);
+            acquires(raw, what, limit)
+        },
+        || release_later(rt, raw, what, &is_held),
+    );
+    is_acquired
+}
+
+/// Each call, blocked and released. A timeout past the last instant never ends, and an hour is longer than any test.
+fn check_calls<R: Threads + Clock + Sync, C: TimedCore + Sync>(
+    rt: &R,
+    alloc: Global,
+    waiter: C::Waiter,
+) -> Result<(), Fail>
+where
+    C::Waiter: Send,
+{
+    let raw: RawLock<C> = RawRwLock::new(alloc, waiter, 4)?;
+    for what in [Lock, Shared, Exclusive, Upgradable, Upgrade] {
+        for is_deadline in [false, true] {
+            let seen = acquires_beside(rt, &raw, what, is_deadline)?;
+            let hour = limit(rt, is_deadline, Duration::from_secs(3_600))?;
+            let released = [
+                acquires_after_a_release(rt, &raw, what, hour),
+                acquires_after_a_release(rt, &raw, what, For(Duration::MAX)),
+            ];
+            equal(
+                (what, is_deadline, seen, released),
+                (what, is_deadline, [false, true], [true; 2]),
+            )?;
         }
     }
     Ok(())
+}
+
+#[test]
+fn timed_calls_wait_for_their_time(rt: HostRuntime) -> Result<(), Fail> {
+    check_calls::<HostRuntime, WordCore<HostRuntime, RealTime>>(&rt, rt.alloc(), rt)
 }

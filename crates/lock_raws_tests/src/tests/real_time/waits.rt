@@ -1,22 +1,24 @@
 //! Waits of a condition variable that measures time.
-use super::{is_over, raw_rwlock, short};
-use lock_guard::raw::{RawCondvar, RawCondvarTimed, RawMutex, RawMutexTimed};
-use lock_raws::{SleepingCondvar, TimedCondvar, TimedRaw};
+use super::{is_over, short};
+use lock_guard::raw::{RawCondvar, RawCondvarTimed, RawMutex, RawMutexTimed, RawRwLock};
+use lock_raws::{SleepingCondvar, TimedRaw};
+use lock_test_support::answer::equal;
 use lock_test_support::wait_for_flag;
+use std::alloc::Global;
 use std::sync::Wait;
 use std::sync::atomic::{AtomicBool, AtomicU64, Ordering};
 use std::test::Fail;
-use std::thread;
+use std::thread::{self, Threads};
 use std::time::{Clock, Duration, Instant};
 
 /// Waits until the condition variable says that the time is up, for nobody notifies. Whether `short` was over then.
-fn waits_in_time<K: Clock, R: RawMutexTimed<Duration = Duration, Instant = Instant>, C>(
+fn waits_in_time<K: Clock, R: RawMutexTimed<Duration = Duration, Instant = Instant>>(
     clock: &K,
     raw: &R,
-    condvar: &C,
+    condvar: &SleepingCondvar<R>,
 ) -> Result<bool, Fail>
 where
-    C: RawCondvarTimed<RawMutex = R>,
+    R::Waiter: Clock,
 {
     let start = Instant::now(clock)?;
     let mut token = raw.lock();
@@ -31,12 +33,24 @@ where
     Ok(is_over(clock, start))
 }
 
+/// Whether a wait at a lock of four readers times out in time.
+fn times_out<T, R>(rt: &T, alloc: Global) -> Result<bool, Fail>
+where
+    T: Wait + Clock + Copy + Drop,
+    R: RawMutexTimed<Duration = Duration, Instant = Instant>
+        + RawMutex<Waiter = T>
+        + RawRwLock<Waiter = T>
+        + Drop,
+{
+    let raw: R = RawRwLock::new(alloc, *rt, 4)?;
+    let condvar: SleepingCondvar<R> = RawCondvar::new(alloc)?;
+    waits_in_time(rt, &raw, &condvar)
+}
+
 #[test]
 fn a_wait_that_nobody_ends_times_out(rt: HostRuntime) -> Result<(), Fail> {
-    let raw: TimedRaw<HostRuntime> = raw_rwlock(rt.alloc(), rt)?;
-    let condvar: TimedCondvar<HostRuntime> = RawCondvar::new(rt.alloc())?;
-    assert!(rt; waits_in_time(&rt, &raw, &condvar)?);
-    Ok(())
+    let in_time = times_out::<HostRuntime, TimedRaw<HostRuntime>>(&rt, rt.alloc())?;
+    equal(in_time, true)
 }
 
 /// Waits until a flag is up under the mutex.
@@ -79,24 +93,33 @@ fn open<K: Clock, R: RawMutex>(
 }
 
 /// It ends only if both threads are woken. Then no wait is registered.
+fn check_notify_all<T, R>(rt: &T, alloc: Global) -> Result<(), Fail>
+where
+    T: Threads + Clock + Send + Sync + Copy,
+    R: RawMutex<Waiter = T> + RawRwLock<Waiter = T> + Drop + Sync,
+{
+    let raw: R = RawRwLock::new(alloc, *rt, 4)?;
+    let opened: SleepingCondvar<R> = RawCondvar::new(alloc)?;
+    let (waiting, is_open) = (AtomicU64::new(0), AtomicBool::new(false));
+    let told = thread::map_indices(
+        rt,
+        alloc,
+        3,
+        &|thread| {
+            if thread == 0 {
+                return open(rt, &raw, &opened, &waiting, &is_open);
+            }
+            wait_until_open(&raw, &opened, &waiting, &is_open);
+            0
+        },
+    )?;
+    equal(told.as_slice(), [2, 0, 0].as_slice())?;
+    equal((opened.notify_one(), opened.notify_all()), (false, 0))
+}
+
 #[test]
 fn one_notification_of_all_ends_each_wait(rt: HostRuntime) -> Result<(), Fail> {
-    let raw: TimedRaw<HostRuntime> = raw_rwlock(rt.alloc(), rt)?;
-    let opened: TimedCondvar<HostRuntime> = RawCondvar::new(rt.alloc())?;
-    let (waiting, is_open) = (AtomicU64::new(0), AtomicBool::new(false));
-    let (_, told) = thread::join(
-        &rt,
-        || thread::join(
-            &rt,
-            || wait_until_open(&raw, &opened, &waiting, &is_open),
-            || wait_until_open(&raw, &opened, &waiting, &is_open),
-        ),
-        || open(&rt, &raw, &opened, &waiting, &is_open),
-    );
-    assert!(rt; told == 2);
-    assert!(rt; !opened.notify_one());
-    assert!(rt; opened.notify_all() == 0);
-    Ok(())
+    check_notify_all::<HostRuntime, TimedRaw<HostRuntime>>(&rt, rt.alloc())
 }
 
 /// The waiter's timeout: long enough for a notification at once, even on a busy machine.
@@ -135,21 +158,36 @@ fn notify_and_hold<K: Clock, R: RawMutex>(
     raw.unlock(token);
 }
 
-/// On a busy machine a wait may time out, but not each of five.
-#[test]
-fn a_wait_that_is_notified_in_time_has_not_timed_out(rt: HostRuntime) -> Result<(), Fail> {
+/// Whether a wait next to a notification did not time out. On a busy machine it may, but not each of five.
+fn is_notified<T, R>(rt: &T, alloc: Global) -> Result<bool, Fail>
+where
+    T: Threads + Clock + Send + Sync + Copy,
+    R: RawMutexTimed<Duration = Duration, Instant = Instant>
+        + RawMutex<Waiter = T>
+        + RawRwLock<Waiter = T>
+        + Drop
+        + Sync,
+{
     for _ in 0..5u32 {
-        let raw: TimedRaw<HostRuntime> = raw_rwlock(rt.alloc(), rt)?;
-        let notified: TimedCondvar<HostRuntime> = RawCondvar::new(rt.alloc())?;
+        let raw: R = RawRwLock::new(alloc, *rt, 4)?;
+        let notified: SleepingCondvar<R> = RawCondvar::new(alloc)?;
         let is_waiting = AtomicBool::new(false);
         let (in_time, ()) = thread::join(
-            &rt,
+            rt,
             || is_notified_in_time(&raw, &notified, &is_waiting),
-            || notify_and_hold(&rt, &raw, &notified, &is_waiting),
+            || notify_and_hold(rt, &raw, &notified, &is_waiting),
         );
         if in_time == Some(true) {
-            return Ok(());
+            return Ok(true);
         }
     }
-    Err(Fail::from("each of five waits timed out"))
+    Ok(false)
+}
+
+#[test]
+fn a_wait_that_is_notified_in_time_has_not_timed_out(rt: HostRuntime) -> Result<(), Fail> {
+    equal(
+        is_notified::<HostRuntime, TimedRaw<HostRuntime>>(&rt, rt.alloc())?,
+        true,
+    )
 }
