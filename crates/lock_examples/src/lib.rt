@@ -18,7 +18,7 @@ mod signatures;
 mod spin_lock;
 
 pub use callers::{Limit, Settings, read_within, write_under_each};
-pub use parts::{Job, Nth, Progress};
+pub use parts::{Element, Job, Progress};
 pub use pool::{Lease, Pool};
 pub use queue::Queue;
 pub use registry::{EntryGuard, EntryOf, Registry, read_twice};

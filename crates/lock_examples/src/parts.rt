@@ -6,16 +6,16 @@ use lock_api::{TryProject, TryView};
 
 /// An element of a list, for reading.
 #[derive(Clone, Copy)]
-pub struct Nth(pub usize);
+pub struct Element(pub usize);
 
-impl<T> TryView<Vec<T>> for Nth {
+impl<T> TryView<Vec<T>> for Element {
     type Part = T;
 
     type Miss = usize;
 
-    ghost part = { λ nth list. slice_get list.items nth.0 };
+    ghost part = { λ element list. slice_get list.items element.0 };
 
-    ghost missed = { λ nth list. nth.0 };
+    ghost missed = { λ element list. element.0 };
 
     fn get<'a>(&self, list: &'a Vec<T>) -> Option<&'a T>
     where

@@ -1,8 +1,9 @@
 //! The examples of a `Desk` and of a journal: the calls succeed with ample memory.
-use lock_api::{
-    Bag, Mode, ModeStep, Mutex, PackedWord, PartyId, RawMutex, RecordingRaw, Reply, TokenTable,
-};
+use lock_api::{Bag, Mode, ModeStep, Mutex, PackedWord, PartyId, RecordingRaw, Reply, TokenTable};
 use lock_examples::desk::{audit, audit_lock, deposit_under_lock, two_parties_acquire};
+use std::alloc::Global;
+use std::clone::Clone;
+use std::sync::Wait;
 use std::test::Fail;
 
 fn party(id: u64) -> Result<PartyId, Fail> {
@@ -23,18 +24,21 @@ fn a_deposit_is_replied_to(rt: HostRuntime) -> Result<(), Fail> {
     Ok(())
 }
 
-/// What remains of a mutex whose value was set to 5.
-fn written<R: RawMutex>(mutex: Mutex<R, u64>) -> (R, u64) {
+/// The value of a mutex after 5 was written to it, and what an audit of its journal finds.
+fn write_and_audit<W: Wait + Clone + Drop>(
+    alloc: Global,
+    waiter: W,
+) -> Result<(u64, Result<Bag, usize>), Fail> {
+    let mutex: Mutex<RecordingRaw<W>, u64> = Mutex::new(alloc, waiter, 0)?;
     *mutex.lock() = 5;
-    mutex.into_inner_with_raw()
+    let (raw, value) = mutex.into_inner_with_raw();
+    Ok((value, audit_lock(alloc, &raw)?))
 }
 
 #[test]
 fn a_journal_is_audited(rt: HostRuntime) -> Result<(), Fail> {
-    let mutex: Mutex<RecordingRaw<HostRuntime>, u64> = Mutex::new(rt.alloc(), rt, 0)?;
-    let (raw, value) = written(mutex);
-    assert_eq!(rt; value, 5);
-    assert_eq!(rt; audit_lock(rt.alloc(), &raw)?, Ok(Bag::empty()));
+    let audited = write_and_audit(rt.alloc(), rt)?;
+    assert_eq!(rt; audited, (5, Ok(Bag::empty())));
     let twice = [
         ModeStep::Acquire(Mode::Exclusive),
         ModeStep::Acquire(Mode::Shared),

@@ -1,8 +1,7 @@
 //! The first locks, by names that fix their raw lock.
 use crate::tests::in_threads::twice;
 use lock_api::{
-    FairMutex, RawRwLock, RawRwLockUpgradeDowngrade, RwLock, RwLockUpgradableReadGuard, WordMutex,
-    WordRwLock,
+    FairMutex, LockCore, RawLock, RwLock, RwLockUpgradableReadGuard, WordMutex, WordRwLock,
 };
 use std::test::Fail;
 use std::thread;
@@ -38,28 +37,26 @@ fn two_threads_share_a_fair_mutex(rt: HostRuntime) -> Result<(), Fail> {
     Ok(())
 }
 
-/// What readers see of a lock of 7 beside another reader, and after a write of 8.
-fn seen_around_a_write<R: RawRwLock>(lock: &RwLock<R, u64>) -> [u64; 2] {
+/// What readers see of a lock of 7 beside another reader, and after a write of 8. Then whether the lock is held.
+fn seen_around_a_write<C: LockCore>(lock: RwLock<RawLock<C>, u64>) -> ([u64; 2], bool) {
     let reader = lock.read();
     let before = lock.with_read(|value| *value);
     drop(reader);
     lock.with_write(|value| *value = 8);
-    [before, lock.with_read(|value| *value)]
+    let after = lock.with_read(|value| *value);
+    ([before, after], lock.is_locked())
 }
 
 #[test]
 fn readers_and_a_writer_run_closures(rt: HostRuntime) -> Result<(), Fail> {
     let lock = WordRwLock::new(rt.alloc(), rt, 7u64)?;
-    assert_eq!(rt; seen_around_a_write(&lock), [7, 8]);
-    assert!(rt; !lock.is_locked());
+    assert_eq!(rt; seen_around_a_write(lock), ([7, 8], false));
     Ok(())
 }
 
 /// What a downgraded guard reads. Then whether a writer and an upgradable reader are admitted beside it, and whether a
 /// writer is once it has ended.
-fn beside_a_downgraded_guard<R: RawRwLockUpgradeDowngrade>(
-    lock: &RwLock<R, u64>,
-) -> (u64, [bool; 3]) {
+fn beside_a_downgraded_guard<C: LockCore>(lock: RwLock<RawLock<C>, u64>) -> (u64, [bool; 3]) {
     let reader = RwLockUpgradableReadGuard::downgrade(lock.upgradable_read());
     let writes = lock.try_write().is_some();
     let upgrades = lock.try_upgradable_read().is_some();
@@ -71,6 +68,6 @@ fn beside_a_downgraded_guard<R: RawRwLockUpgradeDowngrade>(
 #[test]
 fn a_downgraded_guard_shows_the_value(rt: HostRuntime) -> Result<(), Fail> {
     let lock = WordRwLock::new(rt.alloc(), rt, 7u64)?;
-    assert_eq!(rt; beside_a_downgraded_guard(&lock), (7, [false, true, true]));
+    assert_eq!(rt; beside_a_downgraded_guard(lock), (7, [false, true, true]));
     Ok(())
 }

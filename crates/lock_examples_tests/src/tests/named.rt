@@ -1,25 +1,24 @@
 //! Each name that fixes a raw lock makes a lock.
 //!
-//! A test only makes the locks, since each function that names a raw lock is proved anew. Functions that name none use
+//! A test only makes the locks, since each function that names a raw lock is proved anew. Functions over any core use
 //! them.
 use lock_api::{
-    Condvar, FairCondvar, FairMutex, FairReentrantMutex, FairRwLock, Fault, FullRawLock, Mutex,
-    PartyId, RawMutexTimed, RawRwLockTimed, RecordingCondvar, RecordingMutex,
-    RecordingReentrantMutex, RecordingRwLock, ReentrantMutex, RwLock, SleepingCondvar,
-    TimedFairCondvar, TimedFairMutex, TimedFairReentrantMutex, TimedFairRwLock, TimedWordCondvar,
-    TimedWordMutex, TimedWordReentrantMutex, TimedWordRwLock, TokenCondvar, TokenMutex,
-    TokenReentrantMutex, TokenRwLock, WaiterOf, WordCondvar, WordMutex, WordReentrantMutex,
-    WordRwLock,
+    Condvar, FairCondvar, FairMutex, FairReentrantMutex, FairRwLock, Fault, LockCore, Mutex,
+    PartyId, RawLock, RecordingCondvar, RecordingMutex, RecordingReentrantMutex, RecordingRwLock,
+    ReentrantMutex, RwLock, SleepingCondvar, TimedFairCondvar, TimedFairMutex,
+    TimedFairReentrantMutex, TimedFairRwLock, TimedWordCondvar, TimedWordMutex,
+    TimedWordReentrantMutex, TimedWordRwLock, TokenCondvar, TokenMutex, TokenReentrantMutex,
+    TokenRwLock, WordCondvar, WordMutex, WordReentrantMutex, WordRwLock,
 };
 use std::test::Fail;
 use std::time::{Clock, Duration, Instant};
 
 /// A mutex, its condition variable, a reader-writer lock and a reentrant mutex over one raw lock, as their names made them.
-type Made<R> = (
-    Result<Mutex<R, u64>, Fault>,
-    Result<Condvar<SleepingCondvar<R>>, Fault>,
-    Result<RwLock<R, u64>, Fault>,
-    Result<ReentrantMutex<R, u64>, Fault>,
+type Made<C> = (
+    Result<Mutex<RawLock<C>, u64>, Fault>,
+    Result<Condvar<SleepingCondvar<RawLock<C>>>, Fault>,
+    Result<RwLock<RawLock<C>, u64>, Fault>,
+    Result<ReentrantMutex<RawLock<C>, u64>, Fault>,
 );
 
 fn party() -> Result<PartyId, Fail> {
@@ -27,7 +26,7 @@ fn party() -> Result<PartyId, Fail> {
 }
 
 /// What the three locks hold. The condition variable waits while the mutex holds another value than 1.
-fn held<R: FullRawLock>(made: Made<R>) -> Result<[u64; 3], Fail> {
+fn held<C: LockCore>(made: Made<C>) -> Result<[u64; 3], Fail> {
     let (mutex, condvar, lock, reentrant) = made;
     let (mutex, condvar) = (mutex?, condvar?);
     let (lock, reentrant) = (lock?, reentrant?);
@@ -39,12 +38,11 @@ fn held<R: FullRawLock>(made: Made<R>) -> Result<[u64; 3], Fail> {
 }
 
 /// Whether a wait, a mutex that is held, and a writer's lock time out, and whether a free reentrant mutex does not.
-fn are_timed<R>(made: Made<R>) -> Result<[bool; 4], Fail>
+fn are_timed<C: LockCore<Duration = Duration, Instant = Instant>>(
+    made: Made<C>,
+) -> Result<[bool; 4], Fail>
 where
-    R: FullRawLock
-        + RawMutexTimed<Duration = Duration, Instant = Instant>
-        + RawRwLockTimed<Duration = Duration, Instant = Instant>,
-    WaiterOf<R>: Clock,
+    C::Waiter: Clock,
 {
     let (mutex, condvar, lock, reentrant) = made;
     let (mutex, condvar) = (mutex?, condvar?);

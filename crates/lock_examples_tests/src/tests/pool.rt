@@ -1,18 +1,18 @@
 //! A pool of leases.
 use crate::tests::in_threads::{Counts, twice};
-use lock_api::{ArcMutexGuard, Fault, RawMutex, WordRaw};
+use lock_api::{ArcMutexGuard, Fault, LockCore, NoTime, RawLock, WordCore};
 use lock_examples::Pool;
 use std::alloc::Global;
 use std::test::Fail;
 
-type Raw = WordRaw<HostRuntime>;
+type Core = WordCore<HostRuntime, NoTime>;
 
 /// A pool of two objects.
-fn pool_of<R: RawMutex + Drop>(
+fn pool_of<C: LockCore>(
     alloc: Global,
-    waiters: [R::Waiter; 2],
+    waiters: [C::Waiter; 2],
     objects: [u64; 2],
-) -> Result<Pool<R, u64>, Fault> {
+) -> Result<Pool<RawLock<C>, u64>, Fault> {
     let [first, second] = waiters;
     let mut pool = Pool::new(alloc);
     pool.add(alloc, first, objects[0])?;
@@ -20,11 +20,13 @@ fn pool_of<R: RawMutex + Drop>(
     Ok(pool)
 }
 
-/// Whether none is free while both are leased, what is free once the first came back as 11, and what the second is
-/// after the pool's end.
-fn lend_both<R: RawMutex + Drop>(
-    pool: Pool<R, u64>,
+/// Of a pool of 10 and 20: whether none is free while both are leased, what is free once the first came back as 11, and
+/// what the second is after the pool's end.
+fn lend_both<C: LockCore>(
+    alloc: Global,
+    waiters: [C::Waiter; 2],
 ) -> Result<Option<(bool, [Option<u64>; 2], u64)>, Fault> {
+    let pool: Pool<RawLock<C>, u64> = pool_of(alloc, waiters, [10, 20])?;
     let (Some(mut first), Some(second)) = (pool.lend()?, pool.lend()?) else {
         return Ok(None);
     };
@@ -40,13 +42,13 @@ fn lend_both<R: RawMutex + Drop>(
 
 #[test]
 fn each_object_is_lent_to_one(rt: HostRuntime) -> Result<(), Fail> {
-    let pool: Pool<Raw, u64> = pool_of(rt.alloc(), [rt, rt], [10, 20])?;
-    assert_eq!(rt; lend_both(pool)?, Some((true, [None, Some(11)], 20)));
+    let lent = lend_both::<Core>(rt.alloc(), [rt, rt])?;
+    assert_eq!(rt; lent, Some((true, [None, Some(11)], 20)));
     Ok(())
 }
 
-impl<R: RawMutex + Drop> Counts for Pool<R, u64> {
-    type Waiter = R::Waiter;
+impl<C: LockCore> Counts for Pool<RawLock<C>, u64> {
+    type Waiter = C::Waiter;
 
     /// How often an object was free, each time counted in it.
     fn count(&self) -> u64 {
@@ -61,7 +63,7 @@ impl<R: RawMutex + Drop> Counts for Pool<R, u64> {
 }
 
 /// What both objects are in sum.
-fn sum<R: RawMutex + Drop>(pool: &Pool<R, u64>) -> Result<Option<u64>, Fault> {
+fn sum<C: LockCore>(pool: &Pool<RawLock<C>, u64>) -> Result<Option<u64>, Fault> {
     let Some(one) = pool.lend()? else {
         return Ok(None);
     };
@@ -71,7 +73,7 @@ fn sum<R: RawMutex + Drop>(pool: &Pool<R, u64>) -> Result<Option<u64>, Fault> {
 
 #[test]
 fn two_threads_share_the_objects(rt: HostRuntime) -> Result<(), Fail> {
-    let pool: Pool<Raw, u64> = pool_of(rt.alloc(), [rt, rt], [0, 0])?;
+    let pool = pool_of::<Core>(rt.alloc(), [rt, rt], [0, 0])?;
     let (first, second) = twice(&rt, &pool);
     assert_eq!(rt; sum(&pool)?, Some(first.wrapping_add(second)));
     Ok(())

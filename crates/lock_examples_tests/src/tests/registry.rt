@@ -1,15 +1,13 @@
 //! A registry that two threads fill.
 use crate::tests::in_threads::{Counts, twice};
-use lock_api::{MappedRwLockReadGuard, RawRwLock, RawRwLockUpgrade, WordRaw};
+use lock_api::{LockCore, MappedRwLockReadGuard, RawLock, WordRaw};
 use lock_examples::{Registry, read_twice};
 use std::alloc::AllocFailed;
 use std::test::Fail;
 
-type Raw = WordRaw<HostRuntime>;
-
 /// Which of three entries are added, the last under a key that has one.
-fn add_three<R: RawRwLockUpgrade>(
-    registry: &Registry<R, u64>,
+fn add_three<C: LockCore>(
+    registry: &Registry<RawLock<C>, u64>,
 ) -> Result<[bool; 3], AllocFailed<(u64, u64)>> {
     Ok([
         registry.add(1, 10)?,
@@ -22,7 +20,7 @@ fn add_three<R: RawRwLockUpgrade>(
 /// lookup under 3 misses.
 type Seen = ((Option<u64>, Option<u64>), Option<u64>, bool, Option<u64>);
 
-fn look_at_three<R: RawRwLock>(registry: &Registry<R, u64>) -> Result<Seen, u64> {
+fn look_at_three<C: LockCore>(registry: &Registry<RawLock<C>, u64>) -> Result<Seen, u64> {
     let one = registry.look(1)?;
     let first_read = read_twice(&one);
     let two = registry.look(2);
@@ -31,17 +29,23 @@ fn look_at_three<R: RawRwLock>(registry: &Registry<R, u64>) -> Result<Seen, u64>
     Ok((first_read, last_read, two.is_ok(), missed))
 }
 
+/// What adds and look-ups in one registry answer.
+fn add_and_look<C: LockCore>(
+    registry: &Registry<RawLock<C>, u64>,
+) -> Result<([bool; 3], Result<Seen, u64>), Fail> {
+    Ok((add_three(registry)?, look_at_three(registry)))
+}
+
 #[test]
 fn entries_are_read_side_by_side(rt: HostRuntime) -> Result<(), Fail> {
-    let registry: Registry<Raw, u64> = Registry::new(rt.alloc(), rt)?;
-    assert_eq!(rt; add_three(&registry)?, [true, true, false]);
+    let registry: Registry<WordRaw<HostRuntime>, u64> = Registry::new(rt.alloc(), rt)?;
     let wanted = ((Some(10), Some(10)), Some(10), true, Some(3));
-    assert_eq!(rt; look_at_three(&registry), Ok(wanted));
+    assert_eq!(rt; add_and_look(&registry)?, ([true, true, false], Ok(wanted)));
     Ok(())
 }
 
-impl<R: RawRwLockUpgrade> Counts for Registry<R, u64> {
-    type Waiter = R::Waiter;
+impl<C: LockCore> Counts for Registry<RawLock<C>, u64> {
+    type Waiter = C::Waiter;
 
     /// How many of the keys below 50 this call added.
     fn count(&self) -> u64 {
@@ -57,7 +61,7 @@ impl<R: RawRwLockUpgrade> Counts for Registry<R, u64> {
 
 #[test]
 fn each_key_is_added_once(rt: HostRuntime) -> Result<(), Fail> {
-    let registry: Registry<Raw, u64> = Registry::new(rt.alloc(), rt)?;
+    let registry: Registry<WordRaw<HostRuntime>, u64> = Registry::new(rt.alloc(), rt)?;
     let (first, second) = twice(&rt, &registry);
     assert_eq!(rt; first.wrapping_add(second), 50);
     assert_eq!(rt; registry.len(), 50);

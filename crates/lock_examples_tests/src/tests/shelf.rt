@@ -1,10 +1,10 @@
 //! A shelf lends objects, and gets each back at the end of its loan.
-use lock_api::{RawMutex, WordRaw};
+use lock_api::{LockCore, RawLock, WordRaw};
 use lock_examples::{Loan, Shelf};
 use std::test::Fail;
 
 /// The object of a loan.
-fn object<R: RawMutex>(loan: &Option<Loan<'_, R, u64>>) -> Option<u64> {
+fn object<C: LockCore>(loan: &Option<Loan<'_, RawLock<C>, u64>>) -> Option<u64> {
     match loan {
         Some(loan) => Some(loan.object),
         None => None,
@@ -12,7 +12,9 @@ fn object<R: RawMutex>(loan: &Option<Loan<'_, R, u64>>) -> Option<u64> {
 }
 
 /// What three loans of two objects lend at a time, and what another lends once the second has ended.
-fn borrowed<R: RawMutex>(shelf: &Shelf<R, u64>) -> Result<([Option<u64>; 3], Option<u64>), Fail> {
+fn borrowed<C: LockCore>(
+    shelf: &Shelf<RawLock<C>, u64>,
+) -> Result<([Option<u64>; 3], Option<u64>), Fail> {
     shelf.put(3)?;
     shelf.put(4)?;
     let (first, second, third) = (shelf.borrow(), shelf.borrow(), shelf.borrow());
