@@ -235,6 +235,7 @@ pub use lock_rwlock::RwLockReadGuard;
 pub use lock_rwlock::RwLockUpgradableReadGuard;
 pub use lock_rwlock::RwLockWriteGuard;
 pub use lock_rwlock::Shared;
+pub use lock_rwlock::ShowMode;
 pub use lock_rwlock::Upgradable;
 pub use lock_sleepers::Debt;
 pub use lock_sleepers::SleeperView;

@@ -1,5 +1,5 @@
 //! Rounds of locks on one thread. Loops that a Rust program has too are not inlined, so that each is compiled by itself.
-use crate::turns::{Act, TakeTurns, Turns, cost_beside};
+use crate::turns::{TakeTurns, TurnAct, Turns, cost_beside};
 use lock_base::machine::PartyId;
 use lock_guard::raw::{RawMutex, RawRwLock, RawRwLockUpgradeDowngrade};
 use lock_mutex::Mutex;
@@ -212,12 +212,12 @@ fn trips<
     };
     // its fault is told once the turns are ended, since nothing else drops them
     let start = Instant::now(rt);
-    let even = Act::Take {
+    let even = TurnAct::Take {
         first: 0,
         rounds,
         after: 0,
     };
-    let odd = Act::Take {
+    let odd = TurnAct::Take {
         first: 1,
         rounds,
         after: 0,

@@ -31,7 +31,7 @@ impl<R: RawMutex> Turns<R> {
 
 /// What a thread does with the turns.
 #[derive(Clone, Copy)]
-pub enum Act {
+pub enum TurnAct {
     /// Holds the lock for so many milliseconds.
     Hold(u64),
     /// Acquires the lock, and releases it.
@@ -48,7 +48,7 @@ pub trait TakeTurns: Sized {
     /// Before the first turn.
     fn new(alloc: Global, waiter: Self::Waiter) -> Result<Self, Fault>;
 
-    fn act<K: Clock>(&self, clock: &K, act: Act);
+    fn act<K: Clock>(&self, clock: &K, act: TurnAct);
 
     /// Drops it: a bound `Drop` would have all of the raw lock proved twice.
     fn end(self);
@@ -64,15 +64,15 @@ impl<C: LockCore> TakeTurns for Turns<RawLock<C>> {
         })
     }
 
-    fn act<K: Clock>(&self, clock: &K, act: Act) {
+    fn act<K: Clock>(&self, clock: &K, act: TurnAct) {
         match act {
-            Act::Hold(millis) => {
+            TurnAct::Hold(millis) => {
                 let turn = self.turn.lock();
                 clock.sleep(Duration::from_millis(millis));
                 drop(turn);
             }
-            Act::Lock => drop(self.turn.lock()),
-            Act::Take {
+            TurnAct::Lock => drop(self.turn.lock()),
+            TurnAct::Take {
                 first,
                 rounds,
                 after,
@@ -95,7 +95,7 @@ pub fn used(before: Option<Duration>, after: Option<Duration>) -> u128 {
 }
 
 /// The processor microseconds of what one thread does after so many milliseconds.
-fn cost<K: Clock + CpuClock, T: TakeTurns>(clock: &K, turns: &T, act: Act, after: u64) -> u128 {
+fn cost<K: Clock + CpuClock, T: TakeTurns>(clock: &K, turns: &T, act: TurnAct, after: u64) -> u128 {
     clock.sleep(Duration::from_millis(after));
     let before = clock.thread_cpu_time();
     turns.act(clock, act);
@@ -106,8 +106,8 @@ fn cost<K: Clock + CpuClock, T: TakeTurns>(clock: &K, turns: &T, act: Act, after
 pub fn cost_beside<R: Threads + Sync + Clock + CpuClock, T: TakeTurns + Sync>(
     rt: &R,
     turns: &T,
-    act: Act,
-    other: Act,
+    act: TurnAct,
+    other: TurnAct,
     after: u64,
 ) -> u128 {
     thread::join(rt, || cost(rt, turns, act, after), || turns.act(rt, other)).0

@@ -2,7 +2,7 @@
 mod ruled;
 mod word_lock;
 
-use crate::turns::{Act, TakeTurns, Turns, cost_beside};
+use crate::turns::{TakeTurns, TurnAct, Turns, cost_beside};
 use lock_raws::{RecordingRaw, TimedRaw, TokenRaw, WordRaw};
 use std::alloc::Global;
 use std::io;
@@ -19,7 +19,7 @@ fn over<
         return println!(rt; "{name}: out of memory");
     };
     let begun = millis / 10;
-    let lock = cost_beside(rt, &turns, Act::Lock, Act::Hold(millis), begun);
+    let lock = cost_beside(rt, &turns, TurnAct::Lock, TurnAct::Hold(millis), begun);
     let condvar = cost_beside(rt, &turns, turn(1, 0), turn(0, millis), begun);
     turns.end();
     println!(rt;
@@ -28,8 +28,8 @@ fn over<
 }
 
 /// One turn, after so many milliseconds.
-fn turn(first: u64, after: u64) -> Act {
-    Act::Take {
+fn turn(first: u64, after: u64) -> TurnAct {
+    TurnAct::Take {
         first,
         rounds: 1,
         after,

@@ -7,7 +7,7 @@ use crate::difference::Difference;
 use crate::lines::Lines;
 use crate::report::Report;
 use crate::report_entry::ReportEntry;
-use crate::script_line::ScriptLine;
+use crate::script_call::ScriptCall;
 use lock_base::machine::Reply;
 use lock_test_support::raw_lock::CallLog;
 use std::alloc::{AllocError, Global};
@@ -66,7 +66,7 @@ impl Comparison {
     }
 
     /// Returns the next line.
-    pub fn next(&self) -> ScriptLine
+    pub fn next(&self) -> ScriptCall
         requires { lines_done self.now < length self.now.lines.replies.items }
     {
         self.lines.line(self.entries.len())
@@ -78,7 +78,7 @@ impl Comparison {
     }
 
     /// Returns whether the line is made on the lock. After an announcement, which the shared locks lack, no line is.
-    pub fn makes(&self, line: ScriptLine) -> bool
+    pub fn makes(&self, line: ScriptCall) -> bool
         ensures { IsTrue result → ¬ IsOutright line.wanted }
     {
         line.is_made() && !self.is_barred

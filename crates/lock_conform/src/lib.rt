@@ -18,8 +18,8 @@ mod report_entry;
 mod report_text;
 mod rw_guard;
 mod rwlock;
+mod script_call;
 mod script_guards;
-mod script_line;
 mod script_run;
 mod wrong;
 

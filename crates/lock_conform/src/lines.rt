@@ -1,7 +1,7 @@
 //! The lines of a script.
 ghost use Rattle.std.specs.Prelude.{◌≡◌, length};
 
-use crate::script_line::ScriptLine;
+use crate::script_call::ScriptCall;
 use lock_base::machine::{Call, Reply};
 use lock_base::raw::Fault;
 use lock_desk::Desk;
@@ -45,12 +45,12 @@ impl Lines {
     }
 
     /// Returns the line at a place.
-    pub(crate) fn line(&self, at: usize) -> ScriptLine
+    pub(crate) fn line(&self, at: usize) -> ScriptCall
         requires { at < length self.now.replies.items }
         ensures call { slice_get self.now.calls.items at ≡ Some result.call }
         ensures wanted { slice_get self.now.replies.items at ≡ Some result.wanted }
     {
-        ScriptLine {
+        ScriptCall {
             call: self.calls[at],
             wanted: self.replies[at],
         }

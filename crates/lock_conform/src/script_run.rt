@@ -9,8 +9,8 @@ use crate::driven::{Driven, ScriptGuard, call_guard};
 use crate::lines::Lines;
 use crate::manner::ParkBy;
 use crate::report::Report;
+use crate::script_call::ScriptCall;
 use crate::script_guards::{GuardState, ScriptGuards};
-use crate::script_line::ScriptLine;
 use lock_base::machine::{Call, Form, PartyId, Reply, Want, Way};
 use lock_base::raw::Fault;
 use lock_script::PairOp;
@@ -202,7 +202,7 @@ fn answered(mut comparison: Comparison, reply: Reply<i64>) -> Result<Comparison,
 fn make_line<D: Driven>(
     driven: &D,
     guards: &mut ScriptGuards<D::Guard>,
-    line: ScriptLine,
+    line: ScriptCall,
 ) -> Result<Reply<i64>, AllocError>
     requires { ¬ IsOutright line.wanted }
 {

@@ -15,7 +15,7 @@ mod table;
 
 use crate::tests::by_name::by_name;
 use crate::tests::counted_state::CountedState;
-use crate::tests::maker::Maker;
+use crate::tests::maker::DeskMaker;
 use lock_base::machine::{Call, Op, Reply};
 use lock_base::raw::{Fault, RawState};
 use lock_desk::Desk;
@@ -67,7 +67,7 @@ fn replay<R: RawState, O: Op<u64, Answer = u64>>(
 /// `replay`, on a new desk over this raw state.
 fn replay_over<R: RawState, O: Op<u64, Answer = u64>>(
     alloc: Global,
-    maker: Maker,
+    maker: DeskMaker,
     session: &[(Call<O>, Reply<u64>)],
 ) -> Result<(), Wrong> {
     match maker.desk::<CountedState<R>>(alloc) {
@@ -79,7 +79,7 @@ fn replay_over<R: RawState, O: Op<u64, Answer = u64>>(
 /// The session goes as expected over a table and over a packed word.
 fn check<O: Op<u64, Answer = u64>>(
     alloc: Global,
-    maker: Maker,
+    maker: DeskMaker,
     session: &[(Call<O>, Reply<u64>)],
 ) -> Result<(), Wrong> {
     replay_over::<TokenTable, O>(alloc, maker, session)?;

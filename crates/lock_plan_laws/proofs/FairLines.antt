@@ -15,7 +15,7 @@ use Rattle.lock_plan.specs.declared.call.PlanCall.{PlanCall}
 use Rattle.lock_plan.specs.declared.lock.PlanLock.{PlanLock}
 use Rattle.lock_plan.specs.declared.program.Act.{Act}
 use Rattle.lock_plan.specs.declared.program.Act.TheVariants.{Call}
-use Rattle.lock_plan.specs.declared.program.Place.{Place}
+use Rattle.lock_plan.specs.declared.program.ProgramPlace.{ProgramPlace}
 use Rattle.lock_plan.specs.declared.program.Step.{Step}
 use Rattle.lock_plan.specs.declared.turn.Turn.{Turn}
 use Rattle.lock_plan.specs.declared.turn.Turn.TheVariants.{Goes, Announces, Waits, Refused}
@@ -574,7 +574,7 @@ module _ (locks : List PlanLock) (servers : List Bool) (w : List Stand) (stuck :
       (join_run locks w [] waits_first n first_joins)
       ∙ join_run locks w leaders comes_behind n then_joins
 
-pub lines_stop_as_worlds : (servers : List Bool) (locks : List PlanLock) (programs : List (List Place)) → LinesStopAsWorlds servers locks programs
+pub lines_stop_as_worlds : (servers : List Bool) (locks : List PlanLock) (programs : List (List ProgramPlace)) → LinesStopAsWorlds servers locks programs
 lines_stop_as_worlds servers locks programs = record {
   worlds = λ acts s e. worlds locks acts (first_lined locks programs) s e;
   reached = λ steps w e. (map inr steps, plain_run locks steps (first_world locks programs) w e);

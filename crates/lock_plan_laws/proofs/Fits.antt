@@ -7,7 +7,7 @@ use Rattle.lock_base.specs.declared.machine.kind.Kind.TheVariants.{Mutex, RwLock
 use Rattle.lock_base.specs.Kind.{is_rwlock}
 use Rattle.lock_base.specs.Sound.{IsLimitOf}
 use Rattle.lock_plan.specs.declared.lock.PlanLock.{PlanLock}
-use Rattle.lock_plan.specs.declared.program.Place.{Place}
+use Rattle.lock_plan.specs.declared.program.ProgramPlace.{ProgramPlace}
 use Rattle.lock_plan.specs.Known.{Known, known_of}
 use Rattle.lock_plan.specs.Worlds.{no_lock}
 use Rattle.lock_plan.specs.Checks.{program_fault, parties_fault, plan_fault, fits_kind, fits_machine, fit_machines}
@@ -15,7 +15,7 @@ use Rattle.lock_plan.proofs.Right.{no_first, no_second, known_when}
 use Rattle.lock_plan_laws.specs.Scenes.{limit_for}
 use Rattle.lock_plan_laws.specs.Bridge.{FitsMachines}
 
-all_right : (locks : List PlanLock) (party : ℕ) (programs : List (List Place)) → parties_fault locks party programs ≡ None
+all_right : (locks : List PlanLock) (party : ℕ) (programs : List (List ProgramPlace)) → parties_fault locks party programs ≡ None
     → (p : ℕ) → (known : Known) × (known_of locks (get_or programs p []) ≡ Ok known)
 all_right locks party [] e p = (_, refl)
 all_right locks party (program ∷ programs) e zero =
@@ -41,7 +41,7 @@ fit_at (lock ∷ locks) zero e =
     (and_parts (fits_kind lock.kind lock.limit lock.bar) _ (and_parts (fits_machine lock) (fit_machines locks) e).0).0
 fit_at (lock ∷ locks) (suc l) e = fit_at locks l (and_parts (fits_machine lock) (fit_machines locks) e).1
 
-pub fits_by : (locks : List PlanLock) (programs : List (List Place)) (room : ℕ)
+pub fits_by : (locks : List PlanLock) (programs : List (List ProgramPlace)) (room : ℕ)
     → ((p : ℕ) → (known : Known) × (known_of locks (get_or programs p []) ≡ Ok known))
     → IsTrue (fit_machines locks) → sum_by length programs ≤ room → FitsMachines locks programs room
 fits_by locks programs room right fit enough =
@@ -53,7 +53,7 @@ fits_by locks programs room right fit enough =
       enough = enough;
     }
 
-pub fits : (locks : List PlanLock) (programs : List (List Place)) (room : ℕ) → plan_fault locks programs ≡ None
+pub fits : (locks : List PlanLock) (programs : List (List ProgramPlace)) (room : ℕ) → plan_fault locks programs ≡ None
     → IsTrue (fit_machines locks) → sum_by length programs ≤ room → FitsMachines locks programs room
 fits locks programs room right fit enough =
     fits_by locks programs room (all_right locks 0 programs (no_first (parties_fault locks 0 programs) _ right)) fit enough

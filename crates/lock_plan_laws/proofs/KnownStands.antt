@@ -18,7 +18,7 @@ use Rattle.lock_plan.specs.declared.program.Act.TheVariants.{Call, Try, Choose, 
 use Rattle.lock_plan.specs.declared.program.Block.{Block}
 use Rattle.lock_plan.specs.declared.program.Signal.{Signal as PlanSignal}
 use Rattle.lock_plan.specs.declared.program.Signal.TheVariants.{Idle}
-use Rattle.lock_plan.specs.declared.program.Place.{Place}
+use Rattle.lock_plan.specs.declared.program.ProgramPlace.{ProgramPlace}
 use Rattle.lock_plan.specs.Holds.{is_write, announces_itself}
 use Rattle.lock_plan.specs.CallFaults.{fault_on, call_fault}
 use Rattle.lock_plan.specs.Known.{Known, known_at, known_of}
@@ -43,7 +43,7 @@ pub record IsKnownStand (locks : List PlanLock) (x : Stand) : Type 0 where
   pub walked : IsWalked locks x.program (length x.program) known
   pub is : (known_at known x.place ≡ Some x.holds) ⊎ IsAhead locks known x
 
-act_there : (program : List Place) (place : ℕ) (a : Act) → act_in program place ≡ Some a
+act_there : (program : List ProgramPlace) (place : ℕ) (a : Act) → act_in program place ≡ Some a
     → (place < length program) × ((get_or program place no_place).act ≡ a)
 act_there [] place a e = cc
 act_there (x ∷ program) zero a e = (omega arith, cc)
@@ -250,7 +250,7 @@ module _ (locks : List PlanLock) where
           cc
 
   -- before its first act
-  unfoldable pub known_first : (program : List Place) (known : Known) → known_of locks program ≡ Ok known → IsKnownStand locks (first_stand locks program)
+  unfoldable pub known_first : (program : List ProgramPlace) (known : Known) → known_of locks program ≡ Ok known → IsKnownStand locks (first_stand locks program)
   known_first program known e =
       let walked = walked_is locks program (length program) known e in
       record { known = known; walked = walked; is = inl walked.start }

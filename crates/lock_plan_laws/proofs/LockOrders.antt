@@ -4,7 +4,7 @@ use Rattle.std.proofs.lemmas.Bool.{and_parts, cases_eq}
 use Rattle.std.proofs.lemmas.List.{get_or-map, length-map}
 use Rattle.lock_base.specs.Kind.{is_reentrant}
 use Rattle.lock_plan.specs.declared.lock.PlanLock.{PlanLock}
-use Rattle.lock_plan.specs.declared.program.Place.{Place}
+use Rattle.lock_plan.specs.declared.program.ProgramPlace.{ProgramPlace}
 use Rattle.lock_plan.specs.Checks.{fit_machines, fits_machine}
 use Rattle.lock_plan.specs.Known.{Known, PlaceFault, known_of}
 use Rattle.lock_plan.specs.Worlds.{no_lock}
@@ -43,7 +43,7 @@ one_more P n below here p lt = elim (cases_eq p n) [
   | inr other ↦ below p (omega (arith, lt, other))
 ]
 
-module _ (order : List ℕ) (locks : List PlanLock) (programs : List (List Place)) (known : List Known) (told : AreKnown locks programs known)
+module _ (order : List ℕ) (locks : List PlanLock) (programs : List (List ProgramPlace)) (known : List Known) (told : AreKnown locks programs known)
     (kept : AreKept order programs known) where
   abbrev as_ok : Known → Result Known PlaceFault
   as_ok held = Ok held
@@ -62,7 +62,7 @@ module _ (order : List ℕ) (locks : List PlanLock) (programs : List (List Place
       ordered_is (rank_in order) locks (get_or programs p [])
       (ap (keeps_known (rank_in order) (get_or programs p [])) (known_at_party p lt) ∙ kept p lt)
 
-  in_order : are_covered locks ≡ true → (parties : List (List Place)) → EachRunsOneOf programs parties → IsOrderedPlan (rank_in order) locks parties
+  in_order : are_covered locks ≡ true → (parties : List (List ProgramPlace)) → EachRunsOneOf programs parties → IsOrderedPlan (rank_in order) locks parties
   in_order covered parties are = record {
     machines = fit locks covered;
     single = single locks covered;

@@ -4,7 +4,7 @@ use Rattle.std.proofs.lemmas.Bool.{false≢true}
 use Rattle.lock_base.specs.declared.machine.party.PartyId.{PartyId}
 use Rattle.lock_base.specs.Operation.{Operation}
 use Rattle.lock_plan.specs.declared.lock.PlanLock.{PlanLock}
-use Rattle.lock_plan.specs.declared.program.Place.{Place}
+use Rattle.lock_plan.specs.declared.program.ProgramPlace.{ProgramPlace}
 use Rattle.lock_plan.specs.declared.program.Step.{Step}
 use Rattle.lock_plan.specs.Checks.{none_fair}
 use Rattle.lock_plan.specs.Worlds.{Stand, first_world, world_after, is_stop, NeverStops, IsShortestStop}
@@ -17,7 +17,7 @@ as_many : (cs : List Caller) → length (steps_of cs) ≡ length cs
 as_many [] = refl
 as_many (c ∷ cs) = ap suc (as_many cs)
 
-module _ {O T A : Type 0} (meaning : O → Operation T A) (servers : List Bool) (locks : List PlanLock) (programs : List (List Place))
+module _ {O T A : Type 0} (meaning : O → Operation T A) (servers : List Bool) (locks : List PlanLock) (programs : List (List ProgramPlace))
     (fit : (room : ℕ) → sum_by length programs ≤ room → FitsMachines locks programs room) where
   no_stop : (ids : ℕ → PartyId) (values : ℕ → T) (room : ℕ) (cs : List Caller) (s : Scene T)
       → ((w : List Stand) → world_after locks (first_world locks programs) (steps_of cs) ≡ Some w → is_stop servers locks w ≡ false)

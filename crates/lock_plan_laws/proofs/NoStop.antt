@@ -24,7 +24,7 @@ use Rattle.lock_plan.specs.declared.fault.CallFault.TheVariants.{UnknownLock, Wr
 use Rattle.lock_plan.specs.declared.lock.PlanLock.{PlanLock}
 use Rattle.lock_plan.specs.declared.program.Act.{Act}
 use Rattle.lock_plan.specs.declared.program.Act.TheVariants.{Call, Try, Choose, Signal}
-use Rattle.lock_plan.specs.declared.program.Place.{Place}
+use Rattle.lock_plan.specs.declared.program.ProgramPlace.{ProgramPlace}
 use Rattle.lock_plan.specs.declared.turn.Turn.{Turn}
 use Rattle.lock_plan.specs.declared.turn.Turn.TheVariants.{Goes, Announces, Waits}
 use Rattle.lock_plan.specs.Holds.{is_write, announces_itself, lines_up, admits_step, turn_on}
@@ -466,7 +466,7 @@ never_stop rank servers locks programs plan steps w e =
     (steps_ordered rank locks steps (first_world locks programs) w (starts_ordered rank locks programs plan.ordered) e)
 
 -- no act of an ordered plan is wrong in itself
-right : (rank : ℕ → ℕ) (locks : List PlanLock) (programs : List (List Place)) → IsOrderedPlan rank locks programs
+right : (rank : ℕ → ℕ) (locks : List PlanLock) (programs : List (List ProgramPlace)) → IsOrderedPlan rank locks programs
     → (p : ℕ) → (known : Known) × (known_of locks (get_or programs p []) ≡ Ok known)
 right rank locks programs plan p =
     elim (cases_lt p (length programs)) [

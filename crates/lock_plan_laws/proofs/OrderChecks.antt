@@ -13,7 +13,7 @@ use Rattle.lock_plan.specs.declared.call.PlanCall.{PlanCall}
 use Rattle.lock_plan.specs.declared.lock.PlanLock.{PlanLock}
 use Rattle.lock_plan.specs.declared.program.Act.{Act}
 use Rattle.lock_plan.specs.declared.program.Act.TheVariants.{Call, Signal}
-use Rattle.lock_plan.specs.declared.program.Place.{Place}
+use Rattle.lock_plan.specs.declared.program.ProgramPlace.{ProgramPlace}
 use Rattle.lock_plan.specs.Known.{PlaceFault, Known, known_at, known_of}
 use Rattle.lock_plan.specs.Worlds.{act_in}
 use Rattle.lock_plan_laws.specs.Ranks.{is_ranked_step, KeepsOrder, IsOrdered}
@@ -95,7 +95,7 @@ module _ (rank : ℕ → ℕ) where
     silent = all_silent holds silent;
   }
 
-  at_place : (program : List Place) (from : ℕ) (known : Known) → keeps_from rank program from known ≡ true
+  at_place : (program : List ProgramPlace) (from : ℕ) (known : Known) → keeps_from rank program from known ≡ true
       → (place : ℕ) (holds : List Hold) → known_at known place ≡ Some holds → keeps_at rank (act_in program (from + place)) (Some holds) ≡ true
   at_place program from [] e place holds is = cc
   at_place program from (here ∷ known) e zero holds is =
@@ -107,7 +107,7 @@ module _ (rank : ℕ → ℕ) where
       let k : from + suc place ≡ from + 1 + place = omega arith in
       ap (λ (k : ℕ). keeps_at rank (act_in program k) (Some holds)) k ∙ at_place program (from + 1) known two.1 place holds is
 
-  ordered_by : (locks : List PlanLock) (program : List Place) (o : Result Known PlaceFault) → known_of locks program ≡ o
+  ordered_by : (locks : List PlanLock) (program : List ProgramPlace) (o : Result Known PlaceFault) → known_of locks program ≡ o
       → keeps_known rank program o ≡ true → IsOrdered rank locks program
   ordered_by locks program (Err fault) is e = cc
   ordered_by locks program (Ok known) is e = record {
@@ -120,5 +120,5 @@ module _ (rank : ℕ → ℕ) where
         keeps_is holds (act_in program place) two.0 two.1;
   }
 
-  pub ordered_is : (locks : List PlanLock) (program : List Place) → is_ordered rank locks program ≡ true → IsOrdered rank locks program
+  pub ordered_is : (locks : List PlanLock) (program : List ProgramPlace) → is_ordered rank locks program ≡ true → IsOrdered rank locks program
   ordered_is locks program e = ordered_by locks program (known_of locks program) refl e

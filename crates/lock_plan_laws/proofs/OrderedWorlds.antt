@@ -12,7 +12,7 @@ use Rattle.lock_plan.specs.declared.lock.PlanLock.{PlanLock}
 use Rattle.lock_plan.specs.declared.program.Act.{Act}
 use Rattle.lock_plan.specs.declared.program.Act.TheVariants.{Call, Try, Choose, Signal}
 use Rattle.lock_plan.specs.declared.program.Signal.{Signal as PlanSignal}
-use Rattle.lock_plan.specs.declared.program.Place.{Place}
+use Rattle.lock_plan.specs.declared.program.ProgramPlace.{ProgramPlace}
 use Rattle.lock_plan.specs.declared.program.Step.{Step}
 use Rattle.lock_plan.specs.declared.turn.Turn.{Turn}
 use Rattle.lock_plan.specs.declared.turn.Turn.TheVariants.{Goes, Announces, Waits, Refused}
@@ -175,11 +175,11 @@ module _ (rank : ℕ → ℕ) (locks : List PlanLock) where
       let u = on_some (world_step locks w step) (λ (x : List Stand). world_after locks x steps) v e in
       steps_ordered steps u.0 v (step_ordered w u.0 step all u.1) u.2
 
-  first_ordered : (program : List Place) → IsOrdered rank locks program → O (first_stand locks program)
+  first_ordered : (program : List ProgramPlace) → IsOrdered rank locks program → O (first_stand locks program)
   unfolding known_first
   first_ordered program o = record { keeps = o.keeps; stands = known_first locks program o.known o.is }
 
-  pub starts_ordered : (programs : List (List Place))
+  pub starts_ordered : (programs : List (List ProgramPlace))
       → ((p : ℕ) → p < length programs → IsOrdered rank locks (get_or programs p [])) → AreOrdered (first_world locks programs)
   starts_ordered programs all p lt =
       let below : p < length programs = omega (arith, lt, length-map programs (first_stand locks)) in

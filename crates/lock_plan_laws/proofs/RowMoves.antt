@@ -5,7 +5,7 @@ use Rattle.lock_base.specs.declared.machine.hold.Hold.{Hold}
 use Rattle.lock_plan.specs.declared.lock.PlanLock.{PlanLock}
 use Rattle.lock_plan.specs.declared.program.Act.{Act}
 use Rattle.lock_plan.specs.declared.program.Act.TheVariants as act
-use Rattle.lock_plan.specs.declared.program.Place.{Place}
+use Rattle.lock_plan.specs.declared.program.ProgramPlace.{ProgramPlace}
 use Rattle.lock_plan.specs.declared.program.Signal.{Signal}
 use Rattle.lock_plan.specs.Signals.{move_of}
 use Rattle.lock_plan.specs.Worlds.{Stand, no_stand, no_lock, act_of, acts_of, is_flag, at_place, stand_moved, rows_moved}
@@ -75,11 +75,11 @@ module _ (a : Option Act) (way : ℕ) where
       ∙ ap (λ (n : ℕ). stand_moved y (move_of a way n (act_of y) (is_flag y.program))) (omega arith)
 
 module _ {T : Type 0} (ids : ℕ → PartyId) (distinct : AreDistinct ids) (locks : List PlanLock)
-    (programs : List (List Place)) (w : List Stand) (s : Scene T) (used : ℕ)
+    (programs : List (List ProgramPlace)) (w : List Stand) (s : Scene T) (used : ℕ)
     (tied : IsTied ids locks programs w s used) where
   rows_same : rows_of programs s ≡ map row_at (zip (map (λ x. x.program) w) (map (λ x. x.place) w))
   rows_same =
-      ap (λ (ps : List (List Place)). map row_at (zip ps s.places)) tied.programs_same
+      ap (λ (ps : List (List ProgramPlace)). map row_at (zip ps s.places)) tied.programs_same
       ∙ ap (λ (ns : List ℕ). map row_at (zip (map (λ (x : Stand). x.program) w) ns)) tied.places
 
   pub acts_same : acts_of (rows_of programs s) ≡ acts_of w

@@ -8,7 +8,7 @@ use Rattle.lock_base.specs.Party.{id_of}
 use Rattle.lock_base.specs.Kind.{is_rwlock}
 use Rattle.lock_base.specs.Holds.{no_hold}
 use Rattle.lock_plan.specs.declared.lock.PlanLock.{PlanLock}
-use Rattle.lock_plan.specs.declared.program.Place.{Place}
+use Rattle.lock_plan.specs.declared.program.ProgramPlace.{ProgramPlace}
 use Rattle.lock_plan.specs.declared.program.Step.{Step}
 use Rattle.lock_plan.specs.Worlds.{Stand, no_stand, no_lock, world_step, on_from, world_after, first_world}
 use Rattle.lock_plan_laws.specs.Scenes.{Caller, steps_of, Scene, IsRun, first_scene}
@@ -19,7 +19,7 @@ use Rattle.lock_plan_laws.proofs.SceneSteps.{same_worlds, step_on, step_back}
 use Rattle.lock_plan_laws.proofs.SceneStops.{same_stop}
 
 -- what holds of a scene that is tied to a world
-pub shows : {T : Type 0} (ids : ℕ → PartyId) (distinct : AreDistinct ids) (locks : List PlanLock) (programs : List (List Place)) (w : List Stand)
+pub shows : {T : Type 0} (ids : ℕ → PartyId) (distinct : AreDistinct ids) (locks : List PlanLock) (programs : List (List ProgramPlace)) (w : List Stand)
     (s : Scene T) (used : ℕ) → IsTied ids locks programs w s used → Shows ids locks programs w s
 shows ids distinct locks programs w s used tied = record {
   programs_same = tied.programs_same;
@@ -30,7 +30,7 @@ shows ids distinct locks programs w s used tied = record {
 }
 
 module _ {O T A : Type 0} (meaning : O → Operation T A) (ids : ℕ → PartyId) (distinct : AreDistinct ids) (locks : List PlanLock)
-    (bars : (l : ℕ) → IsTrue (get_or locks l no_lock).bar → IsTrue (is_rwlock (get_or locks l no_lock).kind)) (programs : List (List Place)) where
+    (bars : (l : ℕ) → IsTrue (get_or locks l no_lock).bar → IsTrue (is_rwlock (get_or locks l no_lock).kind)) (programs : List (List ProgramPlace)) where
   -- a run of scenes is one of worlds
   pub run_on : (cs : List Caller) (w : List Stand) (s after : Scene T) (used : ℕ) → IsTied ids locks programs w s used → used + length cs < 2 ^ 64
       → IsRun meaning ids locks programs s cs after

@@ -9,7 +9,7 @@ use Rattle.lock_plan.specs.declared.lock.PlanLock.{PlanLock}
 use Rattle.lock_plan.specs.declared.program.Act.{Act}
 use Rattle.lock_plan.specs.declared.program.Act.TheVariants as act
 use Rattle.lock_plan.specs.declared.program.Block.{Block}
-use Rattle.lock_plan.specs.declared.program.Place.{Place}
+use Rattle.lock_plan.specs.declared.program.ProgramPlace.{ProgramPlace}
 use Rattle.lock_plan.specs.declared.program.Signal.{Signal}
 use Rattle.lock_plan.specs.declared.program.Step.{Step}
 use Rattle.lock_plan.specs.declared.turn.Turn.{Turn}
@@ -31,7 +31,7 @@ pub same_worlds : (v w : List Stand) → Some v ≡ Some w → v ≡ w
 same_worlds v w is = cc
 
 module _ {O T A : Type 0} (meaning : O → Operation T A) (ids : ℕ → PartyId) (distinct : AreDistinct ids) (locks : List PlanLock)
-    (bars : (l : ℕ) → IsTrue (get_or locks l no_lock).bar → IsTrue (is_rwlock (get_or locks l no_lock).kind)) (programs : List (List Place)) where
+    (bars : (l : ℕ) → IsTrue (get_or locks l no_lock).bar → IsTrue (is_rwlock (get_or locks l no_lock).kind)) (programs : List (List ProgramPlace)) where
   module _ (w : List Stand) (s : Scene T) (used : ℕ) (tied : IsTied ids locks programs w s used) (few : used + 1 < 2 ^ 64) where
     abbrev stand : ℕ → Stand
     stand p = get_or w p no_stand

@@ -7,7 +7,7 @@ use Rattle.lock_base.specs.Kind.{is_reentrant, is_rwlock}
 use Rattle.lock_plan.specs.declared.lock.PlanLock.{PlanLock}
 use Rattle.lock_plan.specs.declared.program.Act.{Act}
 use Rattle.lock_plan.specs.declared.program.Act.TheVariants as act
-use Rattle.lock_plan.specs.declared.program.Place.{Place}
+use Rattle.lock_plan.specs.declared.program.ProgramPlace.{ProgramPlace}
 use Rattle.lock_plan.specs.declared.program.Signal.TheVariants.{Assert}
 use Rattle.lock_plan.specs.declared.program.Step.{Step}
 use Rattle.lock_plan.specs.declared.turn.Turn.{Turn}
@@ -81,7 +81,7 @@ steps_on locks w plain p steps =
     ∙ ap (λ (b : Bool). b && true) steps
 
 module _ {O T A : Type 0} (meaning : O → Operation T A) (ids : ℕ → PartyId) (distinct : AreDistinct ids) (locks : List PlanLock)
-    (bars : (l : ℕ) → IsTrue (get_or locks l no_lock).bar → IsTrue (is_rwlock (get_or locks l no_lock).kind)) (programs : List (List Place)) where
+    (bars : (l : ℕ) → IsTrue (get_or locks l no_lock).bar → IsTrue (is_rwlock (get_or locks l no_lock).kind)) (programs : List (List ProgramPlace)) where
   module _ (w : List Stand) (s : Scene T) (used : ℕ) (tied : IsTied ids locks programs w s used) (few : used + 1 < 2 ^ 64) where
     abbrev stand : ℕ → Stand
     stand p = get_or w p no_stand

@@ -28,7 +28,7 @@ use Rattle.lock_plan.specs.declared.lock.PlanLock.{PlanLock}
 use Rattle.lock_plan.specs.declared.program.Act.{Act}
 use Rattle.lock_plan.specs.declared.program.Act.TheVariants as act
 use Rattle.lock_plan.specs.declared.program.Block.{Block as PlanBlock}
-use Rattle.lock_plan.specs.declared.program.Place.{Place}
+use Rattle.lock_plan.specs.declared.program.ProgramPlace.{ProgramPlace}
 use Rattle.lock_plan.specs.declared.program.Signal.{Signal}
 use Rattle.lock_plan.specs.declared.program.Step.{Step}
 use Rattle.lock_plan.specs.declared.turn.Turn.{Turn}
@@ -117,7 +117,7 @@ module _ {O T A : Type 0} (meaning : O → Operation T A) (ids : ℕ → PartyId
   try_limits lock m p guard a = step_limits meaning m (call_for Try lock.kind (ids p) guard a)
 
 -- the call of a party on its machine is its call in the world, and a step keeps scene and world tied
-pub record IsSameTurn {T : Type 0} (ids : ℕ → PartyId) (locks : List PlanLock) (programs : List (List Place)) (w : List Stand) (s : Scene T)
+pub record IsSameTurn {T : Type 0} (ids : ℕ → PartyId) (locks : List PlanLock) (programs : List (List ProgramPlace)) (w : List Stand) (s : Scene T)
     (used p : ℕ) (call : PlanCall) (t : MachineTurn T) : Type 0 where
   pub turn : Turn
   pub in_world : reply_of locks w p ≡ Some turn
@@ -129,7 +129,7 @@ pub record IsSameTurn {T : Type 0} (ids : ℕ → PartyId) (locks : List PlanLoc
       (scene_with s call.lock t.machine p (get_or w p no_stand).place) (suc used))
 
 -- the try of a party on its machine is its try in the world, and keeps scene and world tied
-pub record IsSameTry {T A : Type 0} (ids : ℕ → PartyId) (locks : List PlanLock) (programs : List (List Place)) (w : List Stand) (s : Scene T)
+pub record IsSameTry {T A : Type 0} (ids : ℕ → PartyId) (locks : List PlanLock) (programs : List (List ProgramPlace)) (w : List Stand) (s : Scene T)
     (used p : ℕ) (call : PlanCall) (r : Response A T) : Type 0 where
   pub turn : Turn
   pub in_world : reply_of locks w p ≡ Some turn
@@ -147,24 +147,24 @@ goes_is u is = cc
 
 module _ {O T A : Type 0} (meaning : O → Operation T A) (ids : ℕ → PartyId) (distinct : AreDistinct ids) (locks : List PlanLock)
     (bars : (l : ℕ) → IsTrue (get_or locks l no_lock).bar → IsTrue (is_rwlock (get_or locks l no_lock).kind))
-    (programs : List (List Place)) (w : List Stand) (s : Scene T) (used : ℕ) (tied : IsTied ids locks programs w s used) where
+    (programs : List (List ProgramPlace)) (w : List Stand) (s : Scene T) (used : ℕ) (tied : IsTied ids locks programs w s used) where
   -- the program and the place of a party in the scene
 
   program_same : (p : ℕ) → get_or programs p [] ≡ (get_or w p no_stand).program
-  program_same p = ap (λ (ps : List (List Place)). get_or ps p []) tied.programs_same ∙ get_or-map (λ (x : Stand). x.program) w p no_stand
+  program_same p = ap (λ (ps : List (List ProgramPlace)). get_or ps p []) tied.programs_same ∙ get_or-map (λ (x : Stand). x.program) w p no_stand
 
   pub place_same : (p : ℕ) → get_or s.places p 0 ≡ (get_or w p no_stand).place
   place_same p = ap (λ (ns : List ℕ). get_or ns p 0) tied.places ∙ get_or-map (λ (x : Stand). x.place) w p no_stand
 
   pub act_same : (p : ℕ) → act_at programs s p ≡ act_of (get_or w p no_stand)
   act_same p =
-      ap (λ (program : List Place). act_in program (get_or s.places p 0)) (program_same p)
+      ap (λ (program : List ProgramPlace). act_in program (get_or s.places p 0)) (program_same p)
       ∙ ap (λ (place : ℕ). act_in (get_or w p no_stand).program place) (place_same p)
 
   pub way_same : (taken : Step) → way_of programs s taken
       ≡ way_from (get_or w taken.party no_stand).program (get_or w taken.party no_stand).place (taken.way == 1)
   way_same taken =
-      ap (λ (program : List Place). way_from program (get_or s.places taken.party 0) (taken.way == 1))
+      ap (λ (program : List ProgramPlace). way_from program (get_or s.places taken.party 0) (taken.way == 1))
       (program_same taken.party)
       ∙ ap (λ (place : ℕ). way_from (get_or w taken.party no_stand).program place (taken.way == 1))
       (place_same taken.party)

@@ -17,7 +17,7 @@ use Rattle.lock_base.proofs.SoundRegisters.{empty_sound}
 use Rattle.lock_base.specs.Holds.{no_hold}
 use Rattle.lock_base_laws.specs.SoundRuns.{KeepsLimits}
 use Rattle.lock_plan.specs.declared.lock.PlanLock.{PlanLock}
-use Rattle.lock_plan.specs.declared.program.Place.{Place}
+use Rattle.lock_plan.specs.declared.program.ProgramPlace.{ProgramPlace}
 use Rattle.lock_plan.specs.Known.{Known, known_of}
 use Rattle.lock_plan.specs.Worlds.{Stand, no_stand, no_lock, joined, bag_on, at_place, first_world}
 use Rattle.lock_plan.proofs.ExchangeBars.{nothing_held}
@@ -46,7 +46,7 @@ abbrev pub holds_in : List Stand → List (List Hold)
 holds_in w = map (λ stand. stand.holds) w
 
 -- the scene is tied to the world after so many steps, and each party stands where its program leads
-pub record IsTied {T : Type 0} (ids : ℕ → PartyId) (locks : List PlanLock) (programs : List (List Place)) (w : List Stand) (s : Scene T)
+pub record IsTied {T : Type 0} (ids : ℕ → PartyId) (locks : List PlanLock) (programs : List (List ProgramPlace)) (w : List Stand) (s : Scene T)
     (used : ℕ) : Type 0 where
   pub programs_same : programs ≡ map (λ stand. stand.program) w
   pub places : s.places ≡ map (λ stand. stand.place) w
@@ -207,7 +207,7 @@ module _ {T : Type 0} (ids : ℕ → PartyId) (distinct : AreDistinct ids) where
         numbers = let numbers = tied.numbers in let last = moved.last in omega arith;
       }
 
-  module _ (locks : List PlanLock) (programs : List (List Place)) (w : List Stand) (s : Scene T) (used : ℕ)
+  module _ (locks : List PlanLock) (programs : List (List ProgramPlace)) (w : List Stand) (s : Scene T) (used : ℕ)
       (tied : IsTied ids locks programs w s used) where
     abbrev room : ℕ
     room = sum_by length programs
@@ -344,32 +344,32 @@ module _ {T : Type 0} (ids : ℕ → PartyId) (distinct : AreDistinct ids) where
 -- the first scene is tied to the first world
 
 module _ (locks : List PlanLock) where
-  first_hold : (programs : List (List Place)) (q l : ℕ) → hold_of (map (λ stand. stand.holds) (first_world locks programs)) q l ≡ no_hold
+  first_hold : (programs : List (List ProgramPlace)) (q l : ℕ) → hold_of (map (λ stand. stand.holds) (first_world locks programs)) q l ≡ no_hold
   first_hold [] q l = refl
   first_hold (program ∷ programs) zero l = nothing_held (length locks) l
   first_hold (program ∷ programs) (suc q) l = first_hold programs q l
 
-  first_bag : (programs : List (List Place)) (l : ℕ) → bag_on l (map (λ stand. stand.holds) (first_world locks programs)) ≡ empty_bag
+  first_bag : (programs : List (List ProgramPlace)) (l : ℕ) → bag_on l (map (λ stand. stand.holds) (first_world locks programs)) ≡ empty_bag
   first_bag [] l = refl
   first_bag (program ∷ programs) l =
       ap (λ (x : Hold). joined x.bag (bag_on l (map (λ stand. stand.holds) (first_world locks programs)))) (nothing_held (length locks) l)
       ∙ ap (λ (b : Bag). joined empty_bag b) (first_bag programs l)
 
-  first_programs : (programs : List (List Place)) → programs ≡ map (λ stand. stand.program) (first_world locks programs)
+  first_programs : (programs : List (List ProgramPlace)) → programs ≡ map (λ stand. stand.program) (first_world locks programs)
   first_programs [] = refl
-  first_programs (program ∷ programs) = ap (λ (rest : List (List Place)). program ∷ rest) (first_programs programs)
+  first_programs (program ∷ programs) = ap (λ (rest : List (List ProgramPlace)). program ∷ rest) (first_programs programs)
 
-  first_places : (programs : List (List Place)) → map (λ (program : List Place). 0) programs ≡ map (λ stand. stand.place) (first_world locks programs)
+  first_places : (programs : List (List ProgramPlace)) → map (λ (program : List ProgramPlace). 0) programs ≡ map (λ stand. stand.place) (first_world locks programs)
   first_places [] = refl
   first_places (program ∷ programs) = ap (λ (rest : List ℕ). 0 ∷ rest) (first_places programs)
 
-  first_known : (programs : List (List Place)) → ((q : ℕ) → (known : Known) × (known_of locks (get_or programs q []) ≡ Ok known)) → (q : ℕ)
+  first_known : (programs : List (List ProgramPlace)) → ((q : ℕ) → (known : Known) × (known_of locks (get_or programs q []) ≡ Ok known)) → (q : ℕ)
       → q < length (first_world locks programs) → IsKnownStand locks (get_or (first_world locks programs) q no_stand)
   first_known [] right q lt = absurd (omega arith)
   first_known (program ∷ programs) right zero lt = known_first locks program (right zero).0 (right zero).1
   first_known (program ∷ programs) right (suc q) lt = first_known programs (λ r. right (suc r)) q (omega (arith, lt))
 
-  pub first_tied : {T : Type 0} (ids : ℕ → PartyId) (programs : List (List Place)) (values : ℕ → T) (room : ℕ)
+  pub first_tied : {T : Type 0} (ids : ℕ → PartyId) (programs : List (List ProgramPlace)) (values : ℕ → T) (room : ℕ)
       → FitsMachines locks programs room
       → IsTied ids locks programs (first_world locks programs) (first_scene locks programs values room) 0
   first_tied ids programs values room fits = record {

@@ -5,7 +5,7 @@ use Rattle.std.proofs.lemmas.List.{length-map}
 use Rattle.lock_plan.specs.declared.fault.PlanFault.{PlanFault}
 use Rattle.lock_plan.specs.declared.fault.PlanFault.TheVariants.{TooLarge}
 use Rattle.lock_plan.specs.declared.lock.PlanLock.{PlanLock}
-use Rattle.lock_plan.specs.declared.program.Place.{Place}
+use Rattle.lock_plan.specs.declared.program.ProgramPlace.{ProgramPlace}
 use Rattle.lock_plan.specs.declared.program.Step.{Step}
 use Rattle.lock_plan.specs.Checks.{or_fault, parties_fault, plan_fault}
 use Rattle.lock_plan.specs.Points.{size, all_views, ways_of, step_of, world_if, number_step}
@@ -19,7 +19,7 @@ small_by None true e = refl
 small_by None false e = cc
 small_by (Some fault) b e = cc
 
-pub trace_fits : (servers : List Bool) (locks : List PlanLock) (programs : List (List Place)) → plan_fault locks programs ≡ None
+pub trace_fits : (servers : List Bool) (locks : List PlanLock) (programs : List (List ProgramPlace)) → plan_fault locks programs ≡ None
     → (trace : List Step) → IsShortestStop servers locks programs trace → length trace + 1 < 2 ^ 64
 trace_fits servers locks programs right trace stop =
     let tables : AreTables locks programs = are_tables locks programs right in

@@ -11,7 +11,7 @@ use Rattle.lock_base.specs.Entries.{Entry, held_entries, held_bag, modes_of_entr
 use Rattle.lock_base.specs.Sound.{IsLimitOf}
 use Rattle.lock_base.specs.Holds.{no_hold}
 use Rattle.lock_plan.specs.declared.lock.PlanLock.{PlanLock}
-use Rattle.lock_plan.specs.declared.program.Place.{Place}
+use Rattle.lock_plan.specs.declared.program.ProgramPlace.{ProgramPlace}
 use Rattle.lock_plan.specs.declared.program.Step.{Step}
 use Rattle.lock_plan.specs.Checks.{none_fair}
 use Rattle.lock_plan.specs.Known.{Known, known_of}
@@ -28,7 +28,7 @@ abbrev pub bag_held_by : ℕ → List (ℕ × Entry) → Bag
 bag_held_by party entries = bag_of (modes_of_entries (of_party party (held_entries entries)))
 
 -- the plan can be made of machines with room for so many guards each
-pub record FitsMachines (locks : List PlanLock) (programs : List (List Place)) (room : ℕ) : Type 0 where
+pub record FitsMachines (locks : List PlanLock) (programs : List (List ProgramPlace)) (room : ℕ) : Type 0 where
   -- the limits are those that machines have
   pub limits : (l : ℕ) → l < length locks → IsLimitOf (get_or locks l no_lock).kind
       (limit_for (get_or locks l no_lock).kind (get_or locks l no_lock).limit)
@@ -44,7 +44,7 @@ abbrev pub AreDistinct : (ℕ → PartyId) → Type 0
 AreDistinct ids = (p q : ℕ) → id_of (ids p) ≡ id_of (ids q) → p ≡ q
 
 -- the scene has the programs, the places, the holds, the bags and the bars of the world
-pub record Shows {T : Type 0} (ids : ℕ → PartyId) (locks : List PlanLock) (programs : List (List Place)) (w : List Stand) (s : Scene T) : Type 0 where
+pub record Shows {T : Type 0} (ids : ℕ → PartyId) (locks : List PlanLock) (programs : List (List ProgramPlace)) (w : List Stand) (s : Scene T) : Type 0 where
   pub programs_same : programs ≡ map (λ stand. stand.program) w
   pub places : s.places ≡ map (λ stand. stand.place) w
   pub holds : (l p : ℕ) → l < length locks → bag_held_by (id_of (ids p)) (s.machines l).entries
@@ -58,7 +58,7 @@ module _ {O T A : Type 0} (meaning : O → Operation T A) where
   -- each run of the machines is a run of the worlds, and leads to a world that it shows
   abbrev pub RunsAreOfWorlds : Type 0
   RunsAreOfWorlds =
-      (ids : ℕ → PartyId) (locks : List PlanLock) (programs : List (List Place)) (values : ℕ → T) (room : ℕ)
+      (ids : ℕ → PartyId) (locks : List PlanLock) (programs : List (List ProgramPlace)) (values : ℕ → T) (room : ℕ)
       (cs : List Caller) (s : Scene T)
       → AreDistinct ids → FitsMachines locks programs room → length cs < 2 ^ 64
       → IsRun meaning ids locks programs (first_scene locks programs values room) cs s
@@ -67,7 +67,7 @@ module _ {O T A : Type 0} (meaning : O → Operation T A) where
   -- each run of the worlds is one of the machines
   abbrev pub WorldRunsAreOfMachines : Type 0
   WorldRunsAreOfMachines =
-      (ids : ℕ → PartyId) (locks : List PlanLock) (programs : List (List Place)) (values : ℕ → T) (room : ℕ)
+      (ids : ℕ → PartyId) (locks : List PlanLock) (programs : List (List ProgramPlace)) (values : ℕ → T) (room : ℕ)
       (steps : List Step) (w : List Stand)
       → AreDistinct ids → FitsMachines locks programs room → length steps < 2 ^ 64
       → world_after locks (first_world locks programs) steps ≡ Some w
@@ -78,7 +78,7 @@ module _ {O T A : Type 0} (meaning : O → Operation T A) where
   -- the worlds stop the machines do, if no lock is fair: a machine has no line of waiters
   abbrev pub StopsAreTheSame : Type 0
   StopsAreTheSame =
-      (ids : ℕ → PartyId) (locks : List PlanLock) (programs : List (List Place)) (values : ℕ → T) (room : ℕ)
+      (ids : ℕ → PartyId) (locks : List PlanLock) (programs : List (List ProgramPlace)) (values : ℕ → T) (room : ℕ)
       (cs : List Caller) (s : Scene T) (w : List Stand) (servers : List Bool)
       → AreDistinct ids → FitsMachines locks programs room → length cs + 1 < 2 ^ 64
       → IsRun meaning ids locks programs (first_scene locks programs values room) cs s

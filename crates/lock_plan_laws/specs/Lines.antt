@@ -9,7 +9,7 @@ use Rattle.lock_plan.specs.declared.call.PlanCall.{PlanCall}
 use Rattle.lock_plan.specs.declared.lock.PlanLock.{PlanLock}
 use Rattle.lock_plan.specs.declared.program.Act.{Act}
 use Rattle.lock_plan.specs.declared.program.Act.TheVariants.{Call}
-use Rattle.lock_plan.specs.declared.program.Place.{Place}
+use Rattle.lock_plan.specs.declared.program.ProgramPlace.{ProgramPlace}
 use Rattle.lock_plan.specs.declared.program.Step.{Step}
 use Rattle.lock_plan.specs.declared.turn.Turn.{Turn}
 use Rattle.lock_plan.specs.declared.turn.Turn.TheVariants.{Waits}
@@ -111,11 +111,11 @@ module _ (locks : List PlanLock) where
     pub none_goes : some_below (goes_in_line s) (length s.stands) ≡ false
     pub none_joins : some_below (joins s) (length s.stands) ≡ false
 
-  abbrev pub first_lined : List (List Place) → LinedWorld
+  abbrev pub first_lined : List (List ProgramPlace) → LinedWorld
   first_lined programs = record { stands = first_world locks programs; waiting = [] }
 
 -- runs with lines lead to the worlds of the plan, and are stuck in the same ones
-pub record LinesStopAsWorlds (servers : List Bool) (locks : List PlanLock) (programs : List (List Place)) : Type 0 where
+pub record LinesStopAsWorlds (servers : List Bool) (locks : List PlanLock) (programs : List (List ProgramPlace)) : Type 0 where
   pub worlds : (acts : List (ℕ ⊎ Step)) (s : LinedWorld) → lined_after locks (first_lined locks programs) acts ≡ Some s
       → (steps : List Step) × (world_after locks (first_world locks programs) steps ≡ Some s.stands)
   pub reached : (steps : List Step) (w : List Stand) → world_after locks (first_world locks programs) steps ≡ Some w

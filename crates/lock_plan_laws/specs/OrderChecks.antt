@@ -10,7 +10,7 @@ use Rattle.lock_plan.specs.declared.lock.PlanLock.{PlanLock}
 use Rattle.lock_plan.specs.declared.program.Act.{Act}
 use Rattle.lock_plan.specs.declared.program.Act.TheVariants.{Call, Try, Choose, Signal}
 use Rattle.lock_plan.specs.declared.program.Block.TheVariants.{TimedSleep}
-use Rattle.lock_plan.specs.declared.program.Place.{Place}
+use Rattle.lock_plan.specs.declared.program.ProgramPlace.{ProgramPlace}
 use Rattle.lock_plan.specs.Known.{PlaceFault, Known, known_of}
 use Rattle.lock_plan.specs.Worlds.{act_in}
 
@@ -44,14 +44,14 @@ keeps_at rank here None = true
 keeps_at rank here (Some holds) = list_all (λ h. not h.announced) holds && keeps_order rank holds here
 
 -- at the places from `place` on
-abbrev pub keeps_from : (ℕ → ℕ) → List Place → ℕ → Known → Bool
+abbrev pub keeps_from : (ℕ → ℕ) → List ProgramPlace → ℕ → Known → Bool
 keeps_from rank program place [] = true
 keeps_from rank program place (here ∷ known) =
     keeps_at rank (act_in program place) here && keeps_from rank program (place + 1) known
 
-abbrev pub keeps_known : (ℕ → ℕ) → List Place → Result Known PlaceFault → Bool
+abbrev pub keeps_known : (ℕ → ℕ) → List ProgramPlace → Result Known PlaceFault → Bool
 keeps_known rank program (Ok known) = keeps_from rank program 0 known
 keeps_known rank program (Err fault) = false
 
-abbrev pub is_ordered : (ℕ → ℕ) → List PlanLock → List Place → Bool
+abbrev pub is_ordered : (ℕ → ℕ) → List PlanLock → List ProgramPlace → Bool
 is_ordered rank locks program = keeps_known rank program (known_of locks program)

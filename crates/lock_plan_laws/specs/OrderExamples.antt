@@ -7,7 +7,7 @@ use Rattle.lock_base.specs.declared.machine.lock_step.LockStep.{LockStep}
 use Rattle.lock_base.specs.declared.machine.lock_step.LockStep.TheVariants.{Modes}
 use Rattle.lock_plan.specs.declared.lock.PlanLock.{PlanLock}
 use Rattle.lock_plan.specs.declared.program.Act.TheVariants.{Call}
-use Rattle.lock_plan.specs.declared.program.Place.{Place}
+use Rattle.lock_plan.specs.declared.program.ProgramPlace.{ProgramPlace}
 use Rattle.lock_plan.specs.declared.program.Step.{Step}
 use Rattle.lock_plan.specs.Worlds.{Stand, first_world, world_after, is_stop, NeverStops}
 use Rattle.lock_plan_laws.specs.OrderChecks.{is_ordered}
@@ -18,11 +18,11 @@ mutex = record { kind = kind.Mutex; limit = 1; bar = false; fair = false }
 abbrev pub two_mutexes : List PlanLock
 two_mutexes = mutex ∷ mutex ∷ []
 
-abbrev pub place : ℕ → LockStep → ℕ → Place
+abbrev pub place : ℕ → LockStep → ℕ → ProgramPlace
 place lock step next = record { act = Call (record { lock = lock; step = step }); next = next; other = 0 }
 
 -- it acquires both mutexes, `first` first, and releases both
-abbrev pub both_from : ℕ → ℕ → List Place
+abbrev pub both_from : ℕ → ℕ → List ProgramPlace
 both_from first second =
     place first (Modes (Acquire Exclusive)) 1
     ∷ place second (Modes (Acquire Exclusive)) 2
@@ -30,14 +30,14 @@ both_from first second =
     ∷ place second (Modes (Release Exclusive)) 4 ∷ []
 
 -- it acquires the first mutex, and ends
-abbrev pub keeps_one : List Place
+abbrev pub keeps_one : List ProgramPlace
 keeps_one = place 0 (Modes (Acquire Exclusive)) 1 ∷ []
 
 abbrev pub step_of : ℕ → Step
 step_of party = record { party = party; way = 0 }
 
 -- the steps of these parties lead into a stop
-abbrev pub Stops : List (List Place) → List Step → Type 0
+abbrev pub Stops : List (List ProgramPlace) → List Step → Type 0
 Stops programs steps = (w : List Stand)
     × (world_after two_mutexes (first_world two_mutexes programs) steps ≡ Some w) × (is_stop [] two_mutexes w ≡ true)
 

@@ -15,7 +15,7 @@ use Rattle.lock_plan.specs.declared.lock.PlanLock.{PlanLock}
 use Rattle.lock_plan.specs.declared.program.Act.{Act}
 use Rattle.lock_plan.specs.declared.program.Act.TheVariants.{Call, Signal}
 use Rattle.lock_plan.specs.declared.program.Signal.{Signal as PlanSignal}
-use Rattle.lock_plan.specs.declared.program.Place.{Place}
+use Rattle.lock_plan.specs.declared.program.ProgramPlace.{ProgramPlace}
 use Rattle.lock_plan.specs.Checks.{fit_machines}
 use Rattle.lock_plan.specs.Known.{Known, known_at, known_of}
 use Rattle.lock_plan.specs.Worlds.{no_lock, act_in, NeverStops}
@@ -42,22 +42,22 @@ pub record KeepsOrder (rank : ℕ → ℕ) (holds : List Hold) (here : Option Ac
   pub silent : (lock : ℕ) → (get_or holds lock no_hold).announced ≡ false
 
 -- a program that does so at each place
-pub record IsOrdered (rank : ℕ → ℕ) (locks : List PlanLock) (program : List Place) : Type 0 where
+pub record IsOrdered (rank : ℕ → ℕ) (locks : List PlanLock) (program : List ProgramPlace) : Type 0 where
   pub known : Known
   pub is : known_of locks program ≡ Ok known
   pub keeps : (place : ℕ) (holds : List Hold) → known_at known place ≡ Some holds → KeepsOrder rank holds (act_in program place)
 
 -- a plan of machines, none of them reentrant, whose programs do so
-pub record IsOrderedPlan (rank : ℕ → ℕ) (locks : List PlanLock) (programs : List (List Place)) : Type 0 where
+pub record IsOrderedPlan (rank : ℕ → ℕ) (locks : List PlanLock) (programs : List (List ProgramPlace)) : Type 0 where
   pub machines : IsTrue (fit_machines locks)
   pub single : (lock : ℕ) → is_reentrant (get_or locks lock no_lock).kind ≡ false
   pub ordered : (party : ℕ) → party < length programs → IsOrdered rank locks (get_or programs party [])
 
 -- no run of such a plan leads into a stop, and no run of its machines
 abbrev pub OrderedPlansNeverStop : Type 0
-OrderedPlansNeverStop = (rank : ℕ → ℕ) (servers : List Bool) (locks : List PlanLock) (programs : List (List Place))
+OrderedPlansNeverStop = (rank : ℕ → ℕ) (servers : List Bool) (locks : List PlanLock) (programs : List (List ProgramPlace))
     → IsOrderedPlan rank locks programs → NeverStops servers locks programs
 
 abbrev pub OrderedMachinesNeverStop : {O T A : Type 0} → (O → Operation T A) → Type 0
-OrderedMachinesNeverStop meaning = (rank : ℕ → ℕ) (servers : List Bool) (locks : List PlanLock) (programs : List (List Place))
+OrderedMachinesNeverStop meaning = (rank : ℕ → ℕ) (servers : List Bool) (locks : List PlanLock) (programs : List (List ProgramPlace))
     → IsOrderedPlan rank locks programs → MachinesNeverStop meaning servers locks programs

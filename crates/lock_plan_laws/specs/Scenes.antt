@@ -12,7 +12,7 @@ use Rattle.lock_plan.specs.declared.lock.PlanLock.{PlanLock}
 use Rattle.lock_plan.specs.declared.program.Act.{Act}
 use Rattle.lock_plan.specs.declared.program.Act.TheVariants as act
 use Rattle.lock_plan.specs.declared.program.Block.{Block}
-use Rattle.lock_plan.specs.declared.program.Place.{Place}
+use Rattle.lock_plan.specs.declared.program.ProgramPlace.{ProgramPlace}
 use Rattle.lock_plan.specs.declared.program.Signal.{Signal}
 use Rattle.lock_plan.specs.declared.program.Signal.TheVariants.{Assert}
 use Rattle.lock_plan.specs.declared.program.Step.{Step}
@@ -56,14 +56,14 @@ place_by Waits next here = here
 place_by Refused next here = here
 
 -- the place after the act at this place: the next one, or the other one
-abbrev pub way_from : List Place → ℕ → Bool → ℕ
+abbrev pub way_from : List ProgramPlace → ℕ → Bool → ℕ
 way_from program place other = if other then other_in program place else next_in program place
 
 -- a row of a scene: its program and its place. Its guards are in the machines
-abbrev pub row_at : List Place × ℕ → Stand
+abbrev pub row_at : List ProgramPlace × ℕ → Stand
 row_at r = record { program = r.0; place = r.1; holds = [] }
 
-module _ {T : Type 0} (programs : List (List Place)) where
+module _ {T : Type 0} (programs : List (List ProgramPlace)) where
   -- the act of a party, if it has not ended
   abbrev pub act_at : Scene T → ℕ → Option Act
   act_at s party = act_in (get_or programs party []) (get_or s.places party 0)
@@ -110,14 +110,14 @@ limit_for RwLock limit = limit
 limit_for Reentrant limit = limit
 
 -- the scene before the first act, where each lock has this value, and a machine with room for so many guards
-abbrev pub first_scene : {T : Type 0} → List PlanLock → List (List Place) → (ℕ → T) → ℕ → Scene T
+abbrev pub first_scene : {T : Type 0} → List PlanLock → List (List ProgramPlace) → (ℕ → T) → ℕ → Scene T
 first_scene locks programs values room = record {
   machines = λ l. let lock = get_or locks l no_lock in start lock.kind (values l) room (limit_for lock.kind lock.limit);
   places = map (λ program. 0) programs;
 }
 
 -- party `p` calls under the id `ids p`
-module _ {O T A : Type 0} (meaning : O → Operation T A) (ids : ℕ → PartyId) (locks : List PlanLock) (programs : List (List Place)) where
+module _ {O T A : Type 0} (meaning : O → Operation T A) (ids : ℕ → PartyId) (locks : List PlanLock) (programs : List (List ProgramPlace)) where
   -- the call of a party, on the guard that it names: its turn, and the scene after it
   pub record HasTurn (s : Scene T) (c : Caller) (turn : Turn) (after : Scene T) : Type 0 where
     pub call : PlanCall

@@ -1,14 +1,14 @@
 //! Where an order of the locks says nothing of a plan. No proof rests on these functions.
 use crate::order::{is_covered, is_free};
 use lock_base::machine::{Hold, LockStep, Mode, ModeStep};
-use lock_plan::{Act, Block, Obstacle, Place, PlanLock, Signal};
+use lock_plan::{Act, Block, Obstacle, PlanLock, ProgramPlace, Signal};
 use std::alloc::AllocError;
 
 /// Adds each reentrant lock, the first act that an order does not cover, and the first party that ends while it holds a lock.
 pub(crate) fn add_obstacles(
     found: &mut Vec<Obstacle>,
     locks: &[PlanLock],
-    programs: &[Vec<Place>],
+    programs: &[Vec<ProgramPlace>],
     known: &[Vec<Option<Vec<Hold>>>],
 ) -> Result<(), AllocError> {
     for lock in 0..locks.len() {
@@ -26,7 +26,7 @@ pub(crate) fn add_obstacles(
 }
 
 /// Returns the first act that an order does not cover. A row that idles comes last: some other act starts it.
-fn first_uncovered(programs: &[Vec<Place>]) -> Option<Obstacle> {
+fn first_uncovered(programs: &[Vec<ProgramPlace>]) -> Option<Obstacle> {
     let mut idle = None;
     for party in 0..programs.len() {
         for place in 0..programs[party].len() {
@@ -54,7 +54,7 @@ fn is_act_covered(act: Act) -> bool {
 }
 
 /// Returns the first party that ends while it holds a lock, and that lock.
-fn first_end(programs: &[Vec<Place>], known: &[Vec<Option<Vec<Hold>>>]) -> Option<Obstacle> {
+fn first_end(programs: &[Vec<ProgramPlace>], known: &[Vec<Option<Vec<Hold>>>]) -> Option<Obstacle> {
     for party in 0..programs.len() {
         if let Some(lock) = held_at_end(known, party, programs[party].len()) {
             return Some(Obstacle::Ends(party, lock));

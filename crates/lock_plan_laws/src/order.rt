@@ -10,7 +10,7 @@ ghost use Rattle.lock_plan_laws.specs.OrderChecks.{goes_up, is_above, is_below, 
 use crate::held_waits::{against, held_waits, sorted};
 use crate::obstacles::add_obstacles;
 use lock_base::machine::{Hold, LockStep, Mode, ModeStep};
-use lock_plan::{Act, Block, LockOrder, Place, PlanFault, PlanLock, act_in, known_holds};
+use lock_plan::{Act, Block, LockOrder, PlanFault, PlanLock, ProgramPlace, act_in, known_holds};
 use std::alloc::{AllocError, Global};
 
 /// Returns an order of the locks that each of the programs keeps, or why none was found.
@@ -23,7 +23,7 @@ use std::alloc::{AllocError, Global};
 pub fn find_order(
     alloc: Global,
     locks: &[PlanLock],
-    programs: &[Vec<Place>],
+    programs: &[Vec<ProgramPlace>],
 ) -> Result<LockOrder, PlanFault>
     ensures order { IfOk result (IsLockOrder locks.now (map (λ v. v.items) programs.now)) }
     ensures wrong { IfErr result (IsFault (parties_fault locks.now 0 (map (λ v. v.items) programs.now))) }
@@ -39,7 +39,7 @@ pub fn find_order(
 fn order_of(
     alloc: Global,
     locks: &[PlanLock],
-    programs: &[Vec<Place>],
+    programs: &[Vec<ProgramPlace>],
     known: &[Vec<Option<Vec<Hold>>>],
 ) -> Result<LockOrder, AllocError>
     requires { AreKnown locks.now (map (λ v. v.items) programs.now) (map held_in known.now) }
@@ -59,7 +59,7 @@ fn order_of(
 fn is_kept(
     order: &[usize],
     locks: &[PlanLock],
-    programs: &[Vec<Place>],
+    programs: &[Vec<ProgramPlace>],
     known: &[Vec<Option<Vec<Hold>>>],
 ) -> bool
     requires { AreKnown locks.now (map (λ v. v.items) programs.now) (map held_in known.now) }
@@ -75,7 +75,7 @@ fn is_kept(
 fn all_known(
     alloc: Global,
     locks: &[PlanLock],
-    programs: &[Vec<Place>],
+    programs: &[Vec<ProgramPlace>],
 ) -> Result<Vec<Vec<Option<Vec<Hold>>>>, PlanFault>
     ensures known { IfOk result (λ known.
         AreKnown locks.now (map (λ v. v.items) programs.now) (map held_in known.items)) }
@@ -106,7 +106,11 @@ pub(crate) fn is_covered(lock: PlanLock) -> bool
 }
 
 /// Returns whether each of the programs keeps the order.
-fn are_kept(order: &[usize], programs: &[Vec<Place>], known: &[Vec<Option<Vec<Hold>>>]) -> bool
+fn are_kept(
+    order: &[usize],
+    programs: &[Vec<ProgramPlace>],
+    known: &[Vec<Option<Vec<Hold>>>],
+) -> bool
     ensures { IsTrue result → AreKept order.now (map (λ v. v.items) programs.now) (map held_in known.now) }
 {
     for party in 0..programs.len() {
@@ -118,7 +122,7 @@ fn are_kept(order: &[usize], programs: &[Vec<Place>], known: &[Vec<Option<Vec<Ho
 }
 
 /// Returns the program of a party, or an empty one if there is none.
-fn program_of(programs: &[Vec<Place>], party: usize) -> &[Place]
+fn program_of(programs: &[Vec<ProgramPlace>], party: usize) -> &[ProgramPlace]
     ensures { result.now ≡ get_or (map (λ v. v.items) programs.now) party [] }
 {
     match programs.get(party) {
@@ -138,7 +142,7 @@ fn held_of(known: &[Vec<Option<Vec<Hold>>>], party: usize) -> &[Option<Vec<Hold>
 }
 
 /// Returns whether a program keeps the order, at each place of which the holds are known.
-fn keeps_from(order: &[usize], program: &[Place], known: &[Option<Vec<Hold>>]) -> bool
+fn keeps_from(order: &[usize], program: &[ProgramPlace], known: &[Option<Vec<Hold>>]) -> bool
     ensures { result ≡ keeps_from (rank_in order.now) program.now 0 (map (option_map (λ v. v.items)) known.now) }
 {
     let mut place = 0usize;

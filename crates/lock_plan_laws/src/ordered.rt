@@ -1,7 +1,7 @@
 //! Plans in the order of ranks never stop.
 ghost use Rattle.std.specs.Prelude.{◌≡◌, ℕ, true, List};
 ghost use Rattle.lock_plan.specs.declared.lock.PlanLock.{PlanLock};
-ghost use Rattle.lock_plan.specs.declared.program.Place.{Place};
+ghost use Rattle.lock_plan.specs.declared.program.ProgramPlace.{ProgramPlace};
 ghost use Rattle.lock_plan_laws.specs.Holders.{SomeHolderDoesNotWait};
 ghost use Rattle.lock_plan_laws.specs.OrderChecks.{is_ordered};
 ghost use Rattle.lock_plan_laws.specs.OrderExamples.{OrderExamples};
@@ -15,7 +15,7 @@ use lock_base::machine::Op;
 pub fn ordered_plans_never_stop<T, O: Op<T>>()
     ensures worlds { OrderedPlansNeverStop }
     ensures machines { OrderedMachinesNeverStop O.meaning }
-    ensures test { (rank : ℕ → ℕ) (locks : List PlanLock) (program : List Place)
+    ensures test { (rank : ℕ → ℕ) (locks : List PlanLock) (program : List ProgramPlace)
         → is_ordered rank locks program ≡ true → IsOrdered rank locks program }
     ensures examples { OrderExamples }
 {}

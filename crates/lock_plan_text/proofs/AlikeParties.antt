@@ -6,7 +6,7 @@ use Rattle.std.proofs.lemmas.Bool.{and_parts, or_parts, not-true, cases_lt}
 use Rattle.std.proofs.lemmas.List.{get_or_past}
 use Rattle.std.proofs.lemmas.Option.{get_or_from_slice_get}
 use Rattle.step_search.specs.Walks.{each_below}
-use Rattle.lock_plan.specs.declared.program.Place.{Place}
+use Rattle.lock_plan.specs.declared.program.ProgramPlace.{ProgramPlace}
 use Rattle.lock_plan.specs.Copies.{AreAlike}
 use Rattle.lock_plan.proofs.EachBelow.{each_get, each_length}
 use Rattle.lock_plan_text.specs.declared.parser.block_line.BlockLine.{BlockLine}
@@ -20,7 +20,7 @@ each_at : {X : Type 0} (f : ℕ → X) (n i : ℕ) (d : X) → i < n → get_or 
 each_at f n i d less = get_or_from_slice_get (each_below f n) i (f i) d (each_get f n i less)
 
 module _ (draft : Draft) (copied : HasCopies draft) where
-  abbrev programs : List (List Place)
+  abbrev programs : List (List ProgramPlace)
   programs = programs_in draft
 
   program_at : (party : ℕ) → party < length draft.parties → get_or programs party [] ≡ party_program draft party
@@ -29,7 +29,7 @@ module _ (draft : Draft) (copied : HasCopies draft) where
       [] party (omega (arith, less, each_length (party_program draft) (length draft.parties)))
       ∙ each_at (party_program draft) (length draft.parties) party [] less
 
-  abbrev lines_from : Bool → List BlockLine → List Place
+  abbrev lines_from : Bool → List BlockLine → List ProgramPlace
   lines_from is_first own = program_of (idle_lines is_first ++ map (in_rows draft) own)
 
   copy_at : (row : ℕ) → get_or (copies_in draft) (suc row) false ≡ true → (suc row < length draft.parties) × (is_copy draft (suc row) ≡ true)

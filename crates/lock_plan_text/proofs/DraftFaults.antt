@@ -4,7 +4,7 @@ use Rattle.std.specs.Prelude.{◌⊎◌, ◌^◌, if◌then◌else◌, nat_lt, I
 use Rattle.std.proofs.lemmas.Bool.{false≢true}
 use Rattle.lock_plan.specs.declared.fault.PlanFault.{PlanFault}
 use Rattle.lock_plan.specs.declared.fault.PlanFault.TheVariants as plan
-use Rattle.lock_plan.specs.declared.program.Place.{Place}
+use Rattle.lock_plan.specs.declared.program.ProgramPlace.{ProgramPlace}
 use Rattle.lock_plan.specs.Checks.{IsFault, or_fault, parties_fault, plan_fault}
 use Rattle.lock_plan.specs.Points.{all_views, size}
 use Rattle.lock_plan_text.specs.declared.parser.fault.PlanTextFault.{PlanTextFault}
@@ -55,7 +55,7 @@ draft_told bytes draft OutOfMemory makes (inl is) = tt
 draft_told bytes draft fault makes (inl is) = absurd (false≢true (own draft fault is))
 
 -- a fault of the plan of a draft's programs is one of the draft
-pub plan_told : (draft : Draft) (programs : List (List Place)) (fault : PlanFault) (told : PlanTextFault) → unknown_line draft ≡ None
+pub plan_told : (draft : Draft) (programs : List (List ProgramPlace)) (fault : PlanFault) (told : PlanTextFault) → unknown_line draft ≡ None
     → unbegun_line draft ≡ None → programs ≡ programs_in draft → IsFault (plan_fault draft.locks programs) fault
     → (told ≡ by_line draft fault) ⊎ (told ≡ OutOfMemory) → (draft_fault draft ≡ Some told) ⊎ (told ≡ OutOfMemory)
 plan_told draft programs fault told known begun made is (inr out) = inr out
@@ -65,7 +65,7 @@ plan_told draft programs fault told known begun made (inl is) (inl same) =
     inl (ap (or_later_fault draft) known ∙ ap (or_plan_fault draft) begun ∙ ap (option_map (by_line draft)) first ∙ ap Some (sym same))
 
 -- so is the fault of the first wrong act
-pub order_told : (draft : Draft) (programs : List (List Place)) (fault : PlanFault) (told : PlanTextFault) → unknown_line draft ≡ None
+pub order_told : (draft : Draft) (programs : List (List ProgramPlace)) (fault : PlanFault) (told : PlanTextFault) → unknown_line draft ≡ None
     → unbegun_line draft ≡ None → programs ≡ programs_in draft → IsFault (parties_fault draft.locks 0 programs) fault
     → (told ≡ by_line draft fault) ⊎ (told ≡ OutOfMemory) → (draft_fault draft ≡ Some told) ⊎ (told ≡ OutOfMemory)
 order_told draft programs fault told known begun made (inr out) is = plan_told draft programs fault told known begun made (inr out) is

@@ -9,7 +9,7 @@ use Rattle.lock_plan.specs.declared.fault.CallFault.{CallFault}
 use Rattle.lock_plan.specs.declared.fault.PlanFault.{PlanFault}
 use Rattle.lock_plan.specs.declared.fault.PlanFault.TheVariants as plan
 use Rattle.lock_plan.specs.declared.lock.PlanLock.{PlanLock}
-use Rattle.lock_plan.specs.declared.program.Place.{Place}
+use Rattle.lock_plan.specs.declared.program.ProgramPlace.{ProgramPlace}
 use Rattle.lock_plan.specs.declared.program.Act.TheVariants.{Signal}
 use Rattle.lock_plan.specs.declared.program.Signal.TheVariants.{Idle}
 use Rattle.lock_plan.specs.Checks.{or_fault, parties_fault, plan_fault, program_fault}
@@ -40,15 +40,15 @@ either None second fault is = inr is
 either (Some other) second fault is = inl is
 
 -- a program with its fault
-record HasFault (locks : List PlanLock) (programs : List (List Place)) (first p k : ℕ) (why : CallFault) : Type 0 where
+record HasFault (locks : List PlanLock) (programs : List (List ProgramPlace)) (first p k : ℕ) (why : CallFault) : Type 0 where
   at : ℕ
-  program : List Place
+  program : List ProgramPlace
   number : p ≡ first + at
   is : slice_get programs at ≡ Some program
   fault : program_fault locks p program ≡ Some (plan.Call p k why)
 
 -- the fault of a list of programs, which are counted from `first`, is that of one of them
-programs_place : (locks : List PlanLock) (first p k : ℕ) (programs : List (List Place)) (why : CallFault)
+programs_place : (locks : List PlanLock) (first p k : ℕ) (programs : List (List ProgramPlace)) (why : CallFault)
     → parties_fault locks first programs ≡ Some (plan.Call p k why) → HasFault locks programs first p k why
 programs_place locks first p k [] why is = cc
 programs_place locks first p k (program ∷ programs) why is =
@@ -71,7 +71,7 @@ not_large : (t : Bool) (p k : ℕ) (why : CallFault) → cond t None (Some plan.
 not_large true p k why is = cc
 not_large false p k why is = cc
 
-plan_place : (locks : List PlanLock) (p k : ℕ) (programs : List (List Place)) (why : CallFault)
+plan_place : (locks : List PlanLock) (p k : ℕ) (programs : List (List ProgramPlace)) (why : CallFault)
     → plan_fault locks programs ≡ Some (plan.Call p k why) → HasFault locks programs 0 p k why
 plan_place locks p k programs why is =
     elim (either (parties_fault locks 0 programs) _ (plan.Call p k why) is) [
@@ -80,11 +80,11 @@ plan_place locks p k programs why is =
     ]
 
 -- a flag's program has no fault
-no_flag_fault : (locks : List PlanLock) (p k : ℕ) (program : List Place) (why : CallFault) → flag_program ≡ program
+no_flag_fault : (locks : List PlanLock) (p k : ℕ) (program : List ProgramPlace) (why : CallFault) → flag_program ≡ program
     → program_fault locks p program ≡ Some (plan.Call p k why) → ⊥
 no_flag_fault locks p k program why same is =
     let here : program_fault locks p flag_program ≡ Some (plan.Call p k why)
-    = subst (λ (ps : List Place). program_fault locks p ps ≡ Some (plan.Call p k why)) (sym same) is in
+    = subst (λ (ps : List ProgramPlace). program_fault locks p ps ≡ Some (plan.Call p k why)) (sym same) is in
     omega (arith, signal_first locks p p k flag_program why Idle refl here, (program_place locks p p k flag_program why here).1)
 
 -- so a fault of a draft's programs is a party's
@@ -98,7 +98,7 @@ party_fault draft p k why is =
       | inl own ↦
           let program : party_program draft p ≡ found.program
           = ap (party_program draft) (sym same) ∙ (each_found (party_program draft) (length draft.parties) found.at found.program own).1 in
-          subst (λ (ps : List Place). program_fault draft.locks p ps ≡ Some (plan.Call p k why)) (sym program) found.fault
+          subst (λ (ps : List ProgramPlace). program_fault draft.locks p ps ≡ Some (plan.Call p k why)) (sym program) found.fault
       | inr flag ↦
           absurd (no_flag_fault draft.locks p k found.program why
           (each_found (λ flag. flag_program) (length draft.flag_names) flag.at found.program flag.is).1 found.fault)
@@ -184,7 +184,7 @@ own_step true own lines numbers k number long at later told = by_line_number at.
 idle_act : (lines : List BlockLine) → (get_or (program_of (idle_lines true ++ lines)) 0 no_place).act ≡ Signal Idle
 idle_act lines =
     let all = idle_lines true ++ lines in
-    ap (λ (place : Place). place.act)
+    ap (λ (place : ProgramPlace). place.act)
     (get_or_from_slice_get (program_of all) 0 (place_of_line all 0) no_place
     (said_get (place_if all) (length all) 0 (place_of_line all 0) (omega arith) refl))
 

@@ -9,7 +9,7 @@ use Rattle.lock_plan.specs.declared.fault.PlanFault.TheVariants as plan
 use Rattle.lock_plan.specs.declared.lock.PlanLock.{PlanLock}
 use Rattle.lock_plan.specs.declared.program.Act.{Act}
 use Rattle.lock_plan.specs.declared.program.Act.TheVariants.{Signal}
-use Rattle.lock_plan.specs.declared.program.Place.{Place}
+use Rattle.lock_plan.specs.declared.program.ProgramPlace.{ProgramPlace}
 use Rattle.lock_plan.specs.declared.program.Signal as of
 use Rattle.lock_plan.specs.Checks.{program_fault}
 use Rattle.lock_plan.specs.Known.{PlaceFault, Known, acts_at, acts_with, arrives, comes, fault_in, first_known, known_at, same_holds, then_known, walked}
@@ -37,13 +37,13 @@ first_comes locks n (suc target) fault is =
     = ap (λ (o : Option (List Hold)). arrives 0 (first_known locks n) o (suc target) (no_holds locks)) (sym (unknown n target)) ∙ is in
     cc
 
-first_acts : (locks : List PlanLock) (program : List Place) (signal : of.Signal) (fault : PlaceFault)
+first_acts : (locks : List PlanLock) (program : List ProgramPlace) (signal : of.Signal) (fault : PlaceFault)
     → (get_or program 0 no_place).act ≡ Signal signal → acts_at locks program 0 (first_known locks (length program)) ≡ Err fault → ⊥
 first_acts locks program signal fault here is =
     first_comes locks (length program) (next_in program 0) fault
     (ap (λ (act : Act). acts_with locks program 0 act (Some (no_holds locks)) (first_known locks (length program))) (sym here) ∙ is)
 
-later_place : (locks : List PlanLock) (program : List Place) (signal : of.Signal) → (get_or program 0 no_place).act ≡ Signal signal
+later_place : (locks : List PlanLock) (program : List ProgramPlace) (signal : of.Signal) → (get_or program 0 no_place).act ≡ Signal signal
     → (n : ℕ) (fault : PlaceFault) → walked locks program n ≡ Err fault → 0 < fault.place
 later_place locks program signal here zero fault is = cc
 later_place locks program signal here (suc zero) fault is = absurd (first_acts locks program signal fault here is)
@@ -61,7 +61,7 @@ told_later party p k why (Ok known) later is = cc
 told_later party p k why (Err fault) later is = let place : fault.place ≡ k = cc in omega (arith, place, later fault refl)
 
 -- so a fault of a program that begins with one is at a later place
-pub signal_first : (locks : List PlanLock) (party p k : ℕ) (program : List Place) (why : CallFault) (signal : of.Signal)
+pub signal_first : (locks : List PlanLock) (party p k : ℕ) (program : List ProgramPlace) (why : CallFault) (signal : of.Signal)
     → (get_or program 0 no_place).act ≡ Signal signal → program_fault locks party program ≡ Some (plan.Call p k why) → 0 < k
 signal_first locks party p k program why signal here is =
     told_later party p k why (walked locks program (length program)) (later_place locks program signal here (length program)) is

@@ -8,7 +8,7 @@ use Rattle.lock_plan.specs.declared.fault.PlanFault.TheVariants as plan
 use Rattle.lock_plan.specs.declared.lock.PlanLock.{PlanLock}
 use Rattle.lock_plan.specs.declared.program.Act.{Act}
 use Rattle.lock_plan.specs.declared.program.Act.TheVariants.{Call, Try, Choose, Signal}
-use Rattle.lock_plan.specs.declared.program.Place.{Place}
+use Rattle.lock_plan.specs.declared.program.ProgramPlace.{ProgramPlace}
 use Rattle.lock_plan.specs.CallFaults.{call_fault, try_fault}
 use Rattle.lock_plan.specs.Checks.{program_fault}
 use Rattle.lock_plan.specs.Known.{PlaceFault, Known, acts, acts_at, acts_with, arrives, comes, fault_in, known_at, known_of, same_holds, then_known, unless, walked}
@@ -42,7 +42,7 @@ then_at place (Err other) f of each fault is = of fault is
 comes_at : (place : ℕ) (known : Known) (target : ℕ) (holds : List Hold) → IsOf place (comes place known target holds)
 comes_at place known target holds = arrives_at place known (known_at known target) target holds
 
-act_at : (locks : List PlanLock) (program : List Place) (place : ℕ) (act : Act) (holds : List Hold) (known : Known)
+act_at : (locks : List PlanLock) (program : List ProgramPlace) (place : ℕ) (act : Act) (holds : List Hold) (known : Known)
     → IsOf place (acts locks program place act holds known)
 act_at locks program place (Call call) holds known =
     unless_at place (call_fault locks holds call) _
@@ -56,16 +56,16 @@ act_at locks program place (Choose block) holds known =
     (λ after. comes_at place after (other_in program place) holds)
 act_at locks program place (Signal signal) holds known = comes_at place known (next_in program place) holds
 
-with_at : (locks : List PlanLock) (program : List Place) (place : ℕ) (act : Act) (holds : Option (List Hold)) (known : Known)
+with_at : (locks : List PlanLock) (program : List ProgramPlace) (place : ℕ) (act : Act) (holds : Option (List Hold)) (known : Known)
     → IsOf place (acts_with locks program place act holds known)
 with_at locks program place act None known = wrong_at place Unreached
 with_at locks program place act (Some holds) known = act_at locks program place act holds known
 
-pub step_at : (locks : List PlanLock) (program : List Place) (place : ℕ) (known : Known) → IsOf place (acts_at locks program place known)
+pub step_at : (locks : List PlanLock) (program : List ProgramPlace) (place : ℕ) (known : Known) → IsOf place (acts_at locks program place known)
 step_at locks program place known =
     with_at locks program place (get_or program place no_place).act (known_at known place) known
 
-walked_place : (locks : List PlanLock) (program : List Place) (n : ℕ) (fault : PlaceFault) → walked locks program n ≡ Err fault
+walked_place : (locks : List PlanLock) (program : List ProgramPlace) (n : ℕ) (fault : PlaceFault) → walked locks program n ≡ Err fault
     → fault.place < n
 walked_place locks program zero fault is = cc
 walked_place locks program (suc n) fault is =
@@ -83,7 +83,7 @@ told_at party p k why (Err fault) n before is =
     let place : fault.place ≡ k = cc in (cc, omega (arith, place, before fault refl))
 
 -- a fault of a party is one of a place of its program
-pub program_place : (locks : List PlanLock) (party p k : ℕ) (program : List Place) (why : CallFault)
+pub program_place : (locks : List PlanLock) (party p k : ℕ) (program : List ProgramPlace) (why : CallFault)
     → program_fault locks party program ≡ Some (plan.Call p k why) → (party ≡ p) × (k < length program)
 program_place locks party p k program why is =
     told_at party p k why (known_of locks program) (length program) (walked_place locks program (length program)) is

@@ -1,7 +1,7 @@
 -- Rows of a drawing, one after another.
 use Rattle.std.proofs.Common.{◌≡◌, ◌∙◌, ℕ, suc, ◌+◌, List, ◌++◌, codes, Option, Some, Vec, Global, get_or, sym, ap, add-one, append_assoc}
 use Rattle.lock_plan.specs.declared.lock.PlanLock.{PlanLock}
-use Rattle.lock_plan.specs.declared.program.Place.{Place}
+use Rattle.lock_plan.specs.declared.program.ProgramPlace.{ProgramPlace}
 use Rattle.lock_plan.specs.declared.program.Step.{Step}
 use Rattle.lock_plan.specs.Worlds.{first_world}
 use Rattle.lock_plan_text.specs.declared.names.Names.{Names}
@@ -24,7 +24,7 @@ row_end ws f n parties old before cell now is_before is_cell is_now are =
     ∙ append_assoc old (cells_text ws f n) (f n ++ codes "\n")
     ∙ ap (λ (k : ℕ). old ++ row_text ws k f) (sym are)
 
-pub drawing_end : (locks : List PlanLock) (programs : List (List Place)) (names : Names) (trace : Vec Step Global)
+pub drawing_end : (locks : List PlanLock) (programs : List (List ProgramPlace)) (names : Names) (trace : Vec Step Global)
     (o : Option (Vec Step Global)) (old first now : List ℕ)
     → first ≡ old ++ codes "\n" → now ≡ first ++ lanes_text locks names (first_world locks programs) trace.items
     → o ≡ Some trace → now ≡ old ++ drawing_text locks programs names o

@@ -2,7 +2,7 @@
 use Rattle.std.specs.Prelude.{ℕ, List, ◌++◌, codes, decimal, Option, Some, None, Vec}
 use Rattle.std.specs.Global.{Global}
 use Rattle.lock_plan.specs.declared.lock.PlanLock.{PlanLock}
-use Rattle.lock_plan.specs.declared.program.Place.{Place}
+use Rattle.lock_plan.specs.declared.program.ProgramPlace.{ProgramPlace}
 use Rattle.lock_plan.specs.declared.program.Step.{Step}
 use Rattle.lock_plan.specs.Worlds.{Stand, first_world}
 use Rattle.lock_plan.specs.Stops.{all_stopped}
@@ -21,6 +21,6 @@ trace_text locks names w trace =
     stop_word (all_stopped locks stop) ++ (codes "\n" ++ (steps_text locks names w trace ++ stop_lines locks names stop))
 
 -- the answer to a plan, of what a search found
-abbrev pub answer_text : List PlanLock → List (List Place) → Names → Option (Vec Step Global) → ℕ → List ℕ
+abbrev pub answer_text : List PlanLock → List (List ProgramPlace) → Names → Option (Vec Step Global) → ℕ → List ℕ
 answer_text locks programs names None visited = none_text visited
 answer_text locks programs names (Some trace) visited = trace_text locks names (first_world locks programs) trace.items

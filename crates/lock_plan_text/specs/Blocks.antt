@@ -4,7 +4,7 @@ use Rattle.std.proofs.Common.{get_or}
 use Rattle.lock_plan.specs.declared.program.Act.{Act}
 use Rattle.lock_plan.specs.declared.program.Act.TheVariants as act
 use Rattle.lock_plan.specs.declared.program.Block.TheVariants as block
-use Rattle.lock_plan.specs.declared.program.Place.{Place}
+use Rattle.lock_plan.specs.declared.program.ProgramPlace.{ProgramPlace}
 use Rattle.lock_plan.specs.declared.program.Signal.{Signal}
 use Rattle.lock_plan.specs.declared.program.Signal.TheVariants as signal
 use Rattle.lock_plan.specs.Points.{said_below}
@@ -153,14 +153,14 @@ signal_of (Start party) = signal.Start party
 signal_of (Join party) = signal.Join party
 
 -- the place of an act with one place after it, and with two
-abbrev pub one_way : Act → ℕ → Place
+abbrev pub one_way : Act → ℕ → ProgramPlace
 one_way act next = record { act = act; next = next; other = next }
 
-abbrev pub two_ways : Act → ℕ → ℕ → Place
+abbrev pub two_ways : Act → ℕ → ℕ → ProgramPlace
 two_ways act next other = record { act = act; next = next; other = other }
 
 -- the place of a line that is a step: what follows the line begins at `inside`, and the other way leads to `past`
-abbrev pub place_for : BlockLine → ℕ → ℕ → Place
+abbrev pub place_for : BlockLine → ℕ → ℕ → ProgramPlace
 place_for (Call call) inside past = one_way (act.Call call) inside
 place_for (Try call) inside past = two_ways (act.Try call) inside past
 place_for (Word Repeat) inside past = two_ways (act.Choose block.Repeat) inside past
@@ -172,14 +172,14 @@ place_for (Until flag false) inside past = two_ways (act.Choose (block.If flag))
 place_for (TimedSleep cond) inside past = two_ways (act.Choose (block.TimedSleep cond)) inside past
 place_for (Plain line) inside past = one_way (act.Signal (signal_of line)) inside
 
-abbrev pub place_of_line : List BlockLine → ℕ → Place
+abbrev pub place_of_line : List BlockLine → ℕ → ProgramPlace
 place_of_line lines i =
     place_for (line_at lines i) (place_number lines (land lines (i + 1))) (place_number lines (other_line lines i))
 
-abbrev pub place_if : List BlockLine → ℕ → Option Place
+abbrev pub place_if : List BlockLine → ℕ → Option ProgramPlace
 place_if lines i = if is_step lines i then Some (place_of_line lines i) else None
 
-abbrev pub program_of : List BlockLine → List Place
+abbrev pub program_of : List BlockLine → List ProgramPlace
 program_of lines = said_below (place_if lines) (length lines)
 
 -- of the numbers of all lines, those of the steps

@@ -9,7 +9,7 @@ use Rattle.lock_plan.specs.declared.plan.Plan.{Plan}
 use Rattle.lock_plan.specs.declared.program.Act.{Act}
 use Rattle.lock_plan.specs.declared.program.Act.TheVariants as act
 use Rattle.lock_plan.specs.declared.program.Act.TheVariants.{Call, Try, Choose}
-use Rattle.lock_plan.specs.declared.program.Place.{Place}
+use Rattle.lock_plan.specs.declared.program.ProgramPlace.{ProgramPlace}
 use Rattle.lock_plan.specs.declared.program.Signal.{Signal}
 use Rattle.lock_plan.specs.declared.program.Signal.TheVariants.{Sleep, Join, Assert}
 use Rattle.lock_plan.specs.declared.program.Step.{Step}
@@ -108,7 +108,7 @@ abbrev pub lanes_text : List PlanLock → Names → List Stand → List Step →
 lanes_text locks names w trace = rows_text (rows_of locks names w trace) (length names.parties)
 
 -- the drawing below an answer, if there is a trace
-abbrev pub drawing_text : List PlanLock → List (List Place) → Names → Option (Vec Step Global) → List ℕ
+abbrev pub drawing_text : List PlanLock → List (List ProgramPlace) → Names → Option (Vec Step Global) → List ℕ
 drawing_text locks programs names None = []
 drawing_text locks programs names (Some trace) =
     codes "\n" ++ lanes_text locks names (first_world locks programs) trace.items

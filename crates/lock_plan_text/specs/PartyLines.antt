@@ -3,7 +3,7 @@ use Rattle.std.specs.Prelude.{ℕ, ◌+◌, Bool, List, [], ◌∷◌, ◌++◌,
 use Rattle.std.specs.Option.{unwrap_or}
 use Rattle.std.proofs.Common.{get_or}
 use Rattle.lock_plan.specs.declared.program.Act.TheVariants as act
-use Rattle.lock_plan.specs.declared.program.Place.{Place}
+use Rattle.lock_plan.specs.declared.program.ProgramPlace.{ProgramPlace}
 use Rattle.lock_plan.specs.declared.program.Signal.TheVariants as signal
 use Rattle.lock_plan_text.specs.declared.parser.block_line.BlockLine.{BlockLine}
 use Rattle.lock_plan_text.specs.declared.parser.block_line.BlockLine.TheVariants.{If, Until, Plain}
@@ -60,15 +60,15 @@ idle_numbers is_first numbers = if is_first then get_or numbers 0 0 ∷ [] else 
 abbrev pub party_numbers : Draft → ℕ → List ℕ
 party_numbers draft party = idle_numbers (starts draft party) (numbers_of_party draft party) ++ numbers_of_party draft party
 
-abbrev pub party_program : Draft → ℕ → List Place
+abbrev pub party_program : Draft → ℕ → List ProgramPlace
 party_program draft party = program_of (party_lines draft party)
 
 -- a flag idles until it is set
-abbrev pub flag_program : List Place
+abbrev pub flag_program : List ProgramPlace
 flag_program = record { act = act.Signal signal.Idle; next = 1; other = 1 } ∷ []
 
 -- the programs of a draft
-abbrev pub programs_in : Draft → List (List Place)
+abbrev pub programs_in : Draft → List (List ProgramPlace)
 programs_in draft =
     each_below (party_program draft) (length draft.parties) ++ each_below (λ flag. flag_program) (length draft.flag_names)
 

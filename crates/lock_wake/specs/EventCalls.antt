@@ -9,7 +9,7 @@ use Rattle.lock_wake.specs.OwedWakes.{owed}
 pub use Rattle.lock_wake.specs.EventSeals.{Ended, Asleep, Keeper}
 
 -- a call: its event count, its number in the order in which calls began, and its stage
-pub record Call : Type 0 where
+pub record EventCallView : Type 0 where
   pub events : TableId
   pub number : ℕ
   pub stage : CallStage

@@ -12,12 +12,12 @@ use Rattle.lock_word.specs.declared.step.AtomicStep.{AtomicStep}
 use Rattle.lock_word.specs.declared.step.AtomicStep.TheVariants.{Load, Exchange, Take}
 use Rattle.lock_word.specs.declared.step.Outcome.TheVariants.{Done, NotAdmitted, Changed}
 use Rattle.lock_word.specs.Word.{word_admits, word_after, amount, step_of_want, step_of_down}
-use Rattle.lock_word.specs.Turns.{Turn, refused_turn, after_win, after_fail, without_load, loaded_turn, load_turn, turn}
+use Rattle.lock_word.specs.Turns.{WordTurn, refused_turn, after_win, after_fail, without_load, loaded_turn, load_turn, turn}
 use Rattle.lock_word.specs.Rule.{KeepsRule}
 use Rattle.lock_word.proofs.Rules.{slice_set_same, keeps_load, keeps_unloaded, keeps_lost, keeps_exchange, keeps_take}
 
 -- all that a turn can be
-pub data Effect (limit word : ℕ) (me : WorldParty) (s : AtomicStep) (t : Turn) : Type 0 where
+pub data Effect (limit word : ℕ) (me : WorldParty) (s : AtomicStep) (t : WordTurn) : Type 0 where
   is_refused : (f : Fault) → ((p : ℕ) → s ≢ Load p) → t ≡ refused_turn word me f → Effect limit word me s t
   is_load : (p : ℕ) → s ≡ Load p → t ≡ load_turn word me → Effect limit word me s t
   is_not_admitted : (p : ℕ) (want : ExWant) (loaded : ℕ) → s ≡ Exchange p want → me.loaded ≡ Some loaded
@@ -51,7 +51,7 @@ effect_loaded limit word me p want (Some loaded) was own =
     (λ same.
     let e : word ≡ loaded = eqb-true word loaded same in
     is_exchange p want refl own (was ∙ ap Some (sym e)) (ap (λ w. word_admits me.held.announced limit w want) e ∙ admits)
-    (ap (λ w. let t : Turn = record { word = word_after w want; party = after_win me (step_of_want want); outcome = Done } in t)
+    (ap (λ w. let t : WordTurn = record { word = word_after w want; party = after_win me (step_of_want want); outcome = Done } in t)
     (sym e)))
     (λ other. is_changed p want loaded refl was (λ e. eqb-false word loaded other e) refl))
     (λ refuses. is_not_admitted p want loaded refl was refuses refl)
@@ -68,11 +68,11 @@ effect limit word me (Take p d) =
     (λ h. is_refused fault.WrongMode (λ q e. cc) refl)
 
 -- the rule after a turn of the party at k
-pub keeps_turn : (limit word : ℕ) (ps : List WorldParty) (k : ℕ) (me : WorldParty) (s : AtomicStep) (t : Turn)
+pub keeps_turn : (limit word : ℕ) (ps : List WorldParty) (k : ℕ) (me : WorldParty) (s : AtomicStep) (t : WordTurn)
     → IsLimit limit → KeepsRule limit word ps → slice_get ps k ≡ Some me → Effect limit word me s t
     → KeepsRule limit t.word (slice_set ps k t.party)
 keeps_turn limit word ps k me s t range rule at e =
-    let Kept : Turn → Type 0 = λ u. KeepsRule limit u.word (slice_set ps k u.party) in
+    let Kept : WordTurn → Type 0 = λ u. KeepsRule limit u.word (slice_set ps k u.party) in
     elim e [
       | is_refused f x q ↦ subst Kept (sym q) (subst (KeepsRule limit word) (sym (slice_set_same ps k me at)) rule)
       | is_load p a q ↦ subst Kept (sym q) (keeps_load limit word ps k me rule at)

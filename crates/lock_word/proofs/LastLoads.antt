@@ -12,7 +12,7 @@ use Rattle.lock_word.specs.declared.step.AtomicStep.TheVariants.{Load, Exchange,
 use Rattle.lock_word.specs.declared.step.Outcome.TheVariants.{Done, NotAdmitted, Changed, Refused}
 use Rattle.lock_word.specs.Holders.{holder_at}
 use Rattle.lock_word.specs.Word.{word_admits, step_of_want, barred_bag_of_word}
-use Rattle.lock_word.specs.Turns.{Turn, idle, party_of, steps_after}
+use Rattle.lock_word.specs.Turns.{WordTurn, idle, party_of, steps_after}
 use Rattle.lock_word.specs.Rule.{all_wins, others_wins, held_by_all}
 use Rattle.lock_word.specs.Worlds.{WorldState, Stepped, after_turn, after_step, new_world, world_after, IsReachable}
 use Rattle.lock_word.specs.Claims.{NoLoadBy, IsLastLoad, LastLoadRefuses, LastLoadOutrun, OpenLoadRefuses, IsRefusedByLoad, AreRefusedByLoads}
@@ -28,7 +28,7 @@ pub record IsOpen (w : WorldState) (p loaded : ℕ) : Type 0 where
   pub open_load : me.loaded ≡ Some loaded
 
 -- a turn that spends the open load leaves none
-none_left : (t u : Turn) (loaded : ℕ) → t ≡ u → u.party.loaded ≡ None → t.party.loaded ≡ Some loaded → ⊥
+none_left : (t u : WordTurn) (loaded : ℕ) → t ≡ u → u.party.loaded ≡ None → t.party.loaded ≡ Some loaded → ⊥
 none_left t u loaded same none is_open =
     let n : None ≡ Some loaded = sym none ∙ sym (ap (λ x. x.party.loaded) same) ∙ is_open in
     cc
@@ -49,7 +49,7 @@ no_load_cons p (Take q d) ss other rest = rest
 Before : WorldState → ℕ → ℕ → AtomicStep → Type 0
 Before w p loaded s = ((s ≡ Load p) × (w.word ≡ loaded)) ⊎ (IsOpen w p loaded × IsNoLoad s p)
 
-of_turn : (w : WorldState) (s : AtomicStep) (k loaded : ℕ) (me : WorldParty) (t : Turn) → party_of s ≡ suc k
+of_turn : (w : WorldState) (s : AtomicStep) (k loaded : ℕ) (me : WorldParty) (t : WordTurn) → party_of s ≡ suc k
     → slice_get w.parties k ≡ Some me → Effect w.readers w.word me s t → t.party.loaded ≡ Some loaded
     → Before w (suc k) loaded s
 unfolding Before IsNoLoad
@@ -144,11 +144,11 @@ since_then w v u p f g =
     }
 
 -- a turn wins nothing and leaves the word, or it wins and spends the open load
-data Wins (w : WorldState) (me : WorldParty) (t : Turn) : Type 0 where
+data Wins (w : WorldState) (me : WorldParty) (t : WordTurn) : Type 0 where
   wins_nothing : t.party.wins ≡ me.wins → w.word ≡ t.word → t.party.held ≡ me.held → Wins w me t
   wins_once : t.party.wins ≡ me.wins + 1 → t.party.loaded ≡ None → Wins w me t
 
-wins_of : (w : WorldState) (s : AtomicStep) (me : WorldParty) (t : Turn) → Effect w.readers w.word me s t
+wins_of : (w : WorldState) (s : AtomicStep) (me : WorldParty) (t : WordTurn) → Effect w.readers w.word me s t
     → Wins w me t
 wins_of w s me t e =
     elim e [
@@ -161,7 +161,7 @@ wins_of w s me t e =
     ]
 
 -- a turn of another party
-since_other : (w : WorldState) (k j : ℕ) (me q : WorldParty) (t : Turn) → slice_get w.parties k ≡ Some me
+since_other : (w : WorldState) (k j : ℕ) (me q : WorldParty) (t : WordTurn) → slice_get w.parties k ≡ Some me
     → slice_get w.parties j ≡ Some q → j ≢ k → slice_get (slice_set w.parties k t.party) j ≡ Some q → Wins w me t
     → Since w (after_turn w k t).world (suc j)
 since_other w k j me q t at_k at_j other there e =
@@ -175,7 +175,7 @@ since_other w k j me q t at_k at_j other there e =
     ]
 
 -- a turn of the party after which it has an open load
-since_own : (w : WorldState) (k loaded : ℕ) (me : WorldParty) (t : Turn) → slice_get w.parties k ≡ Some me
+since_own : (w : WorldState) (k loaded : ℕ) (me : WorldParty) (t : WordTurn) → slice_get w.parties k ≡ Some me
     → slice_get (slice_set w.parties k t.party) k ≡ Some t.party → t.party.loaded ≡ Some loaded → Wins w me t
     → Since w (after_turn w k t).world (suc k)
 since_own w k loaded me t at there is_open e =
@@ -301,7 +301,7 @@ record Missed (w : WorldState) (p : ℕ) (Why : Bool → ℕ → Type 0) : Type 
   why : Why is_open.me.held.announced loaded
   more : w.steps ≢ 2 ^ 64 - 1
 
-refused_turn_says : (w : WorldState) (p k : ℕ) (want : ExWant) (me : WorldParty) (t : Turn) → p ≡ suc k
+refused_turn_says : (w : WorldState) (p k : ℕ) (want : ExWant) (me : WorldParty) (t : WordTurn) → p ≡ suc k
     → slice_get w.parties k ≡ Some me → w.steps ≢ 2 ^ 64 - 1 → Effect w.readers w.word me (Exchange p want) t
     → t.outcome ≡ NotAdmitted
     → Missed w p (λ announced loaded. word_admits announced w.readers loaded want ≡ false)
@@ -331,7 +331,7 @@ refused_says w p want r e h =
           refused_turn_says w p k want me t is at more made (sym (ap (λ u. u.outcome) same) ∙ h)
     ]
 
-changed_turn_says : (w : WorldState) (p k : ℕ) (want : ExWant) (me : WorldParty) (t : Turn) → p ≡ suc k
+changed_turn_says : (w : WorldState) (p k : ℕ) (want : ExWant) (me : WorldParty) (t : WordTurn) → p ≡ suc k
     → slice_get w.parties k ≡ Some me → w.steps ≢ 2 ^ 64 - 1 → Effect w.readers w.word me (Exchange p want) t
     → t.outcome ≡ Changed
     → Missed w p (λ announced loaded. w.word ≢ loaded)

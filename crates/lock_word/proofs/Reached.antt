@@ -18,7 +18,7 @@ use Rattle.lock_word.specs.declared.step.Outcome.TheVariants.{Loaded, Done, NotA
 use Rattle.lock_word.specs.BarredBags.{IsLegalBarredBag, without_bars, PermitsLockStep}
 use Rattle.lock_word.specs.Holders.{holder_at, all_of, HolderStep, IsHolderRun}
 use Rattle.lock_word.specs.Word.{word_of, step_of_want, step_of_down, barred_bag_of_word, IsPacked}
-use Rattle.lock_word.specs.Turns.{Turn, idle, with_load, after_win, after_fail, without_load, turn, party_of, steps_after, CanStep}
+use Rattle.lock_word.specs.Turns.{WordTurn, idle, with_load, after_win, after_fail, without_load, turn, party_of, steps_after, CanStep}
 use Rattle.lock_word.specs.Rule.{holds, held_by_all, others_wins, IsBehind, KeepsRule}
 use Rattle.lock_word.specs.Worlds.{WorldState, Stepped, after_turn, after_step, after_step_of, new_world, world_after, holder_step, HasPackedLoad, IsReachable}
 use Rattle.lock_word.specs.Claims.{Leaves, changes_from}
@@ -32,7 +32,7 @@ pub data StepEffect (w : WorldState) (s : AtomicStep) (r : Stepped) : Type 0 whe
   none_made : (f : Fault) → (w.steps < 2 ^ 64 - 1 → holder_at w.parties (party_of s) ≡ None)
       → r ≡ record { world = w; outcome = Refused f }
       → StepEffect w s r
-  one_made : (k : ℕ) (me : WorldParty) (t : Turn) → party_of s ≡ suc k → slice_get w.parties k ≡ Some me
+  one_made : (k : ℕ) (me : WorldParty) (t : WordTurn) → party_of s ≡ suc k → slice_get w.parties k ≡ Some me
       → w.steps ≢ 2 ^ 64 - 1 → Effect w.readers w.word me s t → r ≡ after_turn w k t
       → StepEffect w s r
 
@@ -86,7 +86,7 @@ stepped_at w s k me h is at =
     rw (ne_eqb w.steps (2 ^ 64 - 1) (λ e. omega arith), there, index)
 
 -- the same from what a program has computed
-pub stepped_is : (w : WorldState) (s : AtomicStep) (k : ℕ) (me : WorldParty) (t : Turn) (steps : ℕ) → w.steps < 2 ^ 64 - 1
+pub stepped_is : (w : WorldState) (s : AtomicStep) (k : ℕ) (me : WorldParty) (t : WordTurn) (steps : ℕ) → w.steps < 2 ^ 64 - 1
     → party_of s ≡ k + 1 → slice_get w.parties k ≡ Some me
     → t.word ≡ (turn w.readers w.word me s).word → t.party ≡ (turn w.readers w.word me s).party
     → t.outcome ≡ (turn w.readers w.word me s).outcome → steps ≡ steps_after w.steps t.outcome
@@ -108,10 +108,10 @@ steps_grow n NotAdmitted = (omega arith, omega arith)
 steps_grow n Changed = (omega arith, omega arith)
 
 -- a party's wins and fails stay within the steps done
-counted_turn : (limit word n : ℕ) (me : WorldParty) (s : AtomicStep) (t : Turn) → me.wins + me.fails ≤ n
+counted_turn : (limit word n : ℕ) (me : WorldParty) (s : AtomicStep) (t : WordTurn) → me.wins + me.fails ≤ n
     → Effect limit word me s t → t.party.wins + t.party.fails ≤ steps_after n t.outcome
 counted_turn limit word n me s t h e =
-    let Within : Turn → Type 0 = λ u. u.party.wins + u.party.fails ≤ steps_after n u.outcome in
+    let Within : WordTurn → Type 0 = λ u. u.party.wins + u.party.fails ≤ steps_after n u.outcome in
     elim e [
       | is_refused f x q ↦ subst Within (sym q) h
       | is_load p a q ↦ subst Within (sym q) (omega arith)
@@ -130,10 +130,10 @@ packed_word limit word ps range rule =
     record { coded = rule.coded ∙ ap word_of (sym same); legal = subst (IsLegalBarredBag limit) (sym same) rule.legal }
 
 -- a load that is open after a turn is the word, or was open before
-load_turn_packed : (limit word : ℕ) (me : WorldParty) (s : AtomicStep) (t : Turn) → IsPacked limit word
+load_turn_packed : (limit word : ℕ) (me : WorldParty) (s : AtomicStep) (t : WordTurn) → IsPacked limit word
     → HasPackedLoad limit me → Effect limit word me s t → HasPackedLoad limit t.party
 load_turn_packed limit word me s t packed before e =
-    let Packed : Turn → Type 0 = λ u. HasPackedLoad limit u.party in
+    let Packed : WordTurn → Type 0 = λ u. HasPackedLoad limit u.party in
     elim e [
       | is_refused f x q ↦ subst Packed (sym q) before
       | is_load p a q ↦
@@ -242,11 +242,11 @@ one_step limit ps k p me s is at own permitted =
     )
 
 -- along equations of the step and of the turn
-along : (limit k : ℕ) (ps : List WorldParty) {s x : AtomicStep} {t u : Turn} → s ≡ x → t ≡ u
+along : (limit k : ℕ) (ps : List WorldParty) {s x : AtomicStep} {t u : WordTurn} → s ≡ x → t ≡ u
     → IsHolderRun limit (holds ps) (holder_step x u.outcome) (holds (slice_set ps k u.party))
     → IsHolderRun limit (holds ps) (holder_step s t.outcome) (holds (slice_set ps k t.party))
 along limit k ps {s} {x} {t} {u} a q h =
-    let After : Turn → Type 0 = λ v. IsHolderRun limit (holds ps) (holder_step x v.outcome) (holds (slice_set ps k v.party)) in
+    let After : WordTurn → Type 0 = λ v. IsHolderRun limit (holds ps) (holder_step x v.outcome) (holds (slice_set ps k v.party)) in
     subst (λ y. IsHolderRun limit (holds ps) (holder_step y t.outcome) (holds (slice_set ps k t.party))) (sym a)
     (subst After (sym q) h)
 
@@ -257,7 +257,7 @@ no_step limit (Load p) f before after same = same
 no_step limit (Exchange p want) f before after same = same
 no_step limit (Take p d) f before after same = same
 
-run_of_turn : (limit word k : ℕ) (ps : List WorldParty) (me : WorldParty) (s : AtomicStep) (t : Turn) → IsLimit limit
+run_of_turn : (limit word k : ℕ) (ps : List WorldParty) (me : WorldParty) (s : AtomicStep) (t : WordTurn) → IsLimit limit
     → KeepsRule limit word ps → party_of s ≡ suc k → slice_get ps k ≡ Some me → Effect limit word me s t
     → IsHolderRun limit (holds ps) (holder_step s t.outcome) (holds (slice_set ps k t.party))
 run_of_turn limit word k ps me s t range rule is at e =
@@ -309,10 +309,10 @@ run_of_steps w (s ∷ ss) h =
 
 -- what a step leaves
 
-leaves_turn : (w : WorldState) (s : AtomicStep) (k : ℕ) (me : WorldParty) (t : Turn) → slice_get w.parties k ≡ Some me
+leaves_turn : (w : WorldState) (s : AtomicStep) (k : ℕ) (me : WorldParty) (t : WordTurn) → slice_get w.parties k ≡ Some me
     → Effect w.readers w.word me s t → Leaves t.outcome w (after_turn w k t).world
 leaves_turn w s k me t at e =
-    let Left : Turn → Type 0 = λ u. Leaves u.outcome w (after_turn w k u).world in
+    let Left : WordTurn → Type 0 = λ u. Leaves u.outcome w (after_turn w k u).world in
     let By : List WorldParty → WorldState = λ ps. record { word = w.word; readers = w.readers; steps = w.steps; parties = ps } in
     elim e [
       | is_refused f x p ↦ subst Left (sym p) (ap By (slice_set_same w.parties k me at))

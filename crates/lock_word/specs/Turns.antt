@@ -15,7 +15,7 @@ use Rattle.lock_word.specs.BarredBags.{bars_of}
 use Rattle.lock_word.specs.Word.{word_of, word_admits, word_after, amount, step_of_want, step_of_down}
 
 -- the word and the party after a step, and its outcome
-pub record Turn : Type 0 where
+pub record WordTurn : Type 0 where
   pub word : ℕ
   pub party : WorldParty
   pub outcome : Outcome
@@ -47,38 +47,38 @@ after_win me step = record me { held = hold_after me.held step; loaded = None; w
 abbrev pub after_fail : WorldParty → WorldParty
 after_fail me = record me { loaded = None; fails = me.fails + 1 }
 
-abbrev pub refused_turn : ℕ → WorldParty → Fault → Turn
+abbrev pub refused_turn : ℕ → WorldParty → Fault → WordTurn
 refused_turn word me fault = record { word = word; party = me; outcome = Refused fault }
 
-abbrev pub load_turn : ℕ → WorldParty → Turn
+abbrev pub load_turn : ℕ → WorldParty → WordTurn
 load_turn word me = record { word = word; party = with_load me word; outcome = Loaded word }
 
-abbrev pub admitted_turn : ℕ → WorldParty → ExWant → ℕ → Turn
+abbrev pub admitted_turn : ℕ → WorldParty → ExWant → ℕ → WordTurn
 admitted_turn word me want loaded =
     if word == loaded
     then record { word = word_after loaded want; party = after_win me (step_of_want want); outcome = Done }
     else record { word = word; party = after_fail me; outcome = Changed }
 
-abbrev pub loaded_turn : ℕ → ℕ → WorldParty → ExWant → Option ℕ → Turn
+abbrev pub loaded_turn : ℕ → ℕ → WorldParty → ExWant → Option ℕ → WordTurn
 loaded_turn limit word me want None = refused_turn word me fault.NoLoad
 loaded_turn limit word me want (Some loaded) =
     if word_admits me.held.announced limit loaded want
     then admitted_turn word me want loaded
     else record { word = word; party = without_load me; outcome = NotAdmitted }
 
-abbrev pub exchange_turn : ℕ → ℕ → WorldParty → ExWant → Turn
+abbrev pub exchange_turn : ℕ → ℕ → WorldParty → ExWant → WordTurn
 exchange_turn limit word me want =
     if hold_has me.held (step_of_want want)
     then loaded_turn limit word me want me.loaded
     else refused_turn word me fault.WrongMode
 
-abbrev pub take_turn : ℕ → WorldParty → Down → Turn
+abbrev pub take_turn : ℕ → WorldParty → Down → WordTurn
 take_turn word me down =
     if hold_has me.held (step_of_down down)
     then record { word = word - amount down; party = after_win me (step_of_down down); outcome = Done }
     else refused_turn word me fault.WrongMode
 
-abbrev pub turn : ℕ → ℕ → WorldParty → AtomicStep → Turn
+abbrev pub turn : ℕ → ℕ → WorldParty → AtomicStep → WordTurn
 turn limit word me (Load p) = load_turn word me
 turn limit word me (Exchange p want) = exchange_turn limit word me want
 turn limit word me (Take p down) = take_turn word me down

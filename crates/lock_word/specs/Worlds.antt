@@ -10,7 +10,7 @@ use Rattle.lock_word.specs.declared.step.Outcome.{Outcome}
 use Rattle.lock_word.specs.declared.step.Outcome.TheVariants.{Done, Refused}
 use Rattle.lock_word.specs.Holders.{holder_at, HolderStep}
 use Rattle.lock_word.specs.Word.{step_of_want, step_of_down, IsPacked}
-use Rattle.lock_word.specs.Turns.{Turn, idle, turn, party_of, steps_after}
+use Rattle.lock_word.specs.Turns.{WordTurn, idle, turn, party_of, steps_after}
 use Rattle.lock_word.specs.Rule.{KeepsRule}
 
 -- the word, the readers' limit, how many steps were done, and the parties, numbered from 1
@@ -37,7 +37,7 @@ pub record Stepped : Type 0 where
   pub outcome : Outcome
 
 -- the world after the turn of the party at this index
-abbrev pub after_turn : WorldState → ℕ → Turn → Stepped
+abbrev pub after_turn : WorldState → ℕ → WordTurn → Stepped
 after_turn w k t =
     record {
       world =

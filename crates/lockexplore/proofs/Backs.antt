@@ -1,10 +1,10 @@
 -- Lines that are made from the last one on.
 use Rattle.std.proofs.Common.{◌≡◌, ℕ, zero, suc, ◌≤◌, ◌<◌, ◌+◌, List, ◌∷◌, ◌++◌, length, map, refl, subst, arith, length-append}
-use Rattle.lockexplore.specs.declared.lines.made.PlainLine.{PlainLine}
+use Rattle.lockexplore.specs.declared.lines.made.MadeLine.{MadeLine}
 use Rattle.lockexplore.specs.PlainLines.{IsLong, NumberedLine, line_of, put_down_from, text_of}
 
 -- these lines are left of all, and the others are made
-pub record IsLeft (P : List NumberedLine → Type 0) (left : List PlainLine) (all : List NumberedLine) : Type 0 where
+pub record IsLeft (P : List NumberedLine → Type 0) (left : List MadeLine) (all : List NumberedLine) : Type 0 where
   pub rest : List NumberedLine
   pub whole : all ≡ map line_of left ++ rest
   pub made : P rest

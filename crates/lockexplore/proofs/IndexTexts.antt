@@ -1,6 +1,6 @@
 -- Texts with names for their indices.
 use Rattle.std.proofs.Common.{◌≡◌, ℕ, ◌≤◌, List, [], ◌∷◌, ◌++◌, length, map, None, sym, ap, ◌∙◌, subst, arith, append_assoc}
-use Rattle.lockexplore.specs.declared.lines.made.PlainLine.{PlainLine}
+use Rattle.lockexplore.specs.declared.lines.made.MadeLine.{MadeLine}
 use Rattle.lockexplore.specs.PlainLines.{IsLong, NumberedLine, line_of, text_of}
 use Rattle.lockexplore.specs.Copies.{put_each}
 use Rattle.lockexplore.specs.Indices.{indexed_text, indexed_word, offset_by}
@@ -32,17 +32,17 @@ added_twice inside first number more second parts again =
     let third = first_part 43 more in
     ap offset_by (parts ∙ ap (λ (ps : List (List ℕ)). first ∷ ps) (again ∙ ap (λ (ps : List (List ℕ)). second ∷ ps) third.1.1))
 
-pub each_is_longer : (change : NumberedLine → NumberedLine) (lines : List PlainLine) (made : List NumberedLine)
+pub each_is_longer : (change : NumberedLine → NumberedLine) (lines : List MadeLine) (made : List NumberedLine)
     → length (text_of made) ≤ length (text_of (put_each change lines made))
 each_is_longer change [] made = omega arith
 each_is_longer change (line ∷ lines) made =
     let here = line_is_longer (change (line_of line)) made in
     let below = each_is_longer change lines (change (line_of line) ∷ made) in omega arith
 
-pub each_is_long : (change : NumberedLine → NumberedLine) (rest lines : List PlainLine) (line : PlainLine) (after : List PlainLine)
+pub each_is_long : (change : NumberedLine → NumberedLine) (rest lines : List MadeLine) (line : MadeLine) (after : List MadeLine)
     (made whole : List NumberedLine) → rest ≡ line ∷ after → put_each change rest made ≡ whole
     → IsLong (change (line_of line) ∷ made) → IsLong whole
 each_is_long change rest lines line after made whole parts is long =
     let below = each_is_longer change after (change (line_of line) ∷ made) in
-    let same : put_each change after (change (line_of line) ∷ made) ≡ whole = ap (λ (ls : List PlainLine). put_each change ls made) (sym parts) ∙ is in
+    let same : put_each change after (change (line_of line) ∷ made) ≡ whole = ap (λ (ls : List MadeLine). put_each change ls made) (sym parts) ∙ is in
     subst IsLong same (omega arith)

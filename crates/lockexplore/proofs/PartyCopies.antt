@@ -1,7 +1,7 @@
 -- Lines of parties with indices.
 use Rattle.std.proofs.Common.{◌≡◌, ℕ, ◌≤◌, List, ◌∷◌, ◌++◌, length, map, None, sym, ap, ◌∙◌, arith, length-append}
 use Rattle.std.specs.Prelude.{reverse}
-use Rattle.lockexplore.specs.declared.lines.made.PlainLine.{PlainLine}
+use Rattle.lockexplore.specs.declared.lines.made.MadeLine.{MadeLine}
 use Rattle.lockexplore.specs.PlainLines.{NumberedLine, line_of, text_of}
 use Rattle.lockexplore.specs.Copies.{put_each}
 use Rattle.lockexplore.specs.Indices.{indexed_line}
@@ -20,7 +20,7 @@ more_words text word after name number third more one two three =
     let four = first_part 32 more in
     ap party_in (one ∙ ap (λ (ps : List (List ℕ)). word ∷ ps) (two ∙ ap (λ (ps : List (List ℕ)). name ∷ ps) (three ∙ ap (λ (ps : List (List ℕ)). third ∷ ps) four.1.1)))
 
-pub party_is_longer : (number : ℕ) (party : PartyWords) (first : List PlainLine) (k : ℕ) (below : List NumberedLine)
+pub party_is_longer : (number : ℕ) (party : PartyWords) (first : List MadeLine) (k : ℕ) (below : List NumberedLine)
     → length (text_of below) ≤ length (text_of (put_party number party first k below))
 party_is_longer number party first k below =
     let each = each_is_longer (indexed_line k party.count) first below in
@@ -28,7 +28,7 @@ party_is_longer number party first k below =
     omega arith
 
 -- the lines that were taken are those of the party
-pub copies_are : (number : ℕ) (party : PartyWords) (taken : List PlainLine) (old made first rest : List NumberedLine) (mark : ℕ)
+pub copies_are : (number : ℕ) (party : PartyWords) (taken : List MadeLine) (old made first rest : List NumberedLine) (mark : ℕ)
     → old ≡ reverse (map line_of taken) ++ made → (mark ≤ length old → length made ≡ mark) → old ≡ first ++ rest → mark ≡ length rest
     → put_parties number party taken made ≡ with_copies number party first rest
 copies_are number party taken old made first rest mark takes leaves parts is =

@@ -2,7 +2,7 @@
 use Rattle.std.proofs.Common.{◌≡◌, ℕ, zero, suc, List, [], ◌∷◌, ◌++◌, length, map, Result, Ok, Err, refl, sym, ap, ◌∙◌, arith, append_assoc, length-append}
 use Rattle.std.specs.Prelude.{reverse, OnOk, IfErr}
 use Rattle.std.proofs.lemmas.List.{map-append, reverse-append}
-use Rattle.lockexplore.specs.declared.lines.made.PlainLine.{PlainLine}
+use Rattle.lockexplore.specs.declared.lines.made.MadeLine.{MadeLine}
 use Rattle.lockexplore.specs.PlainLines.{NumberedLine, line_of, put_down_from}
 use Rattle.lockexplore.specs.Copies.{put_each}
 
@@ -15,7 +15,7 @@ if_err P Q (Ok value) to is = tt
 if_err P Q (Err fault) to is = to fault is
 
 -- what `put_each` puts are all of the lines
-pub put_each_is : (change : NumberedLine → NumberedLine) (lines : List PlainLine) (below : List NumberedLine)
+pub put_each_is : (change : NumberedLine → NumberedLine) (lines : List MadeLine) (below : List NumberedLine)
     → put_each change lines below ≡ map change (reverse (map line_of lines)) ++ below
 put_each_is change [] below = refl
 put_each_is change (line ∷ lines) below =

@@ -4,7 +4,7 @@ use Rattle.std.specs.Prelude.{reverse, option_map, IfNone}
 use Rattle.std.proofs.lemmas.List.{reverse-append}
 use Rattle.lockexplore.specs.declared.lines.line_role.LineRole.{LineRole}
 use Rattle.lockexplore.specs.declared.lines.line_role.LineRole.TheVariants.{Begins}
-use Rattle.lockexplore.specs.declared.lines.made.PlainLine.{PlainLine}
+use Rattle.lockexplore.specs.declared.lines.made.MadeLine.{MadeLine}
 use Rattle.lockexplore.specs.PlainLines.{IsLong, NumberedLine, line_of, popped}
 use Rattle.lockexplore.specs.Copies.{put_each}
 use Rattle.lockexplore.specs.Repeats.{Blocks, EndedLines, begun, lines_from, put_times, times_in, with_role}
@@ -23,14 +23,14 @@ map_same : (lines : List NumberedLine) → map (λ line. line) lines ≡ lines
 map_same [] = refl
 map_same (line ∷ lines) = ap (λ (ls : List NumberedLine). line ∷ ls) (map_same lines)
 
-popped_rest : (o : Option PlainLine) (old new after : List NumberedLine) (end : NumberedLine) → old ≡ popped (option_map line_of o) new
+popped_rest : (o : Option MadeLine) (old new after : List NumberedLine) (end : NumberedLine) → old ≡ popped (option_map line_of o) new
     → IfNone o (old ≡ []) → old ≡ end ∷ after → new ≡ after
 popped_rest (Some line) old new after end first none is =
     let both : line_of line ∷ new ≡ end ∷ after = sym first ∙ is in cc
 popped_rest None old new after end first none is = let both : [] ≡ end ∷ after = sym none ∙ is in cc
 
 -- the lines that were taken are those of the block, and the next one is its `end`
-pub times_are : (times : ℕ) (taken : List PlainLine) (o : Option PlainLine) (old left new first after : List NumberedLine) (end : NumberedLine) (mark : ℕ)
+pub times_are : (times : ℕ) (taken : List MadeLine) (o : Option MadeLine) (old left new first after : List NumberedLine) (end : NumberedLine) (mark : ℕ)
     → old ≡ reverse (map line_of taken) ++ left → (mark ≤ length old → length left ≡ mark) → left ≡ popped (option_map line_of o) new
     → IfNone o (left ≡ []) → old ≡ first ++ end ∷ after → mark ≡ length (end ∷ after) → put_turns times taken new ≡ put_times times first after
 times_are times taken o old left new first after end mark takes leaves pops none parts is =

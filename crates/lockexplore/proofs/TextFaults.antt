@@ -15,7 +15,7 @@ use Rattle.step_search.specs.declared.fault.SearchFault.{SearchFault}
 use Rattle.step_search.specs.declared.fault.SearchFault.TheVariants as search
 use Rattle.lock_plan_text.specs.LineNumbers.{number_in}
 use Rattle.lockexplore.specs.PlainTexts.{line_number, numbers_of, plain_text}
-use Rattle.lockexplore.specs.declared.arguments.Form.{Form}
+use Rattle.lockexplore.specs.declared.arguments.AnswerForm.{AnswerForm}
 use Rattle.lockexplore.specs.declared.verdict.Verdict.{Verdict}
 use Rattle.lockexplore.specs.PlanAnswers.{IsAnswerBy, IsOrderAnswer, IsPlanAnswer, is_by_order}
 use Rattle.lockexplore.specs.Explorations.{IsPlanFault, IsScriptFault, renumbered}
@@ -63,7 +63,7 @@ parse_fault bytes memory InputFailed is = is
 parse_fault bytes memory OutputFailed is = is
 
 -- the order of a plan is its answer, where an order is looked for
-pub by_order_answer : (form : Form) (number : ℕ → ℕ) (bytes : List ℕ) (plan : PlanText) (r : Result (Verdict × String Global) PlanTextFault)
+pub by_order_answer : (form : AnswerForm) (number : ℕ → ℕ) (bytes : List ℕ) (plan : PlanText) (r : Result (Verdict × String Global) PlanTextFault)
     → IsDraftOf bytes (drafted plan.draft) → is_by_order form plan ≡ true
     → IfOk r (λ answer. IsOrderAnswer number plan answer.0 (string_bytes answer.1))
     → IfOk r (λ answer. IsPlanAnswer form number bytes answer.0 (string_bytes answer.1))

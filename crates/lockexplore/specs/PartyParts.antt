@@ -1,6 +1,6 @@
 -- Lines of parties while they are made.
 use Rattle.std.specs.Prelude.{◌≡◌, ℕ, List, ◌∷◌, length}
-use Rattle.lockexplore.specs.declared.lines.made.PlainLine.{PlainLine}
+use Rattle.lockexplore.specs.declared.lines.made.MadeLine.{MadeLine}
 use Rattle.lockexplore.specs.declared.lines.party_line.PartyLine.{PartyLine}
 use Rattle.lockexplore.specs.declared.lines.parties.PartyLines.{PartyLines}
 use Rattle.lockexplore.specs.PlainLines.{NumberedLine, put_down_from}
@@ -12,11 +12,11 @@ abbrev pub party_words : PartyLine → PartyWords
 party_words party = record { word = party.word.now; name = party.name.now; count = party.count }
 
 -- the lines of one party before others, line by line
-abbrev pub put_party : ℕ → PartyWords → List PlainLine → ℕ → List NumberedLine → List NumberedLine
+abbrev pub put_party : ℕ → PartyWords → List MadeLine → ℕ → List NumberedLine → List NumberedLine
 put_party number party first k below =
     record { number = number; text = party_text party k } ∷ put_each (indexed_line k party.count) first below
 
-abbrev pub put_parties : ℕ → PartyWords → List PlainLine → List NumberedLine → List NumberedLine
+abbrev pub put_parties : ℕ → PartyWords → List MadeLine → List NumberedLine → List NumberedLine
 put_parties number party first lines = put_down_from party.count (put_party number party first) lines
 
 -- these are the expansion of some lines

@@ -1,13 +1,13 @@
 -- Lines of a plan, each with its number in the plan's text.
 use Rattle.std.specs.Prelude.{ℕ, zero, suc, ◌<◌, ◌≡◌, List, [], ◌∷◌, ◌++◌, length, Option, Some, None}
-use Rattle.lockexplore.specs.declared.lines.made.PlainLine.{PlainLine}
+use Rattle.lockexplore.specs.declared.lines.made.MadeLine.{MadeLine}
 
 -- the number of the line that it comes from, and its words with a space between two of them
 pub record NumberedLine : Type 0 where
   pub number : ℕ
   pub text : List ℕ
 
-abbrev pub line_of : PlainLine → NumberedLine
+abbrev pub line_of : MadeLine → NumberedLine
 line_of line = record { number = line.number; text = line.text.items }
 
 -- the text of lines

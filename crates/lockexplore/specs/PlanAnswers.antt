@@ -2,7 +2,7 @@
 use Rattle.std.specs.Prelude.{◌≡◌, ℕ, Bool, true, false, List, map, ◌++◌, ⊤, Option, Some, None, Vec}
 use Rattle.std.specs.Global.{Global}
 use Rattle.lock_plan.specs.declared.lock.PlanLock.{PlanLock}
-use Rattle.lock_plan.specs.declared.program.Place.{Place}
+use Rattle.lock_plan.specs.declared.program.ProgramPlace.{ProgramPlace}
 use Rattle.lock_plan.specs.declared.program.Step.{Step}
 use Rattle.lock_plan.specs.declared.lock_order.LockOrder.{LockOrder}
 use Rattle.lock_plan.specs.declared.lock_order.LockOrder.TheVariants.{Kept, Broken}
@@ -18,8 +18,8 @@ use Rattle.lock_plan_text.specs.Drafted.{IsPlanOf, drafted}
 use Rattle.lock_plan_text.specs.Drafts.{IsDraftOf}
 use Rattle.lock_plan_text.specs.Orders.{order_text}
 use Rattle.lock_plan_text.specs.Texts.{is_any_number}
-use Rattle.lockexplore.specs.declared.arguments.Form.{Form}
-use Rattle.lockexplore.specs.declared.arguments.Form.TheVariants.{Answer, Lanes, Svg, Order}
+use Rattle.lockexplore.specs.declared.arguments.AnswerForm.{AnswerForm}
+use Rattle.lockexplore.specs.declared.arguments.AnswerForm.TheVariants.{Answer, Lanes, Svg, Order}
 use Rattle.lockexplore.specs.declared.verdict.Verdict.{Verdict}
 use Rattle.lockexplore.specs.declared.verdict.Verdict.TheVariants.{NeverStops, Stops, Unordered}
 
@@ -29,13 +29,13 @@ verdict_of (Some trace) = Stops
 
 -- no interleaving leads into a stop, and so many worlds can be reached, where those that differ only in which copy is where
 -- count as one; or this trace is a shortest one
-abbrev pub IsFound : List Bool → List Bool → List PlanLock → List (List Place) → Option (Vec Step Global) → ℕ → Type 0
+abbrev pub IsFound : List Bool → List Bool → List PlanLock → List (List ProgramPlace) → Option (Vec Step Global) → ℕ → Type 0
 IsFound servers copies locks programs None visited =
     plans.NeverStops servers locks programs × IsCountUpTo copies (plans.IsReachableWorld locks programs) visited
 IsFound servers copies locks programs (Some trace) visited = plans.IsShortestStop servers locks programs trace.items
 
 -- the text is the answer in this form. Nothing is said of the bytes of a picture
-abbrev pub IsTextIn : Form → NamedPlan → Option (Vec Step Global) → ℕ → List ℕ → Type 0
+abbrev pub IsTextIn : AnswerForm → NamedPlan → Option (Vec Step Global) → ℕ → List ℕ → Type 0
 IsTextIn Answer named trace visited text =
     text ≡ answer_text named.plan.locks.items (programs_of named.plan) named.names trace visited
 IsTextIn Lanes named trace visited text =
@@ -46,7 +46,7 @@ IsTextIn Order named trace visited text =
     text ≡ answer_text named.plan.locks.items (programs_of named.plan) named.names trace visited
 
 -- the bytes are the text of a plan, and the verdict and the text are what a search of it finds
-pub record IsSearchAnswer (form : Form) (bytes : List ℕ) (verdict : Verdict) (text : List ℕ) : Type 0 where
+pub record IsSearchAnswer (form : AnswerForm) (bytes : List ℕ) (verdict : Verdict) (text : List ℕ) : Type 0 where
   pub named : NamedPlan
   pub plan : IsPlanOf bytes named
   pub trace : Option (Vec Step Global)
@@ -68,16 +68,16 @@ pub record IsOrderAnswer (number : ℕ → ℕ) (plan : PlanText) (verdict : Ver
   pub text_is : text ≡ order_text number plan order
 
 -- whether an order is looked for, in place of a search
-abbrev pub is_by_order : Form → PlanText → Bool
+abbrev pub is_by_order : AnswerForm → PlanText → Bool
 is_by_order Order plan = true
 is_by_order form plan = is_any_number plan
 
-abbrev pub IsAnswerBy : Bool → Form → (ℕ → ℕ) → List ℕ → PlanText → Verdict → List ℕ → Type 0
+abbrev pub IsAnswerBy : Bool → AnswerForm → (ℕ → ℕ) → List ℕ → PlanText → Verdict → List ℕ → Type 0
 IsAnswerBy true form number bytes plan verdict text = IsOrderAnswer number plan verdict text
 IsAnswerBy false form number bytes plan verdict text = IsSearchAnswer form bytes verdict text
 
 -- the bytes say the plan, and the verdict and the text are the answer to it, with these numbers of its lines
-pub record IsPlanAnswer (form : Form) (number : ℕ → ℕ) (bytes : List ℕ) (verdict : Verdict) (text : List ℕ) : Type 0 where
+pub record IsPlanAnswer (form : AnswerForm) (number : ℕ → ℕ) (bytes : List ℕ) (verdict : Verdict) (text : List ℕ) : Type 0 where
   pub plan : PlanText
   pub is : IsDraftOf bytes (drafted plan.draft)
   pub answer : IsAnswerBy (is_by_order form plan) form number bytes plan verdict text

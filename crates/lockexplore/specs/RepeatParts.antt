@@ -1,13 +1,13 @@
 -- Lines of blocks while they are made.
 use Rattle.std.specs.Prelude.{◌≡◌, ℕ, List, [], ◌∷◌, ◌++◌, length, reverse}
-use Rattle.lockexplore.specs.declared.lines.made.PlainLine.{PlainLine}
+use Rattle.lockexplore.specs.declared.lines.made.MadeLine.{MadeLine}
 use Rattle.lockexplore.specs.declared.lines.repeats.OpenLines.{OpenLines}
 use Rattle.lockexplore.specs.PlainLines.{NumberedLine, put_down_from}
 use Rattle.lockexplore.specs.Copies.{put_each}
 use Rattle.lockexplore.specs.Repeats.{Blocks, EndedLines, blocks_in, lines_from}
 
 -- lines so many times before others, line by line
-abbrev pub put_turns : ℕ → List PlainLine → List NumberedLine → List NumberedLine
+abbrev pub put_turns : ℕ → List MadeLine → List NumberedLine → List NumberedLine
 put_turns times lines after = put_down_from times (λ k below. put_each (λ line. line) lines below) after
 
 -- how many lines there are from each such `end` on

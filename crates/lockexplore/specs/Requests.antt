@@ -1,11 +1,11 @@
 -- What the words after the program's name ask for.
 use Rattle.std.specs.Prelude.{◌≡◌, ℕ, suc, ◌<◌, ◌^◌, ◌⊎◌, ◌==◌, ◌||◌, ⊤, Bool, true, false, if◌then◌else◌, List, [], ◌∷◌, ◌++◌, take, drop, length, Option, Some, None, bytes_eq, codes, decimal}
-use Rattle.lockexplore.specs.declared.arguments.Form.{Form}
-use Rattle.lockexplore.specs.declared.arguments.Form.TheVariants.{Answer, Lanes, Svg, Order}
+use Rattle.lockexplore.specs.declared.arguments.AnswerForm.{AnswerForm}
+use Rattle.lockexplore.specs.declared.arguments.AnswerForm.TheVariants.{Answer, Lanes, Svg, Order}
 use Rattle.lockexplore.specs.declared.arguments.Request.{Request}
 use Rattle.lockexplore.specs.declared.arguments.Request.TheVariants.{Explore, Help, Version}
 
-abbrev pub form_words : Form → List (List ℕ)
+abbrev pub form_words : AnswerForm → List (List ℕ)
 form_words Answer = []
 form_words Lanes = codes "lanes" ∷ []
 form_words Svg = codes "svg" ∷ []

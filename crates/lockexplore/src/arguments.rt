@@ -7,7 +7,7 @@ use lock_script::unsigned;
 
 /// What an answer is written as.
 #[derive(Clone, Copy, PartialEq, Eq, Debug)]
-pub(crate) enum Form {
+pub(crate) enum AnswerForm {
     /// Lines of text.
     Answer,
     /// Lines of text, and a drawing in text below them.
@@ -22,7 +22,7 @@ pub(crate) enum Form {
 #[derive(Clone, Copy, PartialEq, Eq, Debug)]
 pub(crate) enum Request {
     /// The answer to a plan in a form, by a search in so many bytes.
-    Explore(Form, Option<u64>),
+    Explore(AnswerForm, Option<u64>),
     Help,
     Version,
 }
@@ -51,12 +51,12 @@ impl Request {
         ensures none { IfNone result ((request : Request) → ¬ IsRequest (map string_bytes words.now) request) }
     {
         match words {
-            [] => Some(Request::Explore(Form::Answer, None)),
+            [] => Some(Request::Explore(AnswerForm::Answer, None)),
             [word] => Request::of_word(word.as_str()),
-            [option, bytes] => in_memory(Form::Answer, option.as_str(), bytes.as_str()),
+            [option, bytes] => in_memory(AnswerForm::Answer, option.as_str(), bytes.as_str()),
             [form, option, bytes] => {
                 in_memory(
-                    Form::of_word(form.as_str())?,
+                    AnswerForm::of_word(form.as_str())?,
                     option.as_str(),
                     bytes.as_str(),
                 )
@@ -73,23 +73,23 @@ impl Request {
         match word {
             "-h" | "--help" => Some(Request::Help),
             "--version" => Some(Request::Version),
-            _ => Some(Request::Explore(Form::of_word(word)?, None)),
+            _ => Some(Request::Explore(AnswerForm::of_word(word)?, None)),
         }
     }
 }
 
-impl Form {
+impl AnswerForm {
     ghost use Rattle.lockexplore.specs.Requests.{form_words};
 
     /// Returns the form of a word.
-    fn of_word(word: &str) -> Option<Form>
+    fn of_word(word: &str) -> Option<AnswerForm>
         ensures some { IfSome result (λ form. form_words form ≡ word.now ∷ []) }
-        ensures none { IfNone result ((form : Form) → form_words form ≢ word.now ∷ []) }
+        ensures none { IfNone result ((form : AnswerForm) → form_words form ≢ word.now ∷ []) }
     {
         match word {
-            "lanes" => Some(Form::Lanes),
-            "svg" => Some(Form::Svg),
-            "order" => Some(Form::Order),
+            "lanes" => Some(AnswerForm::Lanes),
+            "svg" => Some(AnswerForm::Svg),
+            "order" => Some(AnswerForm::Order),
             _ => None,
         }
     }
@@ -163,7 +163,7 @@ fn are_files(words: &[String]) -> bool
 }
 
 /// Returns the request for an answer in a form, if these two words limit the memory.
-fn in_memory(form: Form, option: &str, bytes: &str) -> Option<Request>
+fn in_memory(form: AnswerForm, option: &str, bytes: &str) -> Option<Request>
     ensures some { IfSome result (λ request. (count : ℕ) × (request ≡ Explore form (Some count))
         × (count < 2 ^ 64) × (option.now ≡ codes "--memory") × (decimal count ≡ bytes.now)) }
     ensures none { IfNone result ((count : ℕ) → count < 2 ^ 64 → option.now ≡ codes "--memory" → decimal count ≡ bytes.now → ⊥) }

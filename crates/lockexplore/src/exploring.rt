@@ -10,7 +10,7 @@ ghost use Rattle.lock_plan_text.specs.PlanFaults.{draft_fault};
 ghost use Rattle.lockexplore.specs.PlanAnswers.{IsOrderAnswer, IsPlanAnswer, IsTextIn, is_by_order};
 ghost use Rattle.lockexplore.specs.Explorations.{AppendsPlanAnswer, ExplainsPlanFault, IsBeforePlanAnswer, IsPlanFault, IsScriptFault};
 
-use crate::arguments::Form;
+use crate::arguments::AnswerForm;
 use crate::lines::LinesFault;
 use crate::plain::PlainText;
 use crate::verdict::Verdict;
@@ -34,7 +34,7 @@ use std::io::{Read, Write};
 /// bytes that it gave.
 pub(crate) fn explore_plan<R: Read, W: Write>(
     alloc: Global,
-    form: Form,
+    form: AnswerForm,
     memory: usize,
     reader: &mut R,
     writer: &mut W,
@@ -61,7 +61,7 @@ pub(crate) fn explore_plan<R: Read, W: Write>(
 /// `TooLong` and `OutOfMemory` of [`PlainText::of`], then those of [`plain_answer`], with the lines' numbers in the script.
 fn plan_answer(
     alloc: Global,
-    form: Form,
+    form: AnswerForm,
     memory: usize,
     script: &[u8],
 ) -> Result<(Verdict, String), PlanTextFault>
@@ -88,7 +88,7 @@ fn plan_answer(
 /// `OutOfMemory`.
 fn plain_answer(
     alloc: Global,
-    form: Form,
+    form: AnswerForm,
     memory: usize,
     plain: &[u8],
     lines: &LineNumbers,
@@ -107,10 +107,10 @@ fn plain_answer(
 }
 
 /// Returns whether an order is looked for, in place of a search.
-fn is_by_order(form: Form, plan: &PlanText) -> bool
+fn is_by_order(form: AnswerForm, plan: &PlanText) -> bool
     ensures { result ≡ is_by_order form plan.now }
 {
-    form == Form::Order || plan.is_any_number()
+    form == AnswerForm::Order || plan.is_any_number()
 }
 
 /// Returns whether the locks of a plan have an order, and the text of the answer, with these numbers of the lines.
@@ -139,18 +139,18 @@ fn order_answer(
 /// Returns the answer to a plan in a form, of what a search found.
 fn answer_of(
     alloc: Global,
-    form: Form,
+    form: AnswerForm,
     named: &NamedPlan,
     explored: &Explored,
 ) -> Result<String, AllocError>
     ensures { IfOk result (λ text. IsTextIn form named.now explored.now.trace explored.now.visited (string_bytes text)) }
 {
-    if form == Form::Svg {
+    if form == AnswerForm::Svg {
         return draw_picture(alloc, &named.plan, &named.names, explored);
     }
     let mut text = String::new(alloc);
     write_answer(alloc, &mut text, &named.plan, &named.names, explored)?;
-    if form == Form::Lanes {
+    if form == AnswerForm::Lanes {
         write_drawing(alloc, &mut text, &named.plan, &named.names, explored)?;
     }
     Ok(text)

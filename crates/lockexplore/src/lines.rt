@@ -12,6 +12,6 @@ mod party_number;
 mod repeats;
 
 pub(crate) use arrays::arrayed;
-pub(crate) use made::{LinesFault, PlainLine};
+pub(crate) use made::{LinesFault, MadeLine};
 pub(crate) use parties::indexed;
 pub(crate) use repeats::unrolled;

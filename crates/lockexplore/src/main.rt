@@ -11,7 +11,7 @@ mod status;
 mod tests;
 mod verdict;
 
-use crate::arguments::{Form, Request};
+use crate::arguments::{AnswerForm, Request};
 use crate::exploring::explore_plan;
 use crate::machine::half_of_memory;
 use crate::status::Status;
@@ -72,7 +72,7 @@ fn memory_of(rt: &HostRuntime, memory: Option<u64>) -> usize {
 }
 
 /// Reads a plan from standard input, prints the answer in a form, and gives the status.
-fn explored(rt: &HostRuntime, form: Form, memory: usize) -> ExitCode {
+fn explored(rt: &HostRuntime, form: AnswerForm, memory: usize) -> ExitCode {
     match explore_plan(rt.alloc(), form, memory, &mut rt.stdin(), &mut rt.stdout()) {
         Ok(verdict) => ExitCode::from(Status::of(verdict).code()),
         Err(fault) => told(rt, fault),
@@ -80,7 +80,7 @@ fn explored(rt: &HostRuntime, form: Form, memory: usize) -> ExitCode {
 }
 
 /// Prints the answer to each file's plan, and gives the worst status. Of several, each is below its name.
-fn files_status(rt: &HostRuntime, form: Form, memory: usize, files: &[String]) -> Status {
+fn files_status(rt: &HostRuntime, form: AnswerForm, memory: usize, files: &[String]) -> Status {
     let mut status = Status::Fine;
     let mut gap = "";
     for file in files {
@@ -97,7 +97,7 @@ fn files_status(rt: &HostRuntime, form: Form, memory: usize, files: &[String]) -
 /// Prints the answer to a file's plan, perhaps below a gap and its name, and gives the status.
 fn file_status(
     rt: &HostRuntime,
-    form: Form,
+    form: AnswerForm,
     memory: usize,
     file: &str,
     above: Option<&str>,
@@ -119,7 +119,7 @@ fn file_status(
 /// Makes the answer to a file's plan.
 fn answer(
     rt: &HostRuntime,
-    form: Form,
+    form: AnswerForm,
     memory: usize,
     file: &str,
 ) -> Result<(Verdict, Vec<u8>), PlanTextFault> {

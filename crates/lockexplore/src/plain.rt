@@ -10,7 +10,7 @@ ghost use Rattle.lockexplore.specs.declared.lines.made.LinesFault.TheVariants.{T
 ghost use Rattle.lock_plan_text.specs.LineNumbers.{number_by};
 ghost use Rattle.lock_script.specs.Lines.{lines_of};
 
-use crate::lines::{LinesFault, PlainLine, arrayed, indexed, unrolled};
+use crate::lines::{LinesFault, MadeLine, arrayed, indexed, unrolled};
 use lock_plan_text::{LineNumbers, PlanTextFault};
 use lock_script::Part;
 use std::alloc::{AllocError, Global};
@@ -71,7 +71,7 @@ impl PlainText {
 }
 
 /// Makes the lines of a plan's text that have words, and the number of the line after the last one.
-fn script_lines(alloc: Global, text: &[u8]) -> Result<(Vec<PlainLine>, u64), AllocError>
+fn script_lines(alloc: Global, text: &[u8]) -> Result<(Vec<MadeLine>, u64), AllocError>
     ensures lines { IfOk result (λ made. map line_of made.0.items ≡ script_lines text.now) }
     ensures end { IfOk result (λ made. made.1 ≡ length (lines_of text.now) + 1) }
 {
@@ -82,7 +82,7 @@ fn script_lines(alloc: Global, text: &[u8]) -> Result<(Vec<PlainLine>, u64), All
         let (line, after) = rest.first_line();
         let mut text = Vec::new(alloc);
         let has_words = push_words(&mut text, line.bytes())?;
-        push_if(&mut lines, has_words, PlainLine { number: end, text })?;
+        push_if(&mut lines, has_words, MadeLine { number: end, text })?;
         rest = after;
         end += 1;
     }
@@ -90,7 +90,7 @@ fn script_lines(alloc: Global, text: &[u8]) -> Result<(Vec<PlainLine>, u64), All
 }
 
 /// Expands lines.
-fn expanded(alloc: Global, written: Vec<PlainLine>) -> Result<Vec<PlainLine>, LinesFault>
+fn expanded(alloc: Global, written: Vec<MadeLine>) -> Result<Vec<MadeLine>, LinesFault>
     ensures lines { IfOk result (λ lines. map line_of lines.items ≡ expanded (map line_of written.items)) }
     ensures short { IfOk result (λ lines. length (text_of (map line_of lines.items)) ≤ 1048577) }
     ensures long { IfErr result (λ fault. fault ≡ TooLong → IsLongExpansion (map line_of written.items)) }
@@ -101,7 +101,7 @@ fn expanded(alloc: Global, written: Vec<PlainLine>) -> Result<Vec<PlainLine>, Li
 }
 
 /// Makes the text of lines.
-fn text_of(alloc: Global, lines: &[PlainLine]) -> Result<Vec<u8>, AllocError>
+fn text_of(alloc: Global, lines: &[MadeLine]) -> Result<Vec<u8>, AllocError>
     ensures { IfOk result (λ text. text.items ≡ text_of (map line_of lines.now)) }
 {
     let mut text = Vec::new(alloc);
@@ -115,7 +115,7 @@ fn text_of(alloc: Global, lines: &[PlainLine]) -> Result<Vec<u8>, AllocError>
 }
 
 /// Makes the list of the numbers of lines.
-fn numbers_of(alloc: Global, lines: &[PlainLine]) -> Result<Vec<u64>, AllocError>
+fn numbers_of(alloc: Global, lines: &[MadeLine]) -> Result<Vec<u64>, AllocError>
     ensures { IfOk result (λ numbers. numbers.items ≡ map (λ line. line.number) (map line_of lines.now)) }
 {
     let mut numbers = Vec::new(alloc);
@@ -145,7 +145,7 @@ fn push_words(text: &mut Vec<u8>, line: &[u8]) -> Result<bool, AllocError>
 }
 
 /// Adds a line that has words.
-fn push_if(lines: &mut Vec<PlainLine>, has_words: bool, line: PlainLine) -> Result<(), AllocError>
+fn push_if(lines: &mut Vec<MadeLine>, has_words: bool, line: MadeLine) -> Result<(), AllocError>
     ensures { OnOk result (lines.new.items ≡ (if has_words then lines.old.items ++ line ∷ [] else lines.old.items)) }
 {
     if has_words {

@@ -1,5 +1,5 @@
 //! What no clause says: the answer where nothing fails, and what memory, a reader and a writer that fail leave.
-use crate::arguments::Form;
+use crate::arguments::AnswerForm;
 use crate::exploring::explore_plan;
 use crate::verdict::Verdict;
 use lock_plan_text::PlanTextFault;
@@ -53,7 +53,7 @@ fn refused_memory_explore(rt: HostRuntime) -> Result<(), Fail> {
     let mut plan = PLAN;
     let mut kept = [0u8; 512];
     let mut out = kept.as_mut_slice();
-    let told = explore_plan(rt.alloc(), Form::Lanes, ROOM, &mut plan, &mut out);
+    let told = explore_plan(rt.alloc(), AnswerForm::Lanes, ROOM, &mut plan, &mut out);
     let is_answered = told == Ok(Verdict::Stops)
         && kept.starts_with(ANSWER)
         && kept[ANSWER.len()..].iter().all(|byte| *byte == 0);
@@ -69,7 +69,7 @@ fn refused_memory_explore(rt: HostRuntime) -> Result<(), Fail> {
 fn a_plan_that_never_stops_has_no_drawing(rt: HostRuntime) -> Result<(), Fail> {
     let mut plan: &[u8] = b"mutex a\nparty one\nlock a\n";
     let mut out = Vec::new(rt.alloc());
-    let told = explore_plan(rt.alloc(), Form::Lanes, ROOM, &mut plan, &mut out);
+    let told = explore_plan(rt.alloc(), AnswerForm::Lanes, ROOM, &mut plan, &mut out);
     assert_eq!(rt; told, Ok(Verdict::NeverStops));
     assert_eq!(rt; out.as_slice(), b"no deadlock, 2 states\n".as_slice());
     Ok(())
@@ -83,7 +83,7 @@ fn a_search_ends_where_its_memory_does(rt: HostRuntime) -> Result<(), Fail> {
     ] {
         let mut plan: &[u8] = b"mutex a\nparty one\nlock a\n";
         let mut out = Vec::new(rt.alloc());
-        let told = explore_plan(rt.alloc(), Form::Answer, memory, &mut plan, &mut out);
+        let told = explore_plan(rt.alloc(), AnswerForm::Answer, memory, &mut plan, &mut out);
         assert_eq!(rt; told, wanted);
         assert_eq!(rt; out.is_empty(), wanted.is_err());
     }
@@ -95,7 +95,7 @@ fn a_writer_without_room_keeps_a_prefix(rt: HostRuntime) -> Result<(), Fail> {
     let mut plan = PLAN;
     let mut kept = [0u8; 16];
     let mut out = kept.as_mut_slice();
-    let told = explore_plan(rt.alloc(), Form::Answer, ROOM, &mut plan, &mut out);
+    let told = explore_plan(rt.alloc(), AnswerForm::Answer, ROOM, &mut plan, &mut out);
     assert_eq!(rt; told, Err(PlanTextFault::OutputFailed));
     assert_eq!(rt; kept.as_slice(), &ANSWER[..16]);
     Ok(())
@@ -105,7 +105,7 @@ fn a_writer_without_room_keeps_a_prefix(rt: HostRuntime) -> Result<(), Fail> {
 fn a_reader_that_fails_leaves_nothing_written(rt: HostRuntime) -> Result<(), Fail> {
     let mut broken = Broken { left: PLAN };
     let mut out = Vec::new(rt.alloc());
-    let told = explore_plan(rt.alloc(), Form::Answer, ROOM, &mut broken, &mut out);
+    let told = explore_plan(rt.alloc(), AnswerForm::Answer, ROOM, &mut broken, &mut out);
     assert_eq!(rt; told, Err(PlanTextFault::InputFailed));
     assert_eq!(rt; out.as_slice(), b"".as_slice());
     Ok(())

@@ -5,8 +5,8 @@ mod no_instant;
 mod spurious;
 
 use crate::tests::mutex::watched;
-use calls::Call::{self, Once, While};
-use calls::End::{For, Never, Until};
+use calls::WaitCall::{self, Once, While};
+use calls::WaitEnd::{For, Never, Until};
 use calls::waited;
 use lock_base::machine::Mode::Exclusive;
 use lock_guard::raw::{RawMutex, RawMutexTimed};
@@ -22,7 +22,7 @@ use std::sync;
 use std::test::Fail;
 
 /// A wait, its raw calls, whether it times out, and how many checks it makes.
-type Row = (Call<u64>, &'static [CondvarCall], bool, usize);
+type Row = (WaitCall<u64>, &'static [CondvarCall], bool, usize);
 
 const WAITS: [Row; 15] = [
     (Once(Never), &[Wait], false, 0),

@@ -4,7 +4,7 @@ use lock_base::raw::{Fault, RawState};
 use lock_desk::Desk;
 
 /// The answer of a function that may not be admitted, or its refusal.
-type Answer<X> = Result<Option<X>, Fault>;
+type Named<X> = Result<Option<X>, Fault>;
 
 /// `apply`, where a call with four forms is made by the function of its form.
 pub fn by_name<R: RawState, O: Op<u64, Answer = u64>>(
@@ -29,7 +29,7 @@ pub fn by_name<R: RawState, O: Op<u64, Answer = u64>>(
 }
 
 /// The answer as a reply. A blocking function refuses where it is not admitted.
-fn reply<X, F: FnOnce(X) -> Reply<u64>>(answer: Answer<X>, tell: F) -> Reply<u64>
+fn reply<X, F: FnOnce(X) -> Reply<u64>>(answer: Named<X>, tell: F) -> Reply<u64>
     requires { F.IsAlwaysCallable tell }
 {
     match answer {
@@ -44,7 +44,7 @@ fn acquire<R: RawState>(
     want: Want,
     form: Form,
     party: PartyId,
-) -> Answer<u64> {
+) -> Named<u64> {
     match want {
         Want::Lock => lock(desk, form, party),
         Want::Read => read(desk, form, party),
@@ -53,7 +53,7 @@ fn acquire<R: RawState>(
     }
 }
 
-fn lock<R: RawState>(desk: &mut Desk<R, u64>, form: Form, party: PartyId) -> Answer<u64> {
+fn lock<R: RawState>(desk: &mut Desk<R, u64>, form: Form, party: PartyId) -> Named<u64> {
     match form {
         Form::Block => desk.lock(party).map(Some),
         Form::Try => desk.try_lock(party),
@@ -62,7 +62,7 @@ fn lock<R: RawState>(desk: &mut Desk<R, u64>, form: Form, party: PartyId) -> Ans
     }
 }
 
-fn read<R: RawState>(desk: &mut Desk<R, u64>, form: Form, party: PartyId) -> Answer<u64> {
+fn read<R: RawState>(desk: &mut Desk<R, u64>, form: Form, party: PartyId) -> Named<u64> {
     match form {
         Form::Block => desk.read(party).map(Some),
         Form::Try => desk.try_read(party),
@@ -71,7 +71,7 @@ fn read<R: RawState>(desk: &mut Desk<R, u64>, form: Form, party: PartyId) -> Ans
     }
 }
 
-fn write<R: RawState>(desk: &mut Desk<R, u64>, form: Form, party: PartyId) -> Answer<u64> {
+fn write<R: RawState>(desk: &mut Desk<R, u64>, form: Form, party: PartyId) -> Named<u64> {
     match form {
         Form::Block => desk.write(party).map(Some),
         Form::Try => desk.try_write(party),
@@ -80,11 +80,7 @@ fn write<R: RawState>(desk: &mut Desk<R, u64>, form: Form, party: PartyId) -> An
     }
 }
 
-fn upgradable_read<R: RawState>(
-    desk: &mut Desk<R, u64>,
-    form: Form,
-    party: PartyId,
-) -> Answer<u64> {
+fn upgradable_read<R: RawState>(desk: &mut Desk<R, u64>, form: Form, party: PartyId) -> Named<u64> {
     match form {
         Form::Block => desk.upgradable_read(party).map(Some),
         Form::Try => desk.try_upgradable_read(party),
@@ -98,7 +94,7 @@ fn upgrade<R: RawState>(
     form: Form,
     party: PartyId,
     guard: u64,
-) -> Answer<()> {
+) -> Named<()> {
     match form {
         Form::Block => desk.upgrade(party, guard).map(Some),
         Form::Try => desk.try_upgrade(party, guard),
@@ -113,7 +109,7 @@ fn with_upgraded<R: RawState, O: Op<u64, Answer = u64>>(
     party: PartyId,
     guard: u64,
     op: &O,
-) -> Answer<u64> {
+) -> Named<u64> {
     match form {
         Form::Block => desk.with_upgraded(party, guard, op).map(Some),
         Form::Try => desk.try_with_upgraded(party, guard, op),

@@ -5,18 +5,20 @@ use std::alloc::Global;
 
 /// The kind of a desk, its places, its limit if it has one, and its first value.
 #[derive(Clone, Copy)]
-pub enum Maker {
+pub enum DeskMaker {
     Mutex(u64, u64),
     RwLock(u64, u64, u64),
     Reentrant(u64, u64, u64),
 }
 
-impl Maker {
+impl DeskMaker {
     pub fn desk<R: RawState>(self, alloc: Global) -> Result<Desk<R, u64>, Fault> {
         match self {
-            Maker::Mutex(places, value) => Desk::mutex(alloc, places, value),
-            Maker::RwLock(places, readers, value) => Desk::rwlock(alloc, places, readers, value),
-            Maker::Reentrant(places, levels, value) => {
+            DeskMaker::Mutex(places, value) => Desk::mutex(alloc, places, value),
+            DeskMaker::RwLock(places, readers, value) => Desk::rwlock(
+                alloc, places, readers, value,
+            ),
+            DeskMaker::Reentrant(places, levels, value) => {
                 Desk::reentrant(alloc, places, levels, value)
             }
         }

@@ -1,6 +1,6 @@
 //! A desk that is a mutex.
 use crate::tests::check;
-use crate::tests::maker::Maker;
+use crate::tests::maker::DeskMaker;
 use crate::tests::operations::Add;
 use lock_base::machine::{Call, Form, Reply, Want, Way};
 use lock_base::raw::Fault;
@@ -37,6 +37,6 @@ fn spent_is_give_backs(rt: HostRuntime) -> Result<(), Fail> {
         (Call::Spent, Reply::Count(8)),
         (Call::IsLocked, Reply::Bool(false)),
     ];
-    check(rt.alloc(), Maker::Mutex(4, 1), &session)?;
+    check(rt.alloc(), DeskMaker::Mutex(4, 1), &session)?;
     Ok(())
 }

@@ -11,7 +11,7 @@ use std::test::Fail;
 
 /// A call of one party.
 #[derive(Clone, Copy, PartialEq, Debug)]
-enum Step {
+enum NumberStep {
     SkipTo(u64),
     Lock,
     TryLock,
@@ -19,21 +19,25 @@ enum Step {
 }
 
 /// The number of a new guard, if any, or the refusal.
-type Answer = Result<Option<u64>, Fault>;
+type NumberAnswer = Result<Option<u64>, Fault>;
 
-impl Step {
-    fn make<R: RawState>(self, desk: &mut Desk<R, u64>, party: PartyId) -> Answer {
+impl NumberStep {
+    fn make<R: RawState>(self, desk: &mut Desk<R, u64>, party: PartyId) -> NumberAnswer {
         match self {
-            Step::SkipTo(next) => desk.skip_to(next).map(|()| None),
-            Step::Lock => desk.lock(party).map(Some),
-            Step::TryLock => desk.try_lock(party),
-            Step::Unlock(guard) => desk.unlock(party, guard, Way::Plain).map(|()| None),
+            NumberStep::SkipTo(next) => desk.skip_to(next).map(|()| None),
+            NumberStep::Lock => desk.lock(party).map(Some),
+            NumberStep::TryLock => desk.try_lock(party),
+            NumberStep::Unlock(guard) => desk.unlock(party, guard, Way::Plain).map(|()| None),
         }
     }
 }
 
 /// Makes the steps at a mutex with so many places, and compares each answer.
-fn check<R: RawState>(alloc: Global, places: u64, rows: &[(Step, Answer)]) -> Result<(), Fail> {
+fn check<R: RawState>(
+    alloc: Global,
+    places: u64,
+    rows: &[(NumberStep, NumberAnswer)],
+) -> Result<(), Fail> {
     let one = party(1)?;
     let mut desk: Desk<R, u64> = Desk::mutex(alloc, places, 0)?;
     for (step, wanted) in rows {
@@ -45,20 +49,20 @@ fn check<R: RawState>(alloc: Global, places: u64, rows: &[(Step, Answer)]) -> Re
 /// One guard gets the last number, and no guard gets a number after it.
 fn numbers_end<R: RawState>(alloc: Global) -> Result<(), Fail> {
     let with_a_free_place = [
-        (Step::SkipTo(u64::MAX), Ok(None)),
-        (Step::Lock, Ok(Some(u64::MAX))),
-        (Step::Unlock(u64::MAX), Ok(None)),
-        (Step::Lock, Err(Fault::NumbersSpent)),
+        (NumberStep::SkipTo(u64::MAX), Ok(None)),
+        (NumberStep::Lock, Ok(Some(u64::MAX))),
+        (NumberStep::Unlock(u64::MAX), Ok(None)),
+        (NumberStep::Lock, Err(Fault::NumbersSpent)),
     ];
     check::<R>(alloc, 2, &with_a_free_place)?;
     let with_one_place = [
-        (Step::SkipTo(u64::MAX), Ok(None)),
-        (Step::Lock, Ok(Some(u64::MAX))),
-        (Step::SkipTo(5), Err(Fault::GuardsOut)),
-        (Step::Lock, Err(Fault::NoPlace)),
-        (Step::Unlock(u64::MAX), Ok(None)),
-        (Step::TryLock, Err(Fault::NumbersSpent)),
-        (Step::SkipTo(u64::MAX), Err(Fault::BadLimits)),
+        (NumberStep::SkipTo(u64::MAX), Ok(None)),
+        (NumberStep::Lock, Ok(Some(u64::MAX))),
+        (NumberStep::SkipTo(5), Err(Fault::GuardsOut)),
+        (NumberStep::Lock, Err(Fault::NoPlace)),
+        (NumberStep::Unlock(u64::MAX), Ok(None)),
+        (NumberStep::TryLock, Err(Fault::NumbersSpent)),
+        (NumberStep::SkipTo(u64::MAX), Err(Fault::BadLimits)),
     ];
     check::<R>(alloc, 1, &with_one_place)
 }

@@ -34,12 +34,12 @@ impl Op<u64> for Add {
 
 /// An operation that counts how often it was applied.
 #[derive(Clone, Copy)]
-pub struct Counted<'a, O> {
+pub struct CountedOp<'a, O> {
     pub op: O,
     pub applied: &'a Cell<u64>,
 }
 
-impl<'a, T, O: Op<T>> Op<T> for Counted<'a, O> {
+impl<'a, T, O: Op<T>> Op<T> for CountedOp<'a, O> {
     type Answer = O::Answer;
 
     ghost meaning = { λ counted. O.meaning counted.op };

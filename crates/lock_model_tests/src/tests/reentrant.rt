@@ -1,6 +1,6 @@
 //! A desk that is a reentrant lock.
 use crate::tests::check;
-use crate::tests::maker::Maker;
+use crate::tests::maker::DeskMaker;
 use crate::tests::operations::Add;
 use lock_base::machine::{Call, Form, PartyId, Reply, Want, Way};
 use lock_base::raw::Fault;
@@ -24,7 +24,7 @@ fn last_level_releases(alloc: Global, one: PartyId) -> Result<(), Fail> {
         (Call::Spent, Reply::Count(3)),
         (Call::IsLocked, Reply::Bool(false)),
     ];
-    Ok(check::<Add>(alloc, Maker::Reentrant(4, 4, 0), &session)?)
+    Ok(check::<Add>(alloc, DeskMaker::Reentrant(4, 4, 0), &session)?)
 }
 
 /// A bump of one of two levels releases no token, so another party stays out.
@@ -47,7 +47,7 @@ fn nested_bump_releases_nothing(alloc: Global, one: PartyId, two: PartyId) -> Re
             Reply::Refused(Fault::WrongKind),
         ),
     ];
-    Ok(check(alloc, Maker::Reentrant(4, 4, 5), &session)?)
+    Ok(check(alloc, DeskMaker::Reentrant(4, 4, 5), &session)?)
 }
 
 #[test]

@@ -1,6 +1,6 @@
 //! Each call that allocates, with an allocation refused, over a table and over a packed word.
 use crate::tests::counted_state::CountedState;
-use crate::tests::maker::Maker;
+use crate::tests::maker::DeskMaker;
 use crate::tests::operations::Add;
 use crate::tests::{CountedDesk, Wrong, replay, replay_over};
 use lock_base::machine::{Call, Form, PartyId, Reply, Want, Way};
@@ -17,7 +17,7 @@ use std::test::Fail;
 fn replayed_or_refused<R: RawState, E: Env>(
     rt: &E,
     alloc: Global,
-    maker: Maker,
+    maker: DeskMaker,
     session: &[(Call<Add>, Reply<u64>)],
 ) -> Result<(), Fail> {
     match replay_over::<R, Add>(alloc, maker, session) {
@@ -29,7 +29,7 @@ fn replayed_or_refused<R: RawState, E: Env>(
 fn check_or_refuse<E: Env>(
     rt: &E,
     alloc: Global,
-    maker: Maker,
+    maker: DeskMaker,
     session: &[(Call<Add>, Reply<u64>)],
 ) -> Result<(), Fail> {
     replayed_or_refused::<TokenTable, E>(rt, alloc, maker, session)?;
@@ -43,7 +43,7 @@ fn refused_memory_mutex(rt: HostRuntime) -> Result<(), Fail> {
         (Call::Acquire(Want::Lock, Form::Block, one), Reply::Guard(1)),
         (Call::Get(one, 1, Add(0)), Reply::Answer(7)),
     ];
-    check_or_refuse(&rt, rt.alloc(), Maker::Mutex(1, 7), &session)
+    check_or_refuse(&rt, rt.alloc(), DeskMaker::Mutex(1, 7), &session)
 }
 
 #[test]
@@ -57,7 +57,7 @@ fn refused_memory_rwlock(rt: HostRuntime) -> Result<(), Fail> {
         (Call::Acquire(Want::Read, Form::Block, one), Reply::Guard(2)),
         (Call::Get(one, 2, Add(0)), Reply::Answer(7)),
     ];
-    check_or_refuse(&rt, rt.alloc(), Maker::RwLock(2, 2, 7), &session)
+    check_or_refuse(&rt, rt.alloc(), DeskMaker::RwLock(2, 2, 7), &session)
 }
 
 #[test]
@@ -68,7 +68,7 @@ fn refused_memory_reentrant(rt: HostRuntime) -> Result<(), Fail> {
         (Call::Acquire(Want::Lock, Form::Block, one), Reply::Guard(2)),
         (Call::Get(one, 1, Add(0)), Reply::Answer(7)),
     ];
-    check_or_refuse(&rt, rt.alloc(), Maker::Reentrant(2, 2, 7), &session)
+    check_or_refuse(&rt, rt.alloc(), DeskMaker::Reentrant(2, 2, 7), &session)
 }
 
 /// A list of calls is made as a whole, or not at all if there is no memory.
@@ -104,7 +104,7 @@ fn ran_or_refused<R: RawState, E: Env>(
 }
 
 fn run_or_refused<R: RawState, E: Env>(rt: &E, alloc: Global, one: PartyId) -> Result<(), Fail> {
-    match Maker::RwLock(3, 2, 7).desk::<CountedState<R>>(alloc) {
+    match DeskMaker::RwLock(3, 2, 7).desk::<CountedState<R>>(alloc) {
         Ok(mut desk) => ran_or_refused(rt, alloc, &mut desk, one),
         Err(fault) => lacks_memory(rt, fault),
     }

@@ -1,6 +1,6 @@
 //! A desk that is a reader-writer lock.
-use crate::tests::maker::Maker;
-use crate::tests::operations::{Add, Counted};
+use crate::tests::maker::DeskMaker;
+use crate::tests::operations::{Add, CountedOp};
 use crate::tests::{CountedDesk, Wrong, check, replay};
 use lock_base::machine::{Call, Form, PartyId, Reply, Want, Way};
 use lock_base::raw::{Fault, RawState};
@@ -15,7 +15,7 @@ use std::test::Fail;
 fn refused_upgrades_apply_nothing(rt: HostRuntime) -> Result<(), Fail> {
     let (one, two) = two_parties()?;
     let applied = Cell::new(0u64);
-    let op = Counted {
+    let op = CountedOp {
         op: Add(1),
         applied: &applied,
     };
@@ -45,7 +45,7 @@ fn refused_upgrades_apply_nothing(rt: HostRuntime) -> Result<(), Fail> {
         ),
         (Call::Get(one, 1, op), Reply::Answer(1)),
     ];
-    check(rt.alloc(), Maker::RwLock(4, 8, 1), &session)?;
+    check(rt.alloc(), DeskMaker::RwLock(4, 8, 1), &session)?;
     assert_eq!(rt; applied.get(), 0);
     Ok(())
 }
@@ -55,7 +55,7 @@ fn refused_upgrades_apply_nothing(rt: HostRuntime) -> Result<(), Fail> {
 fn upgrades_apply_once(rt: HostRuntime) -> Result<(), Fail> {
     let one = party(1)?;
     let applied = Cell::new(0u64);
-    let op = Counted {
+    let op = CountedOp {
         op: Add(1),
         applied: &applied,
     };
@@ -85,7 +85,7 @@ fn upgrades_apply_once(rt: HostRuntime) -> Result<(), Fail> {
         (Call::Spent, Reply::Count(1)),
         (Call::IsLocked, Reply::Bool(false)),
     ];
-    check(rt.alloc(), Maker::RwLock(4, 8, 1), &session)?;
+    check(rt.alloc(), DeskMaker::RwLock(4, 8, 1), &session)?;
     assert_eq!(rt; applied.get(), 8);
     Ok(())
 }
@@ -114,7 +114,7 @@ fn spend_in_each_mode<R: RawState>(desk: &mut CountedDesk<R>, one: PartyId) -> R
 }
 
 fn spend_all<R: RawState>(alloc: Global, one: PartyId) -> Result<(), Fail> {
-    let mut desk: CountedDesk<R> = Maker::RwLock(1, 1, 0).desk(alloc)?;
+    let mut desk: CountedDesk<R> = DeskMaker::RwLock(1, 1, 0).desk(alloc)?;
     Ok(spend_in_each_mode(&mut desk, one)?)
 }
 
@@ -163,6 +163,6 @@ fn readers_up_to_the_limit(rt: HostRuntime) -> Result<(), Fail> {
             Reply::Refused(Fault::WrongKind),
         ),
     ];
-    check::<Add>(rt.alloc(), Maker::RwLock(4, 1, 0), &session)?;
+    check::<Add>(rt.alloc(), DeskMaker::RwLock(4, 1, 0), &session)?;
     Ok(())
 }

@@ -13,7 +13,7 @@ use crate::parser::fault::PlanTextFault;
 use crate::parser::lines::parse_lines;
 use crate::parser::plan_text::PlanText;
 use crate::parser::program::{program_of, step_numbers};
-use lock_plan::{Act, Place, Plan, PlanFault, Signal};
+use lock_plan::{Act, Plan, PlanFault, ProgramPlace, Signal};
 use std::alloc::{AllocError, Global};
 use std::mem::replace;
 
@@ -56,7 +56,7 @@ pub fn parse_text(alloc: Global, bytes: &[u8]) -> Result<PlanText, PlanTextFault
 }
 
 /// Makes the programs of a draft whose parties are known and begin.
-fn known_programs(alloc: Global, draft: &PlanDraft) -> Result<Vec<Vec<Place>>, PlanTextFault>
+fn known_programs(alloc: Global, draft: &PlanDraft) -> Result<Vec<Vec<ProgramPlace>>, PlanTextFault>
     ensures known { IfOk result (λ _. unknown_line (drafted draft.now) ≡ None) }
     ensures begun { IfOk result (λ _. unbegun_line (drafted draft.now) ≡ None) }
     ensures programs { IfOk result (λ programs. map (λ v. v.items) programs.items ≡ programs_in (drafted draft.now)) }
@@ -119,7 +119,7 @@ impl PlanDraft {
 }
 
 /// Makes the programs of the parties and of the flags.
-fn programs_of(alloc: Global, draft: &PlanDraft) -> Result<Vec<Vec<Place>>, PlanTextFault>
+fn programs_of(alloc: Global, draft: &PlanDraft) -> Result<Vec<Vec<ProgramPlace>>, PlanTextFault>
     ensures programs { IfOk result (λ programs. map (λ v. v.items) programs.items ≡ programs_in (drafted draft.now)) }
     ensures fault { IfErr result (λ fault. fault ≡ OutOfMemory) }
 {
@@ -137,11 +137,11 @@ fn programs_of(alloc: Global, draft: &PlanDraft) -> Result<Vec<Vec<Place>>, Plan
 }
 
 /// Makes the program of a flag, which idles until it is set.
-fn flag_program(alloc: Global) -> Result<Vec<Place>, AllocError>
+fn flag_program(alloc: Global) -> Result<Vec<ProgramPlace>, AllocError>
     ensures { IfOk result (λ program. program.items ≡ flag_program) }
 {
     let mut program = Vec::new(alloc);
-    program.push(Place {
+    program.push(ProgramPlace {
         act: Act::Signal(Signal::Idle),
         next: 1,
         other: 1,

@@ -9,14 +9,14 @@ ghost use Rattle.lock_plan_text.specs.PlanFaults.{unknown_line};
 
 use crate::parser::draft::PlanDraft;
 use crate::parser::fault::PlanTextFault;
-use lock_plan::{Place, PlanFault, PlanLock};
+use lock_plan::{PlanFault, PlanLock, ProgramPlace};
 use std::alloc::Global;
 
 /// What the lines of a plan say, and the programs of its parties and flags.
 #[derive(Drop)]
 pub struct PlanText {
     pub(crate) draft: PlanDraft,
-    pub(crate) programs: Vec<Vec<Place>>,
+    pub(crate) programs: Vec<Vec<ProgramPlace>>,
     ghost known: { unknown_line (drafted draft) ≡ None },
     ghost begun: { unbegun_line (drafted draft) ≡ None },
     ghost made: { map (λ v. v.items) programs.items ≡ programs_in (drafted draft) },
@@ -37,7 +37,7 @@ impl PlanText {
     }
 
     /// Returns the program of each party, and then those of the flags.
-    pub fn programs(&self) -> &[Vec<Place>]
+    pub fn programs(&self) -> &[Vec<ProgramPlace>]
         ensures { result.now ≡ self.now.programs.items }
     {
         self.programs.as_slice()

@@ -6,11 +6,14 @@ ghost use Rattle.lock_plan_text.specs.Blocks.{AreLands, is_step, one_way, other_
 use crate::parser::block_line::{BlockLine, BlockWord};
 use crate::parser::plain_line::PlainLine;
 use crate::parser::scan::{boundary, land_in, lands, line_at, number_at};
-use lock_plan::{Act, Block, Place, Signal};
+use lock_plan::{Act, Block, ProgramPlace, Signal};
 use std::alloc::{AllocError, Global};
 
 /// Makes the program of a party's lines. Each line that is a step is a place.
-pub(crate) fn program_of(alloc: Global, lines: &[BlockLine]) -> Result<Vec<Place>, AllocError>
+pub(crate) fn program_of(
+    alloc: Global,
+    lines: &[BlockLine],
+) -> Result<Vec<ProgramPlace>, AllocError>
     ensures { IfOk result (λ program. program.items ≡ program_of lines.now) }
 {
     let lands = lands(alloc, lines)?;
@@ -71,7 +74,7 @@ fn step_counts(alloc: Global, lines: &[BlockLine]) -> Result<Vec<usize>, AllocEr
 }
 
 /// Makes the place of a line that is a step.
-fn place_at(lines: &[BlockLine], lands: &[usize], counts: &[usize], line: usize) -> Place
+fn place_at(lines: &[BlockLine], lands: &[usize], counts: &[usize], line: usize) -> ProgramPlace
     requires line { line < length lines.now }
     requires lands { AreLands lines.now 0 lands.now }
     requires counts { counts.now ≡ each_below (place_number lines.now) (suc (length lines.now)) }
@@ -87,7 +90,7 @@ fn place_at(lines: &[BlockLine], lands: &[usize], counts: &[usize], line: usize)
 }
 
 /// Makes the place of a line that is a step. What follows it begins at `inside`, and the other way leads to `past`.
-fn place_for(line: BlockLine, inside: usize, past: usize) -> Place
+fn place_for(line: BlockLine, inside: usize, past: usize) -> ProgramPlace
     ensures { result ≡ place_for line inside past }
 {
     match line {
@@ -106,10 +109,10 @@ fn place_for(line: BlockLine, inside: usize, past: usize) -> Place
 }
 
 /// Makes the place of an act with one place after it.
-fn one_way(act: Act, next: usize) -> Place
+fn one_way(act: Act, next: usize) -> ProgramPlace
     ensures { result ≡ one_way act next }
 {
-    Place {
+    ProgramPlace {
         act,
         next,
         other: next,
@@ -117,10 +120,10 @@ fn one_way(act: Act, next: usize) -> Place
 }
 
 /// Makes the place of an act with two places after it.
-fn two_ways(act: Act, next: usize, other: usize) -> Place
+fn two_ways(act: Act, next: usize, other: usize) -> ProgramPlace
     ensures { result ≡ two_ways act next other }
 {
-    Place { act, next, other }
+    ProgramPlace { act, next, other }
 }
 
 /// Returns the signal of a plain line. To set a flag is to start its row.

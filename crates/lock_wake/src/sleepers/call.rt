@@ -10,9 +10,9 @@ pub(crate) struct SeatedEventCall {
 }
 
 impl Model for SeatedEventCall {
-    ghost use Rattle.lock_wake.specs.EventCalls.{Call};
+    ghost use Rattle.lock_wake.specs.EventCalls.{EventCallView};
 
-    ghost Value = { Call };
+    ghost Value = { EventCallView };
 
     ghost view = { λ c. record { events = c.seat.table_id; number = c.seat.id; stage = c.seat.me.0 } };
 }

@@ -2,7 +2,7 @@
 use crate::sleepers::call::SeatedEventCall;
 use std::marker::Model;
 
-/// A registered wait: notifications that begin from now on end its sleep. Contracts see it as a `Call`.
+/// A registered wait: notifications that begin from now on end its sleep. Contracts see it as an `EventCallView`.
 ///
 /// It cannot be dropped: `sleep`, `sleep_for` or `leave` ends it.
 pub struct Registered {
@@ -15,9 +15,9 @@ impl Model for Registered {
     ghost use Rattle.lock_wake.specs.declared.sleepers.stage.CallStage.TheVariants.{Registered};
     ghost use Rattle.lock_wake.specs.EventCounts.{count_of, last_epoch};
     ghost use Rattle.lock_wake.specs.EventPlays.{before_of};
-    ghost use Rattle.lock_wake.specs.EventCalls.{Call};
+    ghost use Rattle.lock_wake.specs.EventCalls.{EventCallView};
 
-    ghost Value = { Call };
+    ghost Value = { EventCallView };
 
     ghost view = { λ r. r.call };
 

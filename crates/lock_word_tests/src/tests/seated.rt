@@ -5,8 +5,8 @@ use crate::callers::{
     loaded_alone, loaded_beside_readers, loaded_under_own_bar, refused_beside_readers,
 };
 use crate::tests::{BAR, UPGRADER, WRITER};
-use Answer::{Count, Tried, Word};
-use Call::{Attempt, Load, LoadBesideReaders, RefuseBesideReaders, Take};
+use SeatAnswer::{Count, Tried, Word};
+use SeatCall::{Attempt, Load, LoadBesideReaders, RefuseBesideReaders, Take};
 use Who::{A, B};
 use lock_base::machine::Mode::{self, Exclusive, Shared, Upgradable};
 use lock_test_support::answer::equal;
@@ -25,7 +25,7 @@ enum Who {
 
 /// A call of a party.
 #[derive(Clone, Copy)]
-enum Call {
+enum SeatCall {
     Load,
     LoadAlone,
     LoadBesideReaders,
@@ -37,14 +37,14 @@ enum Call {
 
 /// What a call answers.
 #[derive(Clone, Copy, PartialEq, Debug)]
-enum Answer {
+enum SeatAnswer {
     Word(u64),
     Tried(seated::Attempt),
     /// How many holds or bars the party had of what the call takes or needs.
     Count(u64),
 }
 
-type Steps = &'static [(Who, Call, Answer)];
+type Steps = &'static [(Who, SeatCall, SeatAnswer)];
 
 const FRESH_LOADS: Steps = &[
     (A, Load, Word(0)),
@@ -83,7 +83,7 @@ const MOVED_HOLDS: Steps = &[
 
 const WORDS_OF_HOLDERS: Steps = &[
     (A, Attempt(ExWant::Exclusive), Tried(Done)),
-    (A, Call::LoadAlone, Word(WRITER)),
+    (A, SeatCall::LoadAlone, Word(WRITER)),
     (A, Take(Down::ToShared), Count(1)),
     (A, LoadBesideReaders, Word(1)),
     (A, RefuseBesideReaders, Word(1)),
@@ -105,7 +105,7 @@ const WITHDRAWAL: Steps = &[
     (A, Attempt(ExWant::Announce), Tried(Done)),
     (B, Attempt(ExWant::Shared), Tried(NotAdmitted(BAR + 1))),
     (B, Take(Down::Withdraw), Count(0)),
-    (A, Call::LoadUnderOwnBar, Word(BAR + 1)),
+    (A, SeatCall::LoadUnderOwnBar, Word(BAR + 1)),
     (A, Take(Down::Withdraw), Count(1)),
     (A, Attempt(ExWant::Shared), Tried(Done)),
     (B, Load, Word(2)),
@@ -179,7 +179,7 @@ fn taken(lock: &SeatedLock, party: &mut Party, down: Down) -> u64
 }
 
 /// Makes an attempt. A party without an upgradable hold makes no upgrade.
-fn attempted(lock: &SeatedLock, party: &mut Party, want: ExWant) -> Answer
+fn attempted(lock: &SeatedLock, party: &mut Party, want: ExWant) -> SeatAnswer
     requires { party.old.lock ≡ lock.now }
     ensures { party.new.lock ≡ lock.now }
 {
@@ -198,22 +198,22 @@ fn attempted(lock: &SeatedLock, party: &mut Party, want: ExWant) -> Answer
 }
 
 /// Calls a function that proves what the party loads, if the party holds or announced what that needs.
-fn proved(lock: &SeatedLock, party: &mut Party, call: Call) -> Answer
+fn proved(lock: &SeatedLock, party: &mut Party, call: SeatCall) -> SeatAnswer
     requires { party.old.lock ≡ lock.now }
     ensures { party.new.lock ≡ lock.now }
 {
     match call {
-        Call::LoadAlone if party.holds(Exclusive) > 0 => Word(loaded_alone(lock, party)),
+        SeatCall::LoadAlone if party.holds(Exclusive) > 0 => Word(loaded_alone(lock, party)),
         LoadBesideReaders if party.holds(Shared) > 0 => Word(loaded_beside_readers(lock, party)),
         RefuseBesideReaders if party.holds(Shared) > 0 => {
             Word(refused_beside_readers(lock, party))
         }
-        Call::LoadUnderOwnBar if party.announced() => Word(loaded_under_own_bar(lock, party)),
+        SeatCall::LoadUnderOwnBar if party.announced() => Word(loaded_under_own_bar(lock, party)),
         _ => Count(0),
     }
 }
 
-fn answered(lock: &SeatedLock, party: &mut Party, call: Call) -> Answer
+fn answered(lock: &SeatedLock, party: &mut Party, call: SeatCall) -> SeatAnswer
     requires { party.old.lock ≡ lock.now }
     ensures { party.new.lock ≡ lock.now }
 {

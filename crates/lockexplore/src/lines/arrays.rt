@@ -8,7 +8,7 @@ ghost use Rattle.lockexplore.specs.declared.lines.made.LinesFault.TheVariants.{T
 
 use crate::lines::count::count;
 use crate::lines::cut::{bracketed, cut};
-use crate::lines::made::{LinesFault, MadeLines, PlainLine};
+use crate::lines::made::{LinesFault, MadeLine, MadeLines};
 use itoa::Buffer;
 use std::alloc::{AllocError, Global};
 
@@ -23,7 +23,7 @@ pub(crate) struct Array<'a> {
 }
 
 /// Puts a line for each of several in the place of their line.
-pub(crate) fn arrayed(alloc: Global, lines: Vec<PlainLine>) -> Result<Vec<PlainLine>, LinesFault>
+pub(crate) fn arrayed(alloc: Global, lines: Vec<MadeLine>) -> Result<Vec<MadeLine>, LinesFault>
     ensures lines { IfOk result (λ made. map line_of made.items ≡ arrayed (map line_of lines.items)) }
     ensures long { IfErr result (λ fault. fault ≡ TooLong → IsLongFrom arrayed (map line_of lines.items)) }
 {
@@ -36,7 +36,7 @@ pub(crate) fn arrayed(alloc: Global, lines: Vec<PlainLine>) -> Result<Vec<PlainL
 }
 
 /// Puts a line before the others, or the lines to which it expands.
-fn push_line(alloc: Global, made: &mut MadeLines, line: PlainLine) -> Result<(), LinesFault>
+fn push_line(alloc: Global, made: &mut MadeLines, line: MadeLine) -> Result<(), LinesFault>
     ensures lines { OnOk result (made.new ≡ with_line (line_of line) made.old) }
     ensures long { IfErr result (λ fault. fault ≡ TooLong → IsLong (with_line (line_of line) made.old)) }
 {
@@ -79,7 +79,7 @@ impl<'a> Array<'a> {
         let mut k = self.count;
         while k > 0 {
             let text = self.element(alloc, k)?;
-            made.push(PlainLine { number, text })?;
+            made.push(MadeLine { number, text })?;
             k -= 1;
         }
         Ok(())

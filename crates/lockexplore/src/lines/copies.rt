@@ -5,7 +5,7 @@ ghost use Rattle.lockexplore.specs.PlainLines.{IsLong, line_of};
 ghost use Rattle.lockexplore.specs.declared.lines.made.LinesFault.TheVariants.{TooLong};
 
 use crate::lines::indices::indexed_text;
-use crate::lines::made::{LinesFault, MadeLines, PlainLine};
+use crate::lines::made::{LinesFault, MadeLine, MadeLines};
 use crate::lines::party_number::PartyNumber;
 use std::alloc::{AllocError, Global};
 
@@ -13,7 +13,7 @@ use std::alloc::{AllocError, Global};
 pub(crate) fn push_each(
     alloc: Global,
     made: &mut MadeLines,
-    lines: &[PlainLine],
+    lines: &[MadeLine],
     number: Option<PartyNumber>,
 ) -> Result<(), LinesFault>
     ensures lines { OnOk result (made.new ≡ put_each (changed number) lines.now made.old) }
@@ -27,16 +27,16 @@ pub(crate) fn push_each(
     Ok(())
 }
 
-impl PlainLine {
+impl MadeLine {
     /// Makes a copy of the line.
-    fn copy(&self, alloc: Global, number: Option<PartyNumber>) -> Result<PlainLine, AllocError>
+    fn copy(&self, alloc: Global, number: Option<PartyNumber>) -> Result<MadeLine, AllocError>
         ensures { IfOk result (λ copy. line_of copy ≡ changed number (line_of self.now)) }
     {
         let text = match number {
             None => Vec::from_slice(alloc, self.text.as_slice())?,
             Some(number) => indexed_text(alloc, self.text.as_slice(), number)?,
         };
-        Ok(PlainLine {
+        Ok(MadeLine {
             number: self.number,
             text,
         })

@@ -11,7 +11,7 @@ const LIMIT: usize = 1_048_577;
 
 /// A line of words with a space between two of them.
 #[derive(Drop)]
-pub(crate) struct PlainLine {
+pub(crate) struct MadeLine {
     /// The number of the line in the plan's text that it comes from.
     pub(crate) number: u64,
     pub(crate) text: Vec<u8>,
@@ -49,7 +49,7 @@ impl<T: Drop> From<AllocFailed<T>> for LinesFault {
 /// Lines, of which the last one was put first.
 #[derive(Drop)]
 pub(crate) struct MadeLines {
-    lines: Vec<PlainLine>,
+    lines: Vec<MadeLine>,
     /// How many bytes more the lines may have.
     room: usize,
 }
@@ -82,7 +82,7 @@ impl MadeLines {
     }
 
     /// Puts a line before the others.
-    pub(crate) fn push(&mut self, line: PlainLine) -> Result<(), LinesFault>
+    pub(crate) fn push(&mut self, line: MadeLine) -> Result<(), LinesFault>
         ensures lines { OnOk result (self.new ≡ line_of line ∷ self.old) }
         ensures long { IfErr result (λ fault. fault ≡ TooLong → IsLong (line_of line ∷ self.old)) }
     {
@@ -100,7 +100,7 @@ impl MadeLines {
     }
 
     /// Takes the first line.
-    pub(crate) fn pop(&mut self) -> Option<PlainLine>
+    pub(crate) fn pop(&mut self) -> Option<MadeLine>
         ensures first { self.old ≡ popped (option_map line_of result) self.new }
         ensures none { IfNone result (self.old ≡ []) }
     {
@@ -114,7 +114,7 @@ impl MadeLines {
         &mut self,
         alloc: Global,
         left: usize,
-    ) -> Result<Vec<PlainLine>, AllocError>
+    ) -> Result<Vec<MadeLine>, AllocError>
         ensures taken { IfOk result (λ lines. self.old ≡ reverse (map line_of lines.items) ++ self.new) }
         ensures left { OnOk result (left ≤ length self.old → length self.new ≡ left) }
     {
@@ -130,7 +130,7 @@ impl MadeLines {
     }
 
     /// Returns the lines from the first one to the last.
-    pub(crate) fn into_lines(self) -> Vec<PlainLine>
+    pub(crate) fn into_lines(self) -> Vec<MadeLine>
         ensures lines { map line_of result.items ≡ self }
         ensures short { length (text_of (map line_of result.items)) ≤ 1048577 }
     {

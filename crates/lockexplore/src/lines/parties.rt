@@ -11,7 +11,7 @@ use crate::lines::copies::push_each;
 use crate::lines::count::count;
 use crate::lines::cut::cut;
 use crate::lines::indices::has_index;
-use crate::lines::made::{LinesFault, MadeLines, PlainLine};
+use crate::lines::made::{LinesFault, MadeLine, MadeLines};
 use crate::lines::party_line::PartyLine;
 use crate::lines::party_number::PartyNumber;
 use std::alloc::{AllocError, Global};
@@ -27,7 +27,7 @@ pub(crate) struct PartyLines {
 }
 
 /// Puts the lines of each party in the place of those of parties with indices.
-pub(crate) fn indexed(alloc: Global, lines: Vec<PlainLine>) -> Result<Vec<PlainLine>, LinesFault>
+pub(crate) fn indexed(alloc: Global, lines: Vec<MadeLine>) -> Result<Vec<MadeLine>, LinesFault>
     ensures lines { IfOk result (λ made. map line_of made.items ≡ indexed (map line_of lines.items)) }
     ensures long { IfErr result (λ fault. fault ≡ TooLong → IsLongFrom indexed (map line_of lines.items)) }
 {
@@ -44,7 +44,7 @@ pub(crate) fn indexed(alloc: Global, lines: Vec<PlainLine>) -> Result<Vec<PlainL
 }
 
 /// Puts a line before the others.
-fn push_line(alloc: Global, parted: &mut PartyLines, line: PlainLine) -> Result<(), LinesFault>
+fn push_line(alloc: Global, parted: &mut PartyLines, line: MadeLine) -> Result<(), LinesFault>
     ensures lines { OnOk result ((rest : List NumberedLine) → ArePartyLines parted.old rest → ArePartyLines parted.new (line_of line ∷ rest)) }
     ensures long { IfErr result (λ fault. fault ≡ TooLong → (rest : List NumberedLine) → ArePartyLines parted.old rest → IsLong (indexed (line_of line ∷ rest))) }
 {
@@ -70,7 +70,7 @@ fn push_party(
     made: &mut MadeLines,
     mark: usize,
     is_indexed: bool,
-    line: PlainLine,
+    line: MadeLine,
 ) -> Result<(), LinesFault>
     ensures lines { OnOk result ((first rest : List NumberedLine) → made.old ≡ first ++ rest → mark ≡ length rest
         → is_indexed ≡ has_any_index first → made.new ≡ with_party (line_of line) first rest) }
@@ -108,7 +108,7 @@ fn push_copies(
 fn put_copies(
     alloc: Global,
     made: &mut MadeLines,
-    first: &[PlainLine],
+    first: &[MadeLine],
     number: u64,
     party: PartyLine,
 ) -> Result<(), LinesFault>
@@ -120,7 +120,7 @@ fn put_copies(
     while k > 0 {
         push_each(alloc, made, first, Some(PartyNumber { party: k, count }))?;
         let text = party.text(alloc, k)?;
-        made.push(PlainLine { number, text })?;
+        made.push(MadeLine { number, text })?;
         k -= 1;
     }
     Ok(())

@@ -10,7 +10,7 @@ use crate::lines::copies::push_each;
 use crate::lines::count::count;
 use crate::lines::cut::cut;
 use crate::lines::line_role::LineRole;
-use crate::lines::made::{LinesFault, MadeLines, PlainLine};
+use crate::lines::made::{LinesFault, MadeLine, MadeLines};
 use std::alloc::Global;
 
 /// The lines made so far, cut at each `end` whose block begins further up.
@@ -22,7 +22,7 @@ pub(crate) struct OpenLines {
 }
 
 /// Puts the lines between each `repeat N` and its `end` `N` times in the place of them.
-pub(crate) fn unrolled(alloc: Global, lines: Vec<PlainLine>) -> Result<Vec<PlainLine>, LinesFault>
+pub(crate) fn unrolled(alloc: Global, lines: Vec<MadeLine>) -> Result<Vec<MadeLine>, LinesFault>
     ensures lines { IfOk result (λ made. map line_of made.items ≡ unrolled (map line_of lines.items)) }
     ensures short { IfOk result (λ made. length (text_of (map line_of made.items)) ≤ 1048577) }
     ensures long { IfErr result (λ fault. fault ≡ TooLong → IsLongFrom unrolled (map line_of lines.items)) }
@@ -39,7 +39,7 @@ pub(crate) fn unrolled(alloc: Global, lines: Vec<PlainLine>) -> Result<Vec<Plain
 }
 
 /// Puts a line before the others.
-fn push_line(alloc: Global, blocks: &mut OpenLines, line: PlainLine) -> Result<(), LinesFault>
+fn push_line(alloc: Global, blocks: &mut OpenLines, line: MadeLine) -> Result<(), LinesFault>
     ensures lines { OnOk result ((rest : List NumberedLine) → AreOpenLines blocks.old rest → AreOpenLines blocks.new (line_of line ∷ rest)) }
     ensures long { IfErr result (λ fault. fault ≡ TooLong → (rest : List NumberedLine) → AreOpenLines blocks.old rest → IsLong (unrolled (line_of line ∷ rest))) }
 {
@@ -78,7 +78,7 @@ fn push_times(
 fn push_turns(
     alloc: Global,
     made: &mut MadeLines,
-    lines: &[PlainLine],
+    lines: &[MadeLine],
     times: u64,
 ) -> Result<(), LinesFault>
     ensures lines { OnOk result (made.new ≡ put_turns times lines.now made.old) }

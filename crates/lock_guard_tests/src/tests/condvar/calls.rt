@@ -4,7 +4,7 @@ use lock_mutex::{Condvar, MutexGuard};
 
 /// When a wait times out.
 #[derive(Clone, Copy)]
-pub enum End<T> {
+pub enum WaitEnd<T> {
     Never,
     For(T),
     Until(T),
@@ -12,9 +12,9 @@ pub enum End<T> {
 
 /// A wait of a condition variable. The number of a loop says how many of its checks are true.
 #[derive(Clone, Copy)]
-pub enum Call<T> {
-    Once(End<T>),
-    While(usize, End<T>),
+pub enum WaitCall<T> {
+    Once(WaitEnd<T>),
+    While(usize, WaitEnd<T>),
 }
 
 /// Makes a check, which is true for the first `trues` times.
@@ -28,18 +28,18 @@ fn check(trues: usize, checks: &mut usize) -> bool {
 fn wait<T, C: RawCondvarTimed>(
     condvar: &Condvar<C>,
     checks: &mut MutexGuard<'_, C::RawMutex, usize>,
-    end: End<T>,
+    end: WaitEnd<T>,
 ) -> bool
 where
     C::RawMutex: RawMutexTimed<Duration = T, Instant = T>,
 {
     match end {
-        End::Never => {
+        WaitEnd::Never => {
             condvar.wait(checks);
             false
         }
-        End::For(timeout) => condvar.wait_for(checks, timeout).timed_out(),
-        End::Until(deadline) => condvar.wait_until(checks, deadline).timed_out(),
+        WaitEnd::For(timeout) => condvar.wait_for(checks, timeout).timed_out(),
+        WaitEnd::Until(deadline) => condvar.wait_until(checks, deadline).timed_out(),
     }
 }
 
@@ -48,19 +48,19 @@ fn wait_while<T, C: RawCondvarTimed>(
     condvar: &Condvar<C>,
     checks: &mut MutexGuard<'_, C::RawMutex, usize>,
     trues: usize,
-    end: End<T>,
+    end: WaitEnd<T>,
 ) -> bool
 where
     C::RawMutex: RawMutexTimed<Duration = T, Instant = T>,
 {
     let is_true = |checks: &mut usize| check(trues, checks);
     match end {
-        End::Never => {
+        WaitEnd::Never => {
             condvar.wait_while(checks, is_true);
             false
         }
-        End::For(timeout) => condvar.wait_while_for(checks, is_true, timeout).timed_out(),
-        End::Until(deadline) => condvar
+        WaitEnd::For(timeout) => condvar.wait_while_for(checks, is_true, timeout).timed_out(),
+        WaitEnd::Until(deadline) => condvar
             .wait_while_until(checks, is_true, deadline)
             .timed_out(),
     }
@@ -70,15 +70,15 @@ where
 pub fn waited<T, C: RawCondvarTimed>(
     condvar: &Condvar<C>,
     checks: &mut MutexGuard<'_, C::RawMutex, usize>,
-    call: Call<T>,
+    call: WaitCall<T>,
 ) -> (bool, usize)
 where
     C::RawMutex: RawMutexTimed<Duration = T, Instant = T>,
 {
     **checks = 0;
     let timed_out = match call {
-        Call::Once(end) => wait(condvar, checks, end),
-        Call::While(trues, end) => wait_while(condvar, checks, trues, end),
+        WaitCall::Once(end) => wait(condvar, checks, end),
+        WaitCall::While(trues, end) => wait_while(condvar, checks, trues, end),
     };
     (timed_out, **checks)
 }

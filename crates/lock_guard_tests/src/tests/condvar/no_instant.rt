@@ -1,6 +1,6 @@
 //! A raw condition variable without instants, which keeps the default bodies of its trait.
-use super::calls::Call::{Once, While};
-use super::calls::End::For;
+use super::calls::WaitCall::{Once, While};
+use super::calls::WaitEnd::For;
 use super::calls::waited;
 use lock_base::raw::Fault;
 use lock_guard::raw::{RawCondvar, RawCondvarTimed, RawMutex, RawMutexTimed};

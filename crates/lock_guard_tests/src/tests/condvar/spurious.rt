@@ -1,6 +1,6 @@
 //! Waits of a spurious condition variable, each of which releases the mutex.
-use super::calls::Call::{self, Once, While};
-use super::calls::End::{For, Never, Until};
+use super::calls::WaitCall::{self, Once, While};
+use super::calls::WaitEnd::{For, Never, Until};
 use super::calls::waited;
 use crate::tests::Table;
 use lock_base::machine::Mode::Exclusive;
@@ -16,7 +16,7 @@ use std::sync::Wait;
 use std::test::Fail;
 
 /// Each wait, whether it times out, and how many checks it makes.
-const WAITS: [(Call<()>, bool, usize); 6] = [
+const WAITS: [(WaitCall<()>, bool, usize); 6] = [
     (Once(Never), false, 0),
     (Once(For(())), true, 0),
     (Once(Until(())), true, 0),
@@ -54,7 +54,7 @@ fn a_spurious_wait_ends_at_once(rt: HostRuntime) -> Result<(), Fail> {
 }
 
 /// Waits that release the mutex once.
-const ONCE: [Call<()>; 4] = [
+const ONCE: [WaitCall<()>; 4] = [
     Once(Never),
     Once(For(())),
     Once(Until(())),

@@ -11,7 +11,7 @@ use std::test::Fail;
 
 /// The call that makes a lock.
 #[derive(Clone, Copy, PartialEq, Debug)]
-pub enum Maker {
+pub enum LockMaker {
     New,
     From,
     Default,
@@ -20,9 +20,9 @@ pub enum Maker {
 }
 
 /// A maker, the value of its mutex, and whether the raw lock is free and got no call.
-type Made = (Maker, u64, bool);
+type Made = (LockMaker, u64, bool);
 
-fn consumed<R: RawMutex + Drop>(maker: Maker, mutex: Mutex<Recorder<R>, u64>) -> Made {
+fn consumed<R: RawMutex + Drop>(maker: LockMaker, mutex: Mutex<Recorder<R>, u64>) -> Made {
     let (raw, value) = mutex.into_inner_with_raw();
     (maker, value, raw.has_no_calls() && !raw.is_locked())
 }
@@ -30,16 +30,16 @@ fn consumed<R: RawMutex + Drop>(maker: Maker, mutex: Mutex<Recorder<R>, u64>) ->
 fn made<C: LockCore>(alloc: Global, waiters: [C::Waiter; 3]) -> Result<[Made; 3], Fault> {
     let [first, second, third] = waiters;
     Ok([
-        consumed::<RawLock<C>>(Maker::New, Mutex::new(alloc, first, 5)?),
-        consumed::<RawLock<C>>(Maker::From, Mutex::from(alloc, second, 6)?),
-        consumed::<RawLock<C>>(Maker::Default, Mutex::default(alloc, third)?),
+        consumed::<RawLock<C>>(LockMaker::New, Mutex::new(alloc, first, 5)?),
+        consumed::<RawLock<C>>(LockMaker::From, Mutex::from(alloc, second, 6)?),
+        consumed::<RawLock<C>>(LockMaker::Default, Mutex::default(alloc, third)?),
     ])
 }
 
 const WANTED: [Made; 3] = [
-    (Maker::New, 5, true),
-    (Maker::From, 6, true),
-    (Maker::Default, 0, true),
+    (LockMaker::New, 5, true),
+    (LockMaker::From, 6, true),
+    (LockMaker::Default, 0, true),
 ];
 
 #[test]

@@ -62,21 +62,21 @@ fn the_raw_lock_is_asked_before_the_value_is_taken(rt: HostRuntime) -> Result<()
 
 /// How a guard releases its mutex.
 #[derive(Clone, Copy)]
-enum End {
+enum HoldEnd {
     Drop,
     UnlockFair,
     Bump,
 }
 
 /// Writes the value, and releases the mutex.
-fn write_and_end<R: RawMutexFair>(mutex: &Mutex<R, u64>, is_held: &AtomicBool, end: End) {
+fn write_and_end<R: RawMutexFair>(mutex: &Mutex<R, u64>, is_held: &AtomicBool, end: HoldEnd) {
     let mut guard = mutex.lock();
     is_held.store(true, Ordering::SeqCst);
     *guard = 5;
     match end {
-        End::Drop => drop(guard),
-        End::UnlockFair => MutexGuard::unlock_fair(guard),
-        End::Bump => MutexGuard::bump(&mut guard),
+        HoldEnd::Drop => drop(guard),
+        HoldEnd::UnlockFair => MutexGuard::unlock_fair(guard),
+        HoldEnd::Bump => MutexGuard::bump(&mut guard),
     }
 }
 
@@ -96,9 +96,9 @@ fn read_before_release<W: Wait, R: RawMutex>(
 #[test]
 fn the_value_is_given_back_before_the_raw_lock(rt: HostRuntime) -> Result<(), Fail> {
     for (name, end) in [
-        ("drop", End::Drop),
-        ("unlock_fair", End::UnlockFair),
-        ("bump", End::Bump),
+        ("drop", HoldEnd::Drop),
+        ("unlock_fair", HoldEnd::UnlockFair),
+        ("bump", HoldEnd::Bump),
     ] {
         let mutex: Mutex<Gated<HostRuntime>, u64> = Mutex::new(rt.alloc(), rt, 0)?;
         let is_held = AtomicBool::new(false);

@@ -10,9 +10,9 @@ use std::thread;
 
 /// A mutex that threads count behind.
 #[derive(Drop)]
-struct Counted<'a, R>(&'a Mutex<R, u64>);
+struct CountedMutex<'a, R>(&'a Mutex<R, u64>);
 
-impl<R: RawMutex> Count for Counted<'_, R> {
+impl<R: RawMutex> Count for CountedMutex<'_, R> {
     type Waiter = R::Waiter;
 
     fn add_one(&self) {
@@ -36,7 +36,7 @@ fn come_and_wait<R: RawMutex>(
 #[test]
 fn four_threads_count_and_two_wait_for_each_other(rt: HostRuntime) -> Result<(), Fail> {
     let counter: Mutex<AdmitsAll<HostRuntime>, u64> = Mutex::new(rt.alloc(), rt, 0)?;
-    add_in_four_threads(&rt, &Counted(&counter));
+    add_in_four_threads(&rt, &CountedMutex(&counter));
     assert_eq!(rt; counter.into_inner(), 4_000);
     let come: Mutex<AdmitsAll<HostRuntime>, u64> = Mutex::new(rt.alloc(), rt, 0)?;
     let condvar: Condvar<SpuriousCondvar<AdmitsAll<HostRuntime>>> = Condvar::new(rt.alloc())?;
@@ -53,7 +53,7 @@ fn four_threads_count_and_two_wait_for_each_other(rt: HostRuntime) -> Result<(),
 fn four_threads_count_behind_a_word(rt: HostRuntime) -> Result<(), Fail> {
     let counter: Mutex<RawLock<Word>, u64> = Mutex::new(rt.alloc(), rt, 0)?;
     for _ in 0..10 {
-        add_in_four_threads(&rt, &Counted(&counter));
+        add_in_four_threads(&rt, &CountedMutex(&counter));
     }
     assert_eq!(rt; counter.into_inner(), 40_000);
     Ok(())

@@ -1,6 +1,6 @@
 //! The makers of a reentrant lock, and what a consumed lock returns.
 use crate::tests::Table;
-use crate::tests::mutex::makers::Maker;
+use crate::tests::mutex::makers::LockMaker;
 use lock_base::machine::Mode::Exclusive;
 use lock_base::machine::PartyId;
 use lock_base::raw::Fault;
@@ -17,7 +17,7 @@ use std::rt::Env;
 use std::test::Fail;
 
 /// A maker, the value of its lock, how many of a hundred levels a party gets, and whether they are one raw call.
-type Made = (Maker, u8, u8, bool);
+type Made = (LockMaker, u8, u8, bool);
 
 /// How many of a hundred levels the party gets. They stay held.
 fn levels<R: RawMutex>(lock: &ReentrantMutex<R, u8>, party: PartyId) -> u8 {
@@ -32,7 +32,7 @@ fn levels<R: RawMutex>(lock: &ReentrantMutex<R, u8>, party: PartyId) -> u8 {
 
 /// Acquires levels of a new lock, and consumes it.
 fn consumed<R: RawMutex + Drop>(
-    maker: Maker,
+    maker: LockMaker,
     lock: ReentrantMutex<Recorder<R>, u8>,
     party: PartyId,
 ) -> Result<Made, Fault> {
@@ -54,16 +54,24 @@ where
     let [first, second, third, fourth, fifth] = waiters;
     let raw: Recorder<R> = RawMutex::new(alloc, fifth)?;
     Ok([
-        consumed::<R>(Maker::New, ReentrantMutex::new(alloc, first, 5)?, one)?,
-        consumed::<R>(Maker::From, ReentrantMutex::from(alloc, second, 6)?, one)?,
-        consumed::<R>(Maker::Default, ReentrantMutex::default(alloc, third)?, one)?,
+        consumed::<R>(LockMaker::New, ReentrantMutex::new(alloc, first, 5)?, one)?,
         consumed::<R>(
-            Maker::WithLevels,
+            LockMaker::From,
+            ReentrantMutex::from(alloc, second, 6)?,
+            one,
+        )?,
+        consumed::<R>(
+            LockMaker::Default,
+            ReentrantMutex::default(alloc, third)?,
+            one,
+        )?,
+        consumed::<R>(
+            LockMaker::WithLevels,
             ReentrantMutex::with_levels(alloc, fourth, 3, 7)?,
             one,
         )?,
         consumed::<R>(
-            Maker::FromRaw,
+            LockMaker::FromRaw,
             ReentrantMutex::from_raw(alloc, raw, 8)?,
             one,
         )?,
@@ -83,11 +91,11 @@ where
 }
 
 const WANTED: [Made; 5] = [
-    (Maker::New, 5, 100, true),
-    (Maker::From, 6, 100, true),
-    (Maker::Default, 0, 100, true),
-    (Maker::WithLevels, 7, 3, true),
-    (Maker::FromRaw, 8, 100, true),
+    (LockMaker::New, 5, 100, true),
+    (LockMaker::From, 6, 100, true),
+    (LockMaker::Default, 0, 100, true),
+    (LockMaker::WithLevels, 7, 3, true),
+    (LockMaker::FromRaw, 8, 100, true),
 ];
 
 #[test]
@@ -96,7 +104,7 @@ fn makers_of_a_reentrant_lock_lock_nothing(rt: HostRuntime) -> Result<(), Fail> 
 }
 
 /// A maker, the value of its lock, and how many of a hundred levels a party gets.
-type Levelled = (Maker, u8, u8);
+type Levelled = (LockMaker, u8, u8);
 
 /// Leaves out the raw calls, since their record may lack one for want of memory.
 fn without_calls(made: [Made; 5]) -> [Levelled; 5] {

@@ -15,7 +15,7 @@ use std::test::Fail;
 
 /// A call of a party.
 #[derive(Clone, Copy)]
-enum Act {
+enum OwnerAct {
     Lock,
     TryLock,
     Unlock,
@@ -24,41 +24,59 @@ enum Act {
 }
 
 /// A call, whether the first party makes it, its answer, and whether the first party owns the lock then.
-type Answered = (&'static str, Act, bool, Result<bool, Fault>, bool);
+type Answered = (&'static str, OwnerAct, bool, Result<bool, Fault>, bool);
 
 /// The first party acquires two levels and releases them.
 const ANSWERED: [Answered; 11] = [
-    ("lock", Act::Lock, true, Ok(true), true),
-    ("try_lock", Act::TryLock, true, Ok(true), true),
-    ("another's try_lock", Act::TryLock, false, Ok(false), true),
-    ("another's unlock", Act::Unlock, false, Err(Foreign), true),
+    ("lock", OwnerAct::Lock, true, Ok(true), true),
+    ("try_lock", OwnerAct::TryLock, true, Ok(true), true),
     (
-        "another's unlock_fair",
-        Act::UnlockFair,
+        "another's try_lock",
+        OwnerAct::TryLock,
+        false,
+        Ok(false),
+        true,
+    ),
+    (
+        "another's unlock",
+        OwnerAct::Unlock,
         false,
         Err(Foreign),
         true,
     ),
-    ("another's bump", Act::Bump, false, Err(Foreign), true),
-    ("unlock", Act::Unlock, true, Ok(true), true),
-    ("bump", Act::Bump, true, Ok(true), true),
-    ("unlock_fair", Act::UnlockFair, true, Ok(true), false),
-    ("unlock once more", Act::Unlock, true, Err(Foreign), false),
-    ("another's lock", Act::Lock, false, Ok(true), false),
+    (
+        "another's unlock_fair",
+        OwnerAct::UnlockFair,
+        false,
+        Err(Foreign),
+        true,
+    ),
+    ("another's bump", OwnerAct::Bump, false, Err(Foreign), true),
+    ("unlock", OwnerAct::Unlock, true, Ok(true), true),
+    ("bump", OwnerAct::Bump, true, Ok(true), true),
+    ("unlock_fair", OwnerAct::UnlockFair, true, Ok(true), false),
+    (
+        "unlock once more",
+        OwnerAct::Unlock,
+        true,
+        Err(Foreign),
+        false,
+    ),
+    ("another's lock", OwnerAct::Lock, false, Ok(true), false),
 ];
 
 /// Makes the call. Its answer is whether the lock was acquired, or true.
 fn answer<R: RawMutexFair>(
     lock: &RawReentrantMutex<R>,
-    act: Act,
+    act: OwnerAct,
     party: PartyId,
 ) -> Result<bool, Fault> {
     match act {
-        Act::Lock => lock.lock(party)?,
-        Act::TryLock => return lock.try_lock(party),
-        Act::Unlock => lock.unlock(party)?,
-        Act::UnlockFair => lock.unlock_fair(party)?,
-        Act::Bump => lock.bump(party)?,
+        OwnerAct::Lock => lock.lock(party)?,
+        OwnerAct::TryLock => return lock.try_lock(party),
+        OwnerAct::Unlock => lock.unlock(party)?,
+        OwnerAct::UnlockFair => lock.unlock_fair(party)?,
+        OwnerAct::Bump => lock.bump(party)?,
     }
     Ok(true)
 }

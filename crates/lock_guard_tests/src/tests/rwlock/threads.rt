@@ -13,9 +13,9 @@ use std::thread;
 
 /// A lock that threads count behind.
 #[derive(Drop)]
-struct Counted<'a, R>(&'a RwLock<R, u64>);
+struct CountedRwLock<'a, R>(&'a RwLock<R, u64>);
 
-impl<R: RawRwLock> Count for Counted<'_, R> {
+impl<R: RawRwLock> Count for CountedRwLock<'_, R> {
     type Waiter = R::Waiter;
 
     fn add_one(&self) {
@@ -47,7 +47,7 @@ fn sees_while_it_reads<R: RawRwLock>(
 #[test]
 fn four_threads_count_and_two_read_at_once(rt: HostRuntime) -> Result<(), Fail> {
     let lock: RwLock<AdmitsAll<HostRuntime>, u64> = RwLock::new(rt.alloc(), rt, 0)?;
-    add_in_four_threads(&rt, &Counted(&lock));
+    add_in_four_threads(&rt, &CountedRwLock(&lock));
     let first = AtomicBool::new(false);
     let second = AtomicBool::new(false);
     let seen = thread::join(
@@ -64,7 +64,7 @@ fn four_threads_count_behind_a_word(rt: HostRuntime) -> Result<(), Fail> {
     for readers in [1, 4, 4_294_967_295] {
         let lock: RwLock<RawLock<Word>, u64> = RwLock::with_readers(rt.alloc(), rt, readers, 0)?;
         for _ in 0..10 {
-            add_in_four_threads(&rt, &Counted(&lock));
+            add_in_four_threads(&rt, &CountedRwLock(&lock));
         }
         assert_eq!(rt; lock.into_inner(), 40_000);
     }

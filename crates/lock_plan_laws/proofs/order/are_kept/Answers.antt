@@ -1,6 +1,6 @@
 use Rattle.std.proofs.Common.{◌≡◌, ◌∙◌, ℕ, List, [], true, ap₂, arith, get_or, map, sym}
 use Rattle.std.proofs.lemmas.List.{length-map}
-use Rattle.lock_plan.specs.declared.program.Place.{Place}
+use Rattle.lock_plan.specs.declared.program.ProgramPlace.{ProgramPlace}
 use Rattle.lock_plan.specs.Known.{Known}
 use Rattle.lock_plan_laws.specs.LockOrders.{held_in, rank_in}
 use Rattle.lock_plan_laws.specs.OrderChecks.{keeps_from}
@@ -10,7 +10,7 @@ use Rattle.lock_plan_laws.proofs.order.are_kept.Goals as goal
 pub loop-party-preserved : goal.loop-party-preserved
 loop-party-preserved c =
     let rank = rank_in c.args.order.now in
-    let same = ap₂ (λ (program : List Place) (held : Known). keeps_from rank program 0 held) c.program_of.ensures c.held_of.ensures in
+    let same = ap₂ (λ (program : List ProgramPlace) (held : Known). keeps_from rank program 0 held) c.program_of.ensures c.held_of.ensures in
     one_more
     (λ (p : ℕ). keeps_from rank (get_or (map (λ v. v.items) c.args.programs.now) p []) 0 (get_or (map held_in c.args.known.now) p []) ≡ true)
     c.loop-party.party c.loop-party.invariant (sym same ∙ sym c.keeps_from.ensures ∙ c.if-not-keeps_from.false)

@@ -25,7 +25,7 @@ pub(crate) fn write_bars(
                 names,
                 run,
                 layout,
-                Held {
+                HeldMark {
                     party,
                     lock,
                     mark: *mark,
@@ -38,7 +38,7 @@ pub(crate) fn write_bars(
 
 /// What a bar shows.
 #[derive(Clone, Copy)]
-struct Held {
+struct HeldMark {
     party: usize,
     lock: usize,
     mark: Mark,
@@ -51,7 +51,7 @@ fn write_bars_of(
     names: &Names,
     run: &Run,
     layout: &Layout,
-    held: Held,
+    held: HeldMark,
 ) -> Result<(), AllocError> {
     let mut since = None;
     for row in 0..layout.last_row() {
@@ -77,7 +77,7 @@ fn write_bar(
     svg: &mut Svg,
     names: &Names,
     layout: &Layout,
-    held: Held,
+    held: HeldMark,
     first: usize,
     end: usize,
 ) -> Result<(), AllocError> {

@@ -5,12 +5,12 @@ use lock_script::PairOp;
 
 /// A line of a script: a call, and the reply of the `Desk`.
 #[derive(Clone, Copy)]
-pub struct ScriptLine {
+pub struct ScriptCall {
     pub call: Call<PairOp>,
     pub wanted: Reply<i64>,
 }
 
-impl ScriptLine {
+impl ScriptCall {
     ghost use Rattle.std.specs.Prelude.{◌≡◌, IsTrue};
     ghost use Rattle.lock_conform.specs.Refusals.{IsOutright};
 
