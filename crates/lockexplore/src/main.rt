@@ -7,8 +7,6 @@ mod lines;
 mod machine;
 mod plain;
 mod status;
-#[cfg(test)]
-mod tests;
 mod verdict;
 
 use crate::arguments::{AnswerForm, Request};
