@@ -3,4 +3,3 @@ pub mod Gate
 pub mod Line
 pub mod Parts
 pub mod Pool
-pub mod Words

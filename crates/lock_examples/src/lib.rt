@@ -1,7 +1,6 @@
 //! What a crate that lists `lock_api` alone can build and prove. Each module reads by itself.
 #![tactic(auto)]
 
-mod callers;
 pub mod desk;
 pub mod gate;
 mod parts;
@@ -14,10 +13,8 @@ pub mod ruled;
 pub mod seated;
 pub mod shared_permits;
 mod shelf;
-mod signatures;
 mod spin_lock;
 
-pub use callers::{Limit, Settings, read_within, write_under_each};
 pub use parts::{Element, Job, Progress};
 pub use pool::{Lease, Pool};
 pub use queue::Queue;

@@ -1,4 +1,4 @@
-//! What the examples answer when threads use them, which no contract states.
+//! What the examples answer when threads use them, which no contract states, and what a caller of `lock_api` knows.
 #![tactic(auto)]
 
 #[cfg(test)]

@@ -1,4 +1,5 @@
 //! The examples on threads, and with ample memory.
+mod callers;
 mod conform;
 mod desk;
 mod first_lock;
@@ -15,6 +16,7 @@ mod ruled;
 mod seated;
 mod shared_permits;
 mod shelf;
+mod signatures;
 mod spin_lock;
 
 /// The word while a writer holds the lock and none waits: bit 33 alone.

@@ -2,7 +2,7 @@
 mod ruled;
 mod words;
 
-use crate::callers::{Limit, Settings};
+use crate::tests::callers::{Limit, Settings};
 use lock_api::{
     Arbiter, ArcMutexGuard, ArcReentrantMutexGuard, ArcRwLockGuard, ArcRwLockReadGuard,
     ArcRwLockUpgradableReadGuard, ArcRwLockWriteGuard, At, Bag, BorrowedMutex, Call, Condvar, Desk,
@@ -15,9 +15,10 @@ use lock_api::{
     RawRwLockUpgradeFair, RawRwLockUpgradeTimed, RawState, Recorded, RecordingArbiter,
     RecordingRaw, ReentrantMutex, ReentrantMutexGuard, Reply, RwLock, RwLockArc, RwLockArcTimed,
     RwLockArcUpgrade, RwLockArcUpgradeTimed, RwLockGuard, RwLockReadGuard,
-    RwLockUpgradableReadGuard, RwLockWriteGuard, Script, Shared, SharedToken, SpuriousCondvar,
-    TableArbiter, TableToken, Then, TokenArbiter, TokenRaw, TokenTable, TryProject, TryView,
-    Unchanged, Upgradable, UpgradableToken, View, WaitTimeoutResult, Waits, Want, Way,
+    RwLockUpgradableReadGuard, RwLockWriteGuard, Script, Shared, SharedToken, ShowMode,
+    SpuriousCondvar, TableArbiter, TableToken, Then, TokenArbiter, TokenRaw, TokenTable,
+    TryProject, TryView, Unchanged, Upgradable, UpgradableToken, View, WaitTimeoutResult, Waits,
+    Want, Way,
 };
 use std::clone::Clone;
 use std::sync::Wait;
@@ -104,9 +105,10 @@ pub fn raw_traits<
 
 /// Each trait of locks in a mode, and of the acquisitions by an `Arc`.
 pub fn lock_traits<
+    'a,
     R: RawRwLockUpgradeTimed + RawRwLockUpgradeFair + Drop,
     T: Drop,
-    M: LockMode<R> + FairMode<R>,
+    M: LockMode<R> + FairMode<R> + ShowMode<'a, R, T>,
     L: Mappable,
     A: RwLockArc<R, T>
         + RwLockArcTimed<R, T>

@@ -3,7 +3,7 @@ ghost use Rattle.std.specs.Prelude.{◌≡◌};
 ghost use Rattle.lock_api.specs.MutexGuard.{held_of};
 ghost use Rattle.lock_api.specs.Mapped.{IsMapOf};
 
-use crate::callers::{Limit, Settings};
+use crate::tests::callers::{Limit, Settings};
 use lock_api::{
     At, MappedMutexGuard, MappedRwLockWriteGuard, Mutex, MutexGuard, RawMutex, RawRwLock, RwLock,
     RwLockReadGuard, RwLockWriteGuard,
