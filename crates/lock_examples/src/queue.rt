@@ -48,14 +48,11 @@ impl<C: RawCondvar, T> Queue<C, T> {
     pub fn try_push(&self, item: T) -> Result<(), T>
         ensures { IfErr result (λ back. back ≡ item) }
     {
-        let mut ring = self.ring.lock();
-        if ring.is_full() {
-            return Err(item);
+        let pushed = self.ring.lock().try_push(item);
+        if pushed.is_ok() {
+            self.not_empty.notify_one();
         }
-        ring.push(item);
-        drop(ring);
-        self.not_empty.notify_one();
-        Ok(())
+        pushed
     }
 
     /// Pops the oldest item, blocking while the queue is empty.
@@ -70,14 +67,11 @@ impl<C: RawCondvar, T> Queue<C, T> {
 
     /// Pops the oldest item, or returns `None` if the queue is empty.
     pub fn try_pop(&self) -> Option<T> {
-        let mut ring = self.ring.lock();
-        if ring.is_empty() {
-            return None;
+        let popped = self.ring.lock().try_pop();
+        if popped.is_some() {
+            self.not_full.notify_one();
         }
-        let item = ring.pop();
-        drop(ring);
-        self.not_full.notify_one();
-        Some(item)
+        popped
     }
 }
 
@@ -97,12 +91,16 @@ where
         let waited = self
             .not_full
             .wait_while_for(&mut ring, |ring| ring.is_full(), timeout);
-        if waited.timed_out() {
-            return Err(item);
-        }
-        ring.push(item);
+        let pushed = if waited.timed_out() {
+            Err(item)
+        } else {
+            ring.push(item);
+            Ok(())
+        };
         drop(ring);
-        self.not_empty.notify_one();
-        Ok(())
+        if pushed.is_ok() {
+            self.not_empty.notify_one();
+        }
+        pushed
     }
 }

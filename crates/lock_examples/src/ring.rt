@@ -1,5 +1,5 @@
 //! The items of a queue, without a lock.
-ghost use Rattle.std.specs.Prelude.{◌≡◌, ◌==◌, [], ◌∷◌, ◌++◌, false, length, IfOk};
+ghost use Rattle.std.specs.Prelude.{◌≡◌, ◌==◌, [], ◌∷◌, ◌++◌, false, length, IfErr, IfNone, IfOk, IfSome};
 ghost use Rattle.lock_examples.specs.Line.{Line, is_full, is_empty};
 
 use std::alloc::{AllocError, Global};
@@ -46,11 +46,31 @@ impl<T> Ring<T> {
         self.items.push_back_reserved(item);
     }
 
+    /// Pushes an item, or returns it if the ring is full.
+    pub fn try_push(&mut self, item: T) -> Result<(), T>
+        ensures pushed { IfOk result (λ _. self.new ≡ record self.old { items = self.old.items ++ item ∷ [] }) }
+        ensures back { IfErr result (λ back. (back ≡ item) × (self.new ≡ self.old)) }
+    {
+        if self.is_full() {
+            return Err(item);
+        }
+        self.push(item);
+        Ok(())
+    }
+
     pub fn pop(&mut self) -> T
         requires { is_empty self.old ≡ false }
         ensures items { self.old.items ≡ result ∷ self.new.items }
         ensures places { self.new.places ≡ self.old.places }
     {
         self.items.pop_front().unwrap()
+    }
+
+    /// Pops the oldest item, or returns `None` if the ring is empty.
+    pub fn try_pop(&mut self) -> Option<T>
+        ensures some { IfSome result (λ item. (self.old.items ≡ item ∷ self.new.items) × (self.new.places ≡ self.old.places)) }
+        ensures none { IfNone result ((self.old.items ≡ []) × (self.new ≡ self.old)) }
+    {
+        self.items.pop_front()
     }
 }

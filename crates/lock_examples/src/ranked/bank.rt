@@ -45,15 +45,14 @@ pub fn transfer<R: RawMutex, B: Rank>(
         return true;
     }
     let (mut source, mut target, _above) = accounts.lock_two(order, from, to);
-    let Some(left) = source.checked_sub(amount) else {
-        return false;
-    };
-    let Some(sum) = target.checked_add(amount) else {
-        return false;
-    };
-    *source = left;
-    *target = sum;
-    true
+    match (source.checked_sub(amount), target.checked_add(amount)) {
+        (Some(left), Some(sum)) => {
+            *source = left;
+            *target = sum;
+            true
+        }
+        _ => false,
+    }
 }
 
 /// Moves one unit between two accounts and back, `times` times. `lock_two` acquires both accounts in the order of their places,

@@ -57,13 +57,13 @@ impl<R: RawRwLockUpgrade> Limits<R> {
         requires { B.rank < LIMIT }
     {
         let (reader, mut above) = self.limit.upgradable_read(order);
-        if *reader >= least {
-            return false;
+        let is_lower = *reader < least;
+        if is_lower {
+            let mut writer = RankedRwLockUpgradableReadGuard::upgrade(reader, &mut above);
+            *writer = least;
+            let (mut changes, _above) = self.changes.write(&mut above);
+            *changes = changes.wrapping_add(1);
         }
-        let mut writer = RankedRwLockUpgradableReadGuard::upgrade(reader, &mut above);
-        *writer = least;
-        let (mut changes, _above) = self.changes.write(&mut above);
-        *changes = changes.wrapping_add(1);
-        true
+        is_lower
     }
 }
