@@ -28,9 +28,14 @@ impl ScriptCall {
         }
     }
 
+    /// Returns whether the `Desk` makes the call and answers nothing but that.
+    pub fn is_done(self) -> bool {
+        matches!(self.wanted, Reply::Done)
+    }
+
     /// Returns whether the call sets the bar.
     pub fn sets_bar(self) -> bool {
-        self.wanted == Reply::Done && matches!(self.call, Call::Announce(_))
+        self.is_done() && matches!(self.call, Call::Announce(_))
     }
 
     /// Returns the call as it is made on a lock: one that would block is made as a try.
@@ -59,7 +64,7 @@ impl ScriptCall {
 
     /// Returns the reply as the `Desk` gives it: a refused try of a call that would block is that refusal.
     pub fn told(self, reply: Reply<i64>) -> Reply<i64> {
-        if self.would_wait() && reply == Reply::NoGuard {
+        if self.would_wait() && matches!(reply, Reply::NoGuard) {
             Reply::Refused(Fault::WouldWait)
         } else {
             reply
@@ -68,6 +73,6 @@ impl ScriptCall {
 
     /// Returns whether the `Desk` says that the call would block.
     fn would_wait(self) -> bool {
-        self.wanted == Reply::Refused(Fault::WouldWait)
+        matches!(self.wanted, Reply::Refused(Fault::WouldWait))
     }
 }

@@ -123,10 +123,10 @@ fn parked_until(comparison: &Comparison) -> Option<ParkedUntil>
     for end in comparison.done()..lines.len() {
         let line = lines.line(end);
         match line.call {
-            Call::Resume(_, resumed) if resumed == number && line.wanted == Reply::Done => {
+            Call::Resume(_, resumed) if resumed == number && line.is_done() => {
                 return Some(ParkedUntil { number, way, end });
             }
-            Call::Abandon(_, ended) if ended == number && line.wanted == Reply::Done => {
+            Call::Abandon(_, ended) if ended == number && line.is_done() => {
                 return None;
             }
             _ => {}
@@ -256,16 +256,12 @@ fn resume<D: Driven>(
     let GuardState::Parked(want) = guards.take(number) else {
         return Ok(Reply::Refused(Fault::UnknownGuard));
     };
-    match acquire(driven, want, form, party)? {
-        Some(guard) => {
-            guards.put(number, GuardState::Held(want, guard));
-            Ok(Reply::Done)
-        }
-        None => {
-            guards.put(number, GuardState::Parked(want));
-            Ok(Reply::NoGuard)
-        }
-    }
+    let (state, reply) = match acquire(driven, want, form, party)? {
+        Some(guard) => (GuardState::Held(want, guard), Reply::Done),
+        None => (GuardState::Parked(want), Reply::NoGuard),
+    };
+    guards.put(number, state);
+    Ok(reply)
 }
 
 /// Makes a call on a held guard. A guard that is parked is released.
@@ -290,7 +286,9 @@ fn make_on_guard<D: Driven>(
     };
     let (guard, reply) = call_guard::<D>(guard, call);
     let state = match guard {
-        Some(guard) if reply == Reply::Done => GuardState::Held(want_after(call, want), guard),
+        Some(guard) if matches!(reply, Reply::Done) => {
+            GuardState::Held(want_after(call, want), guard)
+        }
         Some(guard) => GuardState::Held(want, guard),
         None => released,
     };
