@@ -11,7 +11,7 @@ pub struct ScriptCall {
 }
 
 impl ScriptCall {
-    ghost use Rattle.std.specs.Prelude.{◌≡◌, IsTrue};
+    ghost use Rattle.std.specs.Prelude.{◌≡◌, ◌↔◌, IsTrue};
     ghost use Rattle.lock_conform.specs.Refusals.{IsOutright};
 
     /// Returns whether the call is made on a lock. It is not if the `Desk` refuses it, unless it would block, or if the
@@ -28,8 +28,10 @@ impl ScriptCall {
         }
     }
 
-    /// Returns whether the `Desk` makes the call and answers nothing but that.
-    pub fn is_done(self) -> bool {
+    /// Returns whether the `Desk` replies `Done`.
+    pub fn is_done(self) -> bool
+        ensures { IsTrue result ↔ (self.wanted ≡ Reply.Done) }
+    {
         matches!(self.wanted, Reply::Done)
     }
 

@@ -1,5 +1,5 @@
 //! The items of a queue, without a lock.
-ghost use Rattle.std.specs.Prelude.{◌≡◌, ◌==◌, [], ◌∷◌, ◌++◌, false, length, IfErr, IfNone, IfOk, IfSome};
+ghost use Rattle.std.specs.Prelude.{◌≡◌, ◌==◌, [], ◌∷◌, ◌++◌, false, true, length, IfErr, IfNone, IfOk, IfSome};
 ghost use Rattle.lock_examples.specs.Line.{Line, is_full, is_empty};
 
 use std::alloc::{AllocError, Global};
@@ -49,7 +49,8 @@ impl<T> Ring<T> {
     /// Pushes an item, or returns it if the ring is full.
     pub fn try_push(&mut self, item: T) -> Result<(), T>
         ensures pushed { IfOk result (λ _. self.new ≡ record self.old { items = self.old.items ++ item ∷ [] }) }
-        ensures back { IfErr result (λ back. (back ≡ item) × (self.new ≡ self.old)) }
+        ensures back { IfErr result (λ back. (back ≡ item) × (self.new ≡ self.old) × (is_full self.old ≡ true)) }
+        ensures room { IfOk result (λ _. is_full self.old ≡ false) }
     {
         if self.is_full() {
             return Err(item);

@@ -37,7 +37,8 @@ fn two_threads_share_a_fair_mutex(rt: HostRuntime) -> Result<(), Fail> {
     Ok(())
 }
 
-/// What readers see of a lock of 7 beside another reader, and after a write of 8. Then whether the lock is held.
+/// What a reader reads of a lock of 7 while another reader holds it, and what one reads after a write of 8. Then whether
+/// the lock is held.
 fn seen_around_a_write<C: LockCore>(lock: RwLock<RawLock<C>, u64>) -> ([u64; 2], bool) {
     let reader = lock.read();
     let before = lock.with_read(|value| *value);
