@@ -1,3 +1,4 @@
+// SPDX-License-Identifier: MIT OR Apache-2.0
 //! Finds liblock_c.a: the file that PROVED_LOCK_LIB names, or the one that bin/build makes.
 use std::env;
 use std::path::PathBuf;
