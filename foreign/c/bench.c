@@ -1,3 +1,4 @@
+/* SPDX-License-Identifier: MIT OR Apache-2.0 */
 /* Nanoseconds of a lock and an unlock on one thread, in turns with pthread: the least of many runs. */
 #define _GNU_SOURCE
 #include "proved_lock.h"

@@ -1,3 +1,4 @@
+/* SPDX-License-Identifier: MIT OR Apache-2.0 */
 /* The exports of liblock_c.a: the machines of a call on a lock and on a condition variable. proved_lock.c makes the steps that
  * they return. */
 #ifndef LOCK_C_H

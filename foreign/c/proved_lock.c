@@ -1,3 +1,4 @@
+/* SPDX-License-Identifier: MIT OR Apache-2.0 */
 /* Makes the steps that liblock_c.a returns. Trusted are this file, the inline first steps and the kernel. Nothing here decides
  * which step comes next. */
 #define _GNU_SOURCE

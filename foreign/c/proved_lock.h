@@ -1,3 +1,4 @@
+/* SPDX-License-Identifier: MIT OR Apache-2.0 */
 /* A mutex, a condition variable, and a reader-writer lock with upgrades, for C11 and C++ on Linux.
  *
  * The first step of an uncontended call is inline here. It is not proved: a test compares it with the library. Proved code in

@@ -1,3 +1,4 @@
+/* SPDX-License-Identifier: MIT OR Apache-2.0 */
 /* Tests of the C locks. usage: test [SECONDS]     with SECONDS, the mixed threads run that long */
 #define _GNU_SOURCE
 #include "lock_c.h"

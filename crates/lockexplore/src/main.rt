@@ -31,14 +31,14 @@ Reads a plan of lock calls from each file, or from standard input, and prints wh
   order           looks for an order of the locks instead, which holds for any number of parties
   --memory BYTES  limits the search; the default is half of the machine's memory
   --help          prints this help
-  --version       prints the day of this version
+  --version       prints the version
 
 The status is 0 without a deadlock, 3 with one or without an order, 1 for a fault, and 2 for other words. With several
 files, a fault is worse than a deadlock. Each answer is below the name of its file.
 docs/PLANS.md has the format of plans.";
 
-/// The day of the newest section of CHANGES.
-const VERSION: &str = "lockexplore 2026-11-27";
+/// The version of the file VERSION.
+const VERSION: &str = "lockexplore 0.2.0";
 
 fn main(rt: HostRuntime) -> ExitCode {
     let words = match words(&rt) {

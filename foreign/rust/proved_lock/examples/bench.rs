@@ -1,3 +1,4 @@
+// SPDX-License-Identifier: MIT OR Apache-2.0
 //! The locks in turns with `parking_lot` and std: nanoseconds of a round on one thread, and rounds a millisecond of several.
 use std::hint::black_box;
 use std::sync::Barrier;

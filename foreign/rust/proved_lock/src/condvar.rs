@@ -1,3 +1,4 @@
+// SPDX-License-Identifier: MIT OR Apache-2.0
 //! The condition variable.
 use crate::driver::{Mode, Release, Timespec, Words};
 use crate::mutex::MutexGuard;

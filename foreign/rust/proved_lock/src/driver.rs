@@ -1,3 +1,4 @@
+// SPDX-License-Identifier: MIT OR Apache-2.0
 //! Makes the steps that `liblock_c.a` returns. This file and the kernel are trusted: nothing here decides which step is next.
 use core::ffi::{c_int, c_long};
 use core::hint::spin_loop;

@@ -1,3 +1,4 @@
+// SPDX-License-Identifier: MIT OR Apache-2.0
 //! The first steps of uncontended calls, inline. The tests compare them with the archive.
 #[cfg(feature = "std")]
 use crate::driver::Timespec;

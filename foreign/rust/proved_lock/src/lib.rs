@@ -1,3 +1,4 @@
+// SPDX-License-Identifier: MIT OR Apache-2.0
 //! A mutex, a condition variable and a reader-writer lock: proved code chooses each step but the first of an uncontended call.
 //!
 //! The types are those of [`lock_api`] over the raw locks [`RawMutex`] and [`RawRwLock`], with the names of `parking_lot`. A

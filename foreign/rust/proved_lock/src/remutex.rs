@@ -1,3 +1,4 @@
+// SPDX-License-Identifier: MIT OR Apache-2.0
 //! The reentrant mutex.
 use crate::mutex::RawMutex;
 use core::num::NonZeroUsize;

@@ -1,3 +1,4 @@
+// SPDX-License-Identifier: MIT OR Apache-2.0
 //! The reader-writer lock.
 use crate::driver::{Mode, Release};
 use crate::first::Lock;

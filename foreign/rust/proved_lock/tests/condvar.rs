@@ -1,3 +1,4 @@
+// SPDX-License-Identifier: MIT OR Apache-2.0
 //! Threads that wait for each other by a condition variable.
 #![cfg(feature = "std")]
 use proved_lock as parking_lot;
