@@ -3,7 +3,7 @@
 use Rattle.std.specs.Prelude.{ℕ, ◌+◌, ◌≤◌, ◌==◌, ◌||◌, Bool, true, false, if◌then◌else◌, List, [], ◌∷◌, ◌⊎◌, length, filter, map}
 use Rattle.std.specs.List.{slice_split}
 use Rattle.lock_plan_text.specs.LineNumbers.{number_in}
-use Rattle.lock_script.specs.Lines.{lines_of}
+use Rattle.script_text.specs.Lines.{lines_of}
 use Rattle.lockexplore.specs.Arrays.{arrayed}
 use Rattle.lockexplore.specs.Parties.{indexed}
 use Rattle.lockexplore.specs.PlainLines.{IsLongFrom, NumberedLine, text_of}

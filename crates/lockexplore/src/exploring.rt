@@ -1,7 +1,7 @@
 //! From a reader's plan to a writer's answer.
 ghost use Rattle.std.specs.Prelude.{◌≡◌, ◌⊎◌, Some, IfErr, IfOk, string_bytes};
 ghost use Rattle.std.specs.Io.KnownBytes.{Keeps};
-ghost use Rattle.lock_script.specs.Replays.{ReadsScript};
+ghost use Rattle.script_text.specs.Streams.{ReadsScript};
 ghost use Rattle.lockexplore.specs.PlainTexts.{IsShort, line_number, plain_text};
 ghost use Rattle.lock_plan_text.specs.declared.parser.fault.PlanTextFault.TheVariants.{OutOfMemory};
 ghost use Rattle.lock_plan_text.specs.Drafted.{drafted};
@@ -20,7 +20,7 @@ use lock_plan_text::{
     LineNumbers, NamedPlan, PlanText, PlanTextFault, draw_picture, parse_text, write_answer,
     write_drawing, write_order,
 };
-use lock_script::{put, read_script};
+use script_text::{put, read_script};
 use std::alloc::{AllocError, Global};
 use std::io::{Read, Write};
 
