@@ -13,7 +13,7 @@ use Rattle.lock_plan_text.specs.PlanFaults.{IsPlanTextFault, of_search}
 use Rattle.lock_plan_text.specs.declared.parser.named_plan.NamedPlan.{NamedPlan}
 use Rattle.step_search.specs.declared.fault.SearchFault.{SearchFault}
 use Rattle.step_search.specs.declared.fault.SearchFault.TheVariants as search
-use Rattle.lock_plan_text.specs.LineNumbers.{number_in}
+use Rattle.lock_plan_answer.specs.LineNumbers.{number_in}
 use Rattle.lockexplore.specs.PlainTexts.{line_number, numbers_of, plain_text}
 use Rattle.lockexplore.specs.declared.arguments.AnswerForm.{AnswerForm}
 use Rattle.lockexplore.specs.declared.verdict.Verdict.{Verdict}

@@ -5,7 +5,7 @@ ghost use Rattle.script_text.specs.Streams.{ReadsScript};
 ghost use Rattle.lockexplore.specs.PlainTexts.{IsShort, line_number, plain_text};
 ghost use Rattle.lock_plan_text.specs.declared.parser.fault.PlanTextFault.TheVariants.{OutOfMemory};
 ghost use Rattle.lock_plan_text.specs.Drafted.{drafted};
-ghost use Rattle.lock_plan_text.specs.LineNumbers.{number_by};
+ghost use Rattle.lock_plan_answer.specs.LineNumbers.{number_by};
 ghost use Rattle.lock_plan_text.specs.PlanFaults.{draft_fault};
 ghost use Rattle.lockexplore.specs.PlanAnswers.{IsOrderAnswer, IsPlanAnswer, IsTextIn, is_by_order};
 ghost use Rattle.lockexplore.specs.Explorations.{AppendsPlanAnswer, ExplainsPlanFault, IsBeforePlanAnswer, IsPlanFault, IsScriptFault};
@@ -15,11 +15,9 @@ use crate::lines::LinesFault;
 use crate::plain::PlainText;
 use crate::verdict::Verdict;
 use lock_plan::{Explored, explore};
+use lock_plan_answer::{LineNumbers, draw_picture, write_answer, write_drawing, write_order};
 use lock_plan_laws::find_order;
-use lock_plan_text::{
-    LineNumbers, NamedPlan, PlanText, PlanTextFault, draw_picture, parse_text, write_answer,
-    write_drawing, write_order,
-};
+use lock_plan_text::{NamedPlan, PlanText, PlanTextFault, parse_text};
 use script_text::{put, read_script};
 use std::alloc::{AllocError, Global};
 use std::io::{Read, Write};
