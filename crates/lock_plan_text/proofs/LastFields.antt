@@ -5,8 +5,8 @@ use Rattle.std.proofs.lemmas.Bool.{false≢true}
 use Rattle.std.proofs.lemmas.List.Splits.{length-slice_split}
 use Rattle.lock_base.specs.declared.machine.kind.Kind.{Kind}
 use Rattle.lock_base.specs.declared.machine.kind.Kind.TheVariants.{Mutex, RwLock, Reentrant}
-use Rattle.lock_script.specs.Lines.{fields_of}
-use Rattle.lock_script.proofs.NumberTexts.{line-one_field}
+use Rattle.script_text.specs.Lines.{fields_of}
+use Rattle.script_text.proofs.NumberTexts.{line-one_field}
 use Rattle.lock_plan_text.specs.declared.parser.plan_line.Parties.{Parties}
 use Rattle.lock_plan_text.specs.declared.parser.plan_line.Parties.TheVariants.{One, Copies, Any}
 use Rattle.lock_plan_text.specs.declared.parser.plan_line.PlanLine.{PlanLine}

@@ -1,6 +1,5 @@
 mod AddedNames
 mod AlikeParties
-mod Appended
 mod CopyNames
 mod DraftCopies
 mod FaultPlaces
@@ -17,9 +16,7 @@ mod OneDraft
 mod OneLine
 mod Origins
 mod ParsedLines
-mod Past
 mod Positions
-mod Rows
 mod SameLines
 mod Ties
 mod Unknowns

@@ -2,7 +2,7 @@
 use Rattle.std.proofs.Common.{◌≡◌, ◌∙◌, ℕ, ◌+◌, ◌<◌, Bool, true, false, not, List, [], ◌∷◌, length, inl, inr, refl, sym, arith}
 use Rattle.std.specs.Prelude.{◌==◌}
 use Rattle.std.proofs.lemmas.Bool.Decides.{nat_tests}
-use Rattle.lock_script.specs.Lines.{lines_of}
+use Rattle.script_text.specs.Lines.{lines_of}
 use Rattle.lock_plan_text.specs.Drafts.{Adds, Draft, IsBad, IsDraftOf, IsFirstBadFrom, IsFirstBadLine, Make, is_open, no_draft, texts_of}
 
 -- the tests of the code

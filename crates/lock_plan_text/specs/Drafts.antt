@@ -29,7 +29,7 @@ use Rattle.lock_plan_text.specs.declared.parser.wait_line.WaitLine.{WaitLine}
 use Rattle.lock_plan_text.specs.declared.parser.wait_line.WaitLine.TheVariants as wait
 use Rattle.lock_plan_text.specs.OpenBlocks.{has_loop, open_after}
 use Rattle.lock_plan_text.specs.PlanLines.{Says, TextNames}
-use Rattle.lock_script.specs.Lines.{lines_of}
+use Rattle.script_text.specs.Lines.{lines_of}
 
 -- what lines make
 pub record Draft : Type 0 where

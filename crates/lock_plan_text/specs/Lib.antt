@@ -12,12 +12,4 @@ pub mod Texts
 pub mod Meanings
 pub mod CallOrigins
 pub mod FaultLines
-pub mod Marks
-pub mod Signals
-pub mod Steps
-pub mod Stops
-pub mod Answers
 pub mod Beginnings
-pub mod Lanes
-pub mod LineNumbers
-pub mod Orders

@@ -8,8 +8,8 @@ use Rattle.lock_plan.specs.declared.fault.PlanFault.TheVariants as plan
 use Rattle.lock_plan.specs.Checks.{plan_fault}
 use Rattle.lock_plan_text.specs.declared.parser.fault.PlanTextFault.{PlanTextFault}
 use Rattle.lock_plan_text.specs.declared.parser.fault.PlanTextFault.TheVariants.{BadLine, UnknownParty, NeverBegins, Call, TooLarge, TooLong, Full, OutOfMemory, InputFailed, OutputFailed}
-use Rattle.lock_script.specs.declared.fault.ReplayFault.{ReplayFault}
-use Rattle.lock_script.specs.declared.fault.ReplayFault.TheVariants as script
+use Rattle.script_text.specs.declared.fault.StreamFault.{StreamFault}
+use Rattle.script_text.specs.declared.fault.StreamFault.TheVariants as stream
 use Rattle.step_search.specs.declared.fault.SearchFault.{SearchFault}
 use Rattle.step_search.specs.declared.fault.SearchFault.TheVariants as search
 use Rattle.lock_plan_text.specs.Beginnings.{unbegun_line}
@@ -71,13 +71,12 @@ IsPlanTextFault bytes OutOfMemory = ⊤
 IsPlanTextFault bytes InputFailed = ⊥
 IsPlanTextFault bytes OutputFailed = ⊥
 
--- a fault of reading or writing a script, as one of a plan
-abbrev pub of_script : ReplayFault → PlanTextFault
-of_script (script.BadLine number) = BadLine number
-of_script script.TooLong = TooLong
-of_script script.OutOfMemory = OutOfMemory
-of_script script.InputFailed = InputFailed
-of_script script.OutputFailed = OutputFailed
+-- a fault of reading or writing, as one of a plan
+abbrev pub of_stream : StreamFault → PlanTextFault
+of_stream stream.TooLong = TooLong
+of_stream stream.OutOfMemory = OutOfMemory
+of_stream stream.InputFailed = InputFailed
+of_stream stream.OutputFailed = OutputFailed
 
 -- a fault of a search, as one of a plan
 abbrev pub of_search : SearchFault → PlanTextFault

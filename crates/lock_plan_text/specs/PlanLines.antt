@@ -26,7 +26,7 @@ use Rattle.lock_plan_text.specs.declared.parser.text_line.TextLine.{TextLine}
 use Rattle.lock_plan_text.specs.declared.parser.text_line.TextLine.TheVariants.{Plan, Try, Word, Until, Assert, Wait}
 use Rattle.lock_plan_text.specs.declared.parser.wait_line.WaitLine.{WaitLine}
 use Rattle.lock_plan_text.specs.declared.parser.wait_line.WaitLine.TheVariants as wait
-use Rattle.lock_script.specs.Lines.{fields_of}
+use Rattle.script_text.specs.Lines.{fields_of}
 
 -- a letter, a digit, `_`, `-` or `.`
 abbrev pub is_name_byte : ℕ → Bool

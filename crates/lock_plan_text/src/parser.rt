@@ -36,6 +36,5 @@ mod wait_line;
 
 pub use fault::PlanTextFault;
 pub use meaning::{calls_have_lines, texts_fit_machines, texts_have_one_meaning};
-pub(crate) use named_plan::number_of;
 pub use named_plan::{NamedPlan, parse_plan, parse_text};
 pub use plan_text::PlanText;

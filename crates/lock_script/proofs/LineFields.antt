@@ -3,11 +3,12 @@ use Rattle.std.proofs.Common.{◌≡◌, ◌==◌, ℕ, List, [], ◌∷◌, len
 use Rattle.std.specs.Prelude.{◌⊎◌}
 use Rattle.std.specs.List.{AllByRecursion}
 use Rattle.std.proofs.lemmas.List.Splits.{length-slice_split}
-use Rattle.lock_script.specs.Lines.{fields_of}
-use Rattle.lock_script.specs.Numbers.{AreTwo, IsSigned, IsUnsigned}
+use Rattle.script_text.specs.Lines.{fields_of}
+use Rattle.script_text.specs.Numbers.{IsSigned, IsUnsigned}
+use Rattle.lock_script.specs.Numbers.{AreTwo}
 use Rattle.lock_script.specs.Words.{IsCall, IsOneOf, number_words}
 use Rattle.lock_script.specs.WorldLines.{IsChange, IsWorldCall, down_words, want_words}
-use Rattle.lock_script.proofs.NumberTexts.{line-one_field}
+use Rattle.script_text.proofs.NumberTexts.{line-one_field}
 
 -- the line is one field, or falls into several
 abbrev IsOneOrMore : List ℕ → Type 0

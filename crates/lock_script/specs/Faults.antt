@@ -1,21 +1,17 @@
 -- Which faults each part of a replay can meet.
-use Rattle.std.specs.Prelude.{◌≡◌, ◌≤◌, ℕ, List, length, ⊤, Option}
-use Rattle.std.specs.Io.KnownBytes.{Consumes}
+use Rattle.std.specs.Prelude.{ℕ, List, ⊤}
 use Rattle.lock_script.specs.declared.fault.ReplayFault.{ReplayFault}
 use Rattle.lock_script.specs.declared.fault.ReplayFault.TheVariants.{BadLine, TooLong, OutOfMemory, InputFailed, OutputFailed}
+use Rattle.script_text.specs.declared.fault.StreamFault.{StreamFault}
+use Rattle.script_text.specs.declared.fault.StreamFault.TheVariants as stream
 use Rattle.lock_script.specs.Lines.{IsFirstBad}
 
--- between these two states of its input, a reader gave bytes that pass
-abbrev pub ReadsBytes : Option (List ℕ) → Option (List ℕ) → (List ℕ → Type 0) → Type 0
-ReadsBytes ahead left Passes = (bytes : List ℕ) × (Consumes ahead left bytes × Passes bytes)
-
--- a fault of reading a script, and how much was read
-abbrev pub IsReadingFault : Option (List ℕ) → Option (List ℕ) → ReplayFault → Type 0
-IsReadingFault ahead left (BadLine number) = ⊥
-IsReadingFault ahead left TooLong = ReadsBytes ahead left (λ bytes. length bytes ≡ 1048577)
-IsReadingFault ahead left OutOfMemory = ReadsBytes ahead left (λ bytes. length bytes ≤ 1048577)
-IsReadingFault ahead left InputFailed = ReadsBytes ahead left (λ bytes. length bytes ≤ 1048576)
-IsReadingFault ahead left OutputFailed = ⊥
+-- a fault of reading or writing, as one of a replay
+abbrev pub of_stream : StreamFault → ReplayFault
+of_stream stream.TooLong = TooLong
+of_stream stream.OutOfMemory = OutOfMemory
+of_stream stream.InputFailed = InputFailed
+of_stream stream.OutputFailed = OutputFailed
 
 -- a fault of parsing these lines, of which a bad line is the first bad one
 abbrev pub IsParsingFault : (List (List ℕ) → Type 0) → (List (List ℕ) → Type 0) → List (List ℕ) → ReplayFault → Type 0

@@ -3,7 +3,6 @@ pub mod Faults
 pub mod Lines
 pub mod Numbers
 pub mod Pair
-pub mod Parts
 pub mod Replays
 pub mod CallLines
 pub mod Session

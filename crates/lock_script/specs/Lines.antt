@@ -1,16 +1,8 @@
--- The lines of a script, the fields of a line, and the first bad line.
-use Rattle.std.specs.Prelude.{◌≡◌, ℕ, ◌+◌, List, [], ◌∷◌, ◌⊎◌, if◌then◌else◌, ◌==◌}
-use Rattle.std.specs.List.{AllByRecursion, slice_split, onto_first}
+-- Good lines of a script, and the first bad line.
+use Rattle.std.specs.Prelude.{◌≡◌, ℕ, ◌+◌, List, [], ◌∷◌, ◌⊎◌}
+use Rattle.std.specs.List.{AllByRecursion}
 use Rattle.std.specs.Str.{IsUtf8}
-
--- the lines of a script: each ends with a line feed, which the last may lack
-abbrev pub lines_of : List ℕ → List (List ℕ)
-lines_of [] = []
-lines_of (byte ∷ bytes) = if byte == 10 then [] ∷ lines_of bytes else onto_first byte (lines_of bytes)
-
--- the fields of a line, separated by single spaces
-abbrev pub fields_of : List ℕ → List (List ℕ)
-fields_of line = slice_split (λ byte. byte == 32) line
+use Rattle.script_text.specs.Lines.{fields_of}
 
 -- the line is UTF-8, and its fields pass
 abbrev pub IsLine : (List (List ℕ) → Type 0) → List ℕ → Type 0

@@ -1,13 +1,13 @@
 -- What a replay answers, and what its faults mean.
 use Rattle.std.specs.Prelude.{◌≡◌, ◌≤◌, ℕ, List, length, Option}
-use Rattle.std.specs.Io.{StartsWith}
-use Rattle.std.specs.Io.KnownBytes.{Appends, IsAtEnd}
+use Rattle.std.specs.Io.KnownBytes.{Appends}
+use Rattle.script_text.specs.Lines.{lines_of}
+use Rattle.script_text.specs.Streams.{AppendsFront, ReadsBytes, ReadsScript}
 use Rattle.lock_script.specs.declared.choice.Which.{Which}
 use Rattle.lock_script.specs.declared.choice.Which.TheVariants.{Table, Word, Steps}
 use Rattle.lock_script.specs.declared.fault.ReplayFault.{ReplayFault}
 use Rattle.lock_script.specs.declared.fault.ReplayFault.TheVariants.{BadLine, TooLong, OutOfMemory, InputFailed, OutputFailed}
-use Rattle.lock_script.specs.Faults.{ReadsBytes}
-use Rattle.lock_script.specs.Lines.{IsFirstBad, lines_of}
+use Rattle.lock_script.specs.Lines.{IsFirstBad}
 use Rattle.lock_script.specs.Session.{IsDeskAnswer}
 use Rattle.lock_script.specs.Words.{IsCall, IsMaker}
 use Rattle.lock_script.specs.WorldLines.{IsWorldCall, IsWorldMaker}
@@ -31,18 +31,9 @@ IsAnswer Table script text = IsDeskAnswer script text
 IsAnswer Word script text = IsDeskAnswer script text
 IsAnswer Steps script text = IsWorldAnswer script text
 
--- a reader gave a script that passes, of at most 1,048,576 bytes, and has nothing left
-abbrev pub ReadsScript : Option (List ℕ) → Option (List ℕ) → (List ℕ → Type 0) → Type 0
-ReadsScript ahead left Passes =
-    IsAtEnd left × ReadsBytes ahead left (λ script. (length script ≤ 1048576) × Passes script)
-
 -- the written bytes grow by the answer to the script
 abbrev pub AppendsAnswer : Which → List ℕ → Option (List ℕ) → Option (List ℕ) → Type 0
 AppendsAnswer which script old new = (text : List ℕ) × (IsAnswer which script text × Appends old new text)
-
--- the written bytes grow by a beginning of the text
-abbrev pub AppendsFront : Option (List ℕ) → Option (List ℕ) → List ℕ → Type 0
-AppendsFront old new text = (front : List ℕ) × (StartsWith text front × Appends old new front)
 
 -- the written bytes grow by a beginning of the answer to the script
 abbrev pub BeginsAnswer : Which → List ℕ → Option (List ℕ) → Option (List ℕ) → Type 0

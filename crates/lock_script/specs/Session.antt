@@ -11,7 +11,8 @@ use Rattle.lock_script.specs.declared.maker.Maker.{Maker}
 use Rattle.lock_script.specs.declared.pair.Pair.{Pair}
 use Rattle.lock_script.specs.declared.pair.PairOp.{PairOp}
 use Rattle.lock_script.specs.Answers.{reply_lines}
-use Rattle.lock_script.specs.Lines.{AreLines, fields_of, lines_of}
+use Rattle.script_text.specs.Lines.{fields_of, lines_of}
+use Rattle.lock_script.specs.Lines.{AreLines}
 use Rattle.lock_script.specs.Pair.{meaning}
 use Rattle.lock_script.specs.CallLines.{call_fields, maker_fields}
 use Rattle.lock_script.specs.Words.{IsCall, IsMaker}

@@ -7,7 +7,8 @@ use Rattle.lock_word.specs.declared.want.ExWant.TheVariants as want
 use Rattle.lock_word.specs.declared.step.AtomicStep.TheVariants.{Load, Exchange, Take}
 use Rattle.lock_script.specs.declared.world_call.WorldCall.{WorldCall}
 use Rattle.lock_script.specs.declared.world_maker.WorldMaker.{WorldMaker}
-use Rattle.lock_script.specs.Numbers.{AreTwo, IsUnsigned}
+use Rattle.script_text.specs.Numbers.{IsUnsigned}
+use Rattle.lock_script.specs.Numbers.{AreTwo}
 use Rattle.lock_script.specs.Words.{IsOneOf}
 
 -- the word of what an exchange acquires or sets

@@ -12,7 +12,8 @@ use Rattle.lock_script.specs.declared.answer.Answer.{Answer}
 use Rattle.lock_script.specs.declared.world_call.WorldCall.{WorldCall}
 use Rattle.lock_script.specs.declared.world_maker.WorldMaker.{WorldMaker}
 use Rattle.lock_script.specs.Answers.{answer_lines}
-use Rattle.lock_script.specs.Lines.{AreLines, fields_of, lines_of}
+use Rattle.script_text.specs.Lines.{fields_of, lines_of}
+use Rattle.lock_script.specs.Lines.{AreLines}
 use Rattle.lock_script.specs.WorldLines.{IsWorldCall, IsWorldMaker, world_call_fields, world_maker_fields}
 
 -- the answer of an outcome

@@ -5,10 +5,10 @@ ghost use Rattle.lock_script.specs.Numbers.{IsParty};
 ghost use Rattle.lock_script.specs.Words.{IsOneOf, guard_words, item_words, lone_words, number_words, party_words};
 ghost use Rattle.lock_script.specs.CallLines.{by_party, call_fields, on_guard, on_item, with_number};
 
-use crate::line::{ScriptLine, first_field};
-use crate::number::{signed, unsigned};
+use crate::line::ScriptLine;
 use crate::pair::PairOp;
 use lock_base::machine::{Call, Form, PartyId, Want, Way};
+use script_text::{first_field, signed, unsigned};
 
 impl ScriptLine for Call<PairOp> {
     ghost use Rattle.lock_script.specs.Words.{IsCall};

@@ -2,6 +2,7 @@
 ghost use Rattle.std.specs.Prelude.{◌≡◌};
 ghost use Rattle.lock_script.specs.declared.fault.ReplayFault.TheVariants.{OutOfMemory};
 
+use script_text::StreamFault;
 use std::alloc::{AllocError, AllocFailed};
 use thiserror::Error;
 
@@ -19,6 +20,21 @@ pub enum ReplayFault {
     InputFailed,
     #[error("output failed")]
     OutputFailed,
+}
+
+impl From<StreamFault> for ReplayFault {
+    ghost use Rattle.lock_script.specs.Faults.{of_stream};
+
+    ghost from_gives = { λ from fault. fault ≡ of_stream from };
+
+    fn from(fault: StreamFault) -> ReplayFault {
+        match fault {
+            StreamFault::TooLong => ReplayFault::TooLong,
+            StreamFault::OutOfMemory => ReplayFault::OutOfMemory,
+            StreamFault::InputFailed => ReplayFault::InputFailed,
+            StreamFault::OutputFailed => ReplayFault::OutputFailed,
+        }
+    }
 }
 
 impl From<AllocError> for ReplayFault {

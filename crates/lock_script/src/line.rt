@@ -1,9 +1,10 @@
-//! Lines of scripts and their fields.
-ghost use Rattle.std.specs.Prelude.{◌≡◌, ◌==◌, ◌<◌, ◌↔◌, ◌∷◌, [], ℕ, List, length, position, IfNone, IfSome, IsSome};
-ghost use Rattle.lock_script.specs.Lines.{IsLine, fields_of};
-ghost use Rattle.lock_script.specs.Parts.{bytes_of};
+//! Lines of scripts.
+ghost use Rattle.std.specs.Prelude.{◌≡◌, ◌↔◌, ℕ, List, IfSome, IsSome};
+ghost use Rattle.script_text.specs.Lines.{fields_of};
+ghost use Rattle.script_text.specs.Parts.{bytes_of};
+ghost use Rattle.lock_script.specs.Lines.{IsLine};
 
-use crate::part::Part;
+use script_text::Part;
 
 /// What a line of one kind of script says.
 pub trait ScriptLine: Sized {
@@ -25,22 +26,4 @@ pub fn read_line<L: ScriptLine>(line: Part) -> Option<L>
     ensures some { IsSome result ↔ IsLine L.makes (bytes_of line.entry) }
 {
     L::read(line.text()?)
-}
-
-/// Returns the first field and the rest after its space, or `None` if the line is one field.
-pub fn first_field(line: &str) -> Option<(&str, &str)>
-    ensures more { IfSome result (λ parts. fields_of line.now ≡ parts.0.now ∷ fields_of parts.1.now) }
-    ensures one { IfNone result (fields_of line.now ≡ line.now ∷ []) }
-{
-    let at = space(line)?;
-    Some((&line[..at], &line[at + 1..]))
-}
-
-/// Finds the first space. Not inlined, so that the search compiles to a short loop.
-#[inline(never)]
-fn space(line: &str) -> Option<usize>
-    ensures place { result ≡ position (λ b. b == 32) line.now }
-    ensures within { IfSome result (λ at. at < length line.now) }
-{
-    line.as_bytes().iter().position(|byte| *byte == b' ')
 }

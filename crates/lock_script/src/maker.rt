@@ -1,13 +1,14 @@
 //! The first line of a script of calls.
 ghost use Rattle.std.specs.Prelude.{◌≡◌, ◌↔◌, ◌∷◌, IfSome, IsSome, decimal};
-ghost use Rattle.lock_script.specs.Lines.{fields_of};
+ghost use Rattle.script_text.specs.Lines.{fields_of};
 ghost use Rattle.lock_script.specs.CallLines.{pair_fields};
-ghost use Rattle.lock_script.specs.Numbers.{AreTwo, IsSigned};
+ghost use Rattle.script_text.specs.Numbers.{IsSigned};
+ghost use Rattle.lock_script.specs.Numbers.{AreTwo};
 ghost use Rattle.lock_script.specs.Words.{AreLimitAndPair};
 
-use crate::line::{ScriptLine, first_field};
-use crate::number::{signed, unsigned};
+use crate::line::ScriptLine;
 use crate::pair::Pair;
+use script_text::{first_field, signed, unsigned};
 
 /// The lock that a script makes: its places, its limit if it has one, and its first value.
 #[derive(Clone, Copy, PartialEq, Eq, Debug)]

@@ -1,11 +1,12 @@
 //! Parsing a script.
 ghost use Rattle.std.specs.Prelude.{◌≡◌, ◌∷◌, map, IfErr, IfOk, OnOk};
 ghost use Rattle.lock_script.specs.Faults.{IsParsingFault};
-ghost use Rattle.lock_script.specs.Lines.{AreLines, fields_of, lines_of};
+ghost use Rattle.script_text.specs.Lines.{fields_of, lines_of};
+ghost use Rattle.lock_script.specs.Lines.{AreLines};
 
 use crate::fault::ReplayFault;
 use crate::line::{ScriptLine, read_line};
-use crate::part::Part;
+use script_text::Part;
 use std::alloc::Global;
 
 /// A parsed script: the first line makes a lock or a world, and each further line is a call.

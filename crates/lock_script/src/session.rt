@@ -4,7 +4,7 @@ ghost use Rattle.lock_base.specs.Limits.{IsMakerFault};
 ghost use Rattle.lock_base.specs.Steps.{replies};
 ghost use Rattle.lock_script.specs.Answers.{reply_lines};
 ghost use Rattle.lock_script.specs.Faults.{IsParsingFault};
-ghost use Rattle.lock_script.specs.Lines.{lines_of};
+ghost use Rattle.script_text.specs.Lines.{lines_of};
 ghost use Rattle.lock_script.specs.Pair.{meaning};
 ghost use Rattle.lock_script.specs.Session.{Answers, HasLimits, IsDeskAnswer, machine_of};
 ghost use Rattle.lock_script.specs.Words.{IsCall, IsMaker};

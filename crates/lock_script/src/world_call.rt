@@ -3,9 +3,9 @@ ghost use Rattle.std.specs.Prelude.{◌≡◌, ◌↔◌, ◌∷◌, [], IfSome,
 ghost use Rattle.lock_script.specs.Words.{IsOneOf};
 ghost use Rattle.lock_script.specs.WorldLines.{IsChange, down_word, down_words, party_questions, want_word, want_words, world_call_fields};
 
-use crate::line::{ScriptLine, first_field};
-use crate::number::unsigned;
+use crate::line::ScriptLine;
 use lock_word::{AtomicStep, Down, ExWant};
+use script_text::{first_field, unsigned};
 
 /// A step or a question of a script of steps.
 #[derive(Clone, Copy, PartialEq, Eq, Debug)]

@@ -1,11 +1,12 @@
 //! The first line of a script of steps.
 ghost use Rattle.std.specs.Prelude.{◌≡◌, ◌↔◌, IfSome, IsSome};
-ghost use Rattle.lock_script.specs.Lines.{fields_of};
-ghost use Rattle.lock_script.specs.Numbers.{AreTwo, IsUnsigned};
+ghost use Rattle.script_text.specs.Lines.{fields_of};
+ghost use Rattle.script_text.specs.Numbers.{IsUnsigned};
+ghost use Rattle.lock_script.specs.Numbers.{AreTwo};
 ghost use Rattle.lock_script.specs.WorldLines.{limit_fields};
 
-use crate::line::{ScriptLine, first_field};
-use crate::number::unsigned;
+use crate::line::ScriptLine;
+use script_text::{first_field, unsigned};
 
 /// The world that a script makes: its parties, and its readers' limit.
 #[derive(Clone, Copy, PartialEq, Eq, Debug)]

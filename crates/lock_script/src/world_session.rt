@@ -2,7 +2,7 @@
 ghost use Rattle.std.specs.Prelude.{◌≡◌, [], ◌++◌, IfErr, IfOk, OnOk, string_bytes};
 ghost use Rattle.lock_script.specs.Faults.{IsParsingFault};
 ghost use Rattle.lock_script.specs.Answers.{answer_lines};
-ghost use Rattle.lock_script.specs.Lines.{lines_of};
+ghost use Rattle.script_text.specs.Lines.{lines_of};
 ghost use Rattle.lock_script.specs.WorldLines.{IsWorldCall, IsWorldMaker};
 ghost use Rattle.lock_script.specs.WorldSession.{IsWorldAnswer, WorldAnswers, all_answers, step_answer, call_answer, count_answer, truth_answer, world_after_call};
 

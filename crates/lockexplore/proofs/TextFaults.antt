@@ -2,7 +2,7 @@
 use Rattle.std.proofs.Common.{◌≡◌, ℕ, ◌+◌, Bool, true, List, length, Result, Ok, Err, refl, sym, ap, ◌∙◌, string_bytes, subst}
 use Rattle.std.specs.Prelude.{IfOk, String}
 use Rattle.std.specs.Global.{Global}
-use Rattle.lock_script.specs.Lines.{lines_of}
+use Rattle.script_text.specs.Lines.{lines_of}
 use Rattle.lock_plan_text.specs.declared.parser.fault.PlanTextFault.{PlanTextFault}
 use Rattle.lock_plan_text.specs.declared.parser.fault.PlanTextFault.TheVariants.{BadLine, UnknownParty, NeverBegins, Call, TooLarge, TooLong, Full, OutOfMemory, InputFailed, OutputFailed}
 use Rattle.lock_plan.specs.Memory.{IsSearchFault}
@@ -13,7 +13,7 @@ use Rattle.lock_plan_text.specs.PlanFaults.{IsPlanTextFault, of_search}
 use Rattle.lock_plan_text.specs.declared.parser.named_plan.NamedPlan.{NamedPlan}
 use Rattle.step_search.specs.declared.fault.SearchFault.{SearchFault}
 use Rattle.step_search.specs.declared.fault.SearchFault.TheVariants as search
-use Rattle.lock_plan_text.specs.LineNumbers.{number_in}
+use Rattle.lock_plan_answer.specs.LineNumbers.{number_in}
 use Rattle.lockexplore.specs.PlainTexts.{line_number, numbers_of, plain_text}
 use Rattle.lockexplore.specs.declared.arguments.AnswerForm.{AnswerForm}
 use Rattle.lockexplore.specs.declared.verdict.Verdict.{Verdict}

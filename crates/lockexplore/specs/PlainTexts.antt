@@ -2,8 +2,8 @@
 -- short for several are expanded.
 use Rattle.std.specs.Prelude.{ℕ, ◌+◌, ◌≤◌, ◌==◌, ◌||◌, Bool, true, false, if◌then◌else◌, List, [], ◌∷◌, ◌⊎◌, length, filter, map}
 use Rattle.std.specs.List.{slice_split}
-use Rattle.lock_plan_text.specs.LineNumbers.{number_in}
-use Rattle.lock_script.specs.Lines.{lines_of}
+use Rattle.lock_plan_answer.specs.LineNumbers.{number_in}
+use Rattle.script_text.specs.Lines.{lines_of}
 use Rattle.lockexplore.specs.Arrays.{arrayed}
 use Rattle.lockexplore.specs.Parties.{indexed}
 use Rattle.lockexplore.specs.PlainLines.{IsLongFrom, NumberedLine, text_of}

@@ -10,13 +10,13 @@ use Rattle.lock_plan_laws.specs.LockOrders.{IsLockOrder}
 use Rattle.lock_plan.specs.Copies.{IsCountUpTo}
 use Rattle.lock_plan.specs.Stops.{programs_of}
 use Rattle.lock_plan.specs.Worlds as plans
-use Rattle.lock_plan_text.specs.Answers.{answer_text}
-use Rattle.lock_plan_text.specs.Lanes.{drawing_text}
+use Rattle.lock_plan_answer.specs.Answers.{answer_text}
+use Rattle.lock_plan_answer.specs.Lanes.{drawing_text}
 use Rattle.lock_plan_text.specs.declared.parser.named_plan.NamedPlan.{NamedPlan}
 use Rattle.lock_plan_text.specs.declared.parser.plan_text.PlanText.{PlanText}
 use Rattle.lock_plan_text.specs.Drafted.{IsPlanOf, drafted}
 use Rattle.lock_plan_text.specs.Drafts.{IsDraftOf}
-use Rattle.lock_plan_text.specs.Orders.{order_text}
+use Rattle.lock_plan_answer.specs.Orders.{order_text}
 use Rattle.lock_plan_text.specs.Texts.{is_any_number}
 use Rattle.lockexplore.specs.declared.arguments.AnswerForm.{AnswerForm}
 use Rattle.lockexplore.specs.declared.arguments.AnswerForm.TheVariants.{Answer, Lanes, Svg, Order}

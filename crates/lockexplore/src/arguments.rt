@@ -3,7 +3,7 @@ ghost use Rattle.std.specs.Prelude.{◌≡◌, ◌≢◌, ◌∷◌, [], ◌<◌
 ghost use Rattle.lockexplore.specs.declared.arguments.Request.TheVariants.{Explore};
 ghost use Rattle.lockexplore.specs.Requests.{are_files, is_form_word, is_option, memory_options, options_of};
 
-use lock_script::unsigned;
+use script_text::unsigned;
 
 /// What an answer is written as.
 #[derive(Clone, Copy, PartialEq, Eq, Debug)]

@@ -1,11 +1,11 @@
 //! From a reader's plan to a writer's answer.
 ghost use Rattle.std.specs.Prelude.{◌≡◌, ◌⊎◌, Some, IfErr, IfOk, string_bytes};
 ghost use Rattle.std.specs.Io.KnownBytes.{Keeps};
-ghost use Rattle.lock_script.specs.Replays.{ReadsScript};
+ghost use Rattle.script_text.specs.Streams.{ReadsScript};
 ghost use Rattle.lockexplore.specs.PlainTexts.{IsShort, line_number, plain_text};
 ghost use Rattle.lock_plan_text.specs.declared.parser.fault.PlanTextFault.TheVariants.{OutOfMemory};
 ghost use Rattle.lock_plan_text.specs.Drafted.{drafted};
-ghost use Rattle.lock_plan_text.specs.LineNumbers.{number_by};
+ghost use Rattle.lock_plan_answer.specs.LineNumbers.{number_by};
 ghost use Rattle.lock_plan_text.specs.PlanFaults.{draft_fault};
 ghost use Rattle.lockexplore.specs.PlanAnswers.{IsOrderAnswer, IsPlanAnswer, IsTextIn, is_by_order};
 ghost use Rattle.lockexplore.specs.Explorations.{AppendsPlanAnswer, ExplainsPlanFault, IsBeforePlanAnswer, IsPlanFault, IsScriptFault};
@@ -15,12 +15,10 @@ use crate::lines::LinesFault;
 use crate::plain::PlainText;
 use crate::verdict::Verdict;
 use lock_plan::{Explored, explore};
+use lock_plan_answer::{LineNumbers, draw_picture, write_answer, write_drawing, write_order};
 use lock_plan_laws::find_order;
-use lock_plan_text::{
-    LineNumbers, NamedPlan, PlanText, PlanTextFault, draw_picture, parse_text, write_answer,
-    write_drawing, write_order,
-};
-use lock_script::{put, read_script};
+use lock_plan_text::{NamedPlan, PlanText, PlanTextFault, parse_text};
+use script_text::{put, read_script};
 use std::alloc::{AllocError, Global};
 use std::io::{Read, Write};
 

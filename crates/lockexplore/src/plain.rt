@@ -7,12 +7,13 @@ ghost use Rattle.lockexplore.specs.Words.{joined};
 ghost use Rattle.lockexplore.specs.Befores.{IsPushed};
 ghost use Rattle.lockexplore.specs.Explorations.{renumbered};
 ghost use Rattle.lockexplore.specs.declared.lines.made.LinesFault.TheVariants.{TooLong};
-ghost use Rattle.lock_plan_text.specs.LineNumbers.{number_by};
-ghost use Rattle.lock_script.specs.Lines.{lines_of};
+ghost use Rattle.lock_plan_answer.specs.LineNumbers.{number_by};
+ghost use Rattle.script_text.specs.Lines.{lines_of};
 
 use crate::lines::{LinesFault, MadeLine, arrayed, indexed, unrolled};
-use lock_plan_text::{LineNumbers, PlanTextFault};
-use lock_script::Part;
+use lock_plan_answer::LineNumbers;
+use lock_plan_text::PlanTextFault;
+use script_text::Part;
 use std::alloc::{AllocError, Global};
 
 /// The plain text of a plan, and where its lines come from.

@@ -5,7 +5,8 @@ ghost use Rattle.lock_script.specs.Faults.{IsBeforeWriting};
 
 use super::choice::Choice;
 use super::script_answer::ScriptAnswer;
-use lock_script::{ReplayFault, put, read_script};
+use lock_script::ReplayFault;
+use script_text::{put, read_script};
 use std::alloc::Global;
 use std::clone::Clone;
 use std::io::{Read, Write};

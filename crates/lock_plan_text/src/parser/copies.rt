@@ -1,7 +1,7 @@
 //! Copies of a party.
 ghost use Rattle.std.specs.Prelude.{◌≡◌, ◌↔◌, ◌∷◌, [], ℕ, IfNone, IfOk, IfSome, IsSome, decimal, string_bytes};
 ghost use Rattle.lock_plan_text.specs.declared.parser.plan_line.Parties.{Parties};
-ghost use Rattle.lock_script.specs.Lines.{fields_of};
+ghost use Rattle.script_text.specs.Lines.{fields_of};
 ghost use Rattle.lock_plan_text.specs.PlanLines.{IsCopies, IsCount, IsCountField, copy_fields};
 ghost use Rattle.lock_plan_text.specs.Copies.{copies_in, is_copy};
 ghost use Rattle.lock_plan_text.specs.Drafted.{drafted};
@@ -10,7 +10,7 @@ ghost use Rattle.lock_plan_text.specs.Drafts.{any_name, copy_name};
 use crate::parser::draft::PlanDraft;
 use crate::parser::plan_line::Parties;
 use itoa::Buffer;
-use lock_script::{first_field, unsigned};
+use script_text::{first_field, unsigned};
 use std::alloc::{AllocError, Global};
 
 /// Reads how many parties a line makes from the field after the name: a count, or `*` for any number.

@@ -1,6 +1,6 @@
 //! Why a text makes no plan.
 use lock_plan::CallFault;
-use lock_script::ReplayFault;
+use script_text::StreamFault;
 use std::alloc::{AllocError, AllocFailed};
 use step_search::SearchFault;
 use thiserror::Error;
@@ -35,19 +35,18 @@ pub enum PlanTextFault {
     OutputFailed,
 }
 
-impl From<ReplayFault> for PlanTextFault {
+impl From<StreamFault> for PlanTextFault {
     ghost use Rattle.std.specs.Prelude.{◌≡◌};
-    ghost use Rattle.lock_plan_text.specs.PlanFaults.{of_script};
+    ghost use Rattle.lock_plan_text.specs.PlanFaults.{of_stream};
 
-    ghost from_gives = { λ from fault. fault ≡ of_script from };
+    ghost from_gives = { λ from fault. fault ≡ of_stream from };
 
-    fn from(fault: ReplayFault) -> PlanTextFault {
+    fn from(fault: StreamFault) -> PlanTextFault {
         match fault {
-            ReplayFault::BadLine(number) => PlanTextFault::BadLine(number),
-            ReplayFault::TooLong => PlanTextFault::TooLong,
-            ReplayFault::OutOfMemory => PlanTextFault::OutOfMemory,
-            ReplayFault::InputFailed => PlanTextFault::InputFailed,
-            ReplayFault::OutputFailed => PlanTextFault::OutputFailed,
+            StreamFault::TooLong => PlanTextFault::TooLong,
+            StreamFault::OutOfMemory => PlanTextFault::OutOfMemory,
+            StreamFault::InputFailed => PlanTextFault::InputFailed,
+            StreamFault::OutputFailed => PlanTextFault::OutputFailed,
         }
     }
 }

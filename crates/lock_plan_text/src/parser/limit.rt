@@ -2,12 +2,12 @@
 ghost use Rattle.std.specs.Prelude.{◌≡◌, ◌↔◌, ◌∷◌, [], ℕ, Bool, true, false, ◌&&◌, codes, IfNone, IfSome, IsSome, decimal};
 ghost use Rattle.lock_base.specs.declared.machine.kind.Kind.TheVariants.{Mutex, RwLock, Reentrant};
 ghost use Rattle.lock_base.specs.Limits.{IsLimit};
-ghost use Rattle.lock_script.specs.Lines.{fields_of};
+ghost use Rattle.script_text.specs.Lines.{fields_of};
 ghost use Rattle.lock_plan_text.specs.PlanLines.{IsLimitField, limit_fields};
 
 use lock_base::machine::Kind;
 use lock_plan::PlanLock;
-use lock_script::{first_field, unsigned};
+use script_text::{first_field, unsigned};
 
 /// Reads a fair mutex from the field after its name.
 pub(crate) fn fair_mutex(last: &str) -> Option<PlanLock>

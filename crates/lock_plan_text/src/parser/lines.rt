@@ -1,7 +1,7 @@
 //! Parsing the lines of a plan.
 ghost use Rattle.std.specs.Prelude.{◌≡◌, IfErr, IfOk, OnOk};
 ghost use Rattle.std.specs.Bool.{MatchBool};
-ghost use Rattle.lock_script.specs.Parts.{bytes_of};
+ghost use Rattle.script_text.specs.Parts.{bytes_of};
 ghost use Rattle.lock_plan_text.specs.Drafts.{Adds, IsBad, IsDraftOf, no_draft};
 ghost use Rattle.lock_plan_text.specs.Drafted.{drafted};
 ghost use Rattle.lock_plan_text.specs.PlanFaults.{IsLineFault};
@@ -9,7 +9,7 @@ ghost use Rattle.lock_plan_text.specs.PlanFaults.{IsLineFault};
 use crate::parser::draft::PlanDraft;
 use crate::parser::fault::PlanTextFault;
 use crate::parser::reading::read_line;
-use lock_script::Part;
+use script_text::Part;
 use std::alloc::{AllocError, Global};
 
 /// Parses the lines of a plan into a draft.

@@ -1,10 +1,10 @@
 //! Reading the flag of a line, which is to have a value.
 ghost use Rattle.std.specs.Prelude.{◌≡◌, ◌↔◌, ◌∷◌, ◌++◌, ℕ, Bool, List, IsTrue, IfNone, IfSome, codes};
-ghost use Rattle.lock_script.specs.Lines.{fields_of};
+ghost use Rattle.script_text.specs.Lines.{fields_of};
 ghost use Rattle.lock_plan_text.specs.PlanLines.{is_name, look_fields, timeout_fields};
 
 use crate::parser::name::is_name;
-use lock_script::first_field;
+use script_text::first_field;
 
 /// Reads a flag and its value: `FLAG` or `not FLAG`.
 pub(crate) fn read_look(fields: &str) -> Option<(bool, &str)>

@@ -7,8 +7,10 @@ ghost use Rattle.lock_plan_text.specs.Drafted.{drafted};
 ghost use Rattle.lock_plan_text.specs.PartyLines.{programs_in};
 ghost use Rattle.lock_plan_text.specs.PlanFaults.{unknown_line};
 
+use crate::names::Names;
 use crate::parser::draft::PlanDraft;
 use crate::parser::fault::PlanTextFault;
+use crate::parser::named_plan::number_of;
 use lock_plan::{PlanFault, PlanLock, ProgramPlace};
 use std::alloc::Global;
 
@@ -24,10 +26,18 @@ pub struct PlanText {
 }
 
 impl PlanText {
-    ghost use Rattle.std.specs.Prelude.{◌≡◌, ◌⊎◌};
+    ghost use Rattle.std.specs.Prelude.{◌≡◌, ◌⊎◌, IfErr, IfOk};
     ghost use Rattle.lock_plan_text.specs.declared.parser.fault.PlanTextFault.TheVariants.{OutOfMemory};
     ghost use Rattle.lock_plan_text.specs.Drafted.{drafted};
+    ghost use Rattle.lock_plan_text.specs.PartyLines.{number_of};
     ghost use Rattle.lock_plan_text.specs.PlanFaults.{by_line};
+
+    /// Returns the names.
+    pub fn names(&self) -> &Names
+        ensures { result.now ≡ self.now.draft.names }
+    {
+        &self.draft.names
+    }
 
     /// Returns the locks.
     pub fn locks(&self) -> &[PlanLock]
@@ -41,6 +51,14 @@ impl PlanText {
         ensures { result.now ≡ self.now.programs.items }
     {
         self.programs.as_slice()
+    }
+
+    /// Returns the number of the line of a party's place.
+    pub fn number_of(&self, alloc: Global, party: usize, place: usize) -> Result<u64, PlanTextFault>
+        ensures number { IfOk result (λ number. number ≡ number_of (drafted self.now.draft) party place) }
+        ensures fault { IfErr result (λ fault. fault ≡ OutOfMemory) }
+    {
+        number_of(alloc, &self.draft, party, place)
     }
 
     /// Returns a fault of the plan, with the line of the text in place of the party and its place.

@@ -1,7 +1,7 @@
 //! Reading a line of a plan.
 ghost use Rattle.std.specs.Prelude.{◌≡◌, ◌∷◌, ℕ, Bool, IsTrue, List, [], IfNone, IfSome};
-ghost use Rattle.lock_script.specs.Lines.{fields_of};
-ghost use Rattle.lock_script.specs.Parts.{bytes_of};
+ghost use Rattle.script_text.specs.Lines.{fields_of};
+ghost use Rattle.script_text.specs.Parts.{bytes_of};
 ghost use Rattle.lock_plan_text.specs.PlanLines.{IsPlanLine, IsVerb, Says, TextNames, is_name, is_tried, last_fields, line_word, names_of, party_word, plan_fields};
 ghost use Rattle.lock_plan_text.specs.Words.{step_word};
 
@@ -18,7 +18,7 @@ use crate::parser::verb::verb;
 use crate::parser::wait::read_wait;
 use lock_base::machine::{Kind, LockStep, Mode, ModeStep};
 use lock_plan::PlanLock;
-use lock_script::{Part, first_field};
+use script_text::{Part, first_field};
 
 /// Reads a line and its names, or returns `None` for a bad one.
 pub(crate) fn read_line(text: Part) -> Option<(TextLine, LineNames)>

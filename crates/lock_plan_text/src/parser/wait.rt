@@ -1,13 +1,13 @@
 //! Reading a wait on a condition variable.
 ghost use Rattle.std.specs.Prelude.{◌≡◌, ◌∷◌, ℕ, List, IfNone, IfSome};
-ghost use Rattle.lock_script.specs.Lines.{fields_of};
+ghost use Rattle.script_text.specs.Lines.{fields_of};
 ghost use Rattle.lock_plan_text.specs.PlanLines.{AreMutexAndFlag, AreWaitNames, IsFlagField, TextNames, has_flag, names_of, until_fields, wait_fields};
 
 use crate::parser::line_names::LineNames;
 use crate::parser::look::{is_timeout, read_timed_until, read_until};
 use crate::parser::name::is_name;
 use crate::parser::wait_line::WaitLine;
-use lock_script::first_field;
+use script_text::first_field;
 
 /// Reads a wait and its names, by the fields after the first.
 pub(crate) fn read_wait(rest: &str) -> Option<(WaitLine, LineNames)>

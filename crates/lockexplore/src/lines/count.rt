@@ -2,7 +2,7 @@
 ghost use Rattle.std.specs.Prelude.{◌≡◌, ◌≤◌, ◌<◌, IfSome};
 ghost use Rattle.lockexplore.specs.Counts.{count_of};
 
-use lock_script::unsigned;
+use script_text::unsigned;
 
 /// Reads a number from 1 to 64.
 pub(crate) fn count(word: &[u8]) -> Option<u64>

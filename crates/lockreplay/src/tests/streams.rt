@@ -1,5 +1,6 @@
 //! Readers, writers and memory that fail.
-use lock_script::{ReplayFault, SCRIPT_LIMIT, Which, replay};
+use lock_script::{ReplayFault, Which, replay};
+use script_text::SCRIPT_LIMIT;
 use std::alloc::Global;
 use std::env::FillError;
 use std::io::{self, ErrorKind, Read, Write};

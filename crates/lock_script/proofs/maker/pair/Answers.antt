@@ -1,7 +1,7 @@
 use Rattle.std.proofs.Common.{rules, refl}
-use Rattle.lock_script.specs.Numbers.{IsSigned}
+use Rattle.script_text.specs.Numbers.{IsSigned}
 use Rattle.lock_script.proofs.LineFields.{fields_of_two}
-use Rattle.lock_script.proofs.NumberTexts.{fields_of-signed}
+use Rattle.script_text.proofs.NumberTexts.{fields_of-signed}
 use Rattle.lock_script.proofs.maker.pair.Goals as goal
 
 pub returns-in_err-second-clause-some : goal.returns-in_err-second-clause-some

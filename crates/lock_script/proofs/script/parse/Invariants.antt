@@ -2,8 +2,9 @@
 -- the rest make a good script, and a bad line of the rest is the first of all.
 use Rattle.std.proofs.Common.{◌≡◌, ℕ, ◌+◌, ◌∷◌, ◌++◌, length, map, vec_len}
 use Rattle.std.specs.List.{AllByRecursion}
-use Rattle.lock_script.specs.Lines.{AreLines, IsFirstBad, IsFirstOther, IsLine, fields_of, lines_of}
-use Rattle.lock_script.specs.Parts.{bytes_of}
+use Rattle.script_text.specs.Lines.{fields_of, lines_of}
+use Rattle.lock_script.specs.Lines.{AreLines, IsFirstBad, IsFirstOther, IsLine}
+use Rattle.script_text.specs.Parts.{bytes_of}
 use Rattle.lock_script.proofs.script.parse.Given as goal
 
 abbrev pub invariant-loop-rest : goal.invariant-loop-rest

@@ -1,7 +1,7 @@
 use Rattle.std.proofs.Common.{rules, refl}
-use Rattle.lock_script.specs.Numbers.{IsUnsigned}
+use Rattle.script_text.specs.Numbers.{IsUnsigned}
 use Rattle.lock_script.proofs.LineFields.{fields_of_two}
-use Rattle.lock_script.proofs.NumberTexts.{fields_of-unsigned}
+use Rattle.script_text.proofs.NumberTexts.{fields_of-unsigned}
 use Rattle.lock_script.proofs.world_maker.limits.Goals as goal
 
 pub returns-in_err-readers-clause-some : goal.returns-in_err-readers-clause-some

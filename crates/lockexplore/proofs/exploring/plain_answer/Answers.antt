@@ -4,7 +4,7 @@ use Rattle.std.proofs.lemmas.Result.{err_from_is_err_and}
 use Rattle.lock_plan.specs.Stops.{programs_of}
 use Rattle.lock_plan_text.specs.declared.parser.fault.PlanTextFault.TheVariants.{OutOfMemory}
 use Rattle.lock_plan_text.specs.Drafted.{drafted}
-use Rattle.lock_plan_text.specs.LineNumbers.{number_by}
+use Rattle.lock_plan_answer.specs.LineNumbers.{number_by}
 use Rattle.lock_plan_text.specs.PlanFaults.{draft_fault}
 use Rattle.lock_plan_text.proofs.DraftFaults.{draft_told, if_err}
 use Rattle.lockexplore.proofs.Founds.{found_of}

@@ -1,7 +1,7 @@
 -- What is made and what is left to make are all lines.
 use Rattle.std.proofs.Common.{◌≡◌, ◌+◌, ◌≤◌, ◌++◌, length, map}
-use Rattle.lock_script.specs.Lines.{lines_of}
-use Rattle.lock_script.specs.Parts.{bytes_of}
+use Rattle.script_text.specs.Lines.{lines_of}
+use Rattle.script_text.specs.Parts.{bytes_of}
 use Rattle.lockexplore.specs.PlainLines.{line_of}
 use Rattle.lockexplore.specs.PlainTexts.{numbered_from, script_lines}
 use Rattle.lockexplore.proofs.plain.script_lines.Given as goal

@@ -1,7 +1,7 @@
 use Rattle.std.proofs.Common.{◌≡◌, ◌∙◌, ◌<◌, length, sym, ap, arith}
 use Rattle.std.proofs.lemmas.Result.{err_from_is_err_and}
-use Rattle.lock_script.specs.Lines.{lines_of}
-use Rattle.lock_script.specs.Parts.{bytes_of}
+use Rattle.script_text.specs.Lines.{lines_of}
+use Rattle.script_text.specs.Parts.{bytes_of}
 use Rattle.lock_plan_text.specs.Drafted.{drafted}
 use Rattle.lock_plan_text.specs.Drafts.{is_open}
 use Rattle.lock_plan_text.proofs.ParsedLines.{all_first, all_made, closed_at_end, is_free, is_held, is_more, is_none, more_first, more_made, next_bad, open_at_end}

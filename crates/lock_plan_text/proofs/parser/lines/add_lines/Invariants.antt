@@ -1,7 +1,7 @@
 -- What the lines of the rest make of the draft, all lines make of none, and the first bad line of the rest is the first of all.
 use Rattle.std.proofs.Common.{ℕ, ◌+◌, ◌≤◌, length}
-use Rattle.lock_script.specs.Lines.{lines_of}
-use Rattle.lock_script.specs.Parts.{bytes_of}
+use Rattle.script_text.specs.Lines.{lines_of}
+use Rattle.script_text.specs.Parts.{bytes_of}
 use Rattle.lock_plan_text.specs.Drafted.{drafted}
 use Rattle.lock_plan_text.specs.Drafts.{Draft, IsDraftOf, IsFirstBadFrom, IsFirstBadLine, Make}
 use Rattle.lock_plan_text.proofs.parser.lines.add_lines.Given as goal

@@ -1,8 +1,8 @@
 use Rattle.std.proofs.Common.{◌≡◌, ◌∙◌, ℕ, List, [], ◌∷◌, codes, sym, ap}
 use Rattle.std.specs.Prelude.{bytes_eq}
 use Rattle.std.proofs.lemmas.Slice.Eq.{bytes_eq-Decides}
-use Rattle.lock_script.specs.Lines.{fields_of}
-use Rattle.lock_script.proofs.NumberTexts.{line-one_field}
+use Rattle.script_text.specs.Lines.{fields_of}
+use Rattle.script_text.proofs.NumberTexts.{line-one_field}
 use Rattle.lock_plan_text.specs.PlanLines.{timeout_fields}
 use Rattle.lock_plan_text.proofs.parser.look.is_timeout.Goals as goal
 

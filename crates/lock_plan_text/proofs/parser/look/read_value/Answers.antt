@@ -1,5 +1,5 @@
 use Rattle.std.proofs.Common.{◌≡◌, ◌∙◌, ℕ, Bool, true, false, List, [], ◌∷◌, codes, sym, ap}
-use Rattle.lock_script.specs.Lines.{fields_of}
+use Rattle.script_text.specs.Lines.{fields_of}
 use Rattle.lock_plan_text.specs.PlanLines.{look_fields}
 use Rattle.lock_plan_text.proofs.LastFields.{has_field}
 use Rattle.lock_plan_text.proofs.parser.look.read_value.Goals as goal

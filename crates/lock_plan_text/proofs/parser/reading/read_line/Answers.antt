@@ -1,6 +1,6 @@
 use Rattle.std.proofs.Common.{◌≡◌, ◌∙◌, ℕ, Bool, List, [], ◌∷◌, codes, refl, sym, ap}
 use Rattle.std.specs.Prelude.{IsTrue}
-use Rattle.lock_script.specs.Lines.{fields_of}
+use Rattle.script_text.specs.Lines.{fields_of}
 use Rattle.lock_plan_text.specs.declared.parser.plan_line.PlanLine.{PlanLine}
 use Rattle.lock_plan_text.specs.declared.parser.text_line.TextLine.{TextLine}
 use Rattle.lock_plan_text.specs.declared.parser.text_line.TextLine.TheVariants.{Plan, Try, Word, Until, Assert, Wait}

@@ -1,5 +1,5 @@
 use Rattle.std.proofs.Common.{◌≡◌, ◌∷◌, [], ◌∙◌}
-use Rattle.lock_script.specs.Lines.{fields_of}
+use Rattle.script_text.specs.Lines.{fields_of}
 use Rattle.lock_plan_text.proofs.LastFields.{has_field}
 use Rattle.lock_plan_text.proofs.parser.reading.read_try.Goals as goal
 

@@ -1,6 +1,6 @@
 use Rattle.std.proofs.Common.{◌≡◌, ℕ, Bool, List, ◌∷◌, ◌++◌, codes, rules}
 use Rattle.std.specs.Prelude.{IsTrue}
-use Rattle.lock_script.specs.Lines.{fields_of}
+use Rattle.script_text.specs.Lines.{fields_of}
 use Rattle.lock_plan_text.specs.declared.parser.wait_line.WaitLine.{WaitLine}
 use Rattle.lock_plan_text.specs.declared.parser.wait_line.WaitLine.TheVariants.{Once, Until, OrTimeout, UntilOrTimeout}
 use Rattle.lock_plan_text.specs.PlanLines.{IsFlagField, has_flag, is_name, look_fields, timeout_fields, until_fields}

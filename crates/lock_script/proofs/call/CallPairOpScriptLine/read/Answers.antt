@@ -1,6 +1,6 @@
 use Rattle.std.proofs.Common.{rules, refl}
 use Rattle.lock_script.proofs.LineFields.{number_of_call}
-use Rattle.lock_script.proofs.NumberTexts.{fields_of-signed}
+use Rattle.script_text.proofs.NumberTexts.{fields_of-signed}
 use Rattle.lock_script.proofs.call.CallPairOpScriptLine.read.Goals as goal
 
 pub returns-in_err-signed-clause-some : goal.returns-in_err-signed-clause-some

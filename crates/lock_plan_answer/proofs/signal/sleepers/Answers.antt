@@ -1,0 +1,15 @@
+use Rattle.std.proofs.Common.{◌≡◌, ◌∙◌, sym, ap, length, arith}
+use Rattle.lock_plan.specs.Points.{said_below}
+use Rattle.lock_plan.specs.Stops.{world_of}
+use Rattle.lock_plan.proofs.PlanNodes.{plan_parties}
+use Rattle.lock_plan_answer.specs.Signals.{sleeper_at}
+use Rattle.lock_plan_answer.proofs.signal.sleepers.Goals as goal
+
+pub returns : goal.returns
+returns c =
+    let plan = c.args.plan.now in
+    let n = c.args.node in
+    let at_end : c.loop-row.row ≡ length plan.programs.items =
+    omega (arith, c.loop-row-test.false, c.loop-row.auto.row-end, c.parties-row-end.ensures) in
+    c.loop-row.invariant
+    ∙ ap (said_below (sleeper_at (world_of plan n) c.args.cond)) (at_end ∙ sym (plan_parties plan n))

@@ -1,0 +1,9 @@
+pub mod RowNames
+pub mod Marks
+pub mod Signals
+pub mod Steps
+pub mod Stops
+pub mod Answers
+pub mod Lanes
+pub mod LineNumbers
+pub mod Orders

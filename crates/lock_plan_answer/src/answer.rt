@@ -1,0 +1,70 @@
+//! Answers as text.
+ghost use Rattle.std.specs.Prelude.{◌≡◌, ◌++◌, OnOk, decimal, string_bytes};
+ghost use Rattle.lock_plan.specs.Worlds.{first_world};
+ghost use Rattle.lock_plan.specs.Stops.{programs_of};
+ghost use Rattle.lock_plan_answer.specs.Answers.{none_text, trace_text, answer_text};
+
+use crate::step::{last_node, write_steps};
+use crate::stop::{stop_word, write_stop_lines};
+use itoa::Buffer;
+use lock_plan::{Explored, Plan, Step};
+use lock_plan_text::Names;
+use std::alloc::{AllocError, Global};
+
+/// Appends the answer to a plan: that nothing stops, or the steps into a stop and who waits there.
+pub fn write_answer(
+    alloc: Global,
+    text: &mut String,
+    plan: &Plan,
+    names: &Names,
+    explored: &Explored,
+) -> Result<(), AllocError>
+    ensures { OnOk result (string_bytes text.new ≡ string_bytes text.old
+        ++ answer_text plan.now.locks.items (programs_of plan.now) names.now explored.now.trace explored.now.visited) }
+{
+    match &explored.trace {
+        None => write_none(text, explored.visited),
+        Some(trace) => write_trace(alloc, text, plan, names, trace.as_slice()),
+    }
+}
+
+/// Appends the answer where no steps lead into a stop.
+fn write_none(text: &mut String, visited: usize) -> Result<(), AllocError>
+    ensures { OnOk result (string_bytes text.new ≡ string_bytes text.old ++ none_text visited) }
+{
+    write_number(text, "no deadlock, ", visited, " states\n")
+}
+
+/// Appends a number with words before and after it.
+fn write_number(
+    text: &mut String,
+    before: &str,
+    number: usize,
+    after: &str,
+) -> Result<(), AllocError>
+    ensures { OnOk result (string_bytes text.new
+        ≡ string_bytes text.old ++ (before.now ++ (decimal number ++ after.now))) }
+{
+    text.push_str(before)?;
+    text.push_str(Buffer::new().format(number))?;
+    text.push_str(after)
+}
+
+/// Appends the answer where a trace leads into a stop.
+fn write_trace(
+    alloc: Global,
+    text: &mut String,
+    plan: &Plan,
+    names: &Names,
+    trace: &[Step],
+) -> Result<(), AllocError>
+    ensures { OnOk result (string_bytes text.new ≡ string_bytes text.old
+        ++ trace_text plan.now.locks.items names.now (first_world plan.now.locks.items (programs_of plan.now)) trace.now) }
+{
+    let node = last_node(alloc, plan, trace)?;
+    let list = plan.stopped(alloc, node)?;
+    text.push_str(stop_word(list.as_slice()))?;
+    text.push('\n')?;
+    write_steps(alloc, text, plan, names, trace)?;
+    write_stop_lines(alloc, text, plan, names, node, list.as_slice())
+}

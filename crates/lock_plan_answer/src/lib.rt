@@ -1,0 +1,27 @@
+//! The answers to plans: the texts and the picture of what a search found, and of an order of the locks.
+//!
+//! [`write_answer`] appends what [`explore`](lock_plan::explore) found, [`write_drawing`] the drawing below it, and
+//! [`draw_picture`] makes the picture in its place. [`write_order`] appends the order of the locks, or what is in its way.
+//! `answer` is made of `step` and `stop`, with `signal` for what is no call; `lanes` is made of `cell`. All read rows by
+//! `stand`. In the specs, `Answers` is the text of an answer, `Lanes` that of a drawing, and `Orders` that of an order.
+#![tactic(auto)]
+
+mod answer;
+mod cell;
+mod lanes;
+mod line_numbers;
+mod mark;
+mod names;
+mod order;
+mod picture;
+mod signal;
+mod stand;
+mod step;
+mod stop;
+mod words;
+
+pub use answer::write_answer;
+pub use lanes::write_drawing;
+pub use line_numbers::LineNumbers;
+pub use order::write_order;
+pub use picture::draw_picture;

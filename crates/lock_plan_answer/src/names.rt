@@ -1,0 +1,38 @@
+//! Writing the names of a plan.
+ghost use Rattle.std.specs.Prelude.{◌≡◌, ◌++◌, OnOk, string_bytes};
+ghost use Rattle.lock_plan_text.specs.Names.{name_of};
+ghost use Rattle.lock_plan_answer.specs.RowNames.{is_party, row_name};
+
+use lock_plan_text::Names;
+use std::alloc::AllocError;
+
+/// Appends the name with this number.
+pub(crate) fn write_name(
+    text: &mut String,
+    names: &[String],
+    number: usize,
+) -> Result<(), AllocError>
+    ensures { OnOk result (string_bytes text.new ≡ string_bytes text.old ++ name_of names.now number) }
+{
+    match names.get(number) {
+        Some(name) => text.push_str(name.as_str()),
+        None => Ok(()),
+    }
+}
+
+/// Returns whether a row is a party. The rows after the parties are the flags.
+pub(crate) fn is_party(names: &Names, row: usize) -> bool
+    ensures { result ≡ is_party names.now row }
+{
+    row < names.parties.len()
+}
+
+/// Appends the name of a row.
+pub(crate) fn write_row_name(text: &mut String, names: &Names, row: usize) -> Result<(), AllocError>
+    ensures { OnOk result (string_bytes text.new ≡ string_bytes text.old ++ row_name names.now row) }
+{
+    if is_party(names, row) {
+        return write_name(text, names.parties.as_slice(), row);
+    }
+    write_name(text, names.flags.as_slice(), row - names.parties.len())
+}

@@ -1,0 +1,233 @@
+//! The answer of a look for an order of the locks.
+ghost use Rattle.std.specs.Prelude.{◌≡◌, ◌++◌, IfErr, OnOk, true, string_bytes};
+ghost use Rattle.lock_plan_text.specs.declared.parser.fault.PlanTextFault.TheVariants.{OutOfMemory};
+ghost use Rattle.std.specs.List.{flat_map};
+ghost use Rattle.lock_plan_answer.specs.LineNumbers.{number_by};
+ghost use Rattle.lock_plan_answer.specs.Orders.{advice, at_line, broken_text, holds_text, kept_text, lock_name, obstacle_line, order_names, order_text, party_name, separator, uncovered_line, wait_line, waits_text};
+
+use crate::line_numbers::LineNumbers;
+use crate::names::write_name;
+use itoa::Buffer;
+use lock_plan::{HeldWait, LockOrder, Obstacle};
+use lock_plan_text::{PlanText, PlanTextFault};
+use std::alloc::{AllocError, Global};
+
+/// Appends the order of the locks, or why none was found, with the lines that are in the way and the number of each.
+pub fn write_order(
+    alloc: Global,
+    text: &mut String,
+    plan: &PlanText,
+    lines: &LineNumbers,
+    order: &LockOrder,
+) -> Result<(), PlanTextFault>
+    ensures text { OnOk result (string_bytes text.new ≡ string_bytes text.old ++ order_text (number_by lines.now) plan.now order.now) }
+    ensures fault { IfErr result (λ fault. fault ≡ OutOfMemory) }
+{
+    match order {
+        LockOrder::Kept(locks) => {
+            write_kept(text, plan, locks.as_slice())?;
+            Ok(())
+        }
+        LockOrder::Broken(obstacles) => write_broken(
+            alloc,
+            text,
+            plan,
+            lines,
+            obstacles.as_slice(),
+        ),
+    }
+}
+
+/// Appends the order of the locks.
+fn write_kept(text: &mut String, plan: &PlanText, locks: &[usize]) -> Result<(), AllocError>
+    ensures { OnOk result (string_bytes text.new ≡ string_bytes text.old ++ kept_text plan.now locks.now) }
+{
+    text.push_str("no deadlock, in order:")?;
+    write_locks(text, plan, locks)?;
+    text.push_str("\n")?;
+    Ok(())
+}
+
+/// Appends why no order was found.
+fn write_broken(
+    alloc: Global,
+    text: &mut String,
+    plan: &PlanText,
+    lines: &LineNumbers,
+    obstacles: &[Obstacle],
+) -> Result<(), PlanTextFault>
+    ensures text { OnOk result (string_bytes text.new ≡ string_bytes text.old ++ broken_text (number_by lines.now) plan.now obstacles.now) }
+    ensures fault { IfErr result (λ fault. fault ≡ OutOfMemory) }
+{
+    text.push_str("no order\n")?;
+    write_obstacles(alloc, text, plan, lines, obstacles)?;
+    text.push_str(advice(plan.is_any_number()))?;
+    Ok(())
+}
+
+fn advice(is_any_number: bool) -> &'static str
+    ensures { result.now ≡ advice is_any_number }
+{
+    if is_any_number {
+        "give a number in place of * to search all interleavings\n"
+    } else {
+        ""
+    }
+}
+
+/// Appends the names of these locks, the first after a space.
+fn write_locks(text: &mut String, plan: &PlanText, locks: &[usize]) -> Result<(), AllocError>
+    ensures { OnOk result (string_bytes text.new ≡ string_bytes text.old ++ order_names plan.now true locks.now) }
+{
+    let mut is_first = true;
+    for lock in locks {
+        text.push_str(separator(is_first))?;
+        write_lock(text, plan, *lock)?;
+        is_first = false;
+    }
+    Ok(())
+}
+
+fn separator(is_first: bool) -> &'static str
+    ensures { result.now ≡ separator is_first }
+{
+    if is_first { " " } else { ", " }
+}
+
+fn write_lock(text: &mut String, plan: &PlanText, lock: usize) -> Result<(), AllocError>
+    ensures { OnOk result (string_bytes text.new ≡ string_bytes text.old ++ lock_name plan.now lock) }
+{
+    write_name(text, plan.names().locks.as_slice(), lock)
+}
+
+fn write_party(text: &mut String, plan: &PlanText, party: usize) -> Result<(), AllocError>
+    ensures { OnOk result (string_bytes text.new ≡ string_bytes text.old ++ party_name plan.now party) }
+{
+    write_name(text, plan.names().parties.as_slice(), party)
+}
+
+/// Appends the lines of these obstacles.
+fn write_obstacles(
+    alloc: Global,
+    text: &mut String,
+    plan: &PlanText,
+    lines: &LineNumbers,
+    obstacles: &[Obstacle],
+) -> Result<(), PlanTextFault>
+    ensures text { OnOk result (string_bytes text.new ≡ string_bytes text.old ++ flat_map (obstacle_line (number_by lines.now) plan.now) obstacles.now) }
+    ensures fault { IfErr result (λ fault. fault ≡ OutOfMemory) }
+{
+    for obstacle in obstacles {
+        write_obstacle(alloc, text, plan, lines, *obstacle)?;
+    }
+    Ok(())
+}
+
+/// Appends the line of an obstacle.
+fn write_obstacle(
+    alloc: Global,
+    text: &mut String,
+    plan: &PlanText,
+    lines: &LineNumbers,
+    obstacle: Obstacle,
+) -> Result<(), PlanTextFault>
+    ensures text { OnOk result (string_bytes text.new ≡ string_bytes text.old ++ obstacle_line (number_by lines.now) plan.now obstacle) }
+    ensures fault { IfErr result (λ fault. fault ≡ OutOfMemory) }
+{
+    match obstacle {
+        Obstacle::Waits(wait) => write_wait(alloc, text, plan, lines, wait),
+        Obstacle::Uncovered(party, place) => write_uncovered(
+            alloc, text, plan, lines, party, place,
+        ),
+        Obstacle::Ends(party, lock) => {
+            write_party(text, plan, party)?;
+            text.push_str(" ends")?;
+            write_holds(text, plan, lock)?;
+            Ok(())
+        }
+        Obstacle::Reentrant(lock) => {
+            write_lock(text, plan, lock)?;
+            text.push_str(": an order covers no reentrant lock\n")?;
+            Ok(())
+        }
+    }
+}
+
+/// Appends that a party waits for a lock while it holds another one.
+fn write_wait(
+    alloc: Global,
+    text: &mut String,
+    plan: &PlanText,
+    lines: &LineNumbers,
+    wait: HeldWait,
+) -> Result<(), PlanTextFault>
+    ensures text { OnOk result (string_bytes text.new ≡ string_bytes text.old ++ wait_line (number_by lines.now) plan.now wait) }
+    ensures fault { IfErr result (λ fault. fault ≡ OutOfMemory) }
+{
+    write_line(alloc, text, plan, lines, wait.party, wait.place)?;
+    write_waits(text, plan, wait.party, wait.wanted)?;
+    write_holds(text, plan, wait.held)?;
+    Ok(())
+}
+
+fn write_waits(
+    text: &mut String,
+    plan: &PlanText,
+    party: usize,
+    lock: usize,
+) -> Result<(), AllocError>
+    ensures { OnOk result (string_bytes text.new ≡ string_bytes text.old ++ waits_text plan.now party lock) }
+{
+    write_party(text, plan, party)?;
+    text.push_str(" waits for ")?;
+    write_lock(text, plan, lock)
+}
+
+/// Appends the end of a line about a party that holds a lock.
+fn write_holds(text: &mut String, plan: &PlanText, lock: usize) -> Result<(), AllocError>
+    ensures { OnOk result (string_bytes text.new ≡ string_bytes text.old ++ holds_text plan.now lock) }
+{
+    text.push_str(" while it holds ")?;
+    write_lock(text, plan, lock)?;
+    text.push_str("\n")
+}
+
+/// Appends that an order says nothing of an act.
+fn write_uncovered(
+    alloc: Global,
+    text: &mut String,
+    plan: &PlanText,
+    lines: &LineNumbers,
+    party: usize,
+    place: usize,
+) -> Result<(), PlanTextFault>
+    ensures text { OnOk result (string_bytes text.new ≡ string_bytes text.old ++ uncovered_line (number_by lines.now) plan.now party place) }
+    ensures fault { IfErr result (λ fault. fault ≡ OutOfMemory) }
+{
+    if party < plan.names().parties.len() {
+        write_line(alloc, text, plan, lines, party, place)?;
+        text.push_str("an order covers no upgrade, announcement or signal\n")?;
+    } else {
+        text.push_str("an order covers no flag\n")?;
+    }
+    Ok(())
+}
+
+/// Appends the number of the line of a party's place.
+fn write_line(
+    alloc: Global,
+    text: &mut String,
+    plan: &PlanText,
+    lines: &LineNumbers,
+    party: usize,
+    place: usize,
+) -> Result<(), PlanTextFault>
+    ensures text { OnOk result (string_bytes text.new ≡ string_bytes text.old ++ at_line (number_by lines.now) plan.now party place) }
+    ensures fault { IfErr result (λ fault. fault ≡ OutOfMemory) }
+{
+    let number = plan.number_of(alloc, party, place)?;
+    text.push_str("line ")?;
+    text.push_str(Buffer::new().format(lines.number(number)))?;
+    text.push_str(": ")?;
+    Ok(())
+}

@@ -1,0 +1,151 @@
+//! Pictures: a column for each party, time downward, and a bar for each hold, as SVG.
+
+mod bars;
+mod layout;
+mod svg;
+mod waits;
+
+use crate::mark::Mark;
+use crate::names::write_name;
+use crate::step::{Made, stepped, write_made};
+use crate::stop::stop_word;
+use bars::write_bars;
+use itoa::Buffer;
+use layout::Layout;
+use lock_plan::{Explored, Plan, Step};
+use lock_plan_text::Names;
+use std::alloc::{AllocError, Global};
+use svg::{Spot, Svg};
+use waits::{draw_waits, write_stopped};
+
+/// Returns the answer to a plan as a picture in SVG.
+///
+/// It shows what [`write_answer`](crate::write_answer) says. A dot marks each step, a bar each hold from the step that
+/// acquires it, in a color of its mode. Below the last step, an arrow leads from each party that waits to each holder of
+/// the lock, to the party that it is behind, or to the party that it joins. The arrows of a circle of waiting parties are
+/// heavier. A flag has no column. Names are expected to have no character that SVG reserves; those of [`parse_plan`](crate::parse_plan) have none. No
+/// contract names the bytes.
+pub fn draw_picture(
+    alloc: Global,
+    plan: &Plan,
+    names: &Names,
+    explored: &Explored,
+) -> Result<String, AllocError> {
+    match &explored.trace {
+        None => picture_of_none(alloc, explored.visited),
+        Some(trace) => picture_of_run(plan, names, &Run::new(alloc, plan, trace.as_slice())?),
+    }
+}
+
+/// A run into a stop.
+#[derive(Drop)]
+pub(crate) struct Run {
+    alloc: Global,
+    steps: Vec<Made>,
+    /// The node after the last step.
+    last: usize,
+}
+
+impl Run {
+    fn new(alloc: Global, plan: &Plan, trace: &[Step]) -> Result<Run, AllocError> {
+        let mut steps = Vec::new(alloc);
+        let mut node = plan.start();
+        for step in trace {
+            let before = node;
+            node = stepped(alloc, plan, before, *step)?;
+            steps.push(Made {
+                step: *step,
+                before,
+                after: node,
+            })?;
+        }
+        Ok(Run {
+            alloc,
+            steps,
+            last: node,
+        })
+    }
+
+    /// The node at a row. Row 0 is before the first step.
+    pub(crate) fn node(&self, row: usize) -> usize {
+        match self.steps.get(row) {
+            Some(made) => made.before,
+            None => self.last,
+        }
+    }
+}
+
+/// The picture where nothing stops: its one line is the answer.
+fn picture_of_none(alloc: Global, visited: usize) -> Result<String, AllocError> {
+    let layout = Layout::of_none();
+    let mut svg = Svg::new(alloc, layout.width(), layout.height())?;
+    svg.open_text("name", layout.title())?;
+    svg.push_str("no deadlock, ")?;
+    svg.push_str(Buffer::new().format(visited))?;
+    svg.push_str(" states")?;
+    svg.close_text()?;
+    svg.finish()
+}
+
+fn picture_of_run(plan: &Plan, names: &Names, run: &Run) -> Result<String, AllocError> {
+    let layout = Layout::of_run(plan, names, run)?;
+    let mut svg = Svg::new(run.alloc, layout.width(), layout.height())?;
+    let list = plan.stopped(run.alloc, run.last)?;
+    svg.text("name", layout.title(), stop_word(list.as_slice()))?;
+    write_legend(&mut svg, &layout)?;
+    for party in 0..names.parties.len() {
+        write_column(&mut svg, names, &layout, party)?;
+        write_bars(&mut svg, plan, names, run, &layout, party)?;
+    }
+    write_steps(&mut svg, plan, names, run, &layout)?;
+    for stopped in &list {
+        write_stopped(&mut svg, plan, names, &layout, stopped)?;
+    }
+    draw_waits(&mut svg, plan, names, run, &layout, list.as_slice())?;
+    svg.finish()
+}
+
+/// The name of a party, and its line.
+fn write_column(
+    svg: &mut Svg,
+    names: &Names,
+    layout: &Layout,
+    party: usize,
+) -> Result<(), AllocError> {
+    svg.line("life", layout.life(party, 0), layout.end(party))?;
+    svg.open_text("name", layout.head(party))?;
+    write_name(svg.inner(), names.parties.as_slice(), party)?;
+    svg.close_text()
+}
+
+/// A dot for each step, and what it does.
+fn write_steps(
+    svg: &mut Svg,
+    plan: &Plan,
+    names: &Names,
+    run: &Run,
+    layout: &Layout,
+) -> Result<(), AllocError> {
+    for (row, made) in run.steps.iter().enumerate() {
+        let row = row.saturating_add(1);
+        svg.dot(layout.life(made.step.party, row))?;
+        svg.open_text("call", layout.beside(made.step.party, row))?;
+        write_made(run.alloc, svg.inner(), plan, names, *made)?;
+        svg.close_text()?;
+    }
+    Ok(())
+}
+
+/// What the colors mean.
+fn write_legend(svg: &mut Svg, layout: &Layout) -> Result<(), AllocError> {
+    for (place, mark) in Mark::ALL.iter().enumerate() {
+        let spot = layout.legend(place);
+        svg.rect(mark.word(), spot, Layout::BAR, Layout::BAR)?;
+        let beside = Spot {
+            x: spot.x.saturating_add(Layout::SLOT),
+            y: spot.y.saturating_add(Layout::BAR),
+        };
+        svg.text("call", beside, mark.word())?;
+    }
+    Ok(())
+}

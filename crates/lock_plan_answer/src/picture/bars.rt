@@ -1,0 +1,109 @@
+//! A bar for each hold.
+use crate::mark::Mark;
+use crate::names::write_name;
+use crate::picture::Run;
+use crate::picture::layout::Layout;
+use crate::picture::svg::{Spot, Svg};
+use crate::stand::hold_at;
+use lock_plan::Plan;
+use lock_plan_text::Names;
+use std::alloc::AllocError;
+
+/// Draws what a party holds, lock by lock and mode by mode.
+pub(crate) fn write_bars(
+    svg: &mut Svg,
+    plan: &Plan,
+    names: &Names,
+    run: &Run,
+    layout: &Layout,
+    party: usize,
+) -> Result<(), AllocError> {
+    for lock in 0..plan.locks().len() {
+        for mark in &Mark::ALL {
+            write_bars_of(
+                svg,
+                plan,
+                names,
+                run,
+                layout,
+                HeldMark {
+                    party,
+                    lock,
+                    mark: *mark,
+                },
+            )?;
+        }
+    }
+    Ok(())
+}
+
+/// What a bar shows.
+#[derive(Clone, Copy)]
+struct HeldMark {
+    party: usize,
+    lock: usize,
+    mark: Mark,
+}
+
+/// Draws a bar for each time in which a party holds a lock in a mode.
+fn write_bars_of(
+    svg: &mut Svg,
+    plan: &Plan,
+    names: &Names,
+    run: &Run,
+    layout: &Layout,
+    held: HeldMark,
+) -> Result<(), AllocError> {
+    let mut since = None;
+    for row in 0..layout.last_row() {
+        let hold = hold_at(plan, run.node(row), held.party, held.lock);
+        let is_held = held.mark.is_of(hold);
+        match since {
+            None if is_held => since = Some(row),
+            Some(first) if !is_held => {
+                write_bar(svg, names, layout, held, first, row)?;
+                since = None;
+            }
+            _ => {}
+        }
+    }
+    match since {
+        Some(first) => write_bar(svg, names, layout, held, first, layout.last_row()),
+        None => Ok(()),
+    }
+}
+
+/// Draws a bar between two rows, and the name of its lock where there is room.
+fn write_bar(
+    svg: &mut Svg,
+    names: &Names,
+    layout: &Layout,
+    held: HeldMark,
+    first: usize,
+    end: usize,
+) -> Result<(), AllocError> {
+    let height = Layout::bar_height(end.saturating_sub(first));
+    let spot = layout.bar(held.party, held.lock, first);
+    // A party can hold a lock shared and upgradable.
+    let spot = match held.mark {
+        Mark::Upgradable => Spot {
+            x: spot.x.saturating_add(4),
+            ..spot
+        },
+        _ => spot,
+    };
+    svg.rect(held.mark.word(), spot, Layout::BAR, height)?;
+    let Some(name) = names.locks.as_slice().get(held.lock) else {
+        return Ok(());
+    };
+    if name.len().saturating_mul(Layout::LETTER) > height {
+        return Ok(());
+    }
+    let start = Spot {
+        x: spot.x.saturating_add(3),
+        y: spot.y.saturating_add(4),
+    };
+    svg.open_text_down("lock", start)?;
+    write_name(svg.inner(), names.locks.as_slice(), held.lock)?;
+    svg.close_text()
+}

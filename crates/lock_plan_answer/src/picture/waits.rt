@@ -1,0 +1,169 @@
+//! What stopped parties wait for, and an arrow from each to the parties that it waits for.
+use crate::names::write_name;
+use crate::picture::Run;
+use crate::picture::layout::Layout;
+use crate::picture::svg::{Spot, Svg};
+use crate::stop::write_awaited;
+use lock_plan::{Act, Plan, Signal, Stopped};
+use lock_plan_text::Names;
+use std::alloc::{AllocError, Global};
+
+/// Writes what a stopped party waits for below its line.
+pub(crate) fn write_stopped(
+    svg: &mut Svg,
+    plan: &Plan,
+    names: &Names,
+    layout: &Layout,
+    stopped: &Stopped,
+) -> Result<(), AllocError> {
+    let spot = layout.stop(stopped.party);
+    svg.text(
+        "call",
+        spot,
+        if stopped.is_refused {
+            "refused"
+        } else {
+            "waits for"
+        },
+    )?;
+    let below = Spot {
+        y: spot.y.saturating_add(16),
+        ..spot
+    };
+    svg.open_text("call", below)?;
+    write_reason(svg.inner(), plan, names, stopped)?;
+    svg.close_text()
+}
+
+/// Appends what a stopped party waits for, and behind whom.
+pub(crate) fn write_reason(
+    text: &mut String,
+    plan: &Plan,
+    names: &Names,
+    stopped: &Stopped,
+) -> Result<(), AllocError> {
+    write_awaited(text, plan, names, stopped.act)?;
+    if let Some(first) = stopped.behind {
+        text.push_str(" behind ")?;
+        write_name(text, names.parties.as_slice(), first)?;
+    }
+    Ok(())
+}
+
+/// A party that waits, and one that it waits for: a holder of this lock, the party that it joins, or the one that it is behind.
+#[derive(Clone, Copy)]
+struct Edge {
+    waiter: usize,
+    awaited: usize,
+    lock: Option<usize>,
+}
+
+/// Draws an arrow from each party that waits to those that it waits for, heavier where it is part of a circle.
+pub(crate) fn draw_waits(
+    svg: &mut Svg,
+    plan: &Plan,
+    names: &Names,
+    run: &Run,
+    layout: &Layout,
+    list: &[Stopped],
+) -> Result<(), AllocError> {
+    let parties = names.parties.len();
+    let edges = edges_of(run.alloc, plan, parties, run.last, list)?;
+    for edge in &edges {
+        let is_circle = reaches(
+            run.alloc,
+            edges.as_slice(),
+            parties,
+            edge.awaited,
+            edge.waiter,
+        )?;
+        svg.line(
+            if is_circle { "circle" } else { "wait" },
+            layout.tail(edge.waiter),
+            match edge.lock {
+                Some(lock) => layout.tip(edge.awaited, lock),
+                None => layout.end(edge.awaited),
+            },
+        )?;
+    }
+    Ok(())
+}
+
+/// Returns who waits for whom at a node.
+fn edges_of(
+    alloc: Global,
+    plan: &Plan,
+    parties: usize,
+    node: usize,
+    list: &[Stopped],
+) -> Result<Vec<Edge>, AllocError> {
+    let mut edges = Vec::new(alloc);
+    for stopped in list {
+        if let Some(first) = stopped.behind {
+            edges.push(Edge {
+                waiter: stopped.party,
+                awaited: first,
+                lock: None,
+            })?;
+            continue;
+        }
+        match stopped.act {
+            Act::Call(call) => {
+                add_holders(alloc, &mut edges, plan, node, stopped.party, call.lock)?
+            }
+            Act::Signal(Signal::Join(row)) if row < parties => edges.push(Edge {
+                waiter: stopped.party,
+                awaited: row,
+                lock: None,
+            })?,
+            _ => {}
+        }
+    }
+    Ok(edges)
+}
+
+/// Adds the holders of a lock for which a party waits. It waits for itself only where nobody else holds the lock.
+fn add_holders(
+    alloc: Global,
+    edges: &mut Vec<Edge>,
+    plan: &Plan,
+    node: usize,
+    waiter: usize,
+    lock: usize,
+) -> Result<(), AllocError> {
+    let holds = plan.holds_of(alloc, node, lock)?;
+    for it in &holds {
+        if it.party != waiter || holds.len() == 1 {
+            edges.push(Edge {
+                waiter,
+                awaited: it.party,
+                lock: Some(lock),
+            })?;
+        }
+    }
+    Ok(())
+}
+
+/// Returns whether arrows lead from one party to another, or the two are one.
+fn reaches(
+    alloc: Global,
+    edges: &[Edge],
+    parties: usize,
+    from: usize,
+    to: usize,
+) -> Result<bool, AllocError> {
+    let mut reached = vec![in alloc; false; parties]?;
+    if let Some(first) = reached.get_mut(from) {
+        *first = true;
+    }
+    for _round in 0..parties {
+        for edge in edges {
+            if reached.get(edge.waiter).copied().unwrap_or(false) {
+                if let Some(next) = reached.get_mut(edge.awaited) {
+                    *next = true;
+                }
+            }
+        }
+    }
+    Ok(reached.get(to).copied().unwrap_or(false))
+}

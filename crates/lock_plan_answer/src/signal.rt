@@ -1,0 +1,171 @@
+//! The texts of choices and signals.
+ghost use Rattle.std.specs.Prelude.{◌≡◌, ◌++◌, OnOk, IfOk, string_bytes};
+ghost use Rattle.lock_plan.specs.Stops.{world_of};
+ghost use Rattle.lock_plan_answer.specs.RowNames.{row_name};
+ghost use Rattle.lock_plan_answer.specs.Signals.{sleepers, woken, rows_text, notice_text, start_word, assert_word, assert_text, signal_text, turn_text, choice_text};
+
+use crate::names::{is_party, write_name, write_row_name};
+use crate::stand::sleep_of;
+use lock_plan::{Block, Plan, Signal};
+use lock_plan_text::Names;
+use std::alloc::{AllocError, Global};
+
+/// Appends a choice of the first way or the other one.
+pub(crate) fn write_choice(
+    text: &mut String,
+    names: &Names,
+    other: bool,
+    block: Block,
+) -> Result<(), AllocError>
+    ensures { OnOk result (string_bytes text.new ≡ string_bytes text.old ++ choice_text names.now other block) }
+{
+    match block {
+        Block::Repeat => {
+            text.push_str("repeat")?;
+            text.push_str(turn_text(other))
+        }
+        Block::Either => {
+            text.push_str("either")?;
+            text.push_str(turn_text(other))
+        }
+        Block::If(row) => {
+            text.push_str("if ")?;
+            write_row_name(text, names, row)?;
+            text.push_str(if other { ": false" } else { ": true" })
+        }
+        Block::TimedSleep(cond) => {
+            text.push_str("timeout ")?;
+            write_name(text, names.conds.as_slice(), cond)
+        }
+    }
+}
+
+fn turn_text(other: bool) -> &'static str
+    ensures { result.now ≡ turn_text other }
+{
+    if other { ": past" } else { ": in" }
+}
+
+/// Appends a signal that goes this way from a node.
+pub(crate) fn write_signal(
+    alloc: Global,
+    text: &mut String,
+    plan: &Plan,
+    names: &Names,
+    node: usize,
+    way: usize,
+    signal: Signal,
+) -> Result<(), AllocError>
+    ensures { OnOk result (string_bytes text.new ≡ string_bytes text.old
+        ++ signal_text names.now (world_of plan.now node) way signal) }
+{
+    match signal {
+        Signal::Idle | Signal::Sleep(_) => Ok(()),
+        Signal::Start(row) => write_with_row(text, start_word(is_party(names, row)), names, row),
+        Signal::Clear(row) => write_with_row(text, "clear ", names, row),
+        Signal::Join(row) => write_with_row(text, "join ", names, row),
+        Signal::Assert(row, value) => write_assert(text, names, row, value),
+        Signal::NotifyOne(cond) => {
+            let rows = woken(alloc, way)?;
+            write_notice(text, "notify_one ", names, cond, rows.as_slice())
+        }
+        Signal::NotifyAll(cond) => {
+            let rows = sleepers(alloc, plan, node, cond)?;
+            write_notice(text, "notify_all ", names, cond, rows.as_slice())
+        }
+    }
+}
+
+/// Returns the word for a row that is started: a party or a flag.
+fn start_word(is_party: bool) -> &'static str
+    ensures { result.now ≡ start_word is_party }
+{
+    if is_party { "start " } else { "set " }
+}
+
+/// Appends an assertion of a row.
+pub(crate) fn write_assert(
+    text: &mut String,
+    names: &Names,
+    row: usize,
+    value: bool,
+) -> Result<(), AllocError>
+    ensures { OnOk result (string_bytes text.new ≡ string_bytes text.old ++ assert_text names.now row value) }
+{
+    write_with_row(text, assert_word(value), names, row)
+}
+
+fn assert_word(value: bool) -> &'static str
+    ensures { result.now ≡ assert_word value }
+{
+    if value { "assert " } else { "assert not " }
+}
+
+/// Appends a word and the name of a row.
+fn write_with_row(
+    text: &mut String,
+    word: &str,
+    names: &Names,
+    row: usize,
+) -> Result<(), AllocError>
+    ensures { OnOk result (string_bytes text.new ≡ string_bytes text.old ++ (word.now ++ row_name names.now row)) }
+{
+    text.push_str(word)?;
+    write_row_name(text, names, row)
+}
+
+/// Returns the row that a notification of one wakes if it goes this way.
+fn woken(alloc: Global, way: usize) -> Result<Vec<usize>, AllocError>
+    ensures { IfOk result (λ rows. rows.items ≡ woken way) }
+{
+    let mut rows = Vec::new(alloc);
+    if let Some(row) = way.checked_sub(1) {
+        rows.push(row)?;
+    }
+    Ok(rows)
+}
+
+/// Returns the rows that sleep on a condition variable at a node, in order.
+fn sleepers(alloc: Global, plan: &Plan, node: usize, cond: usize) -> Result<Vec<usize>, AllocError>
+    ensures { IfOk result (λ rows. rows.items ≡ sleepers (world_of plan.now node) cond) }
+{
+    let mut rows = Vec::new(alloc);
+    for row in 0..plan.parties() {
+        if sleep_of(plan, node, row) == Some(cond) {
+            rows.push(row)?;
+        }
+    }
+    Ok(rows)
+}
+
+/// Appends a notification: its word, its condition variable, and the rows that it wakes.
+fn write_notice(
+    text: &mut String,
+    word: &str,
+    names: &Names,
+    cond: usize,
+    rows: &[usize],
+) -> Result<(), AllocError>
+    ensures { OnOk result (string_bytes text.new ≡ string_bytes text.old
+        ++ (word.now ++ notice_text names.now cond rows.now)) }
+{
+    text.push_str(word)?;
+    write_name(text, names.conds.as_slice(), cond)?;
+    text.push_str(": wakes ")?;
+    write_rows(text, names, rows)
+}
+
+/// Appends the names of rows, or `none`.
+fn write_rows(text: &mut String, names: &Names, rows: &[usize]) -> Result<(), AllocError>
+    ensures { OnOk result (string_bytes text.new ≡ string_bytes text.old ++ rows_text names.now rows.now) }
+{
+    let Some((first, rest)) = rows.split_first() else {
+        return text.push_str("none");
+    };
+    write_row_name(text, names, *first)?;
+    for row in rest {
+        text.push_str(", ")?;
+        write_row_name(text, names, *row)?;
+    }
+    Ok(())
+}

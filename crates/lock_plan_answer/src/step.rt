@@ -1,0 +1,203 @@
+//! The steps of a trace.
+ghost use Rattle.std.specs.Prelude.{◌≡◌, ◌<◌, ◌++◌, Option, OnOk, IfOk, string_bytes};
+ghost use Rattle.std.proofs.Common.{get_or};
+ghost use Rattle.lock_plan.specs.Worlds.{no_lock, first_world, turn_of};
+ghost use Rattle.lock_plan.specs.Stops.{programs_of, world_of};
+ghost use Rattle.lock_plan_answer.specs.Signals.{sleep_of};
+ghost use Rattle.lock_plan_answer.specs.Steps.{call_by, call_text, wait_text, made_text, step_text, steps_text, made_step, stepped, last_world};
+
+use crate::names::write_name;
+use crate::signal::{write_choice, write_signal};
+use crate::stand::{act_at, sleep_of, turn_at};
+use crate::words::step_word;
+use lock_base::machine::{Kind, LockStep};
+use lock_plan::{Act, Plan, PlanCall, PlanLock, Step, Turn};
+use lock_plan_text::Names;
+use std::alloc::{AllocError, Global};
+
+/// A step, and the nodes before and after it.
+#[derive(Clone, Copy)]
+pub(crate) struct Made {
+    pub(crate) step: Step,
+    pub(crate) before: usize,
+    pub(crate) after: usize,
+}
+
+/// Appends the steps of a trace, a line each.
+pub(crate) fn write_steps(
+    alloc: Global,
+    text: &mut String,
+    plan: &Plan,
+    names: &Names,
+    trace: &[Step],
+) -> Result<(), AllocError>
+    ensures { OnOk result (string_bytes text.new ≡ string_bytes text.old
+        ++ steps_text plan.now.locks.items names.now (first_world plan.now.locks.items (programs_of plan.now)) trace.now) }
+{
+    let mut node = plan.start();
+    for step in trace {
+        let before = node;
+        node = stepped(alloc, plan, before, *step)?;
+        let made = Made {
+            step: *step,
+            before,
+            after: node,
+        };
+        write_step(alloc, text, plan, names, made)?;
+    }
+    Ok(())
+}
+
+/// Returns the node of the world after a trace.
+pub(crate) fn last_node(alloc: Global, plan: &Plan, trace: &[Step]) -> Result<usize, AllocError>
+    ensures { IfOk result (λ node. world_of plan.now node
+        ≡ last_world plan.now.locks.items (first_world plan.now.locks.items (programs_of plan.now)) trace.now) }
+{
+    let mut node = plan.start();
+    for step in trace {
+        node = stepped(alloc, plan, node, *step)?;
+    }
+    Ok(node)
+}
+
+/// Returns the node after a step, or the same node where its party does not have the step.
+pub(crate) fn stepped(
+    alloc: Global,
+    plan: &Plan,
+    node: usize,
+    step: Step,
+) -> Result<usize, AllocError>
+    requires { node < plan.now.nodes }
+    ensures world { IfOk result (λ after.
+        world_of plan.now after ≡ stepped plan.now.locks.items (world_of plan.now node) step) }
+    ensures within { IfOk result (λ after. after < plan.now.nodes) }
+{
+    if step.party >= plan.parties() {
+        return Ok(node);
+    }
+    match plan.after(alloc, node, step)? {
+        Some(after) => Ok(after),
+        None => Ok(node),
+    }
+}
+
+/// Appends the line of a step.
+fn write_step(
+    alloc: Global,
+    text: &mut String,
+    plan: &Plan,
+    names: &Names,
+    made: Made,
+) -> Result<(), AllocError>
+    requires { world_of plan.now made.after ≡ stepped plan.now.locks.items (world_of plan.now made.before) made.step }
+    ensures { OnOk result (string_bytes text.new ≡ string_bytes text.old
+        ++ step_text plan.now.locks.items names.now (world_of plan.now made.before) made.step) }
+{
+    write_name(text, names.parties.as_slice(), made.step.party)?;
+    text.push(' ')?;
+    write_made(alloc, text, plan, names, made)?;
+    text.push('\n')
+}
+
+/// Appends what a step does, or nothing where its party has ended.
+pub(crate) fn write_made(
+    alloc: Global,
+    text: &mut String,
+    plan: &Plan,
+    names: &Names,
+    made: Made,
+) -> Result<(), AllocError>
+    ensures { OnOk result (string_bytes text.new ≡ string_bytes text.old
+        ++ made_text plan.now.locks.items names.now
+        (world_of plan.now made.before) (world_of plan.now made.after) made.step) }
+{
+    let other = made.step.way == 1;
+    match act_at(plan, made.before, made.step.party) {
+        None => Ok(()),
+        Some(Act::Call(call)) => write_made_call(alloc, text, plan, names, made, call),
+        Some(Act::Try(call)) => {
+            text.push_str("try ")?;
+            write_call(text, plan, names, call)?;
+            text.push_str(if other { ": refused" } else { ": admitted" })
+        }
+        Some(Act::Choose(block)) => write_choice(text, names, other, block),
+        Some(Act::Signal(signal)) => {
+            let Made { step, before, .. } = made;
+            write_signal(alloc, text, plan, names, before, step.way, signal)
+        }
+    }
+}
+
+/// Appends what a step with a call does: the call, an announcement for it, or a wait, if its party sleeps after it.
+fn write_made_call(
+    alloc: Global,
+    text: &mut String,
+    plan: &Plan,
+    names: &Names,
+    made: Made,
+    call: PlanCall,
+) -> Result<(), AllocError>
+    ensures { OnOk result (string_bytes text.new ≡ string_bytes text.old ++ call_by plan.now.locks.items names.now
+        (turn_of plan.now.locks.items (world_of plan.now made.before) made.step.party)
+        (sleep_of (world_of plan.now made.after) made.step.party) call) }
+{
+    let party = made.step.party;
+    match sleep_of(plan, made.after, party) {
+        Some(cond) => write_wait(text, names, cond, call.lock),
+        None => {
+            let turn = turn_at(alloc, plan, made.before, party)?;
+            let step = made_step(turn, call.step);
+            write_call(text, plan, names, PlanCall { step, ..call })
+        }
+    }
+}
+
+/// Appends the release of a mutex by a party that sleeps after it.
+fn write_wait(text: &mut String, names: &Names, cond: usize, lock: usize) -> Result<(), AllocError>
+    ensures { OnOk result (string_bytes text.new ≡ string_bytes text.old ++ wait_text names.now cond lock) }
+{
+    text.push_str("wait ")?;
+    write_name(text, names.conds.as_slice(), cond)?;
+    text.push(' ')?;
+    write_name(text, names.locks.as_slice(), lock)
+}
+
+/// Returns what a call's step does: the call, or an announcement for it.
+fn made_step(turn: Option<Turn>, step: LockStep) -> LockStep
+    ensures { result ≡ made_step turn step }
+{
+    match turn {
+        Some(Turn::Announces) => LockStep::Announce,
+        _ => step,
+    }
+}
+
+/// Appends a call: its word and its lock.
+pub(crate) fn write_call(
+    text: &mut String,
+    plan: &Plan,
+    names: &Names,
+    call: PlanCall,
+) -> Result<(), AllocError>
+    ensures { OnOk result (string_bytes text.new ≡ string_bytes text.old ++ call_text plan.now.locks.items names.now call) }
+{
+    let is_rwlock = lock_at(plan, call.lock).kind.is_rwlock();
+    text.push_str(step_word(is_rwlock, call.step))?;
+    text.push(' ')?;
+    write_name(text, names.locks.as_slice(), call.lock)
+}
+
+/// Returns the lock with this number.
+pub(crate) fn lock_at(plan: &Plan, lock: usize) -> PlanLock
+    ensures { result ≡ get_or plan.now.locks.items lock no_lock }
+{
+    match plan.locks().get(lock) {
+        Some(lock) => *lock,
+        None => PlanLock {
+            kind: Kind::Mutex,
+            limit: 0,
+            bar: false,
+            fair: false,
+        },
+    }
+}

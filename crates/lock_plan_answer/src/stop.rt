@@ -1,0 +1,244 @@
+//! The stopped parties, and who holds what.
+ghost use Rattle.std.specs.Prelude.{◌≡◌, ◌++◌, OnOk, IfOk, string_bytes};
+ghost use Rattle.std.specs.List.{flat_map, list_any};
+ghost use Rattle.lock_plan.specs.Stops.{world_of};
+ghost use Rattle.lock_plan_answer.specs.Marks.{holders};
+ghost use Rattle.lock_plan_answer.specs.Stops.{adds_reader, awaited_text, call_holders, holders_text, holds_text, is_full, is_refused_call, limit_text, room_after, says, signal_awaited, stop_word, stopped_line};
+
+use crate::mark::{Marked, Style, add_marks, write_marks};
+use crate::names::{write_name, write_row_name};
+use crate::signal::write_assert;
+use crate::step::{lock_at, write_call};
+use itoa::Buffer;
+use lock_base::machine::{LockStep, Mode, ModeStep};
+use lock_plan::{Act, PartyHold, Plan, PlanLock, Signal, Stopped};
+use lock_plan_text::Names;
+use std::alloc::{AllocError, Global};
+
+/// Returns the word for a stop with these stopped parties.
+pub(crate) fn stop_word(list: &[Stopped]) -> &'static str
+    ensures { result.now ≡ stop_word list.now }
+{
+    if has_refused_call(list) {
+        "refused"
+    } else if has_refused(list) {
+        "assertion"
+    } else {
+        "deadlock"
+    }
+}
+
+fn has_refused_call(list: &[Stopped]) -> bool
+    ensures { result ≡ list_any is_refused_call list.now }
+{
+    list.iter().any(|stopped| is_refused_call(*stopped))
+}
+
+fn has_refused(list: &[Stopped]) -> bool
+    ensures { result ≡ list_any (λ s. s.is_refused) list.now }
+{
+    list.iter().any(|stopped| stopped.is_refused)
+}
+
+/// Returns whether a stopped party's call is refused.
+fn is_refused_call(stopped: Stopped) -> bool
+    ensures { result ≡ is_refused_call stopped }
+{
+    stopped.is_refused && stopped.act.call().is_some()
+}
+
+/// Appends a line for each of these parties, which wait or are refused at a node.
+pub(crate) fn write_stop_lines(
+    alloc: Global,
+    text: &mut String,
+    plan: &Plan,
+    names: &Names,
+    node: usize,
+    list: &[Stopped],
+) -> Result<(), AllocError>
+    ensures { OnOk result (string_bytes text.new ≡ string_bytes text.old
+        ++ flat_map (stopped_line plan.now.locks.items names.now (world_of plan.now node)) list.now) }
+{
+    for stopped in list {
+        write_stopped(alloc, text, plan, names, node, stopped)?;
+    }
+    Ok(())
+}
+
+/// Appends the line of a stopped party.
+fn write_stopped(
+    alloc: Global,
+    text: &mut String,
+    plan: &Plan,
+    names: &Names,
+    node: usize,
+    stopped: &Stopped,
+) -> Result<(), AllocError>
+    ensures { OnOk result (string_bytes text.new ≡ string_bytes text.old
+        ++ stopped_line plan.now.locks.items names.now (world_of plan.now node) stopped.now) }
+{
+    write_name(text, names.parties.as_slice(), stopped.party)?;
+    text.push_str(says(stopped.is_refused))?;
+    write_awaited(text, plan, names, stopped.act)?;
+    match stopped.behind {
+        None => write_holders(alloc, text, plan, names, node, stopped.act)?,
+        Some(first) => {
+            text.push_str(" behind ")?;
+            write_name(text, names.parties.as_slice(), first)?;
+        }
+    }
+    text.push('\n')
+}
+
+fn says(is_refused: bool) -> &'static str
+    ensures { result.now ≡ says is_refused }
+{
+    if is_refused {
+        " refused "
+    } else {
+        " waits for "
+    }
+}
+
+/// Appends what a party with this act waits for: its call, a notification, or the end of a row; or what it asserts.
+pub(crate) fn write_awaited(
+    text: &mut String,
+    plan: &Plan,
+    names: &Names,
+    act: Act,
+) -> Result<(), AllocError>
+    ensures { OnOk result (string_bytes text.new
+        ≡ string_bytes text.old ++ awaited_text plan.now.locks.items names.now act) }
+{
+    match act {
+        Act::Call(call) => write_call(text, plan, names, call),
+        Act::Signal(signal) => write_signal_awaited(text, names, signal),
+        Act::Try(_) | Act::Choose(_) => Ok(()),
+    }
+}
+
+fn write_signal_awaited(text: &mut String, names: &Names, signal: Signal) -> Result<(), AllocError>
+    ensures { OnOk result (string_bytes text.new ≡ string_bytes text.old ++ signal_awaited names.now signal) }
+{
+    match signal {
+        Signal::Sleep(cond) => {
+            text.push_str("notify ")?;
+            write_name(text, names.conds.as_slice(), cond)
+        }
+        Signal::Join(row) => {
+            text.push_str("join ")?;
+            write_row_name(text, names, row)
+        }
+        Signal::Assert(row, value) => write_assert(text, names, row, value),
+        _ => Ok(()),
+    }
+}
+
+/// Appends who holds the lock of a call at a node.
+fn write_holders(
+    alloc: Global,
+    text: &mut String,
+    plan: &Plan,
+    names: &Names,
+    node: usize,
+    act: Act,
+) -> Result<(), AllocError>
+    ensures { OnOk result (string_bytes text.new ≡ string_bytes text.old
+        ++ holders_text plan.now.locks.items names.now (world_of plan.now node) act) }
+{
+    match act {
+        Act::Call(call) => {
+            let holds = plan.holds_of(alloc, node, call.lock)?;
+            let lock = lock_at(plan, call.lock);
+            write_call_holders(alloc, text, names, lock, holds.as_slice(), call.step)
+        }
+        Act::Try(_) | Act::Choose(_) | Act::Signal(_) => Ok(()),
+    }
+}
+
+/// Appends who holds the lock for which a step waits.
+fn write_call_holders(
+    alloc: Global,
+    text: &mut String,
+    names: &Names,
+    lock: PlanLock,
+    holds: &[PartyHold],
+    step: LockStep,
+) -> Result<(), AllocError>
+    ensures { OnOk result (string_bytes text.new ≡ string_bytes text.old ++ call_holders names.now lock holds.now step) }
+{
+    text.push_str(": ")?;
+    let is_full = is_full(lock.limit, holds, step);
+    write_holds(alloc, text, names, is_full, lock.limit, holds)
+}
+
+/// Returns whether a step waits for a lock that has all its readers.
+fn is_full(limit: u64, holds: &[PartyHold], step: LockStep) -> bool
+    ensures { result ≡ is_full limit holds.now step }
+{
+    adds_reader(step) && room_after(limit, holds) == 0
+}
+
+/// Returns whether a step adds a reader.
+fn adds_reader(step: LockStep) -> bool
+    ensures { result ≡ adds_reader step }
+{
+    matches!(
+        step,
+        LockStep::Modes(ModeStep::Acquire(Mode::Shared | Mode::Upgradable))
+    )
+}
+
+/// Returns how much of the room for so many readers holds leave.
+fn room_after(limit: u64, holds: &[PartyHold]) -> u64
+    ensures { result ≡ room_after limit holds.now }
+{
+    let mut room = limit;
+    for it in holds {
+        let bag = it.hold.bag;
+        room = room
+            .saturating_sub(bag.shared)
+            .saturating_sub(bag.upgradable);
+    }
+    room
+}
+
+/// Appends who holds a lock; if it has all its readers, each hold and the limit.
+fn write_holds(
+    alloc: Global,
+    text: &mut String,
+    names: &Names,
+    is_full: bool,
+    limit: u64,
+    holds: &[PartyHold],
+) -> Result<(), AllocError>
+    ensures { OnOk result (string_bytes text.new ≡ string_bytes text.old ++ holds_text names.now is_full limit holds.now) }
+{
+    let marks = holders(alloc, is_full, holds)?;
+    let parties = names.parties.as_slice();
+    write_marks(text, Style::Words, parties, marks.as_slice())?;
+    write_limit(text, is_full, limit)
+}
+
+/// Appends the limit of a lock that has all its readers.
+fn write_limit(text: &mut String, is_full: bool, limit: u64) -> Result<(), AllocError>
+    ensures { OnOk result (string_bytes text.new ≡ string_bytes text.old ++ limit_text is_full limit) }
+{
+    if !is_full {
+        return Ok(());
+    }
+    text.push_str(" (limit ")?;
+    text.push_str(Buffer::new().format(limit))?;
+    text.push_str(")")
+}
+
+/// Returns which parties have these holds, and in which modes.
+fn holders(alloc: Global, is_each: bool, holds: &[PartyHold]) -> Result<Vec<Marked>, AllocError>
+    ensures { IfOk result (λ marks. marks.items ≡ holders is_each holds.now) }
+{
+    let mut marks = Vec::new(alloc);
+    for it in holds {
+        add_marks(&mut marks, is_each, it.party, it.hold)?;
+    }
+    Ok(marks)
+}

@@ -1,7 +1,0 @@
-use Rattle.std.proofs.Common.{◌≡◌, ◌++◌, string_bytes}
-use Rattle.lock_plan_text.specs.Lanes.{cells_text, cell_of}
-use Rattle.lock_plan_text.proofs.printer.lanes.write_row.Given as goal
-
-abbrev pub invariant-loop-party : goal.invariant-loop-party
-invariant-loop-party l =
-    string_bytes l.text ≡ string_bytes l.initial.text ++ cells_text l.widths (cell_of l.plan l.names l.row) l.party

@@ -1,5 +1,0 @@
-use Rattle.lock_script.proofs.Lines.{lines_of-rest}
-use Rattle.lock_script.proofs.part.cut_bytes.Goals as goal
-
-pub returns-clause-lines : goal.returns-clause-lines
-returns-clause-lines c = lines_of-rest c.args.bytes.now c.args.at c.requires

@@ -1,6 +1,0 @@
--- A failed read takes nothing.
-use Rattle.std.specs.Io.KnownBytes.{Keeps}
-use Rattle.lock_script.proofs.reading.read_once.Given as goal
-
-abbrev pub invariant-loop : goal.invariant-loop
-invariant-loop g l = Keeps (g.R.Read.remaining l.initial.reader) (g.R.Read.remaining l.reader)

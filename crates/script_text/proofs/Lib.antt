@@ -1,0 +1,5 @@
+mod Cuts
+mod FirstFields
+mod KnownStreams
+mod Lines
+pub mod NumberTexts
