@@ -1,7 +1,10 @@
 """Random plans: the same number makes the same plan on every machine."""
+import itertools
 import random
 import re
 from typing import NamedTuple
+
+from plan_text import BLOCKS, TRIED, Fault, read_plan
 
 # how many calls a party has at most, for 1 to 5 parties, so that a plan has some thousands of worlds at most
 MOST_CALLS = [12, 14, 9, 6, 5]
@@ -19,7 +22,6 @@ CHANGES = {
     "upgradable": [("upgrade", "exclusive"), ("upgrade", "exclusive"), ("downgrade_upgradable", "shared")],
     "announced": [],
 }
-TRIED = {"lock", "read", "write", "upgradable_read", "upgrade"}
 # texts and lines with which a plan may become wrong
 SPOILS = [
     "", " ", "\n", "x", "0", "\r", "\u00e9", " bar", " fair", "4294967296", "lock0", "party p1\n", "server p 2\n", "mutex lock0\n",
@@ -70,6 +72,17 @@ def random_plan(number):
         lines += by_index(rng, found) if has_row and (len(names) > 1 or rng.random() < 0.05) else found
     text = "\n".join(with_faults(rng, lines, locks, has_blocks)) + "\n" * rng.randint(0, 1)
     return spoilt(rng, text).encode() if rng.random() < 0.06 else text.encode()
+
+
+def sound_plans():
+    """The random plans without a fault, each with its number and its text."""
+    for number in itertools.count():
+        text = random_plan(number)
+        try:
+            plan = read_plan(text)
+        except Fault:
+            continue
+        yield number, text, plan
 
 
 def random_heads(rng):
@@ -219,7 +232,7 @@ class Maker(NamedTuple):
         """A place in the lines at which no loop is open."""
         depths = [0]
         for line in lines:
-            depths.append(depths[-1] + (line.split()[0] in ("repeat", "forever", "either", "try", "if")) - (line == "end"))
+            depths.append(depths[-1] + (line.split()[0] in BLOCKS) - (line == "end"))
         return self.rng.choice([at for at, depth in enumerate(depths) if depth == 0])
 
     def signal(self, held):

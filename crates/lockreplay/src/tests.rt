@@ -1,5 +1,7 @@
-//! What no clause says: what readers, writers and memory may do, and texts. `.ci/plans` has scripts with their answers.
+//! What no clause says: scripts with their answers, what readers, writers and memory may do, and texts.
 mod machine;
+mod rows;
+mod scripts;
 mod streams;
 mod table_is_word;
 mod texts;
