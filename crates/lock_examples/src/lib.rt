@@ -6,7 +6,6 @@ pub mod gate;
 mod parts;
 mod pool;
 mod queue;
-pub mod ranked;
 mod registry;
 mod ring;
 pub mod ruled;

@@ -2,7 +2,7 @@
 use lock_api::{
     AtRank, Fault, LockCore, Order, RawLock, SleepingCondvar, ThreadOrder, WordRaw, join_ranked,
 };
-use lock_examples::ranked::{Accounts, Limits, Server, open, total, transfer_both_ways};
+use lock_ranked_examples::{Accounts, Limits, Server, open, total, transfer_both_ways};
 use std::alloc::Global;
 use std::test::Fail;
 use std::thread::Threads;

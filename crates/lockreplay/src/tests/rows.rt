@@ -46,6 +46,7 @@ rwlock 4 4 0 0;read 1;announce 2;announce 3;announce 2;read 3;try_upgradable_rea
 rwlock 4 4 1 2;upgradable_read 1;read 1;park 1 2;announce 2;resume 1 2;bump 1 1;try_upgrade 1 1;is_barred;downgrade_to_upgradable 1 1;withdraw 1;withdraw 2;withdraw 2;resume 1 2;spent; -> ok;guard 1;guard 2;ok;ok;refused 1;ok;ok;yes;ok;refused 18;ok;refused 18;ok;count 2;
 rwlock 4 4 0 0;write 1;park 1 1;announce 2;resume 1 1;resume 2 1;is_barred; -> ok;guard 1;ok;ok;refused 1;ok;no;
 mutex 2 0 0;announce 1;withdraw 1;is_barred; -> ok;refused 7;refused 7;refused 7;
+rwlock 4 8 5 0;read 1;read 2;unlock 2 2;read 2;unlock 2 3;read 2;unlock 2 4;read 2;unlock 2 5;read 2;unlock 2 6;read 2;unlock 2 7;read 2;unlock 2 8;read 2;unlock 2 9;read 2;unlock 2 10;read 2;unlock 2 11;read 2;unlock 2 12;read 2;unlock 2 13;read 2;unlock 2 14;read 2;unlock 2 15;read 2;unlock 2 16;read 2;unlock 2 17;read 2;unlock 2 18;read 2;unlock 2 2;get 1 1 0;get 2 19 0;read 1;unlock 2 19;spent; -> ok;guard 1;guard 2;ok;guard 3;ok;guard 4;ok;guard 5;ok;guard 6;ok;guard 7;ok;guard 8;ok;guard 9;ok;guard 10;ok;guard 11;ok;guard 12;ok;guard 13;ok;guard 14;ok;guard 15;ok;guard 16;ok;guard 17;ok;guard 18;ok;guard 19;refused 2;value 5;value 5;guard 20;ok;count 18;
 mutex 4 -9223372036854775808 0;lock 1;get 1 1 0 -> ok;guard 1;value -9223372036854775808;
  -> bad line 1;
 ; -> bad line 1;

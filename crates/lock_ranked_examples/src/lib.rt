@@ -1,4 +1,6 @@
 //! Code that cannot deadlock on its locks: each lock has a rank, and each thread acquires upward.
+#![tactic(auto)]
+
 mod bank;
 mod limits;
 mod server;
