@@ -14,6 +14,7 @@ mod ranked;
 mod registry;
 mod ruled;
 mod seated;
+mod shared_like_desk;
 mod shared_permits;
 mod shelf;
 mod signatures;
