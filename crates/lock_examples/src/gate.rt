@@ -89,6 +89,8 @@ pub struct Sights {
     pub closed: u64,
     /// The words of the two visitors while they were inside.
     pub inside: (u64, u64),
+    /// Whether nobody was inside at the end.
+    pub is_empty: bool,
 }
 
 /// A keeper opens its gate once two visitors wait at it, each on its thread. At most `places` are inside at a time.
@@ -106,5 +108,9 @@ pub fn open_for_two<R: Threads + Wait + Sync>(
         || keep(rt, &gate, 2),
         || join(rt, || visit(rt, &gate), || visit(rt, &gate)),
     );
-    Ok(Sights { closed, inside })
+    Ok(Sights {
+        closed,
+        inside,
+        is_empty: !gate.is_locked(),
+    })
 }

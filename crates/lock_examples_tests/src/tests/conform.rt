@@ -1,6 +1,6 @@
-//! The raw lock that spins, tested by a script.
+//! The raw lock that spins, tested by a script, and the words that choose a raw lock.
 use lock_api::RawMutex;
-use lock_conform::{Manner, ParkBy, PlainRaw, parse, run_mutex};
+use lock_conform::{Choice, Manner, ParkBy, PlainRaw, RawChoice, parse, run_mutex};
 use lock_examples::SpinLock;
 use std::test::Fail;
 
@@ -33,5 +33,14 @@ fn a_spin_lock_answers_as_the_desk(rt: HostRuntime) -> Result<(), Fail> {
         assert_eq!(rt; report.difference, None);
         assert_eq!(rt; report.entries.len(), 12);
     }
+    Ok(())
+}
+
+/// Scripts get the same answers over a table and over a word, so none shows which one a word chose.
+#[test]
+fn a_table_is_no_word(rt: HostRuntime) -> Result<(), Fail> {
+    let words = [String::from_str(rt.alloc(), "table")?];
+    let choice = Choice::of_words(&words);
+    assert!(rt; matches!(choice, Some(Choice { raw: RawChoice::Table, .. })));
     Ok(())
 }

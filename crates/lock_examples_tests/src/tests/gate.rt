@@ -11,6 +11,7 @@ fn opened_gate_wakes_all_that_wait(rt: HostRuntime) -> Result<(), Fail> {
         let places = 2 + run % 2;
         let seen = open_for_two(&rt, rt.alloc(), places)?;
         assert_eq!(rt; seen.closed, WRITER_ALONE);
+        assert!(rt; seen.is_empty);
         let (first, second) = seen.inside;
         assert!(rt; 1 <= first && first <= places && 1 <= second && second <= places);
     }
