@@ -6,6 +6,7 @@
 #include <stdbool.h>
 #include <stddef.h>
 #include <stdint.h>
+#include <sys/types.h>
 
 #define likely(x) __builtin_expect(!!(x), 1)
 #define unlikely(x) __builtin_expect(!!(x), 0)
@@ -227,7 +228,7 @@ void keep_note(struct thread *t, char what, void *object, struct lock *mutex, ui
 void forget_notes(void);
 
 /* ---- writing.c ---- */
-void name_record(const char *prefix);
+void name_record(const char *prefix, pid_t driver);
 void record_in_child(void);
 bool is_recorder_of_this_process(void);
 void write_record(const char *why);

@@ -14,7 +14,7 @@ static char buffer[1 << 14], record_prefix[512], record_name[600];
 static size_t buffered;
 static int out_fd;
 static bool is_cut; /* a write failed: what follows is left out, so that the record has no end */
-static pid_t recorded_pid;
+static pid_t recorded_pid, driver_pid;
 
 static void flush(void) {
     for (size_t at = 0; at < buffered && !is_cut;) {
@@ -190,8 +190,10 @@ static void put_all(const char *why) {
     flush();
 }
 
-void name_record(const char *prefix) {
+/* The records are PREFIX.PID.rec. The driver is the process that asked for the record, or 0. */
+void name_record(const char *prefix, pid_t driver) {
     recorded_pid = getpid();
+    driver_pid = driver;
     if (prefix && strlen(prefix) < sizeof record_prefix) strcpy(record_prefix, prefix);
 }
 
@@ -230,9 +232,10 @@ static int open_record(void) {
     return fd;
 }
 
-/* A lone thread is worth a record only if it waits, perhaps for itself. */
+/* A child that made no thread is worth a record only if it waits, perhaps for itself. The program itself always is. */
 static bool is_worth_writing(void) {
-    return ready && *record_prefix && is_recorder_of_this_process() && (n_made > 1 || (threads && GET(threads->waits_op) != OP_NONE));
+    if (!ready || !*record_prefix || !is_recorder_of_this_process()) return false;
+    return n_made > 1 || getppid() == driver_pid || (threads && GET(threads->waits_op) != OP_NONE);
 }
 
 /* Writes the record. A full disk or a limit on the size of files cuts it off, and does not end the program. */
