@@ -135,7 +135,17 @@ def tell_answer(path: str, text: str, answer: Answer) -> list[int]:
     for step in steps:
         comment = lines[step.line - 1].partition("#")[2].strip() if step.line else ""
         say(f"  {step.text:{width}}  {comment}".rstrip())
+    _tell_places(lines, " ".join(it.text for it in steps).split())
     return [it.line for it in steps if it.line and " waits for " in it.text]
+
+
+def _tell_places(lines: list[str], words: list[str]) -> None:
+    """Tells where the locks of an answer were made that have no name of their own."""
+    named = {it.rstrip(":,") for it in words}
+    for line in lines:
+        call, _, comment = line.partition("#")
+        if call.startswith(("mutex ", "rwlock ")) and comment and call.split()[1] in named:
+            say(f"  {call.split()[1]}: {comment.strip()}")
 
 
 def tell_locks(model: Model, text_names: Optional[set[str]] = None) -> None:
