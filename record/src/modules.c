@@ -3,6 +3,8 @@
 #include "record.h"
 #include <errno.h>
 #include <link.h>
+#include <sched.h>
+#include <stdatomic.h>
 #include <string.h>
 #include <unistd.h>
 
@@ -43,10 +45,10 @@ static int note_module(struct dl_phdr_info *info, size_t size, void *data) {
 
 /* Notes which modules are there. The locks of those that are gone are forgotten. */
 void note_modules(void) {
+    static atomic_int notes;
     int saved = errno;
-    enter();
+    while (atomic_exchange(&notes, 1)) sched_yield();
     for (uint32_t i = 0; i < n_modules; i++) modules[i].seen = false;
-    leave();
     dl_iterate_phdr(note_module, NULL);
     bool is_unloaded = false;
     for (uint32_t i = 0; i < n_modules; i++) {
@@ -56,6 +58,7 @@ void note_modules(void) {
         forget_locks_in(m->base, m->end);
     }
     if (is_unloaded) SET(epoch, epoch + 1);
+    atomic_store(&notes, 0);
     errno = saved;
 }
 

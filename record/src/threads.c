@@ -10,7 +10,12 @@ static struct thread *free_threads;
 bool ready;
 enum { LATE_FROM = THREADS_MAX - 2 * PARTIES_MAX };
 
-/* The caller holds the internal lock. */
+/* The caller of these holds the internal lock. */
+static uint32_t new_number(void) {
+    SET(n_made, n_made + 1);
+    return n_made - 1;
+}
+
 static struct thread *new_thread(uint32_t tid) {
     struct thread *t = free_threads;
     if (t) free_threads = t->next_free;
@@ -45,7 +50,7 @@ struct thread *stranger_begins(void) {
     enter();
     struct thread *t = NULL;
     if (n_made < THREADS_MAX) {
-        uint32_t tid = n_made++, party = tid == 0 ? 0 : 1;
+        uint32_t tid = new_number(), party = tid == 0 ? 0 : 1;
         if (n_parties <= party) n_parties = party + 1;
         made[tid] = (struct made){.party = party, .handle = pthread_self()};
         parties[party].threads++;
@@ -99,11 +104,11 @@ uint32_t thread_is_made(struct thread *parent, uintptr_t start, uintptr_t caller
     uint32_t p = party_of(start, key, n, frames), tid;
     parties[p].threads++;
     if (n_made < LATE_FROM) {
-        tid = n_made++;
+        tid = new_number();
         made[tid] = (struct made){.party = p, .parent = parent->tid, .parent_segment = parent->segment};
     } else { /* one number for all further threads of a party, which may run at any time */
         no_room(AT_LATE);
-        if (!parties[p].late) parties[p].late = n_made++, made[parties[p].late] = (struct made){.party = p};
+        if (!parties[p].late) parties[p].late = new_number(), made[parties[p].late] = (struct made){.party = p};
         tid = parties[p].late;
     }
     parent->segment++;

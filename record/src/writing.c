@@ -235,7 +235,7 @@ static int open_record(void) {
 /* A child that made no thread is worth a record only if it waits, perhaps for itself. The program itself always is. */
 static bool is_worth_writing(void) {
     if (!ready || !*record_prefix || !is_recorder_of_this_process()) return false;
-    return n_made > 1 || getppid() == driver_pid || (threads && GET(threads->waits_op) != OP_NONE);
+    return GET(n_made) > 1 || getppid() == driver_pid || (threads && GET(threads->waits_op) != OP_NONE);
 }
 
 /* Writes the record. A full disk or a limit on the size of files cuts it off, and does not end the program. */
