@@ -133,5 +133,3 @@ void falls_back(struct lock *lock) {
     SET(lock->falls_back, true);
     if (lock->classed) SET(all_classes[lock->class]->falls_back, true);
 }
-
-bool is_grouped(const struct lock *lock) { return lock->classed && GET(all_classes[lock->class]->members) > GROUP_MIN; }

@@ -27,7 +27,8 @@ static void move_event(struct thread *t, int to, int from) {
     set_event(t, to, e->lock, e->op, e->site, e->from);
 }
 
-static void mark_flat(struct thread *t) {
+/* Notes that a thread of the party held the lock and nothing else. */
+void mark_flat(struct thread *t) {
     uint64_t bit = 1ull << (t->party < 63 ? t->party : 63);
     uint64_t *flat = &t->path[0].lock->flat[(t->path[0].op & OP_MASK) != OP_READ];
     if (unlikely(!(GET(*flat) & bit))) __atomic_fetch_or(flat, bit, __ATOMIC_RELAXED);
@@ -72,11 +73,9 @@ static void drop_handed(struct thread *t) {
     else SET(t->n_path, 0);
 }
 
-static bool is_rwlock(const struct lock *l) { return l->kind == RWLOCK || l->kind == RWLOCK_BAR; }
-
-void acquired(struct thread *t, struct lock *l, uint8_t op, uint32_t site) {
+void acquired_below(struct thread *t, struct lock *l, uint8_t op, uint32_t site) {
     if (unlikely(t->handed_seen != GET(n_handed))) drop_handed(t);
-    if (!is_rwlock(l)) SET(l->owner, t->tid + 1);
+    SET(l->owner, t->tid + 1);
     for (int k = t->n_held - 1; k >= 0; k--)
         if (t->held[k].lock == l && l->kind != RWLOCK_BAR) {
             t->held[k].levels++;
@@ -112,7 +111,7 @@ static void cut_released(struct thread *t, int top) {
     SET(t->n_path, n);
 }
 
-void released(struct thread *t, struct lock *l, uint32_t site) {
+void released_below(struct thread *t, struct lock *l, uint32_t site) {
     int k = t->n_held - 1;
     t->refused = NULL;
     while (k >= 0 && t->held[k].lock != l) k--;

@@ -168,29 +168,30 @@ void forget_lock(void *addr);
 void forget_locks_in(uintptr_t from, uintptr_t to);
 bool has_heap_locks(uintptr_t from, uintptr_t to);
 void falls_back(struct lock *lock);
-bool is_grouped(const struct lock *lock);
+/* Whether the lock is one of many that were made at one place. */
+static inline bool is_grouped(const struct lock *lock) { return lock->classed && GET(all_classes[lock->class]->members) > GROUP_MIN; }
 /* Tells the locks of different classes at one place apart. */
 static inline uint64_t salt_of(const struct lock *lock) {
     return lock->classed ? (uint64_t)lock->class << 1 : (uint64_t)lock->id << 1 | 1;
 }
-
-/* ---- sites.c ---- */
-extern struct site *all_sites[SITES_MAX];
-extern uint32_t n_sites;
-extern int max_frames;
-uint32_t site_of(struct thread *t, uintptr_t caller, uint64_t salt);
-uint32_t site_of_stack(uintptr_t caller);
-int stack_of(uintptr_t caller, uintptr_t *frames, int most);
-void pause_at_places(const char *places, long milliseconds);
-bool is_paused(uint32_t site);
-void pause_here(uint32_t site);
-extern bool has_pauses;
 
 /* ---- modules.c ---- */
 extern struct module modules[MODULES_MAX];
 extern uint32_t n_modules, epoch;
 void note_modules(void);
 bool is_in_module(uintptr_t addr);
+
+/* ---- sites.c ---- */
+extern struct site *all_sites[SITES_MAX];
+extern uint32_t n_sites;
+extern int max_frames;
+uint32_t slow_site_of(struct thread *t, uintptr_t key, uintptr_t caller);
+uint32_t site_of_stack(uintptr_t caller);
+int stack_of(uintptr_t caller, uintptr_t *frames, int most);
+void pause_at_places(const char *places, long milliseconds);
+bool is_paused(uint32_t site);
+void pause_here(uint32_t site);
+extern bool has_pauses;
 
 /* ---- threads.c ---- */
 enum { NO_THREAD = 0xffffffff };
@@ -209,11 +210,45 @@ uint32_t thread_of(pthread_t handle);
 void name_thread(pthread_t handle, const char *name);
 void threads_in_child(struct thread *self);
 
+/* The site of an acquisition: the first stack that this caller had for this lock or class. */
+static inline uint32_t site_of(struct thread *t, uintptr_t caller, uint64_t salt) {
+    uintptr_t key = mix(caller ^ (uintptr_t)GET(epoch) << 48, salt);
+    unsigned slot = key % CACHE;
+    return likely(t->sites[slot].key == key) ? t->sites[slot].site : slow_site_of(t, key, caller);
+}
+
 /* ---- paths.c ---- */
-void acquired(struct thread *t, struct lock *lock, uint8_t op, uint32_t site);
-void released(struct thread *t, struct lock *lock, uint32_t site);
-void would_join(struct thread *t, uint32_t party, uint32_t site);
 extern uint32_t n_handed, n_cut;
+void acquired_below(struct thread *t, struct lock *lock, uint8_t op, uint32_t site);
+void released_below(struct thread *t, struct lock *lock, uint32_t site);
+void mark_flat(struct thread *t);
+void would_join(struct thread *t, uint32_t party, uint32_t site);
+
+/* Most sections have one lock, so these do not call for them. */
+static inline void acquired(struct thread *t, struct lock *lock, uint8_t op, uint32_t site) {
+    if (t->n_held || t->handed_seen != GET(n_handed)) {
+        acquired_below(t, lock, op, site);
+        return;
+    }
+    struct event *e = &t->path[0];
+    SET(e->lock, lock), SET(e->op, op), SET(e->site, site);
+    SET(t->n_path, 1);
+    SET(lock->owner, t->tid + 1);
+    t->held[0] = (struct held){lock, 1, 0};
+    t->n_held = 1, t->grew = true;
+}
+
+static inline void released(struct thread *t, struct lock *lock, uint32_t site) {
+    if (t->n_held != 1 || t->n_path != 1 || t->held[0].lock != lock || t->held[0].levels != 1) {
+        released_below(t, lock, site);
+        return;
+    }
+    uint64_t flat = GET(lock->flat[(t->path[0].op & OP_MASK) != OP_READ]);
+    if (unlikely(!(flat >> (t->party < 63 ? t->party : 63) & 1))) mark_flat(t);
+    t->grew = false, t->refused = NULL;
+    SET(t->n_path, 0);
+    t->n_held = 0;
+}
 
 /* ---- keeping.c ---- */
 extern struct path *path_table[BUCKETS], *pattern_table[BUCKETS];

@@ -81,11 +81,8 @@ static struct site *add_site(uintptr_t key, int n, const uintptr_t *frames) {
     return s;
 }
 
-/* The site of an acquisition: the first stack that this caller had for this lock or class. */
-uint32_t site_of(struct thread *t, uintptr_t caller, uint64_t salt) {
-    uintptr_t key = mix(caller ^ (uintptr_t)GET(epoch) << 48, salt);
+uint32_t slow_site_of(struct thread *t, uintptr_t key, uintptr_t caller) {
     unsigned slot = key % CACHE;
-    if (likely(t->sites[slot].key == key)) return t->sites[slot].site;
     struct site *s = find_site(key);
     if (!s) {
         uintptr_t frames[FRAMES_MAX];
