@@ -4,13 +4,13 @@ from __future__ import annotations
 
 import argparse
 import os
-import subprocess
 import sys
 import tempfile
 from typing import NoReturn, Optional
 
 from .explorer import Explorer
 from .judging import DEADLOCK, NO_ANSWER, NO_DEADLOCK, Options, judge_record, tell_answer, worse
+from .library import library
 from .model import Model
 from .present import tell_present
 from .program import CannotRecord, check_program
@@ -69,19 +69,6 @@ def _explorer(seconds: int) -> Explorer:
     return Explorer(program, seconds if is_built else seconds + 180, 1024)
 
 
-def _library() -> str:
-    """Builds the recorder, unless it is there and no source is newer."""
-    path = os.path.join(ROOT, "record", "out", "liblockrecord.so")
-    try:
-        ran = subprocess.run(["make", "-s", "-C", os.path.join(ROOT, "record")], capture_output=True, text=True, check=False)
-        fault = ran.stderr.strip() if ran.returncode else ""
-    except OSError as it:
-        fault = "" if os.path.exists(path) else f"make: {it.strerror}"
-    if fault:
-        raise CannotRecord(f"the recorder cannot be built: {fault}")
-    return path
-
-
 def _fault(text: object) -> int:
     say(f"lockrecord: {text}")
     return NO_ANSWER
@@ -124,7 +111,7 @@ def _confirm(recorder: Recorder, words: list[str], prefix: str, options: Options
 
 def _run(args: argparse.Namespace, options: Options) -> int:
     check_program(args.words[0])
-    recorder = Recorder(_library(), args.frames, args.sem)
+    recorder = Recorder(library(ROOT), args.frames, args.sem)
     name = args.name or os.path.basename(args.words[0])
     with tempfile.TemporaryDirectory(prefix="lockrecord-") as folder:
         prefix = name if args.name else os.path.join(folder, name)

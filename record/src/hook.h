@@ -16,6 +16,7 @@ struct thread *arrive(void);
 void tell_signal(struct thread *t);
 struct lock *look_up(struct thread *t, void *addr, uint8_t kind, uintptr_t caller);
 void catch_signals(void);
+void look_at_allocator(void);
 void make_exit_key(void);
 void ends_with(struct thread *t);
 

@@ -39,6 +39,7 @@ static void at_quick_end(void) { write_at("quick_exit"); }
 __attribute__((constructor)) static void start(void) {
     void *warm[2];
     find_real();
+    look_at_allocator();
     read_options();
     backtrace(warm, 2); /* loads the unwinder now: later it might allocate inside the program's malloc */
     make_exit_key();

@@ -16,7 +16,8 @@ static void on_signal(int sig) {
         return;
     }
     if (t) t->busy = 1;
-    if (t || !leaving) write_record(sig == SIGTERM ? "SIGTERM" : sig == SIGINT ? "SIGINT" : "SIGUSR1"); /* a thread that begins or ends may hold the internal lock */
+    const char *why = sig == SIGTERM ? "SIGTERM" : sig == SIGINT ? "SIGINT" : "SIGUSR1";
+    if (t || !leaving) write_record(why); /* a thread that begins or ends may hold the internal lock */
     if (t) t->busy = 0;
     errno = saved;
     if (sig == SIGUSR1) return;
@@ -55,14 +56,13 @@ void catch_signals(void) {
 EXPORT int sigaction(int sig, const struct sigaction *new, struct sigaction *old) {
     int i = ready ? index_of(sig) : -1;
     if (i < 0) return REAL(sigaction)(sig, new, old);
-    bool was_ours = is_ours[i];
     struct sigaction before = {.sa_handler = SIG_DFL};
-    int r = 0;
-    if (new && is_default(new)) r = catch_signal(sig), is_ours[i] = true;
-    else if (new) {
-        r = REAL(sigaction)(sig, new, was_ours ? NULL : &before);
-        if (r == 0) is_ours[i] = false;
-    } else if (!was_ours) r = REAL(sigaction)(sig, NULL, &before);
+    int r = is_ours[i] ? 0 : REAL(sigaction)(sig, NULL, &before);
+    if (r == 0 && new) {
+        bool becomes_ours = is_default(new);
+        r = becomes_ours ? catch_signal(sig) : REAL(sigaction)(sig, new, NULL);
+        if (r == 0) is_ours[i] = becomes_ours;
+    }
     if (r == 0 && old) *old = before;
     return r;
 }

@@ -1,4 +1,5 @@
-/* The arena, the spin lock around the tables, and the counts of what had no room. The recorder never calls malloc: an allocator may lock inside it. */
+/* The arena, the spin lock around the tables, and the counts of what had no room.
+   The recorder never calls malloc: an allocator may lock inside it. */
 #define _GNU_SOURCE
 #include "record.h"
 #include <errno.h>

@@ -24,6 +24,7 @@ static void *find(const char *name) {
 #define FIND(result, name, arguments) real.name = (result(*) arguments)find(#name);
 void find_real(void) {
     n_missing = 0;
+    real.free = (void (*)(void *))find("free"); /* first: a failed look-up below may free its message */
     EACH_REAL(FIND)
     real_is_found = true;
 }

@@ -85,7 +85,8 @@ static void put_program(void) {
     }
     for (uint32_t i = 0; i < n_made; i++) {
         const struct made *m = &made[i];
-        put("thread %u %u %u %u %s %u %u %s\n", i, m->party, m->parent, m->parent_segment, m->joined ? "joined" : "-", m->joiner, m->joiner_segment, m->name);
+        put("thread %u %u %u %u %s", i, m->party, m->parent, m->parent_segment, m->joined ? "joined" : "-");
+        put(" %u %u %s\n", m->joiner, m->joiner_segment, m->name);
     }
     for (uint32_t i = 0; i < n_sites; i++) {
         put("site %u %u", i, all_sites[i]->epoch);
@@ -168,7 +169,8 @@ static void put_present(const struct thread *t) {
 }
 
 static void put_counts(void) {
-    static const char *const names[LIMITS] = {"locks", "held", "length", "paths", "patterns", "threads", "memory", "late", "parties", "classes", "sites", "modules", "notes"};
+    static const char *const names[LIMITS] = {"locks", "held",    "length",  "paths", "patterns", "threads", "memory",
+                                              "late",  "parties", "classes", "sites", "modules",  "notes"};
     for (int i = 0; i < LIMITS; i++)
         if (GET(without_room[i])) put("limit %s %u\n", names[i], GET(without_room[i]));
     for (int i = 0; i < n_missing; i++) put("missing %s\n", missing[i]);

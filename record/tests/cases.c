@@ -75,15 +75,17 @@ static void (*use)(pthread_mutex_t *first, pthread_mutex_t *second);
 THREAD(use_plugin) { return use(&a, &b), next(x); }
 THREAD(use_again) { return use(&b, &a), next(x); }
 static int unload(const char *path) {
+    const start_fn start[] = {use_plugin, use_again};
+    pthread_t t[2];
     for (int i = 0; i < 2; i++) {
         void *handle = dlopen(path, RTLD_NOW);
         if (!handle) return fprintf(stderr, "%s\n", dlerror()), 1;
         use = (void (*)(pthread_mutex_t *, pthread_mutex_t *))dlsym(handle, "use");
-        if (i) IN_TURN(use_again);
-        else IN_TURN(use_plugin);
+        pthread_create(&t[i], NULL, start[i], NULL);
+        wait_for_turn(i + 1);
         dlclose(handle);
     }
-    return 0;
+    return pthread_join(t[0], NULL) + pthread_join(t[1], NULL);
 }
 
 static void unlock(void *m) { pthread_mutex_unlock(m); }
@@ -108,7 +110,7 @@ int main(int argc, char **argv) {
     const struct {
         const char *word;
         int (*does)(void);
-    } words[] = {{"in-order", in_order}, {"both-orders", both_orders}, {"hang", hang}, {"hold", hold}, {"signals", see_signals}, {"exec", call_exec}, {"fork", fork_child}, {"cancel", cancel}};
+    } words[] = {{"both-orders", both_orders}, {"hang", hang}, {"hold", hold}, {"signals", see_signals}, {"exec", call_exec}, {"fork", fork_child}, {"cancel", cancel}};
     if (argc == 3) return unload(argv[2]); /* cases unload PLUGIN */
     for (size_t i = 0; argc == 2 && i < sizeof words / sizeof *words; i++)
         if (!strcmp(argv[1], words[i].word)) return words[i].does();

@@ -14,8 +14,13 @@ static char kinds[LOCKS + 1], lines[THREADS][LINE];
 static int turn;
 
 static int call(char what, int l) {
-    if (kinds[l] == 'm') return what == 'L' ? pthread_mutex_lock(&mutexes[l]) : what == 'T' ? pthread_mutex_trylock(&mutexes[l]) : pthread_mutex_unlock(&mutexes[l]);
-    return what == 'R' ? pthread_rwlock_rdlock(&rwlocks[l]) : what == 'W' ? pthread_rwlock_wrlock(&rwlocks[l]) : pthread_rwlock_unlock(&rwlocks[l]);
+    switch (what) {
+    case 'L': return pthread_mutex_lock(&mutexes[l]);
+    case 'T': return pthread_mutex_trylock(&mutexes[l]);
+    case 'R': return pthread_rwlock_rdlock(&rwlocks[l]);
+    case 'W': return pthread_rwlock_wrlock(&rwlocks[l]);
+    default: return kinds[l] == 'm' ? pthread_mutex_unlock(&mutexes[l]) : pthread_rwlock_unlock(&rwlocks[l]);
+    }
 }
 
 static void *run(void *x) {
