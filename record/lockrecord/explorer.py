@@ -30,5 +30,5 @@ class Explorer:
             return Answer("", f"{self.program}: {fault.strerror}", False)
         if ran.returncode in (0, 3) and ran.stdout:
             return Answer(ran.stdout, "", False)
-        fault = ran.stderr.strip().split("\n")[-1] or f"{self.program} ended with status {ran.returncode}"
-        return Answer("", fault, "out of memory" in fault or "too many states" in fault)
+        why = ran.stderr.strip().split("\n")[-1] or f"{self.program} ended with status {ran.returncode}"
+        return Answer("", why, "out of memory" in why or "too many states" in why)

@@ -72,7 +72,7 @@ class Judge:
         """The plan of one strongly connected part: a deadlock lies within one."""
         head = self._head + ["One circle of the lock order, or several that meet, and the locks around them."]
         reduced = search_plan(self._model, part, self._options.copies, head)
-        threads = ", ".join(f"{count} {party}" for party, count in sorted(reduced.counts.items()))
+        threads = ", ".join(f"{party} {count}" for party, count in sorted(reduced.counts.items()))
         say(f"{path}: {len(reduced.core)} locks in circles, {len(reduced.around)} around them, threads: {threads}")
         status = self._ask(reduced.plan, path)
         if status == NO_DEADLOCK and reduced.is_limited and circle_of_threads(self._model, part) is not None:

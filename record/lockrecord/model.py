@@ -11,7 +11,7 @@ from .record_file import ITSELF, Occurs, Path, Place, Record, Step
 from .report import progress
 from .timing import Timing
 
-LATE = 100  # the index of a lock of a class that was small when the pattern was recorded: any other one may be meant
+LATE = 100  # the place of a lock of a class that was small when the pattern was recorded: any other one may be meant
 FEW = 6  # most locks that stand for the many of a class
 
 
@@ -51,7 +51,7 @@ class PatternStep(NamedTuple):
     op: str
     target: int
     is_class: bool
-    index: int
+    by_use: int
     by_addr: int
     by_age: int
 
@@ -81,7 +81,7 @@ class Model:
         self.tries_wait, self.fell_back = tries_wait, set[str]()
         self.groups: dict[int, Group] = {}
         self.paths: dict[str, dict[Events, Made]] = defaultdict(dict)
-        self._overflowed = {s.target for p in record.patterns for s in p.steps if s.index != ITSELF and s.op != "join"}
+        self._overflowed = {s.target for p in record.patterns for s in p.steps if s.by_use != ITSELF and s.op != "join"}
         patterns = self._collect()
         self._make_groups(patterns)
         for i, ((party, steps), made) in enumerate(patterns.items()):
@@ -158,14 +158,14 @@ class Model:
         late: dict[int, list[int]] = defaultdict(list)
         result = []
         for s in steps:
-            target, is_class, index = s.target, s.op != "join" and s.index != ITSELF, s.index
+            target, is_class, by_use = s.target, s.op != "join" and s.by_use != ITSELF, s.by_use
             cls = None if s.op == "join" or is_class else self.record.locks[s.target].cls
             if cls is not None and cls in self._overflowed:
                 if s.target not in late[cls]:
                     late[cls].append(s.target)
-                target, is_class, index = cls, True, LATE + late[cls].index(s.target)
+                target, is_class, by_use = cls, True, LATE + late[cls].index(s.target)
             op = s.op if s.op == "join" else self._op(s.op, None, target) if is_class else self._op(s.op, s.target)
-            result.append(PatternStep(op, target, is_class, index, s.by_addr, s.by_age))
+            result.append(PatternStep(op, target, is_class, by_use, s.by_addr, s.by_age))
         return tuple(result)
 
     def _make_groups(self, patterns: Patterns) -> None:
@@ -176,9 +176,9 @@ class Model:
         for _, steps in patterns:
             for s in steps:
                 if s.is_class:
-                    most[s.target] = max(most[s.target], len({o.index for o in steps if o.is_class and o.target == s.target}))
-                    by_addr[s.target] &= s.by_addr == s.index
-                    by_age[s.target] &= s.by_age == s.index
+                    most[s.target] = max(most[s.target], len({o.by_use for o in steps if o.is_class and o.target == s.target}))
+                    by_addr[s.target] &= s.by_addr == s.by_use
+                    by_age[s.target] &= s.by_age == s.by_use
         for cls, count in most.items():
             it = self.record.classes[cls]
             stem = plain(self.names.stem(it.site))[:50] + ".any"
@@ -196,7 +196,7 @@ class Model:
         used: dict[int, dict[int, int]] = {}
         for s in steps:
             if s.is_class:
-                used.setdefault(s.target, {})[s.index] = s.by_age if self.groups[s.target].is_by_age else s.by_addr
+                used.setdefault(s.target, {})[s.by_use] = s.by_age if self.groups[s.target].is_by_age else s.by_addr
         choices = []
         for cls, ranks in used.items():
             order = sorted(ranks, key=lambda it: ranks[it])
@@ -209,7 +209,7 @@ class Model:
                 if s.op == "join":
                     events.append((s.op, Join(self.names.party_of[s.target])))
                 else:
-                    events.append((s.op, at[s.target][s.index] if s.is_class else self.names.lock[s.target]))
+                    events.append((s.op, at[s.target][s.by_use] if s.is_class else self.names.lock[s.target]))
             self._add(party, events, made)
 
 

@@ -90,15 +90,13 @@ class Plan:
 
     def _branch(self, name: str, depth: int, prefix: Events, tree: Tree, others: list[Events]) -> None:
         several = len(tree) + len(others) > 1
-        word = "either"
-        for part in [*tree, *others]:
-            if several:
-                self.lines.append(PAD * depth + word)
-                word = "or"
-            if isinstance(part, Event):
-                self._node(name, depth + several, prefix + (part,), tree[part])
-            else:
-                self._straight(name, depth + several, part, 0, [])
+        words = iter(["either"] + ["or"] * (len(tree) + len(others)))
+        for event, rest in tree.items():
+            self.lines += [PAD * depth + next(words)] * several
+            self._node(name, depth + several, prefix + (event,), rest)
+        for events in others:
+            self.lines += [PAD * depth + next(words)] * several
+            self._straight(name, depth + several, events, 0, [])
         if several:
             self.lines.append(PAD * depth + "end")
 

@@ -5,7 +5,7 @@ from __future__ import annotations
 from dataclasses import dataclass, field
 from typing import NamedTuple, Optional
 
-ITSELF = 0xFF  # the index of a lock that stands for itself
+ITSELF = 0xFF  # the place of a lock that stands for itself
 LOADED = 0xFFFFFFFF  # the last epoch of a module that is still there
 
 
@@ -21,12 +21,12 @@ class Place(NamedTuple):
 
 
 class Step(NamedTuple):
-    """A call on a path. `target` is a lock, a class if the index is not ITSELF, or the party that is joined."""
+    """A call on a path. `target` is a lock, a class if `by_use` is not ITSELF, or the party that is joined."""
 
     op: str
     target: int
     place: Place
-    index: int = ITSELF
+    by_use: int = ITSELF
     by_addr: int = 0
     by_age: int = 0
 

@@ -71,9 +71,9 @@ def search_plan(model: Model, edges: list[Edge], most: int, head: list[str]) -> 
     plan = Plan(model, head, counts)
     names = {it.target for paths in cut.values() for events in paths for it in events}
     plan.add_locks({it for it in names if isinstance(it, str)})
-    for party, paths in cut.items():
-        plan.add_party(party, counts[party], paths)
-    for target in core:  # a party that is joined needs its line
+    for party in sorted(cut, key=list(model.names.parties).index):
+        plan.add_party(party, counts[party], cut[party])
+    for target in sorted(core, key=str):  # a party that is joined needs its line
         if isinstance(target, Join) and target.party not in cut:
             plan.add_party(target.party, 1, {})
     is_limited = any(min(model.timing.copies(party), size) > count for party, count in counts.items())
@@ -109,6 +109,6 @@ def order_plan(model: Model, head: list[str]) -> tuple[Plan, set[Target]]:
     names = {it.target for paths in cut.values() for events in paths for it in events}
     plan = Plan(model, head, {})
     plan.add_locks({it for it in names if isinstance(it, str)})
-    for party, mine in cut.items():
-        plan.add_party(party, "*", mine)
+    for party in sorted(cut, key=list(model.names.parties).index):
+        plan.add_party(party, "*", cut[party])
     return plan, names

@@ -78,16 +78,14 @@ def ask_for_record(pid: int, seconds: float = 5.0) -> str:
     """Has a process that runs under the recorder write its record, and returns the path."""
     try:
         with open(f"/proc/{pid}/environ", "rb") as file:
-            env = dict(it.split(b"=", 1) for it in file.read().split(b"\0") if b"=" in it)
-        prefix = env[b"LOCKRECORD_OUT"].decode()
+            env = file.read().split(b"\0")
+        prefix = next((it.partition(b"=")[2].decode() for it in env if it.startswith(b"LOCKRECORD_OUT=")), "")
         with open(f"/proc/{pid}/maps", encoding="utf-8", errors="replace") as maps:
             is_recorded = "liblockrecord.so" in maps.read()
-        if not is_recorded:
-            raise KeyError
+        if not is_recorded or not prefix:
+            raise CannotAsk(f"process {pid} was not started by lockrecord")
         asked = time.time_ns()
         os.kill(pid, signal.SIGUSR1)
-    except KeyError as fault:
-        raise CannotAsk(f"process {pid} was not started by lockrecord") from fault
     except OSError as fault:
         raise CannotAsk(f"process {pid}: {fault.strerror}") from fault
     end = time.monotonic() + seconds

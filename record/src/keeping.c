@@ -4,7 +4,7 @@
 
 struct path *path_table[BUCKETS], *pattern_table[BUCKETS];
 uint32_t n_paths, n_patterns;
-enum { ITSELF = 0xff }; /* the index of a lock that stands for itself */
+enum { ITSELF = 0xff }; /* the place of a lock that stands for itself */
 
 static void add_occurs(struct occurs *o, uint32_t tid, uint32_t segment) {
     if (o->any) return;
@@ -28,7 +28,7 @@ static void place_in_class(const struct thread *t, const struct lock *l, struct 
     for (int k = 0; k < t->n_path; k++) {
         const struct event *o = &t->path[k];
         if (!acquires(o) || o->lock == l || !is_grouped(o->lock) || o->lock->class != l->class || is_used_before(t, k, o->lock)) continue;
-        step->index += !is_used_before(t, k, l);
+        step->by_use += !is_used_before(t, k, l);
         step->by_addr += (uintptr_t)o->lock->addr < (uintptr_t)l->addr;
         step->by_age += o->lock->born < l->born;
     }
@@ -47,8 +47,8 @@ static bool make_pattern(const struct thread *t, struct step *steps, uint64_t *h
             several = true;
             s->id = e->lock->class;
             place_in_class(t, e->lock, s);
-        } else s->id = e->lock->id, s->index = ITSELF;
-        *hash = mix(*hash, s->op | (uint64_t)s->id << 8 | (uint64_t)s->index << 40 | (uint64_t)s->by_addr << 48 | (uint64_t)s->by_age << 56);
+        } else s->id = e->lock->id, s->by_use = ITSELF;
+        *hash = mix(*hash, s->op | (uint64_t)s->id << 8 | (uint64_t)s->by_use << 40 | (uint64_t)s->by_addr << 48 | (uint64_t)s->by_age << 56);
     }
     return several;
 }
@@ -56,7 +56,7 @@ static bool make_pattern(const struct thread *t, struct step *steps, uint64_t *h
 /* Keeps the records of the locks that these steps name. */
 static void pin(const struct thread *t, const struct step *steps) {
     for (int i = 0; i < t->n_path; i++)
-        if (steps[i].index == ITSELF) t->path[i].lock->pinned = true;
+        if (steps[i].by_use == ITSELF) t->path[i].lock->pinned = true;
 }
 
 /* The caller of the functions below holds the internal lock. */
@@ -86,7 +86,7 @@ static void keep_concrete(struct thread *t, struct path *pattern, uint64_t hash,
     if (!p && pattern && pattern->concretes == CONCRETE_MAX) pattern->overflow = true;
     else if (!p) {
         for (int i = 0; i < t->n_path; i++)
-            if ((steps[i].op & OP_MASK) != OP_JOIN) steps[i].id = t->path[i].lock->id, steps[i].index = ITSELF;
+            if ((steps[i].op & OP_MASK) != OP_JOIN) steps[i].id = t->path[i].lock->id, steps[i].by_use = ITSELF;
         p = add(path_table, &n_paths, AT_PATHS, t, hash, steps);
         if (p) pin(t, steps);
         if (p && pattern) pattern->concretes++;

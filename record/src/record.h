@@ -113,7 +113,7 @@ struct occurs {
 struct step {
     uint32_t id; /* of a lock, a class or a party */
     uint32_t site;
-    uint8_t op, index, by_addr, by_age;
+    uint8_t op, by_use, by_addr, by_age;
 };
 
 /* A path of locks, or a pattern, in which classes stand for locks. */

@@ -134,7 +134,7 @@ static void put_paths(void) {
             for (int i = 0; i < p->n; i++) {
                 const struct step *s = &p->steps[i];
                 put_call(s->op, s->id, s->site);
-                put(":%u:%u:%u", s->index, s->by_addr, s->by_age);
+                put(":%u:%u:%u", s->by_use, s->by_addr, s->by_age);
             }
             put_occurs(&p->occurs);
         }
