@@ -80,7 +80,7 @@ def _check_records(run: Run, program: str) -> Optional[str]:
         return None
     if run.status > 128:
         return f"{program} was ended by signal {run.status - 128} and left no record"
-    return f"{program} left no record: the recorder was not loaded, or the record could not be written (full disk?)"
+    return f"{program} left no record: the recorder was not loaded, or could not write there, as with a full disk or as another user"
 
 
 def _judge(run: Run, prefix: str, name: str, options: Options) -> int:
@@ -114,6 +114,8 @@ def _run(args: argparse.Namespace, options: Options) -> int:
     recorder = Recorder(library(ROOT), args.frames, args.sem)
     name = args.name or os.path.basename(args.words[0])
     with tempfile.TemporaryDirectory(prefix="lockrecord-") as folder:
+        if os.getuid() == 0:
+            os.chmod(folder, 0o1777)  # a server that root starts may go on as another user
         prefix = name if args.name else os.path.join(folder, name)
         run = recorder.run(args.words, prefix, args.run_seconds)
         if run.status:
