@@ -65,25 +65,15 @@ def _edges_of_life(model: Model, party: str) -> list[Edge]:
         for i, event in enumerate(events):
             if event.waits and event.op != "join":
                 edges.append(Edge(party, Join(party), True, event.target, EXCLUSIVE[event.call], (), events, i, span))
-    for lock, name, is_exclusive in flat_locks(model, party):
-        event = Event("read" if not is_exclusive else "write" if model.names.kind[name] != "mutex" else "lock", name)
-        edges.append(Edge(party, Join(party), True, name, is_exclusive, (), (event,), 0, None))
+    for it in model.alone(party):
+        event = Event("read" if not it.is_exclusive else "write" if model.names.kind[it.name] != "mutex" else "lock", it.name)
+        edges.append(Edge(party, Join(party), True, it.name, it.is_exclusive, (), (event,), 0, None))
     return edges
-
-
-def flat_locks(model: Model, party: str) -> list[tuple[int, str, bool]]:
-    """The locks that threads of the party acquired while they held nothing else, and whether exclusively."""
-    found = []
-    for lock, masks in model.record.flat.items():
-        for is_exclusive, mask in zip((False, True), masks):
-            if any(mask >> min(number, 63) & 1 for number, name in model.names.party_of.items() if name == party):
-                found.append((lock, model.names.lock[lock], is_exclusive))
-    return found
 
 
 def written_locks(model: Model) -> set[Target]:
     """Locks that some thread acquires exclusively."""
-    written: set[Target] = {model.names.lock[lock] for lock, (_, exclusive) in model.record.flat.items() if exclusive}
+    written: set[Target] = {it.name for party in model.names.parties for it in model.alone(party) if it.is_exclusive}
     for paths in model.paths.values():
         written |= {it.target for events in paths for it in events if it.call in ("write", "lock")}
     return written

@@ -118,7 +118,9 @@ def _run(args: argparse.Namespace, options: Options) -> int:
             os.chmod(folder, 0o1777)  # a server that root starts may go on as another user
         prefix = name if args.name else os.path.join(folder, name)
         run = recorder.run(args.words, prefix, args.run_seconds)
-        if run.status:
+        if run.is_ended:
+            say(f"lockrecord: the program was ended after {args.run_seconds} seconds")
+        elif run.status:
             say(f"lockrecord: the program ended with {f'signal {run.status - 128}' if run.status > 128 else f'status {run.status}'}")
         lacking = _check_records(run, args.words[0])
         if lacking:
@@ -126,7 +128,7 @@ def _run(args: argparse.Namespace, options: Options) -> int:
         status = _judge(run, prefix, name, options)
         if args.confirm and options.suspects:
             _confirm(recorder, args.words, prefix, options, args.pause, run.seconds)
-    return status if status != NO_DEADLOCK else run.status
+    return status if status != NO_DEADLOCK or run.is_ended else run.status
 
 
 def _ask_plan(path: str, options: Options) -> int:

@@ -131,7 +131,7 @@ def tell_answer(path: str, text: str, answer: Answer) -> list[int]:
     except NotFollowed:
         say(answer.text.split("\n", 1)[1].rstrip())
         return []
-    lines, width = text.split("\n"), max(len(it.text) for it in steps)
+    lines, width = text.split("\n"), max((len(it.text) for it in steps), default=0)
     for step in steps:
         comment = lines[step.line - 1].partition("#")[2].strip() if step.line else ""
         say(f"  {step.text:{width}}  {comment}".rstrip())

@@ -56,6 +56,14 @@ class PatternStep(NamedTuple):
     by_age: int
 
 
+class Alone(NamedTuple):
+    """A lock that some thread acquired while it held nothing else."""
+
+    name: str
+    is_exclusive: bool
+    place: Place
+
+
 Patterns = dict[tuple[int, tuple[PatternStep, ...]], Made]
 
 
@@ -87,6 +95,13 @@ class Model:
         for i, ((party, steps), made) in enumerate(patterns.items()):
             progress("patterns", i, len(patterns))
             self._expand(party, steps, made)
+
+    def alone(self, party: str) -> list[Alone]:
+        """What threads of the party acquired while they held nothing else."""
+        bits = sum({1 << min(number, 63) for number, name in self.names.party_of.items() if name == party})
+        flats = [([self.names.lock[n]], flat) for n, flat in self.record.flat.items() if self.record.locks[n].cls not in self.groups]
+        flats += [(group.names, self.record.classes[cls].flat) for cls, group in self.groups.items()]
+        return [Alone(name, i == 1, flat[i].place) for names, flat in flats for i in range(2) if flat[i].parties & bits for name in names]
 
     def _op(self, op: str, lock: Optional[int], cls: Optional[int] = None) -> str:
         """A try whose refusal was seen to lead to a wait for the lock is an acquisition that may wait."""

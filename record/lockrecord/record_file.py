@@ -67,9 +67,19 @@ class Thread(NamedTuple):
     name: str
 
 
+class Flat(NamedTuple):
+    """The parties that acquired a lock and held nothing else, as bits, and one place of it."""
+
+    parties: int
+    place: Place
+
+
 class LockClass(NamedTuple):
+    """The locks that were made at one place."""
+
     site: int
     members: int
+    flat: tuple[Flat, Flat]  # shared, exclusive
     falls_back: bool
 
 
@@ -113,7 +123,7 @@ class Record:
     sites: dict[int, Site] = field(default_factory=dict)
     classes: dict[int, LockClass] = field(default_factory=dict)
     locks: dict[int, Lock] = field(default_factory=dict)
-    flat: dict[int, tuple[int, int]] = field(default_factory=dict)  # lock -> parties that acquired it alone, shared and exclusive
+    flat: dict[int, tuple[Flat, Flat]] = field(default_factory=dict)
     paths: list[Path] = field(default_factory=list)
     patterns: list[Path] = field(default_factory=list)
     notes: list[Note] = field(default_factory=list)
@@ -149,6 +159,11 @@ def _present(words: list[str]) -> Present:
     return Present(int(words[0]), int(words[1]), int(words[2]), tuple(path), waits, sleeps)
 
 
+def _flat(words: list[str]) -> tuple[Flat, Flat]:
+    shared, exclusive = (Flat(int(bits, 16), Place(int(site))) for bits, site in (it.split(":") for it in words))
+    return shared, exclusive
+
+
 def _hexes(words: list[str]) -> tuple[int, ...]:
     return tuple(int(it, 16) for it in words)
 
@@ -175,12 +190,12 @@ def _read_program(record: Record, kind: str, w: list[str], line: str) -> None:
 
 def _read_locks(record: Record, kind: str, w: list[str]) -> None:
     if kind == "class":
-        record.classes[int(w[0])] = LockClass(int(w[1]), int(w[2]), "falls-back" in w)
+        record.classes[int(w[0])] = LockClass(int(w[1]), int(w[2]), _flat(w[3:5]), "falls-back" in w)
     elif kind == "lock":
         cls = int(w[3][1:]) if w[3][0] == "c" else None
         record.locks[int(w[0])] = Lock(int(w[1], 16), w[2], cls, int(w[4]), int(w[5]), "handed" in w, "falls-back" in w)
     elif kind == "flat":
-        record.flat[int(w[0])] = (int(w[1], 16), int(w[2], 16))
+        record.flat[int(w[0])] = _flat(w[1:3])
     elif kind == "path":
         record.paths.append(_path(w))
     elif kind == "pattern":

@@ -5,10 +5,9 @@ from __future__ import annotations
 from collections import defaultdict
 from typing import NamedTuple
 
-from .circles import Edge, flat_locks, targets_of
+from .circles import Edge, targets_of
 from .model import Event, Events, Join, Model, Target
 from .plan import Places, Plan, maximal, project
-from .record_file import Place
 
 Cut = dict[str, dict[Events, Places]]  # party -> its paths, each up to its last edge on a circle
 
@@ -25,7 +24,7 @@ def _places(model: Model, e: Edge) -> Places:
     made = model.paths.get(e.party, {}).get(e.events)
     if made:
         return made.places
-    return (Place(next(model.record.locks[n].site for n, name in model.names.lock.items() if name == e.want)),)
+    return (next(it.place for it in model.alone(e.party) if it.name == e.want),)
 
 
 def _add_writers(model: Model, core: set[Target], cut: Cut, counts: dict[str, int]) -> None:
@@ -35,12 +34,12 @@ def _add_writers(model: Model, core: set[Target], cut: Cut, counts: dict[str, in
         return
     for party in model.names.parties:
         found: dict[Events, Places] = {}
-        for lock, name, is_exclusive in flat_locks(model, party):
-            if name in bars and is_exclusive:
-                found[(Event("write", name),)] = (Place(model.record.locks[lock].site),)
+        for it in model.alone(party):
+            if it.name in bars and it.is_exclusive:
+                found[(Event("write", it.name),)] = (it.place,)
         for events, made in model.paths.get(party, {}).items():
-            for i, it in enumerate(events):
-                if it.op == "write" and it.target in bars:
+            for i, event in enumerate(events):
+                if event.op == "write" and event.target in bars:
                     found[events[: i + 1]] = made.places[: i + 1]
         if found:
             mine = cut.setdefault(party, {})
@@ -85,9 +84,9 @@ def circle_plan(model: Model, circle: list[Edge], head: list[str]) -> Plan:
     parts: list[tuple[str, Events, Places]] = [(e.party, e.events[: e.at + 1], _places(model, e)[: e.at + 1]) for e in circle]
     bars = {it.target for _, events, _ in parts for it in events if isinstance(it.target, str) and model.names.kind[it.target] == "bar"}
     for party in model.names.parties:
-        for lock, name, is_exclusive in flat_locks(model, party):
-            if name in bars and is_exclusive:
-                parts.append((party, (Event("write", name),), (Place(model.record.locks[lock].site),)))
+        for it in model.alone(party):
+            if it.name in bars and it.is_exclusive:
+                parts.append((party, (Event("write", it.name),), (it.place,)))
     plan = Plan(model, head, {})
     plan.add_locks({it.target for _, events, _ in parts for it in events if isinstance(it.target, str)})
     for i, (party, events, places) in enumerate(parts):

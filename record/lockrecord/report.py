@@ -29,5 +29,5 @@ def say(text: str = "") -> None:
 
 def progress(what: str, done: int, whole: int) -> None:
     """Tells how far a step has come, if nothing was told for a while."""
-    if time.monotonic() - _last >= EVERY:
+    if done and time.monotonic() - _last >= EVERY:
         say(f"lockrecord: {what}: {done} of {whole}")

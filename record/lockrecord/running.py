@@ -16,6 +16,7 @@ class Run(NamedTuple):
     pid: int
     status: int  # 128 and the number of the signal, if one ended it
     seconds: float
+    is_ended: bool  # after the time that it had
     records: list[str]  # the oldest first
 
 
@@ -41,17 +42,19 @@ class Recorder:
         before = [(it, signal.signal(it, lambda number, _: child.send_signal(number))) for it in FORWARDED]
         before.append((signal.SIGINT, signal.signal(signal.SIGINT, lambda *_: None)))  # the terminal sends it to the program too
         try:
-            _wait(child, seconds)
+            is_ended = _wait(child, seconds)
         finally:
             for number, handler in before:
                 signal.signal(number, handler)
         code = child.returncode
-        return Run(child.pid, code if code >= 0 else 128 - code, time.monotonic() - began, records_of(prefix))
+        return Run(child.pid, code if code >= 0 else 128 - code, time.monotonic() - began, is_ended, records_of(prefix))
 
 
-def _wait(child: subprocess.Popen[bytes], seconds: Optional[float]) -> None:
+def _wait(child: subprocess.Popen[bytes], seconds: Optional[float]) -> bool:
+    """Returns whether the program was ended."""
     try:
         child.wait(seconds)
+        return False
     except subprocess.TimeoutExpired:
         child.terminate()
         try:
@@ -59,6 +62,7 @@ def _wait(child: subprocess.Popen[bytes], seconds: Optional[float]) -> None:
         except subprocess.TimeoutExpired:
             child.kill()
             child.wait()
+        return True
 
 
 def records_of(prefix: str) -> list[str]:

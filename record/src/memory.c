@@ -6,11 +6,22 @@
 #include <sched.h>
 #include <stdatomic.h>
 #include <sys/mman.h>
+#include <sys/syscall.h>
+#include <time.h>
+#include <unistd.h>
 
 static char *arena, *arena_end;
 uint64_t arena_bytes;
 uint32_t without_room[LIMITS];
 static atomic_int internal;
+
+/* Sleeps, and is no cancellation point. */
+void nap(long nanoseconds) {
+    struct timespec left = {nanoseconds / 1000000000, nanoseconds % 1000000000};
+    int saved = errno;
+    while (syscall(SYS_nanosleep, &left, &left) && errno == EINTR) {}
+    errno = saved;
+}
 
 void no_room(enum limit limit) { __atomic_fetch_add(&without_room[limit], 1, __ATOMIC_RELAXED); }
 
@@ -35,9 +46,11 @@ void *get(size_t bytes) {
     return r;
 }
 
+/* Sleeps at last: a thread of higher priority must not keep the holder from running. */
 void enter(void) {
-    for (int spins = 0; atomic_exchange_explicit(&internal, 1, memory_order_acquire);)
-        if (++spins > 100) sched_yield(), spins = 0;
+    for (int spins = 1; atomic_exchange_explicit(&internal, 1, memory_order_acquire); spins++)
+        if (spins % 10000 == 0) nap(50000);
+        else if (spins % 100 == 0) sched_yield();
 }
 
 void leave(void) { atomic_store_explicit(&internal, 0, memory_order_release); }

@@ -27,11 +27,18 @@ static void move_event(struct thread *t, int to, int from) {
     set_event(t, to, e->lock, e->op, e->site, e->from);
 }
 
+static void add_flat(struct flat *flat, uint64_t bit, uint32_t site) {
+    if (!__atomic_fetch_or(&flat->parties, bit, __ATOMIC_RELAXED)) SET(flat->site, site);
+}
+
 /* Notes that a thread of the party held the lock and nothing else. */
 void mark_flat(struct thread *t) {
     uint64_t bit = 1ull << (t->party < 63 ? t->party : 63);
-    uint64_t *flat = &t->path[0].lock->flat[(t->path[0].op & OP_MASK) != OP_READ];
-    if (unlikely(!(GET(*flat) & bit))) __atomic_fetch_or(flat, bit, __ATOMIC_RELAXED);
+    struct lock *l = t->path[0].lock;
+    bool is_exclusive = (t->path[0].op & OP_MASK) != OP_READ;
+    if (likely(GET(l->flat[is_exclusive].parties) & bit)) return;
+    add_flat(&l->flat[is_exclusive], bit, t->path[0].site);
+    if (l->classed) add_flat(&all_classes[l->class]->flat[is_exclusive], bit, t->path[0].site);
 }
 
 static void path_seen(struct thread *t) {
@@ -60,8 +67,8 @@ static void shorten(struct thread *t) {
 }
 
 static void drop_held(struct thread *t, int k) {
-    memmove(&t->held[k], &t->held[k + 1], (t->n_held - k - 1) * sizeof t->held[0]);
     t->n_held--;
+    if (k < t->n_held) memmove(&t->held[k], &t->held[k + 1], (t->n_held - k) * sizeof t->held[0]);
 }
 
 /* Another thread released a lock of this one: the path goes on without it. */

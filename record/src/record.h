@@ -20,13 +20,19 @@ enum kind { MUTEX, RECURSIVE, ERRORCHECK, RWLOCK, RWLOCK_BAR, SPIN, SEMAPHORE, O
 /* Low bits: the call. TRY: it never waits for ever. WOKEN: the acquisition at the end of a wait on a condition variable. */
 enum op { OP_LOCK, OP_READ, OP_WRITE, OP_RELEASE, OP_JOIN, OP_MASK = 7, OP_TRY = 8, OP_WOKEN = 16, OP_NONE = 0xff };
 
+/* The parties that acquired a lock and held nothing else, as bits, and one such site. */
+struct flat {
+    uint64_t parties;
+    uint32_t site;
+};
+
 struct lock {
     void *addr; /* NULL: destroyed. Its record is used again unless a path has it */
     uint32_t id, class, first_site, born;
     uint8_t kind;
     bool pinned, handed, classed, falls_back;
     uint32_t owner;   /* 1 more than the number of the thread that acquired it */
-    uint64_t flat[2]; /* parties that acquired it and held nothing else: [0] shared, [1] exclusive */
+    struct flat flat[2]; /* [0] shared, [1] exclusive */
     struct lock *next;
 };
 
@@ -43,6 +49,7 @@ struct site {
 struct class {
     uint32_t id, site, members;
     bool falls_back;
+    struct flat flat[2]; /* of any of its locks: those that are destroyed have no record */
     uintptr_t key;
     struct class *next;
 };
@@ -147,6 +154,7 @@ struct module {
 
 /* ---- memory.c: the arena, the lock around the tables, and what had no room ---- */
 void *get(size_t bytes);
+void nap(long nanoseconds);
 void enter(void);
 void leave(void);
 void reset_lock(void);
@@ -243,7 +251,7 @@ static inline void released(struct thread *t, struct lock *lock, uint32_t site) 
         released_below(t, lock, site);
         return;
     }
-    uint64_t flat = GET(lock->flat[(t->path[0].op & OP_MASK) != OP_READ]);
+    uint64_t flat = GET(lock->flat[(t->path[0].op & OP_MASK) != OP_READ].parties);
     if (unlikely(!(flat >> (t->party < 63 ? t->party : 63) & 1))) mark_flat(t);
     t->grew = false, t->refused = NULL;
     SET(t->n_path, 0);

@@ -6,7 +6,6 @@
 #include <link.h>
 #include <stdlib.h>
 #include <string.h>
-#include <time.h>
 
 static struct site *site_table[BUCKETS], nowhere; /* nowhere: site 0, for those without room */
 struct site *all_sites[SITES_MAX];
@@ -35,11 +34,8 @@ static int names_place(struct dl_phdr_info *info, size_t size, void *data) {
 bool is_paused(uint32_t site) { return GET(all_sites[site]->pauses) > 0; }
 
 void pause_here(uint32_t site) {
-    struct timespec left = {milliseconds / 1000, milliseconds % 1000 * 1000000};
-    int saved = errno;
     __atomic_fetch_sub(&all_sites[site]->pauses, 1, __ATOMIC_RELAXED);
-    while (nanosleep(&left, &left) && errno == EINTR) {}
-    errno = saved;
+    nap(milliseconds * 1000000);
 }
 
 /* Fills in the return addresses from this caller on, or the caller alone if the stack does not have it. */

@@ -104,19 +104,28 @@ static void pin_present(void) {
     }
 }
 
+static void put_flat(const struct flat *flat) {
+    for (int i = 0; i < 2; i++) put(" %x:%u", GET(flat[i].parties), GET(flat[i].site));
+}
+
 static void put_locks(void) {
     static const char *const kinds[KINDS] = {"mutex", "recursive", "errorcheck", "rwlock", "rwlock-bar", "spin", "semaphore", "once"};
     for (uint32_t i = 0; i < n_classes; i++) {
         const struct class *c = all_classes[i];
-        put("class %u %u %u%s\n", i, c->site, GET(c->members), GET(c->falls_back) ? " falls-back" : "");
+        put("class %u %u %u", i, c->site, GET(c->members));
+        put_flat(c->flat);
+        put("%s\n", GET(c->falls_back) ? " falls-back" : "");
     }
     for (uint32_t i = 0; i < n_locks; i++) {
         const struct lock *l = all_locks[i];
-        uint64_t flat[2] = {GET(l->flat[0]), GET(l->flat[1])};
-        if (!l->pinned && !(GET(l->addr) && (flat[0] || flat[1]))) continue;
+        bool is_flat = GET(l->flat[0].parties) | GET(l->flat[1].parties);
+        if (!l->pinned && !(GET(l->addr) && is_flat)) continue;
         put("lock %u %x %s %s%u %u %u%s%s\n", i, (uint64_t)(uintptr_t)GET(l->addr), kinds[l->kind], l->classed ? "c" : "-", l->class, l->first_site,
             l->born, GET(l->handed) ? " handed" : "", GET(l->falls_back) ? " falls-back" : "");
-        if (flat[0] | flat[1]) put("flat %u %x %x\n", i, flat[0], flat[1]);
+        if (!is_flat) continue;
+        put("flat %u", i);
+        put_flat(l->flat);
+        put("\n");
     }
 }
 
@@ -240,10 +249,11 @@ static bool is_worth_writing(void) {
     return GET(n_made) > 1 || getppid() == driver_pid || (threads && GET(threads->waits_op) != OP_NONE);
 }
 
-/* Writes the record. A full disk or a limit on the size of files cuts it off, and does not end the program. */
+/* Writes the record. A full disk or a limit on the size of files cuts it off, and does not end the program. No part of it may be cancelled. */
 void write_record(const char *why) {
     if (!is_worth_writing()) return;
-    int saved = errno;
+    int saved = errno, cancelled;
+    pthread_setcancelstate(PTHREAD_CANCEL_DISABLE, &cancelled);
     sigset_t full, old, pending;
     sigemptyset(&full), sigaddset(&full, SIGXFSZ);
     pthread_sigmask(SIG_BLOCK, &full, &old);
@@ -256,5 +266,6 @@ void write_record(const char *why) {
     leave();
     if (!sigismember(&pending, SIGXFSZ)) sigtimedwait(&full, NULL, &(struct timespec){0, 0});
     pthread_sigmask(SIG_SETMASK, &old, NULL);
+    pthread_setcancelstate(cancelled, NULL);
     errno = saved;
 }
