@@ -20,7 +20,7 @@ static void transfer(struct account *from, struct account *to) {
 }
 THREAD(clerk) {
     unsigned seed = (unsigned)(long)x;
-    for (int i = 0; i < 2000; i++) {
+    for (int i = 0; i < 300; i++) {
         int a = rand_r(&seed) % ACCOUNTS, b = rand_r(&seed) % ACCOUNTS;
         if (a != b) transfer(accounts[a], accounts[b]);
     }

@@ -23,9 +23,10 @@ static inline void *next(void *x) {
     return x;
 }
 
-/* Waits until so many threads have called `next`, but not for long: with pauses, threads are to meet. */
+/* Waits until so many threads have called `next`, but not for long under --confirm: there, threads are to meet. */
 static inline void wait_for_turn(int n) {
-    for (int ms = 0; ms < 150 && __atomic_load_n(&turns, __ATOMIC_SEQ_CST) < n; ms++) usleep(1000);
+    int most = getenv("LOCKRECORD_PAUSE") ? 150 : 10000;
+    for (int ms = 0; ms < most && __atomic_load_n(&turns, __ATOMIC_SEQ_CST) < n; ms++) usleep(1000);
 }
 
 static inline void in_turn(int n, const start_fn *start) {
