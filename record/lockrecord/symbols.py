@@ -15,7 +15,7 @@ from .report import progress
 LIBRARY = re.compile(
     r"/rustc/|/library/(std|core|alloc)/|/include/c\+\+/|gthr-default|lock_api|/glibc|/nptl/|\.\./sysdeps|/csu/|libc-start|pthread_create\.c|clone3?\.S"
 )
-WRAPPER = re.compile(r"std::|core::|__gthread|lock_api::|CRYPTO_THREAD_|__libc|start_thread|__clone|__pthread_once|_start$")
+WRAPPER = re.compile(r"libstdc\+\+|libc\+\+|std::|core::|__gthread|lock_api::|CRYPTO_THREAD_|__libc|start_thread|__clone|__pthread_once|_start$")
 
 
 class Frame(NamedTuple):
