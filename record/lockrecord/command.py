@@ -28,7 +28,7 @@ class _Parser(argparse.ArgumentParser):
         sys.exit(2)
 
 
-def _count(text: str) -> int:
+def count(text: str) -> int:
     value = int(text)
     if not 0 < value < 1_000_000:
         raise ValueError
@@ -46,16 +46,16 @@ def _parser() -> _Parser:
     )
     p.add_argument("-o", metavar="NAME", dest="name", help="writes NAME.plan and keeps the records, NAME.PID.rec; otherwise the name is that of the program")
     p.add_argument("--confirm", action="store_true", help="after a deadlock runs the program again, with pauses before the waits of the answer")
-    p.add_argument("--pause", metavar="MS", type=_count, default=200, help="the length of these pauses, 200 at first")
-    p.add_argument("--for", metavar="SECONDS", type=_count, dest="run_seconds", help="ends the program by SIGTERM after this time, as a server")
-    p.add_argument("--hang", metavar="PID", type=_count, help="tells what the threads of a process wait for that lockrecord started and that still runs")
+    p.add_argument("--pause", metavar="MS", type=count, default=200, help="the length of these pauses, 200 at first")
+    p.add_argument("--for", metavar="SECONDS", type=count, dest="run_seconds", help="ends the program by SIGTERM after this time, as a server")
+    p.add_argument("--hang", metavar="PID", type=count, help="tells what the threads of a process wait for that lockrecord started and that still runs")
     p.add_argument("--record", metavar="FILE", help="reduces a record that -o kept, and runs nothing")
     p.add_argument("--plan", metavar="FILE", help="asks about a plan that was changed, and tells the comments of its lines")
     p.add_argument("--sem", action="store_true", help="semaphores of one permit are mutexes, as CPython's locks")
     p.add_argument("--bar", action="store_true", help="waiting writers keep readers out of every reader-writer lock")
     p.add_argument("--tries-wait", action="store_true", help="each try counts as an acquisition that may wait, as jemalloc and CPython need")
-    p.add_argument("--seconds", metavar="N", type=_count, default=20, help="the time for each question to lockexplore, 20 at first")
-    p.add_argument("--copies", metavar="N", type=_count, default=6, help="most threads of a kind in a plan, 6 at first")
+    p.add_argument("--seconds", metavar="N", type=count, default=20, help="the time for each question to lockexplore, 20 at first")
+    p.add_argument("--copies", metavar="N", type=count, default=6, help="most threads of a kind in a plan, 6 at first")
     p.add_argument("--frames", metavar="N", type=int, choices=range(1, 5), help="stack frames of each place, 1 to 4, 3 at first")
     p.add_argument("--report", metavar="FILE", help="writes the report there")
     p.add_argument("words", nargs=argparse.REMAINDER, metavar="PROGRAM ARGS..")
@@ -155,6 +155,7 @@ def main() -> int:
             return judge_record(ask_for_record(args.hang), str(args.hang), options)
         if args.record:
             return judge_record(args.record, args.name or args.record.removesuffix(".rec"), options)
+        args.words = args.words[args.words[:1] == ["--"] :]
         if not args.words:
             _parser().error("which program?")
         return _run(args, options)

@@ -57,7 +57,7 @@ def tell_sleepers(model: Model) -> None:
         below = [o for o in wakers if o.held & it.held]
         if it.kind == "barrier":
             told.add(key)
-            say(f"lockrecord: warning: {where}: a thread that acquires it before this barrier would not come")
+            say(f"lockrecord: warning: {where}: a thread that needs it before it comes to the barrier waits for ever")
         elif below:
             told.add(key)
             all_or_some = "all" if len(below) == len(wakers) else f"{len(below)} of {len(wakers)}"
