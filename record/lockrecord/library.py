@@ -34,7 +34,7 @@ def _build(folder: str, path: str, sources: list[str]) -> None:
     if not shutil.which("make"):
         new = f"{path}.{os.getpid()}"
         words = ["sh", "-c", '"$@" && mv "$0.new" "$0"'.replace("$0.new", new), path, shutil.which("gcc") or "cc", *FLAGS, "-o", new]
-        words += [it for it in sources if it.endswith(".c")] + ["-ldl"]
+        words += [it for it in sources if it.endswith(".c")] + ["-lpthread", "-ldl"]
     ran = subprocess.run(words, capture_output=True, text=True, check=False)
     if ran.returncode:
         raise CannotRecord(f"the recorder cannot be built: {ran.stderr.strip() or 'is there a C compiler?'}")

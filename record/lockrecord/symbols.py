@@ -111,7 +111,8 @@ class Symbols:
 
     def _told(self, addr: int, epoch: int) -> list[Frame]:
         module = self.module(addr, epoch)
-        return self._lines.get((addr, module.base if module else 0), [Frame(f"{addr:#x}", None)])
+        unknown = f"{os.path.basename(module.path)}+{addr - module.base:#x}" if module else f"{addr:#x}"
+        return self._lines.get((addr, module.base if module else 0), [Frame(unknown, None)])
 
     def frames(self, addresses: tuple[int, ...], epoch: int = LOADED) -> list[Frame]:
         """The frames of return addresses, with what was inlined, without the wrappers of libraries if that leaves any."""
