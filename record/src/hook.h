@@ -17,6 +17,7 @@ void tell_signal(struct thread *t);
 struct lock *look_up(struct thread *t, void *addr, uint8_t kind, uintptr_t caller);
 void catch_signals(void);
 void look_at_allocator(void);
+void forget_unborn(void); /* in a forked child */
 void make_exit_key(void);
 void ends_with(struct thread *t);
 

@@ -28,6 +28,7 @@ static void in_parent(void) {
 static void in_child(void) {
     reset_lock();
     threads_in_child(self);
+    forget_unborn();
     forget_paths();
     forget_notes();
     record_in_child();

@@ -35,14 +35,22 @@ struct start {
     struct start *next;
 };
 static struct start *free_starts;
+static atomic_int unborn; /* threads that pthread_create has made or is about to make, and that have not begun */
+
+void forget_unborn(void) { atomic_store(&unborn, 0); }
+
+static void put_back(struct start *s) {
+    enter();
+    s->next = free_starts, free_starts = s;
+    leave();
+}
 
 static void *run_thread(void *arg) {
     leaving = true;
     struct start s = *(struct start *)arg;
-    enter();
-    ((struct start *)arg)->next = free_starts, free_starts = arg;
-    leave();
+    put_back(arg);
     struct thread *t = thread_begins(s.tid, pthread_self());
+    atomic_fetch_sub(&unborn, 1);
     self = t;
     leaving = !t;
     if (t) ends_with(t);
@@ -64,33 +72,46 @@ static struct start *prepare(struct start what, uintptr_t caller) {
     if (s) {
         *s = what;
         s->tid = thread_is_made(t, what.start ? (uintptr_t)what.start : (uintptr_t)what.start11, caller);
+        atomic_fetch_add(&unborn, 1);
     }
     finish(t);
     return s;
 }
 
+static void is_not_made(struct start *s) {
+    put_back(s);
+    atomic_fetch_sub(&unborn, 1);
+}
+
 EXPORT int pthread_create(pthread_t *id, const pthread_attr_t *a, void *(*f)(void *), void *arg) {
     struct start *s = prepare((struct start){.start = f, .arg = arg}, CALLER);
     if (!s) return REAL(pthread_create)(id, a, f, arg);
-    uint32_t tid = s->tid;
     int r = REAL(pthread_create)(id, a, run_thread, s);
-    if (r == 0) thread_has_handle(tid, *id);
+    if (r != 0) is_not_made(s);
     return r;
 }
 
 EXPORT int thrd_create(thrd_t *id, thrd_start_t f, void *arg) {
     struct start *s = prepare((struct start){.start11 = f, .arg = arg}, CALLER);
     if (!s) return REAL(thrd_create)(id, f, arg);
-    uint32_t tid = s->tid;
     int r = REAL(thrd_create)(id, run_thread11, s);
-    if (r == thrd_success) thread_has_handle(tid, *id);
+    if (r != thrd_success) is_not_made(s);
     return r;
 }
 
-/* Returns the number of the thread that is joined, if the record has it. */
-static uint32_t join_begins(struct thread *t, pthread_t handle, bool waits, uintptr_t caller) {
-    begin(t);
+/* Returns the number of the thread with this handle. A thread that has not begun has no handle yet: only it may read the variable that
+   pthread_create filled in, since it may free it. A join waits for it anyway. */
+static uint32_t number_of(pthread_t handle, bool waits) {
     uint32_t tid = thread_of(handle);
+    for (int ms = 0; waits && tid == NO_THREAD && ms < 1000 && atomic_load(&unborn); ms++) nap(1000000), tid = thread_of(handle);
+    return tid;
+}
+
+/* The number is looked up before the real call: after it, another thread may have the handle. */
+static uint32_t join_begins(struct thread *t, pthread_t handle, bool waits, uintptr_t caller) {
+    if (!t) return NO_THREAD;
+    begin(t);
+    uint32_t tid = number_of(handle, waits);
     if (tid != NO_THREAD && waits) {
         uint32_t site = site_of(t, caller, 2);
         SET(t->waits_party, made[tid].party), SET(t->waits_site, site), SET(t->waits_op, OP_JOIN);
@@ -101,6 +122,7 @@ static uint32_t join_begins(struct thread *t, pthread_t handle, bool waits, uint
 }
 
 static void join_ends(struct thread *t, uint32_t tid, bool is_joined) {
+    if (!t) return;
     begin(t);
     SET(t->waits_op, OP_NONE);
     if (tid != NO_THREAD && is_joined) thread_is_joined(t, tid);
@@ -109,9 +131,9 @@ static void join_ends(struct thread *t, uint32_t tid, bool is_joined) {
 
 #define JOIN(handle, waits, is, real_call) \
     struct thread *t = mine(); \
-    uint32_t tid = t ? join_begins(t, handle, waits, CALLER) : NO_THREAD; \
+    uint32_t tid = join_begins(t, handle, waits, CALLER); \
     int r = real_call; \
-    if (t) join_ends(t, tid, is); \
+    join_ends(t, tid, is); \
     return r;
 
 EXPORT int pthread_join(pthread_t h, void **v) { JOIN(h, true, r == 0, REAL(pthread_join)(h, v)) }

@@ -213,7 +213,6 @@ struct thread *stranger_begins(void);
 void thread_ends(struct thread *t);
 uint32_t thread_is_made(struct thread *parent, uintptr_t start, uintptr_t caller);
 void thread_is_joined(struct thread *joiner, uint32_t tid);
-void thread_has_handle(uint32_t tid, pthread_t handle);
 uint32_t thread_of(pthread_t handle);
 void name_thread(pthread_t handle, const char *name);
 void threads_in_child(struct thread *self);

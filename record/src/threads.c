@@ -61,13 +61,6 @@ struct thread *stranger_begins(void) {
     return t;
 }
 
-/* Both the parent and the thread say so: the parent may join before the thread runs. */
-void thread_has_handle(uint32_t tid, pthread_t handle) {
-    enter();
-    if (tid != parties[made[tid].party].late || !tid) made[tid].handle = handle;
-    leave();
-}
-
 void thread_ends(struct thread *t) {
     enter();
     parties[t->party].live--;
