@@ -8,6 +8,7 @@
 #include <stdbool.h>
 #include <threads.h>
 
+/* The mutexes come first: see find_real. */
 #define EACH_REAL(X) \
     X(int, pthread_mutex_init, (pthread_mutex_t *, const pthread_mutexattr_t *)) \
     X(int, pthread_mutex_destroy, (pthread_mutex_t *)) \
