@@ -100,7 +100,7 @@ EXPORT int thrd_create(thrd_t *id, thrd_start_t f, void *arg) {
 }
 
 /* Returns the number of the thread with this handle. A thread that has not begun has no handle yet: only it may read the variable that
-   pthread_create filled in, since it may free it. A join waits for it anyway. */
+   pthread_create filled in, since it may free it. A join waits for it anyway, and a name for a moment. */
 static uint32_t number_of(pthread_t handle, bool waits) {
     uint32_t tid = thread_of(handle);
     for (int ms = 0; waits && tid == NO_THREAD && ms < 1000 && atomic_load(&unborn); ms++) nap(1000000), tid = thread_of(handle);
@@ -149,7 +149,7 @@ EXPORT int pthread_setname_np(pthread_t h, const char *name) {
     struct thread *t = r == 0 ? mine() : NULL;
     if (!t) return r;
     begin(t);
-    name_thread(h, name);
+    name_thread(number_of(h, true), name);
     finish(t);
     return r;
 }

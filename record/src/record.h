@@ -214,7 +214,7 @@ void thread_ends(struct thread *t);
 uint32_t thread_is_made(struct thread *parent, uintptr_t start, uintptr_t caller);
 void thread_is_joined(struct thread *joiner, uint32_t tid);
 uint32_t thread_of(pthread_t handle);
-void name_thread(pthread_t handle, const char *name);
+void name_thread(uint32_t tid, const char *name);
 void threads_in_child(struct thread *self);
 
 /* The site of an acquisition: the first stack that this caller had for this lock or class. */

@@ -127,8 +127,7 @@ uint32_t thread_of(pthread_t handle) {
     return found;
 }
 
-void name_thread(pthread_t handle, const char *name) {
-    uint32_t tid = thread_of(handle);
+void name_thread(uint32_t tid, const char *name) {
     if (tid == NO_THREAD) return;
     enter();
     strncpy(made[tid].name, name, NAME_MAX_BYTES - 1);

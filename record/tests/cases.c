@@ -110,7 +110,9 @@ int main(int argc, char **argv) {
     const struct {
         const char *word;
         int (*does)(void);
-    } words[] = {{"both-orders", both_orders}, {"hang", hang}, {"hold", hold}, {"signals", see_signals}, {"exec", call_exec}, {"fork", fork_child}, {"cancel", cancel}};
+    } words[] = {
+        {"both-orders", both_orders}, {"hang", hang}, {"hold", hold}, {"signals", see_signals}, {"exec", call_exec}, {"fork", fork_child}, {"cancel", cancel},
+    };
     if (argc == 3) return unload(argv[2]); /* cases unload PLUGIN */
     for (size_t i = 0; argc == 2 && i < sizeof words / sizeof *words; i++)
         if (!strcmp(argv[1], words[i].word)) return words[i].does();

@@ -35,7 +35,7 @@ static void turn(struct thread *t, int i, char *own) {
 
 static void *use(void *x) {
     struct thread *t = stranger_begins();
-    name_thread(pthread_self(), "user");
+    name_thread(thread_of(pthread_self()), "user");
     for (int i = 0; t && i < TURNS; i++) turn(t, i, heap[(long)x]);
     if (t) thread_ends(t);
     __atomic_fetch_sub(&left, 1, __ATOMIC_SEQ_CST);
