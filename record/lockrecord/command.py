@@ -6,7 +6,7 @@ import argparse
 import os
 import sys
 import tempfile
-from typing import NoReturn, Optional
+from typing import NoReturn
 
 from .explorer import Explorer
 from .judging import DEADLOCK, NO_ANSWER, NO_DEADLOCK, Options, judge_record, tell_answer, worse
@@ -74,10 +74,10 @@ def _fault(text: object) -> int:
     return NO_ANSWER
 
 
-def _check_records(run: Run, program: str) -> Optional[str]:
-    """Why there is no record of the program itself, if there is none."""
-    if run.records:
-        return None
+def _lacks_record(run: Run, prefix: str, program: str) -> str:
+    """Why there is no record of the program itself, or nothing if there is one."""
+    if any(pid_of(it, prefix) == run.pid for it in run.records):
+        return ""
     if run.status > 128:
         return f"{program} was ended by signal {run.status - 128} and left no record"
     return f"{program} left no record: the recorder was not loaded, or could not write there, as with a full disk or as another user"
@@ -122,10 +122,8 @@ def _run(args: argparse.Namespace, options: Options) -> int:
             say(f"lockrecord: the program was ended after {args.run_seconds} seconds")
         elif run.status:
             say(f"lockrecord: the program ended with {f'signal {run.status - 128}' if run.status > 128 else f'status {run.status}'}")
-        lacking = _check_records(run, args.words[0])
-        if lacking:
-            return _fault(lacking)
-        status = _judge(run, prefix, name, options)
+        lacks = _lacks_record(run, prefix, args.words[0])
+        status = worse(_fault(lacks) if lacks else NO_DEADLOCK, _judge(run, prefix, name, options))
         if args.confirm and options.suspects:
             _confirm(recorder, args.words, prefix, options, args.pause, run.seconds)
     return status if status != NO_DEADLOCK or run.is_ended else run.status
