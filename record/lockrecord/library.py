@@ -21,6 +21,8 @@ def library(root: str) -> str:
     """The path of liblockrecord.so. It is built if it is not there or a source is newer, by one call of the compiler where make is missing."""
     folder = os.path.join(root, "record")
     path, sources = os.path.join(folder, "out", "liblockrecord.so"), glob.glob(os.path.join(folder, "src", "*"))
+    if " " in path or ":" in path:
+        raise CannotRecord(f"the dynamic linker takes no library whose path has a space or a colon: {path}")
     os.makedirs(os.path.dirname(path), exist_ok=True)
     with open(os.path.join(os.path.dirname(path), "lock"), "w", encoding="utf-8") as lock:
         fcntl.flock(lock, fcntl.LOCK_EX)  # several commands may begin at once

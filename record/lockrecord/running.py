@@ -4,6 +4,7 @@ from __future__ import annotations
 
 import glob
 import os
+import re
 import signal
 import subprocess
 import time
@@ -66,7 +67,10 @@ def _wait(child: subprocess.Popen[bytes], seconds: Optional[float]) -> bool:
 
 
 def records_of(prefix: str) -> list[str]:
-    return sorted(glob.glob(glob.escape(prefix) + ".*.rec"), key=lambda it: (os.stat(it).st_mtime_ns, it))
+    """The files PREFIX.PID.rec and PREFIX.PID.K.rec, the oldest first."""
+    found = glob.glob(glob.escape(prefix) + ".*.rec")
+    found = [it for it in found if re.fullmatch(r"\.\d+(\.\d+)?\.rec", it[len(prefix) :])]
+    return sorted(found, key=lambda it: (os.stat(it).st_mtime_ns, it))
 
 
 def pid_of(record: str, prefix: str) -> int:
@@ -88,7 +92,7 @@ def ask_for_record(pid: int, seconds: float = 5.0) -> str:
             is_recorded = "liblockrecord.so" in maps.read()
         if not is_recorded or not prefix:
             raise CannotAsk(f"process {pid} was not started by lockrecord")
-        asked = time.time_ns()
+        asked = time.time_ns() - 20_000_000  # the clock of files is coarser
         os.kill(pid, signal.SIGUSR1)
     except OSError as fault:
         raise CannotAsk(f"process {pid}: {fault.strerror}") from fault
