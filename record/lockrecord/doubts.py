@@ -15,7 +15,7 @@ MEANS = {
     "patterns": "patterns of paths",
     "threads": "threads",
     "memory": "pieces of memory",
-    "late": "threads with a number of their own, so that they may run at any time",
+    "late": "numbers of threads, so that some count as running at any time",
     "parties": "kinds of threads, so that the last one stands for several",
     "classes": "places where locks are made",
     "sites": "source lines",
