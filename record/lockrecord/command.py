@@ -9,7 +9,7 @@ import tempfile
 from typing import NoReturn
 
 from .explorer import Explorer
-from .judging import DEADLOCK, NO_ANSWER, NO_DEADLOCK, Options, judge_record, tell_answer, worse
+from .judging import NO_ANSWER, NO_DEADLOCK, Options, judge_record, status_of, tell_answer, worse
 from .library import library
 from .model import Model
 from .present import tell_present
@@ -137,7 +137,7 @@ def _ask_plan(path: str, options: Options) -> int:
         return _fault(f"{path}: {fault.strerror}")
     answer = options.explorer.ask(path, "*" in " ".join(it.partition("#")[0] for it in text.split("\n")))
     tell_answer(path, text, answer)
-    return NO_ANSWER if not answer.text else DEADLOCK if answer.is_stop else NO_DEADLOCK
+    return status_of(answer, NO_ANSWER)
 
 
 def main() -> int:

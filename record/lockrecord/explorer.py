@@ -12,6 +12,11 @@ class Answer(NamedTuple):
     is_late: bool  # no answer in the time or memory that it had
 
     @property
+    def is_free(self) -> bool:
+        """Whether no interleaving stops. `no order` says nothing of that."""
+        return self.text.startswith("no deadlock")
+
+    @property
     def is_stop(self) -> bool:
         return self.text.startswith(("deadlock", "refused", "assertion"))
 

@@ -76,7 +76,7 @@ class Judge:
         say(f"{path}: {len(reduced.core)} locks in circles, {len(reduced.around)} around them, threads: {threads}")
         status = self._ask(reduced.plan, path)
         if status == NO_DEADLOCK and reduced.is_limited and circle_of_threads(self._model, part) is not None:
-            say(f"but there were more threads than {self._options.copies} of a kind, and circles long enough for them")
+            say(f"no answer for all threads: there were more than {self._options.copies} of a kind, and circles long enough for them (--copies)")
             status = NO_ANSWER
         return self._search_less(part, path, head) if status == LATE else status
 
@@ -96,7 +96,7 @@ class Judge:
             reduced = search_plan(self._model, kept, most, head)
             status = self._ask(reduced.plan, path)
             if status == NO_DEADLOCK and reduced.is_limited:
-                say(f"but that is for {most} threads of each kind only")
+                say(f"no answer for all threads: this is for {most} of a kind only")
                 status = NO_ANSWER
             if status != LATE:
                 break
@@ -112,9 +112,11 @@ class Judge:
             address = self._model.names.address(plan.places[line]) if line in plan.places else None
             if address:
                 self._options.suspects.add(address)
-        if not answer.text:
-            return LATE if answer.is_late else NO_ANSWER
-        return DEADLOCK if answer.is_stop or answer.text.startswith("no order") else NO_DEADLOCK
+        return status_of(answer, LATE if answer.is_late else NO_ANSWER)
+
+
+def status_of(answer: Answer, otherwise: int) -> int:
+    return DEADLOCK if answer.is_stop else NO_DEADLOCK if answer.is_free else otherwise
 
 
 def tell_answer(path: str, text: str, answer: Answer) -> list[int]:
@@ -125,6 +127,8 @@ def tell_answer(path: str, text: str, answer: Answer) -> list[int]:
     first = answer.text.split("\n")[0]
     say(f"{path}: {first if len(first) < 400 else first[:400] + ' ..'}")
     if not answer.is_stop:
+        for line in answer.text.rstrip().split("\n")[1:]:
+            say(f"  {line}")
         return []
     try:
         steps = steps_of(text, answer.text)
