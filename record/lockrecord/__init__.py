@@ -1,0 +1,1 @@
+"""Reduces what liblockrecord.so recorded to plans, and asks lockexplore about them."""

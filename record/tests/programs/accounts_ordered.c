@@ -1,0 +1,3 @@
+/* The same, the lower address first. */
+#define LOWER_FIRST
+#include "accounts.c"

@@ -1,0 +1,3 @@
+/* The same over locks whose waiting writers keep readers out. */
+#define WRITERS_FIRST
+#include "readread.c"
