@@ -63,7 +63,7 @@ def _parser() -> _Parser:
 
 
 def _explorer(seconds: int) -> Explorer:
-    """The explorer of this repository, unless LOCKEXPLORE names another program. Without a build, it compiles for a minute at each question."""
+    """The explorer of this repository, unless LOCKEXPLORE names another program. Without a build, it may first compile for a minute."""
     program = os.environ.get("LOCKEXPLORE") or os.path.join(ROOT, "bin", "lockexplore")
     is_built = program != os.path.join(ROOT, "bin", "lockexplore") or os.path.exists(os.path.join(ROOT, "crates", "lockexplore", "out", "lockexplore"))
     return Explorer(program, seconds if is_built else seconds + 180, 1024)
