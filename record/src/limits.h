@@ -25,6 +25,7 @@ enum {
     NAME_MAX_BYTES = 16,
     ARENA_MIB = 256,
     HEAP_LINES = 1 << 16, /* counters of the heap's lines of 64 bytes that have locks */
+    BLOCK_MAX = 1 << 16,  /* bytes of memory that is freed; of a larger block all locks are looked at */
 };
 
 /* What had no room. The names are those of the lines `limit` of a record, in this order. */

@@ -107,7 +107,7 @@ void forget_lock(void *addr) {
 
 /* Whether memory from one address to the other may have a lock. */
 bool has_heap_locks(uintptr_t from, uintptr_t to) {
-    if (to - from > 64 * 1024) return true;
+    if (to - from > BLOCK_MAX) return true;
     for (uintptr_t at = from & ~(uintptr_t)63; at < to; at += 64)
         if (unlikely(GET(*line_of(at)))) return true;
     return false;
@@ -116,7 +116,7 @@ bool has_heap_locks(uintptr_t from, uintptr_t to) {
 /* Forgets the locks in memory that goes: a later lock at such an address is another one. */
 void forget_locks_in(uintptr_t from, uintptr_t to) {
     enter();
-    if (to - from <= 64 * 1024) {
+    if (to - from <= BLOCK_MAX) {
         for (uintptr_t at = (from + 3) & ~(uintptr_t)3; at < to; at += 4) {
             struct lock *l = GET(*line_of(at)) ? in_table((void *)at) : NULL;
             if (l) remove_lock(l);

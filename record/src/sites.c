@@ -38,14 +38,14 @@ void pause_here(uint32_t site) {
     nap(milliseconds * 1000000);
 }
 
-/* Fills in the return addresses from this caller on, or the caller alone if the stack does not have it. */
+/* Fills in the return addresses from this caller on, or the caller alone if the stack does not have it. `most` is above 0. */
 int stack_of(uintptr_t caller, uintptr_t *frames, int most) {
     uintptr_t all[STACK_MAX + 8];
-    int saved = errno, n = most > 1 ? backtrace((void **)all, most + 8 > STACK_MAX + 8 ? STACK_MAX + 8 : most + 8) : 0, from = 0, kept = 0;
+    int saved = errno, n = most > 1 ? backtrace((void **)all, most + 8 > STACK_MAX + 8 ? STACK_MAX + 8 : most + 8) : 0, from = 0, kept = 1;
     errno = saved;
+    frames[0] = caller;
     while (from < n && all[from] != caller) from++;
-    if (from == n) all[0] = caller, n = 1, from = 0;
-    while (kept < most && from < n) frames[kept++] = all[from++];
+    while (kept < most && ++from < n) frames[kept++] = all[from];
     return kept;
 }
 

@@ -220,7 +220,7 @@ bool is_recorder_of_this_process(void) { return recorded_pid == getpid(); }
 static char *digits_of(char *at, unsigned v) {
     char digits[12];
     int n = 0;
-    do digits[n++] = '0' + v % 10;
+    do digits[n++] = (char)('0' + v % 10);
     while (v /= 10);
     *at++ = '.';
     while (n) *at++ = digits[--n];
