@@ -1,0 +1,137 @@
+-- What the end of a call tells.
+use Rattle.std.proofs.Common.{◌≡◌, ℕ, ◌-◌, ◌^◌, ◌<◌, Bool, true, false, not, ◌&&◌, ◌||◌, ◌==◌, nat_lt, if◌then◌else◌, ◌⊎◌, inl, inr, refl, sym, ap, ◌∙◌, arith, lt-ltb}
+use Rattle.std.proofs.lemmas.Bool.{false≢true, true≢false}
+use Rattle.lock_base.specs.declared.machine.hold.Hold.{Hold}
+use Rattle.lock_base.specs.Holds.{hold_after}
+use Rattle.lock_word.specs.declared.want.ExWant.{ExWant}
+use Rattle.lock_word.specs.declared.want.ExWant.TheVariants as want
+use Rattle.lock_word.specs.declared.down.Down.{Down}
+use Rattle.lock_word.specs.declared.down.Down.TheVariants as down
+use Rattle.lock_word.specs.Word.{word_admits, word_after, amount, step_of_want, step_of_down}
+use Rattle.lock_one.specs.declared.action.Action.TheVariants as action
+use Rattle.lock_one.specs.declared.call.Call.{Call}
+use Rattle.lock_one.specs.declared.stage.Stage.{Stage}
+use Rattle.lock_one.specs.declared.stage.Stage.TheVariants as stage
+use Rattle.lock_one.specs.declared.park.ParkView.{ParkView}
+use Rattle.lock_one.specs.declared.park.Debt.{Debt}
+use Rattle.lock_one.specs.declared.park.Debt.TheVariants as debt
+use Rattle.lock_one.specs.Rule.{is_upgrade}
+use Rattle.lock_one.specs.Machine.{core_of, has_sleepers, sleepers, with_sleepers, acquired, after_try, decide, rest, goes_to, acquiring, begun, removes_reader, alone, free, taking, next_at, next_of}
+use Rattle.lock_one.specs.Steps.{IsAt, IsWake, hold_at}
+use Rattle.lock_one.specs.Answers.{AnswersTell, FirstSteps}
+
+-- only these stages end a call
+ends_not : (st : Stage) (call : Call) (v : ParkView) (b : Bool) → IsAt st call v (action.End b)
+    → ((st ≡ stage.Acquired) × (b ≡ true)) ⊎ (((st ≡ stage.Refused) × (b ≡ false)) ⊎ ((st ≡ stage.Ended) × (b ≡ true)))
+ends_not stage.Look call v b is = let e = is.1 in cc
+ends_not stage.Try call v b is = let e = is.2 in cc
+ends_not stage.Pause call v b is = absurd is.1
+ends_not stage.Mark call v b is = let e = is.4 in cc
+ends_not stage.Sleep call v b is = by (nat_lt call.readers (2 ^ 28)) is.5
+  where
+    by : (c : Bool) → action.End b ≡ (if c then action.Park call.loaded (call.announced || is_upgrade call.want) else action.Yield)
+        → ((stage.Sleep ≡ stage.Acquired) × (b ≡ true)) ⊎ (((stage.Sleep ≡ stage.Refused) × (b ≡ false)) ⊎ ((stage.Sleep ≡ stage.Ended) × (b ≡ true)))
+    by true e = cc
+    by false e = cc
+ends_not stage.Withdraw call v b is = let e = is.2 in cc
+ends_not stage.Leave call v b is = let e = is.4 in cc
+ends_not stage.LookToRemove call v b is = let e = is.4 in cc
+ends_not stage.Remove call v b is = let e = is.4 in cc
+ends_not stage.Release call v b is = let e = is.2 in cc
+ends_not stage.Wake call v b is = by v.debt is.1
+  where
+    by : (d : Debt) → IsWake d (action.End b)
+        → ((stage.Wake ≡ stage.Acquired) × (b ≡ true)) ⊎ (((stage.Wake ≡ stage.Refused) × (b ≡ false)) ⊎ ((stage.Wake ≡ stage.Ended) × (b ≡ true)))
+    by debt.Nothing e = absurd e
+    by debt.One e = cc
+    by debt.All e = cc
+    by debt.Next e = cc
+ends_not stage.WakeRefused call v b is = let e = is.2 in cc
+ends_not stage.Acquired call v b is = let e = is.1 in inl (refl, cc)
+ends_not stage.Refused call v b is = let e = is.1 in inr (inl (refl, cc))
+ends_not stage.Ended call v b is = let e = is.1 in inr (inr (refl, cc))
+
+as_before : (before : Hold) → before.announced ≡ false → record before { announced = false } ≡ before
+as_before before clean = ap (λ (a : Bool). let h : Hold = record { bag = before.bag; announced = a } in h) (sym clean)
+
+refused_holds : (call : Call) (v : ParkView) (before : Hold) → before.announced ≡ false
+    → IsAt call.stage call v (action.End false) → v.held ≡ hold_at call.stage call before → v.held ≡ before
+refused_holds call v before clean is held =
+    elim (ends_not call.stage call v false is) [
+      | inl acquired ↦ absurd (false≢true acquired.1)
+      | inr other ↦
+          elim other [
+            | inl refused ↦ held ∙ (ap (λ st. hold_at st call before) refused.0 ∙ as_before before clean)
+            | inr ended ↦ absurd (false≢true ended.1)
+          ]
+    ]
+
+done_holds : (call : Call) (v : ParkView) (before : Hold) → IsAt call.stage call v (action.End true) → v.held ≡ hold_at call.stage call before
+    → (v.held ≡ hold_after (record before { announced = call.announced }) (step_of_want call.want)) ⊎ (v.held ≡ hold_after before (step_of_down call.down))
+done_holds call v before is held =
+    elim (ends_not call.stage call v true is) [
+      | inl acquired ↦ inl (held ∙ ap (λ st. hold_at st call before) acquired.0)
+      | inr other ↦
+          elim other [
+            | inl refused ↦ absurd (true≢false refused.1)
+            | inr ended ↦ inr (held ∙ ap (λ st. hold_at st call before) ended.0)
+          ]
+    ]
+
+-- a decision that refuses was made of a word that refuses
+decided : (call : Call) (found : ℕ) (b : Bool) → word_admits call.announced call.readers (core_of found) call.want ≡ b
+    → (if b then goes_to (record call { loaded = found; left = after_try call found }) stage.Try (action.Exchange found (after_try call found)) else rest (record call { loaded = found })).1 ≡ action.End false
+    → b ≡ false
+decided call found true e h = cc
+decided call found false e h = refl
+
+refuses : (call : Call) (found : ℕ) → (call.stage ≡ stage.Look) ⊎ (call.stage ≡ stage.Try) → (next_of found call).1 ≡ action.End false
+    → word_admits call.announced call.readers (core_of found) call.want ≡ false
+refuses call found (inl look) h =
+    decided call found (word_admits call.announced call.readers (core_of found) call.want) refl (ap (λ st. (next_at st found call).1) (sym look) ∙ h)
+refuses call found (inr tries) h = by (found == call.loaded) (ap (λ st. (next_at st found call).1) (sym tries) ∙ h)
+  where
+    by : (b : Bool) → (if b then acquired call else decide found call).1 ≡ action.End false → word_admits call.announced call.readers (core_of found) call.want ≡ false
+    by true e = cc
+    by false e = decided call found (word_admits call.announced call.readers (core_of found) call.want) refl e
+
+pub answers_tell : AnswersTell
+answers_tell = record { refused_holds_as_before = refused_holds; done_has_changed = done_holds; word_refuses = refuses }
+
+first_acquires : (readers word : ℕ) (wish : ExWant) (blocks announces : Bool) → word < sleepers → word_admits false readers word wish ≡ true
+    → (next_of word (acquiring readers wish blocks announces).0).1 ≡ action.Exchange word (word_after word wish)
+first_acquires readers word wish blocks announces low admits =
+    let bare : core_of word ≡ word = omega arith in
+    let unset : has_sleepers word ≡ false = ap not (lt-ltb word (2 ^ 35) low) in
+    let call = begun readers stage.Look wish down.Shared blocks announces in
+    by call (word_admits false readers (core_of word) wish) (ap (λ n. word_admits false readers n wish) bare ∙ admits) bare unset
+  where
+    and_no : (a : Bool) → (a && false) ≡ false
+    and_no true = refl
+    and_no false = refl
+
+    by : (call : Call) (b : Bool) → b ≡ true → core_of word ≡ word → has_sleepers word ≡ false
+        → (if b then goes_to (record (begun readers stage.Look wish down.Shared blocks announces) { loaded = word; left = after_try (begun readers stage.Look wish down.Shared blocks announces) word }) stage.Try
+        (action.Exchange word (after_try (begun readers stage.Look wish down.Shared blocks announces) word)) else rest (record (begun readers stage.Look wish down.Shared blocks announces) { loaded = word })).1
+        ≡ action.Exchange word (word_after word wish)
+    by call true e bare unset =
+        ap (λ n. action.Exchange word n)
+        (ap (λ s. with_sleepers (word_after (core_of word) wish) (s || ((readers == 1) && false))) unset
+        ∙ (ap (λ s. with_sleepers (word_after (core_of word) wish) s) (and_no (readers == 1)) ∙ ap (λ n. word_after n wish) bare))
+    by call false e bare unset = absurd (false≢true e)
+
+first_releases : (readers : ℕ) (d : Down) → removes_reader readers d ≡ false → (taking readers d).1 ≡ action.Exchange (alone d) (alone d - amount d)
+first_releases readers d never = ap (λ (b : Bool). (if b then goes_to (begun readers stage.LookToRemove want.Shared d false false) stage.LookToRemove action.Load
+    else free (alone d) (begun readers stage.Release want.Shared d false false)).1) never ∙ by d
+  where
+    by : (d : Down) → (free (alone d) (begun readers stage.Release want.Shared d false false)).1 ≡ action.Exchange (alone d) (alone d - amount d)
+    by down.Shared = refl
+    by down.Exclusive = refl
+    by down.Upgradable = refl
+    by down.ToShared = refl
+    by down.ToUpgradable = refl
+    by down.UpgradableToShared = refl
+    by down.Withdraw = refl
+
+pub first_steps : FirstSteps
+first_steps = record { acquires = first_acquires; releases = first_releases }

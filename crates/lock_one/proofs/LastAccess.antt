@@ -1,0 +1,57 @@
+-- After the exchange of a release, a call asks for a wake-up at most.
+use Rattle.std.proofs.Common.{◌≡◌, ℕ, Bool, true, false, ◌==◌, if◌then◌else◌, List, [], ◌∷◌, refl, sym, ap, subst, ◌∙◌, eq-eqb}
+use Rattle.lock_one.specs.declared.call.Call.{Call}
+use Rattle.lock_one.specs.declared.stage.Stage.TheVariants as stage
+use Rattle.lock_one.specs.declared.park.Debt.{Debt}
+use Rattle.lock_one.specs.declared.park.Debt.TheVariants as debt
+use Rattle.lock_one.specs.Machine.{Progress, next_at, next_of, decide, acquired, refused, ended, wakes, free, release_of, withdrawn, has_sleepers}
+use Rattle.lock_one.specs.Steps.{actions_from, touches_none, LastAccess}
+
+quiet_end : (b : Bool) (call : Call) (answers : List ℕ) → touches_none (actions_from (ended b call) answers) ≡ true
+quiet_end b call [] = refl
+quiet_end b call (a ∷ answers) = refl
+
+quiet_refusal : (call : Call) (answers : List ℕ) → touches_none (actions_from (refused call) answers) ≡ true
+quiet_refusal call [] = refl
+quiet_refusal call (a ∷ answers) = refl
+
+quiet_acquired : (call : Call) (answers : List ℕ) → touches_none (actions_from (acquired call) answers) ≡ true
+quiet_acquired call [] = refl
+quiet_acquired call (a ∷ answers) = refl
+
+quiet_wake : (d : Debt) (call : Call) (answers : List ℕ) → touches_none (actions_from (wakes d call) answers) ≡ true
+quiet_wake debt.Nothing call answers = quiet_end true call answers
+quiet_wake debt.One call [] = refl
+quiet_wake debt.One call (a ∷ answers) = quiet_end true call answers
+quiet_wake debt.All call [] = refl
+quiet_wake debt.All call (a ∷ answers) = quiet_end true call answers
+quiet_wake debt.Next call [] = refl
+quiet_wake debt.Next call (a ∷ answers) = quiet_end true call answers
+
+quiet_withdrawn : (b : Bool) (call : Call) (answers : List ℕ) → has_sleepers call.loaded ≡ b
+    → touches_none (actions_from (withdrawn call) answers) ≡ true
+quiet_withdrawn true call [] e = rw e refl
+quiet_withdrawn true call (a ∷ answers) e = rw e (quiet_refusal (record call { announced = false; stage = stage.WakeRefused }) answers)
+quiet_withdrawn false call answers e = rw e (quiet_refusal (record call { announced = false }) answers)
+
+-- a call whose answer is the word that it loaded
+found : (call : Call) (x y : Progress) → (if call.loaded == call.loaded then x else y) ≡ x
+found call x y = ap (λ b. if b then x else y) (eq-eqb call.loaded call.loaded refl)
+
+pub last_access : LastAccess
+last_access =
+    record {
+      release = λ call answers at.
+          let next : next_of call.loaded call ≡ wakes (release_of call.readers call.loaded call.down).1 call
+          = ap (λ s. next_at s call.loaded call) at ∙ found call (wakes (release_of call.readers call.loaded call.down).1 call) (free call.loaded call) in
+          subst (λ p. touches_none (actions_from p answers) ≡ true) (sym next) (quiet_wake (release_of call.readers call.loaded call.down).1 call answers);
+      removal = λ call word answers at.
+          let next : next_of word call ≡ wakes (release_of call.readers word call.down).1 call = ap (λ s. next_at s word call) at in
+          subst (λ p. touches_none (actions_from p answers) ≡ true) (sym next) (quiet_wake (release_of call.readers word call.down).1 call answers);
+      acquisition = λ call answers at.
+          let next : next_of call.loaded call ≡ acquired call = ap (λ s. next_at s call.loaded call) at ∙ found call (acquired call) (decide call.loaded call) in
+          subst (λ p. touches_none (actions_from p answers) ≡ true) (sym next) (quiet_acquired call answers);
+      withdrawal = λ call answers at.
+          let next : next_of call.loaded call ≡ withdrawn call = ap (λ s. next_at s call.loaded call) at ∙ found call (withdrawn call) (decide call.loaded call) in
+          subst (λ p. touches_none (actions_from p answers) ≡ true) (sym next) (quiet_withdrawn (has_sleepers call.loaded) call answers refl);
+    }

@@ -1,0 +1,7 @@
+pub mod Parking
+pub mod LastAccess
+pub mod Steps
+pub mod Answers
+pub mod Sleeps
+pub mod Runs
+pub mod Stored

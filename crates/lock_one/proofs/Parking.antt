@@ -1,0 +1,600 @@
+-- Each kind of step of one party keeps the rule by which no sleeper is forgotten.
+use Rattle.std.proofs.Common.{◌≡◌, ◌≢◌, ℕ, zero, suc, not, ◌-◌, ◌^◌, ◌<◌, ◌≤◌, Bool, true, false, ◌&&◌, ◌||◌, ◌==◌, if◌then◌else◌, inl, inr, List, [], ◌∷◌, map, slice_get, slice_set, Some, None, IsTrue, refl, sym, ap, subst, ◌∙◌, arith, eqb-true, eq-eqb}
+use Rattle.std.proofs.lemmas.Bool.{false≢true, true≢false, and_parts, and_from, or_parts, or_cases, or_left, cases_eq, cases_Bool, false_from_ne_true}
+use Rattle.std.proofs.lemmas.List.{map-set}
+use Rattle.std.proofs.lemmas.Option.{same_Some, slice_get-map}
+use Rattle.lock_base.specs.declared.machine.hold.Hold.{Hold}
+use Rattle.lock_base.specs.Limits.{IsLimit}
+use Rattle.lock_base.specs.Holds.{hold_has}
+use Rattle.lock_word.specs.declared.want.ExWant.{ExWant}
+use Rattle.lock_word.specs.declared.want.ExWant.TheVariants as want
+use Rattle.lock_word.specs.declared.down.Down.{Down}
+use Rattle.lock_word.specs.declared.party.WorldParty.{WorldParty}
+use Rattle.lock_word.specs.BarredBags.{IsLegalBarredBag}
+use Rattle.lock_word.specs.Holders.{all_of}
+use Rattle.lock_word.specs.Word.{word_of, word_admits, word_after, amount, step_of_want, step_of_down}
+use Rattle.lock_word.specs.Unblocking.{is_awaited, word_unblocks}
+use Rattle.lock_word.specs.Turns as turns
+use Rattle.lock_word.specs.Rule.{holds, KeepsRule}
+use Rattle.lock_word.proofs.Rules.{changed_or_not, slice_set_same, holds_set, keeps_exchange, keeps_take, shows, element_of_longer}
+use Rattle.lock_word.proofs.Lists.{placed, other_stays}
+use Rattle.lock_word.proofs.Reached.{packed_word}
+use Rattle.lock_word.proofs.Unblocking.{exchanges_unblock_nobody, unblocks_misses_nobody}
+use Rattle.lock_one.specs.declared.park.ParkLimits.{ParkLimits}
+use Rattle.lock_one.specs.declared.park.ParkView.{ParkView}
+use Rattle.lock_one.specs.declared.park.Park.{Park}
+use Rattle.lock_one.specs.declared.park.Park.TheVariants.{Awake, Asleep, Woken}
+use Rattle.lock_one.specs.declared.park.Debt.{Debt}
+use Rattle.lock_one.specs.declared.park.Debt.TheVariants.{Nothing, One, All, Next}
+use Rattle.lock_one.specs.Rule.{holds_of, admits_to, is_upgrade, is_next, is_woken, is_asleep, reaches, has_duty, serves, SomeoneServes, IsServed, NoneIsForgotten, IsEntitled, KeepsParking, with_park, with_debt, after_win, after_take, may_want, frees, IsPaid, is_unset, is_unneeded, is_barred, is_all, is_one, wake_park_all, wake_park_next, wake_all, wake_next, EachStepKeeps, new_party, StepsKeepParking}
+
+-- lists of views of which one is changed
+
+holds_of-set : (views : List ParkView) (k : ℕ) (you : ParkView) → holds_of (slice_set views k you) ≡ slice_set (holds_of views) k you.held
+holds_of-set views k you = map-set (λ (v : ParkView). v.held) views k you
+
+hold_at : (views : List ParkView) (k : ℕ) (me : ParkView) → slice_get views k ≡ Some me → slice_get (holds_of views) k ≡ Some me.held
+hold_at views k me h = rw (slice_get-map (λ (v : ParkView). v.held) views k, h)
+
+-- the party keeps what it holds
+same_holds : (views : List ParkView) (k : ℕ) (me you : ParkView) → slice_get views k ≡ Some me → you.held ≡ me.held
+    → holds_of (slice_set views k you) ≡ holds_of views
+same_holds views k me you at held =
+    holds_of-set views k you
+    ∙ (ap (λ b. slice_set (holds_of views) k b) held ∙ slice_set_same (holds_of views) k me.held (hold_at views k me at))
+
+-- parties that have only what they hold
+abbrev pub party_of : ParkView → WorldParty
+party_of v = record { held = v.held; loaded = None; wins = 0; fails = 0 }
+
+abbrev pub parties_of : List ParkView → List WorldParty
+parties_of views = map party_of views
+
+pub holds_of_parties : (views : List ParkView) → holds (parties_of views) ≡ holds_of views
+holds_of_parties [] = refl
+holds_of_parties (v ∷ views) = ap (λ hs. v.held ∷ hs) (holds_of_parties views)
+
+pub party_at : (views : List ParkView) (k : ℕ) (me : ParkView) → slice_get views k ≡ Some me → slice_get (parties_of views) k ≡ Some (party_of me)
+party_at views k me h = rw (slice_get-map party_of views k, h)
+
+no_fails : (views : List ParkView) (k : ℕ) (q : WorldParty) → slice_get (parties_of views) k ≡ Some q → (q.fails ≡ 0) × (q.loaded ≡ None)
+no_fails [] k q h = cc
+no_fails (v ∷ views) zero q h = let e = same_Some (party_of v) q h in (sym (ap (λ (w : WorldParty). w.fails) e), sym (ap (λ (w : WorldParty). w.loaded) e))
+no_fails (v ∷ views) (suc k) q h = no_fails views k q h
+
+pub rule_of : (limit core : ℕ) (views : List ParkView) → core ≡ word_of (all_of (holds_of views)) → IsLegalBarredBag limit (all_of (holds_of views))
+    → KeepsRule limit core (parties_of views)
+rule_of limit core views coded legal =
+    let same = holds_of_parties views in
+    record {
+      coded = coded ∙ ap (λ hs. word_of (all_of hs)) (sym same);
+      legal = subst (λ hs. IsLegalBarredBag limit (all_of hs)) (sym same) legal;
+      behind = λ k q is.
+          let none = no_fails views k q is in
+          let fails = none.0 in
+          record { bounded = omega arith; open_load = λ loaded e d. let l = none.1 in cc };
+    }
+
+-- what all hold after a step of one
+pub record Sums (limit core : ℕ) (views : List ParkView) : Type 0 where
+  pub coded : core ≡ word_of (all_of (holds_of views))
+  pub legal : IsLegalBarredBag limit (all_of (holds_of views))
+
+pub sums_of : (limit core : ℕ) (ps : List WorldParty) (views : List ParkView) → holds ps ≡ holds_of views → KeepsRule limit core ps → Sums limit core views
+sums_of limit core ps views same rule =
+    record {
+      coded = rule.coded ∙ ap (λ hs. word_of (all_of hs)) same;
+      legal = subst (λ hs. IsLegalBarredBag limit (all_of hs)) same rule.legal;
+    }
+
+sums_same : (limit core : ℕ) (views later : List ParkView) → holds_of later ≡ holds_of views → Sums limit core views → Sums limit core later
+sums_same limit core views later same sums =
+    record {
+      coded = sums.coded ∙ ap (λ hs. word_of (all_of hs)) (sym same);
+      legal = subst (λ hs. IsLegalBarredBag limit (all_of hs)) (sym same) sums.legal;
+    }
+
+set_holds : (views : List ParkView) (k : ℕ) (p : WorldParty) (you : ParkView) → p.held ≡ you.held
+    → holds (slice_set (parties_of views) k p) ≡ holds_of (slice_set views k you)
+set_holds views k p you held =
+    holds_set (parties_of views) k p
+    ∙ (ap (λ hs. slice_set hs k p.held) (holds_of_parties views) ∙ (ap (λ b. slice_set (holds_of views) k b) held ∙ sym (holds_of-set views k you)))
+
+-- booleans
+
+or_right : (a b : Bool) → IsTrue b → IsTrue (a || b)
+or_right true b h = refl
+or_right false b h = h
+
+or_no : (a b : Bool) → a ≡ false → b ≡ false → (a || b) ≡ false
+or_no a b x y = rw x y
+
+no_and : (b : Bool) → (false && b) ≡ false
+no_and b = refl
+
+-- who serves
+
+server_stays : (limits : ParkLimits) (views : List ParkView) (k : ℕ) (you : ParkView) (v : ParkView) (want : ExWant) (someone : SomeoneServes limits views v want)
+    → someone.number ≢ k → SomeoneServes limits (slice_set views k you) v want
+server_stays limits views k you v want someone other =
+    record { number = someone.number; server = someone.server; is = other_stays views k someone.number you someone.server other someone.is; does = someone.does }
+
+here : (limits : ParkLimits) (views : List ParkView) (k : ℕ) (me you v : ParkView) (want : ExWant) → slice_get views k ≡ Some me
+    → IsTrue (serves limits you v want) → SomeoneServes limits (slice_set views k you) v want
+here limits views k me you v want at does = record { number = k; server = you; is = placed views k me you at; does = does }
+
+-- none is forgotten after a step of one party, where each other sleeper is served after it, whether it was refused or served by
+-- the one before it
+forgets_none : (limits : ParkLimits) (core new : ℕ) (s t : Bool) (views : List ParkView) (k : ℕ) (me you : ParkView)
+    → slice_get views k ≡ Some me → NoneIsForgotten limits core s views
+    → ((j : ℕ) (v : ParkView) (want : ExWant) → slice_get views j ≡ Some v → v.park ≡ Asleep want → s ≡ true → admits_to limits core v want ≡ false
+    → IsServed limits new t (slice_set views k you) v want)
+    → ((j : ℕ) (v : ParkView) (want : ExWant) → slice_get views j ≡ Some v → v.park ≡ Asleep want → IsTrue (serves limits me v want)
+    → IsServed limits new t (slice_set views k you) v want)
+    → ((want : ExWant) → you.park ≡ Asleep want → IsServed limits new t (slice_set views k you) you want)
+    → NoneIsForgotten limits new t (slice_set views k you)
+forgets_none limits core new s t views k me you at none refused served own j v want is asleep =
+    elim (changed_or_not views k j you v is) [
+      | inl e ↦
+          subst (λ (w : ParkView). IsServed limits new t (slice_set views k you) w want) (sym e.1)
+          (own want (subst (λ (w : ParkView). w.park ≡ Asleep want) e.1 asleep))
+      | inr e ↦
+          elim (none j v want e.1 asleep) [
+            | inl before ↦ refused j v want e.1 asleep before.0 before.1
+            | inr someone ↦
+                elim (cases_eq someone.number k) [
+                  | inl same ↦
+                      (let found : slice_get views k ≡ Some someone.server = subst (λ n. slice_get views n ≡ Some someone.server) same someone.is in
+                      let is_me : someone.server ≡ me = same_Some someone.server me (sym found ∙ at) in
+                      served j v want e.1 asleep (subst (λ (w : ParkView). IsTrue (serves limits w v want)) is_me someone.does))
+                  | inr other ↦ inr (server_stays limits views k you v want someone other)
+                ]
+          ]
+    ]
+
+-- one that owes nothing and has no duty serves nobody
+serves_none : (limits : ParkLimits) (me v : ParkView) (want : ExWant) → me.debt ≡ Nothing → has_duty limits me ≡ false
+    → IsTrue (serves limits me v want) → ⊥
+serves_none limits me v want debt idle does =
+    let none : reaches limits me.debt v want ≡ false = ap (λ d. reaches limits d v want) debt in
+    true≢false (sym does ∙ or_no (reaches limits me.debt v want) (has_duty limits me) none idle)
+
+-- one that owes nothing serves by its duty
+serves_by_duty : (limits : ParkLimits) (me v : ParkView) (want : ExWant) → me.debt ≡ Nothing → IsTrue (serves limits me v want)
+    → IsTrue (has_duty limits me)
+serves_by_duty limits me v want debt does =
+    let none : reaches limits me.debt v want ≡ false = ap (λ d. reaches limits d v want) debt in
+    elim (or_cases (reaches limits me.debt v want) (has_duty limits me) does) [
+      | inl some ↦ absurd (false≢true (sym none ∙ some))
+      | inr duty ↦ duty
+    ]
+
+duty_in_mutex : (limits : ParkLimits) (v : ParkView) → IsTrue (has_duty limits v) → IsTrue limits.wakes_one
+duty_in_mutex limits v duty = (and_parts limits.wakes_one (is_woken v.park) duty).0
+
+-- a mutex refuses each alike
+pub mutex_refuses : (limits : ParkLimits) (core : ℕ) (v : ParkView) (want : ExWant) → IsTrue limits.wakes_one → core ≢ 0
+    → admits_to limits core v want ≡ false
+mutex_refuses limits core v want one taken =
+    let opened : admits_to limits core v want ≡ (core == 0) = ap (λ b. if b then core == 0 else word_admits v.held.announced limits.readers core want) one in
+    opened ∙ false_from_ne_true (core == 0) (λ e. taken (eqb-true core 0 e))
+
+mutex_taken : (limits : ParkLimits) (core : ℕ) (v : ParkView) (want : ExWant) → IsTrue limits.wakes_one
+    → admits_to limits core v want ≡ false → core ≢ 0
+mutex_taken limits core v want one refused free =
+    let opened : admits_to limits core v want ≡ (core == 0) = ap (λ b. if b then core == 0 else word_admits v.held.announced limits.readers core want) one in
+    false≢true (sym refused ∙ (opened ∙ eq-eqb core 0 free))
+
+pub others_admit : (limits : ParkLimits) (core : ℕ) (v : ParkView) (want : ExWant) → limits.wakes_one ≡ false
+    → admits_to limits core v want ≡ word_admits v.held.announced limits.readers core want
+others_admit limits core v want many = ap (λ b. if b then core == 0 else word_admits v.held.announced limits.readers core want) many
+
+-- an acquisition leaves no free word
+taken_after : (a : Bool) (limit core : ℕ) (want : ExWant) → IsTrue (word_admits a limit core want) → word_after core want ≢ 0
+taken_after a limit core want.Shared h e = omega arith
+taken_after a limit core want.Exclusive h e = omega arith
+taken_after a limit core want.Upgradable h e = omega arith
+taken_after a limit core want.Upgrade h e = omega arith
+taken_after a limit core want.Announce h e = omega arith
+
+unbarred_after : (a : Bool) (limit core : ℕ) (want : ExWant) → IsTrue (is_awaited want) → IsTrue (word_admits a limit core want)
+    → core < 2 ^ 34 → word_after core want < 2 ^ 34
+unbarred_after a limit core want w h free = grind arith
+
+awaited_in_mutex : (limits : ParkLimits) (want : ExWant) → IsTrue (may_want limits want) → IsTrue limits.wakes_one → IsTrue (is_awaited want)
+awaited_in_mutex limits want may one =
+    elim (or_cases (is_awaited want) (not limits.wakes_one) may) [
+      | inl a ↦ a
+      | inr n ↦ absurd (false≢true (sym (ap not one) ∙ n))
+    ]
+
+-- under a bar, only those that are next are admitted
+barred_refuses : (limits : ParkLimits) (core : ℕ) (v : ParkView) (wish : ExWant) → limits.wakes_one ≡ false → IsTrue (is_awaited wish)
+    → 2 ^ 34 ≤ core → is_next v wish ≡ false → admits_to limits core v wish ≡ false
+barred_refuses limits core v wish many awaited bar not_next =
+    let two = or_parts v.held.announced (is_upgrade wish) not_next in
+    others_admit limits core v wish many ∙ by v.held.announced two.0 wish awaited two.1
+  where
+    by : (a : Bool) → a ≡ false → (w : ExWant) → IsTrue (is_awaited w) → is_upgrade w ≡ false → word_admits a limits.readers core w ≡ false
+    by a not_set want.Shared h u = false_from_ne_true (word_admits a limits.readers core want.Shared) (λ e. grind arith)
+    by a not_set want.Exclusive h u = false_from_ne_true (word_admits a limits.readers core want.Exclusive) (λ e. grind arith)
+    by a not_set want.Upgradable h u = false_from_ne_true (word_admits a limits.readers core want.Upgradable) (λ e. grind arith)
+    by a not_set want.Upgrade h u = absurd (true≢false u)
+    by a not_set want.Announce h u = absurd (false≢true h)
+
+-- the steps of a party, whatever all others are
+
+module _ (limits : ParkLimits) (core : ℕ) (s : Bool) (views : List ParkView) (k : ℕ) (me : ParkView)
+    (range : IsLimit limits.readers) (kept : KeepsParking limits core s views) (at : slice_get views k ≡ Some me) where
+  sums : Sums limits.readers core views
+  sums = record { coded = kept.coded; legal = kept.legal }
+
+  rule : KeepsRule limits.readers core (parties_of views)
+  rule = rule_of limits.readers core views kept.coded kept.legal
+
+  -- a step of the party at k, as far as the rule speaks of all
+  keeps : (new : ℕ) (t : Bool) (you : ParkView) → Sums limits.readers new (slice_set views k you)
+      → (IsTrue limits.wakes_one → new < 2 ^ 34) → ((want : ExWant) → you.park ≡ Asleep want → IsEntitled you want)
+      → NoneIsForgotten limits new t (slice_set views k you) → KeepsParking limits new t (slice_set views k you)
+  keeps new t you total low own none =
+      record {
+        coded = total.coded;
+        legal = total.legal;
+        one_token = kept.one_token;
+        no_bar = low;
+        entitled = λ j v want is asleep.
+            elim (changed_or_not views k j you v is) [
+              | inl e ↦ subst (λ (w : ParkView). IsEntitled w want) (sym e.1) (own want (subst (λ (w : ParkView). w.park ≡ Asleep want) e.1 asleep))
+              | inr e ↦ kept.entitled j v want e.1 asleep
+            ];
+        none_forgotten = none;
+      }
+
+  -- a step that leaves the word and what the party holds
+  quiet : (you : ParkView) → you.held ≡ me.held → ((want : ExWant) → you.park ≡ Asleep want → IsEntitled you want)
+      → NoneIsForgotten limits core s (slice_set views k you) → KeepsParking limits core s (slice_set views k you)
+  quiet you held own none =
+      keeps core s you (sums_same limits.readers core views (slice_set views k you) (same_holds views k me you at held) sums) kept.no_bar own none
+
+  exchange : (want : ExWant) (t : Bool) → IsTrue (hold_has me.held (step_of_want want))
+      → IsTrue (word_admits me.held.announced limits.readers core want) → IsTrue (may_want limits want)
+      → me.debt ≡ Nothing → (s ≡ true → t ≡ true) → (IsTrue (has_duty limits me) → t ≡ true)
+      → KeepsParking limits (word_after core want) t (slice_set views k (after_win me want))
+  exchange want t has admits may debt stays sets =
+      let you = after_win me want in
+      let new = word_after core want in
+      let won = keeps_exchange limits.readers core (parties_of views) k (party_of me) want range rule (party_at views k me at) has admits in
+      let taken : new ≢ 0 = taken_after me.held.announced limits.readers core want admits in
+      keeps new t you
+      (sums_of limits.readers new (slice_set (parties_of views) k (turns.after_win (party_of me) (step_of_want want))) (slice_set views k you)
+      (set_holds views k (turns.after_win (party_of me) (step_of_want want)) you refl) won)
+      (λ one. unbarred_after me.held.announced limits.readers core want (awaited_in_mutex limits want may one) admits (kept.no_bar one))
+      (λ other asleep. cc)
+      (forgets_none limits core new s t views k me you at kept.none_forgotten
+      (λ j v other is asleep set refused.
+      inl (
+        stays set,
+        elim (cases_Bool limits.wakes_one) [
+          | inl one ↦ mutex_refuses limits new v other one taken
+          | inr many ↦
+              others_admit limits new v other many
+              ∙ false_from_ne_true (word_admits v.held.announced limits.readers new other) (λ after.
+              let due = kept.entitled j v other is asleep in
+              let before = exchanges_unblock_nobody me.held.announced limits.readers core want v.held other range
+              (shows limits.readers core (parties_of views) j (party_of v) range rule (party_at views j v is)) admits due.0 due.1 after in
+              false≢true (sym refused ∙ (others_admit limits core v other many ∙ before)))
+        ],
+      ))
+      (λ j v other is asleep does.
+      let duty = serves_by_duty limits me v other debt does in
+      inl (sets duty, mutex_refuses limits new v other (duty_in_mutex limits me duty) taken))
+      (λ other asleep. cc))
+
+  marks : KeepsParking limits core true views
+  marks =
+      record {
+        coded = kept.coded;
+        legal = kept.legal;
+        one_token = kept.one_token;
+        no_bar = kept.no_bar;
+        entitled = kept.entitled;
+        none_forgotten = λ j v want is asleep.
+            elim (kept.none_forgotten j v want is asleep) [ inl e ↦ inl (refl, e.1) | inr e ↦ inr e ];
+      }
+
+  -- a sleeper that was refused, after a release that does what it has to
+  paid : (new : ℕ) (t : Bool) (debt : Debt) (held : Hold) (j : ℕ) (v : ParkView) (want : ExWant) → IsPaid limits core new s t debt
+      → Sums limits.readers new (slice_set views k record { held = held; park = Awake; debt = debt })
+      → slice_get views j ≡ Some v → v.park ≡ Asleep want → s ≡ true → admits_to limits core v want ≡ false
+      → IsServed limits new t (slice_set views k record { held = held; park = Awake; debt = debt }) v want
+  paid new t Nothing held j v want (is_unset clear) total is asleep set refused = absurd (false≢true (sym clear ∙ set))
+  paid new t Nothing held j v want (is_unneeded need keeps_s) total is asleep set refused =
+      inl (
+        keeps_s,
+        elim (cases_Bool limits.wakes_one) [
+          | inl one ↦
+              (let opened : frees limits core new ≡ (new == 0) = ap (λ b. if b then new == 0 else word_unblocks limits.readers core new) one in
+              mutex_refuses limits new v want one (λ free. false≢true (sym need ∙ (opened ∙ eq-eqb new 0 free))))
+          | inr many ↦
+              (let opened : frees limits core new ≡ word_unblocks limits.readers core new = ap (λ b. if b then new == 0 else word_unblocks limits.readers core new) many in
+              let you : ParkView = record { held = held; park = Awake; debt = Nothing } in
+              let later = rule_of limits.readers new (slice_set views k you) total.coded total.legal in
+              others_admit limits new v want many
+              ∙ false_from_ne_true (word_admits v.held.announced limits.readers new want) (λ after.
+              let due = kept.entitled j v want is asleep in
+              let before = unblocks_misses_nobody v.held.announced limits.readers core new want range (packed_word limits.readers core (parties_of views) range rule)
+              (packed_word limits.readers new (parties_of (slice_set views k you)) range later) due.0 (sym opened ∙ need) after in
+              false≢true (sym refused ∙ (others_admit limits core v want many ∙ before))))
+        ],
+      )
+  paid new t Next held j v want (is_barred bar keeps_s) total is asleep set refused =
+      elim (cases_Bool (is_next v want)) [
+        | inl next ↦ inr (here limits views k me record { held = held; park = Awake; debt = Next } v want at (or_left (is_next v want) (has_duty limits record { held = held; park = Awake; debt = Next }) next))
+        | inr not_next ↦ inl (
+          keeps_s,
+          elim (cases_Bool limits.wakes_one) [
+            | inl one ↦ mutex_refuses limits new v want one (λ free. omega arith)
+            | inr many ↦ barred_refuses limits new v want many (kept.entitled j v want is asleep).0 bar not_next
+          ],
+        )
+      ]
+  paid new t All held j v want is_all total is asleep set refused = inr (here limits views k me record { held = held; park = Awake; debt = All } v want at refl)
+  paid new t One held j v want (is_one wakes) total is asleep set refused =
+      inr (here limits views k me record { held = held; park = Awake; debt = One } v want at (or_left limits.wakes_one (has_duty limits record { held = held; park = Awake; debt = One }) wakes))
+
+  take : (down : Down) (t : Bool) (debt : Debt) → IsTrue (hold_has me.held (step_of_down down))
+      → me.debt ≡ Nothing → has_duty limits me ≡ false → IsPaid limits core (core - amount down) s t debt
+      → KeepsParking limits (core - amount down) t (slice_set views k (after_take me down debt))
+  take down t debt has nothing idle pays =
+      let you = after_take me down debt in
+      let new = core - amount down in
+      let won = keeps_take limits.readers core (parties_of views) k (party_of me) down range rule (party_at views k me at) has in
+      let total = sums_of limits.readers new (slice_set (parties_of views) k (turns.after_win (party_of me) (step_of_down down))) (slice_set views k you)
+      (set_holds views k (turns.after_win (party_of me) (step_of_down down)) you refl) won in
+      keeps new t you total
+      (λ one. let low = kept.no_bar one in omega arith)
+      (λ other asleep. cc)
+      (forgets_none limits core new s t views k me you at kept.none_forgotten
+      (λ j v want is asleep set refused. paid new t debt you.held j v want pays total is asleep set refused)
+      (λ j v want is asleep does. absurd (serves_none limits me v want nothing idle does))
+      (λ other asleep. cc))
+
+  sleeps : (want : ExWant) → IsEntitled me want → me.debt ≡ Nothing → s ≡ true → admits_to limits core me want ≡ false
+      → KeepsParking limits core s (slice_set views k (with_park me (Asleep want)))
+  sleeps want due debt set refused =
+      let you = with_park me (Asleep want) in
+      quiet you refl (λ other asleep. by other asleep)
+      (forgets_none limits core core s s views k me you at kept.none_forgotten
+      (λ j v other is asleep was no. inl (was, no))
+      (λ j v other is asleep does.
+      let one = duty_in_mutex limits me (serves_by_duty limits me v other debt does) in
+      inl (set, mutex_refuses limits core v other one (mutex_taken limits core me want one refused)))
+      (λ other asleep. inl (set, subst (λ w. admits_to limits core me w ≡ false) (same want other asleep) refused)))
+    where
+      same : (x y : ExWant) → Asleep x ≡ Asleep y → x ≡ y
+      same x y e = cc
+
+      by : (other : ExWant) → Asleep want ≡ Asleep other → IsEntitled (with_park me (Asleep want)) other
+      by other e = subst (λ w. IsEntitled (with_park me (Asleep want)) w) (same want other e) due
+
+  wakes : KeepsParking limits core s (slice_set views k (with_park me Woken))
+  wakes =
+      let you = with_park me Woken in
+      quiet you refl (λ other asleep. cc)
+      (forgets_none limits core core s s views k me you at kept.none_forgotten
+      (λ j v other is asleep was no. inl (was, no))
+      (λ j v other is asleep does.
+      inr (here limits views k me you v other at
+      (elim (or_cases (reaches limits me.debt v other) (has_duty limits me) does) [
+        | inl owes ↦ or_left (reaches limits me.debt v other) (has_duty limits you) owes
+        | inr duty ↦ or_right (reaches limits me.debt v other) (has_duty limits you) (and_from limits.wakes_one true (duty_in_mutex limits me duty) refl)
+      ])))
+      (λ other asleep. cc))
+
+  gives_up : me.debt ≡ Nothing → (IsTrue limits.wakes_one → (s ≡ true) × (core ≢ 0))
+      → KeepsParking limits core s (slice_set views k (with_park me Awake))
+  gives_up debt found =
+      let you = with_park me Awake in
+      quiet you refl (λ other asleep. cc)
+      (forgets_none limits core core s s views k me you at kept.none_forgotten
+      (λ j v other is asleep was no. inl (was, no))
+      (λ j v other is asleep does.
+      let one = duty_in_mutex limits me (serves_by_duty limits me v other debt does) in
+      inl ((found one).0, mutex_refuses limits core v other one (found one).1))
+      (λ other asleep. cc))
+
+  pays_one : (j : ℕ) (w : ParkView) → me.debt ≡ One → is_asleep me.park ≡ false → j ≢ k → slice_get views j ≡ Some w → w.park ≡ Woken
+      → KeepsParking limits core s (slice_set views k (with_debt me Nothing))
+  pays_one j w owes awake other is_w woken =
+      let you = with_debt me Nothing in
+      quiet you refl (λ want asleep. absurd (true≢false (sym (ap is_asleep asleep) ∙ awake)))
+      (forgets_none limits core core s s views k me you at kept.none_forgotten
+      (λ i v want is asleep was no. inl (was, no))
+      (λ i v want is asleep does.
+      let wakes_one : IsTrue limits.wakes_one
+      = elim (or_cases (reaches limits me.debt v want) (has_duty limits me) does) [
+        | inl reached ↦ sym (ap (λ d. reaches limits d v want) owes) ∙ reached
+        | inr duty ↦ duty_in_mutex limits me duty
+      ] in
+      inr record {
+        number = j;
+        server = w;
+        is = other_stays views k j you w other is_w;
+        does = or_right (reaches limits w.debt v want) (has_duty limits w) (and_from limits.wakes_one (is_woken w.park) wakes_one (ap is_woken woken));
+      })
+      (λ want asleep. absurd (true≢false (sym (ap is_asleep asleep) ∙ awake))))
+
+  pays_nobody : ((j : ℕ) (v : ParkView) → slice_get views j ≡ Some v → is_asleep v.park ≡ false)
+      → KeepsParking limits core s (slice_set views k (with_debt me Nothing))
+  pays_nobody nobody =
+      let you = with_debt me Nothing in
+      quiet you refl (λ want asleep. absurd (true≢false (sym (ap is_asleep asleep) ∙ nobody k me at)))
+      (forgets_none limits core core s s views k me you at kept.none_forgotten
+      (λ i v want is asleep was no. inl (was, no))
+      (λ i v want is asleep does. absurd (true≢false (sym (ap is_asleep asleep) ∙ nobody i v is)))
+      (λ want asleep. absurd (true≢false (sym (ap is_asleep asleep) ∙ nobody k me at))))
+
+-- the wake-ups of many
+
+-- an element of a mapped list is the image of one
+of_mapped : (f : ParkView → ParkView) (views : List ParkView) (j : ℕ) (w : ParkView) → slice_get (map f views) j ≡ Some w
+    → (v : ParkView) × (slice_get views j ≡ Some v) × (w ≡ f v)
+of_mapped f [] j w h = cc
+of_mapped f (v ∷ views) zero w h = (v, refl, same_Some w (f v) (sym h))
+of_mapped f (v ∷ views) (suc j) w h = of_mapped f views j w h
+
+in_mapped : (f : ParkView → ParkView) (views : List ParkView) (j : ℕ) (v : ParkView) → slice_get views j ≡ Some v → slice_get (map f views) j ≡ Some (f v)
+in_mapped f views j v h = rw (slice_get-map f views j, h)
+
+mapped_holds : (f : ParkView → ParkView) (views : List ParkView) → ((v : ParkView) → (f v).held ≡ v.held) → holds_of (map f views) ≡ holds_of views
+mapped_holds f [] same = refl
+mapped_holds f (v ∷ views) same = ap (λ hs. (f v).held ∷ hs) (mapped_holds f views same) ∙ ap (λ h. h ∷ holds_of views) (same v)
+
+none_asleep_all : (park : Park) (want : ExWant) → wake_park_all park ≡ Asleep want → ⊥
+none_asleep_all Awake want e = cc
+none_asleep_all (Asleep x) want e = cc
+none_asleep_all Woken want e = cc
+
+-- one that sleeps on slept before, and is not next
+sleeps_on : (v : ParkView) (park : Park) (want : ExWant) → wake_park_next v park ≡ Asleep want → (park ≡ Asleep want) × (is_next v want ≡ false)
+sleeps_on v Awake want e = cc
+sleeps_on v (Asleep x) want e = by (is_next v x) refl e
+  where
+    same : (x y : ExWant) → Asleep x ≡ Asleep y → x ≡ y
+    same x y e = cc
+
+    by : (b : Bool) → b ≡ is_next v x → (if b then Woken else Asleep x) ≡ Asleep want → (Asleep x ≡ Asleep want) × (is_next v want ≡ false)
+    by true is e = cc
+    by false is e = (e, subst (λ w. is_next v w ≡ false) (same x want e) (sym is))
+sleeps_on v Woken want e = cc
+
+woken_stays : (v : ParkView) (park : Park) → IsTrue (is_woken park) → IsTrue (is_woken (wake_park_next v park))
+woken_stays v Awake h = h
+woken_stays v (Asleep x) h = absurd (false≢true h)
+woken_stays v Woken h = h
+
+still_reaches : (limits : ParkLimits) (debt : Debt) (v : ParkView) (want : ExWant) → IsTrue (reaches limits debt v want)
+    → IsTrue (reaches limits debt (wake_next v) want)
+still_reaches limits Nothing v want h = h
+still_reaches limits One v want h = h
+still_reaches limits All v want h = h
+still_reaches limits Next v want h = h
+
+module _ (limits : ParkLimits) (core : ℕ) (s : Bool) (views : List ParkView) (k : ℕ) (me : ParkView)
+    (range : IsLimit limits.readers) (kept : KeepsParking limits core s views) (at : slice_get views k ≡ Some me) where
+  -- the party at k pays, and f wakes
+  paid_by : (f : ParkView → ParkView) (views_after : List ParkView) → views_after ≡ slice_set (map f views) k (with_debt (f me) Nothing)
+      → ((v : ParkView) → (f v).held ≡ v.held)
+      → ((j : ℕ) (w : ParkView) (want : ExWant) → slice_get views_after j ≡ Some w → w.park ≡ Asleep want → IsEntitled w want × IsServed limits core s views_after w want)
+      → KeepsParking limits core s views_after
+  paid_by f later is same each =
+      let mid = map f views in
+      let you = with_debt (f me) Nothing in
+      let there = in_mapped f views k me at in
+      let hs : holds_of later ≡ holds_of views = ap holds_of is ∙ (same_holds mid k (f me) you there refl ∙ mapped_holds f views same) in
+      let total = sums_same limits.readers core views later hs record { coded = kept.coded; legal = kept.legal } in
+      record {
+        coded = total.coded;
+        legal = total.legal;
+        one_token = kept.one_token;
+        no_bar = kept.no_bar;
+        entitled = λ j w want at_j asleep. (each j w want at_j asleep).0;
+        none_forgotten = λ j w want at_j asleep. (each j w want at_j asleep).1;
+      }
+
+  pays_all : me.debt ≡ All → KeepsParking limits core s (slice_set (map wake_all views) k (with_debt (wake_all me) Nothing))
+  pays_all owes =
+      let you = with_debt (wake_all me) Nothing in
+      paid_by wake_all (slice_set (map wake_all views) k you) refl (λ v. refl) (λ j w want is asleep.
+      elim (changed_or_not (map wake_all views) k j you w is) [
+        | inl e ↦ absurd (none_asleep_all me.park want (subst (λ (x : ParkView). x.park ≡ Asleep want) e.1 asleep))
+        | inr e ↦
+            (let from = of_mapped wake_all views j w e.1 in
+            absurd (none_asleep_all from.0.park want (subst (λ (x : ParkView). x.park ≡ Asleep want) from.2 asleep)))
+      ])
+
+  pays_next : me.debt ≡ Next → is_asleep me.park ≡ false → has_duty limits me ≡ false
+      → KeepsParking limits core s (slice_set (map wake_next views) k (with_debt (wake_next me) Nothing))
+  pays_next owes awake idle =
+      let you = with_debt (wake_next me) Nothing in
+      let mid = map wake_next views in
+      paid_by wake_next (slice_set mid k you) refl (λ v. refl) (λ j w want is asleep.
+      elim (changed_or_not mid k j you w is) [
+        | inl e ↦
+            (let mine = sleeps_on me me.park want (subst (λ (x : ParkView). x.park ≡ Asleep want) e.1 asleep) in
+            absurd (true≢false (sym (ap is_asleep mine.0) ∙ awake)))
+        | inr e ↦
+            (let from = of_mapped wake_next views j w e.1 in
+            let v = from.0 in
+            let slept = sleeps_on v v.park want (subst (λ (x : ParkView). x.park ≡ Asleep want) from.2 asleep) in (
+              subst (λ (x : ParkView). IsEntitled x want) (sym from.2) (kept.entitled j v want from.1 slept.0),
+              subst (λ (x : ParkView). IsServed limits core s (slice_set mid k you) x want) (sym from.2)
+                  (elim (kept.none_forgotten j v want from.1 slept.0) [
+                    | inl before ↦ inl before
+                    | inr someone ↦
+                        elim (cases_eq someone.number k) [
+                          | inl same ↦
+                              (let found : slice_get views k ≡ Some someone.server = subst (λ n. slice_get views n ≡ Some someone.server) same someone.is in
+                              let is_me : someone.server ≡ me = same_Some someone.server me (sym found ∙ at) in
+                              let does : IsTrue (serves limits me v want) = subst (λ (x : ParkView). IsTrue (serves limits x v want)) is_me someone.does in
+                              let not_me : serves limits me v want ≡ false
+                              = or_no (reaches limits me.debt v want) (has_duty limits me) (ap (λ d. reaches limits d v want) owes ∙ slept.1) idle in
+                              absurd (true≢false (sym does ∙ not_me)))
+                          | inr other ↦ inr record {
+                            number = someone.number;
+                            server = wake_next someone.server;
+                            is = other_stays mid k someone.number you (wake_next someone.server) other (in_mapped wake_next views someone.number someone.server someone.is);
+                            does =
+                                elim (or_cases (reaches limits someone.server.debt v want) (has_duty limits someone.server) someone.does) [
+                                  | inl owed ↦ or_left (reaches limits someone.server.debt (wake_next v) want) (has_duty limits (wake_next someone.server)) (still_reaches limits someone.server.debt v want owed)
+                                  | inr duty ↦
+                                      (let two = and_parts limits.wakes_one (is_woken someone.server.park) duty in
+                                      or_right (reaches limits someone.server.debt (wake_next v) want) (has_duty limits (wake_next someone.server))
+                                      (and_from limits.wakes_one (is_woken (wake_park_next someone.server someone.server.park)) two.0
+                                      (woken_stays someone.server someone.server.park two.1)))
+                                ];
+                          }
+                        ]
+                  ]),
+            ))
+      ])
+
+  pub each_step : EachStepKeeps limits core s views k me
+  each_step =
+      record {
+        exchange = exchange limits core s views k me range kept at;
+        marks = marks limits core s views k me range kept at;
+        take = take limits core s views k me range kept at;
+        sleeps = sleeps limits core s views k me range kept at;
+        wakes = wakes limits core s views k me range kept at;
+        gives_up = gives_up limits core s views k me range kept at;
+        pays_all = pays_all;
+        pays_next = pays_next;
+        pays_one = pays_one limits core s views k me range kept at;
+        pays_nobody = pays_nobody limits core s views k me range kept at;
+      }
+
+pub starts : (limits : ParkLimits) → IsLimit limits.readers → (IsTrue limits.wakes_one → limits.readers ≡ 1)
+    → KeepsParking limits 0 false (new_party ∷ [])
+starts limits range one =
+    record {
+      coded = refl;
+      legal = record {
+        compatible = record { within = omega arith; one_upgradable = omega arith; alone = λ some. absurd (omega arith) };
+        one_bar = omega arith;
+      };
+      one_token = one;
+      no_bar = λ is_one. omega arith;
+      entitled = λ k v want is asleep. absurd (awake k v want is asleep);
+      none_forgotten = λ k v want is asleep. absurd (awake k v want is asleep);
+    }
+  where
+    awake : (k : ℕ) (v : ParkView) (want : ExWant) → slice_get (new_party ∷ []) k ≡ Some v → v.park ≡ Asleep want → ⊥
+    awake k v want is asleep =
+        elim (element_of_longer [] new_party v k is) [
+          | inl old ↦ cc
+          | inr new ↦ (let park = ap (λ (w : ParkView). w.park) new in cc)
+        ]
+
+pub steps_keep_parking : StepsKeepParking
+steps_keep_parking = record { starts = starts; steps = each_step }

@@ -1,0 +1,33 @@
+-- What the end of a call tells, and the first steps of a call that waits for nobody.
+use Rattle.std.specs.Prelude.{◌≡◌, ℕ, ◌-◌, ◌<◌, Bool, true, false, ◌⊎◌}
+use Rattle.lock_base.specs.declared.machine.hold.Hold.{Hold}
+use Rattle.lock_base.specs.Holds.{hold_after}
+use Rattle.lock_word.specs.declared.want.ExWant.{ExWant}
+use Rattle.lock_word.specs.declared.down.Down.{Down}
+use Rattle.lock_word.specs.Word.{word_admits, word_after, amount, step_of_want, step_of_down}
+use Rattle.lock_one.specs.declared.action.Action.TheVariants.{Exchange, End}
+use Rattle.lock_one.specs.declared.call.Call.{Call}
+use Rattle.lock_one.specs.declared.stage.Stage.TheVariants as stage
+use Rattle.lock_one.specs.declared.park.ParkView.{ParkView}
+use Rattle.lock_one.specs.Machine.{core_of, sleepers, acquiring, removes_reader, alone, taking, next_of}
+use Rattle.lock_one.specs.Steps.{IsAt, hold_at}
+
+-- THE LAW OF ANSWERS
+pub record AnswersTell : Type 0 where
+  -- a refused call has changed nothing that its party holds, and has left no bar
+  pub refused_holds_as_before : (call : Call) (v : ParkView) (before : Hold) → before.announced ≡ false
+      → IsAt call.stage call v (End false) → v.held ≡ hold_at call.stage call before → v.held ≡ before
+  -- a call that was not refused has made its change
+  pub done_has_changed : (call : Call) (v : ParkView) (before : Hold) → IsAt call.stage call v (End true) → v.held ≡ hold_at call.stage call before
+      → (v.held ≡ hold_after (record before { announced = call.announced }) (step_of_want call.want)) ⊎ (v.held ≡ hold_after before (step_of_down call.down))
+  -- a try is refused only by a word that refuses it
+  pub word_refuses : (call : Call) (found : ℕ) → (call.stage ≡ stage.Look) ⊎ (call.stage ≡ stage.Try)
+      → (next_of found call).1 ≡ End false → word_admits call.announced call.readers (core_of found) call.want ≡ false
+
+-- THE LAW OF FIRST STEPS: on a word without S that admits it, a call makes this exchange; and a release begins with this one
+pub record FirstSteps : Type 0 where
+  pub acquires : (readers word : ℕ) (wish : ExWant) (blocks announces : Bool) → word < sleepers
+      → word_admits false readers word wish ≡ true
+      → (next_of word (acquiring readers wish blocks announces).0).1 ≡ Exchange word (word_after word wish)
+  pub releases : (readers : ℕ) (down : Down) → removes_reader readers down ≡ false
+      → (taking readers down).1 ≡ Exchange (alone down) (alone down - amount down)

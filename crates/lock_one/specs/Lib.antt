@@ -1,0 +1,6 @@
+pub mod Rule
+pub mod Machine
+pub mod Steps
+pub mod Answers
+pub mod Runs
+pub mod Stored

@@ -1,0 +1,218 @@
+-- Runs: any number of threads with one lock of one word, which make single steps in any order, and sleep.
+use Rattle.std.specs.Prelude.{◌≡◌, ℕ, ◌^◌, ◌<◌, ◌≤◌, Bool, true, false, not, ◌&&◌, ◌||◌, ◌==◌, if◌then◌else◌, List, [], ◌∷◌, ◌++◌, map, slice_get, slice_set, Option, Some, None}
+use Rattle.lock_base.specs.declared.machine.hold.Hold.{Hold}
+use Rattle.lock_base.specs.Limits.{IsLimit}
+use Rattle.lock_base.specs.Holds.{hold_has}
+use Rattle.lock_word.specs.declared.want.ExWant.{ExWant}
+use Rattle.lock_word.specs.declared.down.Down.{Down}
+use Rattle.lock_word.specs.BarredBags.{IsLegalBarredBag}
+use Rattle.lock_word.specs.Holders.{all_of}
+use Rattle.lock_word.specs.Word.{word_of, step_of_want, step_of_down}
+use Rattle.lock_word.specs.Unblocking.{is_awaited}
+use Rattle.lock_one.specs.declared.action.Action.{Action}
+use Rattle.lock_one.specs.declared.action.Action.TheVariants as action
+use Rattle.lock_one.specs.declared.stage.Stage.{Stage}
+use Rattle.lock_one.specs.declared.stage.Stage.TheVariants as stage
+use Rattle.lock_one.specs.declared.park.ParkLimits.{ParkLimits}
+use Rattle.lock_one.specs.declared.park.ParkView.{ParkView}
+use Rattle.lock_one.specs.declared.park.Park.{Park}
+use Rattle.lock_one.specs.declared.park.Park.TheVariants.{Awake, Asleep, Woken}
+use Rattle.lock_one.specs.declared.park.Debt.{Debt}
+use Rattle.lock_one.specs.declared.park.Debt.TheVariants as debt
+use Rattle.lock_one.specs.Rule.{holds_of, is_asleep, IsServed, with_park, with_debt, wake_all, wake_next, new_party}
+use Rattle.lock_one.specs.Machine.{Progress, is_exclusive, wakes_one, core_of, has_sleepers, acquiring, taking, next_at, next_of}
+use Rattle.lock_one.specs.Steps.{made, touches, ends, hold_at}
+
+-- a call that has not ended: the call and the action that it asks for, and what the thread held when it began
+pub record Underway : Type 0 where
+  pub at : Progress
+  pub before : Hold
+
+-- a thread: what it holds, whether it sleeps, and what it owes; and its call
+pub record Thread : Type 0 where
+  pub view : ParkView
+  pub underway : Option Underway
+
+pub record LockInUse : Type 0 where
+  pub readers : ℕ
+  pub word : ℕ
+  pub threads : List Thread
+
+abbrev pub views_of : List Thread → List ParkView
+views_of threads = map (λ (t : Thread). t.view) threads
+
+abbrev pub limits_in : ℕ → ParkLimits
+limits_in readers = record { readers = readers; wakes_one = readers == 1 }
+
+abbrev pub new_thread : Thread
+new_thread = record { view = new_party; underway = None }
+
+abbrev pub new_lock : ℕ → LockInUse
+new_lock readers = record { readers = readers; word = 0; threads = new_thread ∷ [] }
+
+-- one act of a run
+pub data Act : Type 0 where
+  -- a new thread joins, which holds nothing
+  join : Act
+  -- the thread begins to acquire or upgrade: what it wants, whether it blocks, and whether it announces itself
+  acquires : ℕ → ExWant → Bool → Bool → Act
+  -- the thread begins to release or downgrade
+  releases : ℕ → Down → Act
+  -- the thread makes the step that its call asks for. A step that reads no word is answered with the second number. A park is told
+  -- whether it may sleep. A wake-up of one wakes the thread with the third number, if it sleeps
+  steps : ℕ → ℕ → ℕ → Act
+
+abbrev pub is_idle : Option Underway → Bool
+is_idle None = true
+is_idle (Some u) = false
+
+abbrev pub may_acquire : Thread → ExWant → Bool
+may_acquire t want = is_idle t.underway && (is_awaited want && (hold_has t.view.held (step_of_want want) && not t.view.held.announced))
+
+abbrev pub may_release : Thread → Down → Bool
+may_release t down = is_idle t.underway && hold_has t.view.held (step_of_down down)
+
+abbrev pub begins : Thread → Progress → Thread
+begins t next = record t { underway = Some record { at = next; before = t.view.held } }
+
+-- whether a party that has made a step is awake for good: its call is over, or owes a wake-up
+abbrev pub park_at : Stage → Park → Park
+park_at stage.LookToRemove park = Awake
+park_at stage.Remove park = Awake
+park_at stage.Release park = Awake
+park_at stage.Wake park = Awake
+park_at stage.WakeRefused park = Awake
+park_at stage.Acquired park = Awake
+park_at stage.Refused park = Awake
+park_at stage.Ended park = Awake
+park_at waiting park = park
+
+-- the wake-up that a call owes is the one that it asks for
+abbrev pub debt_at : Action → Debt
+debt_at action.Load = debt.Nothing
+debt_at (action.Exchange a b) = debt.Nothing
+debt_at action.RemoveReader = debt.Nothing
+debt_at (action.Park n f) = debt.Nothing
+debt_at action.WakeOne = debt.One
+debt_at action.WakeAll = debt.All
+debt_at action.WakeNext = debt.Next
+debt_at (action.Spin n) = debt.Nothing
+debt_at action.Yield = debt.Nothing
+debt_at (action.End b) = debt.Nothing
+
+abbrev pub view_after : Progress → Park → Hold → ParkView
+view_after next park before = record { held = hold_at next.0.stage next.0 before; park = park_at next.0.stage park; debt = debt_at next.1 }
+
+-- the call goes on, or it has ended
+abbrev pub goes_on : Progress → Hold → Option Underway
+goes_on next before = if ends next.1 then None else Some record { at = next; before = before }
+
+abbrev pub thread_after : Progress → Park → Hold → Thread
+thread_after next park before = record { view = view_after next park before; underway = goes_on next before }
+
+abbrev pub with_thread : LockInUse → ℕ → Thread → LockInUse
+with_thread s k t = record s { threads = slice_set s.threads k t }
+
+abbrev pub view_to : (ParkView → ParkView) → Thread → Thread
+view_to f t = record t { view = f t.view }
+
+-- the answer to an action
+abbrev pub answer : Action → ℕ → ℕ → ℕ
+answer a word told = if touches a then word else told
+
+-- a step on the word, or a pause
+abbrev pub steps_by : LockInUse → ℕ → ℕ → Thread → Underway → LockInUse
+steps_by s k told t u =
+    record {
+      readers = s.readers;
+      word = made u.at.1 s.word;
+      threads = slice_set s.threads k (thread_after (next_of (answer u.at.1 s.word told) u.at.0) t.view.park u.before);
+    }
+
+-- a park: the thread falls asleep if it is told so and finds the number; else its sleep ends, if it slept at all, and it may be late
+abbrev pub parks_by : LockInUse → ℕ → ℕ → Thread → Underway → LockInUse
+parks_by s k told t u =
+    if (told == 0) && ((s.word == u.at.0.loaded) && not (is_asleep t.view.park))
+    then with_thread s k (record t { view = with_park t.view (Asleep u.at.0.want) })
+    else with_thread s k record { view = with_park t.view Woken; underway = goes_on (next_at stage.Sleep told u.at.0) u.before }
+
+abbrev pub any_asleep : List Thread → Bool
+any_asleep [] = false
+any_asleep (t ∷ ts) = is_asleep t.view.park || any_asleep ts
+
+-- the thread has made its wake-up
+abbrev pub paid : LockInUse → ℕ → Thread → Underway → LockInUse
+paid s k t u = with_thread s k record { view = with_debt t.view debt.Nothing; underway = goes_on (next_of 0 u.at.0) u.before }
+
+abbrev pub wake_at : LockInUse → ℕ → ℕ → Thread → Underway → Option Thread → LockInUse
+wake_at s k j t u None = if any_asleep s.threads then s else paid s k t u
+wake_at s k j t u (Some w) =
+    if is_asleep w.view.park then paid (with_thread s j (view_to (λ v. with_park v Woken) w)) k t u
+    else if any_asleep s.threads then s else paid s k t u
+
+abbrev pub wakes_by : LockInUse → ℕ → ℕ → Thread → Underway → Action → LockInUse
+wakes_by s k j t u action.WakeAll = paid (record s { threads = map (view_to wake_all) s.threads }) k (view_to wake_all t) u
+wakes_by s k j t u action.WakeNext = paid (record s { threads = map (view_to wake_next) s.threads }) k (view_to wake_next t) u
+wakes_by s k j t u other = wake_at s k j t u (slice_get s.threads j)
+
+abbrev pub step_at : Stage → LockInUse → ℕ → ℕ → ℕ → Thread → Underway → LockInUse
+step_at stage.Sleep s k told j t u = parks_by s k told t u
+step_at stage.Wake s k told j t u = wakes_by s k j t u u.at.1
+step_at stage.WakeRefused s k told j t u = wakes_by s k j t u u.at.1
+step_at other s k told j t u = steps_by s k told t u
+
+abbrev pub step_in : LockInUse → ℕ → ℕ → ℕ → Thread → Option Underway → LockInUse
+step_in s k told j t None = s
+step_in s k told j t (Some u) = step_at u.at.0.stage s k told j t u
+
+abbrev pub acquire_by : LockInUse → ℕ → ExWant → Bool → Bool → Option Thread → LockInUse
+acquire_by s k want blocks announces None = s
+acquire_by s k want blocks announces (Some t) = if may_acquire t want then with_thread s k (begins t (acquiring s.readers want blocks announces)) else s
+
+abbrev pub release_by : LockInUse → ℕ → Down → Option Thread → LockInUse
+release_by s k down None = s
+release_by s k down (Some t) = if may_release t down then with_thread s k (begins t (taking s.readers down)) else s
+
+abbrev pub step_by : LockInUse → ℕ → ℕ → ℕ → Option Thread → LockInUse
+step_by s k told j None = s
+step_by s k told j (Some t) = step_in s k told j t t.underway
+
+-- an act that the thread cannot make, or of no thread, changes nothing
+abbrev pub after_act : LockInUse → Act → LockInUse
+after_act s join = record s { threads = s.threads ++ new_thread ∷ [] }
+after_act s (acquires k want blocks announces) = acquire_by s k want blocks announces (slice_get s.threads k)
+after_act s (releases k down) = release_by s k down (slice_get s.threads k)
+after_act s (steps k told j) = step_by s k told j (slice_get s.threads k)
+
+abbrev pub after_acts : LockInUse → List Act → LockInUse
+after_acts s [] = s
+after_acts s (a ∷ acts) = after_acts (after_act s a) acts
+
+pub record IsInPark (t : Thread) : Type 0 where
+  pub underway : Underway
+  pub calls : t.underway ≡ Some underway
+  pub sleeps : underway.at.0.stage ≡ stage.Sleep
+  pub wants : t.view.park ≡ Asleep underway.at.0.want
+  pub marked : has_sleepers underway.at.0.loaded ≡ true
+  -- and a writer that announces itself, in a lock for several readers, parks for a word with a bar, its own or another's
+  pub barred : underway.at.0.announces ≡ true → is_exclusive underway.at.0.want ≡ true → wakes_one underway.at.0 ≡ false → 2 ^ 34 ≤ core_of underway.at.0.loaded
+
+-- what holds after any acts
+pub record ThreadsAreServed (s : LockInUse) : Type 0 where
+  pub small : s.word < 2 ^ 36
+  -- the word without S is the sum of what the threads hold, which is compatible, with at most one bar
+  pub coded : core_of s.word ≡ word_of (all_of (holds_of (views_of s.threads)))
+  pub legal : IsLegalBarredBag s.readers (all_of (holds_of (views_of s.threads)))
+  -- whoever sleeps: S is set and the word refuses it; or a thread owes it a wake-up, or (in a mutex) was woken in its place
+  pub none_forgotten : (k : ℕ) (v : ParkView) (want : ExWant) → slice_get (views_of s.threads) k ≡ Some v → v.park ≡ Asleep want
+      → IsServed (limits_in s.readers) (core_of s.word) (has_sleepers s.word) (views_of s.threads) v want
+  -- a thread that sleeps is in its park, for what its call wants, and the number that it parks for has S
+  pub parked : (k : ℕ) (t : Thread) → slice_get s.threads k ≡ Some t → is_asleep t.view.park ≡ true → IsInPark t
+  -- a thread in no call has no bar: a call that ended left none
+  pub no_bar_left : (k : ℕ) (t : Thread) → slice_get s.threads k ≡ Some t → t.underway ≡ None → t.view.held.announced ≡ false
+  -- a thread owes the wake-up that its call asks for next
+  pub owed : (k : ℕ) (t : Thread) (u : Underway) → slice_get s.threads k ≡ Some t → t.underway ≡ Some u → t.view.debt ≡ debt_at u.at.1
+
+-- THE THEOREM: after any acts of any number of threads, from a new lock on
+abbrev pub EveryRunIsServed : Type 0
+EveryRunIsServed = (readers : ℕ) (acts : List Act) → IsLimit readers → ThreadsAreServed (after_acts (new_lock readers) acts)

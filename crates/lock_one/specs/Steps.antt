@@ -1,0 +1,247 @@
+-- What the steps of a call mean: whatever all other calls do, each step keeps the rule by which no sleeper is forgotten.
+use Rattle.std.specs.Prelude.{◌≡◌, ℕ, ◌+◌, ◌-◌, ◌^◌, ◌<◌, Bool, true, false, not, ◌&&◌, ◌==◌, if◌then◌else◌, ◌⊎◌, List, [], ◌∷◌, ◌≤◌, map, slice_get, slice_set, Some, ⊤, IsTrue}
+use Rattle.lock_base.specs.Limits.{IsLimit}
+use Rattle.lock_base.specs.declared.machine.hold.Hold.{Hold}
+use Rattle.lock_base.specs.Holds.{hold_has, hold_after}
+use Rattle.lock_word.specs.Word.{word_admits, step_of_want, step_of_down}
+use Rattle.lock_word.specs.declared.want.ExWant.{ExWant}
+use Rattle.lock_word.specs.declared.down.Down.TheVariants as down
+use Rattle.lock_word.specs.Unblocking.{is_awaited}
+use Rattle.lock_one.specs.declared.action.Action.{Action}
+use Rattle.lock_one.specs.declared.action.Action.TheVariants.{Load, Exchange, RemoveReader, WakeOne, WakeAll, WakeNext, Spin, Yield, End}
+use Rattle.lock_one.specs.declared.action.Action.TheVariants as action
+use Rattle.lock_one.specs.declared.call.Call.{Call}
+use Rattle.lock_one.specs.declared.stage.Stage.{Stage}
+use Rattle.lock_one.specs.declared.stage.Stage.TheVariants as stage
+use Rattle.lock_one.specs.declared.park.ParkLimits.{ParkLimits}
+use Rattle.lock_one.specs.declared.park.ParkView.{ParkView}
+use Rattle.lock_one.specs.declared.park.Park.{Park}
+use Rattle.lock_one.specs.declared.park.Park.TheVariants.{Awake, Asleep, Woken}
+use Rattle.lock_one.specs.declared.park.Debt.{Debt}
+use Rattle.lock_one.specs.declared.park.Debt.TheVariants as debt
+use Rattle.lock_one.specs.Rule.{is_asleep, is_woken, admits_to, IsServed, with_park, with_debt, wake_all, wake_next, KeepsParking}
+use Rattle.lock_one.specs.Machine.{Progress, core_of, has_sleepers, sleepers, wakes_one, is_exclusive, sleep_of, after_try, word_marked, word_released, next_at, next_of}
+
+-- the word after an action that is made in one atomic step
+abbrev pub made : Action → ℕ → ℕ
+made Load w = w
+made (Exchange a b) w = if w == a then b else w
+made RemoveReader w = w - 1
+made (action.Park n f) w = w
+made WakeOne w = w
+made WakeAll w = w
+made WakeNext w = w
+made (Spin n) w = w
+made Yield w = w
+made (End b) w = w
+
+-- whether an action reads or writes the word. A wake-up uses its address alone
+abbrev pub touches : Action → Bool
+touches Load = true
+touches (Exchange a b) = true
+touches RemoveReader = true
+touches (action.Park n f) = true
+touches WakeOne = false
+touches WakeAll = false
+touches WakeNext = false
+touches (Spin n) = false
+touches Yield = false
+touches (End b) = false
+
+abbrev pub ends : Action → Bool
+ends Load = false
+ends (Exchange a b) = false
+ends RemoveReader = false
+ends (action.Park n f) = false
+ends WakeOne = false
+ends WakeAll = false
+ends WakeNext = false
+ends (Spin n) = false
+ends Yield = false
+ends (End b) = true
+
+-- the actions of a call from here on, up to its end, where its steps are answered by these numbers
+abbrev pub actions_from : Progress → List ℕ → List Action
+actions_from p [] = p.1 ∷ []
+actions_from p (found ∷ answers) = p.1 ∷ (if ends p.1 then [] else actions_from (next_of found p.0) answers)
+
+abbrev pub touches_none : List Action → Bool
+touches_none [] = true
+touches_none (a ∷ actions) = not (touches a) && touches_none actions
+
+-- THE LAW OF THE LAST ACCESS: once the exchange of a release, of an acquisition or of a withdrawal has succeeded, no action of
+-- the call reads or writes the word, whatever it is answered
+pub record LastAccess : Type 0 where
+  pub release : (call : Call) (answers : List ℕ) → call.stage ≡ stage.Release
+      → touches_none (actions_from (next_of call.loaded call) answers) ≡ true
+  pub removal : (call : Call) (found : ℕ) (answers : List ℕ) → call.stage ≡ stage.Remove
+      → touches_none (actions_from (next_of found call) answers) ≡ true
+  pub acquisition : (call : Call) (answers : List ℕ) → call.stage ≡ stage.Try
+      → touches_none (actions_from (next_of call.loaded call) answers) ≡ true
+  pub withdrawal : (call : Call) (answers : List ℕ) → call.stage ≡ stage.Withdraw
+      → touches_none (actions_from (next_of call.loaded call) answers) ≡ true
+
+abbrev pub limits_of : Call → ParkLimits
+limits_of call = record { readers = call.readers; wakes_one = wakes_one call }
+
+-- whether the loaded word admits what the call wants
+abbrev pub is_admitted : Call → Bool
+is_admitted call = word_admits call.announced call.readers (core_of call.loaded) call.want
+
+-- the party acquires what the call wants: it holds what the exchange takes, its bar is as said, it owes nothing, it is awake, and
+-- if it was woken, the call has slept
+pub record Acquires (want : ExWant) (announced slept blocks one : Bool) (v : ParkView) : Type 0 where
+  pub awaited : IsTrue (is_awaited want)
+  pub has : IsTrue (hold_has v.held (step_of_want want))
+  pub bar : announced ≡ v.held.announced
+  pub owes_none : v.debt ≡ debt.Nothing
+  pub woken : IsTrue (is_woken v.park) → slept ≡ true
+  pub tries : blocks ≡ false → (slept ≡ false) × (announced ≡ false)
+  pub no_bar : announced ≡ true → one ≡ false
+  pub writer : announced ≡ true → is_exclusive want ≡ true
+
+abbrev pub Acquiring : Call → ParkView → Type 0
+Acquiring call v = Acquires call.want call.announced call.slept call.blocks (wakes_one call) v
+
+abbrev pub Awaits : Call → ParkView → Type 0
+Awaits call v = Acquiring call v × (is_asleep v.park ≡ false)
+
+abbrev pub IsRest : Action → Type 0
+IsRest (Spin n) = ⊤
+IsRest other = ⊥
+
+abbrev pub IsWake : Debt → Action → Type 0
+IsWake debt.Nothing a = ⊥
+IsWake debt.One a = a ≡ WakeOne
+IsWake debt.All a = a ≡ WakeAll
+IsWake debt.Next a = a ≡ WakeNext
+
+abbrev pub AtRest : ParkView → Type 0
+AtRest v = (v.park ≡ Awake) × (v.debt ≡ debt.Nothing)
+
+-- the party is where its call awaits the answer to this action
+abbrev pub IsAt : Stage → Call → ParkView → Action → Type 0
+IsAt stage.Look call v a = Awaits call v × (a ≡ Load)
+IsAt stage.Try call v a = Awaits call v × (is_admitted call ≡ true) × (a ≡ Exchange call.loaded (after_try call call.loaded))
+IsAt stage.Pause call v a = Awaits call v × IsRest a
+IsAt stage.Mark call v a = Awaits call v × (is_admitted call ≡ false) × (call.blocks ≡ true) × (call.left ≡ word_marked call) × (a ≡ Exchange call.loaded (word_marked call))
+-- a call that announces itself, in a lock for several readers, parks for a word with a bar, its own or another's
+IsAt stage.Sleep call v a =
+    Acquires call.want call.announced true call.blocks (wakes_one call) v × (is_admitted call ≡ false) × (call.blocks ≡ true) × (has_sleepers call.loaded ≡ true) × (IsTrue (is_asleep v.park) → v.park ≡ Asleep call.want)
+    × (a ≡ sleep_of call) × (call.announces ≡ true → is_exclusive call.want ≡ true → wakes_one call ≡ false → 2 ^ 34 ≤ core_of call.loaded)
+IsAt stage.Withdraw call v a = Awaits call v × (call.announced ≡ true) × (a ≡ Exchange call.loaded (core_of call.loaded - 2 ^ 34))
+IsAt stage.Leave call v a = Awaits call v × (is_admitted call ≡ false) × (call.announced ≡ false) × (call.loaded < sleepers) × (a ≡ Exchange call.loaded (call.loaded + sleepers))
+IsAt stage.LookToRemove call v a = IsTrue (hold_has v.held (step_of_down call.down)) × AtRest v × (call.down ≡ down.Shared) × (wakes_one call ≡ false) × (a ≡ Load)
+IsAt stage.Remove call v a = IsTrue (hold_has v.held (step_of_down call.down)) × AtRest v × (call.down ≡ down.Shared) × (wakes_one call ≡ false) × (a ≡ RemoveReader)
+IsAt stage.Release call v a = IsTrue (hold_has v.held (step_of_down call.down)) × AtRest v × (a ≡ Exchange call.loaded (word_released call.readers call.loaded call.down))
+IsAt stage.Wake call v a = (v.park ≡ Awake) × IsWake v.debt a
+IsAt stage.WakeRefused call v a = (v.park ≡ Awake) × (v.debt ≡ debt.All) × (a ≡ WakeAll)
+IsAt stage.Acquired call v a = AtRest v × (a ≡ End true) × (v.held.announced ≡ false)
+IsAt stage.Refused call v a = AtRest v × (a ≡ End false)
+IsAt stage.Ended call v a = AtRest v × (a ≡ End true)
+
+-- whether the action at this stage is a step on the word, or a pause. Sleeps and wake-ups are not: they concern others
+abbrev pub is_step : Stage → Bool
+is_step stage.Look = true
+is_step stage.Try = true
+is_step stage.Pause = true
+is_step stage.Mark = true
+is_step stage.Withdraw = true
+is_step stage.Leave = true
+is_step stage.LookToRemove = true
+is_step stage.Remove = true
+is_step stage.Release = true
+is_step other = false
+
+-- a word and parties that keep the rule
+pub record Keeps (limits : ParkLimits) (word : ℕ) (views : List ParkView) : Type 0 where
+  pub small : word < 2 ^ 36
+  pub kept : KeepsParking limits (core_of word) (has_sleepers word) views
+
+-- what the party holds whose call is at this stage, if it held this when the call began
+abbrev pub hold_at : Stage → Call → Hold → Hold
+hold_at stage.Acquired call before = hold_after (record before { announced = call.announced }) (step_of_want call.want)
+hold_at stage.LookToRemove call before = before
+hold_at stage.Remove call before = before
+hold_at stage.Release call before = before
+hold_at stage.Wake call before = hold_after before (step_of_down call.down)
+hold_at stage.Ended call before = hold_after before (step_of_down call.down)
+hold_at stage.Refused call before = record before { announced = false }
+hold_at stage.WakeRefused call before = record before { announced = false }
+hold_at waiting call before = record before { announced = call.announced }
+
+abbrev pub lock_and : ParkLimits → Bool → ParkLimits × Bool
+lock_and limits slept = (limits, slept)
+
+-- what no step of a call changes but the end of a sleep: its lock, and whether it has slept
+abbrev pub lock_of : Call → ParkLimits × Bool
+lock_of call = lock_and (limits_of call) call.slept
+
+pub record StepKept (limits : ParkLimits) (slept : Bool) (park : Park) (before : Hold) (word : ℕ) (views : List ParkView) (k : ℕ) (next : Progress) : Type 0 where
+  pub you : ParkView
+  pub keeps : Keeps limits word (slice_set views k you)
+  pub at : IsAt next.0.stage next.0 you next.1
+  pub held : you.held ≡ hold_at next.0.stage next.0 before
+  pub parked : (you.park ≡ park) ⊎ (you.park ≡ Awake)
+  pub same_lock : lock_of next.0 ≡ lock_and limits slept
+
+-- THE LAW: take any word and parties that keep the rule. Let one party make the action that its call asks for, in one atomic
+-- step, and give the call what it found. The rule holds again, the party is where its next action is to be made, and it holds
+-- what that stage says
+abbrev pub StepsKeepTheRule : Type 0
+StepsKeepTheRule =
+    (word : ℕ) (views : List ParkView) (k : ℕ) (me : ParkView) (call : Call) (action : Action) (found : ℕ) (before : Hold)
+    → IsLimit call.readers → Keeps (limits_of call) word views → slice_get views k ≡ Some me
+    → IsAt call.stage call me action → me.held ≡ hold_at call.stage call before → is_step call.stage ≡ true → (IsTrue (touches action) → found ≡ word)
+    → StepKept (limits_of call) call.slept me.park before (made action word) views k (next_of found call)
+
+-- THE LAW OF SLEEP: a party at its park falls asleep where the word is the number that it parks for; a sleep ends at any time; and
+-- a wake-up is made. The rule holds again
+pub record SleepsKeepTheRule : Type 0 where
+  pub falls_asleep : (views : List ParkView) (k : ℕ) (me : ParkView) (call : Call) (action : Action)
+      → IsLimit call.readers → Keeps (limits_of call) call.loaded views → slice_get views k ≡ Some me → IsAt stage.Sleep call me action
+      → Keeps (limits_of call) call.loaded (slice_set views k (with_park me (Asleep call.want)))
+      × IsAt stage.Sleep call (with_park me (Asleep call.want)) action
+  pub sleep_ends : (word : ℕ) (views : List ParkView) (k : ℕ) (me : ParkView) (call : Call) (action : Action) (answer : ℕ)
+      → IsLimit call.readers → Keeps (limits_of call) word views → slice_get views k ≡ Some me → IsAt stage.Sleep call me action
+      → Keeps (limits_of call) word (slice_set views k (with_park me Woken))
+      × IsAt stage.Look (next_at stage.Sleep answer call).0 (with_park me Woken) (next_at stage.Sleep answer call).1
+  -- a wake-up of all
+  pub wakes_all : (word : ℕ) (views : List ParkView) (k : ℕ) (me : ParkView) (call : Call)
+      → IsLimit call.readers → Keeps (limits_of call) word views → slice_get views k ≡ Some me → IsAt stage.Wake call me WakeAll
+      → Keeps (limits_of call) word (slice_set (map wake_all views) k (with_debt (wake_all me) debt.Nothing))
+      × IsAt stage.Ended (next_at stage.Wake 0 call).0 (with_debt (wake_all me) debt.Nothing) (next_at stage.Wake 0 call).1
+  pub wakes_all_refused : (word : ℕ) (views : List ParkView) (k : ℕ) (me : ParkView) (call : Call)
+      → IsLimit call.readers → Keeps (limits_of call) word views → slice_get views k ≡ Some me → IsAt stage.WakeRefused call me WakeAll
+      → Keeps (limits_of call) word (slice_set (map wake_all views) k (with_debt (wake_all me) debt.Nothing))
+      × IsAt stage.Refused (next_at stage.WakeRefused 0 call).0 (with_debt (wake_all me) debt.Nothing) (next_at stage.WakeRefused 0 call).1
+  -- of those that may pass a bar
+  pub wakes_next : (word : ℕ) (views : List ParkView) (k : ℕ) (me : ParkView) (call : Call)
+      → IsLimit call.readers → Keeps (limits_of call) word views → slice_get views k ≡ Some me → IsAt stage.Wake call me WakeNext
+      → Keeps (limits_of call) word (slice_set (map wake_next views) k (with_debt (wake_next me) debt.Nothing))
+      × IsAt stage.Ended (next_at stage.Wake 0 call).0 (with_debt (wake_next me) debt.Nothing) (next_at stage.Wake 0 call).1
+  -- of one that sleeps, or of none if none does
+  pub wakes_one : (word : ℕ) (views : List ParkView) (k j : ℕ) (me w : ParkView) (call : Call) (wish : ExWant)
+      → IsLimit call.readers → Keeps (limits_of call) word views → slice_get views k ≡ Some me → IsAt stage.Wake call me WakeOne
+      → slice_get views j ≡ Some w → w.park ≡ Asleep wish
+      → Keeps (limits_of call) word (slice_set (slice_set views j (with_park w Woken)) k (with_debt me debt.Nothing))
+      × IsAt stage.Ended (next_at stage.Wake 0 call).0 (with_debt me debt.Nothing) (next_at stage.Wake 0 call).1
+  pub wakes_nobody : (word : ℕ) (views : List ParkView) (k : ℕ) (me : ParkView) (call : Call)
+      → IsLimit call.readers → Keeps (limits_of call) word views → slice_get views k ≡ Some me → IsAt stage.Wake call me WakeOne
+      → ((j : ℕ) (v : ParkView) → slice_get views j ≡ Some v → is_asleep v.park ≡ false)
+      → Keeps (limits_of call) word (slice_set views k (with_debt me debt.Nothing))
+      × IsAt stage.Ended (next_at stage.Wake 0 call).0 (with_debt me debt.Nothing) (next_at stage.Wake 0 call).1
+  -- a party that is woken at its park is at its park still
+  pub woken : (call : Call) (v : ParkView) (action : Action) → IsAt stage.Sleep call v action → IsAt stage.Sleep call (with_park v Woken) action
+
+-- THE MEANING: at any time, a party that sleeps finds S set on a word that refuses it, or someone owes it a wake-up, or (in a mutex)
+-- was woken in its place; and one that sleeps and announces itself sleeps under a bar or under a writer
+pub record NobodyIsForgotten : Type 0 where
+  pub served : (limits : ParkLimits) (word : ℕ) (views : List ParkView) (k : ℕ) (v : ParkView) (wish : ExWant)
+      → Keeps limits word views → slice_get views k ≡ Some v → v.park ≡ Asleep wish
+      → IsServed limits (core_of word) (has_sleepers word) views v wish
+  -- so where nobody owes a wake-up or is woken, S is set and the word refuses each sleeper
+  pub at_rest : (limits : ParkLimits) (word : ℕ) (views : List ParkView) (k : ℕ) (v : ParkView) (wish : ExWant)
+      → Keeps limits word views → slice_get views k ≡ Some v → v.park ≡ Asleep wish
+      → ((j : ℕ) (w : ParkView) → slice_get views j ≡ Some w → (w.debt ≡ debt.Nothing) × (is_woken w.park ≡ false))
+      → (sleepers ≤ word) × (admits_to limits (core_of word) v wish ≡ false)

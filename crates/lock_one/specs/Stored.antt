@@ -1,0 +1,21 @@
+-- A word as a lock stores it: the four flags are bits 0 to 3, in their order, and the readers follow.
+use Rattle.std.specs.Prelude.{◌≡◌, ℕ, ◌+◌, ◌*◌, ◌/◌, ◌%◌, ◌-◌, ◌^◌, ◌<◌, List}
+use Rattle.lock_base.specs.Limits.{IsLimit}
+use Rattle.lock_one.specs.declared.park.ParkLimits.{ParkLimits}
+use Rattle.lock_one.specs.declared.park.ParkView.{ParkView}
+use Rattle.lock_one.specs.Steps.{Keeps}
+
+abbrev pub stored_of : ℕ → ℕ
+stored_of word = word / 2 ^ 32 + 16 * (word % 2 ^ 32)
+
+abbrev pub word_of_stored : ℕ → ℕ
+word_of_stored stored = stored / 16 + 2 ^ 32 * (stored % 16)
+
+-- THE LAW: each word is stored as one number, and read back as it was. A lock for fewer than 2^28 readers stores 32 bits, so a park,
+-- which compares 32 bits, compares its whole word
+pub record StoringKeepsWords : Type 0 where
+  pub read_back : (word : ℕ) → word < 2 ^ 36 → word_of_stored (stored_of word) ≡ word
+  pub stored_again : (stored : ℕ) → stored < 2 ^ 36 → stored_of (word_of_stored stored) ≡ stored
+  pub in_half : (limits : ParkLimits) (word : ℕ) (views : List ParkView) → IsLimit limits.readers → limits.readers < 2 ^ 28
+      → Keeps limits word views → stored_of word < 2 ^ 32
+  pub one_reader : (word : ℕ) → word < 2 ^ 36 → word % 2 ^ 32 < 2 ^ 32 - 1 → stored_of (word + 1) ≡ stored_of word + 16

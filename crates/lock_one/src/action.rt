@@ -1,0 +1,27 @@
+//! What the driver does next.
+
+/// One atomic step on the word, a pause, a sleep, a wake-up, or the end of the call. The driver answers each with a number.
+#[derive(Clone, Copy, PartialEq, Eq, Debug)]
+pub enum Action {
+    /// Loads the word. The answer is its value.
+    Load,
+    /// Replaces the first number by the second one, if the word is the first. The answer is the value before.
+    Exchange(u64, u64),
+    /// Subtracts one reader from the word. The answer is the value before.
+    RemoveReader,
+    /// Sleeps while the word is this number. The flag says that the call may pass a bar. A sleep may end early. The answer
+    /// is 1 if the deadline of the call has passed, and 0 otherwise.
+    Park(u64, bool),
+    /// Wakes one thread that sleeps on the word.
+    WakeOne,
+    /// Wakes all threads that sleep on the word.
+    WakeAll,
+    /// Wakes the threads that sleep on the word and may pass a bar.
+    WakeNext,
+    /// Spins two to the power of this number of times.
+    Spin(u32),
+    /// Yields to another thread. The answer is that of a sleep.
+    Yield,
+    /// Ends the call with this answer.
+    End(bool),
+}

@@ -1,0 +1,360 @@
+//! A call on a lock of one word, step by step.
+ghost use Rattle.std.specs.Prelude.{◌≡◌};
+ghost use Rattle.lock_one.specs.Machine.{release_of, alone, removes_reader};
+
+use crate::action::Action;
+use crate::park::Debt;
+use crate::stage::Stage;
+use lock_word::{Down, ExWant, Occupancy, has_bar, unblocks};
+
+/// The bit of sleepers.
+pub const SLEEPERS: u64 = 34_359_738_368;
+
+/// The bar.
+const BAR: u64 = 17_179_869_184;
+
+/// The readers' limit from which on a call yields in place of a sleep. A park compares the low half of a stored word, which
+/// has 28 bits of readers.
+const YIELDS_FROM: u64 = 268_435_456;
+
+/// How many pauses a call makes before it sleeps.
+const PAUSES: u32 = 6;
+
+/// The first pause is a spin of two to the power of this number of times, and each later one is twice as long,
+const SHORTEST: u32 = 6;
+
+/// up to two to the power of this number.
+const LONGEST: u32 = 9;
+
+/// A call between two of its steps.
+#[derive(Clone, Copy, PartialEq, Eq, Debug)]
+pub struct Call {
+    /// The readers' limit of the lock. A lock for one reader is a mutex.
+    pub readers: u64,
+    /// The step whose answer the call awaits.
+    pub stage: Stage,
+    /// What the call acquires.
+    pub want: ExWant,
+    /// What the call releases.
+    pub down: Down,
+    /// Whether the call blocks.
+    pub blocks: bool,
+    /// Whether the call sets the bar before it sleeps.
+    pub announces: bool,
+    /// Whether the call has set the bar.
+    pub announced: bool,
+    /// Whether the deadline of the call has passed.
+    pub late: bool,
+    /// Whether the call has slept.
+    pub slept: bool,
+    /// How many pauses the call has made.
+    pub pauses: u32,
+    /// The word that the call found last.
+    pub loaded: u64,
+    /// The word that the exchange under way leaves.
+    pub left: u64,
+}
+
+impl Call {
+    ghost use Rattle.lock_one.specs.Machine.{acquiring, taking, next_of, goes_to, ended, acquired, refused, wakes_one, decide, wait_or_sleep, rest, sleep, give_up, free, look_to_remove, marked, sets_bar, wakes, withdrawn};
+
+    /// Begins a call that acquires or upgrades. Returns the call and its first action.
+    pub fn acquire(readers: u64, want: ExWant, blocks: bool, announces: bool) -> (Call, Action)
+        ensures { result ≡ acquiring readers want blocks announces }
+    {
+        let call = Call {
+            readers,
+            stage: Stage::Look,
+            want,
+            down: Down::Shared,
+            blocks,
+            announces,
+            announced: false,
+            late: false,
+            slept: false,
+            pauses: 0,
+            loaded: 0,
+            left: 0,
+        };
+        (call, Action::Load)
+    }
+
+    /// Takes the answer to the last action, and returns the next action.
+    pub fn next(&mut self, found: u64) -> Action
+        ensures { (self.new, result) ≡ next_of found self.old }
+    {
+        match self.stage {
+            Stage::Look => self.decide(found),
+            Stage::Try if found == self.loaded => self.acquired(),
+            Stage::Try => self.decide(found),
+            Stage::Pause => self.to(Stage::Look, Action::Load),
+            Stage::Mark if found == self.loaded => self.has_marked(),
+            Stage::Mark => self.decide(found),
+            Stage::Sleep => {
+                self.late = found != 0;
+                self.slept = true;
+                self.pauses = 0;
+                self.to(Stage::Look, Action::Load)
+            }
+            Stage::Withdraw if found == self.loaded => self.has_withdrawn(),
+            Stage::Withdraw => self.decide(found),
+            Stage::Leave if found == self.loaded => self.refused(),
+            Stage::Leave => self.decide(found),
+            Stage::LookToRemove => self.look_to_remove(found),
+            Stage::Remove => self.wake(found),
+            Stage::Release if found == self.loaded => self.wake(found),
+            Stage::Release => self.free(found),
+            Stage::Wake => self.end(true),
+            Stage::WakeRefused => self.refused(),
+            Stage::Acquired | Stage::Refused | Stage::Ended => self.end(false),
+        }
+    }
+
+    fn to(&mut self, stage: Stage, action: Action) -> Action
+        ensures { (self.new, result) ≡ goes_to self.old stage action }
+    {
+        self.stage = stage;
+        action
+    }
+
+    fn end(&mut self, answer: bool) -> Action
+        ensures { (self.new, result) ≡ ended answer self.old }
+    {
+        self.to(Stage::Ended, Action::End(answer))
+    }
+
+    fn acquired(&mut self) -> Action
+        ensures { (self.new, result) ≡ acquired self.old }
+    {
+        self.to(Stage::Acquired, Action::End(true))
+    }
+
+    fn refused(&mut self) -> Action
+        ensures { (self.new, result) ≡ refused self.old }
+    {
+        self.to(Stage::Refused, Action::End(false))
+    }
+
+    fn wakes_one(&self) -> bool
+        ensures { result ≡ wakes_one self.now }
+    {
+        self.readers == 1
+    }
+
+    /// Acquires, if the word admits it, and else rests, sleeps or gives up.
+    fn decide(&mut self, word: u64) -> Action
+        ensures { (self.new, result) ≡ decide word self.old }
+    {
+        self.loaded = word;
+        let keeps = word >= SLEEPERS || self.wakes_one() && self.slept;
+        match self
+            .want
+            .exchanged(self.announced, self.readers, word % SLEEPERS)
+        {
+            Some(next) => {
+                let left = if keeps {
+                    next.saturating_add(SLEEPERS)
+                } else {
+                    next
+                };
+                self.left = left;
+                self.to(Stage::Try, Action::Exchange(word, left))
+            }
+            None => self.rest(),
+        }
+    }
+
+    /// The loaded word refuses.
+    fn rest(&mut self) -> Action
+        ensures { (self.new, result) ≡ rest self.old }
+    {
+        if !self.blocks {
+            return self.refused();
+        }
+        if self.late {
+            return self.give_up();
+        }
+        let made = self.pauses;
+        if made < PAUSES {
+            self.pauses = made + 1;
+            let spin = if made < LONGEST - SHORTEST {
+                made + SHORTEST
+            } else {
+                LONGEST
+            };
+            return self.to(Stage::Pause, Action::Spin(spin));
+        }
+        self.wait_or_sleep()
+    }
+
+    fn sets_bar(&self) -> bool
+        ensures { result ≡ sets_bar self.now }
+    {
+        let is_exclusive = matches!(self.want, ExWant::Exclusive);
+        self.announces
+            && is_exclusive
+            && !self.announced
+            && !self.wakes_one()
+            && !has_bar(self.loaded % SLEEPERS)
+    }
+
+    /// Sets the bit of sleepers, and the bar if it has to, and then sleeps.
+    fn wait_or_sleep(&mut self) -> Action
+        ensures { (self.new, result) ≡ wait_or_sleep self.old }
+    {
+        let word = self.loaded;
+        let bar = if self.sets_bar() { BAR } else { 0 };
+        let left = word % SLEEPERS + bar + SLEEPERS;
+        if left == word {
+            return self.sleep();
+        }
+        self.left = left;
+        self.to(Stage::Mark, Action::Exchange(word, left))
+    }
+
+    fn has_marked(&mut self) -> Action
+        ensures { (self.new, result) ≡ marked self.old }
+    {
+        self.announced = self.announced || self.sets_bar();
+        self.loaded = self.left;
+        self.sleep()
+    }
+
+    fn sleep(&mut self) -> Action
+        ensures { (self.new, result) ≡ sleep self.old }
+    {
+        let is_next = self.announced || matches!(self.want, ExWant::Upgrade);
+        let action = if self.readers < YIELDS_FROM {
+            Action::Park(self.loaded, is_next)
+        } else {
+            Action::Yield
+        };
+        self.to(Stage::Sleep, action)
+    }
+
+    /// The deadline has passed. The call takes back its bar, or passes on a wake-up of a mutex.
+    fn give_up(&mut self) -> Action
+        ensures { (self.new, result) ≡ give_up self.old }
+    {
+        let word = self.loaded;
+        if self.announced {
+            let left = (word % SLEEPERS).saturating_sub(BAR);
+            self.left = left;
+            return self.to(Stage::Withdraw, Action::Exchange(word, left));
+        }
+        if self.wakes_one() && self.slept && word < SLEEPERS {
+            let left = word + SLEEPERS;
+            self.left = left;
+            return self.to(Stage::Leave, Action::Exchange(word, left));
+        }
+        self.refused()
+    }
+
+    fn has_withdrawn(&mut self) -> Action
+        ensures { (self.new, result) ≡ withdrawn self.old }
+    {
+        self.announced = false;
+        if self.loaded >= SLEEPERS {
+            self.to(Stage::WakeRefused, Action::WakeAll)
+        } else {
+            self.refused()
+        }
+    }
+
+    /// Begins a call that releases or downgrades. Returns the call and its first action.
+    pub fn release(readers: u64, down: Down) -> (Call, Action)
+        ensures { result ≡ taking readers down }
+    {
+        let (mut call, _) = Call::acquire(readers, ExWant::Shared, false, false);
+        call.down = down;
+        let action = if removes_reader(readers, down) {
+            call.to(Stage::LookToRemove, Action::Load)
+        } else {
+            call.stage = Stage::Release;
+            call.free(alone_word(down))
+        };
+        (call, action)
+    }
+
+    /// Makes the release on this word.
+    fn free(&mut self, word: u64) -> Action
+        ensures { (self.new, result) ≡ free word self.old }
+    {
+        self.loaded = word;
+        let (keeps, _) = released(self.readers, word, self.down);
+        let core = (word % SLEEPERS).saturating_sub(self.down.amount());
+        let left = if keeps { core + SLEEPERS } else { core };
+        self.left = left;
+        self.to(Stage::Release, Action::Exchange(word, left))
+    }
+
+    /// Subtracts one reader from the word, or makes the exchange that can clear the bit of sleepers, if it is set.
+    fn look_to_remove(&mut self, word: u64) -> Action
+        ensures { (self.new, result) ≡ look_to_remove word self.old }
+    {
+        if word >= SLEEPERS {
+            return self.free(word);
+        }
+        self.loaded = word;
+        self.to(Stage::Remove, Action::RemoveReader)
+    }
+
+    /// Makes the wake-up that the release of this word owes.
+    fn wake(&mut self, word: u64) -> Action
+        ensures { (self.new, result) ≡ wakes (release_of self.old.readers word self.old.down).1 self.old }
+    {
+        let (_, debt) = released(self.readers, word, self.down);
+        match debt {
+            Debt::Nothing => self.end(true),
+            Debt::One => self.to(Stage::Wake, Action::WakeOne),
+            Debt::All => self.to(Stage::Wake, Action::WakeAll),
+            Debt::Next => self.to(Stage::Wake, Action::WakeNext),
+        }
+    }
+}
+
+/// Returns whether the release is a subtraction of one reader, where no bit of sleepers is set.
+fn removes_reader(readers: u64, down: Down) -> bool
+    ensures { result ≡ removes_reader readers down }
+{
+    matches!(down, Down::Shared) && readers != 1
+}
+
+/// Returns the word of a holder that is alone.
+fn alone_word(down: Down) -> u64
+    ensures { result ≡ alone down }
+{
+    match down {
+        Down::Shared => 1,
+        Down::Exclusive | Down::ToShared | Down::ToUpgradable => 8_589_934_592,
+        Down::Upgradable | Down::UpgradableToShared => 4_294_967_297,
+        Down::Withdraw => BAR,
+    }
+}
+
+/// Returns whether the bit of sleepers stays after a release of this word, and the wake-up that it owes.
+fn released(readers: u64, word: u64, down: Down) -> (bool, Debt)
+    ensures { result ≡ release_of readers word down }
+{
+    if word < SLEEPERS {
+        return (false, Debt::Nothing);
+    }
+    let before = word % SLEEPERS;
+    let after = before.saturating_sub(down.amount());
+    let frees = if readers == 1 {
+        after == 0
+    } else {
+        unblocks(
+            readers,
+            Occupancy::of_word(before),
+            Occupancy::of_word(after),
+        )
+    };
+    if !frees {
+        return (true, Debt::Nothing);
+    }
+    if has_bar(after) {
+        return (true, Debt::Next);
+    }
+    (false, if readers == 1 { Debt::One } else { Debt::All })
+}

@@ -1,0 +1,36 @@
+//! How far a call has come.
+
+/// The step whose answer a call awaits.
+#[derive(Clone, Copy, PartialEq, Eq, Debug)]
+pub enum Stage {
+    /// A load.
+    Look,
+    /// The exchange that acquires.
+    Try,
+    /// A pause.
+    Pause,
+    /// The exchange that sets the bit of sleepers, and the bar.
+    Mark,
+    /// The sleep.
+    Sleep,
+    /// The exchange that clears the bar of a call that gives up.
+    Withdraw,
+    /// The exchange by which a call of a mutex that gives up sets the bit of sleepers.
+    Leave,
+    /// A load, before the subtraction that releases a shared hold.
+    LookToRemove,
+    /// The subtraction that releases a shared hold.
+    Remove,
+    /// The exchange that releases or downgrades.
+    Release,
+    /// The wake-up after it.
+    Wake,
+    /// The wake-up after a withdrawal.
+    WakeRefused,
+    /// No step: the call has acquired.
+    Acquired,
+    /// No step: the call is refused.
+    Refused,
+    /// No step: the call has ended.
+    Ended,
+}
