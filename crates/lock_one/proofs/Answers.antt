@@ -35,8 +35,8 @@ ends_not stage.Sleep call v b is = by (nat_lt call.readers (2 ^ 28)) is.5
     by false e = cc
 ends_not stage.Withdraw call v b is = let e = is.2 in cc
 ends_not stage.Leave call v b is = let e = is.4 in cc
-ends_not stage.LookToRemove call v b is = let e = is.4 in cc
-ends_not stage.Remove call v b is = let e = is.4 in cc
+ends_not stage.LookToRemove call v b is = let e = is.2 in cc
+ends_not stage.Subtract call v b is = let e = is.2 in cc
 ends_not stage.Release call v b is = let e = is.2 in cc
 ends_not stage.Wake call v b is = by v.debt is.1
   where

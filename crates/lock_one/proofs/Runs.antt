@@ -135,7 +135,7 @@ other_park stage.Withdraw call v p a is w awake woken = ((as_woken call.want cal
 other_park stage.Leave call v p a is w awake woken = ((as_woken call.want call.announced call.slept call.blocks (call.readers == 1) v p is.0.0 woken, awake), is.1, is.2, is.3, is.4)
 other_park stage.Release call v p a is w awake woken = absurd (false≢true w)
 other_park stage.LookToRemove call v p a is w awake woken = absurd (false≢true w)
-other_park stage.Remove call v p a is w awake woken = absurd (false≢true w)
+other_park stage.Subtract call v p a is w awake woken = absurd (false≢true w)
 other_park stage.Wake call v p a is w awake woken = absurd (false≢true w)
 other_park stage.WakeRefused call v p a is w awake woken = absurd (false≢true w)
 other_park stage.Acquired call v p a is w awake woken = absurd (false≢true w)
@@ -165,7 +165,7 @@ owes_at stage.Pause call v a is = is.0.0.owes_none ∙ by a is.1
     by action.Load h = absurd h
     by (action.Exchange x y) h = absurd h
     by (action.Park n f) h = absurd h
-    by action.RemoveReader h = absurd h
+    by (action.Subtract d) h = absurd h
     by action.WakeOne h = absurd h
     by action.WakeAll h = absurd h
     by action.WakeNext h = absurd h
@@ -177,8 +177,8 @@ owes_at stage.Sleep call v a is = is.0.owes_none ∙ sym (ap debt_at is.5 ∙ (q
 owes_at stage.Withdraw call v a is = is.0.0.owes_none ∙ sym (ap debt_at is.2)
 owes_at stage.Leave call v a is = is.0.0.owes_none ∙ sym (ap debt_at is.4)
 owes_at stage.Release call v a is = is.1.1 ∙ sym (ap debt_at is.2)
-owes_at stage.LookToRemove call v a is = is.1.1 ∙ sym (ap debt_at is.4)
-owes_at stage.Remove call v a is = is.1.1 ∙ sym (ap debt_at is.4)
+owes_at stage.LookToRemove call v a is = is.1.1 ∙ sym (ap debt_at is.2)
+owes_at stage.Subtract call v a is = is.1.1 ∙ sym (ap debt_at is.2)
 owes_at stage.Wake call v a is = by v.debt is.1
   where
     by : (d : Debt) → IsWake d a → d ≡ debt_at a
@@ -237,7 +237,7 @@ settled st call you a park h is held parked awake woken = by st is
     by stage.Leave is = waiting stage.Leave is refl
     by stage.Release is = done stage.Release is is.1.0
     by stage.LookToRemove is = done stage.LookToRemove is is.1.0
-    by stage.Remove is = done stage.Remove is is.1.0
+    by stage.Subtract is = done stage.Subtract is is.1.0
     by stage.Wake is = done stage.Wake is is.0
     by stage.WakeRefused is = done stage.WakeRefused is is.0
     by stage.Acquired is = done stage.Acquired is is.0.0
@@ -297,15 +297,6 @@ acquire_kept s k wish blocks announces (Some t) at run = by (may_acquire t wish)
           no_bar,
         )
 
-removes_shared : (readers : ℕ) (d : Down) → removes_reader readers d ≡ true → (d ≡ down.Shared) × ((readers == 1) ≡ false)
-removes_shared readers down.Shared h = (refl, not_yes (readers == 1) h)
-removes_shared readers down.Exclusive h = absurd (false≢true h)
-removes_shared readers down.Upgradable h = absurd (false≢true h)
-removes_shared readers down.ToShared h = absurd (false≢true h)
-removes_shared readers down.ToUpgradable h = absurd (false≢true h)
-removes_shared readers down.UpgradableToShared h = absurd (false≢true h)
-removes_shared readers down.Withdraw h = absurd (false≢true h)
-
 release_kept : (s : LockInUse) (k : ℕ) (down : Down) (o : Option Thread) → slice_get s.threads k ≡ o → RunKept s → RunKept (release_by s k down o)
 release_kept s k down None at run = run
 release_kept s k down (Some t) at run = by (may_release t down) refl
@@ -326,9 +317,7 @@ release_kept s k down (Some t) at run = by (may_release t down) refl
 
         placed_first : IsTrue (hold_has t.view.held (step_of_down down)) → AtRest t.view × (t.view.held.announced ≡ false) → (b : Bool) → removes_reader s.readers down ≡ b
             → IsPlaced (limits_in s.readers) t.view (Some record { at = if b then looks else exchanges; before = t.view.held })
-        placed_first has rests true e =
-            let is = removes_shared s.readers down e in
-            ((has, rests.0, is.0, is.1, refl), refl, refl, refl, rests.1)
+        placed_first has rests true e = ((has, rests.0, refl), refl, refl, refl, rests.1)
         placed_first has rests false e = ((has, rests.0, refl), refl, refl, refl, rests.1)
 
 -- the call has ended, or goes on
@@ -345,7 +334,7 @@ goes_or_rests limits next before v is held lock clean = by (ends next.1) refl
         rest_goes action.Load h e = absurd h
         rest_goes (action.Exchange x y) h e = absurd h
         rest_goes (action.Park n f) h e = absurd h
-        rest_goes action.RemoveReader h e = absurd h
+        rest_goes (action.Subtract d) h e = absurd h
         rest_goes action.WakeOne h e = absurd h
         rest_goes action.WakeAll h e = absurd h
         rest_goes action.WakeNext h e = absurd h
@@ -357,8 +346,8 @@ goes_or_rests limits next before v is held lock clean = by (ends next.1) refl
     at_end stage.Withdraw a is e = absurd (false≢true (sym (ap ends is.2) ∙ e))
     at_end stage.Leave a is e = absurd (false≢true (sym (ap ends is.4) ∙ e))
     at_end stage.Release a is e = absurd (false≢true (sym (ap ends is.2) ∙ e))
-    at_end stage.LookToRemove a is e = absurd (false≢true (sym (ap ends is.4) ∙ e))
-    at_end stage.Remove a is e = absurd (false≢true (sym (ap ends is.4) ∙ e))
+    at_end stage.LookToRemove a is e = absurd (false≢true (sym (ap ends is.2) ∙ e))
+    at_end stage.Subtract a is e = absurd (false≢true (sym (ap ends is.2) ∙ e))
     at_end stage.Wake a is e = absurd (wake_goes v.debt is.1)
       where
         wake_goes : (d : Debt) → IsWake d a → ⊥
@@ -389,7 +378,7 @@ goes_or_rests limits next before v is held lock clean = by (ends next.1) refl
         quiet_goes action.Load h e = absurd h
         quiet_goes (action.Exchange x y) h e = absurd h
         quiet_goes (action.Park n f) h e = absurd h
-        quiet_goes action.RemoveReader h e = absurd h
+        quiet_goes (action.Subtract d) h e = absurd h
         quiet_goes action.WakeOne h e = absurd h
         quiet_goes action.WakeAll h e = absurd h
         quiet_goes action.WakeNext h e = absurd h
@@ -401,8 +390,8 @@ goes_or_rests limits next before v is held lock clean = by (ends next.1) refl
     bar_end stage.Withdraw a is h e = absurd (false≢true (sym (ap ends is.2) ∙ e))
     bar_end stage.Leave a is h e = absurd (false≢true (sym (ap ends is.4) ∙ e))
     bar_end stage.Release a is h e = absurd (false≢true (sym (ap ends is.2) ∙ e))
-    bar_end stage.LookToRemove a is h e = absurd (false≢true (sym (ap ends is.4) ∙ e))
-    bar_end stage.Remove a is h e = absurd (false≢true (sym (ap ends is.4) ∙ e))
+    bar_end stage.LookToRemove a is h e = absurd (false≢true (sym (ap ends is.2) ∙ e))
+    bar_end stage.Subtract a is h e = absurd (false≢true (sym (ap ends is.2) ∙ e))
     bar_end stage.Wake a is h e = ap (λ (x : Hold). x.announced) h ∙ down_end next.0.down
     bar_end stage.WakeRefused a is h e = ap (λ (x : Hold). x.announced) h
     bar_end stage.Acquired a is h e = is.2
@@ -457,7 +446,7 @@ awake_at stage.Withdraw call v a is h = (is.0.1, is.0.0.woken)
 awake_at stage.Leave call v a is h = (is.0.1, is.0.0.woken)
 awake_at stage.Release call v a is h = (ap is_asleep is.1.0, λ w. absurd (false≢true (sym (ap is_woken is.1.0) ∙ w)))
 awake_at stage.LookToRemove call v a is h = (ap is_asleep is.1.0, λ w. absurd (false≢true (sym (ap is_woken is.1.0) ∙ w)))
-awake_at stage.Remove call v a is h = (ap is_asleep is.1.0, λ w. absurd (false≢true (sym (ap is_woken is.1.0) ∙ w)))
+awake_at stage.Subtract call v a is h = (ap is_asleep is.1.0, λ w. absurd (false≢true (sym (ap is_woken is.1.0) ∙ w)))
 awake_at stage.Wake call v a is h = absurd (false≢true h)
 awake_at stage.WakeRefused call v a is h = absurd (false≢true h)
 awake_at stage.Acquired call v a is h = absurd (false≢true h)
@@ -547,7 +536,7 @@ woken_place stage.Withdraw call v a is h = absurd (true≢false (sym h ∙ is.0.
 woken_place stage.Leave call v a is h = absurd (true≢false (sym h ∙ is.0.1))
 woken_place stage.Release call v a is h = absurd (true≢false (sym h ∙ ap is_asleep is.1.0))
 woken_place stage.LookToRemove call v a is h = absurd (true≢false (sym h ∙ ap is_asleep is.1.0))
-woken_place stage.Remove call v a is h = absurd (true≢false (sym h ∙ ap is_asleep is.1.0))
+woken_place stage.Subtract call v a is h = absurd (true≢false (sym h ∙ ap is_asleep is.1.0))
 woken_place stage.Wake call v a is h = absurd (true≢false (sym h ∙ ap is_asleep is.0))
 woken_place stage.WakeRefused call v a is h = absurd (true≢false (sym h ∙ ap is_asleep is.0))
 woken_place stage.Acquired call v a is h = absurd (true≢false (sym h ∙ ap is_asleep is.0.0))
@@ -684,7 +673,7 @@ wake_kept s k j t u a at is held lock clean wakes run = by a is
     by action.Load is = absurd (never action.Load t.view.debt is.1 (λ e. cc) (λ e. cc) (λ e. cc))
     by (action.Exchange x y) is = absurd (never (action.Exchange x y) t.view.debt is.1 (λ e. cc) (λ e. cc) (λ e. cc))
     by (action.Park n f) is = absurd (never (action.Park n f) t.view.debt is.1 (λ e. cc) (λ e. cc) (λ e. cc))
-    by action.RemoveReader is = absurd (never action.RemoveReader t.view.debt is.1 (λ e. cc) (λ e. cc) (λ e. cc))
+    by (action.Subtract d) is = absurd (never (action.Subtract d) t.view.debt is.1 (λ e. cc) (λ e. cc) (λ e. cc))
     by action.WakeOne is = one_woken s k j t u (slice_get s.threads j) at refl is held lock clean wakes run
     by action.WakeAll is =
         let done = sleeps_keep_the_rule.wakes_all s.word (views_of s.threads) k t.view u.at.0 range keeps (view_in s.threads k t at) is in
@@ -790,7 +779,7 @@ stepped s k told j t at run = by t.underway refl (run.each k t at)
     at_stage stage.Leave u e calls place is held = on u calls place (ap is_step e)
     at_stage stage.Release u e calls place is held = on u calls place (ap is_step e)
     at_stage stage.LookToRemove u e calls place is held = on u calls place (ap is_step e)
-    at_stage stage.Remove u e calls place is held = on u calls place (ap is_step e)
+    at_stage stage.Subtract u e calls place is held = on u calls place (ap is_step e)
     at_stage stage.Wake u e calls place is held = wake_kept s k j t u u.at.1 at is held place.2 place.4 e run
     at_stage stage.WakeRefused u e calls place is held = refused_kept s k j t u at is held place.2 place.4 e run
     at_stage stage.Acquired u e calls place is held = over u true place is.1
@@ -841,7 +830,7 @@ in_park limits t place asleep = by t.underway refl place
     at_stage stage.Leave u e calls is = absurd (true≢false (sym asleep ∙ is.0.1))
     at_stage stage.Release u e calls is = absurd (true≢false (sym asleep ∙ ap is_asleep is.1.0))
     at_stage stage.LookToRemove u e calls is = absurd (true≢false (sym asleep ∙ ap is_asleep is.1.0))
-    at_stage stage.Remove u e calls is = absurd (true≢false (sym asleep ∙ ap is_asleep is.1.0))
+    at_stage stage.Subtract u e calls is = absurd (true≢false (sym asleep ∙ ap is_asleep is.1.0))
     at_stage stage.Wake u e calls is = absurd (true≢false (sym asleep ∙ ap is_asleep is.0))
     at_stage stage.WakeRefused u e calls is = absurd (true≢false (sym asleep ∙ ap is_asleep is.0))
     at_stage stage.Acquired u e calls is = absurd (true≢false (sym asleep ∙ ap is_asleep is.0.0))

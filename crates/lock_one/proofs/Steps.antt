@@ -26,7 +26,7 @@ use Rattle.lock_one.specs.declared.park.Park.TheVariants.{Awake, Asleep, Woken}
 use Rattle.lock_one.specs.declared.park.Debt.{Debt}
 use Rattle.lock_one.specs.declared.park.Debt.TheVariants as debt
 use Rattle.lock_one.specs.Rule.{holds_of, is_woken, is_asleep, has_duty, KeepsParking, EachStepKeeps, IsPaid, is_unset, is_unneeded, is_barred, is_all, is_one, after_win, after_take, with_park, frees}
-use Rattle.lock_one.specs.Machine.{Progress, is_exclusive, sleepers, core_of, has_sleepers, with_sleepers, wakes_one, sleep, sets_bar, word_marked, wait_or_sleep, marked, give_up, withdrawn, rest, after_try, decide, frees_word, release_of, word_released, free, look_to_remove, wakes, acquired, refused, goes_to, next_at}
+use Rattle.lock_one.specs.Machine.{Progress, is_exclusive, sleepers, core_of, has_sleepers, with_sleepers, wakes_one, sleep, sets_bar, word_marked, wait_or_sleep, marked, give_up, withdrawn, rest, after_try, decide, frees_word, release_of, word_released, free, subtract, release_again, look_to_remove, wakes, acquired, refused, goes_to, next_at}
 use Rattle.lock_one.specs.Steps.{made, touches, limits_of, is_admitted, Acquires, Acquiring, Awaits, IsRest, AtRest, IsAt, is_step, Keeps, lock_of, hold_at, StepKept, StepsKeepTheRule}
 use Rattle.lock_one.proofs.Parking.{each_step, parties_of, party_at, party_of, rule_of}
 use Rattle.lock_word.proofs.Rules.{amount_within, shows, slice_set_same}
@@ -139,7 +139,7 @@ leaves_no_bar own wish awaited writer = by wish awaited writer (cases_Bool own.a
 rest_leaves : (a : Action) (word : ℕ) → IsRest a → made a word ≡ word
 rest_leaves action.Load word h = absurd h
 rest_leaves (action.Exchange x y) word h = absurd h
-rest_leaves action.RemoveReader word h = absurd h
+rest_leaves (action.Subtract d) word h = absurd h
 rest_leaves (action.Park n f) word h = absurd h
 rest_leaves action.WakeOne word h = absurd h
 rest_leaves action.WakeAll word h = absurd h
@@ -194,26 +194,28 @@ pays_need readers core left s true e = pays_bar readers core left s (nat_lt left
 pays_need readers core left s false e = is_unneeded e refl
 
 -- of a subtraction, which leaves S as it was
-pays_staying_bar : (readers core left : ℕ) (low : Bool) → (readers == 1) ≡ false → nat_lt left (2 ^ 34) ≡ low
-    → IsPaid (limits_for readers) core left true true (after_bar readers low).1
-pays_staying_bar readers core left true many e = subst (λ b. IsPaid (limits_for readers) core left true true (if b then debt.One else debt.All)) (sym many) is_all
-pays_staying_bar readers core left false many e = is_barred (not_below left (2 ^ 34) e) refl
+pays_staying_one : (readers core left : ℕ) (b : Bool) → (readers == 1) ≡ b → IsPaid (limits_for readers) core left true true (if b then debt.One else debt.All)
+pays_staying_one readers core left true e = is_one e
+pays_staying_one readers core left false e = is_all
 
-pays_staying_need : (readers core left : ℕ) (b : Bool) → (readers == 1) ≡ false → frees_word readers core left ≡ b
-    → IsPaid (limits_for readers) core left true true (after_need readers left b).1
-pays_staying_need readers core left true many e = pays_staying_bar readers core left (nat_lt left (2 ^ 34)) many refl
-pays_staying_need readers core left false many e = is_unneeded e refl
+pays_staying_bar : (readers core left : ℕ) (low : Bool) → nat_lt left (2 ^ 34) ≡ low → IsPaid (limits_for readers) core left true true (after_bar readers low).1
+pays_staying_bar readers core left true e = pays_staying_one readers core left (readers == 1) refl
+pays_staying_bar readers core left false e = is_barred (not_below left (2 ^ 34) e) refl
 
-pays_staying : (s : Bool) (readers core left : ℕ) → (readers == 1) ≡ false
+pays_staying_need : (readers core left : ℕ) (b : Bool) → frees_word readers core left ≡ b → IsPaid (limits_for readers) core left true true (after_need readers left b).1
+pays_staying_need readers core left true e = pays_staying_bar readers core left (nat_lt left (2 ^ 34)) refl
+pays_staying_need readers core left false e = is_unneeded e refl
+
+pays_staying : (s : Bool) (readers core left : ℕ)
     → IsPaid (limits_for readers) core left s s (if not s then (false, debt.Nothing) else after_need readers left (frees_word readers core left)).1
-pays_staying false readers core left many = is_unset refl
-pays_staying true readers core left many = pays_staying_need readers core left (frees_word readers core left) many refl
+pays_staying false readers core left = is_unset refl
+pays_staying true readers core left = pays_staying_need readers core left (frees_word readers core left) refl
 
-one_less : (word : ℕ) → word < 2 ^ 36 → 1 ≤ core_of word → with_sleepers (core_of word - 1) (has_sleepers word) ≡ word - 1
-one_less word small some =
+lessened : (word n : ℕ) → word < 2 ^ 36 → n ≤ core_of word → with_sleepers (core_of word - n) (has_sleepers word) ≡ word - n
+lessened word n small within =
     elim (cases_lt word (2 ^ 35)) [
-      | inl low ↦ ap (λ b. with_sleepers (core_of word - 1) (not b)) (lt-ltb word (2 ^ 35) low) ∙ omega arith
-      | inr high ↦ ap (λ b. with_sleepers (core_of word - 1) b) (bit_of word high) ∙ omega arith
+      | inl low ↦ ap (λ b. with_sleepers (core_of word - n) (not b)) (lt-ltb word (2 ^ 35) low) ∙ omega arith
+      | inr high ↦ ap (λ b. with_sleepers (core_of word - n) b) (bit_of word high) ∙ omega arith
     ]
 
 pays : (s : Bool) (readers core left : ℕ)
@@ -569,18 +571,15 @@ module _ (word : ℕ) (views : List ParkView) (k : ℕ) (me : ParkView) (call : 
       has_released (release_of call.readers word call.down).0 has rests mine
       (pays (has_sleepers word) call.readers (core_of word) (core_of word - amount call.down))
 
-  -- the subtraction that releases a shared hold
-  pub has_removed : IsTrue (hold_has me.held (step_of_down call.down)) → AtRest me → call.down ≡ down.Shared → wakes_one call ≡ false → me.held ≡ before
-      → StepKept (limits_of call) call.slept me.park before (word - 1) views k (wakes (release_of call.readers word call.down).1 call)
-  has_removed has rests shared many mine =
+  -- the subtraction
+  pub has_subtracted : IsTrue (hold_has me.held (step_of_down call.down)) → AtRest me → me.held ≡ before
+      → StepKept (limits_of call) call.slept me.park before (word - amount call.down) views k (wakes (release_of call.readers word call.down).1 call)
+  has_subtracted has rests mine =
       let within = amount_within call.readers (core_of word) (parties_of views) k (party_of me) call.down
       (rule_of call.readers (core_of word) views keeps.kept.coded keeps.kept.legal) (party_at views k me at) has in
-      let one : amount call.down ≡ 1 = ap amount shared in
-      let some : 1 ≤ core_of word = subst (λ n. n ≤ core_of word) one within in
-      let left : with_sleepers (core_of word - amount call.down) (has_sleepers word) ≡ word - 1
-      = ap (λ n. with_sleepers (core_of word - n) (has_sleepers word)) one ∙ one_less word keeps.small some in
-      subst (λ n. StepKept (limits_of call) call.slept me.park before n views k (wakes (release_of call.readers word call.down).1 call)) left
-      (has_released (has_sleepers word) has rests mine (pays_staying (has_sleepers word) call.readers (core_of word) (core_of word - amount call.down) many))
+      subst (λ n. StepKept (limits_of call) call.slept me.park before n views k (wakes (release_of call.readers word call.down).1 call))
+      (lessened word (amount call.down) keeps.small within)
+      (has_released (has_sleepers word) has rests mine (pays_staying (has_sleepers word) call.readers (core_of word) (core_of word - amount call.down)))
 
   -- the action is this one, and its answer is the word
   looked : (a x : Action) (found : ℕ) (f : ℕ → Progress) → a ≡ x → touches x ≡ true → (IsTrue (touches a) → found ≡ word)
@@ -616,30 +615,31 @@ module _ (word : ℕ) (views : List ParkView) (k : ℕ) (me : ParkView) (call : 
       subst (λ n. StepKept (limits_of call) call.slept me.park before (n + sleepers) views k (refused call)) is
       (has_left word views k me call before range keeps at held is_at.0 (subst (λ n. word_admits call.announced call.readers (core_of n) call.want ≡ false) (sym is) is_at.1) is_at.2 (subst (λ n. n < sleepers) (sym is) is_at.3))))
   step_at stage.LookToRemove a found is_at held step answer =
-      looked a action.Load found (λ n. look_to_remove n call) is_at.4 refl answer (chosen (has_sleepers word))
+      looked a action.Load found (λ n. look_to_remove n call) is_at.2 refl answer (chosen (has_sleepers word))
     where
-      chosen : (b : Bool) → StepKept (limits_of call) call.slept me.park before word views k
-          (if b then free word call else goes_to (record call { loaded = word }) stage.Remove action.RemoveReader)
+      chosen : (b : Bool) → StepKept (limits_of call) call.slept me.park before word views k (if b then free word call else subtract call)
       chosen true = same word views k me call before range keeps at (free word call) refl (is_at.0, is_at.1, refl) held
-      chosen false =
-          same word views k me call before range keeps at (goes_to (record call { loaded = word }) stage.Remove action.RemoveReader) refl
-          (is_at.0, is_at.1, is_at.2, is_at.3, refl) held
-  step_at stage.Remove a found is_at held step answer =
-      looked a action.RemoveReader found (λ n. wakes (release_of call.readers n call.down).1 call) is_at.4 refl answer
-      (has_removed is_at.0 is_at.1 is_at.2 is_at.3 held)
+      chosen false = same word views k me call before range keeps at (subtract call) refl (is_at.0, is_at.1, refl) held
+  step_at stage.Subtract a found is_at held step answer =
+      looked a (action.Subtract call.down) found (λ n. wakes (release_of call.readers n call.down).1 call) is_at.2 refl answer
+      (has_subtracted is_at.0 is_at.1 held)
   step_at stage.Release a found is_at held step answer =
       looked a (action.Exchange call.loaded (word_released call.readers call.loaded call.down)) found
-      (λ n. if n == call.loaded then wakes (release_of call.readers call.loaded call.down).1 call else free n call) is_at.2 refl answer
+      (λ n. if n == call.loaded then wakes (release_of call.readers call.loaded call.down).1 call else release_again n call) is_at.2 refl answer
       (freed (word == call.loaded) refl)
     where
+      again : (b : Bool) → StepKept (limits_of call) call.slept me.park before word views k (if b then free word (record call { pauses = call.pauses + 1 }) else subtract call)
+      again true = same word views k me call before range keeps at (free word (record call { pauses = call.pauses + 1 })) refl (is_at.0, is_at.1, refl) held
+      again false = same word views k me call before range keeps at (subtract call) refl (is_at.0, is_at.1, refl) held
+
       freed : (b : Bool) → (word == call.loaded) ≡ b
           → StepKept (limits_of call) call.slept me.park before (if b then word_released call.readers call.loaded call.down else word) views k
-          (if b then wakes (release_of call.readers call.loaded call.down).1 call else free word call)
+          (if b then wakes (release_of call.readers call.loaded call.down).1 call else release_again word call)
       freed true e =
           let is = eqb-true word call.loaded e in
           subst (λ n. StepKept (limits_of call) call.slept me.park before (word_released call.readers n call.down) views k (wakes (release_of call.readers n call.down).1 call)) is
           (has_freed is_at.0 is_at.1 (sym is) held)
-      freed false e = same word views k me call before range keeps at (free word call) refl (is_at.0, is_at.1, refl) held
+      freed false e = again (nat_lt call.pauses 8)
   step_at stage.Wake a found is_at held step answer = absurd (false≢true step)
   step_at stage.WakeRefused a found is_at held step answer = absurd (false≢true step)
   step_at stage.Acquired a found is_at held step answer = absurd (false≢true step)

@@ -7,7 +7,7 @@ use Rattle.lock_word.specs.declared.down.Down.TheVariants as down
 use Rattle.lock_word.specs.Word.{word_admits, word_after, amount}
 use Rattle.lock_word.specs.Unblocking.{word_unblocks}
 use Rattle.lock_one.specs.declared.action.Action.{Action}
-use Rattle.lock_one.specs.declared.action.Action.TheVariants.{Load, Exchange, RemoveReader, Park, WakeOne, WakeAll, WakeNext, Spin, Yield, End}
+use Rattle.lock_one.specs.declared.action.Action.TheVariants.{Load, Exchange, Subtract, Park, WakeOne, WakeAll, WakeNext, Spin, Yield, End}
 use Rattle.lock_one.specs.declared.call.Call.{Call}
 use Rattle.lock_one.specs.declared.stage.Stage.{Stage}
 use Rattle.lock_one.specs.declared.stage.Stage.TheVariants as stage
@@ -160,14 +160,25 @@ alone down.ToUpgradable = 2 ^ 33
 alone down.UpgradableToShared = 2 ^ 32 + 1
 alone down.Withdraw = 2 ^ 34
 
+-- a release whose exchange has failed so often is a subtraction, which cannot fail. It leaves S as it is
+abbrev pub exchanges_before : ℕ
+exchanges_before = 8
+
 -- a shared hold of a lock for several readers is released by one subtraction, unless a load finds S
 abbrev pub removes_reader : ℕ → Down → Bool
 removes_reader readers down.Shared = not (readers == 1)
 removes_reader readers other = false
 
+abbrev pub subtract : Call → Progress
+subtract call = goes_to call stage.Subtract (Subtract call.down)
+
 abbrev pub look_to_remove : ℕ → Call → Progress
 look_to_remove word call =
-    if has_sleepers word then free word call else goes_to (record call { loaded = word }) stage.Remove RemoveReader
+    if has_sleepers word then free word call else subtract call
+
+abbrev pub release_again : ℕ → Call → Progress
+release_again word call =
+    if nat_lt call.pauses exchanges_before then free word (record call { pauses = call.pauses + 1 }) else subtract call
 
 abbrev pub taking : ℕ → Down → Progress
 taking readers release =
@@ -189,8 +200,8 @@ next_at stage.Sleep found call = goes_to (record call { late = not (found == 0);
 next_at stage.Withdraw found call = if found == call.loaded then withdrawn call else decide found call
 next_at stage.Leave found call = if found == call.loaded then refused call else decide found call
 next_at stage.LookToRemove found call = look_to_remove found call
-next_at stage.Remove found call = wakes (release_of call.readers found call.down).1 call
-next_at stage.Release found call = if found == call.loaded then wakes (release_of call.readers call.loaded call.down).1 call else free found call
+next_at stage.Subtract found call = wakes (release_of call.readers found call.down).1 call
+next_at stage.Release found call = if found == call.loaded then wakes (release_of call.readers call.loaded call.down).1 call else release_again found call
 next_at stage.Wake found call = ended true call
 next_at stage.WakeRefused found call = refused call
 next_at stage.Acquired found call = ended false call

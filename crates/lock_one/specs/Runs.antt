@@ -78,7 +78,7 @@ begins t next = record t { underway = Some record { at = next; before = t.view.h
 -- whether a party that has made a step is awake for good: its call is over, or owes a wake-up
 abbrev pub park_at : Stage → Park → Park
 park_at stage.LookToRemove park = Awake
-park_at stage.Remove park = Awake
+park_at stage.Subtract park = Awake
 park_at stage.Release park = Awake
 park_at stage.Wake park = Awake
 park_at stage.WakeRefused park = Awake
@@ -91,7 +91,7 @@ park_at waiting park = park
 abbrev pub debt_at : Action → Debt
 debt_at action.Load = debt.Nothing
 debt_at (action.Exchange a b) = debt.Nothing
-debt_at action.RemoveReader = debt.Nothing
+debt_at (action.Subtract d) = debt.Nothing
 debt_at (action.Park n f) = debt.Nothing
 debt_at action.WakeOne = debt.One
 debt_at action.WakeAll = debt.All

@@ -3,12 +3,11 @@ use Rattle.std.specs.Prelude.{◌≡◌, ℕ, ◌+◌, ◌-◌, ◌^◌, ◌<◌
 use Rattle.lock_base.specs.Limits.{IsLimit}
 use Rattle.lock_base.specs.declared.machine.hold.Hold.{Hold}
 use Rattle.lock_base.specs.Holds.{hold_has, hold_after}
-use Rattle.lock_word.specs.Word.{word_admits, step_of_want, step_of_down}
+use Rattle.lock_word.specs.Word.{word_admits, amount, step_of_want, step_of_down}
 use Rattle.lock_word.specs.declared.want.ExWant.{ExWant}
-use Rattle.lock_word.specs.declared.down.Down.TheVariants as down
 use Rattle.lock_word.specs.Unblocking.{is_awaited}
 use Rattle.lock_one.specs.declared.action.Action.{Action}
-use Rattle.lock_one.specs.declared.action.Action.TheVariants.{Load, Exchange, RemoveReader, WakeOne, WakeAll, WakeNext, Spin, Yield, End}
+use Rattle.lock_one.specs.declared.action.Action.TheVariants.{Load, Exchange, Subtract, WakeOne, WakeAll, WakeNext, Spin, Yield, End}
 use Rattle.lock_one.specs.declared.action.Action.TheVariants as action
 use Rattle.lock_one.specs.declared.call.Call.{Call}
 use Rattle.lock_one.specs.declared.stage.Stage.{Stage}
@@ -26,7 +25,7 @@ use Rattle.lock_one.specs.Machine.{Progress, core_of, has_sleepers, sleepers, wa
 abbrev pub made : Action → ℕ → ℕ
 made Load w = w
 made (Exchange a b) w = if w == a then b else w
-made RemoveReader w = w - 1
+made (Subtract d) w = w - amount d
 made (action.Park n f) w = w
 made WakeOne w = w
 made WakeAll w = w
@@ -39,7 +38,7 @@ made (End b) w = w
 abbrev pub touches : Action → Bool
 touches Load = true
 touches (Exchange a b) = true
-touches RemoveReader = true
+touches (Subtract d) = true
 touches (action.Park n f) = true
 touches WakeOne = false
 touches WakeAll = false
@@ -51,7 +50,7 @@ touches (End b) = false
 abbrev pub ends : Action → Bool
 ends Load = false
 ends (Exchange a b) = false
-ends RemoveReader = false
+ends (Subtract d) = false
 ends (action.Park n f) = false
 ends WakeOne = false
 ends WakeAll = false
@@ -74,7 +73,7 @@ touches_none (a ∷ actions) = not (touches a) && touches_none actions
 pub record LastAccess : Type 0 where
   pub release : (call : Call) (answers : List ℕ) → call.stage ≡ stage.Release
       → touches_none (actions_from (next_of call.loaded call) answers) ≡ true
-  pub removal : (call : Call) (found : ℕ) (answers : List ℕ) → call.stage ≡ stage.Remove
+  pub subtraction : (call : Call) (found : ℕ) (answers : List ℕ) → call.stage ≡ stage.Subtract
       → touches_none (actions_from (next_of found call) answers) ≡ true
   pub acquisition : (call : Call) (answers : List ℕ) → call.stage ≡ stage.Try
       → touches_none (actions_from (next_of call.loaded call) answers) ≡ true
@@ -131,8 +130,8 @@ IsAt stage.Sleep call v a =
     × (a ≡ sleep_of call) × (call.announces ≡ true → is_exclusive call.want ≡ true → wakes_one call ≡ false → 2 ^ 34 ≤ core_of call.loaded)
 IsAt stage.Withdraw call v a = Awaits call v × (call.announced ≡ true) × (a ≡ Exchange call.loaded (core_of call.loaded - 2 ^ 34))
 IsAt stage.Leave call v a = Awaits call v × (is_admitted call ≡ false) × (call.announced ≡ false) × (call.loaded < sleepers) × (a ≡ Exchange call.loaded (call.loaded + sleepers))
-IsAt stage.LookToRemove call v a = IsTrue (hold_has v.held (step_of_down call.down)) × AtRest v × (call.down ≡ down.Shared) × (wakes_one call ≡ false) × (a ≡ Load)
-IsAt stage.Remove call v a = IsTrue (hold_has v.held (step_of_down call.down)) × AtRest v × (call.down ≡ down.Shared) × (wakes_one call ≡ false) × (a ≡ RemoveReader)
+IsAt stage.LookToRemove call v a = IsTrue (hold_has v.held (step_of_down call.down)) × AtRest v × (a ≡ Load)
+IsAt stage.Subtract call v a = IsTrue (hold_has v.held (step_of_down call.down)) × AtRest v × (a ≡ Subtract call.down)
 IsAt stage.Release call v a = IsTrue (hold_has v.held (step_of_down call.down)) × AtRest v × (a ≡ Exchange call.loaded (word_released call.readers call.loaded call.down))
 IsAt stage.Wake call v a = (v.park ≡ Awake) × IsWake v.debt a
 IsAt stage.WakeRefused call v a = (v.park ≡ Awake) × (v.debt ≡ debt.All) × (a ≡ WakeAll)
@@ -149,7 +148,7 @@ is_step stage.Mark = true
 is_step stage.Withdraw = true
 is_step stage.Leave = true
 is_step stage.LookToRemove = true
-is_step stage.Remove = true
+is_step stage.Subtract = true
 is_step stage.Release = true
 is_step other = false
 
@@ -162,7 +161,7 @@ pub record Keeps (limits : ParkLimits) (word : ℕ) (views : List ParkView) : Ty
 abbrev pub hold_at : Stage → Call → Hold → Hold
 hold_at stage.Acquired call before = hold_after (record before { announced = call.announced }) (step_of_want call.want)
 hold_at stage.LookToRemove call before = before
-hold_at stage.Remove call before = before
+hold_at stage.Subtract call before = before
 hold_at stage.Release call before = before
 hold_at stage.Wake call before = hold_after before (step_of_down call.down)
 hold_at stage.Ended call before = hold_after before (step_of_down call.down)

@@ -1,5 +1,7 @@
 //! What the driver does next.
 
+use lock_word::Down;
+
 /// One atomic step on the word, a pause, a sleep, a wake-up, or the end of the call. The driver answers each with a number.
 #[derive(Clone, Copy, PartialEq, Eq, Debug)]
 pub enum Action {
@@ -7,8 +9,8 @@ pub enum Action {
     Load,
     /// Replaces the first number by the second one, if the word is the first. The answer is the value before.
     Exchange(u64, u64),
-    /// Subtracts one reader from the word. The answer is the value before.
-    RemoveReader,
+    /// Subtracts from the word what this release takes. The answer is the value before.
+    Subtract(Down),
     /// Sleeps while the word is this number. The flag says that the call may pass a bar. A sleep may end early. The answer
     /// is 1 if the deadline of the call has passed, and 0 otherwise.
     Park(u64, bool),

@@ -17,6 +17,9 @@ const BAR: u64 = 17_179_869_184;
 /// has 28 bits of readers.
 const YIELDS_FROM: u64 = 268_435_456;
 
+/// How many exchanges of a release may fail before it subtracts, which cannot fail.
+const EXCHANGES: u32 = 8;
+
 /// How many pauses a call makes before it sleeps.
 const PAUSES: u32 = 6;
 
@@ -47,7 +50,7 @@ pub struct Call {
     pub late: bool,
     /// Whether the call has slept.
     pub slept: bool,
-    /// How many pauses the call has made.
+    /// How many pauses the call has made, or how many exchanges of a release have failed.
     pub pauses: u32,
     /// The word that the call found last.
     pub loaded: u64,
@@ -56,7 +59,7 @@ pub struct Call {
 }
 
 impl Call {
-    ghost use Rattle.lock_one.specs.Machine.{acquiring, taking, next_of, goes_to, ended, acquired, refused, wakes_one, decide, wait_or_sleep, rest, sleep, give_up, free, look_to_remove, marked, sets_bar, wakes, withdrawn};
+    ghost use Rattle.lock_one.specs.Machine.{acquiring, taking, next_of, goes_to, ended, acquired, refused, wakes_one, decide, wait_or_sleep, rest, sleep, give_up, free, subtract, release_again, look_to_remove, marked, sets_bar, wakes, withdrawn};
 
     /// Begins a call that acquires or upgrades. Returns the call and its first action.
     pub fn acquire(readers: u64, want: ExWant, blocks: bool, announces: bool) -> (Call, Action)
@@ -101,9 +104,9 @@ impl Call {
             Stage::Leave if found == self.loaded => self.refused(),
             Stage::Leave => self.decide(found),
             Stage::LookToRemove => self.look_to_remove(found),
-            Stage::Remove => self.wake(found),
+            Stage::Subtract => self.wake(found),
             Stage::Release if found == self.loaded => self.wake(found),
-            Stage::Release => self.free(found),
+            Stage::Release => self.release_again(found),
             Stage::Wake => self.end(true),
             Stage::WakeRefused => self.refused(),
             Stage::Acquired | Stage::Refused | Stage::Ended => self.end(false),
@@ -288,15 +291,32 @@ impl Call {
         self.to(Stage::Release, Action::Exchange(word, left))
     }
 
-    /// Subtracts one reader from the word, or makes the exchange that can clear the bit of sleepers, if it is set.
+    /// Releases a shared hold by a subtraction, or by the exchange that can clear the bit of sleepers, if it is set.
     fn look_to_remove(&mut self, word: u64) -> Action
         ensures { (self.new, result) ≡ look_to_remove word self.old }
     {
         if word >= SLEEPERS {
             return self.free(word);
         }
-        self.loaded = word;
-        self.to(Stage::Remove, Action::RemoveReader)
+        self.subtract()
+    }
+
+    /// Makes the release on the word that a failed exchange found, by another exchange or, after many, by a subtraction.
+    fn release_again(&mut self, word: u64) -> Action
+        ensures { (self.new, result) ≡ release_again word self.old }
+    {
+        if self.pauses >= EXCHANGES {
+            return self.subtract();
+        }
+        self.pauses += 1;
+        self.free(word)
+    }
+
+    fn subtract(&mut self) -> Action
+        ensures { (self.new, result) ≡ subtract self.old }
+    {
+        let down = self.down;
+        self.to(Stage::Subtract, Action::Subtract(down))
     }
 
     /// Makes the wake-up that the release of this word owes.

@@ -19,8 +19,8 @@ pub enum Stage {
     Leave,
     /// A load, before the subtraction that releases a shared hold.
     LookToRemove,
-    /// The subtraction that releases a shared hold.
-    Remove,
+    /// The subtraction that releases or downgrades. It leaves the bit of sleepers.
+    Subtract,
     /// The exchange that releases or downgrades.
     Release,
     /// The wake-up after it.
