@@ -77,7 +77,7 @@ same_view v h p d a b c =
     ∙ (ap (λ (x : Park). let w : ParkView = record { held = h; park = x; debt = v.debt } in w) b
     ∙ ap (λ (x : Debt). let w : ParkView = record { held = h; park = p; debt = x } in w) c)
 
-set_twice : {A : Type 0} (xs : List A) (k : ℕ) (y z : A) → slice_set (slice_set xs k y) k z ≡ slice_set xs k z
+pub set_twice : {A : Type 0} (xs : List A) (k : ℕ) (y z : A) → slice_set (slice_set xs k y) k z ≡ slice_set xs k z
 set_twice [] k y z = refl
 set_twice (x ∷ xs) zero y z = refl
 set_twice (x ∷ xs) (suc k) y z = ap (λ ys. x ∷ ys) (set_twice xs k y z)
@@ -148,7 +148,7 @@ sleeping_park call v p a is own =
     (as_woken call.want call.announced true call.blocks (call.readers == 1) v p is.0 (λ w. refl), is.1, is.2, is.3, own, is.5, is.6)
 
 -- a sleep owes nothing, and is no end
-quiet_sleep : (call : Call) → (debt_at (sleep_of call) ≡ debt.Nothing) × (ends (sleep_of call) ≡ false)
+pub quiet_sleep : (call : Call) → (debt_at (sleep_of call) ≡ debt.Nothing) × (ends (sleep_of call) ≡ false)
 quiet_sleep call = by (nat_lt call.readers (2 ^ 28))
   where
     by : (b : Bool) → (debt_at (if b then action.Park call.loaded (call.announced || is_upgrade call.want) else action.Yield) ≡ debt.Nothing)
@@ -156,7 +156,7 @@ quiet_sleep call = by (nat_lt call.readers (2 ^ 28))
     by true = (refl, refl)
     by false = (refl, refl)
 
-owes_at : (st : Stage) (call : Call) (v : ParkView) (a : Action) → IsAt st call v a → v.debt ≡ debt_at a
+pub owes_at : (st : Stage) (call : Call) (v : ParkView) (a : Action) → IsAt st call v a → v.debt ≡ debt_at a
 owes_at stage.Look call v a is = is.0.0.owes_none ∙ sym (ap debt_at is.1)
 owes_at stage.Try call v a is = is.0.0.owes_none ∙ sym (ap debt_at is.2)
 owes_at stage.Pause call v a is = is.0.0.owes_none ∙ by a is.1
@@ -705,7 +705,7 @@ refused_kept s k j t u at is held lock clean wakes run =
 
 -- a thread that joins
 
-joined : (limits : ParkLimits) (core : ℕ) (b : Bool) (views : List ParkView) → KeepsParking limits core b views
+pub joined : (limits : ParkLimits) (core : ℕ) (b : Bool) (views : List ParkView) → KeepsParking limits core b views
     → KeepsParking limits core b (views ++ new_party ∷ [])
 joined limits core b views kept =
     let longer : holds (parties_of views ++ idle ∷ []) ≡ holds_of (views ++ new_party ∷ [])

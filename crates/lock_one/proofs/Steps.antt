@@ -120,7 +120,7 @@ refused_is_taken limits core s views k v wish range kept at awaited has a refuse
     by want.Announce o h r seen = false≢true o
 
 -- an acquisition leaves no bar, where only one that is exclusive has announced itself
-leaves_no_bar : (own : Hold) (wish : ExWant) → IsTrue (is_awaited wish) → (own.announced ≡ true → is_exclusive wish ≡ true)
+pub leaves_no_bar : (own : Hold) (wish : ExWant) → IsTrue (is_awaited wish) → (own.announced ≡ true → is_exclusive wish ≡ true)
     → (hold_after own (step_of_want wish)).announced ≡ false
 leaves_no_bar own wish awaited writer = by wish awaited writer (cases_Bool own.announced)
   where

@@ -13,13 +13,13 @@ use Rattle.lock_one.specs.Machine.{core_of}
 use Rattle.lock_one.specs.Steps.{Keeps}
 use Rattle.lock_one.specs.Stored.{stored_of, word_of_stored, StoringKeepsWords}
 
-read_back : (word : ℕ) → word < 2 ^ 36 → word_of_stored (stored_of word) ≡ word
+pub read_back : (word : ℕ) → word < 2 ^ 36 → word_of_stored (stored_of word) ≡ word
 read_back word small = omega arith
 
-stored_again : (stored : ℕ) → stored < 2 ^ 36 → stored_of (word_of_stored stored) ≡ stored
+pub stored_again : (stored : ℕ) → stored < 2 ^ 36 → stored_of (word_of_stored stored) ≡ stored
 stored_again stored small = omega arith
 
-few : (limit : ℕ) (all : BarredBag) → IsLegalBarredBag limit all → readers all.bag ≤ limit
+pub few : (limit : ℕ) (all : BarredBag) → IsLegalBarredBag limit all → readers all.bag ≤ limit
 few limit all legal = grind arith
 
 in_half : (limits : ParkLimits) (word : ℕ) (views : List ParkView) → IsLimit limits.readers → limits.readers < 2 ^ 28

@@ -1,0 +1,48 @@
+-- How a call begins, and the token that it leaves.
+use Rattle.std.proofs.Common.{◌≡◌, ℕ, Bool, true, false, [], if◌then◌else◌, IsTrue, refl, sym, ap, subst, ◌∙◌}
+use Rattle.atomic_table.specs.Seated.{TableId}
+use Rattle.lock_base.specs.declared.machine.mode.Mode.{Mode}
+use Rattle.lock_base.specs.declared.machine.hold.Hold.{Hold}
+use Rattle.lock_base.specs.Holds.{no_hold, hold_has, hold_after}
+use Rattle.lock_word.specs.declared.want.ExWant.{ExWant}
+use Rattle.lock_word.specs.Unblocking.{is_awaited}
+use Rattle.lock_word.specs.Word.{step_of_want, want_of_mode}
+use Rattle.lock_one.specs.declared.action.Action.{Action}
+use Rattle.lock_one.specs.declared.action.Action.TheVariants.{Load, End}
+use Rattle.lock_one.specs.declared.call.Call.{Call}
+use Rattle.lock_one.specs.declared.stage.Stage.TheVariants as stage
+use Rattle.lock_one.specs.Machine.{Progress, acquiring, next_of}
+use Rattle.lock_one.specs.Steps.{is_step}
+use Rattle.lock_one_word.specs.declared.rule.OneView.{OneView}
+use Rattle.lock_one_word.specs.Calls.{WordLockView, TokenView, token_of, one_hold}
+use Rattle.lock_one_word.specs.Drives.{IsTrying}
+use Rattle.lock_one_word.specs.Plays.{Goes}
+use Rattle.lock_one_word.specs.Seats.{Self, Task, newcomer, to_acquire, IsGoing}
+use Rattle.lock_one_word.proofs.Rests.{acquiring_first, acquired_end}
+use Rattle.lock_one_word.proofs.Tokens.{acquires, awaits}
+use Rattle.lock_one_word.proofs.TryEnds.{looks}
+
+-- the first look of a new seat
+pub first_look : (readers found : ℕ) (wish : ExWant) (blocks : Bool) (me : Self) (begun next : Progress) → me ≡ (newcomer readers, [])
+    → begun ≡ acquiring readers wish blocks true → IsTrue (is_awaited wish) → IsTrue (hold_has no_hold (step_of_want wish)) → Goes Load me found me
+    → next ≡ next_of found begun.0 → IsGoing next no_hold (to_acquire wish) me.0
+first_look readers found wish blocks me begun next seat is awaited has goes turns =
+    let v : OneView = newcomer readers in
+    let at_first : IsGoing (acquiring readers wish blocks true) no_hold (to_acquire wish) me.0
+    = subst (λ (m : Self). IsGoing (acquiring readers wish blocks true) no_hold (to_acquire wish) m.0) (sym seat)
+    (acquiring_first readers wish blocks true v refl awaited has refl) in
+    subst (λ p. IsGoing p no_hold (to_acquire wish) me.0) (sym (turns ∙ ap (λ (p : Progress). next_of found p.0) is))
+    (goes (acquiring readers wish blocks true).0 no_hold (to_acquire wish) refl at_first)
+
+pub first_try : (readers found : ℕ) (wish : ExWant) (begun next : Progress) → begun ≡ acquiring readers wish false true → next ≡ next_of found begun.0 → IsTrying next
+first_try readers found wish begun next is turns =
+    subst IsTrying (sym (turns ∙ ap (λ (p : Progress). next_of found p.0) is)) (looks found (acquiring readers wish false true).0 refl refl)
+
+-- the token of a seat that holds the mode
+pub token_is : (lock : WordLockView) (mode : Mode) (table : TableId) (me : Self) (token : TokenView) → token ≡ token_of table me → table ≡ lock.id
+    → me.0.readers ≡ lock.readers → me.0.held ≡ one_hold mode → token ≡ record { lock = lock; held = one_hold mode }
+token_is lock mode table me token is id readers held =
+    is ∙ (λ i. record { lock = record { id = id i; readers = readers i }; held = held i })
+
+pub ended_holds : (mode : Mode) (call : Call) (v : OneView) → IsGoing (call, End true) no_hold (to_acquire (want_of_mode mode)) v → v.held ≡ one_hold mode
+ended_holds mode call v going = acquired_end call no_hold (want_of_mode mode) v refl (awaits mode) going ∙ acquires mode

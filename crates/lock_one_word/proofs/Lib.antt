@@ -1,0 +1,12 @@
+pub mod Parties
+pub mod Loaded
+pub mod Tasks
+pub mod Agree
+pub mod Rests
+pub mod TryEnds
+pub mod Ranks
+pub mod Tokens
+pub mod Begins
+pub mod Seats
+pub mod Own
+pub mod Sent

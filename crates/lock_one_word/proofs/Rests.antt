@@ -1,0 +1,327 @@
+-- The actions of a call that are no steps on the word, and its end.
+use Rattle.std.proofs.Common.{◌⊎◌, ◌≡◌, ℕ, ◌^◌, ◌<◌, arith, Bool, true, false, ◌||◌, nat_lt, if◌then◌else◌, inl, inr, IsTrue, refl, sym, ap, subst, ◌∙◌}
+use Rattle.std.proofs.lemmas.Bool.{false≢true, true≢false}
+use Rattle.lock_base.specs.declared.machine.hold.Hold.{Hold}
+use Rattle.lock_base.specs.Holds.{no_hold, hold_has, hold_after}
+use Rattle.lock_word.specs.declared.want.ExWant.{ExWant}
+use Rattle.lock_word.specs.declared.want.ExWant.TheVariants as want
+use Rattle.lock_word.specs.declared.down.Down.{Down}
+use Rattle.lock_word.specs.declared.down.Down.TheVariants as down
+use Rattle.lock_word.specs.Unblocking.{is_awaited}
+use Rattle.lock_word.specs.Word.{step_of_want, step_of_down}
+use Rattle.lock_one.specs.declared.action.Action.{Action}
+use Rattle.lock_one.specs.declared.action.Action.TheVariants as action
+use Rattle.lock_one.specs.declared.call.Call.{Call}
+use Rattle.lock_one.specs.declared.stage.Stage.{Stage}
+use Rattle.lock_one.specs.declared.stage.Stage.TheVariants as stage
+use Rattle.lock_one.specs.declared.park.ParkView.{ParkView}
+use Rattle.lock_one.specs.declared.park.Park.TheVariants.{Awake}
+use Rattle.lock_one.specs.declared.park.Debt.{Debt}
+use Rattle.lock_one.specs.declared.park.Debt.TheVariants as debt
+use Rattle.lock_one.specs.Rule.{is_upgrade}
+use Rattle.lock_one.specs.Machine.{Progress, sleep_of, wakes_one, acquiring, taking, removes_reader, begun, goes_to, free, alone, next_at, next_of}
+use Rattle.lock_one.specs.Runs.{debt_at}
+use Rattle.lock_one.specs.Steps.{ends, Acquires, IsAt, IsRest, IsWake, is_step, hold_at}
+use Rattle.lock_one.proofs.Answers.{answers_tell}
+use Rattle.lock_one.proofs.Runs.{quiet_sleep, same_view}
+use Rattle.lock_one_word.specs.declared.rule.OneView.{OneView}
+use Rattle.lock_one_word.specs.Seats.{placed, Task, task_of, to_acquire, to_release, releases, IsGoing}
+use Rattle.lock_one_word.proofs.Tasks.{keeps_task, is_on}
+
+-- a step on the word
+abbrev pub on_word : Action → Bool
+on_word action.Load = true
+on_word (action.Exchange x y) = true
+on_word (action.Subtract d) = true
+on_word other = false
+
+quiet : (call : Call) → on_word (sleep_of call) ≡ false
+quiet call = by (nat_lt call.readers (2 ^ 28))
+  where
+    by : (b : Bool) → on_word (if b then action.Park call.loaded (call.announced || is_upgrade call.want) else action.Yield) ≡ false
+    by true = refl
+    by false = refl
+
+pub steps_on : (st : Stage) (call : Call) (v : ParkView) (a : Action) → IsAt st call v a → on_word a ≡ true → is_step st ≡ true
+steps_on stage.Look call v a is h = refl
+steps_on stage.Try call v a is h = refl
+steps_on stage.Pause call v a is h = refl
+steps_on stage.Mark call v a is h = refl
+steps_on stage.Sleep call v a is h = absurd (true≢false (sym h ∙ (ap on_word is.5 ∙ quiet call)))
+steps_on stage.Withdraw call v a is h = refl
+steps_on stage.Leave call v a is h = refl
+steps_on stage.LookToRemove call v a is h = refl
+steps_on stage.Subtract call v a is h = refl
+steps_on stage.Release call v a is h = refl
+steps_on stage.Wake call v a is h = by v.debt is.1
+  where
+    by : (d : Debt) → IsWake d a → is_step stage.Wake ≡ true
+    by debt.Nothing e = absurd e
+    by debt.One e = absurd (true≢false (sym h ∙ ap on_word e))
+    by debt.All e = absurd (true≢false (sym h ∙ ap on_word e))
+    by debt.Next e = absurd (true≢false (sym h ∙ ap on_word e))
+steps_on stage.WakeRefused call v a is h = absurd (true≢false (sym h ∙ ap on_word is.2))
+steps_on stage.Acquired call v a is h = absurd (true≢false (sym h ∙ ap on_word is.1))
+steps_on stage.Refused call v a is h = absurd (true≢false (sym h ∙ ap on_word is.1))
+steps_on stage.Ended call v a is h = absurd (true≢false (sym h ∙ ap on_word is.1))
+
+-- who subtracts holds what the release takes
+pub subtracts_own : (st : Stage) (call : Call) (v : ParkView) (d : Down) → IsAt st call v (action.Subtract d) → IsTrue (hold_has v.held (step_of_down d))
+subtracts_own stage.Look call v d is = let e = is.1 in cc
+subtracts_own stage.Try call v d is = let e = is.2 in cc
+subtracts_own stage.Pause call v d is = absurd is.1
+subtracts_own stage.Mark call v d is = let e = is.4 in cc
+subtracts_own stage.Sleep call v d is = absurd (true≢false (ap on_word is.5 ∙ quiet call))
+subtracts_own stage.Withdraw call v d is = let e = is.2 in cc
+subtracts_own stage.Leave call v d is = let e = is.4 in cc
+subtracts_own stage.LookToRemove call v d is = let e = is.2 in cc
+subtracts_own stage.Subtract call v d is =
+    let same : d ≡ call.down = ap taken is.2 in
+    subst (λ x. IsTrue (hold_has v.held (step_of_down x))) (sym same) is.0
+  where
+    taken : Action → Down
+    taken (action.Subtract x) = x
+    taken other = d
+subtracts_own stage.Release call v d is = let e = is.2 in cc
+subtracts_own stage.Wake call v d is = by v.debt is.1
+  where
+    by : (x : Debt) → IsWake x (action.Subtract d) → IsTrue (hold_has v.held (step_of_down d))
+    by debt.Nothing e = absurd e
+    by debt.One e = cc
+    by debt.All e = cc
+    by debt.Next e = cc
+subtracts_own stage.WakeRefused call v d is = let e = is.2 in cc
+subtracts_own stage.Acquired call v d is = let e = is.1 in cc
+subtracts_own stage.Refused call v d is = let e = is.1 in cc
+subtracts_own stage.Ended call v d is = let e = is.1 in cc
+
+abbrev IsOn : Progress → Hold → Hold → Type 0
+IsOn next before held = IsAt next.0.stage next.0 (placed held next.1) next.1 × (held ≡ hold_at next.0.stage next.0 before)
+
+-- after a pause, a sleep or a wake-up
+after : (st : Stage) (call : Call) (held before : Hold) (a : Action) (found : ℕ) → IsAt st call (placed held a) a → held ≡ hold_at st call before
+    → on_word a ≡ false → ends a ≡ false → IsOn (next_at st found call) before held
+after stage.Look call held before a found is h off on = absurd (true≢false (sym (ap on_word is.1) ∙ off))
+after stage.Try call held before a found is h off on = absurd (true≢false (sym (ap on_word is.2) ∙ off))
+after stage.Pause call held before a found is h off on = by a is
+  where
+    by : (a : Action) → IsAt stage.Pause call (placed held a) a → IsOn (next_at stage.Pause found call) before held
+    by action.Load is = absurd is.1
+    by (action.Exchange x y) is = absurd is.1
+    by (action.Subtract d) is = absurd is.1
+    by (action.Park n f) is = absurd is.1
+    by action.WakeOne is = absurd is.1
+    by action.WakeAll is = absurd is.1
+    by action.WakeNext is = absurd is.1
+    by (action.Spin n) is = ((is.0, refl), h)
+    by action.Yield is = absurd is.1
+    by (action.End b) is = absurd is.1
+after stage.Mark call held before a found is h off on = absurd (true≢false (sym (ap on_word is.4) ∙ off))
+after stage.Sleep call held before a found is h off on =
+    let owes_none : debt_at a ≡ debt.Nothing = ap debt_at is.5 ∙ (quiet_sleep call).0 in
+    let same : placed held a ≡ placed held action.Load = same_view (placed held a) held Awake debt.Nothing refl refl owes_none in
+    let acq : Acquires call.want call.announced true call.blocks (wakes_one call) (placed held action.Load)
+    = subst (λ (v : ParkView). Acquires call.want call.announced true call.blocks (wakes_one call) v) same is.0 in
+    (((acq, refl), refl), h)
+after stage.Withdraw call held before a found is h off on = absurd (true≢false (sym (ap on_word is.2) ∙ off))
+after stage.Leave call held before a found is h off on = absurd (true≢false (sym (ap on_word is.4) ∙ off))
+after stage.LookToRemove call held before a found is h off on = absurd (true≢false (sym (ap on_word is.2) ∙ off))
+after stage.Subtract call held before a found is h off on = absurd (true≢false (sym (ap on_word is.2) ∙ off))
+after stage.Release call held before a found is h off on = absurd (true≢false (sym (ap on_word is.2) ∙ off))
+after stage.Wake call held before a found is h off on = (((refl, refl), refl), h)
+after stage.WakeRefused call held before a found is h off on = (((refl, refl), refl), h)
+after stage.Acquired call held before a found is h off on = absurd (true≢false (sym (ap ends is.1) ∙ on))
+after stage.Refused call held before a found is h off on = absurd (true≢false (sym (ap ends is.1) ∙ on))
+after stage.Ended call held before a found is h off on = absurd (true≢false (sym (ap ends is.1) ∙ on))
+
+not_over : (st : Stage) (call : Call) (v : ParkView) (a : Action) → IsAt st call v a → ends a ≡ false → is_on st ≡ true
+not_over stage.Look call v a is on = refl
+not_over stage.Try call v a is on = refl
+not_over stage.Pause call v a is on = refl
+not_over stage.Mark call v a is on = refl
+not_over stage.Sleep call v a is on = refl
+not_over stage.Withdraw call v a is on = refl
+not_over stage.Leave call v a is on = refl
+not_over stage.LookToRemove call v a is on = refl
+not_over stage.Subtract call v a is on = refl
+not_over stage.Release call v a is on = refl
+not_over stage.Wake call v a is on = refl
+not_over stage.WakeRefused call v a is on = refl
+not_over stage.Acquired call v a is on = absurd (true≢false (sym (ap ends is.1) ∙ on))
+not_over stage.Refused call v a is on = absurd (true≢false (sym (ap ends is.1) ∙ on))
+not_over stage.Ended call v a is on = absurd (true≢false (sym (ap ends is.1) ∙ on))
+
+-- an action that is no step on the word leaves what the party holds
+pub rests : (call : Call) (a : Action) (before : Hold) (task : Task) (v : OneView) (found : ℕ) → on_word a ≡ false → ends a ≡ false
+    → IsGoing (call, a) before task v → IsGoing (next_of found call) before task v
+rests call a before task v found off on going =
+    let is = after call.stage call v.held before a found going.at going.held off on in
+    record {
+      lock = same_readers call.stage off going.at ∙ going.lock;
+      at = is.0;
+      held = is.1;
+      loaded = same_loaded call.stage off going.at;
+      tasked = keeps_task found call (not_over call.stage call (placed v.held a) a going.at on) ∙ going.tasked;
+    }
+  where
+    same_readers : (st : Stage) → on_word a ≡ false → IsAt st call (placed v.held a) a → (next_at st found call).0.readers ≡ call.readers
+    same_readers stage.Look off is = absurd (true≢false (sym (ap on_word is.1) ∙ off))
+    same_readers stage.Try off is = absurd (true≢false (sym (ap on_word is.2) ∙ off))
+    same_readers stage.Pause off is = refl
+    same_readers stage.Mark off is = absurd (true≢false (sym (ap on_word is.4) ∙ off))
+    same_readers stage.Sleep off is = refl
+    same_readers stage.Withdraw off is = absurd (true≢false (sym (ap on_word is.2) ∙ off))
+    same_readers stage.Leave off is = absurd (true≢false (sym (ap on_word is.4) ∙ off))
+    same_readers stage.LookToRemove off is = absurd (true≢false (sym (ap on_word is.2) ∙ off))
+    same_readers stage.Subtract off is = absurd (true≢false (sym (ap on_word is.2) ∙ off))
+    same_readers stage.Release off is = absurd (true≢false (sym (ap on_word is.2) ∙ off))
+    same_readers stage.Wake off is = refl
+    same_readers stage.WakeRefused off is = refl
+    same_readers stage.Acquired off is = refl
+    same_readers stage.Refused off is = refl
+    same_readers stage.Ended off is = refl
+
+    same_loaded : (st : Stage) → on_word a ≡ false → IsAt st call (placed v.held a) a → (next_at st found call).0.loaded < 2 ^ 36
+    same_loaded stage.Look off is = absurd (true≢false (sym (ap on_word is.1) ∙ off))
+    same_loaded stage.Try off is = absurd (true≢false (sym (ap on_word is.2) ∙ off))
+    same_loaded stage.Pause off is = going.loaded
+    same_loaded stage.Mark off is = absurd (true≢false (sym (ap on_word is.4) ∙ off))
+    same_loaded stage.Sleep off is = going.loaded
+    same_loaded stage.Withdraw off is = absurd (true≢false (sym (ap on_word is.2) ∙ off))
+    same_loaded stage.Leave off is = absurd (true≢false (sym (ap on_word is.4) ∙ off))
+    same_loaded stage.LookToRemove off is = absurd (true≢false (sym (ap on_word is.2) ∙ off))
+    same_loaded stage.Subtract off is = absurd (true≢false (sym (ap on_word is.2) ∙ off))
+    same_loaded stage.Release off is = absurd (true≢false (sym (ap on_word is.2) ∙ off))
+    same_loaded stage.Wake off is = going.loaded
+    same_loaded stage.WakeRefused off is = going.loaded
+    same_loaded stage.Acquired off is = going.loaded
+    same_loaded stage.Refused off is = going.loaded
+    same_loaded stage.Ended off is = going.loaded
+
+-- the first action of a call
+
+pub acquiring_first : (readers : ℕ) (wish : ExWant) (blocks announces : Bool) (v : OneView) → readers ≡ v.readers → IsTrue (is_awaited wish)
+    → IsTrue (hold_has v.held (step_of_want wish)) → v.held.announced ≡ false
+    → IsGoing (acquiring readers wish blocks announces) v.held (to_acquire wish) v
+acquiring_first readers wish blocks announces v lock awaited has clean =
+    record {
+      lock = lock;
+      at = (
+        (
+          record {
+            awaited = awaited;
+            has = has;
+            bar = sym clean;
+            owes_none = refl;
+            woken = λ w. absurd (false≢true w);
+            tries = λ b. (refl, refl);
+            no_bar = λ a. absurd (false≢true a);
+            writer = λ a. absurd (false≢true a);
+          },
+          refl,
+        ),
+        refl,
+      );
+      held = ap (λ (x : Bool). let own : Hold = record { bag = v.held.bag; announced = x } in own) clean;
+      loaded = omega arith;
+      tasked = refl;
+    }
+
+alone_small : (d : Down) → alone d < 2 ^ 36
+alone_small down.Shared = omega arith
+alone_small down.Exclusive = omega arith
+alone_small down.Upgradable = omega arith
+alone_small down.ToShared = omega arith
+alone_small down.ToUpgradable = omega arith
+alone_small down.UpgradableToShared = omega arith
+alone_small down.Withdraw = omega arith
+
+pub releasing_first : (readers : ℕ) (d : Down) (v : OneView) → readers ≡ v.readers → IsTrue (hold_has v.held (step_of_down d))
+    → IsGoing (taking readers d) v.held (to_release d) v
+releasing_first readers d v lock has = by (removes_reader readers d)
+  where
+    by : (b : Bool) → IsGoing (if b then goes_to (begun readers stage.LookToRemove want.Shared d false false) stage.LookToRemove action.Load
+        else free (alone d) (begun readers stage.Release want.Shared d false false)) v.held (to_release d) v
+    by true = record { lock = lock; at = (has, (refl, refl), refl); held = refl; loaded = omega arith; tasked = refl }
+    by false = record { lock = lock; at = (has, (refl, refl), refl); held = refl; loaded = alone_small d; tasked = refl }
+
+-- the end of a call
+
+pub refused_end : (call : Call) (before : Hold) (task : Task) (v : OneView) → before.announced ≡ false → IsGoing (call, action.End false) before task v → v.held ≡ before
+refused_end call before task v clean going = answers_tell.refused_holds_as_before call (placed v.held (action.End false)) before clean going.at going.held
+
+same_after : (before : Hold) (wish : ExWant) (a : Bool) → (hold_after (record before { announced = a }) (step_of_want wish)).bag ≡ (hold_after before (step_of_want wish)).bag
+same_after before want.Shared a = refl
+same_after before want.Exclusive a = refl
+same_after before want.Upgradable a = refl
+same_after before want.Upgrade a = refl
+same_after before want.Announce a = refl
+
+stays_clean : (before : Hold) (wish : ExWant) → before.announced ≡ false → IsTrue (is_awaited wish) → (hold_after before (step_of_want wish)).announced ≡ false
+stays_clean before want.Shared clean o = clean
+stays_clean before want.Exclusive clean o = refl
+stays_clean before want.Upgradable clean o = clean
+stays_clean before want.Upgrade clean o = clean
+stays_clean before want.Announce clean o = absurd (false≢true o)
+
+pub acquired_end : (call : Call) (before : Hold) (wish : ExWant) (v : OneView) → before.announced ≡ false → IsTrue (is_awaited wish)
+    → IsGoing (call, action.End true) before (to_acquire wish) v → v.held ≡ hold_after before (step_of_want wish)
+acquired_end call before wish v clean awaited going = by call.stage refl going.at going.held
+  where
+    is_want : call.want ≡ wish
+    is_want = ap (λ (t : Task). t.0) going.tasked
+
+    free : releases call.stage ≡ false
+    free = ap (λ (t : Task). t.2) going.tasked
+
+    both : (bag_is : v.held.bag ≡ (hold_after before (step_of_want wish)).bag) → v.held.announced ≡ (hold_after before (step_of_want wish)).announced → v.held ≡ hold_after before (step_of_want wish)
+    both b a = λ i. record { bag = b i; announced = a i }
+
+    by : (st : Stage) → call.stage ≡ st → IsAt st call (placed v.held (action.End true)) (action.End true) → v.held ≡ hold_at st call before → v.held ≡ hold_after before (step_of_want wish)
+    by stage.Acquired e is h =
+        both (ap (λ (x : Hold). x.bag) h ∙ (same_after before call.want call.announced ∙ ap (λ w. (hold_after before (step_of_want w)).bag) is_want))
+        (is.2 ∙ sym (stays_clean before wish clean awaited))
+    by stage.Ended e is h = absurd (true≢false (sym (ap releases e) ∙ free))
+    by stage.Refused e is h = let x = is.1 in cc
+    by stage.Look e is h = let x = is.1 in cc
+    by stage.Try e is h = let x = is.2 in cc
+    by stage.Pause e is h = absurd is.1
+    by stage.Mark e is h = let x = is.4 in cc
+    by stage.Sleep e is h = absurd (true≢false (ap ends is.5 ∙ (quiet_sleep call).1))
+    by stage.Withdraw e is h = let x = is.2 in cc
+    by stage.Leave e is h = let x = is.4 in cc
+    by stage.LookToRemove e is h = absurd (true≢false (sym (ap releases e) ∙ free))
+    by stage.Subtract e is h = absurd (true≢false (sym (ap releases e) ∙ free))
+    by stage.Release e is h = absurd (true≢false (sym (ap releases e) ∙ free))
+    by stage.Wake e is h = absurd (true≢false (sym (ap releases e) ∙ free))
+    by stage.WakeRefused e is h = let x = is.2 in cc
+
+pub released_end : (call : Call) (before : Hold) (d : Down) (b : Bool) (v : OneView) → IsGoing (call, action.End b) before (to_release d) v
+    → v.held ≡ hold_after before (step_of_down d)
+released_end call before d b v going = by call.stage refl going.at going.held
+  where
+    is_down : call.down ≡ d
+    is_down = ap (λ (t : Task). t.1) going.tasked
+
+    busy : releases call.stage ≡ true
+    busy = ap (λ (t : Task). t.2) going.tasked
+
+    by : (st : Stage) → call.stage ≡ st → IsAt st call (placed v.held (action.End b)) (action.End b) → v.held ≡ hold_at st call before → v.held ≡ hold_after before (step_of_down d)
+    by stage.Ended e is h = h ∙ ap (λ x. hold_after before (step_of_down x)) is_down
+    by stage.Acquired e is h = absurd (true≢false (sym busy ∙ ap releases e))
+    by stage.Refused e is h = absurd (true≢false (sym busy ∙ ap releases e))
+    by stage.Look e is h = absurd (true≢false (sym busy ∙ ap releases e))
+    by stage.Try e is h = absurd (true≢false (sym busy ∙ ap releases e))
+    by stage.Pause e is h = absurd (true≢false (sym busy ∙ ap releases e))
+    by stage.Mark e is h = absurd (true≢false (sym busy ∙ ap releases e))
+    by stage.Sleep e is h = absurd (true≢false (sym busy ∙ ap releases e))
+    by stage.Withdraw e is h = absurd (true≢false (sym busy ∙ ap releases e))
+    by stage.Leave e is h = absurd (true≢false (sym busy ∙ ap releases e))
+    by stage.WakeRefused e is h = absurd (true≢false (sym busy ∙ ap releases e))
+    by stage.LookToRemove e is h = let x = is.2 in cc
+    by stage.Subtract e is h = let x = is.2 in cc
+    by stage.Release e is h = let x = is.2 in cc
+    by stage.Wake e is h = over v.held is.1
+      where
+        over : (x : Hold) → IsWake (debt_at (action.End b)) (action.End b) → v.held ≡ hold_after before (step_of_down d)
+        over x w = absurd w

@@ -1,0 +1,129 @@
+-- A call keeps its task.
+use Rattle.std.proofs.Common.{◌≡◌, ℕ, ◌+◌, ◌-◌, ◌^◌, Bool, true, false, not, ◌&&◌, ◌==◌, nat_lt, if◌then◌else◌, refl, sym, ap, ◌∙◌}
+use Rattle.std.proofs.lemmas.Bool.{false≢true}
+use Rattle.lock_word.specs.Word.{word_admits}
+use Rattle.lock_one.specs.declared.action.Action.TheVariants as action
+use Rattle.lock_one.specs.declared.call.Call.{Call}
+use Rattle.lock_one.specs.declared.stage.Stage.{Stage}
+use Rattle.lock_one.specs.declared.stage.Stage.TheVariants as stage
+use Rattle.lock_one.specs.declared.park.Debt.{Debt}
+use Rattle.lock_one.specs.declared.park.Debt.TheVariants as debt
+use Rattle.lock_one.specs.Machine.{Progress, core_of, has_sleepers, sleepers, wakes_one, sleep, word_marked, wait_or_sleep, marked, give_up, withdrawn, rest, after_try, decide, release_of, free, subtract, release_again, look_to_remove, wakes, acquired, refused, goes_to, next_at, next_of}
+use Rattle.lock_one.specs.Steps.{is_step}
+use Rattle.lock_one_word.specs.Seats.{Task, task_of}
+
+abbrev task : Progress → Task
+task p = task_of p.0
+
+abbrev acquires : Call → Task
+acquires call = (call.want, call.down, false)
+
+abbrev gives : Call → Task
+gives call = (call.want, call.down, true)
+
+waits : (call : Call) → task (wait_or_sleep call) ≡ acquires call
+waits call = by (word_marked call == call.loaded)
+  where
+    by : (b : Bool) → task (if b then sleep call else goes_to (record call { left = word_marked call }) stage.Mark (action.Exchange call.loaded (word_marked call))) ≡ acquires call
+    by true = refl
+    by false = refl
+
+gives_up : (call : Call) → task (give_up call) ≡ acquires call
+gives_up call = by call.announced (wakes_one call && (call.slept && nat_lt call.loaded sleepers))
+  where
+    by : (b c : Bool) → task (if b then goes_to (record call { left = core_of call.loaded - 2 ^ 34 }) stage.Withdraw (action.Exchange call.loaded (core_of call.loaded - 2 ^ 34))
+        else if c then goes_to (record call { left = call.loaded + sleepers }) stage.Leave (action.Exchange call.loaded (call.loaded + sleepers)) else refused call) ≡ acquires call
+    by true c = refl
+    by false true = refl
+    by false false = refl
+
+rests : (call : Call) → task (rest call) ≡ acquires call
+rests call = by call.blocks call.late (nat_lt call.pauses 6)
+  where
+    by : (b c d : Bool) → task (if not b then refused call else if c then give_up call
+        else if d then goes_to (record call { pauses = call.pauses + 1 }) stage.Pause (action.Spin (if nat_lt call.pauses 3 then call.pauses + 6 else 9)) else wait_or_sleep call) ≡ acquires call
+    by false c d = refl
+    by true true d = gives_up call
+    by true false true = refl
+    by true false false = waits call
+
+decides : (word : ℕ) (call : Call) → task (decide word call) ≡ acquires call
+decides word call = by (word_admits call.announced call.readers (core_of word) call.want)
+  where
+    by : (b : Bool) → task (if b then goes_to (record call { loaded = word; left = after_try call word }) stage.Try (action.Exchange word (after_try call word)) else rest (record call { loaded = word })) ≡ acquires call
+    by true = refl
+    by false = rests (record call { loaded = word })
+
+wakes_up : (d : Debt) (call : Call) → task (wakes d call) ≡ gives call
+wakes_up debt.Nothing call = refl
+wakes_up debt.One call = refl
+wakes_up debt.All call = refl
+wakes_up debt.Next call = refl
+
+withdraws : (call : Call) → task (withdrawn call) ≡ acquires call
+withdraws call = by (has_sleepers call.loaded)
+  where
+    by : (b : Bool) → task (if b then goes_to (record call { announced = false }) stage.WakeRefused action.WakeAll else refused (record call { announced = false })) ≡ acquires call
+    by true = refl
+    by false = refl
+
+-- a call that has not ended
+abbrev pub is_on : Stage → Bool
+is_on stage.Acquired = false
+is_on stage.Refused = false
+is_on stage.Ended = false
+is_on other = true
+
+pub goes_on : (st : Stage) → is_step st ≡ true → is_on st ≡ true
+goes_on stage.Look h = refl
+goes_on stage.Try h = refl
+goes_on stage.Pause h = refl
+goes_on stage.Mark h = refl
+goes_on stage.Sleep h = refl
+goes_on stage.Withdraw h = refl
+goes_on stage.Leave h = refl
+goes_on stage.LookToRemove h = refl
+goes_on stage.Subtract h = refl
+goes_on stage.Release h = refl
+goes_on stage.Wake h = refl
+goes_on stage.WakeRefused h = refl
+goes_on stage.Acquired h = absurd (false≢true h)
+goes_on stage.Refused h = absurd (false≢true h)
+goes_on stage.Ended h = absurd (false≢true h)
+
+module _ (found : ℕ) (call : Call) where
+  either : (b : Bool) (next : Progress) → task next ≡ acquires call → task (if b then next else decide found call) ≡ acquires call
+  either true next e = e
+  either false next e = decides found call
+
+  again : (b : Bool) → task (if b then free found (record call { pauses = call.pauses + 1 }) else subtract call) ≡ gives call
+  again true = refl
+  again false = refl
+
+  releasing : (b : Bool) → task (if b then wakes (release_of call.readers call.loaded call.down).1 call else release_again found call) ≡ gives call
+  releasing true = wakes_up (release_of call.readers call.loaded call.down).1 call
+  releasing false = again (nat_lt call.pauses 8)
+
+  looking : (b : Bool) → task (if b then free found call else subtract call) ≡ gives call
+  looking true = refl
+  looking false = refl
+
+  by_stage : (st : Stage) → is_on st ≡ true → task (next_at st found call) ≡ task_of (record call { stage = st })
+  by_stage stage.Look h = decides found call
+  by_stage stage.Try h = either (found == call.loaded) (acquired call) refl
+  by_stage stage.Pause h = refl
+  by_stage stage.Mark h = either (found == call.loaded) (marked call) refl
+  by_stage stage.Sleep h = refl
+  by_stage stage.Withdraw h = either (found == call.loaded) (withdrawn call) (withdraws call)
+  by_stage stage.Leave h = either (found == call.loaded) (refused call) refl
+  by_stage stage.LookToRemove h = looking (has_sleepers found)
+  by_stage stage.Subtract h = wakes_up (release_of call.readers found call.down).1 call
+  by_stage stage.Release h = releasing (found == call.loaded)
+  by_stage stage.Wake h = refl
+  by_stage stage.WakeRefused h = refl
+  by_stage stage.Acquired h = absurd (false≢true h)
+  by_stage stage.Refused h = absurd (false≢true h)
+  by_stage stage.Ended h = absurd (false≢true h)
+
+  pub keeps_task : is_on call.stage ≡ true → task (next_of found call) ≡ task_of call
+  keeps_task h = by_stage call.stage h

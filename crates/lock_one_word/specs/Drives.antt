@@ -1,0 +1,63 @@
+-- What a driver knows of a call between two of its actions.
+use Rattle.std.specs.Prelude.{◌≡◌, ℕ, ◌+◌, ◌-◌, Bool, true, false, if◌then◌else◌, ◌⊎◌, IsTrue}
+use Rattle.lock_base.specs.declared.machine.hold.Hold.{Hold}
+use Rattle.lock_base.specs.Holds.{hold_after}
+use Rattle.lock_word.specs.declared.want.ExWant.{ExWant}
+use Rattle.lock_word.specs.Unblocking.{is_awaited}
+use Rattle.lock_word.specs.Word.{step_of_want}
+use Rattle.lock_one.specs.declared.action.Action.{Action}
+use Rattle.lock_one.specs.declared.action.Action.TheVariants.{Load, Exchange, Subtract, WakeOne, WakeAll, WakeNext, End}
+use Rattle.lock_one.specs.declared.call.Call.{Call}
+use Rattle.lock_one.specs.declared.stage.Stage.{Stage}
+use Rattle.lock_one.specs.declared.stage.Stage.TheVariants as stage
+use Rattle.lock_one.specs.Machine.{Progress, next_of}
+use Rattle.lock_one_word.specs.Seats.{Self, Task, to_acquire, IsGoing}
+
+-- an action on the word, or a wake-up by its address
+abbrev pub touches_lock : Action → Bool
+touches_lock Load = true
+touches_lock (Exchange x y) = true
+touches_lock (Subtract d) = true
+touches_lock WakeOne = true
+touches_lock WakeAll = true
+touches_lock WakeNext = true
+touches_lock other = false
+
+-- the party is to make the action
+abbrev pub CanGo : Progress → Self → Type 0
+CanGo next me = (before : Hold) × (task : Task) × IsGoing next before task me.0
+
+-- the action is made: the call goes on with what it found
+abbrev pub GoesOn : Call → Action → Self → ℕ → Self → Type 0
+GoesOn call a me found after =
+    (before : Hold) (task : Task) → IsGoing (call, a) before task me.0 → IsGoing (next_of found call) before task after.0
+
+-- after any number of actions
+abbrev pub LeadsTo : Progress → Self → Progress → Self → Type 0
+LeadsTo first me last after = (before : Hold) (task : Task) → IsGoing first before task me.0 → IsGoing last before task after.0
+
+-- a try that has looked: it exchanges, or it has ended
+pub record IsTrying (next : Progress) : Type 0 where
+  pub tries : next.0.blocks ≡ false
+  pub stage : (next.0.stage ≡ stage.Try) ⊎ ((next.0.stage ≡ stage.Acquired) ⊎ (next.0.stage ≡ stage.Refused))
+
+abbrev pub says_yes : Action → Bool
+says_yes (End b) = b
+says_yes other = false
+
+-- a try has acquired, or nothing has changed
+abbrev pub Tried : Call → Action → Bool → Self → Self → Type 0
+Tried call first acquired me after =
+    (before : Hold) (wish : ExWant) → before.announced ≡ false → IsTrue (is_awaited wish) → IsGoing (call, first) before (to_acquire wish) me.0
+    → after.0.held ≡ (if acquired then hold_after before (step_of_want wish) else before)
+
+-- how much of a release is left: its exchanges, its subtraction and its wake-up
+abbrev pub rank_at : Stage → ℕ → ℕ
+rank_at stage.LookToRemove failed = 12
+rank_at stage.Release failed = 3 + (8 - failed)
+rank_at stage.Subtract failed = 2
+rank_at stage.Wake failed = 1
+rank_at other failed = 0
+
+abbrev pub rank : Call → ℕ
+rank call = rank_at call.stage call.pauses

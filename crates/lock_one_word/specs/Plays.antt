@@ -1,0 +1,50 @@
+-- What each kind of step on the word tells the party that makes it.
+use Rattle.std.specs.Prelude.{◌≡◌, ℕ, ◌+◌, ◌-◌, ◌*◌, ◌^◌, ◌<◌, ◌==◌, true, if◌then◌else◌}
+use Rattle.atomic_table.specs.Table.{Step}
+use Rattle.lock_base.specs.declared.machine.hold.Hold.{Hold}
+use Rattle.lock_word.specs.declared.down.Down.{Down}
+use Rattle.lock_word.specs.declared.down.Down.TheVariants as down
+use Rattle.lock_word.specs.Rule.{WordShows}
+use Rattle.lock_one.specs.declared.action.Action.{Action}
+use Rattle.lock_one.specs.declared.action.Action.TheVariants.{Load, Exchange, Subtract}
+use Rattle.lock_one.specs.declared.call.Call.{Call}
+use Rattle.lock_one.specs.Machine.{core_of, next_of}
+use Rattle.lock_one.specs.Steps.{is_step}
+use Rattle.lock_one.specs.Stored.{word_of_stored}
+use Rattle.lock_one_word.specs.Seats.{Self, Task, IsGoing}
+
+-- the machine makes the same step: whatever call of the party asks for this action, it goes on with what the step found
+abbrev pub Agrees : Action → Self → ℕ → Self → Type 0
+Agrees a me found after =
+    (after.1 ≡ me.1) × (after.0.readers ≡ me.0.readers)
+    × ((call : Call) (before : Hold) (task : Task) → is_step call.stage ≡ true → IsGoing (call, a) before task me.0 → IsGoing (next_of (word_of_stored found) call) before task after.0)
+
+abbrev pub Loads : Step (Unit {0}) → Self → ℕ → Self → Type 0
+Loads s me found after =
+    (after ≡ me) × (found < 2 ^ 36) × WordShows me.0.readers (core_of (word_of_stored found)) me.0.held × Agrees Load me found after
+
+abbrev pub Exchanges : Step (Unit {0}) → Self → ℕ → Self → Type 0
+Exchanges s me found after = Agrees (Exchange (word_of_stored s.first) (word_of_stored s.second)) me found after
+
+-- what a release subtracts from the stored word. A downgrade adds a reader where it clears a flag
+abbrev pub stored_amount : Down → ℕ
+stored_amount down.Shared = 16
+stored_amount down.Exclusive = 2
+stored_amount down.Upgradable = 17
+stored_amount down.ToShared = 2 ^ 64 - 14
+stored_amount down.ToUpgradable = 2 ^ 64 - 15
+stored_amount down.UpgradableToShared = 1
+stored_amount down.Withdraw = 4
+
+abbrev pub down_of_amount : ℕ → Down
+down_of_amount n =
+    if n == 16 then down.Shared else if n == 2 then down.Exclusive else if n == 17 then down.Upgradable else if n == 1 then down.UpgradableToShared
+    else if n == 4 then down.Withdraw else if n == 2 ^ 64 - 14 then down.ToShared else down.ToUpgradable
+
+abbrev pub Subtracts : Step (Unit {0}) → Self → ℕ → Self → Type 0
+Subtracts s me found after = Agrees (Subtract (down_of_amount s.first)) me found after
+
+-- the same, of the word that was found
+abbrev pub Goes : Action → Self → ℕ → Self → Type 0
+Goes a me word after =
+    (call : Call) (before : Hold) (task : Task) → is_step call.stage ≡ true → IsGoing (call, a) before task me.0 → IsGoing (next_of word call) before task after.0

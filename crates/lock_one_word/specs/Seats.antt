@@ -1,0 +1,86 @@
+-- The rule of the word, stated of a table with one word and of the views of its seats.
+use Rattle.std.specs.Prelude.{◌≡◌, ℕ, ◌^◌, ◌<◌, Bool, true, false, List, map, length, slice_index}
+use mathlib.Core.Option.{some}
+use lib.ListN.{get_elem?}
+use Rattle.atomic_table.specs.Table.{State, Me}
+use Rattle.lock_base.specs.declared.machine.hold.Hold.{Hold}
+use Rattle.lock_base.specs.Limits.{IsLimit}
+use Rattle.lock_base.specs.Holds.{no_hold}
+use Rattle.lock_word.specs.declared.want.ExWant.{ExWant}
+use Rattle.lock_word.specs.declared.want.ExWant.TheVariants as want
+use Rattle.lock_word.specs.declared.down.Down.{Down}
+use Rattle.lock_word.specs.declared.down.Down.TheVariants as down
+use Rattle.lock_one.specs.declared.action.Action.{Action}
+use Rattle.lock_one.specs.declared.call.Call.{Call}
+use Rattle.lock_one.specs.declared.stage.Stage.{Stage}
+use Rattle.lock_one.specs.declared.stage.Stage.TheVariants as stage
+use Rattle.lock_one.specs.declared.park.ParkView.{ParkView}
+use Rattle.lock_one.specs.declared.park.Park.TheVariants.{Awake}
+use Rattle.lock_one.specs.declared.park.Debt.TheVariants as debt
+use Rattle.lock_one.specs.Machine.{Progress}
+use Rattle.lock_one.specs.Runs.{limits_in, debt_at}
+use Rattle.lock_one.specs.Steps.{IsAt, Keeps, hold_at}
+use Rattle.lock_one.specs.Stored.{word_of_stored}
+use Rattle.lock_one_word.specs.declared.rule.OneView.{OneView}
+
+abbrev pub newcomer : ℕ → OneView
+newcomer readers = record { held = no_hold; readers = readers }
+
+-- a table sees no sleep and no wake-up: to it, each party is awake and owes nothing
+abbrev pub resting : OneView → ParkView
+resting v = record { held = v.held; park = Awake; debt = debt.Nothing }
+
+abbrev pub parties_in : List OneView → List ParkView
+parties_in views = map resting views
+
+abbrev pub Table : Type 0
+Table = State (Unit {0}) OneView
+
+-- a seat's view, and the slots that it holds: none
+abbrev pub Self : Type 0
+Self = Me (Unit {0}) OneView
+
+abbrev pub stored_in : Table → ℕ
+stored_in s = slice_index s.words 0
+
+-- the rule of the table, with the limit that each party knows
+pub record IsKept (limit : ℕ) (s : Table) : Type 0 where
+  pub one_word : length s.words ≡ 1
+  pub small : stored_in s < 2 ^ 36
+  pub range : IsLimit limit
+  pub known : (k : ℕ) (v : OneView) → get_elem? s.views k ≡ some v → v.readers ≡ limit
+  pub keeps : Keeps (limits_in limit) (word_of_stored (stored_in s)) (parties_in s.views)
+
+-- a party that is to make this action, awake, and owes what the action pays
+abbrev pub placed : Hold → Action → ParkView
+placed held a = record { held = held; park = Awake; debt = debt_at a }
+
+-- a call that releases, from its first step on
+abbrev pub releases : Stage → Bool
+releases stage.LookToRemove = true
+releases stage.Subtract = true
+releases stage.Release = true
+releases stage.Wake = true
+releases stage.Ended = true
+releases other = false
+
+-- what a call acquires, what it releases, and which of both it does
+abbrev pub Task : Type 0
+Task = ExWant × Down × Bool
+
+abbrev pub task_of : Call → Task
+task_of call = (call.want, call.down, releases call.stage)
+
+abbrev pub to_acquire : ExWant → Task
+to_acquire wish = (wish, down.Shared, false)
+
+abbrev pub to_release : Down → Task
+to_release d = (want.Shared, d, true)
+
+-- the party's call with this task is to make its next action, and the party held this when the call began
+pub record IsGoing (next : Progress) (before : Hold) (task : Task) (v : OneView) : Type 0 where
+  pub lock : next.0.readers ≡ v.readers
+  pub at : IsAt next.0.stage next.0 (placed v.held next.1) next.1
+  pub held : v.held ≡ hold_at next.0.stage next.0 before
+  pub loaded : next.0.loaded < 2 ^ 36
+  pub tasked : task_of next.0 ≡ task

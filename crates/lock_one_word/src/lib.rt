@@ -1,0 +1,17 @@
+//! A reader-writer lock of one word: a driver that makes the actions of `lock_one` on the word of a table.
+#![tactic(auto)]
+
+mod acquisitions;
+mod answer;
+mod driver;
+mod plays;
+mod releases;
+mod rule;
+mod token;
+mod tries;
+mod until;
+mod word_lock;
+
+pub use rule::{OneRule, OneView};
+pub use token::WordToken;
+pub use word_lock::WordLock;
