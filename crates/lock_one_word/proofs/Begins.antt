@@ -2,9 +2,11 @@
 use Rattle.std.proofs.Common.{◌≡◌, ℕ, Bool, true, false, [], if◌then◌else◌, IsTrue, refl, sym, ap, subst, ◌∙◌}
 use Rattle.atomic_table.specs.Seated.{TableId}
 use Rattle.lock_base.specs.declared.machine.mode.Mode.{Mode}
+use Rattle.lock_base.specs.declared.machine.mode.Mode.TheVariants.{Exclusive, Upgradable}
 use Rattle.lock_base.specs.declared.machine.hold.Hold.{Hold}
 use Rattle.lock_base.specs.Holds.{no_hold, hold_has, hold_after}
 use Rattle.lock_word.specs.declared.want.ExWant.{ExWant}
+use Rattle.lock_word.specs.declared.want.ExWant.TheVariants as want
 use Rattle.lock_word.specs.Unblocking.{is_awaited}
 use Rattle.lock_word.specs.Word.{step_of_want, want_of_mode}
 use Rattle.lock_one.specs.declared.action.Action.{Action}
@@ -17,22 +19,18 @@ use Rattle.lock_one_word.specs.declared.rule.OneView.{OneView}
 use Rattle.lock_one_word.specs.Calls.{WordLockView, TokenView, token_of, one_hold}
 use Rattle.lock_one_word.specs.Drives.{IsTrying}
 use Rattle.lock_one_word.specs.Plays.{Goes}
-use Rattle.lock_one_word.specs.Seats.{Self, Task, newcomer, to_acquire, IsGoing}
-use Rattle.lock_one_word.proofs.Rests.{acquiring_first, acquired_end}
+use Rattle.lock_one_word.specs.Seats.{Self, to_acquire, IsGoing}
+use Rattle.lock_one_word.proofs.Rests.{acquiring_first, acquired_end, refused_end}
 use Rattle.lock_one_word.proofs.Tokens.{acquires, awaits}
 use Rattle.lock_one_word.proofs.TryEnds.{looks}
 
--- the first look of a new seat
-pub first_look : (readers found : ℕ) (wish : ExWant) (blocks : Bool) (me : Self) (begun next : Progress) → me ≡ (newcomer readers, [])
-    → begun ≡ acquiring readers wish blocks true → IsTrue (is_awaited wish) → IsTrue (hold_has no_hold (step_of_want wish)) → Goes Load me found me
-    → next ≡ next_of found begun.0 → IsGoing next no_hold (to_acquire wish) me.0
-first_look readers found wish blocks me begun next seat is awaited has goes turns =
-    let v : OneView = newcomer readers in
-    let at_first : IsGoing (acquiring readers wish blocks true) no_hold (to_acquire wish) me.0
-    = subst (λ (m : Self). IsGoing (acquiring readers wish blocks true) no_hold (to_acquire wish) m.0) (sym seat)
-    (acquiring_first readers wish blocks true v refl awaited has refl) in
-    subst (λ p. IsGoing p no_hold (to_acquire wish) me.0) (sym (turns ∙ ap (λ (p : Progress). next_of found p.0) is))
-    (goes (acquiring readers wish blocks true).0 no_hold (to_acquire wish) refl at_first)
+-- the first look of a call
+pub first_look : (readers found : ℕ) (wish : ExWant) (blocks : Bool) (me : Self) (begun next : Progress) → readers ≡ me.0.readers → me.0.held.announced ≡ false
+    → begun ≡ acquiring readers wish blocks true → IsTrue (is_awaited wish) → IsTrue (hold_has me.0.held (step_of_want wish)) → Goes Load me found me
+    → next ≡ next_of found begun.0 → IsGoing next me.0.held (to_acquire wish) me.0
+first_look readers found wish blocks me begun next lock clean is awaited has goes turns =
+    subst (λ p. IsGoing p me.0.held (to_acquire wish) me.0) (sym (turns ∙ ap (λ (p : Progress). next_of found p.0) is))
+    (goes (acquiring readers wish blocks true).0 me.0.held (to_acquire wish) refl (acquiring_first readers wish blocks true me.0 lock awaited has clean))
 
 pub first_try : (readers found : ℕ) (wish : ExWant) (begun next : Progress) → begun ≡ acquiring readers wish false true → next ≡ next_of found begun.0 → IsTrying next
 first_try readers found wish begun next is turns =
@@ -46,3 +44,13 @@ token_is lock mode table me token is id readers held =
 
 pub ended_holds : (mode : Mode) (call : Call) (v : OneView) → IsGoing (call, End true) no_hold (to_acquire (want_of_mode mode)) v → v.held ≡ one_hold mode
 ended_holds mode call v going = acquired_end call no_hold (want_of_mode mode) v refl (awaits mode) going ∙ acquires mode
+
+pub upgraded_holds : (call : Call) (v : OneView) → IsGoing (call, End true) (one_hold Upgradable) (to_acquire want.Upgrade) v → v.held ≡ one_hold Exclusive
+upgraded_holds call v going = acquired_end call (one_hold Upgradable) want.Upgrade v refl refl going
+
+pub still_holds : (call : Call) (v : OneView) → IsGoing (call, End false) (one_hold Upgradable) (to_acquire want.Upgrade) v → v.held ≡ one_hold Upgradable
+still_holds call v going = refused_end call (one_hold Upgradable) (to_acquire want.Upgrade) v refl going
+
+-- a load of a seat whose view stays
+pub looked : (found : ℕ) (me after : Self) → after ≡ me → Goes Load me found after → Goes Load after found after
+looked found me after same goes = subst (λ (m : Self). Goes Load m found after) (sym same) goes

@@ -35,6 +35,14 @@ impl Answer {
         let Answer { made: _, found } = self;
         call.next(found)
     }
+
+    /// Returns the number that was found.
+    pub(crate) fn word(self) -> u64
+        ensures { result ≡ self.found }
+    {
+        let Answer { made: _, found } = self;
+        found
+    }
 }
 
 impl WordLock {
@@ -51,7 +59,7 @@ impl WordLock {
     }
 
     /// Loads the word.
-    pub(crate) fn load(&self, seat: &mut Seat<(), OneView>) -> Answer
+    pub(crate) fn look(&self, seat: &mut Seat<(), OneView>) -> Answer
         requires { seat.old.table_id ≡ self.now.id }
         ensures same { (seat.new.table_id ≡ seat.old.table_id) × (seat.new.me ≡ seat.old.me) }
         ensures made { result.made ≡ Load }

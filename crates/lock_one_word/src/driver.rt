@@ -23,7 +23,7 @@ impl WordLock {
         ensures other { result ≡ None → (touches_lock action ≡ false) × (seat.new.me ≡ seat.old.me) }
     {
         let answer = match action {
-            Action::Load => self.load(seat),
+            Action::Load => self.look(seat),
             Action::Exchange(old, new) => self.exchange(seat, call, old, new),
             Action::Subtract(down) => self.subtract(seat, call, down),
             Action::WakeOne => self.wake_one(),

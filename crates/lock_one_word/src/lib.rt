@@ -3,10 +3,12 @@
 
 mod acquisitions;
 mod answer;
+mod changes;
 mod driver;
 mod plays;
 mod releases;
 mod rule;
+mod start;
 mod token;
 mod tries;
 mod until;

@@ -8,11 +8,11 @@ use Rattle.lock_one_word.proofs.word_lock.WordLock.make_on_lock.Goals as goal
 
 pub returns-in-Load-clause-made : goal.returns-in-Load-clause-made
 returns-in-Load-clause-made c = (
-  c.load-answer.ensures.made ∙ sym c.in-Load.is,
+  c.look-answer.ensures.made ∙ sym c.in-Load.is,
   ap touches_lock c.in-Load.is,
   λ before task going.
       let here = subst (λ (a : Action). IsGoing (c.args.call.now, a) before task c.args.seat.now.me.0) c.in-Load.is going in
-      c.load-answer.ensures.goes c.args.call.now before task
+      c.look-answer.ensures.goes c.args.call.now before task
       (steps_on c.args.call.now.stage c.args.call.now (placed c.args.seat.now.me.0.held Load) Load here.at refl) here,
 )
 

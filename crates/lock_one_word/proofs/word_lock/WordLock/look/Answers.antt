@@ -2,7 +2,7 @@ use Rattle.std.proofs.Common.{rules, subst, sym}
 use Rattle.lock_one.specs.Machine.{next_of}
 use Rattle.lock_one_word.specs.Seats.{IsGoing}
 use Rattle.lock_one_word.proofs.Seats.{loads}
-use Rattle.lock_one_word.proofs.word_lock.WordLock.load.Goals as goal
+use Rattle.lock_one_word.proofs.word_lock.WordLock.look.Goals as goal
 
 pub load-requires : goal.load-requires
 load-requires c = (search rules, search rules, loads _ _ _ _)

@@ -1,0 +1,127 @@
+//! The calls that release a token or change its mode.
+ghost use Rattle.std.specs.Prelude.{◌≡◌, MatchResult};
+ghost use Rattle.lock_base.specs.declared.machine.mode.Mode.TheVariants.{Shared, Exclusive, Upgradable};
+ghost use Rattle.lock_one.specs.Machine.{core_of};
+ghost use Rattle.lock_word.specs.Rule.{WordShows};
+ghost use Rattle.lock_one_word.specs.Calls.{IsTokenOf};
+
+use crate::token::WordToken;
+use crate::until::{Deadline, Endless, Until};
+use crate::word_lock::WordLock;
+use lock_base::machine::Mode;
+use lock_one::{Action, SLEEPERS};
+use lock_word::{Down, ExWant};
+use std::sync::Wait;
+use std::time::{Clock, Instant};
+
+impl WordLock {
+    /// Loads the word by a token. It encodes what all parties hold, the token among them.
+    pub fn load(&self, token: WordToken) -> (u64, WordToken)
+        requires { token.lock ≡ self.now }
+        ensures token { result.1 ≡ token }
+        ensures shows { WordShows self.now.readers result.0 token.held }
+    {
+        let mut seat = token.into_seat();
+        let word = self.look(&mut seat).word();
+        (word % SLEEPERS, WordToken::new(seat))
+    }
+
+    /// Releases a token of the mode, and wakes the sleepers that this unblocks. Another thread may free the lock as soon as
+    /// it is released.
+    #[tactic(auto, using(crate::proofs::Tokens::may_release, crate::proofs::Tokens::releases))]
+    pub fn release(&self, token: WordToken, mode: Mode)
+        requires { IsTokenOf self.now mode token }
+    {
+        let mut seat = token.into_seat();
+        self.take(&mut seat, Down::of_mode(mode));
+        drop(seat);
+    }
+
+    /// Makes an exclusive token shared, and wakes the sleepers that this unblocks.
+    pub fn downgrade(&self, token: WordToken) -> WordToken
+        requires { IsTokenOf self.now Exclusive token }
+        ensures { IsTokenOf self.now Shared result }
+    {
+        let mut seat = token.into_seat();
+        self.take(&mut seat, Down::ToShared);
+        WordToken::new(seat)
+    }
+
+    /// Makes an exclusive token upgradable, and wakes the sleepers that this unblocks.
+    pub fn downgrade_to_upgradable(&self, token: WordToken) -> WordToken
+        requires { IsTokenOf self.now Exclusive token }
+        ensures { IsTokenOf self.now Upgradable result }
+    {
+        let mut seat = token.into_seat();
+        self.take(&mut seat, Down::ToUpgradable);
+        WordToken::new(seat)
+    }
+
+    /// Makes an upgradable token shared, and wakes the sleepers that this unblocks.
+    pub fn downgrade_upgradable(&self, token: WordToken) -> WordToken
+        requires { IsTokenOf self.now Upgradable token }
+        ensures { IsTokenOf self.now Shared result }
+    {
+        let mut seat = token.into_seat();
+        self.take(&mut seat, Down::UpgradableToShared);
+        WordToken::new(seat)
+    }
+
+    /// Makes an upgradable token exclusive without blocking, or returns it unchanged.
+    pub fn try_upgrade(&self, token: WordToken) -> Result<WordToken, WordToken>
+        requires { IsTokenOf self.now Upgradable token }
+        ensures { MatchResult result (IsTokenOf self.now Exclusive) (λ back. back ≡ token) }
+    {
+        let mut seat = token.into_seat();
+        let answer = self.look(&mut seat);
+        let (mut call, action) = self.start(&mut seat, answer, ExWant::Upgrade, false);
+        let upgraded = self.attempt(&mut seat, &mut call, action);
+        let token = WordToken::new(seat);
+        if upgraded { Ok(token) } else { Err(token) }
+    }
+
+    /// Makes an upgradable token exclusive, blocking until no other token is held.
+    pub fn upgrade<R: Wait>(&self, rt: &R, token: WordToken) -> WordToken
+        requires { IsTokenOf self.now Upgradable token }
+        ensures { IsTokenOf self.now Exclusive result }
+    {
+        let mut own = token;
+        for _ in rt.forever() {
+            // A wait without an end is never refused.
+            match self.upgrade_within(rt, own, &Endless) {
+                Ok(token) => return token,
+                Err(token) => own = token,
+            }
+        }
+        unreachable!()
+    }
+
+    /// Makes an upgradable token exclusive, blocking until `deadline`, or returns it unchanged.
+    pub fn upgrade_until<R: Wait + Clock>(
+        &self,
+        rt: &R,
+        token: WordToken,
+        deadline: Instant,
+    ) -> Result<WordToken, WordToken>
+        requires { IsTokenOf self.now Upgradable token }
+        ensures { MatchResult result (IsTokenOf self.now Exclusive) (λ back. back ≡ token) }
+    {
+        self.upgrade_within(rt, token, &Deadline(deadline))
+    }
+
+    /// Makes an upgradable token exclusive, blocking until the wait is over, or returns it unchanged.
+    fn upgrade_within<R: Wait, U: Until<R>>(&self, rt: &R, token: WordToken, until: &U) -> Result<WordToken, WordToken>
+        requires { IsTokenOf self.now Upgradable token }
+        ensures { MatchResult result (IsTokenOf self.now Exclusive) (λ back. back ≡ token) }
+    {
+        let mut seat = token.into_seat();
+        let answer = self.look(&mut seat);
+        let (mut call, action) = self.start(&mut seat, answer, ExWant::Upgrade, true);
+        let upgraded = match action {
+            Action::End(answer) => answer,
+            _ => self.finish(rt, &mut seat, &mut call, action, until),
+        };
+        let token = WordToken::new(seat);
+        if upgraded { Ok(token) } else { Err(token) }
+    }
+}
