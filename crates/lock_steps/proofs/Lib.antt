@@ -1,5 +1,4 @@
 mod ActionKinds
-mod EventRuns
 mod Moves
 mod Refusals
 mod Runs

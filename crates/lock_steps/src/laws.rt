@@ -2,7 +2,6 @@
 ghost use Rattle.lock_steps.specs.StepLaws.{CallsBegin, StepsKeepTheRule, NoParkedCallIsForgotten};
 ghost use Rattle.lock_steps.specs.Runs.{EveryRunIsServed};
 ghost use Rattle.lock_steps.specs.Sleeping.{EverySleeperIsServed};
-ghost use Rattle.lock_steps.specs.EventRuns.{EveryWaitIsReached};
 
 /// Takes a new lock and any acts of any number of threads, in any order, one atomic step at a time.
 ///
@@ -44,10 +43,3 @@ pub fn calls_begin()
     ensures { CallsBegin }
 {}
 
-/// Takes a new condition variable and any acts of any number of calls, in any order, one atomic step at a time.
-///
-/// A wait registers before it releases its mutex. A notification that begins later has yet to end the epoch of the wait, or
-/// has ended it before its wake-up. So while the wait sleeps in the present epoch, no such notification has ended.
-pub fn every_wait_is_reached()
-    ensures { EveryWaitIsReached }
-{}

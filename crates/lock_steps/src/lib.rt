@@ -5,20 +5,14 @@
 #![tactic(auto)]
 
 mod action;
-mod event_act;
-mod event_call;
-mod event_stage;
 mod laws;
 mod stage;
 mod word_act;
 mod word_call;
 
 pub use action::{Action, ActionPlace};
-pub use event_act::EventAct;
-pub use event_call::EventCall;
-pub use event_stage::EventStage;
 pub use laws::{
-    calls_begin, every_run_is_served, every_sleeper_is_served, every_wait_is_reached,
+    calls_begin, every_run_is_served, every_sleeper_is_served,
     no_parked_call_is_forgotten, steps_keep_the_rule,
 };
 pub use stage::Stage;

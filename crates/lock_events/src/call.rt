@@ -1,9 +1,9 @@
 //! A call on a condition variable, step by step.
 ghost use Rattle.std.specs.Prelude.{◌≡◌};
 
-use crate::action::{Action, ActionPlace};
-use crate::event_stage::EventStage;
-use lock_sleepers::{CLOSED_COUNT, LAST_EPOCH};
+use crate::action::{EventAction, EventPlace};
+use crate::epochs::{CLOSED_COUNT, LAST_EPOCH};
+use crate::stage::EventStage;
 
 /// A call on a condition variable between two of its steps: a wait, or a notification.
 ///
@@ -18,16 +18,16 @@ pub struct EventCall {
     /// Whether the deadline of the wait has passed.
     pub late: bool,
     /// The count that a wait loaded last, or how many waits a notification found.
-    pub loaded: u64,
+    pub loaded: u32,
     /// The epoch that the call loaded last.
-    pub epoch: u64,
+    pub epoch: u32,
 }
 
 impl EventCall {
-    ghost use Rattle.lock_steps.specs.Events.{waiting, notifying, event_at, event_next, action_of, event_to};
+    ghost use Rattle.lock_events.specs.Events.{waiting, notifying, event_at, event_next, action_of, event_to};
 
     /// Begins a wait, whose caller holds the mutex. Returns the call and its first action.
-    pub fn wait() -> (EventCall, Action)
+    pub fn wait() -> (EventCall, EventAction)
         ensures { result ≡ (waiting, action_of waiting) }
     {
         let call = EventCall {
@@ -37,11 +37,11 @@ impl EventCall {
             loaded: 0,
             epoch: 0,
         };
-        (call, Action::Load(ActionPlace::Count))
+        (call, EventAction::Load(EventPlace::Count))
     }
 
     /// Begins a notification of all waits, or of one. Returns the call and its first action.
-    pub fn notify(all: bool) -> (EventCall, Action)
+    pub fn notify(all: bool) -> (EventCall, EventAction)
         ensures { result ≡ (notifying all, action_of (notifying all)) }
     {
         let call = EventCall {
@@ -51,39 +51,42 @@ impl EventCall {
             loaded: 0,
             epoch: 0,
         };
-        (call, Action::Load(ActionPlace::Count))
+        (call, EventAction::Load(EventPlace::Count))
     }
 
     /// Takes the answer to the last action, and returns the next action.
-    pub fn next(&mut self, found: u64) -> Action
+    pub fn next(&mut self, found: u32) -> EventAction
         ensures call { self.new ≡ event_next found self.old }
         ensures action { result ≡ action_of self.new }
     {
         match self.stage {
             EventStage::FindCount => self.find_count(found),
             EventStage::CountIn if found == self.loaded => {
-                self.to(EventStage::WatchEpoch, Action::Load(ActionPlace::Epoch))
+                self.to(EventStage::WatchEpoch, EventAction::Load(EventPlace::Epoch))
             }
             EventStage::CountIn | EventStage::YieldAway => {
-                self.to(EventStage::FindCount, Action::Load(ActionPlace::Count))
+                self.to(EventStage::FindCount, EventAction::Load(EventPlace::Count))
             }
             EventStage::WatchEpoch => self.watch_epoch(found),
             EventStage::Unlock => self.sleep(),
             EventStage::Sleep | EventStage::YieldCounted => self.wake_up(found),
-            EventStage::Leave => self.to(EventStage::FindEpoch, Action::Load(ActionPlace::Epoch)),
+            EventStage::Leave => self.to(
+                EventStage::FindEpoch,
+                EventAction::Load(EventPlace::Epoch),
+            ),
             EventStage::FindEpoch if found >= LAST_EPOCH => self.to(
                 EventStage::CloseCount,
-                Action::Exchange(ActionPlace::Count, 0, CLOSED_COUNT),
+                EventAction::Exchange(EventPlace::Count, 0, CLOSED_COUNT),
             ),
             EventStage::CloseCount if found == 0 => {
-                self.to(EventStage::RestartEpochs, Action::Restart)
+                self.to(EventStage::RestartEpochs, EventAction::Restart)
             }
             EventStage::RestartEpochs => self.to(
                 EventStage::OpenCount,
-                Action::Subtract(ActionPlace::Count, CLOSED_COUNT),
+                EventAction::Subtract(EventPlace::Count, CLOSED_COUNT),
             ),
             EventStage::FindEpoch | EventStage::CloseCount | EventStage::OpenCount => {
-                self.to(EventStage::Lock, Action::Lock)
+                self.to(EventStage::Lock, EventAction::Lock)
             }
             EventStage::Lock | EventStage::Waited => self.end_wait(),
             EventStage::FindWaits => self.find_waits(found),
@@ -94,59 +97,62 @@ impl EventCall {
         }
     }
 
-    fn find_count(&mut self, count: u64) -> Action
+    fn find_count(&mut self, count: u32) -> EventAction
         ensures call { self.new ≡ event_at EventStage.FindCount count self.old }
         ensures action { result ≡ action_of self.new }
     {
         if count >= CLOSED_COUNT - 1 {
-            return self.to(EventStage::YieldAway, Action::Yield);
+            return self.to(EventStage::YieldAway, EventAction::Yield);
         }
         self.loaded = count;
         self.to(
             EventStage::CountIn,
-            Action::Exchange(ActionPlace::Count, count, count + 1),
+            EventAction::Exchange(EventPlace::Count, count, count + 1),
         )
     }
 
     /// Registers a counted wait, and then releases the mutex.
-    fn watch_epoch(&mut self, epoch: u64) -> Action
+    fn watch_epoch(&mut self, epoch: u32) -> EventAction
         ensures call { self.new ≡ event_at EventStage.WatchEpoch epoch self.old }
         ensures action { result ≡ action_of self.new }
     {
         self.epoch = epoch;
-        self.to(EventStage::Unlock, Action::Unlock)
+        self.to(EventStage::Unlock, EventAction::Unlock)
     }
 
-    fn sleep(&mut self) -> Action
+    fn sleep(&mut self) -> EventAction
         ensures call { self.new ≡ event_at EventStage.Unlock 0 self.old }
         ensures action { result ≡ action_of self.new }
     {
         let epoch = self.epoch;
         if epoch < LAST_EPOCH {
-            self.to(EventStage::Sleep, Action::Park(epoch))
+            self.to(EventStage::Sleep, EventAction::Park(epoch))
         } else {
-            self.to(EventStage::YieldCounted, Action::Yield)
+            self.to(EventStage::YieldCounted, EventAction::Yield)
         }
     }
 
     /// Ends a sleep, or the yield in its place. An answer other than 0 says that the deadline has passed.
-    fn wake_up(&mut self, answer: u64) -> Action
+    fn wake_up(&mut self, answer: u32) -> EventAction
         ensures call { self.new ≡ event_at EventStage.Sleep answer self.old }
         ensures action { result ≡ action_of self.new }
     {
         self.late = answer != 0;
-        self.to(EventStage::Leave, Action::Subtract(ActionPlace::Count, 1))
+        self.to(
+            EventStage::Leave,
+            EventAction::Subtract(EventPlace::Count, 1),
+        )
     }
 
-    fn end_wait(&mut self) -> Action
+    fn end_wait(&mut self) -> EventAction
         ensures call { self.new ≡ event_to EventStage.Waited self.old }
         ensures action { result ≡ action_of self.new }
     {
         let is_in_time = !self.late;
-        self.to(EventStage::Waited, Action::End(is_in_time))
+        self.to(EventStage::Waited, EventAction::End(is_in_time))
     }
 
-    fn find_waits(&mut self, count: u64) -> Action
+    fn find_waits(&mut self, count: u32) -> EventAction
         ensures call { self.new ≡ event_at EventStage.FindWaits count self.old }
         ensures action { result ≡ action_of self.new }
     {
@@ -154,10 +160,10 @@ impl EventCall {
         if count == 0 {
             return self.end_notification();
         }
-        self.to(EventStage::NoteEpoch, Action::Load(ActionPlace::Epoch))
+        self.to(EventStage::NoteEpoch, EventAction::Load(EventPlace::Epoch))
     }
 
-    fn end_epoch(&mut self, epoch: u64) -> Action
+    fn end_epoch(&mut self, epoch: u32) -> EventAction
         ensures call { self.new ≡ event_at EventStage.NoteEpoch epoch self.old }
         ensures action { result ≡ action_of self.new }
     {
@@ -167,11 +173,11 @@ impl EventCall {
         }
         self.to(
             EventStage::EndEpoch,
-            Action::Exchange(ActionPlace::Epoch, epoch, epoch + 1),
+            EventAction::Exchange(EventPlace::Epoch, epoch, epoch + 1),
         )
     }
 
-    fn to(&mut self, stage: EventStage, action: Action) -> Action
+    fn to(&mut self, stage: EventStage, action: EventAction) -> EventAction
         ensures call { self.new ≡ event_to stage self.old }
         ensures action { result ≡ action }
     {
@@ -179,23 +185,23 @@ impl EventCall {
         action
     }
 
-    fn wake(&mut self) -> Action
+    fn wake(&mut self) -> EventAction
         ensures call { self.new ≡ event_to EventStage.Wake self.old }
         ensures action { result ≡ action_of self.new }
     {
         let action = if self.all {
-            Action::WakeAll
+            EventAction::WakeAll
         } else {
-            Action::WakeOne
+            EventAction::WakeOne
         };
         self.to(EventStage::Wake, action)
     }
 
-    fn end_notification(&mut self) -> Action
+    fn end_notification(&mut self) -> EventAction
         ensures call { self.new ≡ event_to EventStage.Notified self.old }
         ensures action { result ≡ action_of self.new }
     {
         let found_some = self.loaded != 0;
-        self.to(EventStage::Notified, Action::End(found_some))
+        self.to(EventStage::Notified, EventAction::End(found_some))
     }
 }

@@ -3,20 +3,37 @@ use Rattle.std.proofs.Common.{◌≡◌, ◌≢◌, ℕ, zero, suc, ◌+◌, ◌
 use Rattle.std.specs.Prelude.{⊤}
 use Rattle.std.proofs.lemmas.Bool.{eqb-true, eqb-false, ltb-true, ltb-false, false≢true, cases_eq, cases_lt}
 use Rattle.std.proofs.lemmas.Option.{same_Some, slice_get_within}
-use Rattle.lock_word.proofs.Rules.{changed_or_not, element_of_longer}
-use Rattle.lock_steps.specs.declared.action.Action.TheVariants as action
-use Rattle.lock_steps.specs.declared.action.ActionPlace.TheVariants.{Count, Epoch}
-use Rattle.lock_steps.specs.declared.event_act.EventAct.{EventAct}
-use Rattle.lock_steps.specs.declared.event_act.EventAct.TheVariants as act
-use Rattle.lock_steps.specs.declared.event_call.EventCall.{EventCall}
-use Rattle.lock_steps.specs.declared.event_stage.EventStage.{EventStage}
-use Rattle.lock_steps.specs.declared.event_stage.EventStage.TheVariants as stage
-use Rattle.lock_steps.specs.Machine.{last_epoch, closed_count}
-use Rattle.lock_steps.specs.StepLaws.{Words, with_number, made}
-use Rattle.lock_steps.specs.Runs.{answer, parks_at}
-use Rattle.lock_steps.specs.Events.{waiting, notifying, action_at, action_of, event_to, event_at}
-use Rattle.lock_steps.specs.EventRuns.{Begun, EventsInUse, new_events, with_call, before_after, step_of_call, after_event, after_events, is_registered, count_at, counts_of, ReachesAt, Reaches, wake_of, WaitsAreReached, EveryWaitIsReached}
-use Rattle.lock_steps.proofs.Steps.{chosen}
+use Rattle.lock_events.specs.declared.action.EventAction.TheVariants as action
+use Rattle.lock_events.specs.declared.action.EventPlace.TheVariants.{Count, Epoch}
+use Rattle.lock_events.specs.declared.act.EventAct.{EventAct}
+use Rattle.lock_events.specs.declared.act.EventAct.TheVariants as act
+use Rattle.lock_events.specs.declared.call.EventCall.{EventCall}
+use Rattle.lock_events.specs.declared.stage.EventStage.{EventStage}
+use Rattle.lock_events.specs.declared.stage.EventStage.TheVariants as stage
+use Rattle.lock_events.specs.Events.{last_epoch, closed_count, waiting, notifying, action_at, action_of, event_to, event_at}
+use Rattle.lock_events.specs.Runs.{Words, with_number, made, answer, parks_at, Begun, EventsInUse, new_events, with_call, before_after, step_of_call, after_event, after_events, is_registered, count_at, counts_of, ReachesAt, Reaches, wake_of, WaitsAreReached, EveryWaitIsReached}
+
+-- lists
+
+changed_or_not : {A : Type 0} (xs : List A) (k j : ℕ) (y z : A) → slice_get (slice_set xs k y) j ≡ Some z
+    → ((j ≡ k) × (z ≡ y)) ⊎ ((j ≢ k) × (slice_get xs j ≡ Some z))
+changed_or_not [] k j y z h = cc
+changed_or_not (x ∷ xs) zero zero y z h = inl (refl, cc)
+changed_or_not (x ∷ xs) zero (suc j) y z h = inr ((λ e. omega arith), h)
+changed_or_not (x ∷ xs) (suc k) zero y z h = inr ((λ e. omega arith), h)
+changed_or_not (x ∷ xs) (suc k) (suc j) y z h =
+    elim (changed_or_not xs k j y z h) [ inl e ↦ inl (ap suc e.0, e.1) | inr e ↦ inr ((λ f. e.0 (omega arith)), e.1) ]
+
+element_of_longer : {A : Type 0} (xs : List A) (y z : A) (j : ℕ) → slice_get (xs ++ y ∷ []) j ≡ Some z
+    → (slice_get xs j ≡ Some z) ⊎ (z ≡ y)
+element_of_longer [] y z zero h = inr (same_Some z y (sym h))
+element_of_longer [] y z (suc j) h = cc
+element_of_longer (x ∷ xs) y z zero h = inl h
+element_of_longer (x ∷ xs) y z (suc j) h = element_of_longer xs y z j h
+
+chosen : {A : Type 0} (P : A → Type 0) (b : Bool) (x y : A) → (b ≡ true → P x) → (b ≡ false → P y) → P (if b then x else y)
+chosen P true x y hit miss = hit refl
+chosen P false x y hit miss = miss refl
 
 abbrev count_of : Begun → ℕ
 count_of b = count_at b.call.stage
@@ -31,6 +48,7 @@ restarts other = false
 abbrev Knows : EventStage → EventCall → Type 0
 Knows stage.CountIn call = call.loaded + 1 < closed_count
 Knows stage.Sleep call = call.epoch < last_epoch
+Knows stage.EndEpoch call = call.epoch < last_epoch
 Knows other call = ⊤
 
 -- what is known of each call
@@ -46,8 +64,12 @@ AllReached epoch calls =
     → IsTrue (is_registered wait.call.stage) → wait.call.epoch < last_epoch → wait.before ≤ n
     → Reaches epoch wait.call.epoch note.call
 
+abbrev Fits : Words → Type 0
+Fits w = (w.count ≤ closed_count) × (w.epoch ≤ last_epoch)
+
 record IsKept (s : EventsInUse) : Type 0 where
   counted : s.words.count ≡ counts_of s.calls
+  fits : Fits s.words
   each : (k : ℕ) (b : Begun) → slice_get s.calls k ≡ Some b → Sound s.words (length s.calls) b
   reached : AllReached s.words.epoch s.calls
 
@@ -123,6 +145,7 @@ reaches_on stage.Waited epoch later watched noted grows h = tt
 -- what a step of the call at k, from b to c, has to keep
 record Keeps (s : EventsInUse) (k : ℕ) (b c : Begun) (w : Words) : Type 0 where
   counts : w.count + count_of b ≡ s.words.count + count_of c
+  fits : Fits w
   -- the epoch does not fall under a registered wait
   grows : (j : ℕ) (z : Begun) → slice_get s.calls j ≡ Some z → IsTrue (is_registered z.call.stage) → s.words.epoch ≤ w.epoch
   alone : (j : ℕ) (z : Begun) → j ≢ k → slice_get s.calls j ≡ Some z → IsTrue (restarts z.call.stage) → w.count ≡ closed_count
@@ -180,6 +203,7 @@ module _ (s : EventsInUse) (h : IsKept s) (k : ℕ) (b : Begun) (at : slice_get 
       let same : length (slice_set s.calls k c) ≡ length s.calls = length_set s.calls k c in
       record {
         counted = omega arith;
+        fits = by.fits;
         each = λ j z is.
             subst (λ m. Sound w m z) (sym same)
             (elim (changed_or_not s.calls k j c z is) [
@@ -233,6 +257,7 @@ module _ (s : EventsInUse) (h : IsKept s) (k : ℕ) (b : Begun) (at : slice_get 
   quiet call counts knows alone registers follows =
       moved s h k b at (made_of call) s.words record {
         counts = ap (λ n. s.words.count + n) (sym counts);
+        fits = h.fits;
         grows = λ j z is registered. omega arith;
         alone = λ j z apart is restarting. (h.each j z is).alone restarting;
         sound = record {
@@ -273,6 +298,7 @@ module _ (s : EventsInUse) (h : IsKept s) (k : ℕ) (b : Begun) (at : slice_get 
         let hit = eqb-true _ _ hits in
         moved s h k b at (made_of (event_to stage.WatchEpoch b.call)) (with_number Count (b.call.loaded + 1) s.words) record {
           counts = omega arith;
+          fits = ((omega arith), h.fits.1);
           grows = λ j z there registered. omega arith;
           alone = λ j z apart there restarting. absurd (let closed = (h.each j z there).alone restarting in omega arith);
           sound = record { past = never; known = never; knows = tt; alone = never };
@@ -289,6 +315,7 @@ module _ (s : EventsInUse) (h : IsKept s) (k : ℕ) (b : Begun) (at : slice_get 
         let one = ap count_at is in
         moved s h k b at record { call = event_to stage.Unlock (record b.call { epoch = s.words.epoch }); before = length s.calls } s.words record {
           counts = omega arith;
+          fits = h.fits;
           grows = λ j z there registered. omega arith;
           alone = λ j z apart there restarting. (h.each j z there).alone restarting;
           sound = record { past = λ registered. omega arith; known = λ registered. omega arith; knows = tt; alone = never };
@@ -324,6 +351,7 @@ module _ (s : EventsInUse) (h : IsKept s) (k : ℕ) (b : Begun) (at : slice_get 
         let sum = h.counted in
         moved s h k b at (made_of (event_to stage.FindEpoch b.call)) (with_number Count (s.words.count - 1) s.words) record {
           counts = omega arith;
+          fits = ((let least = h.fits.0 in omega arith), h.fits.1);
           grows = λ j z there registered. omega arith;
           alone = λ j z apart there restarting.
               absurd
@@ -350,6 +378,7 @@ module _ (s : EventsInUse) (h : IsKept s) (k : ℕ) (b : Begun) (at : slice_get 
         let hit = eqb-true _ _ hits in
         moved s h k b at (made_of (event_to stage.RestartEpochs b.call)) (with_number Count closed_count s.words) record {
           counts = omega arith;
+          fits = ((omega arith), h.fits.1);
           grows = λ j z there registered. omega arith;
           alone = λ j z apart there restarting. refl;
           sound = record { past = never; known = never; knows = tt; alone = λ restarting. refl };
@@ -365,6 +394,7 @@ module _ (s : EventsInUse) (h : IsKept s) (k : ℕ) (b : Begun) (at : slice_get 
         let sum = h.counted in
         moved s h k b at (made_of (event_to stage.OpenCount b.call)) (with_number Epoch 0 s.words) record {
           counts = omega arith;
+          fits = (h.fits.0, (omega arith));
           grows = λ j z there registered.
               absurd
               (let one = registered_counts z.call.stage registered in
@@ -386,6 +416,7 @@ module _ (s : EventsInUse) (h : IsKept s) (k : ℕ) (b : Begun) (at : slice_get 
         let sum = h.counted in
         moved s h k b at (made_of (event_to stage.Lock b.call)) (with_number Count (s.words.count - closed_count) s.words) record {
           counts = omega arith;
+          fits = ((let least = h.fits.0 in omega arith), h.fits.1);
           grows = λ j z there registered. omega arith;
           alone = λ j z apart there restarting.
               absurd
@@ -411,7 +442,8 @@ module _ (s : EventsInUse) (h : IsKept s) (k : ℕ) (b : Begun) (at : slice_get 
     note_epoch is =
         let noted : EventCall = record b.call { epoch = s.words.epoch } in
         chosen (Kept s.words) (nat_lt s.words.epoch last_epoch) (event_to stage.EndEpoch noted) (event_to stage.Wake noted)
-        (λ early. quiet (event_to stage.EndEpoch noted) (sym (ap count_at is)) tt never never (λ watched some past before old. (past, omega arith)))
+        (λ early.
+        quiet (event_to stage.EndEpoch noted) (sym (ap count_at is)) (ltb-true _ _ early) never never (λ watched some past before old. (past, omega arith)))
         (λ last.
         let late = ltb-false _ _ last in
         quiet (event_to stage.Wake noted) (sym (ap count_at is)) tt never never (λ watched some past early old. omega arith))
@@ -419,12 +451,14 @@ module _ (s : EventsInUse) (h : IsKept s) (k : ℕ) (b : Begun) (at : slice_get 
     end_epoch : b.call.stage ≡ stage.EndEpoch → IsKept (next_from stage.EndEpoch told)
     end_epoch is =
         let none = ap count_at is in
+        let before_last : b.call.epoch < last_epoch = subst (λ x. Knows x b.call) is own.knows in
         let woken = event_to stage.Wake b.call in
         chosen (λ w. Kept w woken) (s.words.epoch == b.call.epoch) (with_number Epoch (b.call.epoch + 1) s.words) s.words
         (λ hits.
         let hit = eqb-true _ _ hits in
         moved s h k b at (made_of woken) (with_number Epoch (b.call.epoch + 1) s.words) record {
           counts = omega arith;
+          fits = (h.fits.0, (omega arith));
           grows = λ j z there registered. omega arith;
           alone = λ j z apart there restarting. (h.each j z there).alone restarting;
           sound = record { past = never; known = never; knows = tt; alone = never };
@@ -484,6 +518,7 @@ joined s h call none knows reaches =
     let all = h.counted in
     record {
       counted = omega arith;
+      fits = h.fits;
       each = λ j z is.
           elim (element_of_longer s.calls new z j is) [
             | inl old ↦
@@ -529,6 +564,7 @@ kept_at_start : IsKept new_events
 kept_at_start =
     record {
       counted = refl;
+      fits = ((omega arith), (omega arith));
       each = λ k b is. cc;
       reached = λ i n wait note iw inn registered early less. cc;
     }
@@ -613,6 +649,7 @@ reached s h =
       unlocks = λ k wait is asks. unlocking wait.call.stage wait.call asks;
       wakes = λ n found note is ends. wakes_next note.call.stage found note.call ends;
       counted = h.counted;
+      fits = h.fits;
     }
 
 pub every_wait_is_reached : EveryWaitIsReached

@@ -1,12 +1,19 @@
 -- The next step of a wait or a notification, by what it found.
-use Rattle.std.specs.Prelude.{ℕ, ◌+◌, ◌%◌, Bool, false, not, ◌==◌, nat_lt, if◌then◌else◌}
-use Rattle.lock_steps.specs.declared.action.Action.{Action}
-use Rattle.lock_steps.specs.declared.action.Action.TheVariants as action
-use Rattle.lock_steps.specs.declared.action.ActionPlace.TheVariants.{Count, Epoch}
-use Rattle.lock_steps.specs.declared.event_call.EventCall.{EventCall}
-use Rattle.lock_steps.specs.declared.event_stage.EventStage.{EventStage}
-use Rattle.lock_steps.specs.declared.event_stage.EventStage.TheVariants.{FindCount, CountIn, YieldAway, WatchEpoch, Unlock, Sleep, YieldCounted, Leave, FindEpoch, CloseCount, RestartEpochs, OpenCount, Lock, Waited, FindWaits, NoteEpoch, EndEpoch, Wake, Notified}
-use Rattle.lock_steps.specs.Machine.{last_epoch, closed_count}
+use Rattle.std.specs.Prelude.{ℕ, ◌+◌, ◌-◌, ◌%◌, ◌^◌, Bool, false, not, ◌==◌, nat_lt, if◌then◌else◌}
+use Rattle.lock_events.specs.declared.action.EventAction.{EventAction}
+use Rattle.lock_events.specs.declared.action.EventAction.TheVariants as action
+use Rattle.lock_events.specs.declared.action.EventPlace.TheVariants.{Count, Epoch}
+use Rattle.lock_events.specs.declared.call.EventCall.{EventCall}
+use Rattle.lock_events.specs.declared.stage.EventStage.{EventStage}
+use Rattle.lock_events.specs.declared.stage.EventStage.TheVariants.{FindCount, CountIn, YieldAway, WatchEpoch, Unlock, Sleep, YieldCounted, Leave, FindEpoch, CloseCount, RestartEpochs, OpenCount, Lock, Waited, FindWaits, NoteEpoch, EndEpoch, Wake, Notified}
+
+-- no wait sleeps in the last epoch, which never ends
+abbrev pub last_epoch : ℕ
+last_epoch = 2 ^ 32 - 1
+
+-- the count while the epochs begin anew: no wait is counted then
+abbrev pub closed_count : ℕ
+closed_count = 2 ^ 31
 
 abbrev pub waiting : EventCall
 waiting = record { stage = FindCount; all = false; late = false; loaded = 0; epoch = 0 }
@@ -15,7 +22,7 @@ abbrev pub notifying : Bool → EventCall
 notifying all = record { stage = FindWaits; all = all; late = false; loaded = 0; epoch = 0 }
 
 -- the action that a call asks for
-abbrev pub action_at : EventStage → EventCall → Action
+abbrev pub action_at : EventStage → EventCall → EventAction
 action_at FindCount call = action.Load Count
 action_at CountIn call = action.Exchange Count call.loaded (call.loaded + 1)
 action_at YieldAway call = action.Yield
@@ -36,7 +43,7 @@ action_at EndEpoch call = action.Exchange Epoch call.epoch (call.epoch + 1)
 action_at Wake call = if call.all then action.WakeAll else action.WakeOne
 action_at Notified call = action.End (not (call.loaded == 0))
 
-abbrev pub action_of : EventCall → Action
+abbrev pub action_of : EventCall → EventAction
 action_of call = action_at call.stage call
 
 abbrev pub event_to : EventStage → EventCall → EventCall

@@ -1,29 +1,67 @@
 -- Runs: any number of calls on one condition variable, which make single atomic steps in any order.
-use Rattle.std.specs.Prelude.{◌≡◌, ℕ, ◌+◌, ◌<◌, ◌≤◌, Bool, true, false, List, [], ◌∷◌, ◌++◌, length, slice_get, slice_set, Option, Some, None, if◌then◌else◌, ⊤, IsTrue}
-use Rattle.lock_steps.specs.declared.action.Action.{Action}
-use Rattle.lock_steps.specs.declared.action.Action.TheVariants as action
-use Rattle.lock_steps.specs.declared.event_act.EventAct.{EventAct}
-use Rattle.lock_steps.specs.declared.event_act.EventAct.TheVariants as act
-use Rattle.lock_steps.specs.declared.event_call.EventCall.{EventCall}
-use Rattle.lock_steps.specs.declared.event_stage.EventStage.{EventStage}
-use Rattle.lock_steps.specs.declared.event_stage.EventStage.TheVariants as stage
-use Rattle.lock_steps.specs.Machine.{last_epoch, closed_count}
-use Rattle.lock_steps.specs.StepLaws.{Words, made}
-use Rattle.lock_steps.specs.Runs.{answer, parks_at}
-use Rattle.lock_steps.specs.Events.{waiting, notifying, action_of, event_next}
+use Rattle.std.specs.Prelude.{◌≡◌, ℕ, ◌+◌, ◌-◌, ◌<◌, ◌≤◌, ◌==◌, Bool, true, false, List, [], ◌∷◌, ◌++◌, length, slice_get, slice_set, Option, Some, None, if◌then◌else◌, ⊤, IsTrue}
+use Rattle.lock_events.specs.declared.action.EventAction.{EventAction}
+use Rattle.lock_events.specs.declared.action.EventAction.TheVariants as action
+use Rattle.lock_events.specs.declared.act.EventAct.{EventAct}
+use Rattle.lock_events.specs.declared.act.EventAct.TheVariants as act
+use Rattle.lock_events.specs.declared.call.EventCall.{EventCall}
+use Rattle.lock_events.specs.declared.stage.EventStage.{EventStage}
+use Rattle.lock_events.specs.declared.stage.EventStage.TheVariants as stage
+use Rattle.lock_events.specs.declared.action.EventPlace.{EventPlace}
+use Rattle.lock_events.specs.declared.action.EventPlace.TheVariants.{Count, Epoch}
+use Rattle.lock_events.specs.Events.{last_epoch, closed_count, waiting, notifying, action_of, event_next}
+
+-- the two words of a condition variable
+pub record Words : Type 0 where
+  pub count : ℕ
+  pub epoch : ℕ
+
+abbrev pub number_at : EventPlace → Words → ℕ
+number_at Count w = w.count
+number_at Epoch w = w.epoch
+
+abbrev pub with_number : EventPlace → ℕ → Words → Words
+with_number Count n w = record w { count = n }
+with_number Epoch n w = record w { epoch = n }
+
+-- the words after an action that is made in one atomic step
+abbrev pub made : EventAction → Words → Words
+made (action.Load p) w = w
+made (action.Exchange p a b) w = if number_at p w == a then with_number p b w else w
+made (action.Subtract p a) w = with_number p (number_at p w - a) w
+made action.Restart w = with_number Epoch 0 w
+made (action.Park e) w = w
+made action.WakeOne w = w
+made action.WakeAll w = w
+made action.Yield w = w
+made action.Unlock w = w
+made action.Lock w = w
+made (action.End b) w = w
+
+-- what a step is answered: the number in the word that it reads, or this one
+abbrev pub answer : EventAction → Words → ℕ → ℕ
+answer (action.Load p) w told = number_at p w
+answer (action.Exchange p old new) w told = number_at p w
+answer (action.Subtract p amount) w told = number_at p w
+answer other w told = told
+
+-- the epoch at which an action parks
+abbrev pub parks_at : EventAction → Option ℕ
+parks_at (action.Park epoch) = Some epoch
+parks_at other = None
 
 -- a call, and how many calls had begun when it registered, if it is a wait
 pub record Begun : Type 0 where
   pub call : EventCall
   pub before : ℕ
 
--- a condition variable in use: its words, of which it uses the count and the epoch, and its calls in the order in which they began
+-- a condition variable in use: its words, and its calls in the order in which they began
 pub record EventsInUse : Type 0 where
   pub words : Words
   pub calls : List Begun
 
 abbrev pub new_events : EventsInUse
-new_events = record { words = record { word = 0; count = 0; epoch = 0 }; calls = [] }
+new_events = record { words = record { count = 0; epoch = 0 }; calls = [] }
 
 abbrev pub with_call : EventsInUse → EventCall → EventsInUse
 with_call s call = record s { calls = s.calls ++ record { call = call; before = 0 } ∷ [] }
@@ -93,7 +131,7 @@ abbrev pub Reaches : (epoch watched : ℕ) → EventCall → Type 0
 Reaches epoch watched call = ReachesAt call.stage epoch watched call.epoch
 
 -- the wake-up of all or of one
-abbrev pub wake_of : Bool → Action
+abbrev pub wake_of : Bool → EventAction
 wake_of all = if all then action.WakeAll else action.WakeOne
 
 -- what holds after any acts
@@ -113,6 +151,8 @@ pub record WaitsAreReached (s : EventsInUse) : Type 0 where
       → action_of (event_next found note.call) ≡ wake_of note.call.all
   -- the count is that of the waits that are counted
   pub counted : s.words.count ≡ counts_of s.calls
+  -- each word fits 32 bits
+  pub fits : (s.words.count ≤ closed_count) × (s.words.epoch ≤ last_epoch)
 
 -- THE THEOREM: after any acts of any number of calls, from a new condition variable on
 abbrev pub EveryWaitIsReached : Type 0
