@@ -16,8 +16,8 @@ use Rattle.lock_one.specs.declared.park.ParkView.{ParkView}
 use Rattle.lock_one.specs.declared.stage.Stage.{Stage}
 use Rattle.lock_one.specs.declared.stage.Stage.TheVariants as stage
 use Rattle.lock_one.specs.Rule.{is_upgrade}
-use Rattle.lock_one.specs.Machine.{Progress, sleep_of, begun, goes_to, free, alone, taking}
-use Rattle.lock_one.specs.Steps.{made, limits_of, hold_at, is_step, IsAt, IsRest, IsWake}
+use Rattle.lock_one.specs.Machine.{Progress, sleep_of, begun, goes_to, release_on, alone, taking}
+use Rattle.lock_one.specs.Steps.{made, limits_of, hold_at, is_step, IsAt, IsPause, IsWake}
 use Rattle.lock_one.specs.Stored.{stored_of, word_of_stored}
 use Rattle.lock_one.proofs.Steps.{steps_keep_the_rule}
 use Rattle.lock_one.proofs.Stored.{storing_keeps_words}
@@ -94,7 +94,7 @@ sleep_is_none : (few passes : Bool) (n : ℕ) → is_exchange (if few then one.P
 sleep_is_none true passes n = refl
 sleep_is_none false passes n = refl
 
-rest_is_none : (action : Action) → IsRest action → is_exchange action ≡ false
+rest_is_none : (action : Action) → IsPause action → is_exchange action ≡ false
 rest_is_none (one.Spin n) rests = refl
 rest_is_none other rests = absurd rests
 
@@ -165,7 +165,7 @@ chosen P false x y hit miss = miss refl
 alone_fits : (readers word : ℕ) (release : Down) → Serves (taking readers release).1 word
 alone_fits readers word down.Shared =
     chosen (λ (p : Progress). Serves p.1 word) (not (readers == 1)) (goes_to (begun readers stage.LookToRemove want.Shared down.Shared false false) stage.LookToRemove one.Load)
-    (free (alone down.Shared) (begun readers stage.Release want.Shared down.Shared false false))
+    (release_on (alone down.Shared) (begun readers stage.Release want.Shared down.Shared false false))
     (λ shared. tt)
     (λ single. (record { small = omega arith; half = omega arith }, record { small = omega arith; half = omega arith }))
 alone_fits readers word down.Exclusive = (record { small = omega arith; half = omega arith }, record { small = omega arith; half = omega arith })

@@ -1,10 +1,10 @@
--- After the exchange of a release, a call asks for a wake-up at most.
+-- After the exchange of a release, a call makes at most a wake-up.
 use Rattle.std.proofs.Common.{◌≡◌, ℕ, Bool, true, false, ◌==◌, if◌then◌else◌, List, [], ◌∷◌, refl, sym, ap, subst, ◌∙◌, eq-eqb}
 use Rattle.lock_one.specs.declared.call.Call.{Call}
 use Rattle.lock_one.specs.declared.stage.Stage.TheVariants as stage
 use Rattle.lock_one.specs.declared.park.Debt.{Debt}
 use Rattle.lock_one.specs.declared.park.Debt.TheVariants as debt
-use Rattle.lock_one.specs.Machine.{Progress, next_at, next_of, decide, acquired, refused, ended, wakes, free, release_of, withdrawn, has_sleepers}
+use Rattle.lock_one.specs.Machine.{Progress, next_at, next_of, decide, acquired, refused, ended, wakes, release_on, release_of, withdrawn, has_sleepers}
 use Rattle.lock_one.specs.Steps.{actions_from, touches_none, LastAccess}
 
 quiet_end : (b : Bool) (call : Call) (answers : List ℕ) → touches_none (actions_from (ended b call) answers) ≡ true
@@ -43,7 +43,7 @@ last_access =
     record {
       release = λ call answers at.
           let next : next_of call.loaded call ≡ wakes (release_of call.readers call.loaded call.down).1 call
-          = ap (λ s. next_at s call.loaded call) at ∙ found call (wakes (release_of call.readers call.loaded call.down).1 call) (free call.loaded call) in
+          = ap (λ s. next_at s call.loaded call) at ∙ found call (wakes (release_of call.readers call.loaded call.down).1 call) (release_on call.loaded call) in
           subst (λ p. touches_none (actions_from p answers) ≡ true) (sym next) (quiet_wake (release_of call.readers call.loaded call.down).1 call answers);
       removal = λ call word answers at.
           let next : next_of word call ≡ wakes (release_of call.readers word call.down).1 call = ap (λ s. next_at s word call) at in
