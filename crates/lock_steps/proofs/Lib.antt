@@ -1,8 +1,0 @@
-mod ActionKinds
-mod Moves
-mod Refusals
-mod Runs
-mod Listed
-mod Serving
-mod Sleeping
-mod Steps

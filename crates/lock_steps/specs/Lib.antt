@@ -1,4 +1,0 @@
-pub mod Machine
-pub mod StepLaws
-pub mod Runs
-pub mod Sleeping
