@@ -64,7 +64,7 @@ pub struct LockStep {
     pub action: u32,
     /// 0 for the word of a lock or the count of a condition variable, 1 for the epoch.
     pub place: u32,
-    /// A word of a lock is the number that it stores.
+    /// A word as the lock stores it, a number of the count or the epoch, or how often to spin.
     pub first: u32,
     pub second: u32,
 }
