@@ -1,31 +1,102 @@
-//! The numbers that C and the machine use for the same things.
+//! The numbers that C and the machines have for the same things.
 ghost use Rattle.std.specs.Prelude.{◌≡◌};
-ghost use Rattle.lock_c.specs.Packed.{want_of, down_of, stage_of, number_of, event_stage_of, number_of_event, bit};
+ghost use Rattle.lock_c.specs.Codes.{bit, down_of, event_stage_of, number_of_code, number_of_down, number_of_event_stage, number_of_stage, number_of_want, stage_of, want_of};
 
-use lock_steps::{EventStage, Stage};
+use lock_events::EventStage;
+use lock_one::Stage;
 use lock_word::{Down, ExWant};
 
-pub(crate) fn want_of_code(code: u32) -> ExWant
-    ensures { result ≡ want_of code }
+/// The kind of a step. The numbers count from 0, as in C.
+#[derive(Clone, Copy, PartialEq, Eq, Debug)]
+pub enum Code {
+    Load,
+    Exchange,
+    Subtract,
+    Store,
+    Park,
+    ParkNext,
+    WakeOne,
+    WakeAll,
+    WakeNext,
+    Spin,
+    Yield,
+    Refused,
+    Done,
+    Unlock,
+    Lock,
+}
+
+pub(crate) fn number_of_code(code: Code) -> u32
+    ensures { result ≡ number_of_code code }
 {
     match code {
-        0 => ExWant::Shared,
-        1 => ExWant::Exclusive,
-        2 => ExWant::Upgradable,
-        _ => ExWant::Upgrade,
+        Code::Load => 0,
+        Code::Exchange => 1,
+        Code::Subtract => 2,
+        Code::Store => 3,
+        Code::Park => 4,
+        Code::ParkNext => 5,
+        Code::WakeOne => 6,
+        Code::WakeAll => 7,
+        Code::WakeNext => 8,
+        Code::Spin => 9,
+        Code::Yield => 10,
+        Code::Refused => 11,
+        Code::Done => 12,
+        Code::Unlock => 13,
+        Code::Lock => 14,
     }
 }
 
-pub(crate) fn down_of_code(code: u32) -> Down
-    ensures { result ≡ down_of code }
+pub(crate) fn number_of_want(want: ExWant) -> u32
+    ensures { result ≡ number_of_want want }
 {
-    match code {
+    match want {
+        ExWant::Shared => 0,
+        ExWant::Exclusive => 1,
+        ExWant::Upgradable => 2,
+        ExWant::Upgrade => 3,
+        ExWant::Announce => 4,
+    }
+}
+
+pub(crate) fn want_of_number(number: u32) -> ExWant
+    ensures { result ≡ want_of number }
+{
+    match number {
+        0 => ExWant::Shared,
+        1 => ExWant::Exclusive,
+        2 => ExWant::Upgradable,
+        3 => ExWant::Upgrade,
+        _ => ExWant::Announce,
+    }
+}
+
+pub(crate) fn number_of_down(down: Down) -> u32
+    ensures { result ≡ number_of_down down }
+{
+    match down {
+        Down::Shared => 0,
+        Down::Exclusive => 1,
+        Down::Upgradable => 2,
+        Down::ToShared => 3,
+        Down::ToUpgradable => 4,
+        Down::UpgradableToShared => 5,
+        Down::Withdraw => 6,
+    }
+}
+
+pub(crate) fn down_of_number(number: u32) -> Down
+    ensures { result ≡ down_of number }
+{
+    match number {
         0 => Down::Shared,
         1 => Down::Exclusive,
         2 => Down::Upgradable,
         3 => Down::ToShared,
         4 => Down::ToUpgradable,
-        _ => Down::UpgradableToShared,
+        5 => Down::UpgradableToShared,
+        _ => Down::Withdraw,
     }
 }
 
@@ -36,38 +107,24 @@ pub(crate) fn bit(answer: bool) -> u8
 }
 
 pub(crate) fn number_of_stage(stage: Stage) -> u32
-    ensures { result ≡ number_of stage }
+    ensures { result ≡ number_of_stage stage }
 {
     match stage {
         Stage::Look => 0,
         Stage::Try => 1,
         Stage::Pause => 2,
-        Stage::LookToAnnounce => 3,
-        Stage::Announce => 4,
-        Stage::FindCount => 5,
-        Stage::CountIn => 6,
-        Stage::WatchEpoch => 7,
-        Stage::LookCounted => 8,
-        Stage::TryCounted => 9,
-        Stage::Sleep => 10,
-        Stage::YieldCounted => 11,
-        Stage::LeaveAcquired => 12,
-        Stage::Leave => 13,
-        Stage::YieldAway => 14,
-        Stage::LookAgain => 15,
-        Stage::TryAgain => 16,
-        Stage::FindEpoch => 17,
-        Stage::CloseCount => 18,
-        Stage::RestartEpochs => 19,
-        Stage::OpenCount => 20,
-        Stage::Take => 21,
-        Stage::LookForSleepers => 22,
-        Stage::NoteEpoch => 23,
-        Stage::EndEpoch => 24,
-        Stage::Wake => 25,
-        Stage::Acquired => 26,
-        Stage::Refused => 27,
-        Stage::Ended => 28,
+        Stage::Mark => 3,
+        Stage::Sleep => 4,
+        Stage::Withdraw => 5,
+        Stage::Leave => 6,
+        Stage::LookToRemove => 7,
+        Stage::Remove => 8,
+        Stage::Release => 9,
+        Stage::Wake => 10,
+        Stage::WakeRefused => 11,
+        Stage::Acquired => 12,
+        Stage::Refused => 13,
+        Stage::Ended => 14,
     }
 }
 
@@ -78,37 +135,23 @@ pub(crate) fn stage_of_number(number: u32) -> Stage
         0 => Stage::Look,
         1 => Stage::Try,
         2 => Stage::Pause,
-        3 => Stage::LookToAnnounce,
-        4 => Stage::Announce,
-        5 => Stage::FindCount,
-        6 => Stage::CountIn,
-        7 => Stage::WatchEpoch,
-        8 => Stage::LookCounted,
-        9 => Stage::TryCounted,
-        10 => Stage::Sleep,
-        11 => Stage::YieldCounted,
-        12 => Stage::LeaveAcquired,
-        13 => Stage::Leave,
-        14 => Stage::YieldAway,
-        15 => Stage::LookAgain,
-        16 => Stage::TryAgain,
-        17 => Stage::FindEpoch,
-        18 => Stage::CloseCount,
-        19 => Stage::RestartEpochs,
-        20 => Stage::OpenCount,
-        21 => Stage::Take,
-        22 => Stage::LookForSleepers,
-        23 => Stage::NoteEpoch,
-        24 => Stage::EndEpoch,
-        25 => Stage::Wake,
-        26 => Stage::Acquired,
-        27 => Stage::Refused,
+        3 => Stage::Mark,
+        4 => Stage::Sleep,
+        5 => Stage::Withdraw,
+        6 => Stage::Leave,
+        7 => Stage::LookToRemove,
+        8 => Stage::Remove,
+        9 => Stage::Release,
+        10 => Stage::Wake,
+        11 => Stage::WakeRefused,
+        12 => Stage::Acquired,
+        13 => Stage::Refused,
         _ => Stage::Ended,
     }
 }
 
 pub(crate) fn number_of_event_stage(stage: EventStage) -> u32
-    ensures { result ≡ number_of_event stage }
+    ensures { result ≡ number_of_event_stage stage }
 {
     match stage {
         EventStage::FindCount => 0,

@@ -1,4 +1,4 @@
--- What the end of a call tells.
+-- What the answer of a call means.
 use Rattle.std.proofs.Common.{◌≡◌, ℕ, ◌-◌, ◌^◌, ◌<◌, Bool, true, false, not, ◌&&◌, ◌||◌, ◌==◌, nat_lt, if◌then◌else◌, ◌⊎◌, inl, inr, refl, sym, ap, ◌∙◌, arith, lt-ltb}
 use Rattle.std.proofs.lemmas.Bool.{false≢true, true≢false}
 use Rattle.lock_base.specs.declared.machine.hold.Hold.{Hold}
@@ -16,7 +16,7 @@ use Rattle.lock_one.specs.declared.park.ParkView.{ParkView}
 use Rattle.lock_one.specs.declared.park.Debt.{Debt}
 use Rattle.lock_one.specs.declared.park.Debt.TheVariants as debt
 use Rattle.lock_one.specs.Rule.{is_upgrade}
-use Rattle.lock_one.specs.Machine.{core_of, has_sleepers, sleepers, with_sleepers, acquired, after_try, decide, rest, goes_to, acquiring, begun, removes_reader, alone, free, taking, next_at, next_of}
+use Rattle.lock_one.specs.Machine.{core_of, has_sleepers, sleepers, with_sleepers, acquired, after_try, decide, wait, goes_to, acquiring, begun, removes_reader, alone, release_on, taking, next_at, next_of}
 use Rattle.lock_one.specs.Steps.{IsAt, IsWake, hold_at}
 use Rattle.lock_one.specs.Answers.{AnswersTell, FirstSteps}
 
@@ -80,7 +80,7 @@ done_holds call v before is held =
 
 -- a decision that refuses was made of a word that refuses
 decided : (call : Call) (found : ℕ) (b : Bool) → word_admits call.announced call.readers (core_of found) call.want ≡ b
-    → (if b then goes_to (record call { loaded = found; left = after_try call found }) stage.Try (action.Exchange found (after_try call found)) else rest (record call { loaded = found })).1 ≡ action.End false
+    → (if b then goes_to (record call { loaded = found; left = after_try call found }) stage.Try (action.Exchange found (after_try call found)) else wait (record call { loaded = found })).1 ≡ action.End false
     → b ≡ false
 decided call found true e h = cc
 decided call found false e h = refl
@@ -112,7 +112,7 @@ first_acquires readers word wish blocks announces low admits =
 
     by : (call : Call) (b : Bool) → b ≡ true → core_of word ≡ word → has_sleepers word ≡ false
         → (if b then goes_to (record (begun readers stage.Look wish down.Shared blocks announces) { loaded = word; left = after_try (begun readers stage.Look wish down.Shared blocks announces) word }) stage.Try
-        (action.Exchange word (after_try (begun readers stage.Look wish down.Shared blocks announces) word)) else rest (record (begun readers stage.Look wish down.Shared blocks announces) { loaded = word })).1
+        (action.Exchange word (after_try (begun readers stage.Look wish down.Shared blocks announces) word)) else wait (record (begun readers stage.Look wish down.Shared blocks announces) { loaded = word })).1
         ≡ action.Exchange word (word_after word wish)
     by call true e bare unset =
         ap (λ n. action.Exchange word n)
@@ -122,9 +122,9 @@ first_acquires readers word wish blocks announces low admits =
 
 first_releases : (readers : ℕ) (d : Down) → removes_reader readers d ≡ false → (taking readers d).1 ≡ action.Exchange (alone d) (alone d - amount d)
 first_releases readers d never = ap (λ (b : Bool). (if b then goes_to (begun readers stage.LookToRemove want.Shared d false false) stage.LookToRemove action.Load
-    else free (alone d) (begun readers stage.Release want.Shared d false false)).1) never ∙ by d
+    else release_on (alone d) (begun readers stage.Release want.Shared d false false)).1) never ∙ by d
   where
-    by : (d : Down) → (free (alone d) (begun readers stage.Release want.Shared d false false)).1 ≡ action.Exchange (alone d) (alone d - amount d)
+    by : (d : Down) → (release_on (alone d) (begun readers stage.Release want.Shared d false false)).1 ≡ action.Exchange (alone d) (alone d - amount d)
     by down.Shared = refl
     by down.Exclusive = refl
     by down.Upgradable = refl

@@ -1,4 +1,4 @@
--- After the exchange of a release, a call asks for a wake-up at most.
+-- After the exchange of a release, a call makes at most a wake-up.
 use Rattle.std.proofs.Common.{◌≡◌, ℕ, Bool, true, false, ◌==◌, if◌then◌else◌, List, [], ◌∷◌, refl, sym, ap, subst, ◌∙◌, eq-eqb}
 use Rattle.lock_one.specs.declared.call.Call.{Call}
 use Rattle.lock_one.specs.declared.stage.Stage.TheVariants as stage

@@ -189,7 +189,7 @@ pub others_admit : (limits : ParkLimits) (core : ℕ) (v : ParkView) (want : ExW
     → admits_to limits core v want ≡ word_admits v.held.announced limits.readers core want
 others_admit limits core v want many = ap (λ b. if b then core == 0 else word_admits v.held.announced limits.readers core want) many
 
--- an acquisition leaves no free word
+-- an acquisition leaves no release_on word
 taken_after : (a : Bool) (limit core : ℕ) (want : ExWant) → IsTrue (word_admits a limit core want) → word_after core want ≢ 0
 taken_after a limit core want.Shared h e = omega arith
 taken_after a limit core want.Exclusive h e = omega arith
@@ -391,9 +391,9 @@ module _ (limits : ParkLimits) (core : ℕ) (s : Bool) (views : List ParkView) (
       ])))
       (λ other asleep. cc))
 
-  gives_up : me.debt ≡ Nothing → (IsTrue limits.wakes_one → (s ≡ true) × (core ≢ 0))
+  stops : me.debt ≡ Nothing → (IsTrue limits.wakes_one → (s ≡ true) × (core ≢ 0))
       → KeepsParking limits core s (slice_set views k (with_park me Awake))
-  gives_up debt found =
+  stops debt found =
       let you = with_park me Awake in
       quiet you refl (λ other asleep. cc)
       (forgets_none limits core core s s views k me you at kept.none_forgotten
@@ -567,7 +567,7 @@ module _ (limits : ParkLimits) (core : ℕ) (s : Bool) (views : List ParkView) (
         take = take limits core s views k me range kept at;
         sleeps = sleeps limits core s views k me range kept at;
         wakes = wakes limits core s views k me range kept at;
-        gives_up = gives_up limits core s views k me range kept at;
+        stops = stops limits core s views k me range kept at;
         pays_all = pays_all;
         pays_next = pays_next;
         pays_one = pays_one limits core s views k me range kept at;

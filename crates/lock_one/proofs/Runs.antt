@@ -29,8 +29,8 @@ use Rattle.lock_one.specs.declared.park.Park.TheVariants.{Awake, Asleep, Woken}
 use Rattle.lock_one.specs.declared.park.Debt.{Debt}
 use Rattle.lock_one.specs.declared.park.Debt.TheVariants as debt
 use Rattle.lock_one.specs.Rule.{holds_of, is_asleep, is_woken, is_next, is_upgrade, wake_park_next, KeepsParking, with_park, with_debt, wake_all, wake_next, new_party}
-use Rattle.lock_one.specs.Machine.{Progress, core_of, has_sleepers, acquiring, taking, free, alone, removes_reader, sleep_of, goes_to, begun, next_at, next_of}
-use Rattle.lock_one.specs.Steps.{made, touches, ends, limits_of, hold_at, Acquires, AtRest, IsRest, IsWake, IsAt, is_step, Keeps}
+use Rattle.lock_one.specs.Machine.{Progress, core_of, has_sleepers, acquiring, taking, release_on, alone, removes_reader, sleep_of, goes_to, begun, next_at, next_of}
+use Rattle.lock_one.specs.Steps.{made, touches, ends, limits_of, hold_at, Acquires, AtRest, IsPause, IsWake, IsAt, is_step, Keeps}
 use Rattle.lock_one.specs.Runs.{Underway, Thread, LockInUse, views_of, limits_in, new_thread, new_lock, Act, join, acquires, releases, steps, is_idle, may_acquire, may_release, begins, park_at, debt_at, view_after, goes_on, thread_after, with_thread, view_to, answer, steps_by, parks_by, any_asleep, paid, wake_at, wakes_by, step_at, step_in, acquire_by, release_by, step_by, after_act, after_acts, IsInPark, ThreadsAreServed, EveryRunIsServed}
 use Rattle.lock_one.proofs.Parking.{parties_of, rule_of, holds_of_parties, sums_of, each_step, starts}
 use Rattle.lock_one.proofs.Steps.{steps_keep_the_rule}
@@ -161,7 +161,7 @@ owes_at stage.Look call v a is = is.0.0.owes_none ∙ sym (ap debt_at is.1)
 owes_at stage.Try call v a is = is.0.0.owes_none ∙ sym (ap debt_at is.2)
 owes_at stage.Pause call v a is = is.0.0.owes_none ∙ by a is.1
   where
-    by : (a : Action) → IsRest a → debt.Nothing ≡ debt_at a
+    by : (a : Action) → IsPause a → debt.Nothing ≡ debt_at a
     by action.Load h = absurd h
     by (action.Exchange x y) h = absurd h
     by (action.Park n f) h = absurd h
@@ -313,7 +313,7 @@ release_kept s k down (Some t) at run = by (may_release t down) refl
         looks = goes_to (begun s.readers stage.LookToRemove want.Shared down false false) stage.LookToRemove action.Load
 
         exchanges : Progress
-        exchanges = free (alone down) (begun s.readers stage.Release want.Shared down false false)
+        exchanges = release_on (alone down) (begun s.readers stage.Release want.Shared down false false)
 
         placed_first : IsTrue (hold_has t.view.held (step_of_down down)) → AtRest t.view × (t.view.held.announced ≡ false) → (b : Bool) → removes_reader s.readers down ≡ b
             → IsPlaced (limits_in s.readers) t.view (Some record { at = if b then looks else exchanges; before = t.view.held })
@@ -330,7 +330,7 @@ goes_or_rests limits next before v is held lock clean = by (ends next.1) refl
     at_end stage.Try a is e = absurd (false≢true (sym (ap ends is.2) ∙ e))
     at_end stage.Pause a is e = absurd (rest_goes a is.1 e)
       where
-        rest_goes : (a : Action) → IsRest a → ends a ≡ true → ⊥
+        rest_goes : (a : Action) → IsPause a → ends a ≡ true → ⊥
         rest_goes action.Load h e = absurd h
         rest_goes (action.Exchange x y) h e = absurd h
         rest_goes (action.Park n f) h e = absurd h
@@ -374,7 +374,7 @@ goes_or_rests limits next before v is held lock clean = by (ends next.1) refl
     bar_end stage.Try a is h e = absurd (false≢true (sym (ap ends is.2) ∙ e))
     bar_end stage.Pause a is h e = absurd (quiet_goes a is.1 e)
       where
-        quiet_goes : (a : Action) → IsRest a → ends a ≡ true → ⊥
+        quiet_goes : (a : Action) → IsPause a → ends a ≡ true → ⊥
         quiet_goes action.Load h e = absurd h
         quiet_goes (action.Exchange x y) h e = absurd h
         quiet_goes (action.Park n f) h e = absurd h
@@ -403,13 +403,13 @@ goes_or_rests limits next before v is held lock clean = by (ends next.1) refl
     by false e = (is, held, lock, e, clean)
 
 -- a step on the word
-step_kept : (s : LockInUse) (k told : ℕ) (t : Thread) (u : Underway) → slice_get s.threads k ≡ Some t → IsPlaced (limits_in s.readers) t.view (Some u)
+step_kept : (s : LockInUse) (k given : ℕ) (t : Thread) (u : Underway) → slice_get s.threads k ≡ Some t → IsPlaced (limits_in s.readers) t.view (Some u)
     → is_step u.at.0.stage ≡ true → is_asleep t.view.park ≡ false → (IsTrue (is_woken t.view.park) → u.at.0.slept ≡ true) → RunKept s
-    → RunKept (steps_by s k told t u)
-step_kept s k told t u at place stepping awake woken run =
+    → RunKept (steps_by s k given t u)
+step_kept s k given t u at place stepping awake woken run =
     let call = u.at.0 in
     let a = u.at.1 in
-    let found = answer a s.word told in
+    let found = answer a s.word given in
     let next = next_of found call in
     let views = views_of s.threads in
     let here = view_in s.threads k t at in
@@ -431,7 +431,7 @@ step_kept s k told t u at place stepping awake woken run =
     one_changed s (made a s.word) k (thread_after next t.view.park u.before) run (subst (λ l. Keeps l (made a s.word) (slice_set views k w)) lock later)
     (goes_or_rests (limits_in s.readers) next u.before w to.at refl (same_limits ∙ lock) place.4)
   where
-    reads : (b : Bool) → IsTrue b → (if b then s.word else told) ≡ s.word
+    reads : (b : Bool) → IsTrue b → (if b then s.word else given) ≡ s.word
     reads true h = refl
     reads false h = absurd (false≢true h)
 
@@ -454,11 +454,11 @@ awake_at stage.Refused call v a is h = absurd (false≢true h)
 awake_at stage.Ended call v a is h = absurd (false≢true h)
 
 -- a park
-park_kept : (s : LockInUse) (k told : ℕ) (t : Thread) (u : Underway) → slice_get s.threads k ≡ Some t → IsAt stage.Sleep u.at.0 t.view u.at.1
+park_kept : (s : LockInUse) (k given : ℕ) (t : Thread) (u : Underway) → slice_get s.threads k ≡ Some t → IsAt stage.Sleep u.at.0 t.view u.at.1
     → t.view.held ≡ hold_at stage.Sleep u.at.0 u.before → limits_of u.at.0 ≡ limits_in s.readers → u.before.announced ≡ false → u.at.0.stage ≡ stage.Sleep → t.underway ≡ Some u → RunKept s
-    → RunKept (parks_by s k told t u)
-park_kept s k told t u at is held lock clean sleeps calls run =
-    by ((told == 0) && ((s.word == u.at.0.loaded) && not (is_asleep t.view.park))) refl
+    → RunKept (parks_by s k given t u)
+park_kept s k given t u at is held lock clean sleeps calls run =
+    by ((given == 0) && ((s.word == u.at.0.loaded) && not (is_asleep t.view.park))) refl
   where
     call : Call
     call = u.at.0
@@ -469,11 +469,11 @@ park_kept s k told t u at is held lock clean sleeps calls run =
     keeps : Keeps (limits_of u.at.0) s.word (views_of s.threads)
     keeps = subst (λ l. Keeps l s.word (views_of s.threads)) (sym lock) run.keeps
 
-    by : (b : Bool) → ((told == 0) && ((s.word == u.at.0.loaded) && not (is_asleep t.view.park))) ≡ b
+    by : (b : Bool) → ((given == 0) && ((s.word == u.at.0.loaded) && not (is_asleep t.view.park))) ≡ b
         → RunKept (if b then with_thread s k (record t { view = with_park t.view (Asleep u.at.0.want) })
-        else with_thread s k record { view = with_park t.view Woken; underway = goes_on (next_at stage.Sleep told u.at.0) u.before })
+        else with_thread s k record { view = with_park t.view Woken; underway = goes_on (next_at stage.Sleep given u.at.0) u.before })
     by true e =
-        let one = and_parts (told == 0) ((s.word == u.at.0.loaded) && not (is_asleep t.view.park)) e in
+        let one = and_parts (given == 0) ((s.word == u.at.0.loaded) && not (is_asleep t.view.park)) e in
         let two = and_parts (s.word == u.at.0.loaded) (not (is_asleep t.view.park)) one.1 in
         let word : s.word ≡ u.at.0.loaded = eqb-true s.word u.at.0.loaded two.0 in
         let asleep = sleeps_keep_the_rule.falls_asleep (views_of s.threads) k t.view u.at.0 u.at.1 range
@@ -490,11 +490,11 @@ park_kept s k told t u at is held lock clean sleeps calls run =
           clean,
         ))
     by false e =
-        let woken = sleeps_keep_the_rule.sleep_ends s.word (views_of s.threads) k t.view u.at.0 u.at.1 told range keeps (view_in s.threads k t at) is in
+        let woken = sleeps_keep_the_rule.sleep_ends s.word (views_of s.threads) k t.view u.at.0 u.at.1 given range keeps (view_in s.threads k t at) is in
         let v = with_park t.view Woken in
-        one_changed s s.word k record { view = v; underway = goes_on (next_at stage.Sleep told u.at.0) u.before } run
+        one_changed s s.word k record { view = v; underway = goes_on (next_at stage.Sleep given u.at.0) u.before } run
         (subst (λ l. Keeps l s.word (slice_set (views_of s.threads) k v)) lock woken.0)
-        (goes_or_rests (limits_in s.readers) (next_at stage.Sleep told u.at.0) u.before v woken.1 held lock clean)
+        (goes_or_rests (limits_in s.readers) (next_at stage.Sleep given u.at.0) u.before v woken.1 held lock clean)
 
 -- wake-ups of many
 
@@ -757,24 +757,24 @@ joins s run =
     }
 
 -- a step
-stepped : (s : LockInUse) (k told j : ℕ) (t : Thread) → slice_get s.threads k ≡ Some t → RunKept s → RunKept (step_in s k told j t t.underway)
-stepped s k told j t at run = by t.underway refl (run.each k t at)
+stepped : (s : LockInUse) (k given j : ℕ) (t : Thread) → slice_get s.threads k ≡ Some t → RunKept s → RunKept (step_in s k given j t t.underway)
+stepped s k given j t at run = by t.underway refl (run.each k t at)
   where
-    on : (u : Underway) → t.underway ≡ Some u → IsPlaced (limits_in s.readers) t.view (Some u) → is_step u.at.0.stage ≡ true → RunKept (steps_by s k told t u)
+    on : (u : Underway) → t.underway ≡ Some u → IsPlaced (limits_in s.readers) t.view (Some u) → is_step u.at.0.stage ≡ true → RunKept (steps_by s k given t u)
     on u calls place stepping =
         let awake = awake_at u.at.0.stage u.at.0 t.view u.at.1 place.0 stepping in
-        step_kept s k told t u at place stepping awake.0 awake.1 run
+        step_kept s k given t u at place stepping awake.0 awake.1 run
 
-    over : (u : Underway) (b : Bool) → IsPlaced (limits_in s.readers) t.view (Some u) → u.at.1 ≡ action.End b → RunKept (steps_by s k told t u)
+    over : (u : Underway) (b : Bool) → IsPlaced (limits_in s.readers) t.view (Some u) → u.at.1 ≡ action.End b → RunKept (steps_by s k given t u)
     over u b place end = absurd (true≢false (sym (ap ends end) ∙ place.3))
 
     at_stage : (st : Stage) (u : Underway) → u.at.0.stage ≡ st → t.underway ≡ Some u → IsPlaced (limits_in s.readers) t.view (Some u)
-        → IsAt st u.at.0 t.view u.at.1 → t.view.held ≡ hold_at st u.at.0 u.before → RunKept (step_at st s k told j t u)
+        → IsAt st u.at.0 t.view u.at.1 → t.view.held ≡ hold_at st u.at.0 u.before → RunKept (step_at st s k given j t u)
     at_stage stage.Look u e calls place is held = on u calls place (ap is_step e)
     at_stage stage.Try u e calls place is held = on u calls place (ap is_step e)
     at_stage stage.Pause u e calls place is held = on u calls place (ap is_step e)
     at_stage stage.Mark u e calls place is held = on u calls place (ap is_step e)
-    at_stage stage.Sleep u e calls place is held = park_kept s k told t u at is held place.2 place.4 e calls run
+    at_stage stage.Sleep u e calls place is held = park_kept s k given t u at is held place.2 place.4 e calls run
     at_stage stage.Withdraw u e calls place is held = on u calls place (ap is_step e)
     at_stage stage.Leave u e calls place is held = on u calls place (ap is_step e)
     at_stage stage.Release u e calls place is held = on u calls place (ap is_step e)
@@ -786,19 +786,19 @@ stepped s k told j t at run = by t.underway refl (run.each k t at)
     at_stage stage.Refused u e calls place is held = over u false place is.1
     at_stage stage.Ended u e calls place is held = over u true place is.1
 
-    by : (o : Option Underway) → t.underway ≡ o → IsPlaced (limits_in s.readers) t.view o → RunKept (step_in s k told j t o)
+    by : (o : Option Underway) → t.underway ≡ o → IsPlaced (limits_in s.readers) t.view o → RunKept (step_in s k given j t o)
     by None e place = run
     by (Some u) e place = at_stage u.at.0.stage u refl e place place.0 place.1
 
-step_by_kept : (s : LockInUse) (k told j : ℕ) (o : Option Thread) → slice_get s.threads k ≡ o → RunKept s → RunKept (step_by s k told j o)
-step_by_kept s k told j None at run = run
-step_by_kept s k told j (Some t) at run = stepped s k told j t at run
+step_by_kept : (s : LockInUse) (k given j : ℕ) (o : Option Thread) → slice_get s.threads k ≡ o → RunKept s → RunKept (step_by s k given j o)
+step_by_kept s k given j None at run = run
+step_by_kept s k given j (Some t) at run = stepped s k given j t at run
 
 act_kept : (s : LockInUse) (a : Act) → RunKept s → RunKept (after_act s a)
 act_kept s join run = joins s run
 act_kept s (acquires k want blocks announces) run = acquire_kept s k want blocks announces (slice_get s.threads k) refl run
 act_kept s (releases k down) run = release_kept s k down (slice_get s.threads k) refl run
-act_kept s (steps k told j) run = step_by_kept s k told j (slice_get s.threads k) refl run
+act_kept s (steps k given j) run = step_by_kept s k given j (slice_get s.threads k) refl run
 
 acts_kept : (s : LockInUse) (acts : List Act) → RunKept s → RunKept (after_acts s acts)
 acts_kept s [] run = run
@@ -816,7 +816,7 @@ new_kept readers range =
           ];
     }
 
--- whoever sleeps is in its park
+-- each sleeper is in its park
 in_park : (limits : ParkLimits) (t : Thread) → IsPlaced limits t.view t.underway → is_asleep t.view.park ≡ true → IsInPark t
 in_park limits t place asleep = by t.underway refl place
   where

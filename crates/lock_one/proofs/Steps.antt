@@ -26,8 +26,8 @@ use Rattle.lock_one.specs.declared.park.Park.TheVariants.{Awake, Asleep, Woken}
 use Rattle.lock_one.specs.declared.park.Debt.{Debt}
 use Rattle.lock_one.specs.declared.park.Debt.TheVariants as debt
 use Rattle.lock_one.specs.Rule.{holds_of, is_woken, is_asleep, has_duty, KeepsParking, EachStepKeeps, IsPaid, is_unset, is_unneeded, is_barred, is_all, is_one, after_win, after_take, with_park, frees}
-use Rattle.lock_one.specs.Machine.{Progress, is_exclusive, sleepers, core_of, has_sleepers, with_sleepers, wakes_one, sleep, sets_bar, word_marked, wait_or_sleep, marked, give_up, withdrawn, rest, after_try, decide, frees_word, release_of, word_released, free, subtract, release_again, look_to_remove, wakes, acquired, refused, goes_to, next_at}
-use Rattle.lock_one.specs.Steps.{made, touches, limits_of, is_admitted, Acquires, Acquiring, Awaits, IsRest, AtRest, IsAt, is_step, Keeps, lock_of, hold_at, StepKept, StepsKeepTheRule}
+use Rattle.lock_one.specs.Machine.{Progress, is_exclusive, sleepers, core_of, has_sleepers, with_sleepers, wakes_one, sleep, sets_bar, word_marked, mark_or_sleep, marked, time_out, withdrawn, wait, after_try, decide, frees_word, release_of, word_released, release_on, subtract, release_again, look_to_remove, wakes, acquired, refused, goes_to, next_at}
+use Rattle.lock_one.specs.Steps.{made, touches, limits_of, is_admitted, Acquires, Acquiring, Awaits, IsPause, AtRest, IsAt, is_step, Keeps, lock_of, hold_at, StepKept, StepsKeepTheRule}
 use Rattle.lock_one.proofs.Parking.{each_step, parties_of, party_at, party_of, rule_of}
 use Rattle.lock_word.proofs.Rules.{amount_within, shows, slice_set_same}
 
@@ -136,7 +136,7 @@ leaves_no_bar own wish awaited writer = by wish awaited writer (cases_Bool own.a
     by want.Announce o h c = absurd (false≢true o)
 
 -- an action that only spends time
-rest_leaves : (a : Action) (word : ℕ) → IsRest a → made a word ≡ word
+rest_leaves : (a : Action) (word : ℕ) → IsPause a → made a word ≡ word
 rest_leaves action.Load word h = absurd h
 rest_leaves (action.Exchange x y) word h = absurd h
 rest_leaves (action.Subtract d) word h = absurd h
@@ -296,7 +296,7 @@ module _ (word : ℕ) (views : List ParkView) (k : ℕ) (me : ParkView) (call : 
   refusal aw never no_bar =
       stays (refused here) refl ((is_awake me.park aw.1 (λ w. true≢false (sym (aw.0.woken w) ∙ never)), aw.0.owes_none), refl) (unannounced no_bar)
 
-  given_up : Awaits call me → is_admitted here ≡ false → StepKept (limits_of call) call.slept me.park before word views k (give_up here)
+  given_up : Awaits call me → is_admitted here ≡ false → StepKept (limits_of call) call.slept me.park before word views k (time_out here)
   given_up aw refuses = by call.announced refl
     where
       leaves : call.announced ≡ false → (b : Bool) → (wakes_one call && (call.slept && nat_lt word sleepers)) ≡ b
@@ -309,7 +309,7 @@ module _ (word : ℕ) (views : List ParkView) (k : ℕ) (me : ParkView) (call : 
       leaves no_bar false e =
           elim (cases_Bool call.slept) [
             | inl slept ↦
-                (let kept = does.gives_up aw.0.owes_none (λ is_one. (
+                (let kept = does.stops aw.0.owes_none (λ is_one. (
                   (elim (cases_Bool (nat_lt word sleepers)) [
                     | inl low ↦ absurd (true≢false (sym (and_from (wakes_one call) (call.slept && nat_lt word sleepers) is_one (and_from call.slept (nat_lt word sleepers) slept low)) ∙ e))
                     | inr high ↦ ap not high
@@ -353,7 +353,7 @@ module _ (word : ℕ) (views : List ParkView) (k : ℕ) (me : ParkView) (call : 
             ]
       ]
 
-  waits : Awaits call me → is_admitted here ≡ false → call.blocks ≡ true → StepKept (limits_of call) call.slept me.park before word views k (wait_or_sleep here)
+  waits : Awaits call me → is_admitted here ≡ false → call.blocks ≡ true → StepKept (limits_of call) call.slept me.park before word views k (mark_or_sleep here)
   waits aw refuses blocks = by (word_marked here == word) refl
     where
       by : (b : Bool) → (word_marked here == word) ≡ b
@@ -373,23 +373,23 @@ module _ (word : ℕ) (views : List ParkView) (k : ℕ) (me : ParkView) (call : 
           ) mine
       by false e = stays (goes_to (record here { left = word_marked here }) stage.Mark (action.Exchange word (word_marked here))) refl (aw, refuses, blocks, refl, refl) mine
 
-  rested : Awaits call me → is_admitted here ≡ false → StepKept (limits_of call) call.slept me.park before word views k (rest here)
+  rested : Awaits call me → is_admitted here ≡ false → StepKept (limits_of call) call.slept me.park before word views k (wait here)
   rested aw refuses = first call.blocks refl
     where
       third : call.blocks ≡ true → (b : Bool)
-          → StepKept (limits_of call) call.slept me.park before word views k (if b then goes_to (record here { pauses = call.pauses + 1 }) stage.Pause (action.Spin (if nat_lt call.pauses 3 then call.pauses + 6 else 9)) else wait_or_sleep here)
+          → StepKept (limits_of call) call.slept me.park before word views k (if b then goes_to (record here { pauses = call.pauses + 1 }) stage.Pause (action.Spin (if nat_lt call.pauses 3 then call.pauses + 6 else 9)) else mark_or_sleep here)
       third blocks true = stays (goes_to (record here { pauses = call.pauses + 1 }) stage.Pause (action.Spin (if nat_lt call.pauses 3 then call.pauses + 6 else 9))) refl (aw, tt) mine
       third blocks false = waits aw refuses blocks
 
       second : call.blocks ≡ true → (b : Bool)
-          → StepKept (limits_of call) call.slept me.park before word views k (if b then give_up here
-          else if nat_lt call.pauses 6 then goes_to (record here { pauses = call.pauses + 1 }) stage.Pause (action.Spin (if nat_lt call.pauses 3 then call.pauses + 6 else 9)) else wait_or_sleep here)
+          → StepKept (limits_of call) call.slept me.park before word views k (if b then time_out here
+          else if nat_lt call.pauses 6 then goes_to (record here { pauses = call.pauses + 1 }) stage.Pause (action.Spin (if nat_lt call.pauses 3 then call.pauses + 6 else 9)) else mark_or_sleep here)
       second blocks true = given_up aw refuses
       second blocks false = third blocks (nat_lt call.pauses 6)
 
       first : (b : Bool) → call.blocks ≡ b
-          → StepKept (limits_of call) call.slept me.park before word views k (if not b then refused here else if call.late then give_up here
-          else if nat_lt call.pauses 6 then goes_to (record here { pauses = call.pauses + 1 }) stage.Pause (action.Spin (if nat_lt call.pauses 3 then call.pauses + 6 else 9)) else wait_or_sleep here)
+          → StepKept (limits_of call) call.slept me.park before word views k (if not b then refused here else if call.late then time_out here
+          else if nat_lt call.pauses 6 then goes_to (record here { pauses = call.pauses + 1 }) stage.Pause (action.Spin (if nat_lt call.pauses 3 then call.pauses + 6 else 9)) else mark_or_sleep here)
       first true e = second e call.late
       first false e = refusal aw (aw.0.tries e).0 (aw.0.tries e).1
 
@@ -398,7 +398,7 @@ module _ (word : ℕ) (views : List ParkView) (k : ℕ) (me : ParkView) (call : 
   decided aw = by (is_admitted here) refl
     where
       by : (b : Bool) → is_admitted here ≡ b
-          → StepKept (limits_of call) call.slept me.park before word views k (if b then goes_to (record call { loaded = word; left = after_try call word }) stage.Try (action.Exchange word (after_try call word)) else rest here)
+          → StepKept (limits_of call) call.slept me.park before word views k (if b then goes_to (record call { loaded = word; left = after_try call word }) stage.Try (action.Exchange word (after_try call word)) else wait here)
       by true e = stays (goes_to (record call { loaded = word; left = after_try call word }) stage.Try (action.Exchange word (after_try call word))) refl (aw, e, refl) mine
       by false e = rested aw e
 
@@ -444,13 +444,13 @@ module _ (word : ℕ) (views : List ParkView) (k : ℕ) (me : ParkView) (call : 
           turns_into (core_of word - 2 ^ 34) false (after_take me down.Withdraw debt.Nothing) (refused (record call { announced = false }))
           (does.take down.Withdraw false debt.Nothing has aw.0.owes_none idle (is_unset (sym e))) refl ((refl, refl), refl) (ap (λ (h : Hold). record h { announced = false }) mine) refl
 
-  -- the exchange by which a call passes on its wake-up
+  -- the exchange by which a late call of a mutex sets S
   has_left : Awaits call me → is_admitted here ≡ false → call.announced ≡ false → word < sleepers → StepKept (limits_of call) call.slept me.park before (word + sleepers) views k (refused call)
   has_left aw refuses no_bar low =
       let bare : core_of word ≡ word = omega arith in
       let marks = does.marks in
       let later = each_step (limits_of call) (core_of word) true views k me range marks at in
-      let kept = later.gives_up aw.0.owes_none (λ is_one. (refl, taken aw.0 is_one refuses)) in
+      let kept = later.stops aw.0.owes_none (λ is_one. (refl, taken aw.0 is_one refuses)) in
       subst (λ c. StepKept (limits_of call) call.slept me.park before (c + sleepers) views k (refused call)) bare
       (turns_into (core_of word) true (with_park me Awake) (refused call) kept refl ((refl, aw.0.owes_none), refl) (unannounced no_bar) refl)
 
@@ -617,8 +617,8 @@ module _ (word : ℕ) (views : List ParkView) (k : ℕ) (me : ParkView) (call : 
   step_at stage.LookToRemove a found is_at held step answer =
       looked a action.Load found (λ n. look_to_remove n call) is_at.2 refl answer (chosen (has_sleepers word))
     where
-      chosen : (b : Bool) → StepKept (limits_of call) call.slept me.park before word views k (if b then free word call else subtract call)
-      chosen true = same word views k me call before range keeps at (free word call) refl (is_at.0, is_at.1, refl) held
+      chosen : (b : Bool) → StepKept (limits_of call) call.slept me.park before word views k (if b then release_on word call else subtract call)
+      chosen true = same word views k me call before range keeps at (release_on word call) refl (is_at.0, is_at.1, refl) held
       chosen false = same word views k me call before range keeps at (subtract call) refl (is_at.0, is_at.1, refl) held
   step_at stage.Subtract a found is_at held step answer =
       looked a (action.Subtract call.down) found (λ n. wakes (release_of call.readers n call.down).1 call) is_at.2 refl answer
@@ -628,8 +628,8 @@ module _ (word : ℕ) (views : List ParkView) (k : ℕ) (me : ParkView) (call : 
       (λ n. if n == call.loaded then wakes (release_of call.readers call.loaded call.down).1 call else release_again n call) is_at.2 refl answer
       (freed (word == call.loaded) refl)
     where
-      again : (b : Bool) → StepKept (limits_of call) call.slept me.park before word views k (if b then free word (record call { pauses = call.pauses + 1 }) else subtract call)
-      again true = same word views k me call before range keeps at (free word (record call { pauses = call.pauses + 1 })) refl (is_at.0, is_at.1, refl) held
+      again : (b : Bool) → StepKept (limits_of call) call.slept me.park before word views k (if b then release_on word (record call { pauses = call.pauses + 1 }) else subtract call)
+      again true = same word views k me call before range keeps at (release_on word (record call { pauses = call.pauses + 1 })) refl (is_at.0, is_at.1, refl) held
       again false = same word views k me call before range keeps at (subtract call) refl (is_at.0, is_at.1, refl) held
 
       freed : (b : Bool) → (word == call.loaded) ≡ b

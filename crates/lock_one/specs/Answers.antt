@@ -1,4 +1,4 @@
--- What the end of a call tells, and the first steps of a call that waits for nobody.
+-- What the answer of a call means, and the first steps of an uncontended call.
 use Rattle.std.specs.Prelude.{◌≡◌, ℕ, ◌-◌, ◌<◌, Bool, true, false, ◌⊎◌}
 use Rattle.lock_base.specs.declared.machine.hold.Hold.{Hold}
 use Rattle.lock_base.specs.Holds.{hold_after}

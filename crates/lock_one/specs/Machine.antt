@@ -15,7 +15,7 @@ use Rattle.lock_one.specs.declared.park.Debt.{Debt}
 use Rattle.lock_one.specs.declared.park.Debt.TheVariants as debt
 use Rattle.lock_one.specs.Rule.{is_upgrade}
 
--- a call, and the action that it asks for
+-- a call, and its next action
 abbrev pub Progress : Type 0
 Progress = Call × Action
 
@@ -91,16 +91,16 @@ sets_bar call = call.announces && (is_exclusive call.want && (not call.announced
 abbrev pub word_marked : Call → ℕ
 word_marked call = core_of call.loaded + (if sets_bar call then 2 ^ 34 else 0) + sleepers
 
-abbrev pub wait_or_sleep : Call → Progress
-wait_or_sleep call =
+abbrev pub mark_or_sleep : Call → Progress
+mark_or_sleep call =
     if word_marked call == call.loaded then sleep call
     else goes_to (record call { left = word_marked call }) stage.Mark (Exchange call.loaded (word_marked call))
 
 abbrev pub marked : Call → Progress
 marked call = sleep (record call { announced = call.announced || sets_bar call; loaded = call.left })
 
-abbrev pub give_up : Call → Progress
-give_up call =
+abbrev pub time_out : Call → Progress
+time_out call =
     if call.announced then goes_to (record call { left = core_of call.loaded - 2 ^ 34 }) stage.Withdraw (Exchange call.loaded (core_of call.loaded - 2 ^ 34))
     else if wakes_one call && (call.slept && nat_lt call.loaded sleepers)
     then goes_to (record call { left = call.loaded + sleepers }) stage.Leave (Exchange call.loaded (call.loaded + sleepers))
@@ -112,14 +112,14 @@ withdrawn call =
     else refused (record call { announced = false })
 
 -- the loaded word refuses
-abbrev pub rest : Call → Progress
-rest call =
+abbrev pub wait : Call → Progress
+wait call =
     if not call.blocks then refused call
-    else if call.late then give_up call
+    else if call.late then time_out call
     else if nat_lt call.pauses pauses_before then goes_to (record call { pauses = call.pauses + 1 }) stage.Pause (Spin (if nat_lt call.pauses 3 then call.pauses + 6 else 9))
-    else wait_or_sleep call
+    else mark_or_sleep call
 
--- the word after an acquisition. It keeps S, and one of a mutex that slept sets it
+-- the word after an acquisition. It keeps S. A call of a mutex that has slept sets S
 abbrev pub after_try : Call → ℕ → ℕ
 after_try call word = with_sleepers (word_after (core_of word) call.want) (has_sleepers word || (wakes_one call && call.slept))
 
@@ -127,7 +127,7 @@ abbrev pub decide : ℕ → Call → Progress
 decide word call =
     if word_admits call.announced call.readers (core_of word) call.want
     then goes_to (record call { loaded = word; left = after_try call word }) stage.Try (Exchange word (after_try call word))
-    else rest (record call { loaded = word })
+    else wait (record call { loaded = word })
 
 -- releases
 
@@ -145,8 +145,8 @@ release_of readers word release =
 abbrev pub word_released : ℕ → ℕ → Down → ℕ
 word_released readers word release = with_sleepers (core_of word - amount release) (release_of readers word release).0
 
-abbrev pub free : ℕ → Call → Progress
-free word call =
+abbrev pub release_on : ℕ → Call → Progress
+release_on word call =
     goes_to (record call { loaded = word; left = word_released call.readers word call.down }) stage.Release
     (Exchange word (word_released call.readers word call.down))
 
@@ -174,16 +174,16 @@ subtract call = goes_to call stage.Subtract (Subtract call.down)
 
 abbrev pub look_to_remove : ℕ → Call → Progress
 look_to_remove word call =
-    if has_sleepers word then free word call else subtract call
+    if has_sleepers word then release_on word call else subtract call
 
 abbrev pub release_again : ℕ → Call → Progress
 release_again word call =
-    if nat_lt call.pauses exchanges_before then free word (record call { pauses = call.pauses + 1 }) else subtract call
+    if nat_lt call.pauses exchanges_before then release_on word (record call { pauses = call.pauses + 1 }) else subtract call
 
 abbrev pub taking : ℕ → Down → Progress
 taking readers release =
     if removes_reader readers release then goes_to (begun readers stage.LookToRemove want.Shared release false false) stage.LookToRemove Load
-    else free (alone release) (begun readers stage.Release want.Shared release false false)
+    else release_on (alone release) (begun readers stage.Release want.Shared release false false)
 
 abbrev pub wakes : Debt → Call → Progress
 wakes debt.Nothing call = ended true call

@@ -1,4 +1,4 @@
--- The rule of a lock of one word: of what all parties hold, of S, the bit of sleepers, and of all parties.
+-- The rule of a lock of one word. It ties the word and S, the bit of sleepers, to what each party holds, sleeps for and owes.
 use Rattle.std.specs.Prelude.{◌≡◌, ◌≢◌, ℕ, ◌-◌, ◌^◌, ◌<◌, ◌≤◌, Bool, true, false, not, ◌&&◌, ◌||◌, ◌==◌, ◌⊎◌, if◌then◌else◌, List, [], ◌∷◌, map, slice_get, slice_set, Some, IsTrue}
 use Rattle.lock_base.specs.declared.machine.hold.Hold.{Hold}
 use Rattle.lock_base.specs.Limits.{IsLimit}
@@ -70,7 +70,7 @@ pub record SomeoneServes (limits : ParkLimits) (views : List ParkView) (v : Park
 abbrev pub IsServed : ParkLimits → ℕ → Bool → List ParkView → ParkView → ExWant → Type 0
 IsServed limits core s views v want = ((s ≡ true) × (admits_to limits core v want ≡ false)) ⊎ SomeoneServes limits views v want
 
--- THE THEOREM: nobody that sleeps is forgotten
+-- THE THEOREM: no sleeper is forgotten
 abbrev pub NoneIsForgotten : ParkLimits → ℕ → Bool → List ParkView → Type 0
 NoneIsForgotten limits core s views =
     (k : ℕ) (v : ParkView) (want : ExWant) → slice_get views k ≡ Some v → v.park ≡ Asleep want → IsServed limits core s views v want
@@ -112,7 +112,7 @@ frees limits before after = if limits.wakes_one then after == 0 else word_unbloc
 pub data IsPaid (limits : ParkLimits) (before after : ℕ) (s t : Bool) : Debt → Type 0 where
   -- S was not set
   is_unset : s ≡ false → IsPaid limits before after s t Nothing
-  -- nobody is unblocked, and S stays
+  -- no sleeper is unblocked, and S stays
   is_unneeded : frees limits before after ≡ false → t ≡ true → IsPaid limits before after s t Nothing
   -- the bar stays, and S
   is_barred : 2 ^ 34 ≤ after → t ≡ true → IsPaid limits before after s t Next
@@ -158,14 +158,14 @@ pub record EachStepKeeps (limits : ParkLimits) (core : ℕ) (s : Bool) (views : 
       → KeepsParking limits core s (slice_set views k (with_park me (Asleep want)))
   -- a sleep ends, for whatever reason
   pub wakes : KeepsParking limits core s (slice_set views k (with_park me Woken))
-  -- a party gives up. In a mutex it has found or set S on a word that is not free
-  pub gives_up : me.debt ≡ Nothing → (IsTrue limits.wakes_one → (s ≡ true) × (core ≢ 0))
+  -- a party stops waiting. In a mutex it has found or set S on a word that is not free
+  pub stops : me.debt ≡ Nothing → (IsTrue limits.wakes_one → (s ≡ true) × (core ≢ 0))
       → KeepsParking limits core s (slice_set views k (with_park me Awake))
   -- the wake-ups that are owed
   pub pays_all : me.debt ≡ All → KeepsParking limits core s (slice_set (map wake_all views) k (with_debt (wake_all me) Nothing))
   pub pays_next : me.debt ≡ Next → is_asleep me.park ≡ false → has_duty limits me ≡ false
       → KeepsParking limits core s (slice_set (map wake_next views) k (with_debt (wake_next me) Nothing))
-  -- one was woken, or nobody sleeps
+  -- one was woken, or no party sleeps
   pub pays_one : (j : ℕ) (w : ParkView) → me.debt ≡ One → is_asleep me.park ≡ false → j ≢ k → slice_get views j ≡ Some w → w.park ≡ Woken
       → KeepsParking limits core s (slice_set views k (with_debt me Nothing))
   pub pays_nobody : ((j : ℕ) (v : ParkView) → slice_get views j ≡ Some v → is_asleep v.park ≡ false)

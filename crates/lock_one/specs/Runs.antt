@@ -23,7 +23,7 @@ use Rattle.lock_one.specs.Rule.{holds_of, is_asleep, IsServed, with_park, with_d
 use Rattle.lock_one.specs.Machine.{Progress, is_exclusive, wakes_one, core_of, has_sleepers, acquiring, taking, next_at, next_of}
 use Rattle.lock_one.specs.Steps.{made, touches, ends, hold_at}
 
--- a call that has not ended: the call and the action that it asks for, and what the thread held when it began
+-- a call that has not ended: the call and its next action, and what the thread held when it began
 pub record Underway : Type 0 where
   pub at : Progress
   pub before : Hold
@@ -58,8 +58,8 @@ pub data Act : Type 0 where
   acquires : ℕ → ExWant → Bool → Bool → Act
   -- the thread begins to release or downgrade
   releases : ℕ → Down → Act
-  -- the thread makes the step that its call asks for. A step that reads no word is answered with the second number. A park is told
-  -- whether it may sleep. A wake-up of one wakes the thread with the third number, if it sleeps
+  -- the thread makes the next action of its call. The second number answers an action that reads no word: at a park, 0 is a sleep. A
+  -- wake-up of one wakes the thread with the third number, if it sleeps
   steps : ℕ → ℕ → ℕ → Act
 
 abbrev pub is_idle : Option Underway → Bool
@@ -87,7 +87,7 @@ park_at stage.Refused park = Awake
 park_at stage.Ended park = Awake
 park_at waiting park = park
 
--- the wake-up that a call owes is the one that it asks for
+-- a call owes the wake-up that is its next action
 abbrev pub debt_at : Action → Debt
 debt_at action.Load = debt.Nothing
 debt_at (action.Exchange a b) = debt.Nothing
@@ -118,23 +118,23 @@ view_to f t = record t { view = f t.view }
 
 -- the answer to an action
 abbrev pub answer : Action → ℕ → ℕ → ℕ
-answer a word told = if touches a then word else told
+answer a word given = if touches a then word else given
 
 -- a step on the word, or a pause
 abbrev pub steps_by : LockInUse → ℕ → ℕ → Thread → Underway → LockInUse
-steps_by s k told t u =
+steps_by s k given t u =
     record {
       readers = s.readers;
       word = made u.at.1 s.word;
-      threads = slice_set s.threads k (thread_after (next_of (answer u.at.1 s.word told) u.at.0) t.view.park u.before);
+      threads = slice_set s.threads k (thread_after (next_of (answer u.at.1 s.word given) u.at.0) t.view.park u.before);
     }
 
--- a park: the thread falls asleep if it is told so and finds the number; else its sleep ends, if it slept at all, and it may be late
+-- a park: the thread falls asleep if the answer is 0 and the word is the number. Otherwise its sleep ends, and it may be late
 abbrev pub parks_by : LockInUse → ℕ → ℕ → Thread → Underway → LockInUse
-parks_by s k told t u =
-    if (told == 0) && ((s.word == u.at.0.loaded) && not (is_asleep t.view.park))
+parks_by s k given t u =
+    if (given == 0) && ((s.word == u.at.0.loaded) && not (is_asleep t.view.park))
     then with_thread s k (record t { view = with_park t.view (Asleep u.at.0.want) })
-    else with_thread s k record { view = with_park t.view Woken; underway = goes_on (next_at stage.Sleep told u.at.0) u.before }
+    else with_thread s k record { view = with_park t.view Woken; underway = goes_on (next_at stage.Sleep given u.at.0) u.before }
 
 abbrev pub any_asleep : List Thread → Bool
 any_asleep [] = false
@@ -156,14 +156,14 @@ wakes_by s k j t u action.WakeNext = paid (record s { threads = map (view_to wak
 wakes_by s k j t u other = wake_at s k j t u (slice_get s.threads j)
 
 abbrev pub step_at : Stage → LockInUse → ℕ → ℕ → ℕ → Thread → Underway → LockInUse
-step_at stage.Sleep s k told j t u = parks_by s k told t u
-step_at stage.Wake s k told j t u = wakes_by s k j t u u.at.1
-step_at stage.WakeRefused s k told j t u = wakes_by s k j t u u.at.1
-step_at other s k told j t u = steps_by s k told t u
+step_at stage.Sleep s k given j t u = parks_by s k given t u
+step_at stage.Wake s k given j t u = wakes_by s k j t u u.at.1
+step_at stage.WakeRefused s k given j t u = wakes_by s k j t u u.at.1
+step_at other s k given j t u = steps_by s k given t u
 
 abbrev pub step_in : LockInUse → ℕ → ℕ → ℕ → Thread → Option Underway → LockInUse
-step_in s k told j t None = s
-step_in s k told j t (Some u) = step_at u.at.0.stage s k told j t u
+step_in s k given j t None = s
+step_in s k given j t (Some u) = step_at u.at.0.stage s k given j t u
 
 abbrev pub acquire_by : LockInUse → ℕ → ExWant → Bool → Bool → Option Thread → LockInUse
 acquire_by s k want blocks announces None = s
@@ -174,15 +174,15 @@ release_by s k down None = s
 release_by s k down (Some t) = if may_release t down then with_thread s k (begins t (taking s.readers down)) else s
 
 abbrev pub step_by : LockInUse → ℕ → ℕ → ℕ → Option Thread → LockInUse
-step_by s k told j None = s
-step_by s k told j (Some t) = step_in s k told j t t.underway
+step_by s k given j None = s
+step_by s k given j (Some t) = step_in s k given j t t.underway
 
 -- an act that the thread cannot make, or of no thread, changes nothing
 abbrev pub after_act : LockInUse → Act → LockInUse
 after_act s join = record s { threads = s.threads ++ new_thread ∷ [] }
 after_act s (acquires k want blocks announces) = acquire_by s k want blocks announces (slice_get s.threads k)
 after_act s (releases k down) = release_by s k down (slice_get s.threads k)
-after_act s (steps k told j) = step_by s k told j (slice_get s.threads k)
+after_act s (steps k given j) = step_by s k given j (slice_get s.threads k)
 
 abbrev pub after_acts : LockInUse → List Act → LockInUse
 after_acts s [] = s
@@ -203,14 +203,14 @@ pub record ThreadsAreServed (s : LockInUse) : Type 0 where
   -- the word without S is the sum of what the threads hold, which is compatible, with at most one bar
   pub coded : core_of s.word ≡ word_of (all_of (holds_of (views_of s.threads)))
   pub legal : IsLegalBarredBag s.readers (all_of (holds_of (views_of s.threads)))
-  -- whoever sleeps: S is set and the word refuses it; or a thread owes it a wake-up, or (in a mutex) was woken in its place
+  -- of each sleeper: S is set and the word refuses it; or a thread owes it a wake-up, or (in a mutex) was woken in its place
   pub none_forgotten : (k : ℕ) (v : ParkView) (want : ExWant) → slice_get (views_of s.threads) k ≡ Some v → v.park ≡ Asleep want
       → IsServed (limits_in s.readers) (core_of s.word) (has_sleepers s.word) (views_of s.threads) v want
   -- a thread that sleeps is in its park, for what its call wants, and the number that it parks for has S
   pub parked : (k : ℕ) (t : Thread) → slice_get s.threads k ≡ Some t → is_asleep t.view.park ≡ true → IsInPark t
   -- a thread in no call has no bar: a call that ended left none
   pub no_bar_left : (k : ℕ) (t : Thread) → slice_get s.threads k ≡ Some t → t.underway ≡ None → t.view.held.announced ≡ false
-  -- a thread owes the wake-up that its call asks for next
+  -- a thread owes the wake-up that is the next action of its call
   pub owed : (k : ℕ) (t : Thread) (u : Underway) → slice_get s.threads k ≡ Some t → t.underway ≡ Some u → t.view.debt ≡ debt_at u.at.1
 
 -- THE THEOREM: after any acts of any number of threads, from a new lock on

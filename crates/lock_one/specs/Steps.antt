@@ -105,9 +105,9 @@ Acquiring call v = Acquires call.want call.announced call.slept call.blocks (wak
 abbrev pub Awaits : Call → ParkView → Type 0
 Awaits call v = Acquiring call v × (is_asleep v.park ≡ false)
 
-abbrev pub IsRest : Action → Type 0
-IsRest (Spin n) = ⊤
-IsRest other = ⊥
+abbrev pub IsPause : Action → Type 0
+IsPause (Spin n) = ⊤
+IsPause other = ⊥
 
 abbrev pub IsWake : Debt → Action → Type 0
 IsWake debt.Nothing a = ⊥
@@ -122,7 +122,7 @@ AtRest v = (v.park ≡ Awake) × (v.debt ≡ debt.Nothing)
 abbrev pub IsAt : Stage → Call → ParkView → Action → Type 0
 IsAt stage.Look call v a = Awaits call v × (a ≡ Load)
 IsAt stage.Try call v a = Awaits call v × (is_admitted call ≡ true) × (a ≡ Exchange call.loaded (after_try call call.loaded))
-IsAt stage.Pause call v a = Awaits call v × IsRest a
+IsAt stage.Pause call v a = Awaits call v × IsPause a
 IsAt stage.Mark call v a = Awaits call v × (is_admitted call ≡ false) × (call.blocks ≡ true) × (call.left ≡ word_marked call) × (a ≡ Exchange call.loaded (word_marked call))
 -- a call that announces itself, in a lock for several readers, parks for a word with a bar, its own or another's
 IsAt stage.Sleep call v a =
@@ -184,8 +184,8 @@ pub record StepKept (limits : ParkLimits) (slept : Bool) (park : Park) (before :
   pub parked : (you.park ≡ park) ⊎ (you.park ≡ Awake)
   pub same_lock : lock_of next.0 ≡ lock_and limits slept
 
--- THE LAW: take any word and parties that keep the rule. Let one party make the action that its call asks for, in one atomic
--- step, and give the call what it found. The rule holds again, the party is where its next action is to be made, and it holds
+-- THE LAW: take any word and parties that keep the rule. Let one party make the next action of its call, in one atomic step, and
+-- answer the call with what it found. The rule holds again, the party is where its new next action is to be made, and it holds
 -- what that stage says
 abbrev pub StepsKeepTheRule : Type 0
 StepsKeepTheRule =
@@ -233,13 +233,13 @@ pub record SleepsKeepTheRule : Type 0 where
   -- a party that is woken at its park is at its park still
   pub woken : (call : Call) (v : ParkView) (action : Action) → IsAt stage.Sleep call v action → IsAt stage.Sleep call (with_park v Woken) action
 
--- THE MEANING: at any time, a party that sleeps finds S set on a word that refuses it, or someone owes it a wake-up, or (in a mutex)
--- was woken in its place; and one that sleeps and announces itself sleeps under a bar or under a writer
+-- THE MEANING: at any time, a party that sleeps finds S set on a word that refuses it, or another party owes it a wake-up, or (in a
+-- mutex) was woken in its place
 pub record NobodyIsForgotten : Type 0 where
   pub served : (limits : ParkLimits) (word : ℕ) (views : List ParkView) (k : ℕ) (v : ParkView) (wish : ExWant)
       → Keeps limits word views → slice_get views k ≡ Some v → v.park ≡ Asleep wish
       → IsServed limits (core_of word) (has_sleepers word) views v wish
-  -- so where nobody owes a wake-up or is woken, S is set and the word refuses each sleeper
+  -- so where no party owes a wake-up or is woken, S is set and the word refuses each sleeper
   pub at_rest : (limits : ParkLimits) (word : ℕ) (views : List ParkView) (k : ℕ) (v : ParkView) (wish : ExWant)
       → Keeps limits word views → slice_get views k ≡ Some v → v.park ≡ Asleep wish
       → ((j : ℕ) (w : ParkView) → slice_get views j ≡ Some w → (w.debt ≡ debt.Nothing) × (is_woken w.park ≡ false))

@@ -23,10 +23,10 @@ const EXCHANGES: u32 = 8;
 /// How many pauses a call makes before it sleeps.
 const PAUSES: u32 = 6;
 
-/// The first pause is a spin of two to the power of this number of times, and each later one is twice as long,
+/// The first pause spins two to the power of this number of times. Each later one is twice as long.
 const SHORTEST: u32 = 6;
 
-/// up to two to the power of this number.
+/// The longest pause spins two to the power of this number of times.
 const LONGEST: u32 = 9;
 
 /// A call between two of its steps.
@@ -59,7 +59,7 @@ pub struct Call {
 }
 
 impl Call {
-    ghost use Rattle.lock_one.specs.Machine.{acquiring, taking, next_of, goes_to, ended, acquired, refused, wakes_one, decide, wait_or_sleep, rest, sleep, give_up, free, subtract, release_again, look_to_remove, marked, sets_bar, wakes, withdrawn};
+    ghost use Rattle.lock_one.specs.Machine.{acquiring, taking, next_of, goes_to, ended, acquired, refused, wakes_one, decide, mark_or_sleep, wait, sleep, time_out, release_on, subtract, release_again, look_to_remove, marked, sets_bar, wakes, withdrawn};
 
     /// Begins a call that acquires or upgrades. Returns the call and its first action.
     pub fn acquire(readers: u64, want: ExWant, blocks: bool, announces: bool) -> (Call, Action)
@@ -144,7 +144,7 @@ impl Call {
         self.readers == 1
     }
 
-    /// Acquires, if the word admits it, and else rests, sleeps or gives up.
+    /// Acquires if the word admits it. Otherwise the call pauses, sleeps or ends.
     fn decide(&mut self, word: u64) -> Action
         ensures { (self.new, result) ≡ decide word self.old }
     {
@@ -163,19 +163,19 @@ impl Call {
                 self.left = left;
                 self.to(Stage::Try, Action::Exchange(word, left))
             }
-            None => self.rest(),
+            None => self.wait(),
         }
     }
 
-    /// The loaded word refuses.
-    fn rest(&mut self) -> Action
-        ensures { (self.new, result) ≡ rest self.old }
+    /// Pauses, sleeps or ends the call, since the loaded word refuses.
+    fn wait(&mut self) -> Action
+        ensures { (self.new, result) ≡ wait self.old }
     {
         if !self.blocks {
             return self.refused();
         }
         if self.late {
-            return self.give_up();
+            return self.time_out();
         }
         let made = self.pauses;
         if made < PAUSES {
@@ -187,7 +187,7 @@ impl Call {
             };
             return self.to(Stage::Pause, Action::Spin(spin));
         }
-        self.wait_or_sleep()
+        self.mark_or_sleep()
     }
 
     fn sets_bar(&self) -> bool
@@ -201,9 +201,9 @@ impl Call {
             && !has_bar(self.loaded % SLEEPERS)
     }
 
-    /// Sets the bit of sleepers, and the bar if it has to, and then sleeps.
-    fn wait_or_sleep(&mut self) -> Action
-        ensures { (self.new, result) ≡ wait_or_sleep self.old }
+    /// Sleeps, after an exchange that sets the bit of sleepers and the bar where they are needed.
+    fn mark_or_sleep(&mut self) -> Action
+        ensures { (self.new, result) ≡ mark_or_sleep self.old }
     {
         let word = self.loaded;
         let bar = if self.sets_bar() { BAR } else { 0 };
@@ -235,9 +235,12 @@ impl Call {
         self.to(Stage::Sleep, action)
     }
 
-    /// The deadline has passed. The call takes back its bar, or passes on a wake-up of a mutex.
-    fn give_up(&mut self) -> Action
-        ensures { (self.new, result) ≡ give_up self.old }
+    /// Ends the call after its deadline.
+    ///
+    /// A call with a bar clears it first. A call of a mutex that has slept first sets the bit of sleepers, since it may have
+    /// been woken in place of another thread.
+    fn time_out(&mut self) -> Action
+        ensures { (self.new, result) ≡ time_out self.old }
     {
         let word = self.loaded;
         if self.announced {
@@ -274,14 +277,14 @@ impl Call {
             call.to(Stage::LookToRemove, Action::Load)
         } else {
             call.stage = Stage::Release;
-            call.free(alone_word(down))
+            call.release_on(alone_word(down))
         };
         (call, action)
     }
 
-    /// Makes the release on this word.
-    fn free(&mut self, word: u64) -> Action
-        ensures { (self.new, result) ≡ free word self.old }
+    /// Begins the exchange that releases on this word.
+    fn release_on(&mut self, word: u64) -> Action
+        ensures { (self.new, result) ≡ release_on word self.old }
     {
         self.loaded = word;
         let (keeps, _) = released(self.readers, word, self.down);
@@ -296,7 +299,7 @@ impl Call {
         ensures { (self.new, result) ≡ look_to_remove word self.old }
     {
         if word >= SLEEPERS {
-            return self.free(word);
+            return self.release_on(word);
         }
         self.subtract()
     }
@@ -309,7 +312,7 @@ impl Call {
             return self.subtract();
         }
         self.pauses += 1;
-        self.free(word)
+        self.release_on(word)
     }
 
     fn subtract(&mut self) -> Action
@@ -333,7 +336,7 @@ impl Call {
     }
 }
 
-/// Returns whether the release is a subtraction of one reader, where no bit of sleepers is set.
+/// Returns whether the release subtracts one reader while the bit of sleepers is clear.
 fn removes_reader(readers: u64, down: Down) -> bool
     ensures { result ≡ removes_reader readers down }
 {

@@ -10,7 +10,7 @@ pub fn steps_keep_parking()
     ensures { StepsKeepParking }
 {}
 
-/// The exchange of a release is its last access to the word: what follows it is a wake-up at most.
+/// After the exchange of a release, the call does not access the word. At most a wake-up follows.
 pub fn releases_touch_no_more()
     ensures { LastAccess }
 {}
@@ -30,23 +30,23 @@ pub fn nobody_is_forgotten()
     ensures { NobodyIsForgotten }
 {}
 
-/// After any acts of any number of threads on a new lock, what they hold is compatible, and nobody that sleeps is forgotten.
+/// After any acts of any number of threads on a new lock, what they hold is compatible, and no sleeping thread is forgotten.
 pub fn every_run_is_served()
     ensures { EveryRunIsServed }
 {}
 
-/// A refused call has changed nothing, a call that was not has made its change, and a try is refused only by a word that
-/// refuses it.
+/// A call that ends with false has changed nothing, and one that ends with true has made its change. A try ends with false
+/// only on a word that refuses it.
 pub fn answers_tell()
     ensures { AnswersTell }
 {}
 
-/// On a word that admits it, and in which nobody sleeps, a call begins with one exchange.
+/// On a word that admits it, and that has no bit of sleepers, a call acquires by one exchange. A release begins with one.
 pub fn first_steps()
     ensures { FirstSteps }
 {}
 
-/// The stored numbers are the words.
+/// Each word is stored as one number and read back as it was. Below 2^28 readers the number has 32 bits.
 pub fn storing_keeps_words()
     ensures { StoringKeepsWords }
 {}

@@ -1,4 +1,8 @@
 //! A lock of one word: the rule by which no wake-up is lost, and the machine of its calls.
+//!
+//! The word is the packed word of `lock_word` with one more bit, the bit of sleepers. A thread sets it before it sleeps on the
+//! word, and a release that finds it set wakes sleepers. After the exchange that releases, the call uses only the address of the
+//! word, so another thread may free the lock at once.
 #![tactic(auto)]
 
 mod action;

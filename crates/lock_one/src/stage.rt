@@ -13,9 +13,9 @@ pub enum Stage {
     Mark,
     /// The sleep.
     Sleep,
-    /// The exchange that clears the bar of a call that gives up.
+    /// The exchange that clears the bar of the call after its deadline.
     Withdraw,
-    /// The exchange by which a call of a mutex that gives up sets the bit of sleepers.
+    /// The exchange that sets the bit of sleepers of a mutex after the deadline of the call.
     Leave,
     /// A load, before the subtraction that releases a shared hold.
     LookToRemove,

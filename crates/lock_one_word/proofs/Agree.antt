@@ -16,7 +16,7 @@ use Rattle.lock_one.specs.declared.park.Debt.{Debt}
 use Rattle.lock_one.specs.declared.park.Debt.TheVariants as debt
 use Rattle.lock_one.specs.Machine.{word_marked, next_of}
 use Rattle.lock_one.specs.Runs.{limits_in, debt_at}
-use Rattle.lock_one.specs.Steps.{made, touches, limits_of, IsAt, IsRest, is_step, Keeps, hold_at, StepKept}
+use Rattle.lock_one.specs.Steps.{made, touches, limits_of, IsAt, IsPause, is_step, Keeps, hold_at, StepKept}
 use Rattle.lock_one.proofs.Runs.{owes_at, same_view}
 use Rattle.lock_one.proofs.Steps.{steps_keep_the_rule}
 use Rattle.lock_one_word.specs.declared.rule.OneView.{OneView}
@@ -31,7 +31,7 @@ owes_none stage.Look call v a s is = ap debt_at is.1
 owes_none stage.Try call v a s is = ap debt_at is.2
 owes_none stage.Pause call v a s is = by a is.1
   where
-    by : (a : Action) → IsRest a → debt_at a ≡ debt.Nothing
+    by : (a : Action) → IsPause a → debt_at a ≡ debt.Nothing
     by action.Load h = refl
     by (action.Exchange x y) h = refl
     by (action.Subtract d) h = refl

@@ -14,20 +14,20 @@ use Rattle.lock_one.specs.declared.park.ParkView.{ParkView}
 use Rattle.lock_one.specs.declared.park.Debt.{Debt}
 use Rattle.lock_one.specs.declared.park.Debt.TheVariants as debt
 use Rattle.lock_one.specs.Rule.{is_upgrade}
-use Rattle.lock_one.specs.Machine.{Progress, core_of, has_sleepers, with_sleepers, sleepers, wakes_one, is_exclusive, sleep, sleep_of, sets_bar, word_marked, wait_or_sleep, marked, give_up, withdrawn, rest, after_try, decide, release_of, word_released, free, subtract, release_again, look_to_remove, wakes, acquired, refused, ended, goes_to, next_at}
+use Rattle.lock_one.specs.Machine.{Progress, core_of, has_sleepers, with_sleepers, sleepers, wakes_one, is_exclusive, sleep, sleep_of, sets_bar, word_marked, mark_or_sleep, marked, time_out, withdrawn, wait, after_try, decide, release_of, word_released, release_on, subtract, release_again, look_to_remove, wakes, acquired, refused, ended, goes_to, next_at}
 use Rattle.lock_one.specs.Steps.{IsAt, is_step}
 
 abbrev loaded : Progress → ℕ
 loaded p = p.0.loaded
 
-waits : (call : Call) → loaded (wait_or_sleep call) ≡ call.loaded
+waits : (call : Call) → loaded (mark_or_sleep call) ≡ call.loaded
 waits call = by (word_marked call == call.loaded)
   where
     by : (b : Bool) → loaded (if b then sleep call else goes_to (record call { left = word_marked call }) stage.Mark (action.Exchange call.loaded (word_marked call))) ≡ call.loaded
     by true = refl
     by false = refl
 
-gives_up : (call : Call) → loaded (give_up call) ≡ call.loaded
+gives_up : (call : Call) → loaded (time_out call) ≡ call.loaded
 gives_up call = by call.announced (wakes_one call && (call.slept && nat_lt call.loaded sleepers))
   where
     by : (b c : Bool) → loaded (if b then goes_to (record call { left = core_of call.loaded - 2 ^ 34 }) stage.Withdraw (action.Exchange call.loaded (core_of call.loaded - 2 ^ 34))
@@ -36,11 +36,11 @@ gives_up call = by call.announced (wakes_one call && (call.slept && nat_lt call.
     by false true = refl
     by false false = refl
 
-rests : (call : Call) → loaded (rest call) ≡ call.loaded
+rests : (call : Call) → loaded (wait call) ≡ call.loaded
 rests call = by call.blocks call.late (nat_lt call.pauses 6)
   where
-    by : (b c d : Bool) → loaded (if not b then refused call else if c then give_up call
-        else if d then goes_to (record call { pauses = call.pauses + 1 }) stage.Pause (action.Spin (if nat_lt call.pauses 3 then call.pauses + 6 else 9)) else wait_or_sleep call) ≡ call.loaded
+    by : (b c d : Bool) → loaded (if not b then refused call else if c then time_out call
+        else if d then goes_to (record call { pauses = call.pauses + 1 }) stage.Pause (action.Spin (if nat_lt call.pauses 3 then call.pauses + 6 else 9)) else mark_or_sleep call) ≡ call.loaded
     by false c d = refl
     by true true d = gives_up call
     by true false true = refl
@@ -49,7 +49,7 @@ rests call = by call.blocks call.late (nat_lt call.pauses 6)
 decides : (word : ℕ) (call : Call) → loaded (decide word call) ≡ word
 decides word call = by (word_admits call.announced call.readers (core_of word) call.want)
   where
-    by : (b : Bool) → loaded (if b then goes_to (record call { loaded = word; left = after_try call word }) stage.Try (action.Exchange word (after_try call word)) else rest (record call { loaded = word })) ≡ word
+    by : (b : Bool) → loaded (if b then goes_to (record call { loaded = word; left = after_try call word }) stage.Try (action.Exchange word (after_try call word)) else wait (record call { loaded = word })) ≡ word
     by true = refl
     by false = rests (record call { loaded = word })
 
@@ -85,7 +85,7 @@ module _ (found : ℕ) (call : Call) (small : found < 2 ^ 36) (was : call.loaded
   decided true next e = subst (λ n. n < 2 ^ 36) (sym e) was
   decided false next e = subst (λ n. n < 2 ^ 36) (sym (decides found call)) small
 
-  again : (b : Bool) → loaded (if b then free found (record call { pauses = call.pauses + 1 }) else subtract call) < 2 ^ 36
+  again : (b : Bool) → loaded (if b then release_on found (record call { pauses = call.pauses + 1 }) else subtract call) < 2 ^ 36
   again true = small
   again false = was
 
@@ -97,7 +97,7 @@ module _ (found : ℕ) (call : Call) (small : found < 2 ^ 36) (was : call.loaded
   releasing true = subst (λ n. n < 2 ^ 36) (sym (wakes_up (release_of call.readers call.loaded call.down).1 call)) was
   releasing false = again (nat_lt call.pauses 8)
 
-  looking : (b : Bool) → loaded (if b then free found call else subtract call) < 2 ^ 36
+  looking : (b : Bool) → loaded (if b then release_on found call else subtract call) < 2 ^ 36
   looking true = small
   looking false = was
 

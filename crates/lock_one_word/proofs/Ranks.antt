@@ -11,7 +11,7 @@ use Rattle.lock_one.specs.declared.stage.Stage.TheVariants as stage
 use Rattle.lock_one.specs.declared.park.ParkView.{ParkView}
 use Rattle.lock_one.specs.declared.park.Debt.{Debt}
 use Rattle.lock_one.specs.declared.park.Debt.TheVariants as debt
-use Rattle.lock_one.specs.Machine.{Progress, has_sleepers, release_of, free, subtract, release_again, look_to_remove, wakes, next_at, next_of}
+use Rattle.lock_one.specs.Machine.{Progress, has_sleepers, release_of, release_on, subtract, release_again, look_to_remove, wakes, next_at, next_of}
 use Rattle.lock_one.specs.Runs.{debt_at}
 use Rattle.lock_one.specs.Steps.{ends, IsAt, IsWake}
 use Rattle.lock_one_word.specs.declared.rule.OneView.{OneView}
@@ -29,7 +29,7 @@ wakes_last debt.Next call = omega arith
 
 module _ (found : ℕ) (call : Call) where
   again : (b : Bool) → nat_lt call.pauses 8 ≡ b
-      → ranked (if b then free found (record call { pauses = call.pauses + 1 }) else subtract call) < 3 + (8 - call.pauses)
+      → ranked (if b then release_on found (record call { pauses = call.pauses + 1 }) else subtract call) < 3 + (8 - call.pauses)
   again true e = let few = ltb-true call.pauses 8 e in omega arith
   again false e = omega arith
 
@@ -37,7 +37,7 @@ module _ (found : ℕ) (call : Call) where
   releasing true = let last = wakes_last (release_of call.readers call.loaded call.down).1 call in omega arith
   releasing false = again (nat_lt call.pauses 8) refl
 
-  looking : (b : Bool) → ranked (if b then free found call else subtract call) < 12
+  looking : (b : Bool) → ranked (if b then release_on found call else subtract call) < 12
   looking true = omega arith
   looking false = omega arith
 

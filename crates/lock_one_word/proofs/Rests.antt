@@ -19,9 +19,9 @@ use Rattle.lock_one.specs.declared.park.Park.TheVariants.{Awake}
 use Rattle.lock_one.specs.declared.park.Debt.{Debt}
 use Rattle.lock_one.specs.declared.park.Debt.TheVariants as debt
 use Rattle.lock_one.specs.Rule.{is_upgrade}
-use Rattle.lock_one.specs.Machine.{Progress, sleep_of, wakes_one, acquiring, taking, removes_reader, begun, goes_to, free, alone, next_at, next_of}
+use Rattle.lock_one.specs.Machine.{Progress, sleep_of, wakes_one, acquiring, taking, removes_reader, begun, goes_to, release_on, alone, next_at, next_of}
 use Rattle.lock_one.specs.Runs.{debt_at}
-use Rattle.lock_one.specs.Steps.{ends, Acquires, IsAt, IsRest, IsWake, is_step, hold_at}
+use Rattle.lock_one.specs.Steps.{ends, Acquires, IsAt, IsPause, IsWake, is_step, hold_at}
 use Rattle.lock_one.proofs.Answers.{answers_tell}
 use Rattle.lock_one.proofs.Runs.{quiet_sleep, same_view}
 use Rattle.lock_one_word.specs.declared.rule.OneView.{OneView}
@@ -241,7 +241,7 @@ pub releasing_first : (readers : ℕ) (d : Down) (v : OneView) → readers ≡ v
 releasing_first readers d v lock has = by (removes_reader readers d)
   where
     by : (b : Bool) → IsGoing (if b then goes_to (begun readers stage.LookToRemove want.Shared d false false) stage.LookToRemove action.Load
-        else free (alone d) (begun readers stage.Release want.Shared d false false)) v.held (to_release d) v
+        else release_on (alone d) (begun readers stage.Release want.Shared d false false)) v.held (to_release d) v
     by true = record { lock = lock; at = (has, (refl, refl), refl); held = refl; loaded = omega arith; tasked = refl }
     by false = record { lock = lock; at = (has, (refl, refl), refl); held = refl; loaded = alone_small d; tasked = refl }
 

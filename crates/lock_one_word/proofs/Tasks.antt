@@ -8,7 +8,7 @@ use Rattle.lock_one.specs.declared.stage.Stage.{Stage}
 use Rattle.lock_one.specs.declared.stage.Stage.TheVariants as stage
 use Rattle.lock_one.specs.declared.park.Debt.{Debt}
 use Rattle.lock_one.specs.declared.park.Debt.TheVariants as debt
-use Rattle.lock_one.specs.Machine.{Progress, core_of, has_sleepers, sleepers, wakes_one, sleep, word_marked, wait_or_sleep, marked, give_up, withdrawn, rest, after_try, decide, release_of, free, subtract, release_again, look_to_remove, wakes, acquired, refused, goes_to, next_at, next_of}
+use Rattle.lock_one.specs.Machine.{Progress, core_of, has_sleepers, sleepers, wakes_one, sleep, word_marked, mark_or_sleep, marked, time_out, withdrawn, wait, after_try, decide, release_of, release_on, subtract, release_again, look_to_remove, wakes, acquired, refused, goes_to, next_at, next_of}
 use Rattle.lock_one.specs.Steps.{is_step}
 use Rattle.lock_one_word.specs.Seats.{Task, task_of}
 
@@ -21,14 +21,14 @@ acquires call = (call.want, call.down, false)
 abbrev gives : Call → Task
 gives call = (call.want, call.down, true)
 
-waits : (call : Call) → task (wait_or_sleep call) ≡ acquires call
+waits : (call : Call) → task (mark_or_sleep call) ≡ acquires call
 waits call = by (word_marked call == call.loaded)
   where
     by : (b : Bool) → task (if b then sleep call else goes_to (record call { left = word_marked call }) stage.Mark (action.Exchange call.loaded (word_marked call))) ≡ acquires call
     by true = refl
     by false = refl
 
-gives_up : (call : Call) → task (give_up call) ≡ acquires call
+gives_up : (call : Call) → task (time_out call) ≡ acquires call
 gives_up call = by call.announced (wakes_one call && (call.slept && nat_lt call.loaded sleepers))
   where
     by : (b c : Bool) → task (if b then goes_to (record call { left = core_of call.loaded - 2 ^ 34 }) stage.Withdraw (action.Exchange call.loaded (core_of call.loaded - 2 ^ 34))
@@ -37,11 +37,11 @@ gives_up call = by call.announced (wakes_one call && (call.slept && nat_lt call.
     by false true = refl
     by false false = refl
 
-rests : (call : Call) → task (rest call) ≡ acquires call
+rests : (call : Call) → task (wait call) ≡ acquires call
 rests call = by call.blocks call.late (nat_lt call.pauses 6)
   where
-    by : (b c d : Bool) → task (if not b then refused call else if c then give_up call
-        else if d then goes_to (record call { pauses = call.pauses + 1 }) stage.Pause (action.Spin (if nat_lt call.pauses 3 then call.pauses + 6 else 9)) else wait_or_sleep call) ≡ acquires call
+    by : (b c d : Bool) → task (if not b then refused call else if c then time_out call
+        else if d then goes_to (record call { pauses = call.pauses + 1 }) stage.Pause (action.Spin (if nat_lt call.pauses 3 then call.pauses + 6 else 9)) else mark_or_sleep call) ≡ acquires call
     by false c d = refl
     by true true d = gives_up call
     by true false true = refl
@@ -50,7 +50,7 @@ rests call = by call.blocks call.late (nat_lt call.pauses 6)
 decides : (word : ℕ) (call : Call) → task (decide word call) ≡ acquires call
 decides word call = by (word_admits call.announced call.readers (core_of word) call.want)
   where
-    by : (b : Bool) → task (if b then goes_to (record call { loaded = word; left = after_try call word }) stage.Try (action.Exchange word (after_try call word)) else rest (record call { loaded = word })) ≡ acquires call
+    by : (b : Bool) → task (if b then goes_to (record call { loaded = word; left = after_try call word }) stage.Try (action.Exchange word (after_try call word)) else wait (record call { loaded = word })) ≡ acquires call
     by true = refl
     by false = rests (record call { loaded = word })
 
@@ -96,7 +96,7 @@ module _ (found : ℕ) (call : Call) where
   either true next e = e
   either false next e = decides found call
 
-  again : (b : Bool) → task (if b then free found (record call { pauses = call.pauses + 1 }) else subtract call) ≡ gives call
+  again : (b : Bool) → task (if b then release_on found (record call { pauses = call.pauses + 1 }) else subtract call) ≡ gives call
   again true = refl
   again false = refl
 
@@ -104,7 +104,7 @@ module _ (found : ℕ) (call : Call) where
   releasing true = wakes_up (release_of call.readers call.loaded call.down).1 call
   releasing false = again (nat_lt call.pauses 8)
 
-  looking : (b : Bool) → task (if b then free found call else subtract call) ≡ gives call
+  looking : (b : Bool) → task (if b then release_on found call else subtract call) ≡ gives call
   looking true = refl
   looking false = refl
 

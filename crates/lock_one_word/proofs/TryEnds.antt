@@ -11,20 +11,20 @@ use Rattle.lock_one.specs.declared.action.Action.TheVariants as action
 use Rattle.lock_one.specs.declared.call.Call.{Call}
 use Rattle.lock_one.specs.declared.stage.Stage.{Stage}
 use Rattle.lock_one.specs.declared.stage.Stage.TheVariants as stage
-use Rattle.lock_one.specs.Machine.{Progress, core_of, after_try, decide, rest, acquired, goes_to, next_at, next_of}
+use Rattle.lock_one.specs.Machine.{Progress, core_of, after_try, decide, wait, acquired, goes_to, next_at, next_of}
 use Rattle.lock_one.specs.Steps.{ends, IsAt, is_step, hold_at}
 use Rattle.lock_one_word.specs.declared.rule.OneView.{OneView}
 use Rattle.lock_one_word.specs.Seats.{placed, Task, to_acquire, IsGoing}
 use Rattle.lock_one_word.specs.Drives.{IsTrying, says_yes}
 use Rattle.lock_one_word.proofs.Rests.{acquired_end, refused_end}
 
-rest_tries : (call : Call) → call.blocks ≡ false → IsTrying (rest call)
+rest_tries : (call : Call) → call.blocks ≡ false → IsTrying (wait call)
 rest_tries call never = rw never record { tries = refl; stage = inr (inr refl) }
 
 decide_tries : (word : ℕ) (call : Call) → call.blocks ≡ false → IsTrying (decide word call)
 decide_tries word call never = by (word_admits call.announced call.readers (core_of word) call.want)
   where
-    by : (b : Bool) → IsTrying (if b then goes_to (record call { loaded = word; left = after_try call word }) stage.Try (action.Exchange word (after_try call word)) else rest (record call { loaded = word }))
+    by : (b : Bool) → IsTrying (if b then goes_to (record call { loaded = word; left = after_try call word }) stage.Try (action.Exchange word (after_try call word)) else wait (record call { loaded = word }))
     by true = record { tries = never; stage = inl refl }
     by false = rest_tries (record call { loaded = word }) never
 

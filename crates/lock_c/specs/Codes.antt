@@ -1,0 +1,113 @@
+-- The numbers that C and the machines have for the same things.
+use Rattle.std.specs.Prelude.{ℕ, Bool, not, ◌==◌, if◌then◌else◌}
+use Rattle.lock_word.specs.declared.want.ExWant.{ExWant}
+use Rattle.lock_word.specs.declared.want.ExWant.TheVariants as want
+use Rattle.lock_word.specs.declared.down.Down.{Down}
+use Rattle.lock_word.specs.declared.down.Down.TheVariants as down
+use Rattle.lock_one.specs.declared.stage.Stage.{Stage}
+use Rattle.lock_one.specs.declared.stage.Stage.TheVariants as stage
+use Rattle.lock_events.specs.declared.stage.EventStage.{EventStage}
+use Rattle.lock_events.specs.declared.stage.EventStage.TheVariants as event
+use Rattle.lock_c.specs.declared.codes.Code.{Code}
+use Rattle.lock_c.specs.declared.codes.Code.TheVariants as code
+
+abbrev pub number_of_code : Code → ℕ
+number_of_code code.Load = 0
+number_of_code code.Exchange = 1
+number_of_code code.Subtract = 2
+number_of_code code.Store = 3
+number_of_code code.Park = 4
+number_of_code code.ParkNext = 5
+number_of_code code.WakeOne = 6
+number_of_code code.WakeAll = 7
+number_of_code code.WakeNext = 8
+number_of_code code.Spin = 9
+number_of_code code.Yield = 10
+number_of_code code.Refused = 11
+number_of_code code.Done = 12
+number_of_code code.Unlock = 13
+number_of_code code.Lock = 14
+
+abbrev pub number_of_want : ExWant → ℕ
+number_of_want want.Shared = 0
+number_of_want want.Exclusive = 1
+number_of_want want.Upgradable = 2
+number_of_want want.Upgrade = 3
+number_of_want want.Announce = 4
+
+abbrev pub want_of : ℕ → ExWant
+want_of n =
+    if n == 0 then want.Shared else if n == 1 then want.Exclusive else if n == 2 then want.Upgradable else if n == 3 then want.Upgrade else want.Announce
+
+abbrev pub number_of_down : Down → ℕ
+number_of_down down.Shared = 0
+number_of_down down.Exclusive = 1
+number_of_down down.Upgradable = 2
+number_of_down down.ToShared = 3
+number_of_down down.ToUpgradable = 4
+number_of_down down.UpgradableToShared = 5
+number_of_down down.Withdraw = 6
+
+abbrev pub down_of : ℕ → Down
+down_of n =
+    if n == 0 then down.Shared else if n == 1 then down.Exclusive else if n == 2 then down.Upgradable else if n == 3 then down.ToShared else
+    if n == 4 then down.ToUpgradable else if n == 5 then down.UpgradableToShared else down.Withdraw
+
+abbrev pub bit : Bool → ℕ
+bit answer = if answer then 1 else 0
+
+abbrev pub is_set : ℕ → Bool
+is_set n = not (n == 0)
+
+abbrev pub number_of_stage : Stage → ℕ
+number_of_stage stage.Look = 0
+number_of_stage stage.Try = 1
+number_of_stage stage.Pause = 2
+number_of_stage stage.Mark = 3
+number_of_stage stage.Sleep = 4
+number_of_stage stage.Withdraw = 5
+number_of_stage stage.Leave = 6
+number_of_stage stage.LookToRemove = 7
+number_of_stage stage.Remove = 8
+number_of_stage stage.Release = 9
+number_of_stage stage.Wake = 10
+number_of_stage stage.WakeRefused = 11
+number_of_stage stage.Acquired = 12
+number_of_stage stage.Refused = 13
+number_of_stage stage.Ended = 14
+
+abbrev pub stage_of : ℕ → Stage
+stage_of n =
+    if n == 0 then stage.Look else if n == 1 then stage.Try else if n == 2 then stage.Pause else if n == 3 then stage.Mark else
+    if n == 4 then stage.Sleep else if n == 5 then stage.Withdraw else if n == 6 then stage.Leave else if n == 7 then stage.LookToRemove else
+    if n == 8 then stage.Remove else if n == 9 then stage.Release else if n == 10 then stage.Wake else if n == 11 then stage.WakeRefused else
+    if n == 12 then stage.Acquired else if n == 13 then stage.Refused else stage.Ended
+
+abbrev pub number_of_event_stage : EventStage → ℕ
+number_of_event_stage event.FindCount = 0
+number_of_event_stage event.CountIn = 1
+number_of_event_stage event.YieldAway = 2
+number_of_event_stage event.WatchEpoch = 3
+number_of_event_stage event.Unlock = 4
+number_of_event_stage event.Sleep = 5
+number_of_event_stage event.YieldCounted = 6
+number_of_event_stage event.Leave = 7
+number_of_event_stage event.FindEpoch = 8
+number_of_event_stage event.CloseCount = 9
+number_of_event_stage event.RestartEpochs = 10
+number_of_event_stage event.OpenCount = 11
+number_of_event_stage event.Lock = 12
+number_of_event_stage event.Waited = 13
+number_of_event_stage event.FindWaits = 14
+number_of_event_stage event.NoteEpoch = 15
+number_of_event_stage event.EndEpoch = 16
+number_of_event_stage event.Wake = 17
+number_of_event_stage event.Notified = 18
+
+abbrev pub event_stage_of : ℕ → EventStage
+event_stage_of n =
+    if n == 0 then event.FindCount else if n == 1 then event.CountIn else if n == 2 then event.YieldAway else if n == 3 then event.WatchEpoch else
+    if n == 4 then event.Unlock else if n == 5 then event.Sleep else if n == 6 then event.YieldCounted else if n == 7 then event.Leave else
+    if n == 8 then event.FindEpoch else if n == 9 then event.CloseCount else if n == 10 then event.RestartEpochs else if n == 11 then event.OpenCount else
+    if n == 12 then event.Lock else if n == 13 then event.Waited else if n == 14 then event.FindWaits else if n == 15 then event.NoteEpoch else
+    if n == 16 then event.EndEpoch else if n == 17 then event.Wake else event.Notified

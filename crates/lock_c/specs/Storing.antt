@@ -1,0 +1,63 @@
+-- The steps on the number that a lock of 32 bits stores are the steps of the machine on its word.
+use Rattle.std.specs.Prelude.{◌≡◌, ℕ, ◌-◌, ◌^◌, ◌<◌, ◌==◌, Bool, true, false, if◌then◌else◌, List, slice_get, Some, IsTrue}
+use Rattle.lock_base.specs.Limits.{IsLimit}
+use Rattle.lock_base.specs.declared.machine.hold.Hold.{Hold}
+use Rattle.lock_word.specs.declared.down.Down.{Down}
+use Rattle.lock_one.specs.declared.action.Action.{Action}
+use Rattle.lock_one.specs.declared.action.Action.TheVariants as one
+use Rattle.lock_one.specs.declared.call.Call.{Call}
+use Rattle.lock_one.specs.declared.park.ParkLimits.{ParkLimits}
+use Rattle.lock_one.specs.declared.park.ParkView.{ParkView}
+use Rattle.lock_one.specs.declared.stage.Stage.TheVariants as stage
+use Rattle.lock_one.specs.Machine.{taking}
+use Rattle.lock_one.specs.Steps.{made, limits_of, hold_at, is_step, IsAt, Keeps}
+use Rattle.lock_one.specs.Stored.{stored_of, word_of_stored}
+use Rattle.lock_c.specs.declared.codes.Code.TheVariants as code
+use Rattle.lock_c.specs.declared.LockStep.{LockStep}
+use Rattle.lock_c.specs.Codes.{number_of_code}
+use Rattle.lock_c.specs.Packed.{step_of}
+
+-- the stored number after a step, as the driver makes it
+abbrev pub stored_after : LockStep → ℕ → ℕ
+stored_after s m =
+    if s.action == number_of_code code.Exchange then if m == s.first then s.second else m
+    else if s.action == number_of_code code.Subtract then m - s.first
+    else if s.action == number_of_code code.Store then s.first
+    else m
+
+abbrev pub is_exchange : Action → Bool
+is_exchange one.Load = false
+is_exchange (one.Exchange a b) = true
+is_exchange one.RemoveReader = false
+is_exchange (one.Park n f) = false
+is_exchange one.WakeOne = false
+is_exchange one.WakeAll = false
+is_exchange one.WakeNext = false
+is_exchange (one.Spin n) = false
+is_exchange one.Yield = false
+is_exchange (one.End b) = false
+
+-- the lock has this word, and is for fewer than 2^28 readers
+pub record InHalf (limits : ParkLimits) (word : ℕ) (views : List ParkView) : Type 0 where
+  pub limit : IsLimit limits.readers
+  pub few : limits.readers < 2 ^ 28
+  pub keeps : Keeps limits word views
+
+-- THE LAW: the lock stores each word in 32 bits. A step on the number makes of it what the action makes of the word, and the
+-- answer is read back as the word. So 32 bits cut no number of an action
+pub record StoringKeepsSteps : Type 0 where
+  pub fits : (limits : ParkLimits) (word : ℕ) (views : List ParkView) → InHalf limits word views
+      → (stored_of word < 2 ^ 32) × (word_of_stored (stored_of word) ≡ word)
+  -- an exchange of a word that the call found earlier; since then, the other parties may have moved
+  pub makes : (call : Call) (v : ParkView) (action : Action) (before : Hold) (earlier now : List ParkView) (k word : ℕ)
+      → IsAt call.stage call v action → v.held ≡ hold_at call.stage call before → is_step call.stage ≡ true
+      → (IsTrue (is_exchange action) → InHalf (limits_of call) call.loaded earlier × (slice_get earlier k ≡ Some v))
+      → InHalf (limits_of call) word now → slice_get now k ≡ Some v
+      → stored_after (step_of action) (stored_of word) ≡ stored_of (made action word)
+  -- a release begins with an exchange of a word that no call has found
+  pub begins : (readers word : ℕ) (down : Down) → word < 2 ^ 36 → stored_of word < 2 ^ 32
+      → stored_after (step_of (taking readers down).1) (stored_of word) ≡ stored_of (made (taking readers down).1 word)
+  -- a park compares the number as the machine compares the word
+  pub parks : (call : Call) (v : ParkView) (action : Action) (earlier now : List ParkView) (word : ℕ) → IsAt stage.Sleep call v action
+      → InHalf (limits_of call) call.loaded earlier → InHalf (limits_of call) word now
+      → (stored_of word == (step_of action).first) ≡ (word == call.loaded)

@@ -1,0 +1,11 @@
+//! What the steps mean. The law is the contract of a function with an empty body.
+ghost use Rattle.lock_events.specs.Runs.{EveryWaitIsReached};
+
+/// Takes a new condition variable and any acts of any number of calls, in any order, one atomic step at a time.
+///
+/// A wait registers before it releases its mutex. A notification that begins later has yet to end the epoch of the wait, or
+/// has ended it before its wake-up. So while the wait sleeps in the present epoch, no such notification has ended. Each number
+/// fits a word of 32 bits.
+pub fn every_wait_is_reached()
+    ensures { EveryWaitIsReached }
+{}

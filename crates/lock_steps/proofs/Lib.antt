@@ -1,9 +1,0 @@
-mod ActionKinds
-mod EventRuns
-mod Moves
-mod Refusals
-mod Runs
-mod Listed
-mod Serving
-mod Sleeping
-mod Steps
