@@ -52,12 +52,15 @@ pub use Rattle.lock_states.specs.Packed
 pub use Rattle.lock_word.specs.Seats
 pub use Rattle.lock_word.specs.CallerView
 pub use Rattle.lock_word.specs.Attempts
-pub use Rattle.lock_sleepers.specs.Sleepers
-pub use Rattle.lock_sleepers.specs.Wakes
-pub use Rattle.lock_sleepers.specs.WakeLaws
-pub use Rattle.lock_wake.specs.WakeSeats
-pub use Rattle.lock_wake.specs.Calls as WordCalls
-pub use Rattle.lock_wake.specs.Own
+pub use Rattle.lock_one.specs.Rule as ParkRule
+pub use Rattle.lock_one.specs.Machine as CallMachine
+pub use Rattle.lock_one.specs.Steps as CallSteps
+pub use Rattle.lock_one.specs.Answers
+pub use Rattle.lock_one.specs.Runs as CallRuns
+pub use Rattle.lock_one.specs.Stored
+pub use Rattle.lock_one_word.specs.Seats as WordSeats
+pub use Rattle.lock_one_word.specs.Calls as WordCalls
+pub use Rattle.lock_one_word.specs.Own
 pub use Rattle.lock_ruled.specs.Ruled
 pub use Rattle.lock_ruled.specs.SleepingUsers
 pub use Rattle.lock_ruled.specs.Slots

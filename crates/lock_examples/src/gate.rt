@@ -7,6 +7,7 @@ ghost use Rattle.lock_examples.specs.Gate.{IsClosed, IsOpen};
 use lock_api::{Fault, Mode, WordLock, WordToken};
 use std::alloc::Global;
 use std::sync::Wait;
+use std::sync::atomic::{AtomicU64, Ordering};
 use std::thread::{Threads, join, yield_now};
 
 /// Closes the gate once all that are inside have left. Visitors that come meanwhile wait outside.
@@ -41,13 +42,19 @@ pub fn leave(gate: &WordLock, visitor: WordToken)
 }
 
 /// Opens the gate once so many visitors wait at it, and stays inside. Returns the word that the keeper loaded before.
-fn open_for<R: Wait>(rt: &R, gate: &WordLock, keeper: WordToken, waiting: u64) -> (u64, WordToken)
+fn open_for<R: Wait>(
+    rt: &R,
+    gate: &WordLock,
+    keeper: WordToken,
+    arrived: &AtomicU64,
+    waiting: u64,
+) -> (u64, WordToken)
     requires { IsTokenOf gate.now Exclusive keeper }
     ensures closed { IsClosed result.0 }
     ensures inside { IsTokenOf gate.now Shared result.1 }
 {
     for _ in rt.forever() {
-        if gate.sleepers() == waiting {
+        if arrived.load(Ordering::SeqCst) == waiting && gate.may_have_sleepers() {
             break;
         }
         yield_now();
@@ -58,17 +65,17 @@ fn open_for<R: Wait>(rt: &R, gate: &WordLock, keeper: WordToken, waiting: u64) -
 
 /// Closes the gate, opens it once so many visitors wait at it, and leaves. Returns the word that the keeper loaded before
 /// it opened the gate.
-fn keep<R: Wait>(rt: &R, gate: &WordLock, waiting: u64) -> u64
+fn keep<R: Wait>(rt: &R, gate: &WordLock, arrived: &AtomicU64, waiting: u64) -> u64
     ensures { IsClosed result }
 {
     let keeper = close(rt, gate);
-    let (word, keeper) = open_for(rt, gate, keeper, waiting);
+    let (word, keeper) = open_for(rt, gate, keeper, arrived, waiting);
     leave(gate, keeper);
     word
 }
 
 /// Passes the gate once a keeper has closed it, and leaves. Returns the word that the visitor loaded inside.
-fn visit<R: Wait>(rt: &R, gate: &WordLock) -> u64
+fn visit<R: Wait>(rt: &R, gate: &WordLock, arrived: &AtomicU64) -> u64
     ensures { IsOpen result }
 {
     for _ in rt.forever() {
@@ -77,6 +84,7 @@ fn visit<R: Wait>(rt: &R, gate: &WordLock) -> u64
         }
         yield_now();
     }
+    arrived.fetch_add(1, Ordering::SeqCst);
     let (word, visitor) = pass(rt, gate);
     leave(gate, visitor);
     word
@@ -103,10 +111,15 @@ pub fn open_for_two<R: Threads + Wait + Sync>(
     ensures open { IfOk result (λ seen. IsOpen seen.inside.0 × IsOpen seen.inside.1) }
 {
     let gate = WordLock::new(alloc, places)?;
+    let arrived = AtomicU64::new(0);
     let (closed, inside) = join(
         rt,
-        || keep(rt, &gate, 2),
-        || join(rt, || visit(rt, &gate), || visit(rt, &gate)),
+        || keep(rt, &gate, &arrived, 2),
+        || join(
+            rt,
+            || visit(rt, &gate, &arrived),
+            || visit(rt, &gate, &arrived),
+        ),
     );
     Ok(Sights {
         closed,

@@ -844,7 +844,10 @@ in_park limits t place asleep = by t.underway refl place
 served : (s : LockInUse) → RunKept s → ThreadsAreServed s
 served s run =
     record {
+      range = run.range;
       small = run.keeps.small;
+      no_bar = run.keeps.kept.no_bar;
+      entitled = run.keeps.kept.entitled;
       coded = run.keeps.kept.coded;
       legal = run.keeps.kept.legal;
       none_forgotten = run.keeps.kept.none_forgotten;

@@ -1,5 +1,5 @@
 -- Runs: any number of threads with one lock of one word, which make single steps in any order, and sleep.
-use Rattle.std.specs.Prelude.{◌≡◌, ℕ, ◌^◌, ◌<◌, ◌≤◌, Bool, true, false, not, ◌&&◌, ◌||◌, ◌==◌, if◌then◌else◌, List, [], ◌∷◌, ◌++◌, map, slice_get, slice_set, Option, Some, None}
+use Rattle.std.specs.Prelude.{◌≡◌, ℕ, ◌^◌, ◌<◌, ◌≤◌, Bool, true, false, not, ◌&&◌, ◌||◌, ◌==◌, if◌then◌else◌, List, [], ◌∷◌, ◌++◌, map, slice_get, slice_set, Option, Some, None, IsTrue}
 use Rattle.lock_base.specs.declared.machine.hold.Hold.{Hold}
 use Rattle.lock_base.specs.Limits.{IsLimit}
 use Rattle.lock_base.specs.Holds.{hold_has}
@@ -19,7 +19,7 @@ use Rattle.lock_one.specs.declared.park.Park.{Park}
 use Rattle.lock_one.specs.declared.park.Park.TheVariants.{Awake, Asleep, Woken}
 use Rattle.lock_one.specs.declared.park.Debt.{Debt}
 use Rattle.lock_one.specs.declared.park.Debt.TheVariants as debt
-use Rattle.lock_one.specs.Rule.{holds_of, is_asleep, IsServed, with_park, with_debt, wake_all, wake_next, new_party}
+use Rattle.lock_one.specs.Rule.{holds_of, is_asleep, IsEntitled, IsServed, with_park, with_debt, wake_all, wake_next, new_party}
 use Rattle.lock_one.specs.Machine.{Progress, is_exclusive, wakes_one, core_of, has_sleepers, acquiring, taking, next_at, next_of}
 use Rattle.lock_one.specs.Steps.{made, touches, ends, hold_at}
 
@@ -199,10 +199,15 @@ pub record IsInPark (t : Thread) : Type 0 where
 
 -- what holds after any acts
 pub record ThreadsAreServed (s : LockInUse) : Type 0 where
+  pub range : IsLimit s.readers
   pub small : s.word < 2 ^ 36
   -- the word without S is the sum of what the threads hold, which is compatible, with at most one bar
   pub coded : core_of s.word ≡ word_of (all_of (holds_of (views_of s.threads)))
   pub legal : IsLegalBarredBag s.readers (all_of (holds_of (views_of s.threads)))
+  -- a mutex has no bar
+  pub no_bar : IsTrue (s.readers == 1) → core_of s.word < 2 ^ 34
+  -- a thread that sleeps wants what it may acquire
+  pub entitled : (k : ℕ) (v : ParkView) (want : ExWant) → slice_get (views_of s.threads) k ≡ Some v → v.park ≡ Asleep want → IsEntitled v want
   -- of each sleeper: S is set and the word refuses it; or a thread owes it a wake-up, or (in a mutex) was woken in its place
   pub none_forgotten : (k : ℕ) (v : ParkView) (want : ExWant) → slice_get (views_of s.threads) k ≡ Some v → v.park ≡ Asleep want
       → IsServed (limits_in s.readers) (core_of s.word) (has_sleepers s.word) (views_of s.threads) v want

@@ -1,14 +1,13 @@
 -- Each kind of step of a seat keeps the rule of the table, by the law of the machine.
-use Rattle.std.proofs.Common.{◌≡◌, ◌≢◌, ℕ, zero, suc, ◌+◌, ◌-◌, ◌*◌, ◌/◌, ◌%◌, ◌^◌, ◌<◌, ◌≤◌, Bool, true, false, ◌==◌, if◌then◌else◌, inl, inr, List, [], ◌∷◌, ◌++◌, set, get_or, length, slice_get, slice_set, slice_index, Some, IsTrue, refl, sym, ap, subst, ◌∙◌, arith, eqb, eq-eqb, ltb-true, length-set, get_or-set_same}
+use Rattle.std.proofs.Common.{◌≡◌, ℕ, zero, suc, ◌+◌, ◌-◌, ◌%◌, ◌^◌, ◌<◌, ◌≤◌, Bool, true, false, ◌==◌, if◌then◌else◌, inl, inr, List, [], ◌∷◌, ◌++◌, set, get_or, length, slice_get, slice_set, Some, IsTrue, refl, sym, ap, subst, ◌∙◌, arith, eqb, eq-eqb, ltb-true, length-set, get_or-set_same}
 use Rattle.std.proofs.lemmas.Bool.{false_from_ne_true}
 use Rattle.std.proofs.lemmas.List.{map-append}
 use mathlib.Core.Option.{some, none}
 use lib.ListN.{get_elem?}
 use prog.Atomic.{either}
-use Rattle.atomic_table.specs.Table.{State, Act, step, keeps, stepped, carried_after, Valid, Allows, Enters}
+use Rattle.atomic_table.specs.Table.{Act, step, keeps, stepped, carried_after, Valid, Allows, Enters}
 use Rattle.atomic_table.proofs.Lists.{at_set, at_snoc, at_last, exchanged}
 use Rattle.lock_base.specs.declared.machine.hold.Hold.{Hold}
-use Rattle.lock_base.specs.Limits.{IsLimit}
 use Rattle.lock_word.specs.declared.down.Down.{Down}
 use Rattle.lock_word.specs.declared.down.Down.TheVariants as down
 use Rattle.lock_word.specs.Rule.{WordShows}
@@ -19,7 +18,7 @@ use Rattle.lock_one.specs.declared.action.Action.{Action}
 use Rattle.lock_one.specs.declared.action.Action.TheVariants as action
 use Rattle.lock_one.specs.declared.call.Call.{Call}
 use Rattle.lock_one.specs.declared.park.ParkView.{ParkView}
-use Rattle.lock_one.specs.Machine.{core_of, has_sleepers, next_of}
+use Rattle.lock_one.specs.Machine.{core_of, has_sleepers}
 use Rattle.lock_one.specs.Runs.{limits_in}
 use Rattle.lock_one.specs.Steps.{made, limits_of, is_step, Keeps}
 use Rattle.lock_one.specs.Stored.{stored_of, word_of_stored}
@@ -27,7 +26,8 @@ use Rattle.lock_one.proofs.Parking.{parties_of, party_of, rule_of, party_at as p
 use Rattle.lock_one.proofs.Runs.{joined}
 use Rattle.lock_one.proofs.Stored.{read_back, stored_again}
 use Rattle.lock_one_word.specs.declared.rule.OneView.{OneView}
-use Rattle.lock_one_word.specs.Seats.{resting, parties_in, Table, Self, stored_in, newcomer, IsKept, placed, Task, IsGoing}
+use Rattle.lock_one_word.specs.Seats.{resting, parties_in, Table, Self, stored_in, newcomer, IsKept, Task, IsGoing}
+use Rattle.lock_one_word.specs.Legal.{EveryStateIsLegal}
 use Rattle.lock_one_word.specs.Plays.{Agrees, Loads, Exchanges, Subtracts, stored_amount, down_of_amount}
 use Rattle.lock_one_word.proofs.Parties.{party_at, keeps_resting, same_views}
 use Rattle.lock_one_word.proofs.Agree.{law, agrees}
@@ -136,8 +136,8 @@ exchanges limit slots id me call before task old new stepping going old_small ne
     let second : word_of_stored (stored_of new) ≡ new = read_back new new_small in
     subst
     (λ (a : Action).
-        (w : OneView) × (b : Act (Unit {0})) × Valid s.homes me.1 b × IsKept limit (stepped s 0 (either (eqb raw (stored_of old)) (stored_of new) raw) id me.1 w b)
-        × Agrees a me raw (w, carried_after me.1 b))
+    (w : OneView) × (b : Act (Unit {0})) × Valid s.homes me.1 b × IsKept limit (stepped s 0 (either (eqb raw (stored_of old)) (stored_of new) raw) id me.1 w b)
+    × Agrees a me raw (w, carried_after me.1 b))
     (sym (ap (λ n. action.Exchange n (word_of_stored (stored_of new))) first ∙ ap (λ n. action.Exchange old n) second))
     (exchanged raw (stored_of old) (stored_of new)
     (λ n. (w : OneView) × (b : Act (Unit {0})) × Valid s.homes me.1 b × IsKept limit (stepped s 0 n id me.1 w b)
@@ -201,8 +201,8 @@ subtracts limit slots id me call before task d stepping going has s kept same at
     let is = less limit raw me.0.held d kept.small within has (told limit id s me.0 kept at) in
     subst
     (λ (e : Down).
-        (w : OneView) × (b : Act (Unit {0})) × Valid s.homes me.1 b × IsKept limit (stepped s 0 ((raw + (2 ^ 64 - stored_amount d)) % 2 ^ 64) id me.1 w b)
-        × Agrees (action.Subtract e) me raw (w, carried_after me.1 b))
+    (w : OneView) × (b : Act (Unit {0})) × Valid s.homes me.1 b × IsKept limit (stepped s 0 ((raw + (2 ^ 64 - stored_amount d)) % 2 ^ 64) id me.1 w b)
+    × Agrees (action.Subtract e) me raw (w, carried_after me.1 b))
     (sym (same_down d))
     (steps_to limit slots id ((raw + (2 ^ 64 - stored_amount d)) % 2 ^ 64) s me call before task (action.Subtract d) kept at stepping going is.1 is.0)
 
@@ -259,3 +259,6 @@ subtracts_as limit slots id me call before task d k stepping going has is =
 
 pub same_release : (d : Down) (k : ℕ) → k ≡ stored_amount d → action.Subtract d ≡ action.Subtract (down_of_amount k)
 same_release d k is = ap (λ (e : Down). action.Subtract e) (sym (ap down_of_amount is ∙ same_down d))
+
+pub every_state_is_legal : EveryStateIsLegal IsKept
+every_state_is_legal limit s kept = record { range = kept.range; coded = kept.keeps.kept.coded; legal = kept.keeps.kept.legal }

@@ -1,4 +1,5 @@
 pub mod Seats
+pub mod Legal
 pub mod Plays
 pub mod Drives
 pub mod Calls

@@ -54,7 +54,12 @@ impl WordLock {
 
     #[tactic(auto, using(crate::proofs::Tokens::may_acquire, crate::proofs::Tokens::awaits))]
     /// Acquires the mode, blocking until the wait is over.
-    fn acquire_within<R: Wait, U: Until<R>>(&self, rt: &R, mode: Mode, until: &U) -> Option<WordToken>
+    fn acquire_within<R: Wait, U: Until<R>>(
+        &self,
+        rt: &R,
+        mode: Mode,
+        until: &U,
+    ) -> Option<WordToken>
         ensures { IfSome result (IsTokenOf self.now mode) }
     {
         let (answer, mut seat) = self.enter();

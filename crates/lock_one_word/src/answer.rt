@@ -55,7 +55,13 @@ impl WordLock {
     {
         let (stored, seat) = self.table.shared.load_new_seat::<LoadWord>(0);
         let found = from_stored(stored);
-        (Answer { made: Action::Load, found }, seat)
+        (
+            Answer {
+                made: Action::Load,
+                found,
+            },
+            seat,
+        )
     }
 
     /// Loads the word.
@@ -67,11 +73,20 @@ impl WordLock {
         ensures shows { WordShows seat.old.me.0.readers (core_of result.found) seat.old.me.0.held }
     {
         let found = from_stored(self.table.shared.load::<LoadWord>(seat, 0));
-        Answer { made: Action::Load, found }
+        Answer {
+            made: Action::Load,
+            found,
+        }
     }
 
     /// Replaces the word by the second one, if it is the first.
-    pub(crate) fn exchange(&self, seat: &mut Seat<(), OneView>, call: &Call, old: u64, new: u64) -> Answer
+    pub(crate) fn exchange(
+        &self,
+        seat: &mut Seat<(), OneView>,
+        call: &Call,
+        old: u64,
+        new: u64,
+    ) -> Answer
         requires table { seat.old.table_id ≡ self.now.id }
         requires going { (is_step call.now.stage ≡ true) × ((before : Hold) × (task : Task) × IsGoing (call.now, Exchange old new) before task seat.old.me.0) }
         ensures table { (seat.new.table_id ≡ seat.old.table_id) × (seat.new.me.1 ≡ seat.old.me.1) × (seat.new.me.0.readers ≡ seat.old.me.0.readers) }
@@ -85,7 +100,10 @@ impl WordLock {
             .shared
             .compare_exchange::<ExchangeWord>(seat, 0, first, second);
         let found = from_stored(stored);
-        Answer { made: Action::Exchange(old, new), found }
+        Answer {
+            made: Action::Exchange(old, new),
+            found,
+        }
     }
 
     /// Subtracts what the release takes.
@@ -103,11 +121,20 @@ impl WordLock {
             .shared
             .fetch_sub::<SubtractFromWord>(seat, 0, stored_amount(down));
         let found = from_stored(stored);
-        Answer { made: Action::Subtract(down), found }
+        Answer {
+            made: Action::Subtract(down),
+            found,
+        }
     }
 
     /// Sleeps while the word is this number, or until the wait is over. The answer is 1 if it is.
-    pub(crate) fn park<R: Wait, U: Until<R>>(&self, rt: &R, number: u64, is_next: bool, until: &U) -> Answer
+    pub(crate) fn park<R: Wait, U: Until<R>>(
+        &self,
+        rt: &R,
+        number: u64,
+        is_next: bool,
+        until: &U,
+    ) -> Answer
         ensures { result.made ≡ Park number is_next }
     {
         let expected = (to_stored(number) % 4_294_967_296) as u32;
@@ -123,7 +150,10 @@ impl WordLock {
             Left::Over => true,
         };
         let found = u64::from(is_late);
-        Answer { made: Action::Park(number, is_next), found }
+        Answer {
+            made: Action::Park(number, is_next),
+            found,
+        }
     }
 
     /// Yields in place of a sleep. The answer is 1 if the wait is over.
@@ -132,7 +162,10 @@ impl WordLock {
     {
         thread::yield_now();
         let found = u64::from(matches!(until.left(rt), Left::Over));
-        Answer { made: Action::Yield, found }
+        Answer {
+            made: Action::Yield,
+            found,
+        }
     }
 
     /// Spins two to the power of this number of times.
@@ -142,7 +175,10 @@ impl WordLock {
         for _ in 0..1u64 << (times % 64) {
             spin_loop();
         }
-        Answer { made: Action::Spin(times), found: 0 }
+        Answer {
+            made: Action::Spin(times),
+            found: 0,
+        }
     }
 
     /// Wakes one sleeper.
@@ -150,7 +186,10 @@ impl WordLock {
         ensures { result.made ≡ WakeOne }
     {
         self.table.shared.wake_one(0);
-        Answer { made: Action::WakeOne, found: 0 }
+        Answer {
+            made: Action::WakeOne,
+            found: 0,
+        }
     }
 
     /// Wakes all sleepers.
@@ -158,7 +197,10 @@ impl WordLock {
         ensures { result.made ≡ WakeAll }
     {
         self.table.shared.wake_all(0);
-        Answer { made: Action::WakeAll, found: 0 }
+        Answer {
+            made: Action::WakeAll,
+            found: 0,
+        }
     }
 
     /// Wakes the sleepers that may pass a bar, and all others too, which a table cannot tell apart.
@@ -166,7 +208,10 @@ impl WordLock {
         ensures { result.made ≡ WakeNext }
     {
         self.table.shared.wake_all(0);
-        Answer { made: Action::WakeNext, found: 0 }
+        Answer {
+            made: Action::WakeNext,
+            found: 0,
+        }
     }
 }
 

@@ -110,7 +110,12 @@ impl WordLock {
     }
 
     /// Makes an upgradable token exclusive, blocking until the wait is over, or returns it unchanged.
-    fn upgrade_within<R: Wait, U: Until<R>>(&self, rt: &R, token: WordToken, until: &U) -> Result<WordToken, WordToken>
+    fn upgrade_within<R: Wait, U: Until<R>>(
+        &self,
+        rt: &R,
+        token: WordToken,
+        until: &U,
+    ) -> Result<WordToken, WordToken>
         requires { IsTokenOf self.now Upgradable token }
         ensures { MatchResult result (IsTokenOf self.now Exclusive) (λ back. back ≡ token) }
     {

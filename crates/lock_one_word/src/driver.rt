@@ -1,8 +1,6 @@
 //! The driver of a call: it makes the actions that the machine asks for.
 ghost use Rattle.std.specs.Prelude.{◌≡◌, true, false, None, IfSome, IfOk, IfErr};
-
 ghost use Rattle.lock_one.specs.declared.action.Action.TheVariants.{End};
-
 ghost use Rattle.lock_one_word.specs.Drives.{CanGo, GoesOn, LeadsTo, touches_lock};
 
 use crate::answer::Answer;
@@ -15,7 +13,12 @@ use std::sync::Wait;
 
 impl WordLock {
     /// Makes an action on the word or a wake-up. Returns `None` for a pause, a sleep or the end.
-    pub(crate) fn make_on_lock(&self, seat: &mut Seat<(), OneView>, call: &Call, action: Action) -> Option<Answer>
+    pub(crate) fn make_on_lock(
+        &self,
+        seat: &mut Seat<(), OneView>,
+        call: &Call,
+        action: Action,
+    ) -> Option<Answer>
         requires table { seat.old.table_id ≡ self.now.id }
         requires going { CanGo (call.now, action) seat.old.me }
         ensures table { (seat.new.table_id ≡ seat.old.table_id) × (seat.new.me.1 ≡ seat.old.me.1) × (seat.new.me.0.readers ≡ seat.old.me.0.readers) }

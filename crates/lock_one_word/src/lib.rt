@@ -5,6 +5,7 @@ mod acquisitions;
 mod answer;
 mod changes;
 mod driver;
+mod laws;
 mod plays;
 mod releases;
 mod rule;
@@ -14,6 +15,7 @@ mod tries;
 mod until;
 mod word_lock;
 
+pub use laws::every_state_is_legal;
 pub use rule::{OneRule, OneView};
 pub use token::WordToken;
 pub use word_lock::WordLock;

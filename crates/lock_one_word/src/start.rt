@@ -17,7 +17,13 @@ use lock_word::ExWant;
 
 impl WordLock {
     /// Begins a call by the load that it takes the answer of and, if the word admits the call, an exchange.
-    pub(crate) fn start(&self, seat: &mut Seat<(), OneView>, answer: Answer, want: ExWant, blocks: bool) -> (Call, Action)
+    pub(crate) fn start(
+        &self,
+        seat: &mut Seat<(), OneView>,
+        answer: Answer,
+        want: ExWant,
+        blocks: bool,
+    ) -> (Call, Action)
         requires table { (seat.old.table_id ≡ self.now.id) × (seat.old.me.0.readers ≡ self.now.readers) }
         requires looked { (answer.made ≡ Load) × Goes Load seat.old.me answer.found seat.old.me }
         requires awaited { IsTrue (is_awaited want) }

@@ -9,7 +9,12 @@ use lock_one::{Action, Call};
 
 impl WordLock {
     /// Exchanges until an exchange acquires or a word refuses. Returns whether it acquired.
-    pub(crate) fn attempt(&self, seat: &mut Seat<(), OneView>, call: &mut Call, first: Action) -> bool
+    pub(crate) fn attempt(
+        &self,
+        seat: &mut Seat<(), OneView>,
+        call: &mut Call,
+        first: Action,
+    ) -> bool
         requires table { seat.old.table_id ≡ self.now.id }
         requires going { CanGo (call.old, first) seat.old.me × IsTrying (call.old, first) }
         ensures table { (seat.new.table_id ≡ seat.old.table_id) × (seat.new.me.1 ≡ seat.old.me.1) × (seat.new.me.0.readers ≡ seat.old.me.0.readers) }

@@ -1,6 +1,8 @@
 -- A chain of holders that sleep would rise for ever.
-use Rattle.std.proofs.Common.{◌≡◌, ℕ, zero, suc, ◌+◌, ◌^◌, ◌<◌, ◌≤◌, Bool, true, false, List, [], ◌∷◌, slice_get, Some, ◌⊎◌, inl, inr, IsTrue, refl, ap, subst, arith, ltb-true}
+use Rattle.std.proofs.Common.{◌≡◌, ℕ, zero, suc, ◌+◌, ◌^◌, ◌<◌, ◌≤◌, Bool, true, false, ◌==◌, ◌&&◌, ◌||◌, if◌then◌else◌, List, [], ◌∷◌, slice_get, Some, ◌⊎◌, inl, inr, IsTrue, refl, sym, ap, subst, ◌∙◌, arith, ltb-true, eq-eqb}
+use Rattle.std.proofs.lemmas.Bool.{false≢true, true≢false, cases_Bool}
 use Rattle.std.proofs.lemmas.List.Sums.{sum_by-cons}
+use Rattle.std.proofs.lemmas.Option.{slice_get-map}
 use Rattle.lock_base.specs.declared.machine.hold.Hold.{Hold}
 use Rattle.lock_base.specs.Limits.{IsLimit}
 use Rattle.lock_base.specs.Modes.{tokens}
@@ -8,62 +10,64 @@ use Rattle.lock_base.specs.Holds.{hold_has}
 use Rattle.lock_word.specs.declared.want.ExWant.{ExWant}
 use Rattle.lock_word.specs.declared.want.ExWant.TheVariants.{Shared, Exclusive, Upgradable, Upgrade, Announce}
 use Rattle.lock_word.specs.BarredBags.{bars_of}
-use Rattle.lock_word.specs.Rule.{holds, held_by_all, KeepsRule}
+use Rattle.lock_word.specs.Holders.{all_of}
 use Rattle.lock_word.specs.Word.{word_admits, step_of_want}
 use Rattle.lock_word.specs.Unblocking.{is_awaited}
-use Rattle.lock_word.proofs.Rules.{part_of_parties}
-use Rattle.lock_sleepers.proofs.Wakes.{state_at}
-use Rattle.lock_sleepers.specs.declared.sleeper.WakeLimits.{WakeLimits}
-use Rattle.lock_sleepers.specs.declared.sleeper.SleeperView.{SleeperView}
-use Rattle.lock_sleepers.specs.Sleepers.{states_of, Sleeps, SleepersAreRefused}
-use Rattle.lock_wake.specs.WakeSeats.{sleepers_of, word_in, epoch_in}
-use Rattle.lock_ranked.specs.Moments.{Moment, SeatOf, SleepsFor, HoldsLock, IsPending, IsInOrder, SomeHolderIsAwake}
+use Rattle.lock_word.proofs.Holders.{part_of_all}
+use Rattle.lock_one.specs.declared.park.ParkView.{ParkView}
+use Rattle.lock_one.specs.declared.park.Park.TheVariants.{Asleep}
+use Rattle.lock_one.specs.declared.park.Debt.{Debt}
+use Rattle.lock_one.specs.declared.park.Debt.TheVariants.{Nothing}
+use Rattle.lock_one.specs.Machine.{core_of, has_sleepers}
+use Rattle.lock_one.specs.Rule.{holds_of, admits_to, is_woken, reaches, has_duty, serves, SomeoneServes, IsServed}
+use Rattle.lock_one.specs.Runs.{LockInUse, views_of, limits_in, ThreadsAreServed}
+use Rattle.lock_ranked.specs.Moments.{Moment, PartyOf, SleepsFor, HoldsLock, IsPending, IsInOrder, SomeHolderIsAwake}
 
-abbrev tokens_of : SleeperView → ℕ
-tokens_of v = tokens v.state.held.bag
+abbrev tokens_of : ParkView → ℕ
+tokens_of v = tokens v.held.bag
 
-abbrev bar_of : SleeperView → ℕ
-bar_of v = bars_of v.state.held.announced
+abbrev bar_of : ParkView → ℕ
+bar_of v = bars_of v.held.announced
 
 -- a seat with something
-record Found (views : List SleeperView) (Has : SleeperView → Type 0) : Type 0 where
+record Found (views : List ParkView) (Has : ParkView → Type 0) : Type 0 where
   number : ℕ
-  view : SleeperView
+  view : ParkView
   is : slice_get views number ≡ Some view
   has : Has view
 
-later : (views : List SleeperView) (v : SleeperView) (Has : SleeperView → Type 0) → Found views Has → Found (v ∷ views) Has
+later : (views : List ParkView) (v : ParkView) (Has : ParkView → Type 0) → Found views Has → Found (v ∷ views) Has
 later views v Has f = record { number = suc f.number; view = f.view; is = f.is; has = f.has }
 
 -- where all seats together have a token, some seat has one
-found_token : (views : List SleeperView) → 0 < tokens (held_by_all (states_of views)).bag → Found views (λ v. 0 < tokens_of v)
+found_token : (views : List ParkView) → 0 < tokens (all_of (holds_of views)).bag → Found views (λ v. 0 < tokens_of v)
 found_token [] some = absurd (omega arith)
 found_token (v ∷ views) some = first v views (tokens_of v) refl (λ left. found_token views left) some
   where
-    first : (v : SleeperView) (views : List SleeperView) (n : ℕ) → tokens_of v ≡ n
-        → (0 < tokens (held_by_all (states_of views)).bag → Found views (λ v. 0 < tokens_of v))
-        → 0 < tokens (held_by_all (states_of (v ∷ views))).bag → Found (v ∷ views) (λ v. 0 < tokens_of v)
+    first : (v : ParkView) (views : List ParkView) (n : ℕ) → tokens_of v ≡ n
+        → (0 < tokens (all_of (holds_of views)).bag → Found views (λ v. 0 < tokens_of v))
+        → 0 < tokens (all_of (holds_of (v ∷ views))).bag → Found (v ∷ views) (λ v. 0 < tokens_of v)
     first v views zero none rest some =
-        let hs = holds (states_of views) in
-        let shared = sum_by-cons (λ (h : Hold). h.bag.shared) v.state.held hs in
-        let exclusive = sum_by-cons (λ (h : Hold). h.bag.exclusive) v.state.held hs in
-        let upgradable = sum_by-cons (λ (h : Hold). h.bag.upgradable) v.state.held hs in
+        let hs = holds_of views in
+        let shared = sum_by-cons (λ (h : Hold). h.bag.shared) v.held hs in
+        let exclusive = sum_by-cons (λ (h : Hold). h.bag.exclusive) v.held hs in
+        let upgradable = sum_by-cons (λ (h : Hold). h.bag.upgradable) v.held hs in
         later views v (λ v. 0 < tokens_of v) (rest (omega arith))
     first v views (suc n) is rest some = record { number = 0; view = v; is = refl; has = omega arith }
 
 -- where all seats together have a bar, some seat has announced itself
-found_bar : (views : List SleeperView) → 0 < (held_by_all (states_of views)).bars → Found views (λ v. v.state.held.announced ≡ true)
+found_bar : (views : List ParkView) → 0 < (all_of (holds_of views)).bars → Found views (λ v. v.held.announced ≡ true)
 found_bar [] some = absurd (omega arith)
-found_bar (v ∷ views) some = first v views v.state.held.announced refl (λ left. found_bar views left) some
+found_bar (v ∷ views) some = first v views v.held.announced refl (λ left. found_bar views left) some
   where
-    first : (v : SleeperView) (views : List SleeperView) (b : Bool) → v.state.held.announced ≡ b
-        → (0 < (held_by_all (states_of views)).bars → Found views (λ v. v.state.held.announced ≡ true))
-        → 0 < (held_by_all (states_of (v ∷ views))).bars → Found (v ∷ views) (λ v. v.state.held.announced ≡ true)
+    first : (v : ParkView) (views : List ParkView) (b : Bool) → v.held.announced ≡ b
+        → (0 < (all_of (holds_of views)).bars → Found views (λ v. v.held.announced ≡ true))
+        → 0 < (all_of (holds_of (v ∷ views))).bars → Found (v ∷ views) (λ v. v.held.announced ≡ true)
     first v views true is rest some = record { number = 0; view = v; is = refl; has = is }
     first v views false is rest some =
         let none : bar_of v ≡ 0 = ap bars_of is in
-        let bars = sum_by-cons (λ (h : Hold). bars_of h.announced) v.state.held (holds (states_of views)) in
-        later views v (λ v. v.state.held.announced ≡ true) (rest (omega arith))
+        let bars = sum_by-cons (λ (h : Hold). bars_of h.announced) v.held (holds_of views) in
+        later views v (λ v. v.held.announced ≡ true) (rest (omega arith))
 
 -- a free word admits each acquisition
 free_admits : (announced : Bool) (limit : ℕ) (want : ExWant) → 0 < limit → IsTrue (is_awaited want)
@@ -85,63 +89,107 @@ upgrades_own own want is entitled =
     let has : IsTrue (hold_has own (step_of_want Upgrade)) = subst (λ w. IsTrue (hold_has own (step_of_want w))) is entitled in
     ltb-true 0 own.bag.upgradable has
 
-module _ (limits : WakeLimits) (word epoch : ℕ) (views : List SleeperView) (range : IsLimit limits.readers)
-    (rule : KeepsRule limits.readers word (states_of views)) (refuses : SleepersAreRefused limits word epoch views)
-    (pending : (k : ℕ) (v : SleeperView) → slice_get views k ≡ Some v → v.state.held.announced ≡ true → Sleeps limits epoch v Exclusive)
-    (k : ℕ) (v : SleeperView) (want : ExWant) (at : slice_get views k ≡ Some v) (sleeps : Sleeps limits epoch v want) where
+-- where no wake-up is owed, and no woken thread has yet to look, the word refuses each sleeper
+none_serves : (readers : ℕ) (server v : ParkView) (want : ExWant) → server.debt ≡ Nothing → is_woken server.park ≡ false → serves (limits_in readers) server v want ≡ false
+none_serves readers server v want owes awake =
+    ap (λ d. reaches (limits_in readers) d v want || has_duty (limits_in readers) server) owes ∙ by (readers == 1) awake
+  where
+    by : (b : Bool) → is_woken server.park ≡ false → (b && is_woken server.park) ≡ false
+    by true e = e
+    by false e = refl
+
+module _ (s : LockInUse) (served : ThreadsAreServed s)
+    (rests : (k : ℕ) (v : ParkView) → slice_get (views_of s.threads) k ≡ Some v → (v.debt ≡ Nothing) × (is_woken v.park ≡ false))
+    (pending : (k : ℕ) (v : ParkView) → slice_get (views_of s.threads) k ≡ Some v → v.held.announced ≡ true → v.park ≡ Asleep Exclusive)
+    (k : ℕ) (v : ParkView) (want : ExWant) (at : slice_get (views_of s.threads) k ≡ Some v) (sleeps : v.park ≡ Asleep want) where
+  abbrev views : List ParkView
+  views = views_of s.threads
+
+  abbrev word : ℕ
+  word = core_of s.word
+
+  refuses : (j : ℕ) (w : ParkView) (wish : ExWant) → slice_get views j ≡ Some w → w.park ≡ Asleep wish → admits_to (limits_in s.readers) word w wish ≡ false
+  refuses j w wish is asleep =
+      elim (served.none_forgotten j w wish is asleep) [
+        | inl set ↦ set.1
+        | inr someone ↦
+            (let rest = rests someone.number someone.server someone.is in
+            absurd (false≢true (sym (none_serves s.readers someone.server w wish rest.0 rest.1) ∙ someone.does)))
+      ]
+
+  -- a mutex refuses if it is not free, and any other lock as its word does
+  mutex_taken : (s.readers == 1) ≡ true → word ≡ 0 → ⊥
+  mutex_taken one free =
+      let refused = subst (λ b. (if b then word == 0 else word_admits v.held.announced s.readers word want) ≡ false) one (refuses k v want at sleeps) in
+      true≢false (sym (eq-eqb word 0 free) ∙ refused)
+
+  word_refuses : (s.readers == 1) ≡ false → (j : ℕ) (w : ParkView) (wish : ExWant) → slice_get views j ≡ Some w → w.park ≡ Asleep wish
+      → word_admits w.held.announced s.readers word wish ≡ false
+  word_refuses many j w wish is asleep =
+      subst (λ b. (if b then word == 0 else word_admits w.held.announced s.readers word wish) ≡ false) many (refuses j w wish is asleep)
+
+  own_part : (j : ℕ) (w : ParkView) → slice_get views j ≡ Some w → slice_get (holds_of views) j ≡ Some w.held
+  own_part j w is = rw (slice_get-map (λ (x : ParkView). x.held) views j, is)
+
   -- a sleeper is not refused by a free word
-  not_free : (held_by_all (states_of views)).bars ≡ 0 → tokens (held_by_all (states_of views)).bag ≡ 0 → ⊥
+  not_free : (all_of (holds_of views)).bars ≡ 0 → tokens (all_of (holds_of views)).bag ≡ 0 → ⊥
   not_free none empty =
-      let coded = rule.coded in
+      let coded = served.coded in
       let free : word ≡ 0 = omega arith in
-      let refused = subst (λ w. word_admits v.state.held.announced limits.readers w want ≡ false) free (refuses k v want at sleeps) in
-      let upgrade = free_admits v.state.held.announced limits.readers want range.0 sleeps.awaited refused in
-      let own = upgrades_own v.state.held want upgrade sleeps.entitled in
-      let part = part_of_parties (states_of views) k v.state (state_at views k v at) in
-      let le = part.upgradable in
-      omega arith
+      elim (cases_Bool (s.readers == 1)) [
+        | inl one ↦ mutex_taken one free
+        | inr many ↦
+            (let refused = subst (λ w. word_admits v.held.announced s.readers w want ≡ false) free (word_refuses many k v want at sleeps) in
+            let entitled = served.entitled k v want at sleeps in
+            let upgrade = free_admits v.held.announced s.readers want served.range.0 entitled.0 refused in
+            let own = upgrades_own v.held want upgrade entitled.1 in
+            let part = part_of_all (holds_of views) k v.held (own_part k v at) in
+            let le = part.upgradable in
+            omega arith)
+      ]
 
   -- nor by the bar of a writer that sleeps too
-  not_barred : 0 < (held_by_all (states_of views)).bars → tokens (held_by_all (states_of views)).bag ≡ 0 → ⊥
+  not_barred : 0 < (all_of (holds_of views)).bars → tokens (all_of (holds_of views)).bag ≡ 0 → ⊥
   not_barred some empty =
-      let coded = rule.coded in
-      let one = rule.legal.one_bar in
+      let coded = served.coded in
+      let one_bar = served.legal.one_bar in
       let bar : word ≡ 2 ^ 34 = omega arith in
-      let f = found_bar views some in
-      let refused = refuses f.number f.view Exclusive f.is (pending f.number f.view f.is f.has) in
-      barred_admits f.view.state.held.announced limits.readers word f.has bar refused
+      elim (cases_Bool (s.readers == 1)) [
+        | inl one ↦ (let low = served.no_bar one in omega arith)
+        | inr many ↦
+            (let f = found_bar views some in
+            let refused = word_refuses many f.number f.view Exclusive f.is (pending f.number f.view f.is f.has) in
+            barred_admits f.view.held.announced s.readers word f.has bar refused)
+      ]
 
   -- so a lock for which a thread sleeps has a token
-  some_token : (n : ℕ) → tokens (held_by_all (states_of views)).bag ≡ n → 0 < tokens (held_by_all (states_of views)).bag
-  some_token zero empty = absurd (by_bars (held_by_all (states_of views)).bars refl)
+  pub some_token : (n : ℕ) → tokens (all_of (holds_of views)).bag ≡ n → 0 < tokens (all_of (holds_of views)).bag
+  some_token zero empty = absurd (by_bars (all_of (holds_of views)).bars refl)
     where
-      by_bars : (n : ℕ) → (held_by_all (states_of views)).bars ≡ n → ⊥
+      by_bars : (n : ℕ) → (all_of (holds_of views)).bars ≡ n → ⊥
       by_bars zero none = not_free none empty
       by_bars (suc n) is = not_barred (omega arith) empty
   some_token (suc n) is = omega arith
 
 module _ (top : ℕ) (m : Moment) (o : IsInOrder top m)
     (all : (thread lock : ℕ) → HoldsLock m thread lock ⊎ IsPending m thread lock → (wanted : ℕ) × SleepsFor m thread wanted) where
-  abbrev seat_at : (lock k : ℕ) (v : SleeperView) → slice_get (sleepers_of (m.table lock).views) k ≡ Some v → SeatOf m (m.thread lock k) lock
-  seat_at lock k v at = record { number = k; view = v; is = at; own = refl }
+  abbrev party_at : (lock k : ℕ) (v : ParkView) → slice_get (views_of (m.lock lock).threads) k ≡ Some v → PartyOf m (m.thread lock k) lock
+  party_at lock k v at = record { number = k; view = v; is = at; own = refl }
 
-  writer_sleeps : (lock k : ℕ) (v : SleeperView) → slice_get (sleepers_of (m.table lock).views) k ≡ Some v
-      → v.state.held.announced ≡ true → Sleeps (m.limits lock) (epoch_in (m.table lock)) v Exclusive
+  writer_sleeps : (lock k : ℕ) (v : ParkView) → slice_get (views_of (m.lock lock).threads) k ≡ Some v → v.held.announced ≡ true → v.park ≡ Asleep Exclusive
   writer_sleeps lock k v at is =
-      let writer : IsPending m (m.thread lock k) lock = record { seat = seat_at lock k v at; announced = is } in
+      let writer : IsPending m (m.thread lock k) lock = record { party = party_at lock k v at; announced = is } in
       let next = all (m.thread lock k) lock (inr writer) in
       o.pending (m.thread lock k) lock next.0 writer next.1
 
   rises : (n thread lock : ℕ) → SleepsFor m thread lock → top ≤ m.rank lock + n → ⊥
   rises zero thread lock s le = let h = o.below thread lock s in omega (arith, h, le)
   rises (suc n) thread lock s le =
-      let views = sleepers_of (m.table lock).views in
-      let law = o.forgets_none lock in
-      let some = some_token (m.limits lock) (word_in (m.table lock)) (epoch_in (m.table lock)) views law.range law.rule
-      (law.at_rest (o.wakes_all lock) (o.at_rest lock)) (writer_sleeps lock) s.seat.number s.seat.view s.want s.seat.is s.sleeps
-      (tokens (held_by_all (states_of views)).bag) refl in
+      let views = views_of (m.lock lock).threads in
+      let some = some_token (m.lock lock) (o.served lock) (o.at_rest lock) (writer_sleeps lock) s.party.number s.party.view s.want s.party.is s.sleeps
+      (tokens (all_of (holds_of views)).bag) refl in
       let f = found_token views some in
-      let holder : HoldsLock m (m.thread lock f.number) lock = record { seat = seat_at lock f.number f.view f.is; holds = f.has } in
+      let holder : HoldsLock m (m.thread lock f.number) lock = record { party = party_at lock f.number f.view f.is; holds = f.has } in
       let next = all (m.thread lock f.number) lock (inl holder) in
       let above = o.upward (m.thread lock f.number) next.0 lock next.1 holder in
       rises n (m.thread lock f.number) next.0 next.1 (omega (arith, above, le))

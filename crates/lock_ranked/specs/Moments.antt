@@ -1,54 +1,52 @@
 -- Threads that hold ranked locks and sleep for ranked locks, at one moment.
-use Rattle.std.specs.Prelude.{◌≡◌, ℕ, ◌<◌, true, not, slice_get, Some, ◌⊎◌, IsTrue}
+use Rattle.std.specs.Prelude.{◌≡◌, ℕ, ◌<◌, true, false, slice_get, Some, ◌⊎◌}
 use Rattle.lock_base.specs.Modes.{tokens}
 use Rattle.lock_word.specs.declared.want.ExWant.{ExWant}
 use Rattle.lock_word.specs.declared.want.ExWant.TheVariants.{Exclusive}
-use Rattle.lock_sleepers.specs.declared.sleeper.WakeLimits.{WakeLimits}
-use Rattle.lock_sleepers.specs.declared.sleeper.SleeperView.{SleeperView}
-use Rattle.lock_sleepers.specs.Sleepers.{IsAtRest, Sleeps}
-use Rattle.lock_wake.specs.WakeSeats.{Table, sleepers_of, epoch_in, ForgetsNone}
+use Rattle.lock_one.specs.declared.park.ParkView.{ParkView}
+use Rattle.lock_one.specs.declared.park.Park.TheVariants.{Asleep}
+use Rattle.lock_one.specs.declared.park.Debt.TheVariants.{Nothing}
+use Rattle.lock_one.specs.Rule.{is_woken}
+use Rattle.lock_one.specs.Runs.{LockInUse, views_of, ThreadsAreServed}
 
--- several locks: their limits, tables and ranks, and the thread of each seat of a lock's table
+-- several locks in use, and their ranks; and the thread of each party of a lock
 pub record Moment : Type 0 where
-  pub limits : ℕ → WakeLimits
-  pub table : ℕ → Table
+  pub lock : ℕ → LockInUse
   pub rank : ℕ → ℕ
   pub thread : ℕ → ℕ → ℕ
 
--- a seat of the thread at the lock
-pub record SeatOf (m : Moment) (thread lock : ℕ) : Type 0 where
+-- a party of the lock that is the thread
+pub record PartyOf (m : Moment) (thread lock : ℕ) : Type 0 where
   pub number : ℕ
-  pub view : SleeperView
-  pub is : slice_get (sleepers_of (m.table lock).views) number ≡ Some view
+  pub view : ParkView
+  pub is : slice_get (views_of (m.lock lock).threads) number ≡ Some view
   pub own : m.thread lock number ≡ thread
 
 -- the thread sleeps for the lock
 pub record SleepsFor (m : Moment) (thread lock : ℕ) : Type 0 where
-  pub seat : SeatOf m thread lock
+  pub party : PartyOf m thread lock
   pub want : ExWant
-  pub sleeps : Sleeps (m.limits lock) (epoch_in (m.table lock)) seat.view want
+  pub sleeps : party.view.park ≡ Asleep want
 
 -- the thread holds the lock, in whatever mode
 pub record HoldsLock (m : Moment) (thread lock : ℕ) : Type 0 where
-  pub seat : SeatOf m thread lock
-  pub holds : 0 < tokens seat.view.state.held.bag
+  pub party : PartyOf m thread lock
+  pub holds : 0 < tokens party.view.held.bag
 
 -- the thread has announced itself at the lock, as a pending writer
 pub record IsPending (m : Moment) (thread lock : ℕ) : Type 0 where
-  pub seat : SeatOf m thread lock
-  pub announced : seat.view.state.held.announced ≡ true
+  pub party : PartyOf m thread lock
+  pub announced : party.view.held.announced ≡ true
 
 pub record IsInOrder (top : ℕ) (m : Moment) : Type 0 where
-  -- what `every_state_forgets_none` says of each table; the locks wake all, and no release is in progress
-  pub forgets_none : (lock : ℕ) → ForgetsNone (m.limits lock) (m.table lock)
-  pub wakes_all : (lock : ℕ) → IsTrue (not (m.limits lock).wakes_one)
-  pub at_rest : (lock : ℕ) → IsAtRest (sleepers_of (m.table lock).views)
+  -- what `every_run_is_served` says of each lock; no wake-up is owed, and no woken thread has yet to look
+  pub served : (lock : ℕ) → ThreadsAreServed (m.lock lock)
+  pub at_rest : (lock k : ℕ) (v : ParkView) → slice_get (views_of (m.lock lock).threads) k ≡ Some v → (v.debt ≡ Nothing) × (is_woken v.park ≡ false)
   -- what the contracts of ranked locks require: a thread sleeps above all that it holds
   pub upward : (thread lock held : ℕ) → SleepsFor m thread lock → HoldsLock m thread held → m.rank held < m.rank lock
   pub below : (thread lock : ℕ) → SleepsFor m thread lock → m.rank lock < top
-  -- a pending writer that sleeps does so for the lock where it is pending, with that seat
-  pub pending : (thread lock wanted : ℕ) (writer : IsPending m thread lock) → SleepsFor m thread wanted
-      → Sleeps (m.limits lock) (epoch_in (m.table lock)) writer.seat.view Exclusive
+  -- a pending writer that sleeps does so for the lock where it is pending, as that party
+  pub pending : (thread lock wanted : ℕ) (writer : IsPending m thread lock) → SleepsFor m thread wanted → writer.party.view.park ≡ Asleep Exclusive
 
 -- if each holder and each pending writer slept, no thread would sleep
 abbrev pub SomeHolderIsAwake : Type 0

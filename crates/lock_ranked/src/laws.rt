@@ -2,10 +2,10 @@
 ghost use Rattle.lock_ranked.specs.Moments.{SomeHolderIsAwake};
 
 /// If a thread sleeps for a lock, some holder or pending writer is awake. The premises: each thread sleeps above all that
-/// it holds, as the contracts of ranked locks require, and no release is in progress.
+/// it holds, as the contracts of ranked locks require; no wake-up is owed, and no woken thread has yet to look.
 ///
-/// It speaks of tables of word locks that wake all, each in a state of which `every_state_forgets_none` speaks. A thread
-/// may have seats at each lock. An upgrade is left out, since that thread sleeps for a lock that it holds. No law says
+/// It speaks of locks of one word, mutexes too, each in a state of which `every_run_is_served` speaks. A thread may be
+/// several parties of a lock. An upgrade is left out, since that thread sleeps for a lock that it holds. No law says
 /// that an awake thread runs, or that it releases.
 pub fn some_holder_is_awake()
     ensures { SomeHolderIsAwake }

@@ -4,7 +4,8 @@ use crate::sleeping_condvar::SleepingCondvar;
 use crate::timing::Timing;
 use crate::word_core::WordCore;
 use lock_base::machine::Mode;
-use lock_wake::{WordLock, WordToken, time_left};
+use lock_one_word::{WordLock, WordToken};
+use lock_wake::time_left;
 use std::sync::Wait;
 use std::time::{Clock, Duration, Instant};
 

@@ -1,10 +1,10 @@
 //! How a lock on a word measures time.
 ghost use Rattle.std.specs.Prelude.{◌≡◌, IsSome, IfSome, MatchResult};
 ghost use Rattle.lock_base.specs.declared.machine.mode.Mode.TheVariants.{Exclusive, Upgradable};
-ghost use Rattle.lock_wake.specs.Calls.{IsTokenOf};
+ghost use Rattle.lock_one_word.specs.Calls.{IsTokenOf};
 
 use lock_base::machine::Mode;
-use lock_wake::{WordLock, WordToken};
+use lock_one_word::{WordLock, WordToken};
 use std::sync::Wait;
 use std::time::Duration;
 

@@ -1,14 +1,14 @@
 //! The raw lock over one word.
 ghost use Rattle.std.specs.Prelude.{◌≡◌, ◌↔◌, true, IfOk, IfErr};
 ghost use Rattle.lock_base.specs.Limits.{IsLimit, IsMakerFault};
-ghost use Rattle.lock_wake.specs.Own.{is_token_of};
+ghost use Rattle.lock_one_word.specs.Own.{is_token_of};
 
 use crate::lock_core::LockCore;
 use crate::raw_lock::RawLock;
 use crate::timing::{NoTime, Timing};
 use lock_base::machine::Mode;
 use lock_base::raw::Fault;
-use lock_wake::{WordLock, WordToken};
+use lock_one_word::{WordLock, WordToken};
 use std::alloc::Global;
 use std::clone::Clone;
 use std::marker::PhantomData;
@@ -31,7 +31,7 @@ pub struct WordCore<W: Wait + Clone + Drop, T: Timing<W>> {
     timing: PhantomData<T>,
 }
 
-#[tactic(auto, using(lock_wake::proofs::Own::token_of, lock_wake::proofs::Own::own_token))]
+#[tactic(auto, using(lock_one_word::proofs::Own::token_of, lock_one_word::proofs::Own::own_token))]
 impl<W: Wait + Clone + Drop, T: Timing<W>> LockCore for WordCore<W, T> {
     type Token = WordToken;
 
@@ -46,7 +46,7 @@ impl<W: Wait + Clone + Drop, T: Timing<W>> LockCore for WordCore<W, T> {
     /// No other call allocates.
     fn new(alloc: Global, waiter: W, readers: u64) -> Result<WordCore<W, T>, Fault>
         ensures limits { (result ≡ Err Fault.BadLimits) ↔ (IsLimit readers → ⊥) }
-        ensures in_range { IfOk result (λ core. (core.lock.limits.readers ≡ readers) × IsLimit readers) }
+        ensures in_range { IfOk result (λ core. (core.lock.readers ≡ readers) × IsLimit readers) }
         ensures fault { IfErr result IsMakerFault }
     {
         let lock = WordLock::new(alloc, readers)?;

@@ -1,11 +1,18 @@
 -- The rule of an event count: of a count of waits, an epoch, and the calls that have begun, in the order in which they began.
-use Rattle.std.specs.Prelude.{◌≡◌, ℕ, ◌+◌, ◌<◌, ◌≤◌, Bool, true, List, [], ◌∷◌, length, slice_index, ⊤}
+use Rattle.std.specs.Prelude.{◌≡◌, ℕ, ◌+◌, ◌-◌, ◌^◌, ◌<◌, ◌≤◌, Bool, true, List, [], ◌∷◌, length, slice_index, ⊤}
 use mathlib.Core.Option.{some}
 use lib.ListN.{get_elem?}
 use Rattle.atomic_table.specs.Table.{State}
-pub use Rattle.lock_sleepers.specs.Sleepers.{last_epoch, closed_count}
 use Rattle.lock_wake.specs.declared.sleepers.stage.CallStage.{CallStage}
 use Rattle.lock_wake.specs.declared.sleepers.stage.CallStage.TheVariants.{Away, Counted, Registered, Restarts, FoundNone, Owes, OwesAt, OwesWake, Over}
+
+-- the last epoch. No thread sleeps in it, since a park compares 32 bits
+abbrev pub last_epoch : ℕ
+last_epoch = 2 ^ 32 - 1
+
+-- the count while the epochs begin anew
+abbrev pub closed_count : ℕ
+closed_count = 2 ^ 63
 
 -- what a call adds to the count
 abbrev pub count_of : CallStage → ℕ

@@ -1,9 +1,11 @@
 //! The pauses of a contended call before it sleeps.
 ghost use Rattle.std.specs.Prelude.{◌≡◌, ◌+◌, ◌<◌, ◌^◌, not, nat_lt};
 
-use lock_sleepers::SPINS;
 use std::hint::spin_loop;
 use std::thread;
+
+/// How many pauses of a call spin. Each later one yields the thread.
+const SPINS: u32 = 3;
 
 /// The pauses of a contended call between its attempts: spins that double, and then yields.
 #[derive(Drop)]

@@ -1,7 +1,7 @@
 //! Rounds of a word lock, on one thread.
 use crate::locks::{READERS, line};
 use lock_base::machine::Mode;
-use lock_wake::WordLock;
+use lock_one_word::WordLock;
 use std::alloc::Global;
 use std::io;
 use std::time::{Clock, Instant};

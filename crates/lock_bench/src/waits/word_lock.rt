@@ -2,7 +2,7 @@
 use crate::locks::READERS;
 use crate::turns::used;
 use lock_base::machine::Mode;
-use lock_wake::WordLock;
+use lock_one_word::WordLock;
 use std::alloc::Global;
 use std::io;
 use std::sync::Wait;

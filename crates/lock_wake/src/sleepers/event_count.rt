@@ -14,6 +14,12 @@ pub(crate) const COUNT: usize = 0;
 /// The epoch, which a notification ends.
 pub(crate) const EPOCH: usize = 1;
 
+/// The last epoch. No thread sleeps in it: a park compares 32 bits.
+pub(crate) const LAST_EPOCH: u64 = 4_294_967_295;
+
+/// The count while the epochs begin anew.
+pub(crate) const CLOSED_COUNT: u64 = 9_223_372_036_854_775_808;
+
 /// An event count: threads that sleep until a notification.
 ///
 /// A thread first registers, then checks again whether it has to sleep, and then sleeps or leaves. In the other order, a

@@ -6,11 +6,10 @@ ghost use Rattle.lock_wake.specs.EventCalls.{owed_to};
 
 use crate::owed_wake::OwedWake;
 use crate::sleepers::call::SeatedEventCall;
-use crate::sleepers::event_count::{EPOCH, EventCount};
+use crate::sleepers::event_count::{CLOSED_COUNT, EPOCH, EventCount};
 use crate::sleepers::plays::{WakeAll, WakeOne};
 use crate::sleepers::stage::CallStage;
 use atomic_table::Seat;
-use lock_sleepers::CLOSED_COUNT;
 use std::marker::Model;
 
 /// A notification that has ended. After one of all, no wait that registered before it began sleeps on.

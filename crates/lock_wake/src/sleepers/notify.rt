@@ -5,14 +5,12 @@ ghost use Rattle.lock_wake.specs.EventPlays.{reached_of, Ends};
 ghost use Rattle.lock_wake.specs.EventCalls.{owed_to};
 
 use crate::owed_wake::{OwedWake, Whom};
-use crate::plays::NoteEpoch;
 use crate::sleepers::call::SeatedEventCall;
-use crate::sleepers::event_count::{COUNT, EPOCH, EventCount};
+use crate::sleepers::event_count::{COUNT, EPOCH, EventCount, LAST_EPOCH};
 use crate::sleepers::notified::Notified;
-use crate::sleepers::plays::Begin;
+use crate::sleepers::plays::{Begin, NoteEpoch};
 use crate::sleepers::stage::CallStage;
 use atomic_table::Play;
-use lock_sleepers::LAST_EPOCH;
 
 /// An exchange that ends the epoch. Only `end_epoch` makes it, so whoever ends an epoch owes its wake-up.
 pub struct EndEventEpoch;

@@ -2,7 +2,6 @@
 ghost use Rattle.std.specs.Prelude.{true, false};
 ghost use Rattle.lock_wake.specs.EventPlays.{Arrives, Begins, CountsIn, Registers, CountsOut, Closes, BeginsAnew, Notes, Wakes};
 
-use crate::plays::{CloseCount, CountIn, CountOut, NoteEpoch, RestartEpochs};
 use crate::sleepers::stage::CallStage;
 use atomic_table::Play;
 
@@ -20,6 +19,9 @@ impl Play<(), CallStage> for Begin {
     ghost then = { λ s. Begins };
 }
 
+/// An exchange of the count that counts the wait.
+pub(crate) struct CountIn;
+
 impl Play<(), CallStage> for CountIn {
     ghost then = { CountsIn };
 }
@@ -31,18 +33,29 @@ impl Play<(), CallStage> for Register {
     ghost then = { λ s. Registers };
 }
 
-// It opens the closed count too.
+/// A subtraction from the count that takes the wait out of it, or opens the closed count.
+pub(crate) struct CountOut;
+
 impl Play<(), CallStage> for CountOut {
     ghost then = { λ s me found. CountsOut s me };
 }
+
+/// An exchange of a count of 0 that closes it.
+pub(crate) struct CloseCount;
 
 impl Play<(), CallStage> for CloseCount {
     ghost then = { λ s. Closes };
 }
 
+/// A store that begins the epochs anew.
+pub(crate) struct RestartEpochs;
+
 impl Play<(), CallStage> for RestartEpochs {
     ghost then = { λ s me found. BeginsAnew s me };
 }
+
+/// A load of the epoch by a notification that found waits.
+pub(crate) struct NoteEpoch;
 
 impl Play<(), CallStage> for NoteEpoch {
     ghost then = { λ s. Notes };

@@ -5,14 +5,12 @@ ghost use Rattle.lock_wake.specs.declared.sleepers.stage.CallStage.TheVariants.{
 ghost use Rattle.lock_wake.specs.EventCounts.{count_of};
 
 use crate::deadline::time_left;
-use crate::plays::{CloseCount, CountIn, CountOut, RestartEpochs};
 use crate::sleepers::call::SeatedEventCall;
-use crate::sleepers::event_count::{COUNT, EPOCH, EventCount};
-use crate::sleepers::plays::{Arrive, Register};
+use crate::sleepers::event_count::{CLOSED_COUNT, COUNT, EPOCH, EventCount, LAST_EPOCH};
+use crate::sleepers::plays::{Arrive, CloseCount, CountIn, CountOut, Register, RestartEpochs};
 use crate::sleepers::registered::Registered;
 use crate::sleepers::registration::Registration;
 use crate::sleepers::slept::Slept;
-use lock_sleepers::{CLOSED_COUNT, LAST_EPOCH};
 use std::sync::Wait;
 use std::thread;
 use std::time::{Clock, Duration, Instant};

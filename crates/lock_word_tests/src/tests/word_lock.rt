@@ -1,10 +1,10 @@
 //! Threads at a word lock. A lost wake-up makes a test hang.
 ghost use Rattle.std.specs.Prelude.{◌≡◌};
 ghost use Rattle.lock_base.specs.declared.machine.mode.Mode.TheVariants.{Exclusive, Shared};
-ghost use Rattle.lock_wake.specs.Calls.{IsTokenOf};
+ghost use Rattle.lock_one_word.specs.Calls.{IsTokenOf};
 
 use lock_base::machine::Mode;
-use lock_wake::{WordLock, WordToken};
+use lock_one_word::{WordLock, WordToken};
 use std::alloc::Global;
 use std::sync::Wait;
 use std::sync::atomic::{AtomicU64, Ordering};
@@ -19,19 +19,16 @@ fn rest(turns: u32) {
     }
 }
 
-/// Returns once so many calls are counted as sleepers before this epoch, and they had time to fall asleep.
-fn let_sleep<R: Wait>(rt: &R, lock: &WordLock, count: u64, last_epoch: u64) {
+/// Returns once a call may sleep, and others had time to fall asleep too.
+fn let_sleep<R: Wait>(rt: &R, lock: &WordLock) {
     for _ in rt.forever() {
-        if lock.sleepers() == count && lock.epoch() < last_epoch {
+        if lock.may_have_sleepers() {
             break;
         }
         yield_now();
     }
     rest(2_000);
 }
-
-/// An epoch that these tests never reach.
-const FAR: u64 = 1_000_000_000;
 
 /// What one thread does in a short run.
 #[derive(Clone, Copy, PartialEq, Eq, Debug)]
@@ -111,7 +108,7 @@ const RUNS: [[Visit; 4]; 5] = [
     [Visit::Write, Visit::Upgrade, Visit::GiveUp, Visit::Write],
 ];
 
-/// Four visits to a new lock, on a thread each. Returns whether the lock is free afterwards, and no call is counted.
+/// Four visits to a new lock, on a thread each. Returns whether the lock is free afterwards.
 fn short_run<R: Threads + Wait + Clock + Sync>(
     rt: &R,
     alloc: Global,
@@ -137,7 +134,7 @@ fn short_run<R: Threads + Wait + Clock + Sync>(
             );
         },
     );
-    Ok(!lock.is_locked() && lock.sleepers() == 0)
+    Ok(!lock.is_locked())
 }
 
 /// Makes 5,000 short runs, or as many as a loaded machine does in 10 seconds.
@@ -167,7 +164,7 @@ fn let_be_held<R: Wait>(rt: &R, lock: &WordLock) {
 /// Reads until a call sleeps. Returns whether a reader was refused then.
 fn read_and_refuse<R: Wait>(rt: &R, lock: &WordLock) -> bool {
     let token = lock.acquire(rt, Mode::Shared);
-    let_sleep(rt, lock, 1, FAR);
+    let_sleep(rt, lock);
     let is_refused = match lock.try_acquire(Mode::Shared) {
         Some(reader) => {
             lock.release(reader, Mode::Shared);
@@ -191,14 +188,17 @@ fn a_waiting_writer_keeps_readers_out_and_is_woken(rt: HostRuntime) -> Result<()
         },
     );
     assert!(rt; is_refused, "the bar is set");
-    assert!(rt; lock.epoch() > 0, "the release ended an epoch");
+    assert!(rt;
+        !lock.may_have_sleepers(),
+        "the release cleared the bit of sleepers"
+    );
     Ok(())
 }
 
 /// Writes until two calls sleep, downgrades, and keeps the shared token until both have read.
 fn downgrade_later<R: Wait>(rt: &R, lock: &WordLock, reads: &AtomicU64) {
     let token = lock.acquire(rt, Mode::Exclusive);
-    let_sleep(rt, lock, 2, FAR);
+    let_sleep(rt, lock);
     let token = lock.downgrade(token);
     come_to(rt, reads, 2);
     lock.release(token, Mode::Shared);
@@ -231,26 +231,6 @@ fn a_downgrade_wakes_readers(rt: HostRuntime) -> Result<(), Fail> {
     Ok(())
 }
 
-/// Holds exclusive so often, and releases each time once the other call sleeps before the last epoch.
-fn hold_until_slept<R: Wait>(rt: &R, lock: &WordLock, turn: &AtomicU64) {
-    for round in 0..9u64 {
-        let token = lock.acquire(rt, Mode::Exclusive);
-        turn.store(round + 1, Ordering::SeqCst);
-        let_sleep(rt, lock, 1, 2);
-        lock.release(token, Mode::Exclusive);
-        come_to(rt, turn, 0);
-    }
-}
-
-/// Waits for the lock as often, once the other thread holds it.
-fn wait_for_holder<R: Wait>(rt: &R, lock: &WordLock, turn: &AtomicU64) {
-    for round in 0..9u64 {
-        come_to(rt, turn, round + 1);
-        read(rt, lock);
-        turn.store(0, Ordering::SeqCst);
-    }
-}
-
 fn come_to<R: Wait>(rt: &R, turn: &AtomicU64, wanted: u64) {
     for _ in rt.forever() {
         if turn.load(Ordering::SeqCst) == wanted {
@@ -260,15 +240,20 @@ fn come_to<R: Wait>(rt: &R, turn: &AtomicU64, wanted: u64) {
     }
 }
 
+/// Tries to read so often. Returns whether no try was refused.
+fn try_often(lock: &WordLock) -> bool {
+    for _ in 0..20_000u32 {
+        let Some(token) = lock.try_acquire(Mode::Shared) else {
+            return false;
+        };
+        lock.release(token, Mode::Shared);
+    }
+    true
+}
+
 #[test]
-fn epochs_begin_anew_past_a_small_last_one(rt: HostRuntime) -> Result<(), Fail> {
-    let lock = WordLock::with_last_epoch(rt.alloc(), 4, 2)?;
-    let turn = AtomicU64::new(0);
-    join(
-        &rt,
-        || hold_until_slept(&rt, &lock, &turn),
-        || wait_for_holder(&rt, &lock, &turn),
-    );
-    assert!(rt; lock.epoch() == 1 && lock.sleepers() == 0);
+fn readers_alone_refuse_no_try(rt: HostRuntime) -> Result<(), Fail> {
+    let lock = WordLock::new(rt.alloc(), 4)?;
+    assert!(rt; join(&rt, || try_often(&lock), || try_often(&lock)) == (true, true));
     Ok(())
 }

@@ -1,3 +1,0 @@
-pub mod Sleepers
-pub mod Wakes
-pub mod WakeLaws

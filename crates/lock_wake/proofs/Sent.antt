@@ -1,9 +1,0 @@
--- What a token owns names no thread.
-use denote.Builtin.{unit}
-use denote.Param.Send.{IsSend, sendable, owning_send}
-use Rattle.atomic_table.proofs.shared.Seat.TheSendSync as seat
-use Rattle.lock_wake.specs.contracts.rule.WakeView as known
-use Rattle.lock_wake.specs.contracts.call.token.WordToken.TheInside as inside
-
-pub inside_send : IsSend inside.the_row
-inside_send = owning_send inside.the_type (seat.the_send unit known.the_row (search sendable), tt) (λ d. tt) (λ k d w. (tt, tt))

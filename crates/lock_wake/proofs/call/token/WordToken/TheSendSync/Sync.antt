@@ -1,9 +1,0 @@
--- A reference to a token holds a share of what the token owns.
-use denote.Param.Send.{IsSync, part_keyless, view_sync}
-use Rattle.lock_wake.proofs.Sent.{inside_send}
-use Rattle.lock_wake.specs.contracts.call.token.WordToken.{the_row, the_view, the_invariant}
-use Rattle.lock_wake.specs.contracts.call.token.WordToken.TheInside as inside
-use Rattle.lock_wake.specs.declared.call.token.WordToken.{WordToken, the_code}
-
-pub sync : IsSync the_row
-sync = view_sync inside.the_row WordToken the_code the_view the_invariant (record { shared = λ d b o ν q. part_keyless inside.the_row inside_send q d b o })

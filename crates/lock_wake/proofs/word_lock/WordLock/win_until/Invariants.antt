@@ -1,5 +1,0 @@
-use Rattle.lock_wake.specs.Calls.{ComesTo}
-use Rattle.lock_wake.proofs.word_lock.WordLock.win_until.Given as goal
-
-abbrev pub invariant-loop : goal.invariant-loop
-invariant-loop g l = ComesTo l.initial.call.sleeper.state.held l.initial.call l.call
