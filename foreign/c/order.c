@@ -5,7 +5,7 @@
 #include <stdbool.h>
 #include <stdint.h>
 
-static uint32_t loaded(uint32_t *, int);
+static uint32_t loaded(const uint32_t *, int);
 static void stored(uint32_t *, uint32_t, int);
 static uint32_t subtracted(uint32_t *, uint32_t, int);
 static bool exchanged(uint32_t *, uint32_t *, uint32_t, bool, int, int);
@@ -48,9 +48,9 @@ static void note(uint32_t *word, uint32_t action, uint32_t first, uint32_t secon
     MUST(word == &current->word && current->count < MOST);
     current->accesses[current->count++] = (struct lock_step){action, 0, first, second};
 }
-static uint32_t loaded(uint32_t *word, int order) {
+static uint32_t loaded(const uint32_t *word, int order) {
     (void)order;
-    note(word, LOCK_LOAD, 0, 0);
+    note((uint32_t *)word, LOCK_LOAD, 0, 0);
     return *word;
 }
 static void stored(uint32_t *word, uint32_t number, int order) {
@@ -86,13 +86,14 @@ static uint32_t inline_call(uint32_t *word, enum kind kind, uint32_t readers, ui
     return true;
 }
 
-/* An exclusive acquisition takes the answer of its load to be 0: the exchange that follows finds the word. */
+/* An exclusive acquisition and an upgrade leave out the load: the exchange that follows finds the word. */
 static uint32_t library_call(uint32_t *word, enum kind kind, uint32_t readers, uint32_t what) {
     struct lock_call call;
-    bool is_exclusive = what == PROVED_EXCLUSIVE;
     if (kind == RELEASES) return drive(word, &call, lock_c_release(&call, readers, what), 0);
-    struct lock_step s = lock_c_acquire(&call, readers, what, kind == WAITS, kind == WAITS && is_exclusive);
-    return drive(word, &call, is_exclusive ? lock_c_next(&call, 0) : s, &over);
+    struct lock_step s = lock_c_acquire(&call, readers, what, kind == WAITS, kind == WAITS && what == PROVED_EXCLUSIVE);
+    if (what == PROVED_EXCLUSIVE) s = lock_c_next(&call, 0);
+    if (what == PROVED_UPGRADE) s = lock_c_next(&call, PROVED_ONE_UPGRADABLE);
+    return drive(word, &call, s, &over);
 }
 
 /* Compares the answers, the accesses, and the words that they leave. */

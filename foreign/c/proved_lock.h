@@ -100,9 +100,16 @@ static inline uint32_t proved_left(enum proved_release release) {
     default: return 0;
     }
 }
-/* Acquires, or stores the word that refused. */
+static inline uint32_t proved_first_word(const uint32_t *word, enum proved_mode mode) {
+    switch (mode) {
+    case PROVED_EXCLUSIVE: return 0;
+    case PROVED_UPGRADE: return PROVED_ONE_UPGRADABLE;
+    default: return __atomic_load_n(word, __ATOMIC_SEQ_CST);
+    }
+}
+/* Acquires, or stores the word that refused. An exchange that fails finds the word as a load does. */
 static inline bool proved_take(uint32_t *word, uint32_t readers, enum proved_mode mode, uint32_t *found) {
-    *found = mode == PROVED_EXCLUSIVE ? 0 : __atomic_load_n(word, __ATOMIC_SEQ_CST);
+    *found = proved_first_word(word, mode);
     while (proved_admits(*found, readers, mode)) {
         uint32_t after = proved_word_after(*found, mode);
         if (__atomic_compare_exchange_n(word, found, after, false, __ATOMIC_SEQ_CST, __ATOMIC_SEQ_CST)) return true;

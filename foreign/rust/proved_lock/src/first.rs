@@ -67,10 +67,14 @@ impl<const READERS: u32> Lock<READERS> {
         Lock(Word::new(0))
     }
 
-    /// Acquires, or returns the word that refused.
+    /// Acquires, or returns the word that refused. An exchange that fails finds the word as a load does.
     #[inline]
     fn first(&self, mode: Mode) -> Result<(), u32> {
-        let mut word = if mode == Mode::Exclusive { 0 } else { self.0.load(SeqCst) };
+        let mut word = match mode {
+            Mode::Exclusive => 0,
+            Mode::Upgrade => ONE_UPGRADABLE,
+            Mode::Shared | Mode::Upgradable => self.0.load(SeqCst),
+        };
         while mode.is_admitted(word, READERS) {
             match self.0.compare_exchange(word, mode.word_after(word), SeqCst, SeqCst) {
                 Ok(_) => return Ok(()),
@@ -179,12 +183,12 @@ mod tests {
         assert_eq!((&found, lock.0.load(SeqCst)), (&expected, word.load(SeqCst)), "{words:x?} for {READERS}");
     }
 
-    /// An exclusive acquisition takes the answer of its load to be 0: the exchange that follows finds the word.
+    /// The answer of the load that a mode leaves out: the exchange that follows finds the word.
     fn made(mode: Mode) -> &'static [u32] {
-        if mode == Mode::Exclusive {
-            &[0]
-        } else {
-            &[]
+        match mode {
+            Mode::Exclusive => &[0],
+            Mode::Upgrade => &[ONE_UPGRADABLE],
+            Mode::Shared | Mode::Upgradable => &[],
         }
     }
 
