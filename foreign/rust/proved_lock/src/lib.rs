@@ -1,12 +1,12 @@
 // SPDX-License-Identifier: MIT OR Apache-2.0
-//! A mutex, a condition variable and a reader-writer lock: proved code chooses each step but the first of an uncontended call.
+//! A mutex, a condition variable and a reader-writer lock: proved code chooses each step but the inline first ones.
 //!
 //! The types are those of [`lock_api`] over the raw locks [`RawMutex`] and [`RawRwLock`], with the names of `parking_lot`. A
 //! call is a state machine: the archive `liblock_c.a` returns the atomic step that comes next, and this crate makes it. It is
 //! proved of the machine that threads hold compatible modes, and that no thread that sleeps is forgotten.
 //!
-//! Trusted are the loop that makes the steps, futex, and the inline first step of an uncontended call. A test compares that step
-//! with the archive.
+//! A lock is one word of 32 bits. Trusted are the loop that makes the steps, futex, and the inline first steps of an uncontended
+//! call. A test compares those steps with the archive.
 //!
 //! ```
 //! use proved_lock::Mutex;
