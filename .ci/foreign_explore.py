@@ -81,7 +81,9 @@ class Calls(Threads):
             if (yield load(place, lambda number: number == first)):
                 ends = [0] * self.early + [1] * (act == TIMED)
                 kind = "next" if action == PARK_NEXT else "asleep"
-                found = (yield Step(lambda *now: [(now, it) for it in ends], kind)) or 0
+                found = yield Step(lambda *now: [(now, it) for it in ends], kind)
+                if found is None:  # woken, and perhaps late as well
+                    found = yield Step(lambda *now: [(now, it) for it in (0, 1)[:1 + (act == TIMED)]])
         elif action in (LOCK, UNLOCK):
             found = (yield update(FREE, lambda free: None if free == (action == UNLOCK) else not free)) or 0
         elif action in (LOAD, EXCHANGE, SUBTRACT, STORE):
@@ -204,7 +206,7 @@ SOUND = [
     (Lock, 2, [UPGRADES, READS, WRITES]), (Lock, 1, [WRITES] * 3), (Lock, 2, [WRITES, READS, READS]),
     (Lock, 1, [WRITES] * 4), (Lock, 3, [WRITES, WRITES, READS]),
     (Lock, 1, [WRITES] * 3, EARLY), (Lock, 2, [WRITES, READS, UPGRADES], EARLY),
-    (Lock, 1, [WRITES, HURRIES, WRITES]), (Lock, 2, [WRITES, HURRIES, READS]), (Lock, 2, [HURRIES, TIMED_READS, TIMED_UPGRADES]),
+    (Lock, 1, [WRITES * 2, HURRIES, WRITES]), (Lock, 2, [WRITES, HURRIES, READS]), (Lock, 2, [HURRIES, TIMED_READS, TIMED_UPGRADES]),
     (Lock, 2, [WRITES, TIMED_UPGRADES, READS]), (Lock, 1, [HURRIES, HURRIES, WRITES], EARLY),
     (Lock, 1, [TRIES, WRITES, WRITES]), (Lock, 2, [TRIES, READS, UPGRADES]),
     (Tokens, [WAIT, NOTIFY_ONE]), (Tokens, ALL), (Tokens, ONES), (Tokens, [WAIT, *ALL]), (Tokens, ONES, LAST_EPOCH - 2),
