@@ -101,12 +101,14 @@ static void write_both(void) {
 
 static void mix(unsigned kind) {
     if (kind < 140) {
-        proved_rwlock_lock_shared(&limited);
+        if (kind >= 20) proved_rwlock_lock_shared(&limited);
+        else if (!proved_rwlock_try_lock_shared(&limited)) return;
         MUST(a == b);
         proved_rwlock_unlock_shared(&limited);
     } else if (kind < 190) {
-        if (kind < 165) proved_rwlock_lock_exclusive(&limited);
-        else MUST(proved_rwlock_lock_exclusive_until(&limited, 0));
+        if (kind < 160) proved_rwlock_lock_exclusive(&limited);
+        else if (kind < 180) MUST(proved_rwlock_lock_exclusive_until(&limited, 0));
+        else if (!proved_rwlock_try_lock_exclusive(&limited)) return;
         write_both();
         proved_rwlock_unlock_exclusive(&limited);
     } else if (kind < 210) {

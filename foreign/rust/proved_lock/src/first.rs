@@ -122,9 +122,13 @@ impl<const READERS: u32> Lock<READERS> {
         }
     }
 
-    /// Releases a shared hold: a subtraction can do so unless it has to clear the bit of sleepers.
+    /// Releases a shared hold of a lock for several readers. The subtraction cannot clear the bit of sleepers.
+    ///
+    /// # Safety
+    ///
+    /// The caller has such a hold.
     #[inline]
-    fn remove_reader(&self) {
+    unsafe fn remove_reader(&self) {
         let word = self.0.load(SeqCst);
         if word & SLEEPERS != 0 {
             return rest_of_release(&self.0, READERS, Release::Shared, &[word]);
