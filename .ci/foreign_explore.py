@@ -1,10 +1,11 @@
 #!/usr/bin/env python3
-"""Makes every interleaving of a few calls by the shared library of lock_c, and tests each state.
+"""Makes every interleaving of a few calls by the shared library of lock_c on one word, and tests each state.
 
 usage: .ci/foreign_explore.py LIBRARY
 
-No state is stuck, the word is never one of modes that exclude each other, and at the end the lock is free.
-Then it does so with waits and notifications of a condition variable. With one kind of wake-up left out, some
+No thread sleeps for ever, the word is never one of modes that exclude each other, and at the end the lock is free. After
+the step that releases, a call wakes or ends. A sleep compares the word with its number, and may end early or by its
+deadline. Then it does so with waits and notifications of a condition variable. With one kind of wake-up left out, some
 state is stuck. The last line is 'N passed, M failed'.
 """
 import ctypes
@@ -18,24 +19,26 @@ sys.path.insert(0, f"{pathlib.Path(__file__).resolve().parent.parent}/model")
 from explorer import Step, Threads, load, report, update
 
 U64, U32, U8 = ctypes.c_uint64, ctypes.c_uint32, ctypes.c_uint8
-LOAD, EXCHANGE, SUBTRACT, STORE, PARK, WAKE_ONE, WAKE_ALL, SPIN, YIELD, REFUSED, DONE, UNLOCK, LOCK = range(13)
-ACQUIRE, RELEASE = range(2)
+(LOAD, EXCHANGE, SUBTRACT, STORE, PARK, PARK_NEXT, WAKE_ONE, WAKE_ALL, WAKE_NEXT,
+ SPIN, YIELD, REFUSED, DONE, UNLOCK, LOCK) = range(15)
+ACQUIRE, TIMED, TRY, RELEASE, RELEASED, EVENT = range(6)
 SHARED, EXCLUSIVE, UPGRADABLE, UPGRADE, TO_UPGRADABLE, UPGRADABLE_TO_SHARED = range(6)
 TO_SHARED = UPGRADE
 WAIT, NOTIFY_ONE, NOTIFY_ALL = range(3)
 LAST_EPOCH = 2**32 - 1
-WAKES = {WAKE_ONE: "one", WAKE_ALL: "all"}
-EPOCH, FREE, TOKENS = 2, 3, 4  # threads share the word, the count, the epoch, and perhaps a mutex and tokens
+NO_PAUSES = 1000
+WAKES = {WAKE_ONE: "one", WAKE_ALL: "all", WAKE_NEXT: "next"}
+FREE, TOKENS = 2, 3  # threads share the word, or the count, the epoch, a mutex and tokens
 
 
 def structure(name, fields):
     return type(name, (ctypes.Structure,), {"_fields_": fields})
 
 
-Call = structure("Call", [("readers", U64), ("loaded", U64), ("epoch", U64), ("stage", U32), ("code", U32),
-                          ("pauses", U32), ("blocks", U8), ("announces", U8), ("announced", U8), ("late", U8)])
-Event = structure("Event", [("loaded", U64), ("epoch", U64), ("stage", U32), ("all", U8), ("late", U8)])
-Action = structure("Action", [("action", U32), ("place", U32), ("first", U64), ("second", U64)])
+Call = structure("Call", [("readers", U64), ("loaded", U64), ("left", U64), ("stage", U32), ("want", U32), ("down", U32),
+                          ("pauses", U32), ("blocks", U8), ("announces", U8), ("announced", U8), ("late", U8), ("slept", U8)])
+Event = structure("Event", [("loaded", U32), ("epoch", U32), ("stage", U32), ("all", U8), ("late", U8)])
+Action = structure("Action", [("action", U32), ("place", U32), ("first", U32), ("second", U32)])
 
 
 def values(it):
@@ -47,75 +50,95 @@ def made(name, call, *words):
     function = LIBRARY[name]
     function.restype = Action
     step = function(ctypes.byref(call), *words)
-    return call, values(step)
+    return values(call), values(step)
 
 
 @functools.lru_cache(None)
 def answered(kind, call, found):
-    """The call and its next step after the answer."""
-    call, step = made("lock_c_next" if kind is Call else "lock_c_next_event", kind(*call), U64(found))
-    return values(call), step
+    """The call and its next step after the answer. A call on a lock has made its pauses."""
+    call = kind(*call)
+    if kind is Event:
+        return made("lock_c_next_event", call, U32(found))
+    call.pauses = NO_PAUSES
+    return made("lock_c_next", call, U32(found))
 
 
 class Calls(Threads):
-    """Threads that make calls of the library. What is `lost` is a kind of wake-up."""
+    """Threads that make calls of the library. What is `lost` is a kind of wake-up. With `early`, sleeps end early."""
 
-    def __init__(self, late, lost):
+    def __init__(self, early, lost):
         super().__init__()
-        self.late, self.lost = late, lost
+        self.early, self.lost = early, lost
 
-    def go(self, then, kind, call, step):
+    def go(self, then, act, call, step):
         """A call from this step on. `then` tells the calls after it."""
         action, place, first, second = step
         if action in (REFUSED, DONE):
             return then(action)
-        if action == PARK:
+        assert act != RELEASED or action in WAKES, "a call goes on after its release"
+        if action in (PARK, PARK_NEXT):
             found = 0
-            if (yield load(EPOCH, lambda epoch: epoch % 2**32 == first % 2**32)):
-                found = (yield Step(lambda *now: [(now, 1)] * self.late, "asleep")) or 0
+            if (yield load(place, lambda number: number == first)):
+                ends = [0] * self.early + [1] * (act == TIMED)
+                kind = "next" if action == PARK_NEXT else "asleep"
+                found = yield Step(lambda *now: [(now, it) for it in ends], kind)
+                if found is None:  # woken, and perhaps late as well
+                    found = yield Step(lambda *now: [(now, it) for it in (0, 1)[:1 + (act == TIMED)]])
         elif action in (LOCK, UNLOCK):
             found = (yield update(FREE, lambda free: None if free == (action == UNLOCK) else not free)) or 0
         elif action in (LOAD, EXCHANGE, SUBTRACT, STORE):
             change = {LOAD: lambda now: now, EXCHANGE: lambda now: second if now == first else now,
                       SUBTRACT: lambda now: now - first, STORE: lambda _: first}[action]
             found = yield update(place, change, lambda now: 0 if action == STORE else now)
+            if act == RELEASE and (action == SUBTRACT or action == EXCHANGE and found == first):
+                act = RELEASED
         else:
-            found = yield load(EPOCH, lambda _: 0, wakes="" if action == self.lost else WAKES.get(action, ""))
-        return [(self.go, then, kind, *answered(kind, call, found))]
+            found = yield load(place, lambda _: 0, wakes="" if action == self.lost else WAKES.get(action, ""))
+        return [(self.go, then, act, *answered(Event if act == EVENT else Call, call, found))]
 
     def fault(self, state, after):
         shared, threads = state
-        going = any(self.calls_of[it] for it in threads)
-        is_stuck = going and not after
-        return "stuck" if is_stuck else "a wrong word" if self.is_wrong(going, *shared) else None
+        steps = [self.step(it) for it in threads if self.calls_of[it]]
+        is_stuck = steps and not any(self.goes_on(it, shared) for it in steps)
+        return "stuck" if is_stuck else "a wrong word" if self.is_wrong(bool(steps), *shared) else None
+
+    @staticmethod
+    def goes_on(step, shared):
+        """Whether the thread can make its step. A sleep ends by its deadline, and need not end early."""
+        return any(step.kind == "" or found for _, found in step.act(*shared))
 
 
 class Lock(Calls):
     """Threads at a lock for so many readers, each with a program."""
 
-    def __init__(self, readers, programs, epoch=0, late=False, lost=None):
-        super().__init__(late, lost)
-        self.readers, self.programs, self.epoch = readers, programs, epoch
+    def __init__(self, readers, programs, early=False, lost=None):
+        super().__init__(early, lost)
+        self.readers, self.programs = readers, programs
 
     def start(self):
-        return (0, 0, self.epoch), [self.acts(tuple(it)) for it in self.programs]
+        return (0,), [self.acts(tuple(it)) for it in self.programs]
 
     @functools.lru_cache(None)
-    def acts(self, program, action=DONE):
-        """The next call of a thread. One that acquires has made its pauses. A refused thread makes no more calls."""
-        if not program or action == REFUSED:
+    def acts(self, program):
+        """The next call of a thread."""
+        if not program:
             return []
         (act, mode), *rest = program
         if act == RELEASE:
-            call, step = made("lock_c_release", Call(), U64(self.readers), U32(mode))
+            begun = made("lock_c_release", Call(), U32(self.readers), U32(mode))
         else:
-            announces = U8(not self.late and mode == EXCLUSIVE)
-            call, step = made("lock_c_acquire", Call(), U64(self.readers), U32(mode), U8(1), announces)
-            call.pauses = 1000
-        return [(self.go, functools.partial(self.acts, tuple(rest)), Call, values(call), step)]
+            begun = made("lock_c_acquire", Call(), U32(self.readers), U32(mode), U8(act != TRY), U8(mode == EXCLUSIVE))
+        # a refused thread makes no more calls, but keeps no upgradable hold
+        refused = [(RELEASE, UPGRADABLE)] * (act != RELEASE and mode == UPGRADE)
+        return [(self.go, functools.partial(self.after, tuple(rest), tuple(refused)), act, *begun)]
 
-    def is_wrong(self, going, word, count, epoch):
-        return min(word, count, epoch) < 0 or word >> 33 & 1 and word % 2**33 or not going and (word, count) != (0, 0)
+    def after(self, rest, refused, action):
+        return self.acts(refused if action == REFUSED else rest)
+
+    def is_wrong(self, going, word):
+        readers, exclusive, upgradable = word >> 4, word >> 1 & 1, word & 1
+        is_sum = readers <= self.readers and (not exclusive or not readers) and upgradable <= readers
+        return not is_sum or not going and word & ~8
 
 
 class Tokens(Calls):
@@ -124,12 +147,12 @@ class Tokens(Calls):
     A thread waits for a token, or adds one or as many as wait, and notifies.
     """
 
-    def __init__(self, kinds, epoch=0, late=False, lost=None):
-        super().__init__(late, lost)
+    def __init__(self, kinds, epoch=0, early=False, lost=None):
+        super().__init__(early, lost)
         self.kinds, self.epoch = kinds, epoch
 
     def start(self):
-        return (0, 0, self.epoch, True, 0), [[(self.begin, it)] for it in self.kinds]
+        return (0, self.epoch, True, 0), [[(self.begin, it)] for it in self.kinds]
 
     def begin(self, kind):
         yield update(FREE, lambda free: False if free else None)
@@ -149,8 +172,7 @@ class Tokens(Calls):
         return self.calls(made("lock_c_wait", Event()), self.again)
 
     def calls(self, begun, then):
-        call, step = begun
-        return [(self.go, then, Event, values(call), step)]
+        return [(self.go, then, EVENT, *begun)]
 
     def again(self, _):
         return [(self.look,)]
@@ -158,31 +180,43 @@ class Tokens(Calls):
     def nothing(self, _):
         return []
 
-    def is_wrong(self, going, word, count, epoch, free, tokens):
-        return min(word, count, epoch) < 0 or not going and (count, free, tokens) != (0, True, 0)
+    def is_wrong(self, going, count, epoch, free, tokens):
+        return min(count, epoch) < 0 or not going and (count, free, tokens) != (0, True, 0)
+
+
+def writes(act):
+    return [(act, EXCLUSIVE), (RELEASE, EXCLUSIVE)]
 
 
 READS = [(ACQUIRE, SHARED), (RELEASE, SHARED)]
-WRITES = [(ACQUIRE, EXCLUSIVE), (RELEASE, EXCLUSIVE)]
+WRITES = writes(ACQUIRE)
 UPGRADES = [(ACQUIRE, UPGRADABLE), (ACQUIRE, UPGRADE), (RELEASE, EXCLUSIVE)]
 LOOKS = [(ACQUIRE, UPGRADABLE), (RELEASE, UPGRADABLE)]
 DOWNGRADES = [(ACQUIRE, EXCLUSIVE), (RELEASE, TO_UPGRADABLE), (RELEASE, UPGRADABLE_TO_SHARED), (RELEASE, SHARED)]
 SHARES = [(ACQUIRE, EXCLUSIVE), (RELEASE, TO_SHARED), (RELEASE, SHARED)]
 EACH = [READS, WRITES, UPGRADES, LOOKS, DOWNGRADES, SHARES]
+TRIES, HURRIES = writes(TRY), writes(TIMED)
+TIMED_READS = [(TIMED, SHARED), (RELEASE, SHARED)]
+TIMED_UPGRADES = [(TIMED, UPGRADABLE), (TIMED, UPGRADE), (RELEASE, EXCLUSIVE)]
 ONES, ALL = [WAIT, WAIT, NOTIFY_ONE, NOTIFY_ONE], [WAIT, WAIT, NOTIFY_ALL]
+EARLY = True
 SOUND = [
     *[(Lock, 2, [*pair]) for pair in itertools.combinations_with_replacement(EACH, 2)],
     *[(Lock, 1, [WRITES, it]) for it in EACH],
-    (Lock, 2, [UPGRADES, READS, WRITES]), (Lock, 1, [WRITES] * 3), (Lock, 1, [WRITES] * 3, LAST_EPOCH - 1),
-    (Lock, 2, [WRITES, READS], LAST_EPOCH - 1), (Lock, 2, [WRITES, READS, READS]),
-    (Lock, 1, [WRITES] * 2, 0, True), (Lock, 2, [WRITES, UPGRADES], 0, True),
+    (Lock, 2, [UPGRADES, READS, WRITES]), (Lock, 1, [WRITES] * 3), (Lock, 2, [WRITES, READS, READS]),
+    (Lock, 1, [WRITES] * 4), (Lock, 3, [WRITES, WRITES, READS]),
+    (Lock, 1, [WRITES] * 3, EARLY), (Lock, 2, [WRITES, READS, UPGRADES], EARLY),
+    (Lock, 1, [WRITES * 2, HURRIES, WRITES]), (Lock, 2, [WRITES, HURRIES, READS]), (Lock, 2, [HURRIES, TIMED_READS, TIMED_UPGRADES]),
+    (Lock, 2, [WRITES, TIMED_UPGRADES, READS]), (Lock, 1, [HURRIES, HURRIES, WRITES], EARLY),
+    (Lock, 1, [TRIES, WRITES, WRITES]), (Lock, 2, [TRIES, READS, UPGRADES]),
     (Tokens, [WAIT, NOTIFY_ONE]), (Tokens, ALL), (Tokens, ONES), (Tokens, [WAIT, *ALL]), (Tokens, ONES, LAST_EPOCH - 2),
-    (Tokens, ALL, LAST_EPOCH - 1), (Tokens, [WAIT, NOTIFY_ONE], LAST_EPOCH), (Tokens, ONES, 0, True),
+    (Tokens, ALL, LAST_EPOCH - 1), (Tokens, [WAIT, NOTIFY_ONE], LAST_EPOCH), (Tokens, ONES, 0, EARLY),
 ]
 STUCK = [
-    (Lock, 1, [WRITES] * 3, 0, False, WAKE_ONE), (Lock, 2, [WRITES, READS], 0, False, WAKE_ALL),
-    (Lock, 2, [UPGRADES, READS], 0, False, WAKE_ALL), (Tokens, [WAIT, NOTIFY_ONE], 0, False, WAKE_ONE),
-    (Tokens, ALL, 0, False, WAKE_ALL),
+    (Lock, 1, [WRITES] * 3, False, WAKE_ONE), (Lock, 2, [WRITES, READS], False, WAKE_ALL),
+    (Lock, 2, [UPGRADES, READS], False, WAKE_ALL), (Lock, 2, [WRITES, READS, READS], False, WAKE_NEXT),
+    (Lock, 2, [WRITES, HURRIES, READS], False, WAKE_ALL),
+    (Tokens, [WAIT, NOTIFY_ONE], 0, False, WAKE_ONE), (Tokens, ALL, 0, False, WAKE_ALL),
 ]
 
 if __name__ == "__main__":

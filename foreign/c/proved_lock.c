@@ -14,13 +14,27 @@
 _Static_assert(PROVED_SHARED == 0 && PROVED_UPGRADE == 3, "the modes are the codes of an acquisition");
 _Static_assert(PROVED_UNLOCK_SHARED == 0 && PROVED_UPGRADABLE_TO_SHARED == 5, "the releases are the codes of a release");
 
-/* Returns whether a sleep ended by its deadline. A deadline that is no valid time has passed. */
-static bool futex(uint64_t *epoch, int what, uint32_t number, const struct timespec *deadline) {
+/* An archive of another version does not link. */
+__attribute__((used)) static uint32_t (*const version)(void) = lock_c_version_2;
+
+/* The bit set of a sleep that a bar keeps out, and that of one that may pass it. */
+enum { PLAIN = 1, NEXT = 2 };
+
+/* Sleeps while the word is the number. Returns whether the sleep ended by its deadline. A deadline that is no valid time has
+ * passed. */
+static bool park(uint32_t *word, uint32_t number, int bits, const struct timespec *deadline) {
     int saved = errno;
-    bool is_late = syscall(SYS_futex, epoch, what | FUTEX_PRIVATE_FLAG, number, deadline, 0, FUTEX_BITSET_MATCH_ANY) == -1
+    bool is_late = syscall(SYS_futex, word, FUTEX_WAIT_BITSET_PRIVATE, number, deadline, 0, bits) == -1
         && deadline && (errno == ETIMEDOUT || errno == EINVAL);
     errno = saved;
     return is_late;
+}
+
+/* Wakes at most so many threads that sleep in one of these bit sets. The word may be gone: its address alone is used. */
+static void wake(uint32_t *word, int threads, uint32_t bits) {
+    int saved = errno;
+    syscall(SYS_futex, word, FUTEX_WAKE_BITSET_PRIVATE, threads, 0, 0, bits);
+    errno = saved;
 }
 
 static void spin(uint64_t times) {
@@ -41,11 +55,10 @@ static bool has_passed(const struct timespec *deadline) {
     return now.tv_sec > deadline->tv_sec || (now.tv_sec == deadline->tv_sec && now.tv_nsec >= deadline->tv_nsec);
 }
 
-/* Makes a step on the words, and returns its answer. */
-static uint64_t make(proved_words *w, struct lock_step s, const struct timespec *deadline) {
-    uint64_t *const places[] = {&w->word, &w->count, &w->epoch};
-    uint64_t *place = places[s.place % 3];
-    uint64_t found = s.first;
+/* Makes a step on the word of a lock, or on both words of a condition variable, and returns its answer. */
+static uint32_t make(uint32_t *words, struct lock_step s, const struct timespec *deadline) {
+    uint32_t *place = words + s.place;
+    uint32_t found = s.first;
     switch (s.action) {
     case LOCK_LOAD: return __atomic_load_n(place, __ATOMIC_SEQ_CST);
     case LOCK_EXCHANGE:
@@ -53,9 +66,11 @@ static uint64_t make(proved_words *w, struct lock_step s, const struct timespec 
         return found;
     case LOCK_SUBTRACT: return __atomic_fetch_sub(place, s.first, __ATOMIC_SEQ_CST);
     case LOCK_STORE: __atomic_store_n(place, s.first, __ATOMIC_SEQ_CST); break;
-    case LOCK_PARK: return futex(place, FUTEX_WAIT_BITSET, (uint32_t)s.first, deadline);
-    case LOCK_WAKE_ONE: futex(place, FUTEX_WAKE, 1, 0); break;
-    case LOCK_WAKE_ALL: futex(place, FUTEX_WAKE, INT_MAX, 0); break;
+    case LOCK_PARK: return park(place, s.first, PLAIN, deadline);
+    case LOCK_PARK_NEXT: return park(place, s.first, NEXT, deadline);
+    case LOCK_WAKE_ONE: wake(place, 1, FUTEX_BITSET_MATCH_ANY); break;
+    case LOCK_WAKE_ALL: wake(place, INT_MAX, FUTEX_BITSET_MATCH_ANY); break;
+    case LOCK_WAKE_NEXT: wake(place, INT_MAX, NEXT); break;
     case LOCK_SPIN: spin((uint64_t)1 << s.first % 32); break;
     case LOCK_YIELD: sched_yield(); return has_passed(deadline);
     }
@@ -64,23 +79,22 @@ static uint64_t make(proved_words *w, struct lock_step s, const struct timespec 
 
 static bool has_ended(struct lock_step s) { return s.action == LOCK_DONE || s.action == LOCK_REFUSED; }
 
-static bool drive(proved_words *w, struct lock_call *call, struct lock_step s, const struct timespec *deadline) {
-    while (!has_ended(s)) s = lock_c_next(call, make(w, s, deadline));
+static bool drive(uint32_t *word, struct lock_call *call, struct lock_step s, const struct timespec *deadline) {
+    while (!has_ended(s)) s = lock_c_next(call, make(word, s, deadline));
     return s.action == LOCK_DONE;
 }
 
-void proved_acquire(proved_words *w, uint64_t readers, enum proved_mode mode) { proved_acquire_until(w, readers, mode, 0); }
-
-bool proved_acquire_until(proved_words *w, uint64_t readers, enum proved_mode mode, const struct timespec *deadline) {
+bool proved_acquire_rest(uint32_t *word, uint32_t readers, enum proved_mode mode, uint32_t refused, const struct timespec *deadline) {
     struct lock_call call;
-    struct lock_step s = lock_c_acquire(&call, readers, mode, 1, mode == PROVED_EXCLUSIVE && !deadline);
-    return drive(w, &call, s, deadline);
+    lock_c_acquire(&call, readers, mode, 1, mode == PROVED_EXCLUSIVE); /* its first step, a load, is made */
+    return drive(word, &call, lock_c_next(&call, refused), deadline);
 }
 
-void proved_release_rest(proved_words *w, uint64_t readers, enum proved_release release, uint64_t before) {
+void proved_release_rest(uint32_t *word, uint32_t readers, enum proved_release release, const uint32_t *made, int count) {
     struct lock_call call;
-    lock_c_release(&call, readers, release); /* its first step, the subtraction, is made */
-    drive(w, &call, lock_c_next(&call, before), 0);
+    struct lock_step s = lock_c_release(&call, readers, release);
+    for (int i = 0; i < count; i++) s = lock_c_next(&call, made[i]);
+    drive(word, &call, s, 0);
 }
 
 bool proved_cond_wait_until(proved_cond *c, proved_mutex *m, const struct timespec *deadline) {
@@ -89,15 +103,15 @@ bool proved_cond_wait_until(proved_cond *c, proved_mutex *m, const struct timesp
     while (!has_ended(s)) {
         if (s.action == LOCK_UNLOCK) proved_mutex_unlock(m);
         if (s.action == LOCK_LOCK) proved_mutex_lock(m);
-        s = lock_c_next_event(&call, make(&c->words, s, deadline));
+        s = lock_c_next_event(&call, make(c->words, s, deadline));
     }
     return s.action == LOCK_DONE;
 }
 
-uint64_t proved_notify_rest(proved_words *w, bool all, uint64_t count) {
+uint32_t proved_notify_rest(proved_cond *c, bool all, uint32_t count) {
     struct lock_event call;
     lock_c_notify(&call, all); /* its first step, the load of the count, is made */
     struct lock_step s = lock_c_next_event(&call, count);
-    while (!has_ended(s)) s = lock_c_next_event(&call, make(w, s, 0));
+    while (!has_ended(s)) s = lock_c_next_event(&call, make(c->words, s, 0));
     return call.loaded;
 }

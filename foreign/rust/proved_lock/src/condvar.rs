@@ -1,7 +1,8 @@
 // SPDX-License-Identifier: MIT OR Apache-2.0
 //! The condition variable.
-use crate::driver::{Mode, Release, Timespec, Words};
+use crate::driver::{rest_of_notify, wait, Mode, Release, Timespec};
 use crate::mutex::MutexGuard;
+use crate::word::Word;
 use core::fmt;
 use core::sync::atomic::Ordering::SeqCst;
 #[cfg(feature = "std")]
@@ -39,13 +40,13 @@ impl WaitTimeoutResult {
 ///     }
 /// });
 /// ```
-pub struct Condvar(Words);
+pub struct Condvar([Word; 2]);
 
 impl Condvar {
     /// Makes a condition variable.
     #[inline]
     pub const fn new() -> Condvar {
-        Condvar(Words::new())
+        Condvar([Word::new(0), Word::new(0)])
     }
 
     /// Wakes one thread that waits. Returns whether some waited.
@@ -73,18 +74,19 @@ impl Condvar {
     }
 
     fn wait_to<T: ?Sized>(&self, guard: &mut MutexGuard<'_, T>, deadline: Option<&Timespec>) -> WaitTimeoutResult {
-        // SAFETY: the guard holds the mutex. The wait acquires it again before it ends, and nothing between can panic.
+        // SAFETY: the wait acquires the mutex again before it ends, and nothing between can panic.
         let mutex = unsafe { &lock_api::MutexGuard::mutex(guard).raw().0 };
-        let is_in_time = self.0.wait(|| mutex.release(Release::Exclusive), || mutex.acquire(Mode::Exclusive), deadline);
-        WaitTimeoutResult(!is_in_time)
+        // SAFETY: the guard holds the mutex.
+        let unlock = || unsafe { mutex.release(Release::Exclusive) };
+        WaitTimeoutResult(!wait(&self.0, unlock, || mutex.acquire(Mode::Exclusive), deadline))
     }
 
     /// Makes the first step of a notification inline, as the locks do.
     #[inline]
-    fn notify(&self, all: bool) -> u64 {
-        match self.0 .0[1].load(SeqCst) {
+    fn notify(&self, all: bool) -> u32 {
+        match self.0[0].load(SeqCst) {
             0 => 0,
-            count => self.0.rest_of_notify(all, count),
+            count => rest_of_notify(&self.0, all, count),
         }
     }
 }
@@ -153,19 +155,19 @@ impl fmt::Debug for Condvar {
 #[cfg(test)]
 mod tests {
     use super::*;
-    use crate::driver::{lock_c_next_event, lock_c_notify, LockEvent, LOAD, REFUSED};
+    use crate::driver::{lock_c_next_event, lock_c_notify, Code, LockEvent};
 
     /// A notification of a condition variable with this count loads it first, and ends if it is 0.
     #[test]
     fn inline_step_is_that_of_the_archive() {
-        let counts = (0..64).flat_map(|i| (0..64).map(move |j| 1u64 << i | 1 << j)).chain([0, u64::MAX, (1 << 63) - 1]);
+        let counts = (0..32).flat_map(|i| (0..32).map(move |j| 1u32 << i | 1 << j)).chain([0, u32::MAX, (1 << 31) - 1]);
         for count in counts {
             for all in [0, 1] {
                 let mut call = LockEvent::default();
                 let step = lock_c_notify(&mut call, all);
-                assert_eq!((step.action, step.place), (LOAD, 1));
-                assert_eq!(lock_c_next_event(&mut call, count).action == REFUSED, count == 0);
-                assert_eq!(call.loaded, count % (1 << 63));
+                assert_eq!((step.action, step.place), (Code::Load, 0));
+                assert_eq!(lock_c_next_event(&mut call, count).action == Code::Refused, count == 0);
+                assert_eq!(call.loaded, count % (1 << 31));
             }
         }
         assert!(!Condvar::new().notify_one());

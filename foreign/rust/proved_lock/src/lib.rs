@@ -1,12 +1,12 @@
 // SPDX-License-Identifier: MIT OR Apache-2.0
-//! A mutex, a condition variable and a reader-writer lock: proved code chooses each step but the first of an uncontended call.
+//! A mutex, a condition variable and a reader-writer lock: proved code chooses each step but the inline first ones.
 //!
 //! The types are those of [`lock_api`] over the raw locks [`RawMutex`] and [`RawRwLock`], with the names of `parking_lot`. A
 //! call is a state machine: the archive `liblock_c.a` returns the atomic step that comes next, and this crate makes it. It is
 //! proved of the machine that threads hold compatible modes, and that no thread that sleeps is forgotten.
 //!
-//! Trusted are the loop that makes the steps, futex, and the inline first step of an uncontended call. A test compares that step
-//! with the archive.
+//! A lock is one word of 32 bits. Trusted are the loop that makes the steps, futex, and the inline first steps of an uncontended
+//! call. A test compares those steps with the archive.
 //!
 //! ```
 //! use proved_lock::Mutex;
@@ -25,14 +25,14 @@
 //! - There is no `Once` or `FairMutex`, and no recursive read.
 //! - The features `serde`, `owning_ref` and `deadlock_detection` are missing.
 //! - A fair unlock is a plain unlock, and `bump` releases and acquires again.
-//! - A try may be refused while another call changes the lock.
-//! - A waiting writer with no deadline admits no new reader. One with a deadline does.
+//! - A writer that waits admits no new reader. It withdraws at its deadline.
 //! - A waiting upgrade admits new readers, which may starve it.
-//! - At most 2^32 - 1 readers hold a lock at a time. The next one blocks.
+//! - At most 2^28 - 1 readers hold a lock at a time. The next one blocks.
 //! - A wait of a [`Condvar`] may end without a notification. With two mutexes at a time, it does not panic.
 //! - The crate is for Linux on little-endian machines of 64 bits. It is tested on x86-64 alone.
 //!
-//! As in `parking_lot`, a panic of a thread that holds a lock releases it, and a lock is never poisoned.
+//! As in `parking_lot`, a panic of a thread that holds a lock releases it, and a lock is never poisoned. After the step that
+//! releases, an unlock reads and writes the lock no more: the thread that acquires it next may free it.
 //!
 //! # Features
 //!
@@ -59,10 +59,15 @@ compile_error!("proved_lock is for Linux on x86-64, aarch64, riscv64, loongarch6
 mod condvar;
 mod driver;
 mod first;
+#[cfg(all(test, feature = "std"))]
+mod mixed;
 mod mutex;
 #[cfg(feature = "std")]
 mod remutex;
 mod rwlock;
+mod word;
+
+const _: () = assert!(size_of::<Mutex<()>>() == 4 && size_of::<RwLock<()>>() == 4 && size_of::<Condvar>() == 8);
 
 /// With the feature, a guard may be sent to another thread.
 ///

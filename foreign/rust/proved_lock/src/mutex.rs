@@ -5,7 +5,7 @@ use crate::first::Lock;
 #[cfg(feature = "std")]
 use std::time::{Duration, Instant};
 
-/// The raw mutex, for [`lock_api::Mutex`]. It has 24 bytes.
+/// The raw mutex, for [`lock_api::Mutex`]. It has 4 bytes.
 #[derive(Debug)]
 pub struct RawMutex(pub(crate) Lock<1>);
 

@@ -1,13 +1,13 @@
 // SPDX-License-Identifier: MIT OR Apache-2.0
 //! The reader-writer lock.
 use crate::driver::{Mode, Release};
-use crate::first::Lock;
+use crate::first::{Lock, MAX_READERS};
 #[cfg(feature = "std")]
 use std::time::{Duration, Instant};
 
-/// The raw reader-writer lock, for [`lock_api::RwLock`]. It has 24 bytes.
+/// The raw reader-writer lock, for [`lock_api::RwLock`]. It has 4 bytes, and admits at most 2^28 - 1 readers at a time.
 #[derive(Debug)]
-pub struct RawRwLock(Lock<{ u32::MAX as u64 }>);
+pub struct RawRwLock(Lock<MAX_READERS>);
 
 /// A reader-writer lock with upgradable reads.
 ///
@@ -195,7 +195,7 @@ unsafe impl lock_api::RawRwLockFair for RawRwLock {
     }
 }
 
-// SAFETY: a downgrade is one subtraction of the proved machine.
+// SAFETY: a downgrade is one exchange of the proved machine.
 unsafe impl lock_api::RawRwLockDowngrade for RawRwLock {
     unsafe fn downgrade(&self) {
         self.0.release(Release::ToShared);
@@ -232,7 +232,7 @@ unsafe impl lock_api::RawRwLockUpgradeFair for RawRwLock {
     }
 }
 
-// SAFETY: a downgrade is one subtraction of the proved machine.
+// SAFETY: a downgrade is one exchange of the proved machine.
 unsafe impl lock_api::RawRwLockUpgradeDowngrade for RawRwLock {
     unsafe fn downgrade_upgradable(&self) {
         self.0.release(Release::UpgradableToShared);
