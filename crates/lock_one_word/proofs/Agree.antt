@@ -1,5 +1,5 @@
 -- A step on the word is the machine's step, whatever call of the party asks for it.
-use Rattle.std.proofs.Common.{◌⊎◌, ◌≡◌, ℕ, ◌^◌, ◌<◌, Bool, true, false, inl, inr, List, slice_get, slice_set, Some, IsTrue, refl, sym, ap, subst, ◌∙◌}
+use Rattle.std.proofs.Common.{◌⊎◌, ◌≡◌, ℕ, ◌^◌, ◌<◌, Bool, true, inl, inr, List, slice_get, slice_set, Some, refl, sym, ap, subst, ◌∙◌}
 use Rattle.std.proofs.lemmas.Bool.{false≢true}
 use Rattle.lock_base.specs.Limits.{IsLimit}
 use Rattle.lock_base.specs.declared.machine.hold.Hold.{Hold}
@@ -12,14 +12,12 @@ use Rattle.lock_one.specs.declared.park.ParkLimits.{ParkLimits}
 use Rattle.lock_one.specs.declared.park.ParkView.{ParkView}
 use Rattle.lock_one.specs.declared.park.Park.{Park}
 use Rattle.lock_one.specs.declared.park.Park.TheVariants.{Awake}
-use Rattle.lock_one.specs.declared.park.Debt.{Debt}
 use Rattle.lock_one.specs.declared.park.Debt.TheVariants as debt
 use Rattle.lock_one.specs.Machine.{word_marked, next_of}
 use Rattle.lock_one.specs.Runs.{limits_in, debt_at}
-use Rattle.lock_one.specs.Steps.{made, touches, limits_of, IsAt, IsPause, is_step, Keeps, hold_at, StepKept}
+use Rattle.lock_one.specs.Steps.{made, limits_of, IsAt, IsPause, is_step, Keeps, StepKept}
 use Rattle.lock_one.proofs.Runs.{owes_at, same_view}
 use Rattle.lock_one.proofs.Steps.{steps_keep_the_rule}
-use Rattle.lock_one_word.specs.declared.rule.OneView.{OneView}
 use Rattle.lock_one_word.specs.Seats.{placed, Task, IsGoing}
 use Rattle.lock_one_word.proofs.Parties.{same_hold}
 use Rattle.lock_one_word.proofs.Loaded.{stays_small}

@@ -1,20 +1,16 @@
 -- How a call begins, and the token that it leaves.
-use Rattle.std.proofs.Common.{◌≡◌, ℕ, Bool, true, false, [], if◌then◌else◌, IsTrue, refl, sym, ap, subst, ◌∙◌}
+use Rattle.std.proofs.Common.{◌≡◌, ℕ, Bool, true, false, IsTrue, refl, sym, ap, subst, ◌∙◌}
 use Rattle.atomic_table.specs.Seated.{TableId}
 use Rattle.lock_base.specs.declared.machine.mode.Mode.{Mode}
 use Rattle.lock_base.specs.declared.machine.mode.Mode.TheVariants.{Exclusive, Upgradable}
-use Rattle.lock_base.specs.declared.machine.hold.Hold.{Hold}
-use Rattle.lock_base.specs.Holds.{no_hold, hold_has, hold_after}
+use Rattle.lock_base.specs.Holds.{no_hold, hold_has}
 use Rattle.lock_word.specs.declared.want.ExWant.{ExWant}
 use Rattle.lock_word.specs.declared.want.ExWant.TheVariants as want
 use Rattle.lock_word.specs.Unblocking.{is_awaited}
 use Rattle.lock_word.specs.Word.{step_of_want, want_of_mode}
-use Rattle.lock_one.specs.declared.action.Action.{Action}
 use Rattle.lock_one.specs.declared.action.Action.TheVariants.{Load, End}
 use Rattle.lock_one.specs.declared.call.Call.{Call}
-use Rattle.lock_one.specs.declared.stage.Stage.TheVariants as stage
 use Rattle.lock_one.specs.Machine.{Progress, acquiring, next_of}
-use Rattle.lock_one.specs.Steps.{is_step}
 use Rattle.lock_one_word.specs.declared.rule.OneView.{OneView}
 use Rattle.lock_one_word.specs.Calls.{WordLockView, TokenView, token_of, one_hold}
 use Rattle.lock_one_word.specs.Drives.{IsTrying}

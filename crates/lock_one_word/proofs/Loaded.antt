@@ -1,5 +1,5 @@
 -- The word that a call found last is a word.
-use Rattle.std.proofs.Common.{◌≡◌, ℕ, ◌+◌, ◌-◌, ◌^◌, ◌<◌, Bool, true, false, not, ◌&&◌, ◌||◌, ◌==◌, inl, inr, IsTrue, nat_lt, if◌then◌else◌, refl, sym, ap, subst, ◌∙◌, arith, ltb-true}
+use Rattle.std.proofs.Common.{◌≡◌, ℕ, ◌+◌, ◌-◌, ◌^◌, ◌<◌, Bool, true, false, not, ◌&&◌, ◌||◌, ◌==◌, inl, inr, IsTrue, nat_lt, if◌then◌else◌, refl, sym, ap, subst, arith, ltb-true}
 use Rattle.std.proofs.lemmas.Bool.{and_parts, false≢true}
 use Rattle.lock_word.specs.declared.want.ExWant.{ExWant}
 use Rattle.lock_word.specs.declared.want.ExWant.TheVariants as want
@@ -13,8 +13,7 @@ use Rattle.lock_one.specs.declared.stage.Stage.TheVariants as stage
 use Rattle.lock_one.specs.declared.park.ParkView.{ParkView}
 use Rattle.lock_one.specs.declared.park.Debt.{Debt}
 use Rattle.lock_one.specs.declared.park.Debt.TheVariants as debt
-use Rattle.lock_one.specs.Rule.{is_upgrade}
-use Rattle.lock_one.specs.Machine.{Progress, core_of, has_sleepers, with_sleepers, sleepers, wakes_one, is_exclusive, sleep, sleep_of, sets_bar, word_marked, mark_or_sleep, marked, time_out, withdrawn, wait, after_try, decide, release_of, word_released, release_on, subtract, release_again, look_to_remove, wakes, acquired, refused, ended, goes_to, next_at}
+use Rattle.lock_one.specs.Machine.{Progress, core_of, has_sleepers, with_sleepers, sleepers, wakes_one, is_exclusive, sleep, sets_bar, word_marked, mark_or_sleep, marked, time_out, withdrawn, wait, after_try, decide, release_of, word_released, release_on, subtract, release_again, wakes, acquired, refused, goes_to, next_at}
 use Rattle.lock_one.specs.Steps.{IsAt, is_step}
 
 abbrev loaded : Progress → ℕ

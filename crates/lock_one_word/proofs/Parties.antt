@@ -1,12 +1,11 @@
 -- The views of seats as parties of the rule.
-use Rattle.std.proofs.Common.{◌≡◌, ℕ, zero, suc, ◌+◌, ◌^◌, ◌<◌, Bool, true, false, inl, inr, List, [], ◌∷◌, slice_get, slice_set, sum_by, Some, refl, sym, ap, subst, ◌∙◌, arith}
+use Rattle.std.proofs.Common.{◌≡◌, ℕ, zero, suc, Bool, true, false, List, [], ◌∷◌, slice_get, slice_set, sum_by, Some, refl, sym, ap, subst, ◌∙◌, arith}
 use Rattle.std.proofs.lemmas.List.{map-set}
 use Rattle.std.proofs.lemmas.Option.{slice_get-map, same_Some}
 use mathlib.Core.Option.{some}
 use lib.ListN.{get_elem?}
 use Rattle.atomic_table.proofs.Lists.{set_again}
 use Rattle.lock_base.specs.declared.machine.hold.Hold.{Hold}
-use Rattle.lock_base.specs.declared.machine.bag.Bag.{Bag}
 use Rattle.lock_base.specs.Limits.{IsLimit}
 use Rattle.lock_word.specs.declared.want.ExWant.{ExWant}
 use Rattle.lock_word.specs.Holders.{all_of}
@@ -15,7 +14,6 @@ use Rattle.lock_word.specs.Word.{word_of}
 use Rattle.lock_word.proofs.Holders.{sum_by-slice_set}
 use Rattle.lock_word.proofs.SeatKeeps.{seat_at}
 use Rattle.lock_word.proofs.Words.{encoding_is_injective}
-use Rattle.lock_one.specs.declared.park.ParkLimits.{ParkLimits}
 use Rattle.lock_one.specs.declared.park.ParkView.{ParkView}
 use Rattle.lock_one.specs.declared.park.Park.TheVariants.{Awake, Asleep}
 use Rattle.lock_one.specs.Machine.{core_of}

@@ -1,6 +1,6 @@
 -- Each action of a release leaves less of it to do.
-use Rattle.std.proofs.Common.{◌≡◌, ℕ, ◌+◌, ◌-◌, ◌<◌, ◌≤◌, Bool, true, false, not, ◌==◌, nat_lt, if◌then◌else◌, inl, inr, refl, sym, ap, subst, ◌∙◌, arith, ltb-true, lt-ltb}
-use Rattle.std.proofs.lemmas.Bool.{false≢true, true≢false, cases_lt}
+use Rattle.std.proofs.Common.{◌≡◌, ℕ, ◌+◌, ◌-◌, ◌<◌, Bool, true, false, ◌==◌, nat_lt, if◌then◌else◌, refl, sym, ap, subst, ◌∙◌, arith, ltb-true}
+use Rattle.std.proofs.lemmas.Bool.{false≢true, true≢false}
 use Rattle.lock_base.specs.declared.machine.hold.Hold.{Hold}
 use Rattle.lock_word.specs.declared.down.Down.{Down}
 use Rattle.lock_one.specs.declared.action.Action.{Action}
@@ -8,12 +8,11 @@ use Rattle.lock_one.specs.declared.action.Action.TheVariants as action
 use Rattle.lock_one.specs.declared.call.Call.{Call}
 use Rattle.lock_one.specs.declared.stage.Stage.{Stage}
 use Rattle.lock_one.specs.declared.stage.Stage.TheVariants as stage
-use Rattle.lock_one.specs.declared.park.ParkView.{ParkView}
 use Rattle.lock_one.specs.declared.park.Debt.{Debt}
 use Rattle.lock_one.specs.declared.park.Debt.TheVariants as debt
-use Rattle.lock_one.specs.Machine.{Progress, has_sleepers, release_of, release_on, subtract, release_again, look_to_remove, wakes, next_at, next_of}
+use Rattle.lock_one.specs.Machine.{Progress, has_sleepers, release_of, release_on, subtract, release_again, wakes, next_at, next_of}
 use Rattle.lock_one.specs.Runs.{debt_at}
-use Rattle.lock_one.specs.Steps.{ends, IsAt, IsWake}
+use Rattle.lock_one.specs.Steps.{IsAt, IsWake}
 use Rattle.lock_one_word.specs.declared.rule.OneView.{OneView}
 use Rattle.lock_one_word.specs.Seats.{placed, Task, releases, to_release, IsGoing}
 use Rattle.lock_one_word.specs.Drives.{touches_lock, rank_at, rank}

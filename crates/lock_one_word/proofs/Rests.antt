@@ -1,8 +1,8 @@
 -- The actions of a call that are no steps on the word, and its end.
-use Rattle.std.proofs.Common.{◌⊎◌, ◌≡◌, ℕ, ◌^◌, ◌<◌, arith, Bool, true, false, ◌||◌, nat_lt, if◌then◌else◌, inl, inr, IsTrue, refl, sym, ap, subst, ◌∙◌}
+use Rattle.std.proofs.Common.{◌≡◌, ℕ, ◌^◌, ◌<◌, arith, Bool, true, false, ◌||◌, nat_lt, if◌then◌else◌, IsTrue, refl, sym, ap, subst, ◌∙◌}
 use Rattle.std.proofs.lemmas.Bool.{false≢true, true≢false}
 use Rattle.lock_base.specs.declared.machine.hold.Hold.{Hold}
-use Rattle.lock_base.specs.Holds.{no_hold, hold_has, hold_after}
+use Rattle.lock_base.specs.Holds.{hold_has, hold_after}
 use Rattle.lock_word.specs.declared.want.ExWant.{ExWant}
 use Rattle.lock_word.specs.declared.want.ExWant.TheVariants as want
 use Rattle.lock_word.specs.declared.down.Down.{Down}
@@ -21,11 +21,11 @@ use Rattle.lock_one.specs.declared.park.Debt.TheVariants as debt
 use Rattle.lock_one.specs.Rule.{is_upgrade}
 use Rattle.lock_one.specs.Machine.{Progress, sleep_of, wakes_one, acquiring, taking, removes_reader, begun, goes_to, release_on, alone, next_at, next_of}
 use Rattle.lock_one.specs.Runs.{debt_at}
-use Rattle.lock_one.specs.Steps.{ends, Acquires, IsAt, IsPause, IsWake, is_step, hold_at}
+use Rattle.lock_one.specs.Steps.{ends, Acquires, IsAt, IsWake, is_step, hold_at}
 use Rattle.lock_one.proofs.Answers.{answers_tell}
 use Rattle.lock_one.proofs.Runs.{quiet_sleep, same_view}
 use Rattle.lock_one_word.specs.declared.rule.OneView.{OneView}
-use Rattle.lock_one_word.specs.Seats.{placed, Task, task_of, to_acquire, to_release, releases, IsGoing}
+use Rattle.lock_one_word.specs.Seats.{placed, Task, to_acquire, to_release, releases, IsGoing}
 use Rattle.lock_one_word.proofs.Tasks.{keeps_task, is_on}
 
 -- a step on the word

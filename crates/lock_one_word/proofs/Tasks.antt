@@ -1,5 +1,5 @@
 -- A call keeps its task.
-use Rattle.std.proofs.Common.{◌≡◌, ℕ, ◌+◌, ◌-◌, ◌^◌, Bool, true, false, not, ◌&&◌, ◌==◌, nat_lt, if◌then◌else◌, refl, sym, ap, ◌∙◌}
+use Rattle.std.proofs.Common.{◌≡◌, ℕ, ◌+◌, ◌-◌, ◌^◌, Bool, true, false, not, ◌&&◌, ◌==◌, nat_lt, if◌then◌else◌, refl}
 use Rattle.std.proofs.lemmas.Bool.{false≢true}
 use Rattle.lock_word.specs.Word.{word_admits}
 use Rattle.lock_one.specs.declared.action.Action.TheVariants as action
@@ -8,7 +8,7 @@ use Rattle.lock_one.specs.declared.stage.Stage.{Stage}
 use Rattle.lock_one.specs.declared.stage.Stage.TheVariants as stage
 use Rattle.lock_one.specs.declared.park.Debt.{Debt}
 use Rattle.lock_one.specs.declared.park.Debt.TheVariants as debt
-use Rattle.lock_one.specs.Machine.{Progress, core_of, has_sleepers, sleepers, wakes_one, sleep, word_marked, mark_or_sleep, marked, time_out, withdrawn, wait, after_try, decide, release_of, release_on, subtract, release_again, look_to_remove, wakes, acquired, refused, goes_to, next_at, next_of}
+use Rattle.lock_one.specs.Machine.{Progress, core_of, has_sleepers, sleepers, wakes_one, sleep, word_marked, mark_or_sleep, marked, time_out, withdrawn, wait, after_try, decide, release_of, release_on, subtract, release_again, wakes, acquired, refused, goes_to, next_at, next_of}
 use Rattle.lock_one.specs.Steps.{is_step}
 use Rattle.lock_one_word.specs.Seats.{Task, task_of}
 

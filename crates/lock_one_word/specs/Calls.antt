@@ -1,5 +1,5 @@
 -- A lock and the token of an acquisition, as contracts see them.
-use Rattle.std.specs.Prelude.{◌≡◌, ℕ, Bool, false, []}
+use Rattle.std.specs.Prelude.{◌≡◌, ℕ, false, []}
 use Rattle.atomic_table.specs.Seated.{TableId}
 use Rattle.atomic_table.specs.Table.{Me}
 use Rattle.lock_base.specs.declared.machine.mode.Mode.{Mode}

@@ -1,4 +1,4 @@
-use Rattle.std.proofs.Common.{◌≡◌, true, rules, refl, sym, ap, subst, ◌∙◌}
+use Rattle.std.proofs.Common.{◌≡◌, true, sym, ap, subst, ◌∙◌}
 use Rattle.atomic_table.specs.declared.shared.Seat.{Seat}
 use Rattle.lock_base.specs.Holds.{no_hold}
 use Rattle.lock_word.specs.declared.want.ExWant.{ExWant}
@@ -6,7 +6,6 @@ use Rattle.lock_word.specs.Word.{want_of_mode}
 use Rattle.lock_one.specs.declared.action.Action.{Action}
 use Rattle.lock_one.specs.declared.action.Action.TheVariants.{End}
 use Rattle.lock_one_word.specs.declared.rule.OneView.{OneView}
-use Rattle.lock_one_word.specs.Calls.{one_hold}
 use Rattle.lock_one_word.specs.Seats.{Self, to_acquire, IsGoing}
 use Rattle.lock_one_word.proofs.Begins.{ended_holds, token_is}
 use Rattle.lock_one_word.proofs.word_lock.WordLock.acquire_within.Goals as goal

@@ -1,6 +1,5 @@
-use Rattle.std.proofs.Common.{rules, refl, sym, subst, ◌∙◌}
+use Rattle.std.proofs.Common.{sym, subst, ◌∙◌}
 use Rattle.lock_one.specs.declared.action.Action.{Action}
-use Rattle.lock_one.specs.declared.action.Action.TheVariants.{Exchange}
 use Rattle.lock_one.specs.Machine.{Progress}
 use Rattle.lock_one_word.specs.Seats.{to_acquire, IsGoing}
 use Rattle.lock_one_word.specs.Drives.{IsTrying}

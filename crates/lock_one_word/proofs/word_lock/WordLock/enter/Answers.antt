@@ -1,4 +1,4 @@
-use Rattle.std.proofs.Common.{rules, subst, sym, ap}
+use Rattle.std.proofs.Common.{rules, subst, sym}
 use Rattle.lock_one.specs.declared.action.Action.TheVariants.{Load}
 use Rattle.lock_one.specs.Machine.{next_of}
 use Rattle.lock_one_word.specs.Seats.{Self, IsGoing}

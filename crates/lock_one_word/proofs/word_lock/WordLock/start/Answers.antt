@@ -1,4 +1,4 @@
-use Rattle.std.proofs.Common.{◌≡◌, true, false, rules, refl, sym, ap, subst, ◌∙◌}
+use Rattle.std.proofs.Common.{◌≡◌, true, refl, sym, ap, subst, ◌∙◌}
 use Rattle.lock_one.specs.declared.action.Action.{Action}
 use Rattle.lock_one.specs.declared.action.Action.TheVariants.{Exchange}
 use Rattle.lock_one.specs.Machine.{Progress, acquiring}
@@ -53,5 +53,5 @@ returns-in_default c =
       going = going;
       tries = λ never.
           first_try c.self.inside.readers c.args.answer.found c.args.want c.acquire.result (c.next-action.new.call, c.next-action.result)
-    (subst (λ b. c.acquire.result ≡ acquiring c.self.inside.readers c.args.want b true) never c.acquire.ensures) c.next-action.ensures;
+          (subst (λ b. c.acquire.result ≡ acquiring c.self.inside.readers c.args.want b true) never c.acquire.ensures) c.next-action.ensures;
     }

@@ -1,5 +1,4 @@
-use Rattle.std.proofs.Common.{rules, refl, sym, ap, subst, ◌∙◌, ◌<◌}
-use Rattle.lock_one.specs.declared.call.Call.{Call}
+use Rattle.std.proofs.Common.{refl, sym, ap, subst, ◌∙◌, ◌<◌}
 use Rattle.lock_one.specs.Machine.{Progress}
 use Rattle.lock_one_word.specs.Calls.{WordLockView}
 use Rattle.lock_one_word.specs.Seats.{IsGoing, to_release}
