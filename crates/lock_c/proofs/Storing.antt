@@ -6,6 +6,7 @@ use Rattle.lock_base.specs.declared.machine.hold.Hold.{Hold}
 use Rattle.lock_word.specs.declared.want.ExWant.TheVariants as want
 use Rattle.lock_word.specs.declared.down.Down.{Down}
 use Rattle.lock_word.specs.declared.down.Down.TheVariants as down
+use Rattle.lock_word.specs.Word.{amount}
 use Rattle.lock_one.specs.declared.action.Action.{Action}
 use Rattle.lock_one.specs.declared.action.Action.TheVariants as one
 use Rattle.lock_one.specs.declared.call.Call.{Call}
@@ -19,6 +20,7 @@ use Rattle.lock_one.specs.Rule.{is_upgrade}
 use Rattle.lock_one.specs.Machine.{Progress, sleep_of, begun, goes_to, release_on, alone, taking}
 use Rattle.lock_one.specs.Steps.{made, limits_of, hold_at, is_step, IsAt, IsPause, IsWake}
 use Rattle.lock_one.specs.Stored.{stored_of, word_of_stored}
+use Rattle.lock_one.proofs.Actions.{subtracts_own}
 use Rattle.lock_one.proofs.Steps.{steps_keep_the_rule}
 use Rattle.lock_one.proofs.Stored.{storing_keeps_words}
 use Rattle.lock_c.specs.Packed.{half_of, step_of}
@@ -64,14 +66,14 @@ exchanges a b word ha hb hw = rw (compares word a hw ha, whole b hb) (split (wor
 -- what an action needs of its numbers
 abbrev Serves : Action → ℕ → Type 0
 Serves (one.Exchange a b) word = Fits a × Fits b
-Serves one.RemoveReader word = Fits (word - 1)
+Serves (one.Subtract d) word = stored_after (step_of (one.Subtract d)) (stored_of word) ≡ stored_of (word - amount d)
 Serves other word = ⊤
 
 made_alike : (action : Action) (word : ℕ) → Fits word → Serves action word
     → stored_after (step_of action) (stored_of word) ≡ stored_of (made action word)
 made_alike one.Load word hw h = refl
 made_alike (one.Exchange a b) word hw h = exchanges a b word h.0 h.1 hw
-made_alike one.RemoveReader word hw h = let was = hw.half in let is = h.half in omega arith
+made_alike (one.Subtract d) word hw h = h
 made_alike (one.Park n true) word hw h = refl
 made_alike (one.Park n false) word hw h = refl
 made_alike one.WakeOne word hw h = refl
@@ -114,8 +116,8 @@ of_loaded stage.Sleep call v action h is =
     not_exchange action (sleep_of call) h.5 (sleep_is_none (nat_lt call.readers (2 ^ 28)) (call.announced || is_upgrade call.want) call.loaded) is
 of_loaded stage.Withdraw call v action h is = record { left = _; is = h.2 }
 of_loaded stage.Leave call v action h is = record { left = _; is = h.4 }
-of_loaded stage.LookToRemove call v action h is = not_exchange action one.Load h.4 refl is
-of_loaded stage.Remove call v action h is = not_exchange action one.RemoveReader h.4 refl is
+of_loaded stage.LookToRemove call v action h is = not_exchange action one.Load h.2 refl is
+of_loaded stage.Subtract call v action h is = not_exchange action (one.Subtract call.down) h.2 refl is
 of_loaded stage.Release call v action h is = record { left = _; is = h.2 }
 of_loaded stage.Wake call v action h is = wake_is_none v.debt action h.1 is
 of_loaded stage.WakeRefused call v action h is = not_exchange action one.WakeAll h.2 refl is
@@ -146,8 +148,11 @@ module _ (call : Call) (v : ParkView) (action : Action) (before : Hold) (k : ℕ
         word_fits (limits_of call) call.loaded earlier known.0,
         subst Fits (ap (λ x. made x call.loaded) of.is ∙ made_of_loaded call.loaded of.left) (after_fits call.loaded earlier known.0 known.1),
       )
-  serves earlier now word found h is one.RemoveReader same =
-      subst (λ x. Serves x word) (sym same) (subst (λ x. Fits (made x word)) same (after_fits word now h is))
+  serves earlier now word found h is (one.Subtract d) same =
+      let half = (subst (λ x. Fits (made x word)) same (after_fits word now h is)).half in
+      let own = subtracts_own call.stage call v d (subst (λ x. IsAt call.stage call v x) same at) in
+      subst (λ x. Serves x word) (sym same)
+      (storing_keeps_words.subtracts (limits_of call) word now k v d (2 ^ 32) h.limit h.keeps is own (word_fits (limits_of call) word now h).half half)
   serves earlier now word found h is one.Load same = subst (λ x. Serves x word) (sym same) tt
   serves earlier now word found h is (one.Park n passes) same = subst (λ x. Serves x word) (sym same) tt
   serves earlier now word found h is one.WakeOne same = subst (λ x. Serves x word) (sym same) tt

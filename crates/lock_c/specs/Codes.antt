@@ -68,7 +68,7 @@ number_of_stage stage.Sleep = 4
 number_of_stage stage.Withdraw = 5
 number_of_stage stage.Leave = 6
 number_of_stage stage.LookToRemove = 7
-number_of_stage stage.Remove = 8
+number_of_stage stage.Subtract = 8
 number_of_stage stage.Release = 9
 number_of_stage stage.Wake = 10
 number_of_stage stage.WakeRefused = 11
@@ -80,7 +80,7 @@ abbrev pub stage_of : ℕ → Stage
 stage_of n =
     if n == 0 then stage.Look else if n == 1 then stage.Try else if n == 2 then stage.Pause else if n == 3 then stage.Mark else
     if n == 4 then stage.Sleep else if n == 5 then stage.Withdraw else if n == 6 then stage.Leave else if n == 7 then stage.LookToRemove else
-    if n == 8 then stage.Remove else if n == 9 then stage.Release else if n == 10 then stage.Wake else if n == 11 then stage.WakeRefused else
+    if n == 8 then stage.Subtract else if n == 9 then stage.Release else if n == 10 then stage.Wake else if n == 11 then stage.WakeRefused else
     if n == 12 then stage.Acquired else if n == 13 then stage.Refused else stage.Ended
 
 abbrev pub number_of_event_stage : EventStage → ℕ

@@ -5,7 +5,7 @@ use Rattle.lock_word.specs.declared.down.Down.{Down}
 use Rattle.lock_one.specs.declared.action.Action.{Action}
 use Rattle.lock_one.specs.declared.action.Action.TheVariants as one
 use Rattle.lock_one.specs.declared.call.Call.{Call}
-use Rattle.lock_one.specs.Stored.{stored_of}
+use Rattle.lock_one.specs.Stored.{stored_of, stored_amount}
 use Rattle.lock_events.specs.declared.action.EventAction.{EventAction}
 use Rattle.lock_events.specs.declared.action.EventAction.TheVariants as event
 use Rattle.lock_events.specs.declared.action.EventPlace.{EventPlace}
@@ -76,14 +76,10 @@ step kind place first second = record { action = number_of_code kind; place = pl
 abbrev pub half_of : ℕ → ℕ
 half_of word = stored_of word % 2 ^ 32
 
--- what a lock of 32 bits stores for one reader
-abbrev pub one_reader : ℕ
-one_reader = 16
-
 abbrev pub step_of : Action → LockStep
 step_of one.Load = step code.Load 0 0 0
 step_of (one.Exchange a b) = step code.Exchange 0 (half_of a) (half_of b)
-step_of one.RemoveReader = step code.Subtract 0 one_reader 0
+step_of (one.Subtract d) = step code.Subtract 0 (stored_amount (2 ^ 32) d) 0
 step_of (one.Park n passes) = step (if passes then code.ParkNext else code.Park) 0 (half_of n) 0
 step_of one.WakeOne = step code.WakeOne 0 0 0
 step_of one.WakeAll = step code.WakeAll 0 0 0

@@ -1,5 +1,5 @@
 -- The steps on the number that a lock of 32 bits stores are the steps of the machine on its word.
-use Rattle.std.specs.Prelude.{◌≡◌, ℕ, ◌-◌, ◌^◌, ◌<◌, ◌==◌, Bool, true, false, if◌then◌else◌, List, slice_get, Some, IsTrue}
+use Rattle.std.specs.Prelude.{◌≡◌, ℕ, ◌+◌, ◌-◌, ◌%◌, ◌^◌, ◌<◌, ◌==◌, Bool, true, false, if◌then◌else◌, List, slice_get, Some, IsTrue}
 use Rattle.lock_base.specs.Limits.{IsLimit}
 use Rattle.lock_base.specs.declared.machine.hold.Hold.{Hold}
 use Rattle.lock_word.specs.declared.down.Down.{Down}
@@ -17,18 +17,18 @@ use Rattle.lock_c.specs.declared.LockStep.{LockStep}
 use Rattle.lock_c.specs.Codes.{number_of_code}
 use Rattle.lock_c.specs.Packed.{step_of}
 
--- the stored number after a step, as the driver makes it
+-- the stored number after a step, as the driver makes it. A subtraction wraps at 32 bits
 abbrev pub stored_after : LockStep → ℕ → ℕ
 stored_after s m =
     if s.action == number_of_code code.Exchange then if m == s.first then s.second else m
-    else if s.action == number_of_code code.Subtract then m - s.first
+    else if s.action == number_of_code code.Subtract then (m + (2 ^ 32 - s.first)) % 2 ^ 32
     else if s.action == number_of_code code.Store then s.first
     else m
 
 abbrev pub is_exchange : Action → Bool
 is_exchange one.Load = false
 is_exchange (one.Exchange a b) = true
-is_exchange one.RemoveReader = false
+is_exchange (one.Subtract d) = false
 is_exchange (one.Park n f) = false
 is_exchange one.WakeOne = false
 is_exchange one.WakeAll = false

@@ -1,5 +1,6 @@
 //! Calls and steps as C has them.
-ghost use Rattle.std.specs.Prelude.{◌≡◌};
+ghost use Rattle.std.specs.Prelude.{◌≡◌, ◌^◌};
+ghost use Rattle.lock_one.specs.Stored.{stored_amount};
 ghost use Rattle.lock_c.specs.Packed.{half_of, number_of_place, packed, packed_event, step, step_of, step_of_event, unpacked, unpacked_event};
 
 use crate::codes::{
@@ -8,10 +9,8 @@ use crate::codes::{
 };
 use crate::{LockCall, LockEvent, LockStep};
 use lock_events::{EventAction, EventCall, EventPlace};
-use lock_one::{Action, Call, to_stored};
-
-/// What a lock stores for one reader.
-const ONE_READER: u32 = 16;
+use lock_one::{Action, Call, stored_amount, to_stored};
+use lock_word::Down;
 
 pub(crate) fn packed(call: &Call) -> LockCall
     ensures { result ≡ packed call.now }
@@ -93,6 +92,13 @@ fn half_of(word: u64) -> u32
     (to_stored(word) % 4_294_967_296) as u32
 }
 
+/// Returns what a release subtracts from the number of 32 bits, which wraps.
+fn half_amount(down: Down) -> u32
+    ensures { result ≡ stored_amount (2 ^ 32) down }
+{
+    (stored_amount(down) % 4_294_967_296) as u32
+}
+
 pub(crate) fn step_of(next: Action) -> LockStep
     ensures { result ≡ step_of next }
 {
@@ -101,7 +107,7 @@ pub(crate) fn step_of(next: Action) -> LockStep
         Action::Exchange(first, second) => {
             step(Code::Exchange, 0, half_of(first), half_of(second))
         }
-        Action::RemoveReader => step(Code::Subtract, 0, ONE_READER, 0),
+        Action::Subtract(down) => step(Code::Subtract, 0, half_amount(down), 0),
         Action::Park(word, false) => step(Code::Park, 0, half_of(word), 0),
         Action::Park(word, true) => step(Code::ParkNext, 0, half_of(word), 0),
         Action::WakeOne => step(Code::WakeOne, 0, 0, 0),

@@ -1,6 +1,7 @@
 pub mod Parking
 pub mod LastAccess
 pub mod Steps
+pub mod Actions
 pub mod Answers
 pub mod Sleeps
 pub mod Runs

@@ -31,7 +31,7 @@ use Rattle.lock_one.specs.declared.park.Debt.TheVariants as debt
 use Rattle.lock_one.specs.Rule.{holds_of, is_asleep, is_woken, is_next, is_upgrade, wake_park_next, KeepsParking, with_park, with_debt, wake_all, wake_next, new_party}
 use Rattle.lock_one.specs.Machine.{Progress, core_of, has_sleepers, acquiring, taking, release_on, alone, removes_reader, sleep_of, goes_to, begun, next_at, next_of}
 use Rattle.lock_one.specs.Steps.{made, touches, ends, limits_of, hold_at, Acquires, AtRest, IsPause, IsWake, IsAt, is_step, Keeps}
-use Rattle.lock_one.specs.Runs.{Underway, Thread, LockInUse, views_of, limits_in, new_thread, new_lock, Act, join, acquires, releases, steps, is_idle, may_acquire, may_release, begins, park_at, debt_at, view_after, goes_on, thread_after, with_thread, view_to, answer, steps_by, parks_by, any_asleep, paid, wake_at, wakes_by, step_at, step_in, acquire_by, release_by, step_by, after_act, after_acts, IsInPark, ThreadsAreServed, EveryRunIsServed}
+use Rattle.lock_one.specs.Runs.{Underway, Thread, LockInUse, views_of, limits_in, new_thread, new_lock, Act, join, acquires, releases, steps, is_idle, may_acquire, may_release, begins, park_at, debt_at, view_after, goes_on, thread_after, with_thread, view_to, answer, steps_by, finds, parks_by, any_asleep, paid, wake_at, wakes_by, step_at, step_in, acquire_by, release_by, step_by, after_act, after_acts, IsInPark, ThreadsAreServed, EveryRunIsServed}
 use Rattle.lock_one.proofs.Parking.{parties_of, rule_of, holds_of_parties, sums_of, each_step, starts}
 use Rattle.lock_one.proofs.Steps.{steps_keep_the_rule}
 use Rattle.lock_one.proofs.Sleeps.{sleeps_keep_the_rule}
@@ -453,12 +453,17 @@ awake_at stage.Acquired call v a is h = absurd (false≢true h)
 awake_at stage.Refused call v a is h = absurd (false≢true h)
 awake_at stage.Ended call v a is h = absurd (false≢true h)
 
+-- a park finds the loaded word
+found_loaded : (few passes : Bool) (n word : ℕ) → finds (if few then action.Park n passes else action.Yield) word ≡ true → word ≡ n
+found_loaded true passes n word e = eqb-true word n e
+found_loaded false passes n word e = absurd (false≢true e)
+
 -- a park
 park_kept : (s : LockInUse) (k given : ℕ) (t : Thread) (u : Underway) → slice_get s.threads k ≡ Some t → IsAt stage.Sleep u.at.0 t.view u.at.1
     → t.view.held ≡ hold_at stage.Sleep u.at.0 u.before → limits_of u.at.0 ≡ limits_in s.readers → u.before.announced ≡ false → u.at.0.stage ≡ stage.Sleep → t.underway ≡ Some u → RunKept s
     → RunKept (parks_by s k given t u)
 park_kept s k given t u at is held lock clean sleeps calls run =
-    by ((given == 0) && ((s.word == u.at.0.loaded) && not (is_asleep t.view.park))) refl
+    by ((given == 0) && (finds u.at.1 s.word && not (is_asleep t.view.park))) refl
   where
     call : Call
     call = u.at.0
@@ -469,13 +474,14 @@ park_kept s k given t u at is held lock clean sleeps calls run =
     keeps : Keeps (limits_of u.at.0) s.word (views_of s.threads)
     keeps = subst (λ l. Keeps l s.word (views_of s.threads)) (sym lock) run.keeps
 
-    by : (b : Bool) → ((given == 0) && ((s.word == u.at.0.loaded) && not (is_asleep t.view.park))) ≡ b
+    by : (b : Bool) → ((given == 0) && (finds u.at.1 s.word && not (is_asleep t.view.park))) ≡ b
         → RunKept (if b then with_thread s k (record t { view = with_park t.view (Asleep u.at.0.want) })
         else with_thread s k record { view = with_park t.view Woken; underway = goes_on (next_at stage.Sleep given u.at.0) u.before })
     by true e =
-        let one = and_parts (given == 0) ((s.word == u.at.0.loaded) && not (is_asleep t.view.park)) e in
-        let two = and_parts (s.word == u.at.0.loaded) (not (is_asleep t.view.park)) one.1 in
-        let word : s.word ≡ u.at.0.loaded = eqb-true s.word u.at.0.loaded two.0 in
+        let one = and_parts (given == 0) (finds u.at.1 s.word && not (is_asleep t.view.park)) e in
+        let two = and_parts (finds u.at.1 s.word) (not (is_asleep t.view.park)) one.1 in
+        let word : s.word ≡ u.at.0.loaded
+        = found_loaded (nat_lt call.readers (2 ^ 28)) (call.announced || is_upgrade call.want) call.loaded s.word (subst (λ a. finds a s.word ≡ true) is.5 two.0) in
         let asleep = sleeps_keep_the_rule.falls_asleep (views_of s.threads) k t.view u.at.0 u.at.1 range
         (subst (λ n. Keeps (limits_of u.at.0) n (views_of s.threads)) word keeps) (view_in s.threads k t at) is in
         let v = with_park t.view (Asleep u.at.0.want) in

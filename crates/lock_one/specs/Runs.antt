@@ -129,10 +129,15 @@ steps_by s k given t u =
       threads = slice_set s.threads k (thread_after (next_of (answer u.at.1 s.word given) u.at.0) t.view.park u.before);
     }
 
+-- whether a park finds its number in the word. A yield does not sleep
+abbrev pub finds : Action → ℕ → Bool
+finds (action.Park n passes) word = word == n
+finds other word = false
+
 -- a park: the thread falls asleep if the answer is 0 and the word is the number. Otherwise its sleep ends, and it may be late
 abbrev pub parks_by : LockInUse → ℕ → ℕ → Thread → Underway → LockInUse
 parks_by s k given t u =
-    if (given == 0) && ((s.word == u.at.0.loaded) && not (is_asleep t.view.park))
+    if (given == 0) && (finds u.at.1 s.word && not (is_asleep t.view.park))
     then with_thread s k (record t { view = with_park t.view (Asleep u.at.0.want) })
     else with_thread s k record { view = with_park t.view Woken; underway = goes_on (next_at stage.Sleep given u.at.0) u.before }
 

@@ -1,6 +1,10 @@
 -- A word as a lock stores it: the four flags are bits 0 to 3, in their order, and the readers follow.
-use Rattle.std.specs.Prelude.{◌≡◌, ℕ, ◌+◌, ◌*◌, ◌/◌, ◌%◌, ◌-◌, ◌^◌, ◌<◌, List}
+use Rattle.std.specs.Prelude.{◌≡◌, ℕ, ◌+◌, ◌*◌, ◌/◌, ◌%◌, ◌-◌, ◌^◌, ◌<◌, List, slice_get, Some, IsTrue}
 use Rattle.lock_base.specs.Limits.{IsLimit}
+use Rattle.lock_base.specs.Holds.{hold_has}
+use Rattle.lock_word.specs.declared.down.Down.{Down}
+use Rattle.lock_word.specs.declared.down.Down.TheVariants as down
+use Rattle.lock_word.specs.Word.{amount, step_of_down}
 use Rattle.lock_one.specs.declared.park.ParkLimits.{ParkLimits}
 use Rattle.lock_one.specs.declared.park.ParkView.{ParkView}
 use Rattle.lock_one.specs.Steps.{Keeps}
@@ -11,6 +15,16 @@ stored_of word = word / 2 ^ 32 + 16 * (word % 2 ^ 32)
 abbrev pub word_of_stored : ℕ → ℕ
 word_of_stored stored = stored / 16 + 2 ^ 32 * (stored % 16)
 
+-- what a release subtracts from a stored word that wraps at the modulus. A downgrade that makes a reader of a flag adds
+abbrev pub stored_amount : ℕ → Down → ℕ
+stored_amount modulus down.Shared = 16
+stored_amount modulus down.Exclusive = 2
+stored_amount modulus down.Upgradable = 17
+stored_amount modulus down.ToShared = modulus - 14
+stored_amount modulus down.ToUpgradable = modulus - 15
+stored_amount modulus down.UpgradableToShared = 1
+stored_amount modulus down.Withdraw = 4
+
 -- THE LAW: each word is stored as one number, and read back as it was. A lock for fewer than 2^28 readers stores 32 bits, so a park,
 -- which compares 32 bits, compares its whole word
 pub record StoringKeepsWords : Type 0 where
@@ -19,3 +33,8 @@ pub record StoringKeepsWords : Type 0 where
   pub in_half : (limits : ParkLimits) (word : ℕ) (views : List ParkView) → IsLimit limits.readers → limits.readers < 2 ^ 28
       → Keeps limits word views → stored_of word < 2 ^ 32
   pub one_reader : (word : ℕ) → word < 2 ^ 36 → word % 2 ^ 32 < 2 ^ 32 - 1 → stored_of (word + 1) ≡ stored_of word + 16
+  -- of a word that the rule permits, a holder subtracts this number from the stored word, whatever the width that stores both words
+  pub subtracts : (limits : ParkLimits) (word : ℕ) (views : List ParkView) (k : ℕ) (me : ParkView) (d : Down) (modulus : ℕ) → IsLimit limits.readers
+      → Keeps limits word views → slice_get views k ≡ Some me → IsTrue (hold_has me.held (step_of_down d))
+      → stored_of word < modulus → stored_of (word - amount d) < modulus
+      → (stored_of word + (modulus - stored_amount modulus d)) % modulus ≡ stored_of (word - amount d)

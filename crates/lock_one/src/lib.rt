@@ -20,4 +20,4 @@ pub use laws::{
 };
 pub use park::{Debt, Park, ParkLimits, ParkView};
 pub use stage::Stage;
-pub use storing::{from_stored, to_stored};
+pub use storing::{from_stored, stored_amount, to_stored};

@@ -1,6 +1,8 @@
 //! A word as a lock stores it.
-ghost use Rattle.std.specs.Prelude.{◌≡◌};
-ghost use Rattle.lock_one.specs.Stored.{stored_of, word_of_stored};
+ghost use Rattle.std.specs.Prelude.{◌≡◌, ◌^◌};
+ghost use Rattle.lock_one.specs.Stored.{stored_amount, stored_of, word_of_stored};
+
+use lock_word::Down;
 
 /// Returns the number that a lock stores for the word: the flags are its bits 0 to 3, and the readers follow.
 ///
@@ -16,4 +18,20 @@ pub fn from_stored(stored: u64) -> u64
     ensures { result ≡ word_of_stored stored }
 {
     stored / 16 + 4_294_967_296 * (stored % 16)
+}
+
+/// Returns what a release subtracts from the stored word, modulo 2^64. Modulo 2^32 the same bits serve a word of 32 bits.
+pub fn stored_amount(down: Down) -> u64
+    ensures { result ≡ stored_amount (2 ^ 64) down }
+{
+    match down {
+        Down::Shared => 16,
+        Down::Exclusive => 2,
+        Down::Upgradable => 17,
+        // A downgrade adds a reader where it clears a flag.
+        Down::ToShared => 18_446_744_073_709_551_602,
+        Down::ToUpgradable => 18_446_744_073_709_551_601,
+        Down::UpgradableToShared => 1,
+        Down::Withdraw => 4,
+    }
 }

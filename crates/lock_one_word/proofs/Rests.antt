@@ -1,5 +1,5 @@
 -- The actions of a call that are no steps on the word, and its end.
-use Rattle.std.proofs.Common.{◌≡◌, ℕ, ◌^◌, ◌<◌, arith, Bool, true, false, ◌||◌, nat_lt, if◌then◌else◌, IsTrue, refl, sym, ap, subst, ◌∙◌}
+use Rattle.std.proofs.Common.{◌≡◌, ℕ, ◌^◌, ◌<◌, arith, Bool, true, false, if◌then◌else◌, IsTrue, refl, sym, ap, subst, ◌∙◌}
 use Rattle.std.proofs.lemmas.Bool.{false≢true, true≢false}
 use Rattle.lock_base.specs.declared.machine.hold.Hold.{Hold}
 use Rattle.lock_base.specs.Holds.{hold_has, hold_after}
@@ -16,84 +16,16 @@ use Rattle.lock_one.specs.declared.stage.Stage.{Stage}
 use Rattle.lock_one.specs.declared.stage.Stage.TheVariants as stage
 use Rattle.lock_one.specs.declared.park.ParkView.{ParkView}
 use Rattle.lock_one.specs.declared.park.Park.TheVariants.{Awake}
-use Rattle.lock_one.specs.declared.park.Debt.{Debt}
 use Rattle.lock_one.specs.declared.park.Debt.TheVariants as debt
-use Rattle.lock_one.specs.Rule.{is_upgrade}
-use Rattle.lock_one.specs.Machine.{Progress, sleep_of, wakes_one, acquiring, taking, removes_reader, begun, goes_to, release_on, alone, next_at, next_of}
+use Rattle.lock_one.specs.Machine.{Progress, wakes_one, acquiring, taking, removes_reader, begun, goes_to, release_on, alone, next_at, next_of}
 use Rattle.lock_one.specs.Runs.{debt_at}
-use Rattle.lock_one.specs.Steps.{ends, Acquires, IsAt, IsWake, is_step, hold_at}
+use Rattle.lock_one.specs.Steps.{ends, Acquires, IsAt, IsWake, hold_at}
+use Rattle.lock_one.proofs.Actions.{on_word}
 use Rattle.lock_one.proofs.Answers.{answers_tell}
 use Rattle.lock_one.proofs.Runs.{quiet_sleep, same_view}
 use Rattle.lock_one_word.specs.declared.rule.OneView.{OneView}
 use Rattle.lock_one_word.specs.Seats.{placed, Task, to_acquire, to_release, releases, IsGoing}
 use Rattle.lock_one_word.proofs.Tasks.{keeps_task, is_on}
-
--- a step on the word
-abbrev pub on_word : Action → Bool
-on_word action.Load = true
-on_word (action.Exchange x y) = true
-on_word (action.Subtract d) = true
-on_word other = false
-
-quiet : (call : Call) → on_word (sleep_of call) ≡ false
-quiet call = by (nat_lt call.readers (2 ^ 28))
-  where
-    by : (b : Bool) → on_word (if b then action.Park call.loaded (call.announced || is_upgrade call.want) else action.Yield) ≡ false
-    by true = refl
-    by false = refl
-
-pub steps_on : (st : Stage) (call : Call) (v : ParkView) (a : Action) → IsAt st call v a → on_word a ≡ true → is_step st ≡ true
-steps_on stage.Look call v a is h = refl
-steps_on stage.Try call v a is h = refl
-steps_on stage.Pause call v a is h = refl
-steps_on stage.Mark call v a is h = refl
-steps_on stage.Sleep call v a is h = absurd (true≢false (sym h ∙ (ap on_word is.5 ∙ quiet call)))
-steps_on stage.Withdraw call v a is h = refl
-steps_on stage.Leave call v a is h = refl
-steps_on stage.LookToRemove call v a is h = refl
-steps_on stage.Subtract call v a is h = refl
-steps_on stage.Release call v a is h = refl
-steps_on stage.Wake call v a is h = by v.debt is.1
-  where
-    by : (d : Debt) → IsWake d a → is_step stage.Wake ≡ true
-    by debt.Nothing e = absurd e
-    by debt.One e = absurd (true≢false (sym h ∙ ap on_word e))
-    by debt.All e = absurd (true≢false (sym h ∙ ap on_word e))
-    by debt.Next e = absurd (true≢false (sym h ∙ ap on_word e))
-steps_on stage.WakeRefused call v a is h = absurd (true≢false (sym h ∙ ap on_word is.2))
-steps_on stage.Acquired call v a is h = absurd (true≢false (sym h ∙ ap on_word is.1))
-steps_on stage.Refused call v a is h = absurd (true≢false (sym h ∙ ap on_word is.1))
-steps_on stage.Ended call v a is h = absurd (true≢false (sym h ∙ ap on_word is.1))
-
--- who subtracts holds what the release takes
-pub subtracts_own : (st : Stage) (call : Call) (v : ParkView) (d : Down) → IsAt st call v (action.Subtract d) → IsTrue (hold_has v.held (step_of_down d))
-subtracts_own stage.Look call v d is = let e = is.1 in cc
-subtracts_own stage.Try call v d is = let e = is.2 in cc
-subtracts_own stage.Pause call v d is = absurd is.1
-subtracts_own stage.Mark call v d is = let e = is.4 in cc
-subtracts_own stage.Sleep call v d is = absurd (true≢false (ap on_word is.5 ∙ quiet call))
-subtracts_own stage.Withdraw call v d is = let e = is.2 in cc
-subtracts_own stage.Leave call v d is = let e = is.4 in cc
-subtracts_own stage.LookToRemove call v d is = let e = is.2 in cc
-subtracts_own stage.Subtract call v d is =
-    let same : d ≡ call.down = ap taken is.2 in
-    subst (λ x. IsTrue (hold_has v.held (step_of_down x))) (sym same) is.0
-  where
-    taken : Action → Down
-    taken (action.Subtract x) = x
-    taken other = d
-subtracts_own stage.Release call v d is = let e = is.2 in cc
-subtracts_own stage.Wake call v d is = by v.debt is.1
-  where
-    by : (x : Debt) → IsWake x (action.Subtract d) → IsTrue (hold_has v.held (step_of_down d))
-    by debt.Nothing e = absurd e
-    by debt.One e = cc
-    by debt.All e = cc
-    by debt.Next e = cc
-subtracts_own stage.WakeRefused call v d is = let e = is.2 in cc
-subtracts_own stage.Acquired call v d is = let e = is.1 in cc
-subtracts_own stage.Refused call v d is = let e = is.1 in cc
-subtracts_own stage.Ended call v d is = let e = is.1 in cc
 
 abbrev IsOn : Progress → Hold → Hold → Type 0
 IsOn next before held = IsAt next.0.stage next.0 (placed held next.1) next.1 × (held ≡ hold_at next.0.stage next.0 before)

@@ -1,5 +1,5 @@
 -- Each kind of step of a seat keeps the rule of the table, by the law of the machine.
-use Rattle.std.proofs.Common.{◌≡◌, ℕ, zero, suc, ◌+◌, ◌-◌, ◌%◌, ◌^◌, ◌<◌, ◌≤◌, Bool, true, false, ◌==◌, if◌then◌else◌, inl, inr, List, [], ◌∷◌, ◌++◌, set, get_or, length, slice_get, slice_set, Some, IsTrue, refl, sym, ap, subst, ◌∙◌, arith, eqb, eq-eqb, ltb-true, length-set, get_or-set_same}
+use Rattle.std.proofs.Common.{◌≡◌, ℕ, zero, suc, ◌+◌, ◌-◌, ◌%◌, ◌^◌, ◌<◌, Bool, true, false, ◌==◌, if◌then◌else◌, inl, inr, List, [], ◌∷◌, ◌++◌, set, get_or, length, slice_get, slice_set, Some, IsTrue, refl, sym, ap, subst, ◌∙◌, arith, eqb, eq-eqb, length-set, get_or-set_same}
 use Rattle.std.proofs.lemmas.Bool.{false_from_ne_true}
 use Rattle.std.proofs.lemmas.List.{map-append}
 use mathlib.Core.Option.{some, none}
@@ -13,7 +13,7 @@ use Rattle.lock_word.specs.declared.down.Down.TheVariants as down
 use Rattle.lock_word.specs.Rule.{WordShows}
 use Rattle.lock_base.specs.Holds.{hold_has}
 use Rattle.lock_word.specs.Word.{amount, step_of_down}
-use Rattle.lock_word.proofs.Rules.{amount_within, shows}
+use Rattle.lock_word.proofs.Rules.{shows}
 use Rattle.lock_one.specs.declared.action.Action.{Action}
 use Rattle.lock_one.specs.declared.action.Action.TheVariants as action
 use Rattle.lock_one.specs.declared.call.Call.{Call}
@@ -21,14 +21,14 @@ use Rattle.lock_one.specs.declared.park.ParkView.{ParkView}
 use Rattle.lock_one.specs.Machine.{core_of, has_sleepers}
 use Rattle.lock_one.specs.Runs.{limits_in}
 use Rattle.lock_one.specs.Steps.{made, limits_of, is_step, Keeps}
-use Rattle.lock_one.specs.Stored.{stored_of, word_of_stored}
+use Rattle.lock_one.specs.Stored.{stored_of, word_of_stored, stored_amount}
 use Rattle.lock_one.proofs.Parking.{parties_of, party_of, rule_of, party_at as party_in}
 use Rattle.lock_one.proofs.Runs.{joined}
-use Rattle.lock_one.proofs.Stored.{read_back, stored_again}
+use Rattle.lock_one.proofs.Stored.{read_back, stored_again, storing_keeps_words}
 use Rattle.lock_one_word.specs.declared.rule.OneView.{OneView}
 use Rattle.lock_one_word.specs.Seats.{resting, parties_in, Table, Self, stored_in, newcomer, IsKept, Task, IsGoing}
 use Rattle.lock_one_word.specs.Legal.{EveryStateIsLegal}
-use Rattle.lock_one_word.specs.Plays.{Agrees, Loads, Exchanges, Subtracts, stored_amount, down_of_amount}
+use Rattle.lock_one_word.specs.Plays.{Agrees, Loads, Exchanges, Subtracts, down_of_amount}
 use Rattle.lock_one_word.proofs.Parties.{party_at, keeps_resting, same_views}
 use Rattle.lock_one_word.proofs.Agree.{law, agrees}
 
@@ -155,32 +155,20 @@ exchanges limit slots id me call before task old new stepping going old_small ne
     found a b e = grind arith
 
 -- what a release subtracts from the stored word is what it subtracts from the word
-less : (limit raw : ℕ) (own : Hold) (d : Down) → raw < 2 ^ 36 → amount d ≤ core_of (word_of_stored raw) → IsTrue (hold_has own (step_of_down d))
-    → WordShows limit (core_of (word_of_stored raw)) own
-    → (word_of_stored ((raw + (2 ^ 64 - stored_amount d)) % 2 ^ 64) ≡ word_of_stored raw - amount d) × ((raw + (2 ^ 64 - stored_amount d)) % 2 ^ 64 < 2 ^ 36)
-less limit raw own down.Shared small within has seen =
-    let one = ltb-true 0 own.bag.shared has in
-    let reads = (seen.reads (omega arith)).0 in
-    (omega arith, omega arith)
-less limit raw own down.Exclusive small within has seen = (omega arith, omega arith)
-less limit raw own down.Upgradable small within has seen =
-    let one = ltb-true 0 own.bag.upgradable has in
-    let reads = (seen.reads (omega arith)).0 in
-    (omega arith, omega arith)
-less limit raw own down.ToShared small within has seen =
-    elim (seen.exclusive (ltb-true 0 own.bag.exclusive has)) [
-      | inl alone ↦ (omega arith, omega arith)
-      | inr barred ↦ (omega arith, omega arith)
-    ]
-less limit raw own down.ToUpgradable small within has seen =
-    elim (seen.exclusive (ltb-true 0 own.bag.exclusive has)) [
-      | inl alone ↦ (omega arith, omega arith)
-      | inr barred ↦ (omega arith, omega arith)
-    ]
-less limit raw own down.UpgradableToShared small within has seen = (omega arith, omega arith)
-less limit raw own down.Withdraw small within has seen = (omega arith, omega arith)
+less : (limit id raw : ℕ) (s : Table) (v : OneView) (d : Down) → IsKept limit s → get_elem? s.views id ≡ some v → IsTrue (hold_has v.held (step_of_down d))
+    → raw ≡ (stored_in s + (2 ^ 64 - stored_amount (2 ^ 64) d)) % 2 ^ 64
+    → (word_of_stored raw ≡ word_of_stored (stored_in s) - amount d) × (raw < 2 ^ 36)
+less limit id raw s v d kept at has is =
+    let word = word_of_stored (stored_in s) in
+    let after = word - amount d in
+    let small = word_small limit s kept in
+    let law = storing_keeps_words.subtracts (limits_in limit) word (parties_in s.views) id (resting v) d (2 ^ 64) kept.range kept.keeps
+    (party_at s.views id v at) has (omega arith) (omega arith) in
+    let again : raw ≡ stored_of after
+    = is ∙ (ap (λ n. (n + (2 ^ 64 - stored_amount (2 ^ 64) d)) % 2 ^ 64) (sym (stored_again (stored_in s) kept.small)) ∙ law) in
+    (ap word_of_stored again ∙ read_back after (omega arith), omega arith)
 
-same_down : (d : Down) → down_of_amount (stored_amount d) ≡ d
+same_down : (d : Down) → down_of_amount (stored_amount (2 ^ 64) d) ≡ d
 same_down down.Shared = refl
 same_down down.Exclusive = refl
 same_down down.Upgradable = refl
@@ -191,20 +179,17 @@ same_down down.Withdraw = refl
 
 pub subtracts : (limit slots id : ℕ) (me : Self) (call : Call) (before : Hold) (task : Task) (d : Down) → is_step call.stage ≡ true
     → IsGoing (call, action.Subtract d) before task me.0 → IsTrue (hold_has me.0.held (step_of_down d))
-    → Allows (IsKept limit) slots id me 0 (λ n. (n + (2 ^ 64 - stored_amount d)) % 2 ^ 64) (Subtracts (step slots 0 (stored_amount d) 0 none) me)
+    → Allows (IsKept limit) slots id me 0 (λ n. (n + (2 ^ 64 - stored_amount (2 ^ 64) d)) % 2 ^ 64) (Subtracts (step slots 0 (stored_amount (2 ^ 64) d) 0 none) me)
 subtracts limit slots id me call before task d stepping going has s kept same at small =
     let raw = stored_in s in
     let word = word_of_stored raw in
-    let kp = kept.keeps.kept in
-    let within = amount_within limit (core_of word) (parties_of (parties_in s.views)) id (party_of (resting me.0)) d
-    (rule_of limit (core_of word) (parties_in s.views) kp.coded kp.legal) (party_in (parties_in s.views) id (resting me.0) (party_at s.views id me.0 at)) has in
-    let is = less limit raw me.0.held d kept.small within has (told limit id s me.0 kept at) in
+    let is = less limit id ((raw + (2 ^ 64 - stored_amount (2 ^ 64) d)) % 2 ^ 64) s me.0 d kept at has refl in
     subst
     (λ (e : Down).
-    (w : OneView) × (b : Act (Unit {0})) × Valid s.homes me.1 b × IsKept limit (stepped s 0 ((raw + (2 ^ 64 - stored_amount d)) % 2 ^ 64) id me.1 w b)
+    (w : OneView) × (b : Act (Unit {0})) × Valid s.homes me.1 b × IsKept limit (stepped s 0 ((raw + (2 ^ 64 - stored_amount (2 ^ 64) d)) % 2 ^ 64) id me.1 w b)
     × Agrees (action.Subtract e) me raw (w, carried_after me.1 b))
     (sym (same_down d))
-    (steps_to limit slots id ((raw + (2 ^ 64 - stored_amount d)) % 2 ^ 64) s me call before task (action.Subtract d) kept at stepping going is.1 is.0)
+    (steps_to limit slots id ((raw + (2 ^ 64 - stored_amount (2 ^ 64) d)) % 2 ^ 64) s me call before task (action.Subtract d) kept at stepping going is.1 is.0)
 
 -- a new seat, whose first look is a load
 
@@ -251,13 +236,13 @@ same_numbers old new first second a b is_first is_second =
     ∙ ap (λ n. action.Exchange old n) (ap word_of_stored is_second ∙ read_back new b))
 
 pub subtracts_as : (limit slots id : ℕ) (me : Self) (call : Call) (before : Hold) (task : Task) (d : Down) (k : ℕ) → is_step call.stage ≡ true
-    → IsGoing (call, action.Subtract d) before task me.0 → IsTrue (hold_has me.0.held (step_of_down d)) → k ≡ stored_amount d
+    → IsGoing (call, action.Subtract d) before task me.0 → IsTrue (hold_has me.0.held (step_of_down d)) → k ≡ stored_amount (2 ^ 64) d
     → Allows (IsKept limit) slots id me 0 (λ n. (n + (2 ^ 64 - k)) % 2 ^ 64) (Subtracts (step slots 0 k 0 none) me)
 subtracts_as limit slots id me call before task d k stepping going has is =
     subst (λ x. Allows (IsKept limit) slots id me 0 (λ n. (n + (2 ^ 64 - x)) % 2 ^ 64) (Subtracts (step slots 0 x 0 none) me)) (sym is)
     (subtracts limit slots id me call before task d stepping going has)
 
-pub same_release : (d : Down) (k : ℕ) → k ≡ stored_amount d → action.Subtract d ≡ action.Subtract (down_of_amount k)
+pub same_release : (d : Down) (k : ℕ) → k ≡ stored_amount (2 ^ 64) d → action.Subtract d ≡ action.Subtract (down_of_amount k)
 same_release d k is = ap (λ (e : Down). action.Subtract e) (sym (ap down_of_amount is ∙ same_down d))
 
 pub every_state_is_legal : EveryStateIsLegal IsKept

@@ -26,16 +26,7 @@ Loads s me found after =
 abbrev pub Exchanges : Step (Unit {0}) → Self → ℕ → Self → Type 0
 Exchanges s me found after = Agrees (Exchange (word_of_stored s.first) (word_of_stored s.second)) me found after
 
--- what a release subtracts from the stored word. A downgrade adds a reader where it clears a flag
-abbrev pub stored_amount : Down → ℕ
-stored_amount down.Shared = 16
-stored_amount down.Exclusive = 2
-stored_amount down.Upgradable = 17
-stored_amount down.ToShared = 2 ^ 64 - 14
-stored_amount down.ToUpgradable = 2 ^ 64 - 15
-stored_amount down.UpgradableToShared = 1
-stored_amount down.Withdraw = 4
-
+-- the release that subtracts this number from the stored word
 abbrev pub down_of_amount : ℕ → Down
 down_of_amount n =
     if n == 16 then down.Shared else if n == 2 then down.Exclusive else if n == 17 then down.Upgradable else if n == 1 then down.UpgradableToShared

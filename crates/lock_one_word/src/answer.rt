@@ -8,14 +8,14 @@ ghost use Rattle.lock_one.specs.declared.action.Action.TheVariants.{Load, Exchan
 ghost use Rattle.lock_one.specs.Machine.{core_of, next_of};
 ghost use Rattle.lock_one.specs.Steps.{is_step};
 ghost use Rattle.lock_one_word.specs.Seats.{IsGoing, Task, newcomer};
-ghost use Rattle.lock_one_word.specs.Plays.{Goes, stored_amount};
+ghost use Rattle.lock_one_word.specs.Plays.{Goes};
 
 use crate::plays::{ExchangeWord, LoadWord, SubtractFromWord};
 use crate::rule::OneView;
 use crate::until::{Left, Until};
 use crate::word_lock::WordLock;
 use atomic_table::Seat;
-use lock_one::{Action, Call, from_stored, to_stored};
+use lock_one::{Action, Call, from_stored, stored_amount, to_stored};
 use lock_word::Down;
 use std::hint::spin_loop;
 use std::sync::Wait;
@@ -212,20 +212,5 @@ impl WordLock {
             made: Action::WakeNext,
             found: 0,
         }
-    }
-}
-
-/// Returns what the release subtracts from the stored word, modulo 2^64. A downgrade adds a reader where it clears a flag.
-fn stored_amount(down: Down) -> u64
-    ensures { result ≡ stored_amount down }
-{
-    match down {
-        Down::Shared => 16,
-        Down::Exclusive => 2,
-        Down::Upgradable => 17,
-        Down::ToShared => 18_446_744_073_709_551_602,
-        Down::ToUpgradable => 18_446_744_073_709_551_601,
-        Down::UpgradableToShared => 1,
-        Down::Withdraw => 4,
     }
 }

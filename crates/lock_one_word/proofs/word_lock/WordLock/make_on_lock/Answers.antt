@@ -3,7 +3,7 @@ use Rattle.lock_one.specs.declared.action.Action.{Action}
 use Rattle.lock_one.specs.declared.action.Action.TheVariants.{Load, Exchange, Subtract}
 use Rattle.lock_one_word.specs.Seats.{placed, IsGoing}
 use Rattle.lock_one_word.specs.Drives.{touches_lock}
-use Rattle.lock_one_word.proofs.Rests.{steps_on}
+use Rattle.lock_one.proofs.Actions.{steps_on}
 use Rattle.lock_one_word.proofs.word_lock.WordLock.make_on_lock.Goals as goal
 
 pub returns-in-Load-clause-made : goal.returns-in-Load-clause-made

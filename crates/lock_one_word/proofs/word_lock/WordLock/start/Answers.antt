@@ -6,7 +6,7 @@ use Rattle.lock_one_word.specs.Calls.{WordLockView}
 use Rattle.lock_one_word.specs.Drives.{IsTrying}
 use Rattle.lock_one_word.specs.Seats.{placed, to_acquire, IsGoing}
 use Rattle.lock_one_word.proofs.Begins.{first_look, first_try}
-use Rattle.lock_one_word.proofs.Rests.{steps_on}
+use Rattle.lock_one.proofs.Actions.{steps_on}
 use Rattle.lock_one_word.proofs.TryEnds.{tries_again}
 use Rattle.lock_one_word.proofs.word_lock.WordLock.start.Goals as goal
 
