@@ -24,11 +24,13 @@ pub mod Ways
 pub mod Simulation
 pub mod CircleNodes
 pub mod PlanNodes
+pub mod CircleLook
 pub mod NextNodes
 pub mod Looks
 pub mod Said
 pub mod CircleWaits
 pub mod CircleSets
+pub mod CircleSearch
 pub mod ExchangeLists
 pub mod ExchangeActs
 pub mod ExchangeTurns
