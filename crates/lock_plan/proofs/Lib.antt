@@ -45,3 +45,4 @@ pub mod ExchangePlans
 pub mod UnnamedCopies
 pub mod PlanCopies
 pub mod TraceSteps
+pub mod StillCircles

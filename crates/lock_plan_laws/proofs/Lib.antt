@@ -24,3 +24,5 @@ pub mod OrderExamples
 pub mod LockOrders
 pub mod Holders
 pub mod FairLines
+pub mod StillCircles
+pub mod CircleRuns

@@ -8,3 +8,4 @@ pub mod OrderExamples
 pub mod LockOrders
 pub mod Holders
 pub mod Lines
+pub mod Circles
