@@ -13,6 +13,8 @@ pub mod SceneSteps
 pub mod SceneStops
 pub mod Runs
 pub mod Fits
+pub mod StillCircles
+pub mod CircleRuns
 pub mod MachineStops
 pub mod ShortWalks
 pub mod Traces
@@ -24,5 +26,3 @@ pub mod OrderExamples
 pub mod LockOrders
 pub mod Holders
 pub mod FairLines
-pub mod StillCircles
-pub mod CircleRuns

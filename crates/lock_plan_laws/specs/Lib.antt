@@ -1,6 +1,7 @@
 pub mod MachineTurns
 pub mod Scenes
 pub mod Bridge
+pub mod Circles
 pub mod MachineStops
 pub mod Ranks
 pub mod OrderChecks
@@ -8,4 +9,3 @@ pub mod OrderExamples
 pub mod LockOrders
 pub mod Holders
 pub mod Lines
-pub mod Circles
