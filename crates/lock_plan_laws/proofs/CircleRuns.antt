@@ -1,10 +1,7 @@
 -- No run of machines from the scene of a circle has a call of one of its rows.
-use Rattle.std.proofs.Common.{◌≡◌, ℕ, zero, suc, ◌+◌, ◌<◌, ◌^◌, Bool, true, false, List, [], ◌∷◌, length, Option, Some, refl, ap, sym, ◌∙◌, subst, arith}
+use Rattle.std.proofs.Common.{◌≡◌, ℕ, zero, suc, ◌+◌, List, [], ◌∷◌, length, Some, ap, sym, ◌∙◌, subst, arith}
 use Rattle.std.specs.List.{slice_get}
 use Rattle.lock_base.specs.Operation.{Operation}
-use Rattle.step_search.specs.Counts.{IsMember}
-use Rattle.lock_plan.specs.declared.program.Step.{Step}
-use Rattle.lock_plan.specs.Circles.{is_member}
 use Rattle.lock_plan.specs.Worlds.{Stand, first_world}
 use Rattle.lock_plan_laws.specs.Circles.{CircleMachinesNeverMove}
 use Rattle.lock_plan_laws.specs.Scenes.{Caller, steps_of, first_scene}

@@ -8,10 +8,10 @@ use Rattle.lock_plan.specs.declared.program.ProgramPlace.{ProgramPlace}
 use Rattle.lock_plan.specs.declared.program.Step.{Step}
 use Rattle.lock_plan.specs.Checks.{none_fair}
 use Rattle.lock_plan.specs.Worlds.{Stand, first_world, world_after, is_stop, NeverStops}
-use Rattle.lock_plan.specs.Circles.{has_circle, is_deadlock, NeverDeadlocks, IsShortestDeadlock}
+use Rattle.lock_plan.specs.Circles.{has_circle, NeverDeadlocks, IsShortestDeadlock}
 use Rattle.lock_plan_laws.specs.Scenes.{Caller, steps_of, Scene, IsStopScene}
 use Rattle.lock_plan_laws.specs.Bridge.{FitsMachines}
-use Rattle.lock_plan_laws.specs.MachineStops.{LeadsInto, IsCircleScene, MachinesNeverStop, IsShortestDeadlockOfMachines}
+use Rattle.lock_plan_laws.specs.MachineStops.{LeadsInto, MachinesNeverStop, IsShortestDeadlockOfMachines}
 use Rattle.lock_plan_laws.proofs.StillCircles.{circles_are_sets}
 use Rattle.lock_plan_laws.proofs.CircleRuns.{machines_still}
 use Rattle.lock_plan_laws.proofs.Runs.{runs_of_worlds, runs_of_machines, same_stops}
@@ -51,22 +51,27 @@ module _ {O T A : Type 0} (meaning : O → Operation T A) (servers : List Bool) 
         let there = ap (world_after locks (first_world locks programs)) back.2 ∙ stop.deadlocks.1 in
         let long : length back.0 ≡ length trace = sym (as_many back.0) ∙ ap length back.2 in
         let numbers : length back.0 + 1 < 2 ^ 64 = omega (arith, few, long) in
-        let same = same_stops meaning ids locks programs values room back.0 back.1 w servers distinct fits numbers back.3 there in
-        (back.0, back.1, back.2, record { distinct = distinct; enough = enough; numbers = numbers; is_run = back.3 }, elim (or_cases (is_stop servers locks w) (has_circle locks w) stop.deadlocks.2) [
-          | inl stops ↦ inl (same.1 plain stops)
-          | inr e ↦
-              let found = (circles_are_sets locks w).0 e in
-              inr (record {
-                world = w;
-                shown = back.4;
-                set = found.0;
-                long = found.1;
-                circle = found.2;
-                still = λ others after short on c there.
-                    machines_still meaning ids locks programs values room found.0 back.0 others back.1 after w distinct fits short back.3
-                    (ap (world_after locks (first_world locks programs)) back.2 ∙ stop.deadlocks.1) found.1 found.2 on c there;
-              })
-        ]);
+        let same = same_stops meaning ids locks programs values room back.0 back.1 w servers distinct fits numbers back.3 there in (
+          back.0,
+          back.1,
+          back.2,
+          record { distinct = distinct; enough = enough; numbers = numbers; is_run = back.3 },
+          elim (or_cases (is_stop servers locks w) (has_circle locks w) stop.deadlocks.2) [
+            | inl stops ↦ inl (same.1 plain stops)
+            | inr e ↦
+                let found = (circles_are_sets locks w).0 e in
+                inr (record {
+                  world = w;
+                  shown = back.4;
+                  set = found.0;
+                  long = found.1;
+                  circle = found.2;
+                  still = λ others after short on c there.
+                      machines_still meaning ids locks programs values room found.0 back.0 others back.1 after w distinct fits short back.3
+                      (ap (world_after locks (first_world locks programs)) back.2 ∙ stop.deadlocks.1) found.1 found.2 on c there;
+                })
+          ],
+        );
     shortest = λ ids values room cs s less into stops.
         no_stop ids values room cs s (λ w e. (or_parts (is_stop servers locks w) (has_circle locks w) (stop.shortest (steps_of cs) w (omega (arith, less, as_many cs)) e)).0) into stops;
   }

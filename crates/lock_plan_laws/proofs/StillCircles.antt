@@ -1,5 +1,5 @@
 -- Circles never move, and are the sets that the search looks for.
-use Rattle.std.proofs.Common.{◌≡◌, ℕ, Bool, true, List, length, map, sym, ◌∙◌, subst}
+use Rattle.std.proofs.Common.{◌≡◌, ℕ, true, List, length, map, sym, ◌∙◌, subst}
 use Rattle.std.proofs.lemmas.List.{length-map}
 use Rattle.lock_base.specs.declared.machine.hold.Hold.{Hold}
 use Rattle.lock_plan.specs.Worlds.{Stand, acts_of}
