@@ -1,5 +1,5 @@
 -- Lines that are made from the last one on.
-use Rattle.std.proofs.Common.{◌≡◌, ℕ, zero, suc, ◌≤◌, ◌<◌, List, ◌∷◌, ◌++◌, length, map, refl, subst, arith, length-append}
+use Rattle.std.proofs.Common.{◌≡◌, ℕ, zero, suc, ◌≤◌, ◌<◌, ◌+◌, List, ◌∷◌, ◌++◌, length, map, refl, subst, arith, length-append}
 use Rattle.lockexplore.specs.declared.lines.made.MadeLine.{MadeLine}
 use Rattle.lockexplore.specs.PlainLines.{IsLong, NumberedLine, line_of, put_down_from, text_of}
 
