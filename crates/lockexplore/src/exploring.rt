@@ -12,6 +12,7 @@ ghost use Rattle.lockexplore.specs.Explorations.{AppendsPlanAnswer, ExplainsPlan
 
 use crate::arguments::AnswerForm;
 use crate::lines::LinesFault;
+use crate::no_answer::NoAnswer;
 use crate::plain::PlainText;
 use crate::verdict::Verdict;
 use lock_plan::{Explored, explore};
@@ -36,19 +37,22 @@ pub(crate) fn explore_plan<R: Read, W: Write>(
     memory: usize,
     reader: &mut R,
     writer: &mut W,
-) -> Result<Verdict, PlanTextFault>
+) -> Result<Verdict, NoAnswer>
     ensures answered { IfOk result (λ verdict. ReadsScript (R.remaining reader.old) (R.remaining reader.new)
         (λ script. AppendsPlanAnswer form script verdict (W.contents writer.old) (W.contents writer.new))) }
-    ensures told { IfErr result (ExplainsPlanFault form memory
-        (R.remaining reader.old) (R.remaining reader.new) (W.contents writer.old) (W.contents writer.new)) }
-    ensures unwritten { IfErr result (λ fault.
-        IsBeforePlanAnswer fault → Keeps (W.contents writer.old) (W.contents writer.new)) }
+    ensures told { IfErr result (λ no_answer. ExplainsPlanFault form memory
+        (R.remaining reader.old) (R.remaining reader.new) (W.contents writer.old) (W.contents writer.new) no_answer.fault) }
+    ensures unwritten { IfErr result (λ no_answer.
+        IsBeforePlanAnswer no_answer.fault → Keeps (W.contents writer.old) (W.contents writer.new)) }
 {
     let script = read_script(alloc, reader)?;
     let (verdict, text) = plan_answer(alloc, form, memory, script.as_slice())?;
     match put(text.as_str(), writer) {
         Ok(()) => Ok(verdict),
-        Err(_) => Err(PlanTextFault::OutputFailed),
+        Err(_) => Err(NoAnswer {
+            fault: PlanTextFault::OutputFailed,
+            why: None,
+        }),
     }
 }
 
@@ -62,19 +66,19 @@ fn plan_answer(
     form: AnswerForm,
     memory: usize,
     script: &[u8],
-) -> Result<(Verdict, String), PlanTextFault>
+) -> Result<(Verdict, String), NoAnswer>
     ensures answer { IfOk result (λ answer. IsPlanAnswer form (line_number script.now) (plain_text script.now) answer.0 (string_bytes answer.1)) }
     ensures short { IfOk result (λ _. IsShort script.now) }
-    ensures fault { IfErr result (IsScriptFault script.now memory) }
+    ensures fault { IfErr result (λ no_answer. IsScriptFault script.now memory no_answer.fault) }
 {
     let plain = match PlainText::of(alloc, script) {
         Ok(plain) => plain,
-        Err(LinesFault::TooLong) => return Err(PlanTextFault::TooLong),
-        Err(LinesFault::OutOfMemory) => return Err(PlanTextFault::OutOfMemory),
+        Err(LinesFault::TooLong) => return Err(NoAnswer::from(PlanTextFault::TooLong)),
+        Err(LinesFault::OutOfMemory) => return Err(NoAnswer::from(PlanTextFault::OutOfMemory)),
     };
     match plain_answer(alloc, form, memory, plain.bytes.as_slice(), &plain.lines) {
         Ok(answer) => Ok(answer),
-        Err(fault) => Err(plain.renumbered(fault)),
+        Err(fault) => Err(plain.explained(alloc, fault)),
     }
 }
 
