@@ -11,6 +11,7 @@ ghost use Rattle.lockexplore.specs.PlanAnswers.{IsOrderAnswer, IsPlanAnswer, IsT
 ghost use Rattle.lockexplore.specs.Explorations.{AppendsPlanAnswer, ExplainsPlanFault, IsBeforePlanAnswer, IsPlanFault, IsScriptFault};
 
 use crate::arguments::AnswerForm;
+use crate::ending::ending_warning;
 use crate::lines::LinesFault;
 use crate::no_answer::NoAnswer;
 use crate::plain::PlainText;
@@ -24,6 +25,7 @@ use std::alloc::{AllocError, Global};
 use std::io::{Read, Write};
 
 /// Reads a plan to its end, searches all its interleavings in so many bytes, and then writes the answer in this form.
+/// A searched plan may get a warning.
 ///
 /// # Errors
 ///
@@ -37,6 +39,7 @@ pub(crate) fn explore_plan<R: Read, W: Write>(
     memory: usize,
     reader: &mut R,
     writer: &mut W,
+    warning: &mut Option<String>,
 ) -> Result<Verdict, NoAnswer>
     ensures answered { IfOk result (λ verdict. ReadsScript (R.remaining reader.old) (R.remaining reader.new)
         (λ script. AppendsPlanAnswer form script verdict (W.contents writer.old) (W.contents writer.new))) }
@@ -46,7 +49,7 @@ pub(crate) fn explore_plan<R: Read, W: Write>(
         IsBeforePlanAnswer no_answer.fault → Keeps (W.contents writer.old) (W.contents writer.new)) }
 {
     let script = read_script(alloc, reader)?;
-    let (verdict, text) = plan_answer(alloc, form, memory, script.as_slice())?;
+    let (verdict, text) = plan_answer(alloc, form, memory, script.as_slice(), warning)?;
     match put(text.as_str(), writer) {
         Ok(()) => Ok(verdict),
         Err(_) => Err(NoAnswer {
@@ -66,6 +69,7 @@ fn plan_answer(
     form: AnswerForm,
     memory: usize,
     script: &[u8],
+    warning: &mut Option<String>,
 ) -> Result<(Verdict, String), NoAnswer>
     ensures answer { IfOk result (λ answer. IsPlanAnswer form (line_number script.now) (plain_text script.now) answer.0 (string_bytes answer.1)) }
     ensures short { IfOk result (λ _. IsShort script.now) }
@@ -76,7 +80,14 @@ fn plan_answer(
         Err(LinesFault::TooLong) => return Err(NoAnswer::from(PlanTextFault::TooLong)),
         Err(LinesFault::OutOfMemory) => return Err(NoAnswer::from(PlanTextFault::OutOfMemory)),
     };
-    match plain_answer(alloc, form, memory, plain.bytes.as_slice(), &plain.lines) {
+    match plain_answer(
+        alloc,
+        form,
+        memory,
+        plain.bytes.as_slice(),
+        &plain.lines,
+        warning,
+    ) {
         Ok(answer) => Ok(answer),
         Err(fault) => Err(plain.explained(alloc, fault)),
     }
@@ -94,6 +105,7 @@ fn plain_answer(
     memory: usize,
     plain: &[u8],
     lines: &LineNumbers,
+    warning: &mut Option<String>,
 ) -> Result<(Verdict, String), PlanTextFault>
     ensures answer { IfOk result (λ answer. IsPlanAnswer form (number_by lines.now) plain.now answer.0 (string_bytes answer.1)) }
     ensures fault { IfErr result (IsPlanFault plain.now memory) }
@@ -104,7 +116,7 @@ fn plain_answer(
     }
     let named = plan.into_plan(alloc)?;
     let explored = explore(alloc, &named.plan, memory)?;
-    let text = answer_of(alloc, form, &named, &explored)?;
+    let text = answer_of(alloc, form, &named, &explored, warning)?;
     Ok((Verdict::of(&explored), text))
 }
 
@@ -138,15 +150,17 @@ fn order_answer(
     }
 }
 
-/// Returns the answer to a plan in a form, of what a search found.
+/// Returns the answer to a plan in a form, of what a search found, and perhaps makes a warning.
 fn answer_of(
     alloc: Global,
     form: AnswerForm,
     named: &NamedPlan,
     explored: &Explored,
+    warning: &mut Option<String>,
 ) -> Result<String, AllocError>
     ensures { IfOk result (λ text. IsTextIn form named.now explored.now.trace explored.now.visited (string_bytes text)) }
 {
+    *warning = ending_warning(alloc, named);
     if form == AnswerForm::Svg {
         return draw_picture(alloc, &named.plan, &named.names, explored);
     }

@@ -2,6 +2,7 @@
 #![tactic(auto)]
 
 mod arguments;
+mod ending;
 mod exploring;
 mod lines;
 mod machine;
@@ -74,8 +75,19 @@ fn memory_of(rt: &HostRuntime, memory: Option<u64>) -> usize {
 
 /// Reads a plan from standard input, prints the answer in a form, and gives the status.
 fn explored(rt: &HostRuntime, form: AnswerForm, memory: usize) -> ExitCode {
-    match explore_plan(rt.alloc(), form, memory, &mut rt.stdin(), &mut rt.stdout()) {
-        Ok(verdict) => ExitCode::from(Status::of(verdict).code()),
+    let mut warning = None;
+    match explore_plan(
+        rt.alloc(),
+        form,
+        memory,
+        &mut rt.stdin(),
+        &mut rt.stdout(),
+        &mut warning,
+    ) {
+        Ok(verdict) => {
+            warn(rt, "", warning);
+            ExitCode::from(Status::of(verdict).code())
+        }
         Err(no_answer) => told(rt, &no_answer),
     }
 }
@@ -108,7 +120,15 @@ fn file_status(
         Err(fault) => return unopened(rt, file, fault.kind()),
     };
     let mut text = Vec::new(rt.alloc());
-    let verdict = match explore_plan(rt.alloc(), form, memory, &mut reader, &mut text) {
+    let mut warning = None;
+    let verdict = match explore_plan(
+        rt.alloc(),
+        form,
+        memory,
+        &mut reader,
+        &mut text,
+        &mut warning,
+    ) {
         Ok(verdict) => verdict,
         Err(no_answer) => return faulty(rt, file, &no_answer),
     };
@@ -117,7 +137,10 @@ fn file_status(
         None => Ok(()),
     };
     match named.and_then(|()| rt.stdout().write_all(text.as_slice())) {
-        Ok(()) => Status::of(verdict),
+        Ok(()) => {
+            warn(rt, file, warning);
+            Status::of(verdict)
+        }
         Err(_) => faulty(rt, file, &NoAnswer::from(PlanTextFault::OutputFailed)),
     }
 }
@@ -132,6 +155,14 @@ fn faulty(rt: &HostRuntime, file: &str, no_answer: &NoAnswer) -> Status {
         Err(_) => eprintln!(rt; "{file}: out of memory"),
     };
     Status::Faulty
+}
+
+/// Prints a warning of the plan of a file, or of standard input if the name is empty.
+fn warn(rt: &HostRuntime, file: &str, warning: Option<String>) {
+    let gap = if file.is_empty() { "" } else { ": " };
+    if let Some(text) = warning {
+        let _ = eprintln!(rt; "{file}{gap}{}", text.as_str());
+    }
 }
 
 /// Prints why a file was not opened, and gives the status.
