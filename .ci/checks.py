@@ -22,13 +22,13 @@ def built(name):
     return program
 
 
-def run(command, given=b""):
+def run(command, given=b"", seconds=SECONDS):
     """What a program writes to both its streams on this input, bytes or a text as the input is, and its status."""
     encoding = "utf-8" if isinstance(given, str) else None
     try:
-        ran = subprocess.run(command, input=given, capture_output=True, encoding=encoding, timeout=SECONDS, check=False)
+        ran = subprocess.run(command, input=given, capture_output=True, encoding=encoding, timeout=seconds, check=False)
     except subprocess.TimeoutExpired:
-        return None, f"no end in {SECONDS} seconds", None
+        return None, f"no end in {seconds} seconds", None
     return ran.stdout, ran.stderr, ran.returncode
 
 

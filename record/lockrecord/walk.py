@@ -149,6 +149,8 @@ def steps_of(text: str, answer: str) -> list[Step]:
                 steps.append(Step(told, line.number if line else None))
             if step[2] != "announce":
                 follower.goes(step[1], step[4] or "")
+        elif told.endswith(" goes on"):
+            steps.append(Step(told, None))
         else:
             raise NotFollowed(told)
     return steps

@@ -22,13 +22,19 @@ pub mod Right
 pub mod Moves
 pub mod Ways
 pub mod Simulation
+pub mod CircleNodes
 pub mod PlanNodes
+pub mod CircleLook
 pub mod NextNodes
 pub mod Looks
 pub mod Said
+pub mod CircleWaits
+pub mod CircleSets
+pub mod CircleSearch
 pub mod ExchangeLists
 pub mod ExchangeActs
 pub mod ExchangeTurns
+pub mod ExchangeCircles
 pub mod ExchangeBars
 pub mod ExchangeWalks
 pub mod ExchangeSorted
@@ -39,3 +45,4 @@ pub mod ExchangePlans
 pub mod UnnamedCopies
 pub mod PlanCopies
 pub mod TraceSteps
+pub mod StillCircles

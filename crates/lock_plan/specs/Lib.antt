@@ -11,3 +11,4 @@ pub mod Below
 pub mod Checks
 pub mod Stops
 pub mod Memory
+pub mod Circles

@@ -7,18 +7,19 @@ use Rattle.lock_plan.specs.declared.program.Step.{Step}
 use Rattle.lock_plan.specs.Worlds.{Stand, first_world}
 use Rattle.lock_plan.specs.Stops.{all_stopped}
 use Rattle.lock_plan_text.specs.declared.names.Names.{Names}
+use Rattle.lock_plan_answer.specs.Going.{going_lines}
 use Rattle.lock_plan_answer.specs.Steps.{last_world, steps_text}
 use Rattle.lock_plan_answer.specs.Stops.{stop_word, stop_lines}
 
--- the answer where no steps lead into a stop, and a search visited so many states
+-- the answer where no steps lead into a deadlock, and a search visited so many states
 abbrev pub none_text : ℕ → List ℕ
 none_text visited = codes "no deadlock, " ++ (decimal visited ++ codes " states\n")
 
--- the answer where a trace leads from a world into a stop
+-- the answer where a trace leads from a world into a stop or a circle
 abbrev pub trace_text : List PlanLock → Names → List Stand → List Step → List ℕ
 trace_text locks names w trace =
     let stop = last_world locks w trace in
-    stop_word (all_stopped locks stop) ++ (codes "\n" ++ (steps_text locks names w trace ++ stop_lines locks names stop))
+    stop_word (all_stopped locks stop) ++ (codes "\n" ++ (steps_text locks names w trace ++ (stop_lines locks names stop ++ going_lines locks names stop)))
 
 -- the answer to a plan, of what a search found
 abbrev pub answer_text : List PlanLock → List (List ProgramPlace) → Names → Option (Vec Step Global) → ℕ → List ℕ

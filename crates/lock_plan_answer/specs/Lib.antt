@@ -3,6 +3,7 @@ pub mod Marks
 pub mod Signals
 pub mod Steps
 pub mod Stops
+pub mod Going
 pub mod Answers
 pub mod Lanes
 pub mod LineNumbers

@@ -4,6 +4,7 @@ ghost use Rattle.lock_plan.specs.Worlds.{first_world};
 ghost use Rattle.lock_plan.specs.Stops.{programs_of};
 ghost use Rattle.lock_plan_answer.specs.Answers.{none_text, trace_text, answer_text};
 
+use crate::going::write_going_lines;
 use crate::step::{last_node, write_steps};
 use crate::stop::{stop_word, write_stop_lines};
 use itoa::Buffer;
@@ -11,7 +12,7 @@ use lock_plan::{Explored, Plan, Step};
 use lock_plan_text::Names;
 use std::alloc::{AllocError, Global};
 
-/// Appends the answer to a plan: that nothing stops, or the steps into a stop and who waits there.
+/// Appends the answer to a plan: that nothing deadlocks, or the steps into a deadlock and who waits and who goes on there.
 pub fn write_answer(
     alloc: Global,
     text: &mut String,
@@ -28,7 +29,7 @@ pub fn write_answer(
     }
 }
 
-/// Appends the answer where no steps lead into a stop.
+/// Appends the answer where no steps lead into a deadlock.
 fn write_none(text: &mut String, visited: usize) -> Result<(), AllocError>
     ensures { OnOk result (string_bytes text.new ≡ string_bytes text.old ++ none_text visited) }
 {
@@ -50,7 +51,7 @@ fn write_number(
     text.push_str(after)
 }
 
-/// Appends the answer where a trace leads into a stop.
+/// Appends the answer where a trace leads into a deadlock.
 fn write_trace(
     alloc: Global,
     text: &mut String,
@@ -66,5 +67,6 @@ fn write_trace(
     text.push_str(stop_word(list.as_slice()))?;
     text.push('\n')?;
     write_steps(alloc, text, plan, names, trace)?;
-    write_stop_lines(alloc, text, plan, names, node, list.as_slice())
+    write_stop_lines(alloc, text, plan, names, node, list.as_slice())?;
+    write_going_lines(alloc, text, plan, names, node, list.as_slice())
 }

@@ -8,6 +8,7 @@
 
 mod answer;
 mod cell;
+mod going;
 mod lanes;
 mod line_numbers;
 mod mark;

@@ -34,7 +34,8 @@ fn has_refused_call(list: &[Stopped]) -> bool
     list.iter().any(|stopped| is_refused_call(*stopped))
 }
 
-fn has_refused(list: &[Stopped]) -> bool
+/// Returns whether the act of a stopped party is refused.
+pub(crate) fn has_refused(list: &[Stopped]) -> bool
     ensures { result ≡ list_any (λ s. s.is_refused) list.now }
 {
     list.iter().any(|stopped| stopped.is_refused)

@@ -1,8 +1,8 @@
 -- Runs with lines are stuck in the worlds in which the plan is. A run of the plan is a run in which nobody joins a line; the
 -- parties that wait in a stuck world join last, first those that their locks do not admit.
-use Rattle.std.proofs.Common.{◌≡◌, ℕ, zero, suc, ◌+◌, ◌<◌, ◌≤◌, ◌⊎◌, inl, inr, Bool, true, false, not, ◌&&◌, ◌||◌, ◌==◌, if◌then◌else◌, List, [], ◌∷◌, ◌++◌, length, map, get_or, Option, Some, None, option_map, refl, sym, ap, subst, ◌∙◌, arith}
+use Rattle.std.proofs.Common.{◌≡◌, ℕ, zero, suc, ◌<◌, ◌⊎◌, inl, inr, Bool, true, false, not, ◌&&◌, ◌||◌, ◌==◌, if◌then◌else◌, List, [], ◌∷◌, ◌++◌, length, map, get_or, Option, Some, None, option_map, refl, sym, ap, ◌∙◌, arith}
 use Rattle.std.specs.List.{list_any}
-use Rattle.std.proofs.lemmas.Bool.{false≢true, and_parts, or_cases, or_right, not-true, cases_lt, eq-eqb, eqb-true, eqb-false}
+use Rattle.std.proofs.lemmas.Bool.{false≢true, and_parts, or_cases, or_right, not-true, cases_lt, eq-eqb, eqb-true}
 use Rattle.std.proofs.lemmas.List.{get_or_past, append-nil, append_assoc}
 use Rattle.std.proofs.lemmas.List.Folds.{list_any-append}
 use Rattle.std.proofs.lemmas.Option.{same_Some}
@@ -19,9 +19,9 @@ use Rattle.lock_plan.specs.declared.program.ProgramPlace.{ProgramPlace}
 use Rattle.lock_plan.specs.declared.program.Step.{Step}
 use Rattle.lock_plan.specs.declared.turn.Turn.{Turn}
 use Rattle.lock_plan.specs.declared.turn.Turn.TheVariants.{Goes, Announces, Waits, Refused}
-use Rattle.lock_plan.specs.Holds.{announces_itself, admits_step, lines_up, turn_on}
+use Rattle.lock_plan.specs.Holds.{lines_up, turn_on}
 use Rattle.lock_plan.specs.Worlds.{Stand, no_stand, no_lock, lock_holds, act_of, acts_of, reply_at, turn_by, turn_of, line_of, waits_for, has_waiter, on_lock, goes_on, on_from, world_step, world_after, first_world, is_server, is_due, is_step_turn, is_stuck, some_below}
-use Rattle.lock_plan_laws.specs.Lines.{LinedWorld, here, is_listed, without, before, is_claim, is_change, claims, changes, is_waits, names_fair, on_call, is_behind, is_behind_some, goes_in_line, joins, joined, stepped, lined_by, lined_on, lined_after, IsStuckInLine, first_lined, LinesStopAsWorlds}
+use Rattle.lock_plan_laws.specs.Lines.{LinedWorld, here, is_listed, without, before, is_claim, is_change, claims, changes, is_waits, names_fair, on_call, is_behind, is_behind_some, goes_in_line, joins, lined_by, lined_on, lined_after, IsStuckInLine, first_lined, LinesStopAsWorlds}
 use Rattle.lock_plan_laws.proofs.SceneStops.{some_at, some_found}
 use Rattle.lock_plan_laws.proofs.NoStop.{none_below, below_none, not_false}
 

@@ -13,6 +13,8 @@ pub mod SceneSteps
 pub mod SceneStops
 pub mod Runs
 pub mod Fits
+pub mod StillCircles
+pub mod CircleRuns
 pub mod MachineStops
 pub mod ShortWalks
 pub mod Traces

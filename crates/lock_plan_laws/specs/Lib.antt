@@ -1,6 +1,7 @@
 pub mod MachineTurns
 pub mod Scenes
 pub mod Bridge
+pub mod Circles
 pub mod MachineStops
 pub mod Ranks
 pub mod OrderChecks

@@ -1,12 +1,14 @@
 //! Laws of plans on machines of guards. Each is the contract of a function with an empty body.
 //!
 //! [`worlds_are_runs_of_machines`] ties every run under a plan to machines. [`machines_stop_as_explored`] says what the
-//! answer of a search means for machines, and [`lines_stop_as_worlds`] what it means for fair locks.
+//! answer of a search means for machines, and [`lines_stop_as_worlds`] what it means for fair locks. [`circles_never_move`]
+//! says that the parties of a circle never make a step.
 //! [`ordered_plans_never_stop`] needs no search: it speaks of any number of parties. [`find_order`] has a body: it looks
 //! for an order, and tests it.
 #![tactic(auto)]
 
 mod bridge;
+mod circles;
 mod held_waits;
 mod lines;
 mod obstacles;
@@ -15,6 +17,7 @@ mod ordered;
 mod stops;
 
 pub use bridge::worlds_are_runs_of_machines;
+pub use circles::circles_never_move;
 pub use lines::lines_stop_as_worlds;
 pub use order::find_order;
 pub use ordered::{ordered_plans_never_stop, some_holder_does_not_wait};

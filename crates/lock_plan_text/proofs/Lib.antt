@@ -10,6 +10,7 @@ mod FirstPlaces
 mod FitLocks
 mod Hops
 mod LastFields
+mod LinesAbove
 mod LoopDepths
 mod Mentions
 mod OneDraft

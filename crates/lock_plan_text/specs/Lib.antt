@@ -13,3 +13,4 @@ pub mod Meanings
 pub mod CallOrigins
 pub mod FaultLines
 pub mod Beginnings
+pub mod LineFaults

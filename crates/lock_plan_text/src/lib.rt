@@ -5,10 +5,12 @@
 //! the lines make, `Blocks` the program of a party's lines, `PartyLines` all programs, and `PlanFaults` the faults.
 #![tactic(auto)]
 
+mod explaining;
 mod name_set;
 mod names;
 mod parser;
 
+pub use explaining::{LineFault, NameKind, explain_line};
 pub use name_set::NameSet;
 pub use names::Names;
 pub use parser::{

@@ -14,13 +14,13 @@ use std::clone::Clone;
 use std::marker::PhantomData;
 use std::sync::Wait;
 
-/// A raw lock over one atomic word: the readers, 2^32 for an upgradable hold, 2^33 for an exclusive one, and 2^34 while
-/// a waiting writer keeps others out. Pick it where speed counts.
+/// A raw lock over one atomic word: the readers, a bit for an upgradable hold, one for an exclusive hold, one while a
+/// waiting writer keeps others out, and one that says that a waiter may sleep. Pick it where speed counts.
 ///
-/// A try is one load and at most one exchange; it also answers `None` if the exchange lost a race. A release or a
-/// downgrade is one subtraction. A blocked call tries a few times, and then sleeps. It takes its own tokens only, in the
-/// mode that each holds. Its word encodes the tokens that are held, and no sleeper is forgotten: see
-/// `every_state_forgets_none`.
+/// A try loads the word and exchanges it while the word admits the call, so only a word that refuses it refuses it. A
+/// release or a downgrade is one exchange or one subtraction, and touches the lock no more: another thread may free it. A
+/// blocked call spins a few times, and then sleeps on the word. It takes its own tokens only, in the mode that each
+/// holds. Its word encodes the tokens that are held, and no sleeper is forgotten: see `every_run_is_served`.
 pub type WordRaw<W> = RawLock<WordCore<W, NoTime>>;
 
 /// A `WordLock`, with its permission to block and its measure of time.

@@ -9,6 +9,7 @@ use Rattle.lock_plan.specs.declared.lock_order.LockOrder.TheVariants.{Kept, Brok
 use Rattle.lock_plan_laws.specs.LockOrders.{IsLockOrder}
 use Rattle.lock_plan.specs.Copies.{IsCountUpTo}
 use Rattle.lock_plan.specs.Stops.{programs_of}
+use Rattle.lock_plan.specs.Circles as circles
 use Rattle.lock_plan.specs.Worlds as plans
 use Rattle.lock_plan_answer.specs.Answers.{answer_text}
 use Rattle.lock_plan_answer.specs.Lanes.{drawing_text}
@@ -27,12 +28,12 @@ abbrev pub verdict_of : Option (Vec Step Global) → Verdict
 verdict_of None = NeverStops
 verdict_of (Some trace) = Stops
 
--- no interleaving leads into a stop, and so many worlds can be reached, where those that differ only in which copy is where
+-- no interleaving leads into a stop or a circle, and so many worlds can be reached, where those that differ only in which copy is where
 -- count as one; or this trace is a shortest one
 abbrev pub IsFound : List Bool → List Bool → List PlanLock → List (List ProgramPlace) → Option (Vec Step Global) → ℕ → Type 0
 IsFound servers copies locks programs None visited =
-    plans.NeverStops servers locks programs × IsCountUpTo copies (plans.IsReachableWorld locks programs) visited
-IsFound servers copies locks programs (Some trace) visited = plans.IsShortestStop servers locks programs trace.items
+    circles.NeverDeadlocks servers locks programs × IsCountUpTo copies (plans.IsReachableWorld locks programs) visited
+IsFound servers copies locks programs (Some trace) visited = circles.IsShortestDeadlock servers locks programs trace.items
 
 -- the text is the answer in this form. Nothing is said of the bytes of a picture
 abbrev pub IsTextIn : AnswerForm → NamedPlan → Option (Vec Step Global) → ℕ → List ℕ → Type 0

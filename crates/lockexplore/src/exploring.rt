@@ -11,7 +11,9 @@ ghost use Rattle.lockexplore.specs.PlanAnswers.{IsOrderAnswer, IsPlanAnswer, IsT
 ghost use Rattle.lockexplore.specs.Explorations.{AppendsPlanAnswer, ExplainsPlanFault, IsBeforePlanAnswer, IsPlanFault, IsScriptFault};
 
 use crate::arguments::AnswerForm;
+use crate::ending::ending_warning;
 use crate::lines::LinesFault;
+use crate::no_answer::NoAnswer;
 use crate::plain::PlainText;
 use crate::verdict::Verdict;
 use lock_plan::{Explored, explore};
@@ -23,6 +25,7 @@ use std::alloc::{AllocError, Global};
 use std::io::{Read, Write};
 
 /// Reads a plan to its end, searches all its interleavings in so many bytes, and then writes the answer in this form.
+/// A searched plan may get a warning.
 ///
 /// # Errors
 ///
@@ -36,19 +39,23 @@ pub(crate) fn explore_plan<R: Read, W: Write>(
     memory: usize,
     reader: &mut R,
     writer: &mut W,
-) -> Result<Verdict, PlanTextFault>
+    warning: &mut Option<String>,
+) -> Result<Verdict, NoAnswer>
     ensures answered { IfOk result (λ verdict. ReadsScript (R.remaining reader.old) (R.remaining reader.new)
         (λ script. AppendsPlanAnswer form script verdict (W.contents writer.old) (W.contents writer.new))) }
-    ensures told { IfErr result (ExplainsPlanFault form memory
-        (R.remaining reader.old) (R.remaining reader.new) (W.contents writer.old) (W.contents writer.new)) }
-    ensures unwritten { IfErr result (λ fault.
-        IsBeforePlanAnswer fault → Keeps (W.contents writer.old) (W.contents writer.new)) }
+    ensures told { IfErr result (λ no_answer. ExplainsPlanFault form memory
+        (R.remaining reader.old) (R.remaining reader.new) (W.contents writer.old) (W.contents writer.new) no_answer.fault) }
+    ensures unwritten { IfErr result (λ no_answer.
+        IsBeforePlanAnswer no_answer.fault → Keeps (W.contents writer.old) (W.contents writer.new)) }
 {
     let script = read_script(alloc, reader)?;
-    let (verdict, text) = plan_answer(alloc, form, memory, script.as_slice())?;
+    let (verdict, text) = plan_answer(alloc, form, memory, script.as_slice(), warning)?;
     match put(text.as_str(), writer) {
         Ok(()) => Ok(verdict),
-        Err(_) => Err(PlanTextFault::OutputFailed),
+        Err(_) => Err(NoAnswer {
+            fault: PlanTextFault::OutputFailed,
+            why: None,
+        }),
     }
 }
 
@@ -62,19 +69,27 @@ fn plan_answer(
     form: AnswerForm,
     memory: usize,
     script: &[u8],
-) -> Result<(Verdict, String), PlanTextFault>
+    warning: &mut Option<String>,
+) -> Result<(Verdict, String), NoAnswer>
     ensures answer { IfOk result (λ answer. IsPlanAnswer form (line_number script.now) (plain_text script.now) answer.0 (string_bytes answer.1)) }
     ensures short { IfOk result (λ _. IsShort script.now) }
-    ensures fault { IfErr result (IsScriptFault script.now memory) }
+    ensures fault { IfErr result (λ no_answer. IsScriptFault script.now memory no_answer.fault) }
 {
     let plain = match PlainText::of(alloc, script) {
         Ok(plain) => plain,
-        Err(LinesFault::TooLong) => return Err(PlanTextFault::TooLong),
-        Err(LinesFault::OutOfMemory) => return Err(PlanTextFault::OutOfMemory),
+        Err(LinesFault::TooLong) => return Err(NoAnswer::from(PlanTextFault::TooLong)),
+        Err(LinesFault::OutOfMemory) => return Err(NoAnswer::from(PlanTextFault::OutOfMemory)),
     };
-    match plain_answer(alloc, form, memory, plain.bytes.as_slice(), &plain.lines) {
+    match plain_answer(
+        alloc,
+        form,
+        memory,
+        plain.bytes.as_slice(),
+        &plain.lines,
+        warning,
+    ) {
         Ok(answer) => Ok(answer),
-        Err(fault) => Err(plain.renumbered(fault)),
+        Err(fault) => Err(plain.explained(alloc, fault)),
     }
 }
 
@@ -90,6 +105,7 @@ fn plain_answer(
     memory: usize,
     plain: &[u8],
     lines: &LineNumbers,
+    warning: &mut Option<String>,
 ) -> Result<(Verdict, String), PlanTextFault>
     ensures answer { IfOk result (λ answer. IsPlanAnswer form (number_by lines.now) plain.now answer.0 (string_bytes answer.1)) }
     ensures fault { IfErr result (IsPlanFault plain.now memory) }
@@ -100,7 +116,7 @@ fn plain_answer(
     }
     let named = plan.into_plan(alloc)?;
     let explored = explore(alloc, &named.plan, memory)?;
-    let text = answer_of(alloc, form, &named, &explored)?;
+    let text = answer_of(alloc, form, &named, &explored, warning)?;
     Ok((Verdict::of(&explored), text))
 }
 
@@ -134,15 +150,17 @@ fn order_answer(
     }
 }
 
-/// Returns the answer to a plan in a form, of what a search found.
+/// Returns the answer to a plan in a form, of what a search found, and perhaps makes a warning.
 fn answer_of(
     alloc: Global,
     form: AnswerForm,
     named: &NamedPlan,
     explored: &Explored,
+    warning: &mut Option<String>,
 ) -> Result<String, AllocError>
     ensures { IfOk result (λ text. IsTextIn form named.now explored.now.trace explored.now.visited (string_bytes text)) }
 {
+    *warning = ending_warning(alloc, named);
     if form == AnswerForm::Svg {
         return draw_picture(alloc, &named.plan, &named.names, explored);
     }

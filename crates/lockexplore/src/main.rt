@@ -2,9 +2,11 @@
 #![tactic(auto)]
 
 mod arguments;
+mod ending;
 mod exploring;
 mod lines;
 mod machine;
+mod no_answer;
 mod plain;
 mod status;
 mod verdict;
@@ -12,6 +14,7 @@ mod verdict;
 use crate::arguments::{AnswerForm, Request};
 use crate::exploring::explore_plan;
 use crate::machine::half_of_memory;
+use crate::no_answer::NoAnswer;
 use crate::status::Status;
 use crate::verdict::Verdict;
 use lock_plan_text::PlanTextFault;
@@ -34,7 +37,8 @@ Reads a plan of lock calls from each file, or from standard input, and prints wh
   --version       prints the version
 
 The status is 0 without a deadlock, 3 with one or without an order, 1 for a fault, and 2 for other words. With several
-files, a fault is worse than a deadlock. Each answer is below the name of its file.
+files, a fault is worse than a deadlock. Each answer is below the name of its file. A fault of line N says why, as
+FILE:N: WHY, or as line N: WHY of standard input.
 docs/PLANS.md has the format of plans.";
 
 /// The version of the file VERSION.
@@ -44,7 +48,7 @@ fn main(rt: HostRuntime) -> ExitCode {
     let words = match words(&rt) {
         Ok(Some(words)) => words,
         Ok(None) => return usage(&rt),
-        Err(fault) => return told(&rt, fault),
+        Err(fault) => return told(&rt, &NoAnswer::from(fault)),
     };
     match Request::with_files(words.as_slice()) {
         Some((Request::Explore(form, memory), files)) => {
@@ -71,9 +75,20 @@ fn memory_of(rt: &HostRuntime, memory: Option<u64>) -> usize {
 
 /// Reads a plan from standard input, prints the answer in a form, and gives the status.
 fn explored(rt: &HostRuntime, form: AnswerForm, memory: usize) -> ExitCode {
-    match explore_plan(rt.alloc(), form, memory, &mut rt.stdin(), &mut rt.stdout()) {
-        Ok(verdict) => ExitCode::from(Status::of(verdict).code()),
-        Err(fault) => told(rt, fault),
+    let mut warning = None;
+    match explore_plan(
+        rt.alloc(),
+        form,
+        memory,
+        &mut rt.stdin(),
+        &mut rt.stdout(),
+        &mut warning,
+    ) {
+        Ok(verdict) => {
+            warn(rt, "", warning);
+            ExitCode::from(Status::of(verdict).code())
+        }
+        Err(no_answer) => told(rt, &no_answer),
     }
 }
 
@@ -100,38 +115,64 @@ fn file_status(
     file: &str,
     above: Option<&str>,
 ) -> Status {
-    let (verdict, text) = match answer(rt, form, memory, file) {
-        Ok(answer) => answer,
-        Err(fault) => return faulty(rt, file, fault),
+    let mut reader = match fs::open(rt, file) {
+        Ok(reader) => reader,
+        Err(fault) => return unopened(rt, file, fault.kind()),
+    };
+    let mut text = Vec::new(rt.alloc());
+    let mut warning = None;
+    let verdict = match explore_plan(
+        rt.alloc(),
+        form,
+        memory,
+        &mut reader,
+        &mut text,
+        &mut warning,
+    ) {
+        Ok(verdict) => verdict,
+        Err(no_answer) => return faulty(rt, file, &no_answer),
     };
     let named = match above {
         Some(gap) => print!(rt; "{gap}{file}:\n"),
         None => Ok(()),
     };
     match named.and_then(|()| rt.stdout().write_all(text.as_slice())) {
-        Ok(()) => Status::of(verdict),
-        Err(_) => faulty(rt, file, PlanTextFault::OutputFailed),
+        Ok(()) => {
+            warn(rt, file, warning);
+            Status::of(verdict)
+        }
+        Err(_) => faulty(rt, file, &NoAnswer::from(PlanTextFault::OutputFailed)),
     }
 }
 
-/// Makes the answer to a file's plan.
-fn answer(
-    rt: &HostRuntime,
-    form: AnswerForm,
-    memory: usize,
-    file: &str,
-) -> Result<(Verdict, Vec<u8>), PlanTextFault> {
-    let Ok(mut reader) = fs::open(rt, file) else {
-        return Err(PlanTextFault::InputFailed);
+/// Prints why there is no answer to a file's plan, and gives the status. `line 3: WHY` is told as `FILE:3: WHY`.
+fn faulty(rt: &HostRuntime, file: &str, no_answer: &NoAnswer) -> Status {
+    let _ = match format!(in rt.alloc(); "{no_answer}") {
+        Ok(text) => match text.as_str().strip_prefix("line ") {
+            Some(rest) => eprintln!(rt; "{file}:{rest}"),
+            None => eprintln!(rt; "{file}: {}", text.as_str()),
+        },
+        Err(_) => eprintln!(rt; "{file}: out of memory"),
     };
-    let mut text = Vec::new(rt.alloc());
-    let verdict = explore_plan(rt.alloc(), form, memory, &mut reader, &mut text)?;
-    Ok((verdict, text))
+    Status::Faulty
 }
 
-/// Prints the fault of a file, and gives the status.
-fn faulty(rt: &HostRuntime, file: &str, fault: PlanTextFault) -> Status {
-    let _ = eprintln!(rt; "{file}: {fault}");
+/// Prints a warning of the plan of a file, or of standard input if the name is empty.
+fn warn(rt: &HostRuntime, file: &str, warning: Option<String>) {
+    let gap = if file.is_empty() { "" } else { ": " };
+    if let Some(text) = warning {
+        let _ = eprintln!(rt; "{file}{gap}{}", text.as_str());
+    }
+}
+
+/// Prints why a file was not opened, and gives the status.
+fn unopened(rt: &HostRuntime, file: &str, why: io::ErrorKind) -> Status {
+    let why = match why {
+        io::ErrorKind::NotFound => "no such file",
+        io::ErrorKind::PermissionDenied => "permission denied",
+        _ => "input failed",
+    };
+    let _ = eprintln!(rt; "cannot read '{file}': {why}");
     Status::Faulty
 }
 
@@ -157,8 +198,8 @@ fn printed(done: io::Result<()>) -> ExitCode {
     }
 }
 
-/// Prints the fault, and gives the status of a run that ended early.
-fn told(rt: &impl Eprint, fault: PlanTextFault) -> ExitCode {
-    let _ = eprintln!(rt; "{fault}");
+/// Prints why there is no answer, and gives the status of a run that ended early.
+fn told(rt: &impl Eprint, no_answer: &NoAnswer) -> ExitCode {
+    let _ = eprintln!(rt; "{no_answer}");
     ExitCode::FAILURE
 }

@@ -11,8 +11,9 @@ ghost use Rattle.lock_plan_answer.specs.LineNumbers.{number_by};
 ghost use Rattle.script_text.specs.Lines.{lines_of};
 
 use crate::lines::{LinesFault, MadeLine, arrayed, indexed, unrolled};
+use crate::no_answer::NoAnswer;
 use lock_plan_answer::LineNumbers;
-use lock_plan_text::PlanTextFault;
+use lock_plan_text::{LineFault, PlanTextFault, explain_line};
 use script_text::Part;
 use std::alloc::{AllocError, Global};
 
@@ -55,8 +56,42 @@ impl PlainText {
         })
     }
 
+    /// Returns a fault of the plain text with the number of its line in the plan's text, and explains a bad line.
+    pub(crate) fn explained(&self, alloc: Global, fault: PlanTextFault) -> NoAnswer
+        ensures { result.fault ≡ renumbered (number_by self.now.lines) fault }
+    {
+        let why = match fault {
+            PlanTextFault::BadLine(line) => self.why_bad(alloc, line).unwrap_or(None),
+            _ => None,
+        };
+        NoAnswer {
+            fault: self.renumbered(fault),
+            why,
+        }
+    }
+
+    /// Explains a bad line of the plain text.
+    fn why_bad(&self, alloc: Global, line: u64) -> Result<Option<String>, AllocError> {
+        let Some(fault) = explain_line(alloc, self.bytes.as_slice(), line)? else {
+            return Ok(None);
+        };
+        let fault = self.by_script(fault);
+        Ok(Some(format!(in alloc; "{fault}")?))
+    }
+
+    /// Returns why a line is bad, with the number of another line in the plan's text.
+    fn by_script<'a>(&self, fault: LineFault<'a>) -> LineFault<'a> {
+        match fault {
+            LineFault::InBlock(word, begin, line) => {
+                LineFault::InBlock(word, begin, self.lines.number(line))
+            }
+            LineFault::NoEnd(begin, line) => LineFault::NoEnd(begin, self.lines.number(line)),
+            fault => fault,
+        }
+    }
+
     /// Returns a fault of the plain text with the number of its line in the plan's text.
-    pub(crate) fn renumbered(&self, fault: PlanTextFault) -> PlanTextFault
+    fn renumbered(&self, fault: PlanTextFault) -> PlanTextFault
         ensures { result ≡ renumbered (number_by self.now.lines) fault }
     {
         match fault {

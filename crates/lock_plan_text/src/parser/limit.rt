@@ -79,7 +79,7 @@ pub(crate) fn reentrant(last: &str) -> Option<PlanLock>
 }
 
 /// Reads a limit.
-fn limit(field: &str) -> Option<u64>
+pub(crate) fn limit(field: &str) -> Option<u64>
     ensures text { IfSome result (λ limit. IsLimit limit × (decimal limit ≡ field.now)) }
     ensures some { IsSome result ↔ IsLimitField field.now }
 {

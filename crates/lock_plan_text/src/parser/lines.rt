@@ -55,7 +55,7 @@ fn add_lines(draft: &mut PlanDraft, alloc: Global, bytes: &[u8]) -> Result<(), P
 }
 
 /// Adds a line to a draft, and returns whether it is a line that the draft takes.
-fn add_text(
+pub(crate) fn add_text(
     draft: &mut PlanDraft,
     alloc: Global,
     number: u64,

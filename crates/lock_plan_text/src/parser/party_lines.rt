@@ -137,7 +137,7 @@ pub(crate) fn name_at(names: &[String], number: usize) -> &str
 }
 
 /// Returns the list with this number, or an empty one if there is none.
-fn list_of<T>(lists: &[Vec<T>], number: usize) -> &[T]
+pub(crate) fn list_of<T>(lists: &[Vec<T>], number: usize) -> &[T]
     ensures { result.now ≡ get_or (map (λ v. v.items) lists.now) number [] }
 {
     match lists.get(number) {

@@ -76,7 +76,7 @@ fn read_try(rest: &str) -> Option<(bool, LockStep, &str)>
 }
 
 /// Returns whether a call that does the step can be tried.
-fn is_tried(step: LockStep) -> bool
+pub(crate) fn is_tried(step: LockStep) -> bool
     ensures { result ≡ is_tried step }
 {
     matches!(

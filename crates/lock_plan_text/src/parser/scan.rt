@@ -76,7 +76,7 @@ pub(crate) fn boundary(lines: &[BlockLine], line: usize) -> usize
 }
 
 /// Returns the line that begins the block around a line.
-fn beginning(lines: &[BlockLine], line: usize) -> usize
+pub(crate) fn beginning(lines: &[BlockLine], line: usize) -> usize
     requires { line ≤ length lines.now }
     ensures value { result ≡ beginning lines.now line }
     ensures within { result ≤ line }

@@ -1,10 +1,10 @@
 //! Every public type of the packed word, and of the locks on one, in a signature.
 use lock_api::{
-    AtomicStep, Attempt, CallStage, CountRule, Debt, Down, EventCount, ExWant, Hold, LockStep,
-    NoTime, Notified, Occupancy, Outcome, PackedToken, PackedWord, Party, Place, Places, RealTime,
-    Registered, SeatView, SeatedLock, SleeperView, SleepingCondvar, TimedCondvar, TimedRaw, Timing,
-    Wake, WakeLimits, WakeRule, WakeView, Watch, WordCore, WordLock, WordRaw, WordRule, WordToken,
-    World, WorldParty,
+    Action, AtomicStep, Attempt, CallStage, CountRule, Debt, Down, EventCount, ExWant, Hold,
+    LockStep, NoTime, Notified, Occupancy, OneRule, OneView, Outcome, PackedToken, PackedWord,
+    Park, ParkLimits, ParkView, Party, Place, Places, RealTime, Registered, SeatView, SeatedLock,
+    SleepingCondvar, Stage, TimedCondvar, TimedRaw, Timing, Wake, WordCall, WordCore, WordLock,
+    WordRaw, WordRule, WordToken, World, WorldParty,
 };
 use std::clone::Clone;
 use std::sync::Wait;
@@ -31,7 +31,8 @@ pub fn words(
     _step: (&AtomicStep, &Outcome, &Down, &ExWant, &WorldParty),
     _hold: (&Hold, &LockStep, &Occupancy),
     _seated: (&SeatedLock, &Party, &SeatView, &WordRule, &Attempt),
-    _seats: (&WakeView, &WakeRule),
-    _sleeper: (&SleeperView, &Watch, &Debt, &WakeLimits),
+    _seats: (&OneView, &OneRule),
+    _machine: (&WordCall, &Action, &Stage),
+    _parking: (&ParkView, &Park, &Debt, &ParkLimits),
     _events: (&EventCount, &Registered, &Notified, &CallStage, &CountRule),
 ) {}

@@ -2,7 +2,7 @@ use Rattle.std.proofs.Common.{ℕ, ◌≤◌, length, sum_by}
 use Rattle.lock_plan.specs.Stops.{programs_of}
 use Rattle.lock_plan_laws.specs.Bridge.{FitsMachines}
 use Rattle.lock_plan_laws.proofs.Fits.{fits}
-use Rattle.lock_plan_laws.proofs.MachineStops.{never, shortest}
+use Rattle.lock_plan_laws.proofs.MachineStops.{no_deadlocks, never, shortest}
 use Rattle.lock_plan_laws.proofs.Traces.{trace_fits}
 use Rattle.lock_plan_laws.proofs.stops.machines_stop_as_explored.Goals as goal
 
@@ -12,7 +12,9 @@ returns g c =
     let fit : (room : ℕ) → sum_by length (programs_of plan) ≤ room → FitsMachines plan.locks.items (programs_of plan) room =
     λ room enough. fits plan.locks.items (programs_of plan) room plan.right c.requires enough in
     record {
-      none = never g.O.Op.meaning plan.servers.items plan.locks.items (programs_of plan) fit;
+      none = λ none.
+          never g.O.Op.meaning plan.servers.items plan.locks.items (programs_of plan) fit
+          (no_deadlocks plan.servers.items plan.locks.items (programs_of plan) none);
       stop = λ plain trace stop.
           shortest g.O.Op.meaning plan.servers.items plan.locks.items (programs_of plan) fit plain trace
           (trace_fits plan.servers.items plan.locks.items (programs_of plan) plan.right trace stop) stop;

@@ -1,0 +1,52 @@
+//! Finding a bad line.
+ghost use Rattle.std.specs.Prelude.{IfOk, IfSome};
+ghost use Rattle.lock_plan_text.specs.LineFaults.{ExplainsLine};
+
+use crate::explaining::line_fault::LineFault;
+use crate::parser::draft::PlanDraft;
+use crate::parser::lines::add_text;
+use script_text::Part;
+use std::alloc::{AllocError, Global};
+
+/// Explains the line with this number of a plan's text, or its end, if it is bad and no line above is.
+pub fn explain_line(
+    alloc: Global,
+    bytes: &[u8],
+    number: u64,
+) -> Result<Option<LineFault>, AllocError>
+    ensures { IfOk result (λ found. IfSome found (ExplainsLine bytes.now number)) }
+{
+    let mut draft = PlanDraft::new(alloc);
+    let mut rest = Part::of(bytes);
+    for above in 1..number {
+        if rest.bytes().is_empty() {
+            return Ok(None);
+        }
+        let (text, after) = rest.first_line();
+        if !add_text(&mut draft, alloc, above, text)? {
+            return Ok(None);
+        }
+        rest = after;
+    }
+    draft.next_fault(alloc, rest)
+}
+
+impl PlanDraft {
+    ghost use Rattle.std.specs.Prelude.{IfOk, IfSome};
+    ghost use Rattle.lock_plan_text.specs.Drafted.{drafted};
+    ghost use Rattle.lock_plan_text.specs.LineFaults.{IsTrueOf};
+
+    /// Explains the first of the lines that are left, or the end of the text.
+    fn next_fault<'a>(
+        &self,
+        alloc: Global,
+        rest: Part<'a>,
+    ) -> Result<Option<LineFault<'a>>, AllocError>
+        ensures { IfOk result (λ found. IfSome found (IsTrueOf (drafted self.now))) }
+    {
+        if rest.bytes().is_empty() {
+            return Ok(self.text_end_fault());
+        }
+        self.line_fault(alloc, rest.first_line().0)
+    }
+}

@@ -1,0 +1,69 @@
+//! Why a line says nothing.
+ghost use Rattle.std.specs.Prelude.{IfOk};
+ghost use Rattle.lock_plan_text.specs.Drafts.{Draft};
+ghost use Rattle.lock_plan_text.specs.LineFaults.{IsTrueOf};
+
+use crate::explaining::form::{form_after, words};
+use crate::explaining::line_fault::LineFault;
+use crate::explaining::nearest::nearest;
+use crate::explaining::wrong_field::wrong_field;
+use crate::parser::reading::is_tried;
+use crate::parser::verb::verb;
+use script_text::first_field;
+use std::alloc::{AllocError, Global};
+
+/// The longest word for which a like one is looked for, in bytes. No word of the format has so many.
+const LONGEST: usize = 100;
+
+/// Explains a line that says nothing.
+pub(crate) fn unread(alloc: Global, text: &str) -> Result<LineFault, AllocError>
+    ensures { IfOk result (λ fault. (draft : Draft) → IsTrueOf draft fault) }
+{
+    let (word, rest) = parted(text);
+    let Some(form) = form_after(word) else {
+        return unknown_word(alloc, word);
+    };
+    let (call, name) = parted(rest);
+    if word == "try" && !name.is_empty() && !is_call_tried(call) {
+        return untried(alloc, call);
+    }
+    Ok(wrong_field(word, rest).unwrap_or(LineFault::Form(word, form)))
+}
+
+/// Returns the first field and the rest after its space, which is empty if there is none.
+pub(crate) fn parted(line: &str) -> (&str, &str) {
+    first_field(line).unwrap_or((line, ""))
+}
+
+/// Returns whether the word is that of a call that can be tried.
+fn is_call_tried(word: &str) -> bool {
+    match verb(word) {
+        Some((_, step)) => is_tried(step),
+        None => false,
+    }
+}
+
+/// Explains the wrong word of a try.
+fn untried(alloc: Global, word: &str) -> Result<LineFault, AllocError>
+    ensures { IfOk result (λ fault. (draft : Draft) → IsTrueOf draft fault) }
+{
+    match form_after(word) {
+        Some(_) => Ok(LineFault::NotTried(word)),
+        None => unknown_word(alloc, word),
+    }
+}
+
+/// Explains a word that no line begins with.
+#[tactic(auto, unfolding(crate::specs::LineFaults::distance_to))]
+fn unknown_word(alloc: Global, word: &str) -> Result<LineFault, AllocError>
+    ensures { IfOk result (λ fault. (draft : Draft) → IsTrueOf draft fault) }
+{
+    if word.len() > LONGEST {
+        return Ok(LineFault::UnknownWord(word));
+    }
+    let known = words();
+    match nearest(alloc, word, known)? {
+        Some(place) => Ok(LineFault::Misspelt(word, known[place])),
+        None => Ok(LineFault::UnknownWord(word)),
+    }
+}
