@@ -1,4 +1,4 @@
--- A step on the word is the machine's step, whatever call of the party asks for it.
+-- A step on the word is the machine's step, for each call of the party that asks for it.
 use Rattle.std.proofs.Common.{◌⊎◌, ◌≡◌, ℕ, ◌^◌, ◌<◌, Bool, true, inl, inr, List, slice_get, slice_set, Some, refl, sym, ap, subst, ◌∙◌}
 use Rattle.std.proofs.lemmas.Bool.{false≢true}
 use Rattle.lock_base.specs.Limits.{IsLimit}
@@ -23,7 +23,7 @@ use Rattle.lock_one_word.proofs.Parties.{same_hold}
 use Rattle.lock_one_word.proofs.Loaded.{stays_small}
 use Rattle.lock_one_word.proofs.Tasks.{keeps_task, goes_on}
 
--- a step on the word, and a pause, owe nothing
+-- a party owes no wake-up before a step on the word or a pause
 owes_none : (st : Stage) (call : Call) (v : ParkView) (a : Action) → is_step st ≡ true → IsAt st call v a → debt_at a ≡ debt.Nothing
 owes_none stage.Look call v a s is = ap debt_at is.1
 owes_none stage.Try call v a s is = ap debt_at is.2
@@ -62,7 +62,7 @@ both_awake p (inr e) = e
 
 module _ (limit word : ℕ) (views : List ParkView) (k : ℕ) (h : Hold) (range : IsLimit limit) (keeps : Keeps (limits_in limit) word views)
     (at : slice_get views k ≡ Some (placed h action.Load)) (small : word < 2 ^ 36) where
-  -- the law of the machine, of a party that holds this
+  -- the machine's law of steps, for the party at k, which holds h
   pub law : (call : Call) (before : Hold) (task : Task) (a : Action) (readers : ℕ) → readers ≡ limit → is_step call.stage ≡ true
       → IsGoing (call, a) before task record { held = h; readers = readers }
       → StepKept (limits_of call) call.slept Awake before (made a word) views k (next_of word call)
@@ -74,7 +74,7 @@ module _ (limit word : ℕ) (views : List ParkView) (k : ℕ) (h : Hold) (range 
       (subst IsLimit (sym (going.lock ∙ known)) range) (subst (λ l. Keeps l word views) (sym lock) keeps) at
       (subst (λ (v : ParkView). IsAt call.stage call v a) none going.at) going.held step (λ t. refl)
 
-  -- where the rule holds after the action, with this hold, that is what the machine leaves
+  -- if the rule holds after the action with the hold `you`, the machine leaves the party that hold
   pub agrees : (a : Action) (you : Hold) → Keeps (limits_in limit) (made a word) (slice_set views k (placed you action.Load))
       → (readers : ℕ) → readers ≡ limit → (call : Call) (before : Hold) (task : Task) → is_step call.stage ≡ true
       → IsGoing (call, a) before task record { held = h; readers = readers } → IsGoing (next_of word call) before task record { held = you; readers = readers }

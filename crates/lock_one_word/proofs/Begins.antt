@@ -1,4 +1,4 @@
--- How a call begins, and the token that it leaves.
+-- The first load of a call, and what its token holds at the end.
 use Rattle.std.proofs.Common.{◌≡◌, ℕ, Bool, true, false, IsTrue, refl, sym, ap, subst, ◌∙◌}
 use Rattle.atomic_table.specs.Seated.{TableId}
 use Rattle.lock_base.specs.declared.machine.mode.Mode.{Mode}
@@ -20,7 +20,7 @@ use Rattle.lock_one_word.proofs.Rests.{acquiring_first, acquired_end, refused_en
 use Rattle.lock_one_word.proofs.Tokens.{acquires, awaits}
 use Rattle.lock_one_word.proofs.TryEnds.{looks}
 
--- the first look of a call
+-- a call after its first load
 pub first_look : (readers found : ℕ) (wish : ExWant) (blocks : Bool) (me : Self) (begun next : Progress) → readers ≡ me.0.readers → me.0.held.announced ≡ false
     → begun ≡ acquiring readers wish blocks true → IsTrue (is_awaited wish) → IsTrue (hold_has me.0.held (step_of_want wish)) → Goes Load me found me
     → next ≡ next_of found begun.0 → IsGoing next me.0.held (to_acquire wish) me.0
@@ -32,7 +32,7 @@ pub first_try : (readers found : ℕ) (wish : ExWant) (begun next : Progress) �
 first_try readers found wish begun next is turns =
     subst IsTrying (sym (turns ∙ ap (λ (p : Progress). next_of found p.0) is)) (looks found (acquiring readers wish false true).0 refl refl)
 
--- the token of a seat that holds the mode
+-- a seat that holds the mode becomes a token of the mode
 pub token_is : (lock : WordLockView) (mode : Mode) (table : TableId) (me : Self) (token : TokenView) → token ≡ token_of table me → table ≡ lock.id
     → me.0.readers ≡ lock.readers → me.0.held ≡ one_hold mode → token ≡ record { lock = lock; held = one_hold mode }
 token_is lock mode table me token is id readers held =
@@ -47,6 +47,6 @@ upgraded_holds call v going = acquired_end call (one_hold Upgradable) want.Upgra
 pub still_holds : (call : Call) (v : OneView) → IsGoing (call, End false) (one_hold Upgradable) (to_acquire want.Upgrade) v → v.held ≡ one_hold Upgradable
 still_holds call v going = refused_end call (one_hold Upgradable) (to_acquire want.Upgrade) v refl going
 
--- a load of a seat whose view stays
+-- the answer to a load serves the view after the load, which is the view before
 pub looked : (found : ℕ) (me after : Self) → after ≡ me → Goes Load me found after → Goes Load after found after
 looked found me after same goes = subst (λ (m : Self). Goes Load m found after) (sym same) goes

@@ -1,4 +1,4 @@
--- The word that a call found last is a word.
+-- The number that a call found last is below 2^36.
 use Rattle.std.proofs.Common.{◌≡◌, ℕ, ◌+◌, ◌-◌, ◌^◌, ◌<◌, Bool, true, false, not, ◌&&◌, ◌||◌, ◌==◌, inl, inr, IsTrue, nat_lt, if◌then◌else◌, refl, sym, ap, subst, arith, ltb-true}
 use Rattle.std.proofs.lemmas.Bool.{and_parts, false≢true}
 use Rattle.lock_word.specs.declared.want.ExWant.{ExWant}
@@ -26,8 +26,8 @@ waits call = by (word_marked call == call.loaded)
     by true = refl
     by false = refl
 
-gives_up : (call : Call) → loaded (time_out call) ≡ call.loaded
-gives_up call = by call.announced (wakes_one call && (call.slept && nat_lt call.loaded sleepers))
+times_out : (call : Call) → loaded (time_out call) ≡ call.loaded
+times_out call = by call.announced (wakes_one call && (call.slept && nat_lt call.loaded sleepers))
   where
     by : (b c : Bool) → loaded (if b then goes_to (record call { left = core_of call.loaded - 2 ^ 34 }) stage.Withdraw (action.Exchange call.loaded (core_of call.loaded - 2 ^ 34))
         else if c then goes_to (record call { left = call.loaded + sleepers }) stage.Leave (action.Exchange call.loaded (call.loaded + sleepers)) else refused call) ≡ call.loaded
@@ -41,7 +41,7 @@ rests call = by call.blocks call.late (nat_lt call.pauses 6)
     by : (b c d : Bool) → loaded (if not b then refused call else if c then time_out call
         else if d then goes_to (record call { pauses = call.pauses + 1 }) stage.Pause (action.Spin (if nat_lt call.pauses 3 then call.pauses + 6 else 9)) else mark_or_sleep call) ≡ call.loaded
     by false c d = refl
-    by true true d = gives_up call
+    by true true d = times_out call
     by true false true = refl
     by true false false = waits call
 
@@ -78,7 +78,7 @@ marked_small call = by (sets_bar call) refl
         omega arith
     by false e = omega arith
 
--- the word that a call loaded stays small, if the numbers that it finds are
+-- the loaded number stays below 2^36 if each number that the call finds is
 module _ (found : ℕ) (call : Call) (small : found < 2 ^ 36) (was : call.loaded < 2 ^ 36) where
   decided : (b : Bool) (next : Progress) → loaded next ≡ call.loaded → loaded (if b then next else decide found call) < 2 ^ 36
   decided true next e = subst (λ n. n < 2 ^ 36) (sym e) was
@@ -117,7 +117,7 @@ module _ (found : ℕ) (call : Call) (small : found < 2 ^ 36) (was : call.loaded
   stays_small stage.Refused left = was
   stays_small stage.Ended left = was
 
--- an exchange is of two words
+-- both numbers of an exchange are below 2^36
 after_small : (a : Bool) (limit core : ℕ) (wish : ExWant) → IsTrue (word_admits a limit core wish) → core < 2 ^ 35 → word_after core wish < 2 ^ 35
 after_small a limit core want.Shared h small = let two = both_below core (2 ^ 33) (readers_of_word core) limit h in let low = two.0 in omega arith
 after_small a limit core want.Exclusive h small = omega arith

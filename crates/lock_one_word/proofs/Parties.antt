@@ -31,7 +31,7 @@ each_rests [] k p h = cc
 each_rests (v ∷ views) zero p h = sym (ap (λ (q : ParkView). q.park) (same_Some (resting v) p h))
 each_rests (v ∷ views) (suc k) p h = each_rests views k p h
 
--- where no party sleeps, what they owe does not matter
+-- while no party sleeps, the rule says nothing of what the parties owe
 pub keeps_resting : (limit word : ℕ) (views : List OneView) (id : ℕ) (you : ParkView) (v : OneView) → v.held ≡ you.held
     → Keeps (limits_in limit) word (slice_set (parties_in views) id you) → Keeps (limits_in limit) word (parties_in (slice_set views id v))
 keeps_resting limit word views id you v held was =
@@ -54,11 +54,11 @@ keeps_resting limit word views id you v held was =
     awake : (k : ℕ) (p : ParkView) (want : ExWant) → slice_get (parties_in (slice_set views id v)) k ≡ Some p → p.park ≡ Asleep want → ⊥
     awake k p want is asleep = let rests = each_rests (slice_set views id v) k p is in cc
 
--- nothing changes
+-- a seat that keeps its view changes no view
 pub same_views : (views : List OneView) (id : ℕ) (v : OneView) → get_elem? views id ≡ some v → slice_set views id v ≡ views
 same_views views id v at = set_again views id v at
 
--- one word leaves one party one hold
+-- the word and the other holds determine what a party holds
 
 same_flag : (a b : Bool) → bars_of a ≡ bars_of b → a ≡ b
 same_flag true true h = refl

@@ -1,4 +1,4 @@
--- Each action of a release leaves less of it to do.
+-- Each action of a release lowers its rank.
 use Rattle.std.proofs.Common.{◌≡◌, ℕ, ◌+◌, ◌-◌, ◌<◌, Bool, true, false, ◌==◌, nat_lt, if◌then◌else◌, refl, sym, ap, subst, ◌∙◌, arith, ltb-true}
 use Rattle.std.proofs.lemmas.Bool.{false≢true, true≢false}
 use Rattle.lock_base.specs.declared.machine.hold.Hold.{Hold}
@@ -63,7 +63,7 @@ smaller found call a before d v touches going =
     less found call call.stage (ap (λ (t : Task). t.2) going.tasked)
     (λ e. let is = subst (λ st. IsAt st call (placed v.held a) a) e going.at in true≢false (sym touches ∙ ap touches_lock is.1))
 
--- a release that makes no more action on the lock has ended
+-- a release whose next action is none on the lock has ended
 pub has_ended : (call : Call) (a : Action) (before : Hold) (d : Down) (v : OneView) → touches_lock a ≡ false → IsGoing (call, a) before (to_release d) v → a ≡ action.End true
 has_ended call a before d v off going = by call.stage (ap (λ (t : Task). t.2) going.tasked) going.at
   where

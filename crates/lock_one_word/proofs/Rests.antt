@@ -1,4 +1,4 @@
--- The actions of a call that are no steps on the word, and its end.
+-- What a party holds after a pause, a sleep or a wake-up, at the first action of a call, and at its end.
 use Rattle.std.proofs.Common.{◌≡◌, ℕ, ◌^◌, ◌<◌, arith, Bool, true, false, if◌then◌else◌, IsTrue, refl, sym, ap, subst, ◌∙◌}
 use Rattle.std.proofs.lemmas.Bool.{false≢true, true≢false}
 use Rattle.lock_base.specs.declared.machine.hold.Hold.{Hold}
@@ -30,7 +30,7 @@ use Rattle.lock_one_word.proofs.Tasks.{keeps_task, is_on}
 abbrev IsOn : Progress → Hold → Hold → Type 0
 IsOn next before held = IsAt next.0.stage next.0 (placed held next.1) next.1 × (held ≡ hold_at next.0.stage next.0 before)
 
--- after a pause, a sleep or a wake-up
+-- a pause, a sleep or a wake-up leaves what the party holds
 after : (st : Stage) (call : Call) (held before : Hold) (a : Action) (found : ℕ) → IsAt st call (placed held a) a → held ≡ hold_at st call before
     → on_word a ≡ false → ends a ≡ false → IsOn (next_at st found call) before held
 after stage.Look call held before a found is h off on = absurd (true≢false (sym (ap on_word is.1) ∙ off))
@@ -83,7 +83,7 @@ not_over stage.Acquired call v a is on = absurd (true≢false (sym (ap ends is.1
 not_over stage.Refused call v a is on = absurd (true≢false (sym (ap ends is.1) ∙ on))
 not_over stage.Ended call v a is on = absurd (true≢false (sym (ap ends is.1) ∙ on))
 
--- an action that is no step on the word leaves what the party holds
+-- a call goes on after an action that is no step on the word
 pub rests : (call : Call) (a : Action) (before : Hold) (task : Task) (v : OneView) (found : ℕ) → on_word a ≡ false → ends a ≡ false
     → IsGoing (call, a) before task v → IsGoing (next_of found call) before task v
 rests call a before task v found off on going =
@@ -130,7 +130,7 @@ rests call a before task v found off on going =
     same_loaded stage.Refused off is = going.loaded
     same_loaded stage.Ended off is = going.loaded
 
--- the first action of a call
+-- a call at its first action
 
 pub acquiring_first : (readers : ℕ) (wish : ExWant) (blocks announces : Bool) (v : OneView) → readers ≡ v.readers → IsTrue (is_awaited wish)
     → IsTrue (hold_has v.held (step_of_want wish)) → v.held.announced ≡ false
@@ -177,7 +177,7 @@ releasing_first readers d v lock has = by (removes_reader readers d)
     by true = record { lock = lock; at = (has, (refl, refl), refl); held = refl; loaded = omega arith; tasked = refl }
     by false = record { lock = lock; at = (has, (refl, refl), refl); held = refl; loaded = alone_small d; tasked = refl }
 
--- the end of a call
+-- what a party holds at the end of its call
 
 pub refused_end : (call : Call) (before : Hold) (task : Task) (v : OneView) → before.announced ≡ false → IsGoing (call, action.End false) before task v → v.held ≡ before
 refused_end call before task v clean going = answers_tell.refused_holds_as_before call (placed v.held (action.End false)) before clean going.at going.held

@@ -32,7 +32,7 @@ use Rattle.lock_one_word.specs.Plays.{Agrees, Loads, Exchanges, Subtracts, down_
 use Rattle.lock_one_word.proofs.Parties.{party_at, keeps_resting, same_views}
 use Rattle.lock_one_word.proofs.Agree.{law, agrees}
 
--- a step of the seat at id that leaves this stored word and this view
+-- the rule after a step of the seat at id, which leaves this stored word and this view
 left : (limit id raw : ℕ) (s : Table) (v : OneView) → IsKept limit s → v.readers ≡ limit → raw < 2 ^ 36
     → Keeps (limits_in limit) (word_of_stored raw) (parties_in (slice_set s.views id v))
     → IsKept limit record { words = slice_set s.words 0 raw; homes = s.homes; views = slice_set s.views id v }
@@ -54,7 +54,7 @@ left limit id raw s v kept readers small rule =
 word_small : (limit : ℕ) (s : Table) → IsKept limit s → word_of_stored (stored_in s) < 2 ^ 36
 word_small limit s kept = kept.keeps.small
 
--- what the word says of all holds
+-- what the word tells a party of all holds
 told : (limit id : ℕ) (s : Table) (v : OneView) → IsKept limit s → get_elem? s.views id ≡ some v
     → WordShows limit (core_of (word_of_stored (stored_in s))) v.held
 told limit id s v kept at =
@@ -62,7 +62,7 @@ told limit id s v kept at =
     shows limit (core_of (word_of_stored (stored_in s))) (parties_of (parties_in s.views)) id (party_of (resting v)) kept.range
     (rule_of limit (core_of (word_of_stored (stored_in s))) (parties_in s.views) kp.coded kp.legal) (party_in (parties_in s.views) id (resting v) (party_at s.views id v at))
 
--- a load changes nothing, so that any call of the party that asks for it goes on
+-- a load changes nothing, and each call of the party that asks for it goes on
 pub loaded : (limit id : ℕ) (s : Table) (me : Self) → IsKept limit s → get_elem? s.views id ≡ some me.0 → Agrees action.Load me (stored_in s) me
 loaded limit id s me kept at = (
   refl,
@@ -82,7 +82,7 @@ loaded limit id s me kept at = (
         same a b e = cc
     again (q ∷ ps) (suc k) p h = ap (λ xs. q ∷ xs) (again ps k p h)
 
--- the step of this call leaves the stored word raw
+-- the step of this call leaves the stored word `raw`, and the rule holds
 steps_to : (limit slots id raw : ℕ) (s : Table) (me : Self) (call : Call) (before : Hold) (task : Task) (a : Action) → IsKept limit s → get_elem? s.views id ≡ some me.0
     → is_step call.stage ≡ true → IsGoing (call, a) before task me.0 → raw < 2 ^ 36 → word_of_stored raw ≡ made a (word_of_stored (stored_in s))
     → (w : OneView) × (b : Act (Unit {0})) × Valid s.homes me.1 b × IsKept limit (stepped s 0 raw id me.1 w b)
@@ -125,7 +125,7 @@ loads limit slots id me s kept same at small = (
   (refl, kept.small, subst (λ n. WordShows n (core_of (word_of_stored (stored_in s))) me.0.held) (sym (kept.known id me.0 at)) (told limit id s me.0 kept at), loaded limit id s me kept at),
 )
 
--- the exchange of a word for another one, as a lock stores them
+-- an exchange, on the stored words
 pub exchanges : (limit slots id : ℕ) (me : Self) (call : Call) (before : Hold) (task : Task) (old new : ℕ) → is_step call.stage ≡ true
     → IsGoing (call, action.Exchange old new) before task me.0 → old < 2 ^ 36 → new < 2 ^ 36
     → Allows (IsKept limit) slots id me 0 (λ n. either (eqb n (stored_of old)) (stored_of new) n) (Exchanges (step slots 0 (stored_of old) (stored_of new) none) me)
@@ -154,7 +154,7 @@ exchanges limit slots id me call before task old new stepping going old_small ne
     found : (a b : ℕ) → (a == b) ≡ true → a ≡ b
     found a b e = grind arith
 
--- what a release subtracts from the stored word is what it subtracts from the word
+-- the subtraction on the stored word is the one on the word
 less : (limit id raw : ℕ) (s : Table) (v : OneView) (d : Down) → IsKept limit s → get_elem? s.views id ≡ some v → IsTrue (hold_has v.held (step_of_down d))
     → raw ≡ (stored_in s + (2 ^ 64 - stored_amount (2 ^ 64) d)) % 2 ^ 64
     → (word_of_stored raw ≡ word_of_stored (stored_in s) - amount d) × (raw < 2 ^ 36)
@@ -191,8 +191,7 @@ subtracts limit slots id me call before task d stepping going has s kept same at
     (sym (same_down d))
     (steps_to limit slots id ((raw + (2 ^ 64 - stored_amount (2 ^ 64) d)) % 2 ^ 64) s me call before task (action.Subtract d) kept at stepping going is.1 is.0)
 
--- a new seat, whose first look is a load
-
+-- a new seat begins with a load
 one_more : (limit : ℕ) (s : Table) → IsKept limit s → IsKept limit record { words = s.words; homes = s.homes; views = s.views ++ newcomer limit ∷ [] }
 one_more limit s kept =
     record {
@@ -220,7 +219,7 @@ enters limit slots s kept same small =
       (refl, kept.small, told limit (length s.views) longer (newcomer limit) more at, loaded limit (length s.views) longer me more at),
     )
 
--- the numbers as a function returned them
+-- the same, of numbers that equal these
 pub exchanges_as : (limit slots id : ℕ) (me : Self) (call : Call) (before : Hold) (task : Task) (old new first second : ℕ) → is_step call.stage ≡ true
     → IsGoing (call, action.Exchange old new) before task me.0 → old < 2 ^ 36 → new < 2 ^ 36 → first ≡ stored_of old → second ≡ stored_of new
     → Allows (IsKept limit) slots id me 0 (λ n. either (eqb n first) second n) (Exchanges (step slots 0 first second none) me)

@@ -1,4 +1,4 @@
--- What a token owns names no thread.
+-- A token may be sent to another thread, since its seat may.
 use denote.Builtin.{unit}
 use denote.Param.Send.{IsSend, sendable, owning_send}
 use Rattle.atomic_table.proofs.shared.Seat.TheSendSync as seat

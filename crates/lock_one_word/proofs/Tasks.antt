@@ -18,8 +18,8 @@ task p = task_of p.0
 abbrev acquires : Call → Task
 acquires call = (call.want, call.down, false)
 
-abbrev gives : Call → Task
-gives call = (call.want, call.down, true)
+abbrev released_by : Call → Task
+released_by call = (call.want, call.down, true)
 
 waits : (call : Call) → task (mark_or_sleep call) ≡ acquires call
 waits call = by (word_marked call == call.loaded)
@@ -28,8 +28,8 @@ waits call = by (word_marked call == call.loaded)
     by true = refl
     by false = refl
 
-gives_up : (call : Call) → task (time_out call) ≡ acquires call
-gives_up call = by call.announced (wakes_one call && (call.slept && nat_lt call.loaded sleepers))
+times_out : (call : Call) → task (time_out call) ≡ acquires call
+times_out call = by call.announced (wakes_one call && (call.slept && nat_lt call.loaded sleepers))
   where
     by : (b c : Bool) → task (if b then goes_to (record call { left = core_of call.loaded - 2 ^ 34 }) stage.Withdraw (action.Exchange call.loaded (core_of call.loaded - 2 ^ 34))
         else if c then goes_to (record call { left = call.loaded + sleepers }) stage.Leave (action.Exchange call.loaded (call.loaded + sleepers)) else refused call) ≡ acquires call
@@ -43,7 +43,7 @@ rests call = by call.blocks call.late (nat_lt call.pauses 6)
     by : (b c d : Bool) → task (if not b then refused call else if c then time_out call
         else if d then goes_to (record call { pauses = call.pauses + 1 }) stage.Pause (action.Spin (if nat_lt call.pauses 3 then call.pauses + 6 else 9)) else mark_or_sleep call) ≡ acquires call
     by false c d = refl
-    by true true d = gives_up call
+    by true true d = times_out call
     by true false true = refl
     by true false false = waits call
 
@@ -54,7 +54,7 @@ decides word call = by (word_admits call.announced call.readers (core_of word) c
     by true = refl
     by false = rests (record call { loaded = word })
 
-wakes_up : (d : Debt) (call : Call) → task (wakes d call) ≡ gives call
+wakes_up : (d : Debt) (call : Call) → task (wakes d call) ≡ released_by call
 wakes_up debt.Nothing call = refl
 wakes_up debt.One call = refl
 wakes_up debt.All call = refl
@@ -67,7 +67,7 @@ withdraws call = by (has_sleepers call.loaded)
     by true = refl
     by false = refl
 
--- a call that has not ended
+-- the stages before the end of a call
 abbrev pub is_on : Stage → Bool
 is_on stage.Acquired = false
 is_on stage.Refused = false
@@ -96,15 +96,15 @@ module _ (found : ℕ) (call : Call) where
   either true next e = e
   either false next e = decides found call
 
-  again : (b : Bool) → task (if b then release_on found (record call { pauses = call.pauses + 1 }) else subtract call) ≡ gives call
+  again : (b : Bool) → task (if b then release_on found (record call { pauses = call.pauses + 1 }) else subtract call) ≡ released_by call
   again true = refl
   again false = refl
 
-  releasing : (b : Bool) → task (if b then wakes (release_of call.readers call.loaded call.down).1 call else release_again found call) ≡ gives call
+  releasing : (b : Bool) → task (if b then wakes (release_of call.readers call.loaded call.down).1 call else release_again found call) ≡ released_by call
   releasing true = wakes_up (release_of call.readers call.loaded call.down).1 call
   releasing false = again (nat_lt call.pauses 8)
 
-  looking : (b : Bool) → task (if b then release_on found call else subtract call) ≡ gives call
+  looking : (b : Bool) → task (if b then release_on found call else subtract call) ≡ released_by call
   looking true = refl
   looking false = refl
 

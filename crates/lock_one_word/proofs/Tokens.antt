@@ -1,4 +1,4 @@
--- A token of each mode is won by one exchange, and released by one take.
+-- One exchange acquires a token of each mode, and one take releases it.
 use Rattle.std.proofs.Common.{◌≡◌, IsTrue, refl}
 use Rattle.lock_base.specs.declared.machine.mode.Mode.{Mode}
 use Rattle.lock_base.specs.declared.machine.mode.Mode.TheVariants.{Shared, Exclusive, Upgradable}

@@ -1,4 +1,4 @@
--- A try exchanges until it has ended.
+-- After its load, a try makes exchanges until it ends.
 use Rattle.std.proofs.Common.{◌≡◌, ℕ, Bool, true, false, ◌==◌, if◌then◌else◌, inl, inr, IsTrue, refl, sym, ap, subst, ◌∙◌}
 use Rattle.std.proofs.lemmas.Bool.{false≢true, true≢false}
 use Rattle.lock_base.specs.declared.machine.hold.Hold.{Hold}
@@ -34,7 +34,7 @@ try_tries found call never = by (found == call.loaded)
     by true = record { tries = never; stage = inr (inl refl) }
     by false = decide_tries found call never
 
--- the look of a try
+-- a try after its load
 pub looks : (found : ℕ) (call : Call) → call.blocks ≡ false → call.stage ≡ stage.Look → IsTrying (next_of found call)
 looks found call never at = subst (λ st. IsTrying (next_at st found call)) (sym at) (decide_tries found call never)
 
@@ -49,7 +49,7 @@ at_try call a v before task on going trying =
           ]
     ]
 
--- and its exchange
+-- a try after an exchange
 pub tries_again : (found old new : ℕ) (call : Call) (v : OneView) (before : Hold) (task : Task) → IsGoing (call, action.Exchange old new) before task v
     → IsTrying (call, action.Exchange old new) → IsTrying (next_of found call)
 tries_again found old new call v before task going trying =
@@ -59,7 +59,7 @@ pub steps_try : (old new : ℕ) (call : Call) (v : OneView) (before : Hold) (tas
     → IsTrying (call, action.Exchange old new) → is_step call.stage ≡ true
 steps_try old new call v before task going trying = ap is_step (at_try call (action.Exchange old new) v before task refl going trying)
 
--- it asks for nothing else
+-- a try asks for an exchange, or ends
 abbrev pub is_tried : Action → Bool
 is_tried (action.Exchange x y) = true
 is_tried (action.End b) = true
@@ -76,7 +76,7 @@ only_tries call a v before task going trying =
           ]
     ]
 
--- what a try that has not acquired leaves: nothing has changed
+-- a try that has not acquired has changed nothing
 pub leaves_all : (call : Call) (a : Action) (v : OneView) (before : Hold) (task : Task) → before.announced ≡ false → IsGoing (call, a) before task v → IsTrying (call, a)
     → says_yes a ≡ false → v.held ≡ before
 leaves_all call a v before task clean going trying off =

@@ -17,11 +17,11 @@ pub record TokenView : Type 0 where
   pub lock : WordLockView
   pub held : Hold
 
--- the token of a seat, by its table and its view
+-- the view of the token that this seat becomes
 abbrev pub token_of : TableId → Me (Unit {0}) OneView → TokenView
 token_of table me = record { lock = record { id = table; readers = me.0.readers }; held = me.0.held }
 
--- the seat may be a token: it has no slot
+-- a seat may become a token: it owns no slot
 abbrev pub IsTokenSeat : Me (Unit {0}) OneView → Type 0
 IsTokenSeat me = me.1 ≡ []
 

@@ -23,20 +23,20 @@ touches_lock WakeAll = true
 touches_lock WakeNext = true
 touches_lock other = false
 
--- the party is to make the action
+-- the party is in a call whose next action is this one
 abbrev pub CanGo : Progress → Self → Type 0
 CanGo next me = (before : Hold) × (task : Task) × IsGoing next before task me.0
 
--- the action is made: the call goes on with what it found
+-- the call goes on with what its action found
 abbrev pub GoesOn : Call → Action → Self → ℕ → Self → Type 0
 GoesOn call a me found after =
     (before : Hold) (task : Task) → IsGoing (call, a) before task me.0 → IsGoing (next_of found call) before task after.0
 
--- after any number of actions
+-- the call has come from the first of these actions to the last
 abbrev pub LeadsTo : Progress → Self → Progress → Self → Type 0
 LeadsTo first me last after = (before : Hold) (task : Task) → IsGoing first before task me.0 → IsGoing last before task after.0
 
--- a try that has looked: it exchanges, or it has ended
+-- a try after its load: it asks for an exchange, or has ended
 pub record IsTrying (next : Progress) : Type 0 where
   pub tries : next.0.blocks ≡ false
   pub stage : (next.0.stage ≡ stage.Try) ⊎ ((next.0.stage ≡ stage.Acquired) ⊎ (next.0.stage ≡ stage.Refused))
@@ -45,13 +45,13 @@ abbrev pub says_yes : Action → Bool
 says_yes (End b) = b
 says_yes other = false
 
--- a try has acquired, or nothing has changed
+-- the try has acquired, or it has changed nothing
 abbrev pub Tried : Call → Action → Bool → Self → Self → Type 0
 Tried call first acquired me after =
     (before : Hold) (wish : ExWant) → before.announced ≡ false → IsTrue (is_awaited wish) → IsGoing (call, first) before (to_acquire wish) me.0
     → after.0.held ≡ (if acquired then hold_after before (step_of_want wish) else before)
 
--- how much of a release is left: its exchanges, its subtraction and its wake-up
+-- how many actions of a release are left at most: its load, exchanges, subtraction and wake-up
 abbrev pub rank_at : Stage → ℕ → ℕ
 rank_at stage.LookToRemove failed = 12
 rank_at stage.Release failed = 3 + (8 - failed)

@@ -13,7 +13,7 @@ use Rattle.lock_one.specs.Steps.{is_step}
 use Rattle.lock_one.specs.Stored.{word_of_stored}
 use Rattle.lock_one_word.specs.Seats.{Self, Task, IsGoing}
 
--- the machine makes the same step: whatever call of the party asks for this action, it goes on with what the step found
+-- each call of the party that asks for this action goes on with what the step found, as the machine does
 abbrev pub Agrees : Action → Self → ℕ → Self → Type 0
 Agrees a me found after =
     (after.1 ≡ me.1) × (after.0.readers ≡ me.0.readers)
@@ -35,7 +35,7 @@ down_of_amount n =
 abbrev pub Subtracts : Step (Unit {0}) → Self → ℕ → Self → Type 0
 Subtracts s me found after = Agrees (Subtract (down_of_amount s.first)) me found after
 
--- the same, of the word that was found
+-- the same, of the word in place of the stored number
 abbrev pub Goes : Action → Self → ℕ → Self → Type 0
 Goes a me word after =
     (call : Call) (before : Hold) (task : Task) → is_step call.stage ≡ true → IsGoing (call, a) before task me.0 → IsGoing (next_of word call) before task after.0

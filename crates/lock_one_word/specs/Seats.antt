@@ -36,14 +36,14 @@ parties_in views = map resting views
 abbrev pub Table : Type 0
 Table = State (Unit {0}) OneView
 
--- a seat's view, and the slots that it holds: none
+-- a seat: its view, and its slots, of which it has none
 abbrev pub Self : Type 0
 Self = Me (Unit {0}) OneView
 
 abbrev pub stored_in : Table → ℕ
 stored_in s = slice_index s.words 0
 
--- the rule of the table, with the limit that each party knows
+-- the rule of the table, for the limit that each view repeats
 pub record IsKept (limit : ℕ) (s : Table) : Type 0 where
   pub one_word : length s.words ≡ 1
   pub small : stored_in s < 2 ^ 36
@@ -51,11 +51,11 @@ pub record IsKept (limit : ℕ) (s : Table) : Type 0 where
   pub known : (k : ℕ) (v : OneView) → get_elem? s.views k ≡ some v → v.readers ≡ limit
   pub keeps : Keeps (limits_in limit) (word_of_stored (stored_in s)) (parties_in s.views)
 
--- a party that is to make this action, awake, and owes what the action pays
+-- an awake party with this hold, which owes the wake-up that the action makes
 abbrev pub placed : Hold → Action → ParkView
 placed held a = record { held = held; park = Awake; debt = debt_at a }
 
--- a call that releases, from its first step on
+-- the stages of a call that releases
 abbrev pub releases : Stage → Bool
 releases stage.LookToRemove = true
 releases stage.Subtract = true
@@ -77,7 +77,7 @@ to_acquire wish = (wish, down.Shared, false)
 abbrev pub to_release : Down → Task
 to_release d = (want.Shared, d, true)
 
--- the party's call with this task is to make its next action, and the party held this when the call began
+-- the party is in a call with this task and this next action, and held `before` when the call began
 pub record IsGoing (next : Progress) (before : Hold) (task : Task) (v : OneView) : Type 0 where
   pub lock : next.0.readers ≡ v.readers
   pub at : IsAt next.0.stage next.0 (placed v.held next.1) next.1

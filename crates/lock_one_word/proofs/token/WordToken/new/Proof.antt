@@ -1,4 +1,4 @@
--- The seat goes into the struct.
+-- The struct owns the seat.
 use Rattle.atomic_table.proofs.Names.{◌≡◌, [], ◌∷◌, ◌++◌, refl, List, Val, vstruct, vcons, vnil, of_list, emp, ftrue, fsep, ‵, raw, ◌⊛◌, ◌$◌, ◌∵◌, !, qed, by, move, keep, split, fjoin, fpack, feq_i, use0, of_opd, no_more, and_then, returns, enter, alloc_all, pass_all, free_all, look_at, get, sets, agg, tables, yes, owns, Valss, types_at, plain, nothing, heard, alive, Stays, stay_dropped, walk_of, Goes-dropped, fact, fact_i}
 use Rattle.atomic_table.proofs.Walks.{proved, leaves}
 use Rattle.atomic_table.proofs.Fields.{token_val, token_told}
