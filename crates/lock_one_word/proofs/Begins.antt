@@ -1,6 +1,7 @@
 -- The first load of a call, and what its token holds at the end.
 use Rattle.std.proofs.Common.{◌≡◌, ℕ, Bool, true, false, IsTrue, refl, sym, ap, subst, ◌∙◌}
 use Rattle.atomic_table.specs.Seated.{TableId}
+use Rattle.lock_base.specs.declared.machine.hold.Hold.{Hold}
 use Rattle.lock_base.specs.declared.machine.mode.Mode.{Mode}
 use Rattle.lock_base.specs.declared.machine.mode.Mode.TheVariants.{Exclusive, Upgradable}
 use Rattle.lock_base.specs.Holds.{no_hold, hold_has}
@@ -12,7 +13,7 @@ use Rattle.lock_one.specs.declared.action.Action.TheVariants.{Load, End}
 use Rattle.lock_one.specs.declared.call.Call.{Call}
 use Rattle.lock_one.specs.Machine.{Progress, acquiring, next_of}
 use Rattle.lock_one_word.specs.declared.rule.OneView.{OneView}
-use Rattle.lock_one_word.specs.Calls.{WordLockView, TokenView, token_of, one_hold}
+use Rattle.lock_one_word.specs.Calls.{WordLockView, TokenView, IsTokenOf, token_of, one_hold}
 use Rattle.lock_one_word.specs.Drives.{IsTrying}
 use Rattle.lock_one_word.specs.Plays.{Goes}
 use Rattle.lock_one_word.specs.Seats.{Self, to_acquire, IsGoing}
@@ -47,6 +48,15 @@ upgraded_holds call v going = acquired_end call (one_hold Upgradable) want.Upgra
 pub still_holds : (call : Call) (v : OneView) → IsGoing (call, End false) (one_hold Upgradable) (to_acquire want.Upgrade) v → v.held ≡ one_hold Upgradable
 still_holds call v going = refused_end call (one_hold Upgradable) (to_acquire want.Upgrade) v refl going
 
--- the answer to a load serves the view after the load, which is the view before
-pub looked : (found : ℕ) (me after : Self) → after ≡ me → Goes Load me found after → Goes Load after found after
-looked found me after same goes = subst (λ (m : Self). Goes Load m found after) (sym same) goes
+-- an upgrade at its first action
+pub first_upgrade : (lock : WordLockView) (token : TokenView) (table : TableId) (me : Self) (readers : ℕ) (blocks : Bool) (begun : Progress) → readers ≡ lock.readers
+    → IsTokenOf lock Upgradable token → token ≡ token_of table me → begun ≡ acquiring readers want.Upgrade blocks true
+    → IsGoing begun (one_hold Upgradable) (to_acquire want.Upgrade) me.0
+first_upgrade lock token table me readers blocks begun same own seated is =
+    let mine = sym seated ∙ own in
+    let holds = ap (λ (t : TokenView). t.held) mine in
+    let here : readers ≡ me.0.readers = same ∙ sym (ap (λ (t : TokenView). t.lock.readers) mine) in
+    let has = subst (λ h. IsTrue (hold_has h (step_of_want want.Upgrade))) (sym holds) refl in
+    subst (λ h. IsGoing begun h (to_acquire want.Upgrade) me.0) holds
+    (subst (λ p. IsGoing p me.0.held (to_acquire want.Upgrade) me.0) (sym is)
+    (acquiring_first readers want.Upgrade blocks true me.0 here refl has (ap (λ (h : Hold). h.announced) holds)))

@@ -7,6 +7,7 @@ pub mod TryEnds
 pub mod Ranks
 pub mod Tokens
 pub mod Begins
+pub mod Passing
 pub mod Seats
 pub mod Own
 pub mod Sent

@@ -14,7 +14,7 @@ use Rattle.lock_one.specs.Machine.{core_of, after_try, decide, wait, acquired, g
 use Rattle.lock_one.specs.Steps.{ends, IsAt, is_step, hold_at}
 use Rattle.lock_one_word.specs.declared.rule.OneView.{OneView}
 use Rattle.lock_one_word.specs.Seats.{placed, Task, to_acquire, IsGoing}
-use Rattle.lock_one_word.specs.Drives.{IsTrying, says_yes}
+use Rattle.lock_one_word.specs.Drives.{MayEnd, IsTrying, says_yes}
 use Rattle.lock_one_word.proofs.Rests.{acquired_end, refused_end}
 
 rest_tries : (call : Call) → call.blocks ≡ false → IsTrying (wait call)
@@ -113,3 +113,15 @@ pub tried : (call : Call) (a : Action) (v : OneView) (before : Hold) (wish : ExW
 tried call a v before wish clean awaited going trying true e =
     acquired_end call before wish v clean awaited (subst (λ (x : Action). IsGoing (call, x) before (to_acquire wish) v) (yes_ends a (sym e)) going)
 tried call a v before wish clean awaited going trying false e = leaves_all call a v before (to_acquire wish) clean going trying (sym e)
+
+-- a try may stop at any time
+pub may_end : (call : Call) (a : Action) (v : OneView) (before : Hold) (task : Task) → IsGoing (call, a) before task v → IsTrying (call, a) → MayEnd (call, a)
+may_end call a v before task going trying =
+    elim trying.stage [
+      | inl tries ↦ inr tries
+      | inr over ↦
+          elim over [
+            | inl acquired ↦ (let is = subst (λ st. IsAt st call (placed v.held a) a) acquired going.at in inl (ap ends is.1))
+            | inr refused ↦ (let is = subst (λ st. IsAt st call (placed v.held a) a) refused going.at in inl (ap ends is.1))
+          ]
+    ]

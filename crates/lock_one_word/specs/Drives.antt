@@ -11,6 +11,8 @@ use Rattle.lock_one.specs.declared.call.Call.{Call}
 use Rattle.lock_one.specs.declared.stage.Stage.{Stage}
 use Rattle.lock_one.specs.declared.stage.Stage.TheVariants as stage
 use Rattle.lock_one.specs.Machine.{Progress, next_of}
+use Rattle.lock_one.specs.Steps.{ends}
+use Rattle.lock_one_word.specs.declared.pending.Pending.{Pending}
 use Rattle.lock_one_word.specs.Seats.{Self, Task, to_acquire, IsGoing}
 
 -- an action on the word, or a wake-up by its address
@@ -27,14 +29,27 @@ touches_lock other = false
 abbrev pub CanGo : Progress → Self → Type 0
 CanGo next me = (before : Hold) × (task : Task) × IsGoing next before task me.0
 
--- the call goes on with what its action found
-abbrev pub GoesOn : Call → Action → Self → ℕ → Self → Type 0
-GoesOn call a me found after =
-    (before : Hold) (task : Task) → IsGoing (call, a) before task me.0 → IsGoing (next_of found call) before task after.0
+-- a call, and its next action
+abbrev pub at : Pending → Progress
+at p = (p.call, p.action)
+
+-- the call asks for its end, or it is a try before its exchange
+abbrev pub MayEnd : Progress → Type 0
+MayEnd next = (ends next.1 ≡ true) ⊎ (next.0.stage ≡ stage.Try)
+
+-- the action is made, and the call goes on with what it found
+abbrev pub GoesOn : Pending → Self → Pending → Self → Type 0
+GoesOn p me q after =
+    ((found : ℕ) × (at q ≡ next_of found p.call)) × ((before : Hold) (task : Task) → IsGoing (at p) before task me.0 → IsGoing (at q) before task after.0)
 
 -- the call has come from the first of these actions to the last
 abbrev pub LeadsTo : Progress → Self → Progress → Self → Type 0
 LeadsTo first me last after = (before : Hold) (task : Task) → IsGoing first before task me.0 → IsGoing last before task after.0
+
+-- the call has ended with this answer
+abbrev pub EndsWith : Progress → Self → Bool → Self → Type 0
+EndsWith first me answer after =
+    (before : Hold) (task : Task) → IsGoing first before task me.0 → (call : Call) × IsGoing (call, End answer) before task after.0
 
 -- a try after its load: it asks for an exchange, or has ended
 pub record IsTrying (next : Progress) : Type 0 where
@@ -46,9 +61,9 @@ says_yes (End b) = b
 says_yes other = false
 
 -- the try has acquired, or it has changed nothing
-abbrev pub Tried : Call → Action → Bool → Self → Self → Type 0
-Tried call first acquired me after =
-    (before : Hold) (wish : ExWant) → before.announced ≡ false → IsTrue (is_awaited wish) → IsGoing (call, first) before (to_acquire wish) me.0
+abbrev pub Tried : Progress → Bool → Self → Self → Type 0
+Tried first acquired me after =
+    (before : Hold) (wish : ExWant) → before.announced ≡ false → IsTrue (is_awaited wish) → IsGoing first before (to_acquire wish) me.0
     → after.0.held ≡ (if acquired then hold_after before (step_of_want wish) else before)
 
 -- how many actions of a release are left at most: its load, exchanges, subtraction and wake-up

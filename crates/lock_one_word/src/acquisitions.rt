@@ -17,9 +17,8 @@ impl WordLock {
     pub fn try_acquire(&self, mode: Mode) -> Option<WordToken>
         ensures { IfSome result (IsTokenOf self.now mode) }
     {
-        let (answer, mut seat) = self.enter();
-        let (mut call, action) = self.start(&mut seat, answer, ExWant::of_mode(mode), false);
-        if self.attempt(&mut seat, &mut call, action) {
+        let (pending, mut seat) = self.enter(ExWant::of_mode(mode), false);
+        if self.attempt(&mut seat, pending) {
             return Some(WordToken::new(seat));
         }
         drop(seat);
@@ -62,13 +61,9 @@ impl WordLock {
     ) -> Option<WordToken>
         ensures { IfSome result (IsTokenOf self.now mode) }
     {
-        let (answer, mut seat) = self.enter();
-        let (mut call, action) = self.start(&mut seat, answer, ExWant::of_mode(mode), true);
-        let acquired = match action {
-            Action::End(answer) => answer,
-            _ => self.finish(rt, &mut seat, &mut call, action, until),
-        };
-        if acquired {
+        let (mut pending, mut seat) = self.enter(ExWant::of_mode(mode), true);
+        self.start(&mut seat, &mut pending);
+        if self.come_to_end(rt, &mut seat, pending, until) {
             return Some(WordToken::new(seat));
         }
         drop(seat);

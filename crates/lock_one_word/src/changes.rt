@@ -5,11 +5,12 @@ ghost use Rattle.lock_one.specs.Machine.{core_of};
 ghost use Rattle.lock_word.specs.Rule.{WordShows};
 ghost use Rattle.lock_one_word.specs.Calls.{IsTokenOf};
 
+use crate::pending::Pending;
 use crate::token::WordToken;
 use crate::until::{Deadline, Endless, Until};
 use crate::word_lock::WordLock;
 use lock_base::machine::Mode;
-use lock_one::{Action, SLEEPERS};
+use lock_one::SLEEPERS;
 use lock_word::{Down, ExWant};
 use std::sync::Wait;
 use std::time::{Clock, Instant};
@@ -22,7 +23,7 @@ impl WordLock {
         ensures shows { WordShows self.now.readers result.0 token.held }
     {
         let mut seat = token.into_seat();
-        let word = self.look(&mut seat).word();
+        let word = self.peek_by(&mut seat);
         (word % SLEEPERS, WordToken::new(seat))
     }
 
@@ -73,9 +74,9 @@ impl WordLock {
         ensures { MatchResult result (IsTokenOf self.now Exclusive) (λ back. back ≡ token) }
     {
         let mut seat = token.into_seat();
-        let answer = self.look(&mut seat);
-        let (mut call, action) = self.start(&mut seat, answer, ExWant::Upgrade, false);
-        let upgraded = self.attempt(&mut seat, &mut call, action);
+        let mut pending = Pending::acquire(self.readers, ExWant::Upgrade, false);
+        self.look(&mut seat, &mut pending);
+        let upgraded = self.attempt(&mut seat, pending);
         let token = WordToken::new(seat);
         if upgraded { Ok(token) } else { Err(token) }
     }
@@ -120,12 +121,10 @@ impl WordLock {
         ensures { MatchResult result (IsTokenOf self.now Exclusive) (λ back. back ≡ token) }
     {
         let mut seat = token.into_seat();
-        let answer = self.look(&mut seat);
-        let (mut call, action) = self.start(&mut seat, answer, ExWant::Upgrade, true);
-        let upgraded = match action {
-            Action::End(answer) => answer,
-            _ => self.finish(rt, &mut seat, &mut call, action, until),
-        };
+        let mut pending = Pending::acquire(self.readers, ExWant::Upgrade, true);
+        self.look(&mut seat, &mut pending);
+        self.start(&mut seat, &mut pending);
+        let upgraded = self.come_to_end(rt, &mut seat, pending, until);
         let token = WordToken::new(seat);
         if upgraded { Ok(token) } else { Err(token) }
     }

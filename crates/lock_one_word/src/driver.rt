@@ -1,67 +1,62 @@
 //! The driver of a call: it makes the actions that the machine asks for.
-ghost use Rattle.std.specs.Prelude.{◌≡◌, true, false, None, IfSome, IfOk, IfErr};
+ghost use Rattle.std.specs.Prelude.{◌≡◌, true, false, None, IfSome};
 ghost use Rattle.lock_one.specs.declared.action.Action.TheVariants.{End};
-ghost use Rattle.lock_one_word.specs.Drives.{CanGo, GoesOn, LeadsTo, touches_lock};
+ghost use Rattle.lock_one_word.specs.Drives.{at, CanGo, GoesOn, EndsWith, touches_lock};
 
-use crate::answer::Answer;
+use crate::pending::Pending;
 use crate::rule::OneView;
 use crate::until::Until;
 use crate::word_lock::WordLock;
 use atomic_table::Seat;
-use lock_one::{Action, Call};
+use lock_one::Action;
 use std::sync::Wait;
 
 impl WordLock {
-    /// Makes an action on the word or a wake-up. Returns `None` for a pause, a sleep or the end.
-    pub(crate) fn make_on_lock(
-        &self,
-        seat: &mut Seat<(), OneView>,
-        call: &Call,
-        action: Action,
-    ) -> Option<Answer>
+    /// Makes an action on the word or a wake-up. Returns false for a pause, a sleep or the end.
+    pub(crate) fn make_on_lock(&self, seat: &mut Seat<(), OneView>, pending: &mut Pending) -> bool
         requires table { seat.old.table_id ≡ self.now.id }
-        requires going { CanGo (call.now, action) seat.old.me }
+        requires going { CanGo (at pending.old) seat.old.me }
         ensures table { (seat.new.table_id ≡ seat.old.table_id) × (seat.new.me.1 ≡ seat.old.me.1) × (seat.new.me.0.readers ≡ seat.old.me.0.readers) }
-        ensures made { IfSome result (λ answer. (answer.made ≡ action) × (touches_lock action ≡ true) × GoesOn call.now action seat.old.me answer.found seat.new.me) }
-        ensures other { result ≡ None → (touches_lock action ≡ false) × (seat.new.me ≡ seat.old.me) }
+        ensures made { result ≡ true → (touches_lock pending.old.action ≡ true) × GoesOn pending.old seat.old.me pending.new seat.new.me }
+        ensures other { result ≡ false → (touches_lock pending.old.action ≡ false) × (seat.new.me ≡ seat.old.me) × (pending.new ≡ pending.old) }
     {
-        let answer = match action {
-            Action::Load => self.look(seat),
-            Action::Exchange(old, new) => self.exchange(seat, call, old, new),
-            Action::Subtract(down) => self.subtract(seat, call, down),
-            Action::WakeOne => self.wake_one(),
-            Action::WakeAll => self.wake_all(),
-            Action::WakeNext => self.wake_next(),
-            Action::Park(..) | Action::Spin(_) | Action::Yield | Action::End(_) => return None,
-        };
-        Some(answer)
+        match pending.action() {
+            Action::Load => self.look(seat, pending),
+            Action::Exchange(old, new) => self.exchange(seat, pending, old, new),
+            Action::Subtract(down) => self.subtract(seat, pending, down),
+            Action::WakeOne => self.wake_one(pending),
+            Action::WakeAll => self.wake_all(pending),
+            Action::WakeNext => self.wake_next(pending),
+            Action::Park(..) | Action::Spin(_) | Action::Yield | Action::End(_) => return false,
+        }
+        true
     }
 
-    /// Makes an action. Returns the answer of a call that ends.
+    /// Makes an action. Returns the answer of a call that asks for its end.
     fn make<R: Wait, U: Until<R>>(
         &self,
         rt: &R,
         seat: &mut Seat<(), OneView>,
-        call: &Call,
-        action: Action,
+        pending: &mut Pending,
         until: &U,
-    ) -> Result<Answer, bool>
+    ) -> Option<bool>
         requires table { seat.old.table_id ≡ self.now.id }
-        requires going { CanGo (call.now, action) seat.old.me }
+        requires going { CanGo (at pending.old) seat.old.me }
         ensures table { (seat.new.table_id ≡ seat.old.table_id) × (seat.new.me.1 ≡ seat.old.me.1) × (seat.new.me.0.readers ≡ seat.old.me.0.readers) }
-        ensures made { IfOk result (λ answer. (answer.made ≡ action) × GoesOn call.now action seat.old.me answer.found seat.new.me) }
-        ensures ended { IfErr result (λ answer. (action ≡ End answer) × (seat.new.me ≡ seat.old.me)) }
+        ensures made { result ≡ None → GoesOn pending.old seat.old.me pending.new seat.new.me }
+        ensures ended { IfSome result (λ answer. (pending.old.action ≡ End answer) × (seat.new.me ≡ seat.old.me) × (pending.new ≡ pending.old)) }
     {
-        if let Some(answer) = self.make_on_lock(seat, call, action) {
-            return Ok(answer);
+        if self.make_on_lock(seat, pending) {
+            return None;
         }
-        match action {
-            Action::Park(number, is_next) => Ok(self.park(rt, number, is_next, until)),
-            Action::Spin(times) => Ok(self.spin(times)),
-            Action::Yield => Ok(self.rest(rt, until)),
-            Action::End(answer) => Err(answer),
+        match pending.action() {
+            Action::Park(number, is_next) => self.park(rt, pending, number, is_next, until),
+            Action::Spin(times) => self.spin(pending, times),
+            Action::Yield => self.rest(rt, pending, until),
+            Action::End(answer) => return Some(answer),
             _ => unreachable!(),
         }
+        None
     }
 
     /// Makes the actions of a call up to its end, and returns its answer. Kept off the uncontended path.
@@ -71,22 +66,40 @@ impl WordLock {
         &self,
         rt: &R,
         seat: &mut Seat<(), OneView>,
-        call: &mut Call,
-        first: Action,
+        mut pending: Pending,
         until: &U,
     ) -> bool
         requires table { seat.old.table_id ≡ self.now.id }
-        requires going { CanGo (call.old, first) seat.old.me }
+        requires going { CanGo (at pending) seat.old.me }
         ensures table { (seat.new.table_id ≡ seat.old.table_id) × (seat.new.me.1 ≡ seat.old.me.1) × (seat.new.me.0.readers ≡ seat.old.me.0.readers) }
-        ensures ended { LeadsTo (call.old, first) seat.old.me (call.new, End result) seat.new.me }
+        ensures ended { EndsWith (at pending) seat.old.me result seat.new.me }
     {
-        let mut action = first;
         for _ in rt.forever() {
-            match self.make(rt, seat, call, action, until) {
-                Ok(answer) => action = answer.next(call),
-                Err(answer) => return answer,
+            if let Some(answer) = self.make(rt, seat, &mut pending, until) {
+                pending.end();
+                return answer;
             }
         }
         unreachable!()
+    }
+
+    /// Returns the answer of a call that has ended, or else finishes it.
+    pub(crate) fn come_to_end<R: Wait, U: Until<R>>(
+        &self,
+        rt: &R,
+        seat: &mut Seat<(), OneView>,
+        pending: Pending,
+        until: &U,
+    ) -> bool
+        requires table { seat.old.table_id ≡ self.now.id }
+        requires going { CanGo (at pending) seat.old.me }
+        ensures table { (seat.new.table_id ≡ seat.old.table_id) × (seat.new.me.1 ≡ seat.old.me.1) × (seat.new.me.0.readers ≡ seat.old.me.0.readers) }
+        ensures ended { EndsWith (at pending) seat.old.me result seat.new.me }
+    {
+        if let Action::End(answer) = pending.action() {
+            pending.end();
+            return answer;
+        }
+        self.finish(rt, seat, pending, until)
     }
 }

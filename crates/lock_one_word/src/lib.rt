@@ -2,10 +2,10 @@
 #![tactic(auto)]
 
 mod acquisitions;
-mod answer;
 mod changes;
 mod driver;
 mod laws;
+mod pending;
 mod plays;
 mod releases;
 mod rule;

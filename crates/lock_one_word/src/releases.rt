@@ -3,14 +3,14 @@ ghost use Rattle.std.specs.Prelude.{◌≡◌, IsTrue};
 ghost use Rattle.lock_base.specs.Holds.{hold_has, hold_after};
 ghost use Rattle.lock_word.specs.Word.{step_of_down};
 
+use crate::pending::Pending;
 use crate::rule::OneView;
 use crate::word_lock::WordLock;
 use atomic_table::Seat;
-use lock_one::Call;
 use lock_word::Down;
 
 impl WordLock {
-    /// Releases or downgrades. The step that does is the last access to the lock: a wake-up by its address follows at most.
+    /// Releases or downgrades. The step that does is the last access to the word: a wake-up by its address follows at most.
     pub(crate) fn take(&self, seat: &mut Seat<(), OneView>, down: Down)
         requires table { seat.old.table_id ≡ self.now.id }
         requires readers { seat.old.me.0.readers ≡ self.now.readers }
@@ -18,12 +18,8 @@ impl WordLock {
         ensures table { (seat.new.table_id ≡ seat.old.table_id) × (seat.new.me.1 ≡ seat.old.me.1) × (seat.new.me.0.readers ≡ seat.old.me.0.readers) }
         ensures held { seat.new.me.0.held ≡ hold_after seat.old.me.0.held (step_of_down down) }
     {
-        let (mut call, mut action) = Call::release(self.readers, down);
-        loop {
-            let Some(answer) = self.make_on_lock(seat, &call, action) else {
-                return;
-            };
-            action = answer.next(&mut call);
-        }
+        let mut pending = Pending::release(self.readers, down);
+        while self.make_on_lock(seat, &mut pending) {}
+        pending.end();
     }
 }

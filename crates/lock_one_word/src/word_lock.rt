@@ -2,6 +2,8 @@
 ghost use Rattle.std.specs.Prelude.{◌≡◌, ◌↔◌, IfOk, IfErr};
 ghost use Rattle.lock_base.specs.Limits.{IsLimit, IsMakerFault};
 
+mod steps;
+
 use crate::rule::{OneRule, OneView};
 use atomic_table::Table;
 use lock_base::raw::{Fault, is_limit};
@@ -16,7 +18,7 @@ use std::marker::Model;
 /// all sleepers that a release unblocks. After the step that releases, a release touches the lock no more: it may be gone.
 #[derive(Drop)]
 pub struct WordLock {
-    pub(crate) table: Table<(), OneView, u64, OneRule, Global>,
+    table: Table<(), OneView, u64, OneRule, Global>,
     pub(crate) readers: u64,
 }
 

@@ -1,32 +1,55 @@
-use Rattle.std.proofs.Common.{refl, sym, ap, subst, ◌∙◌, ◌<◌}
+use Rattle.std.proofs.Common.{◌<◌, true, refl, sym, ap, subst, ◌∙◌, inl}
+use Rattle.lock_one.specs.declared.action.Action.{Action}
 use Rattle.lock_one.specs.Machine.{Progress}
+use Rattle.lock_one.specs.Steps.{ends}
+use Rattle.lock_one_word.specs.declared.pending.Pending.{Pending}
 use Rattle.lock_one_word.specs.Calls.{WordLockView}
-use Rattle.lock_one_word.specs.Seats.{IsGoing, to_release}
-use Rattle.lock_one_word.specs.Drives.{rank}
-use Rattle.lock_one_word.proofs.Ranks.{smaller}
-use Rattle.lock_one_word.proofs.Rests.{releasing_first}
+use Rattle.lock_one_word.specs.Seats.{Self, IsGoing, to_release}
+use Rattle.lock_one_word.specs.Drives.{at, MayEnd, rank}
+use Rattle.lock_one_word.proofs.Ranks.{smaller, has_ended}
+use Rattle.lock_one_word.proofs.Rests.{releasing_first, released_end}
 use Rattle.lock_one_word.proofs.word_lock.WordLock.take.Goals as goal
 
-pub loop-answer-init : goal.loop-answer-init
-loop-answer-init c = (
+pub loop-init : goal.loop-init
+loop-init c = (
   refl,
   refl,
   refl,
-  subst (λ (p : Progress). IsGoing p c.args.seat.now.me.0.held (to_release c.args.down) c.args.seat.now.me.0) (sym c.release-action.ensures)
+  subst (λ (p : Progress). IsGoing p c.args.seat.now.me.0.held (to_release c.args.down) c.args.seat.now.me.0) (sym c.release-pending.ensures)
       (releasing_first c.self.inside.readers c.args.down c.args.seat.now.me.0 (ap (λ (l : WordLockView). l.readers) c.self.view_is ∙ sym c.requires.readers) c.requires.has),
 )
 
-pub loop-answer-smaller : goal.loop-answer-smaller
-loop-answer-smaller c =
-    subst (λ (p : Progress). rank p.0 < rank c.loop-answer.call) (sym c.next-action.ensures)
-    (smaller c.in-Some.answer.found c.loop-answer.call c.loop-answer.action c.args.seat.now.me.0.held c.args.down c.loop-answer.seat.me.0
-    c.in-Some.ensures.made.1 c.loop-answer.invariant.3)
+pub loop-smaller : goal.loop-smaller
+loop-smaller c =
+    let made = c.make_on_lock.ensures.made c.loop-test.true in
+    let turns = made.1.0 in
+    subst (λ (p : Progress). rank p.0 < rank c.loop.pending.call) (sym turns.1)
+    (smaller turns.0 c.loop.pending.call c.loop.pending.action c.args.seat.now.me.0.held c.args.down c.loop.seat.me.0 made.0 c.loop.invariant.3)
 
-pub loop-answer-preserved : goal.loop-answer-preserved
-loop-answer-preserved c = (
-  c.make_on_lock.ensures.table.0 ∙ c.loop-answer.invariant.0,
-  c.make_on_lock.ensures.table.1 ∙ c.loop-answer.invariant.1,
-  c.make_on_lock.ensures.table.2 ∙ c.loop-answer.invariant.2,
-  subst (λ (p : Progress). IsGoing p c.args.seat.now.me.0.held (to_release c.args.down) c.make_on_lock.new.seat.me.0) (sym c.next-action.ensures)
-      (c.in-Some.ensures.made.2 c.args.seat.now.me.0.held (to_release c.args.down) c.loop-answer.invariant.3),
-)
+pub loop-preserved : goal.loop-preserved
+loop-preserved c =
+    let made = c.make_on_lock.ensures.made c.loop-test.true in (
+      c.make_on_lock.ensures.table.0 ∙ c.loop.invariant.0,
+      c.make_on_lock.ensures.table.1 ∙ c.loop.invariant.1,
+      c.make_on_lock.ensures.table.2 ∙ c.loop.invariant.2,
+      made.1.1 c.args.seat.now.me.0.held (to_release c.args.down) c.loop.invariant.3,
+    )
+
+pub end-requires : goal.end-requires
+end-requires c =
+    let off = c.make_on_lock.ensures.other c.loop-test.false in
+    subst (λ (p : Pending). MayEnd (at p)) (sym off.2)
+    (inl (ap ends (has_ended c.loop.pending.call c.loop.pending.action c.args.seat.now.me.0.held c.args.down c.loop.seat.me.0 off.0 c.loop.invariant.3)))
+
+pub returns : goal.returns
+returns c =
+    let off = c.make_on_lock.ensures.other c.loop-test.false in
+    let is = has_ended c.loop.pending.call c.loop.pending.action c.args.seat.now.me.0.held c.args.down c.loop.seat.me.0 off.0 c.loop.invariant.3 in
+    let ended = subst (λ (a : Action). IsGoing (c.loop.pending.call, a) c.args.seat.now.me.0.held (to_release c.args.down) c.loop.seat.me.0) is c.loop.invariant.3 in record {
+      table = (
+        c.make_on_lock.ensures.table.0 ∙ c.loop.invariant.0,
+        c.make_on_lock.ensures.table.1 ∙ c.loop.invariant.1,
+        c.make_on_lock.ensures.table.2 ∙ c.loop.invariant.2,
+      );
+      held = ap (λ (m : Self). m.0.held) off.1 ∙ released_end c.loop.pending.call c.args.seat.now.me.0.held c.args.down true c.loop.seat.me.0 ended;
+    }

@@ -1,12 +1,12 @@
 use Rattle.std.proofs.Common.{◌≡◌}
+use Rattle.lock_one_word.specs.Drives.{at, rank}
 use Rattle.lock_one_word.specs.Seats.{IsGoing, to_release}
-use Rattle.lock_one_word.specs.Drives.{rank}
 use Rattle.lock_one_word.proofs.word_lock.WordLock.take.Given as goal
 
-abbrev pub invariant-loop-answer : goal.invariant-loop-answer
-invariant-loop-answer l =
+abbrev pub invariant-loop : goal.invariant-loop
+invariant-loop l =
     (l.seat.table_id ≡ l.initial.seat.table_id) × (l.seat.me.1 ≡ l.initial.seat.me.1) × (l.seat.me.0.readers ≡ l.initial.seat.me.0.readers)
-    × IsGoing (l.call, l.action) l.initial.seat.me.0.held (to_release l.fn.down) l.seat.me.0
+    × IsGoing (at l.pending) l.initial.seat.me.0.held (to_release l.fn.down) l.seat.me.0
 
-abbrev pub decreases-loop-answer : goal.decreases-loop-answer
-decreases-loop-answer l = rank l.call
+abbrev pub decreases-loop : goal.decreases-loop
+decreases-loop l = rank l.pending.call

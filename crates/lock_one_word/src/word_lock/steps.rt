@@ -1,0 +1,170 @@
+//! The actions of a call, made on the word. No other module reaches the table.
+ghost use Rattle.std.specs.Prelude.{◌≡◌, Bool, false, [], IsTrue, if◌then◌else◌};
+ghost use Rattle.lock_base.specs.Holds.{no_hold, hold_has};
+ghost use Rattle.lock_word.specs.Word.{step_of_want};
+ghost use Rattle.lock_word.specs.Rule.{WordShows};
+ghost use Rattle.lock_word.specs.Unblocking.{is_awaited};
+ghost use Rattle.lock_one.specs.declared.action.Action.TheVariants.{Load, Exchange, Subtract, Park, WakeOne, WakeAll, WakeNext, Spin, Yield};
+ghost use Rattle.lock_one.specs.Machine.{core_of, next_of};
+ghost use Rattle.lock_one_word.specs.Seats.{IsGoing, to_acquire};
+ghost use Rattle.lock_one_word.specs.Drives.{at, CanGo, GoesOn, IsTrying};
+
+use crate::pending::Pending;
+use crate::plays::{ExchangeWord, LoadWord, SubtractFromWord};
+use crate::rule::OneView;
+use crate::until::{Left, Until};
+use crate::word_lock::WordLock;
+use atomic_table::Seat;
+use lock_one::{from_stored, stored_amount, to_stored};
+use lock_word::{Down, ExWant};
+use std::hint::spin_loop;
+use std::sync::Wait;
+use std::thread;
+
+impl WordLock {
+    /// Begins a call of a new seat, by its load.
+    pub(crate) fn enter(&self, want: ExWant, blocks: bool) -> (Pending, Seat<(), OneView>)
+        requires awaited { IsTrue (is_awaited want) }
+        requires has { IsTrue (hold_has no_hold (step_of_want want)) }
+        ensures table { (result.1.table_id ≡ self.now.id) × (result.1.me.1 ≡ []) × (result.1.me.0.readers ≡ self.now.readers) × (result.1.me.0.held ≡ no_hold) }
+        ensures going { IsGoing (at result.0) no_hold (to_acquire want) result.1.me.0 }
+        ensures tries { blocks ≡ false → IsTrying (at result.0) }
+    {
+        let mut pending = Pending::acquire(self.readers, want, blocks);
+        let (stored, seat) = self.table.shared.load_new_seat::<LoadWord>(0);
+        pending.go_on(from_stored(stored));
+        (pending, seat)
+    }
+
+    /// Loads the word, in no call.
+    pub(crate) fn peek_by(&self, seat: &mut Seat<(), OneView>) -> u64
+        requires { seat.old.table_id ≡ self.now.id }
+        ensures same { (seat.new.table_id ≡ seat.old.table_id) × (seat.new.me ≡ seat.old.me) }
+        ensures shows { WordShows seat.old.me.0.readers (core_of result) seat.old.me.0.held }
+    {
+        from_stored(self.table.shared.load::<LoadWord>(seat, 0))
+    }
+
+    /// Loads the word.
+    pub(crate) fn look(&self, seat: &mut Seat<(), OneView>, pending: &mut Pending)
+        requires table { seat.old.table_id ≡ self.now.id }
+        requires action { pending.old.action ≡ Load }
+        ensures same { (seat.new.table_id ≡ seat.old.table_id) × (seat.new.me ≡ seat.old.me) }
+        ensures goes { GoesOn pending.old seat.old.me pending.new seat.new.me }
+    {
+        let stored = self.table.shared.load::<LoadWord>(seat, 0);
+        pending.go_on(from_stored(stored));
+    }
+
+    /// Replaces the word by the second one, if it is the first.
+    pub(crate) fn exchange(
+        &self,
+        seat: &mut Seat<(), OneView>,
+        pending: &mut Pending,
+        old: u64,
+        new: u64,
+    )
+        requires table { seat.old.table_id ≡ self.now.id }
+        requires action { pending.old.action ≡ Exchange old new }
+        requires going { CanGo (at pending.old) seat.old.me }
+        ensures table { (seat.new.table_id ≡ seat.old.table_id) × (seat.new.me.1 ≡ seat.old.me.1) × (seat.new.me.0.readers ≡ seat.old.me.0.readers) }
+        ensures goes { GoesOn pending.old seat.old.me pending.new seat.new.me }
+    {
+        let (first, second) = (to_stored(old), to_stored(new));
+        let stored = self
+            .table
+            .shared
+            .compare_exchange::<ExchangeWord>(seat, 0, first, second);
+        pending.go_on(from_stored(stored));
+    }
+
+    /// Subtracts what the release takes.
+    pub(crate) fn subtract(&self, seat: &mut Seat<(), OneView>, pending: &mut Pending, down: Down)
+        requires table { seat.old.table_id ≡ self.now.id }
+        requires action { pending.old.action ≡ Subtract down }
+        requires going { CanGo (at pending.old) seat.old.me }
+        ensures table { (seat.new.table_id ≡ seat.old.table_id) × (seat.new.me.1 ≡ seat.old.me.1) × (seat.new.me.0.readers ≡ seat.old.me.0.readers) }
+        ensures goes { GoesOn pending.old seat.old.me pending.new seat.new.me }
+    {
+        let amount = stored_amount(down);
+        let stored = self
+            .table
+            .shared
+            .fetch_sub::<SubtractFromWord>(seat, 0, amount);
+        pending.go_on(from_stored(stored));
+    }
+
+    /// Sleeps while the word is this number, or until the wait is over.
+    pub(crate) fn park<R: Wait, U: Until<R>>(
+        &self,
+        rt: &R,
+        pending: &mut Pending,
+        number: u64,
+        is_next: bool,
+        until: &U,
+    )
+        requires { pending.old.action ≡ Park number is_next }
+        ensures { (is_late : Bool) × (at pending.new ≡ next_of (if is_late then 1 else 0) pending.old.call) }
+    {
+        let expected = (to_stored(number) % 4_294_967_296) as u32;
+        let is_late = match until.left(rt) {
+            Left::Endless => {
+                self.table.shared.park(rt, 0, expected);
+                false
+            }
+            Left::Within(left) => {
+                self.table.shared.park_timeout(rt, 0, expected, left);
+                matches!(until.left(rt), Left::Over)
+            }
+            Left::Over => true,
+        };
+        pending.go_on(u64::from(is_late));
+    }
+
+    /// Yields in place of a sleep.
+    pub(crate) fn rest<R, U: Until<R>>(&self, rt: &R, pending: &mut Pending, until: &U)
+        requires { pending.old.action ≡ Yield }
+        ensures { (is_late : Bool) × (at pending.new ≡ next_of (if is_late then 1 else 0) pending.old.call) }
+    {
+        thread::yield_now();
+        pending.go_on(u64::from(matches!(until.left(rt), Left::Over)));
+    }
+
+    /// Spins two to the power of this number of times.
+    pub(crate) fn spin(&self, pending: &mut Pending, times: u32)
+        requires { pending.old.action ≡ Spin times }
+        ensures { at pending.new ≡ next_of 0 pending.old.call }
+    {
+        for _ in 0..1u64 << (times % 64) {
+            spin_loop();
+        }
+        pending.go_on(0);
+    }
+
+    /// Wakes one sleeper.
+    pub(crate) fn wake_one(&self, pending: &mut Pending)
+        requires { pending.old.action ≡ WakeOne }
+        ensures { at pending.new ≡ next_of 0 pending.old.call }
+    {
+        self.table.shared.wake_one(0);
+        pending.go_on(0);
+    }
+
+    /// Wakes all sleepers.
+    pub(crate) fn wake_all(&self, pending: &mut Pending)
+        requires { pending.old.action ≡ WakeAll }
+        ensures { at pending.new ≡ next_of 0 pending.old.call }
+    {
+        self.table.shared.wake_all(0);
+        pending.go_on(0);
+    }
+
+    /// Wakes the sleepers that may pass a bar, and all others too, which a table cannot tell apart.
+    pub(crate) fn wake_next(&self, pending: &mut Pending)
+        requires { pending.old.action ≡ WakeNext }
+        ensures { at pending.new ≡ next_of 0 pending.old.call }
+    {
+        self.table.shared.wake_all(0);
+        pending.go_on(0);
+    }
+}
