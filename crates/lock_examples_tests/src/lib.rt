@@ -1,4 +1,4 @@
-//! What the examples answer when threads use them, which no contract states, and what a caller of `lock_api` knows.
+//! What the examples answer when threads use them, which no contract states.
 #![tactic(auto)]
 
 #[cfg(test)]

@@ -1,9 +1,6 @@
 //! The examples on threads, and with ample memory.
-mod callers;
-mod conform;
 mod desk;
 mod first_lock;
-mod full_raw_lock;
 mod gate;
 mod in_threads;
 mod named;
@@ -14,10 +11,8 @@ mod ranked;
 mod registry;
 mod ruled;
 mod seated;
-mod shared_like_desk;
 mod shared_permits;
 mod shelf;
-mod signatures;
 mod spin_lock;
 
 /// The word while a writer holds the lock and none waits: bit 33 alone.

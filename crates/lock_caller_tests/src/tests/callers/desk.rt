@@ -9,7 +9,7 @@ ghost use Rattle.lock_api.specs.Kind.{is_rwlock};
 ghost use Rattle.lock_api.specs.Party.{id_of};
 ghost use Rattle.lock_api.specs.Refusals.{guard_refusal, writing_guard};
 ghost use Rattle.lock_api.specs.Sound.{IsSound};
-ghost use Rattle.lock_examples_tests.specs.Words.{answer_of};
+ghost use Rattle.lock_caller_tests.specs.Words.{answer_of};
 
 use crate::tests::callers::{Limit, Settings};
 use lock_api::{At, Call, Desk, Fault, Op, PartyId, RawState, Reply, runs_are_sound};

@@ -2,7 +2,7 @@
 ghost use Rattle.std.specs.Prelude.{◌≡◌, IfSome};
 ghost use Rattle.std.specs.Sync.Mutex.{mutex_guard_value};
 ghost use Rattle.lock_api.specs.MutexGuard.{IsGuardOf};
-ghost use Rattle.lock_examples_tests.specs.Words.{Shows};
+ghost use Rattle.lock_caller_tests.specs.Words.{Shows};
 
 use lock_api::{Mutex, MutexGuard, RawMutex, RawMutexFair};
 
