@@ -88,7 +88,7 @@ class Calls(Threads):
             found = (yield update(FREE, lambda free: None if free == (action == UNLOCK) else not free)) or 0
         elif action in (LOAD, EXCHANGE, SUBTRACT, STORE):
             change = {LOAD: lambda now: now, EXCHANGE: lambda now: second if now == first else now,
-                      SUBTRACT: lambda now: now - first, STORE: lambda _: first}[action]
+                      SUBTRACT: lambda now: now - first & 0xffffffff, STORE: lambda _: first}[action]
             found = yield update(place, change, lambda now: 0 if action == STORE else now)
             if act == RELEASE and (action == SUBTRACT or action == EXCHANGE and found == first):
                 act = RELEASED

@@ -56,6 +56,10 @@
 )))]
 compile_error!("proved_lock is for Linux on x86-64, aarch64, riscv64, loongarch64 and little-endian powerpc64");
 
+// `build.rs` found no archive. The documentation needs none.
+#[cfg(all(archive_is_missing, not(doc)))]
+compile_error!(concat!(env!("MISSING_ARCHIVE"), " is missing: bin/prebuild makes it, or set PROVED_LOCK_LIB to a liblock_c.a"));
+
 mod condvar;
 mod driver;
 mod first;
