@@ -39,6 +39,7 @@
 //! - `std`, a default: calls with a deadline, and the reentrant mutex.
 //! - `arc_lock`: guards that share the ownership of their lock, as `ArcMutexGuard`.
 //! - `send_guard`: guards that may be sent to another thread.
+//! - `record`: the raw lock `Recorded`, which `bin/lockrecord` of the repository sees.
 #![cfg_attr(not(feature = "std"), no_std)]
 #![warn(missing_docs)]
 
@@ -62,6 +63,8 @@ mod first;
 #[cfg(all(test, feature = "std"))]
 mod mixed;
 mod mutex;
+#[cfg(feature = "record")]
+mod recorded;
 #[cfg(feature = "std")]
 mod remutex;
 mod rwlock;
@@ -96,6 +99,8 @@ pub use mutex::{const_mutex, MappedMutexGuard, Mutex, MutexGuard, RawMutex};
 pub use remutex::ArcReentrantMutexGuard;
 #[cfg(feature = "std")]
 pub use remutex::{const_reentrant_mutex, MappedReentrantMutexGuard, RawThreadId, ReentrantMutex, ReentrantMutexGuard};
+#[cfg(feature = "record")]
+pub use recorded::{Recorded, RecordedMutex, RecordedRwLock};
 pub use rwlock::{
     const_rwlock, MappedRwLockReadGuard, MappedRwLockWriteGuard, RawRwLock, RwLock, RwLockReadGuard, RwLockUpgradableReadGuard,
     RwLockWriteGuard,
