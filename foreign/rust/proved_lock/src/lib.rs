@@ -95,12 +95,12 @@ pub use lock_api;
 #[cfg(feature = "arc_lock")]
 pub use mutex::ArcMutexGuard;
 pub use mutex::{const_mutex, MappedMutexGuard, Mutex, MutexGuard, RawMutex};
+#[cfg(feature = "record")]
+pub use recorded::{Recorded, RecordedMutex, RecordedRwLock};
 #[cfg(all(feature = "arc_lock", feature = "std"))]
 pub use remutex::ArcReentrantMutexGuard;
 #[cfg(feature = "std")]
 pub use remutex::{const_reentrant_mutex, MappedReentrantMutexGuard, RawThreadId, ReentrantMutex, ReentrantMutexGuard};
-#[cfg(feature = "record")]
-pub use recorded::{Recorded, RecordedMutex, RecordedRwLock};
 pub use rwlock::{
     const_rwlock, MappedRwLockReadGuard, MappedRwLockWriteGuard, RawRwLock, RwLock, RwLockReadGuard, RwLockUpgradableReadGuard,
     RwLockWriteGuard,
