@@ -39,6 +39,13 @@ THREAD(read_below) {
     proved_mutex_unlock(&journal);
     return next(x);
 }
+THREAD(write_below) {
+    proved_mutex_lock(&journal);
+    proved_rwlock_lock_exclusive(&config); /* waits */
+    proved_rwlock_unlock_exclusive(&config);
+    proved_mutex_unlock(&journal);
+    return next(x);
+}
 THREAD(write_above) {
     proved_rwlock_lock_exclusive(&config);
     proved_mutex_lock(&journal); /* waits */
@@ -56,7 +63,7 @@ THREAD(read_above) {
 THREAD(downgrade_above) {
     proved_rwlock_lock_exclusive(&config);
     proved_rwlock_downgrade(&config);
-    proved_mutex_lock(&journal);
+    proved_mutex_lock(&journal); /* waits */
     proved_mutex_unlock(&journal);
     proved_rwlock_unlock_shared(&config);
     return next(x);
@@ -82,6 +89,13 @@ THREAD(to_upgradable_above) {
     proved_mutex_unlock(&journal);
     proved_rwlock_downgrade_upgradable(&config);
     proved_rwlock_unlock_shared(&config);
+    return next(x);
+}
+THREAD(upgradable_before) {
+    proved_rwlock_lock_upgradable(&config);
+    proved_rwlock_unlock_upgradable(&config);
+    proved_mutex_lock(&journal);
+    proved_mutex_unlock(&journal);
     return next(x);
 }
 THREAD(leaves_upgradable_above) {
@@ -121,16 +135,16 @@ THREAD(wait_sleeper) {
     return next(x);
 }
 /* A lock of one byte below the journal, and above it one that comes later at the same address: they are two. */
-static void hold(const char *first, proved_mutex *second) {
-    LOCKRECORD(acquire, first, LOCKRECORD_MUTEX);
-    LOCKRECORD(acquired, first, LOCKRECORD_MUTEX);
+static void hold(const char *first, int mode, proved_mutex *second) {
+    LOCKRECORD(acquire, first, mode);
+    LOCKRECORD(acquired, first, mode);
     if (second) proved_mutex_lock(second), proved_mutex_unlock(second);
-    LOCKRECORD(release, first, LOCKRECORD_MUTEX);
+    LOCKRECORD(release, first, mode);
 }
 THREAD(block_freed) {
     block = memset(malloc(40), 0, 40);
     uintptr_t was = (uintptr_t)block;
-    hold(block + 1, &journal);
+    hold(block + 1, LOCKRECORD_MUTEX, &journal);
     free(block);
     block = malloc(40);
     if ((uintptr_t)block != was) exit(2);
@@ -139,19 +153,32 @@ THREAD(block_freed) {
 THREAD(block_destroyed) {
     static char room[8];
     block = room;
-    hold(block + 1, &journal);
+    hold(block + 1, LOCKRECORD_MUTEX, &journal);
     LOCKRECORD(destroy, block + 1);
     return next(x);
 }
 THREAD(block_kept) {
     static char room[8];
     block = room;
-    hold(block + 1, &journal);
+    hold(block + 1, LOCKRECORD_MUTEX, &journal);
     return next(x);
 }
 THREAD(block_below) {
     proved_mutex_lock(&journal);
-    hold(block + 1, NULL);
+    hold(block + 1, LOCKRECORD_MUTEX, NULL);
+    proved_mutex_unlock(&journal);
+    return next(x);
+}
+THREAD(upgradable_destroyed) {
+    static char room[8];
+    block = room;
+    hold(block, LOCKRECORD_UPGRADABLE, &journal);
+    LOCKRECORD(destroy, block);
+    return next(x);
+}
+THREAD(upgradable_block_below) {
+    proved_mutex_lock(&journal);
+    hold(block, LOCKRECORD_UPGRADABLE, NULL);
     proved_mutex_unlock(&journal);
     return next(x);
 }
@@ -194,10 +221,11 @@ static const struct {
     start_fn start;
 } all[] = {
     NAMED(two_request), NAMED(two_cleaner), NAMED(tries_cleaner), NAMED(read_below),
-    NAMED(write_above), NAMED(read_above), NAMED(downgrade_above), NAMED(upgradable_below),
-    NAMED(upgradable_above), NAMED(to_upgradable_above), NAMED(leaves_upgradable_above), NAMED(upgrade_below),
-    NAMED(upgrade_tries), NAMED(wait_sleeper), NAMED(block_freed), NAMED(block_destroyed),
-    NAMED(block_kept), NAMED(block_below), NAMED(read_twice_plainly), NAMED(read_twice_again),
+    NAMED(write_below), NAMED(write_above), NAMED(read_above), NAMED(downgrade_above),
+    NAMED(upgradable_below), NAMED(upgradable_above), NAMED(to_upgradable_above), NAMED(upgradable_before),
+    NAMED(leaves_upgradable_above), NAMED(upgrade_below), NAMED(upgrade_tries), NAMED(wait_sleeper),
+    NAMED(block_freed), NAMED(block_destroyed), NAMED(block_kept), NAMED(block_below),
+    NAMED(upgradable_destroyed), NAMED(upgradable_block_below), NAMED(read_twice_plainly), NAMED(read_twice_again),
     NAMED(write_alone), NAMED(send_in), NAMED(send_out),
 };
 
