@@ -46,15 +46,6 @@ static void leave_seat(struct thread *t, const struct lock *l) {
 /* A recursive read does not wait if the thread has the lock already. */
 static bool never_waits(const struct thread *t, const struct lock *l, int how) { return how & LOCKRECORD_AGAIN && is_held_by(t, l); }
 
-/* What a thread waits for that acquires the lock upgradable: the seat if another thread has it. */
-static struct lock *awaited(struct lock *l, int how) {
-    struct lock *seat = mode_of(how) == LOCKRECORD_UPGRADABLE ? find_lock(seat_of(l->addr)) : NULL;
-    for (struct thread *o = seat ? threads : NULL; o; o = o->next)
-        for (int i = 0; GET(o->in_use) && i < GET(o->n_path); i++)
-            if (GET(o->path[i].lock) == seat) return seat;
-    return l;
-}
-
 EXPORT void lockrecord_acquire(const void *lock, int how) {
     struct thread *t = mine();
     if (!t) return;
@@ -64,9 +55,7 @@ EXPORT void lockrecord_acquire(const void *lock, int how) {
     bool waits = l && !never_waits(t, l, how);
     if (waits) {
         if (mode_of(how) == LOCKRECORD_UPGRADE) released(t, l, site);
-        struct lock *what = awaited(l, how);
-        SET(t->waits_lock, what), SET(t->waits_site, site);
-        SET(t->waits_op, what == l ? op_of_mode(how) : OP_LOCK);
+        SET(t->waits_lock, l), SET(t->waits_site, site), SET(t->waits_op, op_of_mode(how));
     }
     finish(t);
     if (unlikely(has_pauses) && waits && is_paused(site)) pause_here(site);
@@ -74,8 +63,7 @@ EXPORT void lockrecord_acquire(const void *lock, int how) {
 
 /* The place of an acquisition that lockrecord_acquire announced is that of the announcement. */
 static uint32_t place_after(struct thread *t, const struct lock *l, int how, uintptr_t caller) {
-    const struct lock *what = GET(t->waits_op) < OP_RELEASE ? GET(t->waits_lock) : NULL;
-    bool is_announced = what && (what == l || what->addr == seat_of(l->addr));
+    bool is_announced = GET(t->waits_op) < OP_RELEASE && GET(t->waits_lock) == l;
     return is_announced ? GET(t->waits_site) : place_of(t, l, how, caller);
 }
 
