@@ -59,6 +59,21 @@ fn report() {
     *JOURNAL.lock() += *rates; // waits
 }
 
+fn to_upgradable_above() {
+    let rates = RwLockWriteGuard::downgrade_to_upgradable(RATES.write());
+    *JOURNAL.lock() += *rates; // waits
+}
+
+fn upgradable_below() {
+    let mut journal = JOURNAL.lock();
+    *journal += *RATES.upgradable_read(); // waits
+}
+
+fn to_shared_above() {
+    let rates = RwLockWriteGuard::downgrade(RATES.write());
+    *JOURNAL.lock() += *rates;
+}
+
 fn ours_first() {
     let _ours = OURS.lock();
     *OUR_RATES.write() += 1; // waits
@@ -87,6 +102,8 @@ fn main() {
         Some("read twice") => [report_twice, set],
         Some("read recursively") => [report_recursively, set],
         Some("upgrade") => [upgrade, report],
+        Some("to upgradable") => [to_upgradable_above, upgradable_below],
+        Some("to shared") => [to_shared_above, upgradable_below],
         Some("ours") => [ours_first, ours_second],
         Some("std") => [std_first, std_second],
         _ => process::exit(2),
