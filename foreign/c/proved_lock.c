@@ -2,6 +2,7 @@
 /* Makes the steps that liblock_c.a returns. Trusted are this file, the inline first steps and the kernel. Nothing here decides
  * which step comes next. */
 #define _GNU_SOURCE
+#undef PROVED_LOCK_RECORD /* the functions here are those that are recorded */
 #include "proved_lock.h"
 #include "lock_c.h"
 #include <errno.h>

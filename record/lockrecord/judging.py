@@ -170,7 +170,7 @@ def judge_record(path: str, name: str, options: Options) -> int:
         say(f"lockrecord: {name}: no deadlock: the program made no thread")
         return NO_DEADLOCK
     if not record.locks and not any(it.waits or it.sleeps for it in record.present):
-        say(f"lockrecord: {name}: no lock was recorded. Locks that wait by futex calls of their own, as those of Rust's std and Go, are not seen")
+        say(f"lockrecord: {name}: no lock was recorded. Locks that wait by futex calls of their own, as those of Rust's std and Go, are not seen; docs/RECORD.md says how others are")
         return NO_ANSWER
     n_paths = sum(len(it) for it in model.paths.values())
     kinds = len([it for it in model.names.parties.values() if it.tids])

@@ -21,6 +21,7 @@ def library(root: str) -> str:
     """The path of liblockrecord.so. It is built if it is not there or a source is newer, by one call of the compiler where make is missing."""
     folder = os.path.join(root, "record")
     path, sources = os.path.join(folder, "out", "liblockrecord.so"), glob.glob(os.path.join(folder, "src", "*"))
+    sources.append(os.path.join(folder, "lockrecord.h"))
     if " " in path or ":" in path:
         raise CannotRecord(f"the dynamic linker takes no library whose path has a space or a colon: {path}")
     os.makedirs(os.path.dirname(path), exist_ok=True)

@@ -11,7 +11,8 @@ from .record_file import Lock, Place, Record
 from .symbols import Symbols
 
 GENERIC = ("execute_native_thread_routine", "thread_start", "start_thread", "thread_routine")
-SIZES = {"rwlock": 56, "rwlock-bar": 56, "spin": 4, "once": 4, "semaphore": 32}
+SIZES = {"rwlock": 56, "rwlock-bar": 56, "spin": 4, "once": 4, "semaphore": 32, "plain-mutex": 0, "plain-rwlock": 0}
+SEAT = 1 << 63  # of the address of the mutex that stands for the upgradable hold of a lock
 
 
 def plain(text: str) -> str:
@@ -105,11 +106,25 @@ class Names:
         frame = self.symbols.frames(it.frames, it.epoch)[0] if it and it.frames else None
         return "unknown" if not frame else frame.function + (f"-{frame.line.split(':')[-1]}" if frame.line else "")
 
+    def _static_names(self) -> dict[int, str]:
+        """The names of static locks by address. A plain lock that is alone in its object has the name of the object."""
+        names: dict[int, str] = {}
+        inside: dict[str, list[int]] = defaultdict(list)
+        for lock in self.record.locks.values():
+            name = self.symbols.datum(lock.addr, SIZES.get(lock.kind, 40)) if lock.addr and lock.kind != "plain-seat" else None
+            if name is None:
+                continue
+            names[lock.addr] = name
+            if lock.kind.startswith("plain-"):
+                inside[re.sub("-[0-9a-f]+$", "", name)].append(lock.addr)
+        return {**names, **{addrs[0]: name for name, addrs in inside.items() if len(addrs) == 1}}
+
     def _name_locks(self, bars: bool) -> None:
         index: dict[int, int] = defaultdict(int)
         used: set[str] = set()
+        static = self._static_names()
         for number, lock in sorted(self.record.locks.items(), key=lambda it: it[1].born):
-            name = self.symbols.datum(lock.addr, SIZES.get(lock.kind, 40)) if lock.addr else None
+            name = static.get(lock.addr & ~SEAT)
             note = ""
             if name is None:
                 site = self._made_at(lock)
@@ -117,13 +132,13 @@ class Names:
                 is_alone = lock.cls is not None and self.record.classes[lock.cls].members == 1
                 name = self.stem(site) + ("" if is_alone else f".{index[site]}")
                 note = "made or first locked at " + self.place(Place(site))
-            stem = name = plain(name)[:60]
+            stem = name = plain(name)[:60] + (".upgradable" if lock.kind == "plain-seat" else "")
             count = 1
             while name in used:
                 count += 1
                 name = f"{stem}-{count}"
             used.add(name)
             self.lock[number] = name
-            is_bar = lock.kind == "rwlock-bar" or (lock.kind == "rwlock" and bars)
+            is_bar = lock.kind in ("rwlock-bar", "plain-rwlock") or (lock.kind == "rwlock" and bars)
             self.kind[name] = "bar" if is_bar else "rwlock" if lock.kind == "rwlock" else "mutex"
             self.note[name] = note or {"once": "pthread_once", "semaphore": "a semaphore of one permit", "spin": "a spin lock"}.get(lock.kind, "")

@@ -13,9 +13,9 @@ from .record_file import LOADED, Module
 from .report import progress
 
 LIBRARY = re.compile(
-    r"/rustc/|/library/(std|core|alloc)/|/include/c\+\+/|gthr-default|lock_api|/glibc|/nptl/|\.\./sysdeps|/csu/|libc-start|pthread_create\.c|clone3?\.S"
+    r"/rustc/|/library/(std|core|alloc)/|/include/c\+\+/|gthr-default|lock_api|/proved_lock[^/]*/src/|\bproved_lock\.h|/glibc|/nptl/|\.\./sysdeps|/csu/|libc-start|pthread_create\.c|clone3?\.S"
 )
-WRAPPER = re.compile(r"libstdc\+\+|libc\+\+|std::|core::|__gthread|lock_api::|CRYPTO_THREAD_|__libc|start_thread|__clone|__pthread_once|_start$")
+WRAPPER = re.compile(r"libstdc\+\+|libc\+\+|std::|core::|__gthread|<?lock_api::|<?proved_lock::|CRYPTO_THREAD_|__libc|start_thread|__clone|__pthread_once|_start$")
 
 
 class Frame(NamedTuple):
@@ -131,7 +131,7 @@ class Symbols:
         return self._told(addr, LOADED)[-1].function
 
     def datum(self, addr: int, size: int) -> Optional[str]:
-        """The name of a static object of this size, or of the element of a static array."""
+        """The name of a static object of this size, or of the element of a static array. Of size 0, it may lie anywhere in the object."""
         module = self.module(addr)
         if not module:
             return None
@@ -139,6 +139,8 @@ class Symbols:
         if not found:
             return f"{os.path.basename(module.path)}-{addr - module.base:x}"
         symbol, at = found
+        if size == 0:
+            return f"{symbol.name}-{at:x}" if at else symbol.name
         if symbol.size <= size or (at == 0 and symbol.size % size):
             return symbol.name
         return f"{symbol.name}.{at // size + 1}" if at % size == 0 and symbol.size % size == 0 else f"{symbol.name}-{at:x}"

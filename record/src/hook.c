@@ -39,12 +39,12 @@ void before_destroy(void *addr) {
 }
 
 /* A wait releases the mutex, sleeps, and acquires it again with all that the thread still holds. */
-struct wait wait_begins(void *condvar, void *mutex, char what, uintptr_t caller) {
+struct wait wait_begins(void *condvar, void *mutex, uint8_t kind, char what, uintptr_t caller) {
     struct wait w = {.t = mine()};
     struct thread *t = w.t;
     if (!t) return w;
     begin(t);
-    w.mutex = lock_at(t, mutex, MUTEX, caller);
+    w.mutex = lock_at(t, mutex, kind, caller);
     if (w.mutex) {
         w.site = site_of(t, caller, salt_of(w.mutex));
         if (t->n_held > 1) keep_note(t, what, condvar, w.mutex, w.site);

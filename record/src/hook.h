@@ -102,7 +102,7 @@ struct wait {
     struct lock *mutex;
     uint32_t site;
 };
-struct wait wait_begins(void *condvar, void *mutex, char what, uintptr_t caller);
+struct wait wait_begins(void *condvar, void *mutex, uint8_t kind, char what, uintptr_t caller);
 void wait_ends(void *wait);
 void notifies(void *condvar, uintptr_t caller);
 
@@ -122,7 +122,7 @@ void notifies(void *condvar, uintptr_t caller);
 /* A thread that is cancelled in its wait has the mutex again when its handlers run. */
 #define WAIT(condvar, mutex, what, real_call) \
     int r; \
-    struct wait w = wait_begins(condvar, mutex, what, CALLER); \
+    struct wait w = wait_begins(condvar, mutex, MUTEX, what, CALLER); \
     pthread_cleanup_push(wait_ends, &w); \
     r = real_call; \
     pthread_cleanup_pop(1); \

@@ -8,6 +8,7 @@ static struct class *class_table[1024];
 struct class *all_classes[CLASSES_MAX];
 uint32_t n_locks, n_born, n_freed, n_classes;
 static uint8_t heap_lines[HEAP_LINES]; /* locks that begin in each line of 64 bytes; 255 stays */
+static unsigned lock_step = 4;         /* locks begin at its multiples: a lock of one byte may begin anywhere */
 
 static unsigned bucket_of(const void *addr) { return mix(0, (uintptr_t)addr) % BUCKETS; }
 static uint8_t *line_of(uintptr_t addr) { return &heap_lines[(addr >> 6) % HEAP_LINES]; }
@@ -25,6 +26,8 @@ static struct lock *in_table(const void *addr) {
 }
 
 static void remove_lock(struct lock *l) {
+    struct lock *seat = l->kind == PLAIN_RWLOCK ? in_table(seat_of(l->addr)) : NULL;
+    if (seat) remove_lock(seat);
     struct lock **at = &lock_table[bucket_of(l->addr)];
     while (*at && *at != l) at = &(*at)->next;
     if (*at) *at = l->next;
@@ -77,6 +80,7 @@ static struct lock *add_lock(void *addr, uint8_t kind, uint32_t site, bool is_in
     l->next = lock_table[bucket_of(addr)];
     lock_table[bucket_of(addr)] = l;
     count_line((uintptr_t)addr, 1);
+    if ((uintptr_t)addr % 4) lock_step = 1;
     return l;
 }
 
@@ -89,7 +93,7 @@ struct lock *find_lock(void *addr) {
 
 /* Returns the lock at this address, which an init or its first call at this site makes, or NULL without room. */
 struct lock *make_lock(void *addr, uint8_t kind, uint32_t site, bool is_init) {
-    bool is_static = is_in_module((uintptr_t)addr);
+    bool is_static = is_in_module((uintptr_t)addr & ~SEAT_BIT);
     enter();
     struct lock *l = in_table(addr);
     if (l && is_init) remove_lock(l), l = NULL;
@@ -117,7 +121,7 @@ bool has_heap_locks(uintptr_t from, uintptr_t to) {
 void forget_locks_in(uintptr_t from, uintptr_t to) {
     enter();
     if (to - from <= BLOCK_MAX) {
-        for (uintptr_t at = (from + 3) & ~(uintptr_t)3; at < to; at += 4) {
+        for (uintptr_t at = (from + lock_step - 1) & -(uintptr_t)lock_step; at < to; at += lock_step) {
             struct lock *l = GET(*line_of(at)) ? in_table((void *)at) : NULL;
             if (l) remove_lock(l);
         }

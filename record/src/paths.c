@@ -84,7 +84,7 @@ void acquired_below(struct thread *t, struct lock *l, uint8_t op, uint32_t site)
     if (unlikely(t->handed_seen != GET(n_handed))) drop_handed(t);
     SET(l->owner, t->tid + 1);
     for (int k = t->n_held - 1; k >= 0; k--)
-        if (t->held[k].lock == l && l->kind != RWLOCK_BAR) {
+        if (t->held[k].lock == l && !has_bar(l->kind)) {
             t->held[k].levels++;
             return;
         }

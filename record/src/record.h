@@ -14,8 +14,10 @@
 #define GET(x) __atomic_load_n(&(x), __ATOMIC_RELAXED)
 #define SET(x, v) __atomic_store_n(&(x), v, __ATOMIC_RELAXED)
 
-/* A once and a semaphore of one permit exclude as a mutex does. */
-enum kind { MUTEX, RECURSIVE, ERRORCHECK, RWLOCK, RWLOCK_BAR, SPIN, SEMAPHORE, ONCE, KINDS };
+/* A once, a semaphore of one permit and a seat exclude as a mutex does. The plain ones are those of lockrecord.h. */
+enum kind { MUTEX, RECURSIVE, ERRORCHECK, RWLOCK, RWLOCK_BAR, SPIN, SEMAPHORE, ONCE, PLAIN_MUTEX, PLAIN_RWLOCK, PLAIN_SEAT, KINDS };
+/* Whether a waiting writer keeps new readers out, also a thread that reads already. */
+static inline bool has_bar(uint8_t kind) { return kind == RWLOCK_BAR || kind == PLAIN_RWLOCK; }
 
 /* Low bits: the call. TRY: it never waits for ever. WOKEN: the acquisition at the end of a wait on a condition variable. */
 enum op { OP_LOCK, OP_READ, OP_WRITE, OP_RELEASE, OP_JOIN, OP_MASK = 7, OP_TRY = 8, OP_WOKEN = 16, OP_NONE = 0xff };
@@ -176,6 +178,9 @@ void forget_lock(void *addr);
 void forget_locks_in(uintptr_t from, uintptr_t to);
 bool has_heap_locks(uintptr_t from, uintptr_t to);
 void falls_back(struct lock *lock);
+/* Where the seat of an upgradable lock is kept: at no address of a program. */
+#define SEAT_BIT ((uintptr_t)1 << 63)
+static inline void *seat_of(const void *addr) { return (void *)((uintptr_t)addr | SEAT_BIT); }
 /* Whether the lock is one of many that were made at one place. */
 static inline bool is_grouped(const struct lock *lock) { return lock->classed && GET(all_classes[lock->class]->members) > GROUP_MIN; }
 /* Tells the locks of different classes at one place apart. */

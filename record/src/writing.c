@@ -109,7 +109,8 @@ static void put_flat(const struct flat *flat) {
 }
 
 static void put_locks(void) {
-    static const char *const kinds[KINDS] = {"mutex", "recursive", "errorcheck", "rwlock", "rwlock-bar", "spin", "semaphore", "once"};
+    static const char *const kinds[KINDS] = {"mutex",     "recursive", "errorcheck",  "rwlock",       "rwlock-bar", "spin",
+                                             "semaphore", "once",      "plain-mutex", "plain-rwlock", "plain-seat"};
     for (uint32_t i = 0; i < n_classes; i++) {
         const struct class *c = all_classes[i];
         put("class %u %u %u", i, c->site, GET(c->members));

@@ -39,6 +39,7 @@
 //! - `std`, a default: calls with a deadline, and the reentrant mutex.
 //! - `arc_lock`: guards that share the ownership of their lock, as `ArcMutexGuard`.
 //! - `send_guard`: guards that may be sent to another thread.
+//! - `record`: the raw lock `Recorded`, which `bin/lockrecord` of the repository sees.
 #![cfg_attr(not(feature = "std"), no_std)]
 #![warn(missing_docs)]
 
@@ -66,6 +67,8 @@ mod first;
 #[cfg(all(test, feature = "std"))]
 mod mixed;
 mod mutex;
+#[cfg(feature = "record")]
+mod recorded;
 #[cfg(feature = "std")]
 mod remutex;
 mod rwlock;
@@ -96,6 +99,8 @@ pub use lock_api;
 #[cfg(feature = "arc_lock")]
 pub use mutex::ArcMutexGuard;
 pub use mutex::{const_mutex, MappedMutexGuard, Mutex, MutexGuard, RawMutex};
+#[cfg(feature = "record")]
+pub use recorded::{Recorded, RecordedMutex, RecordedRwLock};
 #[cfg(all(feature = "arc_lock", feature = "std"))]
 pub use remutex::ArcReentrantMutexGuard;
 #[cfg(feature = "std")]
