@@ -118,7 +118,7 @@ tried call a v before wish clean awaited going trying false e = leaves_all call 
 pub may_end : (call : Call) (a : Action) (v : OneView) (before : Hold) (task : Task) → IsGoing (call, a) before task v → IsTrying (call, a) → MayEnd (call, a)
 may_end call a v before task going trying =
     elim trying.stage [
-      | inl tries ↦ inr tries
+      | inl tries ↦ inr (trying.tries, tries)
       | inr over ↦
           elim over [
             | inl acquired ↦ (let is = subst (λ st. IsAt st call (placed v.held a) a) acquired going.at in inl (ap ends is.1))

@@ -12,7 +12,7 @@ use Rattle.lock_one.specs.declared.stage.Stage.{Stage}
 use Rattle.lock_one.specs.declared.stage.Stage.TheVariants as stage
 use Rattle.lock_one.specs.Machine.{Progress, next_of}
 use Rattle.lock_one.specs.Steps.{ends}
-use Rattle.lock_one_word.specs.declared.pending.Pending.{Pending}
+use Rattle.lock_one_word.specs.declared.word_lock.steps.pending.Pending.{Pending}
 use Rattle.lock_one_word.specs.Seats.{Self, Task, to_acquire, IsGoing}
 
 -- an action on the word, or a wake-up by its address
@@ -33,9 +33,9 @@ CanGo next me = (before : Hold) × (task : Task) × IsGoing next before task me.
 abbrev pub at : Pending → Progress
 at p = (p.call, p.action)
 
--- the call asks for its end, or it is a try before its exchange
+-- the call asks for its end, or it is a try before its exchange, of which nobody knows
 abbrev pub MayEnd : Progress → Type 0
-MayEnd next = (ends next.1 ≡ true) ⊎ (next.0.stage ≡ stage.Try)
+MayEnd next = (ends next.1 ≡ true) ⊎ ((next.0.blocks ≡ false) × (next.0.stage ≡ stage.Try))
 
 -- the action is made, and the call goes on with what it found
 abbrev pub GoesOn : Pending → Self → Pending → Self → Type 0

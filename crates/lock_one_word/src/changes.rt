@@ -5,10 +5,9 @@ ghost use Rattle.lock_one.specs.Machine.{core_of};
 ghost use Rattle.lock_word.specs.Rule.{WordShows};
 ghost use Rattle.lock_one_word.specs.Calls.{IsTokenOf};
 
-use crate::pending::Pending;
 use crate::token::WordToken;
 use crate::until::{Deadline, Endless, Until};
-use crate::word_lock::WordLock;
+use crate::word_lock::{Pending, WordLock};
 use lock_base::machine::Mode;
 use lock_one::SLEEPERS;
 use lock_word::{Down, ExWant};

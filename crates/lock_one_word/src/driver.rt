@@ -3,10 +3,9 @@ ghost use Rattle.std.specs.Prelude.{◌≡◌, true, false, None, IfSome};
 ghost use Rattle.lock_one.specs.declared.action.Action.TheVariants.{End};
 ghost use Rattle.lock_one_word.specs.Drives.{at, CanGo, GoesOn, EndsWith, touches_lock};
 
-use crate::pending::Pending;
 use crate::rule::OneView;
 use crate::until::Until;
-use crate::word_lock::WordLock;
+use crate::word_lock::{Pending, WordLock};
 use atomic_table::Seat;
 use lock_one::Action;
 use std::sync::Wait;

@@ -5,7 +5,6 @@ mod acquisitions;
 mod changes;
 mod driver;
 mod laws;
-mod pending;
 mod plays;
 mod releases;
 mod rule;

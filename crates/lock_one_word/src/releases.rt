@@ -3,9 +3,8 @@ ghost use Rattle.std.specs.Prelude.{◌≡◌, IsTrue};
 ghost use Rattle.lock_base.specs.Holds.{hold_has, hold_after};
 ghost use Rattle.lock_word.specs.Word.{step_of_down};
 
-use crate::pending::Pending;
 use crate::rule::OneView;
-use crate::word_lock::WordLock;
+use crate::word_lock::{Pending, WordLock};
 use atomic_table::Seat;
 use lock_word::Down;
 

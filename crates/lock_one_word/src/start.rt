@@ -2,9 +2,8 @@
 ghost use Rattle.std.specs.Prelude.{◌≡◌};
 ghost use Rattle.lock_one_word.specs.Drives.{at, CanGo, IsTrying, LeadsTo};
 
-use crate::pending::Pending;
 use crate::rule::OneView;
-use crate::word_lock::WordLock;
+use crate::word_lock::{Pending, WordLock};
 use atomic_table::Seat;
 use lock_one::Action;
 

@@ -11,6 +11,7 @@ use lock_one::{SLEEPERS, from_stored};
 use lock_word::{has_exclusive, has_tokens};
 use std::alloc::Global;
 use std::marker::Model;
+pub(crate) use steps::Pending;
 
 /// A reader-writer lock in one word, on which its waiters sleep.
 ///

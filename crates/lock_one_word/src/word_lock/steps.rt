@@ -1,4 +1,4 @@
-//! The actions of a call, made on the word. No other module reaches the table.
+//! The actions of a call, made on the word. Only these functions go on with a call.
 ghost use Rattle.std.specs.Prelude.{◌≡◌, Bool, false, [], IsTrue, if◌then◌else◌};
 ghost use Rattle.lock_base.specs.Holds.{no_hold, hold_has};
 ghost use Rattle.lock_word.specs.Word.{step_of_want};
@@ -9,7 +9,8 @@ ghost use Rattle.lock_one.specs.Machine.{core_of, next_of};
 ghost use Rattle.lock_one_word.specs.Seats.{IsGoing, to_acquire};
 ghost use Rattle.lock_one_word.specs.Drives.{at, CanGo, GoesOn, IsTrying};
 
-use crate::pending::Pending;
+mod pending;
+
 use crate::plays::{ExchangeWord, LoadWord, SubtractFromWord};
 use crate::rule::OneView;
 use crate::until::{Left, Until};
@@ -17,6 +18,7 @@ use crate::word_lock::WordLock;
 use atomic_table::Seat;
 use lock_one::{from_stored, stored_amount, to_stored};
 use lock_word::{Down, ExWant};
+pub(crate) use pending::Pending;
 use std::hint::spin_loop;
 use std::sync::Wait;
 use std::thread;

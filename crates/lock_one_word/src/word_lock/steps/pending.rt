@@ -8,8 +8,8 @@ use lock_word::{Down, ExWant};
 
 /// A call and its next action.
 ///
-/// It has no `Drop`, so a body cannot forget a call whose next action is a wake-up. The functions that make actions pass it
-/// on, and it ends with the call.
+/// It has no `Drop`, so a body cannot forget a call whose next action is a wake-up. Only the functions that make an action pass
+/// it on, and it ends with the call.
 pub(crate) struct Pending {
     call: Call,
     action: Action,
@@ -39,8 +39,8 @@ impl Pending {
         self.action
     }
 
-    /// Goes on with what the action found. Only the functions that make actions call this.
-    pub(crate) fn go_on(&mut self, found: u64)
+    /// Goes on with what the action found. Only the functions that make an action can call this.
+    pub(super) fn go_on(&mut self, found: u64)
         ensures { at self.new ≡ next_of found self.old.call }
     {
         self.action = self.call.next(found);
