@@ -21,7 +21,7 @@ use Rattle.lock_one.specs.Steps.{IsAt, IsWake, hold_at}
 use Rattle.lock_one.specs.Answers.{AnswersTell, FirstSteps}
 
 -- only these stages end a call
-ends_not : (st : Stage) (call : Call) (v : ParkView) (b : Bool) → IsAt st call v (action.End b)
+pub ends_not : (st : Stage) (call : Call) (v : ParkView) (b : Bool) → IsAt st call v (action.End b)
     → ((st ≡ stage.Acquired) × (b ≡ true)) ⊎ (((st ≡ stage.Refused) × (b ≡ false)) ⊎ ((st ≡ stage.Ended) × (b ≡ true)))
 ends_not stage.Look call v b is = let e = is.1 in cc
 ends_not stage.Try call v b is = let e = is.2 in cc

@@ -3,6 +3,7 @@ pub mod LastAccess
 pub mod Steps
 pub mod Actions
 pub mod Answers
+pub mod Refusals
 pub mod Sleeps
 pub mod Runs
 pub mod Stored

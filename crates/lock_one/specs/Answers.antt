@@ -1,5 +1,5 @@
 -- What the answer of a call means, and the first steps of an uncontended call.
-use Rattle.std.specs.Prelude.{◌≡◌, ℕ, ◌-◌, ◌<◌, Bool, true, false, ◌⊎◌}
+use Rattle.std.specs.Prelude.{◌≡◌, ℕ, ◌-◌, ◌<◌, Bool, true, false, ◌⊎◌, ⊤}
 use Rattle.lock_base.specs.declared.machine.hold.Hold.{Hold}
 use Rattle.lock_base.specs.Holds.{hold_after}
 use Rattle.lock_word.specs.declared.want.ExWant.{ExWant}
@@ -7,6 +7,7 @@ use Rattle.lock_word.specs.declared.down.Down.{Down}
 use Rattle.lock_word.specs.Word.{word_admits, word_after, amount, step_of_want, step_of_down}
 use Rattle.lock_one.specs.declared.action.Action.TheVariants.{Exchange, End}
 use Rattle.lock_one.specs.declared.call.Call.{Call}
+use Rattle.lock_one.specs.declared.stage.Stage.{Stage}
 use Rattle.lock_one.specs.declared.stage.Stage.TheVariants as stage
 use Rattle.lock_one.specs.declared.park.ParkView.{ParkView}
 use Rattle.lock_one.specs.Machine.{core_of, sleepers, acquiring, removes_reader, alone, taking, next_of}
@@ -23,6 +24,29 @@ pub record AnswersTell : Type 0 where
   -- a try is refused only by a word that refuses it
   pub word_refuses : (call : Call) (found : ℕ) → (call.stage ≡ stage.Look) ⊎ (call.stage ≡ stage.Try)
       → (next_of found call).1 ≡ End false → word_admits call.announced call.readers (core_of found) call.want ≡ false
+
+-- the call blocks, and its deadline has passed
+abbrev pub IsLate : Call → Type 0
+IsLate call = (call.blocks ≡ true) × (call.late ≡ true)
+
+-- what a call that was refused tells: the loaded word refuses a try, and the deadline of a call that blocks has passed
+abbrev pub Tells : Stage → Call → Type 0
+Tells stage.Mark call = call.blocks ≡ true
+Tells stage.Withdraw call = IsLate call
+Tells stage.Leave call = IsLate call
+Tells stage.WakeRefused call = IsLate call
+Tells stage.Refused call = ((call.blocks ≡ false) × (word_admits false call.readers (core_of call.loaded) call.want ≡ false)) ⊎ IsLate call
+Tells other call = ⊤
+
+pub record IsTold (call : Call) : Type 0 where
+  pub unannounced : call.blocks ≡ false → call.announced ≡ false
+  pub tells : Tells call.stage call
+
+-- THE LAW OF REFUSALS: whatever its steps are answered, a try is refused by a word alone, and a call that blocks by its deadline alone
+pub record RefusalsTell : Type 0 where
+  pub acquires : (readers : ℕ) (wish : ExWant) (blocks announces : Bool) → IsTold (acquiring readers wish blocks announces).0
+  pub releases : (readers : ℕ) (down : Down) → IsTold (taking readers down).0
+  pub goes_on : (found : ℕ) (call : Call) → IsTold call → IsTold (next_of found call).0
 
 -- THE LAW OF FIRST STEPS: on a word without S that admits it, a call makes this exchange; and a release begins with this one
 pub record FirstSteps : Type 0 where

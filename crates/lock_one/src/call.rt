@@ -17,7 +17,7 @@ const BAR: u64 = 17_179_869_184;
 /// has 28 bits of readers.
 const YIELDS_FROM: u64 = 268_435_456;
 
-/// How many exchanges of a release may fail before it subtracts, which cannot fail.
+/// How many more exchanges a release makes after its first one fails. Then it subtracts, which cannot fail.
 const EXCHANGES: u32 = 8;
 
 /// How many pauses a call makes before it sleeps.

@@ -1,5 +1,5 @@
 //! The laws of a lock of one word. Each is the contract of a function with an empty body.
-ghost use Rattle.lock_one.specs.Answers.{AnswersTell, FirstSteps};
+ghost use Rattle.lock_one.specs.Answers.{AnswersTell, FirstSteps, RefusalsTell};
 ghost use Rattle.lock_one.specs.Rule.{StepsKeepParking};
 ghost use Rattle.lock_one.specs.Runs.{EveryRunIsServed};
 ghost use Rattle.lock_one.specs.Steps.{LastAccess, StepsKeepTheRule, SleepsKeepTheRule, NobodyIsForgotten};
@@ -39,6 +39,11 @@ pub fn every_run_is_served()
 /// only on a word that refuses it.
 pub fn answers_tell()
     ensures { AnswersTell }
+{}
+
+/// Whatever its steps are answered, a try is refused by a word that refuses it, and a call that blocks after its deadline.
+pub fn refusals_tell()
+    ensures { RefusalsTell }
 {}
 
 /// On a word that admits it, and that has no bit of sleepers, a call acquires by one exchange. A release begins with one.

@@ -2,7 +2,7 @@
 //!
 //! The word is the packed word of `lock_word` with one more bit, the bit of sleepers. A thread sets it before it sleeps on the
 //! word, and a release that finds it set wakes sleepers. After the exchange that releases, the call uses only the address of the
-//! word, so another thread may free the lock at once.
+//! word, so another thread may free the word at once.
 #![tactic(auto)]
 
 mod action;
@@ -15,8 +15,9 @@ mod storing;
 pub use action::Action;
 pub use call::{Call, SLEEPERS};
 pub use laws::{
-    answers_tell, every_run_is_served, first_steps, nobody_is_forgotten, releases_touch_no_more,
-    sleeps_keep_the_rule, steps_keep_parking, steps_keep_the_rule, storing_keeps_words,
+    answers_tell, every_run_is_served, first_steps, nobody_is_forgotten, refusals_tell,
+    releases_touch_no_more, sleeps_keep_the_rule, steps_keep_parking, steps_keep_the_rule,
+    storing_keeps_words,
 };
 pub use park::{Debt, Park, ParkLimits, ParkView};
 pub use stage::Stage;
