@@ -1,4 +1,5 @@
 pub mod OwedWakes
+pub mod Watches
 mod EventSeals
 pub mod EventCounts
 pub mod EventPlays

@@ -1,6 +1,7 @@
-//! What threads sleep on, under a rule by which no notification is lost to a wait that has registered: an event count.
+//! An event count, on which threads sleep until a notification. Its rule loses no notification to a registered wait.
 //!
-//! An `EventCount` has a count of waits and an epoch, which a notification ends. A call takes a new seat at both.
+//! An `EventCount` has a count of waits and an epoch, which a notification ends. A call takes a new seat at both. Here and in
+//! the crates above, a thread that sleeps on an epoch parks by `Watched::park` and is woken by `OwedWake::make`.
 #![tactic(auto)]
 
 mod deadline;
@@ -8,9 +9,11 @@ mod laws;
 mod owed_wake;
 mod pauses;
 mod sleepers;
+mod watched;
 
-pub use deadline::time_left;
+pub use deadline::{Passed, time_left, time_until};
 pub use laws::every_state_wakes_the_registered;
 pub use owed_wake::{OwedWake, Whom};
 pub use pauses::Pauses;
 pub use sleepers::{CallStage, CountRule, EventCount, Notified, Registered, Registration, Slept};
+pub use watched::Watched;

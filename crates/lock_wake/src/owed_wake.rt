@@ -1,6 +1,6 @@
 //! A wake-up that is decided and not made yet.
 ghost use Rattle.std.specs.Prelude.{◌≡◌, ◌<◌};
-ghost use Rattle.lock_wake.specs.OwedWakes.{owed, owed_after};
+ghost use Rattle.lock_wake.specs.OwedWakes.{owed};
 
 use atomic_table::{Shared, TableRule};
 
@@ -25,15 +25,6 @@ impl OwedWake {
     pub fn new(word: usize, whom: Whom) -> OwedWake
         ensures { result ≡ owed word whom }
     {
-        OwedWake { word, whom }
-    }
-
-    /// Returns what is owed after an exchange of this epoch found that one. The call that ended the epoch owes the
-    /// wake-up, and no other.
-    pub(crate) fn after_exchange(word: usize, epoch: u64, found: u64, whom: Whom) -> OwedWake
-        ensures { result ≡ owed_after word epoch found whom }
-    {
-        let whom = if found == epoch { whom } else { Whom::Nobody };
         OwedWake { word, whom }
     }
 

@@ -2,32 +2,41 @@
 ghost use Rattle.std.specs.Prelude.{◌≡◌, IfErr};
 ghost use Rattle.lock_base.specs.declared.raw.fault.Fault.TheVariants as fault;
 
+mod call;
+mod notified;
+mod registered;
+mod slept;
+mod steps;
+
 use crate::sleepers::stage::{CallStage, CountRule};
 use atomic_table::Table;
 use lock_base::raw::Fault;
+pub use notified::Notified;
+pub use registered::Registered;
+pub use slept::Slept;
 use std::alloc::Global;
 use std::marker::Model;
 
 /// How many waits are counted.
-pub(crate) const COUNT: usize = 0;
+const COUNT: usize = 0;
 
 /// The epoch, which a notification ends.
-pub(crate) const EPOCH: usize = 1;
+const EPOCH: usize = 1;
 
 /// The last epoch. No thread sleeps in it: a park compares 32 bits.
-pub(crate) const LAST_EPOCH: u64 = 4_294_967_295;
+const LAST_EPOCH: u64 = 4_294_967_295;
 
 /// The count while the epochs begin anew.
-pub(crate) const CLOSED_COUNT: u64 = 9_223_372_036_854_775_808;
+const CLOSED_COUNT: u64 = 9_223_372_036_854_775_808;
 
 /// An event count: threads that sleep until a notification.
 ///
 /// A thread first registers, then checks again whether it has to sleep, and then sleeps or leaves. In the other order, a
 /// notification between the check and the sleep would be lost. None is lost to a registered wait: see
-/// `every_state_wakes_the_registered`.
+/// `every_state_wakes_the_registered`. Only the modules below this one reach its words.
 #[derive(Drop)]
 pub struct EventCount {
-    pub(crate) table: Table<(), CallStage, (), CountRule, Global>,
+    table: Table<(), CallStage, (), CountRule, Global>,
 }
 
 impl Model for EventCount {

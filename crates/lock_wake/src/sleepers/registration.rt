@@ -1,7 +1,7 @@
 //! A registered wait that keeps a token.
 ghost use Rattle.std.specs.Prelude.{◌≡◌};
 
-use crate::sleepers::registered::Registered;
+use crate::sleepers::event_count::Registered;
 use std::marker::Model;
 
 /// A registered wait that keeps the token of a lock. Since `register_with` took the token, the lock is released after the

@@ -5,7 +5,7 @@ ghost use Rattle.lock_wake.specs.EventPlays.{reached_of};
 ghost use Rattle.lock_wake.specs.EventCalls.{owed_to};
 
 use crate::owed_wake::OwedWake;
-use crate::sleepers::call::SeatedEventCall;
+use crate::sleepers::event_count::call::SeatedEventCall;
 use crate::sleepers::event_count::{CLOSED_COUNT, EPOCH, EventCount};
 use crate::sleepers::plays::{WakeAll, WakeOne};
 use crate::sleepers::stage::CallStage;
