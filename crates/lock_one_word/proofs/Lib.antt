@@ -4,6 +4,8 @@ pub mod Tasks
 pub mod Agree
 pub mod Rests
 pub mod TryEnds
+pub mod Told
+pub mod Blocks
 pub mod Ranks
 pub mod Tokens
 pub mod Begins

@@ -2,8 +2,7 @@
 use Rattle.std.proofs.Common.{◌≡◌, ℕ, true, sym, ap, subst, ◌∙◌}
 use Rattle.lock_one.specs.declared.action.Action.{Action}
 use Rattle.lock_one.specs.Machine.{Progress, next_of}
-use Rattle.lock_one_word.specs.declared.word_lock.steps.pending.Pending.{Pending}
-use Rattle.lock_one_word.specs.Drives.{at, GoesOn}
+use Rattle.lock_one_word.specs.Drives.{Pending, at, GoesOn}
 use Rattle.lock_one_word.specs.Plays.{Goes}
 use Rattle.lock_one_word.specs.Seats.{Self, placed, IsGoing}
 use Rattle.lock_one.proofs.Actions.{on_word, steps_on}

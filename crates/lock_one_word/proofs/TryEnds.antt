@@ -125,3 +125,32 @@ may_end call a v before task going trying =
             | inr refused ↦ (let is = subst (λ st. IsAt st call (placed v.held a) a) refused going.at in inl (ap ends is.1))
           ]
     ]
+
+abbrev pub is_exchange : Action → Bool
+is_exchange (action.Exchange x y) = true
+is_exchange other = false
+
+pub no_exchange : (a : Action) → ((x y : ℕ) → a ≡ action.Exchange x y → ⊥) → is_exchange a ≡ false
+no_exchange action.Load not = refl
+no_exchange (action.Exchange x y) not = absurd (not x y refl)
+no_exchange (action.Subtract d) not = refl
+no_exchange (action.Park n f) not = refl
+no_exchange action.WakeOne not = refl
+no_exchange action.WakeAll not = refl
+no_exchange action.WakeNext not = refl
+no_exchange (action.Spin n) not = refl
+no_exchange action.Yield not = refl
+no_exchange (action.End b) not = refl
+
+-- a try that asks for no exchange and says no asks for its end
+pub no_ends : (a : Action) → is_tried a ≡ true → (is_exchange a ≡ false) → says_yes a ≡ false → a ≡ action.End false
+no_ends action.Load t not off = absurd (false≢true t)
+no_ends (action.Exchange x y) t not off = absurd (true≢false not)
+no_ends (action.Subtract d) t not off = absurd (false≢true t)
+no_ends (action.Park n f) t not off = absurd (false≢true t)
+no_ends action.WakeOne t not off = absurd (false≢true t)
+no_ends action.WakeAll t not off = absurd (false≢true t)
+no_ends action.WakeNext t not off = absurd (false≢true t)
+no_ends (action.Spin n) t not off = absurd (false≢true t)
+no_ends action.Yield t not off = absurd (false≢true t)
+no_ends (action.End b) t not off = ap (λ x. action.End x) off

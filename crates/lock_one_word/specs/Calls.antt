@@ -1,11 +1,15 @@
 -- A lock and the token of an acquisition, as contracts see them.
-use Rattle.std.specs.Prelude.{◌≡◌, ℕ, false, []}
+use Rattle.std.specs.Prelude.{◌≡◌, ℕ, ◌-◌, ◌^◌, Bool, true, false, not, ◌==◌, ◌⊎◌, []}
 use Rattle.atomic_table.specs.Seated.{TableId}
 use Rattle.atomic_table.specs.Table.{Me}
 use Rattle.lock_base.specs.declared.machine.mode.Mode.{Mode}
 use Rattle.lock_base.specs.declared.machine.hold.Hold.{Hold}
-use Rattle.lock_base.specs.Modes.{empty_bag, one_more}
+use Rattle.lock_base.specs.Modes.{empty_bag, one_more, tokens}
+use Rattle.lock_word.specs.declared.want.ExWant.{ExWant}
+use Rattle.lock_word.specs.Word.{bag_of_word, word_admits}
+use Rattle.lock_one.specs.Machine.{core_of, has_sleepers}
 use Rattle.lock_one_word.specs.declared.rule.OneView.{OneView}
+pub use Rattle.lock_one_word.specs.Seals.{Ending, Seen}
 
 -- a word lock: its identity, and its limit
 pub record WordLockView : Type 0 where
@@ -32,3 +36,31 @@ one_hold mode = record { bag = one_more empty_bag mode; announced = false }
 -- the token holds the mode of this lock
 abbrev pub IsTokenOf : WordLockView → Mode → TokenView → Type 0
 IsTokenOf lock mode token = token ≡ record { lock = lock; held = one_hold mode }
+
+-- the word that the call found last refuses what it wants
+abbrev pub IsRefusedBy : ℕ → ExWant → ℕ → Type 0
+IsRefusedBy readers wish word = word_admits false readers (core_of word) wish ≡ false
+
+-- a try was refused by a word, or has made as many exchanges as it can count, and each failed
+abbrev pub Refuses : ℕ → ExWant → Ending → Type 0
+Refuses readers wish e = (e.readers ≡ readers) × (IsRefusedBy readers wish e.word ⊎ (e.exchanges ≡ 2 ^ 64 - 1))
+
+abbrev pub WasRefused : WordLockView → ExWant → Type 0
+WasRefused lock wish = (e : Ending) × Refuses lock.readers wish e
+
+-- a timed call was refused after an answer that its deadline had passed
+abbrev pub TimesOut : ℕ → Ending → Type 0
+TimesOut readers e = (e.readers ≡ readers) × (e.late ≡ true)
+
+abbrev pub HasTimedOut : WordLockView → Type 0
+HasTimedOut lock = (e : Ending) × TimesOut lock.readers e
+
+-- the answers of a load
+abbrev pub SawTokens : Bool → Type 0
+SawTokens answer = (s : Seen) × (answer ≡ not (tokens (bag_of_word (core_of s.word)) == 0))
+
+abbrev pub SawExclusive : Bool → Type 0
+SawExclusive answer = (s : Seen) × (answer ≡ not ((bag_of_word (core_of s.word)).exclusive == 0))
+
+abbrev pub SawSleepers : Bool → Type 0
+SawSleepers answer = (s : Seen) × (answer ≡ has_sleepers s.word)

@@ -12,7 +12,6 @@ use Rattle.lock_one.specs.declared.stage.Stage.{Stage}
 use Rattle.lock_one.specs.declared.stage.Stage.TheVariants as stage
 use Rattle.lock_one.specs.Machine.{Progress, next_of}
 use Rattle.lock_one.specs.Steps.{ends}
-use Rattle.lock_one_word.specs.declared.word_lock.steps.pending.Pending.{Pending}
 use Rattle.lock_one_word.specs.Seats.{Self, Task, to_acquire, IsGoing}
 
 -- an action on the word, or a wake-up by its address
@@ -28,6 +27,12 @@ touches_lock other = false
 -- the party is in a call whose next action is this one
 abbrev pub CanGo : Progress → Self → Type 0
 CanGo next me = (before : Hold) × (task : Task) × IsGoing next before task me.0
+
+-- a call, its next action, and how many exchanges it has made
+pub record Pending : Type 0 where
+  pub call : Call
+  pub action : Action
+  pub exchanges : ℕ
 
 -- a call, and its next action
 abbrev pub at : Pending → Progress

@@ -1,3 +1,4 @@
+mod Seals
 pub mod Seats
 pub mod Legal
 pub mod Plays

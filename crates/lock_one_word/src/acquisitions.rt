@@ -1,6 +1,7 @@
 //! The calls that acquire a token.
-ghost use Rattle.std.specs.Prelude.{◌≡◌, IfSome};
-ghost use Rattle.lock_one_word.specs.Calls.{IsTokenOf};
+ghost use Rattle.std.specs.Prelude.{◌≡◌, IfSome, IfNone};
+ghost use Rattle.lock_word.specs.Word.{want_of_mode};
+ghost use Rattle.lock_one_word.specs.Calls.{IsTokenOf, WasRefused, HasTimedOut};
 
 use crate::token::WordToken;
 use crate::until::{Deadline, Endless, Until};
@@ -15,10 +16,12 @@ impl WordLock {
     #[tactic(auto, using(crate::proofs::Tokens::may_acquire, crate::proofs::Tokens::awaits))]
     /// Acquires the mode without blocking. Returns `None` if a word refuses it.
     pub fn try_acquire(&self, mode: Mode) -> Option<WordToken>
-        ensures { IfSome result (IsTokenOf self.now mode) }
+        ensures acquired { IfSome result (IsTokenOf self.now mode) }
+        ensures refused { IfNone result (WasRefused self.now (want_of_mode mode)) }
     {
         let (pending, mut seat) = self.enter(ExWant::of_mode(mode), false);
-        if self.attempt(&mut seat, pending) {
+        let ended = self.attempt(&mut seat, pending);
+        if ended.is_ok() {
             return Some(WordToken::new(seat));
         }
         drop(seat);
@@ -46,7 +49,8 @@ impl WordLock {
         mode: Mode,
         deadline: Instant,
     ) -> Option<WordToken>
-        ensures { IfSome result (IsTokenOf self.now mode) }
+        ensures acquired { IfSome result (IsTokenOf self.now mode) }
+        ensures refused { IfNone result (HasTimedOut self.now) }
     {
         self.acquire_within(rt, mode, &Deadline(deadline))
     }
@@ -59,11 +63,13 @@ impl WordLock {
         mode: Mode,
         until: &U,
     ) -> Option<WordToken>
-        ensures { IfSome result (IsTokenOf self.now mode) }
+        ensures acquired { IfSome result (IsTokenOf self.now mode) }
+        ensures refused { IfNone result (HasTimedOut self.now) }
     {
         let (mut pending, mut seat) = self.enter(ExWant::of_mode(mode), true);
         self.start(&mut seat, &mut pending);
-        if self.come_to_end(rt, &mut seat, pending, until) {
+        let ended = self.come_to_end(rt, &mut seat, pending, until);
+        if ended.is_ok() {
             return Some(WordToken::new(seat));
         }
         drop(seat);

@@ -1,9 +1,10 @@
 //! The calls that release a token or change its mode.
-ghost use Rattle.std.specs.Prelude.{◌≡◌, MatchResult};
+ghost use Rattle.std.specs.Prelude.{◌≡◌, MatchResult, OnErr};
 ghost use Rattle.lock_base.specs.declared.machine.mode.Mode.TheVariants.{Shared, Exclusive, Upgradable};
 ghost use Rattle.lock_one.specs.Machine.{core_of};
+ghost use Rattle.lock_word.specs.declared.want.ExWant.TheVariants.{Upgrade};
 ghost use Rattle.lock_word.specs.Rule.{WordShows};
-ghost use Rattle.lock_one_word.specs.Calls.{IsTokenOf};
+ghost use Rattle.lock_one_word.specs.Calls.{IsTokenOf, WasRefused, HasTimedOut};
 
 use crate::token::WordToken;
 use crate::until::{Deadline, Endless, Until};
@@ -26,8 +27,8 @@ impl WordLock {
         (word % SLEEPERS, WordToken::new(seat))
     }
 
-    /// Releases a token of the mode, and wakes the sleepers that this unblocks. Another thread may free the lock as soon as
-    /// it is released.
+    /// Releases a token of the mode, and wakes the sleepers that this unblocks. After the step that releases, it accesses
+    /// the word no more.
     #[tactic(auto, using(crate::proofs::Tokens::may_release, crate::proofs::Tokens::releases))]
     pub fn release(&self, token: WordToken, mode: Mode)
         requires { IsTokenOf self.now mode token }
@@ -67,15 +68,17 @@ impl WordLock {
         WordToken::new(seat)
     }
 
-    /// Makes an upgradable token exclusive without blocking, or returns it unchanged.
+    /// Makes an upgradable token exclusive without blocking, or returns it unchanged if a word refuses.
     pub fn try_upgrade(&self, token: WordToken) -> Result<WordToken, WordToken>
         requires { IsTokenOf self.now Upgradable token }
-        ensures { MatchResult result (IsTokenOf self.now Exclusive) (λ back. back ≡ token) }
+        ensures upgraded { MatchResult result (IsTokenOf self.now Exclusive) (λ back. back ≡ token) }
+        ensures refused { OnErr result (WasRefused self.now Upgrade) }
     {
         let mut seat = token.into_seat();
         let mut pending = Pending::acquire(self.readers, ExWant::Upgrade, false);
         self.look(&mut seat, &mut pending);
-        let upgraded = self.attempt(&mut seat, pending);
+        let ended = self.attempt(&mut seat, pending);
+        let upgraded = ended.is_ok();
         let token = WordToken::new(seat);
         if upgraded { Ok(token) } else { Err(token) }
     }
@@ -104,7 +107,8 @@ impl WordLock {
         deadline: Instant,
     ) -> Result<WordToken, WordToken>
         requires { IsTokenOf self.now Upgradable token }
-        ensures { MatchResult result (IsTokenOf self.now Exclusive) (λ back. back ≡ token) }
+        ensures upgraded { MatchResult result (IsTokenOf self.now Exclusive) (λ back. back ≡ token) }
+        ensures refused { OnErr result (HasTimedOut self.now) }
     {
         self.upgrade_within(rt, token, &Deadline(deadline))
     }
@@ -117,13 +121,15 @@ impl WordLock {
         until: &U,
     ) -> Result<WordToken, WordToken>
         requires { IsTokenOf self.now Upgradable token }
-        ensures { MatchResult result (IsTokenOf self.now Exclusive) (λ back. back ≡ token) }
+        ensures upgraded { MatchResult result (IsTokenOf self.now Exclusive) (λ back. back ≡ token) }
+        ensures refused { OnErr result (HasTimedOut self.now) }
     {
         let mut seat = token.into_seat();
         let mut pending = Pending::acquire(self.readers, ExWant::Upgrade, true);
         self.look(&mut seat, &mut pending);
         self.start(&mut seat, &mut pending);
-        let upgraded = self.come_to_end(rt, &mut seat, pending, until);
+        let ended = self.come_to_end(rt, &mut seat, pending, until);
+        let upgraded = ended.is_ok();
         let token = WordToken::new(seat);
         if upgraded { Ok(token) } else { Err(token) }
     }

@@ -1,11 +1,15 @@
 //! The driver of a call: it makes the actions that the machine asks for.
-ghost use Rattle.std.specs.Prelude.{◌≡◌, true, false, None, IfSome};
+ghost use Rattle.std.specs.Prelude.{◌≡◌, true, false, None, IfSome, IfErr, is_ok};
+ghost use Rattle.lock_base.specs.declared.machine.hold.Hold.{Hold};
+ghost use Rattle.lock_word.specs.declared.want.ExWant.{ExWant};
 ghost use Rattle.lock_one.specs.declared.action.Action.TheVariants.{End};
+ghost use Rattle.lock_one_word.specs.Calls.{TimesOut};
 ghost use Rattle.lock_one_word.specs.Drives.{at, CanGo, GoesOn, EndsWith, touches_lock};
+ghost use Rattle.lock_one_word.specs.Seats.{IsGoing, to_acquire};
 
 use crate::rule::OneView;
 use crate::until::Until;
-use crate::word_lock::{Pending, WordLock};
+use crate::word_lock::{Ended, Pending, WordLock};
 use atomic_table::Seat;
 use lock_one::Action;
 use std::sync::Wait;
@@ -67,16 +71,18 @@ impl WordLock {
         seat: &mut Seat<(), OneView>,
         mut pending: Pending,
         until: &U,
-    ) -> bool
+    ) -> Result<(), Ended>
         requires table { seat.old.table_id ≡ self.now.id }
         requires going { CanGo (at pending) seat.old.me }
+        requires blocks { pending.call.blocks ≡ true }
         ensures table { (seat.new.table_id ≡ seat.old.table_id) × (seat.new.me.1 ≡ seat.old.me.1) × (seat.new.me.0.readers ≡ seat.old.me.0.readers) }
-        ensures ended { EndsWith (at pending) seat.old.me result seat.new.me }
+        ensures ended { EndsWith (at pending) seat.old.me (is_ok result) seat.new.me }
+        ensures refused { IfErr result (λ end. (before : Hold) (wish : ExWant) → IsGoing (at pending) before (to_acquire wish) seat.old.me.0
+            → TimesOut seat.old.me.0.readers end) }
     {
         for _ in rt.forever() {
             if let Some(answer) = self.make(rt, seat, &mut pending, until) {
-                pending.end();
-                return answer;
+                return pending.answer(answer);
             }
         }
         unreachable!()
@@ -89,15 +95,17 @@ impl WordLock {
         seat: &mut Seat<(), OneView>,
         pending: Pending,
         until: &U,
-    ) -> bool
+    ) -> Result<(), Ended>
         requires table { seat.old.table_id ≡ self.now.id }
         requires going { CanGo (at pending) seat.old.me }
+        requires blocks { pending.call.blocks ≡ true }
         ensures table { (seat.new.table_id ≡ seat.old.table_id) × (seat.new.me.1 ≡ seat.old.me.1) × (seat.new.me.0.readers ≡ seat.old.me.0.readers) }
-        ensures ended { EndsWith (at pending) seat.old.me result seat.new.me }
+        ensures ended { EndsWith (at pending) seat.old.me (is_ok result) seat.new.me }
+        ensures refused { IfErr result (λ end. (before : Hold) (wish : ExWant) → IsGoing (at pending) before (to_acquire wish) seat.old.me.0
+            → TimesOut seat.old.me.0.readers end) }
     {
         if let Action::End(answer) = pending.action() {
-            pending.end();
-            return answer;
+            return pending.answer(answer);
         }
         self.finish(rt, seat, pending, until)
     }

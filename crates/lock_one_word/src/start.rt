@@ -15,6 +15,7 @@ impl WordLock {
         ensures table { (seat.new.table_id ≡ seat.old.table_id) × (seat.new.me.1 ≡ seat.old.me.1) × (seat.new.me.0.readers ≡ seat.old.me.0.readers) }
         ensures going { LeadsTo (at pending.old) seat.old.me (at pending.new) seat.new.me }
         ensures tries { IsTrying (at pending.old) → IsTrying (at pending.new) }
+        ensures blocks { pending.new.call.blocks ≡ pending.old.call.blocks }
     {
         if let Action::Exchange(old, new) = pending.action() {
             self.exchange(seat, pending, old, new);

@@ -1,29 +1,39 @@
 //! How a call tries, without blocking.
-ghost use Rattle.std.specs.Prelude.{◌≡◌};
+ghost use Rattle.std.specs.Prelude.{◌≡◌, is_ok, IfErr};
+ghost use Rattle.lock_base.specs.declared.machine.hold.Hold.{Hold};
+ghost use Rattle.lock_word.specs.declared.want.ExWant.{ExWant};
+ghost use Rattle.lock_one_word.specs.Calls.{Refuses};
 ghost use Rattle.lock_one_word.specs.Drives.{at, CanGo, IsTrying, Tried, says_yes};
+ghost use Rattle.lock_one_word.specs.Seats.{IsGoing, to_acquire};
 
 use crate::rule::OneView;
-use crate::word_lock::{Pending, WordLock};
+use crate::word_lock::{Ended, Pending, WordLock};
 use atomic_table::Seat;
 use lock_one::Action;
 
 impl WordLock {
-    /// Exchanges until an exchange acquires or a word refuses. Returns whether it acquired.
-    pub(crate) fn attempt(&self, seat: &mut Seat<(), OneView>, mut pending: Pending) -> bool
+    /// Exchanges until an exchange acquires or a word refuses, which it returns.
+    pub(crate) fn attempt(
+        &self,
+        seat: &mut Seat<(), OneView>,
+        mut pending: Pending,
+    ) -> Result<(), Ended>
         requires table { seat.old.table_id ≡ self.now.id }
         requires going { CanGo (at pending) seat.old.me × IsTrying (at pending) }
+        requires fresh { pending.exchanges ≡ 0 }
         ensures table { (seat.new.table_id ≡ seat.old.table_id) × (seat.new.me.1 ≡ seat.old.me.1) × (seat.new.me.0.readers ≡ seat.old.me.0.readers) }
-        ensures tried { Tried (at pending) result seat.old.me seat.new.me }
+        ensures tried { Tried (at pending) (is_ok result) seat.old.me seat.new.me }
+        ensures refused { IfErr result (λ end. (before : Hold) (wish : ExWant) → IsGoing (at pending) before (to_acquire wish) seat.old.me.0
+            → Refuses seat.old.me.0.readers wish end) }
     {
-        for _ in 0..u64::MAX {
-            let Action::Exchange(old, new) = pending.action() else {
-                break;
-            };
+        while let Action::Exchange(old, new) = pending.action() {
+            if pending.is_spent() {
+                return Err(pending.end());
+            }
             self.exchange(seat, &mut pending, old, new);
         }
         let acquired = says_yes(pending.action());
-        pending.end();
-        acquired
+        pending.answer(acquired)
     }
 }
 

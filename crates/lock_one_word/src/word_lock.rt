@@ -1,22 +1,23 @@
 //! The lock.
 ghost use Rattle.std.specs.Prelude.{◌≡◌, ◌↔◌, IfOk, IfErr};
 ghost use Rattle.lock_base.specs.Limits.{IsLimit, IsMakerFault};
+ghost use Rattle.lock_one_word.specs.Calls.{SawTokens, SawExclusive, SawSleepers};
 
 mod steps;
 
 use crate::rule::{OneRule, OneView};
 use atomic_table::Table;
 use lock_base::raw::{Fault, is_limit};
-use lock_one::{SLEEPERS, from_stored};
+use lock_one::SLEEPERS;
 use lock_word::{has_exclusive, has_tokens};
 use std::alloc::Global;
 use std::marker::Model;
-pub(crate) use steps::Pending;
+pub(crate) use steps::{Ended, Pending};
 
 /// A reader-writer lock in one word, on which its waiters sleep.
 ///
 /// A lock for one reader is a mutex in all modes: a release wakes one sleeper, and no writer sets the bar. Other locks wake
-/// all sleepers that a release unblocks. After the step that releases, a release touches the lock no more: it may be gone.
+/// all sleepers that a release unblocks. After the step that releases, a release accesses the word no more.
 #[derive(Drop)]
 pub struct WordLock {
     table: Table<(), OneView, u64, OneRule, Global>,
@@ -53,21 +54,23 @@ impl WordLock {
     }
 
     /// Returns whether a token is held. The answer may be stale at once.
-    pub fn is_locked(&self) -> bool {
-        has_tokens(self.peek() % SLEEPERS)
+    pub fn is_locked(&self) -> bool
+        ensures { SawTokens result }
+    {
+        has_tokens(self.peek().word() % SLEEPERS)
     }
 
     /// Returns whether an exclusive token is held. The answer may be stale at once.
-    pub fn is_locked_exclusive(&self) -> bool {
-        has_exclusive(self.peek() % SLEEPERS)
+    pub fn is_locked_exclusive(&self) -> bool
+        ensures { SawExclusive result }
+    {
+        has_exclusive(self.peek().word() % SLEEPERS)
     }
 
     /// Returns whether a waiter may sleep. The answer may be stale at once.
-    pub fn may_have_sleepers(&self) -> bool {
-        self.peek() >= SLEEPERS
-    }
-
-    fn peek(&self) -> u64 {
-        from_stored(self.table.shared.peek(0))
+    pub fn may_have_sleepers(&self) -> bool
+        ensures { SawSleepers result }
+    {
+        self.peek().word() >= SLEEPERS
     }
 }

@@ -1,5 +1,5 @@
 //! The actions of a call, made on the word. Only these functions go on with a call.
-ghost use Rattle.std.specs.Prelude.{◌≡◌, Bool, false, [], IsTrue, if◌then◌else◌};
+ghost use Rattle.std.specs.Prelude.{◌≡◌, ◌+◌, ◌-◌, ◌<◌, ◌^◌, Bool, false, [], IsTrue, if◌then◌else◌};
 ghost use Rattle.lock_base.specs.Holds.{no_hold, hold_has};
 ghost use Rattle.lock_word.specs.Word.{step_of_want};
 ghost use Rattle.lock_word.specs.Rule.{WordShows};
@@ -9,13 +9,17 @@ ghost use Rattle.lock_one.specs.Machine.{core_of, next_of};
 ghost use Rattle.lock_one_word.specs.Seats.{IsGoing, to_acquire};
 ghost use Rattle.lock_one_word.specs.Drives.{at, CanGo, GoesOn, IsTrying};
 
+mod ended;
 mod pending;
+mod seen;
 
 use crate::plays::{ExchangeWord, LoadWord, SubtractFromWord};
 use crate::rule::OneView;
 use crate::until::{Left, Until};
 use crate::word_lock::WordLock;
+use crate::word_lock::steps::seen::SeenWord;
 use atomic_table::Seat;
+pub(crate) use ended::Ended;
 use lock_one::{from_stored, stored_amount, to_stored};
 use lock_word::{Down, ExWant};
 pub(crate) use pending::Pending;
@@ -31,11 +35,18 @@ impl WordLock {
         ensures table { (result.1.table_id ≡ self.now.id) × (result.1.me.1 ≡ []) × (result.1.me.0.readers ≡ self.now.readers) × (result.1.me.0.held ≡ no_hold) }
         ensures going { IsGoing (at result.0) no_hold (to_acquire want) result.1.me.0 }
         ensures tries { blocks ≡ false → IsTrying (at result.0) }
+        ensures blocks { result.0.call.blocks ≡ blocks }
+        ensures fresh { result.0.exchanges ≡ 0 }
     {
         let mut pending = Pending::acquire(self.readers, want, blocks);
         let (stored, seat) = self.table.shared.load_new_seat::<LoadWord>(0);
         pending.go_on(from_stored(stored));
         (pending, seat)
+    }
+
+    /// Loads the word, by no party.
+    pub(crate) fn peek(&self) -> SeenWord {
+        SeenWord::new(from_stored(self.table.shared.peek(0)))
     }
 
     /// Loads the word, in no call.
@@ -53,6 +64,7 @@ impl WordLock {
         requires action { pending.old.action ≡ Load }
         ensures same { (seat.new.table_id ≡ seat.old.table_id) × (seat.new.me ≡ seat.old.me) }
         ensures goes { GoesOn pending.old seat.old.me pending.new seat.new.me }
+        ensures exchanges { pending.new.exchanges ≡ pending.old.exchanges }
     {
         let stored = self.table.shared.load::<LoadWord>(seat, 0);
         pending.go_on(from_stored(stored));
@@ -71,12 +83,14 @@ impl WordLock {
         requires going { CanGo (at pending.old) seat.old.me }
         ensures table { (seat.new.table_id ≡ seat.old.table_id) × (seat.new.me.1 ≡ seat.old.me.1) × (seat.new.me.0.readers ≡ seat.old.me.0.readers) }
         ensures goes { GoesOn pending.old seat.old.me pending.new seat.new.me }
+        ensures counted { pending.old.exchanges < 2 ^ 64 - 1 → pending.new.exchanges ≡ pending.old.exchanges + 1 }
     {
         let (first, second) = (to_stored(old), to_stored(new));
         let stored = self
             .table
             .shared
             .compare_exchange::<ExchangeWord>(seat, 0, first, second);
+        pending.count();
         pending.go_on(from_stored(stored));
     }
 

@@ -1,10 +1,15 @@
 //! A call and its next action.
-ghost use Rattle.std.specs.Prelude.{◌≡◌, true};
+ghost use Rattle.std.specs.Prelude.{◌≡◌, ◌≢◌, ◌+◌, ◌<◌, ◌^◌, ◌-◌, true, is_ok, IfErr};
+ghost use Rattle.lock_one.specs.Answers.{IsTold};
+ghost use Rattle.lock_one.specs.declared.action.Action.TheVariants.{End};
 ghost use Rattle.lock_one.specs.Machine.{acquiring, next_of, taking};
 ghost use Rattle.lock_one_word.specs.Drives.{at, MayEnd};
+ghost use Rattle.lock_one_word.specs.Seals.{ending};
 
+use crate::word_lock::steps::ended::Ended;
 use lock_one::{Action, Call};
 use lock_word::{Down, ExWant};
+use std::marker::Model;
 
 /// A call and its next action.
 ///
@@ -13,15 +18,34 @@ use lock_word::{Down, ExWant};
 pub(crate) struct Pending {
     call: Call,
     action: Action,
+    /// How many exchanges the call has made.
+    exchanges: u64,
 }
 
+impl Model for Pending {
+    ghost use Rattle.lock_one.specs.Answers.{IsTold};
+    ghost use Rattle.lock_one_word.specs.Drives.{Pending};
+
+    ghost Value = { Pending };
+
+    ghost view = { λ p. record { call = p.call; action = p.action; exchanges = p.exchanges } };
+
+    ghost invariant = { λ p. IsTold p.call };
+}
+
+#[tactic(auto, using(crate::proofs::Told::begins, crate::proofs::Told::begins_release, crate::proofs::Told::goes_on))]
 impl Pending {
     /// Begins a call that acquires or upgrades.
     pub(crate) fn acquire(readers: u64, want: ExWant, blocks: bool) -> Pending
-        ensures { at result ≡ acquiring readers want blocks true }
+        ensures begun { at result ≡ acquiring readers want blocks true }
+        ensures fresh { result.exchanges ≡ 0 }
     {
         let (call, action) = Call::acquire(readers, want, blocks, true);
-        Pending { call, action }
+        Pending {
+            call,
+            action,
+            exchanges: 0,
+        }
     }
 
     /// Begins a call that releases or downgrades.
@@ -29,7 +53,11 @@ impl Pending {
         ensures { at result ≡ taking readers down }
     {
         let (call, action) = Call::release(readers, down);
-        Pending { call, action }
+        Pending {
+            call,
+            action,
+            exchanges: 0,
+        }
     }
 
     /// Returns the next action.
@@ -39,17 +67,52 @@ impl Pending {
         self.action
     }
 
+    /// Returns whether the call has made as many exchanges as it can count.
+    pub(crate) fn is_spent(&self) -> bool
+        ensures spent { result ≡ true → self.now.exchanges ≡ 2 ^ 64 - 1 }
+        ensures left { result ≢ true → self.now.exchanges < 2 ^ 64 - 1 }
+    {
+        self.exchanges == u64::MAX
+    }
+
     /// Goes on with what the action found. Only the functions that make an action can call this.
     pub(super) fn go_on(&mut self, found: u64)
-        ensures { at self.new ≡ next_of found self.old.call }
+        ensures goes { at self.new ≡ next_of found self.old.call }
+        ensures exchanges { self.new.exchanges ≡ self.old.exchanges }
     {
         self.action = self.call.next(found);
     }
 
-    /// Ends a call that asks for its end, or a try before its exchange, of which nobody knows.
-    pub(crate) fn end(self)
-        requires { MayEnd (at self) }
+    /// Counts an exchange.
+    pub(super) fn count(&mut self)
+        ensures same { at self.new ≡ at self.old }
+        ensures counted { self.old.exchanges < 2 ^ 64 - 1 → self.new.exchanges ≡ self.old.exchanges + 1 }
     {
-        let Pending { call: _, action: _ } = self;
+        self.exchanges = self.exchanges.saturating_add(1);
+    }
+
+    /// Ends a call that asks for its end, or a try before its exchange, of which nobody knows.
+    pub(crate) fn end(self) -> Ended
+        requires { MayEnd (at self) }
+        ensures told { IsTold self.call }
+        ensures end { result ≡ ending self.call.readers self.call.loaded self.call.late self.exchanges }
+    {
+        let Pending {
+            call,
+            action: _,
+            exchanges,
+        } = self;
+        Ended::new(call.readers, call.loaded, call.late, exchanges)
+    }
+
+    /// Ends a call with the answer that it asks for.
+    pub(crate) fn answer(self, answer: bool) -> Result<(), Ended>
+        requires { self.action ≡ End answer }
+        ensures answer { is_ok result ≡ answer }
+        ensures told { IsTold self.call }
+        ensures end { IfErr result (λ end. end ≡ ending self.call.readers self.call.loaded self.call.late self.exchanges) }
+    {
+        let ended = self.end();
+        if answer { Ok(()) } else { Err(ended) }
     }
 }

@@ -1,8 +1,11 @@
-use Rattle.std.proofs.Common.{◌≡◌}
+use Rattle.std.proofs.Common.{◌≡◌, ◌-◌, ◌^◌}
 use Rattle.lock_one_word.specs.Drives.{at, CanGo, LeadsTo, IsTrying}
 use Rattle.lock_one_word.proofs.word_lock.WordLock.attempt.Given as goal
 
-abbrev pub invariant-loop : goal.invariant-loop
-invariant-loop l =
+abbrev pub invariant-loop-old : goal.invariant-loop-old
+invariant-loop-old l =
     (l.seat.table_id ≡ l.initial.seat.table_id) × (l.seat.me.1 ≡ l.initial.seat.me.1) × (l.seat.me.0.readers ≡ l.initial.seat.me.0.readers)
     × CanGo (at l.pending) l.seat.me × IsTrying (at l.pending) × LeadsTo (at l.fn.pending) l.initial.seat.me (at l.pending) l.seat.me
+
+abbrev pub decreases-loop-old : goal.decreases-loop-old
+decreases-loop-old l = 2 ^ 64 - 1 - l.pending.exchanges

@@ -20,9 +20,9 @@ returns-clause-going c =
     let readers = sym (ap (λ (m : Self). m.0.readers) told.0 ∙ c.self.invariant.1) in
     subst (λ h. IsGoing (at c.go_on.new.self) h (to_acquire c.args.want) me.0) fresh
     (first_look c.self.inside.readers c.from_stored.result c.args.want c.args.blocks me (at c.acquire-pending.result) (at c.go_on.new.self) readers
-    (ap (λ (m : Self). m.0.held.announced) told.0) c.acquire-pending.ensures c.requires.awaited
+    (ap (λ (m : Self). m.0.held.announced) told.0) c.acquire-pending.ensures.begun c.requires.awaited
     (subst (λ h. IsTrue (hold_has h (step_of_want c.args.want))) (sym fresh) c.requires.has)
     (λ call before task on goes.
     subst (λ w. IsGoing (next_of w call) before task me.0) (sym c.from_stored.ensures)
     (told.3.2 call before task on (subst (λ (m : Self). IsGoing (call, Load) before task m.0) told.0 goes)))
-    c.go_on.ensures)
+    c.go_on.ensures.goes)

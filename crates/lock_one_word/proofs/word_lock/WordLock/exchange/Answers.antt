@@ -1,7 +1,7 @@
 use Rattle.std.proofs.Common.{rules, refl, subst, sym, ap, ◌∙◌}
 use Rattle.lock_one.specs.declared.action.Action.{Action}
 use Rattle.lock_one.specs.declared.action.Action.TheVariants.{Exchange}
-use Rattle.lock_one.specs.Machine.{next_of}
+use Rattle.lock_one.specs.Machine.{Progress, next_of}
 use Rattle.lock_one_word.specs.Calls.{WordLockView}
 use Rattle.lock_one_word.specs.Seats.{placed, IsGoing}
 use Rattle.lock_one.proofs.Actions.{steps_on}
@@ -34,7 +34,7 @@ returns-clause-goes c =
     let going = subst (λ (x : Action). IsGoing (call, x) before task c.args.seat.now.me.0) c.requires.action c.requires.going.2 in
     let on = steps_on call.stage call (placed c.args.seat.now.me.0.held a) a going.at refl in
     let small = exchange_small call.stage call (placed c.args.seat.now.me.0.held a) c.args.old c.args.new on going.loaded going.at in
-    passes_on_word c.args.pending.now c.go_on.new.self a c.args.seat.now.me c.compare_exchange-stored.new.seat.me c.from_stored.result c.from_stored.result c.requires.action refl refl c.go_on.ensures
+    passes_on_word c.args.pending.now c.go_on.new.self a c.args.seat.now.me c.compare_exchange-stored.new.seat.me c.from_stored.result c.from_stored.result c.requires.action refl refl (c.go_on.ensures.goes ∙ ap (λ (p : Progress). next_of c.from_stored.result p.0) c.count.ensures.same)
     (λ other first todo step goes.
     subst (λ w. IsGoing (next_of w other) first todo c.compare_exchange-stored.new.seat.me.0) (sym c.from_stored.ensures)
     (c.compare_exchange-stored.ensures.2.2 other first todo step

@@ -26,7 +26,7 @@ fetch_sub-stored-requires c =
 pub returns-clause-goes : goal.returns-clause-goes
 returns-clause-goes c =
     passes_on_word c.args.pending.now c.go_on.new.self (Subtract c.args.down) c.args.seat.now.me c.fetch_sub-stored.new.seat.me c.from_stored.result c.from_stored.result
-    c.requires.action refl refl c.go_on.ensures
+    c.requires.action refl refl c.go_on.ensures.goes
     (λ other first todo step goes.
     subst (λ w. IsGoing (next_of w other) first todo c.fetch_sub-stored.new.seat.me.0) (sym c.from_stored.ensures)
     (c.fetch_sub-stored.ensures.2.2 other first todo step

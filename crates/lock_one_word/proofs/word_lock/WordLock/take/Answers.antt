@@ -2,10 +2,9 @@ use Rattle.std.proofs.Common.{◌<◌, true, refl, sym, ap, subst, ◌∙◌, in
 use Rattle.lock_one.specs.declared.action.Action.{Action}
 use Rattle.lock_one.specs.Machine.{Progress}
 use Rattle.lock_one.specs.Steps.{ends}
-use Rattle.lock_one_word.specs.declared.word_lock.steps.pending.Pending.{Pending}
 use Rattle.lock_one_word.specs.Calls.{WordLockView}
 use Rattle.lock_one_word.specs.Seats.{Self, IsGoing, to_release}
-use Rattle.lock_one_word.specs.Drives.{at, MayEnd, rank}
+use Rattle.lock_one_word.specs.Drives.{Pending, at, MayEnd, rank}
 use Rattle.lock_one_word.proofs.Ranks.{smaller, has_ended}
 use Rattle.lock_one_word.proofs.Rests.{releasing_first, released_end}
 use Rattle.lock_one_word.proofs.word_lock.WordLock.take.Goals as goal
