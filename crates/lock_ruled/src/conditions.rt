@@ -1,13 +1,14 @@
 //! Waiting until the value meets a condition.
-ghost use Rattle.std.specs.Prelude.{◌≡◌, true, IfOk, MatchResult};
+ghost use Rattle.std.specs.Prelude.{◌≡◌, true, IfOk, IfErr, MatchResult};
 ghost use Rattle.std.specs.Fn.{FnReturnsAt};
 ghost use Rattle.lock_ruled.specs.Ruled.{HasLocked};
+ghost use Rattle.lock_wake.specs.EventCalls.{HasPassed};
 
 use crate::guard::RuledGuard;
 use crate::mutex::RuledMutex;
 use crate::rule::MutexRule;
 use crate::user::User;
-use lock_wake::time_left;
+use lock_wake::time_until;
 use std::sync::Wait;
 use std::time::{Clock, Instant};
 
@@ -57,6 +58,7 @@ impl<T: Drop, V, P: MutexRule<T, V>> RuledMutex<T, V, P> {
         requires condition { F.IsAlwaysCallable condition }
         ensures locked { MatchResult result (HasLocked P.rule user) (λ same. same ≡ user) }
         ensures condition { IfOk result (λ guard. FnReturnsAt F.Fn condition guard.value true) }
+        ensures late { IfErr result (λ _. HasPassed deadline) }
     {
         let mut user = user;
         for _ in rt.forever() {
@@ -67,9 +69,9 @@ impl<T: Drop, V, P: MutexRule<T, V>> RuledMutex<T, V, P> {
             let registered = self.changed.register(rt);
             let (released, waiting) = self.release_unchanged(guard, registered);
             user = released;
-            match time_left(rt, deadline) {
-                Some(left) => self.changed.sleep(rt, waiting, Some(left)),
-                None => {
+            match time_until(rt, deadline) {
+                Ok(left) => self.changed.sleep(rt, waiting, Some(left)),
+                Err(_) => {
                     self.changed.leave(waiting);
                     return Err(user);
                 }

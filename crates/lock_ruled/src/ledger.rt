@@ -1,4 +1,4 @@
-//! The rule of a ledger: what the value has, and what all users have, is always all that there is.
+//! A ledger: a rule by which the measure of the value and the shares of all users add up to a fixed total.
 use crate::ready::ReadyRule;
 use crate::rule::{MutexRule, ViewUpdate};
 use atomic_table::{Join, Split};

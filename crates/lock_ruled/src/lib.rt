@@ -14,6 +14,7 @@ mod in_order;
 mod laws;
 mod lease;
 mod ledger;
+mod lock;
 mod mutex;
 mod permits;
 mod plays;
@@ -26,7 +27,6 @@ mod tally;
 mod timed;
 mod user;
 mod wait;
-mod wake;
 
 pub use atomic_table::{Join, Split};
 pub use constant::{Constant, SameView};

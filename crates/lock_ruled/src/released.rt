@@ -1,15 +1,13 @@
-//! A user that released the mutex, and has yet to see to those that wait for a condition.
-ghost use Rattle.std.specs.Prelude.{◌≡◌, ◌<◌, [], true, IfErr};
+//! A release of the mutex, and the users that wait for a condition of its value.
+ghost use Rattle.std.specs.Prelude.{◌≡◌, true, IfErr};
 ghost use Rattle.lock_base.specs.declared.raw.fault.Fault.TheVariants as fault;
 ghost use Rattle.lock_ruled.specs.Ruled.{Keeps};
-ghost use Rattle.lock_ruled.specs.Plays.{stage_after_release};
 
 use crate::guard::RuledGuard;
-use crate::mutex::{AWAITED, FREE, RuledMutex, WORD};
-use crate::plays::{Stay, Unlock};
-use crate::rule::{MutexRule, UserView, ViewUpdate};
+use crate::mutex::RuledMutex;
+use crate::plays::Stay;
+use crate::rule::{MutexRule, ViewUpdate};
 use crate::user::User;
-use atomic_table::Seat;
 use lock_base::raw::Fault;
 use lock_wake::{EventCount, Notified, Registered};
 use std::alloc::Global;
@@ -135,33 +133,11 @@ impl<T: Drop, V, P: MutexRule<T, V>> RuledMutex<T, V, P> {
     {
         let (mut seat, was_awaited) = self.put_back::<M>(guard);
         if was_awaited {
-            self.end_epoch(&mut seat).make(&self.table.shared);
+            let wake_up = self.end_epoch(&mut seat);
+            self.wake(wake_up);
         }
         Released {
             user: User { seat },
         }
-    }
-
-    /// Puts the value back into the slot, and marks the mutex as free. Returns whether it was awaited, which makes the user
-    /// due.
-    fn put_back<M: ViewUpdate<T, V>>(
-        &self,
-        guard: RuledGuard<T, V>,
-    ) -> (Seat<Option<T>, UserView<T, V>>, bool)
-        requires mutex { guard.user.mutex ≡ self.now }
-        requires rule { Keeps P.rule guard.taken guard.user.view guard.value
-            (M.next guard.taken guard.user.view guard.value) }
-        ensures seat { (result.0.table_id ≡ self.now) × (result.0.me.1 ≡ []) }
-        ensures parts { (result.0.me.0.parts ≡ guard.user.parts) × (0 < guard.user.parts) }
-        ensures view { result.0.me.0.own ≡ M.next guard.taken guard.user.view guard.value }
-        ensures stage { result.0.me.0.stage ≡ stage_after_release result.1 }
-    {
-        let RuledGuard { value, mut seat } = guard;
-        match self.table.shared.exchange(&mut seat, 0, Some(value)) {
-            None => {}
-            Some(_) => unreachable!(),
-        }
-        let found = self.table.shared.swap::<Unlock<M>>(&mut seat, WORD, FREE);
-        (seat, found == AWAITED)
     }
 }

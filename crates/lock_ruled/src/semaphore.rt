@@ -1,9 +1,9 @@
-//! A semaphore whose permits are all accounted for: those that are free, and those that each holder has, are always as
-//! many as it was made with.
+//! A semaphore. Its free permits and those of its holders always add up to the number that it was made with.
 ghost use Rattle.std.specs.Prelude.{◌≡◌, ◌-◌, ◌+◌, ◌<◌, ◌≤◌, IfOk, IfErr, MatchResult};
 ghost use Rattle.lock_base.specs.declared.raw.fault.Fault.TheVariants as fault;
 ghost use Rattle.lock_ruled.specs.Ruled.{all_parts, first_user};
 ghost use Rattle.lock_ruled.specs.Permits.{with_more, with_fewer, HasFew};
+ghost use Rattle.lock_wake.specs.EventCalls.{HasPassed};
 
 use crate::holder::Holder;
 use crate::ledger::{Ledger, Settles, Share, Shares};
@@ -88,7 +88,8 @@ impl Semaphore {
         deadline: Instant,
     ) -> Result<Holder, Holder>
         requires semaphore { holder.mutex ≡ self.now }
-        ensures { MatchResult result (λ after. after ≡ with_more holder permits) (λ same. same ≡ holder) }
+        ensures acquired { MatchResult result (λ after. after ≡ with_more holder permits) (λ same. same ≡ holder) }
+        ensures late { IfErr result (λ _. HasPassed deadline) }
     {
         let enough = move |free: &u64| *free >= permits;
         match self.free.lock_when_until(rt, holder.user, enough, deadline) {

@@ -1,8 +1,9 @@
 //! A semaphore that threads share by reference or in an `Arc`. Its permits are all accounted for: those that are free, and
 //! those of all tokens.
-ghost use Rattle.std.specs.Prelude.{◌≡◌, ◌≤◌, IfOk, IfErr, IfSome};
+ghost use Rattle.std.specs.Prelude.{◌≡◌, ◌≤◌, None, IfOk, IfErr, IfSome};
 ghost use Rattle.lock_base.specs.declared.raw.fault.Fault.TheVariants as fault;
 ghost use Rattle.lock_ruled.specs.Accounts.{token_of};
+ghost use Rattle.lock_wake.specs.EventCalls.{HasPassed};
 
 mod guard;
 mod plays;
@@ -13,7 +14,7 @@ use crate::shared_semaphore::plays::LookAtPermits;
 use atomic_table::Table;
 pub use guard::{ArcPermitGuard, PermitGuard};
 use lock_base::raw::Fault;
-use lock_wake::{EventCount, time_left};
+use lock_wake::{EventCount, time_until};
 pub use rule::{PermitRule, PermitView};
 use std::alloc::Global;
 use std::marker::Model;
@@ -84,12 +85,15 @@ impl SharedSemaphore {
     ) -> Option<PermitToken>
         ensures token { IfSome result (λ token. token ≡ token_of self.now permits) }
         ensures within { IfSome result (λ _. permits ≤ self.now.permits) }
+        ensures late { result ≡ None → HasPassed deadline }
     {
         for _ in rt.forever() {
             if let Some(token) = self.try_acquire(rt, permits) {
                 return Some(token);
             }
-            let left = time_left(rt, deadline)?;
+            let Ok(left) = time_until(rt, deadline) else {
+                return None;
+            };
             if let Some(token) = self.wait_once(rt, permits, Some(left)) {
                 return Some(token);
             }

@@ -1,14 +1,15 @@
 //! Acquiring the mutex until a deadline.
-ghost use Rattle.std.specs.Prelude.{◌≡◌, MatchResult};
+ghost use Rattle.std.specs.Prelude.{◌≡◌, false, IfErr, MatchResult};
 ghost use Rattle.lock_ruled.specs.Ruled.{HasLocked};
 ghost use Rattle.lock_ruled.specs.Acquiring.{MayAcquire, MayHaveAcquired};
+ghost use Rattle.lock_wake.specs.EventCalls.{HasPassed};
 
 use crate::guard::RuledGuard;
 use crate::mutex::RuledMutex;
 use crate::rule::{MutexRule, UserView};
 use crate::user::User;
 use atomic_table::Seat;
-use lock_wake::time_left;
+use lock_wake::time_until;
 use std::sync::Wait;
 use std::time::{Clock, Instant};
 
@@ -21,7 +22,8 @@ impl<T: Drop, V, P: MutexRule<T, V>> RuledMutex<T, V, P> {
         deadline: Instant,
     ) -> Result<RuledGuard<T, V>, User<T, V>>
         requires { user.mutex ≡ self.now }
-        ensures { MatchResult result (HasLocked P.rule user) (λ same. same ≡ user) }
+        ensures locked { MatchResult result (HasLocked P.rule user) (λ same. same ≡ user) }
+        ensures late { IfErr result (λ _. HasPassed deadline) }
     {
         let mut seat = user.seat;
         if self.acquire_until(rt, &mut seat, deadline) {
@@ -39,20 +41,21 @@ impl<T: Drop, V, P: MutexRule<T, V>> RuledMutex<T, V, P> {
         deadline: Instant,
     ) -> bool
         requires { MayAcquire self.now seat.old }
-        ensures { MayHaveAcquired P.rule result seat.old seat.new }
+        ensures acquired { MayHaveAcquired P.rule result seat.old seat.new }
+        ensures late { result ≡ false → HasPassed deadline }
     {
         if self.try_acquire(seat) || self.try_with_backoff(seat) {
             return true;
         }
         for _ in rt.forever() {
-            let Some(epoch) = self.mark(seat) else {
+            let Some(watched) = self.mark(seat) else {
                 return true;
             };
-            let Some(left) = time_left(rt, deadline) else {
-                self.leave(seat);
+            let Ok(left) = time_until(rt, deadline) else {
+                self.leave(seat, watched);
                 return false;
             };
-            self.sleep(rt, seat, epoch, Some(left));
+            self.sleep(rt, seat, watched, Some(left));
         }
         unreachable!()
     }

@@ -1,8 +1,9 @@
 //! Permits that are released on drop.
-ghost use Rattle.std.specs.Prelude.{◌≡◌, IfSome, IfOk, IfErr};
+ghost use Rattle.std.specs.Prelude.{◌≡◌, None, IfSome, IfOk, IfErr};
 ghost use Rattle.std.specs.Arc.{arc_value};
 ghost use Rattle.lock_base.specs.declared.raw.fault.Fault.TheVariants as fault;
 ghost use Rattle.lock_ruled.specs.Accounts.{token_of};
+ghost use Rattle.lock_wake.specs.EventCalls.{HasPassed};
 
 use crate::shared_semaphore::SharedSemaphore;
 use crate::shared_semaphore::token::PermitToken;
@@ -91,7 +92,8 @@ impl SharedSemaphore {
         permits: u64,
         deadline: Instant,
     ) -> Option<PermitGuard<'_>>
-        ensures { IfSome result (λ guard. guard ≡ token_of self.now permits) }
+        ensures guard { IfSome result (λ guard. guard ≡ token_of self.now permits) }
+        ensures late { result ≡ None → HasPassed deadline }
     {
         let token = self.acquire_until(rt, permits, deadline)?;
         Some(PermitGuard {
