@@ -5,9 +5,13 @@ use mathlib.Core.HLevel.{is_prop→PathP}
 use Rattle.lock_guard.specs.declared.guard.inner.Inner.{Inner}
 use Rattle.lock_guard.specs.declared.guard.held.Held.{Held}
 use Rattle.lock_guard.specs.declared.guard.lock.Release as release
-use Rattle.lock_guard.specs.Inner.{is_filled, owns, inner_value, inner_with_value, is_filled-inner_with_value, owns-inner_with_value, inner_with_same, inner_value_with}
+use Rattle.lock_guard.specs.Inner.{is_filled, owns, inner_token, inner_value, inner_with_value, is_filled-inner_with_value, owns-inner_with_value, inner_with_same, inner_value_with}
 
 module _ {L V K W X : Type 0} {r : release.Ghosts L K W} {g : _} where
+  -- the token of a held lock, which always has one
+  abbrev pub held_token : Held L V K W X r g → Option K
+  held_token held = inner_token held.inner
+
   -- the value that a held lock shows
   abbrev pub held_value : (V → X) → Held L V K W X r g → Option X
   held_value value_of held = inner_value value_of held.inner

@@ -15,6 +15,11 @@ module _ {K V : Type 0} where
   owns is_own (Filled token shown) = is_own token
   owns is_own Empty = true
 
+  -- the token, where there is one
+  abbrev pub inner_token : Inner K V → Option K
+  inner_token (Filled token shown) = Some token
+  inner_token Empty = None
+
   module _ {X : Type 0} where
     -- the value that is shown, where there is one
     abbrev pub inner_value : (V → X) → Inner K V → Option X

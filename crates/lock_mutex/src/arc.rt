@@ -1,6 +1,8 @@
 //! Acquisitions of a mutex by guards that own a reference to it.
 ghost use Rattle.std.specs.Prelude.{IfOk, IfSome, IsOkUnless};
-ghost use Rattle.lock_mutex.specs.ArcMutexGuard.{IsArcGuardOf};
+ghost use Rattle.std.specs.Arc.{arc_value};
+ghost use Rattle.lock_mutex.specs.ArcMutexGuard.{tried_arc_token, IsArcGuardOf};
+ghost use Rattle.lock_mutex.specs.Mutex.{raw_of};
 
 use crate::{ArcGuard, ArcMutexGuard, Mutex};
 use lock_base::raw::Fault;
@@ -31,6 +33,7 @@ impl<R: RawMutex + Drop, T: Drop> Mutex<R, T> {
     pub fn try_lock_arc(this: &Arc<Mutex<R, T>>) -> Result<Option<ArcMutexGuard<R, T>>, Fault>
         ensures fault { IsOkUnless result Fault.OutOfMemory }
         ensures lock { IfOk result (λ got. IfSome got (IsArcGuardOf this.now)) }
+        ensures tried { IfOk result (λ got. R.tried (raw_of (arc_value this.now)) (tried_arc_token got)) }
     {
         let mutex = another_owner(this)?;
         let token = mutex.raw.try_lock();
@@ -46,6 +49,7 @@ impl<R: RawMutexTimed + Drop, T: Drop> Mutex<R, T> {
     ) -> Result<Option<ArcMutexGuard<R, T>>, Fault>
         ensures fault { IsOkUnless result Fault.OutOfMemory }
         ensures lock { IfOk result (λ got. IfSome got (IsArcGuardOf this.now)) }
+        ensures tried { IfOk result (λ got. R.tried_for (raw_of (arc_value this.now)) timeout (tried_arc_token got)) }
     {
         let mutex = another_owner(this)?;
         let token = mutex.raw.try_lock_for(timeout);
@@ -59,6 +63,7 @@ impl<R: RawMutexTimed + Drop, T: Drop> Mutex<R, T> {
     ) -> Result<Option<ArcMutexGuard<R, T>>, Fault>
         ensures fault { IsOkUnless result Fault.OutOfMemory }
         ensures lock { IfOk result (λ got. IfSome got (IsArcGuardOf this.now)) }
+        ensures tried { IfOk result (λ got. R.tried_until (raw_of (arc_value this.now)) deadline (tried_arc_token got)) }
     {
         let mutex = another_owner(this)?;
         let token = mutex.raw.try_lock_until(deadline);

@@ -1,8 +1,9 @@
 //! The mutex guard that owns a reference to its mutex.
-ghost use Rattle.std.specs.Prelude.{◌≡◌, true, IfSome, is_some};
+ghost use Rattle.std.specs.Prelude.{◌≡◌, true, IfSome, Some};
 ghost use Rattle.std.specs.Arc.{arc_value};
 ghost use Rattle.lock_guard.specs.Closure.{ReadsSomeValue, AnswersSomeValue};
-ghost use Rattle.lock_mutex.specs.ArcMutexGuard.{arc_of};
+ghost use Rattle.lock_guard.specs.Held.{held_token};
+ghost use Rattle.lock_mutex.specs.ArcMutexGuard.{arc_of, tried_arc_token};
 
 use crate::Mutex;
 use crate::owned::OwnedMutex;
@@ -24,7 +25,8 @@ pub type ArcMutexGuard<R, T> = ArcGuard<OwnedMutex<R, T>>;
 impl<R: RawMutex + Drop, T: Drop> ArcGuard<OwnedMutex<R, T>> {
     pub(crate) fn new(mutex: Arc<Mutex<R, T>>, token: R::Guard) -> ArcMutexGuard<R, T>
         requires { R.is_own (arc_value mutex).raw token ≡ true }
-        ensures { arc_of result ≡ mutex }
+        ensures lock { arc_of result ≡ mutex }
+        ensures token { held_token result.held ≡ Some token }
     {
         ArcGuard {
             held: Held::new(OwnedMutex { mutex }, token),
@@ -34,8 +36,8 @@ impl<R: RawMutex + Drop, T: Drop> ArcGuard<OwnedMutex<R, T>> {
     /// Makes the guard of the token, if the raw lock gave one.
     pub(crate) fn of_token(mutex: Arc<Mutex<R, T>>, token: Option<R::Guard>) -> Option<Self>
         requires { IfSome token (λ t. R.is_own (arc_value mutex).raw t ≡ true) }
-        ensures some { is_some result ≡ is_some token }
         ensures lock { IfSome result (λ guard. arc_of guard ≡ mutex) }
+        ensures token { tried_arc_token result ≡ token }
     {
         Some(ArcGuard::new(mutex, token?))
     }

@@ -2,7 +2,7 @@
 ghost use Rattle.std.specs.Prelude.{◌≡◌, IfSome, IsOkAnd, IsOkUnless};
 ghost use Rattle.lock_guard.specs.Closure.{ReadsSomeValue, AnswersSomeValue};
 ghost use Rattle.lock_mutex.specs.Mutex.{raw_of};
-ghost use Rattle.lock_mutex.specs.MutexGuard.{IsGuardOf};
+ghost use Rattle.lock_mutex.specs.MutexGuard.{tried_token, IsGuardOf};
 
 use crate::borrowed::BorrowedMutex;
 use crate::{Guard, MutexGuard};
@@ -95,7 +95,8 @@ impl<R: RawMutex, T> Mutex<R, T> {
 
     /// Acquires the mutex without blocking, or returns `None` if the raw lock refuses.
     pub fn try_lock(&self) -> Option<MutexGuard<'_, R, T>>
-        ensures { IfSome result (IsGuardOf self.entry) }
+        ensures lock { IfSome result (IsGuardOf self.entry) }
+        ensures tried { R.tried (raw_of self.now) (tried_token result) }
     {
         Some(Guard {
             held: held!(BorrowedMutex { mutex: self }, self.raw.try_lock()?),
@@ -142,7 +143,8 @@ impl<R: RawMutex, T> Mutex<R, T> {
 impl<R: RawMutexTimed, T> Mutex<R, T> {
     /// Tries to acquire the mutex for at most `timeout`.
     pub fn try_lock_for(&self, timeout: R::Duration) -> Option<MutexGuard<'_, R, T>>
-        ensures { IfSome result (IsGuardOf self.entry) }
+        ensures lock { IfSome result (IsGuardOf self.entry) }
+        ensures tried { R.tried_for (raw_of self.now) timeout (tried_token result) }
     {
         Some(Guard {
             held: held!(
@@ -154,7 +156,8 @@ impl<R: RawMutexTimed, T> Mutex<R, T> {
 
     /// Tries to acquire the mutex until `deadline`.
     pub fn try_lock_until(&self, deadline: R::Instant) -> Option<MutexGuard<'_, R, T>>
-        ensures { IfSome result (IsGuardOf self.entry) }
+        ensures lock { IfSome result (IsGuardOf self.entry) }
+        ensures tried { R.tried_until (raw_of self.now) deadline (tried_token result) }
     {
         Some(Guard {
             held: held!(

@@ -1,7 +1,7 @@
 -- What a ranked guard holds, and the guard of a ranked mutex.
-use Rattle.std.specs.Prelude.{◌≡◌}
+use Rattle.std.specs.Prelude.{◌≡◌, Option}
 use Rattle.lock_guard.specs.declared.guard.held.Held.{Held}
-use Rattle.lock_guard.specs.Held.{held_with_value}
+use Rattle.lock_guard.specs.Held.{held_token, held_with_value}
 use Rattle.lock_mutex.specs.declared.borrowed.BorrowedMutex.{BorrowedMutex}
 use Rattle.lock_mutex.specs.declared.guard.Guard.{Guard}
 use Rattle.lock_mutex.specs.declared.mutex.Mutex.{Mutex}
@@ -21,9 +21,17 @@ module _ {L V T W X : Type 0} {r : _} {g : _} where
   abbrev pub held_of : {B K : Type 0} → Ranked (Guard L V T W X r g) B K → Held L V T W X r g
   held_of ranked = ranked.guard.held
 
+  -- the token of a guard, which always has one
+  abbrev pub token_of : {B K : Type 0} → Ranked (Guard L V T W X r g) B K → Option T
+  token_of ranked = held_token (held_of ranked)
+
 -- the plain mutex under a ranked one
 abbrev pub plain_of : {R T K : Type 0} → RankedLock (Mutex R T) K → Mutex R T
 plain_of mutex = mutex.lock
+
+-- the raw lock under a ranked mutex
+abbrev pub raw_of : {R T K : Type 0} → RankedLock (Mutex R T) K → R
+raw_of mutex = mutex.lock.raw
 
 module _ {R T B K V Z W X : Type 0} {r : _} {g : _} where
   -- the plain mutex that a guard is of

@@ -1,7 +1,7 @@
 -- What the guard of a ranked reader-writer lock holds.
-use Rattle.std.specs.Prelude.{◌≡◌}
+use Rattle.std.specs.Prelude.{◌≡◌, Option}
 use Rattle.lock_guard.specs.declared.guard.held.Held.{Held}
-use Rattle.lock_guard.specs.Held.{held_value, held_with_value}
+use Rattle.lock_guard.specs.Held.{held_token, held_value, held_with_value}
 use Rattle.lock_rwlock.specs.declared.guard.RwLockGuard.{RwLockGuard}
 use Rattle.lock_rwlock.specs.declared.lock.RwLock.{RwLock}
 use Rattle.lock_rwlock.specs.declared.mode.InMode.{InMode}
@@ -17,14 +17,26 @@ module _ {L V T W X : Type 0} {r : _} {g : _} where
   abbrev pub held_of : {B K : Type 0} → Ranked (RwLockGuard L V T W X r g) B K → Held L V T W X r g
   held_of ranked = ranked.guard.held
 
+  -- the token of a guard, which always has one
+  abbrev pub token_of : {B K : Type 0} → Ranked (RwLockGuard L V T W X r g) B K → Option T
+  token_of ranked = held_token (held_of ranked)
+
 -- the plain lock under a ranked one
 abbrev pub plain_of : {R T K : Type 0} → RankedLock (RwLock R T) K → RwLock R T
 plain_of lock = lock.lock
+
+-- the raw lock under a ranked lock
+abbrev pub raw_of : {R T K : Type 0} → RankedLock (RwLock R T) K → R
+raw_of lock = lock.lock.raw
 
 module _ {M R T B K V Z W X : Type 0} {r : _} {g : _} where
   -- the plain lock that a guard is of, in whatever mode
   abbrev pub rwlock_of : Ranked (RwLockGuard (InMode M R T) V Z W X r g) B K → RwLock R T
   rwlock_of guard = (held_of guard).lock.rwlock.now
+
+  -- the raw lock under it
+  abbrev pub raw_under : Ranked (RwLockGuard (InMode M R T) V Z W X r g) B K → R
+  raw_under guard = (rwlock_of guard).raw
 
   -- the guard is one of this lock
   abbrev pub IsGuardOf : {K' : Type 0} → RankedLock (RwLock R T) K' → Ranked (RwLockGuard (InMode M R T) V Z W X r g) B K → Type 0

@@ -1,9 +1,9 @@
 //! A mutex with a rank, and its guard.
-ghost use Rattle.std.specs.Prelude.{◌≡◌, ◌<◌, ◌≤◌, IfSome, IsOkUnless};
+ghost use Rattle.std.specs.Prelude.{◌≡◌, ◌<◌, ◌≤◌, option_and_then, IfSome, IsOkUnless};
 ghost use Rattle.lock_guard.specs.GuardPart.{guard_part};
 ghost use Rattle.lock_guard.specs.Held.{held_value};
 ghost use Rattle.lock_guard.specs.Mapped.{IsMapOf};
-ghost use Rattle.lock_ranked.specs.Guards.{held_of, plain_of, IsGuardOf};
+ghost use Rattle.lock_ranked.specs.Guards.{held_of, plain_of, raw_of, token_of, IsGuardOf};
 ghost use Rattle.lock_ranked.specs.MappedGuards.{mapped_of, IsMappedOr};
 
 use crate::order::{Acquired, Order};
@@ -88,7 +88,8 @@ impl<R: RawMutex, T, K: Rank> RankedMutex<R, T, K> {
         order: &'o mut Order<'_, B>,
     ) -> Option<Acquired<'o, MutexGuard<'a, R, T>, B, K, N>>
         requires { (B.rank < N.rank) × (K.rank ≤ N.rank) }
-        ensures { IfSome result (λ got. IsGuardOf self.now got.0) }
+        ensures lock { IfSome result (λ got. IsGuardOf self.now got.0) }
+        ensures tried { R.tried (raw_of self.now) (option_and_then (λ got. token_of got.0) result) }
     {
         Some(order.acquired(self.lock.try_lock()?))
     }
@@ -102,7 +103,8 @@ impl<R: RawMutexTimed, T, K: Rank> RankedMutex<R, T, K> {
         timeout: R::Duration,
     ) -> Option<Acquired<'o, MutexGuard<'a, R, T>, B, K, N>>
         requires { (B.rank < N.rank) × (K.rank ≤ N.rank) }
-        ensures { IfSome result (λ got. IsGuardOf self.now got.0) }
+        ensures lock { IfSome result (λ got. IsGuardOf self.now got.0) }
+        ensures tried { R.tried_for (raw_of self.now) timeout (option_and_then (λ got. token_of got.0) result) }
     {
         Some(order.acquired(self.lock.try_lock_for(timeout)?))
     }
@@ -114,7 +116,9 @@ impl<R: RawMutexTimed, T, K: Rank> RankedMutex<R, T, K> {
         deadline: R::Instant,
     ) -> Option<Acquired<'o, MutexGuard<'a, R, T>, B, K, N>>
         requires { (B.rank < N.rank) × (K.rank ≤ N.rank) }
-        ensures { IfSome result (λ got. IsGuardOf self.now got.0) }
+        ensures lock { IfSome result (λ got. IsGuardOf self.now got.0) }
+        ensures tried { R.tried_until (raw_of self.now) deadline
+            (option_and_then (λ got. token_of got.0) result) }
     {
         Some(order.acquired(self.lock.try_lock_until(deadline)?))
     }

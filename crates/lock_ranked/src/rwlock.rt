@@ -1,7 +1,7 @@
 //! A reader-writer lock with a rank.
-ghost use Rattle.std.specs.Prelude.{◌≡◌, ◌↔◌, ◌<◌, ◌≤◌, IfErr, IfOk, IfSome, IsOkUnless};
+ghost use Rattle.std.specs.Prelude.{◌≡◌, ◌↔◌, ◌<◌, ◌≤◌, option_and_then, IfErr, IfOk, IfSome, IsOkUnless};
 ghost use Rattle.lock_base.specs.Limits.{IsLimit, IsMakerFault};
-ghost use Rattle.lock_ranked.specs.RwLockGuards.{plain_of, IsGuardOf};
+ghost use Rattle.lock_ranked.specs.RwLockGuards.{plain_of, raw_of, token_of, IsGuardOf};
 
 use crate::order::{Acquired, Order};
 use crate::rank::Rank;
@@ -105,7 +105,8 @@ impl<R: RawRwLock, T, K: Rank> RankedRwLock<R, T, K> {
         order: &'o mut Order<'_, B>,
     ) -> Option<Acquired<'o, RwLockReadGuard<'a, R, T>, B, K, N>>
         requires { (B.rank < N.rank) × (K.rank ≤ N.rank) }
-        ensures { IfSome result (λ got. IsGuardOf self.now got.0) }
+        ensures lock { IfSome result (λ got. IsGuardOf self.now got.0) }
+        ensures tried { R.tried_shared (raw_of self.now) (option_and_then (λ got. token_of got.0) result) }
     {
         Some(order.acquired(self.lock.try_read()?))
     }
@@ -127,7 +128,8 @@ impl<R: RawRwLock, T, K: Rank> RankedRwLock<R, T, K> {
         order: &'o mut Order<'_, B>,
     ) -> Option<Acquired<'o, RwLockWriteGuard<'a, R, T>, B, K, N>>
         requires { (B.rank < N.rank) × (K.rank ≤ N.rank) }
-        ensures { IfSome result (λ got. IsGuardOf self.now got.0) }
+        ensures lock { IfSome result (λ got. IsGuardOf self.now got.0) }
+        ensures tried { R.tried_exclusive (raw_of self.now) (option_and_then (λ got. token_of got.0) result) }
     {
         Some(order.acquired(self.lock.try_write()?))
     }
@@ -141,7 +143,9 @@ impl<R: RawRwLockTimed, T, K: Rank> RankedRwLock<R, T, K> {
         timeout: R::Duration,
     ) -> Option<Acquired<'o, RwLockReadGuard<'a, R, T>, B, K, N>>
         requires { (B.rank < N.rank) × (K.rank ≤ N.rank) }
-        ensures { IfSome result (λ got. IsGuardOf self.now got.0) }
+        ensures lock { IfSome result (λ got. IsGuardOf self.now got.0) }
+        ensures tried { R.tried_shared_for (raw_of self.now) timeout
+            (option_and_then (λ got. token_of got.0) result) }
     {
         Some(order.acquired(self.lock.try_read_for(timeout)?))
     }
@@ -153,7 +157,9 @@ impl<R: RawRwLockTimed, T, K: Rank> RankedRwLock<R, T, K> {
         deadline: R::Instant,
     ) -> Option<Acquired<'o, RwLockReadGuard<'a, R, T>, B, K, N>>
         requires { (B.rank < N.rank) × (K.rank ≤ N.rank) }
-        ensures { IfSome result (λ got. IsGuardOf self.now got.0) }
+        ensures lock { IfSome result (λ got. IsGuardOf self.now got.0) }
+        ensures tried { R.tried_shared_until (raw_of self.now) deadline
+            (option_and_then (λ got. token_of got.0) result) }
     {
         Some(order.acquired(self.lock.try_read_until(deadline)?))
     }
@@ -165,7 +171,9 @@ impl<R: RawRwLockTimed, T, K: Rank> RankedRwLock<R, T, K> {
         timeout: R::Duration,
     ) -> Option<Acquired<'o, RwLockWriteGuard<'a, R, T>, B, K, N>>
         requires { (B.rank < N.rank) × (K.rank ≤ N.rank) }
-        ensures { IfSome result (λ got. IsGuardOf self.now got.0) }
+        ensures lock { IfSome result (λ got. IsGuardOf self.now got.0) }
+        ensures tried { R.tried_exclusive_for (raw_of self.now) timeout
+            (option_and_then (λ got. token_of got.0) result) }
     {
         Some(order.acquired(self.lock.try_write_for(timeout)?))
     }
@@ -177,7 +185,9 @@ impl<R: RawRwLockTimed, T, K: Rank> RankedRwLock<R, T, K> {
         deadline: R::Instant,
     ) -> Option<Acquired<'o, RwLockWriteGuard<'a, R, T>, B, K, N>>
         requires { (B.rank < N.rank) × (K.rank ≤ N.rank) }
-        ensures { IfSome result (λ got. IsGuardOf self.now got.0) }
+        ensures lock { IfSome result (λ got. IsGuardOf self.now got.0) }
+        ensures tried { R.tried_exclusive_until (raw_of self.now) deadline
+            (option_and_then (λ got. token_of got.0) result) }
     {
         Some(order.acquired(self.lock.try_write_until(deadline)?))
     }
@@ -201,7 +211,8 @@ impl<R: RawRwLockUpgrade, T, K: Rank> RankedRwLock<R, T, K> {
         order: &'o mut Order<'_, B>,
     ) -> Option<Acquired<'o, RwLockUpgradableReadGuard<'a, R, T>, B, K, N>>
         requires { (B.rank < N.rank) × (K.rank ≤ N.rank) }
-        ensures { IfSome result (λ got. IsGuardOf self.now got.0) }
+        ensures lock { IfSome result (λ got. IsGuardOf self.now got.0) }
+        ensures tried { R.tried_upgradable (raw_of self.now) (option_and_then (λ got. token_of got.0) result) }
     {
         Some(order.acquired(self.lock.try_upgradable_read()?))
     }
@@ -215,7 +226,9 @@ impl<R: RawRwLockUpgradeTimed, T, K: Rank> RankedRwLock<R, T, K> {
         timeout: R::Duration,
     ) -> Option<Acquired<'o, RwLockUpgradableReadGuard<'a, R, T>, B, K, N>>
         requires { (B.rank < N.rank) × (K.rank ≤ N.rank) }
-        ensures { IfSome result (λ got. IsGuardOf self.now got.0) }
+        ensures lock { IfSome result (λ got. IsGuardOf self.now got.0) }
+        ensures tried { R.tried_upgradable_for (raw_of self.now) timeout
+            (option_and_then (λ got. token_of got.0) result) }
     {
         Some(order.acquired(self.lock.try_upgradable_read_for(timeout)?))
     }
@@ -227,7 +240,9 @@ impl<R: RawRwLockUpgradeTimed, T, K: Rank> RankedRwLock<R, T, K> {
         deadline: R::Instant,
     ) -> Option<Acquired<'o, RwLockUpgradableReadGuard<'a, R, T>, B, K, N>>
         requires { (B.rank < N.rank) × (K.rank ≤ N.rank) }
-        ensures { IfSome result (λ got. IsGuardOf self.now got.0) }
+        ensures lock { IfSome result (λ got. IsGuardOf self.now got.0) }
+        ensures tried { R.tried_upgradable_until (raw_of self.now) deadline
+            (option_and_then (λ got. token_of got.0) result) }
     {
         Some(order.acquired(self.lock.try_upgradable_read_until(deadline)?))
     }

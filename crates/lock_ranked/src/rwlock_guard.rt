@@ -1,11 +1,12 @@
 //! The guards of a reader-writer lock with a rank. An upgrade or a downgrade keeps the rank.
-ghost use Rattle.std.specs.Prelude.{◌≡◌, MatchResult};
+ghost use Rattle.std.specs.Prelude.{◌≡◌, option_and_then, MatchResult};
+ghost use Rattle.std.specs.Result.{result_ok};
 ghost use Rattle.std.specs.Sync.RwLock.{read_guard_value};
 ghost use Rattle.lock_guard.specs.GuardPart.{guard_part};
 ghost use Rattle.lock_guard.specs.Held.{held_value};
 ghost use Rattle.lock_guard.specs.Mapped.{IsMapOf};
 ghost use Rattle.lock_ranked.specs.MappedGuards.{mapped_of, IsMappedOr};
-ghost use Rattle.lock_ranked.specs.RwLockGuards.{held_of, SameLock, ShowsSame};
+ghost use Rattle.lock_ranked.specs.RwLockGuards.{held_of, raw_under, token_of, SameLock, ShowsSame};
 
 use crate::order::Order;
 use crate::rank::{Rank, Under};
@@ -156,7 +157,8 @@ impl<'a, R: RawRwLockUpgrade, T, B: Rank, K: Rank> RankedRwLockGuard<
 
     /// Upgrades the guard without blocking, or returns it unchanged if the raw lock refuses.
     pub fn try_upgrade(guard: Self) -> Result<Ranked<RwLockWriteGuard<'a, R, T>, B, K>, Self>
-        ensures { MatchResult result (SameLock guard.entry) (λ same. same ≡ guard.entry) }
+        ensures lock { MatchResult result (SameLock guard.entry) (λ same. same ≡ guard.entry) }
+        ensures tried { R.tried_upgrade (raw_under guard.entry) (option_and_then token_of (result_ok result)) }
     {
         ranked!(RwLockUpgradableReadGuard::try_upgrade(guard.into_guard()))
     }
@@ -172,7 +174,9 @@ impl<'a, R: RawRwLockUpgradeTimed, T, B: Rank, K: Rank> RankedRwLockGuard<
         guard: Self,
         timeout: R::Duration,
     ) -> Result<Ranked<RwLockWriteGuard<'a, R, T>, B, K>, Self>
-        ensures { MatchResult result (SameLock guard.entry) (λ same. same ≡ guard.entry) }
+        ensures lock { MatchResult result (SameLock guard.entry) (λ same. same ≡ guard.entry) }
+        ensures tried { R.tried_upgrade_for (raw_under guard.entry) timeout
+            (option_and_then token_of (result_ok result)) }
     {
         ranked!(RwLockUpgradableReadGuard::try_upgrade_for(guard.into_guard(), timeout))
     }
@@ -182,7 +186,9 @@ impl<'a, R: RawRwLockUpgradeTimed, T, B: Rank, K: Rank> RankedRwLockGuard<
         guard: Self,
         deadline: R::Instant,
     ) -> Result<Ranked<RwLockWriteGuard<'a, R, T>, B, K>, Self>
-        ensures { MatchResult result (SameLock guard.entry) (λ same. same ≡ guard.entry) }
+        ensures lock { MatchResult result (SameLock guard.entry) (λ same. same ≡ guard.entry) }
+        ensures tried { R.tried_upgrade_until (raw_under guard.entry) deadline
+            (option_and_then token_of (result_ok result)) }
     {
         ranked!(RwLockUpgradableReadGuard::try_upgrade_until(guard.into_guard(), deadline))
     }

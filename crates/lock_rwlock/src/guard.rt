@@ -5,7 +5,7 @@ mod write;
 
 ghost use Rattle.std.specs.Prelude.{◌≡◌, true, Some, IfOk, IfErr};
 ghost use Rattle.std.specs.Borrow.{Lends, sem};
-ghost use Rattle.lock_guard.specs.Held.{held_value, held_with_value};
+ghost use Rattle.lock_guard.specs.Held.{held_token, held_value, held_with_value};
 ghost use Rattle.lock_rwlock.specs.RwLockGuard.{held_of, IsGuardOf};
 
 use crate::lock::RwLock;
@@ -61,7 +61,8 @@ impl<'a, M: ShowMode<'a, R, T>, R: RawRwLock, T> RwLockGuard<InMode<'a, M, R, T>
     pub(crate) fn try_new(rwlock: &'a RwLock<R, T>, token: M::Token) -> Result<Self, M::Token>
         requires { M.is_own rwlock.now.raw token ≡ true }
         ensures lock { IfOk result (IsGuardOf rwlock.entry) }
-        ensures own { IfErr result (λ back. M.is_own rwlock.now.raw back ≡ true) }
+        ensures token { IfOk result (λ guard. held_token (held_of guard) ≡ Some token) }
+        ensures back { IfErr result (λ back. back ≡ token) }
     {
         match Held::try_new(InMode::new(rwlock), token) {
             Ok(held) => Ok(RwLockGuard { held }),
@@ -72,7 +73,8 @@ impl<'a, M: ShowMode<'a, R, T>, R: RawRwLock, T> RwLockGuard<InMode<'a, M, R, T>
     /// Makes the guard of a token, blocking until the value's lock is free. `guard!` tries it first.
     pub(crate) fn new(rwlock: &'a RwLock<R, T>, token: M::Token) -> Self
         requires { M.is_own rwlock.now.raw token ≡ true }
-        ensures { IsGuardOf rwlock.entry result }
+        ensures lock { IsGuardOf rwlock.entry result }
+        ensures token { held_token (held_of result) ≡ Some token }
     {
         RwLockGuard {
             held: Held::new(InMode::new(rwlock), token),

@@ -3,7 +3,7 @@ ghost use Rattle.std.specs.Prelude.{◌≡◌, ◌↔◌, IfSome, IfOk, IfErr, I
 ghost use Rattle.lock_base.specs.Limits.{IsLimit, IsMakerFault};
 ghost use Rattle.lock_guard.specs.Closure.{ReadsSomeValue, AnswersSomeValue};
 ghost use Rattle.lock_rwlock.specs.RwLock.{raw_of};
-ghost use Rattle.lock_rwlock.specs.RwLockGuard.{IsGuardOf};
+ghost use Rattle.lock_rwlock.specs.RwLockGuard.{tried_token, IsGuardOf};
 
 use crate::guard::{RwLockReadGuard, RwLockUpgradableReadGuard, RwLockWriteGuard, guard};
 use lock_base::raw::{DEFAULT_READERS, Fault};
@@ -123,7 +123,8 @@ impl<R: RawRwLock, T> RwLock<R, T> {
 
     /// Acquires the lock shared without blocking, or returns `None` if the raw lock refuses.
     pub fn try_read(&self) -> Option<RwLockReadGuard<'_, R, T>>
-        ensures { IfSome result (IsGuardOf self.entry) }
+        ensures lock { IfSome result (IsGuardOf self.entry) }
+        ensures tried { R.tried_shared (raw_of self.now) (tried_token result) }
     {
         Some(guard!(self, self.raw.try_lock_shared()?))
     }
@@ -163,7 +164,8 @@ impl<R: RawRwLock, T> RwLock<R, T> {
 
     /// Acquires the lock exclusively without blocking, or returns `None` if the raw lock refuses.
     pub fn try_write(&self) -> Option<RwLockWriteGuard<'_, R, T>>
-        ensures { IfSome result (IsGuardOf self.entry) }
+        ensures lock { IfSome result (IsGuardOf self.entry) }
+        ensures tried { R.tried_exclusive (raw_of self.now) (tried_token result) }
     {
         Some(guard!(self, self.raw.try_lock_exclusive()?))
     }
@@ -172,28 +174,32 @@ impl<R: RawRwLock, T> RwLock<R, T> {
 impl<R: RawRwLockTimed, T> RwLock<R, T> {
     /// Tries to acquire the lock shared for at most `timeout`.
     pub fn try_read_for(&self, timeout: R::Duration) -> Option<RwLockReadGuard<'_, R, T>>
-        ensures { IfSome result (IsGuardOf self.entry) }
+        ensures lock { IfSome result (IsGuardOf self.entry) }
+        ensures tried { R.tried_shared_for (raw_of self.now) timeout (tried_token result) }
     {
         Some(guard!(self, self.raw.try_lock_shared_for(timeout)?))
     }
 
     /// Tries to acquire the lock shared until `deadline`.
     pub fn try_read_until(&self, deadline: R::Instant) -> Option<RwLockReadGuard<'_, R, T>>
-        ensures { IfSome result (IsGuardOf self.entry) }
+        ensures lock { IfSome result (IsGuardOf self.entry) }
+        ensures tried { R.tried_shared_until (raw_of self.now) deadline (tried_token result) }
     {
         Some(guard!(self, self.raw.try_lock_shared_until(deadline)?))
     }
 
     /// Tries to acquire the lock exclusively for at most `timeout`.
     pub fn try_write_for(&self, timeout: R::Duration) -> Option<RwLockWriteGuard<'_, R, T>>
-        ensures { IfSome result (IsGuardOf self.entry) }
+        ensures lock { IfSome result (IsGuardOf self.entry) }
+        ensures tried { R.tried_exclusive_for (raw_of self.now) timeout (tried_token result) }
     {
         Some(guard!(self, self.raw.try_lock_exclusive_for(timeout)?))
     }
 
     /// Tries to acquire the lock exclusively until `deadline`.
     pub fn try_write_until(&self, deadline: R::Instant) -> Option<RwLockWriteGuard<'_, R, T>>
-        ensures { IfSome result (IsGuardOf self.entry) }
+        ensures lock { IfSome result (IsGuardOf self.entry) }
+        ensures tried { R.tried_exclusive_until (raw_of self.now) deadline (tried_token result) }
     {
         Some(guard!(self, self.raw.try_lock_exclusive_until(deadline)?))
     }
@@ -209,7 +215,8 @@ impl<R: RawRwLockUpgrade, T> RwLock<R, T> {
 
     /// Acquires the lock upgradable without blocking, or returns `None` if the raw lock refuses.
     pub fn try_upgradable_read(&self) -> Option<RwLockUpgradableReadGuard<'_, R, T>>
-        ensures { IfSome result (IsGuardOf self.entry) }
+        ensures lock { IfSome result (IsGuardOf self.entry) }
+        ensures tried { R.tried_upgradable (raw_of self.now) (tried_token result) }
     {
         Some(guard!(self, self.raw.try_lock_upgradable()?))
     }
@@ -221,7 +228,8 @@ impl<R: RawRwLockUpgradeTimed, T> RwLock<R, T> {
         &self,
         timeout: R::Duration,
     ) -> Option<RwLockUpgradableReadGuard<'_, R, T>>
-        ensures { IfSome result (IsGuardOf self.entry) }
+        ensures lock { IfSome result (IsGuardOf self.entry) }
+        ensures tried { R.tried_upgradable_for (raw_of self.now) timeout (tried_token result) }
     {
         Some(guard!(self, self.raw.try_lock_upgradable_for(timeout)?))
     }
@@ -231,7 +239,8 @@ impl<R: RawRwLockUpgradeTimed, T> RwLock<R, T> {
         &self,
         deadline: R::Instant,
     ) -> Option<RwLockUpgradableReadGuard<'_, R, T>>
-        ensures { IfSome result (IsGuardOf self.entry) }
+        ensures lock { IfSome result (IsGuardOf self.entry) }
+        ensures tried { R.tried_upgradable_until (raw_of self.now) deadline (tried_token result) }
     {
         Some(guard!(self, self.raw.try_lock_upgradable_until(deadline)?))
     }

@@ -1,5 +1,5 @@
 //! A held lock.
-ghost use Rattle.std.specs.Prelude.{◌≡◌, IfErr, IfOk, true};
+ghost use Rattle.std.specs.Prelude.{◌≡◌, IfErr, IfOk, Some, true};
 ghost use Rattle.lock_guard.specs.declared.guard.inner.Inner.TheVariants.{Filled};
 ghost use Rattle.lock_guard.specs.Inner.{is_filled, owns};
 
@@ -31,10 +31,13 @@ pub struct Held<L: Acquire> {
 }
 
 impl<L: Acquire> Held<L> {
+    ghost use Rattle.lock_guard.specs.Held.{held_token};
+
     /// Makes the `Held` of a lock and its token, blocking until the value's lock is free. `held!` tries it first.
     pub fn new(lock: L, token: L::Token) -> Held<L>
         requires { L.is_own lock token ≡ true }
-        ensures { result.lock ≡ lock }
+        ensures lock { result.lock ≡ lock }
+        ensures token { held_token result ≡ Some token }
     {
         let shown = lock.block_on_value();
         Held {
@@ -47,6 +50,7 @@ impl<L: Acquire> Held<L> {
     pub fn try_new(lock: L, token: L::Token) -> Result<Held<L>, (L, L::Token)>
         requires { L.is_own lock token ≡ true }
         ensures held { IfOk result (λ held. held.lock ≡ lock) }
+        ensures token { IfOk result (λ held. held_token held ≡ Some token) }
         ensures back { IfErr result (λ back. (back.0 ≡ lock) × (back.1 ≡ token)) }
     {
         match lock.try_lock_value() {

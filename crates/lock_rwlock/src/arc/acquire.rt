@@ -1,6 +1,8 @@
 //! Acquisitions of a lock by guards that own a reference to it.
 ghost use Rattle.std.specs.Prelude.{IfOk, IfSome, IsOkUnless};
-ghost use Rattle.lock_rwlock.specs.ArcRwLockGuard.{IsArcGuardOf};
+ghost use Rattle.std.specs.Arc.{arc_value};
+ghost use Rattle.lock_rwlock.specs.ArcRwLockGuard.{tried_arc_token, IsArcGuardOf};
+ghost use Rattle.lock_rwlock.specs.RwLock.{raw_of};
 
 use crate::arc::guard::{
     ArcModeGuard, ArcRwLockReadGuard, ArcRwLockUpgradableReadGuard, ArcRwLockWriteGuard,
@@ -25,7 +27,9 @@ pub trait RwLockArc<R: RawRwLock + Drop, T: Drop> {
     /// Acquires the lock shared without blocking.
     fn try_read_arc(this: &Arc<RwLock<R, T>>) -> Result<Option<ArcRwLockReadGuard<R, T>>, Fault>
         ensures fault { IsOkUnless result Fault.OutOfMemory }
-        ensures lock { IfOk result (λ got. IfSome got (IsArcGuardOf this.now)) };
+        ensures lock { IfOk result (λ got. IfSome got (IsArcGuardOf this.now)) }
+        ensures tried { IfOk result (λ got. R.tried_shared (raw_of (arc_value this.now))
+            (tried_arc_token got)) };
 
     /// Acquires the lock exclusively, blocking until it is available.
     fn write_arc(this: &Arc<RwLock<R, T>>) -> Result<ArcRwLockWriteGuard<R, T>, Fault>
@@ -35,7 +39,9 @@ pub trait RwLockArc<R: RawRwLock + Drop, T: Drop> {
     /// Acquires the lock exclusively without blocking.
     fn try_write_arc(this: &Arc<RwLock<R, T>>) -> Result<Option<ArcRwLockWriteGuard<R, T>>, Fault>
         ensures fault { IsOkUnless result Fault.OutOfMemory }
-        ensures lock { IfOk result (λ got. IfSome got (IsArcGuardOf this.now)) };
+        ensures lock { IfOk result (λ got. IfSome got (IsArcGuardOf this.now)) }
+        ensures tried { IfOk result (λ got. R.tried_exclusive (raw_of (arc_value this.now))
+            (tried_arc_token got)) };
 }
 
 impl<R: RawRwLock + Drop, T: Drop> RwLockArc<R, T> for RwLock<R, T> {
@@ -68,7 +74,9 @@ pub trait RwLockArcTimed<R: RawRwLockTimed + Drop, T: Drop> {
         timeout: R::Duration,
     ) -> Result<Option<ArcRwLockReadGuard<R, T>>, Fault>
         ensures fault { IsOkUnless result Fault.OutOfMemory }
-        ensures lock { IfOk result (λ got. IfSome got (IsArcGuardOf this.now)) };
+        ensures lock { IfOk result (λ got. IfSome got (IsArcGuardOf this.now)) }
+        ensures tried { IfOk result (λ got. R.tried_shared_for (raw_of (arc_value this.now)) timeout
+            (tried_arc_token got)) };
 
     /// `try_read_arc`, where the raw lock may block until `deadline`.
     fn try_read_arc_until(
@@ -76,7 +84,9 @@ pub trait RwLockArcTimed<R: RawRwLockTimed + Drop, T: Drop> {
         deadline: R::Instant,
     ) -> Result<Option<ArcRwLockReadGuard<R, T>>, Fault>
         ensures fault { IsOkUnless result Fault.OutOfMemory }
-        ensures lock { IfOk result (λ got. IfSome got (IsArcGuardOf this.now)) };
+        ensures lock { IfOk result (λ got. IfSome got (IsArcGuardOf this.now)) }
+        ensures tried { IfOk result (λ got. R.tried_shared_until (raw_of (arc_value this.now)) deadline
+            (tried_arc_token got)) };
 
     /// `try_write_arc`, where the raw lock may block for at most `timeout`.
     fn try_write_arc_for(
@@ -84,7 +94,9 @@ pub trait RwLockArcTimed<R: RawRwLockTimed + Drop, T: Drop> {
         timeout: R::Duration,
     ) -> Result<Option<ArcRwLockWriteGuard<R, T>>, Fault>
         ensures fault { IsOkUnless result Fault.OutOfMemory }
-        ensures lock { IfOk result (λ got. IfSome got (IsArcGuardOf this.now)) };
+        ensures lock { IfOk result (λ got. IfSome got (IsArcGuardOf this.now)) }
+        ensures tried { IfOk result (λ got. R.tried_exclusive_for (raw_of (arc_value this.now)) timeout
+            (tried_arc_token got)) };
 
     /// `try_write_arc`, where the raw lock may block until `deadline`.
     fn try_write_arc_until(
@@ -92,7 +104,9 @@ pub trait RwLockArcTimed<R: RawRwLockTimed + Drop, T: Drop> {
         deadline: R::Instant,
     ) -> Result<Option<ArcRwLockWriteGuard<R, T>>, Fault>
         ensures fault { IsOkUnless result Fault.OutOfMemory }
-        ensures lock { IfOk result (λ got. IfSome got (IsArcGuardOf this.now)) };
+        ensures lock { IfOk result (λ got. IfSome got (IsArcGuardOf this.now)) }
+        ensures tried { IfOk result (λ got. R.tried_exclusive_until (raw_of (arc_value this.now)) deadline
+            (tried_arc_token got)) };
 }
 
 impl<R: RawRwLockTimed + Drop, T: Drop> RwLockArcTimed<R, T> for RwLock<R, T> {
@@ -147,7 +161,9 @@ pub trait RwLockArcUpgrade<R: RawRwLockUpgrade + Drop, T: Drop> {
         this: &Arc<RwLock<R, T>>,
     ) -> Result<Option<ArcRwLockUpgradableReadGuard<R, T>>, Fault>
         ensures fault { IsOkUnless result Fault.OutOfMemory }
-        ensures lock { IfOk result (λ got. IfSome got (IsArcGuardOf this.now)) };
+        ensures lock { IfOk result (λ got. IfSome got (IsArcGuardOf this.now)) }
+        ensures tried { IfOk result (λ got. R.tried_upgradable (raw_of (arc_value this.now))
+            (tried_arc_token got)) };
 }
 
 impl<R: RawRwLockUpgrade + Drop, T: Drop> RwLockArcUpgrade<R, T> for RwLock<R, T> {
@@ -174,7 +190,9 @@ pub trait RwLockArcUpgradeTimed<R: RawRwLockUpgradeTimed + Drop, T: Drop> {
         timeout: R::Duration,
     ) -> Result<Option<ArcRwLockUpgradableReadGuard<R, T>>, Fault>
         ensures fault { IsOkUnless result Fault.OutOfMemory }
-        ensures lock { IfOk result (λ got. IfSome got (IsArcGuardOf this.now)) };
+        ensures lock { IfOk result (λ got. IfSome got (IsArcGuardOf this.now)) }
+        ensures tried { IfOk result (λ got. R.tried_upgradable_for (raw_of (arc_value this.now)) timeout
+            (tried_arc_token got)) };
 
     /// `try_upgradable_read_arc`, where the raw lock may block until `deadline`.
     fn try_upgradable_read_arc_until(
@@ -182,7 +200,9 @@ pub trait RwLockArcUpgradeTimed<R: RawRwLockUpgradeTimed + Drop, T: Drop> {
         deadline: R::Instant,
     ) -> Result<Option<ArcRwLockUpgradableReadGuard<R, T>>, Fault>
         ensures fault { IsOkUnless result Fault.OutOfMemory }
-        ensures lock { IfOk result (λ got. IfSome got (IsArcGuardOf this.now)) };
+        ensures lock { IfOk result (λ got. IfSome got (IsArcGuardOf this.now)) }
+        ensures tried { IfOk result (λ got. R.tried_upgradable_until (raw_of (arc_value this.now)) deadline
+            (tried_arc_token got)) };
 }
 
 impl<R: RawRwLockUpgradeTimed + Drop, T: Drop> RwLockArcUpgradeTimed<R, T> for RwLock<R, T> {

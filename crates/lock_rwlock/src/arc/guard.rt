@@ -2,11 +2,12 @@
 mod upgradable;
 mod write;
 
-ghost use Rattle.std.specs.Prelude.{◌≡◌, true, IfOk, IfSome, IsOkUnless, is_some};
+ghost use Rattle.std.specs.Prelude.{◌≡◌, true, IfOk, IfSome, IsOkUnless, Some};
 ghost use Rattle.std.specs.Arc.{arc_value};
 ghost use Rattle.lock_guard.specs.Closure.{ReadsSomeValue};
+ghost use Rattle.lock_guard.specs.Held.{held_token};
 ghost use Rattle.lock_rwlock.specs.RwLock.{raw_of};
-ghost use Rattle.lock_rwlock.specs.ArcRwLockGuard.{arc_of, IsArcGuardOf};
+ghost use Rattle.lock_rwlock.specs.ArcRwLockGuard.{arc_of, tried_arc_token, IsArcGuardOf};
 
 use crate::arc::owned::{OwnedInMode, ReadValue};
 use crate::lock::RwLock;
@@ -42,7 +43,8 @@ impl<M: LockMode<R>, R: RawRwLock + Drop, T: Drop> ArcModeGuard<OwnedInMode<M, R
     /// Makes the guard of a token that the raw lock gave.
     pub(crate) fn new(rwlock: Arc<RwLock<R, T>>, token: M::Token) -> Self
         requires { M.is_own (raw_of (arc_value rwlock)) token ≡ true }
-        ensures { arc_of result ≡ rwlock }
+        ensures lock { arc_of result ≡ rwlock }
+        ensures token { held_token result.held ≡ Some token }
     {
         ArcModeGuard {
             held: Held::new(OwnedInMode::new(rwlock), token),
@@ -62,8 +64,8 @@ impl<M: LockMode<R>, R: RawRwLock + Drop, T: Drop> ArcModeGuard<OwnedInMode<M, R
     /// Makes the guard of the token, if the raw lock gave one.
     pub(crate) fn of_token(rwlock: Arc<RwLock<R, T>>, token: Option<M::Token>) -> Option<Self>
         requires { IfSome token (λ t. M.is_own (raw_of (arc_value rwlock)) t ≡ true) }
-        ensures some { is_some result ≡ is_some token }
         ensures lock { IfSome result (λ guard. arc_of guard ≡ rwlock) }
+        ensures token { tried_arc_token result ≡ token }
     {
         Some(ArcModeGuard::new(rwlock, token?))
     }

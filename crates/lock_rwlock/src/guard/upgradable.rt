@@ -1,8 +1,9 @@
 //! The upgradable read guard.
 ghost use Rattle.std.specs.Prelude.{◌≡◌, IfSome, IfNone, MatchResult};
+ghost use Rattle.std.specs.Result.{result_ok};
 ghost use Rattle.std.specs.Sync.RwLock.{read_guard_value};
 ghost use Rattle.lock_guard.specs.Closure.{AnswersSomeValue};
-ghost use Rattle.lock_rwlock.specs.RwLockGuard.{SameLock, ShowsSame};
+ghost use Rattle.lock_rwlock.specs.RwLockGuard.{raw_under, tried_token, SameLock, ShowsSame};
 
 use super::{RwLockGuard, RwLockReadGuard, RwLockWriteGuard, guard};
 use crate::closures::{with_if_upgraded, with_upgraded};
@@ -26,7 +27,8 @@ impl<'a, R: RawRwLockUpgrade, T> RwLockGuard<InMode<'a, Upgradable, R, T>> {
 
     /// Upgrades the guard without blocking, or returns it unchanged if the raw lock refuses.
     pub fn try_upgrade(guard: Self) -> Result<RwLockWriteGuard<'a, R, T>, Self>
-        ensures { MatchResult result (SameLock guard.entry) (λ same. same ≡ guard.entry) }
+        ensures lock { MatchResult result (SameLock guard.entry) (λ same. same ≡ guard.entry) }
+        ensures tried { R.tried_upgrade (raw_under guard.entry) (tried_token (result_ok result)) }
     {
         RwLockUpgradableReadGuard::try_upgrade_by(guard, AtOnce)
     }
@@ -36,7 +38,8 @@ impl<'a, R: RawRwLockUpgrade, T> RwLockGuard<InMode<'a, Upgradable, R, T>> {
         guard: Self,
         attempt: A,
     ) -> Result<RwLockWriteGuard<'a, R, T>, Self>
-        ensures { MatchResult result (SameLock guard.entry) (λ same. same ≡ guard.entry) }
+        ensures lock { MatchResult result (SameLock guard.entry) (λ same. same ≡ guard.entry) }
+        ensures tried { A.tried attempt (raw_under guard.entry) (tried_token (result_ok result)) }
     {
         let (lock, token, shown) = guard.held.into_parts();
         match attempt.make(&lock.rwlock.raw, token) {
@@ -60,7 +63,8 @@ impl<'a, R: RawRwLockUpgradeTimed, T> RwLockGuard<InMode<'a, Upgradable, R, T>> 
         guard: Self,
         timeout: R::Duration,
     ) -> Result<RwLockWriteGuard<'a, R, T>, Self>
-        ensures { MatchResult result (SameLock guard.entry) (λ same. same ≡ guard.entry) }
+        ensures lock { MatchResult result (SameLock guard.entry) (λ same. same ≡ guard.entry) }
+        ensures tried { R.tried_upgrade_for (raw_under guard.entry) timeout (tried_token (result_ok result)) }
     {
         RwLockUpgradableReadGuard::try_upgrade_by(guard, For(timeout))
     }
@@ -70,7 +74,8 @@ impl<'a, R: RawRwLockUpgradeTimed, T> RwLockGuard<InMode<'a, Upgradable, R, T>> 
         guard: Self,
         deadline: R::Instant,
     ) -> Result<RwLockWriteGuard<'a, R, T>, Self>
-        ensures { MatchResult result (SameLock guard.entry) (λ same. same ≡ guard.entry) }
+        ensures lock { MatchResult result (SameLock guard.entry) (λ same. same ≡ guard.entry) }
+        ensures tried { R.tried_upgrade_until (raw_under guard.entry) deadline (tried_token (result_ok result)) }
     {
         RwLockUpgradableReadGuard::try_upgrade_by(guard, Until(deadline))
     }

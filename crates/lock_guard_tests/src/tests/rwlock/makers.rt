@@ -37,7 +37,7 @@ fn readers_of_66<R: RawRwLock>(raw: &R) -> u64 {
     let mut readers = 0_u64;
     for _ in 0..66_u32 {
         if let Some(token) = raw.try_lock_shared() {
-            forget(token);
+            unsafe { forget(token) };
             readers = readers.wrapping_add(1);
         }
     }

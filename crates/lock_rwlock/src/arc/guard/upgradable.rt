@@ -1,7 +1,10 @@
 //! What an upgradable guard can do besides.
 ghost use Rattle.std.specs.Prelude.{◌≡◌, IfSome, IfNone, MatchResult};
+ghost use Rattle.std.specs.Arc.{arc_value};
+ghost use Rattle.std.specs.Result.{result_ok};
 ghost use Rattle.lock_guard.specs.Closure.{AnswersSomeValue};
-ghost use Rattle.lock_rwlock.specs.ArcRwLockGuard.{arc_of};
+ghost use Rattle.lock_rwlock.specs.ArcRwLockGuard.{arc_of, tried_arc_token};
+ghost use Rattle.lock_rwlock.specs.RwLock.{raw_of};
 
 use super::{ArcModeGuard, ArcRwLockReadGuard, ArcRwLockWriteGuard};
 use crate::arc::owned::OwnedInMode;
@@ -23,8 +26,9 @@ impl<R: RawRwLockUpgrade + Drop, T: Drop> ArcModeGuard<OwnedInMode<Upgradable, R
 
     /// Upgrades the guard without blocking, or returns it unchanged if the raw lock refuses.
     pub fn try_upgrade(guard: Self) -> Result<ArcRwLockWriteGuard<R, T>, Self>
-        ensures { MatchResult result (λ upgraded. arc_of upgraded ≡ arc_of guard)
+        ensures lock { MatchResult result (λ upgraded. arc_of upgraded ≡ arc_of guard)
             (λ same. same ≡ guard) }
+        ensures tried { R.tried_upgrade (raw_of (arc_value (arc_of guard))) (tried_arc_token (result_ok result)) }
     {
         ArcModeGuard::try_upgrade_by(guard, AtOnce)
     }
@@ -34,8 +38,9 @@ impl<R: RawRwLockUpgrade + Drop, T: Drop> ArcModeGuard<OwnedInMode<Upgradable, R
         guard: Self,
         attempt: A,
     ) -> Result<ArcRwLockWriteGuard<R, T>, Self>
-        ensures { MatchResult result (λ upgraded. arc_of upgraded ≡ arc_of guard)
+        ensures lock { MatchResult result (λ upgraded. arc_of upgraded ≡ arc_of guard)
             (λ same. same ≡ guard) }
+        ensures tried { A.tried attempt (raw_of (arc_value (arc_of guard))) (tried_arc_token (result_ok result)) }
     {
         let (lock, token, ()) = guard.held.into_parts();
         match attempt.make(&lock.rwlock.raw, token) {
@@ -56,8 +61,10 @@ impl<R: RawRwLockUpgradeTimed + Drop, T: Drop> ArcModeGuard<OwnedInMode<Upgradab
         guard: Self,
         timeout: R::Duration,
     ) -> Result<ArcRwLockWriteGuard<R, T>, Self>
-        ensures { MatchResult result (λ upgraded. arc_of upgraded ≡ arc_of guard)
+        ensures lock { MatchResult result (λ upgraded. arc_of upgraded ≡ arc_of guard)
             (λ same. same ≡ guard) }
+        ensures tried { R.tried_upgrade_for (raw_of (arc_value (arc_of guard))) timeout
+            (tried_arc_token (result_ok result)) }
     {
         ArcModeGuard::try_upgrade_by(guard, For(timeout))
     }
@@ -67,8 +74,10 @@ impl<R: RawRwLockUpgradeTimed + Drop, T: Drop> ArcModeGuard<OwnedInMode<Upgradab
         guard: Self,
         deadline: R::Instant,
     ) -> Result<ArcRwLockWriteGuard<R, T>, Self>
-        ensures { MatchResult result (λ upgraded. arc_of upgraded ≡ arc_of guard)
+        ensures lock { MatchResult result (λ upgraded. arc_of upgraded ≡ arc_of guard)
             (λ same. same ≡ guard) }
+        ensures tried { R.tried_upgrade_until (raw_of (arc_value (arc_of guard))) deadline
+            (tried_arc_token (result_ok result)) }
     {
         ArcModeGuard::try_upgrade_by(guard, Until(deadline))
     }

@@ -2,7 +2,7 @@ use Rattle.std.proofs.Common.{refl}
 use Rattle.lock_rwlock.proofs.Refused.{same_with_token}
 use Rattle.lock_rwlock.proofs.arc.guard.upgradable.ArcModeGuard+OwnedInMode+Upgradable+R+T.try_upgrade_by.Goals as goal
 
-pub returns-in-Err : goal.returns-in-Err
-returns-in-Err g c =
+pub returns-in-Err-clause-lock : goal.returns-in-Err-clause-lock
+returns-in-Err-clause-lock g c =
     let parts = c.into_parts-lock.ensures in
     same_with_token (λ held. record { held = held }) _ c.args.guard.held parts.lock refl c.in-Err.ensures.back parts.inner
