@@ -12,7 +12,7 @@ use Rattle.lock_remutex.specs.declared.owner_table.rule.OwnerKey.{OwnerKey}
 use Rattle.lock_remutex.specs.declared.owner_table.rule.OwnerStep.{OwnerStep}
 use Rattle.lock_remutex.specs.declared.owner_table.rule.OwnerStep.TheVariants.{Saw, Took, Made}
 use Rattle.lock_remutex.specs.declared.owner_table.rule.OwnerView.{OwnerView}
-use Rattle.lock_remutex.specs.OwnerTables.{party_in, count_in, IsWord, owned_at, IsAtHome, put_step, newcomer, IsOwnerTable, Self, Looks, Recounts, Takes, Puts, Hints}
+use Rattle.lock_remutex.specs.OwnerTables.{party_in, count_in, IsWord, owned_at, IsAtHome, put_step, after_look, newcomer, IsOwnerTable, Self, Looks, Recounts, Takes, Puts, Hints}
 
 -- of two words, the first is written, or the second
 written : (ws : List ℕ) (n : ℕ) → length ws ≡ 2 → slice_index (set ws 0 n) 0 ≡ n
@@ -92,10 +92,10 @@ module _ {K T : Type 0} (fits : K → T → Type 0) where
 
   pub recounts : (key : OwnerKey K) (slots id : ℕ) (me : Self K T) (old new : ℕ) → me.0.key ≡ key → 0 < party_in old
       → party_in new ≡ party_in old → IsWord key.limit new
-      → Allows (IsOwnerTable fits key) slots id me 0 (λ n. either (eqb n old) new n) (Recounts (step slots 0 old new none) me)
+      → Allows (IsOwnerTable fits key) slots id me 0 (λ n. either (eqb n old) new n) (Recounts fits (step slots 0 old new none) me)
   recounts key slots id me old new own named same_party counted s kept same at small =
       let found = slice_index s.words 0 in
-      let then = Recounts (step slots 0 old new none) me found in
+      let then = Recounts fits (step slots 0 old new none) me found in
       exchanged found old new (λ n. Done key id s me n then)
       (λ hit.
       let busy : old ≢ 1 = λ e. omega (arith, named, e) in
@@ -105,7 +105,7 @@ module _ {K T : Type 0} (fits : K → T → Type 0) where
       let now_named : 0 < party_in new = subst (λ (n : ℕ). 0 < n) (sym same_party) named in
       let limit = ap (λ (k : OwnerKey K). k.limit) own in
       let made : OwnerStep T = Made (owned_at me.0.key.limit (party_in old) (count_in old) token) (owned_at me.0.key.limit (party_in old) (count_in new) token) in (
-        record me.0 { step = made },
+        record me.0 { step = after_look me.0.step made },
         keeps,
         tt,
         on_owner key s new s.homes _ kept kept.one_slot (λ idle. (
@@ -117,10 +117,10 @@ module _ {K T : Type 0} (fits : K → T → Type 0) where
             named = λ _. (counted, (token, known.1.1 ∙ ap (λ (p : ℕ). owned_at key.limit p 1 token) (sym same_party), known.1.2));
           },
         )),
-        ((λ e. (token, refl)), (λ miss. absurd (miss hit))),
+        ((λ e. (token, refl, subst (λ (k : OwnerKey K). fits k.raw token) (sym own) known.1.2)), (λ miss. absurd (miss hit))),
       ))
       (λ miss. (
-        record me.0 { step = Saw found },
+        record me.0 { step = after_look me.0.step (Saw found) },
         keeps,
         tt,
         unchanged key s _ kept,
@@ -135,14 +135,14 @@ module _ {K T : Type 0} (fits : K → T → Type 0) where
       exchanged found old 1 (λ n. Done key id s me n then)
       (λ hit.
       let home : AtHome key old s.homes = subst (λ (n : ℕ). AtHome key n s.homes) hit (kept.at_home (λ e. idle (sym hit ∙ e))) in (
-        record me.0 { step = Took home.0 },
+        record me.0 { step = after_look me.0.step (Took home.0) },
         takes 0 (Some home.0),
         ap (λ (hs : List (Option (std.Option (Levels T)))). get_elem? hs 0) home.1,
         on_owner key s 1 (set s.homes 0 none) _ kept (length-set s.homes 0 none ∙ kept.one_slot) (λ idle. absurd (idle refl)),
         ((λ e. (home.0, refl, subst (λ (k : OwnerKey K). IsAtHome (fits k.raw) k.limit old home.0) (sym own) home.2)), (λ miss. absurd (miss hit))),
       ))
       (λ miss. (
-        record me.0 { step = Saw found },
+        record me.0 { step = after_look me.0.step (Saw found) },
         keeps,
         tt,
         unchanged key s _ kept,

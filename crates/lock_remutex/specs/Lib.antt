@@ -1,4 +1,5 @@
 pub mod OwnerTables
 pub mod OwnerCalls
+pub mod LevelSteps
 pub mod Guards
 pub mod ArcGuards

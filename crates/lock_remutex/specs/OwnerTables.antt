@@ -64,6 +64,22 @@ module _ {T : Type 0} where
   made_by (Took before) now = Made before now
   made_by step now = Start
 
+  -- a call makes at most one change: after it, a further step is none that a contract takes
+  abbrev pub after_look : OwnerStep T → OwnerStep T → OwnerStep T
+  after_look (Saw word) next = next
+  after_look step next = Start
+
+  -- the step of a call that changed nothing
+  abbrev pub IsIdle : OwnerStep T → Type 0
+  IsIdle (Saw word) = Unit {0}
+  IsIdle (Made old new) = new ≡ old
+  IsIdle step = ⊥
+
+  -- the token of the owner, if the step left one
+  abbrev pub OwnerFits : (T → Type 0) → OwnerStep T → Type 0
+  OwnerFits fits (Made old new) = IfSome new.owner (λ o. fits o.token)
+  OwnerFits fits step = Unit {0}
+
 -- the view of a call, and the slots that it has taken
 abbrev pub Self : Type 0 → Type 0 → Type 0
 Self K T = Me (std.Option (Levels T)) (OwnerView K T)
@@ -88,19 +104,20 @@ module _ {K T : Type 0} where
   Looks s me found after = (after ≡ after_step me (Saw found)) × IsWord me.0.key.limit found
 
   -- an exchange that changes the levels of the owner that the word names
-  abbrev pub Recounts : Step (std.Option (Levels T)) → Self K T → ℕ → Self K T → Type 0
-  Recounts s me found after =
-      (found ≡ s.first → (token : T) × (after ≡ after_step me (Made
+  abbrev pub Recounts : (K → T → Type 0) → Step (std.Option (Levels T)) → Self K T → ℕ → Self K T → Type 0
+  Recounts fits s me found after =
+      (found ≡ s.first → (token : T) × (after ≡ after_step me (after_look me.0.step (Made
       (owned_at me.0.key.limit (party_in s.first) (count_in s.first) token)
       (owned_at me.0.key.limit (party_in s.first) (count_in s.second) token))))
-      × (found ≢ s.first → after ≡ after_step me (Saw found))
+      × fits me.0.key.raw token)
+      × (found ≢ s.first → after ≡ after_step me (after_look me.0.step (Saw found)))
 
   -- an exchange that takes the levels
   abbrev pub Takes : (K → T → Type 0) → Step (std.Option (Levels T)) → Self K T → ℕ → Self K T → Type 0
   Takes fits s me found after =
-      (found ≡ s.first → (l : Levels T) × (after ≡ (record me.0 { step = Took l }, (0, Some l) ∷ me.1))
+      (found ≡ s.first → (l : Levels T) × (after ≡ (record me.0 { step = after_look me.0.step (Took l) }, (0, Some l) ∷ me.1))
       × IsAtHome (fits me.0.key.raw) me.0.key.limit s.first l)
-      × (found ≢ s.first → after ≡ after_step me (Saw found))
+      × (found ≢ s.first → after ≡ after_step me (after_look me.0.step (Saw found)))
 
   -- a swap that puts levels back
   abbrev pub Puts : Self K T → ℕ → Self K T → Type 0

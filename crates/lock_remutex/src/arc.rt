@@ -26,8 +26,10 @@ impl<R: RawMutex + Drop, T: Drop> ReentrantMutex<R, T> {
         ensures fault { IfErr result IsArcFault }
     {
         let remutex = another_owner(this)?;
-        remutex.raw.lock(party)?;
-        Ok(ArcReentrantMutexGuard::new(remutex, party))
+        match remutex.raw.acquire(party) {
+            Ok(level) => Ok(ArcReentrantMutexGuard::new(remutex, level)),
+            Err(fault) => Err(fault),
+        }
     }
 
     /// `try_lock`, by a guard that owns a clone of the `Arc`.
@@ -44,8 +46,10 @@ impl<R: RawMutex + Drop, T: Drop> ReentrantMutex<R, T> {
         ensures fault { IfErr result IsArcFault }
     {
         let remutex = another_owner(this)?;
-        let has_level = remutex.raw.try_lock(party)?;
-        Ok(ArcReentrantMutexGuard::if_level(remutex, party, has_level))
+        match remutex.raw.try_acquire(party) {
+            Ok(got) => Ok(ArcReentrantMutexGuard::guarded(remutex, got)),
+            Err(fault) => Err(fault),
+        }
     }
 }
 
@@ -60,8 +64,10 @@ impl<R: RawMutexTimed + Drop, T: Drop> ReentrantMutex<R, T> {
         ensures fault { IfErr result IsArcFault }
     {
         let remutex = another_owner(this)?;
-        let has_level = remutex.raw.try_lock_for(party, timeout)?;
-        Ok(ArcReentrantMutexGuard::if_level(remutex, party, has_level))
+        match remutex.raw.try_acquire_for(party, timeout) {
+            Ok(got) => Ok(ArcReentrantMutexGuard::guarded(remutex, got)),
+            Err(fault) => Err(fault),
+        }
     }
 
     /// `try_lock_arc`, where the raw lock may block until `deadline`.
@@ -74,7 +80,9 @@ impl<R: RawMutexTimed + Drop, T: Drop> ReentrantMutex<R, T> {
         ensures fault { IfErr result IsArcFault }
     {
         let remutex = another_owner(this)?;
-        let has_level = remutex.raw.try_lock_until(party, deadline)?;
-        Ok(ArcReentrantMutexGuard::if_level(remutex, party, has_level))
+        match remutex.raw.try_acquire_until(party, deadline) {
+            Ok(got) => Ok(ArcReentrantMutexGuard::guarded(remutex, got)),
+            Err(fault) => Err(fault),
+        }
     }
 }

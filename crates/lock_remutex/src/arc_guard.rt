@@ -1,7 +1,8 @@
-ghost use Rattle.std.specs.Prelude.{◌≡◌, ◌↔◌, IfErr, IfOk, IfSome, IsSome, IsTrue, MatchResult};
+ghost use Rattle.std.specs.Prelude.{◌≡◌, ◌↔◌, IfErr, IfOk, IfSome, IsSome, MatchResult};
 ghost use Rattle.lock_base.specs.Party.{id_of};
 ghost use Rattle.lock_remutex.specs.ArcGuards.{arc_of, arc_party, arc_guard_value, IsSameArcGuard};
 
+use crate::level::Level;
 use crate::reentrant_mutex::ReentrantMutex;
 use lock_base::machine::PartyId;
 use lock_base::raw::Fault;
@@ -17,28 +18,25 @@ pub struct ArcReentrantMutexGuard<R: RawMutex + Drop, T: Drop> {
 }
 
 impl<R: RawMutex + Drop, T: Drop> ArcReentrantMutexGuard<R, T> {
-    /// Makes the guard of a level that the party has.
-    pub(crate) fn new(remutex: Arc<ReentrantMutex<R, T>>, party: PartyId) -> Self
+    /// Makes the guard of a level.
+    pub(crate) fn new(remutex: Arc<ReentrantMutex<R, T>>, level: Level<R>) -> Self
         ensures lock { arc_of result ≡ remutex }
-        ensures party { arc_party result ≡ id_of party }
+        ensures party { arc_party result ≡ level.party }
     {
+        let party = level.keep();
         ArcReentrantMutexGuard { remutex, party }
     }
 
-    /// Makes the guard of a new level, if the party got one.
-    pub(crate) fn if_level(
-        remutex: Arc<ReentrantMutex<R, T>>,
-        party: PartyId,
-        has_level: bool,
-    ) -> Option<Self>
-        ensures some { IsSome result ↔ IsTrue has_level }
+    /// Makes the guard of a new level, if there is one.
+    pub(crate) fn guarded(remutex: Arc<ReentrantMutex<R, T>>, got: Option<Level<R>>) -> Option<Self>
+        ensures some { IsSome result ↔ IsSome got }
         ensures lock { IfSome result (λ guard. arc_of guard ≡ remutex) }
-        ensures party { IfSome result (λ guard. arc_party guard ≡ id_of party) }
+        ensures party { IfSome result (λ guard. IfSome got (λ level. arc_party guard ≡ level.party)) }
     {
-        if !has_level {
-            return None;
+        match got {
+            Some(level) => Some(ArcReentrantMutexGuard::new(remutex, level)),
+            None => None,
         }
-        Some(ArcReentrantMutexGuard::new(remutex, party))
     }
 
     /// Returns the lock of the guard.
@@ -85,8 +83,8 @@ impl<R: RawMutex + Drop, T: Drop> ArcReentrantMutexGuard<R, T> {
         ensures party { IfOk result (λ back. arc_party back.0 ≡ id_of party) }
         ensures fault { IfErr result (λ refused. refused.0 ≡ Fault.FullCount) }
     {
-        match remutex.raw.lock(party) {
-            Ok(()) => Ok((ArcReentrantMutexGuard::new(remutex, party), answer)),
+        match remutex.raw.acquire(party) {
+            Ok(level) => Ok((ArcReentrantMutexGuard::new(remutex, level), answer)),
             Err(fault) => Err((fault, answer)),
         }
     }

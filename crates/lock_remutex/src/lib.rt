@@ -3,6 +3,7 @@
 
 mod arc;
 mod arc_guard;
+mod level;
 mod mapped;
 mod owner_table;
 mod raw_reentrant_mutex;

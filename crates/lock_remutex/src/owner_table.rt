@@ -8,17 +8,15 @@ ghost use Rattle.lock_base.specs.Limits.{IsLimit};
 ghost use Rattle.lock_base.specs.Levels.{Levels, GivesTokenBack};
 ghost use Rattle.lock_base.specs.Party.{id_of};
 ghost use Rattle.lock_remutex.specs.declared.owner_table.rule.OwnerStep.TheVariants.{Saw, Made};
-ghost use Rattle.lock_remutex.specs.OwnerTables.{party_in, count_in, owned_at, made_by, IsAtHome, IsWord};
-ghost use Rattle.lock_remutex.specs.OwnerCalls.{Again, First, Leaves, LeavesSole, IsTaken};
+ghost use Rattle.lock_remutex.specs.OwnerTables.{party_in, count_in, IsIdle, OwnerFits};
+ghost use Rattle.lock_remutex.specs.OwnerCalls.{Again, First, Leaves, LeavesSole};
 
 use atomic_table::{Refused, Table};
 pub use call::OwnerCall;
-use call::Section;
 use lock_base::machine::PartyId;
 use lock_base::raw::{Fault, Levels};
 use lock_guard::forget;
 pub use rule::{OwnerKey, OwnerRule, OwnerView, TokenRule};
-use rule::{LookAtOwner, PutLevels, Recount, TakeLevels};
 use std::alloc::{AllocError, AllocFailed, Global};
 use std::marker::Model;
 use std::sync::Wait;
@@ -79,7 +77,8 @@ impl<K, T, P: TokenRule<K, T>> OwnerTable<K, T, P> {
         match slots.push(Some(levels)) {
             Ok(()) => {}
             Err(AllocFailed { value }) => {
-                forget(value);
+                // SAFETY: new levels hold no token.
+                unsafe { forget(value) };
                 slots.destroy_empty();
                 return Err(AllocError);
             }
@@ -90,7 +89,8 @@ impl<K, T, P: TokenRule<K, T>> OwnerTable<K, T, P> {
                 limit: key.limit,
             }),
             Err(Refused { mut slots }) => {
-                forget(slots.pop());
+                // SAFETY: new levels hold no token.
+                unsafe { forget(slots.pop()) };
                 slots.destroy_empty();
                 Err(AllocError)
             }
@@ -105,6 +105,7 @@ impl<K, T, P: TokenRule<K, T>> OwnerTable<K, T, P> {
     pub fn again<W: Wait>(&self, rt: &W, party: PartyId) -> (Result<bool, Fault>, OwnerCall<K, T>)
         ensures table { result.1.table ≡ self.now }
         ensures did { Again self.now.key.limit (id_of party) result.0 result.1.step }
+        ensures fits { OwnerFits (P.fits self.now.key.raw) result.1.step }
     {
         let id = party.get();
         if id >= PARTY {
@@ -118,8 +119,9 @@ impl<K, T, P: TokenRule<K, T>> OwnerTable<K, T, P> {
             if word % PARTY == self.limit {
                 return (Err(Fault::FullCount), call);
             }
-            if let Ok(call) = self.recount(call, word, word + 1) {
-                return (Ok(true), call);
+            match self.recount(call, word, word + 1) {
+                Ok(call) => return (Ok(true), call),
+                Err(call) => call.end(),
             }
         }
         unreachable!()
@@ -130,6 +132,7 @@ impl<K, T, P: TokenRule<K, T>> OwnerTable<K, T, P> {
         requires { P.fits self.now.key.raw token }
         ensures table { result.1.table ≡ self.now }
         ensures did { First (id_of party) token result.0 result.1.step }
+        ensures fits { OwnerFits (P.fits self.now.key.raw) result.1.step }
     {
         let (_, call) = self.look();
         let (mut levels, mut section) = match self.take(call, FREE) {
@@ -154,6 +157,7 @@ impl<K, T, P: TokenRule<K, T>> OwnerTable<K, T, P> {
         ensures table { result.1.table ≡ self.now }
         ensures did { Leaves (id_of party) result.0 result.1.step }
         ensures fits { IfOk result.0 (λ last. IfSome last (P.fits self.now.key.raw)) }
+        ensures left { OwnerFits (P.fits self.now.key.raw) result.1.step }
     {
         let id = party.get();
         if id >= PARTY {
@@ -165,11 +169,15 @@ impl<K, T, P: TokenRule<K, T>> OwnerTable<K, T, P> {
                 return (Err(Fault::Foreign), call);
             }
             if word % PARTY > 1 {
-                if let Ok(call) = self.recount(call, word, word - 1) {
-                    return (Ok(None), call);
+                match self.recount(call, word, word - 1) {
+                    Ok(call) => return (Ok(None), call),
+                    Err(call) => call.end(),
                 }
-            } else if let Ok((token, call)) = self.leave_last(call, party, word) {
-                return (Ok(Some(token)), call);
+            } else {
+                match self.leave_last(call, party, word) {
+                    Ok((token, call)) => return (Ok(Some(token)), call),
+                    Err(call) => call.end(),
+                }
             }
         }
         unreachable!()
@@ -197,8 +205,9 @@ impl<K, T, P: TokenRule<K, T>> OwnerTable<K, T, P> {
             if word % PARTY > 1 {
                 return (Ok(None), call);
             }
-            if let Ok((token, call)) = self.leave_last(call, party, word) {
-                return (Ok(Some(token)), call);
+            match self.leave_last(call, party, word) {
+                Ok((token, call)) => return (Ok(Some(token)), call),
+                Err(call) => call.end(),
             }
         }
         unreachable!()
@@ -218,92 +227,26 @@ impl<K, T, P: TokenRule<K, T>> OwnerTable<K, T, P> {
         self.table.shared.peek(OWNER) != FREE
     }
 
-    /// Begins a call by a load of the owner word.
-    fn look(&self) -> (u64, OwnerCall<K, T>)
-        ensures table { result.1.table ≡ self.now }
-        ensures step { result.1.step ≡ Saw result.0 }
-        ensures word { IsWord self.now.key.limit result.0 }
-        ensures limit { IsLimit self.now.key.limit }
-    {
-        let (word, seat) = self.table.shared.load_new_seat::<LookAtOwner>(OWNER);
-        (word, OwnerCall { seat })
-    }
-
-    /// Exchanges the word for one that names the same owner at other levels, or ends if the word has changed.
-    fn recount(&self, call: OwnerCall<K, T>, word: u64, next: u64) -> Result<OwnerCall<K, T>, ()>
-        requires table { call.table ≡ self.now }
-        requires named { (0 < party_in word) × (party_in next ≡ party_in word) }
-        requires word { IsWord self.now.key.limit word }
-        requires next { IsWord self.now.key.limit next }
-        ensures table { IfOk result (λ call. call.table ≡ self.now) }
-        ensures made { IfOk result (λ call. (token : T) × (call.step ≡ Made
-            (owned_at self.now.key.limit (party_in word) (count_in word) token)
-            (owned_at self.now.key.limit (party_in word) (count_in next) token))) }
-    {
-        let OwnerCall { mut seat } = call;
-        let shared = &self.table.shared;
-        if shared.compare_exchange::<Recount>(&mut seat, OWNER, word, next) != word {
-            return Err(());
-        }
-        Ok(OwnerCall { seat })
-    }
-
-    /// Takes the levels by an exchange of this word, or returns the call that found another word.
-    fn take(
-        &self,
-        call: OwnerCall<K, T>,
-        word: u64,
-    ) -> Result<(Levels<T>, Section<K, T>), OwnerCall<K, T>>
-        requires table { call.table ≡ self.now }
-        requires idle { word ≢ 1 }
-        ensures taken { IfOk result (λ taken. IsTaken P.fits self.now word taken.0 taken.1) }
-        ensures table { IfErr result (λ call. call.table ≡ self.now) }
-        ensures saw { IfErr result (λ call. (found : ℕ) × (call.step ≡ Saw found) × (found ≢ word)) }
-    {
-        let OwnerCall { mut seat } = call;
-        let shared = &self.table.shared;
-        if shared.compare_exchange::<TakeLevels<P>>(&mut seat, OWNER, word, BUSY) != word {
-            return Err(OwnerCall { seat });
-        }
-        match shared.exchange(&mut seat, 0, None) {
-            Some(levels) => Ok((levels, Section { seat })),
-            None => unreachable!(),
-        }
-    }
-
-    /// Puts the levels back, at this word.
-    fn put(&self, word: u64, levels: Levels<T>, section: Section<K, T>) -> OwnerCall<K, T>
-        requires table { section.table ≡ self.now }
-        requires idle { word ≢ 1 }
-        requires home { IsAtHome (P.fits self.now.key.raw) self.now.key.limit word levels }
-        ensures table { result.table ≡ self.now }
-        ensures step { result.step ≡ made_by section.step levels }
-    {
-        let Section { mut seat } = section;
-        match self.table.shared.exchange(&mut seat, 0, Some(levels)) {
-            None => {}
-            Some(_levels) => unreachable!(),
-        }
-        self.table.shared.swap::<PutLevels>(&mut seat, OWNER, word);
-        OwnerCall { seat }
-    }
-
-    /// Takes the only level of the owner that this word names, or ends if the word has changed.
+    /// Takes the only level of the owner that this word names, or returns the call if the word has changed.
     fn leave_last(
         &self,
         call: OwnerCall<K, T>,
         party: PartyId,
         word: u64,
-    ) -> Result<(T, OwnerCall<K, T>), ()>
+    ) -> Result<(T, OwnerCall<K, T>), OwnerCall<K, T>>
         requires table { call.table ≡ self.now }
+        requires saw { call.step ≡ Saw word }
         requires sole { (0 < id_of party) × (party_in word ≡ id_of party) × (count_in word ≡ 1) }
         ensures table { IfOk result (λ left. left.1.table ≡ self.now) }
         ensures did { IfOk result (λ left. (old : Levels T) × (new : Levels T)
             × (left.1.step ≡ Made old new) × GivesTokenBack old new (id_of party) left.0) }
         ensures fits { IfOk result (λ left. P.fits self.now.key.raw left.0) }
+        ensures left { IfOk result (λ left. OwnerFits (P.fits self.now.key.raw) left.1.step) }
+        ensures idle { IfErr result (λ call. IsIdle call.step) }
     {
-        let Ok((mut levels, section)) = self.take(call, word) else {
-            return Err(());
+        let (mut levels, section) = match self.take(call, word) {
+            Ok(taken) => taken,
+            Err(call) => return Err(call),
         };
         match levels.leave(party) {
             Ok(Some(token)) => Ok((token, self.put(FREE, levels, section))),
@@ -317,7 +260,8 @@ impl<K, T, P: TokenRule<K, T>> Drop for OwnerTable<K, T, P> {
     fn drop(self) {
         let OwnerTable { table, limit: _ } = self;
         let mut closed = table.close();
-        forget(closed.take(0));
+        // SAFETY: a lock that is dropped while it is owned forgets its token.
+        unsafe { forget(closed.take(0)) };
         closed.free();
     }
 }

@@ -1,6 +1,9 @@
-ghost use Rattle.std.specs.Prelude.{◌≡◌, ◌↔◌, true, IfOk, IfErr, IfSome, IsOkUnless};
+ghost use Rattle.std.specs.Prelude.{◌≡◌, ◌↔◌, true, Err, IsTrue, IfOk, IfErr, IfSome, IsOkUnless};
 ghost use Rattle.lock_base.specs.Limits.{IsLimit, IsMakerFault};
+ghost use Rattle.lock_base.specs.Party.{id_of};
+ghost use Rattle.lock_remutex.specs.LevelSteps.{HasGained, HasLost, IsNewLevel};
 
+use crate::level::Level;
 use crate::owner_table::{OwnerKey, OwnerTable, TokenRule};
 use lock_base::machine::PartyId;
 use lock_base::raw::{DEFAULT_LEVELS, Fault, is_limit};
@@ -105,14 +108,16 @@ impl<R: RawMutex> RawReentrantMutex<R> {
     ///
     /// `FullCount` if the party owns the lock at all its levels.
     pub fn lock(&self, party: PartyId) -> Result<(), Fault>
-        ensures { IfErr result (λ fault. fault ≡ Fault.FullCount) }
+        ensures gained { IfOk result (λ _. HasGained R.is_own self.now (id_of party)) }
+        ensures fault { IfErr result (λ fault. fault ≡ Fault.FullCount) }
     {
-        for _ in self.raw.waiter().forever() {
-            if self.again(party)? || self.first(party, self.raw.lock()) {
-                return Ok(());
+        match self.acquire(party) {
+            Ok(level) => {
+                level.keep();
+                Ok(())
             }
+            Err(fault) => Err(fault),
         }
-        unreachable!()
     }
 
     /// Acquires one level for the party without blocking, or answers false.
@@ -121,9 +126,10 @@ impl<R: RawMutex> RawReentrantMutex<R> {
     ///
     /// As `lock`.
     pub fn try_lock(&self, party: PartyId) -> Result<bool, Fault>
-        ensures { IfErr result (λ fault. fault ≡ Fault.FullCount) }
+        ensures gained { IfOk result (λ yes. IsTrue yes → HasGained R.is_own self.now (id_of party)) }
+        ensures fault { IfErr result (λ fault. fault ≡ Fault.FullCount) }
     {
-        Ok(self.again(party)? || self.first_of(party, self.raw.try_lock()))
+        self.kept(party, self.try_acquire(party))
     }
 
     /// Releases one level of the party, and with the last level the raw lock.
@@ -132,7 +138,8 @@ impl<R: RawMutex> RawReentrantMutex<R> {
     ///
     /// `Foreign` if the party does not own the lock.
     pub fn unlock(&self, party: PartyId) -> Result<(), Fault>
-        ensures { IfErr result (λ fault. fault ≡ Fault.Foreign) }
+        ensures lost { IfOk result (λ _. HasLost R.is_own self.now (id_of party)) }
+        ensures fault { IfErr result (λ fault. fault ≡ Fault.Foreign) }
     {
         if let Some(token) = self.leave(party)? {
             self.raw.unlock(token);
@@ -155,51 +162,124 @@ impl<R: RawMutex> RawReentrantMutex<R> {
         self.owner.is_owned()
     }
 
-    /// Acquires a further level if the party owns the lock, or answers false.
-    fn again(&self, party: PartyId) -> Result<bool, Fault>
-        ensures { IfErr result (λ fault. fault ≡ Fault.FullCount) }
+    /// `lock`, by a level.
+    pub(crate) fn acquire(&self, party: PartyId) -> Result<Level<R>, Fault>
+        ensures level { IfOk result (IsNewLevel self.now (id_of party)) }
+        ensures fault { IfErr result (λ fault. fault ≡ Fault.FullCount) }
     {
-        self.owner.again(self.raw.waiter(), party).0
+        for _ in self.raw.waiter().forever() {
+            match self.again(party) {
+                Ok(Some(level)) => return Ok(level),
+                Ok(None) => {}
+                Err(fault) => return Err(fault),
+            }
+            if let Some(level) = self.first(party, self.raw.lock()) {
+                return Ok(level);
+            }
+        }
+        unreachable!()
     }
 
-    /// Acquires the party's first level, with this token. If there is an owner it answers false and unlocks the token:
-    /// only a raw lock that admits too many threads leads there.
-    fn first(&self, party: PartyId, token: R::Guard) -> bool
-        requires { R.is_own self.now token ≡ true }
+    /// `try_lock`, by a level.
+    pub(crate) fn try_acquire(&self, party: PartyId) -> Result<Option<Level<R>>, Fault>
+        ensures level { IfOk result (λ got. IfSome got (IsNewLevel self.now (id_of party))) }
+        ensures fault { IfErr result (λ fault. fault ≡ Fault.FullCount) }
     {
-        let (back, _) = self.owner.first(party, token);
+        match self.again(party) {
+            Ok(None) => Ok(self.first_of(party, self.raw.try_lock())),
+            Ok(Some(level)) => Ok(Some(level)),
+            Err(fault) => Err(fault),
+        }
+    }
+
+    /// Answers whether there is a level, and leaves it to its party.
+    fn kept(&self, party: PartyId, got: Result<Option<Level<R>>, Fault>) -> Result<bool, Fault>
+        requires { IfOk got (λ got. IfSome got (IsNewLevel self.now (id_of party))) }
+        ensures gained { IfOk result (λ yes. IsTrue yes → HasGained R.is_own self.now (id_of party)) }
+        ensures fault { IfErr result (λ fault. got ≡ Err fault) }
+    {
+        match got {
+            Ok(Some(level)) => {
+                level.keep();
+                Ok(true)
+            }
+            Ok(None) => Ok(false),
+            Err(fault) => Err(fault),
+        }
+    }
+
+    /// Acquires a further level if the party owns the lock.
+    fn again(&self, party: PartyId) -> Result<Option<Level<R>>, Fault>
+        ensures level { IfOk result (λ got. IfSome got (IsNewLevel self.now (id_of party))) }
+        ensures fault { IfErr result (λ fault. fault ≡ Fault.FullCount) }
+    {
+        let (answer, call) = self.owner.again(self.raw.waiter(), party);
+        match answer {
+            Ok(true) => Ok(Some(Level::of(call, party))),
+            Ok(false) => {
+                call.end();
+                Ok(None)
+            }
+            Err(fault) => {
+                call.end();
+                Err(fault)
+            }
+        }
+    }
+
+    /// Acquires the party's first level, with this token. If there is an owner it unlocks the token: only a raw lock that
+    /// admits too many threads leads there.
+    fn first(&self, party: PartyId, token: R::Guard) -> Option<Level<R>>
+        requires { R.is_own self.now token ≡ true }
+        ensures { IfSome result (IsNewLevel self.now (id_of party)) }
+    {
+        let (back, call) = self.owner.first(party, token);
         match back {
             Some(token) => {
+                call.end();
                 self.raw.unlock(token);
-                false
+                None
             }
-            None => true,
+            None => Some(Level::of(call, party)),
         }
     }
 
     /// `first`, if the raw lock gave a token.
-    fn first_of(&self, party: PartyId, token: Option<R::Guard>) -> bool
+    fn first_of(&self, party: PartyId, token: Option<R::Guard>) -> Option<Level<R>>
         requires { IfSome token (λ token. R.is_own self.now token ≡ true) }
+        ensures { IfSome result (IsNewLevel self.now (id_of party)) }
     {
         match token {
             Some(token) => self.first(party, token),
-            None => false,
+            None => None,
         }
     }
 
     /// Releases one level, and returns the token with the last level.
     fn leave(&self, party: PartyId) -> Result<Option<R::Guard>, Fault>
+        ensures lost { IfOk result (λ _. HasLost R.is_own self.now (id_of party)) }
         ensures fault { IfErr result (λ fault. fault ≡ Fault.Foreign) }
         ensures own { IfOk result (λ last. IfSome last (λ token. R.is_own self.now token ≡ true)) }
     {
-        self.owner.leave(self.raw.waiter(), party).0
+        let (answer, call) = self.owner.leave(self.raw.waiter(), party);
+        match answer {
+            Ok(last) => {
+                call.settle();
+                Ok(last)
+            }
+            Err(fault) => {
+                call.end();
+                Err(fault)
+            }
+        }
     }
 }
 
 impl<R: RawMutexFair> RawReentrantMutex<R> {
     /// `unlock`, by a fair release of the raw lock.
     pub fn unlock_fair(&self, party: PartyId) -> Result<(), Fault>
-        ensures { IfErr result (λ fault. fault ≡ Fault.Foreign) }
+        ensures lost { IfOk result (λ _. HasLost R.is_own self.now (id_of party)) }
+        ensures fault { IfErr result (λ fault. fault ≡ Fault.Foreign) }
     {
         if let Some(token) = self.leave(party)? {
             self.raw.unlock_fair(token);
@@ -218,8 +298,9 @@ impl<R: RawMutexFair> RawReentrantMutex<R> {
     {
         if let Some(token) = self.leave_sole(party)? {
             let next = self.raw.bump(token);
-            if !self.first(party, next) {
-                self.lock_retrying(party);
+            match self.first(party, next) {
+                Some(level) => drop(level.keep()),
+                None => self.lock_retrying(party),
             }
         }
         Ok(())
@@ -230,7 +311,17 @@ impl<R: RawMutexFair> RawReentrantMutex<R> {
         ensures fault { IfErr result (λ fault. fault ≡ Fault.Foreign) }
         ensures own { IfOk result (λ last. IfSome last (λ token. R.is_own self.now token ≡ true)) }
     {
-        self.owner.leave_sole(self.raw.waiter(), party).0
+        let (answer, call) = self.owner.leave_sole(self.raw.waiter(), party);
+        match answer {
+            Ok(Some(token)) => {
+                call.settle();
+                Ok(Some(token))
+            }
+            kept => {
+                call.end();
+                kept
+            }
+        }
     }
 
     /// `lock`, which tries again also where the party has all its levels.
@@ -247,15 +338,49 @@ impl<R: RawMutexFair> RawReentrantMutex<R> {
 impl<R: RawMutexTimed> RawReentrantMutex<R> {
     /// `try_lock`, where the raw lock may block for at most `timeout`.
     pub fn try_lock_for(&self, party: PartyId, timeout: R::Duration) -> Result<bool, Fault>
-        ensures { IfErr result (λ fault. fault ≡ Fault.FullCount) }
+        ensures gained { IfOk result (λ yes. IsTrue yes → HasGained R.is_own self.now (id_of party)) }
+        ensures fault { IfErr result (λ fault. fault ≡ Fault.FullCount) }
     {
-        Ok(self.again(party)? || self.first_of(party, self.raw.try_lock_for(timeout)))
+        self.kept(party, self.try_acquire_for(party, timeout))
+    }
+
+    /// `try_lock_for`, by a level.
+    pub(crate) fn try_acquire_for(
+        &self,
+        party: PartyId,
+        timeout: R::Duration,
+    ) -> Result<Option<Level<R>>, Fault>
+        ensures level { IfOk result (λ got. IfSome got (IsNewLevel self.now (id_of party))) }
+        ensures fault { IfErr result (λ fault. fault ≡ Fault.FullCount) }
+    {
+        match self.again(party) {
+            Ok(None) => Ok(self.first_of(party, self.raw.try_lock_for(timeout))),
+            Ok(Some(level)) => Ok(Some(level)),
+            Err(fault) => Err(fault),
+        }
     }
 
     /// `try_lock`, where the raw lock may block until `deadline`.
     pub fn try_lock_until(&self, party: PartyId, deadline: R::Instant) -> Result<bool, Fault>
-        ensures { IfErr result (λ fault. fault ≡ Fault.FullCount) }
+        ensures gained { IfOk result (λ yes. IsTrue yes → HasGained R.is_own self.now (id_of party)) }
+        ensures fault { IfErr result (λ fault. fault ≡ Fault.FullCount) }
     {
-        Ok(self.again(party)? || self.first_of(party, self.raw.try_lock_until(deadline)))
+        self.kept(party, self.try_acquire_until(party, deadline))
+    }
+
+    /// `try_lock_until`, by a level.
+    pub(crate) fn try_acquire_until(
+        &self,
+        party: PartyId,
+        deadline: R::Instant,
+    ) -> Result<Option<Level<R>>, Fault>
+        ensures level { IfOk result (λ got. IfSome got (IsNewLevel self.now (id_of party))) }
+        ensures fault { IfErr result (λ fault. fault ≡ Fault.FullCount) }
+    {
+        match self.again(party) {
+            Ok(None) => Ok(self.first_of(party, self.raw.try_lock_until(deadline))),
+            Ok(Some(level)) => Ok(Some(level)),
+            Err(fault) => Err(fault),
+        }
     }
 }

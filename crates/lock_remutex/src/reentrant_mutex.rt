@@ -1,10 +1,12 @@
 //! A mutex whose owner may acquire it again, with a value.
-ghost use Rattle.std.specs.Prelude.{◌≡◌, ◌↔◌, IsTrue, IsSome, IfOk, IfErr, IfSome, IsOkUnless};
+ghost use Rattle.std.specs.Prelude.{◌≡◌, ◌↔◌, Err, IsSome, IfOk, IfErr, IfSome, IsOkUnless};
 ghost use Rattle.std.specs.Borrow.{Lends, sem};
 ghost use Rattle.lock_base.specs.Limits.{IsLimit, IsMakerFault};
 ghost use Rattle.lock_base.specs.Party.{id_of};
+ghost use Rattle.lock_remutex.specs.LevelSteps.{IsNewLevel};
 ghost use Rattle.lock_remutex.specs.Guards.{raw_of, value_of, with_value, IsGuardOf};
 
+use crate::level::Level;
 use crate::raw_reentrant_mutex::RawReentrantMutex;
 use crate::reentrant_mutex_guard::ReentrantMutexGuard;
 use lock_base::machine::PartyId;
@@ -137,8 +139,10 @@ impl<R: RawMutex, T> ReentrantMutex<R, T> {
         ensures guard { IfOk result (IsGuardOf self.entry (id_of party)) }
         ensures fault { IfErr result (λ fault. fault ≡ Fault.FullCount) }
     {
-        self.raw.lock(party)?;
-        Ok(ReentrantMutexGuard::new(self, party))
+        match self.raw.acquire(party) {
+            Ok(level) => Ok(ReentrantMutexGuard::new(self, level)),
+            Err(fault) => Err(fault),
+        }
     }
 
     /// Acquires one level for the party without blocking, or returns `None`.
@@ -150,19 +154,25 @@ impl<R: RawMutex, T> ReentrantMutex<R, T> {
         ensures guard { IfOk result (λ got. IfSome got (IsGuardOf self.entry (id_of party))) }
         ensures fault { IfErr result (λ fault. fault ≡ Fault.FullCount) }
     {
-        let has_level = self.raw.try_lock(party)?;
-        Ok(self.guard_if(has_level, party))
+        self.guarded(party, self.raw.try_acquire(party))
     }
 
-    /// Makes the guard of a new level, if the party got one.
-    fn guard_if(&self, has_level: bool, party: PartyId) -> Option<ReentrantMutexGuard<'_, R, T>>
-        ensures some { IsSome result ↔ IsTrue has_level }
-        ensures guard { IfSome result (IsGuardOf self.entry (id_of party)) }
+    /// Makes the guard of a new level, if there is one.
+    fn guarded(
+        &self,
+        party: PartyId,
+        got: Result<Option<Level<R>>, Fault>,
+    ) -> Result<Option<ReentrantMutexGuard<'_, R, T>>, Fault>
+        requires { IfOk got (λ got. IfSome got (IsNewLevel (raw_of self.now) (id_of party))) }
+        ensures guard { IfOk result (λ guard. IfSome guard (IsGuardOf self.entry (id_of party))) }
+        ensures some { IfOk result (λ guard. IfOk got (λ got. IsSome guard ↔ IsSome got)) }
+        ensures fault { IfErr result (λ fault. got ≡ Err fault) }
     {
-        if !has_level {
-            return None;
+        match got {
+            Ok(Some(level)) => Ok(Some(ReentrantMutexGuard::new(self, level))),
+            Ok(None) => Ok(None),
+            Err(fault) => Err(fault),
         }
-        Some(ReentrantMutexGuard::new(self, party))
     }
 }
 
@@ -176,8 +186,7 @@ impl<R: RawMutexTimed, T> ReentrantMutex<R, T> {
         ensures guard { IfOk result (λ got. IfSome got (IsGuardOf self.entry (id_of party))) }
         ensures fault { IfErr result (λ fault. fault ≡ Fault.FullCount) }
     {
-        let has_level = self.raw.try_lock_for(party, timeout)?;
-        Ok(self.guard_if(has_level, party))
+        self.guarded(party, self.raw.try_acquire_for(party, timeout))
     }
 
     /// `try_lock`, where the raw lock may block until `deadline`.
@@ -189,7 +198,6 @@ impl<R: RawMutexTimed, T> ReentrantMutex<R, T> {
         ensures guard { IfOk result (λ got. IfSome got (IsGuardOf self.entry (id_of party))) }
         ensures fault { IfErr result (λ fault. fault ≡ Fault.FullCount) }
     {
-        let has_level = self.raw.try_lock_until(party, deadline)?;
-        Ok(self.guard_if(has_level, party))
+        self.guarded(party, self.raw.try_acquire_until(party, deadline))
     }
 }

@@ -2,6 +2,7 @@ ghost use Rattle.std.specs.Prelude.{◌≡◌, IfOk, IfErr, MatchResult};
 ghost use Rattle.lock_base.specs.Party.{id_of};
 ghost use Rattle.lock_remutex.specs.Guards.{guard_lock, guard_party, guard_value, IsGuardOf, IsSameGuard};
 
+use crate::level::Level;
 use crate::reentrant_mutex::ReentrantMutex;
 use lock_base::machine::PartyId;
 use lock_base::raw::Fault;
@@ -15,10 +16,11 @@ pub struct ReentrantMutexGuard<'a, R: RawMutex, T> {
 }
 
 impl<'a, R: RawMutex, T> ReentrantMutexGuard<'a, R, T> {
-    /// Makes the guard of a level that the party has.
-    pub(crate) fn new(remutex: &'a ReentrantMutex<R, T>, party: PartyId) -> Self
-        ensures { IsGuardOf remutex.entry (id_of party) result }
+    /// Makes the guard of a level.
+    pub(crate) fn new(remutex: &'a ReentrantMutex<R, T>, level: Level<R>) -> Self
+        ensures { IsGuardOf remutex.entry level.party result }
     {
+        let party = level.keep();
         ReentrantMutexGuard { remutex, party }
     }
 

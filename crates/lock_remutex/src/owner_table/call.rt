@@ -1,13 +1,25 @@
-//! A call on an owner table.
-use crate::owner_table::rule::OwnerView;
+//! A call on an owner table, and its steps.
+ghost use Rattle.std.specs.Prelude.{◌≡◌, ◌≢◌, ◌<◌, ℕ, IfOk, IfErr};
+ghost use Rattle.lock_base.specs.Limits.{IsLimit};
+ghost use Rattle.lock_remutex.specs.declared.owner_table.rule.OwnerStep.TheVariants.{Saw, Made};
+ghost use Rattle.lock_remutex.specs.OwnerTables.{party_in, count_in, owned_at, made_by, IsAtHome, IsWord, IsIdle};
+ghost use Rattle.lock_remutex.specs.OwnerCalls.{IsTaken};
+
+use crate::owner_table::rule::{
+    Hint, LookAtOwner, OwnerView, PutLevels, Recount, TakeLevels, TokenRule,
+};
+use crate::owner_table::{BUSY, LARGE_ID, OWNER, OwnerTable};
 use atomic_table::Seat;
 use lock_base::raw::Levels;
+use lock_guard::raw::RawMutex;
 use std::marker::Model;
+use std::snapshot::Snapshot;
 
 /// A call on a table. Contracts see its table and its last step. It has no bytes.
-#[derive(Drop)]
+///
+/// It makes at most one change, and it cannot be dropped: `end` ends it if it changed nothing, and `settle` otherwise.
 pub struct OwnerCall<K, T> {
-    pub(super) seat: Seat<Option<Levels<T>>, OwnerView<K, T>>,
+    seat: Seat<Option<Levels<T>>, OwnerView<K, T>>,
 }
 
 impl<K, T> Model for OwnerCall<K, T> {
@@ -26,7 +38,7 @@ impl<K, T> Model for OwnerCall<K, T> {
 
 /// A call that took the levels. It cannot be dropped: `OwnerTable::put` consumes it.
 pub(super) struct Section<K, T> {
-    pub(super) seat: Seat<Option<Levels<T>>, OwnerView<K, T>>,
+    seat: Seat<Option<Levels<T>>, OwnerView<K, T>>,
 }
 
 impl<K, T> Model for Section<K, T> {
@@ -41,4 +53,118 @@ impl<K, T> Model for Section<K, T> {
     } };
 
     ghost invariant = { λ c. c.seat.me.1 ≡ (0, None) ∷ [] };
+}
+
+impl<K, T> OwnerCall<K, T> {
+    /// Ends a call that changed nothing.
+    pub(crate) fn end(self)
+        requires { IsIdle self.step }
+    {
+        let OwnerCall { seat } = self;
+        drop(seat);
+    }
+}
+
+impl<R: RawMutex> OwnerCall<Snapshot<R>, R::Guard> {
+    /// Ends a call that gained or lost a level. The code of the table cannot call it, since it knows no raw lock.
+    pub(crate) fn settle(self) {
+        let OwnerCall { seat } = self;
+        drop(seat);
+    }
+}
+
+impl<K, T, P: TokenRule<K, T>> OwnerTable<K, T, P> {
+    /// Begins a call by a load of the owner word.
+    pub(super) fn look(&self) -> (u64, OwnerCall<K, T>)
+        ensures table { result.1.table ≡ self.now }
+        ensures step { result.1.step ≡ Saw result.0 }
+        ensures word { IsWord self.now.key.limit result.0 }
+        ensures limit { IsLimit self.now.key.limit }
+    {
+        let (word, seat) = self.table.shared.load_new_seat::<LookAtOwner>(OWNER);
+        (word, OwnerCall { seat })
+    }
+
+    /// Exchanges the word for one that names the same owner at other levels, or returns the call if the word has changed.
+    pub(super) fn recount(
+        &self,
+        call: OwnerCall<K, T>,
+        word: u64,
+        next: u64,
+    ) -> Result<OwnerCall<K, T>, OwnerCall<K, T>>
+        requires table { call.table ≡ self.now }
+        requires saw { call.step ≡ Saw word }
+        requires named { (0 < party_in word) × (party_in next ≡ party_in word) }
+        requires word { IsWord self.now.key.limit word }
+        requires next { IsWord self.now.key.limit next }
+        ensures table { IfOk result (λ call. call.table ≡ self.now) }
+        ensures made { IfOk result (λ call. (token : T) × (call.step ≡ Made
+            (owned_at self.now.key.limit (party_in word) (count_in word) token)
+            (owned_at self.now.key.limit (party_in word) (count_in next) token))
+            × P.fits self.now.key.raw token) }
+        ensures saw { IfErr result (λ call. (found : ℕ) × (call.step ≡ Saw found) × (found ≢ word)) }
+    {
+        let OwnerCall { mut seat } = call;
+        let shared = &self.table.shared;
+        if shared.compare_exchange::<Recount<P>>(&mut seat, OWNER, word, next) != word {
+            return Err(OwnerCall { seat });
+        }
+        Ok(OwnerCall { seat })
+    }
+
+    /// Takes the levels by an exchange of this word, or returns the call that found another word.
+    pub(super) fn take(
+        &self,
+        call: OwnerCall<K, T>,
+        word: u64,
+    ) -> Result<(Levels<T>, Section<K, T>), OwnerCall<K, T>>
+        requires table { call.table ≡ self.now }
+        requires saw { (seen : ℕ) × (call.step ≡ Saw seen) }
+        requires idle { word ≢ 1 }
+        ensures taken { IfOk result (λ taken. IsTaken P.fits self.now word taken.0 taken.1) }
+        ensures table { IfErr result (λ call. call.table ≡ self.now) }
+        ensures saw { IfErr result (λ call. (found : ℕ) × (call.step ≡ Saw found) × (found ≢ word)) }
+    {
+        let OwnerCall { mut seat } = call;
+        let shared = &self.table.shared;
+        if shared.compare_exchange::<TakeLevels<P>>(&mut seat, OWNER, word, BUSY) != word {
+            return Err(OwnerCall { seat });
+        }
+        match shared.exchange(&mut seat, 0, None) {
+            Some(levels) => Ok((levels, Section { seat })),
+            None => unreachable!(),
+        }
+    }
+
+    /// Puts the levels back, at this word.
+    pub(super) fn put(
+        &self,
+        word: u64,
+        levels: Levels<T>,
+        section: Section<K, T>,
+    ) -> OwnerCall<K, T>
+        requires table { section.table ≡ self.now }
+        requires idle { word ≢ 1 }
+        requires home { IsAtHome (P.fits self.now.key.raw) self.now.key.limit word levels }
+        ensures table { result.table ≡ self.now }
+        ensures step { result.step ≡ made_by section.step levels }
+    {
+        let Section { mut seat } = section;
+        match self.table.shared.exchange(&mut seat, 0, Some(levels)) {
+            None => {}
+            Some(_levels) => unreachable!(),
+        }
+        self.table.shared.swap::<PutLevels>(&mut seat, OWNER, word);
+        OwnerCall { seat }
+    }
+
+    /// Stores the large id.
+    pub(super) fn hint(&self, section: &mut Section<K, T>, id: u64)
+        requires { section.old.table ≡ self.now }
+        ensures { section.new ≡ section.old }
+    {
+        self.table
+            .shared
+            .store::<Hint>(&mut section.seat, LARGE_ID, id);
+    }
 }

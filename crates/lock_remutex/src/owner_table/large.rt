@@ -2,12 +2,12 @@
 ghost use Rattle.std.specs.Prelude.{ℕ, ◌≡◌, ◌≢◌, ◌<◌, ◌≤◌, ◌^◌, IfOk, IfErr, IfSome};
 ghost use Rattle.lock_base.specs.Party.{id_of};
 ghost use Rattle.lock_remutex.specs.declared.owner_table.rule.OwnerStep.TheVariants.{Saw};
-ghost use Rattle.lock_remutex.specs.OwnerTables.{party_in, word_at, made_by, IsLarge};
+ghost use Rattle.lock_remutex.specs.OwnerTables.{party_in, word_at, made_by, IsLarge, OwnerFits};
 ghost use Rattle.lock_remutex.specs.OwnerCalls.{Again, Leaves, LeavesSole, IsTaken};
 
 use crate::owner_table::call::{OwnerCall, Section};
-use crate::owner_table::rule::{Hint, TokenRule};
-use crate::owner_table::{BUSY, FREE, LARGE, LARGE_ID, OWNER, OwnerTable, PARTY};
+use crate::owner_table::rule::TokenRule;
+use crate::owner_table::{FREE, LARGE, LARGE_ID, OwnerTable, PARTY};
 use lock_base::machine::PartyId;
 use lock_base::raw::{Fault, Levels};
 use std::sync::Wait;
@@ -25,6 +25,7 @@ impl<K, T, P: TokenRule<K, T>> OwnerTable<K, T, P> {
         requires { 2 ^ 32 ≤ id_of party }
         ensures table { result.1.table ≡ self.now }
         ensures did { Again self.now.key.limit (id_of party) result.0 result.1.step }
+        ensures fits { OwnerFits (P.fits self.now.key.raw) result.1.step }
     {
         let (mut levels, section) = match self.enter_large(rt, party) {
             Ok(taken) => taken,
@@ -46,6 +47,7 @@ impl<K, T, P: TokenRule<K, T>> OwnerTable<K, T, P> {
         ensures table { result.1.table ≡ self.now }
         ensures did { Leaves (id_of party) result.0 result.1.step }
         ensures fits { IfOk result.0 (λ last. IfSome last (P.fits self.now.key.raw)) }
+        ensures left { OwnerFits (P.fits self.now.key.raw) result.1.step }
     {
         let (mut levels, section) = match self.enter_large(rt, party) {
             Ok(taken) => taken,
@@ -84,10 +86,13 @@ impl<K, T, P: TokenRule<K, T>> OwnerTable<K, T, P> {
     {
         let (levels, section) = match self.enter_large(rt, party) {
             Ok(taken) => taken,
-            Err(_) => return false,
+            Err(call) => {
+                call.end();
+                return false;
+            }
         };
         let level = levels.level(party);
-        self.put_large(levels, section);
+        self.put_large(levels, section).end();
         level > 0
     }
 
@@ -102,8 +107,7 @@ impl<K, T, P: TokenRule<K, T>> OwnerTable<K, T, P> {
         if id < PARTY {
             return id * PARTY + 1;
         }
-        let seat = &mut section.seat;
-        self.table.shared.store::<Hint>(seat, LARGE_ID, id);
+        self.hint(section, id);
         LARGE
     }
 
@@ -127,9 +131,12 @@ impl<K, T, P: TokenRule<K, T>> OwnerTable<K, T, P> {
                 return Err(call);
             }
             if word == LARGE {
-                if let Ok(taken) = self.take(call, LARGE) {
-                    return Ok(taken);
+                match self.take(call, LARGE) {
+                    Ok(taken) => return Ok(taken),
+                    Err(call) => call.end(),
                 }
+            } else {
+                call.end();
             }
             thread::yield_now();
         }
@@ -142,6 +149,7 @@ impl<K, T, P: TokenRule<K, T>> OwnerTable<K, T, P> {
         requires large { IsLarge (P.fits self.now.key.raw) self.now.key.limit levels }
         ensures table { result.table ≡ self.now }
         ensures step { result.step ≡ made_by section.step levels }
+        ensures fits { OwnerFits (P.fits self.now.key.raw) result.step }
     {
         let word = if levels.is_owned() { LARGE } else { FREE };
         self.put(word, levels, section)

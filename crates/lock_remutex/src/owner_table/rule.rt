@@ -58,12 +58,14 @@ impl<K, T> Play<Option<Levels<T>>, OwnerView<K, T>> for LookAtOwner {
 }
 
 /// An exchange of the owner word that changes the owner's levels.
-pub(super) struct Recount;
+pub(super) struct Recount<P> {
+    rule: PhantomData<P>,
+}
 
-impl<K, T> Play<Option<Levels<T>>, OwnerView<K, T>> for Recount {
+impl<K, T, P: TokenRule<K, T>> Play<Option<Levels<T>>, OwnerView<K, T>> for Recount<P> {
     ghost use Rattle.lock_remutex.specs.OwnerTables.{Recounts};
 
-    ghost then = { Recounts };
+    ghost then = { Recounts P.fits };
 }
 
 /// An exchange of the owner word that takes the levels.

@@ -1,0 +1,51 @@
+//! A level of a reentrant lock.
+use crate::owner_table::OwnerCall;
+use lock_base::machine::PartyId;
+use lock_guard::raw::RawMutex;
+use std::marker::Model;
+use std::snapshot::Snapshot;
+
+/// A level that a party gained.
+///
+/// Only the step that gained it makes one, and it cannot be dropped: `keep` turns it into an answer or a guard.
+pub(crate) struct Level<R: RawMutex> {
+    party: PartyId,
+    call: OwnerCall<Snapshot<R>, R::Guard>,
+}
+
+impl<R: RawMutex> Model for Level<R> {
+    ghost use Rattle.std.specs.Prelude.{◌≡◌, true};
+    ghost use Rattle.lock_base.specs.Party.{id_of};
+    ghost use Rattle.lock_remutex.specs.LevelSteps.{LevelView, Gained};
+
+    ghost Value = { LevelView R R.Guard };
+
+    ghost view = { λ l. record { raw = l.call.table.key.raw.value; party = id_of l.party; step = l.call.step } };
+
+    ghost invariant = { λ l. Gained (λ token. R.is_own l.call.table.key.raw.value token ≡ true) (id_of l.party) l.call.step };
+}
+
+impl<R: RawMutex> Level<R> {
+    ghost use Rattle.std.specs.Prelude.{◌≡◌, true};
+    ghost use Rattle.lock_base.specs.Party.{id_of};
+    ghost use Rattle.lock_remutex.specs.LevelSteps.{Gained, HasGained};
+
+    /// Makes the level of a call that gained it.
+    pub(crate) fn of(call: OwnerCall<Snapshot<R>, R::Guard>, party: PartyId) -> Level<R>
+        requires { Gained (λ token. R.is_own call.table.key.raw.value token ≡ true) (id_of party) call.step }
+        ensures raw { result.raw ≡ call.table.key.raw.value }
+        ensures party { result.party ≡ id_of party }
+    {
+        Level { party, call }
+    }
+
+    /// Leaves the level to its party, which owes a release.
+    pub(crate) fn keep(self) -> PartyId
+        ensures party { id_of result ≡ self.party }
+        ensures gained { HasGained R.is_own self.raw self.party }
+    {
+        let Level { party, call } = self;
+        call.settle();
+        party
+    }
+}
