@@ -1,5 +1,6 @@
 //! The core of a raw lock.
-ghost use Rattle.std.specs.Prelude.{◌≡◌, ◌↔◌, Bool, true, IsTrue, IfSome, IfErr, IfOk};
+ghost use Rattle.std.specs.Prelude.{◌≡◌, ◌↔◌, Bool, true, ⊤, Option, IsTrue, IfSome, IfErr, IfOk};
+ghost use Rattle.std.specs.Result.{result_ok};
 ghost use Rattle.lock_base.specs.declared.machine.mode.Mode.{Mode};
 ghost use Rattle.lock_base.specs.Limits.{IsLimit, IsMakerFault};
 ghost use Rattle.lock_raws.specs.Downgrades.{is_downgrade};
@@ -30,6 +31,13 @@ pub trait LockCore: Sized + Drop {
     /// Whether this lock holds the token in the mode. A core that takes any token leaves it at `true`.
     ghost holds: { Self → Mode → Self.Token → Bool } = { λ _ _ _. true };
 
+    /// What `try_acquire` did, by its answer. A core that states nothing leaves it at `⊤`. Code over any core can have it from
+    /// `try_acquire` alone.
+    ghost tried: { Self → Mode → Option Self.Token → Type 0 } = { λ _ _ _. ⊤ };
+
+    /// What `try_upgrade` did, by the token that it made.
+    ghost tried_upgrade: { Self → Option Self.Token → Type 0 } = { λ _ _. ⊤ };
+
     /// Makes an unlocked core. At most `readers` tokens are shared or upgradable at a time.
     fn new(alloc: Global, waiter: Self::Waiter, readers: u64) -> Result<Self, Fault>
         ensures limits { (result ≡ Err Fault.BadLimits) ↔ (IsLimit readers → ⊥) }
@@ -59,7 +67,8 @@ pub trait LockCore: Sized + Drop {
 
     /// Acquires the mode without blocking, or returns `None` where `acquire` would block.
     fn try_acquire(&self, mode: Mode) -> Option<Self::Token>
-        ensures { IfSome result (λ token. holds self.now mode token ≡ true) };
+        ensures held { IfSome result (λ token. holds self.now mode token ≡ true) }
+        ensures tried { tried self.now mode result };
 
     /// Tries to acquire the mode until `deadline`. A core that measures no time leaves it a plain try.
     fn try_acquire_until(&self, mode: Mode, _deadline: Self::Instant) -> Option<Self::Token>
@@ -81,7 +90,8 @@ pub trait LockCore: Sized + Drop {
     fn try_upgrade(&self, token: Self::Token) -> Result<Self::Token, Self::Token>
         requires { holds self.now Mode.Upgradable token ≡ true }
         ensures held { IfOk result (λ upgraded. holds self.now Mode.Exclusive upgraded ≡ true) }
-        ensures back { IfErr result (λ back. back ≡ token) };
+        ensures back { IfErr result (λ back. back ≡ token) }
+        ensures tried { tried_upgrade self.now (result_ok result) };
 
     /// Tries to make an upgradable token exclusive until `deadline`, or returns it unchanged. A core that measures no time
     /// leaves it a plain try.

@@ -1,4 +1,7 @@
 //! An arbiter behind a std mutex.
+ghost use Rattle.std.specs.Prelude.{IfErr, ◌≡◌};
+ghost use Rattle.lock_base.specs.declared.raw.fault.Fault.TheVariants as fault;
+
 use crate::announcing::admit_or_announce;
 use crate::arbiter::{Arbiter, upgraded};
 use crate::lock_core::LockCore;
@@ -11,7 +14,7 @@ use std::alloc::Global;
 use std::clone::Clone;
 use std::sync::{Mutex, MutexGuard, Wait};
 
-/// A `LockCore`: a std `Mutex` around an arbiter, and a std `Condvar` for waiters.
+/// A `LockCore`: a std `Mutex` around an arbiter, and an event count on which waiters sleep.
 ///
 /// A release or a downgrade wakes no waiter if it admits none that was not admitted before. Otherwise it wakes one
 /// waiter where the readers' limit is 1, and else all. Under a bar it wakes all, since the bar may keep out a single
@@ -28,12 +31,14 @@ pub struct Monitor<A: Arbiter, W: Wait + Clone + Drop> {
 
 impl<A: Arbiter, W: Wait + Clone + Drop> Monitor<A, W> {
     /// Makes a monitor of an arbiter.
-    pub(crate) fn over(arbiter: A, waiter: W) -> Monitor<A, W> {
-        Monitor {
+    pub(crate) fn over(alloc: Global, arbiter: A, waiter: W) -> Result<Monitor<A, W>, Fault>
+        ensures { IfErr result (λ error. error ≡ fault.OutOfMemory) }
+    {
+        Ok(Monitor {
             waiter,
             arbiter: Mutex::new(arbiter),
-            waiters: MonitorWaiters::new(),
-        }
+            waiters: MonitorWaiters::new(alloc)?,
+        })
     }
 
     /// Locks the arbiter. Each call holds this lock for a moment.
@@ -53,7 +58,7 @@ impl<A: Arbiter, W: Wait + Clone + Drop> LockCore for Monitor<A, W> {
 
     fn new(alloc: Global, waiter: W, readers: u64) -> Result<Monitor<A, W>, Fault> {
         let arbiter: A = Arbiter::new(alloc, readers)?;
-        Ok(Monitor::over(arbiter, waiter))
+        Monitor::over(alloc, arbiter, waiter)
     }
 
     fn waiter(&self) -> &W {
@@ -74,7 +79,7 @@ impl<A: Arbiter, W: Wait + Clone + Drop> LockCore for Monitor<A, W> {
             if let Some(token) = arbiter.admit(mode) {
                 return token;
             }
-            arbiter = self.waiters.wait(&self.waiter, arbiter);
+            arbiter = self.waiters.wait(&self.waiter, &self.arbiter, arbiter);
         }
         unreachable!()
     }
@@ -86,7 +91,7 @@ impl<A: Arbiter, W: Wait + Clone + Drop> LockCore for Monitor<A, W> {
             if let Some(token) = admit_or_announce(&mut *arbiter, &mut announced) {
                 return token;
             }
-            arbiter = self.waiters.wait(&self.waiter, arbiter);
+            arbiter = self.waiters.wait(&self.waiter, &self.arbiter, arbiter);
         }
         unreachable!()
     }
@@ -110,7 +115,7 @@ impl<A: Arbiter, W: Wait + Clone + Drop> LockCore for Monitor<A, W> {
                 Ok(next) => return next,
                 Err(same) => token = same,
             }
-            arbiter = self.waiters.wait(&self.waiter, arbiter);
+            arbiter = self.waiters.wait(&self.waiter, &self.arbiter, arbiter);
         }
         unreachable!()
     }

@@ -1,4 +1,5 @@
 //! The raw lock as a raw mutex, with a readers' limit of 1.
+ghost use Rattle.std.specs.Prelude.{option_map};
 ghost use Rattle.lock_base.specs.declared.machine.mode.Mode.{Mode};
 
 use crate::lock_core::LockCore;
@@ -15,6 +16,8 @@ impl<C: LockCore> RawMutex for RawLock<C> {
     type Waiter = C::Waiter;
 
     ghost is_own = { λ raw token. C.holds raw.core Mode.Exclusive token.token };
+
+    ghost tried = { λ raw answer. C.tried raw.core Mode.Exclusive (option_map (λ t. t.token) answer) };
 
     fn new(alloc: Global, waiter: C::Waiter) -> Result<RawLock<C>, Fault> {
         let core: C = LockCore::new(alloc, waiter, 1)?;

@@ -35,7 +35,7 @@ impl<A: Arbiter, W: Wait + Clone + Drop> RawLock<Monitor<RecordingArbiter<A>, W>
     {
         let arbiter: RecordingArbiter<A> = RecordingArbiter::with_room(alloc, readers, entries)?;
         Ok(RawLock {
-            core: Monitor::over(arbiter, waiter),
+            core: Monitor::over(alloc, arbiter, waiter)?,
         })
     }
 

@@ -1,5 +1,5 @@
 //! The raw lock as a raw reader-writer lock.
-ghost use Rattle.std.specs.Prelude.{◌≡◌, MatchResult};
+ghost use Rattle.std.specs.Prelude.{◌≡◌, MatchResult, option_map};
 ghost use Rattle.lock_base.specs.declared.machine.mode.Mode.{Mode};
 
 use crate::lock_core::LockCore;
@@ -23,6 +23,10 @@ impl<C: LockCore> RawRwLock for RawLock<C> {
     ghost owns_shared = { λ raw token. C.holds raw.core Mode.Shared token.token };
 
     ghost owns_exclusive = { λ raw token. C.holds raw.core Mode.Exclusive token.token };
+
+    ghost tried_shared = { λ raw answer. C.tried raw.core Mode.Shared (option_map (λ t. t.token) answer) };
+
+    ghost tried_exclusive = { λ raw answer. C.tried raw.core Mode.Exclusive (option_map (λ t. t.token) answer) };
 
     fn new(alloc: Global, waiter: C::Waiter, readers: u64) -> Result<RawLock<C>, Fault> {
         let core: C = LockCore::new(alloc, waiter, readers)?;
@@ -125,6 +129,10 @@ impl<C: LockCore> RawRwLockUpgrade for RawLock<C> {
     type UpgradableGuard = UpgradableToken<C::Token>;
 
     ghost owns_upgradable = { λ raw token. C.holds raw.core Mode.Upgradable token.token };
+
+    ghost tried_upgradable = { λ raw answer. C.tried raw.core Mode.Upgradable (option_map (λ t. t.token) answer) };
+
+    ghost tried_upgrade = { λ raw upgraded. C.tried_upgrade raw.core (option_map (λ t. t.token) upgraded) };
 
     fn lock_upgradable(&self) -> UpgradableToken<C::Token> {
         UpgradableToken {

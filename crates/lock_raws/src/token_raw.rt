@@ -7,7 +7,7 @@ use lock_states::table::TokenTable;
 /// An arbiter over a table of places.
 pub type TableArbiter = TokenArbiter<TokenTable>;
 
-/// A raw lock over a table of places: a std `Mutex` around the table, and a std `Condvar` for waiters. It checks each
+/// A raw lock over a table of places: a std `Mutex` around the table, and an event count on which waiters sleep. It checks each
 /// token.
 ///
 /// It has as many places as readers; as a `RawMutex` both are 1. A call with a token that is not held in its mode is

@@ -1,6 +1,9 @@
 //! The raw lock over one word.
-ghost use Rattle.std.specs.Prelude.{◌≡◌, ◌↔◌, true, IfOk, IfErr};
+ghost use Rattle.std.specs.Prelude.{◌≡◌, ◌↔◌, true, IfOk, IfErr, IfNone};
 ghost use Rattle.lock_base.specs.Limits.{IsLimit, IsMakerFault};
+ghost use Rattle.lock_word.specs.declared.want.ExWant.TheVariants.{Upgrade};
+ghost use Rattle.lock_word.specs.Word.{want_of_mode};
+ghost use Rattle.lock_one_word.specs.Calls.{WasRefused};
 ghost use Rattle.lock_one_word.specs.Own.{is_token_of};
 
 use crate::lock_core::LockCore;
@@ -18,9 +21,9 @@ use std::sync::Wait;
 /// waiting writer keeps others out, and one that says that a waiter may sleep. Pick it where speed counts.
 ///
 /// A try loads the word and exchanges it while the word admits the call, so only a word that refuses it refuses it. A
-/// release or a downgrade is one exchange or one subtraction, and touches the lock no more: another thread may free it. A
-/// blocked call spins a few times, and then sleeps on the word. It takes its own tokens only, in the mode that each
-/// holds. Its word encodes the tokens that are held, and no sleeper is forgotten: see `every_run_is_served`.
+/// release or a downgrade is one exchange or one subtraction, after which it accesses the word no more. A blocked call
+/// spins a few times, and then sleeps on the word. It takes its own tokens only, in the mode that each holds. Its word
+/// encodes the tokens that are held, and no sleeper is forgotten: see `every_run_is_served`.
 pub type WordRaw<W> = RawLock<WordCore<W, NoTime>>;
 
 /// A `WordLock`, with its permission to block and its measure of time.
@@ -42,6 +45,10 @@ impl<W: Wait + Clone + Drop, T: Timing<W>> LockCore for WordCore<W, T> {
     type Instant = T::Instant;
 
     ghost holds = { λ core mode token. is_token_of core.lock mode token };
+
+    ghost tried = { λ core mode answer. IfNone answer (WasRefused core.lock (want_of_mode mode)) };
+
+    ghost tried_upgrade = { λ core upgraded. IfNone upgraded (WasRefused core.lock Upgrade) };
 
     /// No other call allocates.
     fn new(alloc: Global, waiter: W, readers: u64) -> Result<WordCore<W, T>, Fault>

@@ -1,49 +1,59 @@
 //! The threads that wait at a monitor.
+ghost use Rattle.std.specs.Prelude.{IfErr, ◌≡◌};
+ghost use Rattle.lock_base.specs.declared.raw.fault.Fault.TheVariants as fault;
+ghost use Rattle.lock_raws.specs.Condvars.{Waited};
+ghost use Rattle.lock_raws.specs.Waking.{Wakes};
+
 use crate::wake::Wake;
-use lock_wake::Whom;
-use std::sync::atomic::{AtomicU64, Ordering};
-use std::sync::{Condvar, MutexGuard, Wait};
+use lock_base::raw::Fault;
+use lock_guard::lock_std;
+use lock_wake::{EventCount, Notified, Whom};
+use std::alloc::Global;
+use std::sync::{Mutex, MutexGuard, Wait};
 
 /// The threads that wait for a change of what a std mutex protects.
 #[derive(Drop)]
 pub(crate) struct MonitorWaiters {
-    changed: Condvar,
-    /// How many threads wait. It changes only under the mutex, so a call that had the mutex knows of all that wait for
-    /// it.
-    waiting: AtomicU64,
+    changed: EventCount,
 }
 
 impl MonitorWaiters {
     /// Makes a value without waiters.
-    pub(crate) fn new() -> MonitorWaiters {
-        MonitorWaiters {
-            changed: Condvar::new(),
-            waiting: AtomicU64::new(0),
-        }
+    pub(crate) fn new(alloc: Global) -> Result<MonitorWaiters, Fault>
+        ensures { IfErr result (λ error. error ≡ fault.OutOfMemory) }
+    {
+        Ok(MonitorWaiters {
+            changed: EventCount::new(alloc)?,
+        })
     }
 
-    /// Releases the mutex until a change. It may end spuriously.
+    /// Releases the mutex until a change, and acquires it again. It may end spuriously.
+    ///
+    /// It registers under the mutex, so a call that had the mutex later wakes it.
     pub(crate) fn wait<'a, W: Wait, A>(
         &self,
         waiter: &W,
+        mutex: &'a Mutex<A>,
         guard: MutexGuard<'a, A>,
-    ) -> MutexGuard<'a, A> {
-        self.waiting.fetch_add(1, Ordering::SeqCst);
-        let guard = self.changed.wait(waiter, guard);
-        self.waiting.fetch_sub(1, Ordering::SeqCst);
-        guard
+    ) -> MutexGuard<'a, A>
+        ensures { Waited self.now.changed guard.entry }
+    {
+        let registration = self.changed.register_with(waiter, guard);
+        let (registered, guard) = registration.released();
+        drop(guard);
+        self.changed.sleep(waiter, registered);
+        lock_std(mutex, waiter)
     }
 
     /// Makes a wake. One load if no thread waits.
-    pub(crate) fn wake(&self, wake: Wake) {
+    pub(crate) fn wake(&self, wake: Wake) -> Option<Notified>
+        ensures { Wakes self.now.changed wake result }
+    {
         let Wake { whom } = wake;
-        if self.waiting.load(Ordering::SeqCst) == 0 {
-            return;
-        }
         match whom {
-            Whom::Nobody => {}
-            Whom::One => self.changed.notify_one(),
-            Whom::All => self.changed.notify_all(),
+            Whom::Nobody => None,
+            Whom::One => Some(self.changed.notify_one()),
+            Whom::All => Some(self.changed.notify_all()),
         }
     }
 }

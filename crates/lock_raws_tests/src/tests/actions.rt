@@ -92,7 +92,7 @@ impl<C: LockCore> Acts for RawLock<C> {
                 }
             }
         }
-        forget(held);
+        unsafe { forget(held) };
         wrong
     }
 
