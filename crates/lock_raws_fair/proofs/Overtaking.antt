@@ -1,6 +1,6 @@
 -- No run admits a later ticket before an earlier one.
 use Rattle.std.proofs.Common.{◌≡◌, ℕ, ◌+◌, ◌<◌, ◌≤◌, Bool, true, false, ◌||◌, List, [], ◌∷◌, ◌++◌, refl, sym, ap, ◌∙◌, arith}
-use Rattle.std.specs.Prelude.{◌≢◌, ◌==◌, if◌then◌else◌, IsTrue}
+use Rattle.std.specs.Prelude.{◌≢◌, ◌==◌, if◌then◌else◌, suc, length, IsTrue}
 use Rattle.std.proofs.lemmas.Bool.{false≢true, false_from_ne_true, or_parts}
 use Rattle.std.proofs.lemmas.Bool.Decides.{nat_tests}
 use Rattle.lock_raws_fair.specs.declared.line.step.LineStep.{LineStep}
@@ -147,3 +147,30 @@ overtaking_is_bounded_law (Leave s ∷ steps) old new t among run unremoved =
     omega arith
 overtaking_is_bounded_law (Pass ∷ steps) old new t among run unremoved =
     absurd (false≢true (sym (nobody_among old.waiting t run.0) ∙ among))
+
+one_more_place : (b : Bool) (place count : ℕ) → place ≤ count → (if b then 0 else place + 1) ≤ suc count
+one_more_place true place count within = omega arith
+one_more_place false place count within = omega arith
+
+arrival_place : (ws : List ℕ) (t : ℕ) → place_of (ws ++ t ∷ []) t ≤ length ws
+arrival_place [] t =
+    let here : (t == t) ≡ true = grind (arith, nat_tests) in
+    rw here (omega arith)
+arrival_place (x ∷ ws) t = one_more_place (x == t) (place_of (ws ++ t ∷ []) t) (length ws) (arrival_place ws t)
+
+arrival_waits : (ws : List ℕ) (t : ℕ) → is_among (ws ++ t ∷ []) t ≡ true
+arrival_waits [] t =
+    let here : (t == t) ≡ true = grind (arith, nat_tests) in
+    rw here refl
+arrival_waits (x ∷ ws) t =
+    let rest = arrival_waits ws t in
+    elim (x == t) as (λ (b : Bool). (b || is_among (ws ++ t ∷ []) t) ≡ true) [ true ↦ refl | false ↦ rest ]
+
+pub arrivals_wait_for_few_law : (here last : Line) (steps : List LineStep)
+    → IsLineRun (line_after here Arrive) steps last → is_removed steps here.issued ≡ false
+    → admissions steps ≤ length here.waiting
+arrivals_wait_for_few_law here last steps run stays =
+    let waits : IsTrue (is_among (line_after here Arrive).waiting here.issued) = arrival_waits here.waiting here.issued in
+    let few = overtaking_is_bounded_law steps (line_after here Arrive) last here.issued waits run stays in
+    let place = arrival_place here.waiting here.issued in
+    omega arith

@@ -4,3 +4,4 @@ pub mod FairState
 pub mod FairLaws
 pub mod FairWaking
 pub mod Notifying
+pub mod Sleeping

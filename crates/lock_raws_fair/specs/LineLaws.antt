@@ -1,5 +1,5 @@
 -- Laws of every list of permitted steps.
-use Rattle.std.specs.Prelude.{◌≡◌, ℕ, ◌+◌, ◌<◌, ◌≤◌, Bool, false, ◌||◌, ◌==◌, if◌then◌else◌, List, [], ◌∷◌, ◌++◌, IsTrue}
+use Rattle.std.specs.Prelude.{◌≡◌, ℕ, ◌+◌, ◌<◌, ◌≤◌, Bool, false, ◌||◌, ◌==◌, if◌then◌else◌, List, [], ◌∷◌, ◌++◌, length, IsTrue}
 use Rattle.lock_raws_fair.specs.declared.line.step.LineStep.{LineStep}
 use Rattle.lock_raws_fair.specs.declared.line.step.LineStep.TheVariants.{Arrive, Enter, Leave, Pass}
 use Rattle.lock_raws_fair.specs.Tickets.{Line, empty_line, is_among, permits, line_after, span, may_leave}
@@ -78,3 +78,9 @@ abbrev pub TimedTicketsMayLeave : ℕ → Type 0
 TimedTicketsMayLeave limit = (before after : List LineStep) (here last : Line)
     → IsLineRun empty_line before here → span here < limit → IsLineRun (line_after here Arrive) after last
     → IsTrue (is_among last.waiting here.issued) → IsTrue (may_leave limit last here.issued)
+
+-- after an acquisition arrives, and as long as it waits, no more acquisitions are admitted than waited when it arrived
+abbrev pub ArrivalsWaitForFew : Type 0
+ArrivalsWaitForFew = (here last : Line) (steps : List LineStep)
+    → IsLineRun (line_after here Arrive) steps last → is_removed steps here.issued ≡ false
+    → admissions steps ≤ length here.waiting

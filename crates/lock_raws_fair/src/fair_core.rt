@@ -4,16 +4,15 @@ ghost use Rattle.std.specs.Bool.{OnTrue};
 ghost use Rattle.lock_base.specs.declared.machine.mode.Mode.TheVariants.{Upgradable, Exclusive};
 ghost use Rattle.lock_raws_fair.specs.FairState.{same_mode};
 
-use crate::fair_arbiter::{FairArbiter, FairToken, PendingUpgrade};
+use crate::acquisition::Acquisition;
+use crate::fair_arbiter::{FairArbiter, FairToken};
 use crate::fair_wake::FairWake;
-use crate::line::Ticket;
-use crate::turn::{NOBODY, UPGRADE};
+use crate::upgrade::Upgrade;
 use crate::waiters::FairWaiters;
 use lock_base::machine::Mode;
 use lock_base::raw::Fault;
 use lock_guard::lock_std;
 use lock_raws::{Arbiter, LockCore, NoTime, RawLock, RealTime, TableArbiter, Timing};
-use lock_wake::{EventCount, Registered};
 use std::alloc::Global;
 use std::clone::Clone;
 use std::marker::PhantomData;
@@ -30,9 +29,6 @@ pub type FairRaw<W> = RawLock<FairCore<TableArbiter, W, NoTime>>;
 /// At most 64 tickets from the first on may be timed. A timed call beyond them waits without a ticket, and may be
 /// overtaken until it gets one.
 pub type TimedFairRaw<W> = RawLock<FairCore<TableArbiter, W, RealTime>>;
-
-/// How many tickets from the first on may spin: no more than a small machine has processors.
-const SPINNERS: u64 = 4;
 
 /// A `LockCore`: a std `Mutex` around a `FairArbiter`, and event counts on which waiters sleep.
 #[derive(Drop)]
@@ -64,20 +60,6 @@ impl<A: Arbiter, W: Wait + Clone + Drop, T: Timing<W>> FairCore<A, W, T> {
         }
     }
 
-    /// Sleeps until a notification after the registration, or until the deadline. It may end spuriously.
-    fn sleep(&self, events: &EventCount, registered: Registered, deadline: &Option<T::Instant>)
-        requires { registered.events ≡ events.now }
-    {
-        let Some(deadline) = deadline else {
-            events.sleep(&self.waiter, registered);
-            return;
-        };
-        match T::time_left(&self.waiter, deadline) {
-            Some(left) => events.sleep_for(&self.waiter, registered, left),
-            None => events.leave(registered),
-        }
-    }
-
     /// Acquires the mode, blocking until it is admitted or until the deadline.
     fn acquire_until(
         &self,
@@ -90,7 +72,7 @@ impl<A: Arbiter, W: Wait + Clone + Drop, T: Timing<W>> FairCore<A, W, T> {
         let passed = self.state().pass(mode);
         match passed {
             Some(token) => Some(token),
-            None => self.wait(mode, deadline),
+            None => self.wait(Acquisition::new(mode, deadline.is_some()), deadline),
         }
     }
 
@@ -99,42 +81,43 @@ impl<A: Arbiter, W: Wait + Clone + Drop, T: Timing<W>> FairCore<A, W, T> {
     /// A caller that gets a ticket first spins for a moment. Each later round looks at the state and registers in one
     /// section, so a later step notifies the caller.
     #[inline(never)]
-    fn wait(&self, mode: Mode, deadline: &Option<T::Instant>) -> Option<FairToken<A::Token>>
-        ensures held { IfSome result (λ held. held.mode ≡ mode) }
+    fn wait(
+        &self,
+        acquisition: Acquisition,
+        deadline: &Option<T::Instant>,
+    ) -> Option<FairToken<A::Token>>
+        requires timed { acquisition.is_timed ≡ is_some deadline.now }
+        ensures held { IfSome result (λ held. held.mode ≡ acquisition.mode) }
         ensures refused { IfNone result (IsTrue (is_some deadline.now)) }
     {
-        let mut ticket = None;
+        let mut next = acquisition;
         for _ in self.waiter.forever() {
             let mut state = self.state();
-            match admit(&mut *state, ticket, mode) {
+            let refused = match state.attempt(next) {
                 Ok((token, woken)) => {
                     drop(state);
                     self.wake(woken);
                     return Some(token);
                 }
-                Err(same) => ticket = same,
-            }
-            if self.is_over(deadline) {
-                match leave(&mut *state, ticket) {
-                    Ok(woken) => {
-                        drop(state);
-                        self.wake(woken);
-                        return None;
-                    }
-                    Err(same) => ticket = same,
+                Err(refused) => refused,
+            };
+            let refused = match state.end_if(self.is_over(deadline), refused) {
+                Ok(woken) => {
+                    drop(state);
+                    self.wake(woken);
+                    return None;
                 }
-            }
-            let (joined, spins) = join(&mut *state, ticket, deadline.is_some());
+                Err(same) => same,
+            };
+            let (waiting, spins) = state.join(refused);
             if spins {
-                drop(state);
-                self.waiters.spin(&joined);
-            } else {
-                let events = self.waiters.events(&joined);
-                let registered = events.register(&self.waiter);
-                drop(state);
-                self.sleep(events, registered, deadline);
+                next = self.waiters.spin(waiting, state);
+                continue;
             }
-            ticket = joined;
+            let registration = self.waiters.register(&self.waiter, &waiting, state);
+            next = self
+                .waiters
+                .sleep::<A, W, T>(&self.waiter, waiting, registration, deadline);
         }
         unreachable!()
     }
@@ -157,28 +140,30 @@ impl<A: Arbiter, W: Wait + Clone + Drop, T: Timing<W>> FairCore<A, W, T> {
         ensures back { IfErr result (λ back. back ≡ token) }
         ensures refused { OnErr result (IsTrue (is_some deadline.now)) }
     {
-        let mut pending = PendingUpgrade::of(token);
+        let mut next = Upgrade::of(token);
         for _ in self.waiter.forever() {
             let mut state = self.state();
-            match state.upgrade(pending) {
-                Ok(next) => return Ok(next),
-                Err(same) => pending = same,
-            }
-            if self.is_over(deadline) {
-                let (token, woken) = state.withdraw(pending);
-                drop(state);
-                woken.wake(&self.waiters);
-                return Err(token);
-            }
-            if state.announce(&mut pending) {
-                self.waiters.turn.give(NOBODY);
-                drop(state);
-                self.waiters.turn.spin(UPGRADE);
+            let refused = match state.attempt_upgrade(next) {
+                Ok(token) => return Ok(token),
+                Err(refused) => refused,
+            };
+            let refused = match state.withdraw_if(self.is_over(deadline), refused) {
+                Ok((token, woken)) => {
+                    drop(state);
+                    woken.wake(&self.waiters);
+                    return Err(token);
+                }
+                Err(same) => same,
+            };
+            let (waiting, is_new) = state.await_upgrade(refused);
+            if is_new {
+                next = self.waiters.spin_upgrade(waiting, state);
                 continue;
             }
-            let registered = self.waiters.upgrader.register(&self.waiter);
-            drop(state);
-            self.sleep(&self.waiters.upgrader, registered, deadline);
+            let registration = self.waiters.register_upgrade(&self.waiter, &waiting, state);
+            next = self
+                .waiters
+                .sleep_upgrade::<A, W, T>(&self.waiter, waiting, registration, deadline);
         }
         unreachable!()
     }
@@ -273,58 +258,5 @@ impl<A: Arbiter, W: Wait + Clone + Drop, T: Timing<W>> LockCore for FairCore<A, 
 
     fn instant_after(&self, timeout: T::Duration) -> Option<T::Instant> {
         T::instant_after(&self.waiter, timeout)
-    }
-}
-
-/// Acquires a token for a ticket, or without one. Also returns which waiters to wake.
-fn admit<A: Arbiter>(
-    state: &mut FairArbiter<A>,
-    ticket: Option<Ticket>,
-    mode: Mode,
-) -> Result<(FairToken<A::Token>, Option<FairWake>), Option<Ticket>>
-    ensures { IfOk result (λ entered. entered.0.mode ≡ mode) }
-{
-    match ticket {
-        Some(ticket) => match state.enter(ticket, mode) {
-            Ok((token, woken)) => Ok((token, Some(woken))),
-            Err(same) => Err(Some(same)),
-        },
-        None => match state.pass(mode) {
-            Some(token) => Ok((token, None)),
-            None => Err(None),
-        },
-    }
-}
-
-/// Joins the line, unless the acquisition has a ticket. Returns the ticket, and whether it may spin, since it is new and near
-/// the first.
-fn join<A: Arbiter>(
-    state: &mut FairArbiter<A>,
-    ticket: Option<Ticket>,
-    is_timed: bool,
-) -> (Option<Ticket>, bool) {
-    if let Some(ticket) = ticket {
-        return (Some(ticket), false);
-    }
-    let joined = if is_timed {
-        state.arrive_timed()
-    } else {
-        state.arrive()
-    };
-    let spins = joined.is_some() && state.line().span() <= SPINNERS;
-    (joined, spins)
-}
-
-/// Ends a wait. A ticket that may not leave keeps its caller waiting. Also returns which waiters to wake.
-fn leave<A: Arbiter>(
-    state: &mut FairArbiter<A>,
-    ticket: Option<Ticket>,
-) -> Result<Option<FairWake>, Option<Ticket>> {
-    match ticket {
-        Some(ticket) => match state.leave(ticket) {
-            Ok(woken) => Ok(Some(woken)),
-            Err(same) => Err(Some(same)),
-        },
-        None => Ok(None),
     }
 }

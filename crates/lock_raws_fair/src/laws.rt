@@ -1,5 +1,5 @@
 //! Laws of a line and of a fair lock. Each is the contract of a function with an empty body.
-ghost use Rattle.lock_raws_fair.specs.LineLaws.{NobodyIsOvertaken, OvertakingIsBounded, TimedTicketsMayLeave};
+ghost use Rattle.lock_raws_fair.specs.LineLaws.{ArrivalsWaitForFew, NobodyIsOvertaken, OvertakingIsBounded, TimedTicketsMayLeave};
 ghost use Rattle.lock_raws_fair.specs.declared.line.TheConstants.{TIMED_SPAN};
 ghost use Rattle.lock_raws_fair.specs.FairLaws.{IdleLocksAdmit, NobodyPassesAnUpgrade};
 ghost use Rattle.lock_raws_fair.specs.FairWaking.{WakesMissNobody};
@@ -14,6 +14,13 @@ pub fn nobody_is_overtaken()
 /// While a ticket waits, no more acquisitions are admitted than tickets were before it.
 pub fn overtaking_is_bounded()
     ensures { OvertakingIsBounded }
+{}
+
+/// After an acquisition arrives, and as long as it waits, no more acquisitions are admitted than waited when it arrived.
+///
+/// It counts those without a ticket, which pass, too. An upgrade admits nobody: it changes the mode of a token that is held.
+pub fn arrivals_wait_for_few()
+    ensures { ArrivalsWaitForFew }
 {}
 
 /// A ticket of `Line::arrive_timed` may leave as long as it waits.

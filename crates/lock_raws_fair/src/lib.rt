@@ -4,19 +4,21 @@
 //! line. `FairCore` is a `LockCore`: a std `Mutex` around it, and event counts on which waiters sleep.
 #![tactic(auto)]
 
+mod acquisition;
 mod fair_arbiter;
 mod fair_core;
 mod fair_wake;
 mod laws;
 mod line;
 mod turn;
+mod upgrade;
 mod waiters;
 
 pub use fair_arbiter::{FairArbiter, FairToken, PendingUpgrade};
 pub use fair_core::{FairCore, FairRaw, TimedFairRaw};
 pub use fair_wake::FairWake;
 pub use laws::{
-    idle_locks_admit, nobody_is_overtaken, nobody_passes_an_upgrade, overtaking_is_bounded,
-    timed_tickets_may_leave, wakes_miss_nobody,
+    arrivals_wait_for_few, idle_locks_admit, nobody_is_overtaken, nobody_passes_an_upgrade,
+    overtaking_is_bounded, timed_tickets_may_leave, wakes_miss_nobody,
 };
 pub use line::{Line, LineStep, TIMED_SPAN, Ticket};

@@ -1,12 +1,20 @@
 //! Where the waiters of a fair lock sleep.
-ghost use Rattle.std.specs.Prelude.{◌≡◌, ◌%◌, true, IfErr, MatchOption, slice_index_or};
+ghost use Rattle.std.specs.Prelude.{◌≡◌, ◌%◌, true, IfErr, Some, slice_index_or};
 ghost use Rattle.lock_base.specs.declared.raw.fault.Fault.TheVariants as fault;
+ghost use Rattle.lock_raws_fair.specs.Sleeping.{events_of};
 
+mod sleep;
+
+use crate::acquisition::{Acquisition, Waiting};
+use crate::fair_arbiter::FairArbiter;
 use crate::line::Ticket;
-use crate::turn::{TurnHint, UPGRADE};
+use crate::turn::{NOBODY, TurnHint, UPGRADE};
+use crate::upgrade::{Upgrade, WaitingUpgrade};
 use lock_base::raw::Fault;
+use lock_raws::Arbiter;
 use lock_wake::{EventCount, Notified};
 use std::alloc::Global;
+use std::sync::MutexGuard;
 
 /// The event counts on which the waiters of a fair lock sleep, and whose turn it is.
 #[derive(Drop)]
@@ -14,10 +22,10 @@ pub(crate) struct FairWaiters {
     /// A ticket waits on the event count of its number, so a notification reaches every eighth ticket.
     tickets: [EventCount; 8],
     /// The holder whose upgrade waits.
-    pub(crate) upgrader: EventCount,
+    upgrader: EventCount,
     /// The callers without a ticket.
     ticketless: EventCount,
-    pub(crate) turn: TurnHint,
+    turn: TurnHint,
 }
 
 impl FairWaiters {
@@ -41,10 +49,38 @@ impl FairWaiters {
         })
     }
 
+    /// Ends the section, and spins for a moment, or until the acquisition's ticket has the turn.
+    pub(crate) fn spin<A: Arbiter>(
+        &self,
+        waiting: Waiting,
+        state: MutexGuard<'_, FairArbiter<A>>,
+    ) -> Acquisition
+        ensures { result ≡ waiting.acquisition }
+    {
+        drop(state);
+        if let Some(ticket) = waiting.ticket() {
+            self.turn.spin(ticket.number());
+        }
+        waiting.resumed()
+    }
+
+    /// Gives the turn to nobody, ends the section, and spins for a moment, or until the upgrade has the turn.
+    pub(crate) fn spin_upgrade<A: Arbiter>(
+        &self,
+        waiting: WaitingUpgrade<A::Token>,
+        state: MutexGuard<'_, FairArbiter<A>>,
+    ) -> Upgrade<A::Token>
+        ensures { result.pending ≡ waiting.pending }
+    {
+        self.turn.give(NOBODY);
+        drop(state);
+        self.turn.spin(UPGRADE);
+        waiting.resumed()
+    }
+
     /// Returns where the ticket waits, or a caller without one.
-    pub(crate) fn events(&self, ticket: &Option<Ticket>) -> &EventCount
-        ensures { MatchOption ticket.now (result.now ≡ self.now.ticketless)
-            (λ number. result.now ≡ slice_index_or self.now.tickets (number % 8) result.now) }
+    fn events(&self, ticket: &Option<Ticket>) -> &EventCount
+        ensures { result.now ≡ events_of self.now.tickets self.now.ticketless ticket.now }
     {
         match ticket {
             Some(ticket) => self.ticket_events(ticket.number()),
@@ -52,15 +88,9 @@ impl FairWaiters {
         }
     }
 
-    /// Spins for a moment, or until the ticket has the turn.
-    pub(crate) fn spin(&self, ticket: &Option<Ticket>) {
-        if let Some(ticket) = ticket {
-            self.turn.spin(ticket.number());
-        }
-    }
-
     fn ticket_events(&self, number: u64) -> &EventCount
-        ensures { result.now ≡ slice_index_or self.now.tickets (number % 8) result.now }
+        ensures ticket { result.now ≡ events_of self.now.tickets self.now.ticketless (Some number) }
+        ensures place { result.now ≡ slice_index_or self.now.tickets (number % 8) result.now }
     {
         &self.tickets[(number % 8) as usize]
     }
