@@ -20,6 +20,7 @@ pub mod WaysFor
 pub mod Releases
 pub mod Right
 pub mod Moves
+pub mod NodeCounts
 pub mod Ways
 pub mod Simulation
 pub mod CircleNodes

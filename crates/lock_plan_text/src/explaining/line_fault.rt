@@ -38,9 +38,9 @@ pub enum LineFault<'a> {
     Taken(NameKind, &'a str),
     /// A party has the name of a copy.
     TakenCopy(&'a str),
-    /// A line with this word stands in a block, which begins with the second word, in the line of this number.
+    /// A line with this word is in a block. The block begins with the second word, in the line of this number.
     InBlock(&'a str, &'static str, u64),
-    /// A line with this word stands above the first party.
+    /// A line with this word is above the first party.
     NoParty(&'a str),
     /// A word of a block that does not fit the open blocks, by the text.
     Unfit(&'static str),
