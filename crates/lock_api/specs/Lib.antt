@@ -60,6 +60,7 @@ pub use Rattle.lock_one.specs.Runs as CallRuns
 pub use Rattle.lock_one.specs.Stored
 pub use Rattle.lock_one_word.specs.Seats as WordSeats
 pub use Rattle.lock_one_word.specs.Calls as WordCalls
+pub use Rattle.lock_one_word.specs.Legal as WordLegal
 pub use Rattle.lock_one_word.specs.Own
 pub use Rattle.lock_ruled.specs.Ruled
 pub use Rattle.lock_ruled.specs.SleepingUsers
@@ -88,6 +89,7 @@ pub use Rattle.lock_rwlock.specs.RwLock
 pub use Rattle.lock_rwlock.specs.RwLockGuard
 pub use Rattle.lock_remutex.specs.Guards
 pub use Rattle.lock_remutex.specs.ArcGuards
+pub use Rattle.lock_remutex.specs.LevelSteps
 pub use Rattle.lock_ranked.specs.Guards as RankedGuards
 pub use Rattle.lock_ranked.specs.RwLockGuards as RankedRwLockGuards
 pub use Rattle.lock_ranked.specs.Rows as RankedRows
@@ -106,3 +108,4 @@ pub use Rattle.lock_raws_fair.specs.FairState
 pub use Rattle.lock_raws_fair.specs.FairLaws
 pub use Rattle.lock_raws_fair.specs.FairWaking
 pub use Rattle.lock_raws_fair.specs.Notifying
+pub use Rattle.lock_raws_fair.specs.Sleeping

@@ -31,7 +31,8 @@ impl<R> WrongRaw<R> {
         ensures { IfSome result (λ released. token ≡ Some released) }
     {
         if self.makes(kept) {
-            forget(token);
+            // SAFETY: the mistake is to keep the token.
+            unsafe { forget(token) };
             return None;
         }
         token

@@ -52,7 +52,8 @@ impl<R: RawRwLock> RawRwLock for WrongRaw<R> {
     fn try_lock_exclusive(&self) -> Option<Option<R::ExclusiveGuard>> {
         let token = self.raw.try_lock_exclusive();
         if token.is_none() && self.makes(Mistake::RefusalAdmits) {
-            forget(self.raw.try_lock_shared());
+            // SAFETY: the mistake is to keep the token.
+            unsafe { forget(self.raw.try_lock_shared()) };
         }
         Some(Some(token?))
     }
@@ -87,7 +88,8 @@ impl<R: RawRwLockFair> RawRwLockFair for WrongRaw<R> {
 
     fn bump_shared(&self, token: R::SharedGuard) -> R::SharedGuard {
         if self.makes(Mistake::HalfBump) {
-            forget(token);
+            // SAFETY: the mistake is to keep the token.
+            unsafe { forget(token) };
             return self.raw.lock_shared();
         }
         self.raw.bump_shared(token)
