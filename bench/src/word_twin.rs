@@ -1,7 +1,7 @@
 //! The locks over one packed word with no proof: what `WordRaw` is compared with.
 //!
 //! It has the same shape. The value lies in a std lock that is acquired after the word admits and released before the word. A try
-//! is one load and one exchange, a release one subtraction and one load of the count of sleepers.
+//! is one load and one exchange, a release one subtraction, whose answer says whether a waiter may sleep.
 use crate::line;
 use std::hint::black_box;
 use std::ops::{Deref, DerefMut};
@@ -11,12 +11,12 @@ use std::sync::{Condvar, Mutex, MutexGuard, RwLock, RwLockReadGuard, RwLockWrite
 const UPGRADABLE: u64 = 1 << 32;
 const EXCLUSIVE: u64 = 1 << 33;
 const BAR: u64 = 1 << 34;
+const SLEEPERS: u64 = 1 << 35;
 
 /// The word, and the threads that sleep until it changes.
 pub struct Raw {
     word: AtomicU64,
     readers: u64,
-    sleepers: AtomicU64,
     gate: Mutex<()>,
     changed: Condvar,
 }
@@ -26,7 +26,6 @@ impl Raw {
         Raw {
             word: AtomicU64::new(0),
             readers,
-            sleepers: AtomicU64::new(0),
             gate: Mutex::new(()),
             changed: Condvar::new(),
         }
@@ -35,10 +34,10 @@ impl Raw {
     #[inline]
     fn exchange(&self, next: impl Fn(u64) -> Option<u64>) -> bool {
         let word = self.word.load(SeqCst);
-        match next(word) {
+        match next(word % SLEEPERS) {
             Some(next) => self
                 .word
-                .compare_exchange(word, next, SeqCst, SeqCst)
+                .compare_exchange(word, next + word / SLEEPERS * SLEEPERS, SeqCst, SeqCst)
                 .is_ok(),
             None => false,
         }
@@ -53,18 +52,20 @@ impl Raw {
 
     #[inline(never)]
     fn sleep(&self, next: &dyn Fn(u64) -> Option<u64>) {
-        self.sleepers.fetch_add(1, SeqCst);
         let mut gate = self.gate.lock().unwrap();
-        while !self.exchange(next) {
+        loop {
+            // a release from here on finds the bit, and wakes once the wait has the gate
+            self.word.fetch_or(SLEEPERS, SeqCst);
+            if self.exchange(next) {
+                return;
+            }
             gate = self.changed.wait(gate).unwrap();
         }
-        self.sleepers.fetch_sub(1, SeqCst);
     }
 
     #[inline]
     fn give_up(&self, less: u64) {
-        self.word.fetch_sub(less, SeqCst);
-        if self.sleepers.load(SeqCst) != 0 {
+        if self.word.fetch_sub(less, SeqCst) >= SLEEPERS {
             self.wake();
         }
     }
@@ -72,6 +73,7 @@ impl Raw {
     #[inline(never)]
     fn wake(&self) {
         let _gate = self.gate.lock().unwrap();
+        self.word.fetch_and(!SLEEPERS, SeqCst);
         self.changed.notify_all();
     }
 
