@@ -18,7 +18,7 @@ use Rattle.lock_one.specs.declared.park.Debt.TheVariants as debt
 use Rattle.lock_one.specs.Rule.{is_upgrade}
 use Rattle.lock_one.specs.Machine.{core_of, has_sleepers, sleepers, with_sleepers, acquired, after_try, decide, wait, goes_to, acquiring, begun, removes_reader, alone, release_on, taking, next_at, next_of}
 use Rattle.lock_one.specs.Steps.{IsAt, IsWake, hold_at}
-use Rattle.lock_one.specs.Answers.{AnswersTell, FirstSteps}
+use Rattle.lock_one.specs.Answers.{AnswersMatchHolds, FirstSteps}
 
 -- only these stages end a call
 pub ends_not : (st : Stage) (call : Call) (v : ParkView) (b : Bool) → IsAt st call v (action.End b)
@@ -95,8 +95,8 @@ refuses call found (inr tries) h = by (found == call.loaded) (ap (λ st. (next_a
     by true e = cc
     by false e = decided call found (word_admits call.announced call.readers (core_of found) call.want) refl e
 
-pub answers_tell : AnswersTell
-answers_tell = record { refused_holds_as_before = refused_holds; done_has_changed = done_holds; word_refuses = refuses }
+pub answers_match_holds : AnswersMatchHolds
+answers_match_holds = record { refused_holds_as_before = refused_holds; done_has_changed = done_holds; word_refuses = refuses }
 
 first_acquires : (readers word : ℕ) (wish : ExWant) (blocks announces : Bool) → word < sleepers → word_admits false readers word wish ≡ true
     → (next_of word (acquiring readers wish blocks announces).0).1 ≡ action.Exchange word (word_after word wish)

@@ -12,125 +12,125 @@ use Rattle.lock_one.specs.declared.stage.Stage.TheVariants as stage
 use Rattle.lock_one.specs.declared.park.Debt.{Debt}
 use Rattle.lock_one.specs.declared.park.Debt.TheVariants as debt
 use Rattle.lock_one.specs.Machine.{Progress, core_of, has_sleepers, sleepers, wakes_one, pauses_before, exchanges_before, after_try, word_marked, sets_bar, sleep, mark_or_sleep, marked, time_out, withdrawn, refused, acquired, ended, wait, decide, goes_to, acquiring, begun, removes_reader, alone, release_on, release_of, release_again, look_to_remove, subtract, wakes, taking, next_at, next_of}
-use Rattle.lock_one.specs.Answers.{IsLate, Tells, IsTold, RefusalsTell}
+use Rattle.lock_one.specs.Answers.{IsLate, CauseAt, HasCause, RefusalsHaveCauses}
 
 abbrev Clean : Call → Type 0
 Clean call = call.blocks ≡ false → call.announced ≡ false
 
-marks_or_sleeps : (call : Call) → call.blocks ≡ true → IsTold (mark_or_sleep call).0
+marks_or_sleeps : (call : Call) → call.blocks ≡ true → HasCause (mark_or_sleep call).0
 marks_or_sleeps call blocks = by (word_marked call == call.loaded)
   where
-    by : (b : Bool) → IsTold (if b then sleep call else goes_to (record call { left = word_marked call }) stage.Mark (action.Exchange call.loaded (word_marked call))).0
-    by true = record { unannounced = λ never. absurd (true≢false (sym blocks ∙ never)); tells = tt }
-    by false = record { unannounced = λ never. absurd (true≢false (sym blocks ∙ never)); tells = blocks }
+    by : (b : Bool) → HasCause (if b then sleep call else goes_to (record call { left = word_marked call }) stage.Mark (action.Exchange call.loaded (word_marked call))).0
+    by true = record { unannounced = λ never. absurd (true≢false (sym blocks ∙ never)); cause = tt }
+    by false = record { unannounced = λ never. absurd (true≢false (sym blocks ∙ never)); cause = blocks }
 
-times_out : (call : Call) → IsLate call → IsTold (time_out call).0
+times_out : (call : Call) → IsLate call → HasCause (time_out call).0
 times_out call late = by call.announced
   where
     never : Clean call
     never off = absurd (true≢false (sym late.0 ∙ off))
 
-    leaves : (b : Bool) → IsTold (if b then goes_to (record call { left = call.loaded + sleepers }) stage.Leave (action.Exchange call.loaded (call.loaded + sleepers)) else refused call).0
-    leaves true = record { unannounced = never; tells = late }
-    leaves false = record { unannounced = never; tells = inr late }
+    leaves : (b : Bool) → HasCause (if b then goes_to (record call { left = call.loaded + sleepers }) stage.Leave (action.Exchange call.loaded (call.loaded + sleepers)) else refused call).0
+    leaves true = record { unannounced = never; cause = late }
+    leaves false = record { unannounced = never; cause = inr late }
 
-    by : (b : Bool) → IsTold (if b then goes_to (record call { left = core_of call.loaded - 2 ^ 34 }) stage.Withdraw (action.Exchange call.loaded (core_of call.loaded - 2 ^ 34))
+    by : (b : Bool) → HasCause (if b then goes_to (record call { left = core_of call.loaded - 2 ^ 34 }) stage.Withdraw (action.Exchange call.loaded (core_of call.loaded - 2 ^ 34))
         else if wakes_one call && (call.slept && nat_lt call.loaded sleepers)
         then goes_to (record call { left = call.loaded + sleepers }) stage.Leave (action.Exchange call.loaded (call.loaded + sleepers))
         else refused call).0
-    by true = record { unannounced = never; tells = late }
+    by true = record { unannounced = never; cause = late }
     by false = leaves (wakes_one call && (call.slept && nat_lt call.loaded sleepers))
 
-waits : (call : Call) → Clean call → word_admits call.announced call.readers (core_of call.loaded) call.want ≡ false → IsTold (wait call).0
+waits : (call : Call) → Clean call → word_admits call.announced call.readers (core_of call.loaded) call.want ≡ false → HasCause (wait call).0
 waits call clean refuses = by call.blocks refl
   where
-    pauses : call.blocks ≡ true → (b : Bool) → IsTold (if b then goes_to (record call { pauses = call.pauses + 1 }) stage.Pause (action.Spin (if nat_lt call.pauses 3 then call.pauses + 6 else 9)) else mark_or_sleep call).0
-    pauses blocks true = record { unannounced = clean; tells = tt }
+    pauses : call.blocks ≡ true → (b : Bool) → HasCause (if b then goes_to (record call { pauses = call.pauses + 1 }) stage.Pause (action.Spin (if nat_lt call.pauses 3 then call.pauses + 6 else 9)) else mark_or_sleep call).0
+    pauses blocks true = record { unannounced = clean; cause = tt }
     pauses blocks false = marks_or_sleeps call blocks
 
     late : call.blocks ≡ true → (b : Bool) → call.late ≡ b
-        → IsTold (if b then time_out call else if nat_lt call.pauses pauses_before then goes_to (record call { pauses = call.pauses + 1 }) stage.Pause (action.Spin (if nat_lt call.pauses 3 then call.pauses + 6 else 9)) else mark_or_sleep call).0
+        → HasCause (if b then time_out call else if nat_lt call.pauses pauses_before then goes_to (record call { pauses = call.pauses + 1 }) stage.Pause (action.Spin (if nat_lt call.pauses 3 then call.pauses + 6 else 9)) else mark_or_sleep call).0
     late blocks true passed = times_out call (blocks, passed)
     late blocks false passed = pauses blocks (nat_lt call.pauses pauses_before)
 
     by : (b : Bool) → call.blocks ≡ b
-        → IsTold (if not b then refused call else if call.late then time_out call else if nat_lt call.pauses pauses_before then goes_to (record call { pauses = call.pauses + 1 }) stage.Pause (action.Spin (if nat_lt call.pauses 3 then call.pauses + 6 else 9)) else mark_or_sleep call).0
+        → HasCause (if not b then refused call else if call.late then time_out call else if nat_lt call.pauses pauses_before then goes_to (record call { pauses = call.pauses + 1 }) stage.Pause (action.Spin (if nat_lt call.pauses 3 then call.pauses + 6 else 9)) else mark_or_sleep call).0
     by false never = record {
       unannounced = clean;
-      tells = inl (never, ap (λ a. word_admits a call.readers (core_of call.loaded) call.want) (sym (clean never)) ∙ refuses);
+      cause = inl (never, ap (λ a. word_admits a call.readers (core_of call.loaded) call.want) (sym (clean never)) ∙ refuses);
     }
     by true blocks = late blocks call.late refl
 
-decides : (word : ℕ) (call : Call) → Clean call → IsTold (decide word call).0
+decides : (word : ℕ) (call : Call) → Clean call → HasCause (decide word call).0
 decides word call clean = by (word_admits call.announced call.readers (core_of word) call.want) refl
   where
     by : (b : Bool) → word_admits call.announced call.readers (core_of word) call.want ≡ b
-        → IsTold (if b then goes_to (record call { loaded = word; left = after_try call word }) stage.Try (action.Exchange word (after_try call word)) else wait (record call { loaded = word })).0
-    by true admits = record { unannounced = clean; tells = tt }
+        → HasCause (if b then goes_to (record call { loaded = word; left = after_try call word }) stage.Try (action.Exchange word (after_try call word)) else wait (record call { loaded = word })).0
+    by true admits = record { unannounced = clean; cause = tt }
     by false refuses = waits (record call { loaded = word }) clean refuses
 
 -- the end of an exchange that succeeded, or a decision on the word that it found
-either : (b : Bool) (p : Progress) (word : ℕ) (call : Call) → Clean call → IsTold p.0 → IsTold (if b then p else decide word call).0
-either true p word call clean told = told
-either false p word call clean told = decides word call clean
+either : (b : Bool) (p : Progress) (word : ℕ) (call : Call) → Clean call → HasCause p.0 → HasCause (if b then p else decide word call).0
+either true p word call clean known = known
+either false p word call clean known = decides word call clean
 
-has_marked : (call : Call) → call.blocks ≡ true → IsTold (marked call).0
-has_marked call blocks = record { unannounced = λ never. absurd (true≢false (sym blocks ∙ never)); tells = tt }
+has_marked : (call : Call) → call.blocks ≡ true → HasCause (marked call).0
+has_marked call blocks = record { unannounced = λ never. absurd (true≢false (sym blocks ∙ never)); cause = tt }
 
-has_withdrawn : (call : Call) → IsLate call → IsTold (withdrawn call).0
+has_withdrawn : (call : Call) → IsLate call → HasCause (withdrawn call).0
 has_withdrawn call late = by (has_sleepers call.loaded)
   where
-    by : (b : Bool) → IsTold (if b then goes_to (record call { announced = false }) stage.WakeRefused action.WakeAll else refused (record call { announced = false })).0
-    by true = record { unannounced = λ never. refl; tells = late }
-    by false = record { unannounced = λ never. refl; tells = inr late }
+    by : (b : Bool) → HasCause (if b then goes_to (record call { announced = false }) stage.WakeRefused action.WakeAll else refused (record call { announced = false })).0
+    by true = record { unannounced = λ never. refl; cause = late }
+    by false = record { unannounced = λ never. refl; cause = inr late }
 
-owes : (d : Debt) (call : Call) → Clean call → IsTold (wakes d call).0
-owes debt.Nothing call clean = record { unannounced = clean; tells = tt }
-owes debt.One call clean = record { unannounced = clean; tells = tt }
-owes debt.All call clean = record { unannounced = clean; tells = tt }
-owes debt.Next call clean = record { unannounced = clean; tells = tt }
+owes : (d : Debt) (call : Call) → Clean call → HasCause (wakes d call).0
+owes debt.Nothing call clean = record { unannounced = clean; cause = tt }
+owes debt.One call clean = record { unannounced = clean; cause = tt }
+owes debt.All call clean = record { unannounced = clean; cause = tt }
+owes debt.Next call clean = record { unannounced = clean; cause = tt }
 
 releases_again : (b : Bool) (word : ℕ) (call : Call) → Clean call
-    → IsTold (if b then release_on word (record call { pauses = call.pauses + 1 }) else subtract call).0
-releases_again true word call clean = record { unannounced = clean; tells = tt }
-releases_again false word call clean = record { unannounced = clean; tells = tt }
+    → HasCause (if b then release_on word (record call { pauses = call.pauses + 1 }) else subtract call).0
+releases_again true word call clean = record { unannounced = clean; cause = tt }
+releases_again false word call clean = record { unannounced = clean; cause = tt }
 
-looks_to_remove : (b : Bool) (word : ℕ) (call : Call) → Clean call → IsTold (if b then release_on word call else subtract call).0
-looks_to_remove true word call clean = record { unannounced = clean; tells = tt }
-looks_to_remove false word call clean = record { unannounced = clean; tells = tt }
+looks_to_remove : (b : Bool) (word : ℕ) (call : Call) → Clean call → HasCause (if b then release_on word call else subtract call).0
+looks_to_remove true word call clean = record { unannounced = clean; cause = tt }
+looks_to_remove false word call clean = record { unannounced = clean; cause = tt }
 
-next : (st : Stage) (found : ℕ) (call : Call) → Clean call → Tells st call → IsTold (next_at st found call).0
-next stage.Look found call clean told = decides found call clean
-next stage.Try found call clean told = either (found == call.loaded) (acquired call) found call clean record { unannounced = clean; tells = tt }
-next stage.Pause found call clean told = record { unannounced = clean; tells = tt }
-next stage.Mark found call clean told = either (found == call.loaded) (marked call) found call clean (has_marked call told)
-next stage.Sleep found call clean told = record { unannounced = clean; tells = tt }
-next stage.Withdraw found call clean told = either (found == call.loaded) (withdrawn call) found call clean (has_withdrawn call told)
-next stage.Leave found call clean told = either (found == call.loaded) (refused call) found call clean record { unannounced = clean; tells = inr told }
-next stage.LookToRemove found call clean told = looks_to_remove (has_sleepers found) found call clean
-next stage.Subtract found call clean told = owes (release_of call.readers found call.down).1 call clean
-next stage.Release found call clean told = by (found == call.loaded)
+next : (st : Stage) (found : ℕ) (call : Call) → Clean call → CauseAt st call → HasCause (next_at st found call).0
+next stage.Look found call clean known = decides found call clean
+next stage.Try found call clean known = either (found == call.loaded) (acquired call) found call clean record { unannounced = clean; cause = tt }
+next stage.Pause found call clean known = record { unannounced = clean; cause = tt }
+next stage.Mark found call clean known = either (found == call.loaded) (marked call) found call clean (has_marked call known)
+next stage.Sleep found call clean known = record { unannounced = clean; cause = tt }
+next stage.Withdraw found call clean known = either (found == call.loaded) (withdrawn call) found call clean (has_withdrawn call known)
+next stage.Leave found call clean known = either (found == call.loaded) (refused call) found call clean record { unannounced = clean; cause = inr known }
+next stage.LookToRemove found call clean known = looks_to_remove (has_sleepers found) found call clean
+next stage.Subtract found call clean known = owes (release_of call.readers found call.down).1 call clean
+next stage.Release found call clean known = by (found == call.loaded)
   where
-    by : (b : Bool) → IsTold (if b then wakes (release_of call.readers call.loaded call.down).1 call else release_again found call).0
+    by : (b : Bool) → HasCause (if b then wakes (release_of call.readers call.loaded call.down).1 call else release_again found call).0
     by true = owes (release_of call.readers call.loaded call.down).1 call clean
     by false = releases_again (nat_lt call.pauses exchanges_before) found call clean
-next stage.Wake found call clean told = record { unannounced = clean; tells = tt }
-next stage.WakeRefused found call clean told = record { unannounced = clean; tells = inr told }
-next stage.Acquired found call clean told = record { unannounced = clean; tells = tt }
-next stage.Refused found call clean told = record { unannounced = clean; tells = tt }
-next stage.Ended found call clean told = record { unannounced = clean; tells = tt }
+next stage.Wake found call clean known = record { unannounced = clean; cause = tt }
+next stage.WakeRefused found call clean known = record { unannounced = clean; cause = inr known }
+next stage.Acquired found call clean known = record { unannounced = clean; cause = tt }
+next stage.Refused found call clean known = record { unannounced = clean; cause = tt }
+next stage.Ended found call clean known = record { unannounced = clean; cause = tt }
 
-begins_release : (readers : ℕ) (d : Down) → IsTold (taking readers d).0
+begins_release : (readers : ℕ) (d : Down) → HasCause (taking readers d).0
 begins_release readers d = by (removes_reader readers d)
   where
-    by : (b : Bool) → IsTold (if b then goes_to (begun readers stage.LookToRemove want.Shared d false false) stage.LookToRemove action.Load
+    by : (b : Bool) → HasCause (if b then goes_to (begun readers stage.LookToRemove want.Shared d false false) stage.LookToRemove action.Load
         else release_on (alone d) (begun readers stage.Release want.Shared d false false)).0
-    by true = record { unannounced = λ never. refl; tells = tt }
-    by false = record { unannounced = λ never. refl; tells = tt }
+    by true = record { unannounced = λ never. refl; cause = tt }
+    by false = record { unannounced = λ never. refl; cause = tt }
 
-pub refusals_tell : RefusalsTell
-refusals_tell = record {
-  acquires = λ readers wish blocks announces. record { unannounced = λ never. refl; tells = tt };
+pub refusals_have_causes : RefusalsHaveCauses
+refusals_have_causes = record {
+  acquires = λ readers wish blocks announces. record { unannounced = λ never. refl; cause = tt };
   releases = begins_release;
-  goes_on = λ found call told. next call.stage found call told.unannounced told.tells;
+  goes_on = λ found call known. next call.stage found call known.unannounced known.cause;
 }

@@ -14,7 +14,7 @@ use Rattle.lock_one.specs.Machine.{core_of, sleepers, acquiring, removes_reader,
 use Rattle.lock_one.specs.Steps.{IsAt, hold_at}
 
 -- THE LAW OF ANSWERS
-pub record AnswersTell : Type 0 where
+pub record AnswersMatchHolds : Type 0 where
   -- a refused call has changed nothing that its party holds, and has left no bar
   pub refused_holds_as_before : (call : Call) (v : ParkView) (before : Hold) → before.announced ≡ false
       → IsAt call.stage call v (End false) → v.held ≡ hold_at call.stage call before → v.held ≡ before
@@ -29,24 +29,24 @@ pub record AnswersTell : Type 0 where
 abbrev pub IsLate : Call → Type 0
 IsLate call = (call.blocks ≡ true) × (call.late ≡ true)
 
--- what a call that was refused tells: the loaded word refuses a try, and the deadline of a call that blocks has passed
-abbrev pub Tells : Stage → Call → Type 0
-Tells stage.Mark call = call.blocks ≡ true
-Tells stage.Withdraw call = IsLate call
-Tells stage.Leave call = IsLate call
-Tells stage.WakeRefused call = IsLate call
-Tells stage.Refused call = ((call.blocks ≡ false) × (word_admits false call.readers (core_of call.loaded) call.want ≡ false)) ⊎ IsLate call
-Tells other call = ⊤
+-- what must hold at a stage that leads to a refusal: the loaded word refuses a try, and the deadline of a call that blocks has passed
+abbrev pub CauseAt : Stage → Call → Type 0
+CauseAt stage.Mark call = call.blocks ≡ true
+CauseAt stage.Withdraw call = IsLate call
+CauseAt stage.Leave call = IsLate call
+CauseAt stage.WakeRefused call = IsLate call
+CauseAt stage.Refused call = ((call.blocks ≡ false) × (word_admits false call.readers (core_of call.loaded) call.want ≡ false)) ⊎ IsLate call
+CauseAt other call = ⊤
 
-pub record IsTold (call : Call) : Type 0 where
+pub record HasCause (call : Call) : Type 0 where
   pub unannounced : call.blocks ≡ false → call.announced ≡ false
-  pub tells : Tells call.stage call
+  pub cause : CauseAt call.stage call
 
 -- THE LAW OF REFUSALS: whatever its steps are answered, a try is refused by a word alone, and a call that blocks by its deadline alone
-pub record RefusalsTell : Type 0 where
-  pub acquires : (readers : ℕ) (wish : ExWant) (blocks announces : Bool) → IsTold (acquiring readers wish blocks announces).0
-  pub releases : (readers : ℕ) (down : Down) → IsTold (taking readers down).0
-  pub goes_on : (found : ℕ) (call : Call) → IsTold call → IsTold (next_of found call).0
+pub record RefusalsHaveCauses : Type 0 where
+  pub acquires : (readers : ℕ) (wish : ExWant) (blocks announces : Bool) → HasCause (acquiring readers wish blocks announces).0
+  pub releases : (readers : ℕ) (down : Down) → HasCause (taking readers down).0
+  pub goes_on : (found : ℕ) (call : Call) → HasCause call → HasCause (next_of found call).0
 
 -- THE LAW OF FIRST STEPS: on a word without S that admits it, a call makes this exchange; and a release begins with this one
 pub record FirstSteps : Type 0 where

@@ -1,5 +1,5 @@
 //! The laws of a lock of one word. Each is the contract of a function with an empty body.
-ghost use Rattle.lock_one.specs.Answers.{AnswersTell, FirstSteps, RefusalsTell};
+ghost use Rattle.lock_one.specs.Answers.{AnswersMatchHolds, FirstSteps, RefusalsHaveCauses};
 ghost use Rattle.lock_one.specs.Rule.{StepsKeepParking};
 ghost use Rattle.lock_one.specs.Runs.{EveryRunIsServed};
 ghost use Rattle.lock_one.specs.Steps.{LastAccess, StepsKeepTheRule, SleepsKeepTheRule, NobodyIsForgotten};
@@ -37,13 +37,13 @@ pub fn every_run_is_served()
 
 /// A call that ends with false has changed nothing, and one that ends with true has made its change. A try ends with false
 /// only on a word that refuses it.
-pub fn answers_tell()
-    ensures { AnswersTell }
+pub fn answers_match_holds()
+    ensures { AnswersMatchHolds }
 {}
 
 /// Whatever its steps are answered, a try is refused by a word that refuses it, and a call that blocks after its deadline.
-pub fn refusals_tell()
-    ensures { RefusalsTell }
+pub fn refusals_have_causes()
+    ensures { RefusalsHaveCauses }
 {}
 
 /// On a word that admits it, and that has no bit of sleepers, a call acquires by one exchange. A release begins with one.

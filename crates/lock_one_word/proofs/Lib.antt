@@ -4,7 +4,7 @@ pub mod Tasks
 pub mod Agree
 pub mod Rests
 pub mod TryEnds
-pub mod Told
+pub mod Causes
 pub mod Blocks
 pub mod Ranks
 pub mod Tokens

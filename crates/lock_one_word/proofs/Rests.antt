@@ -21,7 +21,7 @@ use Rattle.lock_one.specs.Machine.{Progress, wakes_one, acquiring, taking, remov
 use Rattle.lock_one.specs.Runs.{debt_at}
 use Rattle.lock_one.specs.Steps.{ends, Acquires, IsAt, IsWake, hold_at}
 use Rattle.lock_one.proofs.Actions.{on_word}
-use Rattle.lock_one.proofs.Answers.{answers_tell}
+use Rattle.lock_one.proofs.Answers.{answers_match_holds}
 use Rattle.lock_one.proofs.Runs.{quiet_sleep, same_view}
 use Rattle.lock_one_word.specs.declared.rule.OneView.{OneView}
 use Rattle.lock_one_word.specs.Seats.{placed, Task, to_acquire, to_release, releases, IsGoing}
@@ -180,7 +180,7 @@ releasing_first readers d v lock has = by (removes_reader readers d)
 -- what a party holds at the end of its call
 
 pub refused_end : (call : Call) (before : Hold) (task : Task) (v : OneView) → before.announced ≡ false → IsGoing (call, action.End false) before task v → v.held ≡ before
-refused_end call before task v clean going = answers_tell.refused_holds_as_before call (placed v.held (action.End false)) before clean going.at going.held
+refused_end call before task v clean going = answers_match_holds.refused_holds_as_before call (placed v.held (action.End false)) before clean going.at going.held
 
 same_after : (before : Hold) (wish : ExWant) (a : Bool) → (hold_after (record before { announced = a }) (step_of_want wish)).bag ≡ (hold_after before (step_of_want wish)).bag
 same_after before want.Shared a = refl

@@ -1,6 +1,6 @@
 //! A call and its next action.
 ghost use Rattle.std.specs.Prelude.{◌≡◌, ◌≢◌, ◌+◌, ◌<◌, ◌^◌, ◌-◌, true, is_ok, IfErr};
-ghost use Rattle.lock_one.specs.Answers.{IsTold};
+ghost use Rattle.lock_one.specs.Answers.{HasCause};
 ghost use Rattle.lock_one.specs.declared.action.Action.TheVariants.{End};
 ghost use Rattle.lock_one.specs.Machine.{acquiring, next_of, taking};
 ghost use Rattle.lock_one_word.specs.Drives.{at, MayEnd};
@@ -23,17 +23,17 @@ pub(crate) struct Pending {
 }
 
 impl Model for Pending {
-    ghost use Rattle.lock_one.specs.Answers.{IsTold};
+    ghost use Rattle.lock_one.specs.Answers.{HasCause};
     ghost use Rattle.lock_one_word.specs.Drives.{Pending};
 
     ghost Value = { Pending };
 
     ghost view = { λ p. record { call = p.call; action = p.action; exchanges = p.exchanges } };
 
-    ghost invariant = { λ p. IsTold p.call };
+    ghost invariant = { λ p. HasCause p.call };
 }
 
-#[tactic(auto, using(crate::proofs::Told::begins, crate::proofs::Told::begins_release, crate::proofs::Told::goes_on))]
+#[tactic(auto, using(crate::proofs::Causes::begins, crate::proofs::Causes::begins_release, crate::proofs::Causes::goes_on))]
 impl Pending {
     /// Begins a call that acquires or upgrades.
     pub(crate) fn acquire(readers: u64, want: ExWant, blocks: bool) -> Pending
@@ -94,7 +94,7 @@ impl Pending {
     /// Ends a call that asks for its end, or a try before its exchange, of which nobody knows.
     pub(crate) fn end(self) -> Ended
         requires { MayEnd (at self) }
-        ensures told { IsTold self.call }
+        ensures has_cause { HasCause self.call }
         ensures end { result ≡ ending self.call.readers self.call.loaded self.call.late self.exchanges }
     {
         let Pending {
@@ -109,7 +109,7 @@ impl Pending {
     pub(crate) fn answer(self, answer: bool) -> Result<(), Ended>
         requires { self.action ≡ End answer }
         ensures answer { is_ok result ≡ answer }
-        ensures told { IsTold self.call }
+        ensures has_cause { HasCause self.call }
         ensures end { IfErr result (λ end. end ≡ ending self.call.readers self.call.loaded self.call.late self.exchanges) }
     {
         let ended = self.end();

@@ -5,7 +5,7 @@ use Rattle.lock_one.specs.declared.action.Action.TheVariants.{End}
 use Rattle.lock_one_word.specs.Calls.{TimesOut}
 use Rattle.lock_one_word.specs.Seats.{to_acquire, IsGoing}
 use Rattle.lock_one_word.proofs.Begins.{ended_holds, token_is}
-use Rattle.lock_one_word.proofs.Told.{the_no}
+use Rattle.lock_one_word.proofs.Causes.{the_no}
 use Rattle.lock_one_word.proofs.word_lock.WordLock.acquire_within.Goals as goal
 
 pub come_to_end-ended-requires-clause-going : goal.come_to_end-ended-requires-clause-going

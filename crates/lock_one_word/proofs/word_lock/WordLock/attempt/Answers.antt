@@ -4,7 +4,7 @@ use Rattle.lock_one_word.specs.Calls.{Ending, Refuses}
 use Rattle.lock_one_word.specs.Drives.{IsTrying, says_yes}
 use Rattle.lock_one_word.specs.Seats.{to_acquire, IsGoing}
 use Rattle.lock_one_word.proofs.TryEnds.{tries_again, tried, only_tries, is_exchange, no_exchange, no_ends}
-use Rattle.lock_one_word.proofs.Told.{try_refused, if_no}
+use Rattle.lock_one_word.proofs.Causes.{try_refused, if_no}
 use Rattle.lock_one_word.proofs.word_lock.WordLock.attempt.Goals as goal
 
 pub loop-old-preserved : goal.loop-old-preserved
@@ -47,5 +47,5 @@ returns c =
           (no_ends a (only_tries call a me now.0 now.1 now.2 c.loop-old.invariant.4)
           (sym (ap is_exchange c.action.ensures) ∙ no_exchange c.action.result (λ x y h. c.in_default.not-Exchange x y h)) (sym yes ∙ off))
           (c.loop-old.invariant.5 before (to_acquire wish) going))
-          c.loop-old.invariant.4.tries c.answer.ensures.told (ap (λ (x : Ending). x.readers) is) (ap (λ (x : Ending). x.word) is)));
+          c.loop-old.invariant.4.tries c.answer.ensures.has_cause (ap (λ (x : Ending). x.readers) is) (ap (λ (x : Ending). x.word) is)));
     }

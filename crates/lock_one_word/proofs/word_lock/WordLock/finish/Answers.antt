@@ -5,7 +5,7 @@ use Rattle.lock_one_word.specs.Calls.{Ending, TimesOut}
 use Rattle.lock_one_word.specs.Drives.{Pending, at}
 use Rattle.lock_one_word.specs.Seats.{Self, to_acquire, IsGoing}
 use Rattle.lock_one_word.proofs.Blocks.{keeps_blocks}
-use Rattle.lock_one_word.proofs.Told.{times_out, if_no}
+use Rattle.lock_one_word.proofs.Causes.{times_out, if_no}
 use Rattle.lock_one_word.proofs.word_lock.WordLock.finish.Goals as goal
 
 pub loop-preserved : goal.loop-preserved
@@ -42,4 +42,4 @@ returns-in-Some-make-clause-refused g c =
     (times_out last.call me before wish e
     (subst (λ (a : Action). IsGoing (last.call, a) before (to_acquire wish) me) (ap (λ (p : Pending). p.action) ended.2 ∙ (ended.0 ∙ ap (λ b. End b) off))
     (subst (λ (p : Pending). IsGoing (at p) before (to_acquire wish) me) (sym ended.2) (c.loop.invariant.6 before (to_acquire wish) going)))
-    (ap (λ (p : Pending). p.call.blocks) ended.2 ∙ c.loop.invariant.7) c.answer.ensures.told (ap (λ (x : Ending). x.readers) is) (ap (λ (x : Ending). x.word) is) (ap (λ (x : Ending). x.late) is)))
+    (ap (λ (p : Pending). p.call.blocks) ended.2 ∙ c.loop.invariant.7) c.answer.ensures.has_cause (ap (λ (x : Ending). x.readers) is) (ap (λ (x : Ending). x.word) is) (ap (λ (x : Ending). x.late) is)))

@@ -7,7 +7,7 @@ use Rattle.lock_one_word.specs.Drives.{at}
 use Rattle.lock_one_word.specs.Seats.{to_acquire, IsGoing}
 use Rattle.lock_one_word.proofs.Begins.{token_is}
 use Rattle.lock_one_word.proofs.Tokens.{acquires, awaits}
-use Rattle.lock_one_word.proofs.Told.{the_no}
+use Rattle.lock_one_word.proofs.Causes.{the_no}
 use Rattle.lock_one_word.proofs.word_lock.WordLock.try_acquire.Goals as goal
 
 pub returns-then-is_ok-clause-acquired : goal.returns-then-is_ok-clause-acquired

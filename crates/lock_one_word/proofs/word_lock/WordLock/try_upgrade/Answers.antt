@@ -7,7 +7,7 @@ use Rattle.lock_one_word.specs.Calls.{WordLockView, TokenView, one_hold, Refuses
 use Rattle.lock_one_word.specs.Drives.{at}
 use Rattle.lock_one_word.specs.Seats.{Self, to_acquire}
 use Rattle.lock_one_word.proofs.Begins.{first_try, first_upgrade, token_is}
-use Rattle.lock_one_word.proofs.Told.{the_no}
+use Rattle.lock_one_word.proofs.Causes.{the_no}
 use Rattle.lock_one_word.proofs.word_lock.WordLock.try_upgrade.Goals as goal
 
 pub attempt-ended-requires-clause-going : goal.attempt-ended-requires-clause-going

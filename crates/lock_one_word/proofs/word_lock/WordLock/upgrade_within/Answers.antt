@@ -6,7 +6,7 @@ use Rattle.lock_one_word.specs.Calls.{WordLockView, TokenView, one_hold, TimesOu
 use Rattle.lock_one_word.specs.Drives.{at}
 use Rattle.lock_one_word.specs.Seats.{Self, to_acquire, IsGoing}
 use Rattle.lock_one_word.proofs.Begins.{first_upgrade, token_is, upgraded_holds, still_holds}
-use Rattle.lock_one_word.proofs.Told.{the_no}
+use Rattle.lock_one_word.proofs.Causes.{the_no}
 use Rattle.lock_one_word.proofs.word_lock.WordLock.upgrade_within.Goals as goal
 
 pub start-requires-clause-going : goal.start-requires-clause-going

@@ -1,4 +1,4 @@
-use Rattle.lock_one_word.proofs.Told.{goes_on}
+use Rattle.lock_one_word.proofs.Causes.{goes_on}
 use Rattle.lock_one_word.proofs.word_lock.steps.pending.Pending.go_on.Goals as goal
 
 pub invariant_of-self : goal.invariant_of-self
