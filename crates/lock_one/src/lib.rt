@@ -15,9 +15,9 @@ mod storing;
 pub use action::Action;
 pub use call::{Call, SLEEPERS};
 pub use laws::{
-    answers_match_holds, every_run_is_served, first_steps, nobody_is_forgotten, refusals_have_causes,
-    releases_touch_no_more, sleeps_keep_the_rule, steps_keep_parking, steps_keep_the_rule,
-    storing_keeps_words,
+    answers_match_holds, every_run_is_served, first_steps, nobody_is_forgotten,
+    refusals_have_causes, releases_touch_no_more, sleeps_keep_the_rule, steps_keep_parking,
+    steps_keep_the_rule, storing_keeps_words,
 };
 pub use park::{Debt, Park, ParkLimits, ParkView};
 pub use stage::Stage;
