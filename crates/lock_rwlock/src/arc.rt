@@ -4,7 +4,6 @@ mod guard;
 mod owned;
 mod text;
 
-pub use acquire::{RwLockArc, RwLockArcTimed, RwLockArcUpgrade, RwLockArcUpgradeTimed};
 pub use guard::{
     ArcModeGuard, ArcRwLockGuard, ArcRwLockReadGuard, ArcRwLockUpgradableReadGuard,
     ArcRwLockWriteGuard,

@@ -13,8 +13,7 @@ use lock_api::{
     RawCondvarTimed, RawLock, RawMutex, RawMutexFair, RawMutexTimed, RawReentrantMutex, RawRwLock,
     RawRwLockDowngrade, RawRwLockFair, RawRwLockTimed, RawRwLockUpgrade, RawRwLockUpgradeDowngrade,
     RawRwLockUpgradeFair, RawRwLockUpgradeTimed, RawState, Recorded, RecordingArbiter,
-    RecordingRaw, ReentrantMutex, ReentrantMutexGuard, Reply, RwLock, RwLockArc, RwLockArcTimed,
-    RwLockArcUpgrade, RwLockArcUpgradeTimed, RwLockGuard, RwLockReadGuard,
+    RecordingRaw, ReentrantMutex, ReentrantMutexGuard, Reply, RwLock, RwLockGuard, RwLockReadGuard,
     RwLockUpgradableReadGuard, RwLockWriteGuard, Script, Shared, SharedToken, ShowMode,
     SpuriousCondvar, TableArbiter, TableToken, Then, TokenArbiter, TokenRaw, TokenTable,
     TryProject, TryView, Unchanged, Upgradable, UpgradableToken, View, WaitTimeoutResult, Waits,
@@ -103,18 +102,14 @@ pub fn raw_traits<
     C: RawCondvarTimed<RawMutex = M>,
 >(_mutex: &M, _lock: &L, _same: &D, _condvar: &C) {}
 
-/// Each trait of locks in a mode, and of the acquisitions by an `Arc`.
+/// Each trait of locks in a mode.
 pub fn lock_traits<
     'a,
     R: RawRwLockUpgradeTimed + RawRwLockUpgradeFair + Drop,
     T: Drop,
     M: LockMode<R> + FairMode<R> + ShowMode<'a, R, T>,
     L: Mappable,
-    A: RwLockArc<R, T>
-        + RwLockArcTimed<R, T>
-        + RwLockArcUpgrade<R, T>
-        + RwLockArcUpgradeTimed<R, T>,
->(_mode: &M, _lock: &L, _arcs: &A, _value: &T, _raw: &R) {}
+>(_mode: &M, _lock: &L, _value: &T, _raw: &R) {}
 
 /// Each trait of parts, and of what waits.
 pub fn part_traits<T, P: TryProject<T>, Q: Project<P::Part>, F: Field<T>, V: View<T>, W: Waits>(

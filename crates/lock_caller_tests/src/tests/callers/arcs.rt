@@ -6,7 +6,7 @@ ghost use Rattle.lock_api.specs.Guards.{value_of};
 use lock_api::{
     ArcMutexGuard, ArcReentrantMutexGuard, ArcRwLockReadGuard, ArcRwLockUpgradableReadGuard,
     ArcRwLockWriteGuard, Fault, Mutex, PartyId, RawMutex, RawMutexFair, RawRwLockUpgradeDowngrade,
-    ReentrantMutex, RwLock, RwLockArc,
+    ReentrantMutex, RwLock,
 };
 use std::sync::Arc;
 

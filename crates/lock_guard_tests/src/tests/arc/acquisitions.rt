@@ -6,7 +6,7 @@ use lock_guard::raw::{RawMutex, RawMutexTimed, RawRwLock, RawRwLockTimed, RawRwL
 use lock_mutex::Mutex;
 use lock_raws::{LockCore, RawLock};
 use lock_remutex::ReentrantMutex;
-use lock_rwlock::{RwLock, RwLockArc, RwLockArcTimed, RwLockArcUpgrade, RwLockArcUpgradeTimed};
+use lock_rwlock::RwLock;
 use lock_test_support::answer::equal;
 use lock_test_support::party;
 use std::alloc::Global;

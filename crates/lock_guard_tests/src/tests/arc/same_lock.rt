@@ -6,7 +6,7 @@ use lock_guard::raw::{RawMutex, RawMutexFair, RawRwLock, RawRwLockUpgradeFair};
 use lock_mutex::{ArcMutexGuard, Mutex};
 use lock_raws::{LockCore, RawLock};
 use lock_remutex::{ArcReentrantMutexGuard, ReentrantMutex};
-use lock_rwlock::{ArcRwLockGuard, FairMode, RwLock, RwLockArc, RwLockArcUpgrade};
+use lock_rwlock::{ArcRwLockGuard, FairMode, RwLock};
 use lock_test_support::answer::equal;
 use lock_test_support::two_parties;
 use std::alloc::Global;

@@ -3,7 +3,7 @@ use super::raw_calls::UNDER_AN_UPGRADE;
 use lock_base::machine::Mode::Shared;
 use lock_base::raw::Fault;
 use lock_guard::raw::{RawRwLock, RawRwLockUpgradeDowngrade, RawRwLockUpgradeTimed};
-use lock_rwlock::{ArcRwLockGuard, ArcRwLockReadGuard, RwLock, RwLockArc, RwLockArcUpgrade};
+use lock_rwlock::{ArcRwLockGuard, ArcRwLockReadGuard, RwLock};
 use lock_test_support::answer::equal;
 use lock_test_support::raw_lock::CallWatch;
 use lock_test_support::raw_lock::RawCall::{Lock, Unlock};

@@ -3,9 +3,7 @@ use crate::tests::texts::{Shown, are_right};
 use lock_base::machine::Mode::{self, Exclusive, Shared, Upgradable};
 use lock_guard::guard::{Acquire, ValueGuard};
 use lock_guard::raw::{RawRwLock, RawRwLockUpgrade};
-use lock_rwlock::{
-    ArcModeGuard, Mappable, ReadValue, RwLock, RwLockArc, RwLockArcUpgrade, RwLockGuard,
-};
+use lock_rwlock::{ArcModeGuard, Mappable, ReadValue, RwLock, RwLockGuard};
 use lock_test_support::answer::{debug_is, equal, texts_are};
 use lock_test_support::project::{Item1, Nested};
 use lock_test_support::raw_lock::CallWatch;
