@@ -1,6 +1,8 @@
 -- The owner word of a reentrant lock, the rule of its table, and what each kind of step tells.
 use Rattle.std.specs.Prelude.{◌≡◌, ◌≢◌, ℕ, ◌*◌, ◌+◌, ◌/◌, ◌%◌, ◌^◌, ◌<◌, ◌≤◌, List, [], ◌∷◌, length, slice_index, IfSome, IsSome, Some}
+use Rattle.std.specs.Prelude.{refl}
 use Rattle.std.specs.Prelude as std
+use Rattle.std.specs.Coded.{Coded, code_by, coded×}
 use mathlib.Core.Option.{some}
 use Rattle.atomic_table.specs.Table.{State, Me, Step, rest}
 use Rattle.atomic_table.specs.Seated.{TableId}
@@ -30,10 +32,17 @@ pub record TableView (K : Type 0) : Type 0 where
   pub id : TableId
   pub key : OwnerKey K
 
--- the table of a call, and its last step
+-- the table of a call, and its last step. A private field seals it: only a call on a table has one
 pub record CallView (K T : Type 0) : Type 0 where
   pub table : TableView K
   pub step : OwnerStep T
+  sealed : Unit {0}
+
+abbrev pub call_view : {K T : Type 0} → TableView K → OwnerStep T → CallView K T
+call_view table step = record { table = table; step = step; sealed = tt }
+
+abbrev pub call_view_code : {K T : Type 0} → Coded (TableView K) → Coded (OwnerStep T) → Coded (CallView K T)
+call_view_code {K} {T} table step = code_by (TableView K × OwnerStep T) (coded× table step) (λ c. (c.table, c.step)) (λ p. call_view p.0 p.1) (λ _. refl)
 
 module _ {T : Type 0} where
   -- the levels of an owner

@@ -1,8 +1,12 @@
-ghost use Rattle.std.specs.Prelude.{◌≡◌, ◌↔◌, IfErr, IfOk, IfSome, IsSome, MatchResult};
+ghost use Rattle.std.specs.Prelude.{◌≡◌, IfErr, IfOk, IfSome, MatchResult};
 ghost use Rattle.lock_base.specs.Party.{id_of};
+ghost use Rattle.std.specs.Arc.{arc_value};
+ghost use Rattle.std.specs.Option.{is_some};
 ghost use Rattle.lock_remutex.specs.ArcGuards.{arc_of, arc_party, arc_guard_value, IsSameArcGuard};
+ghost use Rattle.lock_remutex.specs.Guards.{raw_of};
+ghost use Rattle.lock_remutex.specs.LevelSteps.{AnswersLevel, IsOn, Kept};
 
-use crate::level::Level;
+use crate::owner_table::Level;
 use crate::reentrant_mutex::ReentrantMutex;
 use lock_base::machine::PartyId;
 use lock_base::raw::Fault;
@@ -20,8 +24,10 @@ pub struct ArcReentrantMutexGuard<R: RawMutex + Drop, T: Drop> {
 impl<R: RawMutex + Drop, T: Drop> ArcReentrantMutexGuard<R, T> {
     /// Makes the guard of a level.
     pub(crate) fn new(remutex: Arc<ReentrantMutex<R, T>>, level: Level<R>) -> Self
+        requires { IsOn (raw_of (arc_value remutex)) level.call }
         ensures lock { arc_of result ≡ remutex }
         ensures party { arc_party result ≡ level.party }
+        ensures kept { Kept R.is_own level }
     {
         let party = level.keep();
         ArcReentrantMutexGuard { remutex, party }
@@ -29,7 +35,8 @@ impl<R: RawMutex + Drop, T: Drop> ArcReentrantMutexGuard<R, T> {
 
     /// Makes the guard of a new level, if there is one.
     pub(crate) fn guarded(remutex: Arc<ReentrantMutex<R, T>>, got: Option<Level<R>>) -> Option<Self>
-        ensures some { IsSome result ↔ IsSome got }
+        requires { IfSome got (λ level. IsOn (raw_of (arc_value remutex)) level.call) }
+        ensures answers { AnswersLevel R.is_own got (is_some result) }
         ensures lock { IfSome result (λ guard. arc_of guard ≡ remutex) }
         ensures party { IfSome result (λ guard. IfSome got (λ level. arc_party guard ≡ level.party)) }
     {

@@ -3,7 +3,6 @@
 
 mod arc;
 mod arc_guard;
-mod level;
 mod mapped;
 mod owner_table;
 mod raw_reentrant_mutex;

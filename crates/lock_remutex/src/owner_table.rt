@@ -12,6 +12,7 @@ ghost use Rattle.lock_remutex.specs.OwnerTables.{party_in, count_in, IsIdle, Own
 ghost use Rattle.lock_remutex.specs.OwnerCalls.{Again, First, Leaves, LeavesSole};
 
 use atomic_table::{Refused, Table};
+pub(crate) use call::Level;
 pub use call::OwnerCall;
 use lock_base::machine::PartyId;
 use lock_base::raw::{Fault, Levels};

@@ -1,10 +1,9 @@
-ghost use Rattle.std.specs.Prelude.{◌≡◌, ◌↔◌, true, Err, IsTrue, IfOk, IfErr, IfSome, IsOkUnless};
+ghost use Rattle.std.specs.Prelude.{◌≡◌, ◌↔◌, ◌⊎◌, true, None, Some, Err, IfOk, IfErr, IfSome, IsOkUnless};
 ghost use Rattle.lock_base.specs.Limits.{IsLimit, IsMakerFault};
 ghost use Rattle.lock_base.specs.Party.{id_of};
-ghost use Rattle.lock_remutex.specs.LevelSteps.{HasGained, HasLost, IsNewLevel};
+ghost use Rattle.lock_remutex.specs.LevelSteps.{AnswersLevel, HasGained, HasLost, HasSeveral, HasToken, FoundOwner, IsNewLevel, TriedFor, TriedLevel, WasOwned};
 
-use crate::level::Level;
-use crate::owner_table::{OwnerKey, OwnerTable, TokenRule};
+use crate::owner_table::{Level, OwnerKey, OwnerTable, TokenRule};
 use lock_base::machine::PartyId;
 use lock_base::raw::{DEFAULT_LEVELS, Fault, is_limit};
 use lock_guard::raw::{RawMutex, RawMutexFair, RawMutexTimed};
@@ -125,11 +124,15 @@ impl<R: RawMutex> RawReentrantMutex<R> {
     /// # Errors
     ///
     /// As `lock`.
+    #[tactic(auto, using(crate::proofs::Tries::tried_level))]
     pub fn try_lock(&self, party: PartyId) -> Result<bool, Fault>
-        ensures gained { IfOk result (λ yes. IsTrue yes → HasGained R.is_own self.now (id_of party)) }
+        ensures tried { IfOk result (TriedLevel (R.tried self.now) R.is_own self.now (id_of party)) }
         ensures fault { IfErr result (λ fault. fault ≡ Fault.FullCount) }
     {
-        self.kept(party, self.try_acquire(party))
+        match self.try_acquire(party) {
+            Ok(got) => Ok(kept(got)),
+            Err(fault) => Err(fault),
+        }
     }
 
     /// Releases one level of the party, and with the last level the raw lock.
@@ -181,8 +184,9 @@ impl<R: RawMutex> RawReentrantMutex<R> {
     }
 
     /// `try_lock`, by a level.
+    #[tactic(auto, using(crate::proofs::Tries::tried_again, crate::proofs::Tries::tried_first, crate::proofs::Tries::refused_first))]
     pub(crate) fn try_acquire(&self, party: PartyId) -> Result<Option<Level<R>>, Fault>
-        ensures level { IfOk result (λ got. IfSome got (IsNewLevel self.now (id_of party))) }
+        ensures tried { IfOk result (TriedFor (R.tried self.now) self.now (id_of party)) }
         ensures fault { IfErr result (λ fault. fault ≡ Fault.FullCount) }
     {
         match self.again(party) {
@@ -192,25 +196,10 @@ impl<R: RawMutex> RawReentrantMutex<R> {
         }
     }
 
-    /// Answers whether there is a level, and leaves it to its party.
-    fn kept(&self, party: PartyId, got: Result<Option<Level<R>>, Fault>) -> Result<bool, Fault>
-        requires { IfOk got (λ got. IfSome got (IsNewLevel self.now (id_of party))) }
-        ensures gained { IfOk result (λ yes. IsTrue yes → HasGained R.is_own self.now (id_of party)) }
-        ensures fault { IfErr result (λ fault. got ≡ Err fault) }
-    {
-        match got {
-            Ok(Some(level)) => {
-                level.keep();
-                Ok(true)
-            }
-            Ok(None) => Ok(false),
-            Err(fault) => Err(fault),
-        }
-    }
-
     /// Acquires a further level if the party owns the lock.
     fn again(&self, party: PartyId) -> Result<Option<Level<R>>, Fault>
         ensures level { IfOk result (λ got. IfSome got (IsNewLevel self.now (id_of party))) }
+        ensures owned { IfOk result (λ got. IfSome got (λ level. WasOwned level.call.step)) }
         ensures fault { IfErr result (λ fault. fault ≡ Fault.FullCount) }
     {
         let (answer, call) = self.owner.again(self.raw.waiter(), party);
@@ -231,7 +220,9 @@ impl<R: RawMutex> RawReentrantMutex<R> {
     /// admits too many threads leads there.
     fn first(&self, party: PartyId, token: R::Guard) -> Option<Level<R>>
         requires { R.is_own self.now token ≡ true }
-        ensures { IfSome result (IsNewLevel self.now (id_of party)) }
+        ensures level { IfSome result (IsNewLevel self.now (id_of party)) }
+        ensures token { IfSome result (λ level. HasToken token level.call.step) }
+        ensures owned { result ≡ None → FoundOwner R.Guard self.now }
     {
         let (back, call) = self.owner.first(party, token);
         match back {
@@ -247,7 +238,9 @@ impl<R: RawMutex> RawReentrantMutex<R> {
     /// `first`, if the raw lock gave a token.
     fn first_of(&self, party: PartyId, token: Option<R::Guard>) -> Option<Level<R>>
         requires { IfSome token (λ token. R.is_own self.now token ≡ true) }
-        ensures { IfSome result (IsNewLevel self.now (id_of party)) }
+        ensures level { IfSome result (IsNewLevel self.now (id_of party)) }
+        ensures token { IfSome result (λ level. (given : R.Guard) × (token ≡ Some given) × HasToken given level.call.step) }
+        ensures none { result ≡ None → (token ≡ None) ⊎ FoundOwner R.Guard self.now }
     {
         match token {
             Some(token) => self.first(party, token),
@@ -294,7 +287,8 @@ impl<R: RawMutexFair> RawReentrantMutex<R> {
     ///
     /// `Foreign` if the party does not own the lock.
     pub fn bump(&self, party: PartyId) -> Result<(), Fault>
-        ensures { IfErr result (λ fault. fault ≡ Fault.Foreign) }
+        ensures bumped { IfOk result (λ _. HasGained R.is_own self.now (id_of party) ⊎ HasSeveral R.Guard self.now (id_of party)) }
+        ensures fault { IfErr result (λ fault. fault ≡ Fault.Foreign) }
     {
         if let Some(token) = self.leave_sole(party)? {
             let next = self.raw.bump(token);
@@ -308,6 +302,7 @@ impl<R: RawMutexFair> RawReentrantMutex<R> {
 
     /// Releases the only level of a party, and returns its token.
     fn leave_sole(&self, party: PartyId) -> Result<Option<R::Guard>, Fault>
+        ensures several { IfOk result (λ last. last ≡ None → HasSeveral R.Guard self.now (id_of party)) }
         ensures fault { IfErr result (λ fault. fault ≡ Fault.Foreign) }
         ensures own { IfOk result (λ last. IfSome last (λ token. R.is_own self.now token ≡ true)) }
     {
@@ -317,17 +312,23 @@ impl<R: RawMutexFair> RawReentrantMutex<R> {
                 call.settle();
                 Ok(Some(token))
             }
-            kept => {
+            Ok(None) => {
                 call.end();
-                kept
+                Ok(None)
+            }
+            Err(fault) => {
+                call.end();
+                Err(fault)
             }
         }
     }
 
     /// `lock`, which tries again also where the party has all its levels.
-    fn lock_retrying(&self, party: PartyId) {
+    fn lock_retrying(&self, party: PartyId)
+        ensures { HasGained R.is_own self.now (id_of party) }
+    {
         for _ in self.raw.waiter().forever() {
-            if self.lock(party).is_ok() {
+            if let Ok(()) = self.lock(party) {
                 return;
             }
         }
@@ -337,20 +338,25 @@ impl<R: RawMutexFair> RawReentrantMutex<R> {
 
 impl<R: RawMutexTimed> RawReentrantMutex<R> {
     /// `try_lock`, where the raw lock may block for at most `timeout`.
+    #[tactic(auto, using(crate::proofs::Tries::tried_level))]
     pub fn try_lock_for(&self, party: PartyId, timeout: R::Duration) -> Result<bool, Fault>
-        ensures gained { IfOk result (λ yes. IsTrue yes → HasGained R.is_own self.now (id_of party)) }
+        ensures tried { IfOk result (TriedLevel (R.tried_for self.now timeout) R.is_own self.now (id_of party)) }
         ensures fault { IfErr result (λ fault. fault ≡ Fault.FullCount) }
     {
-        self.kept(party, self.try_acquire_for(party, timeout))
+        match self.try_acquire_for(party, timeout) {
+            Ok(got) => Ok(kept(got)),
+            Err(fault) => Err(fault),
+        }
     }
 
     /// `try_lock_for`, by a level.
+    #[tactic(auto, using(crate::proofs::Tries::tried_again, crate::proofs::Tries::tried_first, crate::proofs::Tries::refused_first))]
     pub(crate) fn try_acquire_for(
         &self,
         party: PartyId,
         timeout: R::Duration,
     ) -> Result<Option<Level<R>>, Fault>
-        ensures level { IfOk result (λ got. IfSome got (IsNewLevel self.now (id_of party))) }
+        ensures tried { IfOk result (TriedFor (R.tried_for self.now timeout) self.now (id_of party)) }
         ensures fault { IfErr result (λ fault. fault ≡ Fault.FullCount) }
     {
         match self.again(party) {
@@ -361,20 +367,25 @@ impl<R: RawMutexTimed> RawReentrantMutex<R> {
     }
 
     /// `try_lock`, where the raw lock may block until `deadline`.
+    #[tactic(auto, using(crate::proofs::Tries::tried_level))]
     pub fn try_lock_until(&self, party: PartyId, deadline: R::Instant) -> Result<bool, Fault>
-        ensures gained { IfOk result (λ yes. IsTrue yes → HasGained R.is_own self.now (id_of party)) }
+        ensures tried { IfOk result (TriedLevel (R.tried_until self.now deadline) R.is_own self.now (id_of party)) }
         ensures fault { IfErr result (λ fault. fault ≡ Fault.FullCount) }
     {
-        self.kept(party, self.try_acquire_until(party, deadline))
+        match self.try_acquire_until(party, deadline) {
+            Ok(got) => Ok(kept(got)),
+            Err(fault) => Err(fault),
+        }
     }
 
     /// `try_lock_until`, by a level.
+    #[tactic(auto, using(crate::proofs::Tries::tried_again, crate::proofs::Tries::tried_first, crate::proofs::Tries::refused_first))]
     pub(crate) fn try_acquire_until(
         &self,
         party: PartyId,
         deadline: R::Instant,
     ) -> Result<Option<Level<R>>, Fault>
-        ensures level { IfOk result (λ got. IfSome got (IsNewLevel self.now (id_of party))) }
+        ensures tried { IfOk result (TriedFor (R.tried_until self.now deadline) self.now (id_of party)) }
         ensures fault { IfErr result (λ fault. fault ≡ Fault.FullCount) }
     {
         match self.again(party) {
@@ -382,5 +393,18 @@ impl<R: RawMutexTimed> RawReentrantMutex<R> {
             Ok(Some(level)) => Ok(Some(level)),
             Err(fault) => Err(fault),
         }
+    }
+}
+
+/// Answers whether there is a level, and leaves it to its party.
+fn kept<R: RawMutex>(got: Option<Level<R>>) -> bool
+    ensures { AnswersLevel R.is_own got result }
+{
+    match got {
+        Some(level) => {
+            level.keep();
+            true
+        }
+        None => false,
     }
 }

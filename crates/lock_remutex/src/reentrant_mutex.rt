@@ -1,12 +1,12 @@
 //! A mutex whose owner may acquire it again, with a value.
-ghost use Rattle.std.specs.Prelude.{◌≡◌, ◌↔◌, Err, IsSome, IfOk, IfErr, IfSome, IsOkUnless};
+ghost use Rattle.std.specs.Prelude.{◌≡◌, ◌↔◌, Err, IfOk, IfErr, IfSome, IsOkUnless};
+ghost use Rattle.std.specs.Option.{is_some};
 ghost use Rattle.std.specs.Borrow.{Lends, sem};
 ghost use Rattle.lock_base.specs.Limits.{IsLimit, IsMakerFault};
 ghost use Rattle.lock_base.specs.Party.{id_of};
-ghost use Rattle.lock_remutex.specs.LevelSteps.{IsNewLevel};
+ghost use Rattle.lock_remutex.specs.LevelSteps.{TriedLevel};
 ghost use Rattle.lock_remutex.specs.Guards.{raw_of, value_of, with_value, IsGuardOf};
 
-use crate::level::Level;
 use crate::raw_reentrant_mutex::RawReentrantMutex;
 use crate::reentrant_mutex_guard::ReentrantMutexGuard;
 use lock_base::machine::PartyId;
@@ -150,27 +150,14 @@ impl<R: RawMutex, T> ReentrantMutex<R, T> {
     /// # Errors
     ///
     /// As `lock`.
+    #[tactic(auto, using(crate::proofs::Tries::tried_level))]
     pub fn try_lock(&self, party: PartyId) -> Result<Option<ReentrantMutexGuard<'_, R, T>>, Fault>
         ensures guard { IfOk result (λ got. IfSome got (IsGuardOf self.entry (id_of party))) }
+        ensures tried { IfOk result (λ got. TriedLevel (R.tried (raw_of self.now)) R.is_own (raw_of self.now) (id_of party) (is_some got)) }
         ensures fault { IfErr result (λ fault. fault ≡ Fault.FullCount) }
     {
-        self.guarded(party, self.raw.try_acquire(party))
-    }
-
-    /// Makes the guard of a new level, if there is one.
-    fn guarded(
-        &self,
-        party: PartyId,
-        got: Result<Option<Level<R>>, Fault>,
-    ) -> Result<Option<ReentrantMutexGuard<'_, R, T>>, Fault>
-        requires { IfOk got (λ got. IfSome got (IsNewLevel (raw_of self.now) (id_of party))) }
-        ensures guard { IfOk result (λ guard. IfSome guard (IsGuardOf self.entry (id_of party))) }
-        ensures some { IfOk result (λ guard. IfOk got (λ got. IsSome guard ↔ IsSome got)) }
-        ensures fault { IfErr result (λ fault. got ≡ Err fault) }
-    {
-        match got {
-            Ok(Some(level)) => Ok(Some(ReentrantMutexGuard::new(self, level))),
-            Ok(None) => Ok(None),
+        match self.raw.try_acquire(party) {
+            Ok(got) => Ok(ReentrantMutexGuard::guarded(self, got)),
             Err(fault) => Err(fault),
         }
     }
@@ -178,26 +165,36 @@ impl<R: RawMutex, T> ReentrantMutex<R, T> {
 
 impl<R: RawMutexTimed, T> ReentrantMutex<R, T> {
     /// `try_lock`, where the raw lock may block for at most `timeout`.
+    #[tactic(auto, using(crate::proofs::Tries::tried_level))]
     pub fn try_lock_for(
         &self,
         party: PartyId,
         timeout: R::Duration,
     ) -> Result<Option<ReentrantMutexGuard<'_, R, T>>, Fault>
         ensures guard { IfOk result (λ got. IfSome got (IsGuardOf self.entry (id_of party))) }
+        ensures tried { IfOk result (λ got. TriedLevel (R.tried_for (raw_of self.now) timeout) R.is_own (raw_of self.now) (id_of party) (is_some got)) }
         ensures fault { IfErr result (λ fault. fault ≡ Fault.FullCount) }
     {
-        self.guarded(party, self.raw.try_acquire_for(party, timeout))
+        match self.raw.try_acquire_for(party, timeout) {
+            Ok(got) => Ok(ReentrantMutexGuard::guarded(self, got)),
+            Err(fault) => Err(fault),
+        }
     }
 
     /// `try_lock`, where the raw lock may block until `deadline`.
+    #[tactic(auto, using(crate::proofs::Tries::tried_level))]
     pub fn try_lock_until(
         &self,
         party: PartyId,
         deadline: R::Instant,
     ) -> Result<Option<ReentrantMutexGuard<'_, R, T>>, Fault>
         ensures guard { IfOk result (λ got. IfSome got (IsGuardOf self.entry (id_of party))) }
+        ensures tried { IfOk result (λ got. TriedLevel (R.tried_until (raw_of self.now) deadline) R.is_own (raw_of self.now) (id_of party) (is_some got)) }
         ensures fault { IfErr result (λ fault. fault ≡ Fault.FullCount) }
     {
-        self.guarded(party, self.raw.try_acquire_until(party, deadline))
+        match self.raw.try_acquire_until(party, deadline) {
+            Ok(got) => Ok(ReentrantMutexGuard::guarded(self, got)),
+            Err(fault) => Err(fault),
+        }
     }
 }

@@ -1,8 +1,10 @@
-ghost use Rattle.std.specs.Prelude.{◌≡◌, IfOk, IfErr, MatchResult};
+ghost use Rattle.std.specs.Prelude.{◌≡◌, IfOk, IfErr, IfSome, MatchResult};
+ghost use Rattle.std.specs.Option.{is_some};
 ghost use Rattle.lock_base.specs.Party.{id_of};
-ghost use Rattle.lock_remutex.specs.Guards.{guard_lock, guard_party, guard_value, IsGuardOf, IsSameGuard};
+ghost use Rattle.lock_remutex.specs.Guards.{guard_lock, guard_party, guard_value, raw_of, IsGuardOf, IsSameGuard};
+ghost use Rattle.lock_remutex.specs.LevelSteps.{AnswersLevel, IsOn, Kept};
 
-use crate::level::Level;
+use crate::owner_table::Level;
 use crate::reentrant_mutex::ReentrantMutex;
 use lock_base::machine::PartyId;
 use lock_base::raw::Fault;
@@ -18,10 +20,24 @@ pub struct ReentrantMutexGuard<'a, R: RawMutex, T> {
 impl<'a, R: RawMutex, T> ReentrantMutexGuard<'a, R, T> {
     /// Makes the guard of a level.
     pub(crate) fn new(remutex: &'a ReentrantMutex<R, T>, level: Level<R>) -> Self
-        ensures { IsGuardOf remutex.entry level.party result }
+        requires { IsOn (raw_of remutex.now) level.call }
+        ensures guard { IsGuardOf remutex.entry level.party result }
+        ensures kept { Kept R.is_own level }
     {
         let party = level.keep();
         ReentrantMutexGuard { remutex, party }
+    }
+
+    /// Makes the guard of a new level, if there is one.
+    pub(crate) fn guarded(remutex: &'a ReentrantMutex<R, T>, got: Option<Level<R>>) -> Option<Self>
+        requires { IfSome got (λ level. IsOn (raw_of remutex.now) level.call) }
+        ensures answers { AnswersLevel R.is_own got (is_some result) }
+        ensures guard { IfSome result (λ guard. IfSome got (λ level. IsGuardOf remutex.entry level.party guard)) }
+    {
+        match got {
+            Some(level) => Some(ReentrantMutexGuard::new(remutex, level)),
+            None => None,
+        }
     }
 
     /// Returns the lock of the guard.

@@ -1,15 +1,19 @@
 //! A call on an owner table, and its steps.
-ghost use Rattle.std.specs.Prelude.{◌≡◌, ◌≢◌, ◌<◌, ℕ, IfOk, IfErr};
+mod level;
+
+ghost use Rattle.std.specs.Prelude.{◌≡◌, ◌≢◌, ◌<◌, ℕ, ⊤, IfOk, IfErr};
 ghost use Rattle.lock_base.specs.Limits.{IsLimit};
 ghost use Rattle.lock_remutex.specs.declared.owner_table.rule.OwnerStep.TheVariants.{Saw, Made};
 ghost use Rattle.lock_remutex.specs.OwnerTables.{party_in, count_in, owned_at, made_by, IsAtHome, IsWord, IsIdle};
 ghost use Rattle.lock_remutex.specs.OwnerCalls.{IsTaken};
+ghost use Rattle.lock_remutex.specs.LevelSteps.{Lost};
 
 use crate::owner_table::rule::{
     Hint, LookAtOwner, OwnerView, PutLevels, Recount, TakeLevels, TokenRule,
 };
 use crate::owner_table::{BUSY, LARGE_ID, OWNER, OwnerTable};
 use atomic_table::Seat;
+pub(crate) use level::Level;
 use lock_base::raw::Levels;
 use lock_guard::raw::RawMutex;
 use std::marker::Model;
@@ -17,21 +21,22 @@ use std::snapshot::Snapshot;
 
 /// A call on a table. Contracts see its table and its last step. It has no bytes.
 ///
-/// It makes at most one change, and it cannot be dropped: `end` ends it if it changed nothing, and `settle` otherwise.
+/// It makes at most one change, and it cannot be dropped: `end` ends it if it changed nothing, `settle` if it lost a level,
+/// and a `Level` if it gained one.
 pub struct OwnerCall<K, T> {
     seat: Seat<Option<Levels<T>>, OwnerView<K, T>>,
 }
 
 impl<K, T> Model for OwnerCall<K, T> {
     ghost use Rattle.std.specs.Prelude.{◌≡◌, []};
-    ghost use Rattle.lock_remutex.specs.OwnerTables.{CallView};
+    ghost use Rattle.std.specs.Coded.{codes};
+    ghost use Rattle.lock_remutex.specs.OwnerTables.{CallView, call_view, call_view_code};
 
     ghost Value = { CallView K T };
 
-    ghost view = { λ c. record {
-      table = record { id = c.seat.table_id; key = c.seat.me.0.key };
-      step = c.seat.me.0.step;
-    } };
+    ghost coded = { call_view_code (Prim.hlevel (codes, K.code)) (Prim.hlevel (codes, T.code)) };
+
+    ghost view = { λ c. call_view (record { id = c.seat.table_id; key = c.seat.me.0.key }) c.seat.me.0.step };
 
     ghost invariant = { λ c. c.seat.me.1 ≡ [] };
 }
@@ -43,14 +48,14 @@ pub(super) struct Section<K, T> {
 
 impl<K, T> Model for Section<K, T> {
     ghost use Rattle.std.specs.Prelude.{◌≡◌, [], ◌∷◌, None};
-    ghost use Rattle.lock_remutex.specs.OwnerTables.{CallView};
+    ghost use Rattle.std.specs.Coded.{codes};
+    ghost use Rattle.lock_remutex.specs.OwnerTables.{CallView, call_view, call_view_code};
 
     ghost Value = { CallView K T };
 
-    ghost view = { λ c. record {
-      table = record { id = c.seat.table_id; key = c.seat.me.0.key };
-      step = c.seat.me.0.step;
-    } };
+    ghost coded = { call_view_code (Prim.hlevel (codes, K.code)) (Prim.hlevel (codes, T.code)) };
+
+    ghost view = { λ c. call_view (record { id = c.seat.table_id; key = c.seat.me.0.key }) c.seat.me.0.step };
 
     ghost invariant = { λ c. c.seat.me.1 ≡ (0, None) ∷ [] };
 }
@@ -66,8 +71,10 @@ impl<K, T> OwnerCall<K, T> {
 }
 
 impl<R: RawMutex> OwnerCall<Snapshot<R>, R::Guard> {
-    /// Ends a call that gained or lost a level. The code of the table cannot call it, since it knows no raw lock.
-    pub(crate) fn settle(self) {
+    /// Ends a call that lost a level. The code of the table cannot call it, since it knows no raw lock.
+    pub(crate) fn settle(self)
+        requires { (party : ℕ) × Lost (λ token. ⊤) party self.step }
+    {
         let OwnerCall { seat } = self;
         drop(seat);
     }

@@ -1,5 +1,5 @@
 //! A level of a reentrant lock.
-use crate::owner_table::OwnerCall;
+use crate::owner_table::call::OwnerCall;
 use lock_base::machine::PartyId;
 use lock_guard::raw::RawMutex;
 use std::marker::Model;
@@ -16,11 +16,15 @@ pub(crate) struct Level<R: RawMutex> {
 impl<R: RawMutex> Model for Level<R> {
     ghost use Rattle.std.specs.Prelude.{◌≡◌, true};
     ghost use Rattle.lock_base.specs.Party.{id_of};
-    ghost use Rattle.lock_remutex.specs.LevelSteps.{LevelView, Gained};
+    ghost use Rattle.std.specs.Coded.{codes};
+    ghost use Rattle.lock_remutex.specs.OwnerTables.{call_view_code};
+    ghost use Rattle.lock_remutex.specs.LevelSteps.{LevelView, Gained, level_view_code};
 
     ghost Value = { LevelView R R.Guard };
 
-    ghost view = { λ l. record { raw = l.call.table.key.raw.value; party = id_of l.party; step = l.call.step } };
+    ghost coded = { level_view_code (call_view_code (Prim.hlevel (codes, R.code)) (Prim.hlevel (codes, R.Guard.code))) };
+
+    ghost view = { λ l. record { call = l.call; party = id_of l.party } };
 
     ghost invariant = { λ l. Gained (λ token. R.is_own l.call.table.key.raw.value token ≡ true) (id_of l.party) l.call.step };
 }
@@ -28,12 +32,12 @@ impl<R: RawMutex> Model for Level<R> {
 impl<R: RawMutex> Level<R> {
     ghost use Rattle.std.specs.Prelude.{◌≡◌, true};
     ghost use Rattle.lock_base.specs.Party.{id_of};
-    ghost use Rattle.lock_remutex.specs.LevelSteps.{Gained, HasGained};
+    ghost use Rattle.lock_remutex.specs.LevelSteps.{Gained, Kept};
 
     /// Makes the level of a call that gained it.
     pub(crate) fn of(call: OwnerCall<Snapshot<R>, R::Guard>, party: PartyId) -> Level<R>
         requires { Gained (λ token. R.is_own call.table.key.raw.value token ≡ true) (id_of party) call.step }
-        ensures raw { result.raw ≡ call.table.key.raw.value }
+        ensures call { result.call ≡ call }
         ensures party { result.party ≡ id_of party }
     {
         Level { party, call }
@@ -42,10 +46,13 @@ impl<R: RawMutex> Level<R> {
     /// Leaves the level to its party, which owes a release.
     pub(crate) fn keep(self) -> PartyId
         ensures party { id_of result ≡ self.party }
-        ensures gained { HasGained R.is_own self.raw self.party }
+        ensures kept { Kept R.is_own self }
     {
-        let Level { party, call } = self;
-        call.settle();
+        let Level {
+            party,
+            call: OwnerCall { seat },
+        } = self;
+        drop(seat);
         party
     }
 }
