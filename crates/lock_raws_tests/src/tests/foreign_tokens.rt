@@ -34,10 +34,25 @@ fn downgrade_at_the_other<A: Arbiter, W: Wait + Clone + Drop>(
 
 /// They also write no step.
 fn check<A: Arbiter, W: Wait + Clone + Drop>(alloc: Global, rt: &W) -> Result<(), Fail> {
-    let one: RawLock<Monitor<RecordingArbiter<A>, W>> = RawLock::with_room(alloc, rt.clone()?, 1, 4)?;
-    let other: RawLock<Monitor<RecordingArbiter<A>, W>> = RawLock::with_room(alloc, rt.clone()?, 1, 4)?;
+    let one: RawLock<Monitor<RecordingArbiter<A>, W>> = RawLock::with_room(
+        alloc,
+        rt.clone()?,
+        1,
+        4,
+    )?;
+    let other: RawLock<Monitor<RecordingArbiter<A>, W>> = RawLock::with_room(
+        alloc,
+        rt.clone()?,
+        1,
+        4,
+    )?;
     equal(unlock_the_other(&one, &other), [true, true])?;
-    let third: RawLock<Monitor<RecordingArbiter<A>, W>> = RawLock::with_room(alloc, rt.clone()?, 1, 4)?;
+    let third: RawLock<Monitor<RecordingArbiter<A>, W>> = RawLock::with_room(
+        alloc,
+        rt.clone()?,
+        1,
+        4,
+    )?;
     equal(downgrade_at_the_other(&third, &other), [false, false])?;
     let steps = other.journal(alloc)?;
     equal(
