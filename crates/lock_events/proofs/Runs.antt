@@ -628,6 +628,13 @@ parked stage.Notified call epoch is = cc
 wakes_next : (at : EventStage) (found : ℕ) (call : EventCall) → at ≡ stage.EndEpoch → action_of (event_at at found call) ≡ wake_of call.all
 wakes_next at found call is = subst (λ x. action_of (event_at x found call) ≡ wake_of call.all) (sym is) refl
 
+wakes_last_next : (at : EventStage) (found : ℕ) (call : EventCall) → at ≡ stage.NoteEpoch → last_epoch ≤ found
+    → action_of (event_at at found call) ≡ wake_of call.all
+wakes_last_next at found call is late =
+    subst (λ x. action_of (event_at x found call) ≡ wake_of call.all) (sym is)
+    (chosen (λ (c : EventCall). action_of c ≡ wake_of call.all) (nat_lt found last_epoch) (event_to stage.EndEpoch (record call { epoch = found }))
+    (event_to stage.Wake (record call { epoch = found })) (λ early. absurd (let b = ltb-true found last_epoch early in omega arith)) (λ _. refl))
+
 reached : (s : EventsInUse) → IsKept s → WaitsAreReached s
 reached s h =
     record {
@@ -648,6 +655,7 @@ reached s h =
           ];
       unlocks = λ k wait is asks. unlocking wait.call.stage wait.call asks;
       wakes = λ n found note is ends. wakes_next note.call.stage found note.call ends;
+      wakes_last = λ n found note is notes late. wakes_last_next note.call.stage found note.call notes late;
       counted = h.counted;
       fits = h.fits;
     }

@@ -149,6 +149,9 @@ pub record WaitsAreReached (s : EventsInUse) : Type 0 where
   -- a notification that has ended the epoch, or lost the exchange, wakes all or one by its next step
   pub wakes : (n found : ℕ) (note : Begun) → slice_get s.calls n ≡ Some note → note.call.stage ≡ stage.EndEpoch
       → action_of (event_next found note.call) ≡ wake_of note.call.all
+  -- in the last epoch it does so at once
+  pub wakes_last : (n found : ℕ) (note : Begun) → slice_get s.calls n ≡ Some note → note.call.stage ≡ stage.NoteEpoch → last_epoch ≤ found
+      → action_of (event_next found note.call) ≡ wake_of note.call.all
   -- the count is that of the waits that are counted
   pub counted : s.words.count ≡ counts_of s.calls
   -- each word fits 32 bits

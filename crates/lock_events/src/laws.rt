@@ -1,5 +1,6 @@
-//! What the steps mean. The law is the contract of a function with an empty body.
+//! What the steps mean. Each law is the contract of a function with an empty body.
 ghost use Rattle.lock_events.specs.Runs.{EveryWaitIsReached};
+ghost use Rattle.lock_events.specs.Mutexes.{WaitsHandOverTheMutex};
 
 /// Takes a new condition variable and any acts of any number of calls, in any order, one atomic step at a time.
 ///
@@ -8,4 +9,10 @@ ghost use Rattle.lock_events.specs.Runs.{EveryWaitIsReached};
 /// fits a word of 32 bits.
 pub fn every_wait_is_reached()
     ensures { EveryWaitIsReached }
+{}
+
+/// Whatever the actions of a wait are answered, it sleeps without its mutex and ends with it. It releases the mutex only while
+/// it holds it, and acquires it only while it does not.
+pub fn waits_hand_over_the_mutex()
+    ensures { WaitsHandOverTheMutex }
 {}

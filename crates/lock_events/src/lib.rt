@@ -15,5 +15,5 @@ pub use act::EventAct;
 pub use action::{EventAction, EventPlace};
 pub use call::EventCall;
 pub use epochs::{CLOSED_COUNT, LAST_EPOCH};
-pub use laws::every_wait_is_reached;
+pub use laws::{every_wait_is_reached, waits_hand_over_the_mutex};
 pub use stage::EventStage;
