@@ -2,8 +2,8 @@
 use Rattle.std.specs.Prelude.{◌≡◌, Option, None, Some}
 use Rattle.lock_api.specs.Held.{held_value}
 use Rattle.lock_api.specs.MutexGuard.{held_of}
-use Rattle.lock_api.specs.declared.Guard.{Guard}
-use Rattle.lock_api.specs.declared.Reply.{Reply}
+use Rattle.lock_api.specs.declared.guard.Guard.{Guard}
+use Rattle.lock_api.specs.declared.model.Reply.{Reply}
 
 -- the guard shows this value
 abbrev pub Shows : {L V K W X : Type 0} {r : _} {g : _} → (V → X) → X → Guard L V K W X r g → Type 0

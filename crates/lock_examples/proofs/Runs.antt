@@ -1,8 +1,8 @@
 -- Steps that are made one after another.
 use Rattle.std.proofs.Common.{ℕ, ◌+◌, ◌<◌, List, drop, get_or, length, subst, sym}
 use Rattle.std.proofs.lemmas.List.{drop_more}
-use Rattle.lock_api.specs.declared.Bag.{Bag}
-use Rattle.lock_api.specs.declared.ModeStep.{ModeStep}
+use Rattle.lock_api.specs.declared.model.Bag.{Bag}
+use Rattle.lock_api.specs.declared.model.ModeStep.{ModeStep}
 use Rattle.lock_api.specs.ModeRuns.{IsModeRun, Permits, bag_after}
 
 module _ (limit : ℕ) (out last : Bag) (steps : List ModeStep) (i : ℕ) (d : ModeStep) (within : i < length steps) where

@@ -1,10 +1,12 @@
 //! A gate that several threads wait at until its keeper opens it. They sleep, and no wake-up is lost.
 ghost use Rattle.std.specs.Prelude.{◌≡◌, IfOk};
-ghost use Rattle.lock_api.specs.declared.Mode.TheVariants.{Shared, Exclusive};
+ghost use Rattle.lock_api.specs.declared.model.Mode.TheVariants.{Shared, Exclusive};
 ghost use Rattle.lock_api.specs.WordCalls.{IsTokenOf};
 ghost use Rattle.lock_examples.specs.Gate.{IsClosed, IsOpen};
 
-use lock_api::{Fault, Mode, WordLock, WordToken};
+use lock_api::Fault;
+use lock_api::model::Mode;
+use lock_api::raw::{WordLock, WordToken};
 use std::alloc::Global;
 use std::sync::Wait;
 use std::sync::atomic::{AtomicU64, Ordering};

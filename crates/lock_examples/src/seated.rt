@@ -2,7 +2,9 @@
 ghost use Rattle.std.specs.Prelude.{◌≡◌, ◌+◌, ◌%◌, ◌<◌, ◌^◌, ◌⊎◌, IfOk};
 ghost use Rattle.lock_api.specs.Holds.{no_hold};
 
-use lock_api::{ExWant, Fault, Mode, Party, SeatedLock};
+use lock_api::Fault;
+use lock_api::model::Mode;
+use lock_api::raw::{ExWant, Party, SeatedLock};
 use std::alloc::Global;
 use std::sync::Wait;
 use std::thread::{Threads, join};

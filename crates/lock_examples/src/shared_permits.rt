@@ -2,7 +2,7 @@
 ghost use Rattle.std.specs.Prelude.{◌≡◌, ◌+◌};
 ghost use Rattle.std.specs.Thread.{IsSync};
 
-use lock_api::SharedSemaphore;
+use lock_api::ruled::SharedSemaphore;
 use std::sync::Wait;
 use std::thread::{Threads, join};
 

@@ -1,5 +1,6 @@
 //! A raw lock of the user's own, which spins.
-use lock_api::{Fault, RawMutex, RawRwLock, is_limit};
+use lock_api::raw::is_limit;
+use lock_api::{Fault, RawMutex, RawRwLock};
 use std::alloc::Global;
 use std::clone::Clone;
 use std::sync::Wait;

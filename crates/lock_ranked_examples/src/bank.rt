@@ -2,7 +2,8 @@
 ghost use Rattle.std.specs.Prelude.{◌≡◌, ◌<◌, IsOkUnless};
 ghost use Rattle.lock_api.specs.RankedRows.{places_of};
 
-use lock_api::{AtRank, Fault, Mutex, Order, Rank, RankedMutexRow, RawMutex};
+use lock_api::ranked::{AtRank, Order, Rank, RankedMutexRow};
+use lock_api::{Fault, Mutex, RawMutex};
 use std::alloc::Global;
 use std::clone::Clone;
 

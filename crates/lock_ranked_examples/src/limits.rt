@@ -1,9 +1,8 @@
 //! A limit that is read often, and the number of its changes.
 ghost use Rattle.std.specs.Prelude.{◌<◌, IsOkUnless};
 
-use lock_api::{
-    AtRank, Fault, Order, Rank, RankedRwLock, RankedRwLockUpgradableReadGuard, RawRwLockUpgrade,
-};
+use lock_api::ranked::{AtRank, Order, Rank, RankedRwLock, RankedRwLockUpgradableReadGuard};
+use lock_api::{Fault, RawRwLockUpgrade};
 use std::alloc::Global;
 use std::clone::Clone;
 

@@ -1,7 +1,8 @@
 //! A server with settings, a registry and a pool.
 ghost use Rattle.std.specs.Prelude.{◌≡◌, ◌<◌, IsOkUnless};
 
-use lock_api::{AtRank, Fault, Order, Rank, RankedCondvar, RankedMutex, RawCondvar, RawMutex};
+use lock_api::ranked::{AtRank, Order, Rank, RankedCondvar, RankedMutex};
+use lock_api::{Fault, RawCondvar, RawMutex};
 use std::alloc::Global;
 use std::clone::Clone;
 

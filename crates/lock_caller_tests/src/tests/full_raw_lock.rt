@@ -1,6 +1,7 @@
 //! Code that is generic over the raw lock runs over a raw lock on a word and over a fair one.
 use crate::tests::callers::{read_within, write_under_each};
-use lock_api::{FairRaw, FullRawLockTimed, Mutex, RawMutexTimed, RwLock, TimedRaw, WaiterOf};
+use lock_api::raw::{FairRaw, FullRawLockTimed, TimedRaw, WaiterOf};
+use lock_api::{Mutex, RawMutexTimed, RwLock};
 use std::alloc::Global;
 use std::clone::Clone;
 use std::test::Fail;

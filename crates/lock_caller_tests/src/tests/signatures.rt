@@ -3,21 +3,28 @@ mod ruled;
 mod words;
 
 use crate::tests::callers::{Limit, Settings};
+use lock_api::guard::{
+    ArcRwLockGuard, BorrowedMutex, Exclusive, FairMode, Guard, InMode, LockMode, Mappable, Mapped,
+    RwLockGuard, Shared, ShowMode, Upgradable,
+};
+use lock_api::model::{
+    Bag, Call, Desk, Form, Kind, LoopEnd, Mode, ModeStep, ObservableState, Op, RawState, Reply,
+    Script, TableToken, TokenTable, Waits, Want, Way,
+};
+use lock_api::raw::{
+    Arbiter, ExclusiveToken, Levels, LockCore, Monitor, RawLock, Recorded, RecordingArbiter,
+    RecordingRaw, SharedToken, SpuriousCondvar, TableArbiter, TokenArbiter, TokenRaw, Unchanged,
+    UpgradableToken,
+};
 use lock_api::{
-    Arbiter, ArcMutexGuard, ArcReentrantMutexGuard, ArcRwLockGuard, ArcRwLockReadGuard,
-    ArcRwLockUpgradableReadGuard, ArcRwLockWriteGuard, At, Bag, BorrowedMutex, Call, Condvar, Desk,
-    Exclusive, ExclusiveToken, FairMode, Fault, Field, Form, Guard, GuardNoSend, GuardSend, InMode,
-    Kind, Levels, LockCore, LockMode, LoopEnd, Mappable, Mapped, MappedMutexGuard,
-    MappedReentrantMutexGuard, MappedRwLockReadGuard, MappedRwLockWriteGuard, Missed, Mode,
-    ModeStep, Monitor, Mutex, MutexGuard, ObservableState, Op, PartyId, Project, RawCondvar,
-    RawCondvarTimed, RawLock, RawMutex, RawMutexFair, RawMutexTimed, RawReentrantMutex, RawRwLock,
-    RawRwLockDowngrade, RawRwLockFair, RawRwLockTimed, RawRwLockUpgrade, RawRwLockUpgradeDowngrade,
-    RawRwLockUpgradeFair, RawRwLockUpgradeTimed, RawState, Recorded, RecordingArbiter,
-    RecordingRaw, ReentrantMutex, ReentrantMutexGuard, Reply, RwLock, RwLockGuard, RwLockReadGuard,
-    RwLockUpgradableReadGuard, RwLockWriteGuard, Script, Shared, SharedToken, ShowMode,
-    SpuriousCondvar, TableArbiter, TableToken, Then, TokenArbiter, TokenRaw, TokenTable,
-    TryProject, TryView, Unchanged, Upgradable, UpgradableToken, View, WaitTimeoutResult, Waits,
-    Want, Way,
+    ArcMutexGuard, ArcReentrantMutexGuard, ArcRwLockReadGuard, ArcRwLockUpgradableReadGuard,
+    ArcRwLockWriteGuard, At, Condvar, Fault, Field, GuardNoSend, GuardSend, MappedMutexGuard,
+    MappedReentrantMutexGuard, MappedRwLockReadGuard, MappedRwLockWriteGuard, Missed, Mutex,
+    MutexGuard, PartyId, Project, RawCondvar, RawCondvarTimed, RawMutex, RawMutexFair,
+    RawMutexTimed, RawReentrantMutex, RawRwLock, RawRwLockDowngrade, RawRwLockFair, RawRwLockTimed,
+    RawRwLockUpgrade, RawRwLockUpgradeDowngrade, RawRwLockUpgradeFair, RawRwLockUpgradeTimed,
+    ReentrantMutex, ReentrantMutexGuard, RwLock, RwLockReadGuard, RwLockUpgradableReadGuard,
+    RwLockWriteGuard, Then, TryProject, TryView, View, WaitTimeoutResult,
 };
 use std::clone::Clone;
 use std::sync::Wait;

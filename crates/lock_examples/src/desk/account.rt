@@ -1,7 +1,7 @@
 //! Operations of the user's own on the value behind a `Desk`: deposits and withdrawals.
 ghost use Rattle.lock_examples.specs.Account.{entry_of};
 
-use lock_api::Op;
+use lock_api::model::Op;
 
 /// An operation on an account, in cents. A change answers the new balance, and a read the present one.
 #[derive(Clone, Copy, PartialEq, Eq, Debug)]

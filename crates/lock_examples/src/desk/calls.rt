@@ -4,7 +4,9 @@ ghost use Rattle.lock_api.specs.Entries.{held_bag};
 ghost use Rattle.lock_api.specs.Modes.{AreCompatible};
 
 use crate::desk::account::AccountOp;
-use lock_api::{Call, Desk, Fault, Form, Op, PartyId, RawState, Reply, Want, runs_are_sound};
+use lock_api::laws::runs_are_sound;
+use lock_api::model::{Call, Desk, Form, Op, RawState, Reply, Want};
+use lock_api::{Fault, PartyId};
 use std::alloc::Global;
 
 /// Locks, deposits, and is refused a withdrawal of more than the balance.

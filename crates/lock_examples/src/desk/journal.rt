@@ -4,7 +4,9 @@ ghost use Rattle.lock_api.specs.Modes as modes;
 ghost use Rattle.lock_api.specs.Modes.{empty_bag, tokens};
 ghost use Rattle.lock_api.specs.ModeRuns.{IsModeRun, Permits, Replays};
 
-use lock_api::{Bag, Fault, MAX_LIMIT, Mode, ModeStep, RecordingRaw};
+use lock_api::Fault;
+use lock_api::model::{Bag, Mode, ModeStep};
+use lock_api::raw::{MAX_LIMIT, RecordingRaw};
 use std::alloc::Global;
 use std::clone::Clone;
 use std::sync::Wait;

@@ -1,7 +1,8 @@
 //! A scenario with proved answers: two parties and one lock.
 ghost use Rattle.std.specs.Prelude.{◌≡◌, None, IfOk, IsOkUnless};
 
-use lock_api::{Desk, Fault, PartyId, RawState, Way};
+use lock_api::model::{Desk, RawState, Way};
+use lock_api::{Fault, PartyId};
 use std::alloc::Global;
 
 /// The answers to the parties.

@@ -2,7 +2,8 @@
 ghost use Rattle.std.specs.Prelude.{◌≡◌, ◌+◌, ◌^◌, ◌<◌, IfOk};
 ghost use Rattle.std.specs.Thread.{IsSync};
 
-use lock_api::{Constant, Fault, Measure, RuledMutex, SameView, User};
+use lock_api::Fault;
+use lock_api::ruled::{Constant, Measure, RuledMutex, SameView, User};
 use std::alloc::Global;
 use std::sync::Wait;
 use std::thread::{Threads, join};

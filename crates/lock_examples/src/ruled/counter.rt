@@ -2,7 +2,8 @@
 ghost use Rattle.std.specs.Prelude.{◌≡◌, ◌+◌, ◌-◌, ◌*◌, ◌^◌, ◌<◌, ◌≤◌, IfOk, IfErr};
 ghost use Rattle.std.specs.Thread.{IsSync};
 
-use lock_api::{AddsOne, Fault, Measure, RuledMutex, Sums, Tally, User};
+use lock_api::Fault;
+use lock_api::ruled::{AddsOne, Measure, RuledMutex, Sums, Tally, User};
 use std::alloc::Global;
 use std::sync::Wait;
 use std::thread::{Threads, join};

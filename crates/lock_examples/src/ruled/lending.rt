@@ -4,7 +4,8 @@ ghost use Rattle.std.specs.Thread.{IsSync};
 ghost use Rattle.lock_api.specs.Permits.{with_more, with_fewer};
 
 use crate::ring::Ring;
-use lock_api::{Fault, Ledger, Measure, RuledMutex, Settles, Share, Shares, User};
+use lock_api::Fault;
+use lock_api::ruled::{Ledger, Measure, RuledMutex, Settles, Share, Shares, User};
 use std::alloc::Global;
 use std::marker::PhantomData;
 use std::sync::Wait;

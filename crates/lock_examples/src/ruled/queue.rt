@@ -4,7 +4,8 @@ ghost use Rattle.std.specs.Thread.{IsSync};
 ghost use Rattle.lock_api.specs.InOrder.{producer, consumer};
 
 use crate::ring::Ring;
-use lock_api::{Fault, InOrder, Items, Log, Pops, Pushes, Roles, RuledMutex, User};
+use lock_api::Fault;
+use lock_api::ruled::{InOrder, Items, Log, Pops, Pushes, Roles, RuledMutex, User};
 use std::alloc::Global;
 use std::sync::Wait;
 use std::thread::{Threads, join};

@@ -2,7 +2,7 @@
 ghost use Rattle.std.specs.Prelude.{◌≡◌, ◌+◌, ◌-◌, ◌^◌, ◌<◌};
 ghost use Rattle.lock_api.specs.Permits.{with_more, with_fewer};
 
-use lock_api::{Ledger, Measure, RuledMutex, Settles, Share, User};
+use lock_api::ruled::{Ledger, Measure, RuledMutex, Settles, Share, User};
 use std::sync::Wait;
 
 /// The measure of the box: the number of tickets in it.

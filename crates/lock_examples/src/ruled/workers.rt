@@ -2,7 +2,8 @@
 ghost use Rattle.std.specs.Prelude.{◌≡◌, ◌≤◌, IfOk};
 ghost use Rattle.std.specs.Thread.{IsSync};
 
-use lock_api::{Fault, Holder, Semaphore};
+use lock_api::Fault;
+use lock_api::ruled::{Holder, Semaphore};
 use std::alloc::Global;
 use std::sync::Wait;
 use std::thread::{Threads, join};

@@ -1,5 +1,7 @@
 //! The examples of a `Desk` and of a journal: the calls succeed with ample memory.
-use lock_api::{Bag, Mode, ModeStep, Mutex, PackedWord, PartyId, RecordingRaw, Reply, TokenTable};
+use lock_api::model::{Bag, Mode, ModeStep, PackedWord, Reply, TokenTable};
+use lock_api::raw::RecordingRaw;
+use lock_api::{Mutex, PartyId};
 use lock_examples::desk::{audit, audit_lock, deposit_under_lock, two_parties_acquire};
 use std::alloc::Global;
 use std::clone::Clone;

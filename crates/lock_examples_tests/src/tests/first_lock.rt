@@ -1,8 +1,7 @@
 //! The first locks, by names that fix their raw lock.
 use crate::tests::in_threads::twice;
-use lock_api::{
-    FairMutex, LockCore, RawLock, RwLock, RwLockUpgradableReadGuard, WordMutex, WordRwLock,
-};
+use lock_api::raw::{LockCore, RawLock};
+use lock_api::{FairMutex, RwLock, RwLockUpgradableReadGuard, WordMutex, WordRwLock};
 use std::test::Fail;
 use std::thread;
 

@@ -2,13 +2,14 @@
 //!
 //! A test only makes the locks, since each function that names a raw lock is proved anew. Functions over any core use
 //! them.
+use lock_api::raw::{LockCore, RawLock, SleepingCondvar};
 use lock_api::{
-    Condvar, FairCondvar, FairMutex, FairReentrantMutex, FairRwLock, Fault, LockCore, Mutex,
-    PartyId, RawLock, RecordingCondvar, RecordingMutex, RecordingReentrantMutex, RecordingRwLock,
-    ReentrantMutex, RwLock, SleepingCondvar, TimedFairCondvar, TimedFairMutex,
-    TimedFairReentrantMutex, TimedFairRwLock, TimedWordCondvar, TimedWordMutex,
-    TimedWordReentrantMutex, TimedWordRwLock, TokenCondvar, TokenMutex, TokenReentrantMutex,
-    TokenRwLock, WordCondvar, WordMutex, WordReentrantMutex, WordRwLock,
+    Condvar, FairCondvar, FairMutex, FairReentrantMutex, FairRwLock, Fault, Mutex, PartyId,
+    RecordingCondvar, RecordingMutex, RecordingReentrantMutex, RecordingRwLock, ReentrantMutex,
+    RwLock, TimedFairCondvar, TimedFairMutex, TimedFairReentrantMutex, TimedFairRwLock,
+    TimedWordCondvar, TimedWordMutex, TimedWordReentrantMutex, TimedWordRwLock, TokenCondvar,
+    TokenMutex, TokenReentrantMutex, TokenRwLock, WordCondvar, WordMutex, WordReentrantMutex,
+    WordRwLock,
 };
 use std::test::Fail;
 use std::time::{Clock, Duration, Instant};

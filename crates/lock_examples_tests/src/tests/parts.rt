@@ -1,5 +1,6 @@
 //! Guards of a variant's value, and of an element of a list.
-use lock_api::{LockCore, MappedMutexGuard, Mutex, MutexGuard, RawLock, WordMutex};
+use lock_api::raw::{LockCore, RawLock};
+use lock_api::{MappedMutexGuard, Mutex, MutexGuard, WordMutex};
 use lock_examples::{Element, Job, Progress};
 use std::test::Fail;
 

@@ -1,6 +1,7 @@
 //! A pool of leases.
 use crate::tests::in_threads::{Counts, twice};
-use lock_api::{ArcMutexGuard, Fault, LockCore, NoTime, RawLock, WordCore};
+use lock_api::raw::{LockCore, NoTime, RawLock, WordCore};
+use lock_api::{ArcMutexGuard, Fault};
 use lock_examples::Pool;
 use std::alloc::Global;
 use std::test::Fail;

@@ -1,5 +1,5 @@
 //! Producers and consumers on threads.
-use lock_api::{LockCore, RawLock, SleepingCondvar, SpuriousCondvar, TokenRaw, WordRaw};
+use lock_api::raw::{LockCore, RawLock, SleepingCondvar, SpuriousCondvar, TokenRaw, WordRaw};
 use lock_examples::Queue;
 use std::alloc::{AllocError, Global};
 use std::sync::Wait;

@@ -1,7 +1,7 @@
 //! Ranked locks: what a server, a limit and a bank answer, and a bank on eight threads.
-use lock_api::{
-    AtRank, Fault, LockCore, Order, RawLock, SleepingCondvar, ThreadOrder, WordRaw, join_ranked,
-};
+use lock_api::Fault;
+use lock_api::ranked::{AtRank, Order, ThreadOrder, join_ranked};
+use lock_api::raw::{LockCore, RawLock, SleepingCondvar, WordRaw};
 use lock_ranked_examples::{Accounts, Limits, Server, open, total, transfer_both_ways};
 use std::alloc::Global;
 use std::test::Fail;

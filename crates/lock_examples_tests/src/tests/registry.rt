@@ -1,6 +1,7 @@
 //! A registry that two threads fill.
 use crate::tests::in_threads::{Counts, twice};
-use lock_api::{LockCore, MappedRwLockReadGuard, RawLock, WordRaw};
+use lock_api::MappedRwLockReadGuard;
+use lock_api::raw::{LockCore, RawLock, WordRaw};
 use lock_examples::{Registry, read_twice};
 use std::alloc::AllocFailed;
 use std::test::Fail;

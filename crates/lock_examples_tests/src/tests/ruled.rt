@@ -1,6 +1,6 @@
 //! The programs under a rule run, and give what their contracts say.
 
-use lock_api::{AddsOne, Sums};
+use lock_api::ruled::{AddsOne, Sums};
 use lock_examples::Ring;
 use lock_examples::ruled::{
     Accounts, Counter, One, count, lend_in_turns, permits_after, relay, shuffle, try_add,

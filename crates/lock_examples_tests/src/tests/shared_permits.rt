@@ -1,5 +1,5 @@
 //! Two threads that share one permit.
-use lock_api::SharedSemaphore;
+use lock_api::ruled::SharedSemaphore;
 use lock_examples::shared_permits::double_both;
 use std::test::Fail;
 

@@ -1,5 +1,5 @@
 //! A shelf lends objects, and gets each back at the end of its loan.
-use lock_api::{LockCore, RawLock, WordRaw};
+use lock_api::raw::{LockCore, RawLock, WordRaw};
 use lock_examples::{Loan, Shelf};
 use std::test::Fail;
 

@@ -12,7 +12,9 @@ ghost use Rattle.lock_api.specs.Sound.{IsSound};
 ghost use Rattle.lock_caller_tests.specs.Words.{answer_of};
 
 use crate::tests::callers::{Limit, Settings};
-use lock_api::{At, Call, Desk, Fault, Op, PartyId, RawState, Reply, runs_are_sound};
+use lock_api::laws::runs_are_sound;
+use lock_api::model::{Call, Desk, Op, RawState, Reply};
+use lock_api::{At, Fault, PartyId};
 use std::alloc::Global;
 
 /// A law about every run holds of the machine after these calls, whatever they are.

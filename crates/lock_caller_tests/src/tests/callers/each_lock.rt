@@ -1,7 +1,8 @@
 //! Code that is generic over the raw lock, and makes more than one kind of lock over it.
 ghost use Rattle.std.specs.Prelude.{◌≡◌, IfOk};
 
-use lock_api::{Fault, FullRawLock, FullRawLockTimed, Mutex, RawMutexTimed, RwLock, WaiterOf};
+use lock_api::raw::{FullRawLock, FullRawLockTimed, WaiterOf};
+use lock_api::{Fault, Mutex, RawMutexTimed, RwLock};
 use std::alloc::Global;
 
 /// Makes a mutex and a reader-writer lock over one raw lock, writes the value under each, and returns what each reads.

@@ -1,7 +1,9 @@
 //! What a caller knows of a recording arbiter.
 ghost use Rattle.std.specs.Prelude.{◌≡◌, [], ◌∷◌, IfOk};
 
-use lock_api::{Arbiter, Fault, Mode, ModeStep, Recorded};
+use lock_api::Fault;
+use lock_api::model::{Mode, ModeStep};
+use lock_api::raw::{Arbiter, Recorded};
 use std::alloc::Global;
 
 /// The first token of an arbiter is the first step of its journal.

@@ -1,5 +1,5 @@
 //! Every public type of a mutex under a rule, and of the semaphores, in a signature.
-use lock_api::{
+use lock_api::ruled::{
     AddsOne, ArcPermitGuard, Bound, Constant, Grows, Holder, InOrder, Items, Join, Lease, Ledger,
     Log, Looks, Measure, MutexRule, PermitGuard, PermitRule, PermitToken, PermitView, Permits,
     Pops, Pushes, ReadyRule, Roles, RuledGuard, RuledMutex, SameView, Semaphore, Settles, Share,

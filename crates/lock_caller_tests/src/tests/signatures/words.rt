@@ -1,10 +1,12 @@
 //! Every public type of the packed word, and of the locks on one, in a signature.
-use lock_api::{
-    Action, AtomicStep, Attempt, CallStage, CountRule, Debt, Down, EventCount, ExWant, Hold,
-    LockStep, NoTime, Notified, Occupancy, OneRule, OneView, Outcome, PackedToken, PackedWord,
-    Park, ParkLimits, ParkView, Party, Place, Places, RealTime, Registered, SeatView, SeatedLock,
-    SleepingCondvar, Stage, TimedCondvar, TimedRaw, Timing, Wake, WordCall, WordCore, WordLock,
-    WordRaw, WordRule, WordToken, World, WorldParty,
+use lock_api::model::{
+    Action, AtomicStep, Debt, Hold, LockStep, Outcome, PackedToken, PackedWord, Park, ParkLimits,
+    ParkView, Place, Places, Stage, WordCall, World, WorldParty,
+};
+use lock_api::raw::{
+    Attempt, CallStage, CountRule, Down, EventCount, ExWant, NoTime, Notified, Occupancy, OneRule,
+    OneView, Party, RealTime, Registered, SeatView, SeatedLock, SleepingCondvar, TimedCondvar,
+    TimedRaw, Timing, Wake, WordCore, WordLock, WordRaw, WordRule, WordToken,
 };
 use std::clone::Clone;
 use std::sync::Wait;

@@ -1,8 +1,8 @@
 use Rattle.std.proofs.Common.{◌≡◌, ℕ, List, [], ◌∷◌, subst}
 use Rattle.std.specs.Prelude.{IfOk}
-use Rattle.lock_api.specs.declared.Call.{Call}
-use Rattle.lock_api.specs.declared.Form.{Form}
-use Rattle.lock_api.specs.declared.Want.{Want}
+use Rattle.lock_api.specs.declared.model.Call.{Call}
+use Rattle.lock_api.specs.declared.model.Form.{Form}
+use Rattle.lock_api.specs.declared.model.Want.{Want}
 use Rattle.lock_api.specs.Machine.{Machine}
 use Rattle.lock_api.specs.Steps.{replies}
 use Rattle.lock_examples.specs.declared.desk.account.AccountOp.{AccountOp}

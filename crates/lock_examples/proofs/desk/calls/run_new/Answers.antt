@@ -1,5 +1,5 @@
 use Rattle.std.proofs.Common.{ℕ, subst, refl}
-use Rattle.lock_api.specs.declared.Kind.{Kind}
+use Rattle.lock_api.specs.declared.model.Kind.{Kind}
 use Rattle.lock_api.specs.Kind.{is_reentrant}
 use Rattle.lock_api.specs.Machine.{Machine, start}
 use Rattle.lock_api.specs.Steps.{after_all}

@@ -1,5 +1,5 @@
 use Rattle.std.proofs.Common.{◌≤◌, drop}
-use Rattle.lock_api.specs.declared.Bag.{Bag}
+use Rattle.lock_api.specs.declared.model.Bag.{Bag}
 use Rattle.lock_api.specs.Modes.{empty_bag, tokens}
 use Rattle.lock_api.specs.ModeRuns.{IsModeRun}
 use Rattle.lock_examples.proofs.desk.journal.audit.Given as goal

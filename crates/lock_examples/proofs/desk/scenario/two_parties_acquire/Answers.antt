@@ -1,6 +1,6 @@
 use Rattle.std.proofs.Common.{◌≡◌, ℕ, refl}
-use Rattle.lock_api.specs.declared.Kind.{Kind}
-use Rattle.lock_api.specs.declared.Want.{Want}
+use Rattle.lock_api.specs.declared.model.Kind.{Kind}
+use Rattle.lock_api.specs.declared.model.Want.{Want}
 use Rattle.lock_api.specs.Machine.{Machine, start}
 use Rattle.lock_api.specs.Party.{id_of}
 use Rattle.lock_api.specs.Calls.{acquire}

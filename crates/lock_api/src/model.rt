@@ -1,0 +1,14 @@
+//! Sequential and stepwise models of the locks: `Desk` and its machine, raw states, the `World` of a packed word, and a
+//! call of a `WordLock` between two of its steps.
+
+pub use lock_base::machine::{
+    Bag, Call, Form, Hold, Kind, LockStep, Mode, ModeStep, Op, Reply, Want, Way,
+};
+pub use lock_base::raw::{ObservableState, RawState};
+pub use lock_desk::Desk;
+pub use lock_mutex::{LoopEnd, Script, Waits, run_loop};
+pub use lock_one::{Action, Call as WordCall, Debt, Park, ParkLimits, ParkView, Stage};
+pub use lock_states::table::{Place, Places, TableToken, TokenTable};
+pub use lock_states::word::{PackedToken, PackedWord};
+pub use lock_states::world::World;
+pub use lock_word::{AtomicStep, Outcome, WorldParty};

@@ -1,0 +1,25 @@
+//! The raw locks and raw condition variables of the library, and what the author of another one needs.
+
+mod full_raw_lock;
+
+pub use full_raw_lock::{FullRawLock, FullRawLockTimed, WaiterOf};
+pub use lock_base::raw::{DEFAULT_LEVELS, DEFAULT_READERS, Levels, MAX_LIMIT, is_limit};
+pub use lock_one_word::{OneRule, OneView, WordLock, WordToken};
+pub use lock_raws::{
+    Arbiter, DEFAULT_ENTRIES, ExclusiveToken, LockCore, Monitor, NoTime, RawLock, RealTime,
+    Recorded, RecordingArbiter, RecordingRaw, SharedToken, SleepingCondvar, SpuriousCondvar,
+    TableArbiter, TimedCondvar, TimedRaw, Timing, TokenArbiter, TokenRaw, Unchanged,
+    UpgradableToken, Wake, WordCore, WordRaw, upgraded,
+};
+pub use lock_raws_fair::{
+    FairArbiter, FairCore, FairRaw, FairToken, FairWake, Line, LineStep, PendingUpgrade,
+    TIMED_SPAN, Ticket, TimedFairRaw,
+};
+pub use lock_wake::{
+    CallStage, CountRule, EventCount, Notified, Passed, Registered, Registration, Slept, time_left,
+    time_until,
+};
+pub use lock_word::seated::{Attempt, Party, SeatView, SeatedLock, WordRule};
+pub use lock_word::{
+    Down, ExWant, Occupancy, has_bar, has_exclusive, has_tokens, unblocks, with_bar,
+};
