@@ -3,9 +3,8 @@ ghost use Rattle.std.specs.Prelude.{◌≡◌, IfSome, IfNone};
 ghost use Rattle.lock_word.specs.Word.{want_of_mode};
 ghost use Rattle.lock_one_word.specs.Calls.{IsTokenOf, WasRefused, HasTimedOut};
 
-use crate::token::WordToken;
 use crate::until::{Deadline, Endless, Until};
-use crate::word_lock::WordLock;
+use crate::word_lock::{WordLock, WordToken};
 use lock_base::machine::Mode;
 use lock_one::Action;
 use lock_word::ExWant;
@@ -22,9 +21,9 @@ impl WordLock {
         let (pending, mut seat) = self.enter(ExWant::of_mode(mode), false);
         let ended = self.attempt(&mut seat, pending);
         if ended.is_ok() {
-            return Some(WordToken::new(seat));
+            return Some(seat.into_token());
         }
-        drop(seat);
+        seat.leave();
         None
     }
 
@@ -70,9 +69,9 @@ impl WordLock {
         self.start(&mut seat, &mut pending);
         let ended = self.come_to_end(rt, &mut seat, pending, until);
         if ended.is_ok() {
-            return Some(WordToken::new(seat));
+            return Some(seat.into_token());
         }
-        drop(seat);
+        seat.leave();
         None
     }
 }

@@ -6,9 +6,8 @@ ghost use Rattle.lock_word.specs.declared.want.ExWant.TheVariants.{Upgrade};
 ghost use Rattle.lock_word.specs.Rule.{WordShows};
 ghost use Rattle.lock_one_word.specs.Calls.{IsTokenOf, WasRefused, HasTimedOut};
 
-use crate::token::WordToken;
 use crate::until::{Deadline, Endless, Until};
-use crate::word_lock::{Pending, WordLock};
+use crate::word_lock::{Pending, WordLock, WordToken};
 use lock_base::machine::Mode;
 use lock_one::SLEEPERS;
 use lock_word::{Down, ExWant};
@@ -24,7 +23,7 @@ impl WordLock {
     {
         let mut seat = token.into_seat();
         let word = self.peek_by(&mut seat);
-        (word % SLEEPERS, WordToken::new(seat))
+        (word % SLEEPERS, seat.into_token())
     }
 
     /// Releases a token of the mode, and wakes the sleepers that this unblocks. After the step that releases, it accesses
@@ -35,7 +34,7 @@ impl WordLock {
     {
         let mut seat = token.into_seat();
         self.take(&mut seat, Down::of_mode(mode));
-        drop(seat);
+        seat.leave();
     }
 
     /// Makes an exclusive token shared, and wakes the sleepers that this unblocks.
@@ -45,7 +44,7 @@ impl WordLock {
     {
         let mut seat = token.into_seat();
         self.take(&mut seat, Down::ToShared);
-        WordToken::new(seat)
+        seat.into_token()
     }
 
     /// Makes an exclusive token upgradable, and wakes the sleepers that this unblocks.
@@ -55,7 +54,7 @@ impl WordLock {
     {
         let mut seat = token.into_seat();
         self.take(&mut seat, Down::ToUpgradable);
-        WordToken::new(seat)
+        seat.into_token()
     }
 
     /// Makes an upgradable token shared, and wakes the sleepers that this unblocks.
@@ -65,7 +64,7 @@ impl WordLock {
     {
         let mut seat = token.into_seat();
         self.take(&mut seat, Down::UpgradableToShared);
-        WordToken::new(seat)
+        seat.into_token()
     }
 
     /// Makes an upgradable token exclusive without blocking, or returns it unchanged if a word refuses.
@@ -79,7 +78,7 @@ impl WordLock {
         self.look(&mut seat, &mut pending);
         let ended = self.attempt(&mut seat, pending);
         let upgraded = ended.is_ok();
-        let token = WordToken::new(seat);
+        let token = seat.into_token();
         if upgraded { Ok(token) } else { Err(token) }
     }
 
@@ -130,7 +129,7 @@ impl WordLock {
         self.start(&mut seat, &mut pending);
         let ended = self.come_to_end(rt, &mut seat, pending, until);
         let upgraded = ended.is_ok();
-        let token = WordToken::new(seat);
+        let token = seat.into_token();
         if upgraded { Ok(token) } else { Err(token) }
     }
 }

@@ -7,21 +7,19 @@ ghost use Rattle.lock_one_word.specs.Calls.{TimesOut};
 ghost use Rattle.lock_one_word.specs.Drives.{at, CanGo, GoesOn, EndsWith, touches_lock};
 ghost use Rattle.lock_one_word.specs.Seats.{IsGoing, to_acquire};
 
-use crate::rule::OneView;
 use crate::until::Until;
-use crate::word_lock::{Ended, Pending, WordLock};
-use atomic_table::Seat;
+use crate::word_lock::{CallSeat, Ended, Pending, WordLock};
 use lock_one::Action;
 use std::sync::Wait;
 
 impl WordLock {
     /// Makes an action on the word or a wake-up. Returns false for a pause, a sleep or the end.
-    pub(crate) fn make_on_lock(&self, seat: &mut Seat<(), OneView>, pending: &mut Pending) -> bool
-        requires table { seat.old.table_id ≡ self.now.id }
-        requires going { CanGo (at pending.old) seat.old.me }
-        ensures table { (seat.new.table_id ≡ seat.old.table_id) × (seat.new.me.1 ≡ seat.old.me.1) × (seat.new.me.0.readers ≡ seat.old.me.0.readers) }
-        ensures made { result ≡ true → (touches_lock pending.old.action ≡ true) × GoesOn pending.old seat.old.me pending.new seat.new.me }
-        ensures other { result ≡ false → (touches_lock pending.old.action ≡ false) × (seat.new.me ≡ seat.old.me) × (pending.new ≡ pending.old) }
+    pub(crate) fn make_on_lock(&self, seat: &mut CallSeat, pending: &mut Pending) -> bool
+        requires table { seat.old.seat.table_id ≡ self.now.id }
+        requires going { CanGo (at pending.old) seat.old.seat.me }
+        ensures table { (seat.new.seat.table_id ≡ seat.old.seat.table_id) × (seat.new.seat.me.1 ≡ seat.old.seat.me.1) × (seat.new.seat.me.0.readers ≡ seat.old.seat.me.0.readers) }
+        ensures made { result ≡ true → (touches_lock pending.old.action ≡ true) × GoesOn pending.old seat.old.seat.me pending.new seat.new.seat.me }
+        ensures other { result ≡ false → (touches_lock pending.old.action ≡ false) × (seat.new.seat.me ≡ seat.old.seat.me) × (pending.new ≡ pending.old) }
     {
         match pending.action() {
             Action::Load => self.look(seat, pending),
@@ -39,15 +37,15 @@ impl WordLock {
     fn make<R: Wait, U: Until<R>>(
         &self,
         rt: &R,
-        seat: &mut Seat<(), OneView>,
+        seat: &mut CallSeat,
         pending: &mut Pending,
         until: &U,
     ) -> Option<bool>
-        requires table { seat.old.table_id ≡ self.now.id }
-        requires going { CanGo (at pending.old) seat.old.me }
-        ensures table { (seat.new.table_id ≡ seat.old.table_id) × (seat.new.me.1 ≡ seat.old.me.1) × (seat.new.me.0.readers ≡ seat.old.me.0.readers) }
-        ensures made { result ≡ None → GoesOn pending.old seat.old.me pending.new seat.new.me }
-        ensures ended { IfSome result (λ answer. (pending.old.action ≡ End answer) × (seat.new.me ≡ seat.old.me) × (pending.new ≡ pending.old)) }
+        requires table { seat.old.seat.table_id ≡ self.now.id }
+        requires going { CanGo (at pending.old) seat.old.seat.me }
+        ensures table { (seat.new.seat.table_id ≡ seat.old.seat.table_id) × (seat.new.seat.me.1 ≡ seat.old.seat.me.1) × (seat.new.seat.me.0.readers ≡ seat.old.seat.me.0.readers) }
+        ensures made { result ≡ None → GoesOn pending.old seat.old.seat.me pending.new seat.new.seat.me }
+        ensures ended { IfSome result (λ answer. (pending.old.action ≡ End answer) × (seat.new.seat.me ≡ seat.old.seat.me) × (pending.new ≡ pending.old)) }
     {
         if self.make_on_lock(seat, pending) {
             return None;
@@ -68,17 +66,17 @@ impl WordLock {
     pub(crate) fn finish<R: Wait, U: Until<R>>(
         &self,
         rt: &R,
-        seat: &mut Seat<(), OneView>,
+        seat: &mut CallSeat,
         mut pending: Pending,
         until: &U,
     ) -> Result<(), Ended>
-        requires table { seat.old.table_id ≡ self.now.id }
-        requires going { CanGo (at pending) seat.old.me }
+        requires table { seat.old.seat.table_id ≡ self.now.id }
+        requires going { CanGo (at pending) seat.old.seat.me }
         requires blocks { pending.call.blocks ≡ true }
-        ensures table { (seat.new.table_id ≡ seat.old.table_id) × (seat.new.me.1 ≡ seat.old.me.1) × (seat.new.me.0.readers ≡ seat.old.me.0.readers) }
-        ensures ended { EndsWith (at pending) seat.old.me (is_ok result) seat.new.me }
-        ensures refused { IfErr result (λ end. (before : Hold) (wish : ExWant) → IsGoing (at pending) before (to_acquire wish) seat.old.me.0
-            → TimesOut seat.old.me.0.readers end) }
+        ensures table { (seat.new.seat.table_id ≡ seat.old.seat.table_id) × (seat.new.seat.me.1 ≡ seat.old.seat.me.1) × (seat.new.seat.me.0.readers ≡ seat.old.seat.me.0.readers) }
+        ensures ended { EndsWith (at pending) seat.old.seat.me (is_ok result) seat.new.seat.me }
+        ensures refused { IfErr result (λ end. (before : Hold) (wish : ExWant) → IsGoing (at pending) before (to_acquire wish) seat.old.seat.me.0
+            → TimesOut seat.old.seat.me.0.readers end) }
     {
         for _ in rt.forever() {
             if let Some(answer) = self.make(rt, seat, &mut pending, until) {
@@ -92,17 +90,17 @@ impl WordLock {
     pub(crate) fn come_to_end<R: Wait, U: Until<R>>(
         &self,
         rt: &R,
-        seat: &mut Seat<(), OneView>,
+        seat: &mut CallSeat,
         pending: Pending,
         until: &U,
     ) -> Result<(), Ended>
-        requires table { seat.old.table_id ≡ self.now.id }
-        requires going { CanGo (at pending) seat.old.me }
+        requires table { seat.old.seat.table_id ≡ self.now.id }
+        requires going { CanGo (at pending) seat.old.seat.me }
         requires blocks { pending.call.blocks ≡ true }
-        ensures table { (seat.new.table_id ≡ seat.old.table_id) × (seat.new.me.1 ≡ seat.old.me.1) × (seat.new.me.0.readers ≡ seat.old.me.0.readers) }
-        ensures ended { EndsWith (at pending) seat.old.me (is_ok result) seat.new.me }
-        ensures refused { IfErr result (λ end. (before : Hold) (wish : ExWant) → IsGoing (at pending) before (to_acquire wish) seat.old.me.0
-            → TimesOut seat.old.me.0.readers end) }
+        ensures table { (seat.new.seat.table_id ≡ seat.old.seat.table_id) × (seat.new.seat.me.1 ≡ seat.old.seat.me.1) × (seat.new.seat.me.0.readers ≡ seat.old.seat.me.0.readers) }
+        ensures ended { EndsWith (at pending) seat.old.seat.me (is_ok result) seat.new.seat.me }
+        ensures refused { IfErr result (λ end. (before : Hold) (wish : ExWant) → IsGoing (at pending) before (to_acquire wish) seat.old.seat.me.0
+            → TimesOut seat.old.seat.me.0.readers end) }
     {
         if let Action::End(answer) = pending.action() {
             return pending.answer(answer);

@@ -9,12 +9,10 @@ mod plays;
 mod releases;
 mod rule;
 mod start;
-mod token;
 mod tries;
 mod until;
 mod word_lock;
 
 pub use laws::every_state_is_legal;
 pub use rule::{OneRule, OneView};
-pub use token::WordToken;
-pub use word_lock::WordLock;
+pub use word_lock::{WordLock, WordToken};

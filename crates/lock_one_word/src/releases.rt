@@ -3,19 +3,17 @@ ghost use Rattle.std.specs.Prelude.{◌≡◌, IsTrue};
 ghost use Rattle.lock_base.specs.Holds.{hold_has, hold_after};
 ghost use Rattle.lock_word.specs.Word.{step_of_down};
 
-use crate::rule::OneView;
-use crate::word_lock::{Pending, WordLock};
-use atomic_table::Seat;
+use crate::word_lock::{CallSeat, Pending, WordLock};
 use lock_word::Down;
 
 impl WordLock {
     /// Releases or downgrades. The step that does is the last access to the word: a wake-up by its address follows at most.
-    pub(crate) fn take(&self, seat: &mut Seat<(), OneView>, down: Down)
-        requires table { seat.old.table_id ≡ self.now.id }
-        requires readers { seat.old.me.0.readers ≡ self.now.readers }
-        requires has { IsTrue (hold_has seat.old.me.0.held (step_of_down down)) }
-        ensures table { (seat.new.table_id ≡ seat.old.table_id) × (seat.new.me.1 ≡ seat.old.me.1) × (seat.new.me.0.readers ≡ seat.old.me.0.readers) }
-        ensures held { seat.new.me.0.held ≡ hold_after seat.old.me.0.held (step_of_down down) }
+    pub(crate) fn take(&self, seat: &mut CallSeat, down: Down)
+        requires table { seat.old.seat.table_id ≡ self.now.id }
+        requires readers { seat.old.seat.me.0.readers ≡ self.now.readers }
+        requires has { IsTrue (hold_has seat.old.seat.me.0.held (step_of_down down)) }
+        ensures table { (seat.new.seat.table_id ≡ seat.old.seat.table_id) × (seat.new.seat.me.1 ≡ seat.old.seat.me.1) × (seat.new.seat.me.0.readers ≡ seat.old.seat.me.0.readers) }
+        ensures held { seat.new.seat.me.0.held ≡ hold_after seat.old.seat.me.0.held (step_of_down down) }
     {
         let mut pending = Pending::release(self.readers, down);
         while self.make_on_lock(seat, &mut pending) {}

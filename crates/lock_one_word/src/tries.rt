@@ -6,25 +6,19 @@ ghost use Rattle.lock_one_word.specs.Calls.{Refuses};
 ghost use Rattle.lock_one_word.specs.Drives.{at, CanGo, IsTrying, Tried, says_yes};
 ghost use Rattle.lock_one_word.specs.Seats.{IsGoing, to_acquire};
 
-use crate::rule::OneView;
-use crate::word_lock::{Ended, Pending, WordLock};
-use atomic_table::Seat;
+use crate::word_lock::{CallSeat, Ended, Pending, WordLock};
 use lock_one::Action;
 
 impl WordLock {
     /// Exchanges until an exchange acquires or a word refuses, which it returns.
-    pub(crate) fn attempt(
-        &self,
-        seat: &mut Seat<(), OneView>,
-        mut pending: Pending,
-    ) -> Result<(), Ended>
-        requires table { seat.old.table_id ≡ self.now.id }
-        requires going { CanGo (at pending) seat.old.me × IsTrying (at pending) }
+    pub(crate) fn attempt(&self, seat: &mut CallSeat, mut pending: Pending) -> Result<(), Ended>
+        requires table { seat.old.seat.table_id ≡ self.now.id }
+        requires going { CanGo (at pending) seat.old.seat.me × IsTrying (at pending) }
         requires fresh { pending.exchanges ≡ 0 }
-        ensures table { (seat.new.table_id ≡ seat.old.table_id) × (seat.new.me.1 ≡ seat.old.me.1) × (seat.new.me.0.readers ≡ seat.old.me.0.readers) }
-        ensures tried { Tried (at pending) (is_ok result) seat.old.me seat.new.me }
-        ensures refused { IfErr result (λ end. (before : Hold) (wish : ExWant) → IsGoing (at pending) before (to_acquire wish) seat.old.me.0
-            → Refuses seat.old.me.0.readers wish end) }
+        ensures table { (seat.new.seat.table_id ≡ seat.old.seat.table_id) × (seat.new.seat.me.1 ≡ seat.old.seat.me.1) × (seat.new.seat.me.0.readers ≡ seat.old.seat.me.0.readers) }
+        ensures tried { Tried (at pending) (is_ok result) seat.old.seat.me seat.new.seat.me }
+        ensures refused { IfErr result (λ end. (before : Hold) (wish : ExWant) → IsGoing (at pending) before (to_acquire wish) seat.old.seat.me.0
+            → Refuses seat.old.seat.me.0.readers wish end) }
     {
         while let Action::Exchange(old, new) = pending.action() {
             if pending.is_spent() {

@@ -12,7 +12,8 @@ use lock_one::SLEEPERS;
 use lock_word::{has_exclusive, has_tokens};
 use std::alloc::Global;
 use std::marker::Model;
-pub(crate) use steps::{Ended, Pending};
+pub use steps::WordToken;
+pub(crate) use steps::{CallSeat, Ended, Pending};
 
 /// A reader-writer lock in one word, on which its waiters sleep.
 ///

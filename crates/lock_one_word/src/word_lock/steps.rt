@@ -9,16 +9,18 @@ ghost use Rattle.lock_one.specs.Machine.{core_of, next_of};
 ghost use Rattle.lock_one_word.specs.Seats.{IsGoing, to_acquire};
 ghost use Rattle.lock_one_word.specs.Drives.{at, CanGo, GoesOn, IsTrying};
 
+mod call_seat;
 mod ended;
 mod pending;
 mod seen;
+mod token;
 
 use crate::plays::{ExchangeWord, LoadWord, SubtractFromWord};
 use crate::rule::OneView;
 use crate::until::{Left, Until};
 use crate::word_lock::WordLock;
 use crate::word_lock::steps::seen::SeenWord;
-use atomic_table::Seat;
+pub(crate) use call_seat::CallSeat;
 pub(crate) use ended::Ended;
 use lock_one::{from_stored, stored_amount, to_stored};
 use lock_word::{Down, ExWant};
@@ -26,14 +28,15 @@ pub(crate) use pending::Pending;
 use std::hint::spin_loop;
 use std::sync::Wait;
 use std::thread;
+pub use token::WordToken;
 
 impl WordLock {
     /// Begins a call of a new seat, by its load.
-    pub(crate) fn enter(&self, want: ExWant, blocks: bool) -> (Pending, Seat<(), OneView>)
+    pub(crate) fn enter(&self, want: ExWant, blocks: bool) -> (Pending, CallSeat)
         requires awaited { IsTrue (is_awaited want) }
         requires has { IsTrue (hold_has no_hold (step_of_want want)) }
-        ensures table { (result.1.table_id ≡ self.now.id) × (result.1.me.1 ≡ []) × (result.1.me.0.readers ≡ self.now.readers) × (result.1.me.0.held ≡ no_hold) }
-        ensures going { IsGoing (at result.0) no_hold (to_acquire want) result.1.me.0 }
+        ensures table { (result.1.seat.table_id ≡ self.now.id) × (result.1.seat.me.1 ≡ []) × (result.1.seat.me.0.readers ≡ self.now.readers) × (result.1.seat.me.0.held ≡ no_hold) }
+        ensures going { IsGoing (at result.0) no_hold (to_acquire want) result.1.seat.me.0 }
         ensures tries { blocks ≡ false → IsTrying (at result.0) }
         ensures blocks { result.0.call.blocks ≡ blocks }
         ensures fresh { result.0.exchanges ≡ 0 }
@@ -41,7 +44,7 @@ impl WordLock {
         let mut pending = Pending::acquire(self.readers, want, blocks);
         let (stored, seat) = self.table.shared.load_new_seat::<LoadWord>(0);
         pending.go_on(from_stored(stored));
-        (pending, seat)
+        (pending, CallSeat { seat })
     }
 
     /// Loads the word, by no party.
@@ -50,63 +53,57 @@ impl WordLock {
     }
 
     /// Loads the word, in no call.
-    pub(crate) fn peek_by(&self, seat: &mut Seat<(), OneView>) -> u64
-        requires { seat.old.table_id ≡ self.now.id }
-        ensures same { (seat.new.table_id ≡ seat.old.table_id) × (seat.new.me ≡ seat.old.me) }
-        ensures shows { WordShows seat.old.me.0.readers (core_of result) seat.old.me.0.held }
+    pub(crate) fn peek_by(&self, seat: &mut CallSeat) -> u64
+        requires { seat.old.seat.table_id ≡ self.now.id }
+        ensures same { (seat.new.seat.table_id ≡ seat.old.seat.table_id) × (seat.new.seat.me ≡ seat.old.seat.me) }
+        ensures shows { WordShows seat.old.seat.me.0.readers (core_of result) seat.old.seat.me.0.held }
     {
-        from_stored(self.table.shared.load::<LoadWord>(seat, 0))
+        from_stored(self.table.shared.load::<LoadWord>(&mut seat.seat, 0))
     }
 
     /// Loads the word.
-    pub(crate) fn look(&self, seat: &mut Seat<(), OneView>, pending: &mut Pending)
-        requires table { seat.old.table_id ≡ self.now.id }
+    pub(crate) fn look(&self, seat: &mut CallSeat, pending: &mut Pending)
+        requires table { seat.old.seat.table_id ≡ self.now.id }
         requires action { pending.old.action ≡ Load }
-        ensures same { (seat.new.table_id ≡ seat.old.table_id) × (seat.new.me ≡ seat.old.me) }
-        ensures goes { GoesOn pending.old seat.old.me pending.new seat.new.me }
+        ensures same { (seat.new.seat.table_id ≡ seat.old.seat.table_id) × (seat.new.seat.me ≡ seat.old.seat.me) }
+        ensures goes { GoesOn pending.old seat.old.seat.me pending.new seat.new.seat.me }
         ensures exchanges { pending.new.exchanges ≡ pending.old.exchanges }
     {
-        let stored = self.table.shared.load::<LoadWord>(seat, 0);
+        let stored = self.table.shared.load::<LoadWord>(&mut seat.seat, 0);
         pending.go_on(from_stored(stored));
     }
 
     /// Replaces the word by the second one, if it is the first.
-    pub(crate) fn exchange(
-        &self,
-        seat: &mut Seat<(), OneView>,
-        pending: &mut Pending,
-        old: u64,
-        new: u64,
-    )
-        requires table { seat.old.table_id ≡ self.now.id }
+    pub(crate) fn exchange(&self, seat: &mut CallSeat, pending: &mut Pending, old: u64, new: u64)
+        requires table { seat.old.seat.table_id ≡ self.now.id }
         requires action { pending.old.action ≡ Exchange old new }
-        requires going { CanGo (at pending.old) seat.old.me }
-        ensures table { (seat.new.table_id ≡ seat.old.table_id) × (seat.new.me.1 ≡ seat.old.me.1) × (seat.new.me.0.readers ≡ seat.old.me.0.readers) }
-        ensures goes { GoesOn pending.old seat.old.me pending.new seat.new.me }
+        requires going { CanGo (at pending.old) seat.old.seat.me }
+        ensures table { (seat.new.seat.table_id ≡ seat.old.seat.table_id) × (seat.new.seat.me.1 ≡ seat.old.seat.me.1) × (seat.new.seat.me.0.readers ≡ seat.old.seat.me.0.readers) }
+        ensures goes { GoesOn pending.old seat.old.seat.me pending.new seat.new.seat.me }
         ensures counted { pending.old.exchanges < 2 ^ 64 - 1 → pending.new.exchanges ≡ pending.old.exchanges + 1 }
     {
         let (first, second) = (to_stored(old), to_stored(new));
         let stored = self
             .table
             .shared
-            .compare_exchange::<ExchangeWord>(seat, 0, first, second);
+            .compare_exchange::<ExchangeWord>(&mut seat.seat, 0, first, second);
         pending.count();
         pending.go_on(from_stored(stored));
     }
 
     /// Subtracts what the release takes.
-    pub(crate) fn subtract(&self, seat: &mut Seat<(), OneView>, pending: &mut Pending, down: Down)
-        requires table { seat.old.table_id ≡ self.now.id }
+    pub(crate) fn subtract(&self, seat: &mut CallSeat, pending: &mut Pending, down: Down)
+        requires table { seat.old.seat.table_id ≡ self.now.id }
         requires action { pending.old.action ≡ Subtract down }
-        requires going { CanGo (at pending.old) seat.old.me }
-        ensures table { (seat.new.table_id ≡ seat.old.table_id) × (seat.new.me.1 ≡ seat.old.me.1) × (seat.new.me.0.readers ≡ seat.old.me.0.readers) }
-        ensures goes { GoesOn pending.old seat.old.me pending.new seat.new.me }
+        requires going { CanGo (at pending.old) seat.old.seat.me }
+        ensures table { (seat.new.seat.table_id ≡ seat.old.seat.table_id) × (seat.new.seat.me.1 ≡ seat.old.seat.me.1) × (seat.new.seat.me.0.readers ≡ seat.old.seat.me.0.readers) }
+        ensures goes { GoesOn pending.old seat.old.seat.me pending.new seat.new.seat.me }
     {
         let amount = stored_amount(down);
         let stored = self
             .table
             .shared
-            .fetch_sub::<SubtractFromWord>(seat, 0, amount);
+            .fetch_sub::<SubtractFromWord>(&mut seat.seat, 0, amount);
         pending.go_on(from_stored(stored));
     }
 

@@ -11,28 +11,28 @@ pub loop-old-preserved : goal.loop-old-preserved
 loop-old-preserved c =
     let now = c.loop-old.invariant.3 in
     let is = sym c.action.ensures ∙ c.in-Exchange.is in
-    let going = subst (λ (a : Action). IsGoing (c.loop-old.pending.call, a) now.0 now.1 c.loop-old.seat.me.0) is now.2 in
+    let going = subst (λ (a : Action). IsGoing (c.loop-old.pending.call, a) now.0 now.1 c.loop-old.seat.seat.me.0) is now.2 in
     let trying = subst (λ (a : Action). IsTrying (c.loop-old.pending.call, a)) is c.loop-old.invariant.4 in
     let turns = c.exchange.ensures.goes.0 in (
       c.exchange.ensures.table.0 ∙ c.loop-old.invariant.0,
       c.exchange.ensures.table.1 ∙ c.loop-old.invariant.1,
       c.exchange.ensures.table.2 ∙ c.loop-old.invariant.2,
       (now.0, now.1, c.exchange.ensures.goes.1 now.0 now.1 now.2),
-      subst IsTrying (sym turns.1) (tries_again turns.0 c.in-Exchange.old c.in-Exchange.new c.loop-old.pending.call c.loop-old.seat.me.0 now.0 now.1 going trying),
+      subst IsTrying (sym turns.1) (tries_again turns.0 c.in-Exchange.old c.in-Exchange.new c.loop-old.pending.call c.loop-old.seat.seat.me.0 now.0 now.1 going trying),
       λ before task goes. c.exchange.ensures.goes.1 before task (c.loop-old.invariant.5 before task goes),
     )
 
 pub returns-then-is_spent-clause-tried : goal.returns-then-is_spent-clause-tried
 returns-then-is_spent-clause-tried c before wish clean awaited going =
     let is = sym c.action.ensures ∙ c.in-Exchange.is in
-    tried c.loop-old.pending.call c.loop-old.pending.action c.loop-old.seat.me.0 before wish clean awaited (c.loop-old.invariant.5 before (to_acquire wish) going)
+    tried c.loop-old.pending.call c.loop-old.pending.action c.loop-old.seat.seat.me.0 before wish clean awaited (c.loop-old.invariant.5 before (to_acquire wish) going)
     c.loop-old.invariant.4 false (sym (ap says_yes is))
 
 pub returns : goal.returns
 returns c =
     let call = c.loop-old.pending.call in
     let a = c.loop-old.pending.action in
-    let me = c.loop-old.seat.me.0 in
+    let me = c.loop-old.seat.seat.me.0 in
     let now = c.loop-old.invariant.3 in
     let yes = c.says_yes-acquired.ensures ∙ ap says_yes c.action-2.ensures in record {
       table = (c.loop-old.invariant.0, c.loop-old.invariant.1, c.loop-old.invariant.2);

@@ -4,8 +4,8 @@ use Rattle.lock_one_word.proofs.word_lock.WordLock.attempt.Given as goal
 
 abbrev pub invariant-loop-old : goal.invariant-loop-old
 invariant-loop-old l =
-    (l.seat.table_id ≡ l.initial.seat.table_id) × (l.seat.me.1 ≡ l.initial.seat.me.1) × (l.seat.me.0.readers ≡ l.initial.seat.me.0.readers)
-    × CanGo (at l.pending) l.seat.me × IsTrying (at l.pending) × LeadsTo (at l.fn.pending) l.initial.seat.me (at l.pending) l.seat.me
+    (l.seat.seat.table_id ≡ l.initial.seat.seat.table_id) × (l.seat.seat.me.1 ≡ l.initial.seat.seat.me.1) × (l.seat.seat.me.0.readers ≡ l.initial.seat.seat.me.0.readers)
+    × CanGo (at l.pending) l.seat.seat.me × IsTrying (at l.pending) × LeadsTo (at l.fn.pending) l.initial.seat.seat.me (at l.pending) l.seat.seat.me
 
 abbrev pub decreases-loop-old : goal.decreases-loop-old
 decreases-loop-old l = 2 ^ 64 - 1 - l.pending.exchanges

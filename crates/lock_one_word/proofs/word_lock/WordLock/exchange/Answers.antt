@@ -16,12 +16,12 @@ compare_exchange-stored-requires c =
     let call = c.args.pending.now.call in
     let before = c.requires.going.0 in
     let task = c.requires.going.1 in
-    let going = subst (λ (x : Action). IsGoing (call, x) before task c.args.seat.now.me.0) c.requires.action c.requires.going.2 in
-    let on = steps_on call.stage call (placed c.args.seat.now.me.0.held a) a going.at refl in
-    let small = exchange_small call.stage call (placed c.args.seat.now.me.0.held a) c.args.old c.args.new on going.loaded going.at in (
+    let going = subst (λ (x : Action). IsGoing (call, x) before task c.args.seat.now.seat.me.0) c.requires.action c.requires.going.2 in
+    let on = steps_on call.stage call (placed c.args.seat.now.seat.me.0.held a) a going.at refl in
+    let small = exchange_small call.stage call (placed c.args.seat.now.seat.me.0.held a) c.args.old c.args.new on going.loaded going.at in (
       c.requires.table ∙ sym (ap (λ (l : WordLockView). l.id) c.self.view_is),
       search rules,
-      exchanges_as _ _ _ c.args.seat.now.me call before task c.args.old c.args.new c.to_stored-first.result c.to_stored-second.result on going small.0 small.1
+      exchanges_as _ _ _ c.args.seat.now.seat.me call before task c.args.old c.args.new c.to_stored-first.result c.to_stored-second.result on going small.0 small.1
           c.to_stored-first.ensures c.to_stored-second.ensures,
     )
 
@@ -31,12 +31,12 @@ returns-clause-goes c =
     let call = c.args.pending.now.call in
     let before = c.requires.going.0 in
     let task = c.requires.going.1 in
-    let going = subst (λ (x : Action). IsGoing (call, x) before task c.args.seat.now.me.0) c.requires.action c.requires.going.2 in
-    let on = steps_on call.stage call (placed c.args.seat.now.me.0.held a) a going.at refl in
-    let small = exchange_small call.stage call (placed c.args.seat.now.me.0.held a) c.args.old c.args.new on going.loaded going.at in
-    passes_on_word c.args.pending.now c.go_on.new.self a c.args.seat.now.me c.compare_exchange-stored.new.seat.me c.from_stored.result c.from_stored.result c.requires.action refl refl (c.go_on.ensures.goes ∙ ap (λ (p : Progress). next_of c.from_stored.result p.0) c.count.ensures.same)
+    let going = subst (λ (x : Action). IsGoing (call, x) before task c.args.seat.now.seat.me.0) c.requires.action c.requires.going.2 in
+    let on = steps_on call.stage call (placed c.args.seat.now.seat.me.0.held a) a going.at refl in
+    let small = exchange_small call.stage call (placed c.args.seat.now.seat.me.0.held a) c.args.old c.args.new on going.loaded going.at in
+    passes_on_word c.args.pending.now c.go_on.new.self a c.args.seat.now.seat.me c.compare_exchange-stored.new.seat.me c.from_stored.result c.from_stored.result c.requires.action refl refl (c.go_on.ensures.goes ∙ ap (λ (p : Progress). next_of c.from_stored.result p.0) c.count.ensures.same)
     (λ other first todo step goes.
     subst (λ w. IsGoing (next_of w other) first todo c.compare_exchange-stored.new.seat.me.0) (sym c.from_stored.ensures)
     (c.compare_exchange-stored.ensures.2.2 other first todo step
-    (subst (λ (x : Action). IsGoing (other, x) first todo c.args.seat.now.me.0)
+    (subst (λ (x : Action). IsGoing (other, x) first todo c.args.seat.now.seat.me.0)
     (same_numbers c.args.old c.args.new c.to_stored-first.result c.to_stored-second.result small.0 small.1 c.to_stored-first.ensures c.to_stored-second.ensures) goes)))

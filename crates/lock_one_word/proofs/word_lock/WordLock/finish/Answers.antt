@@ -26,16 +26,16 @@ pub returns-in-Some-make-clause-ended : goal.returns-in-Some-make-clause-ended
 returns-in-Some-make-clause-ended g c before task going =
     let ended = c.in-Some-make.ensures.ended in (
       c.loop.pending.call,
-      subst (λ (b : Bool). IsGoing (c.loop.pending.call, End b) before task c.make.new.seat.me.0) (sym c.answer.ensures.answer)
+      subst (λ (b : Bool). IsGoing (c.loop.pending.call, End b) before task c.make.new.seat.seat.me.0) (sym c.answer.ensures.answer)
           (subst (λ (m : Self). IsGoing (c.loop.pending.call, End c.in-Some-make.answer) before task m.0) (sym {A = Self} ended.1)
-          (subst (λ (a : Action). IsGoing (c.loop.pending.call, a) before task c.loop.seat.me.0) ended.0 (c.loop.invariant.6 before task going))),
+          (subst (λ (a : Action). IsGoing (c.loop.pending.call, a) before task c.loop.seat.seat.me.0) ended.0 (c.loop.invariant.6 before task going))),
     )
 
 pub returns-in-Some-make-clause-refused : goal.returns-in-Some-make-clause-refused
 returns-in-Some-make-clause-refused g c =
     let ended = c.in-Some-make.ensures.ended in
     let last = c.make.new.pending in
-    let me = c.loop.seat.me.0 in
+    let me = c.loop.seat.seat.me.0 in
     if_no c.answer.result c.in-Some-make.answer _ _ c.answer.ensures.answer c.answer.ensures.end
     (λ off e is before wish going.
     subst (λ n. TimesOut n e) c.loop.invariant.4

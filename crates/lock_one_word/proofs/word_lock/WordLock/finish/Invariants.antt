@@ -5,5 +5,5 @@ use Rattle.lock_one_word.proofs.word_lock.WordLock.finish.Given as goal
 abbrev pub invariant-loop : goal.invariant-loop
 invariant-loop g l =
     (goal.iterator-loop g).can_next l.iterator' × (goal.iterator-loop g).is_finite l.iterator'
-    × (l.seat.table_id ≡ l.initial.seat.table_id) × (l.seat.me.1 ≡ l.initial.seat.me.1) × (l.seat.me.0.readers ≡ l.initial.seat.me.0.readers)
-    × CanGo (at l.pending) l.seat.me × LeadsTo (at l.fn.pending) l.initial.seat.me (at l.pending) l.seat.me × (l.pending.call.blocks ≡ true)
+    × (l.seat.seat.table_id ≡ l.initial.seat.seat.table_id) × (l.seat.seat.me.1 ≡ l.initial.seat.seat.me.1) × (l.seat.seat.me.0.readers ≡ l.initial.seat.seat.me.0.readers)
+    × CanGo (at l.pending) l.seat.seat.me × LeadsTo (at l.fn.pending) l.initial.seat.seat.me (at l.pending) l.seat.seat.me × (l.pending.call.blocks ≡ true)

@@ -12,5 +12,5 @@ load-stored-requires c = (search rules, search rules, loads _ _ _ _)
 pub returns-clause-goes : goal.returns-clause-goes
 returns-clause-goes c =
     let told = c.load-stored.ensures.2.3.2 in
-    passes_on_word c.args.pending.now c.go_on.new.self Load c.args.seat.now.me c.load-stored.new.seat.me c.from_stored.result c.from_stored.result c.requires.action refl refl c.go_on.ensures.goes
+    passes_on_word c.args.pending.now c.go_on.new.self Load c.args.seat.now.seat.me c.load-stored.new.seat.me c.from_stored.result c.from_stored.result c.requires.action refl refl c.go_on.ensures.goes
     (λ call before task on goes. subst (λ w. IsGoing (next_of w call) before task c.load-stored.new.seat.me.0) (sym c.from_stored.ensures) (told call before task on goes))

@@ -9,7 +9,7 @@ use Rattle.lock_one_word.proofs.word_lock.WordLock.start.Goals as goal
 pub returns-in-Exchange-clause-tries : goal.returns-in-Exchange-clause-tries
 returns-in-Exchange-clause-tries c trying =
     let call = c.args.pending.now.call in
-    let me = c.args.seat.now.me in
+    let me = c.args.seat.now.seat.me in
     let now = c.requires.going in
     let is = sym c.action.ensures ∙ c.in-Exchange.is in
     let goes = c.exchange.ensures.goes.0 in

@@ -15,19 +15,19 @@ fetch_sub-stored-requires c =
     let call = c.args.pending.now.call in
     let before = c.requires.going.0 in
     let task = c.requires.going.1 in
-    let going = subst (λ (x : Action). IsGoing (call, x) before task c.args.seat.now.me.0) c.requires.action c.requires.going.2 in
-    let on = steps_on call.stage call (placed c.args.seat.now.me.0.held a) a going.at refl in (
+    let going = subst (λ (x : Action). IsGoing (call, x) before task c.args.seat.now.seat.me.0) c.requires.action c.requires.going.2 in
+    let on = steps_on call.stage call (placed c.args.seat.now.seat.me.0.held a) a going.at refl in (
       c.requires.table ∙ sym (ap (λ (l : WordLockView). l.id) c.self.view_is),
       search rules,
-      subtracts_as _ _ _ c.args.seat.now.me call before task c.args.down c.stored_amount-amount.result on going
-          (subtracts_own call.stage call (placed c.args.seat.now.me.0.held a) c.args.down going.at) c.stored_amount-amount.ensures,
+      subtracts_as _ _ _ c.args.seat.now.seat.me call before task c.args.down c.stored_amount-amount.result on going
+          (subtracts_own call.stage call (placed c.args.seat.now.seat.me.0.held a) c.args.down going.at) c.stored_amount-amount.ensures,
     )
 
 pub returns-clause-goes : goal.returns-clause-goes
 returns-clause-goes c =
-    passes_on_word c.args.pending.now c.go_on.new.self (Subtract c.args.down) c.args.seat.now.me c.fetch_sub-stored.new.seat.me c.from_stored.result c.from_stored.result
+    passes_on_word c.args.pending.now c.go_on.new.self (Subtract c.args.down) c.args.seat.now.seat.me c.fetch_sub-stored.new.seat.me c.from_stored.result c.from_stored.result
     c.requires.action refl refl c.go_on.ensures.goes
     (λ other first todo step goes.
     subst (λ w. IsGoing (next_of w other) first todo c.fetch_sub-stored.new.seat.me.0) (sym c.from_stored.ensures)
     (c.fetch_sub-stored.ensures.2.2 other first todo step
-    (subst (λ (x : Action). IsGoing (other, x) first todo c.args.seat.now.me.0) (same_release c.args.down c.stored_amount-amount.result c.stored_amount-amount.ensures) goes)))
+    (subst (λ (x : Action). IsGoing (other, x) first todo c.args.seat.now.seat.me.0) (same_release c.args.down c.stored_amount-amount.result c.stored_amount-amount.ensures) goes)))

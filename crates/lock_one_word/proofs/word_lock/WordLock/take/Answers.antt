@@ -14,8 +14,8 @@ loop-init c = (
   refl,
   refl,
   refl,
-  subst (λ (p : Progress). IsGoing p c.args.seat.now.me.0.held (to_release c.args.down) c.args.seat.now.me.0) (sym c.release-pending.ensures)
-      (releasing_first c.self.inside.readers c.args.down c.args.seat.now.me.0 (ap (λ (l : WordLockView). l.readers) c.self.view_is ∙ sym c.requires.readers) c.requires.has),
+  subst (λ (p : Progress). IsGoing p c.args.seat.now.seat.me.0.held (to_release c.args.down) c.args.seat.now.seat.me.0) (sym c.release-pending.ensures)
+      (releasing_first c.self.inside.readers c.args.down c.args.seat.now.seat.me.0 (ap (λ (l : WordLockView). l.readers) c.self.view_is ∙ sym c.requires.readers) c.requires.has),
 )
 
 pub loop-smaller : goal.loop-smaller
@@ -23,7 +23,7 @@ loop-smaller c =
     let made = c.make_on_lock.ensures.made c.loop-test.true in
     let turns = made.1.0 in
     subst (λ (p : Progress). rank p.0 < rank c.loop.pending.call) (sym turns.1)
-    (smaller turns.0 c.loop.pending.call c.loop.pending.action c.args.seat.now.me.0.held c.args.down c.loop.seat.me.0 made.0 c.loop.invariant.3)
+    (smaller turns.0 c.loop.pending.call c.loop.pending.action c.args.seat.now.seat.me.0.held c.args.down c.loop.seat.seat.me.0 made.0 c.loop.invariant.3)
 
 pub loop-preserved : goal.loop-preserved
 loop-preserved c =
@@ -31,24 +31,24 @@ loop-preserved c =
       c.make_on_lock.ensures.table.0 ∙ c.loop.invariant.0,
       c.make_on_lock.ensures.table.1 ∙ c.loop.invariant.1,
       c.make_on_lock.ensures.table.2 ∙ c.loop.invariant.2,
-      made.1.1 c.args.seat.now.me.0.held (to_release c.args.down) c.loop.invariant.3,
+      made.1.1 c.args.seat.now.seat.me.0.held (to_release c.args.down) c.loop.invariant.3,
     )
 
 pub end-requires : goal.end-requires
 end-requires c =
     let off = c.make_on_lock.ensures.other c.loop-test.false in
     subst (λ (p : Pending). MayEnd (at p)) (sym off.2)
-    (inl (ap ends (has_ended c.loop.pending.call c.loop.pending.action c.args.seat.now.me.0.held c.args.down c.loop.seat.me.0 off.0 c.loop.invariant.3)))
+    (inl (ap ends (has_ended c.loop.pending.call c.loop.pending.action c.args.seat.now.seat.me.0.held c.args.down c.loop.seat.seat.me.0 off.0 c.loop.invariant.3)))
 
 pub returns : goal.returns
 returns c =
     let off = c.make_on_lock.ensures.other c.loop-test.false in
-    let is = has_ended c.loop.pending.call c.loop.pending.action c.args.seat.now.me.0.held c.args.down c.loop.seat.me.0 off.0 c.loop.invariant.3 in
-    let ended = subst (λ (a : Action). IsGoing (c.loop.pending.call, a) c.args.seat.now.me.0.held (to_release c.args.down) c.loop.seat.me.0) is c.loop.invariant.3 in record {
+    let is = has_ended c.loop.pending.call c.loop.pending.action c.args.seat.now.seat.me.0.held c.args.down c.loop.seat.seat.me.0 off.0 c.loop.invariant.3 in
+    let ended = subst (λ (a : Action). IsGoing (c.loop.pending.call, a) c.args.seat.now.seat.me.0.held (to_release c.args.down) c.loop.seat.seat.me.0) is c.loop.invariant.3 in record {
       table = (
         c.make_on_lock.ensures.table.0 ∙ c.loop.invariant.0,
         c.make_on_lock.ensures.table.1 ∙ c.loop.invariant.1,
         c.make_on_lock.ensures.table.2 ∙ c.loop.invariant.2,
       );
-      held = ap (λ (m : Self). m.0.held) off.1 ∙ released_end c.loop.pending.call c.args.seat.now.me.0.held c.args.down true c.loop.seat.me.0 ended;
+      held = ap (λ (m : Self). m.0.held) off.1 ∙ released_end c.loop.pending.call c.args.seat.now.seat.me.0.held c.args.down true c.loop.seat.seat.me.0 ended;
     }

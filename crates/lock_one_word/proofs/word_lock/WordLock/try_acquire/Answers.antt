@@ -14,12 +14,20 @@ pub returns-then-is_ok-clause-acquired : goal.returns-then-is_ok-clause-acquired
 returns-then-is_ok-clause-acquired c =
     let mode = c.args.mode in
     let entered = c.enter-pending.ensures in
-    let going = subst (λ (w : ExWant). IsGoing (at c.enter-pending.result.0) no_hold (to_acquire w) c.enter-pending.result.1.me.0) c.of_mode.ensures entered.going in
+    let going = subst (λ (w : ExWant). IsGoing (at c.enter-pending.result.0) no_hold (to_acquire w) c.enter-pending.result.1.seat.me.0) c.of_mode.ensures entered.going in
     let held = c.attempt-ended.ensures.tried no_hold (want_of_mode mode) refl (awaits mode) going in
-    token_is c.args.self.now mode c.attempt-ended.new.seat.table_id c.attempt-ended.new.seat.me c.new.result c.new.ensures
+    token_is c.args.self.now mode c.attempt-ended.new.seat.seat.table_id c.attempt-ended.new.seat.seat.me c.into_token.result c.into_token.ensures
     (c.attempt-ended.ensures.table.0 ∙ entered.table.0)
     (c.attempt-ended.ensures.table.2 ∙ entered.table.2)
     (held ∙ (ap (λ b. if b then hold_after no_hold (step_of_want (want_of_mode mode)) else no_hold) (sym c.is_ok.ensures.value ∙ c.if-is_ok.true) ∙ acquires mode))
+
+pub leave-requires : goal.leave-requires
+leave-requires c =
+    let mode = c.args.mode in
+    let entered = c.enter-pending.ensures in
+    let going = subst (λ (w : ExWant). IsGoing (at c.enter-pending.result.0) no_hold (to_acquire w) c.enter-pending.result.1.seat.me.0) c.of_mode.ensures entered.going in
+    c.attempt-ended.ensures.tried no_hold (want_of_mode mode) refl (awaits mode) going
+    ∙ ap (λ b. if b then hold_after no_hold (step_of_want (want_of_mode mode)) else no_hold) (sym c.is_ok.ensures.value ∙ c.if-is_ok.false)
 
 pub returns-clause-refused : goal.returns-clause-refused
 returns-clause-refused c =

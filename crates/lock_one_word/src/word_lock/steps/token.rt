@@ -3,6 +3,7 @@ ghost use Rattle.std.specs.Prelude.{◌≡◌};
 ghost use Rattle.lock_one_word.specs.Calls.{IsTokenSeat, token_of};
 
 use crate::rule::OneView;
+use crate::word_lock::steps::call_seat::CallSeat;
 use atomic_table::Seat;
 use std::marker::Model;
 
@@ -33,7 +34,7 @@ unsafe impl Send for WordToken {}
 unsafe impl Sync for WordToken {}
 
 impl WordToken {
-    pub(crate) fn new(seat: Seat<(), OneView>) -> WordToken
+    pub(super) fn new(seat: Seat<(), OneView>) -> WordToken
         requires { IsTokenSeat seat.me }
         ensures { result ≡ token_of seat.table_id seat.me }
     {
@@ -41,11 +42,11 @@ impl WordToken {
     }
 
     /// Begins a call that changes or releases the token.
-    pub(crate) fn into_seat(self) -> Seat<(), OneView>
-        ensures token { self ≡ token_of result.table_id result.me }
-        ensures seat { IsTokenSeat result.me }
+    pub(crate) fn into_seat(self) -> CallSeat
+        ensures token { self ≡ token_of result.seat.table_id result.seat.me }
+        ensures seat { IsTokenSeat result.seat.me }
     {
         let WordToken { seat } = self;
-        seat
+        CallSeat::new(seat)
     }
 }

@@ -7,13 +7,13 @@ use base.Fml.{feq}
 use denote.Builtin.{unit}
 use denote.RattleType.{RattleType}
 use Rattle.lock_one_word.specs.contracts.rule.OneView as known
-use Rattle.lock_one_word.specs.contracts.token.WordToken.{the_view, the_invariant}
-use Rattle.lock_one_word.specs.contracts.token.WordToken.TheInside as inside
-use Rattle.lock_one_word.specs.declared.token.WordToken.TheInside.{Inside}
-use Rattle.lock_one_word.specs.contracts.token.WordToken.new as f
-use Rattle.lock_one_word.specs.contracts.token.WordToken.new.Key.{name as #self}
-use Rattle.lock_one_word.proofs.token.WordToken.new.Statement.{statement}
-use Rattle.lock_one_word.proofs.token.WordToken.new.Code as code
+use Rattle.lock_one_word.specs.contracts.word_lock.steps.token.WordToken.{the_view, the_invariant}
+use Rattle.lock_one_word.specs.contracts.word_lock.steps.token.WordToken.TheInside as inside
+use Rattle.lock_one_word.specs.declared.word_lock.steps.token.WordToken.TheInside.{Inside}
+use Rattle.lock_one_word.specs.contracts.word_lock.steps.token.WordToken.new as f
+use Rattle.lock_one_word.specs.contracts.word_lock.steps.token.WordToken.new.Key.{name as #self}
+use Rattle.lock_one_word.proofs.word_lock.steps.token.WordToken.new.Statement.{statement}
+use Rattle.lock_one_word.proofs.word_lock.steps.token.WordToken.new.Code as code
 
 abbrev Held : RattleType
 Held = seat.the_row unit known.the_row
