@@ -1,7 +1,6 @@
 -- A call is refused by a word or by its deadline.
-use Rattle.std.proofs.Common.{◌≡◌, ℕ, ◌+◌, ◌-◌, ◌^◌, Bool, true, false, not, ◌&&◌, ◌||◌, ◌==◌, nat_lt, if◌then◌else◌, inl, inr, refl, sym, ap, ◌∙◌}
+use Rattle.std.proofs.Common.{◌≡◌, ◌≢◌, ◌⊎◌, ℕ, ◌+◌, ◌-◌, ◌^◌, Bool, true, false, not, ◌&&◌, ◌==◌, nat_lt, if◌then◌else◌, inl, inr, refl, sym, ap, subst, ◌∙◌}
 use Rattle.std.proofs.lemmas.Bool.{false≢true, true≢false}
-use Rattle.lock_word.specs.declared.want.ExWant.{ExWant}
 use Rattle.lock_word.specs.declared.want.ExWant.TheVariants as want
 use Rattle.lock_word.specs.declared.down.Down.{Down}
 use Rattle.lock_word.specs.Word.{word_admits}
@@ -11,7 +10,7 @@ use Rattle.lock_one.specs.declared.stage.Stage.{Stage}
 use Rattle.lock_one.specs.declared.stage.Stage.TheVariants as stage
 use Rattle.lock_one.specs.declared.park.Debt.{Debt}
 use Rattle.lock_one.specs.declared.park.Debt.TheVariants as debt
-use Rattle.lock_one.specs.Machine.{Progress, core_of, has_sleepers, sleepers, wakes_one, pauses_before, exchanges_before, after_try, word_marked, sets_bar, sleep, mark_or_sleep, marked, time_out, withdrawn, refused, acquired, ended, wait, decide, goes_to, acquiring, begun, removes_reader, alone, release_on, release_of, release_again, look_to_remove, subtract, wakes, taking, next_at, next_of}
+use Rattle.lock_one.specs.Machine.{Progress, core_of, has_sleepers, sleepers, wakes_one, pauses_before, exchanges_before, after_try, word_marked, sleep, mark_or_sleep, marked, time_out, withdrawn, refused, acquired, wait, decide, goes_to, begun, removes_reader, alone, release_on, release_of, release_again, subtract, wakes, taking, next_at}
 use Rattle.lock_one.specs.Answers.{IsLate, CauseAt, HasCause, RefusalsHaveCauses}
 
 abbrev Clean : Call → Type 0
@@ -128,9 +127,59 @@ begins_release readers d = by (removes_reader readers d)
     by true = record { unannounced = λ never. refl; cause = tt }
     by false = record { unannounced = λ never. refl; cause = tt }
 
+-- only the answer to a sleep makes a call late
+
+abbrev IsLateAs : Bool → Progress → Type 0
+IsLateAs late p = p.0.late ≡ late
+
+one_of : (late b : Bool) (p q : Progress) → IsLateAs late p → IsLateAs late q → IsLateAs late (if b then p else q)
+one_of late true p q first second = first
+one_of late false p q first second = second
+
+late_after_time_out : (call : Call) → IsLateAs call.late (time_out call)
+late_after_time_out call = one_of call.late call.announced _ _ refl (one_of call.late (wakes_one call && (call.slept && nat_lt call.loaded sleepers)) _ _ refl refl)
+
+late_after_wait : (call : Call) → IsLateAs call.late (wait call)
+late_after_wait call =
+    one_of call.late (not call.blocks) _ _ refl
+    (one_of call.late call.late _ _ (late_after_time_out call)
+    (one_of call.late (nat_lt call.pauses pauses_before) _ _ refl (one_of call.late (word_marked call == call.loaded) _ _ refl refl)))
+
+late_after_decision : (word : ℕ) (call : Call) → IsLateAs call.late (decide word call)
+late_after_decision word call =
+    one_of call.late (word_admits call.announced call.readers (core_of word) call.want) _ _ refl (late_after_wait (record call { loaded = word }))
+
+late_after_wake : (d : Debt) (call : Call) → IsLateAs call.late (wakes d call)
+late_after_wake debt.Nothing call = refl
+late_after_wake debt.One call = refl
+late_after_wake debt.All call = refl
+late_after_wake debt.Next call = refl
+
+late_next : (st : Stage) (found : ℕ) (call : Call) → (next_at st found call).0.late ≡ true → (call.late ≡ true) ⊎ ((st ≡ stage.Sleep) × (found ≢ 0))
+late_next stage.Look found call e = inl (sym (late_after_decision found call) ∙ e)
+late_next stage.Try found call e = inl (sym (one_of call.late (found == call.loaded) (acquired call) _ refl (late_after_decision found call)) ∙ e)
+late_next stage.Pause found call e = inl e
+late_next stage.Mark found call e = inl (sym (one_of call.late (found == call.loaded) (marked call) _ refl (late_after_decision found call)) ∙ e)
+late_next stage.Sleep found call e = inr (refl, λ none. absurd (false≢true (subst (λ n. not (n == 0) ≡ true) none e)))
+late_next stage.Withdraw found call e =
+    inl (sym (one_of call.late (found == call.loaded) (withdrawn call) _ (one_of call.late (has_sleepers call.loaded) _ _ refl refl) (late_after_decision found call)) ∙ e)
+late_next stage.Leave found call e = inl (sym (one_of call.late (found == call.loaded) (refused call) _ refl (late_after_decision found call)) ∙ e)
+late_next stage.LookToRemove found call e = inl (sym (one_of call.late (has_sleepers found) (release_on found call) (subtract call) refl refl) ∙ e)
+late_next stage.Subtract found call e = inl (sym (late_after_wake (release_of call.readers found call.down).1 call) ∙ e)
+late_next stage.Release found call e =
+    inl (sym (one_of call.late (found == call.loaded) _ (release_again found call) (late_after_wake (release_of call.readers call.loaded call.down).1 call)
+    (one_of call.late (nat_lt call.pauses exchanges_before) _ (subtract call) refl refl)) ∙ e)
+late_next stage.Wake found call e = inl e
+late_next stage.WakeRefused found call e = inl e
+late_next stage.Acquired found call e = inl e
+late_next stage.Refused found call e = inl e
+late_next stage.Ended found call e = inl e
+
 pub refusals_have_causes : RefusalsHaveCauses
 refusals_have_causes = record {
   acquires = λ readers wish blocks announces. record { unannounced = λ never. refl; cause = tt };
   releases = begins_release;
   goes_on = λ found call known. next call.stage found call known.unannounced known.cause;
+  begins_in_time = λ readers wish blocks announces. refl;
+  late = λ found call e. late_next call.stage found call e;
 }

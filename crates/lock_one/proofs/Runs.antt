@@ -822,30 +822,45 @@ new_kept readers range =
           ];
     }
 
+parked_as : (few : Bool) (n m : ℕ) (p q : Bool) → action.Park n p ≡ (if few then action.Park m q else action.Yield) → (n ≡ m) × (p ≡ q)
+parked_as true n m p q e = (cc, cc)
+parked_as false n m p q e = cc
+
 -- each sleeper is in its park
 in_park : (limits : ParkLimits) (t : Thread) → IsPlaced limits t.view t.underway → is_asleep t.view.park ≡ true → IsInPark t
 in_park limits t place asleep = by t.underway refl place
   where
-    at_stage : (st : Stage) (u : Underway) → u.at.0.stage ≡ st → t.underway ≡ Some u → IsAt st u.at.0 t.view u.at.1 → IsInPark t
-    at_stage stage.Look u e calls is = absurd (true≢false (sym asleep ∙ is.0.1))
-    at_stage stage.Try u e calls is = absurd (true≢false (sym asleep ∙ is.0.1))
-    at_stage stage.Pause u e calls is = absurd (true≢false (sym asleep ∙ is.0.1))
-    at_stage stage.Mark u e calls is = absurd (true≢false (sym asleep ∙ is.0.1))
-    at_stage stage.Sleep u e calls is = record { underway = u; calls = calls; sleeps = e; wants = is.4 asleep; marked = is.3; barred = is.6 }
-    at_stage stage.Withdraw u e calls is = absurd (true≢false (sym asleep ∙ is.0.1))
-    at_stage stage.Leave u e calls is = absurd (true≢false (sym asleep ∙ is.0.1))
-    at_stage stage.Release u e calls is = absurd (true≢false (sym asleep ∙ ap is_asleep is.1.0))
-    at_stage stage.LookToRemove u e calls is = absurd (true≢false (sym asleep ∙ ap is_asleep is.1.0))
-    at_stage stage.Subtract u e calls is = absurd (true≢false (sym asleep ∙ ap is_asleep is.1.0))
-    at_stage stage.Wake u e calls is = absurd (true≢false (sym asleep ∙ ap is_asleep is.0))
-    at_stage stage.WakeRefused u e calls is = absurd (true≢false (sym asleep ∙ ap is_asleep is.0))
-    at_stage stage.Acquired u e calls is = absurd (true≢false (sym asleep ∙ ap is_asleep is.0.0))
-    at_stage stage.Refused u e calls is = absurd (true≢false (sym asleep ∙ ap is_asleep is.0.0))
-    at_stage stage.Ended u e calls is = absurd (true≢false (sym asleep ∙ ap is_asleep is.0.0))
+    at_stage : (st : Stage) (u : Underway) → t.view.held ≡ hold_at u.at.0.stage u.at.0 u.before → u.at.0.stage ≡ st → t.underway ≡ Some u
+        → IsAt st u.at.0 t.view u.at.1 → IsInPark t
+    at_stage stage.Look u held e calls is = absurd (true≢false (sym asleep ∙ is.0.1))
+    at_stage stage.Try u held e calls is = absurd (true≢false (sym asleep ∙ is.0.1))
+    at_stage stage.Pause u held e calls is = absurd (true≢false (sym asleep ∙ is.0.1))
+    at_stage stage.Mark u held e calls is = absurd (true≢false (sym asleep ∙ is.0.1))
+    at_stage stage.Sleep u held e calls is = record {
+      underway = u;
+      calls = calls;
+      sleeps = e;
+      wants = is.4 asleep;
+      marked = is.3;
+      parks = λ number passes asks.
+          let same = parked_as (nat_lt u.at.0.readers (2 ^ 28)) number u.at.0.loaded passes (u.at.0.announced || is_upgrade u.at.0.want) (sym asks ∙ is.5) in
+          (same.0, same.1 ∙ ap (λ a. a || is_upgrade u.at.0.want) (sym (ap (λ (h : Hold). h.announced) (held ∙ ap (λ x. hold_at x u.at.0 u.before) e))));
+      barred = is.6;
+    }
+    at_stage stage.Withdraw u held e calls is = absurd (true≢false (sym asleep ∙ is.0.1))
+    at_stage stage.Leave u held e calls is = absurd (true≢false (sym asleep ∙ is.0.1))
+    at_stage stage.Release u held e calls is = absurd (true≢false (sym asleep ∙ ap is_asleep is.1.0))
+    at_stage stage.LookToRemove u held e calls is = absurd (true≢false (sym asleep ∙ ap is_asleep is.1.0))
+    at_stage stage.Subtract u held e calls is = absurd (true≢false (sym asleep ∙ ap is_asleep is.1.0))
+    at_stage stage.Wake u held e calls is = absurd (true≢false (sym asleep ∙ ap is_asleep is.0))
+    at_stage stage.WakeRefused u held e calls is = absurd (true≢false (sym asleep ∙ ap is_asleep is.0))
+    at_stage stage.Acquired u held e calls is = absurd (true≢false (sym asleep ∙ ap is_asleep is.0.0))
+    at_stage stage.Refused u held e calls is = absurd (true≢false (sym asleep ∙ ap is_asleep is.0.0))
+    at_stage stage.Ended u held e calls is = absurd (true≢false (sym asleep ∙ ap is_asleep is.0.0))
 
     by : (o : Option Underway) → t.underway ≡ o → IsPlaced limits t.view o → IsInPark t
     by None e place = absurd (true≢false (sym asleep ∙ ap is_asleep place.0.0))
-    by (Some u) e place = at_stage u.at.0.stage u refl e place.0
+    by (Some u) e place = at_stage u.at.0.stage u place.1 refl e place.0
 
 served : (s : LockInUse) → RunKept s → ThreadsAreServed s
 served s run =

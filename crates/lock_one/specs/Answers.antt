@@ -1,5 +1,5 @@
 -- What the answer of a call means, and the first steps of an uncontended call.
-use Rattle.std.specs.Prelude.{◌≡◌, ℕ, ◌-◌, ◌<◌, Bool, true, false, ◌⊎◌, ⊤}
+use Rattle.std.specs.Prelude.{◌≡◌, ◌≢◌, ℕ, ◌-◌, ◌<◌, Bool, true, false, ◌⊎◌, ⊤}
 use Rattle.lock_base.specs.declared.machine.hold.Hold.{Hold}
 use Rattle.lock_base.specs.Holds.{hold_after}
 use Rattle.lock_word.specs.declared.want.ExWant.{ExWant}
@@ -47,6 +47,9 @@ pub record RefusalsHaveCauses : Type 0 where
   pub acquires : (readers : ℕ) (wish : ExWant) (blocks announces : Bool) → HasCause (acquiring readers wish blocks announces).0
   pub releases : (readers : ℕ) (down : Down) → HasCause (taking readers down).0
   pub goes_on : (found : ℕ) (call : Call) → HasCause call → HasCause (next_of found call).0
+  -- a call begins in time, and is late only after its sleep was answered so
+  pub begins_in_time : (readers : ℕ) (wish : ExWant) (blocks announces : Bool) → (acquiring readers wish blocks announces).0.late ≡ false
+  pub late : (found : ℕ) (call : Call) → (next_of found call).0.late ≡ true → (call.late ≡ true) ⊎ ((call.stage ≡ stage.Sleep) × (found ≢ 0))
 
 -- THE LAW OF FIRST STEPS: on a word without S that admits it, a call makes this exchange; and a release begins with this one
 pub record FirstSteps : Type 0 where

@@ -19,7 +19,7 @@ use Rattle.lock_one.specs.declared.park.Park.{Park}
 use Rattle.lock_one.specs.declared.park.Park.TheVariants.{Awake, Asleep, Woken}
 use Rattle.lock_one.specs.declared.park.Debt.{Debt}
 use Rattle.lock_one.specs.declared.park.Debt.TheVariants as debt
-use Rattle.lock_one.specs.Rule.{holds_of, is_asleep, IsEntitled, IsServed, with_park, with_debt, wake_all, wake_next, new_party}
+use Rattle.lock_one.specs.Rule.{holds_of, is_asleep, IsEntitled, IsServed, with_park, with_debt, wake_all, wake_next, new_party, is_next}
 use Rattle.lock_one.specs.Machine.{Progress, is_exclusive, wakes_one, core_of, has_sleepers, acquiring, taking, next_at, next_of}
 use Rattle.lock_one.specs.Steps.{made, touches, ends, hold_at}
 
@@ -199,6 +199,9 @@ pub record IsInPark (t : Thread) : Type 0 where
   pub sleeps : underway.at.0.stage ≡ stage.Sleep
   pub wants : t.view.park ≡ Asleep underway.at.0.want
   pub marked : has_sleepers underway.at.0.loaded ≡ true
+  -- it parks for the word that it loaded, and tells whether it passes a bar
+  pub parks : (number : ℕ) (passes : Bool) → underway.at.1 ≡ action.Park number passes
+      → (number ≡ underway.at.0.loaded) × (passes ≡ is_next t.view underway.at.0.want)
   -- and a writer that announces itself, in a lock for several readers, parks for a word with a bar, its own or another's
   pub barred : underway.at.0.announces ≡ true → is_exclusive underway.at.0.want ≡ true → wakes_one underway.at.0 ≡ false → 2 ^ 34 ≤ core_of underway.at.0.loaded
 
