@@ -1,7 +1,9 @@
 //! A reentrant mutex with a rank.
 ghost use Rattle.std.specs.Prelude.{◌≡◌, ◌<◌, ◌≤◌, IfErr, IfOk, IfSome, IsOkUnless};
 ghost use Rattle.lock_base.specs.Party.{id_of};
-ghost use Rattle.lock_remutex.specs.Guards.{value_of};
+ghost use Rattle.std.specs.Option.{is_some};
+ghost use Rattle.lock_remutex.specs.Guards.{raw_of, value_of};
+ghost use Rattle.lock_remutex.specs.LevelSteps.{TriedLevel};
 ghost use Rattle.lock_ranked.specs.ReentrantGuards.{owner_of, plain_of, remutex_of, IsLevelOf};
 
 use crate::order::{Acquired, Order};
@@ -71,12 +73,14 @@ impl<R: RawMutex, T, K: Rank> RankedReentrantMutex<R, T, K> {
     ) -> Result<Option<Acquired<'o, ReentrantMutexGuard<'a, R, T>, B, K, N>>, Fault>
         requires { (B.rank < N.rank) × (K.rank ≤ N.rank) }
         ensures guard { IfOk result (λ got. IfSome got (λ level. IsLevelOf (plain_of self.now) (id_of party) level.0)) }
+        ensures tried { IfOk result (λ got. TriedLevel (R.tried (raw_of (plain_of self.now))) R.is_own (raw_of (plain_of self.now)) (id_of party) (is_some got)) }
         ensures fault { IfErr result (λ fault. fault ≡ Fault.FullCount) }
     {
-        let Some(guard) = self.lock.try_lock(party)? else {
-            return Ok(None);
-        };
-        Ok(Some(order.acquired(guard)))
+        match self.lock.try_lock(party) {
+            Ok(Some(guard)) => Ok(Some(order.acquired(guard))),
+            Ok(None) => Ok(None),
+            Err(fault) => Err(fault),
+        }
     }
 }
 
@@ -90,12 +94,14 @@ impl<R: RawMutexTimed, T, K: Rank> RankedReentrantMutex<R, T, K> {
     ) -> Result<Option<Acquired<'o, ReentrantMutexGuard<'a, R, T>, B, K, N>>, Fault>
         requires { (B.rank < N.rank) × (K.rank ≤ N.rank) }
         ensures guard { IfOk result (λ got. IfSome got (λ level. IsLevelOf (plain_of self.now) (id_of party) level.0)) }
+        ensures tried { IfOk result (λ got. TriedLevel (R.tried_for (raw_of (plain_of self.now)) timeout) R.is_own (raw_of (plain_of self.now)) (id_of party) (is_some got)) }
         ensures fault { IfErr result (λ fault. fault ≡ Fault.FullCount) }
     {
-        let Some(guard) = self.lock.try_lock_for(party, timeout)? else {
-            return Ok(None);
-        };
-        Ok(Some(order.acquired(guard)))
+        match self.lock.try_lock_for(party, timeout) {
+            Ok(Some(guard)) => Ok(Some(order.acquired(guard))),
+            Ok(None) => Ok(None),
+            Err(fault) => Err(fault),
+        }
     }
 
     /// `try_lock`, where the raw lock may block until `deadline`.
@@ -107,12 +113,14 @@ impl<R: RawMutexTimed, T, K: Rank> RankedReentrantMutex<R, T, K> {
     ) -> Result<Option<Acquired<'o, ReentrantMutexGuard<'a, R, T>, B, K, N>>, Fault>
         requires { (B.rank < N.rank) × (K.rank ≤ N.rank) }
         ensures guard { IfOk result (λ got. IfSome got (λ level. IsLevelOf (plain_of self.now) (id_of party) level.0)) }
+        ensures tried { IfOk result (λ got. TriedLevel (R.tried_until (raw_of (plain_of self.now)) deadline) R.is_own (raw_of (plain_of self.now)) (id_of party) (is_some got)) }
         ensures fault { IfErr result (λ fault. fault ≡ Fault.FullCount) }
     {
-        let Some(guard) = self.lock.try_lock_until(party, deadline)? else {
-            return Ok(None);
-        };
-        Ok(Some(order.acquired(guard)))
+        match self.lock.try_lock_until(party, deadline) {
+            Ok(Some(guard)) => Ok(Some(order.acquired(guard))),
+            Ok(None) => Ok(None),
+            Err(fault) => Err(fault),
+        }
     }
 }
 
