@@ -1,25 +1,63 @@
 // SPDX-License-Identifier: MIT OR Apache-2.0
-//! Contended locks beside `parking_lot` and std: what several threads make of one lock in a millisecond, how often they are
-//! switched, and the share of the thread that was served least. Stop all else on the machine first.
+//! Contended locks and condition variables beside `parking_lot` and std. Of several threads it prints the acquisitions or items
+//! a millisecond, the switches, the share of the least served thread, and the processor time of an acquisition or item. Stop
+//! all else on the machine first.
 //!
 //! `cargo run --release --example loads [TURNS]`
+use std::collections::VecDeque;
 use std::hint::black_box;
+use std::process::Command;
 use std::sync::Barrier;
 use std::sync::atomic::{AtomicBool, Ordering::Relaxed};
 use std::time::{Duration, Instant};
 
 const TURN: Duration = Duration::from_millis(100);
+/// How many items a bounded queue has at most.
+const ROOM: usize = 16;
 
-/// What the threads of a turn did: rounds and switches a millisecond, and the least rounds of a thread as a share of the mean.
+/// What the threads of a turn did: rounds and switches a millisecond, the least rounds of a thread as a share of the mean, and
+/// the microseconds of processor time of a round.
 #[derive(Clone, Copy)]
 struct Seen {
     rate: f64,
     switches: f64,
     least: f64,
+    micros: f64,
 }
 
-/// A lock of a row: its name, and a round of a thread, whose random numbers are the argument.
-type Entry<'a> = (&'a str, &'a (dyn Fn(&mut u64) + Sync));
+/// A thread of a turn: its number, its random numbers, and whether the turn has ended.
+struct Thread<'a> {
+    number: usize,
+    random: u64,
+    ended: &'a AtomicBool,
+}
+
+/// A round of a thread at a lock.
+type Round<'a> = &'a (dyn Fn(&mut Thread<'_>) + Sync);
+
+/// A lock of a row: its round, and what wakes the threads that sleep when a turn ends.
+type Entry<'a> = (Round<'a>, &'a dyn Fn());
+
+/// What the C library answers of a process: seconds and microseconds in user and in system mode, and 14 numbers more.
+#[repr(C)]
+struct Usage {
+    user: [i64; 2],
+    system: [i64; 2],
+    others: [i64; 14],
+}
+
+extern "C" {
+    fn getrusage(who: i32, usage: &mut Usage) -> i32;
+}
+
+/// Returns the microseconds of processor time of all threads of this process so far.
+fn processor_micros() -> f64 {
+    let mut usage = Usage { user: [0; 2], system: [0; 2], others: [0; 14] };
+    // SAFETY: 0 is this process, and the struct has the layout of the C library on 64-bit Linux.
+    assert_eq!(unsafe { getrusage(0, &mut usage) }, 0);
+    let seconds = usage.user[0] + usage.system[0];
+    (seconds * 1_000_000 + usage.user[1] + usage.system[1]) as f64
+}
 
 /// Returns how often this thread was switched so far, voluntarily or not.
 fn switches() -> u64 {
@@ -29,14 +67,15 @@ fn switches() -> u64 {
 }
 
 /// Lets so many threads make rounds for the time of a turn.
-fn turn(threads: usize, round: &(dyn Fn(&mut u64) + Sync)) -> Seen {
+fn turn(threads: usize, (round, wake): Entry<'_>) -> Seen {
     let (start, ended) = (Barrier::new(threads + 1), AtomicBool::new(false));
-    let rounds_of = |thread: usize| {
-        let mut random = thread as u64 * 7919 + 1;
+    let used = processor_micros();
+    let rounds_of = |number: usize| {
+        let mut thread = Thread { number, random: number as u64 * 7919 + 1, ended: &ended };
         start.wait();
         let (before, mut made) = (switches(), 0u64);
         while !ended.load(Relaxed) {
-            round(&mut random);
+            round(&mut thread);
             made += 1;
         }
         (made, switches() - before)
@@ -48,6 +87,7 @@ fn turn(threads: usize, round: &(dyn Fn(&mut u64) + Sync)) -> Seen {
         let begun = Instant::now();
         std::thread::sleep(TURN);
         ended.store(true, Relaxed);
+        wake();
         let counts: Vec<_> = running.into_iter().map(|it| it.join().expect("no panic")).collect();
         let millis = begun.elapsed().as_secs_f64() * 1e3;
         let made: u64 = counts.iter().map(|it| it.0).sum();
@@ -56,6 +96,7 @@ fn turn(threads: usize, round: &(dyn Fn(&mut u64) + Sync)) -> Seen {
             rate: made as f64 / millis,
             switches: counts.iter().map(|it| it.1).sum::<u64>() as f64 / millis,
             least: least as f64 * threads as f64 / made as f64,
+            micros: (processor_micros() - used) / made as f64,
         }
     })
 }
@@ -66,19 +107,26 @@ fn median(figures: impl Iterator<Item = f64>) -> f64 {
     figures[figures.len() / 2]
 }
 
-/// Prints a line of the table: the medians of each lock, whose turns alternate.
-fn row(what: &str, threads: usize, turns: usize, entries: &[Entry<'_>]) {
+/// Prints a line of the table: the medians of each lock, whose turns alternate. So many rounds are one acquisition or item.
+fn row(what: &str, threads: usize, turns: usize, rounds: f64, entries: &[Entry<'_>]) {
     let mut seen = vec![Vec::new(); entries.len()];
     for _ in 0..turns {
-        for (seen, (_, round)) in seen.iter_mut().zip(entries) {
-            seen.push(turn(threads, round));
+        for (seen, entry) in seen.iter_mut().zip(entries) {
+            seen.push(turn(threads, *entry));
         }
     }
     let cells = seen.iter().map(|it| {
         let of = |figure: fn(&Seen) -> f64| median(it.iter().map(figure));
-        format!("{:.0}, {:.1}, {:.2}", of(|it| it.rate), of(|it| it.switches), of(|it| it.least))
+        let (rate, micros) = (of(|it| it.rate) / rounds, of(|it| it.micros) * rounds);
+        format!("{rate:.0}, {:.1}, {:.2}, {micros:.3}", of(|it| it.switches), of(|it| it.least))
     });
-    println!("| {what}, {threads} threads | {} |", cells.collect::<Vec<_>>().join(" | "));
+    println!("| {what} | {} |", cells.collect::<Vec<_>>().join(" | "));
+}
+
+/// Prints the lines of locks for 2, 4 and 8 threads.
+fn rows(what: &str, turns: usize, rounds: [Round<'_>; 3]) {
+    let entries = rounds.map(|round| -> Entry<'_> { (round, &|| ()) });
+    [2, 4, 8].into_iter().for_each(|threads| row(&format!("{what}, {threads} threads"), threads, turns, 1.0, &entries));
 }
 
 fn spin(rounds: u64) {
@@ -111,61 +159,141 @@ fn mutexes(what: &str, turns: usize, inside: u64, outside: u64) {
         *value += 1;
         spin(inside);
     };
-    let entries: [Entry<'_>; 3] = [
-        ("proved_lock", &|_| {
+    let rounds: [Round<'_>; 3] = [
+        &|_| {
             work(&mut mine.lock());
             spin(outside);
-        }),
-        ("parking_lot", &|_| {
+        },
+        &|_| {
             work(&mut other.lock());
             spin(outside);
-        }),
-        ("std", &|_| {
+        },
+        &|_| {
             work(&mut std.lock().expect("no panic"));
             spin(outside);
-        }),
+        },
     ];
-    [2, 4, 8].into_iter().for_each(|threads| row(what, threads, turns, &entries));
+    rows(what, turns, rounds);
 }
 
 fn rwlocks(what: &str, turns: usize, inside: u64, of: u64) {
     let (std, other, mine) = (std::sync::RwLock::new(()), parking_lot::RwLock::new(()), proved_lock::RwLock::new(()));
-    let entries: [Entry<'_>; 3] = [
-        ("proved_lock", &|random| {
-            if once_in(of, random) {
+    let rounds: [Round<'_>; 3] = [
+        &|thread| {
+            if once_in(of, &mut thread.random) {
                 let _held = mine.write();
                 spin(inside);
             } else {
                 let _held = mine.read();
                 spin(inside);
             }
-        }),
-        ("parking_lot", &|random| {
-            if once_in(of, random) {
+        },
+        &|thread| {
+            if once_in(of, &mut thread.random) {
                 let _held = other.write();
                 spin(inside);
             } else {
                 let _held = other.read();
                 spin(inside);
             }
-        }),
-        ("std", &|random| {
-            if once_in(of, random) {
+        },
+        &|thread| {
+            if once_in(of, &mut thread.random) {
                 let _held = std.write().expect("no panic");
                 spin(inside);
             } else {
                 let _held = std.read().expect("no panic");
                 spin(inside);
             }
-        }),
+        },
     ];
-    [2, 4, 8].into_iter().for_each(|threads| row(what, threads, turns, &entries));
+    rows(what, turns, rounds);
+}
+
+/// Declares a bounded queue over a mutex and two condition variables of a crate.
+macro_rules! queue {
+    ($name:ident, $($locks:ident)::+, $mutex:ident => $lock:expr, ($condvar:ident, $items:ident) => $wait:expr) => {
+        #[derive(Default)]
+        struct $name {
+            items: $($locks)::+::Mutex<VecDeque<u64>>,
+            filled: $($locks)::+::Condvar,
+            freed: $($locks)::+::Condvar,
+        }
+
+        impl $name {
+            /// Puts an item into the queue if the thread's number is even, and otherwise takes one.
+            fn round(&self, thread: &Thread<'_>) {
+                let puts = thread.number % 2 == 0;
+                let ($condvar, other, bound) = if puts { (&self.freed, &self.filled, ROOM) } else { (&self.filled, &self.freed, 0) };
+                let $mutex = &self.items;
+                let mut $items = $lock;
+                while $items.len() == bound {
+                    if thread.ended.load(Relaxed) {
+                        return;
+                    }
+                    $items = $wait;
+                }
+                if puts {
+                    $items.push_back(black_box(1));
+                } else {
+                    black_box($items.pop_front());
+                }
+                drop($items);
+                other.notify_one();
+            }
+
+            /// Wakes all threads. Whoever sleeps after this has seen that the turn has ended.
+            fn wake(&self) {
+                let $mutex = &self.items;
+                drop($lock);
+                self.filled.notify_all();
+                self.freed.notify_all();
+            }
+        }
+    };
+}
+
+queue!(Mine, proved_lock, mutex => mutex.lock(), (condvar, items) => {
+    condvar.wait(&mut items);
+    items
+});
+queue!(Other, parking_lot, mutex => mutex.lock(), (condvar, items) => {
+    condvar.wait(&mut items);
+    items
+});
+queue!(Std, std::sync, mutex => mutex.lock().expect("no panic"), (condvar, items) => condvar.wait(items).expect("no panic"));
+
+fn queues(turns: usize) {
+    let (std, other, mine) = (Std::default(), Other::default(), Mine::default());
+    let entries: [Entry<'_>; 3] = [
+        (&|thread| mine.round(thread), &|| mine.wake()),
+        (&|thread| other.round(thread), &|| other.wake()),
+        (&|thread| std.round(thread), &|| std.wake()),
+    ];
+    for each in [1, 2, 4] {
+        row(&format!("a queue of {ROOM} items, {each} + {each} threads"), 2 * each, turns, 2.0, &entries);
+    }
+}
+
+/// Returns the version of a crate in `Cargo.lock`.
+fn version_of(name: &str) -> String {
+    let lock = std::fs::read_to_string(concat!(env!("CARGO_MANIFEST_DIR"), "/Cargo.lock")).unwrap_or_default();
+    let from = lock.split("[[package]]").find(|it| it.contains(&format!("name = \"{name}\"\n")));
+    from.and_then(|it| it.split("version = \"").nth(1)?.split('"').next().map(str::to_owned)).unwrap_or("unknown".into())
+}
+
+/// Returns what `rustc --version` prints.
+fn rustc() -> String {
+    let said = Command::new("rustc").arg("--version").output().map(|it| it.stdout).unwrap_or_default();
+    String::from_utf8_lossy(&said).trim().to_owned()
 }
 
 fn main() {
     let turns = std::env::args().nth(1).and_then(|it| it.parse().ok()).unwrap_or(9);
     let ten = ten_microseconds();
-    println!("acquisitions a millisecond, switches a millisecond, and the least share; medians of {turns} turns");
+    println!("proved_lock {}, parking_lot {}, std of {}", env!("CARGO_PKG_VERSION"), version_of("parking_lot"), rustc());
+    println!("acquisitions or items a millisecond, switches a millisecond, the least share, and microseconds of processor time");
+    println!("of an acquisition or item; medians of {turns} turns");
     println!("| A load | `proved_lock` | `parking_lot` | std |\n|---|---|---|---|");
     mutexes("mutex, short sections", turns, 0, 0);
     mutexes("mutex, 1 µs, and as long outside", turns, ten / 10, ten / 10);
@@ -174,4 +302,5 @@ fn main() {
     rwlocks("one write in ten, short sections", turns, 0, 10);
     rwlocks("one write in ten, 10 µs", turns, ten, 10);
     rwlocks("one write in two, 10 µs", turns, ten, 2);
+    queues(turns);
 }
