@@ -107,26 +107,48 @@ fn median(figures: impl Iterator<Item = f64>) -> f64 {
     figures[figures.len() / 2]
 }
 
-/// Prints a line of the table: the medians of each lock, whose turns alternate. So many rounds are one acquisition or item.
-fn row(what: &str, threads: usize, turns: usize, rounds: f64, entries: &[Entry<'_>]) {
-    let mut seen = vec![Vec::new(); entries.len()];
-    for _ in 0..turns {
-        for (seen, entry) in seen.iter_mut().zip(entries) {
-            seen.push(turn(threads, *entry));
-        }
-    }
-    let cells = seen.iter().map(|it| {
-        let of = |figure: fn(&Seen) -> f64| median(it.iter().map(figure));
-        let (rate, micros) = (of(|it| it.rate) / rounds, of(|it| it.micros) * rounds);
-        format!("{rate:.0}, {:.1}, {:.2}, {micros:.3}", of(|it| it.switches), of(|it| it.least))
-    });
-    println!("| {what} | {} |", cells.collect::<Vec<_>>().join(" | "));
+/// The table: how many turns a figure has, and of each row `proved_lock`'s rate as a share of the better one of the others.
+struct Table {
+    turns: usize,
+    shares: Vec<(f64, String)>,
 }
 
-/// Prints the lines of locks for 2, 4 and 8 threads.
-fn rows(what: &str, turns: usize, rounds: [Round<'_>; 3]) {
-    let entries = rounds.map(|round| -> Entry<'_> { (round, &|| ()) });
-    [2, 4, 8].into_iter().for_each(|threads| row(&format!("{what}, {threads} threads"), threads, turns, 1.0, &entries));
+impl Table {
+    /// Prints a line: the medians of each lock, whose turns alternate. So many rounds are one acquisition or item.
+    fn row(&mut self, what: &str, threads: usize, rounds: f64, entries: &[Entry<'_>; 3]) {
+        let mut seen = [const { Vec::new() }; 3];
+        for _ in 0..self.turns {
+            for (seen, entry) in seen.iter_mut().zip(entries) {
+                seen.push(turn(threads, *entry));
+            }
+        }
+        let of = |it: &[Seen], figure: fn(&Seen) -> f64| median(it.iter().map(figure));
+        let [mine, other, std] = [0, 1, 2].map(|it| of(&seen[it], |it| it.rate) / rounds);
+        self.shares.push((mine / other.max(std), what.to_owned()));
+        let cells = [(mine, &seen[0]), (other, &seen[1]), (std, &seen[2])].map(|(rate, it)| {
+            let micros = of(it, |it| it.micros) * rounds;
+            format!("{rate:.0}, {:.1}, {:.2}, {micros:.3}", of(it, |it| it.switches), of(it, |it| it.least))
+        });
+        print_line(what, &cells);
+    }
+
+    /// Prints the lines of locks for 2, 4 and 8 threads.
+    fn rows(&mut self, what: &str, rounds: [Round<'_>; 3]) {
+        let entries = rounds.map(|round| -> Entry<'_> { (round, &|| ()) });
+        [2, 4, 8].into_iter().for_each(|threads| self.row(&format!("{what}, {threads} threads"), threads, 1.0, &entries));
+    }
+
+    /// Prints in how many rows `proved_lock` is about as fast as the others, and the rows in which it is slowest.
+    fn print_shares(mut self) {
+        self.shares.sort_by(|one, other| one.0.total_cmp(&other.0));
+        let near = self.shares.iter().filter(|it| it.0 >= 0.95).count();
+        println!("proved_lock's rate is at least 0.95 of the better other one in {near} of {} rows; least:", self.shares.len());
+        self.shares.iter().take(4).for_each(|(share, what)| println!("{share:.2} {what}"));
+    }
+}
+
+fn print_line(what: &str, cells: &[String; 3]) {
+    println!("{what:<43}  {:<25}  {:<25}  {}", cells[0], cells[1], cells[2]);
 }
 
 fn spin(rounds: u64) {
@@ -153,7 +175,7 @@ fn once_in(of: u64, random: &mut u64) -> bool {
     (*random >> 20) % of == 0
 }
 
-fn mutexes(what: &str, turns: usize, inside: u64, outside: u64) {
+fn mutexes(table: &mut Table, what: &str, inside: u64, outside: u64) {
     let (std, other, mine) = (std::sync::Mutex::new(0), parking_lot::Mutex::new(0), proved_lock::Mutex::new(0));
     let work = |value: &mut u64| {
         *value += 1;
@@ -173,10 +195,10 @@ fn mutexes(what: &str, turns: usize, inside: u64, outside: u64) {
             spin(outside);
         },
     ];
-    rows(what, turns, rounds);
+    table.rows(what, rounds);
 }
 
-fn rwlocks(what: &str, turns: usize, inside: u64, of: u64) {
+fn rwlocks(table: &mut Table, what: &str, inside: u64, of: u64) {
     let (std, other, mine) = (std::sync::RwLock::new(()), parking_lot::RwLock::new(()), proved_lock::RwLock::new(()));
     let rounds: [Round<'_>; 3] = [
         &|thread| {
@@ -207,7 +229,7 @@ fn rwlocks(what: &str, turns: usize, inside: u64, of: u64) {
             }
         },
     ];
-    rows(what, turns, rounds);
+    table.rows(what, rounds);
 }
 
 /// Declares a bounded queue over a mutex and two condition variables of a crate.
@@ -263,7 +285,7 @@ queue!(Other, parking_lot, mutex => mutex.lock(), (condvar, items) => {
 });
 queue!(Std, std::sync, mutex => mutex.lock().expect("no panic"), (condvar, items) => condvar.wait(items).expect("no panic"));
 
-fn queues(turns: usize) {
+fn queues(table: &mut Table) {
     let (std, other, mine) = (Std::default(), Other::default(), Mine::default());
     let entries: [Entry<'_>; 3] = [
         (&|thread| mine.round(thread), &|| mine.wake()),
@@ -271,7 +293,7 @@ fn queues(turns: usize) {
         (&|thread| std.round(thread), &|| std.wake()),
     ];
     for each in [1, 2, 4] {
-        row(&format!("a queue of {ROOM} items, {each} + {each} threads"), 2 * each, turns, 2.0, &entries);
+        table.row(&format!("a queue of {ROOM} items, {each} + {each} threads"), 2 * each, 2.0, &entries);
     }
 }
 
@@ -294,13 +316,15 @@ fn main() {
     println!("proved_lock {}, parking_lot {}, std of {}", env!("CARGO_PKG_VERSION"), version_of("parking_lot"), rustc());
     println!("acquisitions or items a millisecond, switches a millisecond, the least share, and microseconds of processor time");
     println!("of an acquisition or item; medians of {turns} turns");
-    println!("| A load | `proved_lock` | `parking_lot` | std |\n|---|---|---|---|");
-    mutexes("mutex, short sections", turns, 0, 0);
-    mutexes("mutex, 1 µs, and as long outside", turns, ten / 10, ten / 10);
-    mutexes("mutex, 10 µs", turns, ten, 0);
-    mutexes("mutex, 10 µs, and as long outside", turns, ten, ten);
-    rwlocks("one write in ten, short sections", turns, 0, 10);
-    rwlocks("one write in ten, 10 µs", turns, ten, 10);
-    rwlocks("one write in two, 10 µs", turns, ten, 2);
-    queues(turns);
+    print_line("A load", &["proved_lock", "parking_lot", "std"].map(str::to_owned));
+    let mut table = Table { turns, shares: Vec::new() };
+    mutexes(&mut table, "mutex, short sections", 0, 0);
+    mutexes(&mut table, "mutex, 1 µs, and as long outside", ten / 10, ten / 10);
+    mutexes(&mut table, "mutex, 10 µs", ten, 0);
+    mutexes(&mut table, "mutex, 10 µs, and as long outside", ten, ten);
+    rwlocks(&mut table, "one write in ten, short sections", 0, 10);
+    rwlocks(&mut table, "one write in ten, 10 µs", ten, 10);
+    rwlocks(&mut table, "one write in two, 10 µs", ten, 2);
+    queues(&mut table);
+    table.print_shares();
 }
