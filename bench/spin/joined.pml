@@ -1,4 +1,4 @@
-// A party that starts N workers and joins them. Each call and each line without a lock is one step, as in the plan.
+// A party that starts N workers, at most 15, and joins them. Each step is one of the plan.
 #ifndef N
 #define N 2
 #endif

@@ -1,4 +1,4 @@
-// N philosophers at a round table, each of whom eats if the second fork is free. Each step is one of the plan.
+// N philosophers, at most 15, at a round table, each of whom eats if the second fork is free. Each step is one of the plan.
 #ifndef N
 #define N 2
 #endif

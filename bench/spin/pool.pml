@@ -1,4 +1,4 @@
-// N borrowers of one pool, and a user who gives something back once. A plan's line is one step here.
+// N borrowers, at most 8, of one pool, and a user who gives something back once. Each step is one of the plan.
 #ifndef N
 #define N 2
 #endif

@@ -1,4 +1,4 @@
-// N workers of one queue, and a party that puts jobs into it and ends. A plan's line is one step here.
+// N workers, at most 8, of one queue, and a party that puts jobs into it and ends. Each step is one of the plan.
 #ifndef N
 #define N 2
 #endif
