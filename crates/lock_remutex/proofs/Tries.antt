@@ -7,7 +7,7 @@ use Rattle.lock_remutex.specs.declared.owner_table.rule.OwnerStep.{OwnerStep}
 use Rattle.lock_remutex.specs.declared.owner_table.rule.OwnerStep.TheVariants.{Start, Saw, Took, Made}
 use Rattle.lock_remutex.specs.OwnerTables.{CallView}
 use Rattle.lock_remutex.specs.OwnerCalls.{First}
-use Rattle.lock_remutex.specs.LevelSteps.{LevelView, Gained, WasOwned, HasToken, ByTry, IsOn, FoundOwner, TriedLevel, IsNewLevel, TriedFor, AnswersLevel}
+use Rattle.lock_remutex.specs.LevelSteps.{LevelView, Gained, WasOwned, HasToken, ByTry, IsOn, IsNoOwner, FoundOwner, TriedLevel, IsNewLevel, TriedFor, AnswersLevel}
 
 module _ {T : Type 0} where
   by_owned : (tried : Option T → Type 0) (step : OwnerStep T) → WasOwned step → ByTry tried step
@@ -49,10 +49,10 @@ module _ {R T : Type 0} where
   tried_first tried raw party answer level is did from =
       (is, by_token tried from.0 level.call.step (subst tried from.1 did) from.2)
 
-  pub refused_first : (tried : Option T → Type 0) (raw : R) (party : ℕ) (answer : Option T) → tried answer
+  pub refused_first : (tried : Option T → Type 0) (raw : R) (party : ℕ) (answer : Option T) → IsNoOwner T raw party → tried answer
       → (answer ≡ None) ⊎ FoundOwner T raw → TriedFor {R = R} {T = T} tried raw party None
-  refused_first tried raw party answer did (inl none) = inl (subst tried none did)
-  refused_first tried raw party answer did (inr found) = inr found
+  refused_first tried raw party answer other did (inl none) = (other, inl (subst tried none did))
+  refused_first tried raw party answer other did (inr found) = (other, inr found)
 
   pub tried_level : (tried : Option T → Type 0) (is_own : R → T → Bool) (raw : R) (party : ℕ) (got : Option (LevelView R T)) (answer : Bool)
       → TriedFor tried raw party got → AnswersLevel is_own got answer → TriedLevel tried is_own raw party answer

@@ -6,7 +6,7 @@ use Rattle.lock_base.specs.Levels.{Levels, level_of}
 use Rattle.lock_remutex.specs.declared.owner_table.rule.OwnerStep.{OwnerStep}
 use Rattle.lock_remutex.specs.declared.owner_table.rule.OwnerStep.TheVariants.{Saw, Made}
 use Rattle.lock_remutex.specs.OwnerTables.{CallView}
-use Rattle.lock_remutex.specs.OwnerCalls.{LeavesSole}
+use Rattle.lock_remutex.specs.OwnerCalls.{Again, LeavesSole}
 
 -- a level: the call that gained it, and its party
 pub record LevelView (R T : Type 0) : Type 0 where
@@ -58,6 +58,12 @@ pub record HasSeveral {R : Type 0} (T : Type 0) (raw : R) (party : ℕ) : Type 0
   pub on : IsOn raw call
   pub several : LeavesSole party (Ok None) call.step
 
+-- a call found that the party does not own this raw lock
+pub record IsNoOwner {R : Type 0} (T : Type 0) (raw : R) (party : ℕ) : Type 0 where
+  pub call : CallView (Snapshot R) T
+  pub on : IsOn raw call
+  pub other : Again call.table.key.limit party (Ok false) call.step
+
 -- a call found that this raw lock has an owner
 pub record FoundOwner {R : Type 0} (T : Type 0) (raw : R) : Type 0 where
   pub call : CallView (Snapshot R) T
@@ -79,10 +85,14 @@ module _ {R T : Type 0} where
     pub on : IsOn raw call
     pub lost : Lost (λ token. is_own raw token ≡ true) party call.step
 
-  -- what a try for a level did: it gained one, by a try of the raw lock if there was no owner; or that try was refused, or found an owner
+  -- why a try for a level was refused: the party was not the owner, and the try of the raw lock was refused or found an owner
+  abbrev pub RefusedLevel : (Option T → Type 0) → R → ℕ → Type 0
+  RefusedLevel tried raw party = IsNoOwner T raw party × (tried None ⊎ FoundOwner T raw)
+
+  -- what a try for a level did: it gained one, by a try of the raw lock if there was no owner; or it was refused
   abbrev pub TriedLevel : (Option T → Type 0) → (R → T → Bool) → R → ℕ → Bool → Type 0
   TriedLevel tried is_own raw party true = (l : HasGained is_own raw party) × ByTry tried l.call.step
-  TriedLevel tried is_own raw party false = tried None ⊎ FoundOwner T raw
+  TriedLevel tried is_own raw party false = RefusedLevel tried raw party
 
   -- a level of this raw lock and party
   pub record IsNewLevel (raw : R) (party : ℕ) (level : LevelView R T) : Type 0 where
@@ -92,7 +102,7 @@ module _ {R T : Type 0} where
   -- what a try for a level did, where it answers the level
   abbrev pub TriedFor : (Option T → Type 0) → R → ℕ → Option (LevelView R T) → Type 0
   TriedFor tried raw party (Some level) = IsNewLevel raw party level × ByTry tried level.call.step
-  TriedFor tried raw party None = tried None ⊎ FoundOwner T raw
+  TriedFor tried raw party None = RefusedLevel tried raw party
 
   -- the level was left to its party: the call that gained it is a `HasGained`
   abbrev pub Kept : (R → T → Bool) → LevelView R T → Type 0

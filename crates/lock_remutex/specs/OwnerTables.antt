@@ -1,4 +1,4 @@
--- The owner word of a reentrant lock, the rule of its table, and what each kind of step tells.
+-- The owner word of a reentrant lock, the rule of its table, and what a call knows after each kind of step.
 use Rattle.std.specs.Prelude.{◌≡◌, ◌≢◌, ℕ, ◌*◌, ◌+◌, ◌/◌, ◌%◌, ◌^◌, ◌<◌, ◌≤◌, List, [], ◌∷◌, length, slice_index, IfSome, IsSome, Some}
 use Rattle.std.specs.Prelude.{refl}
 use Rattle.std.specs.Prelude as std
@@ -108,7 +108,7 @@ module _ {K T : Type 0} where
   abbrev pub after_step : Self K T → OwnerStep T → Self K T
   after_step me step = (record me.0 { step = step }, me.1)
 
-  -- a load tells the word
+  -- after a load the call knows the word
   abbrev pub Looks : Step (std.Option (Levels T)) → Self K T → ℕ → Self K T → Type 0
   Looks s me found after = (after ≡ after_step me (Saw found)) × IsWord me.0.key.limit found
 

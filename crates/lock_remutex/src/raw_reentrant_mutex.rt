@@ -1,7 +1,7 @@
 ghost use Rattle.std.specs.Prelude.{◌≡◌, ◌↔◌, ◌⊎◌, true, None, Some, Err, IfOk, IfErr, IfSome, IsOkUnless};
 ghost use Rattle.lock_base.specs.Limits.{IsLimit, IsMakerFault};
 ghost use Rattle.lock_base.specs.Party.{id_of};
-ghost use Rattle.lock_remutex.specs.LevelSteps.{AnswersLevel, HasGained, HasLost, HasSeveral, HasToken, FoundOwner, IsNewLevel, TriedFor, TriedLevel, WasOwned};
+ghost use Rattle.lock_remutex.specs.LevelSteps.{AnswersLevel, HasGained, HasLost, HasSeveral, HasToken, FoundOwner, IsNewLevel, IsNoOwner, TriedFor, TriedLevel, WasOwned};
 
 use crate::owner_table::{Level, OwnerKey, OwnerTable, TokenRule};
 use lock_base::machine::PartyId;
@@ -200,6 +200,7 @@ impl<R: RawMutex> RawReentrantMutex<R> {
     fn again(&self, party: PartyId) -> Result<Option<Level<R>>, Fault>
         ensures level { IfOk result (λ got. IfSome got (IsNewLevel self.now (id_of party))) }
         ensures owned { IfOk result (λ got. IfSome got (λ level. WasOwned level.call.step)) }
+        ensures other { IfOk result (λ got. got ≡ None → IsNoOwner R.Guard self.now (id_of party)) }
         ensures fault { IfErr result (λ fault. fault ≡ Fault.FullCount) }
     {
         let (answer, call) = self.owner.again(self.raw.waiter(), party);
