@@ -5,6 +5,7 @@ use Rattle.lock_mutex.specs.declared.guard.Guard.{Guard}
 use Rattle.lock_mutex.specs.declared.mutex.Mutex.{Mutex}
 use Rattle.lock_ranked.specs.Guards.{mutex_of}
 use Rattle.lock_ranked.specs.declared.ranked.Ranked.{Ranked}
+use Rattle.lock_ranked.specs.declared.row.place.RowPlace.{RowPlace}
 use Rattle.lock_ranked.specs.declared.row.places.RankedMutexRow.{RankedMutexRow}
 
 module _ {R T K : Type 0} where
@@ -15,6 +16,15 @@ module _ {R T K : Type 0} where
   -- the mutexes of a row, in the order of places
   abbrev pub mutexes_of : RankedMutexRow R T K → List (Mutex R T)
   mutexes_of row = row.mutexes.items
+
+module _ {R T B K : Type 0} where
+  -- the mutex that a place of a row permits to acquire
+  abbrev pub mutex_at : RowPlace R T B K → Mutex R T
+  mutex_at place = place.mutex.now
+
+  -- the mutex is the one at this place
+  abbrev pub IsPlaceAt : {K' : Type 0} → RankedMutexRow R T K' → ℕ → RowPlace R T B K → Type 0
+  IsPlaceAt row place found = mutex_at found ≡ slice_index_or (mutexes_of row) place (mutex_at found)
 
 module _ {R T B K K' V Z W X : Type 0} {r : _} {g : _} where
   -- the guard is one of the mutex at this place

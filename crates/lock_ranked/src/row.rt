@@ -1,4 +1,5 @@
 //! Mutexes of one rank, ordered by their places.
+mod place;
 mod places;
 
 ghost use Rattle.std.specs.Prelude.{◌≡◌, ◌≢◌, ◌<◌, IfOk, IsOkUnless};
@@ -6,13 +7,30 @@ ghost use Rattle.lock_ranked.specs.RowOrders.{next_of, row_of};
 ghost use Rattle.lock_ranked.specs.Rows.{places_of, AreGuardsOf, IsGuardAt};
 
 use crate::mutex::RankedMutexGuard;
-use crate::order::Order;
+use crate::order::{Acquired, Order};
 use crate::rank::Rank;
 use lock_base::raw::Fault;
 use lock_guard::raw::RawMutex;
+use lock_mutex::MutexGuard;
 pub use places::RankedMutexRow;
 use places::RowOrder;
 use std::alloc::Global;
+
+impl<R: RawMutex, T, K: Rank> RankedMutexRow<R, T, K> {
+    /// Acquires the mutex at `place`, blocking until it is available.
+    pub fn lock<'a, 'o, B: Rank>(
+        &'a self,
+        order: &'o mut Order<'_, B>,
+        place: usize,
+    ) -> Acquired<'o, MutexGuard<'a, R, T>, B, K, K>
+        requires rank { B.rank < K.rank }
+        requires place { place < places_of self.now }
+        ensures { IsGuardAt self.now place result.0 }
+    {
+        let (place, above) = self.at(order, place);
+        (place.lock(), above)
+    }
+}
 
 /// Acquisitions of several places. Only a `RowOrder` makes them, and it acquires upward.
 impl<R: RawMutex, T, K: Rank> RankedMutexRow<R, T, K> {
@@ -37,12 +55,12 @@ impl<R: RawMutex, T, K: Rank> RankedMutexRow<R, T, K> {
     {
         let mut row_order = RowOrder::start(self, order);
         if left < right {
-            let first = row_order.lock(left);
-            let second = row_order.lock(right);
+            let first = row_order.step(left).lock();
+            let second = row_order.step(right).lock();
             (first, second, row_order.end())
         } else {
-            let second = row_order.lock(right);
-            let first = row_order.lock(left);
+            let second = row_order.step(right).lock();
+            let first = row_order.step(left).lock();
             (first, second, row_order.end())
         }
     }
@@ -64,7 +82,7 @@ impl<R: RawMutex, T, K: Rank> RankedMutexRow<R, T, K> {
         let mut row_order = RowOrder::start(self, order);
         let mut guards = Vec::new(alloc);
         for place in 0..self.len() {
-            guards.push(row_order.lock(place))?;
+            guards.push(row_order.step(place).lock())?;
         }
         Ok((guards, row_order.end()))
     }

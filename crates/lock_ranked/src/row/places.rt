@@ -1,14 +1,14 @@
-//! The mutexes of a row. Only a `RowOrder` acquires several of them.
+//! The mutexes of a row. Only a `RowOrder` reaches several of them.
+//!
+//! No impl of this file says that `R` is a raw lock, so no body of it can lock.
 ghost use Rattle.std.specs.Prelude.{◌≡◌, ◌+◌, ◌<◌, ◌≤◌, vec_len};
 ghost use Rattle.lock_ranked.specs.RowOrders.{next_of, row_of};
-ghost use Rattle.lock_ranked.specs.Rows.{mutexes_of, places_of, IsGuardAt};
+ghost use Rattle.lock_ranked.specs.Rows.{mutexes_of, places_of, IsPlaceAt};
 
-use crate::mutex::RankedMutexGuard;
-use crate::order::{Acquired, Order};
+use crate::order::Order;
 use crate::rank::Rank;
-use crate::ranked::Ranked;
-use lock_guard::raw::RawMutex;
-use lock_mutex::{Mutex, MutexGuard};
+use crate::row::place::RowPlace;
+use lock_mutex::Mutex;
 use std::marker::PhantomData;
 use std::snapshot::Snapshot;
 
@@ -54,20 +54,18 @@ impl<R, T, K: Rank> RankedMutexRow<R, T, K> {
     {
         self.mutexes.len()
     }
-}
 
-impl<R: RawMutex, T, K: Rank> RankedMutexRow<R, T, K> {
-    /// Acquires the mutex at `place`, blocking until it is available.
-    pub fn lock<'a, 'o, B: Rank>(
+    /// Returns the mutex at `place`, and the order for the acquisitions after it.
+    pub(super) fn at<'a, 'o, B: Rank>(
         &'a self,
         order: &'o mut Order<'_, B>,
         place: usize,
-    ) -> Acquired<'o, MutexGuard<'a, R, T>, B, K, K>
+    ) -> (RowPlace<'a, 'o, R, T, B, K>, Order<'o, K>)
         requires rank { B.rank < K.rank }
         requires place { place < places_of self.now }
-        ensures { IsGuardAt self.now place result.0 }
+        ensures { IsPlaceAt self.now place result.0 }
     {
-        order.acquired(self.mutexes[place].lock())
+        (RowPlace::new(&self.mutexes[place]), order.above::<K, K>())
     }
 }
 
@@ -80,7 +78,7 @@ pub struct RowOrder<'a, 'o, R, T, K: Rank> {
     above: Order<'o, K>,
 }
 
-impl<'a, 'o, R: RawMutex, T, K: Rank> RowOrder<'a, 'o, R, T, K> {
+impl<'a, 'o, R, T, K: Rank> RowOrder<'a, 'o, R, T, K> {
     /// Starts at the first place, in an order that is borrowed for as long as the guards live.
     pub fn start<B: Rank>(row: &'a RankedMutexRow<R, T, K>, order: &'o mut Order<'_, B>) -> Self
         requires { B.rank < K.rank }
@@ -94,17 +92,17 @@ impl<'a, 'o, R: RawMutex, T, K: Rank> RowOrder<'a, 'o, R, T, K> {
         }
     }
 
-    /// Acquires the mutex at `place`, blocking until it is available. The next one is at a higher place.
+    /// Returns the mutex at `place`. The next one is at a higher place.
     #[inline(always)]
-    pub fn lock(&mut self, place: usize) -> RankedMutexGuard<'a, 'o, R, T, K, K>
+    pub(super) fn step(&mut self, place: usize) -> RowPlace<'a, 'o, R, T, K, K>
         requires place { place < places_of (row_of self.old) }
         requires above { next_of self.old ≤ place }
-        ensures guard { IsGuardAt (row_of self.old) place result }
+        ensures place { IsPlaceAt (row_of self.old) place result }
         ensures row { row_of self.new ≡ row_of self.old }
         ensures next { next_of self.new ≡ place + 1 }
     {
         self.next = Snapshot::of(&(place + 1));
-        Ranked::new(self.row.mutexes[place].lock())
+        RowPlace::new(&self.row.mutexes[place])
     }
 
     /// Ends the acquisitions. The order that it returns is at `K`.
