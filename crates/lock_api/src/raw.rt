@@ -16,8 +16,8 @@ pub use lock_raws_fair::{
     TIMED_SPAN, Ticket, TimedFairRaw,
 };
 pub use lock_wake::{
-    CallStage, CountRule, EventCount, Notified, Passed, Registered, Registration, Slept, time_left,
-    time_until,
+    CallStage, CountRule, EventCount, HeldLock, LockEvents, Notified, Passed, Registered, Slept,
+    time_left, time_until,
 };
 pub use lock_word::seated::{Attempt, Party, SeatView, SeatedLock, WordRule};
 pub use lock_word::{

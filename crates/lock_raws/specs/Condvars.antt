@@ -4,13 +4,7 @@ use Rattle.std.specs.Prelude.{◌≡◌, ◌<◌, ℕ, Bool, true, false, Option
 use Rattle.std.specs.Time.{instant_nanos}
 use Rattle.std.specs.declared.time.Instant.{Instant}
 use Rattle.atomic_table.specs.Seated.{TableId}
-use Rattle.lock_wake.specs.EventCalls.{Ended, Asleep, Keeper, waiters_of}
-
--- the wait registered before its token was free for the release, and then slept
-abbrev pub HasSlept : {T : Type 0} → TableId → T → Option ℕ → Asleep → Type 0
-HasSlept {T} events token deadline wait =
-    (keeper : Keeper T) × (keeper.token ≡ token) × (keeper.events ≡ events) × (wait.events ≡ events)
-    × (wait.number ≡ keeper.number) × (wait.deadline ≡ deadline)
+use Rattle.lock_wake.specs.EventCalls.{Ended, Asleep, HasSlept, waiters_of}
 
 abbrev pub Waited : {T : Type 0} → TableId → T → Type 0
 Waited events token = (wait : Asleep) × HasSlept events token None wait

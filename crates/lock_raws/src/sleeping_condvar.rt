@@ -1,9 +1,9 @@
 //! A condition variable whose waiters sleep.
 use lock_base::raw::Fault;
 use lock_guard::raw::{RawCondvar, RawCondvarTimed, RawMutex, RawMutexTimed};
-use lock_wake::EventCount;
+use lock_wake::{HeldLock, LockEvents};
 use std::alloc::Global;
-use std::marker::PhantomData;
+use std::marker::{Model, PhantomData};
 use std::time::{Clock, Duration, Instant};
 
 /// A condition variable over any raw mutex. A wait registers, releases the mutex, and sleeps. A notification that begins
@@ -14,8 +14,31 @@ use std::time::{Clock, Duration, Instant};
 /// counted too.
 #[derive(Drop)]
 pub struct SleepingCondvar<R> {
-    waiting: EventCount,
+    waiting: LockEvents,
     mutex: PhantomData<R>,
+}
+
+/// The token of a mutex that a wait releases. Contracts see the token.
+struct HeldMutex<'a, R: RawMutex> {
+    mutex: &'a R,
+    token: R::Guard,
+}
+
+impl<'a, R: RawMutex> Model for HeldMutex<'a, R> {
+    ghost use Rattle.std.specs.Prelude.{◌≡◌, true};
+
+    ghost Value = { R.Guard };
+
+    ghost view = { λ held. held.token };
+
+    ghost invariant = { λ held. R.is_own held.mutex.now held.token ≡ true };
+}
+
+impl<'a, R: RawMutex> HeldLock for HeldMutex<'a, R> {
+    fn release(self) {
+        let HeldMutex { mutex, token } = self;
+        mutex.unlock(token);
+    }
 }
 
 impl<R: RawMutex> RawCondvar for SleepingCondvar<R> {
@@ -31,16 +54,14 @@ impl<R: RawMutex> RawCondvar for SleepingCondvar<R> {
 
     fn new(alloc: Global) -> Result<SleepingCondvar<R>, Fault> {
         Ok(SleepingCondvar {
-            waiting: EventCount::new(alloc)?,
+            waiting: LockEvents::new(alloc)?,
             mutex: PhantomData,
         })
     }
 
     fn wait(&self, mutex: &R, token: R::Guard) -> R::Guard {
-        let registration = self.waiting.register_with(mutex.waiter(), token);
-        let (registered, token) = registration.released();
-        mutex.unlock(token);
-        self.waiting.sleep(mutex.waiter(), registered);
+        self.waiting
+            .wait(mutex.waiter(), HeldMutex { mutex, token });
         mutex.lock()
     }
 
@@ -74,11 +95,8 @@ where
     }
 
     fn wait_until(&self, mutex: &R, token: R::Guard, deadline: &Instant) -> (R::Guard, bool) {
-        let waiter = mutex.waiter();
-        let registration = self.waiting.register_with(waiter, token);
-        let (registered, token) = registration.released();
-        mutex.unlock(token);
-        let slept = self.waiting.sleep_until(waiter, registered, *deadline);
+        let held = HeldMutex { mutex, token };
+        let slept = self.waiting.wait_until(mutex.waiter(), held, *deadline);
         (mutex.lock(), slept.has_timed_out())
     }
 }

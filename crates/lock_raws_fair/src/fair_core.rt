@@ -114,10 +114,10 @@ impl<A: Arbiter, W: Wait + Clone + Drop, T: Timing<W>> FairCore<A, W, T> {
                 next = self.waiters.spin(waiting, state);
                 continue;
             }
-            let registration = self.waiters.register(&self.waiter, &waiting, state);
-            next = self
+            let (resumed, _slept) = self
                 .waiters
-                .sleep::<A, W, T>(&self.waiter, waiting, registration, deadline);
+                .sleep::<A, W, T>(&self.waiter, waiting, state, deadline);
+            next = resumed;
         }
         unreachable!()
     }
@@ -160,10 +160,10 @@ impl<A: Arbiter, W: Wait + Clone + Drop, T: Timing<W>> FairCore<A, W, T> {
                 next = self.waiters.spin_upgrade(waiting, state);
                 continue;
             }
-            let registration = self.waiters.register_upgrade(&self.waiter, &waiting, state);
-            next = self
+            let (resumed, _slept) = self
                 .waiters
-                .sleep_upgrade::<A, W, T>(&self.waiter, waiting, registration, deadline);
+                .sleep_upgrade::<A, W, T>(&self.waiter, waiting, state, deadline);
+            next = resumed;
         }
         unreachable!()
     }

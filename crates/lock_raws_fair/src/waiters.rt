@@ -12,7 +12,7 @@ use crate::turn::{NOBODY, TurnHint, UPGRADE};
 use crate::upgrade::{Upgrade, WaitingUpgrade};
 use lock_base::raw::Fault;
 use lock_raws::Arbiter;
-use lock_wake::{EventCount, Notified};
+use lock_wake::{LockEvents, Notified};
 use std::alloc::Global;
 use std::sync::MutexGuard;
 
@@ -20,11 +20,11 @@ use std::sync::MutexGuard;
 #[derive(Drop)]
 pub(crate) struct FairWaiters {
     /// A ticket waits on the event count of its number, so a notification reaches every eighth ticket.
-    tickets: [EventCount; 8],
+    tickets: [LockEvents; 8],
     /// The holder whose upgrade waits.
-    upgrader: EventCount,
+    upgrader: LockEvents,
     /// The callers without a ticket.
-    ticketless: EventCount,
+    ticketless: LockEvents,
     turn: TurnHint,
 }
 
@@ -34,17 +34,17 @@ impl FairWaiters {
     {
         Ok(FairWaiters {
             tickets: [
-                EventCount::new(alloc)?,
-                EventCount::new(alloc)?,
-                EventCount::new(alloc)?,
-                EventCount::new(alloc)?,
-                EventCount::new(alloc)?,
-                EventCount::new(alloc)?,
-                EventCount::new(alloc)?,
-                EventCount::new(alloc)?,
+                LockEvents::new(alloc)?,
+                LockEvents::new(alloc)?,
+                LockEvents::new(alloc)?,
+                LockEvents::new(alloc)?,
+                LockEvents::new(alloc)?,
+                LockEvents::new(alloc)?,
+                LockEvents::new(alloc)?,
+                LockEvents::new(alloc)?,
             ],
-            upgrader: EventCount::new(alloc)?,
-            ticketless: EventCount::new(alloc)?,
+            upgrader: LockEvents::new(alloc)?,
+            ticketless: LockEvents::new(alloc)?,
             turn: TurnHint::new(),
         })
     }
@@ -79,7 +79,7 @@ impl FairWaiters {
     }
 
     /// Returns where the ticket waits, or a caller without one.
-    fn events(&self, ticket: &Option<Ticket>) -> &EventCount
+    fn events(&self, ticket: &Option<Ticket>) -> &LockEvents
         ensures { result.now ≡ events_of self.now.tickets self.now.ticketless ticket.now }
     {
         match ticket {
@@ -88,7 +88,7 @@ impl FairWaiters {
         }
     }
 
-    fn ticket_events(&self, number: u64) -> &EventCount
+    fn ticket_events(&self, number: u64) -> &LockEvents
         ensures ticket { result.now ≡ events_of self.now.tickets self.now.ticketless (Some number) }
         ensures place { result.now ≡ slice_index_or self.now.tickets (number % 8) result.now }
     {

@@ -79,10 +79,8 @@ impl Changed {
     {
         let ConditionWait { registered } = waiting;
         match time {
-            Some(time) => self.events.sleep_for(rt, registered, time),
-            None => {
-                self.events.sleep(rt, registered);
-            }
+            Some(time) => drop(self.events.sleep_for(rt, registered, time)),
+            None => drop(self.events.sleep(rt, registered)),
         }
     }
 

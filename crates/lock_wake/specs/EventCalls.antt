@@ -1,5 +1,5 @@
 -- What contracts see of a call.
-use Rattle.std.specs.Prelude.{◌≡◌, ℕ, ◌%◌, Bool, if◌then◌else◌}
+use Rattle.std.specs.Prelude.{◌≡◌, ℕ, ◌%◌, Bool, Option, if◌then◌else◌}
 use Rattle.std.specs.Time.{instant_nanos}
 use Rattle.std.specs.declared.time.Instant.{Instant}
 use Rattle.atomic_table.specs.Seated.{TableId}
@@ -27,3 +27,13 @@ owed_to all = owed 1 (if all then All else One)
 -- a thread looked at the clock, and the deadline had passed or the clock could not be read
 abbrev pub HasPassed : Instant → Type 0
 HasPassed deadline = (look : PassedDeadline) × (look.nanos ≡ instant_nanos deadline)
+
+module _ {T : Type 0} where
+  -- the wait of this number registered while the lock was held
+  abbrev pub HasKept : TableId → T → ℕ → Type 0
+  HasKept events held number =
+      (keeper : Keeper T) × (keeper.token ≡ held) × (keeper.events ≡ events) × (number ≡ keeper.number)
+
+  -- the wait registered while the lock was held, and then slept
+  abbrev pub HasSlept : TableId → T → Option ℕ → Asleep → Type 0
+  HasSlept events held deadline wait = HasKept events held wait.number × (wait.events ≡ events) × (wait.deadline ≡ deadline)

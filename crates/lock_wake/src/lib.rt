@@ -15,5 +15,7 @@ pub use deadline::{Passed, time_left, time_until};
 pub use laws::every_state_wakes_the_registered;
 pub use owed_wake::{OwedWake, Whom};
 pub use pauses::Pauses;
-pub use sleepers::{CallStage, CountRule, EventCount, Notified, Registered, Registration, Slept};
+pub use sleepers::{
+    CallStage, CountRule, EventCount, HeldLock, LockEvents, Notified, Registered, Slept,
+};
 pub use watched::Watched;

@@ -1,5 +1,6 @@
 //! Threads that sleep until a notification, under a rule by which no notification is lost to a registered wait.
 mod event_count;
+mod lock_events;
 mod notify;
 mod plays;
 mod registration;
@@ -7,5 +8,5 @@ mod stage;
 mod wait;
 
 pub use event_count::{EventCount, Notified, Registered, Slept};
-pub use registration::Registration;
+pub use lock_events::{HeldLock, LockEvents};
 pub use stage::{CallStage, CountRule};

@@ -7,14 +7,14 @@ ghost use Rattle.lock_raws.specs.Waking.{Wakes};
 use crate::wake::Wake;
 use lock_base::raw::Fault;
 use lock_guard::lock_std;
-use lock_wake::{EventCount, Notified, Whom};
+use lock_wake::{LockEvents, Notified, Whom};
 use std::alloc::Global;
 use std::sync::{Mutex, MutexGuard, Wait};
 
 /// The threads that wait for a change of what a std mutex protects.
 #[derive(Drop)]
 pub(crate) struct MonitorWaiters {
-    changed: EventCount,
+    changed: LockEvents,
 }
 
 impl MonitorWaiters {
@@ -23,7 +23,7 @@ impl MonitorWaiters {
         ensures { IfErr result (λ error. error ≡ fault.OutOfMemory) }
     {
         Ok(MonitorWaiters {
-            changed: EventCount::new(alloc)?,
+            changed: LockEvents::new(alloc)?,
         })
     }
 
@@ -38,10 +38,7 @@ impl MonitorWaiters {
     ) -> MutexGuard<'a, A>
         ensures { Waited self.now.changed guard.entry }
     {
-        let registration = self.changed.register_with(waiter, guard);
-        let (registered, guard) = registration.released();
-        drop(guard);
-        self.changed.sleep(waiter, registered);
+        self.changed.wait(waiter, guard);
         lock_std(mutex, waiter)
     }
 

@@ -1,60 +1,35 @@
 //! How the waiters of a fair lock sleep.
-ghost use Rattle.std.specs.Prelude.{◌≡◌};
+ghost use Rattle.std.specs.Prelude.{◌≡◌, true, is_some, None, IfSome};
 ghost use Rattle.std.specs.Sync.Mutex.{mutex_guard_value};
 ghost use Rattle.lock_raws_fair.specs.Sleeping.{events_of, MaySleep, UpgradeMaySleep};
+ghost use Rattle.lock_wake.specs.EventCalls.{HasSlept};
 
 use crate::acquisition::{Acquisition, Waiting};
 use crate::fair_arbiter::FairArbiter;
 use crate::upgrade::{Upgrade, WaitingUpgrade};
 use crate::waiters::FairWaiters;
 use lock_raws::{Arbiter, Timing};
-use lock_wake::{EventCount, Registered, Registration};
+use lock_wake::{LockEvents, Slept};
 use std::sync::{MutexGuard, Wait};
 
 impl FairWaiters {
-    /// Registers an acquisition on its ticket's event count. The section ends no sooner than the registration is `released`.
-    pub(crate) fn register<'a, A: Arbiter, W: Wait>(
-        &self,
-        waiter: &W,
-        waiting: &Waiting,
-        state: MutexGuard<'a, FairArbiter<A>>,
-    ) -> Registration<MutexGuard<'a, FairArbiter<A>>>
-        requires may { MaySleep (mutex_guard_value state) waiting.now.acquisition }
-        ensures there { result.events ≡ events_of self.now.tickets self.now.ticketless waiting.now.acquisition.ticket }
-        ensures section { result.token ≡ state.entry }
-    {
-        self.events(waiting.ticket()).register_with(waiter, state)
-    }
-
-    /// Ends the section, and sleeps until a notification after the registration, or until the deadline. It may end spuriously.
+    /// Registers an acquisition on its ticket's event count, ends the section, and sleeps until a notification or until the
+    /// deadline. It may end spuriously.
     pub(crate) fn sleep<A: Arbiter, W: Wait, T: Timing<W>>(
         &self,
         waiter: &W,
         waiting: Waiting,
-        registration: Registration<MutexGuard<'_, FairArbiter<A>>>,
+        state: MutexGuard<'_, FairArbiter<A>>,
         deadline: &Option<T::Instant>,
-    ) -> Acquisition
-        requires there { registration.events ≡ events_of self.now.tickets self.now.ticketless waiting.acquisition.ticket }
-        ensures { result ≡ waiting.acquisition }
+    ) -> (Acquisition, Option<Slept>)
+        requires may { MaySleep (mutex_guard_value state) waiting.acquisition }
+        ensures acquisition { result.0 ≡ waiting.acquisition }
+        ensures slept { IfSome result.1 (λ slept. HasSlept (events_of self.now.tickets self.now.ticketless waiting.acquisition.ticket) state.entry None slept) }
+        ensures sleeps { deadline.now ≡ None → is_some result.1 ≡ true }
     {
-        let (registered, state) = registration.released();
-        drop(state);
-        sleep::<W, T>(self.events(waiting.ticket()), waiter, registered, deadline);
-        waiting.resumed()
-    }
-
-    /// `register` for the holder whose upgrade waits.
-    pub(crate) fn register_upgrade<'a, A: Arbiter, W: Wait>(
-        &self,
-        waiter: &W,
-        waiting: &WaitingUpgrade<A::Token>,
-        state: MutexGuard<'a, FairArbiter<A>>,
-    ) -> Registration<MutexGuard<'a, FairArbiter<A>>>
-        requires may { UpgradeMaySleep (mutex_guard_value state) waiting.now.pending }
-        ensures there { result.events ≡ self.now.upgrader }
-        ensures section { result.token ≡ state.entry }
-    {
-        self.upgrader.register_with(waiter, state)
+        let events = self.events(waiting.ticket());
+        let slept = sleep::<A, W, T>(events, waiter, state, deadline);
+        (waiting.resumed(), slept)
     }
 
     /// `sleep` for the holder whose upgrade waits.
@@ -62,34 +37,37 @@ impl FairWaiters {
         &self,
         waiter: &W,
         waiting: WaitingUpgrade<A::Token>,
-        registration: Registration<MutexGuard<'_, FairArbiter<A>>>,
+        state: MutexGuard<'_, FairArbiter<A>>,
         deadline: &Option<T::Instant>,
-    ) -> Upgrade<A::Token>
-        requires there { registration.events ≡ self.now.upgrader }
-        ensures { result.pending ≡ waiting.pending }
+    ) -> (Upgrade<A::Token>, Option<Slept>)
+        requires may { UpgradeMaySleep (mutex_guard_value state) waiting.pending }
+        ensures upgrade { result.0.pending ≡ waiting.pending }
+        ensures slept { IfSome result.1 (λ slept. HasSlept self.now.upgrader state.entry None slept) }
+        ensures sleeps { deadline.now ≡ None → is_some result.1 ≡ true }
     {
-        let (registered, state) = registration.released();
-        drop(state);
-        sleep::<W, T>(&self.upgrader, waiter, registered, deadline);
-        waiting.resumed()
+        let slept = sleep::<A, W, T>(&self.upgrader, waiter, state, deadline);
+        (waiting.resumed(), slept)
     }
 }
 
-/// Sleeps on the event count of the registration.
-fn sleep<W: Wait, T: Timing<W>>(
-    events: &EventCount,
+/// Registers on the event count, ends the section, and sleeps. If the deadline has passed, it only ends the section.
+fn sleep<A: Arbiter, W: Wait, T: Timing<W>>(
+    events: &LockEvents,
     waiter: &W,
-    registered: Registered,
+    state: MutexGuard<'_, FairArbiter<A>>,
     deadline: &Option<T::Instant>,
-)
-    requires { registered.events ≡ events.now }
+) -> Option<Slept>
+    ensures slept { IfSome result (λ slept. HasSlept events.now state.entry None slept) }
+    ensures sleeps { deadline.now ≡ None → is_some result ≡ true }
 {
     let Some(deadline) = deadline else {
-        events.sleep(waiter, registered);
-        return;
+        return Some(events.wait(waiter, state));
     };
     match T::time_left(waiter, deadline) {
-        Some(left) => events.sleep_for(waiter, registered, left),
-        None => events.leave(registered),
+        Some(left) => Some(events.wait_for(waiter, state, left)),
+        None => {
+            drop(state);
+            None
+        }
     }
 }

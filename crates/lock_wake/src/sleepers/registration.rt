@@ -4,11 +4,11 @@ ghost use Rattle.std.specs.Prelude.{◌≡◌};
 use crate::sleepers::event_count::Registered;
 use std::marker::Model;
 
-/// A registered wait that keeps the token of a lock. Since `register_with` took the token, the lock is released after the
-/// registration: a notification that follows the release ends the sleep.
+/// A registered wait that keeps a held lock. Since `register_with` took it, the lock is released after the registration: a
+/// notification that follows the release ends the sleep.
 ///
 /// Only the calls of an `EventCount` make one, and no clause can: what contracts see has a private field.
-pub struct Registration<T> {
+pub(crate) struct Registration<T> {
     registered: Registered,
     token: T,
 }
@@ -32,7 +32,7 @@ impl<T> Registration<T> {
     }
 
     /// Returns the wait and the token, to release the lock before the sleep.
-    pub fn released(self) -> (Registered, T)
+    pub(crate) fn released(self) -> (Registered, T)
         ensures wait { (result.0.events ≡ self.events) × (result.0.number ≡ self.number) }
         ensures token { result.1 ≡ self.token }
     {

@@ -28,7 +28,7 @@ impl EventCount {
     }
 
     /// Registers a wait as `register` does. The registration keeps the token until `released`.
-    pub fn register_with<R: Wait, T>(&self, rt: &R, token: T) -> Registration<T>
+    pub(crate) fn register_with<R: Wait, T>(&self, rt: &R, token: T) -> Registration<T>
         ensures events { result.events ≡ self.now }
         ensures token { result.token ≡ token }
     {
@@ -66,10 +66,12 @@ impl EventCount {
     }
 
     /// Sleeps as `sleep` does, for at most `time`.
-    pub fn sleep_for<R: Wait>(&self, rt: &R, registered: Registered, time: Duration)
+    pub fn sleep_for<R: Wait>(&self, rt: &R, registered: Registered, time: Duration) -> Slept
         requires { registered.events ≡ self.now }
+        ensures wait { (result.events ≡ self.now) × (result.number ≡ registered.number) }
+        ensures deadline { result.deadline ≡ None }
     {
         let parked = self.park(rt, registered, Some(time));
-        self.rise(parked, None, false);
+        self.rise(parked, None, false)
     }
 }
