@@ -4,3 +4,4 @@ pub mod Waking
 pub mod Journal
 pub mod Recording
 pub mod Condvars
+pub mod ModeTokens

@@ -2,7 +2,6 @@
 //! around an arbiter. `WordCore` is a core over one packed atomic word whose waiters sleep. And condition variables.
 #![tactic(auto)]
 
-mod announcing;
 mod arbiter;
 mod lock_core;
 mod monitor;
@@ -19,14 +18,13 @@ mod timing;
 mod token_arbiter;
 mod token_raw;
 mod tokens;
-mod unblocking;
 mod wake;
 mod word_core;
 
 pub use arbiter::{Arbiter, Unchanged, upgraded};
 pub use lock_base::machine::ModeStep;
 pub use lock_core::LockCore;
-pub use monitor::Monitor;
+pub use monitor::{ModeToken, Monitor};
 pub use raw_lock::RawLock;
 pub use real_time::{RealTime, TimedCondvar, TimedRaw};
 pub use recording_arbiter::{DEFAULT_ENTRIES, RecordingArbiter};

@@ -1,11 +1,12 @@
 //! An arbiter behind a std mutex.
 ghost use Rattle.std.specs.Prelude.{IfErr, ◌≡◌};
 ghost use Rattle.lock_base.specs.declared.raw.fault.Fault.TheVariants as fault;
+ghost use Rattle.lock_raws.specs.ModeTokens.{mode_of, same_mode};
 
-use crate::announcing::admit_or_announce;
-use crate::arbiter::{Arbiter, upgraded};
+mod steps;
+
+use crate::arbiter::Arbiter;
 use crate::lock_core::LockCore;
-use crate::unblocking;
 use crate::wake::MonitorWaiters;
 use lock_base::machine::Mode;
 use lock_base::raw::Fault;
@@ -13,6 +14,7 @@ use lock_guard::lock_std;
 use std::alloc::Global;
 use std::clone::Clone;
 use std::sync::{Mutex, MutexGuard, Wait};
+pub use steps::ModeToken;
 
 /// A `LockCore`: a std `Mutex` around an arbiter, and an event count on which waiters sleep.
 ///
@@ -48,13 +50,15 @@ impl<A: Arbiter, W: Wait + Clone + Drop> Monitor<A, W> {
 }
 
 impl<A: Arbiter, W: Wait + Clone + Drop> LockCore for Monitor<A, W> {
-    type Token = A::Token;
+    type Token = ModeToken<A::Token>;
 
     type Waiter = W;
 
     type Duration = ();
 
     type Instant = ();
+
+    ghost holds = { λ _ mode token. same_mode mode (mode_of token) };
 
     fn new(alloc: Global, waiter: W, readers: u64) -> Result<Monitor<A, W>, Fault> {
         let arbiter: A = Arbiter::new(alloc, readers)?;
@@ -73,10 +77,10 @@ impl<A: Arbiter, W: Wait + Clone + Drop> LockCore for Monitor<A, W> {
         self.arbiter().bag().exclusive != 0
     }
 
-    fn acquire(&self, mode: Mode) -> A::Token {
+    fn acquire(&self, mode: Mode) -> ModeToken<A::Token> {
         let mut arbiter = self.arbiter();
         for _ in self.waiter.forever() {
-            if let Some(token) = arbiter.admit(mode) {
+            if let Some(token) = steps::admit(&mut *arbiter, mode) {
                 return token;
             }
             arbiter = self.waiters.wait(&self.waiter, &self.arbiter, arbiter);
@@ -84,11 +88,11 @@ impl<A: Arbiter, W: Wait + Clone + Drop> LockCore for Monitor<A, W> {
         unreachable!()
     }
 
-    fn acquire_announced(&self) -> A::Token {
+    fn acquire_announced(&self) -> ModeToken<A::Token> {
         let mut announced = false;
         let mut arbiter = self.arbiter();
         for _ in self.waiter.forever() {
-            if let Some(token) = admit_or_announce(&mut *arbiter, &mut announced) {
+            if let Some(token) = steps::admit_or_announce(&mut *arbiter, &mut announced) {
                 return token;
             }
             arbiter = self.waiters.wait(&self.waiter, &self.arbiter, arbiter);
@@ -96,22 +100,23 @@ impl<A: Arbiter, W: Wait + Clone + Drop> LockCore for Monitor<A, W> {
         unreachable!()
     }
 
-    fn try_acquire(&self, mode: Mode) -> Option<A::Token> {
-        self.arbiter().admit(mode)
+    fn try_acquire(&self, mode: Mode) -> Option<ModeToken<A::Token>> {
+        let mut arbiter = self.arbiter();
+        steps::admit(&mut *arbiter, mode)
     }
 
-    fn release(&self, token: A::Token, mode: Mode) {
+    fn release(&self, token: ModeToken<A::Token>, mode: Mode) {
         let mut arbiter = self.arbiter();
-        let wake = unblocking::give_back(&mut *arbiter, token, mode);
+        let wake = steps::give_back(&mut *arbiter, token, mode);
         drop(arbiter);
         self.waiters.wake(wake);
     }
 
-    fn upgrade(&self, token: A::Token) -> A::Token {
+    fn upgrade(&self, token: ModeToken<A::Token>) -> ModeToken<A::Token> {
         let mut token = token;
         let mut arbiter = self.arbiter();
         for _ in self.waiter.forever() {
-            match upgraded(arbiter.change(token, Mode::Upgradable, Mode::Exclusive)) {
+            match steps::upgrade(&mut *arbiter, token) {
                 Ok(next) => return next,
                 Err(same) => token = same,
             }
@@ -120,14 +125,17 @@ impl<A: Arbiter, W: Wait + Clone + Drop> LockCore for Monitor<A, W> {
         unreachable!()
     }
 
-    fn try_upgrade(&self, token: A::Token) -> Result<A::Token, A::Token> {
+    fn try_upgrade(
+        &self,
+        token: ModeToken<A::Token>,
+    ) -> Result<ModeToken<A::Token>, ModeToken<A::Token>> {
         let mut arbiter = self.arbiter();
-        upgraded(arbiter.change(token, Mode::Upgradable, Mode::Exclusive))
+        steps::upgrade(&mut *arbiter, token)
     }
 
-    fn downgrade(&self, token: A::Token, from: Mode, to: Mode) -> A::Token {
+    fn downgrade(&self, token: ModeToken<A::Token>, from: Mode, to: Mode) -> ModeToken<A::Token> {
         let mut arbiter = self.arbiter();
-        let (token, wake) = unblocking::downgrade(&mut *arbiter, token, from, to);
+        let (token, wake) = steps::downgrade(&mut *arbiter, token, from, to);
         drop(arbiter);
         self.waiters.wake(wake);
         token

@@ -2,8 +2,7 @@
 use Rattle.std.specs.Prelude.{◌≡◌, ℕ, Bool, ◌&&◌, not, List}
 use Rattle.lock_base.specs.declared.machine.mode.Mode.{Mode}
 use Rattle.lock_base.specs.declared.machine.bag.Bag.{Bag}
-use Rattle.lock_base.specs.declared.machine.mode.Mode.TheVariants.{Shared, Exclusive, Upgradable}
-use Rattle.lock_base.specs.Modes.{admits, is_shared, is_exclusive, is_upgradable}
+use Rattle.lock_base.specs.Modes.{admits}
 use Rattle.lock_base.specs.Tokens.{bag_of_tokens}
 use Rattle.lock_raws_fair.specs.Tickets.{Line, is_empty, is_first}
 
@@ -13,11 +12,6 @@ pub record FairState (K : Type 0) : Type 0 where
   pub upgrade_waits : Bool
   pub readers : ℕ
   pub line : Line
-
-abbrev pub same_mode : Mode → Mode → Bool
-same_mode Shared mode = is_shared mode
-same_mode Exclusive mode = is_exclusive mode
-same_mode Upgradable mode = is_upgradable mode
 
 -- no upgrade waits, and the mode is admitted beside the held ones
 abbrev pub fits : Bool → ℕ → Bag → Mode → Bool

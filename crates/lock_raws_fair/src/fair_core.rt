@@ -2,7 +2,7 @@
 ghost use Rattle.std.specs.Prelude.{◌≡◌, true, IsTrue, IfSome, IfNone, IfOk, IfErr, OnErr, is_some};
 ghost use Rattle.std.specs.Bool.{OnTrue};
 ghost use Rattle.lock_base.specs.declared.machine.mode.Mode.TheVariants.{Upgradable, Exclusive};
-ghost use Rattle.lock_raws_fair.specs.FairState.{same_mode};
+ghost use Rattle.lock_raws.specs.ModeTokens.{same_mode};
 
 use crate::acquisition::Acquisition;
 use crate::fair_arbiter::{FairArbiter, FairToken};

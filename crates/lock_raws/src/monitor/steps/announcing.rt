@@ -1,11 +1,13 @@
 //! A waiting writer that keeps other threads out.
-ghost use Rattle.std.specs.Prelude.{◌≡◌, ◌&&◌, ◌||◌, not, false, is_some, IfSome, IfNone};
+ghost use Rattle.std.specs.Prelude.{◌≡◌, ◌&&◌, ◌||◌, not, true, false, is_some, IfSome, IfNone};
 ghost use Rattle.lock_base.specs.Bar.{passes_bar};
 ghost use Rattle.lock_base.specs.Modes.{admits};
 ghost use Rattle.lock_base.specs.declared.machine.mode.Mode.TheVariants.{Exclusive};
 ghost use Rattle.lock_base.specs.Tokens.{bag_of_tokens};
+ghost use Rattle.lock_raws.specs.ModeTokens.{mode_of, same_mode};
 
 use crate::arbiter::Arbiter;
+use crate::monitor::steps::mode_token::ModeToken;
 use lock_base::machine::Mode;
 
 /// Acquires an exclusive token, if it is admitted to a writer that has announced itself, or has not. If not, the writer
@@ -13,7 +15,8 @@ use lock_base::machine::Mode;
 pub(crate) fn admit_or_announce<A: Arbiter>(
     arbiter: &mut A,
     announced: &mut bool,
-) -> Option<A::Token>
+) -> Option<ModeToken<A::Token>>
+    ensures mode { IfSome result (λ token. same_mode Exclusive (mode_of token) ≡ true) }
     ensures admitted { is_some result ≡ (passes_bar (A.bar arbiter.old) announced.old Exclusive
         && admits (A.reader_limit arbiter.old) (bag_of_tokens (A.tokens_out arbiter.old)) Exclusive) }
     ensures bar_ends { IfSome result (λ _. A.bar arbiter.new ≡ false) }
@@ -23,13 +26,14 @@ pub(crate) fn admit_or_announce<A: Arbiter>(
     ensures announces { IfNone result
         (announced.new ≡ (announced.old || (A.has_bars && not (A.bar arbiter.old)))) }
 {
-    let token = arbiter.admit_as(Mode::Exclusive, *announced);
-    if token.is_some() {
+    if let Some(token) = arbiter.admit_as(Mode::Exclusive, *announced) {
         if *announced {
             arbiter.withdraw();
         }
-    } else if arbiter.announce() {
+        return Some(ModeToken::new(token, Mode::Exclusive));
+    }
+    if arbiter.announce() {
         *announced = true;
     }
-    token
+    None
 }
