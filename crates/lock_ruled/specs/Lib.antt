@@ -2,6 +2,7 @@ pub mod Ruled
 pub mod SleepingUsers
 pub mod Slots
 pub mod Plays
+mod Seals
 pub mod Acquiring
 pub mod EachView
 pub mod EachViews
@@ -17,3 +18,4 @@ pub mod Permits
 pub mod With
 pub mod Accounts
 pub mod PermitPlays
+pub mod PermitCalls

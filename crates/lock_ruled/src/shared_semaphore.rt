@@ -3,27 +3,26 @@
 ghost use Rattle.std.specs.Prelude.{◌≡◌, ◌≤◌, None, IfOk, IfErr, IfSome};
 ghost use Rattle.lock_base.specs.declared.raw.fault.Fault.TheVariants as fault;
 ghost use Rattle.lock_ruled.specs.Accounts.{token_of};
+ghost use Rattle.lock_ruled.specs.PermitCalls.{IsRefused, IsSameCall, WasRefused};
 ghost use Rattle.lock_wake.specs.EventCalls.{HasPassed};
 
 mod guard;
 mod plays;
 mod rule;
-mod token;
+mod table;
+mod waiters;
 
-use crate::shared_semaphore::plays::LookAtPermits;
-use atomic_table::Table;
+use crate::shared_semaphore::table::{PermitCall, PermitTable};
+use crate::shared_semaphore::waiters::PermitWaiters;
 pub use guard::{ArcPermitGuard, PermitGuard};
 use lock_base::raw::Fault;
-use lock_wake::{EventCount, time_until};
+use lock_wake::time_until;
 pub use rule::{PermitRule, PermitView};
 use std::alloc::Global;
 use std::marker::Model;
 use std::sync::Wait;
 use std::time::{Clock, Duration, Instant};
-pub use token::PermitToken;
-
-/// The number of free permits.
-const FREE: usize = 0;
+pub use table::PermitToken;
 
 /// A semaphore that threads share by reference or in an `Arc`. A call takes no holder: each acquisition returns a token, and a
 /// release consumes it. Contracts see which semaphore it is, and the number of all permits.
@@ -31,20 +30,17 @@ const FREE: usize = 0;
 /// A waiter sleeps until permits are released. An acquisition of few permits may overtake one that waits for many.
 #[derive(Drop)]
 pub struct SharedSemaphore {
-    table: Table<(), PermitView, u64, PermitRule, Global>,
-    /// On which waiters sleep until permits are released.
-    released: EventCount,
+    permits: PermitTable,
+    /// The threads that sleep until permits are released.
+    waiters: PermitWaiters,
 }
 
 impl Model for SharedSemaphore {
-    ghost use Rattle.std.specs.Prelude.{◌≡◌};
     ghost use Rattle.lock_ruled.specs.Accounts.{SemaphoreView};
 
     ghost Value = { SemaphoreView };
 
-    ghost view = { λ s. record { id = s.table.shared.table_id; permits = s.table.shared.key } };
-
-    ghost invariant = { λ s. s.table.shared.table_id.words ≡ 1 };
+    ghost view = { λ s. s.permits };
 }
 
 impl SharedSemaphore {
@@ -53,11 +49,51 @@ impl SharedSemaphore {
         ensures permits { IfOk result (λ made. made.permits ≡ permits) }
         ensures fault { IfErr result (λ error. error ≡ fault.OutOfMemory) }
     {
-        let released = EventCount::new(alloc)?;
-        match Table::of_words(alloc, &[permits], &permits) {
-            Ok((table, _)) => Ok(SharedSemaphore { table, released }),
-            Err(_) => Err(Fault::OutOfMemory),
+        let waiters = PermitWaiters::new(alloc)?;
+        let permits = PermitTable::new(alloc, permits)?;
+        Ok(SharedSemaphore { permits, waiters })
+    }
+
+    /// Acquires this many permits, or returns `None` if fewer are free. It repeats an exchange that another thread
+    /// disturbed.
+    pub fn try_acquire<R: Wait>(&self, rt: &R, permits: u64) -> Option<PermitToken>
+        ensures token { IfSome result (λ token. token ≡ token_of self.now permits) }
+        ensures within { IfSome result (λ _. permits ≤ self.now.permits) }
+        ensures refused { result ≡ None → WasRefused self.now permits }
+    {
+        match self.attempt(rt, self.permits.begin(permits, ())) {
+            Ok((token, ())) => Some(token),
+            Err(refused) => {
+                refused.leave();
+                None
+            }
         }
+    }
+
+    /// Takes the permits that the call wants, or returns it if fewer are free.
+    fn attempt<R: Wait, K>(
+        &self,
+        rt: &R,
+        call: PermitCall<K>,
+    ) -> Result<(PermitToken, K), PermitCall<K>>
+        requires semaphore { call.semaphore ≡ self.now }
+        requires none { call.own ≡ 0 }
+        ensures token { IfOk result (λ took. (took.0 ≡ token_of self.now call.permits) × (took.1 ≡ call.kept)) }
+        ensures within { IfOk result (λ _. call.permits ≤ self.now.permits) }
+        ensures same { IfErr result (IsSameCall call) }
+        ensures refused { IfErr result IsRefused }
+    {
+        let mut call = call;
+        for _ in rt.forever() {
+            if call.found_few() {
+                return Err(call);
+            }
+            match self.permits.take(call) {
+                Ok(took) => return Ok(took.into_token()),
+                Err(same) => call = same,
+            }
+        }
+        unreachable!()
     }
 
     /// Acquires this many permits, blocking until they are free. A call for more than all permits blocks for ever.
@@ -86,6 +122,7 @@ impl SharedSemaphore {
         ensures token { IfSome result (λ token. token ≡ token_of self.now permits) }
         ensures within { IfSome result (λ _. permits ≤ self.now.permits) }
         ensures late { result ≡ None → HasPassed deadline }
+        ensures refused { result ≡ None → WasRefused self.now permits }
     {
         for _ in rt.forever() {
             if let Some(token) = self.try_acquire(rt, permits) {
@@ -114,18 +151,14 @@ impl SharedSemaphore {
         ensures token { IfSome result (λ token. token ≡ token_of self.now permits) }
         ensures within { IfSome result (λ _. permits ≤ self.now.permits) }
     {
-        let registered = self.released.register(rt);
-        match (self.try_acquire(rt, permits), left) {
-            (Some(token), _) => {
-                self.released.leave(registered);
+        let registered = self.waiters.register(rt);
+        match self.attempt(rt, self.permits.begin(permits, registered)) {
+            Ok((token, registered)) => {
+                self.waiters.leave(registered);
                 Some(token)
             }
-            (None, Some(left)) => {
-                self.released.sleep_for(rt, registered, left);
-                None
-            }
-            (None, None) => {
-                self.released.sleep(rt, registered);
+            Err(refused) => {
+                self.waiters.sleep(rt, refused, left);
                 None
             }
         }
@@ -135,7 +168,7 @@ impl SharedSemaphore {
     pub fn release(&self, token: PermitToken)
         requires { token.semaphore ≡ self.now }
     {
-        self.give_back(token).told(&self.released);
+        self.permits.give_back(token).told(&self.waiters);
     }
 
     /// Runs `f` while it holds this many permits. It acquires them before, as `acquire` does, and releases them after.
@@ -154,6 +187,6 @@ impl SharedSemaphore {
     pub fn available_permits(&self) -> u64
         ensures { result ≤ self.now.permits }
     {
-        self.table.shared.load_new_seat::<LookAtPermits>(FREE).0
+        self.permits.free()
     }
 }

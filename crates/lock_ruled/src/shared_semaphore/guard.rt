@@ -3,10 +3,11 @@ ghost use Rattle.std.specs.Prelude.{◌≡◌, None, IfSome, IfOk, IfErr};
 ghost use Rattle.std.specs.Arc.{arc_value};
 ghost use Rattle.lock_base.specs.declared.raw.fault.Fault.TheVariants as fault;
 ghost use Rattle.lock_ruled.specs.Accounts.{token_of};
+ghost use Rattle.lock_ruled.specs.PermitCalls.{WasRefused};
 ghost use Rattle.lock_wake.specs.EventCalls.{HasPassed};
 
 use crate::shared_semaphore::SharedSemaphore;
-use crate::shared_semaphore::token::PermitToken;
+use crate::shared_semaphore::table::PermitToken;
 use lock_base::raw::Fault;
 use std::clone::Clone;
 use std::marker::Model;
@@ -76,7 +77,8 @@ impl SharedSemaphore {
 
     /// Acquires this many permits as `try_acquire` does, until the guard is dropped.
     pub fn try_guard<R: Wait>(&self, rt: &R, permits: u64) -> Option<PermitGuard<'_>>
-        ensures { IfSome result (λ guard. guard ≡ token_of self.now permits) }
+        ensures guard { IfSome result (λ guard. guard ≡ token_of self.now permits) }
+        ensures refused { result ≡ None → WasRefused self.now permits }
     {
         let token = self.try_acquire(rt, permits)?;
         Some(PermitGuard {
@@ -94,6 +96,7 @@ impl SharedSemaphore {
     ) -> Option<PermitGuard<'_>>
         ensures guard { IfSome result (λ guard. guard ≡ token_of self.now permits) }
         ensures late { result ≡ None → HasPassed deadline }
+        ensures refused { result ≡ None → WasRefused self.now permits }
     {
         let token = self.acquire_until(rt, permits, deadline)?;
         Some(PermitGuard {
@@ -131,6 +134,7 @@ impl SharedSemaphore {
         permits: u64,
     ) -> Result<Option<ArcPermitGuard>, Fault>
         ensures guard { IfOk result (λ tried. IfSome tried (λ guard. guard ≡ token_of (arc_value semaphore.now) permits)) }
+        ensures refused { IfOk result (λ tried. tried ≡ None → WasRefused (arc_value semaphore.now) permits) }
         ensures fault { IfErr result (λ error. error ≡ fault.OutOfMemory) }
     {
         let semaphore = semaphore.clone()?;
