@@ -5,6 +5,12 @@ use Rattle.atomic_table.specs.Seated.{TableId}
 use Rattle.atomic_table.specs.declared.shared.Seat.{Seat}
 use Rattle.lock_ruled.specs.declared.rule.UserView.{UserView}
 use Rattle.lock_ruled.specs.Plays.{HasAcquired, IsIdle}
+pub use Rattle.lock_ruled.specs.Seals.{HeldView}
+
+-- a user found this mutex held
+pub record WasHeld (mutex : TableId) : Type 0 where
+  pub found : HeldView
+  pub here : found.mutex ≡ mutex
 
 module _ {T V : Type 0} where
   -- the seat is at this mutex, and its user holds no value

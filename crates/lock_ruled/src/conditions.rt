@@ -1,7 +1,8 @@
 //! Waiting until the value meets a condition.
-ghost use Rattle.std.specs.Prelude.{◌≡◌, true, IfOk, IfErr, MatchResult};
+ghost use Rattle.std.specs.Prelude.{◌≡◌, ◌⊎◌, true, false, IfOk, IfErr, MatchResult};
 ghost use Rattle.std.specs.Fn.{FnReturnsAt};
 ghost use Rattle.lock_ruled.specs.Ruled.{HasLocked};
+ghost use Rattle.lock_ruled.specs.Acquiring.{WasHeld};
 ghost use Rattle.lock_wake.specs.EventCalls.{HasPassed};
 
 use crate::guard::RuledGuard;
@@ -59,6 +60,8 @@ impl<T: Drop, V, P: MutexRule<T, V>> RuledMutex<T, V, P> {
         ensures locked { MatchResult result (HasLocked P.rule user) (λ same. same ≡ user) }
         ensures condition { IfOk result (λ guard. FnReturnsAt F.Fn condition guard.value true) }
         ensures late { IfErr result (λ _. HasPassed deadline) }
+        // The mutex was held, or the condition did not hold of a value.
+        ensures unmet { IfErr result (λ _. WasHeld self.now ⊎ ((value : T) × FnReturnsAt F.Fn condition value false)) }
     {
         let mut user = user;
         for _ in rt.forever() {

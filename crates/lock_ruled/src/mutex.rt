@@ -3,6 +3,7 @@ ghost use Rattle.std.specs.Prelude.{◌≡◌, ◌-◌, ◌+◌, ◌<◌, [], �
 ghost use Rattle.lock_base.specs.declared.raw.fault.Fault.TheVariants as fault;
 ghost use Rattle.lock_ruled.specs.Ruled.{all_parts, first_user, Splits, Joins};
 
+mod found_held;
 mod steps;
 
 use crate::guard::RuledGuard;

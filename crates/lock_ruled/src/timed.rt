@@ -1,7 +1,7 @@
 //! Acquiring the mutex until a deadline.
 ghost use Rattle.std.specs.Prelude.{◌≡◌, false, IfErr, MatchResult};
 ghost use Rattle.lock_ruled.specs.Ruled.{HasLocked};
-ghost use Rattle.lock_ruled.specs.Acquiring.{MayAcquire, MayHaveAcquired};
+ghost use Rattle.lock_ruled.specs.Acquiring.{MayAcquire, MayHaveAcquired, WasHeld};
 ghost use Rattle.lock_wake.specs.EventCalls.{HasPassed};
 
 use crate::guard::RuledGuard;
@@ -24,6 +24,7 @@ impl<T: Drop, V, P: MutexRule<T, V>> RuledMutex<T, V, P> {
         requires { user.mutex ≡ self.now }
         ensures locked { MatchResult result (HasLocked P.rule user) (λ same. same ≡ user) }
         ensures late { IfErr result (λ _. HasPassed deadline) }
+        ensures held { IfErr result (λ _. WasHeld self.now) }
     {
         let mut seat = user.seat;
         if self.acquire_until(rt, &mut seat, deadline) {
@@ -43,6 +44,7 @@ impl<T: Drop, V, P: MutexRule<T, V>> RuledMutex<T, V, P> {
         requires { MayAcquire self.now seat.old }
         ensures acquired { MayHaveAcquired P.rule result seat.old seat.new }
         ensures late { result ≡ false → HasPassed deadline }
+        ensures held { result ≡ false → WasHeld self.now }
     {
         if self.try_acquire(seat) || self.try_with_backoff(seat) {
             return true;
@@ -52,7 +54,7 @@ impl<T: Drop, V, P: MutexRule<T, V>> RuledMutex<T, V, P> {
                 return true;
             };
             let Ok(left) = time_until(rt, deadline) else {
-                self.leave(seat, watched);
+                drop(self.leave(seat, watched));
                 return false;
             };
             self.sleep(rt, seat, watched, Some(left));

@@ -42,6 +42,6 @@ impl<T: Drop, V, P: MutexRule<T, V>> RuledMutex<T, V, P> {
         ensures left { seat.new.me ≡ at_stage seat.old.me Free }
     {
         self.park(rt, seat, &watched, time);
-        self.leave(seat, watched);
+        drop(self.leave(seat, watched));
     }
 }

@@ -9,6 +9,7 @@ ghost use Rattle.lock_wake.specs.Watches.{word_of, number_of};
 ghost use Rattle.lock_wake.specs.declared.owed_wake.Whom.TheVariants.{All};
 
 use crate::guard::RuledGuard;
+use crate::mutex::found_held::FoundHeld;
 use crate::mutex::{AWAITED, EPOCH, FREE, LAST_EPOCH, RuledMutex, TAKEN, WORD};
 use crate::plays::{Leave, MarkAwaited, NoteMutexEpoch, TryLock, Unlock, WatchMutexEpoch};
 use crate::rule::{MutexRule, UserView, ViewUpdate};
@@ -83,15 +84,23 @@ impl<T: Drop, V, P: MutexRule<T, V>> RuledMutex<T, V, P> {
         watched.park(rt, &self.table.shared, LAST_EPOCH, time);
     }
 
-    /// Ends a sleep in the rule, by a load of the epoch. After that the user has nothing to park for.
-    pub(crate) fn leave(&self, seat: &mut Seat<Option<T>, UserView<T, V>>, watched: Watched)
+    /// Ends a sleep in the rule, by a load of the epoch. After that the user has nothing to park for. Returns that it found
+    /// the mutex held.
+    pub(crate) fn leave(
+        &self,
+        seat: &mut Seat<Option<T>, UserView<T, V>>,
+        watched: Watched,
+    ) -> FoundHeld<T, V>
         requires mutex { seat.old.table_id ≡ self.now }
         requires sleeps { seat.old.me.0.stage ≡ Sleeps (number_of watched) }
         ensures seat { seat.new.table_id ≡ seat.old.table_id }
         ensures left { seat.new.me ≡ at_stage seat.old.me Free }
+        ensures found { result.mutex ≡ self.now }
     {
+        let found = FoundHeld::of(&*seat);
         watched.end();
         self.table.shared.load::<Leave>(seat, EPOCH);
+        found
     }
 
     /// Puts the value back into the slot, and marks the mutex as free. Returns whether it was awaited, which makes the user

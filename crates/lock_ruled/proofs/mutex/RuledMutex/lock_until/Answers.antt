@@ -10,4 +10,5 @@ returns-then-acquire_until g c =
       locked = has_locked g.P.MutexRule.rule _ _ c.user.invariant (c.acquire_until.ensures.acquired.taken c.if-acquire_until.true) _ _
           c.guard_of.ensures.value (search rules) view;
       late = tt;
+      held = tt;
     }
