@@ -59,7 +59,7 @@ pub(crate) fn upgrade<A: Arbiter>(
     }
 }
 
-/// Downgrades a token. A token that is not held stays as it was in the arbiter. Returns which waiters to wake too.
+/// Downgrades a token. A token that is not held changes nothing in the arbiter. Also returns which waiters to wake.
 pub(crate) fn downgrade<A: Arbiter>(
     arbiter: &mut A,
     token: ModeToken<A::Token>,

@@ -7,7 +7,7 @@ use atomic_table::Seat;
 use std::marker::Model;
 use std::snapshot::Snapshot;
 
-/// A user found the mutex held, when it marked it as awaited. It has no bytes.
+/// Evidence that the mutex was held when a user marked it as awaited. It has no bytes. Contracts see which mutex.
 ///
 /// Only such a user makes one, and no clause can: what contracts see has a private field.
 #[derive(Drop)]

@@ -84,8 +84,8 @@ impl<T: Drop, V, P: MutexRule<T, V>> RuledMutex<T, V, P> {
         watched.park(rt, &self.table.shared, LAST_EPOCH, time);
     }
 
-    /// Ends a sleep in the rule, by a load of the epoch. After that the user has nothing to park for. Returns that it found
-    /// the mutex held.
+    /// Ends a sleep in the rule, by a load of the epoch. After that the user has nothing to park for. Also returns the
+    /// evidence that the mutex was held.
     pub(crate) fn leave(
         &self,
         seat: &mut Seat<Option<T>, UserView<T, V>>,

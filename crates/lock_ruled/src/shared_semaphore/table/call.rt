@@ -10,7 +10,7 @@ use std::marker::Model;
 /// A call for permits. Only the steps of a `PermitTable` reach its seat.
 ///
 /// It cannot be dropped: it ends with a token of the permits that it took, or leaves where it took none. So no body can lose
-/// permits that it took.
+/// permits that a call took.
 pub(crate) struct PermitCall<K> {
     pub(super) seat: Seat<(), PermitView>,
     pub(super) permits: u64,
