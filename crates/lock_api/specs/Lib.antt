@@ -73,6 +73,8 @@ pub use Rattle.lock_ruled.specs.InOrder
 pub use Rattle.lock_ruled.specs.Permits
 pub use Rattle.lock_ruled.specs.With
 pub use Rattle.lock_ruled.specs.Accounts
+pub use Rattle.lock_ruled.specs.Acquiring
+pub use Rattle.lock_ruled.specs.PermitCalls
 pub use Rattle.lock_wake.specs.EventCounts
 pub use Rattle.lock_wake.specs.EventCalls
 pub use Rattle.lock_desk.specs.Closures
@@ -102,6 +104,7 @@ pub use Rattle.lock_raws.specs.Waking
 pub use Rattle.lock_raws.specs.Journal
 pub use Rattle.lock_raws.specs.Recording
 pub use Rattle.lock_raws.specs.Condvars
+pub use Rattle.lock_raws.specs.ModeTokens
 pub use Rattle.lock_raws_fair.specs.Tickets
 pub use Rattle.lock_raws_fair.specs.LineLaws
 pub use Rattle.lock_raws_fair.specs.FairState
