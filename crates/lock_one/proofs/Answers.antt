@@ -1,5 +1,5 @@
 -- What the answer of a call means.
-use Rattle.std.proofs.Common.{◌≡◌, ℕ, ◌-◌, ◌^◌, ◌<◌, Bool, true, false, not, ◌&&◌, ◌||◌, ◌==◌, nat_lt, if◌then◌else◌, ◌⊎◌, inl, inr, refl, sym, ap, ◌∙◌, arith, lt-ltb}
+use Rattle.std.proofs.Common.{◌≡◌, ℕ, ◌-◌, ◌^◌, ◌<◌, Bool, true, false, not, ◌&&◌, ◌||◌, ◌==◌, nat_lt, if◌then◌else◌, ◌⊎◌, inl, inr, refl, sym, ap, ◌∙◌, arith, lt-ltb, eq-eqb}
 use Rattle.std.proofs.lemmas.Bool.{false≢true, true≢false}
 use Rattle.lock_base.specs.declared.machine.hold.Hold.{Hold}
 use Rattle.lock_base.specs.Holds.{hold_after}
@@ -16,7 +16,7 @@ use Rattle.lock_one.specs.declared.park.ParkView.{ParkView}
 use Rattle.lock_one.specs.declared.park.Debt.{Debt}
 use Rattle.lock_one.specs.declared.park.Debt.TheVariants as debt
 use Rattle.lock_one.specs.Rule.{is_upgrade}
-use Rattle.lock_one.specs.Machine.{core_of, has_sleepers, sleepers, with_sleepers, acquired, after_try, decide, wait, goes_to, acquiring, begun, removes_reader, alone, release_on, taking, next_at, next_of}
+use Rattle.lock_one.specs.Machine.{core_of, has_sleepers, sleepers, with_sleepers, Progress, acquired, after_try, decide, wait, goes_to, acquiring, begun, removes_reader, alone, frees_word, release_on, subtract, taking, wakes, next_at, next_of}
 use Rattle.lock_one.specs.Steps.{IsAt, IsWake, hold_at}
 use Rattle.lock_one.specs.Answers.{AnswersMatchHolds, FirstSteps}
 
@@ -133,5 +133,77 @@ first_releases readers d never = ap (λ (b : Bool). (if b then goes_to (begun re
     by down.UpgradableToShared = refl
     by down.Withdraw = refl
 
+-- the call whose loaded word admits it, and whose exchange found that word
+first_acquired : (readers word : ℕ) (wish : ExWant) (blocks announces : Bool) → word < sleepers → word_admits false readers word wish ≡ true
+    → (next_of word (next_of word (acquiring readers wish blocks announces).0).0).1 ≡ action.End true
+first_acquired readers word wish blocks announces low admits =
+    let bare : core_of word ≡ word = omega arith in
+    by (word_admits false readers (core_of word) wish) (ap (λ n. word_admits false readers n wish) bare ∙ admits)
+  where
+    fresh : Call
+    fresh = begun readers stage.Look wish down.Shared blocks announces
+
+    by : (b : Bool) → b ≡ true
+        → (next_of word (if b then goes_to (record fresh { loaded = word; left = after_try fresh word }) stage.Try (action.Exchange word (after_try fresh word)) else wait (record fresh { loaded = word })).0).1 ≡ action.End true
+    by true e =
+        let call = (goes_to (record fresh { loaded = word; left = after_try fresh word }) stage.Try (action.Exchange word (after_try fresh word))).0 in
+        ap (λ (c : Bool). (if c then acquired call else decide word call).1) (eq-eqb word word refl)
+    by false e = absurd (false≢true e)
+
+abbrev begun_taking : ℕ → Down → Bool → Progress
+begun_taking readers d b =
+    if b then goes_to (begun readers stage.LookToRemove want.Shared d false false) stage.LookToRemove action.Load
+    else release_on (alone d) (begun readers stage.Release want.Shared d false false)
+
+first_released : (readers : ℕ) (d : Down) → removes_reader readers d ≡ false → (next_of (alone d) (taking readers d).0).1 ≡ action.End true
+first_released readers d never = ap (λ (b : Bool). (next_of (alone d) (begun_taking readers d b).0).1) never ∙ by d
+  where
+    by : (d : Down) → (next_of (alone d) (begun_taking readers d false).0).1 ≡ action.End true
+    by down.Shared = refl
+    by down.Exclusive = refl
+    by down.Upgradable = refl
+    by down.ToShared = refl
+    by down.ToUpgradable = refl
+    by down.UpgradableToShared = refl
+    by down.Withdraw = refl
+
+first_looks : (readers : ℕ) (d : Down) → removes_reader readers d ≡ true → (taking readers d).1 ≡ action.Load
+first_looks readers d is = ap (λ (b : Bool). (begun_taking readers d b).1) is
+
+no_sleepers : (word : ℕ) → word < sleepers → has_sleepers word ≡ false
+no_sleepers word low = ap not (lt-ltb word (2 ^ 35) low)
+
+first_removes : (readers word : ℕ) (d : Down) → removes_reader readers d ≡ true → word < sleepers
+    → next_of word (taking readers d).0 ≡ subtract (begun readers stage.LookToRemove want.Shared d false false)
+first_removes readers word d is low =
+    let call = begun readers stage.LookToRemove want.Shared d false false in
+    ap (λ (b : Bool). next_of word (begun_taking readers d b).0) is ∙ ap (λ (b : Bool). if b then release_on word call else subtract call) (no_sleepers word low)
+
+first_removed : (readers word found : ℕ) (d : Down) → removes_reader readers d ≡ true → word < sleepers → found < sleepers
+    → (next_of found (next_of word (taking readers d).0).0).1 ≡ action.End true
+first_removed readers word found d is low quiet =
+    let call = begun readers stage.LookToRemove want.Shared d false false in
+    ap (λ (p : Progress). (next_of found p.0).1) (first_removes readers word d is low) ∙ ends (subtract call).0 (has_sleepers found) (no_sleepers found quiet)
+  where
+    owed : Bool → Bool × Debt
+    owed b =
+        if not b then (false, debt.Nothing)
+        else if not (frees_word readers (core_of found) (core_of found - amount d)) then (true, debt.Nothing)
+        else if not (nat_lt (core_of found - amount d) (2 ^ 34)) then (true, debt.Next)
+        else (false, if readers == 1 then debt.One else debt.All)
+
+    ends : (call : Call) (b : Bool) → b ≡ false → (wakes (owed b).1 call).1 ≡ action.End true
+    ends call false e = refl
+    ends call true e = absurd (true≢false e)
+
 pub first_steps : FirstSteps
-first_steps = record { acquires = first_acquires; releases = first_releases }
+first_steps =
+    record {
+      acquires = first_acquires;
+      acquired = first_acquired;
+      releases = first_releases;
+      released = first_released;
+      looks = first_looks;
+      removes = λ readers word d is low. ap (λ (p : Progress). p.1) (first_removes readers word d is low);
+      removed = first_removed;
+    }

@@ -5,7 +5,7 @@ use Rattle.lock_base.specs.Holds.{hold_after}
 use Rattle.lock_word.specs.declared.want.ExWant.{ExWant}
 use Rattle.lock_word.specs.declared.down.Down.{Down}
 use Rattle.lock_word.specs.Word.{word_admits, word_after, amount, step_of_want, step_of_down}
-use Rattle.lock_one.specs.declared.action.Action.TheVariants.{Exchange, End}
+use Rattle.lock_one.specs.declared.action.Action.TheVariants.{Load, Exchange, Subtract, End}
 use Rattle.lock_one.specs.declared.call.Call.{Call}
 use Rattle.lock_one.specs.declared.stage.Stage.{Stage}
 use Rattle.lock_one.specs.declared.stage.Stage.TheVariants as stage
@@ -51,10 +51,21 @@ pub record RefusalsHaveCauses : Type 0 where
   pub begins_in_time : (readers : ℕ) (wish : ExWant) (blocks announces : Bool) → (acquiring readers wish blocks announces).0.late ≡ false
   pub late : (found : ℕ) (call : Call) → (next_of found call).0.late ≡ true → (call.late ≡ true) ⊎ ((call.stage ≡ stage.Sleep) × (found ≢ 0))
 
--- THE LAW OF FIRST STEPS: on a word without S that admits it, a call makes this exchange; and a release begins with this one
+-- THE LAW OF FIRST STEPS: on a word without S that admits it, a call makes this exchange, and has acquired after it. A release of
+-- a holder that is alone makes this exchange, and one of a reader among words without S a subtraction, and has ended after it
 pub record FirstSteps : Type 0 where
   pub acquires : (readers word : ℕ) (wish : ExWant) (blocks announces : Bool) → word < sleepers
       → word_admits false readers word wish ≡ true
       → (next_of word (acquiring readers wish blocks announces).0).1 ≡ Exchange word (word_after word wish)
+  pub acquired : (readers word : ℕ) (wish : ExWant) (blocks announces : Bool) → word < sleepers
+      → word_admits false readers word wish ≡ true
+      → (next_of word (next_of word (acquiring readers wish blocks announces).0).0).1 ≡ End true
   pub releases : (readers : ℕ) (down : Down) → removes_reader readers down ≡ false
       → (taking readers down).1 ≡ Exchange (alone down) (alone down - amount down)
+  pub released : (readers : ℕ) (down : Down) → removes_reader readers down ≡ false
+      → (next_of (alone down) (taking readers down).0).1 ≡ End true
+  pub looks : (readers : ℕ) (down : Down) → removes_reader readers down ≡ true → (taking readers down).1 ≡ Load
+  pub removes : (readers word : ℕ) (down : Down) → removes_reader readers down ≡ true → word < sleepers
+      → (next_of word (taking readers down).0).1 ≡ Subtract down
+  pub removed : (readers word found : ℕ) (down : Down) → removes_reader readers down ≡ true → word < sleepers → found < sleepers
+      → (next_of found (next_of word (taking readers down).0).0).1 ≡ End true

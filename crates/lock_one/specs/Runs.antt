@@ -199,7 +199,7 @@ pub record IsInPark (t : Thread) : Type 0 where
   pub sleeps : underway.at.0.stage ≡ stage.Sleep
   pub wants : t.view.park ≡ Asleep underway.at.0.want
   pub marked : has_sleepers underway.at.0.loaded ≡ true
-  -- it parks for the word that it loaded, and tells whether it passes a bar
+  -- it parks for the word that it loaded, with a flag for whether it may pass a bar
   pub parks : (number : ℕ) (passes : Bool) → underway.at.1 ≡ action.Park number passes
       → (number ≡ underway.at.0.loaded) × (passes ≡ is_next t.view underway.at.0.want)
   -- and a writer that announces itself, in a lock for several readers, parks for a word with a bar, its own or another's

@@ -336,15 +336,15 @@ impl Call {
     }
 }
 
-/// Returns whether the release subtracts one reader while the bit of sleepers is clear.
-fn removes_reader(readers: u64, down: Down) -> bool
+/// Returns whether the release subtracts one reader while the bit of sleepers is clear. Other releases begin with an exchange.
+pub fn removes_reader(readers: u64, down: Down) -> bool
     ensures { result ≡ removes_reader readers down }
 {
     matches!(down, Down::Shared) && readers != 1
 }
 
-/// Returns the word of a holder that is alone.
-fn alone_word(down: Down) -> u64
+/// Returns the word of a holder that is alone, for which the exchange of its release looks first.
+pub fn alone_word(down: Down) -> u64
     ensures { result ≡ alone down }
 {
     match down {

@@ -46,7 +46,8 @@ pub fn refusals_have_causes()
     ensures { RefusalsHaveCauses }
 {}
 
-/// On a word that admits it, and that has no bit of sleepers, a call acquires by one exchange. A release begins with one.
+/// On a word that admits it, and that has no bit of sleepers, a call acquires by one exchange. A release of a holder that is
+/// alone is one exchange, and one of a reader a load and a subtraction, where no word that they find has that bit.
 pub fn first_steps()
     ensures { FirstSteps }
 {}

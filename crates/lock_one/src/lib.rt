@@ -13,7 +13,7 @@ mod stage;
 mod storing;
 
 pub use action::Action;
-pub use call::{Call, SLEEPERS};
+pub use call::{Call, SLEEPERS, alone_word, removes_reader};
 pub use laws::{
     answers_match_holds, every_run_is_served, first_steps, nobody_is_forgotten,
     refusals_have_causes, releases_touch_no_more, sleeps_keep_the_rule, steps_keep_parking,

@@ -1,4 +1,4 @@
--- What each kind of step on the word tells the party that makes it.
+-- What a party learns by each kind of step on the word.
 use Rattle.std.specs.Prelude.{◌≡◌, ℕ, ◌-◌, ◌^◌, ◌<◌, ◌==◌, true, if◌then◌else◌}
 use Rattle.atomic_table.specs.Table.{Step}
 use Rattle.lock_base.specs.declared.machine.hold.Hold.{Hold}

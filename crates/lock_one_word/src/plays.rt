@@ -1,4 +1,4 @@
-//! The kinds of step on the word, and what each tells the party that makes it.
+//! The kinds of step on the word, and what the party that makes one learns.
 ghost use Rattle.lock_one_word.specs.Plays.{Exchanges, Loads, Subtracts};
 
 use crate::rule::OneView;
