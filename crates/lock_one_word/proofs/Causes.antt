@@ -1,5 +1,5 @@
 -- Why a call was refused.
-use Rattle.std.proofs.Common.{◌≡◌, ℕ, Bool, true, false, ◌⊎◌, inl, inr, Result, Ok, Err, is_ok, IfErr, subst, sym, ap, ◌∙◌}
+use Rattle.std.proofs.Common.{◌≡◌, ℕ, ◌-◌, ◌^◌, Bool, true, false, ◌⊎◌, inl, inr, Result, Ok, Err, is_ok, IfErr, MatchResult, refl, subst, sym, ap, ◌∙◌}
 use Rattle.std.proofs.lemmas.Bool.{false≢true, true≢false}
 use Rattle.lock_base.specs.declared.machine.hold.Hold.{Hold}
 use Rattle.lock_word.specs.declared.want.ExWant.{ExWant}
@@ -9,11 +9,13 @@ use Rattle.lock_one.specs.declared.action.Action.{Action}
 use Rattle.lock_one.specs.declared.action.Action.TheVariants.{End}
 use Rattle.lock_one.specs.declared.call.Call.{Call}
 use Rattle.lock_one.specs.Machine.{Progress, core_of, acquiring, taking, next_of}
+use Rattle.lock_one.specs.Rule.{is_upgrade}
 use Rattle.lock_one.specs.Answers.{IsLate, HasCause, CauseAt}
 use Rattle.lock_one.proofs.Answers.{ends_not}
 use Rattle.lock_one.proofs.Refusals.{refusals_have_causes}
 use Rattle.lock_one_word.specs.declared.rule.OneView.{OneView}
-use Rattle.lock_one_word.specs.Calls.{Ending, IsRefusedBy, Refuses, TimesOut}
+use Rattle.lock_one_word.specs.Calls.{Ending, IsRefusedBy, IsTry, TimesOut}
+use Rattle.lock_one_word.specs.Drives.{Pending, at, ended_with}
 use Rattle.lock_one_word.specs.Seats.{Task, placed, to_acquire, IsGoing}
 
 pub begins : (readers : ℕ) (wish : ExWant) (blocks : Bool) (p : Progress) → p ≡ acquiring readers wish blocks true → HasCause p.0
@@ -44,16 +46,36 @@ cause_by call v before wish e going known readers word =
           ]
     ]
 
--- a try that ends with no was refused by a word
-pub try_refused : (call : Call) (v : OneView) (before : Hold) (wish : ExWant) (e : Ending) → IsGoing (call, End false) before (to_acquire wish) v → call.blocks ≡ false
-    → HasCause call → e.readers ≡ call.readers → e.word ≡ call.loaded → Refuses v.readers wish e
-try_refused call v before wish e going never known readers word = (
-  readers ∙ going.lock,
-  elim (cause_by call v before wish e going known readers word) [
-    | inl by ↦ inl by.1
-    | inr late ↦ absurd (true≢false (sym late.0 ∙ never))
-  ],
-)
+-- a try that has ended was answered by its exchange, or refused by a word
+pub try_ended : (p : Pending) (v : OneView) (before : Hold) (wish : ExWant) (answer : Bool) (e : Ending) → IsGoing (at p) before (to_acquire wish) v
+    → p.action ≡ End answer → p.call.blocks ≡ false → HasCause p.call → e ≡ ended_with p answer → IsTry v.readers wish answer e
+try_ended p v before wish answer e going ends never known is =
+    subst (λ (x : Ending). IsTry v.readers wish answer x) (sym is)
+    record {
+      lock = going.lock;
+      upgrades = ap (λ (t : Task). is_upgrade t.0) going.tasked;
+      tries = never;
+      answered = refl;
+      refused = λ off.
+          elim (cause_by p.call v before wish (ended_with p answer)
+          (subst (λ (a : Action). IsGoing (p.call, a) before (to_acquire wish) v) (ends ∙ ap (λ b. End b) off) going) known refl refl) [
+            | inl by ↦ inl by.1
+            | inr late ↦ absurd (true≢false (sym late.0 ∙ never))
+          ];
+    }
+
+-- a try that can count no more exchanges has ended unacquired
+pub try_spent : (p : Pending) (v : OneView) (before : Hold) (wish : ExWant) (e : Ending) → IsGoing (at p) before (to_acquire wish) v
+    → p.call.blocks ≡ false → p.exchanges ≡ 2 ^ 64 - 1 → e ≡ ended_with p false → IsTry v.readers wish false e
+try_spent p v before wish e going never spent is =
+    subst (λ (x : Ending). IsTry v.readers wish false x) (sym is)
+    record {
+      lock = going.lock;
+      upgrades = ap (λ (t : Task). is_upgrade t.0) going.tasked;
+      tries = never;
+      answered = refl;
+      refused = λ _. inr spent;
+    }
 
 -- a call that blocks was refused after its deadline
 pub times_out : (call : Call) (v : OneView) (before : Hold) (wish : ExWant) (e : Ending) → IsGoing (call, End false) before (to_acquire wish) v → call.blocks ≡ true
@@ -67,12 +89,27 @@ times_out call v before wish e going blocks known readers word late = (
 )
 
 -- why an answer is no
-pub if_no : (r : Result (Unit {0}) Ending) (answer : Bool) (here : Ending) (Q : Ending → Type 0) → is_ok r ≡ answer → IfErr r (λ e. e ≡ here)
+pub if_no : (r : Result Ending Ending) (answer : Bool) (there here : Ending) (Q : Ending → Type 0) → is_ok r ≡ answer → MatchResult r (λ e. e ≡ there) (λ e. e ≡ here)
     → (answer ≡ false → (e : Ending) → e ≡ here → Q e) → IfErr r Q
-if_no (Ok x) answer here Q ok is then = tt
-if_no (Err e) answer here Q ok is then = then (sym ok) e is
+if_no (Ok x) answer there here Q ok is then = tt
+if_no (Err e) answer there here Q ok is then = then (sym ok) e is
+
+-- the end of a call by its answer
+pub by_answer : (r : Result Ending Ending) (answer : Bool) (there here : Ending) (P Q : Ending → Type 0) → is_ok r ≡ answer
+    → MatchResult r (λ e. e ≡ there) (λ e. e ≡ here) → (answer ≡ true → (e : Ending) → e ≡ there → P e) → (answer ≡ false → (e : Ending) → e ≡ here → Q e) → MatchResult r P Q
+by_answer (Ok e) answer there here P Q ok is yes_ no_ = yes_ (sym ok) e is
+by_answer (Err e) answer there here P Q ok is yes_ no_ = no_ (sym ok) e is
 
 -- the no of a call
-pub the_no : (r : Result (Unit {0}) Ending) (Q : Ending → Type 0) → is_ok r ≡ false → IfErr r Q → (e : Ending) × Q e
+pub the_no : (r : Result Ending Ending) (Q : Ending → Type 0) → is_ok r ≡ false → IfErr r Q → (e : Ending) × Q e
 the_no (Ok x) Q off is = absurd (true≢false off)
 the_no (Err e) Q off is = (e, is)
+
+-- the end of a try by its answer
+pub the_try : (r : Result Ending Ending) (Q : Bool → Ending → Type 0) (answer : Bool) → is_ok r ≡ answer → MatchResult r (Q true) (Q false) → (e : Ending) × Q answer e
+the_try (Ok e) Q answer ok is = (e, subst (λ b. Q b e) ok is)
+the_try (Err e) Q answer ok is = (e, subst (λ b. Q b e) ok is)
+
+pub if_err : (r : Result Ending Ending) (P Q : Ending → Type 0) → IfErr r P → ((e : Ending) → P e → Q e) → IfErr r Q
+if_err (Ok x) P Q is then = tt
+if_err (Err e) P Q is then = then e is

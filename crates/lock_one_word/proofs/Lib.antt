@@ -9,6 +9,7 @@ pub mod Blocks
 pub mod Ranks
 pub mod Tokens
 pub mod Begins
+pub mod Straight
 pub mod Passing
 pub mod Seats
 pub mod Own

@@ -95,7 +95,7 @@ leaves_all call a v before task clean going trying off =
           ]
     ]
 
-yes_ends : (a : Action) → says_yes a ≡ true → a ≡ action.End true
+pub yes_ends : (a : Action) → says_yes a ≡ true → a ≡ action.End true
 yes_ends action.Load h = absurd (false≢true h)
 yes_ends (action.Exchange x y) h = absurd (false≢true h)
 yes_ends (action.Subtract d) h = absurd (false≢true h)

@@ -8,6 +8,7 @@ use Rattle.lock_base.specs.Modes.{empty_bag, one_more, tokens}
 use Rattle.lock_word.specs.declared.want.ExWant.{ExWant}
 use Rattle.lock_word.specs.Word.{bag_of_word, word_admits}
 use Rattle.lock_one.specs.Machine.{core_of, has_sleepers}
+use Rattle.lock_one.specs.Rule.{is_upgrade}
 use Rattle.lock_one_word.specs.declared.rule.OneView.{OneView}
 pub use Rattle.lock_one_word.specs.Seals.{Ending, Seen}
 
@@ -41,12 +42,18 @@ IsTokenOf lock mode token = token ≡ record { lock = lock; held = one_hold mode
 abbrev pub IsRefusedBy : ℕ → ExWant → ℕ → Type 0
 IsRefusedBy readers wish word = word_admits false readers (core_of word) wish ≡ false
 
--- a try was refused by a word, or has made as many exchanges as it can count, and each failed
-abbrev pub Refuses : ℕ → ExWant → Ending → Type 0
-Refuses readers wish e = (e.readers ≡ readers) × (IsRefusedBy readers wish e.word ⊎ (e.exchanges ≡ 2 ^ 64 - 1))
+-- the end of a try with this answer: it does not block, and if it was refused, a word refuses it, or it has made as many
+-- exchanges as it can count, and each failed
+pub record IsTry (readers : ℕ) (wish : ExWant) (answer : Bool) (e : Ending) : Type 0 where
+  pub lock : e.readers ≡ readers
+  pub upgrades : e.upgrades ≡ is_upgrade wish
+  pub tries : e.blocks ≡ false
+  pub answered : e.acquired ≡ answer
+  pub refused : answer ≡ false → IsRefusedBy readers wish e.word ⊎ (e.exchanges ≡ 2 ^ 64 - 1)
 
-abbrev pub WasRefused : WordLockView → ExWant → Type 0
-WasRefused lock wish = (e : Ending) × Refuses lock.readers wish e
+-- the lock has made a try with this answer
+abbrev pub WasTried : WordLockView → ExWant → Bool → Type 0
+WasTried lock wish answer = (e : Ending) × IsTry lock.readers wish answer e
 
 -- a timed call was refused after an answer that its deadline had passed
 abbrev pub TimesOut : ℕ → Ending → Type 0

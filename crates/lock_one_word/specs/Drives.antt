@@ -1,18 +1,23 @@
 -- What a driver knows of a call between two of its actions.
-use Rattle.std.specs.Prelude.{◌≡◌, ℕ, ◌+◌, ◌-◌, Bool, true, false, if◌then◌else◌, ◌⊎◌, IsTrue}
+use Rattle.std.specs.Prelude.{◌≡◌, ℕ, ◌+◌, ◌-◌, ◌<◌, Bool, true, false, if◌then◌else◌, ◌⊎◌, IsTrue, Result, MatchResult}
 use Rattle.lock_base.specs.declared.machine.hold.Hold.{Hold}
 use Rattle.lock_base.specs.Holds.{hold_after}
 use Rattle.lock_word.specs.declared.want.ExWant.{ExWant}
 use Rattle.lock_word.specs.Unblocking.{is_awaited}
-use Rattle.lock_word.specs.Word.{step_of_want}
+use Rattle.lock_word.specs.declared.down.Down.{Down}
+use Rattle.lock_word.specs.Word.{step_of_want, step_of_down, word_admits, word_after}
 use Rattle.lock_one.specs.declared.action.Action.{Action}
 use Rattle.lock_one.specs.declared.action.Action.TheVariants.{Load, Exchange, Subtract, WakeOne, WakeAll, WakeNext, End}
 use Rattle.lock_one.specs.declared.call.Call.{Call}
 use Rattle.lock_one.specs.declared.stage.Stage.{Stage}
 use Rattle.lock_one.specs.declared.stage.Stage.TheVariants as stage
-use Rattle.lock_one.specs.Machine.{Progress, next_of}
+use Rattle.lock_one.specs.Machine.{Progress, acquiring, next_of, sleepers}
+use Rattle.lock_one.specs.Rule.{is_upgrade}
 use Rattle.lock_one.specs.Steps.{ends}
-use Rattle.lock_one_word.specs.Seats.{Self, Task, to_acquire, IsGoing}
+use Rattle.lock_one_word.specs.declared.word_lock.steps.looked.Looked.{Looked}
+use Rattle.lock_one_word.specs.Calls.{IsTry}
+use Rattle.lock_one_word.specs.Seals.{Ending, ending}
+use Rattle.lock_one_word.specs.Seats.{Self, Task, to_acquire, to_release, IsGoing}
 
 -- an action on the word, or a wake-up by its address
 abbrev pub touches_lock : Action → Bool
@@ -37,6 +42,26 @@ pub record Pending : Type 0 where
 -- a call, and its next action
 abbrev pub at : Pending → Progress
 at p = (p.call, p.action)
+
+-- a call that acquires, at its action after its first load
+abbrev pub looked_at : Looked → Progress
+looked_at l = next_of l.word (acquiring l.readers l.want l.blocks true).0
+
+-- the loaded word has no bit of sleepers and admits the call, whose exchange leaves this word
+abbrev pub Admits : Looked → ℕ → Type 0
+Admits l left = (left ≡ word_after l.word l.want) × (l.word < sleepers) × (word_admits false l.readers l.word l.want ≡ true)
+
+-- the party is in a call that asks for this action
+abbrev pub CanMake : Action → Self → Type 0
+CanMake a me = (call : Call) × (before : Hold) × (task : Task) × IsGoing (call, a) before task me.0
+
+-- the end of a call with this answer
+abbrev pub ended_with : Pending → Bool → Ending
+ended_with p answer = ending p.call.readers (is_upgrade p.call.want) p.call.blocks answer p.call.loaded p.call.late p.exchanges
+
+-- the end of a call that acquires by its first exchange
+abbrev pub first_end : Looked → Ending
+first_end l = ending l.readers (is_upgrade l.want) l.blocks true l.word false 1
 
 -- the call asks for its end, or it is a try before its exchange, of which nobody knows
 abbrev pub MayEnd : Progress → Type 0
@@ -70,6 +95,19 @@ abbrev pub Tried : Progress → Bool → Self → Self → Type 0
 Tried first acquired me after =
     (before : Hold) (wish : ExWant) → before.announced ≡ false → IsTrue (is_awaited wish) → IsGoing first before (to_acquire wish) me.0
     → after.0.held ≡ (if acquired then hold_after before (step_of_want wish) else before)
+
+-- the try has ended as its answer says
+abbrev pub TriesEnd : Progress → Self → Result Ending Ending → Type 0
+TriesEnd first me r =
+    (before : Hold) (wish : ExWant) → IsGoing first before (to_acquire wish) me.0 → MatchResult r (IsTry me.0.readers wish true) (IsTry me.0.readers wish false)
+
+-- the party releases
+abbrev pub IsReleasing : Progress → Self → Type 0
+IsReleasing next me = (before : Hold) × (d : Down) × IsGoing next before (to_release d) me.0
+
+-- the release has ended
+abbrev pub EndsRelease : Progress → Self → Self → Type 0
+EndsRelease first me after = (before : Hold) (d : Down) → IsGoing first before (to_release d) me.0 → after.0.held ≡ hold_after before (step_of_down d)
 
 -- how many actions of a release are left at most: its load, exchanges, subtraction and wake-up
 abbrev pub rank_at : Stage → ℕ → ℕ

@@ -1,12 +1,11 @@
 //! The calls that acquire a token.
-ghost use Rattle.std.specs.Prelude.{◌≡◌, IfSome, IfNone};
+ghost use Rattle.std.specs.Prelude.{◌≡◌, IfSome, IfNone, is_some};
 ghost use Rattle.lock_word.specs.Word.{want_of_mode};
-ghost use Rattle.lock_one_word.specs.Calls.{IsTokenOf, WasRefused, HasTimedOut};
+ghost use Rattle.lock_one_word.specs.Calls.{IsTokenOf, WasTried, HasTimedOut};
 
 use crate::until::{Deadline, Endless, Until};
 use crate::word_lock::{WordLock, WordToken};
 use lock_base::machine::Mode;
-use lock_one::Action;
 use lock_word::ExWant;
 use std::sync::Wait;
 use std::time::{Clock, Instant};
@@ -16,10 +15,10 @@ impl WordLock {
     /// Acquires the mode without blocking. Returns `None` if a word refuses it.
     pub fn try_acquire(&self, mode: Mode) -> Option<WordToken>
         ensures acquired { IfSome result (IsTokenOf self.now mode) }
-        ensures refused { IfNone result (WasRefused self.now (want_of_mode mode)) }
+        ensures tried { WasTried self.now (want_of_mode mode) (is_some result) }
     {
-        let (pending, mut seat) = self.enter(ExWant::of_mode(mode), false);
-        let ended = self.attempt(&mut seat, pending);
+        let (looked, mut seat) = self.enter(ExWant::of_mode(mode), false);
+        let ended = self.attempt(&mut seat, looked);
         if ended.is_ok() {
             return Some(seat.into_token());
         }
@@ -65,9 +64,8 @@ impl WordLock {
         ensures acquired { IfSome result (IsTokenOf self.now mode) }
         ensures refused { IfNone result (HasTimedOut self.now) }
     {
-        let (mut pending, mut seat) = self.enter(ExWant::of_mode(mode), true);
-        self.start(&mut seat, &mut pending);
-        let ended = self.come_to_end(rt, &mut seat, pending, until);
+        let (looked, mut seat) = self.enter(ExWant::of_mode(mode), true);
+        let ended = self.come_to_end(rt, &mut seat, looked, until);
         if ended.is_ok() {
             return Some(seat.into_token());
         }

@@ -1,16 +1,16 @@
 //! The calls that release a token or change its mode.
-ghost use Rattle.std.specs.Prelude.{◌≡◌, MatchResult, OnErr};
+ghost use Rattle.std.specs.Prelude.{◌≡◌, MatchResult, OnErr, is_ok};
 ghost use Rattle.lock_base.specs.declared.machine.mode.Mode.TheVariants.{Shared, Exclusive, Upgradable};
 ghost use Rattle.lock_one.specs.Machine.{core_of};
 ghost use Rattle.lock_word.specs.declared.want.ExWant.TheVariants.{Upgrade};
 ghost use Rattle.lock_word.specs.Rule.{WordShows};
-ghost use Rattle.lock_one_word.specs.Calls.{IsTokenOf, WasRefused, HasTimedOut};
+ghost use Rattle.lock_one_word.specs.Calls.{IsTokenOf, WasTried, HasTimedOut};
 
 use crate::until::{Deadline, Endless, Until};
-use crate::word_lock::{Pending, WordLock, WordToken};
+use crate::word_lock::{WordLock, WordToken};
 use lock_base::machine::Mode;
 use lock_one::SLEEPERS;
-use lock_word::{Down, ExWant};
+use lock_word::Down;
 use std::sync::Wait;
 use std::time::{Clock, Instant};
 
@@ -22,7 +22,7 @@ impl WordLock {
         ensures shows { WordShows self.now.readers result.0 token.held }
     {
         let mut seat = token.into_seat();
-        let word = self.peek_by(&mut seat);
+        let word = self.load_word(&mut seat);
         (word % SLEEPERS, seat.into_token())
     }
 
@@ -71,12 +71,10 @@ impl WordLock {
     pub fn try_upgrade(&self, token: WordToken) -> Result<WordToken, WordToken>
         requires { IsTokenOf self.now Upgradable token }
         ensures upgraded { MatchResult result (IsTokenOf self.now Exclusive) (λ back. back ≡ token) }
-        ensures refused { OnErr result (WasRefused self.now Upgrade) }
+        ensures tried { WasTried self.now Upgrade (is_ok result) }
     {
-        let mut seat = token.into_seat();
-        let mut pending = Pending::acquire(self.readers, ExWant::Upgrade, false);
-        self.look(&mut seat, &mut pending);
-        let ended = self.attempt(&mut seat, pending);
+        let (looked, mut seat) = self.enter_upgrade(token, false);
+        let ended = self.attempt(&mut seat, looked);
         let upgraded = ended.is_ok();
         let token = seat.into_token();
         if upgraded { Ok(token) } else { Err(token) }
@@ -123,11 +121,8 @@ impl WordLock {
         ensures upgraded { MatchResult result (IsTokenOf self.now Exclusive) (λ back. back ≡ token) }
         ensures refused { OnErr result (HasTimedOut self.now) }
     {
-        let mut seat = token.into_seat();
-        let mut pending = Pending::acquire(self.readers, ExWant::Upgrade, true);
-        self.look(&mut seat, &mut pending);
-        self.start(&mut seat, &mut pending);
-        let ended = self.come_to_end(rt, &mut seat, pending, until);
+        let (looked, mut seat) = self.enter_upgrade(token, true);
+        let ended = self.come_to_end(rt, &mut seat, looked, until);
         let upgraded = ended.is_ok();
         let token = seat.into_token();
         if upgraded { Ok(token) } else { Err(token) }

@@ -4,11 +4,11 @@ ghost use Rattle.lock_base.specs.declared.machine.hold.Hold.{Hold};
 ghost use Rattle.lock_word.specs.declared.want.ExWant.{ExWant};
 ghost use Rattle.lock_one.specs.declared.action.Action.TheVariants.{End};
 ghost use Rattle.lock_one_word.specs.Calls.{TimesOut};
-ghost use Rattle.lock_one_word.specs.Drives.{at, CanGo, GoesOn, EndsWith, touches_lock};
+ghost use Rattle.lock_one_word.specs.Drives.{at, looked_at, CanGo, GoesOn, EndsWith, touches_lock};
 ghost use Rattle.lock_one_word.specs.Seats.{IsGoing, to_acquire};
 
 use crate::until::Until;
-use crate::word_lock::{CallSeat, Ended, Pending, WordLock};
+use crate::word_lock::{CallSeat, Ended, Looked, Pending, WordLock};
 use lock_one::Action;
 use std::sync::Wait;
 
@@ -69,7 +69,7 @@ impl WordLock {
         seat: &mut CallSeat,
         mut pending: Pending,
         until: &U,
-    ) -> Result<(), Ended>
+    ) -> Result<Ended, Ended>
         requires table { seat.old.seat.table_id ≡ self.now.id }
         requires going { CanGo (at pending) seat.old.seat.me }
         requires blocks { pending.call.blocks ≡ true }
@@ -86,25 +86,26 @@ impl WordLock {
         unreachable!()
     }
 
-    /// Returns the answer of a call that has ended, or else finishes it.
+    /// Makes the actions of a call that blocks up to its end, and returns its answer.
+    #[inline(always)]
     pub(crate) fn come_to_end<R: Wait, U: Until<R>>(
         &self,
         rt: &R,
         seat: &mut CallSeat,
-        pending: Pending,
+        looked: Looked,
         until: &U,
-    ) -> Result<(), Ended>
+    ) -> Result<Ended, Ended>
         requires table { seat.old.seat.table_id ≡ self.now.id }
-        requires going { CanGo (at pending) seat.old.seat.me }
-        requires blocks { pending.call.blocks ≡ true }
+        requires going { CanGo (looked_at looked) seat.old.seat.me }
+        requires blocks { looked.blocks ≡ true }
         ensures table { (seat.new.seat.table_id ≡ seat.old.seat.table_id) × (seat.new.seat.me.1 ≡ seat.old.seat.me.1) × (seat.new.seat.me.0.readers ≡ seat.old.seat.me.0.readers) }
-        ensures ended { EndsWith (at pending) seat.old.seat.me (is_ok result) seat.new.seat.me }
-        ensures refused { IfErr result (λ end. (before : Hold) (wish : ExWant) → IsGoing (at pending) before (to_acquire wish) seat.old.seat.me.0
+        ensures ended { EndsWith (looked_at looked) seat.old.seat.me (is_ok result) seat.new.seat.me }
+        ensures refused { IfErr result (λ end. (before : Hold) (wish : ExWant) → IsGoing (looked_at looked) before (to_acquire wish) seat.old.seat.me.0
             → TimesOut seat.old.seat.me.0.readers end) }
     {
-        if let Action::End(answer) = pending.action() {
-            return pending.answer(answer);
+        match self.start(seat, looked) {
+            Ok(ended) => Ok(ended),
+            Err(pending) => self.finish(rt, seat, pending, until),
         }
-        self.finish(rt, seat, pending, until)
     }
 }

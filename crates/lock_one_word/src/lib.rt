@@ -8,7 +8,6 @@ mod laws;
 mod plays;
 mod releases;
 mod rule;
-mod start;
 mod tries;
 mod until;
 mod word_lock;

@@ -1,13 +1,17 @@
 //! How a call releases or downgrades, and wakes the sleepers that this unblocks.
 ghost use Rattle.std.specs.Prelude.{◌≡◌, IsTrue};
+ghost use Rattle.lock_base.specs.declared.machine.hold.Hold.{Hold};
 ghost use Rattle.lock_base.specs.Holds.{hold_has, hold_after};
+ghost use Rattle.lock_word.specs.declared.down.Down.{Down};
 ghost use Rattle.lock_word.specs.Word.{step_of_down};
+ghost use Rattle.lock_one_word.specs.Drives.{at, IsReleasing, EndsRelease};
 
 use crate::word_lock::{CallSeat, Pending, WordLock};
 use lock_word::Down;
 
 impl WordLock {
     /// Releases or downgrades. The step that does is the last access to the word: a wake-up by its address follows at most.
+    #[inline(always)]
     pub(crate) fn take(&self, seat: &mut CallSeat, down: Down)
         requires table { seat.old.seat.table_id ≡ self.now.id }
         requires readers { seat.old.seat.me.0.readers ≡ self.now.readers }
@@ -15,7 +19,20 @@ impl WordLock {
         ensures table { (seat.new.seat.table_id ≡ seat.old.seat.table_id) × (seat.new.seat.me.1 ≡ seat.old.seat.me.1) × (seat.new.seat.me.0.readers ≡ seat.old.seat.me.0.readers) }
         ensures held { seat.new.seat.me.0.held ≡ hold_after seat.old.seat.me.0.held (step_of_down down) }
     {
-        let mut pending = Pending::release(self.readers, down);
+        if let Err(pending) = self.start_release(seat, down) {
+            self.take_on(seat, pending);
+        }
+    }
+
+    /// Goes on with a release after its first steps.
+    #[cold]
+    #[inline(never)]
+    fn take_on(&self, seat: &mut CallSeat, mut pending: Pending)
+        requires table { seat.old.seat.table_id ≡ self.now.id }
+        requires going { IsReleasing (at pending) seat.old.seat.me }
+        ensures table { (seat.new.seat.table_id ≡ seat.old.seat.table_id) × (seat.new.seat.me.1 ≡ seat.old.seat.me.1) × (seat.new.seat.me.0.readers ≡ seat.old.seat.me.0.readers) }
+        ensures ended { EndsRelease (at pending) seat.old.seat.me seat.new.seat.me }
+    {
         while self.make_on_lock(seat, &mut pending) {}
         pending.end();
     }

@@ -1,9 +1,9 @@
 //! The raw lock over one word.
-ghost use Rattle.std.specs.Prelude.{◌≡◌, ◌↔◌, true, IfOk, IfErr, IfNone};
+ghost use Rattle.std.specs.Prelude.{◌≡◌, ◌↔◌, true, IfOk, IfErr, is_some};
 ghost use Rattle.lock_base.specs.Limits.{IsLimit, IsMakerFault};
 ghost use Rattle.lock_word.specs.declared.want.ExWant.TheVariants.{Upgrade};
 ghost use Rattle.lock_word.specs.Word.{want_of_mode};
-ghost use Rattle.lock_one_word.specs.Calls.{WasRefused};
+ghost use Rattle.lock_one_word.specs.Calls.{WasTried};
 ghost use Rattle.lock_one_word.specs.Own.{is_token_of};
 
 use crate::lock_core::LockCore;
@@ -46,9 +46,9 @@ impl<W: Wait + Clone + Drop, T: Timing<W>> LockCore for WordCore<W, T> {
 
     ghost holds = { λ core mode token. is_token_of core.lock mode token };
 
-    ghost tried = { λ core mode answer. IfNone answer (WasRefused core.lock (want_of_mode mode)) };
+    ghost tried = { λ core mode answer. WasTried core.lock (want_of_mode mode) (is_some answer) };
 
-    ghost tried_upgrade = { λ core upgraded. IfNone upgraded (WasRefused core.lock Upgrade) };
+    ghost tried_upgrade = { λ core upgraded. WasTried core.lock Upgrade (is_some upgraded) };
 
     /// No other call allocates.
     fn new(alloc: Global, waiter: W, readers: u64) -> Result<WordCore<W, T>, Fault>

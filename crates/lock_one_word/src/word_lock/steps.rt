@@ -1,29 +1,26 @@
 //! The actions of a call, made on the word. Only these functions go on with a call.
-ghost use Rattle.std.specs.Prelude.{◌≡◌, ◌+◌, ◌-◌, ◌<◌, ◌^◌, Bool, false, [], IsTrue, if◌then◌else◌};
-ghost use Rattle.lock_base.specs.Holds.{no_hold, hold_has};
-ghost use Rattle.lock_word.specs.Word.{step_of_want};
-ghost use Rattle.lock_word.specs.Rule.{WordShows};
-ghost use Rattle.lock_word.specs.Unblocking.{is_awaited};
+ghost use Rattle.std.specs.Prelude.{◌≡◌, ◌+◌, ◌-◌, ◌<◌, ◌^◌, Bool, if◌then◌else◌};
 ghost use Rattle.lock_one.specs.declared.action.Action.TheVariants.{Load, Exchange, Subtract, Park, WakeOne, WakeAll, WakeNext, Spin, Yield};
-ghost use Rattle.lock_one.specs.Machine.{core_of, next_of};
-ghost use Rattle.lock_one_word.specs.Seats.{IsGoing, to_acquire};
-ghost use Rattle.lock_one_word.specs.Drives.{at, CanGo, GoesOn, IsTrying};
+ghost use Rattle.lock_one.specs.Machine.{next_of};
+ghost use Rattle.lock_one_word.specs.Drives.{at, CanGo, GoesOn};
 
+mod atomic;
 mod call_seat;
 mod ended;
+mod looked;
 mod pending;
+mod releasing;
 mod seen;
+mod straight;
 mod token;
 
-use crate::plays::{ExchangeWord, LoadWord, SubtractFromWord};
-use crate::rule::OneView;
 use crate::until::{Left, Until};
 use crate::word_lock::WordLock;
-use crate::word_lock::steps::seen::SeenWord;
 pub(crate) use call_seat::CallSeat;
 pub(crate) use ended::Ended;
-use lock_one::{from_stored, stored_amount, to_stored};
-use lock_word::{Down, ExWant};
+use lock_one::to_stored;
+use lock_word::Down;
+pub(crate) use looked::Looked;
 pub(crate) use pending::Pending;
 use std::hint::spin_loop;
 use std::sync::Wait;
@@ -31,36 +28,6 @@ use std::thread;
 pub use token::WordToken;
 
 impl WordLock {
-    /// Begins a call of a new seat, by its load.
-    pub(crate) fn enter(&self, want: ExWant, blocks: bool) -> (Pending, CallSeat)
-        requires awaited { IsTrue (is_awaited want) }
-        requires has { IsTrue (hold_has no_hold (step_of_want want)) }
-        ensures table { (result.1.seat.table_id ≡ self.now.id) × (result.1.seat.me.1 ≡ []) × (result.1.seat.me.0.readers ≡ self.now.readers) × (result.1.seat.me.0.held ≡ no_hold) }
-        ensures going { IsGoing (at result.0) no_hold (to_acquire want) result.1.seat.me.0 }
-        ensures tries { blocks ≡ false → IsTrying (at result.0) }
-        ensures blocks { result.0.call.blocks ≡ blocks }
-        ensures fresh { result.0.exchanges ≡ 0 }
-    {
-        let mut pending = Pending::acquire(self.readers, want, blocks);
-        let (stored, seat) = self.table.shared.load_new_seat::<LoadWord>(0);
-        pending.go_on(from_stored(stored));
-        (pending, CallSeat { seat })
-    }
-
-    /// Loads the word, by no party.
-    pub(crate) fn peek(&self) -> SeenWord {
-        SeenWord::new(from_stored(self.table.shared.peek(0)))
-    }
-
-    /// Loads the word, in no call.
-    pub(crate) fn peek_by(&self, seat: &mut CallSeat) -> u64
-        requires { seat.old.seat.table_id ≡ self.now.id }
-        ensures same { (seat.new.seat.table_id ≡ seat.old.seat.table_id) × (seat.new.seat.me ≡ seat.old.seat.me) }
-        ensures shows { WordShows seat.old.seat.me.0.readers (core_of result) seat.old.seat.me.0.held }
-    {
-        from_stored(self.table.shared.load::<LoadWord>(&mut seat.seat, 0))
-    }
-
     /// Loads the word.
     pub(crate) fn look(&self, seat: &mut CallSeat, pending: &mut Pending)
         requires table { seat.old.seat.table_id ≡ self.now.id }
@@ -69,8 +36,8 @@ impl WordLock {
         ensures goes { GoesOn pending.old seat.old.seat.me pending.new seat.new.seat.me }
         ensures exchanges { pending.new.exchanges ≡ pending.old.exchanges }
     {
-        let stored = self.table.shared.load::<LoadWord>(&mut seat.seat, 0);
-        pending.go_on(from_stored(stored));
+        let found = self.load_word(seat);
+        pending.go_on(found);
     }
 
     /// Replaces the word by the second one, if it is the first.
@@ -82,13 +49,9 @@ impl WordLock {
         ensures goes { GoesOn pending.old seat.old.seat.me pending.new seat.new.seat.me }
         ensures counted { pending.old.exchanges < 2 ^ 64 - 1 → pending.new.exchanges ≡ pending.old.exchanges + 1 }
     {
-        let (first, second) = (to_stored(old), to_stored(new));
-        let stored = self
-            .table
-            .shared
-            .compare_exchange::<ExchangeWord>(&mut seat.seat, 0, first, second);
+        let found = self.exchange_word(seat, old, new);
         pending.count();
-        pending.go_on(from_stored(stored));
+        pending.go_on(found);
     }
 
     /// Subtracts what the release takes.
@@ -99,12 +62,8 @@ impl WordLock {
         ensures table { (seat.new.seat.table_id ≡ seat.old.seat.table_id) × (seat.new.seat.me.1 ≡ seat.old.seat.me.1) × (seat.new.seat.me.0.readers ≡ seat.old.seat.me.0.readers) }
         ensures goes { GoesOn pending.old seat.old.seat.me pending.new seat.new.seat.me }
     {
-        let amount = stored_amount(down);
-        let stored = self
-            .table
-            .shared
-            .fetch_sub::<SubtractFromWord>(&mut seat.seat, 0, amount);
-        pending.go_on(from_stored(stored));
+        let found = self.subtract_from_word(seat, down);
+        pending.go_on(found);
     }
 
     /// Sleeps while the word is this number, or until the wait is over.

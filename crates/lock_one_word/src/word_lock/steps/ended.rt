@@ -1,18 +1,20 @@
 //! The end of a call.
 ghost use Rattle.std.specs.Prelude.{◌≡◌};
-ghost use Rattle.lock_one_word.specs.Seals.{ending};
 
 use std::marker::Model;
 
-/// How a call ended: what its refusal rests on, if it was refused.
+/// How a call ended: what it was, its answer, and what its refusal rests on, if it was refused.
 ///
-/// Only `Pending` makes one, at the end of a call, and no clause can: what contracts see has a private field.
+/// Only the steps of a call make one, at its end, and no clause can: what contracts see has a private field.
 #[derive(Drop)]
 pub(crate) struct Ended {
-    readers: u64,
-    word: u64,
-    late: bool,
-    exchanges: u64,
+    pub(super) readers: u64,
+    pub(super) upgrades: bool,
+    pub(super) blocks: bool,
+    pub(super) acquired: bool,
+    pub(super) word: u64,
+    pub(super) late: bool,
+    pub(super) exchanges: u64,
 }
 
 impl Model for Ended {
@@ -22,18 +24,5 @@ impl Model for Ended {
 
     ghost coded = { ending_code };
 
-    ghost view = { λ e. ending e.readers e.word e.late e.exchanges };
-}
-
-impl Ended {
-    pub(super) fn new(readers: u64, word: u64, late: bool, exchanges: u64) -> Ended
-        ensures { result ≡ ending readers word late exchanges }
-    {
-        Ended {
-            readers,
-            word,
-            late,
-            exchanges,
-        }
-    }
+    ghost view = { λ e. ending e.readers e.upgrades e.blocks e.acquired e.word e.late e.exchanges };
 }

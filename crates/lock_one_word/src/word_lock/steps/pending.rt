@@ -1,10 +1,9 @@
 //! A call and its next action.
-ghost use Rattle.std.specs.Prelude.{◌≡◌, ◌≢◌, ◌+◌, ◌<◌, ◌^◌, ◌-◌, true, is_ok, IfErr};
+ghost use Rattle.std.specs.Prelude.{◌≡◌, ◌≢◌, ◌+◌, ◌<◌, ◌^◌, ◌-◌, true, false, is_ok, MatchResult};
 ghost use Rattle.lock_one.specs.Answers.{HasCause};
 ghost use Rattle.lock_one.specs.declared.action.Action.TheVariants.{End};
 ghost use Rattle.lock_one.specs.Machine.{acquiring, next_of, taking};
-ghost use Rattle.lock_one_word.specs.Drives.{at, MayEnd};
-ghost use Rattle.lock_one_word.specs.Seals.{ending};
+ghost use Rattle.lock_one_word.specs.Drives.{at, ended_with, says_yes, MayEnd};
 
 use crate::word_lock::steps::ended::Ended;
 use lock_one::{Action, Call};
@@ -95,24 +94,32 @@ impl Pending {
     pub(crate) fn end(self) -> Ended
         requires { MayEnd (at self) }
         ensures has_cause { HasCause self.call }
-        ensures end { result ≡ ending self.call.readers self.call.loaded self.call.late self.exchanges }
+        ensures end { result ≡ ended_with self (says_yes self.action) }
     {
         let Pending {
             call,
-            action: _,
+            action,
             exchanges,
         } = self;
-        Ended::new(call.readers, call.loaded, call.late, exchanges)
+        Ended {
+            readers: call.readers,
+            upgrades: matches!(call.want, ExWant::Upgrade),
+            blocks: call.blocks,
+            acquired: matches!(action, Action::End(true)),
+            word: call.loaded,
+            late: call.late,
+            exchanges,
+        }
     }
 
     /// Ends a call with the answer that it asks for.
-    pub(crate) fn answer(self, answer: bool) -> Result<(), Ended>
+    pub(crate) fn answer(self, answer: bool) -> Result<Ended, Ended>
         requires { self.action ≡ End answer }
         ensures answer { is_ok result ≡ answer }
         ensures has_cause { HasCause self.call }
-        ensures end { IfErr result (λ end. end ≡ ending self.call.readers self.call.loaded self.call.late self.exchanges) }
+        ensures end { MatchResult result (λ end. end ≡ ended_with self true) (λ end. end ≡ ended_with self false) }
     {
         let ended = self.end();
-        if answer { Ok(()) } else { Err(ended) }
+        if answer { Ok(ended) } else { Err(ended) }
     }
 }

@@ -9,35 +9,27 @@ use Rattle.lock_one_word.proofs.Causes.{the_no}
 use Rattle.lock_one_word.proofs.Rests.{refused_end}
 use Rattle.lock_one_word.proofs.word_lock.WordLock.acquire_within.Goals as goal
 
-pub come_to_end-ended-requires-clause-going : goal.come_to_end-ended-requires-clause-going
-come_to_end-ended-requires-clause-going g c =
-    let task = to_acquire c.of_mode.result in
-    (no_hold, task, c.start.ensures.going no_hold task c.enter-pending.ensures.going)
-
 pub returns-then-is_ok-clause-acquired : goal.returns-then-is_ok-clause-acquired
 returns-then-is_ok-clause-acquired g c =
     let mode = c.args.mode in
-    let task = to_acquire c.of_mode.result in
     let last = c.come_to_end-ended.new.seat.seat in
-    let end = c.come_to_end-ended.ensures.ended no_hold task (c.start.ensures.going no_hold task c.enter-pending.ensures.going) in
-    let ended = subst (λ b. IsGoing (end.0, End b) no_hold task last.me.0) (sym c.is_ok.ensures.value ∙ c.if-is_ok.true) end.1 in
+    let end = c.come_to_end-ended.ensures.ended no_hold (to_acquire c.of_mode.result) c.enter-seat.ensures.going in
+    let ended = subst (λ b. IsGoing (end.0, End b) no_hold (to_acquire c.of_mode.result) last.me.0) (sym c.is_ok.ensures.value ∙ c.if-is_ok.true) end.1 in
     token_is c.args.self.now mode last.table_id last.me c.into_token.result c.into_token.ensures
-    (c.come_to_end-ended.ensures.table.0 ∙ (c.start.ensures.table.0 ∙ c.enter-pending.ensures.table.0))
-    (c.come_to_end-ended.ensures.table.2 ∙ (c.start.ensures.table.2 ∙ c.enter-pending.ensures.table.2))
+    (c.come_to_end-ended.ensures.table.0 ∙ c.enter-seat.ensures.table.0)
+    (c.come_to_end-ended.ensures.table.2 ∙ c.enter-seat.ensures.table.2)
     (ended_holds mode end.0 last.me.0 (subst (λ (w : ExWant). IsGoing (end.0, End true) no_hold (to_acquire w) last.me.0) c.of_mode.ensures ended))
 
 pub leave-requires : goal.leave-requires
 leave-requires g c =
     let task = to_acquire c.of_mode.result in
     let last = c.come_to_end-ended.new.seat.seat in
-    let end = c.come_to_end-ended.ensures.ended no_hold task (c.start.ensures.going no_hold task c.enter-pending.ensures.going) in
+    let end = c.come_to_end-ended.ensures.ended no_hold task c.enter-seat.ensures.going in
     refused_end end.0 no_hold task last.me.0 refl (subst (λ b. IsGoing (end.0, End b) no_hold task last.me.0) (sym c.is_ok.ensures.value ∙ c.if-is_ok.false) end.1)
 
 pub returns-clause-refused : goal.returns-clause-refused
 returns-clause-refused g c =
-    let wish = c.of_mode.result in
     let no = the_no c.come_to_end-ended.result _ (sym c.is_ok.ensures.value ∙ c.if-is_ok.false) c.come_to_end-ended.ensures.refused in (
       no.0,
-      subst (λ n. TimesOut n no.0) (c.start.ensures.table.2 ∙ c.enter-pending.ensures.table.2)
-          (no.1 no_hold wish (c.start.ensures.going no_hold (to_acquire wish) c.enter-pending.ensures.going)),
+      subst (λ n. TimesOut n no.0) c.enter-seat.ensures.table.2 (no.1 no_hold c.of_mode.result c.enter-seat.ensures.going),
     )

@@ -1,51 +1,30 @@
-use Rattle.std.proofs.Common.{false, is_ok, sym, ap, subst, ◌∙◌}
-use Rattle.lock_one.specs.declared.action.Action.{Action}
-use Rattle.lock_one_word.specs.Calls.{Ending, Refuses}
-use Rattle.lock_one_word.specs.Drives.{IsTrying, says_yes}
-use Rattle.lock_one_word.specs.Seats.{to_acquire, IsGoing}
-use Rattle.lock_one_word.proofs.TryEnds.{tries_again, tried, only_tries, is_exchange, no_exchange, no_ends}
-use Rattle.lock_one_word.proofs.Causes.{try_refused, if_no}
+use Rattle.std.proofs.Common.{true, false, MatchResult, subst}
+use Rattle.lock_one_word.specs.Calls.{IsTry}
+use Rattle.lock_one_word.specs.Seats.{to_acquire}
+use Rattle.lock_one_word.proofs.Rests.{acquired_end}
+use Rattle.lock_one_word.proofs.Straight.{try_started}
 use Rattle.lock_one_word.proofs.word_lock.WordLock.attempt.Goals as goal
 
-pub loop-old-preserved : goal.loop-old-preserved
-loop-old-preserved c =
-    let now = c.loop-old.invariant.3 in
-    let is = sym c.action.ensures ∙ c.in-Exchange.is in
-    let going = subst (λ (a : Action). IsGoing (c.loop-old.pending.call, a) now.0 now.1 c.loop-old.seat.seat.me.0) is now.2 in
-    let trying = subst (λ (a : Action). IsTrying (c.loop-old.pending.call, a)) is c.loop-old.invariant.4 in
-    let turns = c.exchange.ensures.goes.0 in (
-      c.exchange.ensures.table.0 ∙ c.loop-old.invariant.0,
-      c.exchange.ensures.table.1 ∙ c.loop-old.invariant.1,
-      c.exchange.ensures.table.2 ∙ c.loop-old.invariant.2,
-      (now.0, now.1, c.exchange.ensures.goes.1 now.0 now.1 now.2),
-      subst IsTrying (sym turns.1) (tries_again turns.0 c.in-Exchange.old c.in-Exchange.new c.loop-old.pending.call c.loop-old.seat.seat.me.0 now.0 now.1 going trying),
-      λ before task goes. c.exchange.ensures.goes.1 before task (c.loop-old.invariant.5 before task goes),
-    )
+pub try_on-requires-clause-going : goal.try_on-requires-clause-going
+try_on-requires-clause-going c =
+    let now = c.requires.going in
+    let on = c.in-Err.ensures.goes_on in
+    ((now.0, now.1, on.0 now.0 now.1 now.2), on.1 c.requires.tries)
 
-pub returns-then-is_spent-clause-tried : goal.returns-then-is_spent-clause-tried
-returns-then-is_spent-clause-tried c before wish clean awaited going =
-    let is = sym c.action.ensures ∙ c.in-Exchange.is in
-    tried c.loop-old.pending.call c.loop-old.pending.action c.loop-old.seat.seat.me.0 before wish clean awaited (c.loop-old.invariant.5 before (to_acquire wish) going)
-    c.loop-old.invariant.4 false (sym (ap says_yes is))
+pub returns-in-Ok-clause-tried : goal.returns-in-Ok-clause-tried
+returns-in-Ok-clause-tried c before wish clean awaited going =
+    let end = c.in-Ok.ensures.acquired.1 before (to_acquire wish) going in
+    acquired_end end.0 before wish c.start.new.seat.seat.me.0 clean awaited end.1
 
-pub returns : goal.returns
-returns c =
-    let call = c.loop-old.pending.call in
-    let a = c.loop-old.pending.action in
-    let me = c.loop-old.seat.seat.me.0 in
-    let now = c.loop-old.invariant.3 in
-    let yes = c.says_yes-acquired.ensures ∙ ap says_yes c.action-2.ensures in record {
-      table = (c.loop-old.invariant.0, c.loop-old.invariant.1, c.loop-old.invariant.2);
-      tried = λ before wish clean awaited going.
-          tried call a me before wish clean awaited (c.loop-old.invariant.5 before (to_acquire wish) going) c.loop-old.invariant.4
-          (is_ok c.answer.result) (c.answer.ensures.answer ∙ yes);
-      refused = if_no c.answer.result c.says_yes-acquired.result _ _ c.answer.ensures.answer c.answer.ensures.end
-          (λ off e is before wish going.
-          subst (λ n. Refuses n wish e) c.loop-old.invariant.2
-          (try_refused call me before wish e
-          (subst (λ (x : Action). IsGoing (call, x) before (to_acquire wish) me)
-          (no_ends a (only_tries call a me now.0 now.1 now.2 c.loop-old.invariant.4)
-          (sym (ap is_exchange c.action.ensures) ∙ no_exchange c.action.result (λ x y h. c.in_default.not-Exchange x y h)) (sym yes ∙ off))
-          (c.loop-old.invariant.5 before (to_acquire wish) going))
-          c.loop-old.invariant.4.tries c.answer.ensures.has_cause (ap (λ (x : Ending). x.readers) is) (ap (λ (x : Ending). x.word) is)));
-    }
+pub returns-in-Ok-clause-ended : goal.returns-in-Ok-clause-ended
+returns-in-Ok-clause-ended c before wish going =
+    try_started c.args.looked c.args.seat.now.seat.me.0 before wish c.in-Ok.ended going c.requires.tries c.in-Ok.ensures.acquired.0
+
+pub returns-in-Err-clause-tried : goal.returns-in-Err-clause-tried
+returns-in-Err-clause-tried c before wish clean awaited going =
+    c.try_on.ensures.tried before wish clean awaited (c.in-Err.ensures.goes_on.0 before (to_acquire wish) going)
+
+pub returns-in-Err-clause-ended : goal.returns-in-Err-clause-ended
+returns-in-Err-clause-ended c before wish going =
+    subst (λ n. MatchResult c.try_on.result (IsTry n wish true) (IsTry n wish false)) c.start.ensures.table.2
+    (c.try_on.ensures.ended before wish (c.in-Err.ensures.goes_on.0 before (to_acquire wish) going))

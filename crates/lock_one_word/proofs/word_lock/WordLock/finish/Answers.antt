@@ -36,7 +36,7 @@ returns-in-Some-make-clause-refused g c =
     let ended = c.in-Some-make.ensures.ended in
     let last = c.make.new.pending in
     let me = c.loop.seat.seat.me.0 in
-    if_no c.answer.result c.in-Some-make.answer _ _ c.answer.ensures.answer c.answer.ensures.end
+    if_no c.answer.result c.in-Some-make.answer _ _ _ c.answer.ensures.answer c.answer.ensures.end
     (λ off e is before wish going.
     subst (λ n. TimesOut n e) c.loop.invariant.4
     (times_out last.call me before wish e

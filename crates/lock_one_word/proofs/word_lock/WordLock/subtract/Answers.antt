@@ -1,33 +1,19 @@
-use Rattle.std.proofs.Common.{rules, refl, subst, sym, ap, ◌∙◌}
+use Rattle.std.proofs.Common.{refl, subst}
 use Rattle.lock_one.specs.declared.action.Action.{Action}
 use Rattle.lock_one.specs.declared.action.Action.TheVariants.{Subtract}
-use Rattle.lock_one.specs.Machine.{next_of}
-use Rattle.lock_one_word.specs.Calls.{WordLockView}
-use Rattle.lock_one_word.specs.Seats.{placed, IsGoing}
-use Rattle.lock_one.proofs.Actions.{steps_on, subtracts_own}
+use Rattle.lock_one_word.specs.Seats.{IsGoing}
 use Rattle.lock_one_word.proofs.Passing.{passes_on_word}
-use Rattle.lock_one_word.proofs.Seats.{subtracts_as, same_release}
 use Rattle.lock_one_word.proofs.word_lock.WordLock.subtract.Goals as goal
 
-pub fetch_sub-stored-requires : goal.fetch_sub-stored-requires
-fetch_sub-stored-requires c =
-    let a = Subtract c.args.down in
+pub subtract_from_word-found-requires-clause-going : goal.subtract_from_word-found-requires-clause-going
+subtract_from_word-found-requires-clause-going c =
     let call = c.args.pending.now.call in
     let before = c.requires.going.0 in
     let task = c.requires.going.1 in
-    let going = subst (λ (x : Action). IsGoing (call, x) before task c.args.seat.now.seat.me.0) c.requires.action c.requires.going.2 in
-    let on = steps_on call.stage call (placed c.args.seat.now.seat.me.0.held a) a going.at refl in (
-      c.requires.table ∙ sym (ap (λ (l : WordLockView). l.id) c.self.view_is),
-      search rules,
-      subtracts_as _ _ _ c.args.seat.now.seat.me call before task c.args.down c.stored_amount-amount.result on going
-          (subtracts_own call.stage call (placed c.args.seat.now.seat.me.0.held a) c.args.down going.at) c.stored_amount-amount.ensures,
-    )
+    (call, before, task, subst (λ (x : Action). IsGoing (call, x) before task c.args.seat.now.seat.me.0) c.requires.action c.requires.going.2)
 
 pub returns-clause-goes : goal.returns-clause-goes
 returns-clause-goes c =
-    passes_on_word c.args.pending.now c.go_on.new.self (Subtract c.args.down) c.args.seat.now.seat.me c.fetch_sub-stored.new.seat.me c.from_stored.result c.from_stored.result
-    c.requires.action refl refl c.go_on.ensures.goes
-    (λ other first todo step goes.
-    subst (λ w. IsGoing (next_of w other) first todo c.fetch_sub-stored.new.seat.me.0) (sym c.from_stored.ensures)
-    (c.fetch_sub-stored.ensures.2.2 other first todo step
-    (subst (λ (x : Action). IsGoing (other, x) first todo c.args.seat.now.seat.me.0) (same_release c.args.down c.stored_amount-amount.result c.stored_amount-amount.ensures) goes)))
+    let found = c.subtract_from_word-found.result in
+    passes_on_word c.args.pending.now c.go_on.new.self (Subtract c.args.down) c.args.seat.now.seat.me c.subtract_from_word-found.new.seat.seat.me found found
+    c.requires.action refl refl c.go_on.ensures.goes c.subtract_from_word-found.ensures.goes

@@ -1,6 +1,6 @@
 use Rattle.std.proofs.Common.{◌≡◌, ◌-◌, ◌^◌}
 use Rattle.lock_one_word.specs.Drives.{at, CanGo, LeadsTo, IsTrying}
-use Rattle.lock_one_word.proofs.word_lock.WordLock.attempt.Given as goal
+use Rattle.lock_one_word.proofs.word_lock.WordLock.try_on.Given as goal
 
 abbrev pub invariant-loop-old : goal.invariant-loop-old
 invariant-loop-old l =
