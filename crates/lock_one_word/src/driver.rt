@@ -4,11 +4,11 @@ ghost use Rattle.lock_base.specs.declared.machine.hold.Hold.{Hold};
 ghost use Rattle.lock_word.specs.declared.want.ExWant.{ExWant};
 ghost use Rattle.lock_one.specs.declared.action.Action.TheVariants.{End};
 ghost use Rattle.lock_one_word.specs.Calls.{TimesOut};
-ghost use Rattle.lock_one_word.specs.Drives.{at, looked_at, CanGo, GoesOn, EndsWith, touches_lock};
+ghost use Rattle.lock_one_word.specs.Drives.{at, looked_at, unacquired_at, CanGo, GoesOn, EndsWith, touches_lock};
 ghost use Rattle.lock_one_word.specs.Seats.{IsGoing, to_acquire};
 
 use crate::until::Until;
-use crate::word_lock::{CallSeat, Ended, Looked, Pending, WordLock};
+use crate::word_lock::{CallSeat, Ended, Looked, Pending, Unacquired, WordLock};
 use lock_one::Action;
 use std::sync::Wait;
 
@@ -63,21 +63,22 @@ impl WordLock {
     /// Makes the actions of a call up to its end, and returns its answer. Kept off the uncontended path.
     #[cold]
     #[inline(never)]
-    pub(crate) fn finish<R: Wait, U: Until<R>>(
+    fn finish<R: Wait, U: Until<R>>(
         &self,
         rt: &R,
         seat: &mut CallSeat,
-        mut pending: Pending,
+        call: Unacquired,
         until: &U,
     ) -> Result<Ended, Ended>
         requires table { seat.old.seat.table_id ≡ self.now.id }
-        requires going { CanGo (at pending) seat.old.seat.me }
-        requires blocks { pending.call.blocks ≡ true }
+        requires going { CanGo (unacquired_at call) seat.old.seat.me }
+        requires blocks { (unacquired_at call).0.blocks ≡ true }
         ensures table { (seat.new.seat.table_id ≡ seat.old.seat.table_id) × (seat.new.seat.me.1 ≡ seat.old.seat.me.1) × (seat.new.seat.me.0.readers ≡ seat.old.seat.me.0.readers) }
-        ensures ended { EndsWith (at pending) seat.old.seat.me (is_ok result) seat.new.seat.me }
-        ensures refused { IfErr result (λ end. (before : Hold) (wish : ExWant) → IsGoing (at pending) before (to_acquire wish) seat.old.seat.me.0
+        ensures ended { EndsWith (unacquired_at call) seat.old.seat.me (is_ok result) seat.new.seat.me }
+        ensures refused { IfErr result (λ end. (before : Hold) (wish : ExWant) → IsGoing (unacquired_at call) before (to_acquire wish) seat.old.seat.me.0
             → TimesOut seat.old.seat.me.0.readers end) }
     {
+        let mut pending = call.into_pending();
         for _ in rt.forever() {
             if let Some(answer) = self.make(rt, seat, &mut pending, until) {
                 return pending.answer(answer);
@@ -105,7 +106,7 @@ impl WordLock {
     {
         match self.start(seat, looked) {
             Ok(ended) => Ok(ended),
-            Err(pending) => self.finish(rt, seat, pending, until),
+            Err(call) => self.finish(rt, seat, call, until),
         }
     }
 }

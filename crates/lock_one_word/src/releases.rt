@@ -4,9 +4,9 @@ ghost use Rattle.lock_base.specs.declared.machine.hold.Hold.{Hold};
 ghost use Rattle.lock_base.specs.Holds.{hold_has, hold_after};
 ghost use Rattle.lock_word.specs.declared.down.Down.{Down};
 ghost use Rattle.lock_word.specs.Word.{step_of_down};
-ghost use Rattle.lock_one_word.specs.Drives.{at, IsReleasing, EndsRelease};
+ghost use Rattle.lock_one_word.specs.Drives.{unreleased_at, IsReleasing, EndsRelease};
 
-use crate::word_lock::{CallSeat, Pending, WordLock};
+use crate::word_lock::{CallSeat, Unreleased, WordLock};
 use lock_word::Down;
 
 impl WordLock {
@@ -19,20 +19,21 @@ impl WordLock {
         ensures table { (seat.new.seat.table_id ≡ seat.old.seat.table_id) × (seat.new.seat.me.1 ≡ seat.old.seat.me.1) × (seat.new.seat.me.0.readers ≡ seat.old.seat.me.0.readers) }
         ensures held { seat.new.seat.me.0.held ≡ hold_after seat.old.seat.me.0.held (step_of_down down) }
     {
-        if let Err(pending) = self.start_release(seat, down) {
-            self.take_on(seat, pending);
+        if let Err(call) = self.start_release(seat, down) {
+            self.take_on(seat, call);
         }
     }
 
     /// Goes on with a release after its first steps.
     #[cold]
     #[inline(never)]
-    fn take_on(&self, seat: &mut CallSeat, mut pending: Pending)
+    fn take_on(&self, seat: &mut CallSeat, call: Unreleased)
         requires table { seat.old.seat.table_id ≡ self.now.id }
-        requires going { IsReleasing (at pending) seat.old.seat.me }
+        requires going { IsReleasing (unreleased_at call) seat.old.seat.me }
         ensures table { (seat.new.seat.table_id ≡ seat.old.seat.table_id) × (seat.new.seat.me.1 ≡ seat.old.seat.me.1) × (seat.new.seat.me.0.readers ≡ seat.old.seat.me.0.readers) }
-        ensures ended { EndsRelease (at pending) seat.old.seat.me seat.new.seat.me }
+        ensures ended { EndsRelease (unreleased_at call) seat.old.seat.me seat.new.seat.me }
     {
+        let mut pending = call.into_pending();
         while self.make_on_lock(seat, &mut pending) {}
         pending.end();
     }

@@ -1,8 +1,8 @@
 //! How a call tries, without blocking.
-ghost use Rattle.std.specs.Prelude.{◌≡◌, ◌≤◌, false, is_ok};
-ghost use Rattle.lock_one_word.specs.Drives.{at, looked_at, CanGo, IsTrying, Tried, TriesEnd, says_yes};
+ghost use Rattle.std.specs.Prelude.{◌≡◌, false, is_ok};
+ghost use Rattle.lock_one_word.specs.Drives.{looked_at, unacquired_at, CanGo, IsTrying, Tried, TriesEnd, says_yes};
 
-use crate::word_lock::{CallSeat, Ended, Looked, Pending, WordLock};
+use crate::word_lock::{CallSeat, Ended, Looked, Unacquired, WordLock};
 use lock_one::Action;
 
 impl WordLock {
@@ -18,21 +18,21 @@ impl WordLock {
     {
         match self.start(seat, looked) {
             Ok(ended) => Ok(ended),
-            Err(pending) => self.try_on(seat, pending),
+            Err(call) => self.try_on(seat, call),
         }
     }
 
     /// Goes on with a try after its first steps.
     #[cold]
     #[inline(never)]
-    fn try_on(&self, seat: &mut CallSeat, mut pending: Pending) -> Result<Ended, Ended>
+    fn try_on(&self, seat: &mut CallSeat, call: Unacquired) -> Result<Ended, Ended>
         requires table { seat.old.seat.table_id ≡ self.now.id }
-        requires going { CanGo (at pending) seat.old.seat.me × IsTrying (at pending) }
-        requires fresh { pending.exchanges ≤ 1 }
+        requires going { CanGo (unacquired_at call) seat.old.seat.me × IsTrying (unacquired_at call) }
         ensures table { (seat.new.seat.table_id ≡ seat.old.seat.table_id) × (seat.new.seat.me.1 ≡ seat.old.seat.me.1) × (seat.new.seat.me.0.readers ≡ seat.old.seat.me.0.readers) }
-        ensures tried { Tried (at pending) (is_ok result) seat.old.seat.me seat.new.seat.me }
-        ensures ended { TriesEnd (at pending) seat.old.seat.me result }
+        ensures tried { Tried (unacquired_at call) (is_ok result) seat.old.seat.me seat.new.seat.me }
+        ensures ended { TriesEnd (unacquired_at call) seat.old.seat.me result }
     {
+        let mut pending = call.into_pending();
         while let Action::Exchange(old, new) = pending.action() {
             if pending.is_spent() {
                 return Err(pending.end());

@@ -11,8 +11,8 @@ use lock_word::ExWant;
 
 /// A call that acquires or upgrades, after its first load and before its exchange.
 ///
-/// It is a `Pending` that is not made while nothing contends. It has no `Drop`: it ends by the exchange that acquires, or
-/// becomes a `Pending`.
+/// A `Pending` is not made while nothing contends. This has no `Drop`: it ends by the exchange that acquires, or goes on as an
+/// `Unacquired`.
 pub(crate) struct Looked {
     pub(super) readers: u64,
     pub(super) want: ExWant,
@@ -54,8 +54,6 @@ impl Looked {
     }
 
     /// Goes on with the call by the machine.
-    #[cold]
-    #[inline(never)]
     pub(super) fn into_pending(self) -> Pending
         ensures goes { at result ≡ looked_at self }
         ensures fresh { result.exchanges ≡ 0 }
@@ -68,19 +66,6 @@ impl Looked {
         } = self;
         let mut pending = Pending::acquire(readers, want, blocks);
         pending.go_on(word);
-        pending
-    }
-
-    /// Goes on with the call by the machine, after an exchange that found another word.
-    #[cold]
-    #[inline(never)]
-    pub(super) fn lose(self, found: u64) -> Pending
-        ensures goes { at result ≡ next_of found (looked_at self).0 }
-        ensures counted { result.exchanges ≡ 1 }
-    {
-        let mut pending = self.into_pending();
-        pending.count();
-        pending.go_on(found);
         pending
     }
 }
