@@ -5,5 +5,8 @@ pub mod Actions
 pub mod Answers
 pub mod Refusals
 pub mod Sleeps
+pub mod RunViews
+pub mod RunActs
+pub mod RunWakes
 pub mod Runs
 pub mod Stored

@@ -16,7 +16,7 @@ use Rattle.lock_one.specs.declared.park.Debt.TheVariants as debt
 use Rattle.lock_one.specs.Machine.{word_marked, next_of}
 use Rattle.lock_one.specs.Runs.{limits_in, debt_at}
 use Rattle.lock_one.specs.Steps.{made, limits_of, IsAt, IsPause, is_step, Keeps, StepKept}
-use Rattle.lock_one.proofs.Runs.{owes_at, same_view}
+use Rattle.lock_one.proofs.RunViews.{owes_at, same_view}
 use Rattle.lock_one.proofs.Steps.{steps_keep_the_rule}
 use Rattle.lock_one_word.specs.Seats.{placed, Task, IsGoing}
 use Rattle.lock_one_word.proofs.Parties.{same_hold}

@@ -22,7 +22,7 @@ use Rattle.lock_one.specs.Runs.{debt_at}
 use Rattle.lock_one.specs.Steps.{ends, Acquires, IsAt, IsWake, hold_at}
 use Rattle.lock_one.proofs.Actions.{on_word}
 use Rattle.lock_one.proofs.Answers.{answers_match_holds}
-use Rattle.lock_one.proofs.Runs.{quiet_sleep, same_view}
+use Rattle.lock_one.proofs.RunViews.{quiet_sleep, same_view}
 use Rattle.lock_one_word.specs.declared.rule.OneView.{OneView}
 use Rattle.lock_one_word.specs.Seats.{placed, Task, to_acquire, to_release, releases, IsGoing}
 use Rattle.lock_one_word.proofs.Tasks.{keeps_task, is_on}
