@@ -62,6 +62,10 @@ TimesOut readers e = (e.readers ≡ readers) × (e.late ≡ true)
 abbrev pub HasTimedOut : WordLockView → Type 0
 HasTimedOut lock = (e : Ending) × TimesOut lock.readers e
 
+-- a call with a deadline was refused after it, or, if it measured no time, as a try
+abbrev pub WasLate : WordLockView → ExWant → Type 0
+WasLate lock wish = HasTimedOut lock ⊎ WasTried lock wish false
+
 -- the answers of a load
 abbrev pub SawTokens : Bool → Type 0
 SawTokens answer = (s : Seen) × (answer ≡ not (tokens (bag_of_word (core_of s.word)) == 0))

@@ -1,5 +1,5 @@
 //! The core of a raw lock.
-ghost use Rattle.std.specs.Prelude.{◌≡◌, ◌↔◌, Bool, true, ⊤, Option, IsTrue, IfSome, IfErr, IfOk};
+ghost use Rattle.std.specs.Prelude.{◌≡◌, ◌↔◌, ◌⊎◌, Bool, true, ⊤, Option, None, IsTrue, IfSome, IfNone, IfErr, IfOk, OnErr};
 ghost use Rattle.std.specs.Result.{result_ok};
 ghost use Rattle.lock_base.specs.declared.machine.mode.Mode.{Mode};
 ghost use Rattle.lock_base.specs.Limits.{IsLimit, IsMakerFault};
@@ -38,6 +38,13 @@ pub trait LockCore: Sized + Drop {
     /// What `try_upgrade` did, by the token that it made.
     ghost tried_upgrade: { Self → Option Self.Token → Type 0 } = { λ _ _. ⊤ };
 
+    /// What a refusal of `try_acquire_until` rests on, if it was none of a plain try. A core that states nothing leaves it at
+    /// `⊤`.
+    ghost late: { Self → Mode → Type 0 } = { λ _ _. ⊤ };
+
+    /// What a refusal of `try_upgrade_until` rests on, if it was none of a plain try.
+    ghost late_upgrade: { Self → Type 0 } = { λ _. ⊤ };
+
     /// Makes an unlocked core. At most `readers` tokens are shared or upgradable at a time.
     fn new(alloc: Global, waiter: Self::Waiter, readers: u64) -> Result<Self, Fault>
         ensures limits { (result ≡ Err Fault.BadLimits) ↔ (IsLimit readers → ⊥) }
@@ -72,7 +79,8 @@ pub trait LockCore: Sized + Drop {
 
     /// Tries to acquire the mode until `deadline`. A core that measures no time leaves it a plain try.
     fn try_acquire_until(&self, mode: Mode, _deadline: Self::Instant) -> Option<Self::Token>
-        ensures { IfSome result (λ token. holds self.now mode token ≡ true) }
+        ensures held { IfSome result (λ token. holds self.now mode token ≡ true) }
+        ensures refused { IfNone result (late self.now mode ⊎ tried self.now mode None) }
     {
         self.try_acquire(mode)
     }
@@ -103,6 +111,7 @@ pub trait LockCore: Sized + Drop {
         requires { holds self.now Mode.Upgradable token ≡ true }
         ensures held { IfOk result (λ upgraded. holds self.now Mode.Exclusive upgraded ≡ true) }
         ensures back { IfErr result (λ back. back ≡ token) }
+        ensures refused { OnErr result (late_upgrade self.now ⊎ tried_upgrade self.now None) }
     {
         self.try_upgrade(token)
     }

@@ -1,5 +1,5 @@
 //! The raw lock as a raw mutex, with a readers' limit of 1.
-ghost use Rattle.std.specs.Prelude.{option_map};
+ghost use Rattle.std.specs.Prelude.{◌⊎◌, None, option_map, IfNone};
 ghost use Rattle.lock_base.specs.declared.machine.mode.Mode.{Mode};
 
 use crate::lock_core::LockCore;
@@ -59,6 +59,10 @@ impl<C: LockCore> RawMutexTimed for RawLock<C> {
     type Duration = C::Duration;
 
     type Instant = C::Instant;
+
+    ghost tried_for = { λ raw _ answer. IfNone answer (C.late raw.core Mode.Exclusive ⊎ C.tried raw.core Mode.Exclusive None) };
+
+    ghost tried_until = { λ raw _ answer. IfNone answer (C.late raw.core Mode.Exclusive ⊎ C.tried raw.core Mode.Exclusive None) };
 
     fn try_lock_for(&self, timeout: C::Duration) -> Option<ExclusiveToken<C::Token>> {
         let token = self.acquire_within(Mode::Exclusive, timeout)?;

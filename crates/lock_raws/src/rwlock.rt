@@ -1,5 +1,5 @@
 //! The raw lock as a raw reader-writer lock.
-ghost use Rattle.std.specs.Prelude.{◌≡◌, MatchResult, option_map};
+ghost use Rattle.std.specs.Prelude.{◌≡◌, ◌⊎◌, None, MatchResult, IfNone, option_map};
 ghost use Rattle.lock_base.specs.declared.machine.mode.Mode.{Mode};
 
 use crate::lock_core::LockCore;
@@ -104,6 +104,14 @@ impl<C: LockCore> RawRwLockTimed for RawLock<C> {
 
     type Instant = C::Instant;
 
+    ghost tried_shared_for = { λ raw _ answer. IfNone answer (C.late raw.core Mode.Shared ⊎ C.tried raw.core Mode.Shared None) };
+
+    ghost tried_shared_until = { λ raw _ answer. IfNone answer (C.late raw.core Mode.Shared ⊎ C.tried raw.core Mode.Shared None) };
+
+    ghost tried_exclusive_for = { λ raw _ answer. IfNone answer (C.late raw.core Mode.Exclusive ⊎ C.tried raw.core Mode.Exclusive None) };
+
+    ghost tried_exclusive_until = { λ raw _ answer. IfNone answer (C.late raw.core Mode.Exclusive ⊎ C.tried raw.core Mode.Exclusive None) };
+
     fn try_lock_shared_for(&self, timeout: C::Duration) -> Option<SharedToken<C::Token>> {
         let token = self.acquire_within(Mode::Shared, timeout)?;
         Some(SharedToken { token })
@@ -192,6 +200,14 @@ impl<C: LockCore> RawRwLockUpgradeDowngrade for RawLock<C> {
 }
 
 impl<C: LockCore> RawRwLockUpgradeTimed for RawLock<C> {
+    ghost tried_upgradable_for = { λ raw _ answer. IfNone answer (C.late raw.core Mode.Upgradable ⊎ C.tried raw.core Mode.Upgradable None) };
+
+    ghost tried_upgradable_until = { λ raw _ answer. IfNone answer (C.late raw.core Mode.Upgradable ⊎ C.tried raw.core Mode.Upgradable None) };
+
+    ghost tried_upgrade_for = { λ raw _ upgraded. IfNone upgraded (C.late_upgrade raw.core ⊎ C.tried_upgrade raw.core None) };
+
+    ghost tried_upgrade_until = { λ raw _ upgraded. IfNone upgraded (C.late_upgrade raw.core ⊎ C.tried_upgrade raw.core None) };
+
     fn try_lock_upgradable_for(&self, timeout: C::Duration) -> Option<UpgradableToken<C::Token>> {
         let token = self.acquire_within(Mode::Upgradable, timeout)?;
         Some(UpgradableToken { token })

@@ -1,7 +1,9 @@
 //! How a lock on a word measures time.
-ghost use Rattle.std.specs.Prelude.{◌≡◌, IsSome, IfSome, MatchResult};
+ghost use Rattle.std.specs.Prelude.{◌≡◌, IsSome, IfSome, IfNone, MatchResult, OnErr};
 ghost use Rattle.lock_base.specs.declared.machine.mode.Mode.TheVariants.{Exclusive, Upgradable};
-ghost use Rattle.lock_one_word.specs.Calls.{IsTokenOf};
+ghost use Rattle.lock_word.specs.declared.want.ExWant.TheVariants.{Upgrade};
+ghost use Rattle.lock_word.specs.Word.{want_of_mode};
+ghost use Rattle.lock_one_word.specs.Calls.{IsTokenOf, WasLate};
 
 use lock_base::machine::Mode;
 use lock_one_word::{WordLock, WordToken};
@@ -29,7 +31,8 @@ pub trait Timing<W: Wait>: Drop {
         mode: Mode,
         deadline: Self::Instant,
     ) -> Option<WordToken>
-        ensures { IfSome result (IsTokenOf lock.now mode) };
+        ensures acquired { IfSome result (IsTokenOf lock.now mode) }
+        ensures refused { IfNone result (WasLate lock.now (want_of_mode mode)) };
 
     /// Makes an upgradable token exclusive, blocking until `deadline`, or returns it unchanged.
     fn upgrade_until(
@@ -39,7 +42,8 @@ pub trait Timing<W: Wait>: Drop {
         deadline: Self::Instant,
     ) -> Result<WordToken, WordToken>
         requires { IsTokenOf lock.now Upgradable token }
-        ensures { MatchResult result (IsTokenOf lock.now Exclusive) (λ back. back ≡ token) };
+        ensures upgraded { MatchResult result (IsTokenOf lock.now Exclusive) (λ back. back ≡ token) }
+        ensures refused { OnErr result (WasLate lock.now Upgrade) };
 }
 
 /// Measures no time: each deadline has passed. A timed try is a plain try, and does not block.

@@ -3,7 +3,7 @@ ghost use Rattle.std.specs.Prelude.{◌≡◌, ◌↔◌, true, IfOk, IfErr, is_
 ghost use Rattle.lock_base.specs.Limits.{IsLimit, IsMakerFault};
 ghost use Rattle.lock_word.specs.declared.want.ExWant.TheVariants.{Upgrade};
 ghost use Rattle.lock_word.specs.Word.{want_of_mode};
-ghost use Rattle.lock_one_word.specs.Calls.{WasTried};
+ghost use Rattle.lock_one_word.specs.Calls.{WasTried, HasTimedOut};
 ghost use Rattle.lock_one_word.specs.Own.{is_token_of};
 
 use crate::lock_core::LockCore;
@@ -49,6 +49,10 @@ impl<W: Wait + Clone + Drop, T: Timing<W>> LockCore for WordCore<W, T> {
     ghost tried = { λ core mode answer. WasTried core.lock (want_of_mode mode) (is_some answer) };
 
     ghost tried_upgrade = { λ core upgraded. WasTried core.lock Upgrade (is_some upgraded) };
+
+    ghost late = { λ core _. HasTimedOut core.lock };
+
+    ghost late_upgrade = { λ core. HasTimedOut core.lock };
 
     /// No other call allocates.
     fn new(alloc: Global, waiter: W, readers: u64) -> Result<WordCore<W, T>, Fault>
