@@ -15,13 +15,14 @@ use Rattle.lock_plan_answer.specs.Stops.{stop_word, stop_lines}
 abbrev pub none_text : ℕ → List ℕ
 none_text visited = codes "no deadlock, " ++ (decimal visited ++ codes " states\n")
 
--- the answer where a trace leads from a world into a stop or a circle
-abbrev pub trace_text : List PlanLock → Names → List Stand → List Step → List ℕ
-trace_text locks names w trace =
+-- the answer where a trace leads from a world into a stop or a circle, with a mark before each step and each wait
+abbrev pub trace_text : (List Stand → ℕ → List ℕ) → List PlanLock → Names → List Stand → List Step → List ℕ
+trace_text mark locks names w trace =
     let stop = last_world locks w trace in
-    stop_word (all_stopped locks stop) ++ (codes "\n" ++ (steps_text locks names w trace ++ (stop_lines locks names stop ++ going_lines locks names stop)))
+    stop_word (all_stopped locks stop)
+    ++ (codes "\n" ++ (steps_text mark locks names w trace ++ (stop_lines mark locks names stop ++ going_lines locks names stop)))
 
 -- the answer to a plan, of what a search found
-abbrev pub answer_text : List PlanLock → List (List ProgramPlace) → Names → Option (Vec Step Global) → ℕ → List ℕ
-answer_text locks programs names None visited = none_text visited
-answer_text locks programs names (Some trace) visited = trace_text locks names (first_world locks programs) trace.items
+abbrev pub answer_text : (List Stand → ℕ → List ℕ) → List PlanLock → List (List ProgramPlace) → Names → Option (Vec Step Global) → ℕ → List ℕ
+answer_text mark locks programs names None visited = none_text visited
+answer_text mark locks programs names (Some trace) visited = trace_text mark locks names (first_world locks programs) trace.items

@@ -7,4 +7,5 @@ pub mod Going
 pub mod Answers
 pub mod Lanes
 pub mod LineNumbers
+pub mod LineMarks
 pub mod Orders

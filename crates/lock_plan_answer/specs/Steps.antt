@@ -79,8 +79,12 @@ abbrev pub last_world : List PlanLock → List Stand → List Step → List Stan
 last_world locks w [] = w
 last_world locks w (step ∷ trace) = last_world locks (stepped locks w step) trace
 
+-- the line of a step with the mark of its row before it
+abbrev pub marked_step : (List Stand → ℕ → List ℕ) → List PlanLock → Names → List Stand → Step → List ℕ
+marked_step mark locks names w step = mark w step.party ++ step_text locks names w step
+
 -- the steps of a trace, a line each
-abbrev pub steps_text : List PlanLock → Names → List Stand → List Step → List ℕ
-steps_text locks names w [] = []
-steps_text locks names w (step ∷ trace) =
-    step_text locks names w step ++ steps_text locks names (stepped locks w step) trace
+abbrev pub steps_text : (List Stand → ℕ → List ℕ) → List PlanLock → Names → List Stand → List Step → List ℕ
+steps_text mark locks names w [] = []
+steps_text mark locks names w (step ∷ trace) =
+    marked_step mark locks names w step ++ steps_text mark locks names (stepped locks w step) trace

@@ -101,5 +101,9 @@ stopped_line locks names w s =
     ++ (awaited_text locks names s.act
     ++ (reason_text locks names w s.act s.behind ++ codes "\n")))
 
-abbrev pub stop_lines : List PlanLock → Names → List Stand → List ℕ
-stop_lines locks names w = flat_map (stopped_line locks names w) (all_stopped locks w)
+-- the same with the mark of the party before it
+abbrev pub marked_stopped : (List Stand → ℕ → List ℕ) → List PlanLock → Names → List Stand → Stopped → List ℕ
+marked_stopped mark locks names w s = mark w s.party ++ stopped_line locks names w s
+
+abbrev pub stop_lines : (List Stand → ℕ → List ℕ) → List PlanLock → Names → List Stand → List ℕ
+stop_lines mark locks names w = flat_map (marked_stopped mark locks names w) (all_stopped locks w)

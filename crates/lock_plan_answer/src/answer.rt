@@ -3,8 +3,10 @@ ghost use Rattle.std.specs.Prelude.{◌≡◌, ◌++◌, OnOk, decimal, string_b
 ghost use Rattle.lock_plan.specs.Worlds.{first_world};
 ghost use Rattle.lock_plan.specs.Stops.{programs_of};
 ghost use Rattle.lock_plan_answer.specs.Answers.{none_text, trace_text, answer_text};
+ghost use Rattle.lock_plan_answer.specs.LineMarks.{mark_by};
 
 use crate::going::write_going_lines;
+use crate::line_mark::LineMark;
 use crate::step::{last_node, write_steps};
 use crate::stop::{stop_word, write_stop_lines};
 use itoa::Buffer;
@@ -13,19 +15,21 @@ use lock_plan_text::Names;
 use std::alloc::{AllocError, Global};
 
 /// Appends the answer to a plan: that nothing deadlocks, or the steps into a deadlock and who waits and who goes on there.
+/// Each step and each wait has the mark before it.
 pub fn write_answer(
     alloc: Global,
     text: &mut String,
     plan: &Plan,
     names: &Names,
     explored: &Explored,
+    mark: LineMark,
 ) -> Result<(), AllocError>
     ensures { OnOk result (string_bytes text.new ≡ string_bytes text.old
-        ++ answer_text plan.now.locks.items (programs_of plan.now) names.now explored.now.trace explored.now.visited) }
+        ++ answer_text (mark_by mark.entry) plan.now.locks.items (programs_of plan.now) names.now explored.now.trace explored.now.visited) }
 {
     match &explored.trace {
         None => write_none(text, explored.visited),
-        Some(trace) => write_trace(alloc, text, plan, names, trace.as_slice()),
+        Some(trace) => write_trace(alloc, text, plan, names, trace.as_slice(), mark),
     }
 }
 
@@ -58,15 +62,16 @@ fn write_trace(
     plan: &Plan,
     names: &Names,
     trace: &[Step],
+    mark: LineMark,
 ) -> Result<(), AllocError>
     ensures { OnOk result (string_bytes text.new ≡ string_bytes text.old
-        ++ trace_text plan.now.locks.items names.now (first_world plan.now.locks.items (programs_of plan.now)) trace.now) }
+        ++ trace_text (mark_by mark.entry) plan.now.locks.items names.now (first_world plan.now.locks.items (programs_of plan.now)) trace.now) }
 {
     let node = last_node(alloc, plan, trace)?;
     let list = plan.stopped(alloc, node)?;
     text.push_str(stop_word(list.as_slice()))?;
     text.push('\n')?;
-    write_steps(alloc, text, plan, names, trace)?;
-    write_stop_lines(alloc, text, plan, names, node, list.as_slice())?;
+    write_steps(alloc, text, plan, names, trace, mark)?;
+    write_stop_lines(alloc, text, plan, names, node, list.as_slice(), mark)?;
     write_going_lines(alloc, text, plan, names, node, list.as_slice())
 }

@@ -10,6 +10,7 @@ mod answer;
 mod cell;
 mod going;
 mod lanes;
+mod line_mark;
 mod line_numbers;
 mod mark;
 mod names;
@@ -23,6 +24,7 @@ mod words;
 
 pub use answer::write_answer;
 pub use lanes::write_drawing;
+pub use line_mark::LineMark;
 pub use line_numbers::LineNumbers;
 pub use order::write_order;
 pub use picture::draw_picture;

@@ -10,6 +10,16 @@ use lock_base::machine::Hold;
 use lock_plan::{Act, Block, Plan, Signal, Turn};
 use std::alloc::{AllocError, Global};
 
+/// Returns the place of a row.
+pub(crate) fn place_at(plan: &Plan, node: usize, row: usize) -> usize
+    ensures { result ≡ (get_or (world_of plan.now node) row no_stand).place }
+{
+    if row >= plan.parties() {
+        return 0;
+    }
+    plan.place(node, row)
+}
+
 /// Returns the next act of a row, or `None` where it has ended.
 pub(crate) fn act_at(plan: &Plan, node: usize, row: usize) -> Option<Act>
     ensures { result ≡ act_at (world_of plan.now node) row }

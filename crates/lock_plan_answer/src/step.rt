@@ -3,9 +3,11 @@ ghost use Rattle.std.specs.Prelude.{◌≡◌, ◌<◌, ◌++◌, Option, OnOk, 
 ghost use Rattle.std.proofs.Common.{get_or};
 ghost use Rattle.lock_plan.specs.Worlds.{no_lock, first_world, turn_of};
 ghost use Rattle.lock_plan.specs.Stops.{programs_of, world_of};
+ghost use Rattle.lock_plan_answer.specs.LineMarks.{mark_by};
 ghost use Rattle.lock_plan_answer.specs.Signals.{sleep_of};
-ghost use Rattle.lock_plan_answer.specs.Steps.{call_by, call_text, wait_text, made_text, step_text, steps_text, made_step, stepped, last_world};
+ghost use Rattle.lock_plan_answer.specs.Steps.{call_by, call_text, wait_text, made_text, marked_step, steps_text, made_step, stepped, last_world};
 
+use crate::line_mark::{LineMark, write_mark};
 use crate::names::write_name;
 use crate::signal::{write_choice, write_signal};
 use crate::stand::{act_at, sleep_of, turn_at};
@@ -23,16 +25,17 @@ pub(crate) struct Made {
     pub(crate) after: usize,
 }
 
-/// Appends the steps of a trace, a line each.
+/// Appends the steps of a trace, a line each, with the mark before it.
 pub(crate) fn write_steps(
     alloc: Global,
     text: &mut String,
     plan: &Plan,
     names: &Names,
     trace: &[Step],
+    mark: LineMark,
 ) -> Result<(), AllocError>
     ensures { OnOk result (string_bytes text.new ≡ string_bytes text.old
-        ++ steps_text plan.now.locks.items names.now (first_world plan.now.locks.items (programs_of plan.now)) trace.now) }
+        ++ steps_text (mark_by mark.entry) plan.now.locks.items names.now (first_world plan.now.locks.items (programs_of plan.now)) trace.now) }
 {
     let mut node = plan.start();
     for step in trace {
@@ -43,7 +46,7 @@ pub(crate) fn write_steps(
             before,
             after: node,
         };
-        write_step(alloc, text, plan, names, made)?;
+        write_step(alloc, text, plan, names, made, mark)?;
     }
     Ok(())
 }
@@ -81,18 +84,20 @@ pub(crate) fn stepped(
     }
 }
 
-/// Appends the line of a step.
+/// Appends the line of a step, with the mark before it.
 fn write_step(
     alloc: Global,
     text: &mut String,
     plan: &Plan,
     names: &Names,
     made: Made,
+    mark: LineMark,
 ) -> Result<(), AllocError>
     requires { world_of plan.now made.after ≡ stepped plan.now.locks.items (world_of plan.now made.before) made.step }
     ensures { OnOk result (string_bytes text.new ≡ string_bytes text.old
-        ++ step_text plan.now.locks.items names.now (world_of plan.now made.before) made.step) }
+        ++ marked_step (mark_by mark.entry) plan.now.locks.items names.now (world_of plan.now made.before) made.step) }
 {
+    write_mark(text, plan, made.before, made.step.party, mark)?;
     write_name(text, names.parties.as_slice(), made.step.party)?;
     text.push(' ')?;
     write_made(alloc, text, plan, names, made)?;

@@ -2,9 +2,11 @@
 ghost use Rattle.std.specs.Prelude.{◌≡◌, ◌++◌, OnOk, IfOk, string_bytes};
 ghost use Rattle.std.specs.List.{flat_map, list_any};
 ghost use Rattle.lock_plan.specs.Stops.{world_of};
+ghost use Rattle.lock_plan_answer.specs.LineMarks.{mark_by};
 ghost use Rattle.lock_plan_answer.specs.Marks.{holders};
-ghost use Rattle.lock_plan_answer.specs.Stops.{adds_reader, awaited_text, call_holders, holders_text, holds_text, is_full, is_refused_call, limit_text, room_after, says, signal_awaited, stop_word, stopped_line};
+ghost use Rattle.lock_plan_answer.specs.Stops.{adds_reader, awaited_text, call_holders, holders_text, holds_text, is_full, is_refused_call, limit_text, marked_stopped, room_after, says, signal_awaited, stop_word};
 
+use crate::line_mark::{LineMark, write_mark};
 use crate::mark::{Marked, Style, add_marks, write_marks};
 use crate::names::{write_name, write_row_name};
 use crate::signal::write_assert;
@@ -48,7 +50,7 @@ fn is_refused_call(stopped: Stopped) -> bool
     stopped.is_refused && stopped.act.call().is_some()
 }
 
-/// Appends a line for each of these parties, which wait or are refused at a node.
+/// Appends a line for each of these parties, which wait or are refused at a node, with the mark before it.
 pub(crate) fn write_stop_lines(
     alloc: Global,
     text: &mut String,
@@ -56,17 +58,18 @@ pub(crate) fn write_stop_lines(
     names: &Names,
     node: usize,
     list: &[Stopped],
+    mark: LineMark,
 ) -> Result<(), AllocError>
     ensures { OnOk result (string_bytes text.new ≡ string_bytes text.old
-        ++ flat_map (stopped_line plan.now.locks.items names.now (world_of plan.now node)) list.now) }
+        ++ flat_map (marked_stopped (mark_by mark.entry) plan.now.locks.items names.now (world_of plan.now node)) list.now) }
 {
     for stopped in list {
-        write_stopped(alloc, text, plan, names, node, stopped)?;
+        write_stopped(alloc, text, plan, names, node, stopped, mark)?;
     }
     Ok(())
 }
 
-/// Appends the line of a stopped party.
+/// Appends the line of a stopped party, with the mark before it.
 fn write_stopped(
     alloc: Global,
     text: &mut String,
@@ -74,10 +77,12 @@ fn write_stopped(
     names: &Names,
     node: usize,
     stopped: &Stopped,
+    mark: LineMark,
 ) -> Result<(), AllocError>
     ensures { OnOk result (string_bytes text.new ≡ string_bytes text.old
-        ++ stopped_line plan.now.locks.items names.now (world_of plan.now node) stopped.now) }
+        ++ marked_stopped (mark_by mark.entry) plan.now.locks.items names.now (world_of plan.now node) stopped.now) }
 {
+    write_mark(text, plan, node, stopped.party, mark)?;
     write_name(text, names.parties.as_slice(), stopped.party)?;
     text.push_str(says(stopped.is_refused))?;
     write_awaited(text, plan, names, stopped.act)?;

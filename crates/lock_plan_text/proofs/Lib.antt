@@ -22,3 +22,4 @@ mod SameLines
 mod Ties
 mod Unknowns
 pub mod DraftFaults
+pub mod EachRow

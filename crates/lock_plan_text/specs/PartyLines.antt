@@ -72,6 +72,13 @@ abbrev pub programs_in : Draft → List (List ProgramPlace)
 programs_in draft =
     each_below (party_program draft) (length draft.parties) ++ each_below (λ flag. flag_program) (length draft.flag_names)
 
--- the number of the line of a party's place
+-- the number of the line of each place of a party, and of one place
+abbrev pub place_numbers : Draft → ℕ → List ℕ
+place_numbers draft party = step_numbers (party_lines draft party) (party_numbers draft party)
+
 abbrev pub number_of : Draft → ℕ → ℕ → ℕ
-number_of draft party place = get_or (step_numbers (party_lines draft party) (party_numbers draft party)) place 0
+number_of draft party place = get_or (place_numbers draft party) place 0
+
+-- the numbers of the lines of the places, party by party
+abbrev pub numbers_in : Draft → List (List ℕ)
+numbers_in draft = each_below (place_numbers draft) (length draft.parties)

@@ -7,7 +7,7 @@ use Rattle.lock_plan.specs.declared.fault.PlanFault.{PlanFault}
 use Rattle.lock_plan.specs.declared.fault.PlanFault.TheVariants as plan
 use Rattle.lock_plan.specs.Checks.{plan_fault}
 use Rattle.lock_plan_text.specs.declared.parser.fault.PlanTextFault.{PlanTextFault}
-use Rattle.lock_plan_text.specs.declared.parser.fault.PlanTextFault.TheVariants.{BadLine, UnknownParty, NeverBegins, Call, TooLarge, TooLong, Full, OutOfMemory, InputFailed, OutputFailed}
+use Rattle.lock_plan_text.specs.declared.parser.fault.PlanTextFault.TheVariants.{BadLine, UnknownParty, NeverBegins, Call, TooLarge, TooLong, Full, OutOfTime, OutOfMemory, InputFailed, OutputFailed}
 use Rattle.script_text.specs.declared.fault.StreamFault.{StreamFault}
 use Rattle.script_text.specs.declared.fault.StreamFault.TheVariants as stream
 use Rattle.step_search.specs.declared.fault.SearchFault.{SearchFault}
@@ -25,6 +25,7 @@ IsLineFault bytes (Call number why) = ⊥
 IsLineFault bytes TooLarge = ⊥
 IsLineFault bytes TooLong = ⊥
 IsLineFault bytes (Full count) = ⊥
+IsLineFault bytes (OutOfTime count) = ⊥
 IsLineFault bytes OutOfMemory = ⊤
 IsLineFault bytes InputFailed = ⊥
 IsLineFault bytes OutputFailed = ⊥
@@ -67,6 +68,7 @@ IsPlanTextFault bytes (Call number why) = HasFault bytes (Call number why)
 IsPlanTextFault bytes TooLarge = HasFault bytes TooLarge
 IsPlanTextFault bytes TooLong = ⊥
 IsPlanTextFault bytes (Full count) = ⊥
+IsPlanTextFault bytes (OutOfTime count) = ⊥
 IsPlanTextFault bytes OutOfMemory = ⊤
 IsPlanTextFault bytes InputFailed = ⊥
 IsPlanTextFault bytes OutputFailed = ⊥
@@ -81,4 +83,5 @@ of_stream stream.OutputFailed = OutputFailed
 -- a fault of a search, as one of a plan
 abbrev pub of_search : SearchFault → PlanTextFault
 of_search (search.Full count) = Full count
+of_search (search.OutOfTime count) = OutOfTime count
 of_search search.OutOfMemory = OutOfMemory

@@ -9,3 +9,4 @@ mod Puts
 mod RepeatBlocks
 mod Reversed
 mod TextFaults
+mod SameMarks

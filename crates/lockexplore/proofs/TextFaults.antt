@@ -4,7 +4,7 @@ use Rattle.std.specs.Prelude.{IfOk, String}
 use Rattle.std.specs.Global.{Global}
 use Rattle.script_text.specs.Lines.{lines_of}
 use Rattle.lock_plan_text.specs.declared.parser.fault.PlanTextFault.{PlanTextFault}
-use Rattle.lock_plan_text.specs.declared.parser.fault.PlanTextFault.TheVariants.{BadLine, UnknownParty, NeverBegins, Call, TooLarge, TooLong, Full, OutOfMemory, InputFailed, OutputFailed}
+use Rattle.lock_plan_text.specs.declared.parser.fault.PlanTextFault.TheVariants.{BadLine, UnknownParty, NeverBegins, Call, TooLarge, TooLong, Full, OutOfTime, OutOfMemory, InputFailed, OutputFailed}
 use Rattle.lock_plan.specs.Memory.{IsSearchFault}
 use Rattle.lock_plan_text.specs.Drafted.{IsPlanOf, drafted}
 use Rattle.lock_plan_text.specs.Drafts.{IsDraftOf}
@@ -29,6 +29,7 @@ script_fault script memory (Call line why) is = (line, (refl, is))
 script_fault script memory TooLarge is = is
 script_fault script memory TooLong is = absurd is
 script_fault script memory (Full count) is = is
+script_fault script memory (OutOfTime count) is = is
 script_fault script memory OutOfMemory is = is
 script_fault script memory InputFailed is = is
 script_fault script memory OutputFailed is = is
@@ -47,6 +48,7 @@ told_fault script bytes numbers end memory fault told text lines last is fault_i
 pub search_fault : (bytes : List ℕ) (memory : ℕ) (named : NamedPlan) (fault : SearchFault) → IsPlanOf bytes named
     → IsSearchFault named.plan memory fault → IsPlanFault bytes memory (of_search fault)
 search_fault bytes memory named (search.Full count) plan is = (named, (plan, is))
+search_fault bytes memory named (search.OutOfTime count) plan is = (named, (plan, is))
 search_fault bytes memory named search.OutOfMemory plan is = tt
 
 -- a fault of parsing the bytes is one of the answer to them
@@ -58,6 +60,7 @@ parse_fault bytes memory (Call line why) is = is
 parse_fault bytes memory TooLarge is = is
 parse_fault bytes memory TooLong is = is
 parse_fault bytes memory (Full count) is = absurd is
+parse_fault bytes memory (OutOfTime count) is = absurd is
 parse_fault bytes memory OutOfMemory is = is
 parse_fault bytes memory InputFailed is = is
 parse_fault bytes memory OutputFailed is = is

@@ -11,16 +11,19 @@ use Rattle.lock_plan.specs.Copies.{IsCountUpTo}
 use Rattle.lock_plan.specs.Stops.{programs_of}
 use Rattle.lock_plan.specs.Circles as circles
 use Rattle.lock_plan.specs.Worlds as plans
+use Rattle.lock_plan.specs.Worlds.{Stand}
 use Rattle.lock_plan_answer.specs.Answers.{answer_text}
 use Rattle.lock_plan_answer.specs.Lanes.{drawing_text}
+use Rattle.lock_plan_answer.specs.LineMarks.{line_mark, no_mark}
 use Rattle.lock_plan_text.specs.declared.parser.named_plan.NamedPlan.{NamedPlan}
 use Rattle.lock_plan_text.specs.declared.parser.plan_text.PlanText.{PlanText}
 use Rattle.lock_plan_text.specs.Drafted.{IsPlanOf, drafted}
 use Rattle.lock_plan_text.specs.Drafts.{IsDraftOf}
 use Rattle.lock_plan_answer.specs.Orders.{order_text}
+use Rattle.lock_plan_text.specs.PartyLines.{numbers_in}
 use Rattle.lock_plan_text.specs.Texts.{is_any_number}
 use Rattle.lockexplore.specs.declared.arguments.AnswerForm.{AnswerForm}
-use Rattle.lockexplore.specs.declared.arguments.AnswerForm.TheVariants.{Answer, Lanes, Svg, Order}
+use Rattle.lockexplore.specs.declared.arguments.AnswerForm.TheVariants.{Answer, Lanes, Svg, Order, Lines}
 use Rattle.lockexplore.specs.declared.verdict.Verdict.{Verdict}
 use Rattle.lockexplore.specs.declared.verdict.Verdict.TheVariants.{NeverStops, Stops, Unordered}
 
@@ -35,26 +38,37 @@ IsFound servers copies locks programs None visited =
     circles.NeverDeadlocks servers locks programs × IsCountUpTo copies (plans.IsReachableWorld locks programs) visited
 IsFound servers copies locks programs (Some trace) visited = circles.IsShortestDeadlock servers locks programs trace.items
 
--- the text is the answer in this form. Nothing is said of the bytes of a picture
-abbrev pub IsTextIn : AnswerForm → NamedPlan → Option (Vec Step Global) → ℕ → List ℕ → Type 0
-IsTextIn Answer named trace visited text =
-    text ≡ answer_text named.plan.locks.items (programs_of named.plan) named.names trace visited
-IsTextIn Lanes named trace visited text =
-    text ≡ answer_text named.plan.locks.items (programs_of named.plan) named.names trace visited
-    ++ drawing_text named.plan.locks.items (programs_of named.plan) named.names trace
-IsTextIn Svg named trace visited text = ⊤
-IsTextIn Order named trace visited text =
-    text ≡ answer_text named.plan.locks.items (programs_of named.plan) named.names trace visited
+-- what the answer in this form has before each step and each wait
+abbrev pub mark_in : AnswerForm → (List Stand → ℕ → List ℕ) → List Stand → ℕ → List ℕ
+mark_in Answer mark = no_mark
+mark_in Lanes mark = no_mark
+mark_in Svg mark = no_mark
+mark_in Order mark = no_mark
+mark_in Lines mark = mark
 
--- the bytes are the text of a plan, and the verdict and the text are what a search of it finds
-pub record IsSearchAnswer (form : AnswerForm) (bytes : List ℕ) (verdict : Verdict) (text : List ℕ) : Type 0 where
+-- the text of the answer with this mark before each step and each wait
+abbrev pub marked_text : (List Stand → ℕ → List ℕ) → NamedPlan → Option (Vec Step Global) → ℕ → List ℕ
+marked_text mark named trace visited =
+    answer_text mark named.plan.locks.items (programs_of named.plan) named.names trace visited
+
+-- the text is the answer in this form. Nothing is said of the bytes of a picture
+abbrev pub IsTextIn : AnswerForm → (List Stand → ℕ → List ℕ) → NamedPlan → Option (Vec Step Global) → ℕ → List ℕ → Type 0
+IsTextIn Answer mark named trace visited text = text ≡ marked_text mark named trace visited
+IsTextIn Lanes mark named trace visited text =
+    text ≡ marked_text mark named trace visited ++ drawing_text named.plan.locks.items (programs_of named.plan) named.names trace
+IsTextIn Svg mark named trace visited text = ⊤
+IsTextIn Order mark named trace visited text = text ≡ marked_text mark named trace visited
+IsTextIn Lines mark named trace visited text = text ≡ marked_text mark named trace visited
+
+-- the bytes are the text of a plan, and the verdict and the text are what a search of it finds, with these numbers of the lines
+pub record IsSearchAnswer (form : AnswerForm) (number : ℕ → ℕ) (bytes : List ℕ) (text_plan : PlanText) (verdict : Verdict) (text : List ℕ) : Type 0 where
   pub named : NamedPlan
   pub plan : IsPlanOf bytes named
   pub trace : Option (Vec Step Global)
   pub visited : ℕ
   pub found : IsFound named.plan.servers.items named.plan.copies.items named.plan.locks.items (programs_of named.plan) trace visited
   pub verdict_is : verdict ≡ verdict_of trace
-  pub text_is : IsTextIn form named trace visited text
+  pub text_is : IsTextIn form (mark_in form (line_mark (numbers_in (drafted text_plan.draft)) number)) named trace visited text
 
 abbrev pub order_verdict : LockOrder → Verdict
 order_verdict (Kept locks) = NeverStops
@@ -75,7 +89,7 @@ is_by_order form plan = is_any_number plan
 
 abbrev pub IsAnswerBy : Bool → AnswerForm → (ℕ → ℕ) → List ℕ → PlanText → Verdict → List ℕ → Type 0
 IsAnswerBy true form number bytes plan verdict text = IsOrderAnswer number plan verdict text
-IsAnswerBy false form number bytes plan verdict text = IsSearchAnswer form bytes verdict text
+IsAnswerBy false form number bytes plan verdict text = IsSearchAnswer form number bytes plan verdict text
 
 -- the bytes say the plan, and the verdict and the text are the answer to it, with these numbers of its lines
 pub record IsPlanAnswer (form : AnswerForm) (number : ℕ → ℕ) (bytes : List ℕ) (verdict : Verdict) (text : List ℕ) : Type 0 where

@@ -1,7 +1,6 @@
 //! The words after the program's name.
-ghost use Rattle.std.specs.Prelude.{◌≡◌, ◌≢◌, ◌∷◌, [], ◌<◌, ◌≤◌, ◌^◌, ℕ, List, length, IfNone, IfSome, Some, codes, decimal, map, string_bytes};
-ghost use Rattle.lockexplore.specs.declared.arguments.Request.TheVariants.{Explore};
-ghost use Rattle.lockexplore.specs.Requests.{are_files, is_form_word, is_option, memory_options, options_of};
+ghost use Rattle.std.specs.Prelude.{◌≡◌, ◌≢◌, ◌∷◌, [], ◌<◌, ◌≤◌, ◌^◌, ℕ, List, length, IfNone, IfSome, codes, decimal, map, string_bytes};
+ghost use Rattle.lockexplore.specs.Requests.{are_files, is_form_word, is_option, limit_options, options_of, seconds_options};
 
 use script_text::unsigned;
 
@@ -16,13 +15,22 @@ pub(crate) enum AnswerForm {
     Svg,
     /// Lines of text: an order of the locks, without a search.
     Order,
+    /// Lines of text, with the number of the plan's line before each step and each wait.
+    Lines,
+}
+
+/// The limits of a search: so many bytes and so many seconds.
+#[derive(Clone, Copy, PartialEq, Eq, Debug)]
+pub(crate) struct Limits {
+    pub(crate) memory: Option<u64>,
+    pub(crate) seconds: Option<u64>,
 }
 
 /// What the words ask for.
 #[derive(Clone, Copy, PartialEq, Eq, Debug)]
 pub(crate) enum Request {
-    /// The answer to a plan in a form, by a search in so many bytes.
-    Explore(AnswerForm, Option<u64>),
+    /// The answer to a plan in a form, by a search with these limits.
+    Explore(AnswerForm, Limits),
     Help,
     Version,
 }
@@ -51,17 +59,16 @@ impl Request {
         ensures none { IfNone result ((request : Request) → ¬ IsRequest (map string_bytes words.now) request) }
     {
         match words {
-            [] => Some(Request::Explore(AnswerForm::Answer, None)),
+            [] => Some(Request::Explore(AnswerForm::Answer, Limits::none())),
             [word] => Request::of_word(word.as_str()),
-            [option, bytes] => in_memory(AnswerForm::Answer, option.as_str(), bytes.as_str()),
-            [form, option, bytes] => {
-                in_memory(
-                    AnswerForm::of_word(form.as_str())?,
-                    option.as_str(),
-                    bytes.as_str(),
-                )
+            [_, _] | [_, _, _, _] => {
+                Some(Request::Explore(AnswerForm::Answer, Limits::of_words(words)?))
             }
-            [_, _, _, _, ..] => None,
+            [form, _, _] | [form, _, _, _, _] => {
+                let form = AnswerForm::of_word(form.as_str())?;
+                Some(Request::Explore(form, Limits::of_words(&words[1..])?))
+            }
+            [_, _, _, _, _, _, ..] => None,
         }
     }
 
@@ -73,7 +80,7 @@ impl Request {
         match word {
             "-h" | "--help" => Some(Request::Help),
             "--version" => Some(Request::Version),
-            _ => Some(Request::Explore(AnswerForm::of_word(word)?, None)),
+            _ => Some(Request::Explore(AnswerForm::of_word(word)?, Limits::none())),
         }
     }
 }
@@ -90,7 +97,70 @@ impl AnswerForm {
             "lanes" => Some(AnswerForm::Lanes),
             "svg" => Some(AnswerForm::Svg),
             "order" => Some(AnswerForm::Order),
+            "lines" => Some(AnswerForm::Lines),
             _ => None,
+        }
+    }
+}
+
+impl Limits {
+    ghost use Rattle.lockexplore.specs.Requests.{AreWithin64, limit_words};
+
+    fn none() -> Limits
+        ensures { limit_words result ≡ [] }
+    {
+        Limits {
+            memory: None,
+            seconds: None,
+        }
+    }
+
+    /// Returns the limits that the words ask for: two words a limit.
+    fn of_words(words: &[String]) -> Option<Limits>
+        ensures some { IfSome result (λ limits. AreWithin64 limits × (map string_bytes words.now ≡ limit_words limits)) }
+        ensures none { IfNone result ((limits : Limits) → AreWithin64 limits → 0 < length words.now → map string_bytes words.now ≢ limit_words limits) }
+    {
+        match words {
+            [option, number] => Limits::of_one(option.as_str(), number.as_str()),
+            [memory, bytes, seconds, number] => Limits::of_both(
+                memory.as_str(),
+                bytes.as_str(),
+                seconds.as_str(),
+                number.as_str(),
+            ),
+            _ => None,
+        }
+    }
+
+    /// Returns both limits, if the words ask for them.
+    fn of_both(memory: &str, bytes: &str, seconds: &str, number: &str) -> Option<Limits>
+        ensures some { IfSome result (λ limits. AreWithin64 limits
+            × (memory.now ∷ bytes.now ∷ seconds.now ∷ number.now ∷ [] ≡ limit_words limits)) }
+        ensures none { IfNone result ((limits : Limits) → AreWithin64 limits
+            → memory.now ∷ bytes.now ∷ seconds.now ∷ number.now ∷ [] ≢ limit_words limits) }
+    {
+        let bytes = number_after("--memory", memory, bytes)?;
+        let number = number_after("--seconds", seconds, number)?;
+        Some(Limits {
+            memory: Some(bytes),
+            seconds: Some(number),
+        })
+    }
+
+    /// Returns the limit that two words ask for.
+    fn of_one(option: &str, number: &str) -> Option<Limits>
+        ensures some { IfSome result (λ limits. AreWithin64 limits × (option.now ∷ number.now ∷ [] ≡ limit_words limits)) }
+        ensures none { IfNone result ((limits : Limits) → AreWithin64 limits → option.now ∷ number.now ∷ [] ≢ limit_words limits) }
+    {
+        match number_after("--memory", option, number) {
+            Some(bytes) => Some(Limits {
+                memory: Some(bytes),
+                seconds: None,
+            }),
+            None => Some(Limits {
+                memory: None,
+                seconds: Some(number_after("--seconds", option, number)?),
+            }),
         }
     }
 }
@@ -104,24 +174,42 @@ fn options_of(words: &[String]) -> usize
         [] => 0,
         [word, rest @ ..] => {
             if is_form_word(word.as_str()) {
-                1 + memory_options(rest)
+                1 + limit_options(rest)
             } else {
-                memory_options(words)
+                limit_options(words)
             }
         }
     }
 }
 
 /// Returns how many words come before the first file, without a form.
-fn memory_options(words: &[String]) -> usize
-    ensures count { result ≡ memory_options (map string_bytes words.now) }
+fn limit_options(words: &[String]) -> usize
+    ensures count { result ≡ limit_options (map string_bytes words.now) }
+    ensures within { result ≤ length words.now }
+{
+    match words {
+        [] => 0,
+        [word] => usize::from(is_option(word.as_str())),
+        [word, _, rest @ ..] => {
+            if word.as_str() == "--memory" {
+                2 + seconds_options(rest)
+            } else {
+                seconds_options(words)
+            }
+        }
+    }
+}
+
+/// Returns how many words come before the first file, without a form and a limit of memory.
+fn seconds_options(words: &[String]) -> usize
+    ensures count { result ≡ seconds_options (map string_bytes words.now) }
     ensures within { result ≤ length words.now }
 {
     match words {
         [] => 0,
         [word] => usize::from(is_option(word.as_str())),
         [word, _, ..] => {
-            if word.as_str() == "--memory" {
+            if word.as_str() == "--seconds" {
                 2
             } else if is_option(word.as_str()) {
                 words.len()
@@ -135,7 +223,7 @@ fn memory_options(words: &[String]) -> usize
 fn is_form_word(word: &str) -> bool
     ensures { result ≡ is_form_word word.now }
 {
-    word == "lanes" || word == "svg" || word == "order"
+    word == "lanes" || word == "svg" || word == "order" || word == "lines"
 }
 
 /// Returns whether a word is no file.
@@ -162,14 +250,13 @@ fn are_files(words: &[String]) -> bool
     true
 }
 
-/// Returns the request for an answer in a form, if these two words limit the memory.
-fn in_memory(form: AnswerForm, option: &str, bytes: &str) -> Option<Request>
-    ensures some { IfSome result (λ request. (count : ℕ) × (request ≡ Explore form (Some count))
-        × (count < 2 ^ 64) × (option.now ≡ codes "--memory") × (decimal count ≡ bytes.now)) }
-    ensures none { IfNone result ((count : ℕ) → count < 2 ^ 64 → option.now ≡ codes "--memory" → decimal count ≡ bytes.now → ⊥) }
+/// Returns the number after an option, if these two words are that option and a number.
+fn number_after(option: &str, word: &str, number: &str) -> Option<u64>
+    ensures some { IfSome result (λ count. (count < 2 ^ 64) × (word.now ≡ option.now) × (decimal count ≡ number.now)) }
+    ensures none { IfNone result ((count : ℕ) → count < 2 ^ 64 → word.now ≡ option.now → decimal count ≡ number.now → ⊥) }
 {
-    if option != "--memory" {
+    if word != option {
         return None;
     }
-    Some(Request::Explore(form, Some(unsigned(bytes)?)))
+    unsigned(number)
 }

@@ -1,13 +1,16 @@
 //! From a reader's plan to a writer's answer.
-ghost use Rattle.std.specs.Prelude.{◌≡◌, ◌⊎◌, Some, IfErr, IfOk, string_bytes};
+ghost use Rattle.std.specs.Prelude.{◌≡◌, ◌⊎◌, map, Some, IfErr, IfOk, string_bytes};
 ghost use Rattle.std.specs.Io.KnownBytes.{Keeps};
 ghost use Rattle.script_text.specs.Streams.{ReadsScript};
 ghost use Rattle.lockexplore.specs.PlainTexts.{IsShort, line_number, plain_text};
 ghost use Rattle.lock_plan_text.specs.declared.parser.fault.PlanTextFault.TheVariants.{OutOfMemory};
 ghost use Rattle.lock_plan_text.specs.Drafted.{drafted};
+ghost use Rattle.lock_plan_answer.specs.LineMarks.{line_mark, mark_by};
 ghost use Rattle.lock_plan_answer.specs.LineNumbers.{number_by};
+ghost use Rattle.lock_plan_text.specs.PartyLines.{numbers_in};
 ghost use Rattle.lock_plan_text.specs.PlanFaults.{draft_fault};
-ghost use Rattle.lockexplore.specs.PlanAnswers.{IsOrderAnswer, IsPlanAnswer, IsTextIn, is_by_order};
+ghost use Rattle.lockexplore.specs.declared.arguments.AnswerForm.TheVariants.{Lines};
+ghost use Rattle.lockexplore.specs.PlanAnswers.{IsOrderAnswer, IsPlanAnswer, IsTextIn, is_by_order, mark_in};
 ghost use Rattle.lockexplore.specs.Explorations.{AppendsPlanAnswer, ExplainsPlanFault, IsBeforePlanAnswer, IsPlanFault, IsScriptFault};
 
 use crate::arguments::AnswerForm;
@@ -17,26 +20,30 @@ use crate::no_answer::NoAnswer;
 use crate::plain::PlainText;
 use crate::verdict::Verdict;
 use lock_plan::{Explored, explore};
-use lock_plan_answer::{LineNumbers, draw_picture, write_answer, write_drawing, write_order};
+use lock_plan_answer::{
+    LineMark, LineNumbers, draw_picture, write_answer, write_drawing, write_order,
+};
 use lock_plan_laws::find_order;
 use lock_plan_text::{NamedPlan, PlanText, PlanTextFault, parse_text};
 use script_text::{put, read_script};
 use std::alloc::{AllocError, Global};
 use std::io::{Read, Write};
+use step_search::Budget;
 
-/// Reads a plan to its end, searches all its interleavings in so many bytes, and then writes the answer in this form.
-/// A searched plan may get a warning.
+/// Reads a plan to its end, searches all its interleavings in so many bytes until the budget ends, and then writes the
+/// answer in this form. A searched plan may get a warning.
 ///
 /// # Errors
 ///
 /// In this order: a fault of reading, a plan that is too long once it is written out, the first bad line, the first unknown
-/// party, the first party that never begins, the first call that can never be made, too many combinations, no memory for
-/// the search or the text, a fault of writing. If the reader does not say what it has ahead, the clauses speak only of the
+/// party, the first party that never begins, the first call that can never be made, too many combinations, no memory or
+/// time for the search or no memory for the text, a fault of writing. If the reader does not say what it has ahead, the clauses speak only of the
 /// bytes that it gave.
-pub(crate) fn explore_plan<R: Read, W: Write>(
+pub(crate) fn explore_plan<R: Read, W: Write, B: Budget>(
     alloc: Global,
     form: AnswerForm,
     memory: usize,
+    budget: &mut B,
     reader: &mut R,
     writer: &mut W,
     warning: &mut Option<String>,
@@ -49,7 +56,7 @@ pub(crate) fn explore_plan<R: Read, W: Write>(
         IsBeforePlanAnswer no_answer.fault → Keeps (W.contents writer.old) (W.contents writer.new)) }
 {
     let script = read_script(alloc, reader)?;
-    let (verdict, text) = plan_answer(alloc, form, memory, script.as_slice(), warning)?;
+    let (verdict, text) = plan_answer(alloc, form, memory, budget, script.as_slice(), warning)?;
     match put(text.as_str(), writer) {
         Ok(()) => Ok(verdict),
         Err(_) => Err(NoAnswer {
@@ -64,10 +71,11 @@ pub(crate) fn explore_plan<R: Read, W: Write>(
 /// # Errors
 ///
 /// `TooLong` and `OutOfMemory` of [`PlainText::of`], then those of [`plain_answer`], with the lines' numbers in the script.
-fn plan_answer(
+fn plan_answer<B: Budget>(
     alloc: Global,
     form: AnswerForm,
     memory: usize,
+    budget: &mut B,
     script: &[u8],
     warning: &mut Option<String>,
 ) -> Result<(Verdict, String), NoAnswer>
@@ -84,6 +92,7 @@ fn plan_answer(
         alloc,
         form,
         memory,
+        budget,
         plain.bytes.as_slice(),
         &plain.lines,
         warning,
@@ -97,12 +106,13 @@ fn plan_answer(
 ///
 /// # Errors
 ///
-/// Those of [`parse_text`], then those of [`order_answer`], or else those of [`PlanText::into_plan`], `Full` and
+/// Those of [`parse_text`], then those of [`order_answer`], or else those of [`PlanText::into_plan`], `Full`, `OutOfTime` and
 /// `OutOfMemory`.
-fn plain_answer(
+fn plain_answer<B: Budget>(
     alloc: Global,
     form: AnswerForm,
     memory: usize,
+    budget: &mut B,
     plain: &[u8],
     lines: &LineNumbers,
     warning: &mut Option<String>,
@@ -114,9 +124,11 @@ fn plain_answer(
     if is_by_order(form, &plan) {
         return order_answer(alloc, &plan, lines);
     }
+    let places = places_in(alloc, form, &plan)?;
+    let mark = mark_in(form, places.as_slice(), lines);
     let named = plan.into_plan(alloc)?;
-    let explored = explore(alloc, &named.plan, memory)?;
-    let text = answer_of(alloc, form, &named, &explored, warning)?;
+    let explored = explore(alloc, &named.plan, memory, budget)?;
+    let text = answer_of(alloc, form, mark, &named, &explored, warning)?;
     Ok((Verdict::of(&explored), text))
 }
 
@@ -150,22 +162,48 @@ fn order_answer(
     }
 }
 
+/// Returns the lines of the places, party by party, if the form needs them.
+fn places_in(
+    alloc: Global,
+    form: AnswerForm,
+    plan: &PlanText,
+) -> Result<Vec<Vec<u64>>, PlanTextFault>
+    ensures lines { IfOk result (λ places. form ≡ Lines → map (λ v. v.items) places.items ≡ numbers_in (drafted plan.now.draft)) }
+    ensures fault { IfErr result (λ fault. fault ≡ OutOfMemory) }
+{
+    match form {
+        AnswerForm::Lines => plan.numbers(alloc),
+        _ => Ok(Vec::new(alloc)),
+    }
+}
+
+/// Returns what the answer in a form has before each step and each wait.
+fn mark_in<'a>(form: AnswerForm, places: &'a [Vec<u64>], lines: &'a LineNumbers) -> LineMark<'a>
+    ensures { mark_by result ≡ mark_in form (line_mark (map (λ v. v.items) places.now) (number_by lines.now)) }
+{
+    match form {
+        AnswerForm::Lines => LineMark::Line(places, lines),
+        _ => LineMark::Nothing,
+    }
+}
+
 /// Returns the answer to a plan in a form, of what a search found, and perhaps makes a warning.
 fn answer_of(
     alloc: Global,
     form: AnswerForm,
+    mark: LineMark,
     named: &NamedPlan,
     explored: &Explored,
     warning: &mut Option<String>,
 ) -> Result<String, AllocError>
-    ensures { IfOk result (λ text. IsTextIn form named.now explored.now.trace explored.now.visited (string_bytes text)) }
+    ensures { IfOk result (λ text. IsTextIn form (mark_by mark.entry) named.now explored.now.trace explored.now.visited (string_bytes text)) }
 {
     *warning = ending_warning(alloc, named);
     if form == AnswerForm::Svg {
         return draw_picture(alloc, &named.plan, &named.names, explored);
     }
     let mut text = String::new(alloc);
-    write_answer(alloc, &mut text, &named.plan, &named.names, explored)?;
+    write_answer(alloc, &mut text, &named.plan, &named.names, explored, mark)?;
     if form == AnswerForm::Lanes {
         write_drawing(alloc, &mut text, &named.plan, &named.names, explored)?;
     }

@@ -10,20 +10,23 @@ mod no_answer;
 mod plain;
 mod status;
 mod verdict;
+mod watch;
 
-use crate::arguments::{AnswerForm, Request};
+use crate::arguments::{AnswerForm, Limits, Request};
 use crate::exploring::explore_plan;
 use crate::machine::half_of_memory;
 use crate::no_answer::NoAnswer;
 use crate::status::Status;
 use crate::verdict::Verdict;
+use crate::watch::Watch;
 use lock_plan_text::PlanTextFault;
-use std::io::{self, Write};
+use std::io::{self, Read, Write};
 use std::process::ExitCode;
 use std::rt::Env;
 use std::{env, fs};
 
-const USAGE: &str = "usage: lockexplore [lanes | svg | order] [--memory BYTES] [FILE..]";
+const USAGE: &str =
+    "usage: lockexplore [lanes | svg | order | lines] [--memory BYTES] [--seconds N] [FILE..]";
 
 /// What `--help` prints below the usage line.
 const HELP: &str = "\
@@ -32,7 +35,9 @@ Reads a plan of lock calls from each file, or from standard input, and prints wh
   lanes           also draws the steps into a deadlock, with a column for each party
   svg             prints a picture in SVG instead
   order           looks for an order of the locks instead, which holds for any number of parties
+  lines           has the number of the plan's line before each step and each wait
   --memory BYTES  limits the search; the default is half of the machine's memory
+  --seconds N     ends a search after N seconds
   --help          prints this help
   --version       prints the version
 
@@ -44,6 +49,14 @@ docs/PLANS.md has the format of plans.";
 /// The version of the file VERSION.
 const VERSION: &str = "lockexplore 0.2.0";
 
+/// The form of the answers, and the bytes and the seconds for each search.
+#[derive(Clone, Copy)]
+struct Asked {
+    form: AnswerForm,
+    memory: usize,
+    seconds: Option<u64>,
+}
+
 fn main(rt: HostRuntime) -> ExitCode {
     let words = match words(&rt) {
         Ok(Some(words)) => words,
@@ -51,12 +64,16 @@ fn main(rt: HostRuntime) -> ExitCode {
         Err(fault) => return told(&rt, &NoAnswer::from(fault)),
     };
     match Request::with_files(words.as_slice()) {
-        Some((Request::Explore(form, memory), files)) => {
-            let bytes = memory_of(&rt, memory);
+        Some((Request::Explore(form, limits), files)) => {
+            let asked = Asked {
+                form,
+                memory: memory_of(&rt, limits),
+                seconds: limits.seconds,
+            };
             if files.is_empty() {
-                explored(&rt, form, bytes)
+                explored(&rt, asked)
             } else {
-                ExitCode::from(files_status(&rt, form, bytes, files).code())
+                ExitCode::from(files_status(&rt, asked, files).code())
             }
         }
         Some((Request::Help, _)) => printed(println!(rt; "{USAGE}\n\n{HELP}")),
@@ -66,24 +83,17 @@ fn main(rt: HostRuntime) -> ExitCode {
 }
 
 /// Returns how many bytes a search has: so many, or the default.
-fn memory_of(rt: &HostRuntime, memory: Option<u64>) -> usize {
-    match memory {
+fn memory_of(rt: &HostRuntime, limits: Limits) -> usize {
+    match limits.memory {
         Some(bytes) => usize::try_from(bytes).unwrap_or(usize::MAX),
         None => half_of_memory(rt),
     }
 }
 
 /// Reads a plan from standard input, prints the answer in a form, and gives the status.
-fn explored(rt: &HostRuntime, form: AnswerForm, memory: usize) -> ExitCode {
+fn explored(rt: &HostRuntime, asked: Asked) -> ExitCode {
     let mut warning = None;
-    match explore_plan(
-        rt.alloc(),
-        form,
-        memory,
-        &mut rt.stdin(),
-        &mut rt.stdout(),
-        &mut warning,
-    ) {
+    match answered(rt, asked, &mut rt.stdin(), &mut rt.stdout(), &mut warning) {
         Ok(verdict) => {
             warn(rt, "", warning);
             ExitCode::from(Status::of(verdict).code())
@@ -92,13 +102,35 @@ fn explored(rt: &HostRuntime, form: AnswerForm, memory: usize) -> ExitCode {
     }
 }
 
+/// Reads a plan and writes the answer. Tells on a terminal how far the search is.
+fn answered<R: Read, W: Write>(
+    rt: &HostRuntime,
+    asked: Asked,
+    reader: &mut R,
+    writer: &mut W,
+    warning: &mut Option<String>,
+) -> Result<Verdict, NoAnswer> {
+    let mut watch = Watch::new(rt, asked.seconds);
+    let answer = explore_plan(
+        rt.alloc(),
+        asked.form,
+        asked.memory,
+        &mut watch,
+        reader,
+        writer,
+        warning,
+    );
+    watch.end();
+    answer
+}
+
 /// Prints the answer to each file's plan, and gives the worst status. Of several, each is below its name.
-fn files_status(rt: &HostRuntime, form: AnswerForm, memory: usize, files: &[String]) -> Status {
+fn files_status(rt: &HostRuntime, asked: Asked, files: &[String]) -> Status {
     let mut status = Status::Fine;
     let mut gap = "";
     for file in files {
         let above = if files.len() > 1 { Some(gap) } else { None };
-        let said = file_status(rt, form, memory, file.as_str(), above);
+        let said = file_status(rt, asked, file.as_str(), above);
         if said != Status::Faulty {
             gap = "\n";
         }
@@ -108,27 +140,14 @@ fn files_status(rt: &HostRuntime, form: AnswerForm, memory: usize, files: &[Stri
 }
 
 /// Prints the answer to a file's plan, perhaps below a gap and its name, and gives the status.
-fn file_status(
-    rt: &HostRuntime,
-    form: AnswerForm,
-    memory: usize,
-    file: &str,
-    above: Option<&str>,
-) -> Status {
+fn file_status(rt: &HostRuntime, asked: Asked, file: &str, above: Option<&str>) -> Status {
     let mut reader = match fs::open(rt, file) {
         Ok(reader) => reader,
         Err(fault) => return unopened(rt, file, fault.kind()),
     };
     let mut text = Vec::new(rt.alloc());
     let mut warning = None;
-    let verdict = match explore_plan(
-        rt.alloc(),
-        form,
-        memory,
-        &mut reader,
-        &mut text,
-        &mut warning,
-    ) {
+    let verdict = match answered(rt, asked, &mut reader, &mut text, &mut warning) {
         Ok(verdict) => verdict,
         Err(no_answer) => return faulty(rt, file, &no_answer),
     };

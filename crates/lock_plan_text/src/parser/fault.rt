@@ -27,6 +27,9 @@ pub enum PlanTextFault {
     /// So many states were reached, which are more than the memory has room for.
     #[error("out of memory after {0} states")]
     Full(usize),
+    /// So many states were reached when the time for the search ended.
+    #[error("out of time after {0} states")]
+    OutOfTime(usize),
     #[error("out of memory")]
     OutOfMemory,
     #[error("input failed")]
@@ -60,6 +63,7 @@ impl From<SearchFault> for PlanTextFault {
     fn from(fault: SearchFault) -> PlanTextFault {
         match fault {
             SearchFault::Full(count) => PlanTextFault::Full(count),
+            SearchFault::OutOfTime(count) => PlanTextFault::OutOfTime(count),
             SearchFault::OutOfMemory => PlanTextFault::OutOfMemory,
         }
     }

@@ -2,7 +2,7 @@
 ghost use Rattle.std.specs.Prelude.{◌≡◌, ◌⊎◌, map, Some, None, IfErr, IfOk};
 ghost use Rattle.lock_plan_text.specs.declared.parser.fault.PlanTextFault.TheVariants.{OutOfMemory};
 ghost use Rattle.lock_plan_text.specs.Drafted.{IsMadeOf, IsPlanOf, drafted};
-ghost use Rattle.lock_plan_text.specs.PartyLines.{flag_program, number_of, programs_in};
+ghost use Rattle.lock_plan_text.specs.PartyLines.{flag_program, number_of, numbers_in, place_numbers, programs_in};
 ghost use Rattle.lock_plan_text.specs.PlanFaults.{IsPlanTextFault, draft_fault, unknown_line};
 ghost use Rattle.lock_plan_text.specs.Beginnings.{unbegun_line};
 ghost use Rattle.lock_plan_text.specs.Drafts.{IsDraftOf};
@@ -159,10 +159,31 @@ pub(crate) fn number_of(
     ensures number { IfOk result (λ number. number ≡ number_of (drafted draft.now) party place) }
     ensures fault { IfErr result (λ fault. fault ≡ OutOfMemory) }
 {
+    let numbers = place_numbers(alloc, draft, party)?;
+    Ok(numbers.get(place).copied().unwrap_or(0))
+}
+
+/// Returns the number of the line of each place of a party.
+fn place_numbers(alloc: Global, draft: &PlanDraft, party: usize) -> Result<Vec<u64>, PlanTextFault>
+    ensures numbers { IfOk result (λ numbers. numbers.items ≡ place_numbers (drafted draft.now) party) }
+    ensures fault { IfErr result (λ fault. fault ≡ OutOfMemory) }
+{
     let Some(lines) = draft.party_lines(alloc, party)? else {
         return Err(PlanTextFault::OutOfMemory);
     };
     let numbers = draft.party_numbers(alloc, party)?;
     let found = step_numbers(alloc, lines.as_slice(), numbers.as_slice())?;
-    Ok(found.get(place).copied().unwrap_or(0))
+    Ok(found)
+}
+
+/// Returns the numbers of the lines of the places, party by party.
+pub(crate) fn numbers_in(alloc: Global, draft: &PlanDraft) -> Result<Vec<Vec<u64>>, PlanTextFault>
+    ensures numbers { IfOk result (λ numbers. map (λ v. v.items) numbers.items ≡ numbers_in (drafted draft.now)) }
+    ensures fault { IfErr result (λ fault. fault ≡ OutOfMemory) }
+{
+    let mut numbers = Vec::new(alloc);
+    for party in 0..draft.parties.len() {
+        numbers.push(place_numbers(alloc, draft, party)?)?;
+    }
+    Ok(numbers)
 }

@@ -10,7 +10,7 @@ ghost use Rattle.lock_plan_text.specs.PlanFaults.{unknown_line};
 use crate::names::Names;
 use crate::parser::draft::PlanDraft;
 use crate::parser::fault::PlanTextFault;
-use crate::parser::named_plan::number_of;
+use crate::parser::named_plan::{number_of, numbers_in};
 use lock_plan::{PlanFault, PlanLock, ProgramPlace};
 use std::alloc::Global;
 
@@ -26,10 +26,10 @@ pub struct PlanText {
 }
 
 impl PlanText {
-    ghost use Rattle.std.specs.Prelude.{◌≡◌, ◌⊎◌, IfErr, IfOk};
+    ghost use Rattle.std.specs.Prelude.{◌≡◌, ◌⊎◌, map, IfErr, IfOk};
     ghost use Rattle.lock_plan_text.specs.declared.parser.fault.PlanTextFault.TheVariants.{OutOfMemory};
     ghost use Rattle.lock_plan_text.specs.Drafted.{drafted};
-    ghost use Rattle.lock_plan_text.specs.PartyLines.{number_of};
+    ghost use Rattle.lock_plan_text.specs.PartyLines.{number_of, numbers_in};
     ghost use Rattle.lock_plan_text.specs.PlanFaults.{by_line};
 
     /// Returns the names.
@@ -59,6 +59,14 @@ impl PlanText {
         ensures fault { IfErr result (λ fault. fault ≡ OutOfMemory) }
     {
         number_of(alloc, &self.draft, party, place)
+    }
+
+    /// Returns the numbers of the lines of the places, party by party.
+    pub fn numbers(&self, alloc: Global) -> Result<Vec<Vec<u64>>, PlanTextFault>
+        ensures numbers { IfOk result (λ numbers. map (λ v. v.items) numbers.items ≡ numbers_in (drafted self.now.draft)) }
+        ensures fault { IfErr result (λ fault. fault ≡ OutOfMemory) }
+    {
+        numbers_in(alloc, &self.draft)
     }
 
     /// Returns a fault of the plan, with the line of the text in place of the party and its place.

@@ -2,10 +2,11 @@
 use Rattle.std.proofs.Common.{◌≡◌, ◌++◌, drop, string_bytes}
 use Rattle.std.specs.List.{flat_map}
 use Rattle.lock_plan.specs.Stops.{world_of}
-use Rattle.lock_plan_answer.specs.Stops.{stopped_line}
+use Rattle.lock_plan_answer.specs.LineMarks.{mark_by}
+use Rattle.lock_plan_answer.specs.Stops.{marked_stopped}
 use Rattle.lock_plan_answer.proofs.stop.write_stop_lines.Given as goal
 
 abbrev pub invariant-loop-stopped : goal.invariant-loop-stopped
 invariant-loop-stopped l =
-    string_bytes l.text ++ flat_map (stopped_line l.plan.locks.items l.names (world_of l.plan l.node)) (drop l.stopped-index l.list)
-    ≡ string_bytes l.initial.text ++ flat_map (stopped_line l.plan.locks.items l.names (world_of l.plan l.node)) l.list
+    string_bytes l.text ++ flat_map (marked_stopped (mark_by l.mark) l.plan.locks.items l.names (world_of l.plan l.node)) (drop l.stopped-index l.list)
+    ≡ string_bytes l.initial.text ++ flat_map (marked_stopped (mark_by l.mark) l.plan.locks.items l.names (world_of l.plan l.node)) l.list

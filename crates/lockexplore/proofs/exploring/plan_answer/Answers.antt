@@ -4,7 +4,7 @@ use Rattle.lockexplore.specs.Explorations.{IsPlanFault}
 use Rattle.lockexplore.proofs.exploring.plan_answer.Goals as goal
 
 pub returns-clause-fault : goal.returns-clause-fault
-returns-clause-fault c =
+returns-clause-fault g c =
     let plain = c.in-Ok.plain in
     let ensures = c.in-Ok.ensures in
     told_fault c.args.script.now plain.bytes.items plain.lines.numbers.items plain.lines.end c.args.memory c.in-Err.fault c.explained.result.fault ensures.text
