@@ -3,10 +3,11 @@ mod CountTexts
 mod Cuts
 mod Founds
 mod IndexTexts
+mod LeftBytes
 mod Lefts
 mod PartyCopies
 mod Puts
 mod RepeatBlocks
 mod Reversed
-mod TextFaults
 mod SameMarks
+mod TextFaults

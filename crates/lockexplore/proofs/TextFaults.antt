@@ -14,6 +14,7 @@ use Rattle.lock_plan_text.specs.declared.parser.named_plan.NamedPlan.{NamedPlan}
 use Rattle.step_search.specs.declared.fault.SearchFault.{SearchFault}
 use Rattle.step_search.specs.declared.fault.SearchFault.TheVariants as search
 use Rattle.lock_plan_answer.specs.LineNumbers.{number_in}
+use Rattle.lockexplore.specs.HoldBytes.{left_bytes}
 use Rattle.lockexplore.specs.PlainTexts.{line_number, numbers_of, plain_text}
 use Rattle.lockexplore.specs.declared.arguments.AnswerForm.{AnswerForm}
 use Rattle.lockexplore.specs.declared.verdict.Verdict.{Verdict}
@@ -46,7 +47,7 @@ told_fault script bytes numbers end memory fault told text lines last is fault_i
 
 -- a fault of the search of a plan is one of the bytes that say the plan
 pub search_fault : (bytes : List ℕ) (memory : ℕ) (named : NamedPlan) (fault : SearchFault) → IsPlanOf bytes named
-    → IsSearchFault named.plan memory fault → IsPlanFault bytes memory (of_search fault)
+    → IsSearchFault named.plan (left_bytes memory named.plan) fault → IsPlanFault bytes memory (of_search fault)
 search_fault bytes memory named (search.Full count) plan is = (named, (plan, is))
 search_fault bytes memory named (search.OutOfTime count) plan is = (named, (plan, is))
 search_fault bytes memory named search.OutOfMemory plan is = tt

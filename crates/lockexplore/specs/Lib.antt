@@ -2,6 +2,7 @@ pub mod Requests
 pub mod Statuses
 pub mod PlainLines
 pub mod Counts
+pub mod HoldBytes
 pub mod Words
 pub mod Arrays
 pub mod ArrayParts

@@ -15,6 +15,7 @@ ghost use Rattle.lockexplore.specs.Explorations.{AppendsPlanAnswer, ExplainsPlan
 
 use crate::arguments::AnswerForm;
 use crate::ending::ending_warning;
+use crate::hold_bytes::left_beside_holds;
 use crate::lines::LinesFault;
 use crate::no_answer::NoAnswer;
 use crate::plain::PlainText;
@@ -126,8 +127,11 @@ fn plain_answer<B: Budget>(
     }
     let places = places_in(alloc, form, &plan)?;
     let mark = mark_in(form, places.as_slice(), lines);
+    let Some(left) = left_beside_holds(memory, plan.locks(), plan.programs()) else {
+        return Err(PlanTextFault::OutOfMemory);
+    };
     let named = plan.into_plan(alloc)?;
-    let explored = explore(alloc, &named.plan, memory, budget)?;
+    let explored = explore(alloc, &named.plan, left, budget)?;
     let text = answer_of(alloc, form, mark, &named, &explored, warning)?;
     Ok((Verdict::of(&explored), text))
 }

@@ -4,6 +4,7 @@
 mod arguments;
 mod ending;
 mod exploring;
+mod hold_bytes;
 mod lines;
 mod machine;
 mod no_answer;

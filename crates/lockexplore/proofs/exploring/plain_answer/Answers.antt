@@ -1,6 +1,8 @@
 use Rattle.std.proofs.Common.{◌≡◌, ◌∙◌, ℕ, Bool, List, Vec, Global, Some, ap, map, sym, string_bytes, subst}
 use Rattle.std.specs.Prelude.{◌⊎◌}
 use Rattle.std.proofs.lemmas.Result.{err_from_is_err_and}
+use Rattle.lock_plan.specs.declared.program.ProgramPlace.{ProgramPlace}
+use Rattle.lock_plan.specs.Memory.{IsSearchFault}
 use Rattle.lock_plan.specs.Stops.{programs_of}
 use Rattle.lock_plan.specs.Worlds.{Stand}
 use Rattle.lock_plan_text.specs.declared.parser.fault.PlanTextFault.TheVariants.{OutOfMemory}
@@ -10,6 +12,7 @@ use Rattle.lock_plan_text.specs.PartyLines.{numbers_in}
 use Rattle.lock_plan_text.specs.PlanFaults.{draft_fault}
 use Rattle.lock_plan_text.proofs.DraftFaults.{draft_told, if_err}
 use Rattle.lockexplore.proofs.Founds.{found_of}
+use Rattle.lockexplore.proofs.LeftBytes.{left_is}
 use Rattle.lockexplore.proofs.SameMarks.{same_mark}
 use Rattle.lockexplore.proofs.TextFaults.{by_order_answer, parse_fault, search_fault}
 use Rattle.lockexplore.specs.PlanAnswers.{IsAnswerBy, IsTextIn}
@@ -44,10 +47,17 @@ returns-clause-answer g c =
 pub returns-in_err-explored-clause-fault : goal.returns-in_err-explored-clause-fault
 returns-in_err-explored-clause-fault g c =
     let told = err_from_is_err_and c.from_residual-in_err-explored.result c.from_residual-in_err-explored.ensures.1 in
+    let draft = drafted c.in_ok-plan.plan.draft in
+    let named = c.in_ok-named.named in
+    let made = c.in_ok-named.ensures.plan in
     rw (told.1, told.2)
-    (search_fault c.args.plain.now c.args.memory c.in_ok-named.named c.in_err-explored.field-0.0
-    (drafted c.in_ok-plan.plan.draft, (c.in_ok-plan.ensures.text, c.in_ok-named.ensures.plan))
-    c.in_err-explored.ensures.refused)
+    (search_fault c.args.plain.now c.args.memory named c.in_err-explored.field-0.0
+    (draft, (c.in_ok-plan.ensures.text, made))
+    (subst (λ (k : ℕ). IsSearchFault named.plan k c.in_err-explored.field-0.0)
+    (left_is c.args.memory c.in-Some.left named.plan c.locks.result.now (map (λ v. v.items) c.programs.result.now) c.in-Some.ensures.some
+    (made.locks ∙ sym c.locks.ensures)
+    (made.programs ∙ sym (ap (map (λ (v : Vec ProgramPlace Global). v.items)) c.programs.ensures ∙ c.in_ok-plan.plan.made)))
+    c.in_err-explored.ensures.refused))
 
 pub returns-then-is_by_order-clause-answer : goal.returns-then-is_by_order-clause-answer
 returns-then-is_by_order-clause-answer g c =
