@@ -1,8 +1,11 @@
 """What the scripts here share: they run the built programs, compare what these write with what they should, and count."""
 import os
 import pathlib
+import resource
+import signal
 import subprocess
 import sys
+from functools import partial
 
 ROOT = pathlib.Path(__file__).resolve().parent.parent
 SECONDS = 60
@@ -22,13 +25,19 @@ def built(name):
     return program
 
 
-def run(command, given=b"", seconds=SECONDS):
-    """What a program writes to both its streams on this input, bytes or a text as the input is, and its status."""
+def run(command, given=b"", processor_seconds=None):
+    """What a program writes to both its streams on this input, bytes or a text as the input is, and its status.
+
+    It ends after so many seconds of the processor, which a busy machine does not use up, and in any case after SECONDS.
+    """
     encoding = "utf-8" if isinstance(given, str) else None
+    limit = processor_seconds and partial(resource.setrlimit, resource.RLIMIT_CPU, (processor_seconds, processor_seconds))
     try:
-        ran = subprocess.run(command, input=given, capture_output=True, encoding=encoding, timeout=seconds, check=False)
+        ran = subprocess.run(command, input=given, capture_output=True, encoding=encoding, timeout=SECONDS, preexec_fn=limit, check=False)
     except subprocess.TimeoutExpired:
-        return None, f"no end in {seconds} seconds", None
+        return None, f"no end in {SECONDS} seconds", None
+    if limit and ran.returncode == -signal.SIGKILL:
+        return None, f"no end in {processor_seconds} seconds of the processor", None
     return ran.stdout, ran.stderr, ran.returncode
 
 
