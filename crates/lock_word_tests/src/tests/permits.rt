@@ -115,3 +115,23 @@ fn check_three<R: Wait + Clock>(rt: &R, alloc: Global) -> Result<(), Fail> {
 fn permits_that_stay_away_are_refused(rt: HostRuntime) -> Result<(), Fail> {
     check_three(&rt, rt.alloc())
 }
+
+/// A second holder finds one of three permits free while a closure runs under two, and all are free after it.
+fn check_under_two<R: Wait>(rt: &R, alloc: Global) -> Result<(), Fail> {
+    let (semaphore, holder) = Semaphore::new(alloc, 3)?;
+    let (first, second) = semaphore.split(holder);
+    let (first, (second, within)) = semaphore.with_permits(
+        rt,
+        first,
+        2,
+        || semaphore.available_permits(rt, second),
+    );
+    let holder = semaphore.join(first, second);
+    let left = semaphore.into_permits(holder);
+    equal((within, left), (1, 3))
+}
+
+#[test]
+fn a_closure_runs_under_its_permits(rt: HostRuntime) -> Result<(), Fail> {
+    check_under_two(&rt, rt.alloc())
+}
