@@ -28,7 +28,7 @@ def built(name):
 def run(command, given=b"", processor_seconds=None):
     """What a program writes to both its streams on this input, bytes or a text as the input is, and its status.
 
-    It ends after so many seconds of the processor, which a busy machine does not use up, and in any case after SECONDS.
+    The program may use so many seconds of the processor, whatever else the machine runs, and SECONDS of the clock.
     """
     encoding = "utf-8" if isinstance(given, str) else None
     limit = processor_seconds and partial(resource.setrlimit, resource.RLIMIT_CPU, (processor_seconds, processor_seconds))
