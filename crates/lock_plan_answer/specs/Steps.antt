@@ -15,7 +15,7 @@ use Rattle.lock_plan.specs.Worlds.{Stand, no_lock, turn_of, world_step}
 use Rattle.lock_plan_text.specs.declared.names.Names.{Names}
 use Rattle.lock_plan_text.specs.Names.{name_of}
 use Rattle.lock_plan_answer.specs.Signals.{act_at, sleep_of, signal_text, choice_text}
-use Rattle.lock_plan_text.specs.Words.{step_word}
+use Rattle.lock_plan_lines.specs.Words.{step_word}
 
 -- a call: its word and its lock
 abbrev pub call_text : List PlanLock → Names → PlanCall → List ℕ

@@ -1,6 +1,6 @@
 //! The words of calls.
 ghost use Rattle.std.specs.Prelude.{◌≡◌};
-ghost use Rattle.lock_plan_text.specs.Words.{step_word};
+ghost use Rattle.lock_plan_lines.specs.Words.{step_word};
 
 use lock_base::machine::{LockStep, Mode, ModeStep};
 

@@ -9,8 +9,8 @@ use Rattle.step_search.specs.Walks.{each_below}
 use Rattle.lock_plan.specs.declared.program.ProgramPlace.{ProgramPlace}
 use Rattle.lock_plan.specs.Copies.{AreAlike}
 use Rattle.lock_plan.proofs.EachBelow.{each_get, each_length}
-use Rattle.lock_plan_text.specs.declared.parser.block_line.BlockLine.{BlockLine}
-use Rattle.lock_plan_text.specs.Blocks.{program_of}
+use Rattle.lock_plan_lines.specs.declared.block_line.BlockLine.{BlockLine}
+use Rattle.lock_plan_lines.specs.Blocks.{program_of}
 use Rattle.lock_plan_text.specs.Copies.{copies_in, is_copy}
 use Rattle.lock_plan_text.specs.Drafts.{Draft, IsDraftOf}
 use Rattle.lock_plan_text.specs.PartyLines.{flag_program, idle_lines, in_rows, party_program, programs_in, starts}

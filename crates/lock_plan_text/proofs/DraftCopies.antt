@@ -3,14 +3,14 @@ use Rattle.std.proofs.Common.{◌≡◌, ◌∙◌, ℕ, zero, suc, ◌+◌, ◌
 use Rattle.std.specs.Prelude.{◌||◌, ◌⊎◌, is_some, ⊤}
 use Rattle.std.proofs.Math.ListN.{get_or-append}
 use Rattle.std.proofs.lemmas.Bool.{ltb-true}
-use Rattle.lock_plan_text.specs.declared.parser.block_line.BlockLine.{BlockLine}
-use Rattle.lock_plan_text.specs.declared.parser.named_word.NamedWord.{NamedWord}
-use Rattle.lock_plan_text.specs.declared.parser.open_block.OpenBlock.{OpenBlock}
-use Rattle.lock_plan_text.specs.declared.parser.plan_line.PlanLine.TheVariants.{Lock, Party, Named}
-use Rattle.lock_plan_text.specs.declared.parser.text_line.TextLine.{TextLine}
-use Rattle.lock_plan_text.specs.declared.parser.text_line.TextLine.TheVariants.{Plan}
+use Rattle.lock_plan_lines.specs.declared.block_line.BlockLine.{BlockLine}
+use Rattle.lock_plan_lines.specs.declared.named_word.NamedWord.{NamedWord}
+use Rattle.lock_plan_lines.specs.declared.open_block.OpenBlock.{OpenBlock}
+use Rattle.lock_plan_lines.specs.declared.plan_line.PlanLine.TheVariants.{Lock, Party, Named}
+use Rattle.lock_plan_lines.specs.declared.text_line.TextLine.{TextLine}
+use Rattle.lock_plan_lines.specs.declared.text_line.TextLine.TheVariants.{Plan}
+use Rattle.lock_plan_lines.specs.PlanLines.{TextNames}
 use Rattle.lock_plan_text.specs.Drafts.{Draft, IsDraftOf, Make, is_further, is_open, no_draft, onto_from, own_lines, party_names, place_of, texts_of, with_line, with_lock, with_mention, with_named, with_own, with_parties, with_party, with_said}
-use Rattle.lock_plan_text.specs.PlanLines.{TextNames}
 use Rattle.lock_plan_text.proofs.FitLocks.{any_lines}
 use Rattle.lock_plan_text.proofs.Origins.{named_kept, own_lines_kept, parties_kept, passed, said_lines, taken}
 

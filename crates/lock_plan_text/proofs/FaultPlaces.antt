@@ -17,9 +17,10 @@ use Rattle.lock_plan.specs.Points.{all_views, size}
 use Rattle.lock_plan.specs.Worlds.{no_place}
 use Rattle.lock_plan.proofs.EachBelow.{each_found, get_split, said_get}
 use Rattle.step_search.specs.Walks.{each_below}
-use Rattle.lock_plan_text.specs.declared.parser.block_line.BlockLine.{BlockLine}
+use Rattle.lock_plan_lines.specs.declared.block_line.BlockLine.{BlockLine}
+use Rattle.lock_plan_lines.specs.Blocks.{is_step, line_at, place_if, place_number, place_of_line, program_of, step_numbers}
+use Rattle.lock_plan_lines.proofs.StepPlaces.{IsStepAt, no_line, step_at}
 use Rattle.lock_plan_text.specs.declared.parser.fault.PlanTextFault.TheVariants as text
-use Rattle.lock_plan_text.specs.Blocks.{is_step, line_at, place_if, place_number, place_of_line, program_of, step_numbers}
 use Rattle.lock_plan_text.specs.Beginnings.{unbegun_line}
 use Rattle.lock_plan_text.specs.CallOrigins.{AreTied, IsLineOf, text_at}
 use Rattle.lock_plan_text.specs.Drafts.{Draft}
@@ -29,7 +30,6 @@ use Rattle.lock_plan_text.specs.PlanFaults.{by_line, or_later_fault, or_plan_fau
 use Rattle.lock_plan_text.proofs.FirstPlaces.{signal_first}
 use Rattle.lock_plan_text.proofs.KnownPlaces.{program_place}
 use Rattle.lock_plan_text.proofs.Origins.{calls_have_lines}
-use Rattle.lock_plan_text.proofs.StepPlaces.{IsStepAt, no_line, step_at}
 
 -- the first of two faults, or the second
 abbrev IsEither : Option PlanFault → Option PlanFault → PlanFault → Type 0

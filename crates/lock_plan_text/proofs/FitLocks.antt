@@ -8,14 +8,14 @@ use Rattle.lock_base.specs.declared.machine.kind.Kind.{Kind}
 use Rattle.lock_base.specs.declared.machine.kind.Kind.TheVariants.{Mutex, RwLock, Reentrant}
 use Rattle.lock_plan.specs.declared.lock.PlanLock.{PlanLock}
 use Rattle.lock_plan.specs.Checks.{fit_machines, fits_kind, fits_machine}
-use Rattle.lock_plan_text.specs.declared.parser.block_line.BlockLine.{BlockLine}
-use Rattle.lock_plan_text.specs.declared.parser.named_word.NamedWord.{NamedWord}
-use Rattle.lock_plan_text.specs.declared.parser.plan_line.PlanLine.TheVariants.{Lock, Party, Named}
-use Rattle.lock_plan_text.specs.declared.parser.text_line.TextLine.{TextLine}
-use Rattle.lock_plan_text.specs.declared.parser.text_line.TextLine.TheVariants.{Plan}
+use Rattle.lock_plan_lines.specs.declared.block_line.BlockLine.{BlockLine}
+use Rattle.lock_plan_lines.specs.declared.named_word.NamedWord.{NamedWord}
+use Rattle.lock_plan_lines.specs.declared.plan_line.PlanLine.TheVariants.{Lock, Party, Named}
+use Rattle.lock_plan_lines.specs.declared.text_line.TextLine.{TextLine}
+use Rattle.lock_plan_lines.specs.declared.text_line.TextLine.TheVariants.{Plan}
+use Rattle.lock_plan_lines.specs.PlanLines.{IsLineLock, IsTextLine, TextNames}
 use Rattle.lock_plan_text.specs.Drafted.{TextsFitMachines}
 use Rattle.lock_plan_text.specs.Drafts.{Draft, Make, is_open, no_draft, own_lines, place_of, texts_of, party_names, with_line, with_lock, with_mention, with_named, with_parties, with_said}
-use Rattle.lock_plan_text.specs.PlanLines.{IsLineLock, IsTextLine, TextNames}
 use Rattle.lock_plan_text.proofs.Origins.{named_kept, own_lines_kept, parties_kept, passed, said_lines, taken}
 
 -- the locks of the draft fit machines

@@ -4,22 +4,18 @@ mod CopyNames
 mod DraftCopies
 mod FaultPlaces
 mod KnownPlaces
-mod Lands
-mod StepPlaces
 mod FirstPlaces
 mod FitLocks
 mod Hops
-mod LastFields
 mod LinesAbove
-mod LoopDepths
 mod Mentions
 mod OneDraft
-mod OneLine
 mod Origins
 mod ParsedLines
 mod Positions
 mod SameLines
 mod Ties
 mod Unknowns
+mod UnreadLines
 pub mod DraftFaults
 pub mod EachRow

@@ -1,7 +1,7 @@
 -- What the lines above a line make.
 use Rattle.std.proofs.Common.{◌≡◌, ℕ, ◌+◌, ◌≤◌, List, [], ◌∷◌, Option, Some, None, Result, Ok, Err, IfOk, IfSome, inl, inr, refl}
 use Rattle.script_text.specs.Lines.{lines_of}
-use Rattle.lock_plan_text.specs.declared.explaining.line_fault.LineFault.{LineFault}
+use Rattle.lock_plan_lines.specs.declared.line_fault.LineFault.{LineFault}
 use Rattle.lock_plan_text.specs.Drafts.{Adds, Draft, no_draft}
 use Rattle.lock_plan_text.specs.LineFaults.{ExplainsLine, IsTrueOf, MakeAbove}
 

@@ -7,14 +7,14 @@ use Rattle.std.proofs.lemmas.Slice.Eq.{bytes_eq-Decides}
 use Rattle.std.proofs.Math.ListN.{get_or-append}
 use Rattle.std.proofs.Math.Seq.{get_or-append_seam}
 use Rattle.lock_plan.proofs.EachBelow.{last}
-use Rattle.lock_plan_text.specs.declared.parser.named_word.NamedWord.{NamedWord}
-use Rattle.lock_plan_text.specs.declared.parser.named_word.NamedWord.TheVariants.{Flag, Condvar, Start, Join}
-use Rattle.lock_plan_text.specs.declared.parser.plan_line.PlanLine.TheVariants.{Lock, Party, Named}
-use Rattle.lock_plan_text.specs.declared.parser.text_line.TextLine.{TextLine}
-use Rattle.lock_plan_text.specs.declared.parser.text_line.TextLine.TheVariants.{Plan}
+use Rattle.lock_plan_lines.specs.declared.named_word.NamedWord.{NamedWord}
+use Rattle.lock_plan_lines.specs.declared.named_word.NamedWord.TheVariants.{Flag, Condvar, Start, Join}
+use Rattle.lock_plan_lines.specs.declared.plan_line.PlanLine.TheVariants.{Lock, Party, Named}
+use Rattle.lock_plan_lines.specs.declared.text_line.TextLine.{TextLine}
+use Rattle.lock_plan_lines.specs.declared.text_line.TextLine.TheVariants.{Plan}
+use Rattle.lock_plan_lines.specs.PlanLines.{Says, TextNames, one_name}
 use Rattle.lock_plan_text.specs.Drafts.{Draft, Make, is_open, may_start, own_lines, party_names, place_of, with_cond, with_flag, with_line, with_lock, with_mention, with_named, with_parties, with_said, with_start}
 use Rattle.lock_plan_text.specs.FaultLines.{IsMention, is_mention}
-use Rattle.lock_plan_text.specs.PlanLines.{Says, TextNames, one_name}
 use Rattle.lock_plan_text.proofs.FitLocks.{any_lines}
 use Rattle.lock_plan_text.proofs.OneDraft.{say_one_line}
 use Rattle.lock_plan_text.proofs.Origins.{let_in, own_lines_kept, parties_kept, passed, said_lines, taken}

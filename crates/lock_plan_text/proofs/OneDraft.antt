@@ -1,11 +1,11 @@
 -- Lines make one draft at most, or have one first bad line.
 use Rattle.std.proofs.Common.{◌≡◌, ℕ, ◌+◌, List, [], ◌∷◌, Some, None, sym, ◌∙◌, inl, inr}
 use Rattle.std.proofs.lemmas.Bool.{false≢true}
+use Rattle.lock_plan_lines.specs.PlanLines.{Says, TextNames}
+use Rattle.lock_plan_lines.specs.declared.text_line.TextLine.{TextLine}
+use Rattle.lock_plan_lines.proofs.OneLine.{one_line}
 use Rattle.lock_plan_text.specs.Drafts.{Adds, Draft, IsBad, IsFirstBadFrom, Make, no_draft, texts_of, with_line}
 use Rattle.lock_plan_text.specs.Meanings.{DraftsAreGood, HaveOneBadLine, MakeOneDraft, SayOneLine}
-use Rattle.lock_plan_text.specs.PlanLines.{Says, TextNames}
-use Rattle.lock_plan_text.specs.declared.parser.text_line.TextLine.{TextLine}
-use Rattle.lock_plan_text.proofs.OneLine.{one_line}
 
 pub say_one_line : SayOneLine
 say_one_line text line other names others says tells =

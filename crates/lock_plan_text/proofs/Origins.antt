@@ -6,18 +6,18 @@ use Rattle.std.specs.Option.{option_and_then}
 use Rattle.std.proofs.Math.ListN.{get_or-append}
 use Rattle.lock_plan.specs.declared.lock.PlanLock.{PlanLock}
 use Rattle.lock_plan.specs.Worlds.{no_lock}
-use Rattle.lock_plan_text.specs.declared.parser.block_line.BlockLine.{BlockLine}
-use Rattle.lock_plan_text.specs.declared.parser.named_word.NamedWord.{NamedWord}
-use Rattle.lock_plan_text.specs.declared.parser.named_word.NamedWord.TheVariants.{Flag, Condvar, Start, Join}
-use Rattle.lock_plan_text.specs.declared.parser.open_block.OpenBlock.{OpenBlock}
-use Rattle.lock_plan_text.specs.declared.parser.plan_line.PlanLine.TheVariants.{Lock, Party, Named}
-use Rattle.lock_plan_text.specs.declared.parser.text_line.TextLine.{TextLine}
-use Rattle.lock_plan_text.specs.declared.parser.text_line.TextLine.TheVariants.{Plan}
+use Rattle.lock_plan_lines.specs.declared.block_line.BlockLine.{BlockLine}
+use Rattle.lock_plan_lines.specs.declared.named_word.NamedWord.{NamedWord}
+use Rattle.lock_plan_lines.specs.declared.named_word.NamedWord.TheVariants.{Flag, Condvar, Start, Join}
+use Rattle.lock_plan_lines.specs.declared.open_block.OpenBlock.{OpenBlock}
+use Rattle.lock_plan_lines.specs.declared.plan_line.PlanLine.TheVariants.{Lock, Party, Named}
+use Rattle.lock_plan_lines.specs.declared.text_line.TextLine.{TextLine}
+use Rattle.lock_plan_lines.specs.declared.text_line.TextLine.TheVariants.{Plan}
+use Rattle.lock_plan_lines.specs.OpenBlocks.{open_after}
+use Rattle.lock_plan_lines.specs.PlanLines.{Says, TextNames}
 use Rattle.lock_plan_text.specs.CallOrigins.{AreTied, CallsHaveLines, IsLineOf, text_at}
 use Rattle.lock_plan_text.specs.Drafts.{Draft, IsDraftOf, Make, is_open, may_start, no_draft, own_lines, party_names, place_of, texts_of, with_cond, with_flag, with_line, with_lock, with_mention, with_named, with_own, with_own_line, with_own_lines, with_parties, with_party, with_said, with_start}
 use Rattle.lock_plan_text.specs.FaultLines.{IsMention, is_mention}
-use Rattle.lock_plan_text.specs.OpenBlocks.{open_after}
-use Rattle.lock_plan_text.specs.PlanLines.{Says, TextNames}
 use Rattle.lock_plan_text.proofs.Positions.{position-push}
 use Rattle.lock_plan_text.proofs.SameLines.{Keeps, kept_lines}
 use Rattle.lock_plan_text.proofs.Ties.{tied_more, tied_onto_from, tied_push}

@@ -3,10 +3,10 @@ use Rattle.std.specs.Prelude.{◌≡◌, ℕ, ◌-◌, List, [], ◌∷◌, Some
 use Rattle.std.specs.Bool.{⊤}
 use Rattle.std.specs.List.{Contains}
 use Rattle.std.proofs.Common.{get_or}
-use Rattle.lock_plan_text.specs.declared.parser.block_line.BlockLine.{BlockLine}
-use Rattle.lock_plan_text.specs.declared.parser.text_line.TextLine.{TextLine}
+use Rattle.lock_plan_lines.specs.declared.block_line.BlockLine.{BlockLine}
+use Rattle.lock_plan_lines.specs.declared.text_line.TextLine.{TextLine}
+use Rattle.lock_plan_lines.specs.PlanLines.{Says, TextNames}
 use Rattle.lock_plan_text.specs.Drafts.{Draft, IsDraftOf, own_lines, texts_of}
-use Rattle.lock_plan_text.specs.PlanLines.{Says, TextNames}
 
 module _ {X Y : Type 0} where
   -- the lists are as long, and their items are tied one by one

@@ -3,12 +3,12 @@ use Rattle.std.specs.Prelude.{◌≡◌, ℕ, IsTrue, List, map, None, string_by
 use Rattle.lock_plan.specs.Checks.{fit_machines, plan_fault}
 use Rattle.lock_plan.specs.Copies.{unnamed_copies}
 use Rattle.lock_plan.specs.Stops.{programs_of}
+use Rattle.lock_plan_lines.specs.OpenBlocks.{opened}
 use Rattle.lock_plan_text.specs.declared.parser.draft.PlanDraft.{PlanDraft}
 use Rattle.lock_plan_text.specs.declared.parser.named_plan.NamedPlan.{NamedPlan}
 use Rattle.lock_plan_text.specs.Beginnings.{unbegun_line}
 use Rattle.lock_plan_text.specs.Copies.{copies_in}
 use Rattle.lock_plan_text.specs.Drafts.{Draft, IsDraftOf}
-use Rattle.lock_plan_text.specs.OpenBlocks.{opened}
 use Rattle.lock_plan_text.specs.PartyLines.{programs_in}
 use Rattle.lock_plan_text.specs.PlanFaults.{unknown_line}
 

@@ -3,17 +3,17 @@ use Rattle.std.specs.Prelude.{◌≡◌, ℕ, ◌+◌, ◌<◌, Bool, true, fals
 use Rattle.lock_plan.specs.declared.fault.CallFault.{CallFault}
 use Rattle.lock_plan.specs.declared.fault.PlanFault.TheVariants as plan
 use Rattle.lock_plan.specs.Checks.{plan_fault}
+use Rattle.lock_plan_lines.specs.declared.named_word.NamedWord.{NamedWord}
+use Rattle.lock_plan_lines.specs.declared.named_word.NamedWord.TheVariants.{Start, Join}
+use Rattle.lock_plan_lines.specs.declared.plan_line.PlanLine.TheVariants.{Named}
+use Rattle.lock_plan_lines.specs.declared.text_line.TextLine.TheVariants.{Plan}
+use Rattle.lock_plan_lines.specs.Blocks.{is_step, line_at, place_number}
+use Rattle.lock_plan_lines.specs.PlanLines.{Says, one_name}
 use Rattle.lock_plan_text.specs.declared.parser.fault.PlanTextFault.TheVariants.{Call, UnknownParty}
-use Rattle.lock_plan_text.specs.declared.parser.named_word.NamedWord.{NamedWord}
-use Rattle.lock_plan_text.specs.declared.parser.named_word.NamedWord.TheVariants.{Start, Join}
-use Rattle.lock_plan_text.specs.declared.parser.plan_line.PlanLine.TheVariants.{Named}
-use Rattle.lock_plan_text.specs.declared.parser.text_line.TextLine.TheVariants.{Plan}
-use Rattle.lock_plan_text.specs.Blocks.{is_step, line_at, place_number}
 use Rattle.lock_plan_text.specs.CallOrigins.{IsLineOf, text_at}
 use Rattle.lock_plan_text.specs.Drafts.{Draft, IsDraftOf, place_of}
 use Rattle.lock_plan_text.specs.PartyLines.{idle_lines, lines_of_party, party_lines, programs_in, starts}
 use Rattle.lock_plan_text.specs.PlanFaults.{draft_fault}
-use Rattle.lock_plan_text.specs.PlanLines.{Says, one_name}
 
 -- the number of a party's own line among its program's lines
 abbrev pub own_at : Draft → ℕ → ℕ → ℕ

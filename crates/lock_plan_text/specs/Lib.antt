@@ -1,8 +1,4 @@
 pub mod Names
-pub mod Words
-pub mod PlanLines
-pub mod Blocks
-pub mod OpenBlocks
 pub mod Drafts
 pub mod PartyLines
 pub mod Copies

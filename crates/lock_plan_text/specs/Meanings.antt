@@ -1,8 +1,8 @@
 -- A text has one meaning.
 use Rattle.std.specs.Prelude.{◌≡◌, ℕ, List}
-use Rattle.lock_plan_text.specs.declared.parser.text_line.TextLine.{TextLine}
+use Rattle.lock_plan_lines.specs.declared.text_line.TextLine.{TextLine}
+use Rattle.lock_plan_lines.specs.PlanLines.{Says, TextNames}
 use Rattle.lock_plan_text.specs.Drafts.{Draft, IsDraftOf, IsFirstBadLine}
-use Rattle.lock_plan_text.specs.PlanLines.{Says, TextNames}
 
 -- a text is at most one line, with one list of names
 abbrev pub SayOneLine : Type 0

@@ -5,11 +5,11 @@ use Rattle.std.proofs.Common.{get_or}
 use Rattle.lock_plan.specs.declared.program.Act.TheVariants as act
 use Rattle.lock_plan.specs.declared.program.ProgramPlace.{ProgramPlace}
 use Rattle.lock_plan.specs.declared.program.Signal.TheVariants as signal
-use Rattle.lock_plan_text.specs.declared.parser.block_line.BlockLine.{BlockLine}
-use Rattle.lock_plan_text.specs.declared.parser.block_line.BlockLine.TheVariants.{If, Until, Plain}
-use Rattle.lock_plan_text.specs.declared.parser.plain_line.PlainLine.{PlainLine}
-use Rattle.lock_plan_text.specs.declared.parser.plain_line.PlainLine.TheVariants.{Idle, Set, Clear, Assert, Start, Join}
-use Rattle.lock_plan_text.specs.Blocks.{program_of, step_numbers}
+use Rattle.lock_plan_lines.specs.declared.block_line.BlockLine.{BlockLine}
+use Rattle.lock_plan_lines.specs.declared.block_line.BlockLine.TheVariants.{If, Until, Plain}
+use Rattle.lock_plan_lines.specs.declared.plain_line.PlainLine.{PlainLine}
+use Rattle.lock_plan_lines.specs.declared.plain_line.PlainLine.TheVariants.{Idle, Set, Clear, Assert, Start, Join}
+use Rattle.lock_plan_lines.specs.Blocks.{program_of, step_numbers}
 use Rattle.lock_plan_text.specs.Drafts.{Draft, is_started, place_of}
 use Rattle.step_search.specs.Walks.{each_below}
 

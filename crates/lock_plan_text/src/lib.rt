@@ -1,8 +1,8 @@
 //! The texts of plans: the plan that a text says, or the first fault.
 //!
 //! [`parse_plan`] parses bytes into a plan and its names, or returns the first fault. [`parse_text`] leaves the last step,
-//! in which the plan is made, to [`PlanText::into_plan`]. In the specs, `PlanLines` says what a line says, `Drafts` what
-//! the lines make, `Blocks` the program of a party's lines, `PartyLines` all programs, and `PlanFaults` the faults.
+//! in which the plan is made, to [`PlanText::into_plan`]. [`explain_line`] says why a line is bad. In the specs, `Drafts`
+//! says what the lines make, `PartyLines` the programs, and `PlanFaults` and `LineFaults` the faults.
 #![tactic(auto)]
 
 mod explaining;
@@ -10,7 +10,8 @@ mod name_set;
 mod names;
 mod parser;
 
-pub use explaining::{LineFault, NameKind, explain_line};
+pub use explaining::explain_line;
+pub use lock_plan_lines::{LineFault, NameKind};
 pub use name_set::NameSet;
 pub use names::Names;
 pub use parser::{

@@ -2,9 +2,9 @@
 ghost use Rattle.std.specs.Prelude.{IfOk, IfSome};
 ghost use Rattle.lock_plan_text.specs.LineFaults.{ExplainsLine};
 
-use crate::explaining::line_fault::LineFault;
 use crate::parser::draft::PlanDraft;
 use crate::parser::lines::add_text;
+use lock_plan_lines::LineFault;
 use script_text::Part;
 use std::alloc::{AllocError, Global};
 

@@ -1,9 +1,7 @@
 //! Where the innermost open block begins.
-use crate::explaining::line_fault::LineFault;
-use crate::parser::block_line::{BlockLine, BlockWord};
 use crate::parser::draft::PlanDraft;
 use crate::parser::party_lines::list_of;
-use crate::parser::scan::{beginning, line_at};
+use lock_plan_lines::{BlockLine, BlockWord, LineFault, beginning, line_at};
 
 impl PlanDraft {
     ghost use Rattle.std.specs.Prelude.{◌≡◌, ◌==◌, ◌+◌, length, not, IfSome, IsTrue};

@@ -1,15 +1,10 @@
 //! Why a line does not fit the lines above it.
-use crate::explaining::line_fault::{LineFault, NameKind};
-use crate::explaining::unread::{parted, unread};
-use crate::parser::block_line::BlockWord;
 use crate::parser::draft::PlanDraft;
-use crate::parser::line_names::LineNames;
-use crate::parser::named_word::NamedWord;
-use crate::parser::open_block::OpenBlock;
-use crate::parser::plan_line::{Parties, PlanLine};
-use crate::parser::reading::read_line;
-use crate::parser::text_line::TextLine;
-use script_text::Part;
+use lock_plan_lines::{
+    BlockWord, LineFault, LineNames, NameKind, NamedWord, OpenBlock, Parties, PlanLine, TextLine,
+    read_line, unread_fault,
+};
+use script_text::{Part, first_field};
 use std::alloc::{AllocError, Global};
 
 impl PlanDraft {
@@ -29,8 +24,11 @@ impl PlanDraft {
             return Ok(Some(LineFault::NotUtf8));
         };
         match read_line(Part::Text(text)) {
-            None => Ok(Some(unread(alloc, text)?)),
-            Some((line, names)) => Ok(self.refused(parted(text).0, line, names)),
+            None => Ok(Some(unread_fault(alloc, text)?)),
+            Some((line, names)) => {
+                let (word, _) = first_field(text).unwrap_or((text, ""));
+                Ok(self.refused(word, line, names))
+            }
         }
     }
 

@@ -1,11 +1,7 @@
 //! The names in lines of parties.
-use crate::explaining::line_fault::{LineFault, NameKind};
 use crate::name_set::NameSet;
 use crate::parser::draft::PlanDraft;
-use crate::parser::line_names::LineNames;
-use crate::parser::named_word::NamedWord;
-use crate::parser::plan_line::PlanLine;
-use crate::parser::text_line::TextLine;
+use lock_plan_lines::{LineFault, LineNames, NameKind, NamedWord, PlanLine, TextLine};
 
 impl PlanDraft {
     ghost use Rattle.std.specs.Prelude.{◌≡◌, is_some, map, string_bytes, IfSome};

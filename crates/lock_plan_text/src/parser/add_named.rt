@@ -1,17 +1,14 @@
 //! Adding lines of a word and a name.
 use crate::parser::draft::PlanDraft;
-use crate::parser::line_names::LineNames;
-use crate::parser::named_word::NamedWord;
-use crate::parser::plan_line::PlanLine;
-use crate::parser::text_line::TextLine;
+use lock_plan_lines::{LineNames, NamedWord, PlanLine, TextLine};
 use std::alloc::{AllocError, Global};
 
 impl PlanDraft {
     ghost use Rattle.std.specs.Prelude.{◌≡◌, false, Some, None, IfOk, OnOk, if◌then◌else◌};
-    ghost use Rattle.lock_plan_text.specs.declared.parser.named_word.NamedWord.TheVariants.{Flag, Condvar};
+    ghost use Rattle.lock_plan_lines.specs.declared.named_word.NamedWord.TheVariants.{Flag, Condvar};
+    ghost use Rattle.lock_plan_lines.specs.PlanLines.{names_of, one_name};
     ghost use Rattle.lock_plan_text.specs.Drafts.{is_started, may_start, with_mention, with_named, with_start};
     ghost use Rattle.lock_plan_text.specs.Drafted.{drafted};
-    ghost use Rattle.lock_plan_text.specs.PlanLines.{names_of, one_name};
 
     /// Adds a line with this word, and returns whether the draft takes it.
     pub(crate) fn add_named(

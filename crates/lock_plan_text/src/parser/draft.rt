@@ -1,21 +1,17 @@
 //! What the lines of a plan make.
 ghost use Rattle.std.specs.Prelude.{◌≡◌, ◌∷◌, [], Some, None, IfOk, if◌then◌else◌};
-ghost use Rattle.lock_plan_text.specs.declared.parser.plan_line.PlanLine.TheVariants as line;
-ghost use Rattle.lock_plan_text.specs.declared.parser.text_line.TextLine.TheVariants as text;
+ghost use Rattle.lock_plan_lines.specs.declared.plan_line.PlanLine.TheVariants as line;
+ghost use Rattle.lock_plan_lines.specs.declared.text_line.TextLine.TheVariants as text;
+ghost use Rattle.lock_plan_lines.specs.PlanLines.{names_of, one_name};
 ghost use Rattle.lock_plan_text.specs.Drafts.{copy_names, no_draft, with_line, with_own_line, with_own_lines, with_parties, with_said};
 ghost use Rattle.lock_plan_text.specs.Drafted.{drafted};
-ghost use Rattle.lock_plan_text.specs.PlanLines.{names_of, one_name};
 
 use crate::name_set::NameSet;
 use crate::names::Names;
-use crate::parser::block_line::BlockLine;
 use crate::parser::copies::{any_name, copy_name};
-use crate::parser::line_names::LineNames;
-use crate::parser::open_block::OpenBlocks;
 use crate::parser::place::push_from;
-use crate::parser::plan_line::{Parties, PlanLine};
-use crate::parser::text_line::TextLine;
 use lock_plan::PlanLock;
+use lock_plan_lines::{BlockLine, LineNames, OpenBlocks, Parties, PlanLine, TextLine};
 use std::alloc::{AllocError, Global};
 
 /// What the lines so far make: locks, the lines of each party, their numbers, the blocks that are open, and names.

@@ -8,7 +8,7 @@ ghost use Rattle.lock_plan_text.specs.PlanFaults.{IsLineFault};
 
 use crate::parser::draft::PlanDraft;
 use crate::parser::fault::PlanTextFault;
-use crate::parser::reading::read_line;
+use lock_plan_lines::read_line;
 use script_text::Part;
 use std::alloc::{AllocError, Global};
 

@@ -12,8 +12,8 @@ use crate::parser::draft::PlanDraft;
 use crate::parser::fault::PlanTextFault;
 use crate::parser::lines::parse_lines;
 use crate::parser::plan_text::PlanText;
-use crate::parser::program::{program_of, step_numbers};
 use lock_plan::{Act, Plan, PlanFault, ProgramPlace, Signal};
+use lock_plan_lines::{program_of, step_numbers};
 use std::alloc::{AllocError, Global};
 use std::mem::replace;
 

@@ -5,21 +5,17 @@ ghost use Rattle.lock_base.specs.declared.machine.lock_step.LockStep.TheVariants
 ghost use Rattle.lock_base.specs.declared.machine.mode.Mode.TheVariants.{Exclusive};
 ghost use Rattle.lock_base.specs.declared.machine.mode_step.ModeStep.TheVariants.{Acquire, Release};
 ghost use Rattle.lock_plan.specs.Worlds.{no_lock};
+ghost use Rattle.lock_plan_lines.specs.declared.text_line.TextLine.TheVariants as text;
+ghost use Rattle.lock_plan_lines.specs.PlanLines.{names_of};
 ghost use Rattle.lock_plan_text.specs.Drafts.{mutex_call, mutex_step, named_call, named_line, no_step, one_line, own_lines, step_on};
 ghost use Rattle.lock_plan_text.specs.Drafted.{drafted};
-ghost use Rattle.lock_plan_text.specs.declared.parser.text_line.TextLine.TheVariants as text;
-ghost use Rattle.lock_plan_text.specs.PlanLines.{names_of};
 
-use crate::parser::block_line::{BlockLine, BlockWord};
 use crate::parser::draft::PlanDraft;
-use crate::parser::line_names::LineNames;
-use crate::parser::named_word::NamedWord;
-use crate::parser::plain_line::PlainLine;
-use crate::parser::plan_line::PlanLine;
-use crate::parser::text_line::TextLine;
-use crate::parser::wait_line::WaitLine;
 use lock_base::machine::{Kind, LockStep, Mode, ModeStep};
 use lock_plan::PlanCall;
+use lock_plan_lines::{
+    BlockLine, BlockWord, LineNames, NamedWord, PlainLine, PlanLine, TextLine, WaitLine,
+};
 use std::alloc::{AllocError, Global};
 
 impl PlanDraft {

@@ -1,7 +1,6 @@
 //! The lines of a party's program, by rows: those of the parties, and then those of the flags.
-use crate::parser::block_line::BlockLine;
 use crate::parser::draft::PlanDraft;
-use crate::parser::plain_line::PlainLine;
+use lock_plan_lines::{BlockLine, PlainLine};
 use std::alloc::{AllocError, Global};
 
 impl PlanDraft {

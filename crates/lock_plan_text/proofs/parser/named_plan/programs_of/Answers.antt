@@ -1,6 +1,6 @@
 use Rattle.std.proofs.Common.{◌∙◌, Vec, Global, map, ap}
 use Rattle.lock_plan.specs.declared.program.ProgramPlace.{ProgramPlace}
-use Rattle.lock_plan_text.specs.Blocks.{program_of}
+use Rattle.lock_plan_lines.specs.Blocks.{program_of}
 use Rattle.lock_plan_text.specs.Drafted.{drafted}
 use Rattle.lock_plan_text.specs.PartyLines.{party_program}
 use Rattle.lock_plan_text.proofs.EachRow.{one_more}

@@ -1,0 +1,5 @@
+mod Lands
+mod LastFields
+mod LoopDepths
+pub mod OneLine
+pub mod StepPlaces

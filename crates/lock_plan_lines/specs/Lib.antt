@@ -1,0 +1,5 @@
+pub mod Words
+pub mod PlanLines
+pub mod Blocks
+pub mod OpenBlocks
+pub mod UnreadLines

@@ -1,0 +1,62 @@
+//! Reading a wait on a condition variable.
+ghost use Rattle.std.specs.Prelude.{◌≡◌, ◌∷◌, ℕ, List, IfNone, IfSome};
+ghost use Rattle.script_text.specs.Lines.{fields_of};
+ghost use Rattle.lock_plan_lines.specs.PlanLines.{AreMutexAndFlag, AreWaitNames, IsFlagField, TextNames, has_flag, names_of, until_fields, wait_fields};
+
+use crate::line_names::LineNames;
+use crate::look::{is_timeout, read_timed_until, read_until};
+use crate::name::is_name;
+use crate::wait_line::WaitLine;
+use script_text::first_field;
+
+/// Reads a wait and its names, by the fields after the first.
+pub(crate) fn read_wait(rest: &str) -> Option<(WaitLine, LineNames)>
+    ensures said { IfSome result (λ found. AreWaitNames (has_flag found.0) (names_of found.1)
+        × (wait_fields found.0 (names_of found.1) ≡ fields_of rest.now)) }
+    ensures bad { IfNone result ((wait : WaitLine) (names : TextNames) → AreWaitNames (has_flag wait) names
+        → wait_fields wait names ≡ fields_of rest.now → ⊥) }
+{
+    let (name, rest) = first_field(rest)?;
+    if !is_name(name) {
+        return None;
+    }
+    let (wait, mutex, flag) = read_mutex(rest)?;
+    Some((wait, LineNames { name, mutex, flag }))
+}
+
+/// Reads the fields of a wait after the name of the condition variable.
+fn read_mutex(rest: &str) -> Option<(WaitLine, &str, &str)>
+    ensures said { IfSome result (λ found. AreMutexAndFlag (has_flag found.0) found.1.now found.2.now
+        × (found.1.now ∷ until_fields found.0 found.2.now ≡ fields_of rest.now)) }
+    ensures bad { IfNone result ((wait : WaitLine) (mutex flag : List ℕ) → AreMutexAndFlag (has_flag wait) mutex flag
+        → mutex ∷ until_fields wait flag ≡ fields_of rest.now → ⊥) }
+{
+    let (wait, mutex, flag) = match first_field(rest) {
+        None => (WaitLine::Once, rest, ""),
+        Some((mutex, last)) => {
+            let (wait, flag) = read_end(last)?;
+            (wait, mutex, flag)
+        }
+    };
+    if !is_name(mutex) {
+        return None;
+    }
+    Some((wait, mutex, flag))
+}
+
+/// Reads the fields of a wait after the name of the mutex.
+fn read_end(fields: &str) -> Option<(WaitLine, &str)>
+    ensures said { IfSome result (λ found. IsFlagField (has_flag found.0) found.1.now
+        × (until_fields found.0 found.1.now ≡ fields_of fields.now)) }
+    ensures bad { IfNone result ((wait : WaitLine) (flag : List ℕ) → IsFlagField (has_flag wait) flag
+        → until_fields wait flag ≡ fields_of fields.now → ⊥) }
+{
+    if is_timeout(fields) {
+        return Some((WaitLine::OrTimeout, ""));
+    }
+    if let Some((value, flag)) = read_until(fields) {
+        return Some((WaitLine::Until(value), flag));
+    }
+    let (value, flag) = read_timed_until(fields)?;
+    Some((WaitLine::UntilOrTimeout(value), flag))
+}
