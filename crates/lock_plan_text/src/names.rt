@@ -1,5 +1,6 @@
 //! The names of a plan.
 use crate::name_set::NameSet;
+use std::alloc::Global;
 
 /// The names of a plan's locks, parties, flags and condition variables, in the plan's order.
 #[derive(Drop)]
@@ -8,4 +9,23 @@ pub struct Names {
     pub parties: NameSet,
     pub flags: NameSet,
     pub conds: NameSet,
+}
+
+impl Names {
+    ghost use Rattle.std.specs.Prelude.{◌≡◌, []};
+
+    /// Makes the names of a plan that has none.
+    pub(crate) fn new(alloc: Global) -> Names
+        ensures locks { result.locks ≡ [] }
+        ensures parties { result.parties ≡ [] }
+        ensures flags { result.flags ≡ [] }
+        ensures conds { result.conds ≡ [] }
+    {
+        Names {
+            locks: NameSet::new(alloc),
+            parties: NameSet::new(alloc),
+            flags: NameSet::new(alloc),
+            conds: NameSet::new(alloc),
+        }
+    }
 }

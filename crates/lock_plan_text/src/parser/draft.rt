@@ -55,12 +55,7 @@ impl PlanDraft {
             first: 0,
             numbers: Vec::new(alloc),
             blocks: OpenBlocks::new(alloc),
-            names: Names {
-                locks: NameSet::new(alloc),
-                parties: NameSet::new(alloc),
-                flags: NameSet::new(alloc),
-                conds: NameSet::new(alloc),
-            },
+            names: Names::new(alloc),
             mentions: NameSet::new(alloc),
             mention_lines: Vec::new(alloc),
             started: NameSet::new(alloc),

@@ -83,25 +83,46 @@ impl PlanText {
         ensures plan { IfOk result (IsMadeOf (drafted self.draft)) }
         ensures fault { IfErr result (λ fault. (draft_fault (drafted self.draft) ≡ Some fault) ⊎ (fault ≡ OutOfMemory)) }
     {
+        // a draft is dropped here alone, since each exit that drops one is proved anew
         let mut draft = self.draft;
-        let copies = draft.copies_in(alloc)?;
-        let locks = replace(&mut draft.locks, Vec::new(alloc));
-        let servers = replace(&mut draft.servers, Vec::new(alloc));
-        match Plan::new(alloc, locks, self.programs, servers, copies) {
-            Ok(plan) => Ok(NamedPlan {
-                plan,
-                names: draft.names,
-            }),
-            Err(fault) => Err(draft.fault_by_line(alloc, fault)),
-        }
+        draft.take_plan(alloc, self.programs)
     }
 }
 
 impl PlanDraft {
-    ghost use Rattle.std.specs.Prelude.{◌≡◌, ◌⊎◌};
+    ghost use Rattle.std.specs.Prelude.{◌≡◌, ◌⊎◌, map, Some, None, IfErr, IfOk};
+    ghost use Rattle.lock_plan.specs.Copies.{AreAlike};
     ghost use Rattle.lock_plan_text.specs.declared.parser.fault.PlanTextFault.TheVariants.{OutOfMemory};
-    ghost use Rattle.lock_plan_text.specs.Drafted.{drafted};
-    ghost use Rattle.lock_plan_text.specs.PlanFaults.{by_line};
+    ghost use Rattle.lock_plan_text.specs.Beginnings.{unbegun_line};
+    ghost use Rattle.lock_plan_text.specs.Copies.{copies_in};
+    ghost use Rattle.lock_plan_text.specs.Drafted.{IsMadeOf, drafted};
+    ghost use Rattle.lock_plan_text.specs.PartyLines.{programs_in};
+    ghost use Rattle.lock_plan_text.specs.PlanFaults.{by_line, draft_fault, unknown_line};
+
+    /// Makes the plan of a draft's programs, and takes its locks, servers and names out of the draft.
+    fn take_plan(
+        &mut self,
+        alloc: Global,
+        programs: Vec<Vec<ProgramPlace>>,
+    ) -> Result<NamedPlan, PlanTextFault>
+        requires known { unknown_line (drafted self.old) ≡ None }
+        requires begun { unbegun_line (drafted self.old) ≡ None }
+        requires made { map (λ v. v.items) programs.items ≡ programs_in (drafted self.old) }
+        requires alike { AreAlike (programs_in (drafted self.old)) (drafted self.old).servers (copies_in (drafted self.old)) }
+        ensures plan { IfOk result (IsMadeOf (drafted self.old)) }
+        ensures fault { IfErr result (λ fault. (draft_fault (drafted self.old) ≡ Some fault) ⊎ (fault ≡ OutOfMemory)) }
+    {
+        let copies = self.copies_in(alloc)?;
+        let locks = replace(&mut self.locks, Vec::new(alloc));
+        let servers = replace(&mut self.servers, Vec::new(alloc));
+        match Plan::new(alloc, locks, programs, servers, copies) {
+            Ok(plan) => Ok(NamedPlan {
+                plan,
+                names: replace(&mut self.names, Names::new(alloc)),
+            }),
+            Err(fault) => Err(self.fault_by_line(alloc, fault)),
+        }
+    }
 
     /// Returns a fault of the plan, with the line of the text in place of the party and its place.
     pub(crate) fn fault_by_line(&self, alloc: Global, fault: PlanFault) -> PlanTextFault

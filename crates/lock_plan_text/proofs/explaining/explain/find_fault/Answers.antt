@@ -3,7 +3,7 @@ use Rattle.script_text.specs.Lines.{lines_of}
 use Rattle.script_text.specs.Parts.{bytes_of}
 use Rattle.lock_plan_text.specs.Drafted.{drafted}
 use Rattle.lock_plan_text.proofs.LinesAbove.{explains_line, more_above, none_above}
-use Rattle.lock_plan_text.proofs.explaining.explain.explain_line.Goals as goal
+use Rattle.lock_plan_text.proofs.explaining.explain.find_fault.Goals as goal
 
 pub loop-above-preserved : goal.loop-above-preserved
 loop-above-preserved c = λ end made.

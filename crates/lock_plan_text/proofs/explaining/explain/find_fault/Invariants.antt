@@ -1,11 +1,10 @@
 -- What the lines that are left make of the draft, all lines make of none.
-use Rattle.std.proofs.Common.{ℕ}
 use Rattle.script_text.specs.Lines.{lines_of}
 use Rattle.script_text.specs.Parts.{bytes_of}
 use Rattle.lock_plan_text.specs.Drafted.{drafted}
 use Rattle.lock_plan_text.specs.Drafts.{Draft, no_draft}
 use Rattle.lock_plan_text.specs.LineFaults.{MakeAbove}
-use Rattle.lock_plan_text.proofs.explaining.explain.explain_line.Given as goal
+use Rattle.lock_plan_text.proofs.explaining.explain.find_fault.Given as goal
 
 abbrev pub invariant-loop-above : goal.invariant-loop-above
 invariant-loop-above l =
