@@ -1,11 +1,11 @@
 -- The answer of a look for an order of the locks.
 use Rattle.std.specs.Prelude.{ℕ, Bool, true, false, if◌then◌else◌, nat_lt, List, [], ◌∷◌, ◌++◌, length, codes, decimal}
 use Rattle.std.specs.List.{flat_map}
-use Rattle.lock_plan.specs.declared.lock_order.HeldWait.{HeldWait}
-use Rattle.lock_plan.specs.declared.lock_order.LockOrder.{LockOrder}
-use Rattle.lock_plan.specs.declared.lock_order.LockOrder.TheVariants.{Kept, Broken}
-use Rattle.lock_plan.specs.declared.lock_order.Obstacle.{Obstacle}
-use Rattle.lock_plan.specs.declared.lock_order.Obstacle.TheVariants.{Waits, Uncovered, Ends, Reentrant}
+use Rattle.lock_plan_order.specs.declared.lock_order.HeldWait.{HeldWait}
+use Rattle.lock_plan_order.specs.declared.lock_order.LockOrder.{LockOrder}
+use Rattle.lock_plan_order.specs.declared.lock_order.LockOrder.TheVariants.{Kept, NoCircle, Broken}
+use Rattle.lock_plan_order.specs.declared.lock_order.Obstacle.{Obstacle}
+use Rattle.lock_plan_order.specs.declared.lock_order.Obstacle.TheVariants.{Waits, TooManyWaits, Uncovered, Ends, Unfit}
 use Rattle.lock_plan_text.specs.declared.parser.plan_text.PlanText.{PlanText}
 use Rattle.lock_plan_text.specs.Drafted.{drafted}
 use Rattle.lock_plan_text.specs.Names.{name_of}
@@ -53,10 +53,11 @@ uncovered_line number text party place =
 
 abbrev pub obstacle_line : (ℕ → ℕ) → PlanText → Obstacle → List ℕ
 obstacle_line number text (Waits wait) = wait_line number text wait
+obstacle_line number text TooManyWaits = codes "more than 4096 waits: only an order of the locks is looked for\n"
 obstacle_line number text (Uncovered party place) = uncovered_line number text party place
 obstacle_line number text (Ends party lock) =
     party_name text party ++ (codes " ends" ++ holds_text text lock)
-obstacle_line number text (Reentrant lock) = lock_name text lock ++ codes ": an order covers no reentrant lock\n"
+obstacle_line number text (Unfit lock) = lock_name text lock ++ codes ": no machine of guards is such a lock\n"
 
 -- what to do where there are any number of parties
 abbrev pub advice : Bool → List ℕ
@@ -72,4 +73,5 @@ broken_text number text obstacles =
 
 abbrev pub order_text : (ℕ → ℕ) → PlanText → LockOrder → List ℕ
 order_text number text (Kept locks) = kept_text text locks.items
+order_text number text NoCircle = codes "no deadlock, no circle of waits\n"
 order_text number text (Broken obstacles) = broken_text number text obstacles.items

@@ -8,11 +8,11 @@ ghost use Rattle.lock_plan_answer.specs.Orders.{advice, at_line, broken_text, ho
 use crate::line_numbers::LineNumbers;
 use crate::names::write_name;
 use itoa::Buffer;
-use lock_plan::{HeldWait, LockOrder, Obstacle};
+use lock_plan_order::{HeldWait, LockOrder, Obstacle};
 use lock_plan_text::{PlanText, PlanTextFault};
 use std::alloc::{AllocError, Global};
 
-/// Appends the order of the locks, or why none was found, with the lines that are in the way and the number of each.
+/// Appends the order of the locks, or that no waits make a circle, or the lines that are in the way and the number of each.
 pub fn write_order(
     alloc: Global,
     text: &mut String,
@@ -26,6 +26,10 @@ pub fn write_order(
     match order {
         LockOrder::Kept(locks) => {
             write_kept(text, plan, locks.as_slice())?;
+            Ok(())
+        }
+        LockOrder::NoCircle => {
+            text.push_str("no deadlock, no circle of waits\n")?;
             Ok(())
         }
         LockOrder::Broken(obstacles) => write_broken(
@@ -136,6 +140,10 @@ fn write_obstacle(
 {
     match obstacle {
         Obstacle::Waits(wait) => write_wait(alloc, text, plan, lines, wait),
+        Obstacle::TooManyWaits => {
+            text.push_str("more than 4096 waits: only an order of the locks is looked for\n")?;
+            Ok(())
+        }
         Obstacle::Uncovered(party, place) => write_uncovered(
             alloc, text, plan, lines, party, place,
         ),
@@ -145,9 +153,9 @@ fn write_obstacle(
             write_holds(text, plan, lock)?;
             Ok(())
         }
-        Obstacle::Reentrant(lock) => {
+        Obstacle::Unfit(lock) => {
             write_lock(text, plan, lock)?;
-            text.push_str(": an order covers no reentrant lock\n")?;
+            text.push_str(": no machine of guards is such a lock\n")?;
             Ok(())
         }
     }

@@ -2,7 +2,7 @@
 -- parties that wait in a stuck world join last, first those that their locks do not admit.
 use Rattle.std.proofs.Common.{◌≡◌, ℕ, zero, suc, ◌<◌, ◌⊎◌, inl, inr, Bool, true, false, not, ◌&&◌, ◌||◌, ◌==◌, if◌then◌else◌, List, [], ◌∷◌, ◌++◌, length, map, get_or, Option, Some, None, option_map, refl, sym, ap, ◌∙◌, arith}
 use Rattle.std.specs.List.{list_any}
-use Rattle.std.proofs.lemmas.Bool.{false≢true, and_parts, or_cases, or_right, not-true, cases_lt, eq-eqb, eqb-true}
+use Rattle.std.proofs.lemmas.Bool.{not-false, false≢true, and_parts, or_cases, or_right, not-true, cases_lt, eq-eqb, eqb-true}
 use Rattle.std.proofs.lemmas.List.{get_or_past, append-nil, append_assoc}
 use Rattle.std.proofs.lemmas.List.Folds.{list_any-append}
 use Rattle.std.proofs.lemmas.Option.{same_Some}
@@ -23,7 +23,7 @@ use Rattle.lock_plan.specs.Holds.{lines_up, turn_on}
 use Rattle.lock_plan.specs.Worlds.{Stand, no_stand, no_lock, lock_holds, act_of, acts_of, reply_at, turn_by, turn_of, line_of, waits_for, has_waiter, on_lock, goes_on, on_from, world_step, world_after, first_world, is_server, is_due, is_step_turn, is_stuck, some_below}
 use Rattle.lock_plan_laws.specs.Lines.{LinedWorld, here, is_listed, without, before, is_claim, is_change, claims, changes, is_waits, names_fair, on_call, is_behind, is_behind_some, goes_in_line, joins, lined_by, lined_on, lined_after, IsStuckInLine, first_lined, LinesStopAsWorlds}
 use Rattle.lock_plan_laws.proofs.SceneStops.{some_at, some_found}
-use Rattle.lock_plan_laws.proofs.NoStop.{none_below, below_none, not_false}
+use Rattle.lock_plan.proofs.CircleSets.{below_none, below_each}
 
 -- Booleans
 
@@ -271,7 +271,7 @@ module _ (locks : List PlanLock) (servers : List Bool) (s : LinedWorld) (stuck :
   w = s.stands
 
   idle : (q lock : ℕ) → claims lock (here s q) ≡ true → (is_step_turn (turn_of locks w q) && not (is_behind_some locks s q)) ≡ false
-  idle q lock claim = below_none (goes_in_line locks s) (length w) q stuck.none_goes (in_world locks w q lock claim)
+  idle q lock claim = below_each (goes_in_line locks s) (length w) q stuck.none_goes (in_world locks w q lock claim)
 
   -- a claim by a change waits by what is held
   changer : (q lock : ℕ) → changes lock (here s q) ≡ true → has_waiter locks w lock ≡ true
@@ -290,7 +290,7 @@ module _ (locks : List PlanLock) (servers : List Bool) (s : LinedWorld) (stuck :
       by_bool (is_step_turn (turn_of locks w h))
       (λ steps.
       let held : is_behind_some locks s h ≡ true =
-      not_false (is_behind_some locks s h) (ap (λ (b : Bool). b && not (is_behind_some locks s h)) (sym steps) ∙ idle h lock claim) in
+      not-false (is_behind_some locks s h) (ap (λ (b : Bool). b && not (is_behind_some locks s h)) (sym steps) ∙ idle h lock claim) in
       let line = line_found locks w (is_behind locks s h) (line_of locks (here s h)) held in
       let same : line.0 ≡ lock = one_claim line.0 lock (here s h) (lined_at locks w h line.0 line.1).claims_it claim in
       let behind : is_behind locks s h lock ≡ true = ap (is_behind locks s h) (sym same) ∙ line.2 in
@@ -316,15 +316,15 @@ module _ (locks : List PlanLock) (servers : List Bool) (s : LinedWorld) (stuck :
       and_false (is_step_turn (turn_of locks w p)) _
       (λ steps.
       let held : is_behind_some locks s p ≡ true =
-      not_false (is_behind_some locks s p)
-      (ap (λ (b : Bool). b && not (is_behind_some locks s p)) (sym steps) ∙ below_none (goes_in_line locks s) (length w) p stuck.none_goes lt) in
+      not-false (is_behind_some locks s p)
+      (ap (λ (b : Bool). b && not (is_behind_some locks s p)) (sym steps) ∙ below_each (goes_in_line locks s) (length w) p stuck.none_goes lt) in
       let line = line_found locks w (is_behind locks s p) (line_of locks (here s p)) held in
       ap (λ (o : Option ℕ). not (on_lock (has_waiter locks w) o)) line.1 ∙ ap not (ahead p line.0 line.2))
 
   pub stuck_in_world : is_stuck servers locks s.stands ≡ true
   stuck_in_world =
       ap (λ (b : Bool). b && not (some_below (goes_on locks w) (length w))) stuck.due
-      ∙ ap not (none_below (goes_on locks w) (length w) stays_put)
+      ∙ ap not (below_none (goes_on locks w) (length w) stays_put)
 
 -- Runs with lines lead to worlds
 
@@ -507,13 +507,13 @@ module _ (locks : List PlanLock) (servers : List Bool) (w : List Stand) (stuck :
   parts = and_parts (some_below (λ p. is_due (is_server servers p) (turn p)) n) (not (some_below (goes_on locks w) n)) stuck
 
   still : (p : ℕ) → p < n → goes_on locks w p ≡ false
-  still p lt = below_none (goes_on locks w) n p (not-true _ parts.1) lt
+  still p lt = below_each (goes_on locks w) n p (not-true _ parts.1) lt
 
   -- a party with a step comes behind another one
   behind_other : (p : ℕ) → p < n → is_step_turn (turn p) ≡ true → comes_behind p ≡ true
   behind_other p lt steps =
       ap (λ (b : Bool). b && on_lock (has_waiter locks w) (line_of locks (act locks w p))) steps
-      ∙ not_false (on_lock (has_waiter locks w) (line_of locks (act locks w p)))
+      ∙ not-false (on_lock (has_waiter locks w) (line_of locks (act locks w p)))
       (ap (λ (b : Bool). b && not (on_lock (has_waiter locks w) (line_of locks (act locks w p)))) (sym steps) ∙ still p lt)
 
   none_goes : (p : ℕ) → p < n → goes_in_line locks (with_line waiting) p ≡ false
@@ -560,8 +560,8 @@ module _ (locks : List PlanLock) (servers : List Bool) (w : List Stand) (stuck :
   stuck_in_line : IsStuckInLine locks servers (with_line waiting)
   stuck_in_line = record {
     due = parts.0;
-    none_goes = none_below (goes_in_line locks (with_line waiting)) n none_goes;
-    none_joins = none_below (joins locks (with_line waiting)) n none_joins;
+    none_goes = below_none (goes_in_line locks (with_line waiting)) n none_goes;
+    none_joins = below_none (joins locks (with_line waiting)) n none_joins;
   }
 
   abbrev line_acts : List (ℕ ⊎ Step)

@@ -18,11 +18,12 @@ pub mod CircleRuns
 pub mod MachineStops
 pub mod ShortWalks
 pub mod Traces
-pub mod OrderedStands
-pub mod OrderedWorlds
-pub mod NoStop
+pub mod CoveredStands
+pub mod Exclusion
+pub mod CoveredWorlds
+pub mod WaitRanks
+pub mod RankedLocks
 pub mod OrderChecks
 pub mod OrderExamples
-pub mod LockOrders
 pub mod Holders
 pub mod FairLines

@@ -4,7 +4,7 @@ use Rattle.lock_base.specs.Kind.{is_reentrant}
 use Rattle.lock_plan.specs.Worlds.{no_lock}
 use Rattle.lock_plan_laws.specs.Ranks.{IsOrdered}
 use Rattle.lock_plan_laws.specs.OrderExamples.{two_mutexes, both_from, by_number, OrderExamples}
-use Rattle.lock_plan_laws.proofs.NoStop.{never_stop}
+use Rattle.lock_plan_laws.proofs.RankedLocks.{never_deadlock}
 use Rattle.lock_plan_laws.proofs.OrderChecks.{ordered_is}
 
 each_copy : {X : Type 0} (n p : ℕ) (x d : X) → p < length (replicate n x) → get_or (replicate n x) p d ≡ x
@@ -20,7 +20,7 @@ no_reentrant (suc (suc l)) = refl
 pub examples : OrderExamples
 examples = record {
   any_number = λ n.
-      never_stop by_number [] two_mutexes (replicate n (both_from 0 1)) (record {
+      never_deadlock by_number [] two_mutexes (replicate n (both_from 0 1)) (record {
         machines = refl;
         single = no_reentrant;
         ordered = λ p lt.

@@ -4,8 +4,8 @@ pub mod Bridge
 pub mod Circles
 pub mod MachineStops
 pub mod Ranks
+pub mod WaitRanks
 pub mod OrderChecks
 pub mod OrderExamples
-pub mod LockOrders
 pub mod Holders
 pub mod Lines

@@ -9,7 +9,8 @@ use Rattle.lock_plan.specs.declared.lock.PlanLock.{PlanLock}
 use Rattle.lock_plan.specs.declared.program.Act.TheVariants.{Call}
 use Rattle.lock_plan.specs.declared.program.ProgramPlace.{ProgramPlace}
 use Rattle.lock_plan.specs.declared.program.Step.{Step}
-use Rattle.lock_plan.specs.Worlds.{Stand, first_world, world_after, is_stop, NeverStops}
+use Rattle.lock_plan.specs.Circles.{NeverDeadlocks}
+use Rattle.lock_plan.specs.Worlds.{Stand, first_world, world_after, is_stop}
 use Rattle.lock_plan_laws.specs.OrderChecks.{is_ordered}
 
 abbrev pub mutex : PlanLock
@@ -49,8 +50,8 @@ abbrev pub all_equal : ℕ → ℕ
 all_equal lock = 0
 
 pub record OrderExamples : Type 0 where
-  -- any number of parties that acquire in one order never stop
-  pub any_number : (parties : ℕ) → NeverStops [] two_mutexes (replicate parties (both_from 0 1))
+  -- any number of parties that acquire in one order never deadlock
+  pub any_number : (parties : ℕ) → NeverDeadlocks [] two_mutexes (replicate parties (both_from 0 1))
   -- at equal ranks both orders would pass: the test refuses each, and together they stop
   pub equal_is_refused : is_ordered all_equal two_mutexes (both_from 0 1) ≡ false
   pub both_orders_stop : Stops (both_from 0 1 ∷ both_from 1 0 ∷ []) (step_of 0 ∷ step_of 1 ∷ [])

@@ -17,8 +17,9 @@ use Rattle.lock_plan.specs.declared.program.Act.TheVariants.{Call, Signal}
 use Rattle.lock_plan.specs.declared.program.Signal.{Signal as PlanSignal}
 use Rattle.lock_plan.specs.declared.program.ProgramPlace.{ProgramPlace}
 use Rattle.lock_plan.specs.Checks.{fit_machines}
+use Rattle.lock_plan.specs.Circles.{NeverDeadlocks}
 use Rattle.lock_plan.specs.Known.{Known, known_at, known_of}
-use Rattle.lock_plan.specs.Worlds.{no_lock, act_in, NeverStops}
+use Rattle.lock_plan.specs.Worlds.{no_lock, act_in}
 use Rattle.lock_plan_laws.specs.MachineStops.{MachinesNeverStop}
 
 -- whether a call makes this step without an announcement of its own, and without an upgrade, which waits for other holders
@@ -29,17 +30,21 @@ is_ranked_step (Modes (Change from to)) = not (is_exclusive to)
 is_ranked_step Announce = false
 is_ranked_step Withdraw = true
 
--- what a party may do at a place where it has these holds
-pub record KeepsOrder (rank : ℕ → ℕ) (holds : List Hold) (here : Option Act) : Type 0 where
-  -- it blocks only for a lock that is above all locks that it holds; a try may take any that is not fair
-  pub upward : (call : PlanCall) (mode : Mode) → here ≡ Some (Call call) → call.step ≡ Modes (Acquire mode)
-      → (lock : ℕ) → 0 < tokens (get_or holds lock no_hold).bag → rank lock < rank call.lock
+-- what an order covers at a place where a party has these holds
+pub record IsCovered (holds : List Hold) (here : Option Act) : Type 0 where
   pub ranked : (call : PlanCall) → here ≡ Some (Call call) → is_ranked_step call.step ≡ true
   -- it waits for no other row
   pub no_signal : (signal : PlanSignal) → here ≡ Some (Signal signal) → ⊥
   -- at its end it holds nothing
   pub ended : here ≡ None → (lock : ℕ) → tokens (get_or holds lock no_hold).bag ≡ 0
   pub silent : (lock : ℕ) → (get_or holds lock no_hold).announced ≡ false
+
+-- what a party may do at a place where it has these holds
+pub record KeepsOrder (rank : ℕ → ℕ) (holds : List Hold) (here : Option Act) : Type 0 where
+  -- it blocks only for a lock that is above all locks that it holds; a try may take any that is not fair
+  pub upward : (call : PlanCall) (mode : Mode) → here ≡ Some (Call call) → call.step ≡ Modes (Acquire mode)
+      → (lock : ℕ) → 0 < tokens (get_or holds lock no_hold).bag → rank lock < rank call.lock
+  pub covered : IsCovered holds here
 
 -- a program that does so at each place
 pub record IsOrdered (rank : ℕ → ℕ) (locks : List PlanLock) (program : List ProgramPlace) : Type 0 where
@@ -53,10 +58,10 @@ pub record IsOrderedPlan (rank : ℕ → ℕ) (locks : List PlanLock) (programs 
   pub single : (lock : ℕ) → is_reentrant (get_or locks lock no_lock).kind ≡ false
   pub ordered : (party : ℕ) → party < length programs → IsOrdered rank locks (get_or programs party [])
 
--- no run of such a plan leads into a stop, and no run of its machines
-abbrev pub OrderedPlansNeverStop : Type 0
-OrderedPlansNeverStop = (rank : ℕ → ℕ) (servers : List Bool) (locks : List PlanLock) (programs : List (List ProgramPlace))
-    → IsOrderedPlan rank locks programs → NeverStops servers locks programs
+-- no run of such a plan leads into a stop or a circle, and no run of its machines into a stop
+abbrev pub OrderedPlansNeverDeadlock : Type 0
+OrderedPlansNeverDeadlock = (rank : ℕ → ℕ) (servers : List Bool) (locks : List PlanLock) (programs : List (List ProgramPlace))
+    → IsOrderedPlan rank locks programs → NeverDeadlocks servers locks programs
 
 abbrev pub OrderedMachinesNeverStop : {O T A : Type 0} → (O → Operation T A) → Type 0
 OrderedMachinesNeverStop meaning = (rank : ℕ → ℕ) (servers : List Bool) (locks : List PlanLock) (programs : List (List ProgramPlace))

@@ -3,22 +3,20 @@
 //! [`worlds_are_runs_of_machines`] ties every run under a plan to machines. [`machines_stop_as_explored`] says what the
 //! answer of a search means for machines, and [`lines_stop_as_worlds`] what it means for fair locks. [`circles_never_move`]
 //! says that the parties of a circle never make a step.
-//! [`ordered_plans_never_stop`] needs no search: it speaks of any number of parties. [`find_order`] has a body: it looks
-//! for an order, and tests it.
+//! [`ordered_plans_never_stop`] needs no search, and speaks of any number of parties: each acquires its locks in one order.
+//! [`plans_without_a_circle_never_stop`] needs none either: the parties' waits have ranks.
 #![tactic(auto)]
 
 mod bridge;
 mod circles;
-mod held_waits;
 mod lines;
-mod obstacles;
-mod order;
 mod ordered;
 mod stops;
 
 pub use bridge::worlds_are_runs_of_machines;
 pub use circles::circles_never_move;
 pub use lines::lines_stop_as_worlds;
-pub use order::find_order;
-pub use ordered::{ordered_plans_never_stop, some_holder_does_not_wait};
+pub use ordered::{
+    ordered_plans_never_stop, plans_without_a_circle_never_stop, some_holder_does_not_wait,
+};
 pub use stops::machines_stop_as_explored;

@@ -4,9 +4,9 @@ use Rattle.std.specs.Global.{Global}
 use Rattle.lock_plan.specs.declared.lock.PlanLock.{PlanLock}
 use Rattle.lock_plan.specs.declared.program.ProgramPlace.{ProgramPlace}
 use Rattle.lock_plan.specs.declared.program.Step.{Step}
-use Rattle.lock_plan.specs.declared.lock_order.LockOrder.{LockOrder}
-use Rattle.lock_plan.specs.declared.lock_order.LockOrder.TheVariants.{Kept, Broken}
-use Rattle.lock_plan_laws.specs.LockOrders.{IsLockOrder}
+use Rattle.lock_plan_order.specs.declared.lock_order.LockOrder.{LockOrder}
+use Rattle.lock_plan_order.specs.declared.lock_order.LockOrder.TheVariants.{Kept, NoCircle, Broken}
+use Rattle.lock_plan_order.specs.LockOrders.{IsLockOrder}
 use Rattle.lock_plan.specs.Copies.{IsCountUpTo}
 use Rattle.lock_plan.specs.Stops.{programs_of}
 use Rattle.lock_plan.specs.Circles as circles
@@ -21,7 +21,7 @@ use Rattle.lock_plan_text.specs.Drafted.{IsPlanOf, drafted}
 use Rattle.lock_plan_text.specs.Drafts.{IsDraftOf}
 use Rattle.lock_plan_answer.specs.Orders.{order_text}
 use Rattle.lock_plan_text.specs.PartyLines.{numbers_in}
-use Rattle.lock_plan_text.specs.Texts.{is_any_number}
+use Rattle.lock_plan_text.specs.Texts.{are_many, is_any_number}
 use Rattle.lockexplore.specs.declared.arguments.AnswerForm.{AnswerForm}
 use Rattle.lockexplore.specs.declared.arguments.AnswerForm.TheVariants.{Answer, Lanes, Svg, Order, Lines}
 use Rattle.lockexplore.specs.declared.verdict.Verdict.{Verdict}
@@ -72,13 +72,14 @@ pub record IsSearchAnswer (form : AnswerForm) (number : ℕ → ℕ) (bytes : Li
 
 abbrev pub order_verdict : LockOrder → Verdict
 order_verdict (Kept locks) = NeverStops
+order_verdict NoCircle = NeverStops
 order_verdict (Broken obstacles) = Unordered
 
--- the verdict and the text are what a look for an order finds, with these numbers of the lines. With an order, no run of the
--- parties stops, however many there are of each
+-- the verdict and the text are what a look for an order finds, with these numbers of the lines. Without obstacles, no run of
+-- the parties leads into a stop or a circle, however many there are of those with a `*`
 pub record IsOrderAnswer (number : ℕ → ℕ) (plan : PlanText) (verdict : Verdict) (text : List ℕ) : Type 0 where
   pub order : LockOrder
-  pub found : IsLockOrder plan.draft.locks.items (map (λ v. v.items) plan.programs.items) order
+  pub found : IsLockOrder plan.draft.locks.items (map (λ v. v.items) plan.programs.items) (are_many plan) order
   pub verdict_is : verdict ≡ order_verdict order
   pub text_is : text ≡ order_text number plan order
 

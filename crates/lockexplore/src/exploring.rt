@@ -4,7 +4,10 @@ ghost use Rattle.std.specs.Io.KnownBytes.{Keeps};
 ghost use Rattle.script_text.specs.Streams.{ReadsScript};
 ghost use Rattle.lockexplore.specs.PlainTexts.{IsShort, line_number, plain_text};
 ghost use Rattle.lock_plan_text.specs.declared.parser.fault.PlanTextFault.TheVariants.{OutOfMemory};
+ghost use Rattle.lock_plan.specs.Checks.{IsFault, parties_fault};
+ghost use Rattle.lock_plan_order.specs.LockOrders.{IsLockOrder};
 ghost use Rattle.lock_plan_text.specs.Drafted.{drafted};
+ghost use Rattle.lock_plan_text.specs.Texts.{are_many};
 ghost use Rattle.lock_plan_answer.specs.LineMarks.{line_mark, mark_by};
 ghost use Rattle.lock_plan_answer.specs.LineNumbers.{number_by};
 ghost use Rattle.lock_plan_text.specs.PartyLines.{numbers_in};
@@ -20,11 +23,11 @@ use crate::lines::LinesFault;
 use crate::no_answer::NoAnswer;
 use crate::plain::PlainText;
 use crate::verdict::Verdict;
-use lock_plan::{Explored, explore};
+use lock_plan::{Explored, PlanFault, explore};
 use lock_plan_answer::{
     LineMark, LineNumbers, draw_picture, write_answer, write_drawing, write_order,
 };
-use lock_plan_laws::find_order;
+use lock_plan_order::{LockOrder, find_order};
 use lock_plan_text::{NamedPlan, PlanText, PlanTextFault, parse_text};
 use script_text::{put, read_script};
 use std::alloc::{AllocError, Global};
@@ -143,7 +146,8 @@ fn is_by_order(form: AnswerForm, plan: &PlanText) -> bool
     form == AnswerForm::Order || plan.is_any_number()
 }
 
-/// Returns whether the locks of a plan have an order, and the text of the answer, with these numbers of the lines.
+/// Returns whether a plan has an order of the locks, or no circle of waits, and the text of the answer, with these numbers of
+/// the lines.
 ///
 /// # Errors
 ///
@@ -156,7 +160,7 @@ fn order_answer(
     ensures answer { IfOk result (λ answer. IsOrderAnswer (number_by lines.now) plan.now answer.0 (string_bytes answer.1)) }
     ensures fault { IfErr result (λ fault. (draft_fault (drafted plan.now.draft) ≡ Some fault) ⊎ (fault ≡ OutOfMemory)) }
 {
-    match find_order(alloc, plan.locks(), plan.programs()) {
+    match order_of(alloc, plan) {
         Ok(order) => {
             let mut text = String::new(alloc);
             write_order(alloc, &mut text, plan, lines, &order)?;
@@ -164,6 +168,16 @@ fn order_answer(
         }
         Err(fault) => Err(plan.fault_by_line(alloc, fault)),
     }
+}
+
+/// Returns an order of the locks of a plan, or whether its waits make no circle, or what is in the way.
+fn order_of(alloc: Global, plan: &PlanText) -> Result<LockOrder, PlanFault>
+    ensures order { IfOk result (IsLockOrder plan.now.draft.locks.items (map (λ v. v.items) plan.now.programs.items) (are_many plan.now)) }
+    ensures wrong { IfErr result (IsFault (parties_fault plan.now.draft.locks.items 0 (map (λ v. v.items) plan.now.programs.items))) }
+{
+    let many = plan.many(alloc)?;
+    let order = find_order(alloc, plan.locks(), plan.programs(), many.as_slice())?;
+    Ok(order)
 }
 
 /// Returns the lines of the places, party by party, if the form needs them.

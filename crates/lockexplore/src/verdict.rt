@@ -1,5 +1,6 @@
 //! Whether a plan stops.
-use lock_plan::{Explored, LockOrder};
+use lock_plan::Explored;
+use lock_plan_order::LockOrder;
 
 /// Whether some interleaving of a plan's calls leads into a stop.
 #[derive(Clone, Copy, PartialEq, Eq, Debug)]
@@ -29,7 +30,7 @@ impl Verdict {
         ensures { result ≡ order_verdict order.now }
     {
         match order {
-            LockOrder::Kept(_) => Verdict::NeverStops,
+            LockOrder::Kept(_) | LockOrder::NoCircle => Verdict::NeverStops,
             LockOrder::Broken(_) => Verdict::Unordered,
         }
     }

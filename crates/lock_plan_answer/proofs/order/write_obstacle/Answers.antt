@@ -8,5 +8,5 @@ returns-in_ok-write_holds-in-Ends-clause-text c =
     let plan = c.args.plan.now in
     rw (c.in-Ends.is)
     (appended_three (string_bytes c.args.text.now) (party_name plan c.in-Ends.party) (codes " ends") (holds_text plan c.in-Ends.lock)
-    (string_bytes c.write_party.new.text) (string_bytes c.push_str.new.self) (string_bytes c.write_holds.new.text)
+    (string_bytes c.write_party.new.text) (string_bytes c.push_str-in-Ends.new.self) (string_bytes c.write_holds.new.text)
     c.in_ok-write_party-in-Ends.ensures c.in_ok-push_str-in-Ends.ensures.bytes c.in_ok-write_holds-in-Ends.ensures)

@@ -1,7 +1,0 @@
-use Rattle.std.proofs.Common.{map, subst}
-use Rattle.lock_plan_laws.specs.LockOrders.{IsKept}
-use Rattle.lock_plan_laws.proofs.order.order_of.Goals as goal
-
-pub returns-then-is_kept : goal.returns-then-is_kept
-returns-then-is_kept c =
-    subst (IsKept c.args.locks.now (map (λ v. v.items) c.args.programs.now)) c.as_slice-2.ensures.value (c.is_kept.ensures c.if-is_kept.true)

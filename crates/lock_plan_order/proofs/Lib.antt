@@ -1,0 +1,3 @@
+pub mod LockOrders
+pub mod FewReads
+pub mod WaitOrders

@@ -1,0 +1,11 @@
+-- The lock is above all that are held exactly if it is above those that are left.
+use Rattle.std.proofs.Common.{◌≡◌, drop}
+use Rattle.lock_plan_order.specs.LockOrders.{rank_in}
+use Rattle.lock_plan_laws.specs.OrderChecks.{is_above}
+use Rattle.lock_plan_order.proofs.lock_ranks.is_above.Given as goal
+
+abbrev pub invariant-loop-hold : goal.invariant-loop-hold
+invariant-loop-hold l = record {
+  at : l.held ≡ l.hold-index;
+  same : is_above (rank_in l.order) l.lock l.held (drop l.hold-index l.holds) ≡ is_above (rank_in l.order) l.lock 0 l.holds;
+}

@@ -1,0 +1,2 @@
+pub mod LockOrders
+pub mod WaitChecks

@@ -1,0 +1,95 @@
+-- What a look for an order finds, whatever parties run the programs.
+use Rattle.std.specs.Prelude.{◌≡◌, ◌≢◌, ℕ, ◌*◌, ◌<◌, ◌≤◌, ◌==◌, Bool, true, false, not, ◌&&◌, ⊤, List, [], length, map, Option, option_map, Some, None, Ok, nat_le, nat_lt, Vec}
+use Rattle.std.specs.Global.{Global}
+use Rattle.std.specs.List.{list_all, list_any, position}
+use Rattle.std.specs.Option.{unwrap_or}
+use Rattle.std.proofs.Common.{get_or}
+use Rattle.lock_base.specs.declared.machine.hold.Hold.{Hold}
+use Rattle.lock_base.specs.Holds.{no_hold}
+use Rattle.lock_base.specs.Kind.{is_reentrant}
+use Rattle.lock_base.specs.Modes.{readers}
+use Rattle.lock_plan.specs.declared.lock.PlanLock.{PlanLock}
+use Rattle.lock_plan.specs.declared.program.ProgramPlace.{ProgramPlace}
+use Rattle.lock_plan.specs.Circles.{NeverDeadlocks}
+use Rattle.lock_plan.specs.Known.{Known, known_at, known_of}
+use Rattle.lock_plan.specs.Worlds.{no_lock}
+use Rattle.lock_plan_laws.specs.OrderChecks.{covers_from, keeps_from}
+use Rattle.lock_plan_laws.specs.Ranks.{IsOrderedPlan}
+use Rattle.lock_plan_order.specs.declared.lock_order.LockOrder.{LockOrder}
+use Rattle.lock_plan_order.specs.declared.lock_order.LockOrder.TheVariants.{Kept, NoCircle, Broken}
+
+-- the rank of a lock is its place in the order
+abbrev pub rank_in : List ℕ → ℕ → ℕ
+rank_in order lock = unwrap_or (position (λ other. other == lock) order) 0
+
+abbrev pub none_reentrant : List PlanLock → Bool
+none_reentrant locks = list_all (λ lock. not (is_reentrant lock.kind)) locks
+
+-- what a party is known to hold at each place
+abbrev pub held_in : Vec (Option (Vec Hold Global)) Global → Known
+held_in held = map (option_map (λ v. v.items)) held.items
+
+-- what a party with each of the programs holds
+abbrev pub AreKnown : List PlanLock → List (List ProgramPlace) → List Known → Type 0
+AreKnown locks programs known = map (known_of locks) programs ≡ map (λ held. Ok held) known
+
+-- an order covers each act of the programs
+abbrev pub AreCovered : List (List ProgramPlace) → List Known → Type 0
+AreCovered programs known = (program : ℕ) → program < length programs
+    → covers_from (get_or programs program []) 0 (get_or known program []) ≡ true
+
+-- each of the programs keeps the order
+abbrev pub AreKept : List ℕ → List (List ProgramPlace) → List Known → Type 0
+AreKept order programs known = (program : ℕ) → program < length programs
+    → keeps_from (rank_in order) (get_or programs program []) 0 (get_or known program []) ≡ true
+
+-- each party runs one of the programs
+abbrev pub EachRunsOneOf : List (List ProgramPlace) → List (List ProgramPlace) → Type 0
+EachRunsOneOf programs parties = (party : ℕ) → party < length parties
+    → (program : ℕ) × ((program < length programs) × (get_or parties party [] ≡ get_or programs program []))
+
+-- any number of parties with these programs are in order, and no run of theirs leads into a stop or a circle
+pub record IsKept (locks : List PlanLock) (programs : List (List ProgramPlace)) (order : List ℕ) : Type 0 where
+  pub ordered : (parties : List (List ProgramPlace)) → EachRunsOneOf programs parties → IsOrderedPlan (rank_in order) locks parties
+  pub never_deadlocks : (servers : List Bool) (parties : List (List ProgramPlace)) → EachRunsOneOf programs parties
+      → NeverDeadlocks servers locks parties
+
+-- the parties run the programs with these numbers: any number of them a program that is one of many, and at most one another
+pub record AreRuns (programs : List (List ProgramPlace)) (many : List Bool) (parties : List (List ProgramPlace)) (runs : ℕ → ℕ) : Type 0 where
+  pub each : (party : ℕ) → party < length parties
+      → (runs party < length programs) × (get_or parties party [] ≡ get_or programs (runs party) [])
+  pub single : (p q : ℕ) → p < length parties → q < length parties → p ≢ q → runs p ≡ runs q → get_or many (runs p) false ≡ true
+  pub few : list_any (λ b. b) many ≡ false → length parties ≤ length programs
+
+-- no run of such parties leads into a stop or a circle
+abbrev pub IsWithoutCircle : List PlanLock → List (List ProgramPlace) → List Bool → Type 0
+IsWithoutCircle locks programs many = (servers : List Bool) (parties : List (List ProgramPlace)) (runs : ℕ → ℕ)
+    → AreRuns programs many parties runs → NeverDeadlocks servers locks parties
+
+-- whether a party reads the lock at most so often, where that is known
+abbrev pub reads_at_most : ℕ → ℕ → Option (List Hold) → Bool
+reads_at_most lock most None = true
+reads_at_most lock most (Some holds) = nat_le (readers (get_or holds lock no_hold).bag) most
+
+-- whether the lock has neither a line nor a bar, and no program is run by any number of parties
+abbrev pub is_plain : PlanLock → List Bool → Bool
+is_plain lock many = (not lock.fair && (not lock.bar && (nat_lt 0 lock.limit && not (list_any (λ b. b) many))))
+
+-- the lock with this number refuses no mode by a line, a bar, or the number of its readers
+pub record IsLenientAmong (lock : PlanLock) (many : List Bool) (known : List Known) (number : ℕ) : Type 0 where
+  pub no_line : lock.fair ≡ false
+  pub no_bar : lock.bar ≡ false
+  pub none_many : list_any (λ b. b) many ≡ false
+  pub most : ℕ
+  pub each : (program place : ℕ) → reads_at_most number most (known_at (get_or known program []) place) ≡ true
+  pub room : length known * most < lock.limit
+
+-- each lock that is not marked as strict is lenient
+abbrev pub AreStrict : List PlanLock → List Bool → List Known → List Bool → Type 0
+AreStrict locks many known strict = (lock : ℕ) → lock < length locks → get_or strict lock true ≡ false
+    → IsLenientAmong (get_or locks lock no_lock) many known lock
+
+abbrev pub IsLockOrder : List PlanLock → List (List ProgramPlace) → List Bool → LockOrder → Type 0
+IsLockOrder locks programs many (Kept order) = IsKept locks programs order.items
+IsLockOrder locks programs many NoCircle = IsWithoutCircle locks programs many
+IsLockOrder locks programs many (Broken obstacles) = ⊤

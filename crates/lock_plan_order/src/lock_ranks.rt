@@ -1,0 +1,123 @@
+//! Whether all programs keep an order of the locks.
+ghost use Rattle.std.specs.Prelude.{◌≡◌, [], map, option_map, not, ◌&&◌, IsTrue};
+ghost use Rattle.std.proofs.Common.{get_or};
+ghost use Rattle.std.specs.List.{list_all};
+ghost use Rattle.lock_plan.specs.Checks.{fit_machines};
+ghost use Rattle.lock_plan_laws.specs.OrderChecks.{goes_up, is_above, is_below, keeps_at, keeps_from, keeps_order};
+ghost use Rattle.lock_plan_order.specs.LockOrders.{AreKept, AreKnown, IsKept, held_in, none_reentrant, rank_in};
+
+use crate::coverage::{covers_at, fit_machines};
+use crate::ranks::{held_of, is_free, program_of};
+use lock_base::machine::{Hold, LockStep, ModeStep};
+use lock_plan::{Act, PlanLock, ProgramPlace, act_in};
+
+/// Returns whether an order covers the locks, and each of the programs keeps it.
+pub(crate) fn is_kept(
+    order: &[usize],
+    locks: &[PlanLock],
+    programs: &[Vec<ProgramPlace>],
+    known: &[Vec<Option<Vec<Hold>>>],
+) -> bool
+    requires { AreKnown locks.now (map (λ v. v.items) programs.now) (map held_in known.now) }
+    ensures { IsTrue result → IsKept locks.now (map (λ v. v.items) programs.now) order.now }
+{
+    if !fit_machines(locks) || !none_reentrant(locks) {
+        return false;
+    }
+    are_kept(order, programs, known)
+}
+
+/// Returns whether none of the locks is reentrant.
+fn none_reentrant(locks: &[PlanLock]) -> bool
+    ensures { result ≡ none_reentrant locks.now }
+{
+    locks.iter().all(|lock| !lock.kind.is_reentrant())
+}
+
+/// Returns whether each of the programs keeps the order.
+fn are_kept(
+    order: &[usize],
+    programs: &[Vec<ProgramPlace>],
+    known: &[Vec<Option<Vec<Hold>>>],
+) -> bool
+    ensures { IsTrue result → AreKept order.now (map (λ v. v.items) programs.now) (map held_in known.now) }
+{
+    for party in 0..programs.len() {
+        if !keeps_from(order, program_of(programs, party), held_of(known, party)) {
+            return false;
+        }
+    }
+    true
+}
+
+/// Returns whether a program keeps the order, at each place of which the holds are known.
+fn keeps_from(order: &[usize], program: &[ProgramPlace], known: &[Option<Vec<Hold>>]) -> bool
+    ensures { result ≡ keeps_from (rank_in order.now) program.now 0 (map (option_map (λ v. v.items)) known.now) }
+{
+    let mut place = 0usize;
+    for held in known {
+        if !keeps_at(order, act_in(program, place), held) {
+            return false;
+        }
+        place += 1;
+    }
+    true
+}
+
+/// Returns whether an act keeps the order where its party has these holds, if they are known.
+fn keeps_at(order: &[usize], here: Option<Act>, held: &Option<Vec<Hold>>) -> bool
+    ensures { result ≡ keeps_at (rank_in order.now) here (option_map (λ v. v.items) held.now) }
+{
+    match held {
+        None => true,
+        Some(holds) => covers_at(here, held) && keeps_order(order, holds.as_slice(), here),
+    }
+}
+
+/// Returns whether an act keeps the order where its party has these holds.
+fn keeps_order(order: &[usize], holds: &[Hold], here: Option<Act>) -> bool
+    ensures { result ≡ keeps_order (rank_in order.now) holds.now here }
+{
+    match here {
+        Some(Act::Call(call)) => goes_up(order, holds, call.lock, call.step),
+        _ => true,
+    }
+}
+
+/// Returns whether a call keeps the order where its party has these holds.
+fn goes_up(order: &[usize], holds: &[Hold], lock: usize, step: LockStep) -> bool
+    ensures { result ≡ goes_up (rank_in order.now) holds.now lock step }
+{
+    match step {
+        LockStep::Modes(ModeStep::Acquire(_)) => is_above(order, lock, holds),
+        _ => true,
+    }
+}
+
+/// Returns whether a lock is above all locks that are held.
+fn is_above(order: &[usize], lock: usize, holds: &[Hold]) -> bool
+    ensures { result ≡ is_above (rank_in order.now) lock 0 holds.now }
+{
+    let mut held = 0usize;
+    for hold in holds {
+        if !is_below(order, lock, held, *hold) {
+            return false;
+        }
+        held += 1;
+    }
+    true
+}
+
+/// Returns whether a lock with this hold is not held, or is below another one.
+fn is_below(order: &[usize], lock: usize, held: usize, hold: Hold) -> bool
+    ensures { result ≡ is_below (rank_in order.now) lock held hold }
+{
+    is_free(hold) || rank_in(order, held) < rank_in(order, lock)
+}
+
+/// Returns the place of a lock in the order, or 0 if it has none.
+fn rank_in(order: &[usize], lock: usize) -> usize
+    ensures { result ≡ rank_in order.now lock }
+{
+    order.iter().position(|other| *other == lock).unwrap_or(0)
+}

@@ -1,0 +1,121 @@
+//! The look for an order of the locks, or for ranks of the waits.
+ghost use Rattle.std.specs.Prelude.{◌≡◌, map, not, option_map, Ok, IfErr, IfOk, IsTrue};
+ghost use Rattle.lock_plan.specs.Checks.{IsFault, parties_fault};
+ghost use Rattle.lock_plan_order.specs.LockOrders.{AreKnown, IsLockOrder, held_in};
+
+use crate::circle::Ranking;
+use crate::held_waits::{held_waits, sorted};
+use crate::lenient::strict_locks;
+use crate::lock_order::{LockOrder, Obstacle};
+use crate::lock_ranks::is_kept;
+use crate::obstacles::add_obstacles;
+use crate::setting::Setting;
+use crate::wait_ranks::{has_no_circle, waits_of};
+use lock_base::machine::Hold;
+use lock_plan::{PlanFault, PlanLock, ProgramPlace, known_holds};
+use std::alloc::{AllocError, Global};
+
+/// The most waits of which each two are compared, which takes a quarter of a second.
+const MOST_WAITS: usize = 4096;
+
+/// Returns an order of the locks that each of the programs keeps; else [`LockOrder::NoCircle`] if no waits make a circle; else
+/// what is in the way.
+///
+/// Without obstacles, no run of parties with these programs leads into a stop or a circle: with an order for any number of
+/// parties with each program, and else for any number where `many` has `true`, and one of each other.
+///
+/// # Errors
+///
+/// `Call` for the first wrong act, program by program. `OutOfMemory`.
+pub fn find_order(
+    alloc: Global,
+    locks: &[PlanLock],
+    programs: &[Vec<ProgramPlace>],
+    many: &[bool],
+) -> Result<LockOrder, PlanFault>
+    ensures order { IfOk result (IsLockOrder locks.now (map (λ v. v.items) programs.now) many.now) }
+    ensures wrong { IfErr result (IsFault (parties_fault locks.now 0 (map (λ v. v.items) programs.now))) }
+{
+    let known = all_known(alloc, locks, programs)?;
+    let order = order_of(alloc, locks, programs, many, known.as_slice())?;
+    Ok(order)
+}
+
+/// Returns what a party with each of the programs holds at each place.
+fn all_known(
+    alloc: Global,
+    locks: &[PlanLock],
+    programs: &[Vec<ProgramPlace>],
+) -> Result<Vec<Vec<Option<Vec<Hold>>>>, PlanFault>
+    ensures known { IfOk result (λ known.
+        AreKnown locks.now (map (λ v. v.items) programs.now) (map held_in known.items)) }
+    ensures wrong { IfErr result (IsFault (parties_fault locks.now 0 (map (λ v. v.items) programs.now))) }
+{
+    let mut known = Vec::new(alloc);
+    let mut rest = programs;
+    while let Some((program, after)) = rest.split_first() {
+        let held = known_holds(alloc, locks, program.as_slice(), known.len())?;
+        known.push(held)?;
+        rest = after;
+    }
+    Ok(known)
+}
+
+/// Returns an order of the locks, or whether the waits make no circle, or what is in the way.
+///
+/// `known` is what a party with each program holds at each place.
+fn order_of(
+    alloc: Global,
+    locks: &[PlanLock],
+    programs: &[Vec<ProgramPlace>],
+    many: &[bool],
+    known: &[Vec<Option<Vec<Hold>>>],
+) -> Result<LockOrder, AllocError>
+    requires { AreKnown locks.now (map (λ v. v.items) programs.now) (map held_in known.now) }
+    ensures { IfOk result (IsLockOrder locks.now (map (λ v. v.items) programs.now) many.now) }
+{
+    let held = held_waits(alloc, locks, programs, known)?;
+    let order = sorted(alloc, locks.len(), held.as_slice())?;
+    if is_kept(order.as_slice(), locks, programs, known) {
+        return Ok(LockOrder::Kept(order));
+    }
+    by_waits(alloc, locks, programs, many, known)
+}
+
+/// Returns whether the waits make no circle, or what is in the way.
+fn by_waits(
+    alloc: Global,
+    locks: &[PlanLock],
+    programs: &[Vec<ProgramPlace>],
+    many: &[bool],
+    known: &[Vec<Option<Vec<Hold>>>],
+) -> Result<LockOrder, AllocError>
+    requires { AreKnown locks.now (map (λ v. v.items) programs.now) (map held_in known.now) }
+    ensures { IfOk result (IsLockOrder locks.now (map (λ v. v.items) programs.now) many.now) }
+{
+    let strict = strict_locks(alloc, locks, many, known)?;
+    let setting = Setting {
+        locks,
+        strict: strict.as_slice(),
+        many,
+        known,
+    };
+    let waits = waits_of(alloc, programs, known)?;
+    let mut found = Vec::new(alloc);
+    if waits.len() > MOST_WAITS {
+        found.push(Obstacle::TooManyWaits)?;
+    } else {
+        let ranking = Ranking::of(alloc, setting, waits.as_slice())?;
+        if has_no_circle(
+            setting,
+            programs,
+            ranking.ranks.as_slice(),
+            waits.as_slice(),
+        ) {
+            return Ok(LockOrder::NoCircle);
+        }
+        ranking.add_circle(alloc, setting, waits.as_slice(), &mut found)?;
+    }
+    add_obstacles(&mut found, locks, programs, known)?;
+    Ok(LockOrder::Broken(found))
+}
