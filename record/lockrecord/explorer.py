@@ -13,7 +13,7 @@ class Answer(NamedTuple):
 
     @property
     def is_free(self) -> bool:
-        """Whether no interleaving stops. `no order` says nothing of that."""
+        """Whether no interleaving deadlocks. `no order` says nothing of that."""
         return self.text.startswith("no deadlock")
 
     @property

@@ -107,7 +107,10 @@ class Judge:
     def _ask(self, plan: Plan, path: str, by_order: bool = False) -> int:
         with open(path, "w", encoding="utf-8") as file:
             file.write(plan.text)
-        answer = self._options.explorer.ask(path, by_order)
+        explorer = self._options.explorer
+        answer = explorer.ask(path, by_order=True)  # at once, and for any number of threads
+        if not by_order and not answer.is_free:
+            answer = explorer.ask(path, by_order=False)
         for line in tell_answer(path, plan.text, answer):
             address = self._model.names.address(plan.places[line]) if line in plan.places else None
             if address:
