@@ -15,7 +15,7 @@ use lock_base::machine::Hold;
 use lock_plan::{PlanFault, PlanLock, ProgramPlace, known_holds};
 use std::alloc::{AllocError, Global};
 
-/// The most waits of which each two are compared, which takes a quarter of a second.
+/// The most waits of which each two are compared, which takes about a second.
 const MOST_WAITS: usize = 4096;
 
 /// Returns an order of the locks that each of the programs keeps; else [`LockOrder::NoCircle`] if no waits make a circle; else
