@@ -13,17 +13,11 @@ pub mod ranked;
 pub mod raw;
 pub mod ruled;
 
-pub use lock_base::machine::PartyId;
-pub use lock_base::project::{At, Field, Missed, Project, Then, TryProject, TryView, View};
-pub use lock_base::raw::Fault;
-pub use lock_guard::raw::{
-    GuardNoSend, GuardSend, RawCondvar, RawCondvarTimed, RawMutex, RawMutexFair, RawMutexTimed,
-    RawRwLock, RawRwLockDowngrade, RawRwLockFair, RawRwLockTimed, RawRwLockUpgrade,
-    RawRwLockUpgradeDowngrade, RawRwLockUpgradeFair, RawRwLockUpgradeTimed,
-};
+pub use lock_modes::{Fault, PartyId};
 pub use lock_mutex::{
     ArcMutexGuard, Condvar, MappedMutexGuard, Mutex, MutexGuard, WaitTimeoutResult,
 };
+pub use lock_parts::{At, Field, Missed, Project, Then, TryProject, TryView, View};
 pub use lock_remutex::{
     ArcReentrantMutexGuard, MappedReentrantMutexGuard, RawReentrantMutex, ReentrantMutex,
     ReentrantMutexGuard,
@@ -31,6 +25,11 @@ pub use lock_remutex::{
 pub use lock_rwlock::{
     ArcRwLockReadGuard, ArcRwLockUpgradableReadGuard, ArcRwLockWriteGuard, MappedRwLockReadGuard,
     MappedRwLockWriteGuard, RwLock, RwLockReadGuard, RwLockUpgradableReadGuard, RwLockWriteGuard,
+};
+pub use lock_traits::{
+    GuardNoSend, GuardSend, RawCondvar, RawCondvarTimed, RawMutex, RawMutexFair, RawMutexTimed,
+    RawRwLock, RawRwLockDowngrade, RawRwLockFair, RawRwLockTimed, RawRwLockUpgrade,
+    RawRwLockUpgradeDowngrade, RawRwLockUpgradeFair, RawRwLockUpgradeTimed,
 };
 pub use named::{
     FairCondvar, FairMutex, FairReentrantMutex, FairRwLock, RecordingCondvar, RecordingMutex,

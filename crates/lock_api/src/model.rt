@@ -1,11 +1,9 @@
 //! Sequential and stepwise models of the locks: `Desk` and its machine, raw states, the `World` of a packed word, and a
 //! call of a `WordLock` between two of its steps.
 
-pub use lock_base::machine::{
-    Bag, Call, Form, Hold, Kind, LockStep, Mode, ModeStep, Op, Reply, Want, Way,
-};
-pub use lock_base::raw::{ObservableState, RawState};
 pub use lock_desk::Desk;
+pub use lock_machine::{Call, Form, Op, Reply, Want, Way};
+pub use lock_modes::{Bag, Hold, Kind, LockStep, Mode, ModeStep, ObservableState, RawState};
 pub use lock_mutex::{LoopEnd, Script, Waits, run_loop};
 pub use lock_one::{Action, Call as WordCall, Debt, Park, ParkLimits, ParkView, Stage};
 pub use lock_states::table::{Place, Places, TableToken, TokenTable};

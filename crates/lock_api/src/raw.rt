@@ -3,7 +3,7 @@
 mod full_raw_lock;
 
 pub use full_raw_lock::{FullRawLock, FullRawLockTimed, WaiterOf};
-pub use lock_base::raw::{DEFAULT_LEVELS, DEFAULT_READERS, Levels, MAX_LIMIT, is_limit};
+pub use lock_modes::{DEFAULT_LEVELS, DEFAULT_READERS, Levels, MAX_LIMIT, is_limit};
 pub use lock_one_word::{OneRule, OneView, WordLock, WordToken};
 pub use lock_raws::{
     Arbiter, DEFAULT_ENTRIES, ExclusiveToken, LockCore, Monitor, NoTime, RawLock, RealTime,

@@ -1,5 +1,5 @@
 //! Four threads that acquire one mutex again and again.
-use lock_base::raw::Fault;
+use lock_modes::Fault;
 use lock_mutex::Mutex;
 use lock_raws::{LockCore, RawLock};
 use std::alloc::Global;

@@ -1,7 +1,6 @@
 //! Rounds of locks on one thread. Loops that a Rust program has too are not inlined, so that each is compiled by itself.
 use crate::turns::{TakeTurns, TurnAct, Turns, cost_beside};
-use lock_base::machine::PartyId;
-use lock_guard::raw::{RawMutex, RawRwLock, RawRwLockUpgradeDowngrade};
+use lock_modes::PartyId;
 use lock_mutex::Mutex;
 use lock_raws::{
     LockCore, Monitor, NoTime, RawLock, RealTime, RecordingArbiter, TableArbiter, TokenRaw,
@@ -10,6 +9,7 @@ use lock_raws::{
 use lock_raws_fair::FairCore;
 use lock_remutex::ReentrantMutex;
 use lock_rwlock::{RwLock, RwLockUpgradableReadGuard, RwLockWriteGuard};
+use lock_traits::{RawMutex, RawRwLock, RawRwLockUpgradeDowngrade};
 use std::alloc::Global;
 use std::io;
 use std::sync::Wait;

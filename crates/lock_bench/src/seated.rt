@@ -5,7 +5,7 @@ mod word_lock;
 ghost use Rattle.std.specs.Prelude.{◌≡◌};
 
 use crate::locks::{READERS, line};
-use lock_base::machine::Mode;
+use lock_modes::Mode;
 use lock_word::ExWant;
 use lock_word::seated::{Attempt, Party, SeatedLock};
 use std::alloc::Global;

@@ -1,8 +1,8 @@
 //! A count over any raw lock, to which two threads add in turn. One of them may be timed while it waits.
-use lock_base::raw::Fault;
-use lock_guard::raw::RawMutex;
+use lock_modes::Fault;
 use lock_mutex::{Condvar, Mutex};
 use lock_raws::{LockCore, RawLock, SleepingCondvar};
+use lock_traits::RawMutex;
 use std::alloc::Global;
 use std::sync::Wait;
 use std::thread::{self, Threads};

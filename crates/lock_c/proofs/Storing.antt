@@ -2,7 +2,7 @@
 use Rattle.std.proofs.Common.{◌≡◌, ℕ, ◌-◌, ◌^◌, ◌<◌, ◌==◌, nat_lt, ◌||◌, Bool, true, false, not, if◌then◌else◌, List, slice_get, slice_set, Some, IsTrue, inl, inr, refl, sym, ap, subst, ◌∙◌, arith}
 use Rattle.std.specs.Prelude.{⊤}
 use Rattle.std.proofs.lemmas.Bool.{eq-eqb, ne_eqb, lt-ltb, false≢true, cases_eq}
-use Rattle.lock_base.specs.declared.machine.hold.Hold.{Hold}
+use Rattle.lock_modes.specs.declared.hold.Hold.{Hold}
 use Rattle.lock_word.specs.declared.want.ExWant.TheVariants as want
 use Rattle.lock_word.specs.declared.down.Down.{Down}
 use Rattle.lock_word.specs.declared.down.Down.TheVariants as down

@@ -4,7 +4,7 @@ use Rattle.std.specs.Prelude.{All, IfSome, Option, None, Some, is_some}
 use Rattle.std.specs.List.{slice_get}
 use Rattle.std.proofs.lemmas.List.{take_more, take_all, map-append, length_push}
 use Rattle.std.proofs.lemmas.Option.{slice_get_within, get_or_from_slice_get}
-use Rattle.lock_base.specs.declared.machine.reply.Reply.{Reply}
+use Rattle.lock_machine.specs.declared.reply.Reply.{Reply}
 use Rattle.lock_conform.specs.declared.comparison.Comparison.{Comparison}
 use Rattle.lock_conform.specs.declared.difference.Difference.{Difference}
 use Rattle.lock_conform.specs.declared.report_entry.ReportEntry.{ReportEntry}

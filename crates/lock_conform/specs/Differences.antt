@@ -1,8 +1,8 @@
 -- A line on which a lock differs from the `Desk`.
 use Rattle.std.specs.Prelude.{◌≡◌, ◌≢◌, ℕ, ℤ, ◌+◌, List, Some}
 use Rattle.std.specs.List.{slice_get}
-use Rattle.lock_base.specs.declared.machine.call.Call.{Call}
-use Rattle.lock_base.specs.declared.machine.reply.Reply.{Reply}
+use Rattle.lock_machine.specs.declared.call.Call.{Call}
+use Rattle.lock_machine.specs.declared.reply.Reply.{Reply}
 use Rattle.lock_script.specs.declared.pair.PairOp.{PairOp}
 use Rattle.lock_conform.specs.declared.difference.Difference.{Difference}
 

@@ -1,6 +1,6 @@
 -- The entries of a report.
 use Rattle.std.specs.Prelude.{◌≡◌, ℤ, List, [], map}
-use Rattle.lock_base.specs.declared.machine.reply.Reply.{Reply}
+use Rattle.lock_machine.specs.declared.reply.Reply.{Reply}
 use Rattle.lock_conform.specs.declared.report_entry.ReportEntry.{ReportEntry}
 use Rattle.lock_conform.specs.Refusals.{IsOutright}
 

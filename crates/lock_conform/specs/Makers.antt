@@ -1,9 +1,9 @@
 -- The kinds of the makers of scripts.
 use Rattle.std.specs.Prelude.{◌≡◌, ◌⊎◌}
-use Rattle.lock_base.specs.declared.machine.kind.Kind.{Kind}
-use Rattle.lock_base.specs.declared.raw.fault.Fault.{Fault}
-use Rattle.lock_base.specs.declared.raw.fault.Fault.TheVariants.{WrongKind}
-use Rattle.lock_base.specs.Limits.{IsMakerFault}
+use Rattle.lock_modes.specs.declared.kind.Kind.{Kind}
+use Rattle.lock_modes.specs.declared.fault.Fault.{Fault}
+use Rattle.lock_modes.specs.declared.fault.Fault.TheVariants.{WrongKind}
+use Rattle.lock_modes.specs.Limits.{IsMakerFault}
 use Rattle.lock_script.specs.declared.maker.Maker.{Maker}
 
 -- the kind of the lock that is made

@@ -1,7 +1,7 @@
 -- What a report says of a script.
 use Rattle.std.specs.Prelude.{◌≡◌, ℤ, List, length, take, All, None, IfSome}
-use Rattle.lock_base.specs.declared.machine.call.Call.{Call}
-use Rattle.lock_base.specs.declared.machine.reply.Reply.{Reply}
+use Rattle.lock_machine.specs.declared.call.Call.{Call}
+use Rattle.lock_machine.specs.declared.reply.Reply.{Reply}
 use Rattle.lock_script.specs.declared.pair.PairOp.{PairOp}
 use Rattle.lock_conform.specs.declared.report.Report.{Report}
 use Rattle.lock_conform.specs.Differences.{IsAt}

@@ -1,7 +1,7 @@
 -- Reports as text.
 use Rattle.std.specs.Prelude.{ℕ, Bool, List, [], ◌∷◌, ◌++◌, codes, if◌then◌else◌}
 use Rattle.std.specs.List.{flat_map}
-use Rattle.lock_base.specs.declared.machine.reply.Reply.{Reply}
+use Rattle.lock_machine.specs.declared.reply.Reply.{Reply}
 use Rattle.lock_script.specs.declared.answer.Answer.{Answer}
 use Rattle.lock_script.specs.Answers.{answer_line}
 use Rattle.lock_conform.specs.declared.report_entry.ReportEntry.{ReportEntry}

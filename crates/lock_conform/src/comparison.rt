@@ -8,7 +8,7 @@ use crate::lines::Lines;
 use crate::report::Report;
 use crate::report_entry::ReportEntry;
 use crate::script_call::ScriptCall;
-use lock_base::machine::Reply;
+use lock_machine::Reply;
 use lock_test_support::raw_lock::CallLog;
 use std::alloc::{AllocError, Global};
 

@@ -1,5 +1,5 @@
 //! An answer that is not the `Desk`'s.
-use lock_base::machine::{Call, Reply};
+use lock_machine::{Call, Reply};
 use lock_script::PairOp;
 
 /// The answer of a lock to a line of a script, where the `Desk` replies otherwise.

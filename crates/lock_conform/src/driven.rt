@@ -1,6 +1,6 @@
 //! A lock that a script's calls are made on, and its guards.
-use lock_base::machine::{Call, Form, PartyId, Reply, Want, Way};
-use lock_base::raw::Fault;
+use lock_machine::{Call, Form, Reply, Want, Way};
+use lock_modes::{Fault, PartyId};
 use lock_script::PairOp;
 
 /// What is there after a call: the guard, unless the call released it, and the answer.

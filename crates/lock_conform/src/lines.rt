@@ -2,9 +2,9 @@
 ghost use Rattle.std.specs.Prelude.{◌≡◌, length};
 
 use crate::script_call::ScriptCall;
-use lock_base::machine::{Call, Reply};
-use lock_base::raw::Fault;
 use lock_desk::Desk;
+use lock_machine::{Call, Reply};
+use lock_modes::Fault;
 use lock_script::{DeskScript, Pair, PairOp, ParsedScript, make_desk};
 use lock_states::word::PackedWord;
 use std::alloc::Global;
@@ -20,7 +20,7 @@ pub struct Lines {
 impl Lines {
     ghost use Rattle.std.specs.Prelude.{◌≡◌, ◌<◌, ◌↔◌, IfOk, IfErr, length};
     ghost use Rattle.std.specs.List.{slice_get};
-    ghost use Rattle.lock_base.specs.Limits.{IsMakerFault};
+    ghost use Rattle.lock_modes.specs.Limits.{IsMakerFault};
     ghost use Rattle.lock_script.specs.Session.{HasLimits, replies_to};
 
     /// Runs the script on a `Desk`.

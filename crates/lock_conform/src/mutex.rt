@@ -10,13 +10,13 @@ use crate::operation::{ask, change};
 use crate::parts::{RunParts, run_parts, shared};
 use crate::report::Report;
 use crate::script_run::run_on;
-use lock_base::machine::{Call, Form, Kind, PartyId, Reply, Want, Way};
-use lock_base::raw::Fault;
 use lock_guard::guard::{AcquireFair, ValueGuard};
-use lock_guard::raw::{RawMutexFair, RawMutexTimed};
+use lock_machine::{Call, Form, Reply, Want, Way};
+use lock_modes::{Fault, Kind, PartyId};
 use lock_mutex::{ArcMutexGuard, Guard, Mutex, MutexGuard};
 use lock_script::{DeskScript, Pair, PairOp};
 use lock_test_support::raw_lock::Deadline;
+use lock_traits::{RawMutexFair, RawMutexTimed};
 use std::alloc::Global;
 use std::sync::Arc;
 

@@ -2,8 +2,8 @@
 ghost use Rattle.std.specs.Prelude.{◌≡◌, if◌then◌else◌};
 ghost use Rattle.lock_script.specs.Pair.{meaning};
 
-use lock_base::machine::{Op, Reply};
-use lock_base::raw::Fault;
+use lock_machine::{Op, Reply};
+use lock_modes::Fault;
 use lock_script::{Pair, PairOp};
 
 /// Asks the operation of the pair. The reply is `NoFocus` if it does not fit.

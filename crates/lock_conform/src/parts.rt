@@ -4,8 +4,7 @@ ghost use Rattle.lock_script.specs.Session.{HasLimits, replies_to};
 ghost use Rattle.lock_conform.specs.Makers.{IsRunFault, kind_of};
 
 use crate::lines::Lines;
-use lock_base::machine::Kind;
-use lock_base::raw::Fault;
+use lock_modes::{Fault, Kind};
 use lock_script::{DeskScript, Maker, Pair};
 use lock_test_support::raw_lock::{CallLog, Recorder};
 use std::alloc::Global;

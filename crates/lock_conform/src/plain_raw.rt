@@ -1,6 +1,6 @@
 //! A raw mutex that has no fair release and no timed try.
-use lock_base::raw::Fault;
-use lock_guard::raw::{RawMutex, RawMutexFair, RawMutexTimed};
+use lock_modes::Fault;
+use lock_traits::{RawMutex, RawMutexFair, RawMutexTimed};
 use std::alloc::Global;
 
 /// Gives a raw mutex the traits that the kit asks for: a fair release is a plain release, and a timed try is a plain try.

@@ -2,7 +2,7 @@
 ghost use Rattle.std.specs.Prelude.{◌≡◌, []};
 ghost use Rattle.lock_conform.specs.Refusals.{IsOutright};
 
-use lock_base::machine::Reply;
+use lock_machine::Reply;
 use lock_test_support::raw_lock::RawCall;
 
 /// The answer to a line of a script, and the raw calls that the line made. A call that the `Desk` refuses makes none,

@@ -5,7 +5,7 @@ ghost use Rattle.lock_conform.specs.Texts.{entry_text, raw_call_lines, report_te
 
 use crate::report::Report;
 use crate::report_entry::ReportEntry;
-use lock_base::machine::Reply;
+use lock_machine::Reply;
 use lock_script::{Answer, write_answer};
 use lock_test_support::raw_lock::RawCall;
 use std::alloc::{AllocError, Global};

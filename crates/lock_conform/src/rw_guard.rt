@@ -1,7 +1,7 @@
 //! A guard of a reader-writer lock in any mode.
 use crate::driven::{After, ScriptGuard};
-use lock_base::machine::{Call, Form, Reply, Want, Way};
-use lock_base::raw::Fault;
+use lock_machine::{Call, Form, Reply, Want, Way};
+use lock_modes::Fault;
 use lock_script::PairOp;
 
 /// A reader-writer lock over a pair, with a type of guards for each mode.

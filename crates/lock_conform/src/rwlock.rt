@@ -11,18 +11,18 @@ use crate::parts::{RunParts, run_parts, shared};
 use crate::report::Report;
 use crate::rw_guard::{AnyGuard, RwDriven, acquire_in, change_in_mode};
 use crate::script_run::run_on;
-use lock_base::machine::{Call, Form, Kind, PartyId, Reply, Want, Way};
-use lock_base::raw::Fault;
 use lock_guard::guard::{AcquireFair, ValueGuard};
-use lock_guard::raw::{
-    RawRwLock, RawRwLockUpgradeDowngrade, RawRwLockUpgradeFair, RawRwLockUpgradeTimed,
-};
+use lock_machine::{Call, Form, Reply, Want, Way};
+use lock_modes::{Fault, Kind, PartyId};
 use lock_rwlock::{
     ArcRwLockGuard, ArcRwLockReadGuard, ArcRwLockUpgradableReadGuard, ArcRwLockWriteGuard,
     FairMode, RwLock, RwLockGuard, RwLockReadGuard, RwLockUpgradableReadGuard, RwLockWriteGuard,
 };
 use lock_script::{DeskScript, Pair, PairOp};
 use lock_test_support::raw_lock::Deadline;
+use lock_traits::{
+    RawRwLock, RawRwLockUpgradeDowngrade, RawRwLockUpgradeFair, RawRwLockUpgradeTimed,
+};
 use std::alloc::Global;
 use std::sync::Arc;
 

@@ -1,6 +1,6 @@
 //! A line of a script.
-use lock_base::machine::{Call, Form, Reply};
-use lock_base::raw::Fault;
+use lock_machine::{Call, Form, Reply};
+use lock_modes::Fault;
 use lock_script::PairOp;
 
 /// A line of a script: a call, and the reply of the `Desk`.

@@ -1,5 +1,5 @@
 //! The guards of a script by their numbers.
-use lock_base::machine::Want;
+use lock_machine::Want;
 use std::alloc::{AllocError, Global};
 use std::mem;
 

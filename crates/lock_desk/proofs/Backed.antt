@@ -4,22 +4,22 @@ use Rattle.std.specs.Prelude.{IsTrue, ◌&&◌, is_none}
 use Rattle.std.specs.Bool.{OnTrue, OnFalse}
 use Rattle.std.proofs.lemmas.Bool.{ne_eqb, eqb-true}
 use Rattle.lock_slots.specs.Items as items
-use Rattle.lock_base.specs.declared.machine.kind.Kind.{Kind}
-use Rattle.lock_base.specs.declared.machine.mode.Mode.{Mode}
-use Rattle.lock_base.specs.declared.machine.mode.Mode.TheVariants.{Exclusive}
-use Rattle.lock_base.specs.Levels.{Owner, level_of, free_levels}
-use Rattle.lock_base.specs.Kind.{is_reentrant}
-use Rattle.lock_base.specs.Party.{id_of}
-use Rattle.lock_base.specs.Modes.{AreCompatible, empty_bag, bag_of, one_more, is_move, admits, may_become}
-use Rattle.lock_base.specs.Entries.{Entry, parked_entry, held_bag, in_mode, modes_of_entries, all_of_party, some_of_party}
-use Rattle.lock_base.specs.Register.{admits_ignoring_bar, is_full_count, tokens_of, token_limit, moves_token, bumps_token, with_change}
-use Rattle.lock_base.specs.Legal.{AreLegallyHeld}
-use Rattle.lock_base.specs.Tokens.{count, SameBag, bag_of_tokens, modes_of, IsOut, Removes, Adds}
-use Rattle.lock_base.proofs.TokenBags.{count-append, same_length, same_as_none, bag_of_same}
-use Rattle.lock_base.proofs.ModeLemmas.{compatible_empty, compatible_acquired, compatible_released, compatible_changed}
-use Rattle.lock_base.proofs.Splices.{splice}
-use Rattle.lock_base.proofs.HeldEntries.{more_than_parked}
-use Rattle.lock_base.proofs.Admissions.{fits_in_again}
+use Rattle.lock_modes.specs.declared.kind.Kind.{Kind}
+use Rattle.lock_modes.specs.declared.mode.Mode.{Mode}
+use Rattle.lock_modes.specs.declared.mode.Mode.TheVariants.{Exclusive}
+use Rattle.lock_modes.specs.Levels.{Owner, level_of, free_levels}
+use Rattle.lock_modes.specs.Kind.{is_reentrant}
+use Rattle.lock_modes.specs.Party.{id_of}
+use Rattle.lock_modes.specs.Modes.{AreCompatible, empty_bag, bag_of, one_more, is_move, admits, may_become}
+use Rattle.lock_machine.specs.Entries.{Entry, parked_entry, held_bag, in_mode, modes_of_entries, all_of_party, some_of_party}
+use Rattle.lock_machine.specs.Register.{admits_ignoring_bar, is_full_count, tokens_of, token_limit, moves_token, bumps_token, with_change}
+use Rattle.lock_machine.specs.Legal.{AreLegallyHeld}
+use Rattle.lock_modes.specs.Tokens.{count, SameBag, bag_of_tokens, modes_of, IsOut, Removes, Adds}
+use Rattle.lock_modes.proofs.TokenBags.{count-append, same_length, same_as_none, bag_of_same}
+use Rattle.lock_modes.proofs.ModeLemmas.{compatible_empty, compatible_acquired, compatible_released, compatible_changed}
+use Rattle.lock_machine.proofs.Splices.{splice}
+use Rattle.lock_machine.proofs.HeldEntries.{more_than_parked}
+use Rattle.lock_machine.proofs.Admissions.{fits_in_again}
 use Rattle.lock_desk.specs.declared.slot.GuardHold.{GuardHold}
 use Rattle.lock_desk.specs.declared.slot.GuardHold.TheVariants.{Parked, Token, Level}
 use Rattle.lock_desk.specs.declared.slot.GuardSlot.{GuardSlot}

@@ -5,9 +5,9 @@ use Rattle.std.specs.Option.{option_map_or}
 use Rattle.std.specs.Result.{result_unwrap_or}
 use Rattle.std.proofs.lemmas.Bool.{eq-eqb, ne_eqb, eqb-true, eqb-false, lt-ltb, and_parts, and_right, not_from_true}
 use Rattle.std.proofs.lemmas.List.{nil_from_length}
-use Rattle.lock_base.specs.declared.raw.fault.Fault.{Fault}
-use Rattle.lock_base.specs.Entries.{Entry, all_of_party, some_of_party}
-use Rattle.lock_base.specs.Levels.{Levels, Owner, IsLawful, GainsLevel, level_of}
+use Rattle.lock_modes.specs.declared.fault.Fault.{Fault}
+use Rattle.lock_machine.specs.Entries.{Entry, all_of_party, some_of_party}
+use Rattle.lock_modes.specs.Levels.{Levels, Owner, IsLawful, GainsLevel, level_of}
 use Rattle.lock_desk.specs.Owners.{OwnsLevels, may_add_level, HasAddedLevel, one_level_less}
 
 -- entries that all belong to one party all belong to another if the two are one

@@ -1,9 +1,9 @@
 -- The owner of a reentrant lock, as the held guards show it.
 use Rattle.std.specs.Prelude.{◌≡◌, ℕ, ◌+◌, ◌-◌, ◌<◌, Bool, true, ◌==◌, ◌&&◌, nat_lt, if◌then◌else◌, List, [], ◌∷◌, length, Option, Some, None}
-use Rattle.lock_base.specs.declared.machine.mode.Mode.{Mode}
-use Rattle.lock_base.specs.declared.machine.mode.Mode.TheVariants.{Exclusive}
-use Rattle.lock_base.specs.Entries.{Entry, all_of_party}
-use Rattle.lock_base.specs.Levels.{Owner}
+use Rattle.lock_modes.specs.declared.mode.Mode.{Mode}
+use Rattle.lock_modes.specs.declared.mode.Mode.TheVariants.{Exclusive}
+use Rattle.lock_machine.specs.Entries.{Entry, all_of_party}
+use Rattle.lock_modes.specs.Levels.{Owner}
 
 module _ {K : Type 0} where
   -- the owner has a level for each of these entries, which all belong to it

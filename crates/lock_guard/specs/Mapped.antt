@@ -1,6 +1,6 @@
 -- The part that a mapped guard shows.
 use Rattle.std.specs.Prelude.{◌≡◌, Option, None, IsSome, Result, MatchResult}
-use Rattle.lock_base.specs.Lens.{Lens}
+use Rattle.lock_parts.specs.Lens.{Lens}
 use Rattle.lock_guard.specs.GuardPart.{guard_part, guard_with_part}
 use Rattle.lock_guard.specs.declared.guard.mapped.Mapped.{Mapped}
 

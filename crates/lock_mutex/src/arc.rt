@@ -5,9 +5,9 @@ ghost use Rattle.lock_mutex.specs.ArcMutexGuard.{tried_arc_token, IsArcGuardOf};
 ghost use Rattle.lock_mutex.specs.Mutex.{raw_of};
 
 use crate::{ArcGuard, ArcMutexGuard, Mutex};
-use lock_base::raw::Fault;
 use lock_guard::guard::another_owner;
-use lock_guard::raw::{RawMutex, RawMutexTimed};
+use lock_modes::Fault;
+use lock_traits::{RawMutex, RawMutexTimed};
 use std::sync::Arc;
 
 impl<R: RawMutex + Drop, T: Drop> Mutex<R, T> {

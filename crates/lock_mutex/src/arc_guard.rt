@@ -8,7 +8,7 @@ ghost use Rattle.lock_mutex.specs.ArcMutexGuard.{arc_of, tried_arc_token};
 use crate::Mutex;
 use crate::owned::OwnedMutex;
 use lock_guard::guard::{Acquire, AcquireFair, Held, Release};
-use lock_guard::raw::{RawMutex, RawMutexFair};
+use lock_traits::{RawMutex, RawMutexFair};
 use std::sync::Arc;
 
 /// A guard that owns a reference to its mutex, so it may outlive every borrow of it. It releases the mutex on drop.

@@ -1,7 +1,7 @@
 //! A borrowed mutex.
 use crate::Mutex;
 use lock_guard::guard::{Acquire, AcquireFair, Release};
-use lock_guard::raw::{RawMutex, RawMutexFair};
+use lock_traits::{RawMutex, RawMutexFair};
 use std::sync;
 
 /// A reference to a mutex, as its guard sees it.

@@ -9,7 +9,7 @@ use crate::borrowed::BorrowedMutex;
 use lock_guard::guard::{
     Acquire, AcquireFair, Held, LockGuard, LockGuardMut, ValueGuard, ValueGuardMut,
 };
-use lock_guard::raw::RawMutex;
+use lock_traits::RawMutex;
 use std::fmt;
 use std::fmt::{Debug, Display, Formatter};
 use std::ops::{Deref, DerefMut};

@@ -7,8 +7,8 @@ ghost use Rattle.lock_mutex.specs.MutexGuard.{held_of};
 
 use crate::Guard;
 use crate::borrowed::BorrowedMutex;
-use lock_base::project::{TryView, View};
 use lock_guard::guard::{Acquire, Held, Mapped, ValueGuard};
+use lock_parts::{TryView, View};
 
 /// A guard of a part of the value of a mutex. It releases the mutex on drop.
 pub type MappedMutexGuard<'a, R, T, P> = Mapped<Held<BorrowedMutex<'a, R, T>>, P>;

@@ -6,10 +6,10 @@ ghost use Rattle.lock_mutex.specs.MutexGuard.{tried_token, IsGuardOf};
 
 use crate::borrowed::BorrowedMutex;
 use crate::{Guard, MutexGuard};
-use lock_base::raw::Fault;
 use lock_guard::guard::{Locked, fmt_lock};
-use lock_guard::raw::{RawMutex, RawMutexTimed};
-use lock_guard::{held, lock_std};
+use lock_guard::held;
+use lock_modes::Fault;
+use lock_traits::{RawMutex, RawMutexTimed, lock_std};
 use std::alloc::Global;
 use std::fmt::{Debug, Formatter};
 use std::{fmt, sync};

@@ -3,7 +3,7 @@ ghost use Rattle.std.specs.Arc.{arc_value};
 
 use crate::Mutex;
 use lock_guard::guard::{Acquire, AcquireFair, Release};
-use lock_guard::raw::{RawMutex, RawMutexFair};
+use lock_traits::{RawMutex, RawMutexFair};
 use std::sync::Arc;
 
 /// One `Arc` of a mutex, as its guard sees it.

@@ -4,7 +4,7 @@ ghost use Rattle.lock_mutex.specs.Condvar.{HasWaited};
 
 use crate::borrowed::BorrowedMutex;
 use lock_guard::guard::{Acquire, Held};
-use lock_guard::raw::{RawCondvar, RawCondvarTimed, RawMutex, RawMutexTimed};
+use lock_traits::{RawCondvar, RawCondvarTimed, RawMutex, RawMutexTimed};
 
 /// A wait with a held lock.
 pub trait Sleep<L: Acquire>: Drop {

@@ -1,7 +1,7 @@
 -- What the next action tells of a call.
 use Rattle.std.proofs.Common.{◌≡◌, ◌^◌, Bool, true, false, ◌||◌, nat_lt, if◌then◌else◌, IsTrue, refl, sym, ap, subst, ◌∙◌}
 use Rattle.std.proofs.lemmas.Bool.{true≢false}
-use Rattle.lock_base.specs.Holds.{hold_has}
+use Rattle.lock_modes.specs.Holds.{hold_has}
 use Rattle.lock_word.specs.declared.down.Down.{Down}
 use Rattle.lock_word.specs.Word.{step_of_down}
 use Rattle.lock_one.specs.declared.action.Action.{Action}

@@ -1,9 +1,9 @@
 -- The calls that begin, the steps on the word and the parks keep it.
 use Rattle.std.proofs.Common.{◌≡◌, ℕ, not, Bool, true, false, ◌&&◌, ◌||◌, ◌==◌, ◌^◌, nat_lt, if◌then◌else◌, inl, inr, slice_get, slice_set, Option, Some, None, IsTrue, refl, sym, ap, subst, ◌∙◌, eqb-true}
 use Rattle.std.proofs.lemmas.Bool.{false≢true, and_parts}
-use Rattle.lock_base.specs.declared.machine.hold.Hold.{Hold}
-use Rattle.lock_base.specs.Limits.{IsLimit}
-use Rattle.lock_base.specs.Holds.{hold_has, hold_after}
+use Rattle.lock_modes.specs.declared.hold.Hold.{Hold}
+use Rattle.lock_modes.specs.Limits.{IsLimit}
+use Rattle.lock_modes.specs.Holds.{hold_has, hold_after}
 use Rattle.lock_word.specs.declared.want.ExWant.{ExWant}
 use Rattle.lock_word.specs.declared.want.ExWant.TheVariants as want
 use Rattle.lock_word.specs.declared.down.Down.{Down}

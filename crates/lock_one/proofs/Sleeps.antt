@@ -2,7 +2,7 @@
 use Rattle.std.proofs.Common.{◌≡◌, ◌≢◌, ℕ, not, ◌^◌, Bool, true, false, ◌&&◌, inl, inr, List, map, slice_get, slice_set, Some, IsTrue, refl, sym, ap, subst, ◌∙◌, lt-ltb}
 use Rattle.std.proofs.lemmas.Bool.{false≢true, true≢false, cases_lt, or_cases}
 use Rattle.std.proofs.lemmas.Option.{same_Some}
-use Rattle.lock_base.specs.Limits.{IsLimit}
+use Rattle.lock_modes.specs.Limits.{IsLimit}
 use Rattle.lock_word.specs.Word.{word_admits}
 use Rattle.lock_word.proofs.Lists.{placed, other_stays}
 use Rattle.lock_one.specs.declared.action.Action.{Action}

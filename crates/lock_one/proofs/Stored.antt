@@ -1,13 +1,13 @@
 -- A word is stored as one number.
 use Rattle.std.proofs.Common.{◌≡◌, ℕ, ◌+◌, ◌-◌, ◌%◌, ◌^◌, ◌<◌, ◌≤◌, List, slice_get, Some, IsTrue, inl, inr, ap, ◌∙◌, ltb-true, arith}
 use Rattle.std.proofs.lemmas.Nat.{mod-mul-add}
-use Rattle.lock_base.specs.Limits.{IsLimit}
-use Rattle.lock_base.specs.declared.machine.hold.Hold.{Hold}
-use Rattle.lock_base.specs.Holds.{hold_has}
+use Rattle.lock_modes.specs.Limits.{IsLimit}
+use Rattle.lock_modes.specs.declared.hold.Hold.{Hold}
+use Rattle.lock_modes.specs.Holds.{hold_has}
 use Rattle.lock_word.specs.declared.down.Down.{Down}
 use Rattle.lock_word.specs.declared.down.Down.TheVariants as down
 use Rattle.lock_word.specs.Rule.{WordShows}
-use Rattle.lock_base.specs.Modes.{readers}
+use Rattle.lock_modes.specs.Modes.{readers}
 use Rattle.lock_word.specs.BarredBags.{BarredBag, IsLegalBarredBag}
 use Rattle.lock_word.specs.Holders.{all_of}
 use Rattle.lock_word.specs.Word.{readers_of_word, amount, step_of_down}

@@ -1,8 +1,8 @@
 -- What the steps of a call mean: whatever all other calls do, each step keeps the rule by which no sleeper is forgotten.
 use Rattle.std.specs.Prelude.{◌≡◌, ℕ, ◌+◌, ◌-◌, ◌^◌, ◌<◌, Bool, true, false, not, ◌&&◌, ◌==◌, if◌then◌else◌, ◌⊎◌, List, [], ◌∷◌, ◌≤◌, map, slice_get, slice_set, Some, ⊤, IsTrue}
-use Rattle.lock_base.specs.Limits.{IsLimit}
-use Rattle.lock_base.specs.declared.machine.hold.Hold.{Hold}
-use Rattle.lock_base.specs.Holds.{hold_has, hold_after}
+use Rattle.lock_modes.specs.Limits.{IsLimit}
+use Rattle.lock_modes.specs.declared.hold.Hold.{Hold}
+use Rattle.lock_modes.specs.Holds.{hold_has, hold_after}
 use Rattle.lock_word.specs.Word.{word_admits, amount, step_of_want, step_of_down}
 use Rattle.lock_word.specs.declared.want.ExWant.{ExWant}
 use Rattle.lock_word.specs.Unblocking.{is_awaited}

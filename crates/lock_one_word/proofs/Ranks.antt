@@ -1,7 +1,7 @@
 -- Each action of a release lowers its rank.
 use Rattle.std.proofs.Common.{◌≡◌, ℕ, ◌+◌, ◌-◌, ◌<◌, Bool, true, false, ◌==◌, nat_lt, if◌then◌else◌, refl, sym, ap, subst, ◌∙◌, arith, ltb-true}
 use Rattle.std.proofs.lemmas.Bool.{false≢true, true≢false}
-use Rattle.lock_base.specs.declared.machine.hold.Hold.{Hold}
+use Rattle.lock_modes.specs.declared.hold.Hold.{Hold}
 use Rattle.lock_word.specs.declared.down.Down.{Down}
 use Rattle.lock_one.specs.declared.action.Action.{Action}
 use Rattle.lock_one.specs.declared.action.Action.TheVariants as action

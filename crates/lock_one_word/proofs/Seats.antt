@@ -7,11 +7,11 @@ use lib.ListN.{get_elem?}
 use prog.Atomic.{either}
 use Rattle.atomic_table.specs.Table.{Act, step, keeps, stepped, carried_after, Valid, Allows, Enters}
 use Rattle.atomic_table.proofs.Lists.{at_set, at_snoc, at_last, exchanged}
-use Rattle.lock_base.specs.declared.machine.hold.Hold.{Hold}
+use Rattle.lock_modes.specs.declared.hold.Hold.{Hold}
 use Rattle.lock_word.specs.declared.down.Down.{Down}
 use Rattle.lock_word.specs.declared.down.Down.TheVariants as down
 use Rattle.lock_word.specs.Rule.{WordShows}
-use Rattle.lock_base.specs.Holds.{hold_has}
+use Rattle.lock_modes.specs.Holds.{hold_has}
 use Rattle.lock_word.specs.Word.{amount, step_of_down}
 use Rattle.lock_word.proofs.Rules.{shows}
 use Rattle.lock_one.specs.declared.action.Action.{Action}

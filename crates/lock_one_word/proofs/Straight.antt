@@ -1,8 +1,8 @@
 -- The straight path makes the first steps of the machine.
 use Rattle.std.proofs.Common.{◌≡◌, ℕ, true, false, IsTrue, refl, sym, ap, subst, ◌∙◌}
 use Rattle.std.proofs.lemmas.Bool.{true≢false}
-use Rattle.lock_base.specs.declared.machine.hold.Hold.{Hold}
-use Rattle.lock_base.specs.Holds.{hold_has, hold_after}
+use Rattle.lock_modes.specs.declared.hold.Hold.{Hold}
+use Rattle.lock_modes.specs.Holds.{hold_has, hold_after}
 use Rattle.lock_word.specs.declared.want.ExWant.{ExWant}
 use Rattle.lock_word.specs.declared.down.Down.{Down}
 use Rattle.lock_word.specs.Word.{step_of_down}

@@ -1,8 +1,8 @@
 -- One exchange acquires a token of each mode, and one take releases it.
 use Rattle.std.proofs.Common.{◌≡◌, IsTrue, refl}
-use Rattle.lock_base.specs.declared.machine.mode.Mode.{Mode}
-use Rattle.lock_base.specs.declared.machine.mode.Mode.TheVariants.{Shared, Exclusive, Upgradable}
-use Rattle.lock_base.specs.Holds.{no_hold, hold_has, hold_after}
+use Rattle.lock_modes.specs.declared.mode.Mode.{Mode}
+use Rattle.lock_modes.specs.declared.mode.Mode.TheVariants.{Shared, Exclusive, Upgradable}
+use Rattle.lock_modes.specs.Holds.{no_hold, hold_has, hold_after}
 use Rattle.lock_word.specs.Word.{step_of_want, step_of_down, want_of_mode, down_of_mode}
 use Rattle.lock_word.specs.Unblocking.{is_awaited}
 use Rattle.lock_one_word.specs.Calls.{one_hold}

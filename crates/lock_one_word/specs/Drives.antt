@@ -1,7 +1,7 @@
 -- What a driver knows of a call between two of its actions.
 use Rattle.std.specs.Prelude.{◌≡◌, ℕ, ◌+◌, ◌-◌, ◌<◌, Bool, true, false, if◌then◌else◌, ◌⊎◌, IsTrue, Option, Some, None, Result, MatchResult}
-use Rattle.lock_base.specs.declared.machine.hold.Hold.{Hold}
-use Rattle.lock_base.specs.Holds.{hold_after}
+use Rattle.lock_modes.specs.declared.hold.Hold.{Hold}
+use Rattle.lock_modes.specs.Holds.{hold_after}
 use Rattle.lock_word.specs.declared.want.ExWant.{ExWant}
 use Rattle.lock_word.specs.Unblocking.{is_awaited}
 use Rattle.lock_word.specs.declared.down.Down.{Down}

@@ -1,6 +1,6 @@
 -- What the rule of the word means.
 use Rattle.std.specs.Prelude.{◌≡◌, ℕ}
-use Rattle.lock_base.specs.Limits.{IsLimit}
+use Rattle.lock_modes.specs.Limits.{IsLimit}
 use Rattle.lock_word.specs.BarredBags.{IsLegalBarredBag}
 use Rattle.lock_word.specs.Holders.{all_of}
 use Rattle.lock_word.specs.Word.{word_of}

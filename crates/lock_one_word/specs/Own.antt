@@ -1,8 +1,8 @@
 -- Whether a token holds a mode of a lock, as a `Bool`, which a guard can keep.
 use Rattle.std.specs.Prelude.{ℕ, Bool, true, false, not, ◌&&◌, eqb, List, [], ◌∷◌}
 use Rattle.atomic_table.specs.Seated.{TableId}
-use Rattle.lock_base.specs.declared.machine.mode.Mode.{Mode}
-use Rattle.lock_base.specs.declared.machine.bag.Bag.{Bag}
+use Rattle.lock_modes.specs.declared.mode.Mode.{Mode}
+use Rattle.lock_modes.specs.declared.bag.Bag.{Bag}
 use Rattle.lock_one_word.specs.Calls.{WordLockView, TokenView, one_hold}
 
 abbrev pub same_flag : Bool → Bool → Bool

@@ -5,7 +5,7 @@ ghost use Rattle.lock_one_word.specs.Calls.{IsTokenOf, WasTried, HasTimedOut};
 
 use crate::until::{Deadline, Endless, Until};
 use crate::word_lock::{WordLock, WordToken};
-use lock_base::machine::Mode;
+use lock_modes::Mode;
 use lock_word::ExWant;
 use std::sync::Wait;
 use std::time::{Clock, Instant};

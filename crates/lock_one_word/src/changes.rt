@@ -1,6 +1,6 @@
 //! The calls that release a token or change its mode.
 ghost use Rattle.std.specs.Prelude.{◌≡◌, MatchResult, OnErr, is_ok};
-ghost use Rattle.lock_base.specs.declared.machine.mode.Mode.TheVariants.{Shared, Exclusive, Upgradable};
+ghost use Rattle.lock_modes.specs.declared.mode.Mode.TheVariants.{Shared, Exclusive, Upgradable};
 ghost use Rattle.lock_one.specs.Machine.{core_of};
 ghost use Rattle.lock_word.specs.declared.want.ExWant.TheVariants.{Upgrade};
 ghost use Rattle.lock_word.specs.Rule.{WordShows};
@@ -8,7 +8,7 @@ ghost use Rattle.lock_one_word.specs.Calls.{IsTokenOf, WasTried, HasTimedOut};
 
 use crate::until::{Deadline, Endless, Until};
 use crate::word_lock::{WordLock, WordToken};
-use lock_base::machine::Mode;
+use lock_modes::Mode;
 use lock_one::SLEEPERS;
 use lock_word::Down;
 use std::sync::Wait;

@@ -1,6 +1,6 @@
 //! The driver of a call: it makes the actions that the machine asks for.
 ghost use Rattle.std.specs.Prelude.{◌≡◌, true, false, None, IfSome, IfErr, is_ok};
-ghost use Rattle.lock_base.specs.declared.machine.hold.Hold.{Hold};
+ghost use Rattle.lock_modes.specs.declared.hold.Hold.{Hold};
 ghost use Rattle.lock_word.specs.declared.want.ExWant.{ExWant};
 ghost use Rattle.lock_one.specs.declared.action.Action.TheVariants.{End};
 ghost use Rattle.lock_one_word.specs.Calls.{TimesOut};

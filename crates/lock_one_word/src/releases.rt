@@ -1,7 +1,7 @@
 //! How a call releases or downgrades, and wakes the sleepers that this unblocks.
 ghost use Rattle.std.specs.Prelude.{◌≡◌, IsTrue};
-ghost use Rattle.lock_base.specs.declared.machine.hold.Hold.{Hold};
-ghost use Rattle.lock_base.specs.Holds.{hold_has, hold_after};
+ghost use Rattle.lock_modes.specs.declared.hold.Hold.{Hold};
+ghost use Rattle.lock_modes.specs.Holds.{hold_has, hold_after};
 ghost use Rattle.lock_word.specs.declared.down.Down.{Down};
 ghost use Rattle.lock_word.specs.Word.{step_of_down};
 ghost use Rattle.lock_one_word.specs.Drives.{unreleased_at, IsReleasing, EndsRelease};

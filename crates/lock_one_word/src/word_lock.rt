@@ -1,13 +1,13 @@
 //! The lock.
 ghost use Rattle.std.specs.Prelude.{◌≡◌, ◌↔◌, IfOk, IfErr};
-ghost use Rattle.lock_base.specs.Limits.{IsLimit, IsMakerFault};
+ghost use Rattle.lock_modes.specs.Limits.{IsLimit, IsMakerFault};
 ghost use Rattle.lock_one_word.specs.Calls.{SawTokens, SawExclusive, SawSleepers};
 
 mod steps;
 
 use crate::rule::{OneRule, OneView};
 use atomic_table::Table;
-use lock_base::raw::{Fault, is_limit};
+use lock_modes::{Fault, is_limit};
 use lock_one::SLEEPERS;
 use lock_word::{has_exclusive, has_tokens};
 use std::alloc::Global;
@@ -27,7 +27,7 @@ pub struct WordLock {
 
 impl Model for WordLock {
     ghost use Rattle.std.specs.Prelude.{◌≡◌};
-    ghost use Rattle.lock_base.specs.Limits.{IsLimit};
+    ghost use Rattle.lock_modes.specs.Limits.{IsLimit};
     ghost use Rattle.lock_one_word.specs.Calls.{WordLockView};
 
     ghost Value = { WordLockView };

@@ -1,8 +1,8 @@
 //! Which calls can never be made.
 ghost use Rattle.std.specs.Prelude.{◌≡◌, ℕ, ◌<◌, ◌^◌, length, Option};
 ghost use Rattle.std.proofs.Common.{get_or};
-ghost use Rattle.lock_base.specs.Modes.{is_move, tokens};
-ghost use Rattle.lock_base.specs.Holds.{no_hold};
+ghost use Rattle.lock_modes.specs.Modes.{is_move, tokens};
+ghost use Rattle.lock_modes.specs.Holds.{no_hold};
 ghost use Rattle.lock_plan.specs.Worlds.{no_lock};
 ghost use Rattle.lock_plan.specs.Holds.{lines_up};
 ghost use Rattle.lock_plan.specs.CallFaults.{is_of_kind, is_over, lack_of, fault_on, call_fault};
@@ -10,7 +10,7 @@ ghost use Rattle.lock_plan.specs.CallFaults.{is_of_kind, is_over, lack_of, fault
 use crate::call::{PlanCall, is_write};
 use crate::fault::CallFault;
 use crate::lock::PlanLock;
-use lock_base::machine::{Hold, Kind, LockStep, Mode, ModeStep};
+use lock_modes::{Hold, Kind, LockStep, Mode, ModeStep};
 
 /// Returns why a call can never be made by a party with these holds.
 pub(crate) fn call_fault(locks: &[PlanLock], holds: &[Hold], call: PlanCall) -> Option<CallFault>

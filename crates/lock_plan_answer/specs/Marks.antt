@@ -3,8 +3,8 @@ use Rattle.std.specs.Prelude.{ℕ, zero, suc, Bool, true, false, nat_lt, List, [
 use Rattle.std.specs.Global.{Global}
 use Rattle.std.specs.List.{flat_map, join_by}
 use Rattle.std.proofs.Common.{get_or}
-use Rattle.lock_base.specs.declared.machine.hold.Hold.{Hold}
-use Rattle.lock_base.specs.Holds.{no_hold}
+use Rattle.lock_modes.specs.declared.hold.Hold.{Hold}
+use Rattle.lock_modes.specs.Holds.{no_hold}
 use Rattle.lock_plan.specs.declared.stop.PartyHold.{PartyHold}
 use Rattle.lock_plan_answer.specs.declared.mark.Mark.{Mark}
 use Rattle.lock_plan_answer.specs.declared.mark.Mark.TheVariants.{Shared, Exclusive, Upgradable, Announced}

@@ -1,12 +1,12 @@
 //! What a row does and holds at a node. A row past the last has ended and holds nothing.
 ghost use Rattle.std.specs.Prelude.{◌≡◌, is_some, IfOk};
 ghost use Rattle.std.proofs.Common.{get_or};
-ghost use Rattle.lock_base.specs.Holds.{no_hold};
+ghost use Rattle.lock_modes.specs.Holds.{no_hold};
 ghost use Rattle.lock_plan.specs.Worlds.{no_stand, turn_of};
 ghost use Rattle.lock_plan.specs.Stops.{world_of, stopped_at};
 ghost use Rattle.lock_plan_answer.specs.Signals.{act_at, cond_of, sleep_of};
 
-use lock_base::machine::Hold;
+use lock_modes::Hold;
 use lock_plan::{Act, Block, Plan, Signal, Turn};
 use std::alloc::{AllocError, Global};
 

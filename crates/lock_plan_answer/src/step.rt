@@ -12,7 +12,7 @@ use crate::names::write_name;
 use crate::signal::{write_choice, write_signal};
 use crate::stand::{act_at, sleep_of, turn_at};
 use crate::words::step_word;
-use lock_base::machine::{Kind, LockStep};
+use lock_modes::{Kind, LockStep};
 use lock_plan::{Act, Plan, PlanCall, PlanLock, Step, Turn};
 use lock_plan_text::Names;
 use std::alloc::{AllocError, Global};

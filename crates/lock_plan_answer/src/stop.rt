@@ -12,7 +12,7 @@ use crate::names::{write_name, write_row_name};
 use crate::signal::write_assert;
 use crate::step::{lock_at, write_call};
 use itoa::Buffer;
-use lock_base::machine::{LockStep, Mode, ModeStep};
+use lock_modes::{LockStep, Mode, ModeStep};
 use lock_plan::{Act, PartyHold, Plan, PlanLock, Signal, Stopped};
 use lock_plan_text::Names;
 use std::alloc::{AllocError, Global};

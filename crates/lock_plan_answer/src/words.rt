@@ -2,7 +2,7 @@
 ghost use Rattle.std.specs.Prelude.{◌≡◌};
 ghost use Rattle.lock_plan_lines.specs.Words.{step_word};
 
-use lock_base::machine::{LockStep, Mode, ModeStep};
+use lock_modes::{LockStep, Mode, ModeStep};
 
 /// Returns the word of a call on a reader-writer lock, or on another lock.
 pub(crate) fn step_word(is_rwlock: bool, step: LockStep) -> &'static str

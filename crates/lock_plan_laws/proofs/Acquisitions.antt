@@ -1,25 +1,25 @@
 -- An acquisition of a plan is refused by no machine, and is admitted where the world admits it.
 use Rattle.std.proofs.Common.{◌≡◌, ℕ, ◌+◌, ◌-◌, ◌<◌, ◌^◌, Bool, true, false, not, ◌&&◌, ◌||◌, ◌==◌, nat_lt, if◌then◌else◌, List, [], ◌∷◌, length, Option, Some, None, option_map, refl, ap, sym, ◌∙◌, subst, arith, eqb-true, eq-eqb, ltb-true, lt-ltb}
 use Rattle.std.proofs.lemmas.Bool.{ne_eqb, eqb-false, and_parts, not-false}
-use Rattle.lock_base.specs.declared.machine.mode.Mode.{Mode}
-use Rattle.lock_base.specs.declared.machine.mode.Mode.TheVariants.{Shared, Exclusive, Upgradable}
-use Rattle.lock_base.specs.declared.machine.mode_step.ModeStep.TheVariants.{Acquire}
-use Rattle.lock_base.specs.declared.machine.bag.Bag.{Bag}
-use Rattle.lock_base.specs.declared.machine.kind.Kind.{Kind}
-use Rattle.lock_base.specs.declared.machine.kind.Kind.TheVariants.{Mutex, RwLock, Reentrant}
-use Rattle.lock_base.specs.declared.machine.party.PartyId.{PartyId}
-use Rattle.lock_base.specs.declared.raw.fault.Fault.TheVariants as fault
-use Rattle.lock_base.specs.declared.machine.hold.Hold.{Hold}
-use Rattle.lock_base.specs.Party.{id_of}
-use Rattle.lock_base.specs.Modes.{tokens, is_exclusive, admits}
-use Rattle.lock_base.specs.Kind.{is_reentrant, is_rwlock}
-use Rattle.lock_base.specs.Bar.{bar_lets_pass}
-use Rattle.lock_base.specs.Entries.{Entry, held_entries, held_bag, held_count, all_of_party, some_of_party}
-use Rattle.lock_base.specs.Register.{admits_ignoring_bar, admits_party, owns, is_full_count}
-use Rattle.lock_base.specs.Legal.{AreLegallyHeld}
-use Rattle.lock_base.specs.Machine.{Machine}
-use Rattle.lock_base.specs.Refusals.{has_want, mode_of, acquisition_refusal}
-use Rattle.lock_base_laws.proofs.CallEffects.{refusal-none}
+use Rattle.lock_modes.specs.declared.mode.Mode.{Mode}
+use Rattle.lock_modes.specs.declared.mode.Mode.TheVariants.{Shared, Exclusive, Upgradable}
+use Rattle.lock_modes.specs.declared.mode_step.ModeStep.TheVariants.{Acquire}
+use Rattle.lock_modes.specs.declared.bag.Bag.{Bag}
+use Rattle.lock_modes.specs.declared.kind.Kind.{Kind}
+use Rattle.lock_modes.specs.declared.kind.Kind.TheVariants.{Mutex, RwLock, Reentrant}
+use Rattle.lock_modes.specs.declared.party.PartyId.{PartyId}
+use Rattle.lock_modes.specs.declared.fault.Fault.TheVariants as fault
+use Rattle.lock_modes.specs.declared.hold.Hold.{Hold}
+use Rattle.lock_modes.specs.Party.{id_of}
+use Rattle.lock_modes.specs.Modes.{tokens, is_exclusive, admits}
+use Rattle.lock_modes.specs.Kind.{is_reentrant, is_rwlock}
+use Rattle.lock_modes.specs.Bar.{bar_lets_pass}
+use Rattle.lock_machine.specs.Entries.{Entry, held_entries, held_bag, held_count, all_of_party, some_of_party}
+use Rattle.lock_machine.specs.Register.{admits_ignoring_bar, admits_party, owns, is_full_count}
+use Rattle.lock_machine.specs.Legal.{AreLegallyHeld}
+use Rattle.lock_machine.specs.Machine.{Machine}
+use Rattle.lock_machine.specs.Refusals.{has_want, mode_of, acquisition_refusal}
+use Rattle.lock_machine.proofs.CallEffects.{refusal-none}
 use Rattle.lock_plan.specs.declared.lock.PlanLock.{PlanLock}
 use Rattle.lock_plan.specs.Worlds.{bag_on, bar_from, lock_holds}
 use Rattle.lock_plan.specs.Holds.{admits_step}

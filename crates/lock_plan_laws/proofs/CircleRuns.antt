@@ -1,7 +1,7 @@
 -- No run of machines from the scene of a circle has a call of one of its rows.
 use Rattle.std.proofs.Common.{◌≡◌, ℕ, zero, suc, ◌+◌, List, [], ◌∷◌, length, Some, ap, sym, ◌∙◌, subst, arith}
 use Rattle.std.specs.List.{slice_get}
-use Rattle.lock_base.specs.Operation.{Operation}
+use Rattle.lock_machine.specs.Operation.{Operation}
 use Rattle.lock_plan.specs.Worlds.{Stand, first_world}
 use Rattle.lock_plan_laws.specs.Circles.{CircleMachinesNeverMove}
 use Rattle.lock_plan_laws.specs.Scenes.{Caller, steps_of, first_scene}

@@ -1,16 +1,16 @@
 -- What all parties hold of one lock, and its bar, when one party's holds change.
 use Rattle.std.proofs.Common.{◌≡◌, ◌≢◌, ℕ, zero, suc, ◌+◌, ◌<◌, ◌≤◌, Bool, true, false, ◌==◌, if◌then◌else◌, List, [], ◌∷◌, length, get_or, set, Option, Some, None, option_map, IsTrue, refl, ap, sym, ◌∙◌, arith, eqb-true, ltb-true}
 use Rattle.std.proofs.lemmas.Bool.{eqb-false}
-use Rattle.lock_base.specs.declared.machine.mode.Mode.{Mode}
-use Rattle.lock_base.specs.declared.machine.mode.Mode.TheVariants.{Shared, Exclusive, Upgradable}
-use Rattle.lock_base.specs.declared.machine.mode_step.ModeStep.{ModeStep}
-use Rattle.lock_base.specs.declared.machine.mode_step.ModeStep.TheVariants.{Acquire, Release, Change}
-use Rattle.lock_base.specs.declared.machine.bag.Bag.{Bag}
-use Rattle.lock_base.specs.declared.machine.hold.Hold.{Hold}
-use Rattle.lock_base.specs.Modes.{one_more, one_less, count_of}
-use Rattle.lock_base.specs.ModeRuns.{has, bag_after}
-use Rattle.lock_base.specs.Bar.{has_announced}
-use Rattle.lock_base.specs.Holds.{no_hold}
+use Rattle.lock_modes.specs.declared.mode.Mode.{Mode}
+use Rattle.lock_modes.specs.declared.mode.Mode.TheVariants.{Shared, Exclusive, Upgradable}
+use Rattle.lock_modes.specs.declared.mode_step.ModeStep.{ModeStep}
+use Rattle.lock_modes.specs.declared.mode_step.ModeStep.TheVariants.{Acquire, Release, Change}
+use Rattle.lock_modes.specs.declared.bag.Bag.{Bag}
+use Rattle.lock_modes.specs.declared.hold.Hold.{Hold}
+use Rattle.lock_modes.specs.Modes.{one_more, one_less, count_of}
+use Rattle.lock_modes.specs.ModeRuns.{has, bag_after}
+use Rattle.lock_modes.specs.Bar.{has_announced}
+use Rattle.lock_modes.specs.Holds.{no_hold}
 use Rattle.lock_plan.specs.Worlds.{joined, bag_on, bar_from}
 use Rattle.lock_plan.proofs.ExchangeTurns.{joined_swap}
 

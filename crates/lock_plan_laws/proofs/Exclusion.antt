@@ -2,17 +2,17 @@
 use Rattle.std.proofs.Common.{◌≡◌, ◌≢◌, ℕ, zero, suc, ◌+◌, ◌<◌, ◌≤◌, ◌⊎◌, inl, inr, Bool, true, false, not, ◌&&◌, ◌||◌, if◌then◌else◌, List, [], ◌∷◌, get_or, Option, Some, None, refl, ap, sym, ◌∙◌, arith}
 use Rattle.std.specs.Prelude.{◌==◌, nat_lt}
 use Rattle.std.proofs.lemmas.Bool.{and_parts, or_cases, or_from, or_right, false_from_ne_true, false≢true, ltb-true, lt-ltb, eqb-true}
-use Rattle.lock_base.specs.declared.machine.bag.Bag.{Bag}
-use Rattle.lock_base.specs.declared.machine.hold.Hold.{Hold}
-use Rattle.lock_base.specs.declared.machine.lock_step.LockStep.{LockStep}
-use Rattle.lock_base.specs.declared.machine.lock_step.LockStep.TheVariants as lock_step
-use Rattle.lock_base.specs.declared.machine.mode.Mode.{Mode}
-use Rattle.lock_base.specs.declared.machine.mode.Mode.TheVariants.{Shared, Exclusive, Upgradable}
-use Rattle.lock_base.specs.declared.machine.mode_step.ModeStep.TheVariants.{Acquire, Release, Change}
-use Rattle.lock_base.specs.Bar.{bar_lets_pass}
-use Rattle.lock_base.specs.Holds.{no_hold, hold_after}
-use Rattle.lock_base.specs.Kind.{is_reentrant, is_rwlock}
-use Rattle.lock_base.specs.Modes.{admits, count_of, is_move, may_become, one_less, one_more, readers, tokens}
+use Rattle.lock_modes.specs.declared.bag.Bag.{Bag}
+use Rattle.lock_modes.specs.declared.hold.Hold.{Hold}
+use Rattle.lock_modes.specs.declared.lock_step.LockStep.{LockStep}
+use Rattle.lock_modes.specs.declared.lock_step.LockStep.TheVariants as lock_step
+use Rattle.lock_modes.specs.declared.mode.Mode.{Mode}
+use Rattle.lock_modes.specs.declared.mode.Mode.TheVariants.{Shared, Exclusive, Upgradable}
+use Rattle.lock_modes.specs.declared.mode_step.ModeStep.TheVariants.{Acquire, Release, Change}
+use Rattle.lock_modes.specs.Bar.{bar_lets_pass}
+use Rattle.lock_modes.specs.Holds.{no_hold, hold_after}
+use Rattle.lock_modes.specs.Kind.{is_reentrant, is_rwlock}
+use Rattle.lock_modes.specs.Modes.{admits, count_of, is_move, may_become, one_less, one_more, readers, tokens}
 use Rattle.lock_plan.specs.declared.fault.CallFault.{CallFault}
 use Rattle.lock_plan.specs.declared.fault.CallFault.TheVariants.{WrongKind}
 use Rattle.lock_plan.specs.declared.lock.PlanLock.{PlanLock}

@@ -2,14 +2,14 @@
 use Rattle.std.proofs.Common.{◌≡◌, ℕ, zero, suc, ◌+◌, ◌<◌, ◌⊎◌, inl, inr, Bool, true, false, nat_lt, if◌then◌else◌, List, [], ◌∷◌, length, get_or, Option, Some, None, Ok, refl, ap, sym, ◌∙◌, subst, arith}
 use Rattle.std.proofs.lemmas.Bool.{and_parts, false≢true}
 use Rattle.std.proofs.lemmas.List.{length-set, get_or-set_same, get_or_past}
-use Rattle.lock_base.specs.declared.machine.mode.Mode.{Mode}
-use Rattle.lock_base.specs.declared.machine.mode_step.ModeStep.TheVariants.{Acquire}
-use Rattle.lock_base.specs.declared.machine.lock_step.LockStep.{LockStep}
-use Rattle.lock_base.specs.declared.machine.lock_step.LockStep.TheVariants as lock_step
-use Rattle.lock_base.specs.declared.machine.hold.Hold.{Hold}
-use Rattle.lock_base.specs.Modes.{tokens}
-use Rattle.lock_base.specs.Holds.{no_hold, hold_after}
-use Rattle.lock_base.proofs.ModeLemmas.{tokens-one_more}
+use Rattle.lock_modes.specs.declared.mode.Mode.{Mode}
+use Rattle.lock_modes.specs.declared.mode_step.ModeStep.TheVariants.{Acquire}
+use Rattle.lock_modes.specs.declared.lock_step.LockStep.{LockStep}
+use Rattle.lock_modes.specs.declared.lock_step.LockStep.TheVariants as lock_step
+use Rattle.lock_modes.specs.declared.hold.Hold.{Hold}
+use Rattle.lock_modes.specs.Modes.{tokens}
+use Rattle.lock_modes.specs.Holds.{no_hold, hold_after}
+use Rattle.lock_modes.proofs.ModeLemmas.{tokens-one_more}
 use Rattle.lock_plan.specs.declared.call.PlanCall.{PlanCall}
 use Rattle.lock_plan.specs.declared.fault.CallFault.{CallFault}
 use Rattle.lock_plan.specs.declared.lock.PlanLock.{PlanLock}

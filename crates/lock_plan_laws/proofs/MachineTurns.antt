@@ -1,31 +1,31 @@
 -- The turn of a party on its machine is its turn in the world, and changes what that turn changes.
 use Rattle.std.proofs.Common.{◌≡◌, ℕ, ◌+◌, Bool, true, false, not, ◌&&◌, ◌||◌, nat_lt, if◌then◌else◌, List, Option, Some, None, option_map, is_some, IsTrue, refl, ap, sym, ◌∙◌, subst}
 use Rattle.std.proofs.lemmas.Bool.{and_parts}
-use Rattle.lock_base.specs.declared.machine.mode.Mode.{Mode}
-use Rattle.lock_base.specs.declared.machine.mode.Mode.TheVariants.{Shared, Exclusive, Upgradable}
-use Rattle.lock_base.specs.declared.machine.mode_step.ModeStep.TheVariants.{Acquire, Release, Change}
-use Rattle.lock_base.specs.declared.machine.bag.Bag.{Bag}
-use Rattle.lock_base.specs.declared.machine.call.Form.TheVariants.{Block}
-use Rattle.lock_base.specs.declared.machine.party.PartyId.{PartyId}
-use Rattle.lock_base.specs.declared.machine.reply.Reply.{Reply}
-use Rattle.lock_base.specs.declared.raw.fault.Fault.{Fault}
-use Rattle.lock_base.specs.declared.raw.fault.Fault.TheVariants as fault
-use Rattle.lock_base.specs.declared.machine.lock_step.LockStep.{LockStep}
-use Rattle.lock_base.specs.declared.machine.lock_step.LockStep.TheVariants as lock_step
-use Rattle.lock_base.specs.declared.machine.hold.Hold.{Hold}
-use Rattle.lock_base.specs.Operation.{Operation}
-use Rattle.lock_base.specs.Party.{id_of}
-use Rattle.lock_base.specs.Modes.{is_exclusive, is_shared, is_upgradable, is_move, may_become, tokens}
-use Rattle.lock_base.specs.Kind.{is_reentrant, is_rwlock}
-use Rattle.lock_base.specs.Bar.{has_announced, bar_lets_pass}
-use Rattle.lock_base.specs.Entries.{Entry, find, held_bag}
-use Rattle.lock_base.specs.Register.{admits_party, admits_ignoring_bar, with_guard, without_guard, with_bar, after_admission}
-use Rattle.lock_base.specs.Machine.{Machine, after_release}
-use Rattle.lock_base.specs.Refusals.{Demand, mode_of, held_guard, upgradable_guard, unshared_guard, exclusive_guard}
-use Rattle.lock_base.specs.Calls.{CallEffect, give, unless, on_guard, with_register, with_mode, announce}
-use Rattle.lock_base.specs.Steps.{response_of, response_in_form, done_reply}
-use Rattle.lock_base.specs.Holds.{hold_has, hold_after}
-use Rattle.lock_base_laws.proofs.CallEffects.{Meets, on_guard-met}
+use Rattle.lock_modes.specs.declared.mode.Mode.{Mode}
+use Rattle.lock_modes.specs.declared.mode.Mode.TheVariants.{Shared, Exclusive, Upgradable}
+use Rattle.lock_modes.specs.declared.mode_step.ModeStep.TheVariants.{Acquire, Release, Change}
+use Rattle.lock_modes.specs.declared.bag.Bag.{Bag}
+use Rattle.lock_machine.specs.declared.call.Form.TheVariants.{Block}
+use Rattle.lock_modes.specs.declared.party.PartyId.{PartyId}
+use Rattle.lock_machine.specs.declared.reply.Reply.{Reply}
+use Rattle.lock_modes.specs.declared.fault.Fault.{Fault}
+use Rattle.lock_modes.specs.declared.fault.Fault.TheVariants as fault
+use Rattle.lock_modes.specs.declared.lock_step.LockStep.{LockStep}
+use Rattle.lock_modes.specs.declared.lock_step.LockStep.TheVariants as lock_step
+use Rattle.lock_modes.specs.declared.hold.Hold.{Hold}
+use Rattle.lock_machine.specs.Operation.{Operation}
+use Rattle.lock_modes.specs.Party.{id_of}
+use Rattle.lock_modes.specs.Modes.{is_exclusive, is_shared, is_upgradable, is_move, may_become, tokens}
+use Rattle.lock_modes.specs.Kind.{is_reentrant, is_rwlock}
+use Rattle.lock_modes.specs.Bar.{has_announced, bar_lets_pass}
+use Rattle.lock_machine.specs.Entries.{Entry, find, held_bag}
+use Rattle.lock_machine.specs.Register.{admits_party, admits_ignoring_bar, with_guard, without_guard, with_bar, after_admission}
+use Rattle.lock_machine.specs.Machine.{Machine, after_release}
+use Rattle.lock_machine.specs.Refusals.{Demand, mode_of, held_guard, upgradable_guard, unshared_guard, exclusive_guard}
+use Rattle.lock_machine.specs.Calls.{CallEffect, give, unless, on_guard, with_register, with_mode, announce}
+use Rattle.lock_machine.specs.Steps.{response_of, response_in_form, done_reply}
+use Rattle.lock_modes.specs.Holds.{hold_has, hold_after}
+use Rattle.lock_machine.proofs.CallEffects.{Meets, on_guard-met}
 use Rattle.lock_plan.specs.declared.fault.CallFault.{CallFault}
 use Rattle.lock_plan.specs.declared.lock.PlanLock.{PlanLock}
 use Rattle.lock_plan.specs.declared.turn.Turn.{Turn}

@@ -1,27 +1,27 @@
 -- What a call changes on a machine, as its party, the other parties and the bar see it.
 use Rattle.std.proofs.Common.{◌≡◌, ℕ, ◌+◌, ◌≤◌, Bool, true, false, not, ◌&&◌, ◌⊎◌, inl, inr, List, [], ◌∷◌, ◌++◌, length, append-nil, Option, Some, None, option_map, is_some, refl, ap, sym, ◌∙◌, arith, eqb-true, eq-eqb}
 use Rattle.std.proofs.lemmas.Bool.{ne_eqb}
-use Rattle.lock_base.specs.declared.machine.mode.Mode.{Mode}
-use Rattle.lock_base.specs.declared.machine.mode.Mode.TheVariants.{Shared, Exclusive, Upgradable}
-use Rattle.lock_base.specs.declared.machine.mode_step.ModeStep.TheVariants.{Acquire, Release, Change}
-use Rattle.lock_base.specs.declared.machine.bag.Bag.{Bag}
-use Rattle.lock_base.specs.declared.machine.party.PartyId.{PartyId}
-use Rattle.lock_base.specs.declared.machine.lock_step.LockStep.{LockStep}
-use Rattle.lock_base.specs.declared.machine.lock_step.LockStep.TheVariants as lock_step
-use Rattle.lock_base.specs.declared.machine.hold.Hold.{Hold}
-use Rattle.lock_base.specs.Party.{id_of}
-use Rattle.lock_base.specs.Modes.{one_more, one_less, is_exclusive}
-use Rattle.lock_base.specs.ModeRuns.{bag_after}
-use Rattle.lock_base.specs.Bar.{has_announced, bar_lets_pass, bar_after}
-use Rattle.lock_base.specs.Entries.{Entry, find, without, update, in_mode, held_bag, held_count}
-use Rattle.lock_base.specs.Register.{with_guard, without_guard, with_bar, after_admission}
-use Rattle.lock_base.specs.Machine.{Machine, after_release}
-use Rattle.lock_base.specs.Calls.{with_register, with_mode}
-use Rattle.lock_base.specs.Sound.{IsSound}
-use Rattle.lock_base.proofs.ModeLemmas.{one_less-one_more}
-use Rattle.lock_base.proofs.Splices.{Splice, splice, length-middle}
-use Rattle.lock_base.proofs.HeldEntries.{HasOneMore, held_bag-more, held_count-more, more_than_rest, moved_is_more, issued_is_more}
-use Rattle.lock_base.specs.Holds.{hold_after}
+use Rattle.lock_modes.specs.declared.mode.Mode.{Mode}
+use Rattle.lock_modes.specs.declared.mode.Mode.TheVariants.{Shared, Exclusive, Upgradable}
+use Rattle.lock_modes.specs.declared.mode_step.ModeStep.TheVariants.{Acquire, Release, Change}
+use Rattle.lock_modes.specs.declared.bag.Bag.{Bag}
+use Rattle.lock_modes.specs.declared.party.PartyId.{PartyId}
+use Rattle.lock_modes.specs.declared.lock_step.LockStep.{LockStep}
+use Rattle.lock_modes.specs.declared.lock_step.LockStep.TheVariants as lock_step
+use Rattle.lock_modes.specs.declared.hold.Hold.{Hold}
+use Rattle.lock_modes.specs.Party.{id_of}
+use Rattle.lock_modes.specs.Modes.{one_more, one_less, is_exclusive}
+use Rattle.lock_modes.specs.ModeRuns.{bag_after}
+use Rattle.lock_modes.specs.Bar.{has_announced, bar_lets_pass, bar_after}
+use Rattle.lock_machine.specs.Entries.{Entry, find, without, update, in_mode, held_bag, held_count}
+use Rattle.lock_machine.specs.Register.{with_guard, without_guard, with_bar, after_admission}
+use Rattle.lock_machine.specs.Machine.{Machine, after_release}
+use Rattle.lock_machine.specs.Calls.{with_register, with_mode}
+use Rattle.lock_machine.specs.Sound.{IsSound}
+use Rattle.lock_modes.proofs.ModeLemmas.{one_less-one_more}
+use Rattle.lock_machine.proofs.Splices.{Splice, splice, length-middle}
+use Rattle.lock_machine.proofs.HeldEntries.{HasOneMore, held_bag-more, held_count-more, more_than_rest, moved_is_more, issued_is_more}
+use Rattle.lock_modes.specs.Holds.{hold_after}
 use Rattle.lock_plan.specs.declared.lock.PlanLock.{PlanLock}
 use Rattle.lock_plan.specs.Worlds.{bag_on, bar_from}
 use Rattle.lock_plan_laws.specs.Scenes.{limit_for}

@@ -1,6 +1,6 @@
 -- The examples of the order of ranks.
 use Rattle.std.proofs.Common.{◌≡◌, ℕ, zero, suc, ◌<◌, false, [], length, get_or, replicate, refl, sym, subst, arith}
-use Rattle.lock_base.specs.Kind.{is_reentrant}
+use Rattle.lock_modes.specs.Kind.{is_reentrant}
 use Rattle.lock_plan.specs.Worlds.{no_lock}
 use Rattle.lock_plan_laws.specs.Ranks.{IsOrdered}
 use Rattle.lock_plan_laws.specs.OrderExamples.{two_mutexes, both_from, by_number, OrderExamples}

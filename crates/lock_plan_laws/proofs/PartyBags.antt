@@ -1,15 +1,15 @@
 -- What one party holds of a machine, where a guard is added, removed or changed.
 use Rattle.std.proofs.Common.{◌≡◌, ℕ, suc, ◌<◌, ◌≤◌, Bool, true, false, ◌&&◌, ◌==◌, if◌then◌else◌, List, [], ◌∷◌, ◌++◌, length, Some, IsTrue, refl, ap, sym, ◌∙◌, arith, eqb-true, eq-eqb}
 use Rattle.std.proofs.lemmas.Bool.{eqb-false, ne_eqb}
-use Rattle.lock_base.specs.declared.machine.mode.Mode.{Mode}
-use Rattle.lock_base.specs.declared.machine.mode.Mode.TheVariants.{Shared, Exclusive, Upgradable}
-use Rattle.lock_base.specs.declared.machine.bag.Bag.{Bag}
-use Rattle.lock_base.specs.Modes.{bag_of, one_more, tokens, count_of}
-use Rattle.lock_base.specs.Entries.{Entry, find, held_entries, held_count, held_bag, modes_of_entries, all_of_party}
-use Rattle.lock_base.specs.Legal.{AreNumbered}
-use Rattle.lock_base.proofs.ModeLemmas.{tokens-one_more}
-use Rattle.lock_base.proofs.Splices.{EntryMap, bag_of-modes-middle}
-use Rattle.lock_base.proofs.HeldEntries.{HasOneMore}
+use Rattle.lock_modes.specs.declared.mode.Mode.{Mode}
+use Rattle.lock_modes.specs.declared.mode.Mode.TheVariants.{Shared, Exclusive, Upgradable}
+use Rattle.lock_modes.specs.declared.bag.Bag.{Bag}
+use Rattle.lock_modes.specs.Modes.{bag_of, one_more, tokens, count_of}
+use Rattle.lock_machine.specs.Entries.{Entry, find, held_entries, held_count, held_bag, modes_of_entries, all_of_party}
+use Rattle.lock_machine.specs.Legal.{AreNumbered}
+use Rattle.lock_modes.proofs.ModeLemmas.{tokens-one_more}
+use Rattle.lock_machine.proofs.Splices.{EntryMap, bag_of-modes-middle}
+use Rattle.lock_machine.proofs.HeldEntries.{HasOneMore}
 use Rattle.lock_plan_laws.specs.Bridge.{of_party, bag_held_by}
 
 of_party-append : (q : ℕ) (xs ys : List Entry) → of_party q (xs ++ ys) ≡ of_party q xs ++ of_party q ys

@@ -1,12 +1,12 @@
 -- Runs of scenes are runs of worlds, and back, and both stop alike.
 use Rattle.std.proofs.Common.{◌≡◌, ℕ, suc, ◌+◌, ◌<◌, ◌^◌, List, [], ◌∷◌, length, map, get_or, Option, Some, None, IsTrue, refl, ap, sym, ◌∙◌, subst, arith}
 use Rattle.std.proofs.Math.ListN.{get_or-map}
-use Rattle.lock_base.specs.declared.machine.party.PartyId.{PartyId}
-use Rattle.lock_base.specs.declared.machine.hold.Hold.{Hold}
-use Rattle.lock_base.specs.Operation.{Operation}
-use Rattle.lock_base.specs.Party.{id_of}
-use Rattle.lock_base.specs.Kind.{is_rwlock}
-use Rattle.lock_base.specs.Holds.{no_hold}
+use Rattle.lock_modes.specs.declared.party.PartyId.{PartyId}
+use Rattle.lock_modes.specs.declared.hold.Hold.{Hold}
+use Rattle.lock_machine.specs.Operation.{Operation}
+use Rattle.lock_modes.specs.Party.{id_of}
+use Rattle.lock_modes.specs.Kind.{is_rwlock}
+use Rattle.lock_modes.specs.Holds.{no_hold}
 use Rattle.lock_plan.specs.declared.lock.PlanLock.{PlanLock}
 use Rattle.lock_plan.specs.declared.program.ProgramPlace.{ProgramPlace}
 use Rattle.lock_plan.specs.declared.program.Step.{Step}

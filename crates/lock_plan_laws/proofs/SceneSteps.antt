@@ -1,9 +1,9 @@
 -- A step of a scene is a step of the world that it is tied to, and back.
 use Rattle.std.proofs.Common.{◌≡◌, ℕ, suc, ◌+◌, ◌<◌, ◌^◌, Bool, true, false, not, ◌==◌, inl, inr, nat_lt, if◌then◌else◌, List, length, get_or, set, Option, Some, None, IsTrue, refl, ap, sym, ◌∙◌, subst, eqb-true}
-use Rattle.lock_base.specs.declared.machine.party.PartyId.{PartyId}
-use Rattle.lock_base.specs.Operation.{Operation}
-use Rattle.lock_base.specs.Kind.{is_rwlock}
-use Rattle.lock_base.specs.Steps.{Response}
+use Rattle.lock_modes.specs.declared.party.PartyId.{PartyId}
+use Rattle.lock_machine.specs.Operation.{Operation}
+use Rattle.lock_modes.specs.Kind.{is_rwlock}
+use Rattle.lock_machine.specs.Steps.{Response}
 use Rattle.lock_plan.specs.declared.call.PlanCall.{PlanCall}
 use Rattle.lock_plan.specs.declared.lock.PlanLock.{PlanLock}
 use Rattle.lock_plan.specs.declared.program.Act.{Act}

@@ -1,9 +1,9 @@
 -- A scene stops exactly where the world stops that it is tied to.
 use Rattle.std.proofs.Common.{◌≡◌, ℕ, zero, suc, ◌+◌, ◌<◌, ◌^◌, Bool, true, false, not, ◌||◌, ◌⊎◌, inl, inr, ◌&&◌, if◌then◌else◌, List, [], ◌∷◌, length, map, get_or, Option, Some, None, is_some, IsTrue, refl, ap, sym, ◌∙◌, arith}
 use Rattle.std.proofs.lemmas.Bool.{and_parts, and_from, or_cases, false≢true, not-true}
-use Rattle.lock_base.specs.declared.machine.party.PartyId.{PartyId}
-use Rattle.lock_base.specs.Operation.{Operation}
-use Rattle.lock_base.specs.Kind.{is_reentrant, is_rwlock}
+use Rattle.lock_modes.specs.declared.party.PartyId.{PartyId}
+use Rattle.lock_machine.specs.Operation.{Operation}
+use Rattle.lock_modes.specs.Kind.{is_reentrant, is_rwlock}
 use Rattle.lock_plan.specs.declared.lock.PlanLock.{PlanLock}
 use Rattle.lock_plan.specs.declared.program.Act.{Act}
 use Rattle.lock_plan.specs.declared.program.Act.TheVariants as act
@@ -12,9 +12,9 @@ use Rattle.lock_plan.specs.declared.program.Signal.TheVariants.{Assert}
 use Rattle.lock_plan.specs.declared.program.Step.{Step}
 use Rattle.lock_plan.specs.declared.turn.Turn.{Turn}
 use Rattle.lock_plan.specs.declared.turn.Turn.TheVariants.{Goes, Announces, Refused}
-use Rattle.lock_base.specs.declared.machine.mode_step.ModeStep.TheVariants.{Acquire}
-use Rattle.lock_base.specs.declared.machine.lock_step.LockStep.{LockStep}
-use Rattle.lock_base.specs.declared.machine.lock_step.LockStep.TheVariants.{Modes}
+use Rattle.lock_modes.specs.declared.mode_step.ModeStep.TheVariants.{Acquire}
+use Rattle.lock_modes.specs.declared.lock_step.LockStep.{LockStep}
+use Rattle.lock_modes.specs.declared.lock_step.LockStep.TheVariants.{Modes}
 use Rattle.lock_plan.specs.Checks.{none_fair}
 use Rattle.lock_plan.specs.Holds.{lines_up}
 use Rattle.lock_plan.specs.Signals.{idles, has_value}

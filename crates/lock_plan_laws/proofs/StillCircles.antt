@@ -1,7 +1,7 @@
 -- Circles never move, and are the sets that the search looks for.
 use Rattle.std.proofs.Common.{◌≡◌, ℕ, true, List, length, map, sym, ◌∙◌, subst}
 use Rattle.std.proofs.lemmas.List.{length-map}
-use Rattle.lock_base.specs.declared.machine.hold.Hold.{Hold}
+use Rattle.lock_modes.specs.declared.hold.Hold.{Hold}
 use Rattle.lock_plan.specs.Worlds.{Stand, acts_of}
 use Rattle.lock_plan.specs.Circles.{is_circle_by, some_set}
 use Rattle.lock_plan.proofs.CircleSets.{some_set_from, some_set_at, of_ring}

@@ -4,18 +4,18 @@ use Rattle.std.proofs.lemmas.Bool.{eqb-false, cases_eq}
 use Rattle.std.proofs.lemmas.List.{length-set, length-map, map-set, set-get_or, get_or-set_same, get_or-set_other}
 use Rattle.std.proofs.lemmas.List.Sums.{sum_by-cons}
 use Rattle.std.proofs.Math.ListN.{get_or-map}
-use Rattle.lock_base.specs.declared.machine.bag.Bag.{Bag}
-use Rattle.lock_base.specs.declared.machine.party.PartyId.{PartyId}
-use Rattle.lock_base.specs.declared.machine.hold.Hold.{Hold}
-use Rattle.lock_base.specs.Party.{id_of}
-use Rattle.lock_base.specs.Modes.{empty_bag, tokens}
-use Rattle.lock_base.specs.Bar.{has_announced}
-use Rattle.lock_base.specs.Entries.{held_bag}
-use Rattle.lock_base.specs.Machine.{Machine}
-use Rattle.lock_base.specs.Sound.{IsSound}
-use Rattle.lock_base.proofs.SoundRegisters.{empty_sound}
-use Rattle.lock_base.specs.Holds.{no_hold}
-use Rattle.lock_base_laws.specs.SoundRuns.{KeepsLimits}
+use Rattle.lock_modes.specs.declared.bag.Bag.{Bag}
+use Rattle.lock_modes.specs.declared.party.PartyId.{PartyId}
+use Rattle.lock_modes.specs.declared.hold.Hold.{Hold}
+use Rattle.lock_modes.specs.Party.{id_of}
+use Rattle.lock_modes.specs.Modes.{empty_bag, tokens}
+use Rattle.lock_modes.specs.Bar.{has_announced}
+use Rattle.lock_machine.specs.Entries.{held_bag}
+use Rattle.lock_machine.specs.Machine.{Machine}
+use Rattle.lock_machine.specs.Sound.{IsSound}
+use Rattle.lock_machine.proofs.SoundRegisters.{empty_sound}
+use Rattle.lock_modes.specs.Holds.{no_hold}
+use Rattle.lock_machine.specs.SoundRuns.{KeepsLimits}
 use Rattle.lock_plan.specs.declared.lock.PlanLock.{PlanLock}
 use Rattle.lock_plan.specs.declared.program.ProgramPlace.{ProgramPlace}
 use Rattle.lock_plan.specs.Known.{Known, known_of}

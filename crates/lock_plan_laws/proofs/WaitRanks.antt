@@ -4,21 +4,21 @@ use Rattle.std.proofs.Common.{◌≡◌, ◌≢◌, ℕ, zero, suc, ◌+◌, ◌
 use Rattle.std.specs.Prelude.{◌==◌, is_some, nat_lt}
 use Rattle.std.proofs.lemmas.Bool.{false≢true, and_parts, and_from, and_cases, and_left, and_right, cases_eq, cases_lt, cases_Bool, eq-eqb, lt-ltb, ltb-true, eqb-true, eqb-false, ne_eqb, not-true, not-false, not_from_false, or_from, or_left, or_right, false_from_ne_true}
 use Rattle.std.proofs.lemmas.List.{get_or-map, get_or_past, length-map}
-use Rattle.lock_base.specs.declared.machine.kind.Kind.{Kind}
-use Rattle.lock_base.specs.declared.machine.kind.Kind.TheVariants as kind
-use Rattle.lock_base.specs.declared.machine.mode.Mode.{Mode}
-use Rattle.lock_base.specs.declared.machine.mode.Mode.TheVariants.{Shared, Exclusive, Upgradable}
-use Rattle.lock_base.specs.declared.machine.mode_step.ModeStep.TheVariants.{Acquire, Change}
-use Rattle.lock_base.specs.declared.machine.bag.Bag.{Bag}
-use Rattle.lock_base.specs.declared.machine.lock_step.LockStep.{LockStep}
-use Rattle.lock_base.specs.declared.machine.lock_step.LockStep.TheVariants as lock_step
-use Rattle.lock_base.specs.declared.machine.hold.Hold.{Hold}
-use Rattle.lock_base.specs.Modes.{tokens, readers, admits, is_exclusive}
-use Rattle.lock_base.specs.Operation.{Operation}
-use Rattle.lock_base.specs.Kind.{is_reentrant, is_rwlock}
-use Rattle.lock_base.specs.Bar.{bar_lets_pass}
-use Rattle.lock_base.specs.Holds.{no_hold, hold_has}
-use Rattle.lock_base.proofs.ModeLemmas.{admits-beside_exclusive}
+use Rattle.lock_modes.specs.declared.kind.Kind.{Kind}
+use Rattle.lock_modes.specs.declared.kind.Kind.TheVariants as kind
+use Rattle.lock_modes.specs.declared.mode.Mode.{Mode}
+use Rattle.lock_modes.specs.declared.mode.Mode.TheVariants.{Shared, Exclusive, Upgradable}
+use Rattle.lock_modes.specs.declared.mode_step.ModeStep.TheVariants.{Acquire, Change}
+use Rattle.lock_modes.specs.declared.bag.Bag.{Bag}
+use Rattle.lock_modes.specs.declared.lock_step.LockStep.{LockStep}
+use Rattle.lock_modes.specs.declared.lock_step.LockStep.TheVariants as lock_step
+use Rattle.lock_modes.specs.declared.hold.Hold.{Hold}
+use Rattle.lock_modes.specs.Modes.{tokens, readers, admits, is_exclusive}
+use Rattle.lock_machine.specs.Operation.{Operation}
+use Rattle.lock_modes.specs.Kind.{is_reentrant, is_rwlock}
+use Rattle.lock_modes.specs.Bar.{bar_lets_pass}
+use Rattle.lock_modes.specs.Holds.{no_hold, hold_has}
+use Rattle.lock_modes.proofs.ModeLemmas.{admits-beside_exclusive}
 use Rattle.lock_plan.specs.declared.call.PlanCall.{PlanCall}
 use Rattle.lock_plan.specs.declared.fault.CallFault.{CallFault}
 use Rattle.lock_plan.specs.declared.fault.CallFault.TheVariants.{UnknownLock}
@@ -48,7 +48,7 @@ use Rattle.lock_plan_laws.proofs.SceneStops.{some_found}
 -- What all parties hold of a lock, and which party has announced itself
 
 -- if all hold some, one does
-some_with : (f : Bag → ℕ) → ((a b : Bag) → f (joined a b) ≡ f a + f b) → f Rattle.lock_base.specs.Modes.empty_bag ≡ 0
+some_with : (f : Bag → ℕ) → ((a b : Bag) → f (joined a b) ≡ f a + f b) → f Rattle.lock_modes.specs.Modes.empty_bag ≡ 0
     → (hss : List (List Hold)) (l : ℕ) → 0 < f (bag_on l hss) → (q : ℕ) × (0 < f (get_or (get_or hss q []) l no_hold).bag)
 some_with f adds none [] l some = absurd (omega (arith, none, some))
 some_with f adds none (hs ∷ hss) l some =

@@ -1,15 +1,15 @@
 -- The bridge: the scenes of a plan and its worlds make the same runs, and have the same stops.
 use Rattle.std.specs.Prelude.{◌≡◌, ℕ, ◌+◌, ◌<◌, ◌≤◌, ◌^◌, ◌==◌, Bool, true, if◌then◌else◌, List, [], ◌∷◌, length, map, sum_by, Some, Ok, IsTrue, option_map}
 use Rattle.std.proofs.Common.{get_or}
-use Rattle.lock_base.specs.declared.machine.bag.Bag.{Bag}
-use Rattle.lock_base.specs.declared.machine.party.PartyId.{PartyId}
-use Rattle.lock_base.specs.Operation.{Operation}
-use Rattle.lock_base.specs.Party.{id_of}
-use Rattle.lock_base.specs.Modes.{bag_of}
-use Rattle.lock_base.specs.Kind.{is_rwlock}
-use Rattle.lock_base.specs.Entries.{Entry, held_entries, held_bag, modes_of_entries}
-use Rattle.lock_base.specs.Sound.{IsLimitOf}
-use Rattle.lock_base.specs.Holds.{no_hold}
+use Rattle.lock_modes.specs.declared.bag.Bag.{Bag}
+use Rattle.lock_modes.specs.declared.party.PartyId.{PartyId}
+use Rattle.lock_machine.specs.Operation.{Operation}
+use Rattle.lock_modes.specs.Party.{id_of}
+use Rattle.lock_modes.specs.Modes.{bag_of}
+use Rattle.lock_modes.specs.Kind.{is_rwlock}
+use Rattle.lock_machine.specs.Entries.{Entry, held_entries, held_bag, modes_of_entries}
+use Rattle.lock_machine.specs.Sound.{IsLimitOf}
+use Rattle.lock_modes.specs.Holds.{no_hold}
 use Rattle.lock_plan.specs.declared.lock.PlanLock.{PlanLock}
 use Rattle.lock_plan.specs.declared.program.ProgramPlace.{ProgramPlace}
 use Rattle.lock_plan.specs.declared.program.Step.{Step}

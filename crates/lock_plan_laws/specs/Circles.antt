@@ -2,8 +2,8 @@
 use Rattle.std.specs.Prelude.{◌≡◌, ℕ, ◌+◌, ◌<◌, ◌^◌, true, false, ◌↔◌, Bool, List, length, None, Some}
 use Rattle.std.proofs.Common.{get_or}
 use Rattle.step_search.specs.Counts.{IsMember}
-use Rattle.lock_base.specs.declared.machine.party.PartyId.{PartyId}
-use Rattle.lock_base.specs.Operation.{Operation}
+use Rattle.lock_modes.specs.declared.party.PartyId.{PartyId}
+use Rattle.lock_machine.specs.Operation.{Operation}
 use Rattle.lock_plan.specs.declared.lock.PlanLock.{PlanLock}
 use Rattle.lock_plan.specs.declared.program.ProgramPlace.{ProgramPlace}
 use Rattle.lock_plan.specs.declared.program.Step.{Step}

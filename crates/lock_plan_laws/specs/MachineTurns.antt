@@ -1,25 +1,25 @@
 -- The turn of a party on the machine of a lock: the call that it makes, the reply, and what the party does by it.
 use Rattle.std.specs.Prelude.{◌≡◌, ℕ, Bool, true, false, ◌&&◌, if◌then◌else◌, List, Some}
-use Rattle.lock_base.specs.declared.machine.mode.Mode.{Mode}
-use Rattle.lock_base.specs.declared.machine.mode.Mode.TheVariants.{Shared, Exclusive, Upgradable}
-use Rattle.lock_base.specs.declared.machine.mode_step.ModeStep.TheVariants.{Acquire, Release, Change}
-use Rattle.lock_base.specs.declared.machine.kind.Kind.{Kind}
-use Rattle.lock_base.specs.declared.machine.call.Call.{Call}
-use Rattle.lock_base.specs.declared.machine.call.Form.{Form}
-use Rattle.lock_base.specs.declared.machine.call.Form.TheVariants.{Block, Try}
-use Rattle.lock_base.specs.declared.machine.call.Way.TheVariants.{Plain}
-use Rattle.lock_base.specs.declared.machine.call.Want.{Want}
-use Rattle.lock_base.specs.declared.machine.call.Want.TheVariants.{Lock, Read, Write, UpgradableRead}
-use Rattle.lock_base.specs.declared.machine.party.PartyId.{PartyId}
-use Rattle.lock_base.specs.declared.machine.reply.Reply.{Reply}
-use Rattle.lock_base.specs.declared.raw.fault.Fault.{Fault}
-use Rattle.lock_base.specs.declared.machine.lock_step.LockStep.{LockStep}
-use Rattle.lock_base.specs.declared.machine.lock_step.LockStep.TheVariants as lock_step
-use Rattle.lock_base.specs.Operation.{Operation}
-use Rattle.lock_base.specs.Kind.{is_rwlock}
-use Rattle.lock_base.specs.Entries.{Entry, find}
-use Rattle.lock_base.specs.Machine.{Machine}
-use Rattle.lock_base.specs.Steps.{Response, step}
+use Rattle.lock_modes.specs.declared.mode.Mode.{Mode}
+use Rattle.lock_modes.specs.declared.mode.Mode.TheVariants.{Shared, Exclusive, Upgradable}
+use Rattle.lock_modes.specs.declared.mode_step.ModeStep.TheVariants.{Acquire, Release, Change}
+use Rattle.lock_modes.specs.declared.kind.Kind.{Kind}
+use Rattle.lock_machine.specs.declared.call.Call.{Call}
+use Rattle.lock_machine.specs.declared.call.Form.{Form}
+use Rattle.lock_machine.specs.declared.call.Form.TheVariants.{Block, Try}
+use Rattle.lock_machine.specs.declared.call.Way.TheVariants.{Plain}
+use Rattle.lock_machine.specs.declared.call.Want.{Want}
+use Rattle.lock_machine.specs.declared.call.Want.TheVariants.{Lock, Read, Write, UpgradableRead}
+use Rattle.lock_modes.specs.declared.party.PartyId.{PartyId}
+use Rattle.lock_machine.specs.declared.reply.Reply.{Reply}
+use Rattle.lock_modes.specs.declared.fault.Fault.{Fault}
+use Rattle.lock_modes.specs.declared.lock_step.LockStep.{LockStep}
+use Rattle.lock_modes.specs.declared.lock_step.LockStep.TheVariants as lock_step
+use Rattle.lock_machine.specs.Operation.{Operation}
+use Rattle.lock_modes.specs.Kind.{is_rwlock}
+use Rattle.lock_machine.specs.Entries.{Entry, find}
+use Rattle.lock_machine.specs.Machine.{Machine}
+use Rattle.lock_machine.specs.Steps.{Response, step}
 use Rattle.lock_plan.specs.declared.lock.PlanLock.{PlanLock}
 use Rattle.lock_plan.specs.declared.turn.Turn.{Turn}
 use Rattle.lock_plan.specs.declared.turn.Turn.TheVariants.{Goes, Announces, Waits, Refused}

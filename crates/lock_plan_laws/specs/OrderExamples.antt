@@ -1,10 +1,10 @@
 -- Examples: two mutexes, and programs that keep the order of ranks or do not.
 use Rattle.std.specs.Prelude.{◌≡◌, ℕ, true, false, List, [], ◌∷◌, replicate, Some}
-use Rattle.lock_base.specs.declared.machine.kind.Kind.TheVariants as kind
-use Rattle.lock_base.specs.declared.machine.mode.Mode.TheVariants.{Exclusive}
-use Rattle.lock_base.specs.declared.machine.mode_step.ModeStep.TheVariants.{Acquire, Release}
-use Rattle.lock_base.specs.declared.machine.lock_step.LockStep.{LockStep}
-use Rattle.lock_base.specs.declared.machine.lock_step.LockStep.TheVariants.{Modes}
+use Rattle.lock_modes.specs.declared.kind.Kind.TheVariants as kind
+use Rattle.lock_modes.specs.declared.mode.Mode.TheVariants.{Exclusive}
+use Rattle.lock_modes.specs.declared.mode_step.ModeStep.TheVariants.{Acquire, Release}
+use Rattle.lock_modes.specs.declared.lock_step.LockStep.{LockStep}
+use Rattle.lock_modes.specs.declared.lock_step.LockStep.TheVariants.{Modes}
 use Rattle.lock_plan.specs.declared.lock.PlanLock.{PlanLock}
 use Rattle.lock_plan.specs.declared.program.Act.TheVariants.{Call}
 use Rattle.lock_plan.specs.declared.program.ProgramPlace.{ProgramPlace}

@@ -1,12 +1,12 @@
 -- Scenes: the machine of guards of each lock of a plan, and the place of each row. Rows are the parties and the flags.
 use Rattle.std.specs.Prelude.{◌≡◌, ℕ, Bool, true, false, ◌==◌, ◌⊎◌, if◌then◌else◌, List, [], ◌∷◌, map, zip, set, Option, Some}
 use Rattle.std.proofs.Common.{get_or}
-use Rattle.lock_base.specs.declared.machine.kind.Kind.{Kind}
-use Rattle.lock_base.specs.declared.machine.kind.Kind.TheVariants.{Mutex, RwLock, Reentrant}
-use Rattle.lock_base.specs.declared.machine.party.PartyId.{PartyId}
-use Rattle.lock_base.specs.Operation.{Operation}
-use Rattle.lock_base.specs.Party.{id_of}
-use Rattle.lock_base.specs.Machine.{Machine, start}
+use Rattle.lock_modes.specs.declared.kind.Kind.{Kind}
+use Rattle.lock_modes.specs.declared.kind.Kind.TheVariants.{Mutex, RwLock, Reentrant}
+use Rattle.lock_modes.specs.declared.party.PartyId.{PartyId}
+use Rattle.lock_machine.specs.Operation.{Operation}
+use Rattle.lock_modes.specs.Party.{id_of}
+use Rattle.lock_machine.specs.Machine.{Machine, start}
 use Rattle.lock_plan.specs.declared.call.PlanCall.{PlanCall}
 use Rattle.lock_plan.specs.declared.lock.PlanLock.{PlanLock}
 use Rattle.lock_plan.specs.declared.program.Act.{Act}

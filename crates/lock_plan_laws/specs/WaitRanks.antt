@@ -2,15 +2,15 @@
 -- have ranks: each is below all waits that may hold it up.
 use Rattle.std.specs.Prelude.{◌≡◌, ◌≢◌, ℕ, ◌*◌, ◌<◌, ◌≤◌, Bool, true, false, not, ◌&&◌, ◌||◌, nat_lt, ◌⊎◌, List, [], length, Some, Ok, IsTrue}
 use Rattle.std.proofs.Common.{get_or}
-use Rattle.lock_base.specs.declared.machine.bag.Bag.{Bag}
-use Rattle.lock_base.specs.declared.machine.hold.Hold.{Hold}
-use Rattle.lock_base.specs.declared.machine.lock_step.LockStep.TheVariants.{Modes}
-use Rattle.lock_base.specs.declared.machine.mode.Mode.{Mode}
-use Rattle.lock_base.specs.declared.machine.mode_step.ModeStep.TheVariants.{Acquire}
-use Rattle.lock_base.specs.Holds.{no_hold}
-use Rattle.lock_base.specs.Kind.{is_reentrant}
-use Rattle.lock_base.specs.Modes.{admits, readers, tokens}
-use Rattle.lock_base.specs.Operation.{Operation}
+use Rattle.lock_modes.specs.declared.bag.Bag.{Bag}
+use Rattle.lock_modes.specs.declared.hold.Hold.{Hold}
+use Rattle.lock_modes.specs.declared.lock_step.LockStep.TheVariants.{Modes}
+use Rattle.lock_modes.specs.declared.mode.Mode.{Mode}
+use Rattle.lock_modes.specs.declared.mode_step.ModeStep.TheVariants.{Acquire}
+use Rattle.lock_modes.specs.Holds.{no_hold}
+use Rattle.lock_modes.specs.Kind.{is_reentrant}
+use Rattle.lock_modes.specs.Modes.{admits, readers, tokens}
+use Rattle.lock_machine.specs.Operation.{Operation}
 use Rattle.lock_plan.specs.declared.lock.PlanLock.{PlanLock}
 use Rattle.lock_plan.specs.declared.program.Act.TheVariants.{Call}
 use Rattle.lock_plan.specs.declared.program.ProgramPlace.{ProgramPlace}

@@ -1,7 +1,7 @@
 //! Worlds of a plan are runs of machines.
 ghost use Rattle.lock_plan_laws.specs.Bridge.{RunsAreOfWorlds, WorldRunsAreOfMachines, StopsAreTheSame};
 
-use lock_base::machine::Op;
+use lock_machine::Op;
 
 /// The worlds of a plan are the runs of its programs on machines of guards, and both have the same stops.
 ///

@@ -1,7 +1,7 @@
 //! Circles never move.
 ghost use Rattle.lock_plan_laws.specs.Circles.{CirclesNeverMove, CirclesAreSets, CircleMachinesNeverMove};
 
-use lock_base::machine::Op;
+use lock_machine::Op;
 
 /// Whatever the other parties do, a party of a circle never makes a step, and keeps what it holds.
 ///

@@ -8,7 +8,7 @@ ghost use Rattle.lock_plan_laws.specs.OrderExamples.{OrderExamples};
 ghost use Rattle.lock_plan_laws.specs.Ranks.{IsOrdered, OrderedPlansNeverDeadlock, OrderedMachinesNeverStop};
 ghost use Rattle.lock_plan_laws.specs.WaitRanks.{RankedPlansNeverDeadlock, RankedMachinesNeverStop};
 
-use lock_base::machine::Op;
+use lock_machine::Op;
 
 /// No run of a plan in the order of ranks leads into a stop or a circle, for any number of parties, and no run of its machines
 /// of guards into a stop.

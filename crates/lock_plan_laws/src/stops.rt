@@ -5,7 +5,7 @@ ghost use Rattle.lock_plan.specs.Stops.{programs_of};
 ghost use Rattle.lock_plan.specs.Circles.{NeverDeadlocks, IsShortestDeadlock};
 ghost use Rattle.lock_plan_laws.specs.MachineStops.{MachinesNeverStop, IsShortestDeadlockOfMachines};
 
-use lock_base::machine::Op;
+use lock_machine::Op;
 use lock_plan::{Plan, Step};
 
 /// What [`explore`](lock_plan::explore) answers about a plan holds of machines of guards.

@@ -1,9 +1,9 @@
 -- The words of calls.
 use Rattle.std.specs.Prelude.{ℕ, Bool, true, false, List, codes}
-use Rattle.lock_base.specs.declared.machine.mode.Mode.TheVariants.{Shared, Exclusive, Upgradable}
-use Rattle.lock_base.specs.declared.machine.mode_step.ModeStep.TheVariants.{Acquire, Release, Change}
-use Rattle.lock_base.specs.declared.machine.lock_step.LockStep.{LockStep}
-use Rattle.lock_base.specs.declared.machine.lock_step.LockStep.TheVariants.{Modes, Announce, Withdraw}
+use Rattle.lock_modes.specs.declared.mode.Mode.TheVariants.{Shared, Exclusive, Upgradable}
+use Rattle.lock_modes.specs.declared.mode_step.ModeStep.TheVariants.{Acquire, Release, Change}
+use Rattle.lock_modes.specs.declared.lock_step.LockStep.{LockStep}
+use Rattle.lock_modes.specs.declared.lock_step.LockStep.TheVariants.{Modes, Announce, Withdraw}
 
 -- the word of a call on a reader-writer lock, or on another lock
 abbrev pub step_word : Bool → LockStep → List ℕ

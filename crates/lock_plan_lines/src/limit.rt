@@ -1,11 +1,11 @@
 //! Locks with a limit.
 ghost use Rattle.std.specs.Prelude.{◌≡◌, ◌↔◌, ◌∷◌, [], ℕ, Bool, true, false, ◌&&◌, codes, IfNone, IfSome, IsSome, decimal};
-ghost use Rattle.lock_base.specs.declared.machine.kind.Kind.TheVariants.{Mutex, RwLock, Reentrant};
-ghost use Rattle.lock_base.specs.Limits.{IsLimit};
+ghost use Rattle.lock_modes.specs.declared.kind.Kind.TheVariants.{Mutex, RwLock, Reentrant};
+ghost use Rattle.lock_modes.specs.Limits.{IsLimit};
 ghost use Rattle.script_text.specs.Lines.{fields_of};
 ghost use Rattle.lock_plan_lines.specs.PlanLines.{IsLimitField, limit_fields};
 
-use lock_base::machine::Kind;
+use lock_modes::Kind;
 use lock_plan::PlanLock;
 use script_text::{first_field, unsigned};
 

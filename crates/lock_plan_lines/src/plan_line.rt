@@ -1,6 +1,6 @@
 //! What lines of a plan say.
 use crate::named_word::NamedWord;
-use lock_base::machine::LockStep;
+use lock_modes::LockStep;
 use lock_plan::PlanLock;
 
 /// How many parties a line makes.

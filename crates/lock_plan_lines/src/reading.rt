@@ -16,7 +16,7 @@ use crate::plan_line::{Parties, PlanLine};
 use crate::text_line::TextLine;
 use crate::verb::verb;
 use crate::wait::read_wait;
-use lock_base::machine::{Kind, LockStep, Mode, ModeStep};
+use lock_modes::{Kind, LockStep, Mode, ModeStep};
 use lock_plan::PlanLock;
 use script_text::{Part, first_field};
 

@@ -2,7 +2,7 @@
 use crate::block_line::BlockWord;
 use crate::plan_line::PlanLine;
 use crate::wait_line::WaitLine;
-use lock_base::machine::LockStep;
+use lock_modes::LockStep;
 
 /// What a line of a text says.
 #[derive(Clone, Copy, PartialEq, Eq, Debug)]

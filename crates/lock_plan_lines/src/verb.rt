@@ -3,7 +3,7 @@ ghost use Rattle.std.specs.Prelude.{◌≡◌, Bool, IfNone, IfSome};
 ghost use Rattle.lock_plan_lines.specs.Words.{step_word};
 ghost use Rattle.lock_plan_lines.specs.PlanLines.{IsVerb};
 
-use lock_base::machine::{LockStep, Mode, ModeStep};
+use lock_modes::{LockStep, Mode, ModeStep};
 
 /// Reads the word of a call. Returns what the call does, and whether the word is one for reader-writer locks.
 pub(crate) fn verb(word: &str) -> Option<(bool, LockStep)>

@@ -6,7 +6,7 @@ use Rattle.std.specs.List.{list_all, list_any}
 use Rattle.std.proofs.Math.Nat.{div-mul-le_self}
 use Rattle.std.proofs.lemmas.Bool.{and_parts, cases_eq, ltb-true, not-false, not-true}
 use Rattle.std.proofs.lemmas.List.{get_or_append_left, get_or_push, length-map}
-use Rattle.lock_base.specs.declared.machine.hold.Hold.{Hold}
+use Rattle.lock_modes.specs.declared.hold.Hold.{Hold}
 use Rattle.lock_plan.specs.declared.lock.PlanLock.{PlanLock}
 use Rattle.lock_plan.specs.Known.{Known, known_at}
 use Rattle.lock_plan.specs.Worlds.{no_lock}

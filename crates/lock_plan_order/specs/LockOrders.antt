@@ -4,10 +4,10 @@ use Rattle.std.specs.Global.{Global}
 use Rattle.std.specs.List.{list_all, list_any, position}
 use Rattle.std.specs.Option.{unwrap_or}
 use Rattle.std.proofs.Common.{get_or}
-use Rattle.lock_base.specs.declared.machine.hold.Hold.{Hold}
-use Rattle.lock_base.specs.Holds.{no_hold}
-use Rattle.lock_base.specs.Kind.{is_reentrant}
-use Rattle.lock_base.specs.Modes.{readers}
+use Rattle.lock_modes.specs.declared.hold.Hold.{Hold}
+use Rattle.lock_modes.specs.Holds.{no_hold}
+use Rattle.lock_modes.specs.Kind.{is_reentrant}
+use Rattle.lock_modes.specs.Modes.{readers}
 use Rattle.lock_plan.specs.declared.lock.PlanLock.{PlanLock}
 use Rattle.lock_plan.specs.declared.program.ProgramPlace.{ProgramPlace}
 use Rattle.lock_plan.specs.Circles.{NeverDeadlocks}

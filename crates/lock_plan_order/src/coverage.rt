@@ -2,14 +2,14 @@
 ghost use Rattle.std.specs.Prelude.{◌≡◌, map, not, option_map, IsTrue, List, Some, []};
 ghost use Rattle.std.proofs.Common.{get_or};
 ghost use Rattle.std.specs.List.{list_all};
-ghost use Rattle.lock_base.specs.declared.machine.hold.Hold.{Hold as SpecHold};
+ghost use Rattle.lock_modes.specs.declared.hold.Hold.{Hold as SpecHold};
 ghost use Rattle.lock_plan.specs.Checks.{fit_machines};
 ghost use Rattle.lock_plan_laws.specs.OrderChecks.{covers, covers_at, covers_from};
 ghost use Rattle.lock_plan_laws.specs.Ranks.{is_ranked_step};
 ghost use Rattle.lock_plan_order.specs.LockOrders.{AreCovered, held_in};
 
 use crate::ranks::{are_free, held_of, program_of};
-use lock_base::machine::{Hold, LockStep, Mode, ModeStep};
+use lock_modes::{Hold, LockStep, Mode, ModeStep};
 use lock_plan::{Act, Block, PlanLock, ProgramPlace, act_in};
 
 /// Returns whether machines can be the locks.

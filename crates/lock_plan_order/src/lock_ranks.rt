@@ -8,7 +8,7 @@ ghost use Rattle.lock_plan_order.specs.LockOrders.{AreKept, AreKnown, IsKept, he
 
 use crate::coverage::{covers_at, fit_machines};
 use crate::ranks::{held_of, is_free, program_of};
-use lock_base::machine::{Hold, LockStep, ModeStep};
+use lock_modes::{Hold, LockStep, ModeStep};
 use lock_plan::{Act, PlanLock, ProgramPlace, act_in};
 
 /// Returns whether an order covers the locks, and each of the programs keeps it.

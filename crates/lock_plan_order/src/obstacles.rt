@@ -2,7 +2,7 @@
 use crate::coverage::covers_act;
 use crate::lock_order::Obstacle;
 use crate::ranks::is_free;
-use lock_base::machine::Hold;
+use lock_modes::Hold;
 use lock_plan::{Act, PlanLock, ProgramPlace, Signal};
 use std::alloc::AllocError;
 

@@ -11,7 +11,7 @@ use crate::lock_ranks::is_kept;
 use crate::obstacles::add_obstacles;
 use crate::setting::Setting;
 use crate::wait_ranks::{has_no_circle, waits_of};
-use lock_base::machine::Hold;
+use lock_modes::Hold;
 use lock_plan::{PlanFault, PlanLock, ProgramPlace, known_holds};
 use std::alloc::{AllocError, Global};
 

@@ -2,12 +2,12 @@
 ghost use Rattle.std.specs.Prelude.{◌≡◌, ◌==◌, [], map, not, nat_lt, option_map};
 ghost use Rattle.std.proofs.Common.{get_or};
 ghost use Rattle.std.specs.List.{list_all};
-ghost use Rattle.lock_base.specs.Holds.{no_hold};
-ghost use Rattle.lock_base.specs.Modes.{tokens};
+ghost use Rattle.lock_modes.specs.Holds.{no_hold};
+ghost use Rattle.lock_modes.specs.Modes.{tokens};
 ghost use Rattle.lock_plan.specs.Worlds.{no_lock};
 ghost use Rattle.lock_plan_order.specs.LockOrders.{held_in};
 
-use lock_base::machine::{Bag, Hold, Kind};
+use lock_modes::{Bag, Hold, Kind};
 use lock_plan::{PlanLock, ProgramPlace};
 
 /// Returns a program, or an empty one if there is none with this number.

@@ -1,8 +1,8 @@
 //! Which waits may hold up which.
 ghost use Rattle.std.specs.Prelude.{◌≡◌, ◌+◌, ◌&&◌, map, nat_lt, not, option_map, true, false, []};
 ghost use Rattle.std.proofs.Common.{get_or};
-ghost use Rattle.lock_base.specs.Holds.{no_hold};
-ghost use Rattle.lock_base.specs.Modes.{admits, readers, tokens};
+ghost use Rattle.lock_modes.specs.Holds.{no_hold};
+ghost use Rattle.lock_modes.specs.Modes.{admits, readers, tokens};
 ghost use Rattle.lock_plan.specs.Worlds.{no_lock};
 ghost use Rattle.lock_plan_laws.specs.WaitRanks.{excludes, is_sole, may_hold_up};
 ghost use Rattle.lock_plan_order.specs.LockOrders.{held_in};
@@ -10,7 +10,7 @@ ghost use Rattle.lock_plan_order.specs.WaitChecks.{are_together, are_two, holds_
 
 use crate::ranks::{bag_of, held_of, is_held, lock_at};
 use crate::wait_place::WaitPlace;
-use lock_base::machine::{Bag, Hold, Mode};
+use lock_modes::{Bag, Hold, Mode};
 use lock_plan::PlanLock;
 
 /// Locks, and what a party with each program holds at each place.

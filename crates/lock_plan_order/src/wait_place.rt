@@ -1,11 +1,11 @@
 //! A place at which a party blocks for a lock while it holds one.
 ghost use Rattle.std.specs.Prelude.{◌≡◌, option_map, not};
 ghost use Rattle.std.specs.List.{list_all};
-ghost use Rattle.lock_base.specs.Modes.{tokens};
+ghost use Rattle.lock_modes.specs.Modes.{tokens};
 ghost use Rattle.lock_plan_order.specs.WaitChecks.{holds_some, wait_at, wait_by, wait_of};
 
 use crate::ranks::are_free;
-use lock_base::machine::{Hold, LockStep, Mode, ModeStep};
+use lock_modes::{Hold, LockStep, Mode, ModeStep};
 use lock_plan::Act;
 
 /// A party that runs the program blocks at the place for the lock, and holds something there.

@@ -9,7 +9,7 @@ use crate::coverage::{are_covered, fit_machines};
 use crate::ranks::{held_of, program_of};
 use crate::setting::Setting;
 use crate::wait_place::WaitPlace;
-use lock_base::machine::Hold;
+use lock_modes::Hold;
 use lock_plan::{ProgramPlace, act_in};
 use std::alloc::{AllocError, Global};
 

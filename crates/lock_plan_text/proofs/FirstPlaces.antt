@@ -1,8 +1,8 @@
 -- A signal at the first place of a program can always be made.
 use Rattle.std.proofs.Common.{◌≡◌, ◌∙◌, ℕ, zero, suc, ◌<◌, Bool, true, List, length, get_or, Option, Some, None, cond, refl, sym, ap, arith, replicate}
 use Rattle.std.specs.Prelude.{Result, Ok, Err}
-use Rattle.lock_base.specs.declared.machine.hold.Hold.{Hold}
-use Rattle.lock_base.specs.Holds.{no_hold}
+use Rattle.lock_modes.specs.declared.hold.Hold.{Hold}
+use Rattle.lock_modes.specs.Holds.{no_hold}
 use Rattle.lock_plan.specs.declared.fault.CallFault.{CallFault}
 use Rattle.lock_plan.specs.declared.fault.CallFault.TheVariants.{HoldsDiffer}
 use Rattle.lock_plan.specs.declared.fault.PlanFault.TheVariants as plan

@@ -1,7 +1,7 @@
 -- The fault of a program is that of one of its places.
 use Rattle.std.proofs.Common.{◌≡◌, ℕ, zero, suc, ◌<◌, Bool, true, false, List, length, get_or, Option, Some, None, cond, refl, sym, ap, arith}
 use Rattle.std.specs.Prelude.{Result, Ok, Err}
-use Rattle.lock_base.specs.declared.machine.hold.Hold.{Hold}
+use Rattle.lock_modes.specs.declared.hold.Hold.{Hold}
 use Rattle.lock_plan.specs.declared.fault.CallFault.{CallFault}
 use Rattle.lock_plan.specs.declared.fault.CallFault.TheVariants.{HoldsDiffer, Unreached}
 use Rattle.lock_plan.specs.declared.fault.PlanFault.TheVariants as plan

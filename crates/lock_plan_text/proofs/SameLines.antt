@@ -2,7 +2,7 @@
 use Rattle.std.proofs.Common.{◌≡◌, ℕ, Bool, List, [], ◌∷◌, ◌++◌, get_or, Option, Some, None, refl, ap, ◌∙◌}
 use Rattle.std.specs.Prelude.{option_map}
 use Rattle.std.specs.Option.{option_and_then}
-use Rattle.lock_base.specs.declared.machine.lock_step.LockStep.{LockStep}
+use Rattle.lock_modes.specs.declared.lock_step.LockStep.{LockStep}
 use Rattle.lock_plan.specs.declared.lock.PlanLock.{PlanLock}
 use Rattle.lock_plan.specs.Worlds.{no_lock}
 use Rattle.lock_plan_lines.specs.declared.block_line.BlockLine.{BlockLine}

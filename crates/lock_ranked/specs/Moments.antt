@@ -1,6 +1,6 @@
 -- Threads that hold ranked locks and sleep for ranked locks, at one moment.
 use Rattle.std.specs.Prelude.{◌≡◌, ℕ, ◌<◌, true, false, slice_get, Some, ◌⊎◌}
-use Rattle.lock_base.specs.Modes.{tokens}
+use Rattle.lock_modes.specs.Modes.{tokens}
 use Rattle.lock_word.specs.declared.want.ExWant.{ExWant}
 use Rattle.lock_word.specs.declared.want.ExWant.TheVariants.{Exclusive}
 use Rattle.lock_one.specs.declared.park.ParkView.{ParkView}

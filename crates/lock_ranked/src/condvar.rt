@@ -2,7 +2,7 @@
 ghost use Rattle.std.specs.Prelude.{◌≡◌, false, IsOkUnless};
 ghost use Rattle.std.specs.Sync.Mutex.{mutex_guard_value};
 ghost use Rattle.lock_guard.specs.Held.{held_value};
-ghost use Rattle.lock_guard.specs.Waits.{WaitedFor};
+ghost use Rattle.lock_traits.specs.Waits.{WaitedFor};
 ghost use Rattle.lock_mutex.specs.Condvar.{raw_condvar_of, HasWaited};
 ghost use Rattle.lock_mutex.specs.WaitsWhile.{WaitsWhile, has_timed_out};
 ghost use Rattle.lock_ranked.specs.Condvars.{plain_of};
@@ -11,9 +11,9 @@ ghost use Rattle.lock_ranked.specs.Guards.{held_of};
 use crate::mutex::RankedMutexGuard;
 use crate::order::Order;
 use crate::rank::{AtRank, Rank};
-use lock_base::raw::Fault;
-use lock_guard::raw::{RawCondvar, RawCondvarTimed, RawMutexTimed};
+use lock_modes::Fault;
 use lock_mutex::{Condvar, WaitTimeoutResult};
+use lock_traits::{RawCondvar, RawCondvarTimed, RawMutexTimed};
 use std::alloc::Global;
 
 /// A condition variable, to wait on with the guard of a ranked mutex. A wait may end spuriously.

@@ -9,11 +9,11 @@ ghost use Rattle.lock_ranked.specs.MappedGuards.{mapped_of, IsMappedOr};
 use crate::order::{Acquired, Order};
 use crate::rank::{Rank, Under};
 use crate::ranked::{Ranked, RankedLock, RankedMapped, ranked};
-use lock_base::project::{TryView, View};
-use lock_base::raw::Fault;
 use lock_guard::guard::{Acquire, AcquireFair, ValueGuard};
-use lock_guard::raw::{RawMutex, RawMutexTimed};
+use lock_modes::Fault;
 use lock_mutex::{Guard, MappedMutexGuard, Mutex, MutexGuard};
+use lock_parts::{TryView, View};
+use lock_traits::{RawMutex, RawMutexTimed};
 use std::alloc::Global;
 
 /// A mutex of rank `K`, over any raw lock. A blocking acquisition requires that the thread holds nothing at `K` or above.

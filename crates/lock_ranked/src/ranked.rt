@@ -3,9 +3,9 @@ ghost use Rattle.std.specs.Prelude.{◌≡◌};
 ghost use Rattle.std.specs.Borrow.{Lends, sem};
 
 use crate::rank::{AtRank, Rank, Under};
-use lock_base::project::Project;
 use lock_guard::guard::{Acquire, Held, LockGuard, LockGuardMut, Mapped, ValueGuardMut};
 use lock_mutex::Guard;
+use lock_parts::Project;
 use lock_rwlock::RwLockGuard;
 use std::fmt;
 use std::fmt::{Debug, Display, Formatter};

@@ -1,6 +1,6 @@
 //! A reentrant mutex with a rank.
 ghost use Rattle.std.specs.Prelude.{◌≡◌, ◌<◌, ◌≤◌, IfErr, IfOk, IfSome, IsOkUnless};
-ghost use Rattle.lock_base.specs.Party.{id_of};
+ghost use Rattle.lock_modes.specs.Party.{id_of};
 ghost use Rattle.std.specs.Option.{is_some};
 ghost use Rattle.lock_remutex.specs.Guards.{raw_of, value_of};
 ghost use Rattle.lock_remutex.specs.LevelSteps.{TriedLevel};
@@ -9,10 +9,9 @@ ghost use Rattle.lock_ranked.specs.ReentrantGuards.{owner_of, plain_of, remutex_
 use crate::order::{Acquired, Order};
 use crate::rank::Rank;
 use crate::ranked::{Ranked, RankedLock};
-use lock_base::machine::PartyId;
-use lock_base::raw::Fault;
-use lock_guard::raw::{RawMutex, RawMutexTimed};
+use lock_modes::{Fault, PartyId};
 use lock_remutex::{ReentrantMutex, ReentrantMutexGuard};
+use lock_traits::{RawMutex, RawMutexTimed};
 use std::alloc::Global;
 
 /// A reentrant mutex of rank `K`. The first acquisition requires that the thread holds nothing at `K` or above; the guard

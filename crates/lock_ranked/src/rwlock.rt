@@ -1,14 +1,14 @@
 //! A reader-writer lock with a rank.
 ghost use Rattle.std.specs.Prelude.{◌≡◌, ◌↔◌, ◌<◌, ◌≤◌, option_and_then, IfErr, IfOk, IfSome, IsOkUnless};
-ghost use Rattle.lock_base.specs.Limits.{IsLimit, IsMakerFault};
+ghost use Rattle.lock_modes.specs.Limits.{IsLimit, IsMakerFault};
 ghost use Rattle.lock_ranked.specs.RwLockGuards.{plain_of, raw_of, token_of, IsGuardOf};
 
 use crate::order::{Acquired, Order};
 use crate::rank::Rank;
 use crate::ranked::RankedLock;
-use lock_base::raw::Fault;
-use lock_guard::raw::{RawRwLock, RawRwLockTimed, RawRwLockUpgrade, RawRwLockUpgradeTimed};
+use lock_modes::Fault;
 use lock_rwlock::{RwLock, RwLockReadGuard, RwLockUpgradableReadGuard, RwLockWriteGuard};
+use lock_traits::{RawRwLock, RawRwLockTimed, RawRwLockUpgrade, RawRwLockUpgradeTimed};
 use std::alloc::Global;
 
 /// A reader-writer lock of rank `K`, over any raw lock. A blocking acquisition in any mode requires that the thread holds

@@ -11,14 +11,14 @@ ghost use Rattle.lock_ranked.specs.RwLockGuards.{held_of, raw_under, token_of, S
 use crate::order::Order;
 use crate::rank::{Rank, Under};
 use crate::ranked::{Ranked, RankedMapped, ranked};
-use lock_base::project::{TryView, View};
 use lock_guard::guard::{Acquire, AcquireFair, ValueGuard};
-use lock_guard::raw::{
-    RawRwLockDowngrade, RawRwLockUpgrade, RawRwLockUpgradeDowngrade, RawRwLockUpgradeTimed,
-};
+use lock_parts::{TryView, View};
 use lock_rwlock::{
     Exclusive, InMode, Mappable, MappedRwLockReadGuard, MappedRwLockWriteGuard, RwLockGuard,
     RwLockReadGuard, RwLockUpgradableReadGuard, RwLockWriteGuard, Upgradable,
+};
+use lock_traits::{
+    RawRwLockDowngrade, RawRwLockUpgrade, RawRwLockUpgradeDowngrade, RawRwLockUpgradeTimed,
 };
 
 /// A guard of a reader-writer lock of rank `K` in one mode, acquired in an order at `B`. It releases the lock on drop, and

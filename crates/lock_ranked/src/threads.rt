@@ -3,7 +3,7 @@ ghost use Rattle.std.specs.Prelude.{IsOkUnless};
 
 use crate::order::{Order, ThreadOrder};
 use crate::rank::AtRank;
-use lock_base::raw::Fault;
+use lock_modes::Fault;
 use std::thread;
 use std::thread::{JoinHandle, Threads};
 

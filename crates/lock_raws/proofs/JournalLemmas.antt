@@ -2,17 +2,17 @@
 use Rattle.std.proofs.Common.{◌≡◌, ℕ, ◌<◌, Bool, true, false, nat_lt, List, [], ◌∷◌, ◌++◌, length, length-append, refl, sym, ap, ◌∙◌, subst, arith, ltb-true}
 use Rattle.std.specs.Prelude.{if◌then◌else◌}
 use Rattle.std.proofs.lemmas.Bool.{false≢true}
-use Rattle.lock_base.specs.declared.machine.mode.Mode.{Mode}
-use Rattle.lock_base.specs.declared.machine.mode_step.ModeStep.{ModeStep}
-use Rattle.lock_base.specs.declared.machine.bag.Bag.{Bag}
-use Rattle.lock_base.specs.Modes.{empty_bag}
-use Rattle.lock_base.specs.ModeRuns.{Permits, bag_after, IsModeRun}
-use Rattle.lock_base.specs.Tokens.{bag_of_tokens}
-use Rattle.lock_base.specs.Limits.{IsLimit}
+use Rattle.lock_modes.specs.declared.mode.Mode.{Mode}
+use Rattle.lock_modes.specs.declared.mode_step.ModeStep.{ModeStep}
+use Rattle.lock_modes.specs.declared.bag.Bag.{Bag}
+use Rattle.lock_modes.specs.Modes.{empty_bag}
+use Rattle.lock_modes.specs.ModeRuns.{Permits, bag_after, IsModeRun}
+use Rattle.lock_modes.specs.Tokens.{bag_of_tokens}
+use Rattle.lock_modes.specs.Limits.{IsLimit}
 use Rattle.lock_raws.specs.Journal.{Journal, empty_journal, journal_after, IsJournalOf}
 use Rattle.lock_raws.specs.Recording.{IsRecording}
-use Rattle.lock_base.proofs.ModeLemmas.{IsModeRun-push}
-use Rattle.lock_base.proofs.TokenSteps.{MakesStep}
+use Rattle.lock_modes.proofs.ModeLemmas.{IsModeRun-push}
+use Rattle.lock_modes.proofs.TokenSteps.{MakesStep}
 
 empty_is_journal : (limit room : ℕ) → IsJournalOf limit empty_bag (empty_journal room)
 empty_is_journal limit room = record {

@@ -2,16 +2,16 @@
 use Rattle.std.proofs.Common.{◌≡◌, ◌↔◌, ℕ, ◌<◌, ◌≤◌, Bool, true, false, ◌&&◌, List, length, refl, sym, subst, ◌∙◌, arith, Option, Some, None, Result, Ok, Err}
 use Rattle.std.proofs.lemmas.Bool.{and_parts}
 use Rattle.std.specs.Prelude.{IsTrue, is_some, is_ok, IfSome, IfNone, IfOk, OnErr}
-use Rattle.lock_base.specs.declared.machine.mode.Mode.{Mode}
-use Rattle.lock_base.specs.declared.machine.mode_step.ModeStep.{ModeStep}
-use Rattle.lock_base.specs.declared.machine.bag.Bag.{Bag}
-use Rattle.lock_base.specs.Modes.{tokens, AreCompatible, admits, may_become, is_move, one_more}
-use Rattle.lock_base.specs.Tokens.{bag_of_tokens, IsOutAs, Adds, Removes, Replaces}
-use Rattle.lock_base.specs.Limits.{IsLimit}
+use Rattle.lock_modes.specs.declared.mode.Mode.{Mode}
+use Rattle.lock_modes.specs.declared.mode_step.ModeStep.{ModeStep}
+use Rattle.lock_modes.specs.declared.bag.Bag.{Bag}
+use Rattle.lock_modes.specs.Modes.{tokens, AreCompatible, admits, may_become, is_move, one_more}
+use Rattle.lock_modes.specs.Tokens.{bag_of_tokens, IsOutAs, Adds, Removes, Replaces}
+use Rattle.lock_modes.specs.Limits.{IsLimit}
 use Rattle.lock_raws.specs.TokenArbiter.{IsLegalState}
-use Rattle.lock_base.proofs.TokenBags.{tokens-bag_of_tokens}
-use Rattle.lock_base.proofs.ModeLemmas.{compatible_acquired, tokens-one_more}
-use Rattle.lock_base.proofs.TokenSteps.{MakesStep, acquires, releases, changes, stay_compatible}
+use Rattle.lock_modes.proofs.TokenBags.{tokens-bag_of_tokens}
+use Rattle.lock_modes.proofs.ModeLemmas.{compatible_acquired, tokens-one_more}
+use Rattle.lock_modes.proofs.TokenSteps.{MakesStep, acquires, releases, changes, stay_compatible}
 
 -- compatible tokens are no more than the limit
 pub compatible_within : (limit : ℕ) (b : Bag) → 0 < limit → AreCompatible limit b → tokens b ≤ limit

@@ -1,7 +1,7 @@
 -- Which changes of a token's mode are downgrades.
 use Rattle.std.specs.Prelude.{Bool, ◌&&◌, not}
-use Rattle.lock_base.specs.declared.machine.mode.Mode.{Mode}
-use Rattle.lock_base.specs.Modes.{is_exclusive, is_move}
+use Rattle.lock_modes.specs.declared.mode.Mode.{Mode}
+use Rattle.lock_modes.specs.Modes.{is_exclusive, is_move}
 
 -- a move that is no upgrade
 abbrev pub is_downgrade : Mode → Mode → Bool

@@ -1,9 +1,9 @@
 -- Journals of the steps that a lock made.
 use Rattle.std.specs.Prelude.{◌≡◌, ℕ, ◌≤◌, Bool, true, false, nat_lt, if◌then◌else◌, List, [], ◌∷◌, ◌++◌, length}
-use Rattle.lock_base.specs.declared.machine.mode_step.ModeStep.{ModeStep}
-use Rattle.lock_base.specs.declared.machine.bag.Bag.{Bag}
-use Rattle.lock_base.specs.Modes.{empty_bag}
-use Rattle.lock_base.specs.ModeRuns.{IsModeRun, Replays}
+use Rattle.lock_modes.specs.declared.mode_step.ModeStep.{ModeStep}
+use Rattle.lock_modes.specs.declared.bag.Bag.{Bag}
+use Rattle.lock_modes.specs.Modes.{empty_bag}
+use Rattle.lock_modes.specs.ModeRuns.{IsModeRun, Replays}
 
 -- the recorded steps, the capacity, and whether a step found no room
 pub record Journal : Type 0 where

@@ -1,8 +1,8 @@
 -- The token of a monitor.
 use Rattle.std.specs.Prelude.{Bool}
-use Rattle.lock_base.specs.declared.machine.mode.Mode.{Mode}
-use Rattle.lock_base.specs.declared.machine.mode.Mode.TheVariants.{Shared, Exclusive, Upgradable}
-use Rattle.lock_base.specs.Modes.{is_shared, is_exclusive, is_upgradable}
+use Rattle.lock_modes.specs.declared.mode.Mode.{Mode}
+use Rattle.lock_modes.specs.declared.mode.Mode.TheVariants.{Shared, Exclusive, Upgradable}
+use Rattle.lock_modes.specs.Modes.{is_shared, is_exclusive, is_upgradable}
 use Rattle.lock_raws.specs.declared.monitor.steps.mode_token.ModeToken.{ModeToken}
 
 -- whether the modes are the same

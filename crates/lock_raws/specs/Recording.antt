@@ -1,9 +1,9 @@
 -- The held tokens of a lock, with the journal of its steps.
 use Rattle.std.specs.Prelude.{◌≡◌, ℕ, Bool, List, Option, Some, None}
-use Rattle.lock_base.specs.declared.machine.mode.Mode.{Mode}
-use Rattle.lock_base.specs.declared.machine.mode_step.ModeStep.{ModeStep}
-use Rattle.lock_base.specs.Tokens.{bag_of_tokens}
-use Rattle.lock_base.specs.Limits.{IsLimit}
+use Rattle.lock_modes.specs.declared.mode.Mode.{Mode}
+use Rattle.lock_modes.specs.declared.mode_step.ModeStep.{ModeStep}
+use Rattle.lock_modes.specs.Tokens.{bag_of_tokens}
+use Rattle.lock_modes.specs.Limits.{IsLimit}
 use Rattle.lock_raws.specs.Journal.{Journal, journal_after, IsJournalOf}
 
 pub record Recording (K : Type 0) : Type 0 where

@@ -1,9 +1,9 @@
 -- The invariant of the raw state behind an arbiter.
 use Rattle.std.specs.Prelude.{◌≡◌, ℕ, Bool, List}
-use Rattle.lock_base.specs.declared.machine.mode.Mode.{Mode}
-use Rattle.lock_base.specs.Modes.{AreCompatible}
-use Rattle.lock_base.specs.Tokens.{bag_of_tokens}
-use Rattle.lock_base.specs.Limits.{IsLimit}
+use Rattle.lock_modes.specs.declared.mode.Mode.{Mode}
+use Rattle.lock_modes.specs.Modes.{AreCompatible}
+use Rattle.lock_modes.specs.Tokens.{bag_of_tokens}
+use Rattle.lock_modes.specs.Limits.{IsLimit}
 
 -- the held tokens, whether the bar is set, and the readers' limit
 pub record TokensOut (K : Type 0) : Type 0 where

@@ -1,7 +1,7 @@
 -- Which waiters a step wakes.
 use Rattle.std.specs.Prelude.{◌≡◌, ℕ, Bool, true, false, not, ◌&&◌, ◌==◌, if◌then◌else◌, Option, ⊤, IsSomeAnd}
 use Rattle.atomic_table.specs.Seated.{TableId}
-use Rattle.lock_base.specs.declared.machine.bag.Bag.{Bag}
+use Rattle.lock_modes.specs.declared.bag.Bag.{Bag}
 use Rattle.lock_word.specs.declared.occupancy.Occupancy.{Occupancy}
 use Rattle.lock_word.specs.Unblocking.{occupancy, unblocks}
 use Rattle.lock_wake.specs.declared.owed_wake.Whom.{Whom}

@@ -1,15 +1,14 @@
 //! The arbiter of a raw lock: it decides which tokens are held.
 ghost use Rattle.std.specs.Prelude.{◌≡◌, ℕ, Bool, false, not, ◌&&◌, ◌||◌, List, [], ◌↔◌, IsTrue, Option, if◌then◌else◌, is_some, is_ok, ◌<◌, ◌^◌, IfOk, IfErr, IfSome, IfNone, OnErr, MatchResult};
 ghost use Rattle.std.specs.Bool.{OnTrue, OnFalse};
-ghost use Rattle.lock_base.specs.declared.machine.mode.Mode.{Mode};
-ghost use Rattle.lock_base.specs.declared.machine.mode_step.ModeStep.{ModeStep};
-ghost use Rattle.lock_base.specs.Bar.{passes_bar};
-ghost use Rattle.lock_base.specs.Modes.{tokens, admits, may_become, is_move, AreCompatible};
-ghost use Rattle.lock_base.specs.Tokens.{bag_of_tokens, IsOutAs, Adds, Removes, Replaces};
-ghost use Rattle.lock_base.specs.Limits.{IsLimit, IsMakerFault};
+ghost use Rattle.lock_modes.specs.declared.mode.Mode.{Mode};
+ghost use Rattle.lock_modes.specs.declared.mode_step.ModeStep.{ModeStep};
+ghost use Rattle.lock_modes.specs.Bar.{passes_bar};
+ghost use Rattle.lock_modes.specs.Modes.{tokens, admits, may_become, is_move, AreCompatible};
+ghost use Rattle.lock_modes.specs.Tokens.{bag_of_tokens, IsOutAs, Adds, Removes, Replaces};
+ghost use Rattle.lock_modes.specs.Limits.{IsLimit, IsMakerFault};
 
-use lock_base::machine::{Bag, Mode, ModeStep};
-use lock_base::raw::Fault;
+use lock_modes::{Bag, Fault, Mode, ModeStep};
 use std::alloc::Global;
 
 /// A token whose mode was not changed.

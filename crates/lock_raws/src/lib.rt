@@ -22,8 +22,8 @@ mod wake;
 mod word_core;
 
 pub use arbiter::{Arbiter, Unchanged, upgraded};
-pub use lock_base::machine::ModeStep;
 pub use lock_core::LockCore;
+pub use lock_modes::ModeStep;
 pub use monitor::{ModeToken, Monitor};
 pub use raw_lock::RawLock;
 pub use real_time::{RealTime, TimedCondvar, TimedRaw};

@@ -1,12 +1,11 @@
 //! The core of a raw lock.
 ghost use Rattle.std.specs.Prelude.{◌≡◌, ◌↔◌, ◌⊎◌, Bool, true, ⊤, Option, None, IsTrue, IfSome, IfNone, IfErr, IfOk, OnErr};
 ghost use Rattle.std.specs.Result.{result_ok};
-ghost use Rattle.lock_base.specs.declared.machine.mode.Mode.{Mode};
-ghost use Rattle.lock_base.specs.Limits.{IsLimit, IsMakerFault};
+ghost use Rattle.lock_modes.specs.declared.mode.Mode.{Mode};
+ghost use Rattle.lock_modes.specs.Limits.{IsLimit, IsMakerFault};
 ghost use Rattle.lock_raws.specs.Downgrades.{is_downgrade};
 
-use lock_base::machine::Mode;
-use lock_base::raw::Fault;
+use lock_modes::{Fault, Mode};
 use std::alloc::Global;
 use std::clone::Clone;
 use std::sync::Wait;

@@ -1,6 +1,6 @@
 //! An arbiter behind a std mutex.
 ghost use Rattle.std.specs.Prelude.{IfErr, ◌≡◌};
-ghost use Rattle.lock_base.specs.declared.raw.fault.Fault.TheVariants as fault;
+ghost use Rattle.lock_modes.specs.declared.fault.Fault.TheVariants as fault;
 ghost use Rattle.lock_raws.specs.ModeTokens.{mode_of, same_mode};
 
 mod steps;
@@ -8,9 +8,8 @@ mod steps;
 use crate::arbiter::Arbiter;
 use crate::lock_core::LockCore;
 use crate::wake::MonitorWaiters;
-use lock_base::machine::Mode;
-use lock_base::raw::Fault;
-use lock_guard::lock_std;
+use lock_modes::{Fault, Mode};
+use lock_traits::lock_std;
 use std::alloc::Global;
 use std::clone::Clone;
 use std::sync::{Mutex, MutexGuard, Wait};

@@ -1,13 +1,12 @@
 //! The raw lock as a raw mutex, with a readers' limit of 1.
 ghost use Rattle.std.specs.Prelude.{◌⊎◌, None, option_map, IfNone};
-ghost use Rattle.lock_base.specs.declared.machine.mode.Mode.{Mode};
+ghost use Rattle.lock_modes.specs.declared.mode.Mode.{Mode};
 
 use crate::lock_core::LockCore;
 use crate::raw_lock::RawLock;
 use crate::tokens::ExclusiveToken;
-use lock_base::machine::Mode;
-use lock_base::raw::Fault;
-use lock_guard::raw::{RawMutex, RawMutexFair, RawMutexTimed};
+use lock_modes::{Fault, Mode};
+use lock_traits::{RawMutex, RawMutexFair, RawMutexTimed};
 use std::alloc::Global;
 
 impl<C: LockCore> RawMutex for RawLock<C> {

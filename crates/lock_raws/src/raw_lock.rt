@@ -2,7 +2,7 @@
 ghost use Rattle.std.specs.Prelude.{◌≡◌, ◌⊎◌, true, None, IfSome, IfNone, IfOk, IfErr, OnErr};
 
 use crate::lock_core::LockCore;
-use lock_base::machine::Mode;
+use lock_modes::Mode;
 
 /// All raw traits over one core. As a `RawMutex` its readers' limit is 1. The type of a token names its mode.
 #[derive(Drop)]

@@ -3,7 +3,7 @@ use crate::raw_lock::RawLock;
 use crate::sleeping_condvar::SleepingCondvar;
 use crate::timing::Timing;
 use crate::word_core::WordCore;
-use lock_base::machine::Mode;
+use lock_modes::Mode;
 use lock_one_word::{WordLock, WordToken};
 use lock_wake::time_left;
 use std::sync::Wait;

@@ -1,8 +1,7 @@
 //! An arbiter with a journal of its steps.
 use crate::arbiter::{Arbiter, Unchanged};
 use crate::step_journal::StepJournal;
-use lock_base::machine::{Bag, Mode, ModeStep};
-use lock_base::raw::Fault;
+use lock_modes::{Bag, Fault, Mode, ModeStep};
 use std::alloc::Global;
 use std::marker::Model;
 
@@ -36,7 +35,7 @@ impl<A: Arbiter> Model for RecordingArbiter<A> {
 
 impl<A: Arbiter> RecordingArbiter<A> {
     ghost use Rattle.std.specs.Prelude.{◌≡◌, ◌↔◌, false, [], IfOk, IfErr};
-    ghost use Rattle.lock_base.specs.Limits.{IsLimit, IsMakerFault};
+    ghost use Rattle.lock_modes.specs.Limits.{IsLimit, IsMakerFault};
     ghost use Rattle.lock_raws.specs.Journal.{empty_journal};
     ghost use Rattle.lock_raws.specs.Recording.{IsRecording};
 

@@ -4,8 +4,7 @@ use crate::monitor::Monitor;
 use crate::raw_lock::RawLock;
 use crate::recording_arbiter::RecordingArbiter;
 use crate::token_raw::TableArbiter;
-use lock_base::machine::ModeStep;
-use lock_base::raw::{Fault, MAX_LIMIT};
+use lock_modes::{Fault, MAX_LIMIT, ModeStep};
 use std::alloc::Global;
 use std::clone::Clone;
 use std::sync::Wait;
@@ -19,8 +18,8 @@ pub type RecordingRaw<W> = RawLock<Monitor<Recorded, W>>;
 
 impl<A: Arbiter, W: Wait + Clone + Drop> RawLock<Monitor<RecordingArbiter<A>, W>> {
     ghost use Rattle.std.specs.Prelude.{◌≡◌, ◌↔◌, IfOk, IfErr, IsOkUnless};
-    ghost use Rattle.lock_base.specs.Limits.{IsLimit, IsMakerFault};
-    ghost use Rattle.lock_base.specs.ModeRuns.{Replays};
+    ghost use Rattle.lock_modes.specs.Limits.{IsLimit, IsMakerFault};
+    ghost use Rattle.lock_modes.specs.ModeRuns.{Replays};
 
     /// Makes an unlocked lock with as many places as readers, whose journal has room for `entries` steps.
     pub fn with_room(

@@ -1,13 +1,12 @@
 //! The raw lock as a raw reader-writer lock.
 ghost use Rattle.std.specs.Prelude.{◌≡◌, ◌⊎◌, None, MatchResult, IfNone, option_map};
-ghost use Rattle.lock_base.specs.declared.machine.mode.Mode.{Mode};
+ghost use Rattle.lock_modes.specs.declared.mode.Mode.{Mode};
 
 use crate::lock_core::LockCore;
 use crate::raw_lock::RawLock;
 use crate::tokens::{ExclusiveToken, SharedToken, UpgradableToken};
-use lock_base::machine::Mode;
-use lock_base::raw::Fault;
-use lock_guard::raw::{
+use lock_modes::{Fault, Mode};
+use lock_traits::{
     RawRwLock, RawRwLockDowngrade, RawRwLockFair, RawRwLockTimed, RawRwLockUpgrade,
     RawRwLockUpgradeDowngrade, RawRwLockUpgradeFair, RawRwLockUpgradeTimed,
 };

@@ -1,6 +1,6 @@
 //! A condition variable whose waiters sleep.
-use lock_base::raw::Fault;
-use lock_guard::raw::{RawCondvar, RawCondvarTimed, RawMutex, RawMutexTimed};
+use lock_modes::Fault;
+use lock_traits::{RawCondvar, RawCondvarTimed, RawMutex, RawMutexTimed};
 use lock_wake::{HeldLock, LockEvents};
 use std::alloc::Global;
 use std::marker::{Model, PhantomData};

@@ -1,6 +1,6 @@
 //! A condition variable whose waits end at once.
-use lock_base::raw::Fault;
-use lock_guard::raw::{RawCondvar, RawCondvarTimed, RawMutex, RawMutexTimed};
+use lock_modes::Fault;
+use lock_traits::{RawCondvar, RawCondvarTimed, RawMutex, RawMutexTimed};
 use std::alloc::Global;
 use std::marker::PhantomData;
 

@@ -1,6 +1,5 @@
 //! The journal of a lock's steps.
-use lock_base::machine::ModeStep;
-use lock_base::raw::Fault;
+use lock_modes::{Fault, ModeStep};
 use std::alloc::Global;
 use std::marker::Model;
 

@@ -1,11 +1,11 @@
 //! How a lock on a word measures time.
 ghost use Rattle.std.specs.Prelude.{◌≡◌, IsSome, IfSome, IfNone, MatchResult, OnErr};
-ghost use Rattle.lock_base.specs.declared.machine.mode.Mode.TheVariants.{Exclusive, Upgradable};
+ghost use Rattle.lock_modes.specs.declared.mode.Mode.TheVariants.{Exclusive, Upgradable};
 ghost use Rattle.lock_word.specs.declared.want.ExWant.TheVariants.{Upgrade};
 ghost use Rattle.lock_word.specs.Word.{want_of_mode};
 ghost use Rattle.lock_one_word.specs.Calls.{IsTokenOf, WasLate};
 
-use lock_base::machine::Mode;
+use lock_modes::Mode;
 use lock_one_word::{WordLock, WordToken};
 use std::sync::Wait;
 use std::time::Duration;

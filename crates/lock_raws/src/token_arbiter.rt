@@ -1,7 +1,6 @@
 //! An arbiter over any observable raw state.
 use crate::arbiter::{Arbiter, Unchanged};
-use lock_base::machine::{Bag, Mode};
-use lock_base::raw::{Fault, ObservableState, RawState};
+use lock_modes::{Bag, Fault, Mode, ObservableState, RawState};
 use std::alloc::Global;
 use std::marker::Model;
 

@@ -1,6 +1,6 @@
 //! Which waiters a step of a raw lock wakes.
 ghost use Rattle.std.specs.Prelude.{◌≡◌, ◌<◌, ◌^◌};
-ghost use Rattle.lock_base.specs.Modes.{tokens};
+ghost use Rattle.lock_modes.specs.Modes.{tokens};
 ghost use Rattle.lock_raws.specs.Waking.{wake_decision};
 ghost use Rattle.lock_wake.specs.declared.owed_wake.Whom.{Whom};
 

@@ -1,6 +1,6 @@
 //! The raw lock over one word.
 ghost use Rattle.std.specs.Prelude.{◌≡◌, ◌↔◌, true, IfOk, IfErr, is_some};
-ghost use Rattle.lock_base.specs.Limits.{IsLimit, IsMakerFault};
+ghost use Rattle.lock_modes.specs.Limits.{IsLimit, IsMakerFault};
 ghost use Rattle.lock_word.specs.declared.want.ExWant.TheVariants.{Upgrade};
 ghost use Rattle.lock_word.specs.Word.{want_of_mode};
 ghost use Rattle.lock_one_word.specs.Calls.{WasTried, HasTimedOut};
@@ -9,8 +9,7 @@ ghost use Rattle.lock_one_word.specs.Own.{is_token_of};
 use crate::lock_core::LockCore;
 use crate::raw_lock::RawLock;
 use crate::timing::{NoTime, Timing};
-use lock_base::machine::Mode;
-use lock_base::raw::Fault;
+use lock_modes::{Fault, Mode};
 use lock_one_word::{WordLock, WordToken};
 use std::alloc::Global;
 use std::clone::Clone;

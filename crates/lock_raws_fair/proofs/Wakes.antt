@@ -1,8 +1,8 @@
 -- No mode that fits anew is missed.
 use Rattle.std.proofs.Common.{◌≡◌, ℕ, Bool, true, false, ◌||◌, refl}
-use Rattle.lock_base.specs.declared.machine.mode.Mode.TheVariants.{Shared, Exclusive, Upgradable}
-use Rattle.lock_base.specs.declared.machine.bag.Bag.{Bag}
-use Rattle.lock_base.specs.declared.machine.mode.Mode.{Mode}
+use Rattle.lock_modes.specs.declared.mode.Mode.TheVariants.{Shared, Exclusive, Upgradable}
+use Rattle.lock_modes.specs.declared.bag.Bag.{Bag}
+use Rattle.lock_modes.specs.declared.mode.Mode.{Mode}
 use Rattle.lock_word.specs.Unblocking.{occupancy, newly_may_proceed}
 use Rattle.lock_raws_fair.specs.FairState.{fits}
 use Rattle.lock_raws_fair.specs.FairWaking.{wakes_first}

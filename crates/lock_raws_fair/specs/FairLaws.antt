@@ -1,10 +1,10 @@
 -- What an idle lock admits, and what a lock admits while an upgrade waits.
 use Rattle.std.specs.Prelude.{◌≡◌, ℕ, ◌+◌, ◌<◌, true, false, IsTrue}
-use Rattle.lock_base.specs.declared.machine.mode.Mode.{Mode}
-use Rattle.lock_base.specs.declared.machine.mode.Mode.TheVariants.{Shared, Exclusive, Upgradable}
-use Rattle.lock_base.specs.declared.machine.bag.Bag.{Bag}
-use Rattle.lock_base.specs.Modes.{empty_bag, one_more, readers, may_become}
-use Rattle.lock_base.specs.Limits.{IsLimit}
+use Rattle.lock_modes.specs.declared.mode.Mode.{Mode}
+use Rattle.lock_modes.specs.declared.mode.Mode.TheVariants.{Shared, Exclusive, Upgradable}
+use Rattle.lock_modes.specs.declared.bag.Bag.{Bag}
+use Rattle.lock_modes.specs.Modes.{empty_bag, one_more, readers, may_become}
+use Rattle.lock_modes.specs.Limits.{IsLimit}
 use Rattle.lock_raws_fair.specs.FairState.{fits}
 
 -- facts of admission: an empty bag admits every mode; a lone upgradable token may become exclusive; a bag that admitted a

@@ -1,9 +1,9 @@
 -- The state of a fair lock.
 use Rattle.std.specs.Prelude.{◌≡◌, ℕ, Bool, ◌&&◌, not, List}
-use Rattle.lock_base.specs.declared.machine.mode.Mode.{Mode}
-use Rattle.lock_base.specs.declared.machine.bag.Bag.{Bag}
-use Rattle.lock_base.specs.Modes.{admits}
-use Rattle.lock_base.specs.Tokens.{bag_of_tokens}
+use Rattle.lock_modes.specs.declared.mode.Mode.{Mode}
+use Rattle.lock_modes.specs.declared.bag.Bag.{Bag}
+use Rattle.lock_modes.specs.Modes.{admits}
+use Rattle.lock_modes.specs.Tokens.{bag_of_tokens}
 use Rattle.lock_raws_fair.specs.Tickets.{Line, is_empty, is_first}
 
 -- the held tokens, whether an upgrade waits, the readers' limit, and the tickets that wait

@@ -1,9 +1,9 @@
 -- Which waiters a step of a fair lock wakes.
 use Rattle.std.specs.Prelude.{◌≡◌, ℕ, Bool, true, false, not, ◌&&◌, ◌==◌, nat_lt, is_some, IfSome, IsTrue}
-use Rattle.lock_base.specs.declared.machine.mode.Mode.{Mode}
-use Rattle.lock_base.specs.declared.machine.bag.Bag.{Bag}
-use Rattle.lock_base.specs.Modes.{tokens}
-use Rattle.lock_base.specs.Tokens.{bag_of_tokens}
+use Rattle.lock_modes.specs.declared.mode.Mode.{Mode}
+use Rattle.lock_modes.specs.declared.bag.Bag.{Bag}
+use Rattle.lock_modes.specs.Modes.{tokens}
+use Rattle.lock_modes.specs.Tokens.{bag_of_tokens}
 use Rattle.lock_word.specs.Unblocking.{occupancy, unblocks}
 use Rattle.lock_raws_fair.specs.Tickets.{Line, is_empty, is_first, span}
 use Rattle.lock_raws_fair.specs.declared.fair_wake.FairWake.{FairWake}

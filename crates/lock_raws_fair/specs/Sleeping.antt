@@ -1,9 +1,9 @@
 -- When an acquisition or an upgrade of a fair lock may sleep, and on which event count.
 use Rattle.std.specs.Prelude.{◌≡◌, ℕ, ◌+◌, ◌%◌, ◌-◌, ◌^◌, List, Bool, true, false, not, ◌&&◌, ◌||◌, nat_lt, Option, Some, None, is_some, IfSome, slice_index_or}
-use Rattle.lock_base.specs.declared.machine.mode.Mode.{Mode}
-use Rattle.lock_base.specs.declared.machine.mode.Mode.TheVariants.{Upgradable, Exclusive}
-use Rattle.lock_base.specs.Modes.{may_become}
-use Rattle.lock_base.specs.Tokens.{bag_of_tokens, IsOutAs}
+use Rattle.lock_modes.specs.declared.mode.Mode.{Mode}
+use Rattle.lock_modes.specs.declared.mode.Mode.TheVariants.{Upgradable, Exclusive}
+use Rattle.lock_modes.specs.Modes.{may_become}
+use Rattle.lock_modes.specs.Tokens.{bag_of_tokens, IsOutAs}
 use Rattle.lock_raws_fair.specs.declared.line.step.LineStep.TheVariants.{Arrive}
 use Rattle.lock_raws_fair.specs.declared.line.TheConstants.{TIMED_SPAN}
 use Rattle.lock_raws_fair.specs.declared.acquisition.Acquisition.{Acquisition}

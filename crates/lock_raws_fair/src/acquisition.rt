@@ -7,7 +7,7 @@ ghost use Rattle.lock_raws_fair.specs.Sleeping.{may_acquire, may_end, Joins, May
 use crate::fair_arbiter::{FairArbiter, FairToken};
 use crate::fair_wake::FairWake;
 use crate::line::Ticket;
-use lock_base::machine::Mode;
+use lock_modes::Mode;
 use lock_raws::Arbiter;
 
 /// How many tickets from the first on may spin: no more than a small machine has processors.

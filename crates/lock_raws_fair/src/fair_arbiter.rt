@@ -3,8 +3,7 @@ mod token;
 
 use crate::fair_wake::FairWake;
 use crate::line::{Line, Ticket};
-use lock_base::machine::{Bag, Mode};
-use lock_base::raw::Fault;
+use lock_modes::{Bag, Fault, Mode};
 use lock_raws::{Arbiter, upgraded};
 use std::alloc::Global;
 use std::marker::Model;
@@ -39,10 +38,10 @@ impl<A: Arbiter> Model for FairArbiter<A> {
 
 impl<A: Arbiter> FairArbiter<A> {
     ghost use Rattle.std.specs.Prelude.{◌≡◌, ◌↔◌, ◌-◌, ◌^◌, ◌<◌, ◌&&◌, ◌||◌, not, true, false, [], is_some, is_ok, nat_lt, IfOk, IfErr, IfSome, IfNone, IsTrue};
-    ghost use Rattle.lock_base.specs.declared.machine.mode.Mode.TheVariants.{Upgradable, Exclusive};
-    ghost use Rattle.lock_base.specs.Modes.{tokens, AreCompatible, may_become};
-    ghost use Rattle.lock_base.specs.Tokens.{bag_of_tokens, Adds, Removes, Replaces, IsOutAs};
-    ghost use Rattle.lock_base.specs.Limits.{IsLimit, IsMakerFault};
+    ghost use Rattle.lock_modes.specs.declared.mode.Mode.TheVariants.{Upgradable, Exclusive};
+    ghost use Rattle.lock_modes.specs.Modes.{tokens, AreCompatible, may_become};
+    ghost use Rattle.lock_modes.specs.Tokens.{bag_of_tokens, Adds, Removes, Replaces, IsOutAs};
+    ghost use Rattle.lock_modes.specs.Limits.{IsLimit, IsMakerFault};
     ghost use Rattle.lock_raws_fair.specs.declared.line.step.LineStep.TheVariants.{Arrive, Enter, Leave, Pass};
     ghost use Rattle.lock_raws_fair.specs.declared.line.TheConstants.{TIMED_SPAN};
     ghost use Rattle.lock_raws_fair.specs.Tickets.{Makes, empty_line, span, may_leave};

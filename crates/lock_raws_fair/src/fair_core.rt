@@ -1,7 +1,7 @@
 //! A fair arbiter behind a std mutex.
 ghost use Rattle.std.specs.Prelude.{◌≡◌, true, IsTrue, IfSome, IfNone, IfOk, IfErr, OnErr, is_some};
 ghost use Rattle.std.specs.Bool.{OnTrue};
-ghost use Rattle.lock_base.specs.declared.machine.mode.Mode.TheVariants.{Upgradable, Exclusive};
+ghost use Rattle.lock_modes.specs.declared.mode.Mode.TheVariants.{Upgradable, Exclusive};
 ghost use Rattle.lock_raws.specs.ModeTokens.{same_mode};
 
 use crate::acquisition::Acquisition;
@@ -9,10 +9,9 @@ use crate::fair_arbiter::{FairArbiter, FairToken};
 use crate::fair_wake::FairWake;
 use crate::upgrade::Upgrade;
 use crate::waiters::FairWaiters;
-use lock_base::machine::Mode;
-use lock_base::raw::Fault;
-use lock_guard::lock_std;
+use lock_modes::{Fault, Mode};
 use lock_raws::{Arbiter, LockCore, NoTime, RawLock, RealTime, TableArbiter, Timing};
+use lock_traits::lock_std;
 use std::alloc::Global;
 use std::clone::Clone;
 use std::marker::PhantomData;

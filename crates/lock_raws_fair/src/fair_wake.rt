@@ -1,7 +1,7 @@
 //! Which waiters a step of a fair lock wakes.
 ghost use Rattle.std.specs.Prelude.{◌≡◌, ◌<◌, ◌^◌, ◌&&◌, ◌==◌, false};
-ghost use Rattle.lock_base.specs.Modes.{tokens};
-ghost use Rattle.lock_base.specs.Tokens.{bag_of_tokens};
+ghost use Rattle.lock_modes.specs.Modes.{tokens};
+ghost use Rattle.lock_modes.specs.Tokens.{bag_of_tokens};
 ghost use Rattle.lock_raws_fair.specs.declared.line.TheConstants.{TIMED_SPAN};
 ghost use Rattle.lock_raws_fair.specs.FairWaking.{Wakes, wakes_next, wakes_first};
 ghost use Rattle.lock_raws_fair.specs.Notifying.{NotifiesEach};
@@ -9,7 +9,7 @@ ghost use Rattle.lock_raws_fair.specs.Notifying.{NotifiesEach};
 use crate::fair_arbiter::FairArbiter;
 use crate::line::TIMED_SPAN;
 use crate::waiters::FairWaiters;
-use lock_base::machine::Bag;
+use lock_modes::Bag;
 use lock_raws::Arbiter;
 use lock_wake::Notified;
 use lock_word::{Occupancy, unblocks};

@@ -1,8 +1,8 @@
 //! An upgrade of a fair lock, from its first attempt to its end.
 ghost use Rattle.std.specs.Prelude.{◌≡◌, ◌||◌, true, false, is_ok, IfOk, IfErr};
-ghost use Rattle.lock_base.specs.declared.machine.mode.Mode.TheVariants.{Upgradable, Exclusive};
-ghost use Rattle.lock_base.specs.Modes.{may_become};
-ghost use Rattle.lock_base.specs.Tokens.{bag_of_tokens, IsOutAs};
+ghost use Rattle.lock_modes.specs.declared.mode.Mode.TheVariants.{Upgradable, Exclusive};
+ghost use Rattle.lock_modes.specs.Modes.{may_become};
+ghost use Rattle.lock_modes.specs.Tokens.{bag_of_tokens, IsOutAs};
 ghost use Rattle.lock_raws_fair.specs.Sleeping.{UpgradeMaySleep};
 
 use crate::fair_arbiter::{FairArbiter, FairToken, PendingUpgrade};

@@ -1,6 +1,6 @@
 //! Where the waiters of a fair lock sleep.
 ghost use Rattle.std.specs.Prelude.{◌≡◌, ◌%◌, true, IfErr, Some, slice_index_or};
-ghost use Rattle.lock_base.specs.declared.raw.fault.Fault.TheVariants as fault;
+ghost use Rattle.lock_modes.specs.declared.fault.Fault.TheVariants as fault;
 ghost use Rattle.lock_raws_fair.specs.Sleeping.{events_of};
 
 mod sleep;
@@ -10,7 +10,7 @@ use crate::fair_arbiter::FairArbiter;
 use crate::line::Ticket;
 use crate::turn::{NOBODY, TurnHint, UPGRADE};
 use crate::upgrade::{Upgrade, WaitingUpgrade};
-use lock_base::raw::Fault;
+use lock_modes::Fault;
 use lock_raws::Arbiter;
 use lock_wake::{LockEvents, Notified};
 use std::alloc::Global;

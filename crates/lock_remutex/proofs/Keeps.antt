@@ -7,7 +7,7 @@ use lib.ListN.{get_elem?}
 use prog.Atomic.{either}
 use Rattle.atomic_table.specs.Table.{State, Act, keeps, takes, gives, put_back, step, stepped, carried_after, Valid, Allows, Enters, opening}
 use Rattle.atomic_table.proofs.Lists.{exchanged}
-use Rattle.lock_base.specs.Levels.{Levels, free_levels}
+use Rattle.lock_modes.specs.Levels.{Levels, free_levels}
 use Rattle.lock_remutex.specs.declared.owner_table.rule.OwnerKey.{OwnerKey}
 use Rattle.lock_remutex.specs.declared.owner_table.rule.OwnerStep.{OwnerStep}
 use Rattle.lock_remutex.specs.declared.owner_table.rule.OwnerStep.TheVariants.{Saw, Took, Made}

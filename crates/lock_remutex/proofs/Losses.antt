@@ -2,7 +2,7 @@
 use Rattle.std.proofs.Common.{◌≡◌, ℕ, ◌+◌, ◌-◌, ◌<◌, Bool, true, false, ◌==◌, if◌then◌else◌, refl, sym, ap, subst, ◌∙◌, arith}
 use Rattle.std.specs.Prelude.{Option, Some, None, Ok, IfSome}
 use Rattle.std.specs.Option.{option_map, option_map_or}
-use Rattle.lock_base.specs.Levels.{Owner, Levels, level_of, LosesLevel, GivesTokenBack}
+use Rattle.lock_modes.specs.Levels.{Owner, Levels, level_of, LosesLevel, GivesTokenBack}
 use Rattle.lock_remutex.specs.declared.owner_table.rule.OwnerStep.{OwnerStep}
 use Rattle.lock_remutex.specs.declared.owner_table.rule.OwnerStep.TheVariants.{Start, Saw, Took, Made}
 use Rattle.lock_remutex.specs.OwnerTables.{OwnerFits}

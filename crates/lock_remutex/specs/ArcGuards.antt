@@ -3,9 +3,9 @@ use Rattle.std.specs.Prelude.{◌≡◌, ◌⊎◌, ℕ}
 use Rattle.std.specs.Arc.{arc_value}
 use Rattle.std.specs.declared.alloc.Global.{Global}
 use Rattle.std.specs.declared.sync.Arc.{Arc}
-use Rattle.lock_base.specs.Party.{id_of}
-use Rattle.lock_base.specs.declared.raw.fault.Fault.{Fault}
-use Rattle.lock_base.specs.declared.raw.fault.Fault.TheVariants.{FullCount, OutOfMemory}
+use Rattle.lock_modes.specs.Party.{id_of}
+use Rattle.lock_modes.specs.declared.fault.Fault.{Fault}
+use Rattle.lock_modes.specs.declared.fault.Fault.TheVariants.{FullCount, OutOfMemory}
 use Rattle.lock_remutex.specs.declared.arc_guard.ArcReentrantMutexGuard.{ArcReentrantMutexGuard}
 use Rattle.lock_remutex.specs.declared.reentrant_mutex.ReentrantMutex.{ReentrantMutex}
 use Rattle.lock_remutex.specs.Guards.{value_of}

@@ -1,7 +1,7 @@
 -- What a clause reads of a reentrant lock and of its guards.
 use Rattle.std.specs.Prelude.{◌≡◌, ℕ, Option, Some}
 use Rattle.std.specs.Borrow.{Bor}
-use Rattle.lock_base.specs.Party.{id_of}
+use Rattle.lock_modes.specs.Party.{id_of}
 use Rattle.lock_remutex.specs.declared.reentrant_mutex.ReentrantMutex.{ReentrantMutex}
 use Rattle.lock_remutex.specs.declared.reentrant_mutex_guard.ReentrantMutexGuard.{ReentrantMutexGuard}
 

@@ -2,7 +2,7 @@
 use Rattle.std.specs.Prelude.{◌≡◌, ◌≢◌, ◌⊎◌, ℕ, ◌+◌, Bool, true, false, Option, None, Some, IfSome, Ok, refl}
 use Rattle.std.specs.Coded.{Coded, code_by, coded×, coded_ℕ}
 use Rattle.std.specs.declared.snapshot.Snapshot.{Snapshot}
-use Rattle.lock_base.specs.Levels.{Levels, level_of}
+use Rattle.lock_modes.specs.Levels.{Levels, level_of}
 use Rattle.lock_remutex.specs.declared.owner_table.rule.OwnerStep.{OwnerStep}
 use Rattle.lock_remutex.specs.declared.owner_table.rule.OwnerStep.TheVariants.{Saw, Made}
 use Rattle.lock_remutex.specs.OwnerTables.{CallView}

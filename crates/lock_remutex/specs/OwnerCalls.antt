@@ -1,8 +1,8 @@
 -- What each call on an owner table answers, by what its last step found and left.
 use Rattle.std.specs.Prelude.{◌≡◌, ◌≢◌, ℕ, ◌<◌, Bool, true, false, Option, None, Some, IsNone, Result, Ok, Err}
-use Rattle.lock_base.specs.declared.raw.fault.Fault.{Fault}
-use Rattle.lock_base.specs.declared.raw.fault.Fault.TheVariants.{FullCount, Foreign}
-use Rattle.lock_base.specs.Levels.{Levels, with_owner, level_of, GainsLevel, LosesLevel, GivesTokenBack}
+use Rattle.lock_modes.specs.declared.fault.Fault.{Fault}
+use Rattle.lock_modes.specs.declared.fault.Fault.TheVariants.{FullCount, Foreign}
+use Rattle.lock_modes.specs.Levels.{Levels, with_owner, level_of, GainsLevel, LosesLevel, GivesTokenBack}
 use Rattle.lock_remutex.specs.declared.owner_table.rule.OwnerStep.{OwnerStep}
 use Rattle.lock_remutex.specs.declared.owner_table.rule.OwnerStep.TheVariants.{Saw, Took, Made}
 use Rattle.lock_remutex.specs.OwnerTables.{party_in, count_in, TableView, CallView, IsAtHome}

@@ -6,7 +6,7 @@ use Rattle.std.specs.Coded.{Coded, code_by, coded×}
 use mathlib.Core.Option.{some}
 use Rattle.atomic_table.specs.Table.{State, Me, Step, rest}
 use Rattle.atomic_table.specs.Seated.{TableId}
-use Rattle.lock_base.specs.Levels.{Levels, free_levels}
+use Rattle.lock_modes.specs.Levels.{Levels, free_levels}
 use Rattle.lock_remutex.specs.declared.owner_table.rule.OwnerKey.{OwnerKey}
 use Rattle.lock_remutex.specs.declared.owner_table.rule.OwnerStep.{OwnerStep}
 use Rattle.lock_remutex.specs.declared.owner_table.rule.OwnerStep.TheVariants.{Start, Saw, Took, Made}

@@ -1,6 +1,6 @@
 //! Acquisitions of a reentrant lock by guards that own a reference to it.
 ghost use Rattle.std.specs.Prelude.{IfErr, IfOk, IfSome};
-ghost use Rattle.lock_base.specs.Party.{id_of};
+ghost use Rattle.lock_modes.specs.Party.{id_of};
 ghost use Rattle.std.specs.Arc.{arc_value};
 ghost use Rattle.std.specs.Option.{is_some};
 ghost use Rattle.lock_remutex.specs.ArcGuards.{IsArcFault, IsArcGuardOf};
@@ -9,10 +9,9 @@ ghost use Rattle.lock_remutex.specs.LevelSteps.{TriedLevel};
 
 use crate::arc_guard::ArcReentrantMutexGuard;
 use crate::reentrant_mutex::ReentrantMutex;
-use lock_base::machine::PartyId;
-use lock_base::raw::Fault;
 use lock_guard::guard::another_owner;
-use lock_guard::raw::{RawMutex, RawMutexTimed};
+use lock_modes::{Fault, PartyId};
+use lock_traits::{RawMutex, RawMutexTimed};
 use std::sync::Arc;
 
 impl<R: RawMutex + Drop, T: Drop> ReentrantMutex<R, T> {

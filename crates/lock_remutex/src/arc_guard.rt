@@ -1,5 +1,5 @@
 ghost use Rattle.std.specs.Prelude.{◌≡◌, IfErr, IfOk, IfSome, MatchResult};
-ghost use Rattle.lock_base.specs.Party.{id_of};
+ghost use Rattle.lock_modes.specs.Party.{id_of};
 ghost use Rattle.std.specs.Arc.{arc_value};
 ghost use Rattle.std.specs.Option.{is_some};
 ghost use Rattle.lock_remutex.specs.ArcGuards.{arc_of, arc_party, arc_guard_value, IsSameArcGuard};
@@ -8,9 +8,8 @@ ghost use Rattle.lock_remutex.specs.LevelSteps.{AnswersLevel, IsOn, Kept};
 
 use crate::owner_table::Level;
 use crate::reentrant_mutex::ReentrantMutex;
-use lock_base::machine::PartyId;
-use lock_base::raw::Fault;
-use lock_guard::raw::{RawMutex, RawMutexFair};
+use lock_modes::{Fault, PartyId};
+use lock_traits::{RawMutex, RawMutexFair};
 use std::ops::Deref;
 use std::sync::Arc;
 

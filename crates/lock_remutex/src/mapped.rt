@@ -5,9 +5,9 @@ ghost use Rattle.lock_guard.specs.Mapped.{IsMapOf, IsMappedOr};
 ghost use Rattle.lock_remutex.specs.Guards.{guard_value, shown_value};
 
 use crate::reentrant_mutex_guard::ReentrantMutexGuard;
-use lock_base::project::{TryView, View};
 use lock_guard::guard::{LockGuard, LockGuardFair, Mapped};
-use lock_guard::raw::{RawMutex, RawMutexFair};
+use lock_parts::{TryView, View};
+use lock_traits::{RawMutex, RawMutexFair};
 use std::ops::Deref;
 
 /// One level of a party, which reads a part of the value. It releases the level on drop.

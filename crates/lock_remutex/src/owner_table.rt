@@ -4,9 +4,9 @@ mod large;
 mod rule;
 
 ghost use Rattle.std.specs.Prelude.{◌≡◌, ◌≢◌, ◌<◌, ℕ, IfOk, IfErr, IfSome};
-ghost use Rattle.lock_base.specs.Limits.{IsLimit};
-ghost use Rattle.lock_base.specs.Levels.{Levels, GivesTokenBack};
-ghost use Rattle.lock_base.specs.Party.{id_of};
+ghost use Rattle.lock_modes.specs.Limits.{IsLimit};
+ghost use Rattle.lock_modes.specs.Levels.{Levels, GivesTokenBack};
+ghost use Rattle.lock_modes.specs.Party.{id_of};
 ghost use Rattle.lock_remutex.specs.declared.owner_table.rule.OwnerStep.TheVariants.{Saw, Made};
 ghost use Rattle.lock_remutex.specs.OwnerTables.{party_in, count_in, IsIdle, OwnerFits};
 ghost use Rattle.lock_remutex.specs.OwnerCalls.{Again, First, Leaves, LeavesSole};
@@ -14,9 +14,8 @@ ghost use Rattle.lock_remutex.specs.OwnerCalls.{Again, First, Leaves, LeavesSole
 use atomic_table::{Refused, Table};
 pub(crate) use call::Level;
 pub use call::OwnerCall;
-use lock_base::machine::PartyId;
-use lock_base::raw::{Fault, Levels};
 use lock_guard::forget;
+use lock_modes::{Fault, Levels, PartyId};
 pub use rule::{OwnerKey, OwnerRule, OwnerView, TokenRule};
 use std::alloc::{AllocError, AllocFailed, Global};
 use std::marker::Model;
@@ -54,7 +53,7 @@ pub struct OwnerTable<K, T, P: TokenRule<K, T>> {
 
 impl<K, T, P: TokenRule<K, T>> Model for OwnerTable<K, T, P> {
     ghost use Rattle.std.specs.Prelude.{◌≡◌};
-    ghost use Rattle.lock_base.specs.Limits.{IsLimit};
+    ghost use Rattle.lock_modes.specs.Limits.{IsLimit};
     ghost use Rattle.lock_remutex.specs.OwnerTables.{TableView};
 
     ghost Value = { TableView K };

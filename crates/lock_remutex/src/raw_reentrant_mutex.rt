@@ -1,12 +1,11 @@
 ghost use Rattle.std.specs.Prelude.{◌≡◌, ◌↔◌, ◌⊎◌, true, None, Some, Err, IfOk, IfErr, IfSome, IsOkUnless};
-ghost use Rattle.lock_base.specs.Limits.{IsLimit, IsMakerFault};
-ghost use Rattle.lock_base.specs.Party.{id_of};
+ghost use Rattle.lock_modes.specs.Limits.{IsLimit, IsMakerFault};
+ghost use Rattle.lock_modes.specs.Party.{id_of};
 ghost use Rattle.lock_remutex.specs.LevelSteps.{AnswersLevel, HasGained, HasLost, HasSeveral, HasToken, FoundOwner, IsNewLevel, IsNoOwner, TriedFor, TriedLevel, WasOwned};
 
 use crate::owner_table::{Level, OwnerKey, OwnerTable, TokenRule};
-use lock_base::machine::PartyId;
-use lock_base::raw::{DEFAULT_LEVELS, Fault, is_limit};
-use lock_guard::raw::{RawMutex, RawMutexFair, RawMutexTimed};
+use lock_modes::{DEFAULT_LEVELS, Fault, PartyId, is_limit};
+use lock_traits::{RawMutex, RawMutexFair, RawMutexTimed};
 use std::alloc::Global;
 use std::marker::{Model, PhantomData};
 use std::snapshot::Snapshot;

@@ -2,16 +2,15 @@
 ghost use Rattle.std.specs.Prelude.{◌≡◌, ◌↔◌, Err, IfOk, IfErr, IfSome, IsOkUnless};
 ghost use Rattle.std.specs.Option.{is_some};
 ghost use Rattle.std.specs.Borrow.{Lends, sem};
-ghost use Rattle.lock_base.specs.Limits.{IsLimit, IsMakerFault};
-ghost use Rattle.lock_base.specs.Party.{id_of};
+ghost use Rattle.lock_modes.specs.Limits.{IsLimit, IsMakerFault};
+ghost use Rattle.lock_modes.specs.Party.{id_of};
 ghost use Rattle.lock_remutex.specs.LevelSteps.{TriedLevel};
 ghost use Rattle.lock_remutex.specs.Guards.{raw_of, value_of, with_value, IsGuardOf};
 
 use crate::raw_reentrant_mutex::RawReentrantMutex;
 use crate::reentrant_mutex_guard::ReentrantMutexGuard;
-use lock_base::machine::PartyId;
-use lock_base::raw::Fault;
-use lock_guard::raw::{RawMutex, RawMutexTimed};
+use lock_modes::{Fault, PartyId};
+use lock_traits::{RawMutex, RawMutexTimed};
 use std::alloc::Global;
 
 /// A value behind a mutex that its owner may acquire again.

@@ -1,14 +1,13 @@
 ghost use Rattle.std.specs.Prelude.{◌≡◌, IfOk, IfErr, IfSome, MatchResult};
 ghost use Rattle.std.specs.Option.{is_some};
-ghost use Rattle.lock_base.specs.Party.{id_of};
+ghost use Rattle.lock_modes.specs.Party.{id_of};
 ghost use Rattle.lock_remutex.specs.Guards.{guard_lock, guard_party, guard_value, raw_of, IsGuardOf, IsSameGuard};
 ghost use Rattle.lock_remutex.specs.LevelSteps.{AnswersLevel, IsOn, Kept};
 
 use crate::owner_table::Level;
 use crate::reentrant_mutex::ReentrantMutex;
-use lock_base::machine::PartyId;
-use lock_base::raw::Fault;
-use lock_guard::raw::{RawMutex, RawMutexFair};
+use lock_modes::{Fault, PartyId};
+use lock_traits::{RawMutex, RawMutexFair};
 use std::ops::Deref;
 
 /// One level of a party, which reads the value. Its drop releases the level, and with the last level the raw lock.

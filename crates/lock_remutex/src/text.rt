@@ -2,7 +2,7 @@
 use crate::reentrant_mutex::ReentrantMutex;
 use crate::reentrant_mutex_guard::ReentrantMutexGuard;
 use lock_guard::guard::{Locked, fmt_lock};
-use lock_guard::raw::RawMutex;
+use lock_traits::RawMutex;
 use std::fmt;
 use std::fmt::{Debug, Display, Formatter};
 use std::ops::Deref;

@@ -1,6 +1,6 @@
 //! The mutex under a rule.
 ghost use Rattle.std.specs.Prelude.{◌≡◌, ◌-◌, ◌+◌, ◌<◌, [], ◌∷◌, IfOk, IfErr};
-ghost use Rattle.lock_base.specs.declared.raw.fault.Fault.TheVariants as fault;
+ghost use Rattle.lock_modes.specs.declared.fault.Fault.TheVariants as fault;
 ghost use Rattle.lock_ruled.specs.Ruled.{all_parts, first_user, Splits, Joins};
 
 mod found_held;
@@ -12,7 +12,7 @@ use crate::released::Changed;
 use crate::rule::{MutexRule, SlotRule, UserView};
 use crate::user::User;
 use atomic_table::{Join, Split, Table};
-use lock_base::raw::Fault;
+use lock_modes::Fault;
 use std::alloc::Global;
 use std::marker::Model;
 

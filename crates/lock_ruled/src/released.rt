@@ -1,6 +1,6 @@
 //! A release of the mutex, and the users that wait for a condition of its value.
 ghost use Rattle.std.specs.Prelude.{◌≡◌, true, IfErr};
-ghost use Rattle.lock_base.specs.declared.raw.fault.Fault.TheVariants as fault;
+ghost use Rattle.lock_modes.specs.declared.fault.Fault.TheVariants as fault;
 ghost use Rattle.lock_ruled.specs.Ruled.{Keeps};
 
 use crate::guard::RuledGuard;
@@ -8,7 +8,7 @@ use crate::mutex::RuledMutex;
 use crate::plays::Stay;
 use crate::rule::{MutexRule, ViewUpdate};
 use crate::user::User;
-use lock_base::raw::Fault;
+use lock_modes::Fault;
 use lock_wake::{EventCount, Notified, Registered};
 use std::alloc::Global;
 use std::marker::Model;

@@ -1,6 +1,6 @@
 //! A semaphore. Its free permits and those of its holders always add up to the number that it was made with.
 ghost use Rattle.std.specs.Prelude.{◌≡◌, ◌-◌, ◌+◌, ◌<◌, ◌≤◌, IfOk, IfErr, MatchResult};
-ghost use Rattle.lock_base.specs.declared.raw.fault.Fault.TheVariants as fault;
+ghost use Rattle.lock_modes.specs.declared.fault.Fault.TheVariants as fault;
 ghost use Rattle.lock_ruled.specs.Ruled.{all_parts, first_user};
 ghost use Rattle.lock_ruled.specs.Permits.{with_more, with_fewer, HasFew};
 ghost use Rattle.lock_wake.specs.EventCalls.{HasPassed};
@@ -9,7 +9,7 @@ use crate::holder::Holder;
 use crate::ledger::{Ledger, Settles, Share, Shares};
 use crate::mutex::RuledMutex;
 use crate::permits::Permits;
-use lock_base::raw::Fault;
+use lock_modes::Fault;
 use std::alloc::Global;
 use std::marker::Model;
 use std::sync::Wait;

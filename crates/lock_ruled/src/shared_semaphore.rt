@@ -1,7 +1,7 @@
 //! A semaphore that threads share by reference or in an `Arc`. Its permits are all accounted for: those that are free, and
 //! those of all tokens.
 ghost use Rattle.std.specs.Prelude.{◌≡◌, ◌≤◌, None, IfOk, IfErr, IfSome};
-ghost use Rattle.lock_base.specs.declared.raw.fault.Fault.TheVariants as fault;
+ghost use Rattle.lock_modes.specs.declared.fault.Fault.TheVariants as fault;
 ghost use Rattle.lock_ruled.specs.Accounts.{token_of};
 ghost use Rattle.lock_ruled.specs.PermitCalls.{IsRefused, IsSameCall, WasRefused};
 ghost use Rattle.lock_wake.specs.EventCalls.{HasPassed};
@@ -15,7 +15,7 @@ mod waiters;
 use crate::shared_semaphore::table::{PermitCall, PermitTable};
 use crate::shared_semaphore::waiters::PermitWaiters;
 pub use guard::{ArcPermitGuard, PermitGuard};
-use lock_base::raw::Fault;
+use lock_modes::Fault;
 use lock_wake::time_until;
 pub use rule::{PermitRule, PermitView};
 use std::alloc::Global;

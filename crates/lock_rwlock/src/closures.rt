@@ -8,7 +8,7 @@ use crate::lock::RwLock;
 use crate::mode::{Exclusive, InMode, Shared};
 use crate::upgrade::Upgraded;
 use lock_guard::guard::{Acquire, Inner};
-use lock_guard::raw::{RawRwLock, RawRwLockUpgradeDowngrade};
+use lock_traits::{RawRwLock, RawRwLockUpgradeDowngrade};
 
 /// Runs `f` on the value, holding the value's lock for reading for the length of the call.
 pub(crate) fn read_with<R: RawRwLock, T, U, F: FnOnce(&T) -> U>(rwlock: &RwLock<R, T>, f: F) -> U

@@ -13,7 +13,7 @@ use crate::mode::{InMode, Shared, ShowMode};
 use lock_guard::guard::{
     Acquire, AcquireFair, Held, LockGuard, LockGuardMut, ValueGuard, ValueGuardMut,
 };
-use lock_guard::raw::RawRwLock;
+use lock_traits::RawRwLock;
 pub use mapped::{Mappable, MappedRwLockReadGuard, MappedRwLockWriteGuard};
 use std::fmt;
 use std::ops::{Deref, DerefMut};

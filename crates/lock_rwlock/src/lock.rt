@@ -1,14 +1,14 @@
 //! A reader-writer lock over any raw lock.
 ghost use Rattle.std.specs.Prelude.{◌≡◌, ◌↔◌, IfSome, IfOk, IfErr, IsOkAnd, IsOkUnless};
-ghost use Rattle.lock_base.specs.Limits.{IsLimit, IsMakerFault};
+ghost use Rattle.lock_modes.specs.Limits.{IsLimit, IsMakerFault};
 ghost use Rattle.lock_guard.specs.Closure.{ReadsSomeValue, AnswersSomeValue};
 ghost use Rattle.lock_rwlock.specs.RwLock.{raw_of};
 ghost use Rattle.lock_rwlock.specs.RwLockGuard.{tried_token, IsGuardOf};
 
 use crate::guard::{RwLockReadGuard, RwLockUpgradableReadGuard, RwLockWriteGuard, guard};
-use lock_base::raw::{DEFAULT_READERS, Fault};
 use lock_guard::guard::{Locked, fmt_lock};
-use lock_guard::raw::{RawRwLock, RawRwLockTimed, RawRwLockUpgrade, RawRwLockUpgradeTimed};
+use lock_modes::{DEFAULT_READERS, Fault};
+use lock_traits::{RawRwLock, RawRwLockTimed, RawRwLockUpgrade, RawRwLockUpgradeTimed};
 use std::alloc::Global;
 use std::{fmt, sync};
 

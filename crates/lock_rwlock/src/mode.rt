@@ -8,7 +8,7 @@ ghost use Rattle.std.specs.Prelude.{◌≡◌, Bool, true};
 use crate::lock::RwLock;
 pub use exclusive::Exclusive;
 use lock_guard::guard::{Acquire, AcquireFair, Release, ValueGuard};
-use lock_guard::raw::RawRwLock;
+use lock_traits::RawRwLock;
 pub use shared::Shared;
 use std::marker::PhantomData;
 pub use upgradable::Upgradable;

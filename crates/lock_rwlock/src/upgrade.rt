@@ -2,7 +2,7 @@
 ghost use Rattle.std.specs.Prelude.{◌≡◌, true, Option, IfOk, IfErr};
 ghost use Rattle.std.specs.Result.{result_ok};
 
-use lock_guard::raw::{RawRwLock, RawRwLockUpgrade, RawRwLockUpgradeTimed};
+use lock_traits::{RawRwLock, RawRwLockUpgrade, RawRwLockUpgradeTimed};
 
 /// The exclusive token of an upgrade, or the upgradable one if the raw lock refused.
 pub(crate) type Upgraded<R> = Result<

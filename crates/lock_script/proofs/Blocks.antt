@@ -1,10 +1,10 @@
 -- The replies to calls that are made block by block.
 use Rattle.std.proofs.Common.{◌≡◌, ℕ, ℤ, List, [], ◌∷◌, ◌++◌, refl, sym, ap, ◌∙◌, append_assoc}
 use Rattle.std.proofs.lemmas.List.Concat.{flat_map-append}
-use Rattle.lock_base.specs.declared.machine.call.Call.{Call}
-use Rattle.lock_base.specs.declared.machine.reply.Reply.{Reply}
-use Rattle.lock_base.specs.Machine.{Machine}
-use Rattle.lock_base.specs.Steps.{replies, after_all, step}
+use Rattle.lock_machine.specs.declared.call.Call.{Call}
+use Rattle.lock_machine.specs.declared.reply.Reply.{Reply}
+use Rattle.lock_machine.specs.Machine.{Machine}
+use Rattle.lock_machine.specs.Steps.{replies, after_all, step}
 use Rattle.lock_script.specs.declared.answer.Answer.{Answer}
 use Rattle.lock_script.specs.declared.pair.Pair.{Pair}
 use Rattle.lock_script.specs.declared.pair.PairOp.{PairOp}

@@ -2,8 +2,8 @@
 use Rattle.std.specs.Prelude.{ℕ, ℤ, true, false, List, [], ◌∷◌, ◌++◌, codes, decimal}
 use Rattle.std.specs.Fmt.{signed_decimal}
 use Rattle.std.specs.List.{flat_map}
-use Rattle.lock_base.specs.declared.machine.reply.Reply.{Reply}
-use Rattle.lock_base.specs.Fault.{number_of}
+use Rattle.lock_machine.specs.declared.reply.Reply.{Reply}
+use Rattle.lock_modes.specs.Fault.{number_of}
 use Rattle.lock_script.specs.declared.answer.Answer.{Answer}
 
 -- the text of a reply

@@ -1,15 +1,15 @@
 -- The lines of calls: the words of each call.
 use Rattle.std.specs.Prelude.{ℕ, ℤ, List, [], ◌∷◌, ◌++◌, codes, decimal}
 use Rattle.std.specs.Fmt.{signed_decimal}
-use Rattle.lock_base.specs.declared.machine.call.Form.{Form}
-use Rattle.lock_base.specs.declared.machine.call.Form.TheVariants.{Block, Try, For, Until}
-use Rattle.lock_base.specs.declared.machine.call.Want.{Want}
-use Rattle.lock_base.specs.declared.machine.call.Want.TheVariants.{Lock, Read, Write, UpgradableRead}
-use Rattle.lock_base.specs.declared.machine.call.Way.{Way}
-use Rattle.lock_base.specs.declared.machine.call.Way.TheVariants.{Plain, Fair, IntoArc, IntoArcFair}
-use Rattle.lock_base.specs.declared.machine.call.Call.{Call}
-use Rattle.lock_base.specs.declared.machine.party.PartyId.{PartyId}
-use Rattle.lock_base.specs.Party.{id_of}
+use Rattle.lock_machine.specs.declared.call.Form.{Form}
+use Rattle.lock_machine.specs.declared.call.Form.TheVariants.{Block, Try, For, Until}
+use Rattle.lock_machine.specs.declared.call.Want.{Want}
+use Rattle.lock_machine.specs.declared.call.Want.TheVariants.{Lock, Read, Write, UpgradableRead}
+use Rattle.lock_machine.specs.declared.call.Way.{Way}
+use Rattle.lock_machine.specs.declared.call.Way.TheVariants.{Plain, Fair, IntoArc, IntoArcFair}
+use Rattle.lock_machine.specs.declared.call.Call.{Call}
+use Rattle.lock_modes.specs.declared.party.PartyId.{PartyId}
+use Rattle.lock_modes.specs.Party.{id_of}
 use Rattle.lock_script.specs.declared.maker.Maker.{Maker}
 use Rattle.lock_script.specs.declared.pair.Pair.{Pair}
 use Rattle.lock_script.specs.declared.pair.PairOp.{PairOp}

@@ -1,6 +1,6 @@
 -- The meaning of the operations on a pair.
 use Rattle.std.specs.Prelude.{ℕ, ◌^◌, ℤ, pos, neg_ℤ, ◌+ℤ◌, int_le, int_lt, Bool, ◌&&◌, ◌==◌, nat_lt, if◌then◌else◌}
-use Rattle.lock_base.specs.Operation.{Operation}
+use Rattle.lock_machine.specs.Operation.{Operation}
 use Rattle.lock_script.specs.declared.pair.Pair.{Pair}
 use Rattle.lock_script.specs.declared.pair.PairOp.{PairOp}
 use Rattle.lock_script.specs.declared.pair.PairOp.TheVariants.{Item, Set, Add}

@@ -1,12 +1,12 @@
 -- The answer to a script of calls.
 use Rattle.std.specs.Prelude.{◌≡◌, ℕ, ℤ, List, [], ◌∷◌, map}
-use Rattle.lock_base.specs.declared.machine.kind.Kind.{Kind}
-use Rattle.lock_base.specs.declared.machine.call.Call.{Call}
-use Rattle.lock_base.specs.declared.machine.reply.Reply.{Reply}
-use Rattle.lock_base.specs.declared.raw.fault.Fault.TheVariants.{BadLimits}
-use Rattle.lock_base.specs.Limits.{IsLimit}
-use Rattle.lock_base.specs.Machine.{Machine, start}
-use Rattle.lock_base.specs.Steps.{replies}
+use Rattle.lock_modes.specs.declared.kind.Kind.{Kind}
+use Rattle.lock_machine.specs.declared.call.Call.{Call}
+use Rattle.lock_machine.specs.declared.reply.Reply.{Reply}
+use Rattle.lock_modes.specs.declared.fault.Fault.TheVariants.{BadLimits}
+use Rattle.lock_modes.specs.Limits.{IsLimit}
+use Rattle.lock_machine.specs.Machine.{Machine, start}
+use Rattle.lock_machine.specs.Steps.{replies}
 use Rattle.lock_script.specs.declared.maker.Maker.{Maker}
 use Rattle.lock_script.specs.declared.pair.Pair.{Pair}
 use Rattle.lock_script.specs.declared.pair.PairOp.{PairOp}

@@ -1,6 +1,6 @@
 -- The words of lines, by the number of their fields.
 use Rattle.std.specs.Prelude.{◌≡◌, ℕ, List, [], ◌∷◌, ◌++◌, codes, ◌⊎◌}
-use Rattle.lock_base.specs.declared.machine.call.Form.TheVariants.{Block, Try, For, Until}
+use Rattle.lock_machine.specs.declared.call.Form.TheVariants.{Block, Try, For, Until}
 use Rattle.script_text.specs.Numbers.{IsSigned, IsUnsigned}
 use Rattle.lock_script.specs.Numbers.{AreTwo, IsParty}
 use Rattle.lock_script.specs.CallLines.{in_form}

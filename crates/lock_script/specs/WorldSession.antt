@@ -1,9 +1,9 @@
 -- The answer to a script of steps.
 use Rattle.std.specs.Prelude.{◌≡◌, ℕ, Bool, List, [], ◌∷◌, Option, None, Some, Result, Ok, Err, map}
-use Rattle.lock_base.specs.declared.machine.reply.Reply.{Reply}
-use Rattle.lock_base.specs.declared.raw.fault.Fault.{Fault}
-use Rattle.lock_base.specs.declared.raw.fault.Fault.TheVariants.{BadLimits, UnknownParty}
-use Rattle.lock_base.specs.Limits.{IsLimit}
+use Rattle.lock_machine.specs.declared.reply.Reply.{Reply}
+use Rattle.lock_modes.specs.declared.fault.Fault.{Fault}
+use Rattle.lock_modes.specs.declared.fault.Fault.TheVariants.{BadLimits, UnknownParty}
+use Rattle.lock_modes.specs.Limits.{IsLimit}
 use Rattle.lock_word.specs.declared.party.WorldParty.{WorldParty}
 use Rattle.lock_word.specs.declared.step.Outcome.{Outcome}
 use Rattle.lock_word.specs.Holders.{holder_at}

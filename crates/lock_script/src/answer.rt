@@ -3,7 +3,7 @@ ghost use Rattle.std.specs.Prelude.{◌≡◌, ◌++◌, OnOk, codes, string_byt
 ghost use Rattle.lock_script.specs.Answers.{answer_line};
 
 use itoa::{Buffer, Integer};
-use lock_base::machine::Reply;
+use lock_machine::Reply;
 use std::alloc::AllocError;
 
 /// The answer to one line of a script: a reply, or the outcome of an atomic step.

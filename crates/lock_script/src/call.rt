@@ -1,13 +1,14 @@
 //! The lines of calls.
 ghost use Rattle.std.specs.Prelude.{◌≡◌, ◌↔◌, ◌∷◌, [], IfSome, IsSome, decimal};
-ghost use Rattle.lock_base.specs.Party.{id_of};
+ghost use Rattle.lock_modes.specs.Party.{id_of};
 ghost use Rattle.lock_script.specs.Numbers.{IsParty};
 ghost use Rattle.lock_script.specs.Words.{IsOneOf, guard_words, item_words, lone_words, number_words, party_words};
 ghost use Rattle.lock_script.specs.CallLines.{by_party, call_fields, on_guard, on_item, with_number};
 
 use crate::line::ScriptLine;
 use crate::pair::PairOp;
-use lock_base::machine::{Call, Form, PartyId, Want, Way};
+use lock_machine::{Call, Form, Want, Way};
+use lock_modes::PartyId;
 use script_text::{first_field, signed, unsigned};
 
 impl ScriptLine for Call<PairOp> {

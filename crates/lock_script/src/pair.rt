@@ -1,5 +1,5 @@
 //! The value of a script.
-use lock_base::machine::Op;
+use lock_machine::Op;
 
 /// A pair of numbers: its items 0 and 1.
 #[derive(Clone, Copy, PartialEq, Eq, Debug)]

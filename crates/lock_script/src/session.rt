@@ -1,7 +1,7 @@
 //! Running a script of calls on a desk.
 ghost use Rattle.std.specs.Prelude.{◌≡◌, [], ◌++◌, ◌↔◌, Err, IfErr, IfOk, OnOk, string_bytes};
-ghost use Rattle.lock_base.specs.Limits.{IsMakerFault};
-ghost use Rattle.lock_base.specs.Steps.{replies};
+ghost use Rattle.lock_modes.specs.Limits.{IsMakerFault};
+ghost use Rattle.lock_machine.specs.Steps.{replies};
 ghost use Rattle.lock_script.specs.Answers.{reply_lines};
 ghost use Rattle.lock_script.specs.Faults.{IsParsingFault};
 ghost use Rattle.script_text.specs.Lines.{lines_of};
@@ -15,9 +15,9 @@ use crate::maker::Maker;
 use crate::pair::{Pair, PairOp};
 use crate::room::emptied;
 use crate::script::{ParsedScript, parse};
-use lock_base::machine::{Call, Reply};
-use lock_base::raw::{Fault, RawState};
 use lock_desk::Desk;
+use lock_machine::{Call, Reply};
+use lock_modes::{Fault, RawState};
 use std::alloc::{AllocError, Global};
 
 /// A script of calls.

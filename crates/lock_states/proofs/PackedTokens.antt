@@ -1,13 +1,13 @@
 -- The tokens of a packed word: one more or one less of a mode, and what a held token says of the bag.
 use Rattle.std.proofs.Common.{◌≡◌, ℕ, if◌then◌else◌, zero, suc, ◌+◌, ◌<◌, Bool, true, false, List, ◌∷◌, ◌++◌, length, replicate, IsTrue, refl, sym, ap, subst, ◌∙◌, arith}
 use Rattle.std.specs.Prelude.{not}
-use Rattle.lock_base.specs.declared.machine.mode.Mode.{Mode}
-use Rattle.lock_base.specs.declared.machine.mode.Mode.TheVariants.{Shared, Exclusive, Upgradable}
-use Rattle.lock_base.specs.declared.machine.bag.Bag.{Bag}
-use Rattle.lock_base.specs.Modes.{empty_bag, count_of, one_more, one_less, tokens, is_move}
-use Rattle.lock_base.specs.Tokens.{count, SameBag, bag_of_tokens, IsOutIn, IsOut, Removes, CanChange, Replaces}
-use Rattle.lock_base.proofs.TokenBags.{count-append, turned, joined, with_one, without_one, same_counts, bag_of_same, tokens-bag_of_tokens}
-use Rattle.lock_base.proofs.ModeLemmas.{one_more-one_less, count-one_more}
+use Rattle.lock_modes.specs.declared.mode.Mode.{Mode}
+use Rattle.lock_modes.specs.declared.mode.Mode.TheVariants.{Shared, Exclusive, Upgradable}
+use Rattle.lock_modes.specs.declared.bag.Bag.{Bag}
+use Rattle.lock_modes.specs.Modes.{empty_bag, count_of, one_more, one_less, tokens, is_move}
+use Rattle.lock_modes.specs.Tokens.{count, SameBag, bag_of_tokens, IsOutIn, IsOut, Removes, CanChange, Replaces}
+use Rattle.lock_modes.proofs.TokenBags.{count-append, turned, joined, with_one, without_one, same_counts, bag_of_same, tokens-bag_of_tokens}
+use Rattle.lock_modes.proofs.ModeLemmas.{one_more-one_less, count-one_more}
 use Rattle.lock_states.specs.declared.word.PackedToken.{PackedToken}
 use Rattle.lock_states.specs.Packed.{token_of, tokens_in}
 use Rattle.lock_states.proofs.SameModes.{same_mode, same_mode-true}

@@ -3,12 +3,12 @@ use Rattle.std.proofs.Common.{◌≡◌, ◌≢◌, ℕ, zero, suc, ◌+◌, ◌
 use Rattle.std.specs.Prelude.{slice_get}
 use Rattle.std.proofs.lemmas.Option.{slice_get_within, get_or_from_slice_get}
 use Rattle.std.proofs.lemmas.List.{get_or_past}
-use Rattle.lock_base.specs.declared.machine.mode.Mode.{Mode}
-use Rattle.lock_base.specs.declared.machine.bag.Bag.{Bag}
-use Rattle.lock_base.specs.Modes.{one_more, one_less, count_of}
-use Rattle.lock_base.specs.Tokens.{SameBag, bag_of_tokens}
-use Rattle.lock_base.proofs.ModeLemmas.{one_less-one_more, count-one_more}
-use Rattle.lock_base.proofs.TokenBags.{same_length, bag_of_same}
+use Rattle.lock_modes.specs.declared.mode.Mode.{Mode}
+use Rattle.lock_modes.specs.declared.bag.Bag.{Bag}
+use Rattle.lock_modes.specs.Modes.{one_more, one_less, count_of}
+use Rattle.lock_modes.specs.Tokens.{SameBag, bag_of_tokens}
+use Rattle.lock_modes.proofs.ModeLemmas.{one_less-one_more, count-one_more}
+use Rattle.lock_modes.proofs.TokenBags.{same_length, bag_of_same}
 use Rattle.lock_word.proofs.Lists.{placed, other_stays, in_longer}
 use Rattle.lock_states.specs.declared.places.Place.{Place}
 use Rattle.lock_states.specs.declared.places.Place.TheVariants.{Free, Taken}

@@ -1,8 +1,8 @@
 -- Whether two modes are the same, as `==` decides it.
 use Rattle.std.proofs.Common.{◌≡◌, Bool, true, refl, rules}
-use Rattle.lock_base.specs.declared.machine.mode.Mode.{Mode}
-use Rattle.lock_base.specs.declared.machine.mode.Mode.TheVariants.{Shared, Exclusive, Upgradable}
-use Rattle.lock_base.specs.contracts.machine.mode.Mode.{the_type}
+use Rattle.lock_modes.specs.declared.mode.Mode.{Mode}
+use Rattle.lock_modes.specs.declared.mode.Mode.TheVariants.{Shared, Exclusive, Upgradable}
+use Rattle.lock_modes.specs.contracts.mode.Mode.{the_type}
 use denote.Enum.Bare.{sameb, same_true}
 
 abbrev pub same_mode : Mode → Mode → Bool

@@ -1,8 +1,8 @@
 -- A packed word as a raw state: a token is its mode.
 use Rattle.std.specs.Prelude.{ℕ, Bool, List, ◌++◌, replicate}
-use Rattle.lock_base.specs.declared.machine.mode.Mode.{Mode}
-use Rattle.lock_base.specs.declared.machine.mode.Mode.TheVariants.{Shared, Exclusive, Upgradable}
-use Rattle.lock_base.specs.declared.machine.bag.Bag.{Bag}
+use Rattle.lock_modes.specs.declared.mode.Mode.{Mode}
+use Rattle.lock_modes.specs.declared.mode.Mode.TheVariants.{Shared, Exclusive, Upgradable}
+use Rattle.lock_modes.specs.declared.bag.Bag.{Bag}
 use Rattle.lock_states.specs.declared.word.PackedToken.{PackedToken}
 
 -- the held modes, the two limits, and whether the bar is set

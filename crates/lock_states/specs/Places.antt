@@ -1,6 +1,6 @@
 -- Places, free or taken in a mode, and the chain through the free ones.
 use Rattle.std.specs.Prelude.{◌≡◌, ℕ, zero, suc, ◌+◌, ◌-◌, ◌^◌, List, [], ◌∷◌, Option, Some, None, min, slice_get}
-use Rattle.lock_base.specs.declared.machine.mode.Mode.{Mode}
+use Rattle.lock_modes.specs.declared.mode.Mode.{Mode}
 use Rattle.lock_states.specs.declared.places.Place.{Place}
 use Rattle.lock_states.specs.declared.places.Place.TheVariants.{Free, Taken}
 

@@ -1,9 +1,9 @@
 -- A table of places: a token is the number of its place.
 use Rattle.std.specs.Prelude.{◌≡◌, ℕ, Bool, ◌+◌, List, [], ◌∷◌, length, Option, Some, None}
-use Rattle.lock_base.specs.declared.machine.mode.Mode.{Mode}
-use Rattle.lock_base.specs.declared.machine.bag.Bag.{Bag}
-use Rattle.lock_base.specs.Limits.{IsLimit}
-use Rattle.lock_base.specs.Tokens.{bag_of_tokens}
+use Rattle.lock_modes.specs.declared.mode.Mode.{Mode}
+use Rattle.lock_modes.specs.declared.bag.Bag.{Bag}
+use Rattle.lock_modes.specs.Limits.{IsLimit}
+use Rattle.lock_modes.specs.Tokens.{bag_of_tokens}
 use Rattle.lock_states.specs.declared.places.Place.{Place}
 use Rattle.lock_states.specs.declared.table.TableToken.{TableToken}
 use Rattle.lock_states.specs.Places.{modes_in, IsChain}

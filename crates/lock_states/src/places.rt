@@ -3,8 +3,7 @@ ghost use Rattle.std.specs.Prelude.{◌≡◌, ◌-◌, ◌<◌, [], length, IfO
 ghost use Rattle.lock_states.specs.TableState.{tokens_of};
 ghost use Rattle.lock_states.specs.Places.{modes_in, IsChain, one_access_more};
 
-use lock_base::machine::Mode;
-use lock_base::raw::Fault;
+use lock_modes::{Fault, Mode};
 use std::alloc::Global;
 use std::marker::Model;
 

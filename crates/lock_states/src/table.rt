@@ -1,12 +1,11 @@
 //! A table of places, each free or taken in a mode.
 ghost use Rattle.std.specs.Prelude.{◌≡◌, ◌+◌, ◌<◌, ◌≤◌, ◌^◌, ◌&&◌, not, length, ◌↔◌, IsTrue, IfOk, IfErr, IfSome, IfNone, OnErr, is_some, is_ok};
-ghost use Rattle.lock_base.specs.Modes.{tokens, admits, may_become};
-ghost use Rattle.lock_base.specs.Tokens.{bag_of_tokens, IsOut, IsOutAs, Adds, Removes, CanChange, Replaces};
+ghost use Rattle.lock_modes.specs.Modes.{tokens, admits, may_become};
+ghost use Rattle.lock_modes.specs.Tokens.{bag_of_tokens, IsOut, IsOutAs, Adds, Removes, CanChange, Replaces};
 ghost use Rattle.lock_states.specs.TableState.{tokens_of, KeepsLimits};
 
 pub use crate::places::{Place, Places};
-use lock_base::machine::{Bag, Mode};
-use lock_base::raw::{Fault, ObservableState, RawState, is_limit};
+use lock_modes::{Bag, Fault, Mode, ObservableState, RawState, is_limit};
 use std::alloc::Global;
 use std::marker::Model;
 

@@ -1,10 +1,9 @@
 //! A raw state in one number.
 ghost use Rattle.std.specs.Prelude.{◌≡◌, ◌↔◌, ◌<◌, ◌&&◌, false, not, IfOk, IfErr, IsOk, IsTrue, if◌then◌else◌};
-ghost use Rattle.lock_base.specs.Limits.{IsLimit};
-ghost use Rattle.lock_base.specs.Modes.{empty_bag, count_of, one_more, one_less, admits, may_become, is_move};
+ghost use Rattle.lock_modes.specs.Limits.{IsLimit};
+ghost use Rattle.lock_modes.specs.Modes.{empty_bag, count_of, one_more, one_less, admits, may_become, is_move};
 
-use lock_base::machine::Mode;
-use lock_base::raw::{Fault, RawState, is_limit};
+use lock_modes::{Fault, Mode, RawState, is_limit};
 use lock_word::{Down, ExWant, has_bar, has_exclusive, has_tokens, with_bar};
 use std::alloc::Global;
 use std::marker::Model;
@@ -25,7 +24,7 @@ pub struct PackedWord {
 }
 
 impl Model for PackedWord {
-    ghost use Rattle.lock_base.specs.Limits.{IsLimit};
+    ghost use Rattle.lock_modes.specs.Limits.{IsLimit};
     ghost use Rattle.lock_word.specs.BarredBags.{is_barred};
     ghost use Rattle.lock_word.specs.Word.{bag_of_word, barred_bag_of_word, IsPacked};
     ghost use Rattle.lock_states.specs.Packed.{Packed};

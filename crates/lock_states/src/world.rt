@@ -1,15 +1,14 @@
 //! Worlds: parties that step on one packed word, in any order.
 ghost use Rattle.std.specs.Prelude.{◌≡◌, ◌↔◌, ◌+◌, ◌<◌, ◌≤◌, IfOk, IfErr, IfSome, IfNone, Some, None, length, OnOk, OnErr};
-ghost use Rattle.lock_base.specs.Modes.{count_of, AreCompatible};
-ghost use Rattle.lock_base.specs.Limits.{IsLimit, IsMakerFault};
+ghost use Rattle.lock_modes.specs.Modes.{count_of, AreCompatible};
+ghost use Rattle.lock_modes.specs.Limits.{IsLimit, IsMakerFault};
 ghost use Rattle.lock_word.specs.Holders.{holder_at};
 ghost use Rattle.lock_word.specs.Word.{word_of};
 ghost use Rattle.lock_word.specs.Rule.{held_by_all, others_wins};
 ghost use Rattle.lock_word.specs.Worlds.{IsOfParty, IsUnknownIn, after_step, new_world, world_after, outcomes, IsReachable};
 ghost use Rattle.lock_word.specs.Claims.{Leaves, BarIsOfOne, FailsAreBounded, IsRefusedByLoad, AreRefusedByLoads, changes_from, IsRunByParties, IsRunOnAll};
 
-use lock_base::machine::Mode;
-use lock_base::raw::{Fault, is_limit};
+use lock_modes::{Fault, Mode, is_limit};
 use lock_word::WorldParty;
 pub use lock_word::{AtomicStep, Down, ExWant, Outcome};
 use std::alloc::Global;

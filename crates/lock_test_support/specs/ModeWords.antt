@@ -1,7 +1,7 @@
 -- The words for modes.
 use Rattle.std.specs.Prelude.{ℕ, List, codes}
-use Rattle.lock_base.specs.declared.machine.mode.Mode.{Mode}
-use Rattle.lock_base.specs.declared.machine.mode.Mode.TheVariants.{Shared, Exclusive, Upgradable}
+use Rattle.lock_modes.specs.declared.mode.Mode.{Mode}
+use Rattle.lock_modes.specs.declared.mode.Mode.TheVariants.{Shared, Exclusive, Upgradable}
 
 abbrev pub word_of : Mode → List ℕ
 word_of Shared = codes "shared"

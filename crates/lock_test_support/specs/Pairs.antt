@@ -2,7 +2,7 @@
 use Rattle.std.specs.Prelude.{ℕ, zero, suc, None, Some, refl}
 use Rattle.std.proofs.Common.{ap, sym}
 use Rattle.std.proofs.lemmas.Option.{same_Some}
-use Rattle.lock_base.specs.Lens.{Lens, IsLawful}
+use Rattle.lock_parts.specs.Lens.{Lens, IsLawful}
 
 module _ {A B : Type 0} where
   abbrev pub first_item : Lens (A × B) A

@@ -1,5 +1,5 @@
 //! Parties of the tests.
-use lock_base::machine::PartyId;
+use lock_modes::PartyId;
 use std::test::Fail;
 
 pub fn party(id: u64) -> Result<PartyId, Fail> {

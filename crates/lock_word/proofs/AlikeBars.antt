@@ -1,11 +1,11 @@
 -- The bar of a register and a number of bars let the same pass.
 use Rattle.std.proofs.Common.{◌≡◌, ℕ, ◌-◌, Bool, true, false, ◌&&◌, ◌==◌, Some, None, IsTrue, refl}
 use Rattle.std.specs.Prelude.{◌↔◌, is_some}
-use Rattle.lock_base.specs.declared.machine.mode.Mode.{Mode}
-use Rattle.lock_base.specs.declared.machine.mode.Mode.TheVariants.{Shared, Exclusive, Upgradable}
-use Rattle.lock_base.specs.declared.machine.mode_step.ModeStep.TheVariants.{Acquire}
-use Rattle.lock_base.specs.Modes.{is_exclusive}
-use Rattle.lock_base.specs.Bar.{bar_after}
+use Rattle.lock_modes.specs.declared.mode.Mode.{Mode}
+use Rattle.lock_modes.specs.declared.mode.Mode.TheVariants.{Shared, Exclusive, Upgradable}
+use Rattle.lock_modes.specs.declared.mode_step.ModeStep.TheVariants.{Acquire}
+use Rattle.lock_modes.specs.Modes.{is_exclusive}
+use Rattle.lock_modes.specs.Bar.{bar_after}
 use Rattle.lock_word.specs.BarredBags.{bars_of, StepPassesBar}
 use Rattle.lock_word.specs.BarLaws.{BarEncodingsAgree}
 

@@ -1,8 +1,8 @@
 -- A step adds no guard, or it leaves no bar.
 use Rattle.std.proofs.Common.{◌≡◌, ℕ, ◌+◌, ◌-◌, ◌^◌, ◌<◌, ◌≤◌, ◌⊎◌, inl, inr, Bool, List, slice_get, Some, IsTrue, ap, ◌∙◌, arith}
-use Rattle.lock_base.specs.Limits.{IsLimit}
-use Rattle.lock_base.specs.Modes.{readers}
-use Rattle.lock_base.specs.Holds.{hold_has}
+use Rattle.lock_modes.specs.Limits.{IsLimit}
+use Rattle.lock_modes.specs.Modes.{readers}
+use Rattle.lock_modes.specs.Holds.{hold_has}
 use Rattle.lock_word.specs.declared.want.ExWant.{ExWant}
 use Rattle.lock_word.specs.declared.down.Down.{Down}
 use Rattle.lock_word.specs.declared.down.Down.TheVariants as down

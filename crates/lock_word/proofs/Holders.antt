@@ -3,18 +3,18 @@ use Rattle.std.proofs.Common.{◌≡◌, ℕ, zero, suc, ◌+◌, ◌-◌, ◌<�
 use Rattle.std.specs.Prelude.{⊤}
 use Rattle.std.proofs.lemmas.List.Sums.{sum_by-set, sum_by-cons, get_or-le-sum_by}
 use Rattle.std.proofs.lemmas.Option.{slice_get_within, get_or_from_slice_get}
-use Rattle.lock_base.specs.declared.machine.mode.Mode.{Mode}
-use Rattle.lock_base.specs.declared.machine.mode.Mode.TheVariants.{Shared, Exclusive, Upgradable}
-use Rattle.lock_base.specs.declared.machine.mode_step.ModeStep.{ModeStep}
-use Rattle.lock_base.specs.declared.machine.mode_step.ModeStep.TheVariants.{Acquire, Release, Change}
-use Rattle.lock_base.specs.declared.machine.bag.Bag.{Bag}
-use Rattle.lock_base.specs.declared.machine.hold.Hold.{Hold}
-use Rattle.lock_base.specs.declared.machine.lock_step.LockStep.{LockStep}
-use Rattle.lock_base.specs.declared.machine.lock_step.LockStep.TheVariants.{Modes, Announce, Withdraw}
-use Rattle.lock_base.specs.Modes.{empty_bag, count_of, one_more, one_less}
-use Rattle.lock_base.specs.ModeRuns.{has, bag_after, IsModeRun}
-use Rattle.lock_base.specs.Holds.{ends_bar, no_hold, hold_has, hold_after}
-use Rattle.lock_base.proofs.TokenBags.{same_counts}
+use Rattle.lock_modes.specs.declared.mode.Mode.{Mode}
+use Rattle.lock_modes.specs.declared.mode.Mode.TheVariants.{Shared, Exclusive, Upgradable}
+use Rattle.lock_modes.specs.declared.mode_step.ModeStep.{ModeStep}
+use Rattle.lock_modes.specs.declared.mode_step.ModeStep.TheVariants.{Acquire, Release, Change}
+use Rattle.lock_modes.specs.declared.bag.Bag.{Bag}
+use Rattle.lock_modes.specs.declared.hold.Hold.{Hold}
+use Rattle.lock_modes.specs.declared.lock_step.LockStep.{LockStep}
+use Rattle.lock_modes.specs.declared.lock_step.LockStep.TheVariants.{Modes, Announce, Withdraw}
+use Rattle.lock_modes.specs.Modes.{empty_bag, count_of, one_more, one_less}
+use Rattle.lock_modes.specs.ModeRuns.{has, bag_after, IsModeRun}
+use Rattle.lock_modes.specs.Holds.{ends_bar, no_hold, hold_has, hold_after}
+use Rattle.lock_modes.proofs.TokenBags.{same_counts}
 use Rattle.lock_word.specs.BarredBags.{BarredBag, bars_of, without_bars, PermitsLockStep, barred_after}
 use Rattle.lock_word.specs.Holders.{all_of, IsPart, holder_at, HolderStep, IsHolderStep, IsHolderRun, modes_of, steps_of}
 

@@ -2,8 +2,8 @@
 -- that is not admitted was not permitted there, and one that finds another word comes after a win of another.
 use Rattle.std.proofs.Common.{◌≡◌, ◌≢◌, ℕ, zero, suc, ◌+◌, ◌-◌, ◌^◌, ◌<◌, ◌≤◌, ◌⊎◌, inl, inr, Bool, false, IsTrue, List, [], ◌∷◌, slice_get, slice_set, Some, None, refl, sym, ap, subst, ◌∙◌, arith, true≢false}
 use Rattle.std.proofs.lemmas.Option.{same_Some}
-use Rattle.lock_base.specs.declared.machine.hold.Hold.{Hold}
-use Rattle.lock_base.specs.Limits.{IsLimit}
+use Rattle.lock_modes.specs.declared.hold.Hold.{Hold}
+use Rattle.lock_modes.specs.Limits.{IsLimit}
 use Rattle.lock_word.specs.BarredBags.{IsLegalBarredBag, PermitsLockStep}
 use Rattle.lock_word.specs.declared.want.ExWant.{ExWant}
 use Rattle.lock_word.specs.declared.party.WorldParty.{WorldParty}

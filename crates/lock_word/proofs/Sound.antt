@@ -1,7 +1,7 @@
 -- Every list of steps from a new world is sound.
 use Rattle.std.proofs.Common.{List, subst}
-use Rattle.lock_base.specs.Modes.{AreCompatible}
-use Rattle.lock_base.specs.ModeRuns.{IsModeRun}
+use Rattle.lock_modes.specs.Modes.{AreCompatible}
+use Rattle.lock_modes.specs.ModeRuns.{IsModeRun}
 use Rattle.lock_word.specs.declared.step.AtomicStep.{AtomicStep}
 use Rattle.lock_word.specs.Holders.{steps_of}
 use Rattle.lock_word.specs.BarredBags.{BarredBag}

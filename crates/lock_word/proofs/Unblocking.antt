@@ -1,11 +1,11 @@
 -- Which waiters a step unblocks: an exchange nobody, and a take nobody that `unblocks` does not find.
 use Rattle.std.proofs.Common.{◌≡◌, ℕ, not, ◌^◌, Bool, true, false, ◌&&◌, ◌||◌, ◌==◌, ◌⊎◌, inl, inr, IsTrue, refl, sym, ap, ◌∙◌, arith, eqb-true, ltb-true, lt-ltb, eq-eqb, nat_lt}
 use Rattle.std.proofs.lemmas.Bool.{and_parts, and_from, or_parts, or_cases, or_left, false≢true}
-use Rattle.lock_base.specs.declared.machine.mode.Mode.{Mode}
-use Rattle.lock_base.specs.declared.machine.mode.Mode.TheVariants as mode
-use Rattle.lock_base.specs.Limits.{IsLimit}
-use Rattle.lock_base.specs.Modes.{tokens, admits}
-use Rattle.lock_base.specs.Bar.{passes_bar}
+use Rattle.lock_modes.specs.declared.mode.Mode.{Mode}
+use Rattle.lock_modes.specs.declared.mode.Mode.TheVariants as mode
+use Rattle.lock_modes.specs.Limits.{IsLimit}
+use Rattle.lock_modes.specs.Modes.{tokens, admits}
+use Rattle.lock_modes.specs.Bar.{passes_bar}
 use Rattle.lock_word.specs.declared.occupancy.Occupancy.{Occupancy}
 use Rattle.lock_word.specs.declared.want.ExWant.{ExWant}
 use Rattle.lock_word.specs.declared.want.ExWant.TheVariants.{Shared, Exclusive, Upgradable, Upgrade, Announce}

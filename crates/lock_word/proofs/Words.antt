@@ -1,11 +1,11 @@
 -- The word of a bag with a bar: it admits what they permit, and each step on it is the same step on them.
 use Rattle.std.proofs.Common.{◌≡◌, ℕ, ◌+◌, ◌%◌, ◌/◌, ◌^◌, ◌<◌, ◌≤◌, Bool, true, false, ◌&&◌, ◌||◌, ◌==◌, ◌⊎◌, inl, inr, IsTrue, refl, sym, ap, ◌∙◌, arith, eqb-true, ltb-true, lt-ltb, nat_lt, eq-zero-or-pos}
 use Rattle.std.proofs.lemmas.Bool.{and_parts, and_from}
-use Rattle.lock_base.specs.declared.machine.bag.Bag.{Bag}
-use Rattle.lock_base.specs.declared.machine.mode.Mode.{Mode}
-use Rattle.lock_base.specs.declared.machine.lock_step.LockStep.{LockStep}
-use Rattle.lock_base.specs.Modes.{readers, tokens, admits, AreCompatible}
-use Rattle.lock_base.specs.Bar.{passes_bar}
+use Rattle.lock_modes.specs.declared.bag.Bag.{Bag}
+use Rattle.lock_modes.specs.declared.mode.Mode.{Mode}
+use Rattle.lock_modes.specs.declared.lock_step.LockStep.{LockStep}
+use Rattle.lock_modes.specs.Modes.{readers, tokens, admits, AreCompatible}
+use Rattle.lock_modes.specs.Bar.{passes_bar}
 use Rattle.lock_word.specs.BarredBags.{BarredBag, is_barred, IsLegalBarredBag, bars_of, PermitsLockStep, barred_after}
 use Rattle.lock_word.specs.declared.want.ExWant.{ExWant}
 use Rattle.lock_word.specs.declared.down.Down.{Down}

@@ -1,6 +1,6 @@
 -- What calls that may not succeed do to the party that makes them.
 use Rattle.std.specs.Prelude.{◌≡◌, ℕ, ◌+◌, ◌<◌, ◌≤◌, false, None}
-use Rattle.lock_base.specs.Holds.{hold_after}
+use Rattle.lock_modes.specs.Holds.{hold_after}
 use Rattle.lock_word.specs.declared.want.ExWant.{ExWant}
 use Rattle.lock_word.specs.Word.{word_admits, step_of_want}
 use Rattle.lock_word.specs.Rule.{WordShows}

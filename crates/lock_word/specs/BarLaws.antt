@@ -1,10 +1,10 @@
 -- The bar of a register, which names its party, against the bar of a word, which does not.
 use Rattle.std.specs.Prelude.{◌≡◌, ℕ, ◌↔◌, Option, is_some, IsTrue}
-use Rattle.lock_base.specs.declared.machine.mode.Mode.{Mode}
-use Rattle.lock_base.specs.declared.machine.mode_step.ModeStep.TheVariants.{Acquire}
-use Rattle.lock_base.specs.declared.machine.bag.Bag.{Bag}
-use Rattle.lock_base.specs.declared.machine.lock_step.LockStep.TheVariants.{Modes}
-use Rattle.lock_base.specs.Bar.{bar_lets_pass, has_announced, bar_after}
+use Rattle.lock_modes.specs.declared.mode.Mode.{Mode}
+use Rattle.lock_modes.specs.declared.mode_step.ModeStep.TheVariants.{Acquire}
+use Rattle.lock_modes.specs.declared.bag.Bag.{Bag}
+use Rattle.lock_modes.specs.declared.lock_step.LockStep.TheVariants.{Modes}
+use Rattle.lock_modes.specs.Bar.{bar_lets_pass, has_announced, bar_after}
 use Rattle.lock_word.specs.BarredBags.{BarredBag, bars_of, StepPassesBar, barred_after}
 
 -- a bag with the bar of a register, as a number of bars

@@ -1,14 +1,14 @@
 -- Bags with bars: what all parties hold together, and what each step needs and does.
 use Rattle.std.specs.Prelude.{◌≡◌, ℕ, ◌+◌, ◌-◌, ◌<◌, ◌≤◌, Bool, ◌&&◌, nat_lt, if◌then◌else◌, IsTrue, ⊤}
-use Rattle.lock_base.specs.declared.machine.mode_step.ModeStep.{ModeStep}
-use Rattle.lock_base.specs.declared.machine.mode_step.ModeStep.TheVariants.{Acquire, Release, Change}
-use Rattle.lock_base.specs.declared.machine.bag.Bag.{Bag}
-use Rattle.lock_base.specs.declared.machine.lock_step.LockStep.{LockStep}
-use Rattle.lock_base.specs.declared.machine.lock_step.LockStep.TheVariants.{Modes, Announce, Withdraw}
-use Rattle.lock_base.specs.Modes.{AreCompatible}
-use Rattle.lock_base.specs.ModeRuns.{Permits, bag_after}
-use Rattle.lock_base.specs.Bar.{passes_bar}
-use Rattle.lock_base.specs.Holds.{ends_bar}
+use Rattle.lock_modes.specs.declared.mode_step.ModeStep.{ModeStep}
+use Rattle.lock_modes.specs.declared.mode_step.ModeStep.TheVariants.{Acquire, Release, Change}
+use Rattle.lock_modes.specs.declared.bag.Bag.{Bag}
+use Rattle.lock_modes.specs.declared.lock_step.LockStep.{LockStep}
+use Rattle.lock_modes.specs.declared.lock_step.LockStep.TheVariants.{Modes, Announce, Withdraw}
+use Rattle.lock_modes.specs.Modes.{AreCompatible}
+use Rattle.lock_modes.specs.ModeRuns.{Permits, bag_after}
+use Rattle.lock_modes.specs.Bar.{passes_bar}
+use Rattle.lock_modes.specs.Holds.{ends_bar}
 
 -- what all parties hold together, and how many of them have announced themselves
 pub record BarredBag : Type 0 where

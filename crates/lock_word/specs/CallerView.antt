@@ -1,7 +1,7 @@
 -- What contracts see of a lock and of a party.
 use Rattle.std.specs.Prelude.{ℕ, ◌+◌}
 use Rattle.atomic_table.specs.Seated.{TableId}
-use Rattle.lock_base.specs.declared.machine.lock_step.LockStep.{LockStep}
+use Rattle.lock_modes.specs.declared.lock_step.LockStep.{LockStep}
 use Rattle.lock_word.specs.declared.party.WorldParty.{WorldParty}
 use Rattle.lock_word.specs.Turns.{idle, with_load, after_win, after_fail}
 

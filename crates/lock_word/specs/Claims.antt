@@ -1,9 +1,9 @@
 -- What is proved of every interleaving of atomic steps from a new world.
 use Rattle.std.specs.Prelude.{◌≡◌, ◌≢◌, ◌↔◌, ℕ, ◌^◌, ◌<◌, ◌≤◌, true, List, [], ◌∷◌, ◌++◌, Some, ⊤}
-use Rattle.lock_base.specs.Limits.{IsLimit}
-use Rattle.lock_base.specs.Modes.{AreCompatible, empty_bag}
+use Rattle.lock_modes.specs.Limits.{IsLimit}
+use Rattle.lock_modes.specs.Modes.{AreCompatible, empty_bag}
 use Rattle.lock_word.specs.BarredBags.{BarredBag, IsLegalBarredBag, PermitsLockStep}
-use Rattle.lock_base.specs.ModeRuns.{IsModeRun}
+use Rattle.lock_modes.specs.ModeRuns.{IsModeRun}
 use Rattle.lock_word.specs.declared.want.ExWant.{ExWant}
 use Rattle.lock_word.specs.declared.party.WorldParty.{WorldParty}
 use Rattle.lock_word.specs.declared.step.AtomicStep.{AtomicStep}

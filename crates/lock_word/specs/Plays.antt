@@ -1,8 +1,8 @@
 -- What each kind of step does to the view of the party that makes it.
 use Rattle.std.specs.Prelude.{◌≡◌, ◌≢◌, ℕ, ◌+◌, ◌^◌, ◌<◌, IsTrue}
 use Rattle.atomic_table.specs.Table.{Me, Step}
-use Rattle.lock_base.specs.declared.machine.lock_step.LockStep.{LockStep}
-use Rattle.lock_base.specs.Modes.{tokens}
+use Rattle.lock_modes.specs.declared.lock_step.LockStep.{LockStep}
+use Rattle.lock_modes.specs.Modes.{tokens}
 use Rattle.lock_word.specs.declared.want.ExWant.{ExWant}
 use Rattle.lock_word.specs.declared.down.Down.{Down}
 use Rattle.lock_word.specs.Word.{word_admits, word_after, amount, step_of_want, step_of_down}

@@ -1,7 +1,7 @@
 -- The rule: what holds of the word and of all parties between any two atomic steps.
 use Rattle.std.specs.Prelude.{◌≡◌, ◌≢◌, ℕ, ◌+◌, ◌-◌, ◌%◌, ◌^◌, ◌<◌, ◌≤◌, List, map, sum_by, slice_get, Some, ◌⊎◌}
-use Rattle.lock_base.specs.declared.machine.hold.Hold.{Hold}
-use Rattle.lock_base.specs.Modes.{readers}
+use Rattle.lock_modes.specs.declared.hold.Hold.{Hold}
+use Rattle.lock_modes.specs.Modes.{readers}
 use Rattle.lock_word.specs.declared.party.WorldParty.{WorldParty}
 use Rattle.lock_word.specs.BarredBags.{BarredBag, IsLegalBarredBag, bars_of}
 use Rattle.lock_word.specs.Holders.{all_of, IsPart}

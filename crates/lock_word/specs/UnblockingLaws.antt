@@ -1,8 +1,8 @@
 -- What is proved of the steps that unblock waiters.
 use Rattle.std.specs.Prelude.{◌≡◌, ℕ, Bool, false, IsTrue}
-use Rattle.lock_base.specs.declared.machine.hold.Hold.{Hold}
-use Rattle.lock_base.specs.Limits.{IsLimit}
-use Rattle.lock_base.specs.Holds.{hold_has}
+use Rattle.lock_modes.specs.declared.hold.Hold.{Hold}
+use Rattle.lock_modes.specs.Limits.{IsLimit}
+use Rattle.lock_modes.specs.Holds.{hold_has}
 use Rattle.lock_word.specs.declared.want.ExWant.{ExWant}
 use Rattle.lock_word.specs.Word.{word_admits, word_after, step_of_want, IsPacked}
 use Rattle.lock_word.specs.Unblocking.{is_awaited, word_unblocks}

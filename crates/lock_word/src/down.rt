@@ -2,7 +2,7 @@
 ghost use Rattle.std.specs.Prelude.{◌≡◌};
 
 use crate::word::{BAR, EXCLUSIVE, UPGRADABLE};
-use lock_base::machine::{LockStep, Mode, ModeStep};
+use lock_modes::{LockStep, Mode, ModeStep};
 
 /// What a subtraction from the word releases or downgrades.
 #[derive(Clone, Copy, PartialEq, Eq, Debug)]

@@ -1,10 +1,10 @@
 //! Which waiters may proceed, and which of them a step unblocks.
 ghost use Rattle.std.specs.Prelude.{◌≡◌, ◌<◌, ◌^◌};
-ghost use Rattle.lock_base.specs.Modes.{tokens};
+ghost use Rattle.lock_modes.specs.Modes.{tokens};
 ghost use Rattle.lock_word.specs.Unblocking.{occupancy_of_word, may_proceed, newly_may_proceed, may_upgrade, unblocks};
 
 use crate::word::{EXCLUSIVE, UPGRADABLE, has_bar};
-use lock_base::machine::{Bag, Mode, ModeStep};
+use lock_modes::{Bag, Mode, ModeStep};
 
 /// The held modes, and whether the bar is set.
 #[derive(Clone, Copy, PartialEq, Eq, Debug)]

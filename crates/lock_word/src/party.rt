@@ -4,8 +4,7 @@ ghost use Rattle.std.specs.Prelude.{◌≡◌, ◌-◌, ◌^◌, ◌<◌, ◌≤
 use crate::down::Down;
 use crate::step::{AtomicStep, Outcome};
 use crate::want::ExWant;
-use lock_base::machine::{Hold, LockStep};
-use lock_base::raw::Fault;
+use lock_modes::{Fault, Hold, LockStep};
 
 /// The world's view of a party: what it holds, its open load, and how often it won and failed.
 #[derive(Clone, Copy, PartialEq, Eq, Debug)]
@@ -20,8 +19,8 @@ pub struct WorldParty {
 }
 
 impl WorldParty {
-    ghost use Rattle.lock_base.specs.Modes.{tokens};
-    ghost use Rattle.lock_base.specs.Holds.{hold_has};
+    ghost use Rattle.lock_modes.specs.Modes.{tokens};
+    ghost use Rattle.lock_modes.specs.Holds.{hold_has};
     ghost use Rattle.lock_word.specs.Word.{word_of};
     ghost use Rattle.lock_word.specs.Turns.{idle, after_win, load_turn, exchange_turn, take_turn, turn, CanStep};
 

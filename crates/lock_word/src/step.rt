@@ -3,7 +3,7 @@ ghost use Rattle.std.specs.Prelude.{◌≡◌};
 
 use crate::down::Down;
 use crate::want::ExWant;
-use lock_base::raw::Fault;
+use lock_modes::Fault;
 
 /// One atomic step of a party. Parties are numbered from 1.
 #[derive(Clone, Copy, PartialEq, Eq, Debug)]

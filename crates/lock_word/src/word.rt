@@ -1,6 +1,6 @@
 //! The parts of a packed word.
 ghost use Rattle.std.specs.Prelude.{◌≡◌, ◌==◌, not};
-ghost use Rattle.lock_base.specs.Modes.{tokens};
+ghost use Rattle.lock_modes.specs.Modes.{tokens};
 ghost use Rattle.lock_word.specs.BarredBags.{is_barred};
 ghost use Rattle.lock_word.specs.Word.{bag_of_word, barred_bag_of_word, word_with_bar};
 

@@ -1,7 +1,7 @@
 //! Parties that end while they hold a lock.
 ghost use Rattle.std.specs.Prelude.{◌<◌, length};
 
-use lock_base::machine::Hold;
+use lock_modes::Hold;
 use lock_plan::Plan;
 use lock_plan_text::NamedPlan;
 use std::alloc::Global;

@@ -1,5 +1,5 @@
 //! One bound for generic code over any raw lock.
-use lock_guard::raw::{
+use lock_traits::{
     RawMutex, RawMutexFair, RawMutexTimed, RawRwLock, RawRwLockTimed, RawRwLockUpgradeDowngrade,
     RawRwLockUpgradeFair, RawRwLockUpgradeTimed,
 };

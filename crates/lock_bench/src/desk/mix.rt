@@ -1,8 +1,8 @@
 //! A mix of calls on a `Desk`, on its guards at random.
 use crate::desk::{Bench, after, below};
-use lock_base::machine::{PartyId, Way};
-use lock_base::raw::RawState;
 use lock_desk::Desk;
+use lock_machine::Way;
+use lock_modes::{PartyId, RawState};
 use lock_states::table::TokenTable;
 use std::io;
 use std::time::Instant;

@@ -1,8 +1,8 @@
 //! Uncontended guards of a reader-writer lock over a table.
 use crate::desk::Bench;
-use lock_guard::raw::RawRwLock;
 use lock_raws::TokenRaw;
 use lock_rwlock::RwLock;
+use lock_traits::RawRwLock;
 use std::io;
 use std::sync::Wait;
 use std::time::Instant;

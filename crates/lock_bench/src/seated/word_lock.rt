@@ -1,6 +1,6 @@
 //! Rounds of a word lock, on one thread.
 use crate::locks::{READERS, line};
-use lock_base::machine::Mode;
+use lock_modes::Mode;
 use lock_one_word::WordLock;
 use std::alloc::Global;
 use std::io;

@@ -1,7 +1,7 @@
 //! What it costs to wait for a word lock.
 use crate::locks::READERS;
 use crate::turns::used;
-use lock_base::machine::Mode;
+use lock_modes::Mode;
 use lock_one_word::WordLock;
 use std::alloc::Global;
 use std::io;

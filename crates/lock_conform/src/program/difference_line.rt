@@ -4,7 +4,7 @@ ghost use Rattle.lock_script.specs.Answers.{reply_text};
 ghost use Rattle.lock_conform.specs.DifferenceText.{difference_text};
 
 use crate::difference::Difference;
-use lock_base::machine::Reply;
+use lock_machine::Reply;
 use lock_script::{Answer, write_answer};
 use std::alloc::{AllocError, Global};
 use std::str;

@@ -10,15 +10,15 @@ use crate::reentrant::run_reentrant;
 use crate::report::Report;
 use crate::rwlock::run_rwlock;
 use crate::wrong::{Mistake, WrongRaw};
-use lock_base::raw::{Fault, MAX_LIMIT};
-use lock_guard::raw::{
-    RawMutex, RawMutexFair, RawMutexTimed, RawRwLock, RawRwLockTimed, RawRwLockUpgradeDowngrade,
-    RawRwLockUpgradeFair, RawRwLockUpgradeTimed,
-};
+use lock_modes::{Fault, MAX_LIMIT};
 use lock_raws::{LockCore, Monitor, NoTime, RawLock, RealTime, Recorded, TableArbiter, WordCore};
 use lock_raws_fair::FairCore;
 use lock_script::{DeskScript, Maker};
 use lock_test_support::raw_lock::Deadline;
+use lock_traits::{
+    RawMutex, RawMutexFair, RawMutexTimed, RawRwLock, RawRwLockTimed, RawRwLockUpgradeDowngrade,
+    RawRwLockUpgradeFair, RawRwLockUpgradeTimed,
+};
 use std::alloc::Global;
 use std::clone::Clone;
 use std::sync::Wait;

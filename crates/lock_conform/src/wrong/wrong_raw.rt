@@ -3,9 +3,9 @@ ghost use Rattle.std.specs.Prelude.{◌≡◌, Some, IfSome};
 ghost use Rattle.lock_conform.specs.WrongTokens.{owns_if_some};
 
 use super::mistake::Mistake;
-use lock_base::raw::Fault;
 use lock_guard::forget;
-use lock_guard::raw::{RawMutex, RawMutexFair, RawMutexTimed};
+use lock_modes::Fault;
+use lock_traits::{RawMutex, RawMutexFair, RawMutexTimed};
 use std::alloc::Global;
 
 /// A raw lock that makes its calls on another one, but for a mistake. Its exclusive token is `None` where the other one

@@ -4,9 +4,9 @@ ghost use Rattle.lock_conform.specs.WrongTokens.{owns_if_some};
 
 use super::mistake::Mistake;
 use super::wrong_raw::WrongRaw;
-use lock_base::raw::Fault;
 use lock_guard::forget;
-use lock_guard::raw::{
+use lock_modes::Fault;
+use lock_traits::{
     RawRwLock, RawRwLockDowngrade, RawRwLockFair, RawRwLockTimed, RawRwLockUpgrade,
     RawRwLockUpgradeDowngrade, RawRwLockUpgradeFair, RawRwLockUpgradeTimed,
 };

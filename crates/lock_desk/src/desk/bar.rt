@@ -1,11 +1,10 @@
 //! Announcing a writer.
 ghost use Rattle.std.specs.Prelude.{◌≡◌};
-ghost use Rattle.lock_base.specs.Party.{id_of};
-ghost use Rattle.lock_base.specs.Calls as calls;
+ghost use Rattle.lock_modes.specs.Party.{id_of};
+ghost use Rattle.lock_machine.specs.Calls as calls;
 
 use crate::desk::Desk;
-use lock_base::machine::PartyId;
-use lock_base::raw::{Fault, RawState};
+use lock_modes::{Fault, PartyId, RawState};
 
 impl<R: RawState, T> Desk<R, T> {
     /// Announces that the party is going to write. Until it acquires exclusively or withdraws, no other acquisition is

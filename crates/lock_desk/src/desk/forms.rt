@@ -1,11 +1,11 @@
 //! Further names of calls: the forms with a timeout or a deadline, and the fair form of `park`.
 ghost use Rattle.std.specs.Prelude.{◌≡◌};
-ghost use Rattle.lock_base.specs.Party.{id_of};
-ghost use Rattle.lock_base.specs.Calls as calls;
+ghost use Rattle.lock_modes.specs.Party.{id_of};
+ghost use Rattle.lock_machine.specs.Calls as calls;
 
 use crate::desk::Desk;
-use lock_base::machine::{Op, PartyId, Want};
-use lock_base::raw::{Fault, RawState};
+use lock_machine::{Op, Want};
+use lock_modes::{Fault, PartyId, RawState};
 
 impl<R: RawState, T> Desk<R, T> {
     /// `try_lock`, in the form with a timeout.

@@ -1,8 +1,8 @@
 //! The invariant of every `Desk`.
-ghost use Rattle.lock_base.specs.Sound.{IsSound};
+ghost use Rattle.lock_machine.specs.Sound.{IsSound};
 
 use crate::desk::Desk;
-use lock_base::raw::RawState;
+use lock_modes::RawState;
 
 /// States that the machine of a `Desk` is sound, whatever was called. The laws of the machine require it.
 pub fn desk_is_sound<R: RawState, T>(desk: &Desk<R, T>)

@@ -1,14 +1,13 @@
 //! The bar of a party that has announced itself.
 ghost use Rattle.std.specs.Prelude.{◌≡◌, is_some};
 ghost use Rattle.std.specs.Option.{option_map};
-ghost use Rattle.lock_base.specs.Party.{id_of};
-ghost use Rattle.lock_base.specs.Bar.{bar_lets_pass, has_announced};
-ghost use Rattle.lock_base.specs.Register.{with_bar, after_admission};
-ghost use Rattle.lock_base.specs.Sound.{IsBarOf};
+ghost use Rattle.lock_modes.specs.Party.{id_of};
+ghost use Rattle.lock_modes.specs.Bar.{bar_lets_pass, has_announced};
+ghost use Rattle.lock_machine.specs.Register.{with_bar, after_admission};
+ghost use Rattle.lock_machine.specs.Sound.{IsBarOf};
 
 use crate::guards::Guards;
-use lock_base::machine::{Mode, PartyId};
-use lock_base::raw::RawState;
+use lock_modes::{Mode, PartyId, RawState};
 
 impl<R: RawState> Guards<R> {
     /// Returns whether a party has announced itself.

@@ -5,7 +5,7 @@ ghost use Rattle.std.specs.Borrow.{Lends, LendsIf, sem};
 ghost use Rattle.lock_guard.specs.GuardPart.{guard_part, guard_with_part};
 
 use crate::guard::{LockGuard, LockGuardFair, LockGuardMut};
-use lock_base::project::{Missed, Project, Then, TryProject, TryView, View};
+use lock_parts::{Missed, Project, Then, TryProject, TryView, View};
 use std::fmt;
 use std::fmt::{Debug, Display, Formatter};
 use std::ops::{Deref, DerefMut};
@@ -101,7 +101,7 @@ impl<G: LockGuard, P: TryView<G::Value>> Mapped<G, P> {
 
 impl<G: LockGuard, P: TryProject<G::Value>> Mapped<G, P> {
     ghost use Rattle.lock_guard.specs.GuardPart.{guard_miss};
-    ghost use Rattle.lock_base.specs.Then.{then};
+    ghost use Rattle.lock_parts.specs.Then.{then};
     ghost use Rattle.lock_guard.specs.Mapped.{IsMapOf, IsMappedOr, mapped_part};
 
     /// Makes the guard of a part of the part, by a projection that always has one.

@@ -7,10 +7,10 @@ mod parts;
 mod raw_calls;
 mod threads;
 
-use lock_base::raw::Fault;
-use lock_guard::raw::RawMutex;
+use lock_modes::Fault;
 use lock_mutex::Mutex;
 use lock_test_support::raw_lock::{CallWatch, Recorder};
+use lock_traits::RawMutex;
 use std::alloc::Global;
 
 /// A mutex over a raw lock whose calls are watched.

@@ -8,13 +8,13 @@ mod threads;
 mod upgrades;
 
 use crate::tests::Table;
-use lock_base::raw::Fault;
-use lock_guard::raw::{RawRwLock, RawRwLockFair, RawRwLockUpgradeDowngrade, RawRwLockUpgradeTimed};
+use lock_modes::Fault;
 use lock_raws::{LockCore, RawLock};
 use lock_rwlock::RwLock;
 use lock_test_support::answer::equal;
 use lock_test_support::project::Nested;
 use lock_test_support::raw_lock::{CallWatch, Deadline, Recorder};
+use lock_traits::{RawRwLock, RawRwLockFair, RawRwLockUpgradeDowngrade, RawRwLockUpgradeTimed};
 use std::alloc::Global;
 use std::sync::Arc;
 use std::test::Fail;

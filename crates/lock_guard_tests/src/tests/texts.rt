@@ -1,5 +1,4 @@
 //! How locks and guards print, by `Debug` and by `Display`.
-use lock_guard::raw::RawMutex;
 use lock_mutex::{Condvar, Mutex, MutexGuard};
 use lock_raws::{SpuriousCondvar, WordRaw};
 use lock_remutex::{ReentrantMutex, ReentrantMutexGuard};
@@ -7,6 +6,7 @@ use lock_test_support::answer::{debug_is, equal, texts_are};
 use lock_test_support::party;
 use lock_test_support::project::Item0;
 use lock_test_support::raw_lock::AdmitsAll;
+use lock_traits::RawMutex;
 use std::alloc::Global;
 use std::test::Fail;
 

@@ -1,7 +1,7 @@
 //! Calls by the named public functions, instead of `apply`.
-use lock_base::machine::{Call, Form, Op, PartyId, Reply, Want};
-use lock_base::raw::{Fault, RawState};
 use lock_desk::Desk;
+use lock_machine::{Call, Form, Op, Reply, Want};
+use lock_modes::{Fault, PartyId, RawState};
 
 /// The answer of a function that may not be admitted, or its refusal.
 type Named<X> = Result<Option<X>, Fault>;

@@ -1,6 +1,5 @@
 //! A raw state that counts.
-use lock_base::machine::Mode;
-use lock_base::raw::{Fault, RawState};
+use lock_modes::{Fault, Mode, RawState};
 use std::alloc::Global;
 
 /// A raw state that counts the released tokens.

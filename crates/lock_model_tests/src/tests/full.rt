@@ -1,6 +1,6 @@
 //! A desk whose only place has a parked guard, over a table and over a packed word.
-use lock_base::raw::{Fault, RawState};
 use lock_desk::Desk;
+use lock_modes::{Fault, RawState};
 use lock_states::table::TokenTable;
 use lock_states::word::PackedWord;
 use lock_test_support::answer::equal;

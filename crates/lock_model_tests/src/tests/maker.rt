@@ -1,6 +1,6 @@
 //! Desks of the three kinds.
-use lock_base::raw::{Fault, RawState};
 use lock_desk::Desk;
+use lock_modes::{Fault, RawState};
 use std::alloc::Global;
 
 /// The kind of a desk, its places, its limit if it has one, and its first value.

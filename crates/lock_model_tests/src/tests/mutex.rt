@@ -2,8 +2,8 @@
 use crate::tests::check;
 use crate::tests::maker::DeskMaker;
 use crate::tests::operations::Add;
-use lock_base::machine::{Call, Form, Reply, Want, Way};
-use lock_base::raw::Fault;
+use lock_machine::{Call, Form, Reply, Want, Way};
+use lock_modes::Fault;
 use lock_test_support::party;
 use std::test::Fail;
 

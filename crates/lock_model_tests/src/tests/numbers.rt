@@ -1,7 +1,7 @@
 //! Guard numbers end at 2^64 - 1, over a table and over a packed word.
-use lock_base::machine::{PartyId, Way};
-use lock_base::raw::{Fault, RawState};
 use lock_desk::Desk;
+use lock_machine::Way;
+use lock_modes::{Fault, PartyId, RawState};
 use lock_states::table::TokenTable;
 use lock_states::word::PackedWord;
 use lock_test_support::answer::equal;

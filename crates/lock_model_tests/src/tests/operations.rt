@@ -1,7 +1,7 @@
 //! Operations on a number.
 ghost use Rattle.std.specs.Prelude.{◌+◌, ◌-◌, ◌^◌, nat_le};
 
-use lock_base::machine::Op;
+use lock_machine::Op;
 use std::cell::Cell;
 
 /// Adds to a number, if the sum fits.

@@ -1,8 +1,7 @@
 //! A `Desk` lends its value, or a part of it, to closures. Each test runs over a table and over a packed word.
-use lock_base::machine::PartyId;
-use lock_base::project::{TryProject, TryView};
-use lock_base::raw::{Fault, RawState};
 use lock_desk::Desk;
+use lock_modes::{Fault, PartyId, RawState};
+use lock_parts::{TryProject, TryView};
 use lock_states::table::TokenTable;
 use lock_states::word::PackedWord;
 use lock_test_support::answer::equal;

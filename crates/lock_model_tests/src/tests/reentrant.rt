@@ -2,8 +2,8 @@
 use crate::tests::check;
 use crate::tests::maker::DeskMaker;
 use crate::tests::operations::Add;
-use lock_base::machine::{Call, Form, PartyId, Reply, Want, Way};
-use lock_base::raw::Fault;
+use lock_machine::{Call, Form, Reply, Want, Way};
+use lock_modes::{Fault, PartyId};
 use lock_test_support::two_parties;
 use std::alloc::Global;
 use std::test::Fail;

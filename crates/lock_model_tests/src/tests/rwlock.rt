@@ -2,8 +2,8 @@
 use crate::tests::maker::DeskMaker;
 use crate::tests::operations::{Add, CountedOp};
 use crate::tests::{CountedDesk, Wrong, check, replay};
-use lock_base::machine::{Call, Form, PartyId, Reply, Want, Way};
-use lock_base::raw::{Fault, RawState};
+use lock_machine::{Call, Form, Reply, Want, Way};
+use lock_modes::{Fault, PartyId, RawState};
 use lock_states::table::TokenTable;
 use lock_states::word::PackedWord;
 use lock_test_support::{party, two_parties};

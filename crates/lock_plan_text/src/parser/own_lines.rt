@@ -1,9 +1,9 @@
 //! The lines of a party that a line of the text says.
 ghost use Rattle.std.specs.Prelude.{◌≡◌, IfOk, Some, option_map};
 ghost use Rattle.std.proofs.Common.{get_or};
-ghost use Rattle.lock_base.specs.declared.machine.lock_step.LockStep.TheVariants.{Modes};
-ghost use Rattle.lock_base.specs.declared.machine.mode.Mode.TheVariants.{Exclusive};
-ghost use Rattle.lock_base.specs.declared.machine.mode_step.ModeStep.TheVariants.{Acquire, Release};
+ghost use Rattle.lock_modes.specs.declared.lock_step.LockStep.TheVariants.{Modes};
+ghost use Rattle.lock_modes.specs.declared.mode.Mode.TheVariants.{Exclusive};
+ghost use Rattle.lock_modes.specs.declared.mode_step.ModeStep.TheVariants.{Acquire, Release};
 ghost use Rattle.lock_plan.specs.Worlds.{no_lock};
 ghost use Rattle.lock_plan_lines.specs.declared.text_line.TextLine.TheVariants as text;
 ghost use Rattle.lock_plan_lines.specs.PlanLines.{names_of};
@@ -11,7 +11,7 @@ ghost use Rattle.lock_plan_text.specs.Drafts.{mutex_call, mutex_step, named_call
 ghost use Rattle.lock_plan_text.specs.Drafted.{drafted};
 
 use crate::parser::draft::PlanDraft;
-use lock_base::machine::{Kind, LockStep, Mode, ModeStep};
+use lock_modes::{Kind, LockStep, Mode, ModeStep};
 use lock_plan::PlanCall;
 use lock_plan_lines::{
     BlockLine, BlockWord, LineNames, NamedWord, PlainLine, PlanLine, TextLine, WaitLine,

@@ -6,8 +6,8 @@ ghost use Rattle.lock_ranked.specs.Rows.{mutex_at};
 use crate::mutex::RankedMutexGuard;
 use crate::rank::{Rank, Under};
 use crate::ranked::Ranked;
-use lock_guard::raw::RawMutex;
 use lock_mutex::Mutex;
+use lock_traits::RawMutex;
 use std::marker::PhantomData;
 
 /// The permission to acquire one mutex of a row, in an order at `B`. Its call reaches no other mutex.

@@ -1,9 +1,9 @@
 //! The steps of a `Monitor` on its arbiter, and which waiters to wake after them.
 ghost use Rattle.std.specs.Prelude.{◌≡◌, ◌<◌, ◌^◌, ◌&&◌, true, false, is_some, IfErr, IfOk, IfSome, IsTrue};
-ghost use Rattle.lock_base.specs.Bar.{passes_bar};
-ghost use Rattle.lock_base.specs.declared.machine.mode.Mode.TheVariants.{Upgradable, Exclusive};
-ghost use Rattle.lock_base.specs.Modes.{admits, tokens, may_become, is_move};
-ghost use Rattle.lock_base.specs.Tokens.{bag_of_tokens, Adds, IsOutAs, Removes, Replaces};
+ghost use Rattle.lock_modes.specs.Bar.{passes_bar};
+ghost use Rattle.lock_modes.specs.declared.mode.Mode.TheVariants.{Upgradable, Exclusive};
+ghost use Rattle.lock_modes.specs.Modes.{admits, tokens, may_become, is_move};
+ghost use Rattle.lock_modes.specs.Tokens.{bag_of_tokens, Adds, IsOutAs, Removes, Replaces};
 ghost use Rattle.lock_raws.specs.ModeTokens.{mode_of, same_mode};
 ghost use Rattle.lock_raws.specs.Waking.{wakes};
 
@@ -13,7 +13,7 @@ mod mode_token;
 use crate::arbiter::{Arbiter, upgraded};
 use crate::wake::Wake;
 pub(crate) use announcing::admit_or_announce;
-use lock_base::machine::{Bag, Mode};
+use lock_modes::{Bag, Mode};
 use lock_word::Occupancy;
 pub use mode_token::ModeToken;
 

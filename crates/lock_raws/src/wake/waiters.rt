@@ -1,12 +1,12 @@
 //! The threads that wait at a monitor.
 ghost use Rattle.std.specs.Prelude.{IfErr, ◌≡◌};
-ghost use Rattle.lock_base.specs.declared.raw.fault.Fault.TheVariants as fault;
+ghost use Rattle.lock_modes.specs.declared.fault.Fault.TheVariants as fault;
 ghost use Rattle.lock_raws.specs.Condvars.{Waited};
 ghost use Rattle.lock_raws.specs.Waking.{Wakes};
 
 use crate::wake::Wake;
-use lock_base::raw::Fault;
-use lock_guard::lock_std;
+use lock_modes::Fault;
+use lock_traits::lock_std;
 use lock_wake::{LockEvents, Notified, Whom};
 use std::alloc::Global;
 use std::sync::{Mutex, MutexGuard, Wait};

@@ -1,5 +1,5 @@
 //! The tokens of a fair lock, and the upgrades that wait.
-use lock_base::machine::Mode;
+use lock_modes::Mode;
 
 /// A token and its mode. Only a `FairArbiter` makes one. It cannot be copied or dropped: `give_back` ends it.
 pub struct FairToken<T> {

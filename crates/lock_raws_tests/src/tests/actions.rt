@@ -1,10 +1,10 @@
 //! What threads do with a raw lock, as lists.
 use super::held::RawHold;
 use super::meeting::Meeting;
-use lock_base::machine::Mode::{self, Exclusive, Shared};
 use lock_guard::forget;
-use lock_guard::raw::RawRwLock;
+use lock_modes::Mode::{self, Exclusive, Shared};
 use lock_raws::{LockCore, RawLock};
+use lock_traits::RawRwLock;
 use std::alloc::{AllocError, Global};
 use std::sync::Wait;
 use std::thread::{self, Threads};

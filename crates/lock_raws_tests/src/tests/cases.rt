@@ -5,9 +5,9 @@ use super::actions::ThreadAction::{
 };
 use super::actions::{Actions, Acts, in_threads};
 use super::meeting::Meeting;
-use lock_base::machine::Mode::{Exclusive, Shared, Upgradable};
-use lock_guard::raw::RawRwLock;
+use lock_modes::Mode::{Exclusive, Shared, Upgradable};
 use lock_test_support::answer::equal;
+use lock_traits::RawRwLock;
 use std::alloc::Global;
 use std::test::Fail;
 use std::thread::Threads;

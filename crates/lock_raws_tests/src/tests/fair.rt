@@ -3,7 +3,7 @@ mod counts;
 mod scene;
 
 use counts::{count_beside_readers, count_in_four_threads};
-use lock_base::machine::Mode::{Exclusive, Shared};
+use lock_modes::Mode::{Exclusive, Shared};
 use lock_raws::{RealTime, TableArbiter};
 use lock_raws_fair::{FairCore, FairRaw};
 use lock_test_support::answer::equal;

@@ -1,9 +1,9 @@
 //! Tokens of another lock, which a lock over a table ignores.
-use lock_base::machine::Mode::Shared;
-use lock_base::machine::ModeStep::{Acquire, Release};
-use lock_guard::raw::{RawRwLock, RawRwLockDowngrade};
+use lock_modes::Mode::Shared;
+use lock_modes::ModeStep::{Acquire, Release};
 use lock_raws::{Arbiter, Monitor, RawLock, RecordingArbiter, TableArbiter};
 use lock_test_support::answer::equal;
+use lock_traits::{RawRwLock, RawRwLockDowngrade};
 use std::alloc::Global;
 use std::clone::Clone;
 use std::sync::Wait;

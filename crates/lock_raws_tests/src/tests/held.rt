@@ -1,13 +1,13 @@
 //! At most one token of a raw lock, by mode.
 ghost use Rattle.std.specs.Prelude.{◌≡◌, true};
-ghost use Rattle.lock_base.specs.declared.machine.mode.Mode.{Mode};
+ghost use Rattle.lock_modes.specs.declared.mode.Mode.{Mode};
 
-use lock_base::machine::Mode::{self, Exclusive, Shared, Upgradable};
-use lock_guard::raw::{
+use lock_modes::Mode::{self, Exclusive, Shared, Upgradable};
+use lock_raws::{ExclusiveToken, LockCore, RawLock, SharedToken, UpgradableToken};
+use lock_traits::{
     RawRwLock, RawRwLockDowngrade, RawRwLockFair, RawRwLockUpgrade, RawRwLockUpgradeDowngrade,
     RawRwLockUpgradeFair,
 };
-use lock_raws::{ExclusiveToken, LockCore, RawLock, SharedToken, UpgradableToken};
 
 /// A shared token, with the lock that holds it.
 pub struct Reader<'a, C: LockCore> {

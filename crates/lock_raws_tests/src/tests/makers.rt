@@ -1,8 +1,8 @@
 //! Makers of raw locks to which memory is refused.
-use lock_base::raw::Fault;
-use lock_guard::raw::{RawMutex, RawRwLock};
+use lock_modes::Fault;
 use lock_raws::{LockCore, Monitor, NoTime, RawLock, Recorded, WordCore};
 use lock_test_support::answer::{equal, lacks_memory};
+use lock_traits::{RawMutex, RawRwLock};
 use std::alloc::Global;
 use std::rt::Env;
 use std::test::Fail;

@@ -1,8 +1,8 @@
 //! Which tokens and guards another thread may have. The compiler refuses `GuardNoSend` as an argument of `hand_over`.
-use lock_guard::raw::{GuardNoSend, GuardSend, RawRwLock};
 use lock_raws::WordRaw;
 use lock_rwlock::RwLock;
 use lock_test_support::answer::equal;
+use lock_traits::{GuardNoSend, GuardSend, RawRwLock};
 use std::alloc::Global;
 use std::ops::Deref;
 use std::test::Fail;

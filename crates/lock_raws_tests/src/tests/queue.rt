@@ -1,9 +1,9 @@
 //! Producers and consumers that sleep on condition variables.
-use lock_base::raw::Fault;
-use lock_guard::raw::RawMutex;
+use lock_modes::Fault;
 use lock_mutex::{Condvar, Mutex};
 use lock_raws::{SleepingCondvar, TokenRaw, WordRaw};
 use lock_test_support::answer::equal;
+use lock_traits::RawMutex;
 use std::alloc::Global;
 use std::test::Fail;
 use std::thread::{self, Threads};

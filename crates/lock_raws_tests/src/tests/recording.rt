@@ -4,12 +4,12 @@ use super::actions::ThreadAction::{
 };
 use super::actions::{Actions, Acts, in_threads};
 use super::meeting::Meeting;
-use lock_base::machine::Mode::{Exclusive, Shared, Upgradable};
-use lock_base::machine::ModeStep::{self, Acquire, Change, Release};
-use lock_base::raw::Fault;
-use lock_guard::raw::{RawMutex, RawMutexFair};
+use lock_modes::Fault;
+use lock_modes::Mode::{Exclusive, Shared, Upgradable};
+use lock_modes::ModeStep::{self, Acquire, Change, Release};
 use lock_raws::{Arbiter, Monitor, RawLock, RecordingArbiter, RecordingRaw};
 use lock_test_support::answer::{answers_or_lacks_memory, equal, lacks_memory};
+use lock_traits::{RawMutex, RawMutexFair};
 use std::alloc::Global;
 use std::clone::Clone;
 use std::rt::Env;

@@ -2,7 +2,7 @@
 mod level;
 
 ghost use Rattle.std.specs.Prelude.{◌≡◌, ◌≢◌, ◌<◌, ℕ, ⊤, IfOk, IfErr};
-ghost use Rattle.lock_base.specs.Limits.{IsLimit};
+ghost use Rattle.lock_modes.specs.Limits.{IsLimit};
 ghost use Rattle.lock_remutex.specs.declared.owner_table.rule.OwnerStep.TheVariants.{Saw, Made};
 ghost use Rattle.lock_remutex.specs.OwnerTables.{party_in, count_in, owned_at, made_by, IsAtHome, IsWord, IsIdle};
 ghost use Rattle.lock_remutex.specs.OwnerCalls.{IsTaken};
@@ -14,8 +14,8 @@ use crate::owner_table::rule::{
 use crate::owner_table::{BUSY, LARGE_ID, OWNER, OwnerTable};
 use atomic_table::Seat;
 pub(crate) use level::Level;
-use lock_base::raw::Levels;
-use lock_guard::raw::RawMutex;
+use lock_modes::Levels;
+use lock_traits::RawMutex;
 use std::marker::Model;
 use std::snapshot::Snapshot;
 

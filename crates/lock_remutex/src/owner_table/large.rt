@@ -1,6 +1,6 @@
 //! The calls of a party whose id does not fit into the owner word. Each takes the levels.
 ghost use Rattle.std.specs.Prelude.{ℕ, ◌≡◌, ◌≢◌, ◌<◌, ◌≤◌, ◌^◌, IfOk, IfErr, IfSome};
-ghost use Rattle.lock_base.specs.Party.{id_of};
+ghost use Rattle.lock_modes.specs.Party.{id_of};
 ghost use Rattle.lock_remutex.specs.declared.owner_table.rule.OwnerStep.TheVariants.{Saw};
 ghost use Rattle.lock_remutex.specs.OwnerTables.{party_in, word_at, made_by, IsLarge, OwnerFits};
 ghost use Rattle.lock_remutex.specs.OwnerCalls.{Again, Leaves, LeavesSole, IsTaken};
@@ -8,8 +8,7 @@ ghost use Rattle.lock_remutex.specs.OwnerCalls.{Again, Leaves, LeavesSole, IsTak
 use crate::owner_table::call::{OwnerCall, Section};
 use crate::owner_table::rule::TokenRule;
 use crate::owner_table::{FREE, LARGE, LARGE_ID, OwnerTable, PARTY};
-use lock_base::machine::PartyId;
-use lock_base::raw::{Fault, Levels};
+use lock_modes::{Fault, Levels, PartyId};
 use std::sync::Wait;
 use std::thread;
 

@@ -1,6 +1,6 @@
 //! The rule of the owner word and of the slot with the levels, and the kinds of step.
 use atomic_table::{Play, TableRule};
-use lock_base::raw::Levels;
+use lock_modes::Levels;
 use std::marker::PhantomData;
 
 /// The fact that the token of an owner meets.

@@ -1,14 +1,14 @@
 //! Permits that are released on drop.
 ghost use Rattle.std.specs.Prelude.{◌≡◌, None, IfSome, IfOk, IfErr};
 ghost use Rattle.std.specs.Arc.{arc_value};
-ghost use Rattle.lock_base.specs.declared.raw.fault.Fault.TheVariants as fault;
+ghost use Rattle.lock_modes.specs.declared.fault.Fault.TheVariants as fault;
 ghost use Rattle.lock_ruled.specs.Accounts.{token_of};
 ghost use Rattle.lock_ruled.specs.PermitCalls.{WasRefused};
 ghost use Rattle.lock_wake.specs.EventCalls.{HasPassed};
 
 use crate::shared_semaphore::SharedSemaphore;
 use crate::shared_semaphore::table::PermitToken;
-use lock_base::raw::Fault;
+use lock_modes::Fault;
 use std::clone::Clone;
 use std::marker::Model;
 use std::sync::{Arc, Wait};

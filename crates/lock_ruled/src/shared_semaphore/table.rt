@@ -1,6 +1,6 @@
 //! The number of free permits, and the steps of calls on it.
 ghost use Rattle.std.specs.Prelude.{◌≡◌, ◌≤◌, IfOk, IfErr, MatchResult};
-ghost use Rattle.lock_base.specs.declared.raw.fault.Fault.TheVariants as fault;
+ghost use Rattle.lock_modes.specs.declared.fault.Fault.TheVariants as fault;
 ghost use Rattle.lock_ruled.specs.PermitCalls.{IsSameCall};
 
 mod call;
@@ -10,7 +10,7 @@ use crate::shared_semaphore::plays::{GivePermits, LookAtPermits, TakePermits};
 use crate::shared_semaphore::rule::{PermitRule, PermitView};
 use atomic_table::Table;
 pub(crate) use call::PermitCall;
-use lock_base::raw::Fault;
+use lock_modes::Fault;
 use std::alloc::Global;
 use std::marker::Model;
 pub use token::PermitToken;

@@ -1,10 +1,10 @@
 //! The threads that wait for permits.
 ghost use Rattle.std.specs.Prelude.{◌≡◌, true, IfErr};
-ghost use Rattle.lock_base.specs.declared.raw.fault.Fault.TheVariants as fault;
+ghost use Rattle.lock_modes.specs.declared.fault.Fault.TheVariants as fault;
 ghost use Rattle.lock_ruled.specs.PermitCalls.{IsRefused};
 
 use crate::shared_semaphore::table::PermitCall;
-use lock_base::raw::Fault;
+use lock_modes::Fault;
 use lock_wake::{EventCount, Notified, Registered, Slept};
 use std::alloc::Global;
 use std::marker::Model;

@@ -8,9 +8,9 @@ use crate::arc::guard::{
     ArcModeGuard, ArcRwLockReadGuard, ArcRwLockUpgradableReadGuard, ArcRwLockWriteGuard,
 };
 use crate::lock::RwLock;
-use lock_base::raw::Fault;
 use lock_guard::guard::another_owner;
-use lock_guard::raw::{RawRwLock, RawRwLockTimed, RawRwLockUpgrade, RawRwLockUpgradeTimed};
+use lock_modes::Fault;
+use lock_traits::{RawRwLock, RawRwLockTimed, RawRwLockUpgrade, RawRwLockUpgradeTimed};
 use std::sync::Arc;
 
 impl<R: RawRwLock + Drop, T: Drop> RwLock<R, T> {

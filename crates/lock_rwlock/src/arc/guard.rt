@@ -12,9 +12,9 @@ ghost use Rattle.lock_rwlock.specs.ArcRwLockGuard.{arc_of, tried_arc_token, IsAr
 use crate::arc::owned::{OwnedInMode, ReadValue};
 use crate::lock::RwLock;
 use crate::mode::{Exclusive, FairMode, LockMode, Shared, Upgradable};
-use lock_base::raw::Fault;
 use lock_guard::guard::{Acquire, AcquireFair, Held, Release, another_owner};
-use lock_guard::raw::RawRwLock;
+use lock_modes::Fault;
+use lock_traits::RawRwLock;
 use std::sync::Arc;
 
 /// A guard of a lock in the mode `M` that owns a reference to the lock. It releases the lock on drop, and lends the

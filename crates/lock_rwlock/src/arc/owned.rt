@@ -8,7 +8,7 @@ use crate::closures::read_with;
 use crate::lock::RwLock;
 use crate::mode::{FairMode, LockMode};
 use lock_guard::guard::{Acquire, AcquireFair, Release};
-use lock_guard::raw::RawRwLock;
+use lock_traits::RawRwLock;
 use std::marker::PhantomData;
 use std::sync::Arc;
 

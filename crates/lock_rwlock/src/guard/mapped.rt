@@ -7,9 +7,9 @@ ghost use Rattle.lock_rwlock.specs.RwLockGuard.{held_of};
 
 use super::RwLockGuard;
 use crate::mode::{Exclusive, InMode, Shared};
-use lock_base::project::{TryView, View};
 use lock_guard::guard::{Acquire, Held, Mapped, ValueGuard};
-use lock_guard::raw::RawRwLock;
+use lock_parts::{TryView, View};
+use lock_traits::RawRwLock;
 
 /// A read guard of a part of the value. It releases the lock on drop.
 pub type MappedRwLockReadGuard<'a, R, T, P> = Mapped<Held<InMode<'a, Shared, R, T>>, P>;

@@ -10,7 +10,7 @@ use crate::closures::{with_if_upgraded, with_upgraded};
 use crate::mode::{InMode, Upgradable};
 use crate::upgrade::{AtOnce, For, TryUpgrade, Until};
 use lock_guard::guard::{Acquire, Held, Inner};
-use lock_guard::raw::{RawRwLockUpgrade, RawRwLockUpgradeDowngrade, RawRwLockUpgradeTimed};
+use lock_traits::{RawRwLockUpgrade, RawRwLockUpgradeDowngrade, RawRwLockUpgradeTimed};
 
 /// An upgradable read guard: it reads the value, next to readers, and can become the writer. It releases the lock on
 /// drop.

@@ -4,7 +4,7 @@ ghost use Rattle.lock_rwlock.specs.RwLockGuard.{SameLock};
 
 use super::{RwLockGuard, RwLockReadGuard, RwLockUpgradableReadGuard, guard};
 use crate::mode::{Exclusive, InMode};
-use lock_guard::raw::{RawRwLockDowngrade, RawRwLockUpgradeDowngrade};
+use lock_traits::{RawRwLockDowngrade, RawRwLockUpgradeDowngrade};
 
 /// A write guard: it reads and writes the value, and releases the lock on drop.
 pub type RwLockWriteGuard<'a, R, T> = RwLockGuard<InMode<'a, Exclusive, R, T>>;

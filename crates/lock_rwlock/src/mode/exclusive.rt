@@ -1,7 +1,7 @@
 //! The exclusive mode: one holder, who reads and writes.
 use super::{FairMode, LockMode, ShowMode};
 use crate::lock::RwLock;
-use lock_guard::raw::{RawRwLock, RawRwLockFair};
+use lock_traits::{RawRwLock, RawRwLockFair};
 use std::sync;
 
 /// The mode of a write guard.

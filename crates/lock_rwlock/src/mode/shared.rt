@@ -1,7 +1,7 @@
 //! The shared mode: many holders, who read.
 use super::{FairMode, LockMode, ShowMode};
 use crate::lock::RwLock;
-use lock_guard::raw::{RawRwLock, RawRwLockFair};
+use lock_traits::{RawRwLock, RawRwLockFair};
 use std::sync;
 
 /// The mode of a read guard.

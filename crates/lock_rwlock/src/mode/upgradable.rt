@@ -1,7 +1,7 @@
 //! The upgradable mode: one holder, who reads next to the shared ones.
 use super::{FairMode, LockMode, ShowMode};
 use crate::lock::RwLock;
-use lock_guard::raw::{RawRwLockUpgrade, RawRwLockUpgradeFair};
+use lock_traits::{RawRwLockUpgrade, RawRwLockUpgradeFair};
 use std::sync;
 
 /// The mode of an upgradable read guard.

@@ -1,6 +1,6 @@
 //! Answers of calls that may lack memory.
 use crate::answer::wanted::equal;
-use lock_base::raw::Fault;
+use lock_modes::Fault;
 use std::env::FillError;
 use std::fmt::Debug;
 use std::rt::Env;

@@ -2,7 +2,7 @@
 ghost use Rattle.lock_test_support.specs.Pairs.{first_item, second_item, IsLawful-first_item, IsLawful-second_item};
 ghost use Rattle.std.specs.Prelude.{refl};
 
-use lock_base::project::{Project, TryProject};
+use lock_parts::{Project, TryProject};
 
 /// The first item of a pair.
 #[derive(Clone, Copy, Debug)]

@@ -1,6 +1,6 @@
 //! A pair of numbers in a pair.
 use crate::project::{Item0, NthItem};
-use lock_base::project::Then;
+use lock_parts::Then;
 
 pub type Nested = ((u64, u64), u64);
 

@@ -1,7 +1,7 @@
 //! An item of a pair by its number.
 ghost use Rattle.lock_test_support.specs.Pairs.{nth_item, IsLawful-nth_item};
 
-use lock_base::project::TryProject;
+use lock_parts::TryProject;
 
 /// The item of a pair of numbers at this index. The miss of a pair without it is the index.
 #[derive(Clone, Copy, Debug)]

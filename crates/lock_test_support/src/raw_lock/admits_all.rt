@@ -1,9 +1,8 @@
 //! A raw lock that admits everything.
 use crate::raw_lock::call_log::CallLog;
 use crate::raw_lock::raw_call::RawCall;
-use lock_base::machine::Mode;
-use lock_base::raw::Fault;
-use lock_guard::raw::{GuardSend, RawMutex, RawMutexFair, RawMutexTimed};
+use lock_modes::{Fault, Mode};
+use lock_traits::{GuardSend, RawMutex, RawMutexFair, RawMutexTimed};
 use std::alloc::Global;
 use std::clone::Clone;
 use std::sync::Wait;

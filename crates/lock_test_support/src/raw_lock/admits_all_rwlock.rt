@@ -1,9 +1,8 @@
 //! The raw lock that admits everything, for readers and writers.
 use crate::raw_lock::admits_all::AdmitsAll;
 use crate::raw_lock::raw_call::RawCall;
-use lock_base::machine::Mode;
-use lock_base::raw::{Fault, is_limit};
-use lock_guard::raw::{
+use lock_modes::{Fault, Mode, is_limit};
+use lock_traits::{
     GuardSend, RawMutex, RawRwLock, RawRwLockFair, RawRwLockUpgrade, RawRwLockUpgradeFair,
 };
 use std::alloc::Global;

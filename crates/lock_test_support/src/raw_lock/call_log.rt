@@ -2,7 +2,7 @@
 ghost use Rattle.std.specs.Prelude.{IsOkUnless};
 
 use crate::raw_lock::raw_call::RawCall;
-use lock_base::raw::Fault;
+use lock_modes::Fault;
 use std::alloc::Global;
 use std::mem;
 use std::sync::{Arc, Mutex, Wait};

@@ -3,7 +3,7 @@ ghost use Rattle.std.specs.Prelude.{◌≡◌, None, IsSome, MatchBool, MatchRes
 
 use crate::raw_lock::call_log::CallLog;
 use crate::raw_lock::raw_call::RawCall;
-use lock_base::machine::Mode;
+use lock_modes::Mode;
 use std::test::Fail;
 
 /// Compares the calls that a raw lock recorded since the last check with the wanted ones, and keeps the first difference.

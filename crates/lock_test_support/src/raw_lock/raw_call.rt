@@ -2,7 +2,7 @@
 ghost use Rattle.std.specs.Prelude.{◌≡◌, ⊤};
 ghost use Rattle.lock_test_support.specs.ModeWords.{word_of};
 
-use lock_base::machine::Mode;
+use lock_modes::Mode;
 use std::alloc::AllocError;
 
 /// A call of a raw lock, with its time if it has one. The tokens of a raw mutex count as exclusive.

@@ -2,9 +2,8 @@
 use crate::raw_lock::call_log::CallLog;
 use crate::raw_lock::deadline::Deadline;
 use crate::raw_lock::raw_call::RawCall;
-use lock_base::machine::Mode;
-use lock_base::raw::Fault;
-use lock_guard::raw::{RawMutex, RawMutexFair, RawMutexTimed};
+use lock_modes::{Fault, Mode};
+use lock_traits::{RawMutex, RawMutexFair, RawMutexTimed};
 use std::alloc::Global;
 
 /// A raw lock with the calls made on it. Each call is recorded and then made on the raw lock.

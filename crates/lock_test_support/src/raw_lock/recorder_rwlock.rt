@@ -2,9 +2,8 @@
 use crate::raw_lock::deadline::Deadline;
 use crate::raw_lock::raw_call::RawCall;
 use crate::raw_lock::recorder::Recorder;
-use lock_base::machine::Mode;
-use lock_base::raw::Fault;
-use lock_guard::raw::{
+use lock_modes::{Fault, Mode};
+use lock_traits::{
     RawRwLock, RawRwLockDowngrade, RawRwLockFair, RawRwLockTimed, RawRwLockUpgrade,
     RawRwLockUpgradeDowngrade, RawRwLockUpgradeFair, RawRwLockUpgradeTimed,
 };

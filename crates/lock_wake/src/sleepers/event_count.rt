@@ -1,6 +1,6 @@
 //! The event count.
 ghost use Rattle.std.specs.Prelude.{◌≡◌, IfErr};
-ghost use Rattle.lock_base.specs.declared.raw.fault.Fault.TheVariants as fault;
+ghost use Rattle.lock_modes.specs.declared.fault.Fault.TheVariants as fault;
 
 mod call;
 mod notified;
@@ -10,7 +10,7 @@ mod steps;
 
 use crate::sleepers::stage::{CallStage, CountRule};
 use atomic_table::Table;
-use lock_base::raw::Fault;
+use lock_modes::Fault;
 pub use notified::Notified;
 pub use registered::Registered;
 pub use slept::Slept;

@@ -1,11 +1,11 @@
 //! Waits that release a lock.
 ghost use Rattle.std.specs.Prelude.{◌≡◌, true, false, None, Some, IfErr};
 ghost use Rattle.std.specs.Time.{instant_nanos};
-ghost use Rattle.lock_base.specs.declared.raw.fault.Fault.TheVariants as fault;
+ghost use Rattle.lock_modes.specs.declared.fault.Fault.TheVariants as fault;
 ghost use Rattle.lock_wake.specs.EventCalls.{HasKept, HasSlept};
 
 use crate::sleepers::event_count::{EventCount, Notified, Registered, Slept};
-use lock_base::raw::Fault;
+use lock_modes::Fault;
 use std::alloc::Global;
 use std::marker::Model;
 use std::sync::{MutexGuard, Wait};

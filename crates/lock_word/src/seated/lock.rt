@@ -1,8 +1,8 @@
 //! The seated lock.
 ghost use Rattle.std.specs.Prelude.{◌≡◌, ◌↔◌, ◌+◌, ◌<◌, true, IfOk, IfErr, OnOk, IsTrue};
-ghost use Rattle.lock_base.specs.Limits.{IsLimit, IsMakerFault};
-ghost use Rattle.lock_base.specs.Modes.{count_of};
-ghost use Rattle.lock_base.specs.Holds.{hold_has};
+ghost use Rattle.lock_modes.specs.Limits.{IsLimit, IsMakerFault};
+ghost use Rattle.lock_modes.specs.Modes.{count_of};
+ghost use Rattle.lock_modes.specs.Holds.{hold_has};
 ghost use Rattle.lock_word.specs.Word.{step_of_want, step_of_down, down_of_mode};
 ghost use Rattle.lock_word.specs.Rule.{WordShows};
 ghost use Rattle.lock_word.specs.CallerView.{new_party, after_load, after_own_step};
@@ -16,8 +16,7 @@ use crate::seated::plays::{Exchange, LoadWord, Take};
 use crate::seated::rule::{SeatView, SplitOff, WordRule};
 use crate::want::ExWant;
 use atomic_table::Table;
-use lock_base::machine::{Hold, Mode};
-use lock_base::raw::{Fault, is_limit};
+use lock_modes::{Fault, Hold, Mode, is_limit};
 use std::alloc::Global;
 use std::hint::spin_loop;
 use std::marker::Model;
@@ -39,7 +38,7 @@ pub struct SeatedLock {
 
 impl Model for SeatedLock {
     ghost use Rattle.std.specs.Prelude.{◌≡◌};
-    ghost use Rattle.lock_base.specs.Limits.{IsLimit};
+    ghost use Rattle.lock_modes.specs.Limits.{IsLimit};
     ghost use Rattle.lock_word.specs.Plays.{view_after_win, view_after_fail};
     ghost use Rattle.lock_word.specs.CallerView.{Lock};
 

@@ -1,10 +1,10 @@
 //! A party of a seated lock.
 ghost use Rattle.std.specs.Prelude.{◌≡◌};
-ghost use Rattle.lock_base.specs.Modes.{count_of};
+ghost use Rattle.lock_modes.specs.Modes.{count_of};
 
 use crate::seated::rule::SeatView;
 use atomic_table::Seat;
-use lock_base::machine::{Hold, Mode};
+use lock_modes::{Hold, Mode};
 use std::marker::Model;
 
 /// A party of a seated lock: a seat at the word, and what the party holds. Contracts see it as `CallerView`: its lock,

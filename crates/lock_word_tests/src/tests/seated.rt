@@ -8,7 +8,7 @@ use crate::tests::{BAR, UPGRADER, WRITER};
 use SeatAnswer::{Count, Tried, Word};
 use SeatCall::{Attempt, Load, LoadBesideReaders, RefuseBesideReaders, Take};
 use Who::{A, B};
-use lock_base::machine::Mode::{self, Exclusive, Shared, Upgradable};
+use lock_modes::Mode::{self, Exclusive, Shared, Upgradable};
 use lock_test_support::answer::equal;
 use lock_word::seated::Attempt::{Done, NotAdmitted};
 use lock_word::seated::{self, Party, SeatedLock};

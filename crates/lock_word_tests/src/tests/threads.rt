@@ -2,7 +2,7 @@
 ghost use Rattle.std.specs.Prelude.{◌≡◌};
 
 use crate::tests::WRITER;
-use lock_base::machine::Mode;
+use lock_modes::Mode;
 use lock_test_support::answer::equal;
 use lock_word::ExWant;
 use lock_word::seated::{Attempt, Party, SeatedLock};

@@ -1,9 +1,9 @@
 //! Threads at a word lock. A lost wake-up makes a test hang.
 ghost use Rattle.std.specs.Prelude.{◌≡◌};
-ghost use Rattle.lock_base.specs.declared.machine.mode.Mode.TheVariants.{Exclusive, Shared};
+ghost use Rattle.lock_modes.specs.declared.mode.Mode.TheVariants.{Exclusive, Shared};
 ghost use Rattle.lock_one_word.specs.Calls.{IsTokenOf};
 
-use lock_base::machine::Mode;
+use lock_modes::Mode;
 use lock_one_word::{WordLock, WordToken};
 use std::alloc::Global;
 use std::sync::Wait;

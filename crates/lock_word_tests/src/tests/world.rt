@@ -1,8 +1,7 @@
 //! Interleavings, each as one list of steps with the expected outcomes.
 use crate::tests::{BAR, UPGRADER, WRITER};
 use Number::{Bars, Fails, Readers, Wins, Word};
-use lock_base::machine::Mode;
-use lock_base::raw::Fault;
+use lock_modes::{Fault, Mode};
 use lock_states::world::World;
 use lock_test_support::answer::equal;
 use lock_word::AtomicStep::{Exchange, Load, Take};

@@ -1,5 +1,5 @@
 //! Texts and constants.
-use lock_base::raw::{DEFAULT_READERS, Fault};
+use lock_modes::{DEFAULT_READERS, Fault};
 use lock_script::ReplayFault;
 use std::alloc::Global;
 use std::test::Fail;

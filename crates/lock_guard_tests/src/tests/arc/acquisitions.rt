@@ -1,14 +1,13 @@
 //! Each acquisition of a free lock by a guard that owns a reference to it.
 use crate::tests::Table;
-use lock_base::machine::PartyId;
-use lock_base::raw::Fault;
-use lock_guard::raw::{RawMutex, RawMutexTimed, RawRwLock, RawRwLockTimed, RawRwLockUpgradeTimed};
+use lock_modes::{Fault, PartyId};
 use lock_mutex::Mutex;
 use lock_raws::{LockCore, RawLock};
 use lock_remutex::ReentrantMutex;
 use lock_rwlock::RwLock;
 use lock_test_support::answer::equal;
 use lock_test_support::party;
+use lock_traits::{RawMutex, RawMutexTimed, RawRwLock, RawRwLockTimed, RawRwLockUpgradeTimed};
 use std::alloc::Global;
 use std::sync::Arc;
 use std::test::Fail;

@@ -1,14 +1,13 @@
 //! A guard returns its own lock.
 use crate::tests::Table;
-use lock_base::machine::PartyId;
-use lock_base::raw::Fault;
-use lock_guard::raw::{RawMutex, RawMutexFair, RawRwLock, RawRwLockUpgradeFair};
+use lock_modes::{Fault, PartyId};
 use lock_mutex::{ArcMutexGuard, Mutex};
 use lock_raws::{LockCore, RawLock};
 use lock_remutex::{ArcReentrantMutexGuard, ReentrantMutex};
 use lock_rwlock::{ArcRwLockGuard, FairMode, RwLock};
 use lock_test_support::answer::equal;
 use lock_test_support::two_parties;
+use lock_traits::{RawMutex, RawMutexFair, RawRwLock, RawRwLockUpgradeFair};
 use std::alloc::Global;
 use std::sync::Arc;
 use std::test::Fail;

@@ -1,6 +1,6 @@
 //! Waits whose conditions count their checks.
-use lock_guard::raw::{RawCondvarTimed, RawMutexTimed};
 use lock_mutex::{Condvar, MutexGuard};
+use lock_traits::{RawCondvarTimed, RawMutexTimed};
 
 /// When a wait times out.
 #[derive(Clone, Copy)]

@@ -2,12 +2,12 @@
 use super::calls::WaitCall::{Once, While};
 use super::calls::WaitEnd::For;
 use super::calls::waited;
-use lock_base::raw::Fault;
-use lock_guard::raw::{RawCondvar, RawCondvarTimed, RawMutex, RawMutexTimed};
+use lock_modes::Fault;
 use lock_mutex::{Condvar, Mutex};
 use lock_raws::SpuriousCondvar;
 use lock_test_support::answer::equal;
 use lock_test_support::raw_lock::AdmitsAll;
+use lock_traits::{RawCondvar, RawCondvarTimed, RawMutex, RawMutexTimed};
 use std::alloc::Global;
 use std::test::Fail;
 

@@ -1,7 +1,7 @@
 //! A raw lock whose releases wait.
-use lock_base::raw::Fault;
-use lock_guard::raw::{GuardSend, RawMutex, RawMutexFair};
+use lock_modes::Fault;
 use lock_test_support::wait_for_flag;
+use lock_traits::{GuardSend, RawMutex, RawMutexFair};
 use std::alloc::Global;
 use std::clone::Clone;
 use std::sync::Wait;

@@ -1,11 +1,11 @@
 //! The makers of a mutex, and what a consumed mutex returns.
 use crate::tests::Table;
-use lock_base::raw::Fault;
-use lock_guard::raw::RawMutex;
+use lock_modes::Fault;
 use lock_mutex::{Condvar, Mutex};
 use lock_raws::{LockCore, RawLock, SleepingCondvar};
 use lock_test_support::answer::{answers_or_lacks_memory, equal};
 use lock_test_support::raw_lock::Recorder;
+use lock_traits::RawMutex;
 use std::alloc::Global;
 use std::test::Fail;
 

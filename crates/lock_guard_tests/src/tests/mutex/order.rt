@@ -1,9 +1,9 @@
 //! The order in which a mutex locks and unlocks its raw lock and the value's lock.
 use super::gated::Gated;
-use lock_guard::raw::{RawMutex, RawMutexFair};
 use lock_mutex::{Mutex, MutexGuard};
 use lock_test_support::raw_lock::{AdmitsAll, CallLog};
 use lock_test_support::{wait_for_calls, wait_for_flag};
+use lock_traits::{RawMutex, RawMutexFair};
 use std::sync::Wait;
 use std::sync::atomic::{AtomicBool, Ordering};
 use std::test::Fail;

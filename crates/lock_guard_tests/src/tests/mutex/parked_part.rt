@@ -1,11 +1,11 @@
 //! A guard that is parked and bumped, and then ends as the guard of a part.
 use crate::tests::{Table, Word};
 use lock_guard::guard::{AcquireFair, Mapped, ValueGuard};
-use lock_guard::raw::RawMutex;
 use lock_mutex::{Guard, Mutex};
 use lock_raws::{LockCore, RawLock};
 use lock_test_support::answer::equal;
 use lock_test_support::project::Item0;
+use lock_traits::RawMutex;
 use std::alloc::Global;
 use std::test::Fail;
 

@@ -1,16 +1,16 @@
 //! Guards of a part of a mutex's value.
 use super::watched;
 use crate::tests::Table;
-use lock_base::machine::Mode::Exclusive;
-use lock_base::project::Missed;
 use lock_guard::guard::{Acquire, AcquireFair, Mapped, ValueGuard, ValueGuardMut};
-use lock_guard::raw::{RawMutex, RawMutexFair};
+use lock_modes::Mode::Exclusive;
 use lock_mutex::{Guard, Mutex};
+use lock_parts::Missed;
 use lock_raws::{LockCore, RawLock};
 use lock_test_support::answer::equal;
 use lock_test_support::project::{Item0, Item1, Nested, NthItem, inner_item};
 use lock_test_support::raw_lock::CallWatch;
 use lock_test_support::raw_lock::RawCall::{IsLocked, Lock, Unlock, UnlockFair};
+use lock_traits::{RawMutex, RawMutexFair};
 use std::alloc::Global;
 use std::test::Fail;
 

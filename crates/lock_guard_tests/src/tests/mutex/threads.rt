@@ -1,10 +1,10 @@
 //! Threads that count behind a mutex, and wait for each other.
 use crate::tests::Word;
-use lock_guard::raw::RawMutex;
 use lock_mutex::{Condvar, Mutex};
 use lock_raws::{RawLock, SpuriousCondvar};
 use lock_test_support::raw_lock::AdmitsAll;
 use lock_test_support::{Count, add_in_four_threads};
+use lock_traits::RawMutex;
 use std::test::Fail;
 use std::thread;
 

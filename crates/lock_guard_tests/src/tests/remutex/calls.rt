@@ -1,9 +1,7 @@
 //! The raw calls of guards of parts, and of calls that make none.
 use crate::tests::Table;
-use lock_base::machine::Mode::Exclusive;
-use lock_base::machine::PartyId;
-use lock_base::raw::Fault;
-use lock_guard::raw::{RawMutex, RawMutexFair};
+use lock_modes::Mode::Exclusive;
+use lock_modes::{Fault, PartyId};
 use lock_raws::{LockCore, RawLock};
 use lock_remutex::{
     ArcReentrantMutexGuard, MappedReentrantMutexGuard, ReentrantMutex, ReentrantMutexGuard,
@@ -12,6 +10,7 @@ use lock_test_support::answer::equal;
 use lock_test_support::party;
 use lock_test_support::project::{Item0, Item1, NthItem};
 use lock_test_support::raw_lock::{CallWatch, Recorder, watch_fair_end};
+use lock_traits::{RawMutex, RawMutexFair};
 use std::alloc::Global;
 use std::sync::Arc;
 use std::test::Fail;

@@ -1,15 +1,15 @@
 //! A party that has all its levels.
 use crate::tests::Table;
-use lock_base::machine::Mode::Exclusive;
-use lock_base::machine::PartyId;
-use lock_base::raw::Fault::{self, FullCount};
-use lock_guard::raw::{RawMutex, RawMutexTimed};
+use lock_modes::Fault::{self, FullCount};
+use lock_modes::Mode::Exclusive;
+use lock_modes::PartyId;
 use lock_raws::{LockCore, RawLock};
 use lock_remutex::{ReentrantMutex, ReentrantMutexGuard};
 use lock_test_support::answer::equal;
 use lock_test_support::party;
 use lock_test_support::raw_lock::RawCall::{Lock, Unlock};
 use lock_test_support::raw_lock::{CallWatch, Deadline, Recorder};
+use lock_traits::{RawMutex, RawMutexTimed};
 use std::alloc::Global;
 use std::sync::Arc;
 use std::test::Fail;

@@ -1,16 +1,15 @@
 //! The makers of a reentrant lock, and what a consumed lock returns.
 use crate::tests::Table;
 use crate::tests::mutex::makers::LockMaker;
-use lock_base::machine::Mode::Exclusive;
-use lock_base::machine::PartyId;
-use lock_base::raw::Fault;
-use lock_guard::raw::RawMutex;
+use lock_modes::Mode::Exclusive;
+use lock_modes::{Fault, PartyId};
 use lock_raws::{LockCore, RawLock};
 use lock_remutex::{RawReentrantMutex, ReentrantMutex};
 use lock_test_support::answer::{answers_or_lacks_memory, equal, lacks_memory};
 use lock_test_support::party;
 use lock_test_support::raw_lock::RawCall::Lock;
 use lock_test_support::raw_lock::{CallWatch, Recorder};
+use lock_traits::RawMutex;
 use std::alloc::Global;
 use std::mem;
 use std::rt::Env;

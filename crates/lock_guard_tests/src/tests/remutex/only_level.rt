@@ -1,13 +1,12 @@
 //! A lock whose owner may have one level, and a raw lock that admits everything.
 use crate::tests::Table;
-use lock_base::machine::PartyId;
-use lock_base::raw::Fault;
-use lock_guard::raw::RawMutex;
+use lock_modes::{Fault, PartyId};
 use lock_raws::{LockCore, RawLock};
 use lock_remutex::{ReentrantMutex, ReentrantMutexGuard};
 use lock_test_support::answer::equal;
 use lock_test_support::raw_lock::AdmitsAll;
 use lock_test_support::{party, two_parties};
+use lock_traits::RawMutex;
 use std::alloc::Global;
 use std::clone::Clone;
 use std::sync::Wait;

@@ -1,13 +1,13 @@
 //! Calls of an owner and of another party, over a raw lock that admits everything.
-use lock_base::machine::Mode::Exclusive;
-use lock_base::machine::PartyId;
-use lock_base::raw::Fault::{self, Foreign};
-use lock_guard::raw::{RawMutex, RawMutexFair};
+use lock_modes::Fault::{self, Foreign};
+use lock_modes::Mode::Exclusive;
+use lock_modes::PartyId;
 use lock_remutex::RawReentrantMutex;
 use lock_test_support::answer::equal;
 use lock_test_support::raw_lock::RawCall::{Lock, TryLock, Unlock, UnlockFair};
 use lock_test_support::raw_lock::{AdmitsAll, CallWatch};
 use lock_test_support::{party, two_parties};
+use lock_traits::{RawMutex, RawMutexFair};
 use std::alloc::Global;
 use std::clone::Clone;
 use std::sync::Wait;

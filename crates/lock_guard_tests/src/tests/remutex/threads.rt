@@ -1,14 +1,13 @@
 //! Parties that are threads.
 use crate::tests::Table;
 use crate::tests::mutex::gated::Gated;
-use lock_base::machine::PartyId;
-use lock_base::raw::Fault;
-use lock_guard::raw::{RawMutex, RawMutexFair};
+use lock_modes::{Fault, PartyId};
 use lock_raws::RawLock;
 use lock_remutex::{ReentrantMutex, ReentrantMutexGuard};
 use lock_test_support::answer::equal;
 use lock_test_support::raw_lock::{AdmitsAll, CallLog};
 use lock_test_support::{party, two_parties, wait_for_calls, wait_for_flag, wait_until};
+use lock_traits::{RawMutex, RawMutexFair};
 use std::sync::Wait;
 use std::sync::atomic::{AtomicBool, AtomicU64, Ordering};
 use std::test::Fail;

@@ -1,12 +1,12 @@
 //! The makers of a lock.
 use crate::tests::Table;
-use lock_base::raw::Fault;
 use lock_guard::forget;
-use lock_guard::raw::RawRwLock;
+use lock_modes::Fault;
 use lock_raws::{LockCore, RawLock};
 use lock_rwlock::RwLock;
 use lock_test_support::answer::{answers_or_lacks_memory, equal};
 use lock_test_support::raw_lock::Recorder;
+use lock_traits::RawRwLock;
 use std::alloc::Global;
 use std::rt::Env;
 use std::test::Fail;

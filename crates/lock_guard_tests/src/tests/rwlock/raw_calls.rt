@@ -1,10 +1,6 @@
 //! What the raw lock is asked by guards that borrow the lock, where no script of `conform/` makes the call.
-use lock_base::machine::Mode::{self, Exclusive, Shared, Upgradable};
 use lock_guard::guard::{AcquireFair, ValueGuard, ValueGuardMut};
-use lock_guard::raw::{
-    RawRwLock, RawRwLockFair, RawRwLockUpgrade, RawRwLockUpgradeDowngrade, RawRwLockUpgradeFair,
-    RawRwLockUpgradeTimed,
-};
+use lock_modes::Mode::{self, Exclusive, Shared, Upgradable};
 use lock_rwlock::{
     Mappable, RwLock, RwLockGuard, RwLockReadGuard, RwLockUpgradableReadGuard, RwLockWriteGuard,
 };
@@ -14,6 +10,10 @@ use lock_test_support::raw_lock::RawCall::{
     Unlock, UnlockFair, Upgrade,
 };
 use lock_test_support::raw_lock::{AdmitsAll, CallWatch, watch_fair_end, watch_write};
+use lock_traits::{
+    RawRwLock, RawRwLockFair, RawRwLockUpgrade, RawRwLockUpgradeDowngrade, RawRwLockUpgradeFair,
+    RawRwLockUpgradeTimed,
+};
 use std::alloc::Global;
 use std::clone::Clone;
 use std::sync::Wait;

@@ -2,11 +2,11 @@
 mod pairs;
 
 use crate::tests::Word;
-use lock_guard::raw::RawRwLock;
 use lock_raws::RawLock;
 use lock_rwlock::RwLock;
 use lock_test_support::raw_lock::AdmitsAll;
 use lock_test_support::{Count, add_in_four_threads};
+use lock_traits::RawRwLock;
 use std::sync::atomic::{AtomicBool, Ordering};
 use std::test::Fail;
 use std::thread;

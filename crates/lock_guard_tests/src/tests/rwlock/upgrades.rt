@@ -1,10 +1,10 @@
 //! An upgradable guard of a pair, beside a reader and then alone, which ends as the guard of a part.
 use crate::tests::{Table, Word};
-use lock_guard::raw::{RawRwLockUpgradeDowngrade, RawRwLockUpgradeTimed};
 use lock_raws::{LockCore, RawLock};
 use lock_rwlock::{RwLock, RwLockReadGuard, RwLockUpgradableReadGuard, RwLockWriteGuard};
 use lock_test_support::answer::equal;
 use lock_test_support::project::Item0;
+use lock_traits::{RawRwLockUpgradeDowngrade, RawRwLockUpgradeTimed};
 use std::alloc::Global;
 use std::cell::Cell;
 use std::test::Fail;

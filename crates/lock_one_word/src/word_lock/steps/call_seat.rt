@@ -1,6 +1,6 @@
 //! The seat of a call.
 ghost use Rattle.std.specs.Prelude.{◌≡◌};
-ghost use Rattle.lock_base.specs.Holds.{no_hold};
+ghost use Rattle.lock_modes.specs.Holds.{no_hold};
 ghost use Rattle.lock_one_word.specs.Calls.{IsTokenSeat, token_of};
 
 use crate::rule::OneView;

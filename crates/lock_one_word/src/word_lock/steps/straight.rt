@@ -1,7 +1,7 @@
 //! The straight path: the first steps of a call where nothing contends.
 ghost use Rattle.std.specs.Prelude.{◌≡◌, false, true, [], IsTrue, IfOk, IfErr};
-ghost use Rattle.lock_base.specs.declared.machine.mode.Mode.TheVariants.{Upgradable};
-ghost use Rattle.lock_base.specs.Holds.{no_hold, hold_has, hold_after};
+ghost use Rattle.lock_modes.specs.declared.mode.Mode.TheVariants.{Upgradable};
+ghost use Rattle.lock_modes.specs.Holds.{no_hold, hold_has, hold_after};
 ghost use Rattle.lock_word.specs.declared.want.ExWant.TheVariants.{Upgrade};
 ghost use Rattle.lock_word.specs.Word.{step_of_want, step_of_down};
 ghost use Rattle.lock_word.specs.Unblocking.{is_awaited};

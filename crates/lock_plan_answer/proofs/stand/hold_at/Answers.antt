@@ -1,5 +1,5 @@
 use Rattle.std.proofs.Common.{◌∙◌, ap, arith, get_or}
-use Rattle.lock_base.specs.Holds.{no_hold}
+use Rattle.lock_modes.specs.Holds.{no_hold}
 use Rattle.lock_plan.specs.Worlds.{Stand}
 use Rattle.lock_plan_answer.proofs.Past.{past_stand}
 use Rattle.lock_plan_answer.proofs.stand.hold_at.Goals as goal

@@ -1,14 +1,14 @@
 //! A waiting writer that keeps other threads out.
 ghost use Rattle.std.specs.Prelude.{◌≡◌, ◌&&◌, ◌||◌, not, true, false, is_some, IfSome, IfNone};
-ghost use Rattle.lock_base.specs.Bar.{passes_bar};
-ghost use Rattle.lock_base.specs.Modes.{admits};
-ghost use Rattle.lock_base.specs.declared.machine.mode.Mode.TheVariants.{Exclusive};
-ghost use Rattle.lock_base.specs.Tokens.{bag_of_tokens};
+ghost use Rattle.lock_modes.specs.Bar.{passes_bar};
+ghost use Rattle.lock_modes.specs.Modes.{admits};
+ghost use Rattle.lock_modes.specs.declared.mode.Mode.TheVariants.{Exclusive};
+ghost use Rattle.lock_modes.specs.Tokens.{bag_of_tokens};
 ghost use Rattle.lock_raws.specs.ModeTokens.{mode_of, same_mode};
 
 use crate::arbiter::Arbiter;
 use crate::monitor::steps::mode_token::ModeToken;
-use lock_base::machine::Mode;
+use lock_modes::Mode;
 
 /// Acquires an exclusive token, if it is admitted to a writer that has announced itself, or has not. If not, the writer
 /// announces itself, unless the bar is set. Acquiring clears its bar.

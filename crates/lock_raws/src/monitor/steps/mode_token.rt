@@ -2,7 +2,7 @@
 ghost use Rattle.std.specs.Prelude.{◌≡◌, true};
 ghost use Rattle.lock_raws.specs.ModeTokens.{mode_of, same_mode};
 
-use lock_base::machine::Mode;
+use lock_modes::Mode;
 use std::snapshot::Snapshot;
 
 /// A token of an arbiter. Contracts see its mode, which has no bytes.

@@ -1,9 +1,9 @@
 //! Threads that count behind a lock.
-use lock_base::raw::Fault;
-use lock_guard::raw::{RawMutex, RawRwLock};
+use lock_modes::Fault;
 use lock_mutex::Mutex;
 use lock_rwlock::RwLock;
 use lock_test_support::{Count, add_in_four_threads};
+use lock_traits::{RawMutex, RawRwLock};
 use std::alloc::Global;
 use std::sync::Wait;
 use std::sync::atomic::{AtomicBool, Ordering};

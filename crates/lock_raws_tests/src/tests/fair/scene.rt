@@ -1,8 +1,8 @@
 //! Threads that act on one fair core, each after a number of events.
 ghost use Rattle.std.specs.Prelude.{◌≡◌, true};
-ghost use Rattle.lock_base.specs.declared.machine.mode.Mode.{Mode};
+ghost use Rattle.lock_modes.specs.declared.mode.Mode.{Mode};
 
-use lock_base::machine::Mode::{self, Exclusive, Upgradable};
+use lock_modes::Mode::{self, Exclusive, Upgradable};
 use lock_raws::{Arbiter, LockCore, RealTime};
 use lock_raws_fair::FairCore;
 use lock_test_support::answer::equal;

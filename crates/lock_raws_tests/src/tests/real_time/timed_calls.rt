@@ -1,13 +1,13 @@
 //! Every timed call: it times out no sooner than its time, and a release before that lets it acquire.
 use super::{TimedCore, is_over, short};
 use crate::tests::held::RawHold;
-use lock_base::machine::Mode;
-use lock_guard::raw::{
-    RawMutexTimed, RawRwLock, RawRwLockTimed, RawRwLockUpgrade, RawRwLockUpgradeTimed,
-};
+use lock_modes::Mode;
 use lock_raws::{LockCore, RawLock, RealTime, WordCore};
 use lock_test_support::answer::equal;
 use lock_test_support::wait_for_flag;
+use lock_traits::{
+    RawMutexTimed, RawRwLock, RawRwLockTimed, RawRwLockUpgrade, RawRwLockUpgradeTimed,
+};
 use std::alloc::Global;
 use std::sync::atomic::{AtomicBool, Ordering};
 use std::test::Fail;

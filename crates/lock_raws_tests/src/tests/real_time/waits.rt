@@ -1,9 +1,9 @@
 //! Waits of a condition variable that measures time.
 use super::{is_over, short};
-use lock_guard::raw::{RawCondvar, RawCondvarTimed, RawMutex, RawMutexTimed, RawRwLock};
 use lock_raws::{SleepingCondvar, TimedRaw};
 use lock_test_support::answer::equal;
 use lock_test_support::wait_for_flag;
+use lock_traits::{RawCondvar, RawCondvarTimed, RawMutex, RawMutexTimed, RawRwLock};
 use std::alloc::Global;
 use std::sync::Wait;
 use std::sync::atomic::{AtomicBool, AtomicU64, Ordering};

@@ -1,7 +1,7 @@
 //! A level of a reentrant lock.
 use crate::owner_table::call::OwnerCall;
-use lock_base::machine::PartyId;
-use lock_guard::raw::RawMutex;
+use lock_modes::PartyId;
+use lock_traits::RawMutex;
 use std::marker::Model;
 use std::snapshot::Snapshot;
 
@@ -15,7 +15,7 @@ pub(crate) struct Level<R: RawMutex> {
 
 impl<R: RawMutex> Model for Level<R> {
     ghost use Rattle.std.specs.Prelude.{◌≡◌, true};
-    ghost use Rattle.lock_base.specs.Party.{id_of};
+    ghost use Rattle.lock_modes.specs.Party.{id_of};
     ghost use Rattle.std.specs.Coded.{codes};
     ghost use Rattle.lock_remutex.specs.OwnerTables.{call_view_code};
     ghost use Rattle.lock_remutex.specs.LevelSteps.{LevelView, Gained, level_view_code};
@@ -31,7 +31,7 @@ impl<R: RawMutex> Model for Level<R> {
 
 impl<R: RawMutex> Level<R> {
     ghost use Rattle.std.specs.Prelude.{◌≡◌, true};
-    ghost use Rattle.lock_base.specs.Party.{id_of};
+    ghost use Rattle.lock_modes.specs.Party.{id_of};
     ghost use Rattle.lock_remutex.specs.LevelSteps.{Gained, Kept};
 
     /// Makes the level of a call that gained it.

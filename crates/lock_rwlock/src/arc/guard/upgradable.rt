@@ -12,7 +12,7 @@ use crate::closures::{with_if_upgraded, with_upgraded};
 use crate::mode::Upgradable;
 use crate::upgrade::{AtOnce, For, TryUpgrade, Until};
 use lock_guard::guard::{Held, Inner};
-use lock_guard::raw::{RawRwLockUpgrade, RawRwLockUpgradeDowngrade, RawRwLockUpgradeTimed};
+use lock_traits::{RawRwLockUpgrade, RawRwLockUpgradeDowngrade, RawRwLockUpgradeTimed};
 
 impl<R: RawRwLockUpgrade + Drop, T: Drop> ArcModeGuard<OwnedInMode<Upgradable, R, T>> {
     /// Upgrades the guard to a write guard, blocking until no other guard is held.

@@ -7,7 +7,7 @@ use super::{ArcModeGuard, ArcRwLockReadGuard, ArcRwLockUpgradableReadGuard};
 use crate::arc::owned::OwnedInMode;
 use crate::closures::write_with;
 use crate::mode::Exclusive;
-use lock_guard::raw::{RawRwLock, RawRwLockDowngrade, RawRwLockUpgradeDowngrade};
+use lock_traits::{RawRwLock, RawRwLockDowngrade, RawRwLockUpgradeDowngrade};
 
 impl<R: RawRwLock + Drop, T: Drop> ArcModeGuard<OwnedInMode<Exclusive, R, T>> {
     /// Runs `f` on the value, which it may change, holding the value's lock for the length of the call.

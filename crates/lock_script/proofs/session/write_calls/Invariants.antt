@@ -1,6 +1,6 @@
 -- The replies so far, and those to what is left, are those to all.
 use Rattle.std.proofs.Common.{◌≡◌, ◌++◌, length, string_bytes}
-use Rattle.lock_base.specs.Steps.{replies}
+use Rattle.lock_machine.specs.Steps.{replies}
 use Rattle.lock_script.specs.Answers.{reply_lines}
 use Rattle.lock_script.specs.Pair.{meaning}
 use Rattle.lock_script.proofs.session.write_calls.Given as goal

@@ -1,5 +1,5 @@
 use Rattle.std.proofs.Common.{sym}
-use Rattle.lock_base_laws.proofs.ReplyCounts.{length-replies}
+use Rattle.lock_machine.proofs.ReplyCounts.{length-replies}
 use Rattle.lock_script.specs.Pair.{meaning}
 use Rattle.lock_conform.proofs.lines.Lines.of_script.Goals as goal
 

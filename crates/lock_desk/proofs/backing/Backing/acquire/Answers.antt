@@ -1,10 +1,10 @@
 use Rattle.std.proofs.Common.{◌≡◌, false, refl, sym, ap, subst, ◌∙◌}
-use Rattle.lock_base.specs.Kind.{is_reentrant}
-use Rattle.lock_base.specs.Party.{id_of}
-use Rattle.lock_base.specs.Modes.{admits}
-use Rattle.lock_base.specs.Tokens.{bag_of_tokens}
+use Rattle.lock_modes.specs.Kind.{is_reentrant}
+use Rattle.lock_modes.specs.Party.{id_of}
+use Rattle.lock_modes.specs.Modes.{admits}
+use Rattle.lock_modes.specs.Tokens.{bag_of_tokens}
 use Rattle.lock_desk.proofs.Backed.{room_bag, room_fits, serves_level, serves_token, admitted_level, admitted_token}
-use Rattle.lock_base.specs.Register.{token_limit}
+use Rattle.lock_machine.specs.Register.{token_limit}
 use Rattle.lock_desk.specs.Backing.{HasRoom}
 use Rattle.lock_desk.proofs.backing.Backing.acquire.Goals as goal
 

@@ -1,5 +1,5 @@
 use Rattle.std.proofs.Common.{◌<◌, sym, ap, ◌∙◌, subst}
-use Rattle.lock_base.specs.Party.{id_of}
+use Rattle.lock_modes.specs.Party.{id_of}
 use Rattle.lock_desk.specs.Owners.{may_add_level}
 use Rattle.lock_desk.specs.Backing.{HasTokenOfOwner}
 use Rattle.lock_desk.proofs.Owned.{again_admits, not_some}

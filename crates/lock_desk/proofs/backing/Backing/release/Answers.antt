@@ -1,5 +1,5 @@
 use Rattle.std.proofs.Common.{refl, sym, subst}
-use Rattle.lock_base.specs.Party.{id_of}
+use Rattle.lock_modes.specs.Party.{id_of}
 use Rattle.lock_desk.specs.Backing.{IsHeldIn}
 use Rattle.lock_desk.proofs.Backed.{held_token, held_level, releases_parked, releases_token, releases_level, tells_parked, tells_token, tells_level}
 use Rattle.lock_desk.proofs.backing.Backing.release.Goals as goal

@@ -1,8 +1,8 @@
 use Rattle.std.proofs.Common.{◌+◌, arith, ap, sym, subst, ◌∙◌, refl, length-append}
-use Rattle.lock_base.specs.Party.{id_of}
-use Rattle.lock_base.specs.Register.{admits_ignoring_bar}
-use Rattle.lock_base.specs.Sound.{IsSound}
-use Rattle.lock_base.proofs.SoundRegisters.{with_guard_sound}
+use Rattle.lock_modes.specs.Party.{id_of}
+use Rattle.lock_machine.specs.Register.{admits_ignoring_bar}
+use Rattle.lock_machine.specs.Sound.{IsSound}
+use Rattle.lock_machine.proofs.SoundRegisters.{with_guard_sound}
 use Rattle.lock_desk.proofs.Entries.{view_issued, slots_shown, pushed_slot}
 use Rattle.lock_desk.proofs.Slots.{differs_push}
 use Rattle.lock_desk.proofs.guards.Guards.admit_ignoring_bar.Goals as goal

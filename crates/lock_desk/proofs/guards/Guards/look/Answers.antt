@@ -1,5 +1,5 @@
 use Rattle.std.proofs.Common.{Some, ap, sym, ◌∙◌}
-use Rattle.lock_base.specs.Entries.{find}
+use Rattle.lock_machine.specs.Entries.{find}
 use Rattle.lock_desk.proofs.Entries.{none_found, entry_found}
 use Rattle.lock_desk.proofs.guards.Guards.look.Goals as goal
 

@@ -1,7 +1,7 @@
 use Rattle.std.proofs.Common.{not, nat_eq, length, ap, ◌∙◌}
-use Rattle.lock_base.specs.Entries.{held_count}
-use Rattle.lock_base.specs.Register.{tokens_of}
-use Rattle.lock_base.specs.Tokens.{bag_of_tokens}
+use Rattle.lock_machine.specs.Entries.{held_count}
+use Rattle.lock_machine.specs.Register.{tokens_of}
+use Rattle.lock_modes.specs.Tokens.{bag_of_tokens}
 use Rattle.lock_desk.proofs.Backed.{any_held, bag_of_register}
 use Rattle.lock_desk.proofs.guards.Guards.raw.Goals as goal
 

@@ -1,11 +1,11 @@
 use Rattle.std.proofs.Common.{arith, ap, sym, subst, refl, ◌∙◌}
 use Rattle.lock_slots.specs.Items as items
-use Rattle.lock_base.specs.Entries.{resumed_entry, update}
-use Rattle.lock_base.specs.Party.{id_of}
-use Rattle.lock_base.specs.Register.{admits_ignoring_bar}
-use Rattle.lock_base.specs.Sound.{IsSound}
-use Rattle.lock_base.proofs.Splices.{splice}
-use Rattle.lock_base.proofs.SoundRegisters.{resumed_sound}
+use Rattle.lock_machine.specs.Entries.{resumed_entry, update}
+use Rattle.lock_modes.specs.Party.{id_of}
+use Rattle.lock_machine.specs.Register.{admits_ignoring_bar}
+use Rattle.lock_machine.specs.Sound.{IsSound}
+use Rattle.lock_machine.proofs.Splices.{splice}
+use Rattle.lock_machine.proofs.SoundRegisters.{resumed_sound}
 use Rattle.lock_desk.specs.Slots.{entry_of}
 use Rattle.lock_desk.proofs.Entries.{slot_found, has_slot, slot_is, view_after, entries_of-put, length-put, length-without, is_true}
 use Rattle.lock_desk.proofs.Slots.{differs_found, differs_put, shows_parked}

@@ -1,8 +1,8 @@
 use Rattle.std.proofs.Common.{arith, ap}
-use Rattle.lock_base.proofs.SoundRegisters.{raised_sound}
+use Rattle.lock_machine.proofs.SoundRegisters.{raised_sound}
 use Rattle.std.specs.Option.{option_map}
-use Rattle.lock_base.specs.Party.{id_of}
-use Rattle.lock_base.specs.Register.{with_bar}
+use Rattle.lock_modes.specs.Party.{id_of}
+use Rattle.lock_machine.specs.Register.{with_bar}
 use Rattle.lock_desk.specs.Backing.{register_of}
 use Rattle.lock_desk.proofs.guards.Guards.skip_to.Goals as goal
 

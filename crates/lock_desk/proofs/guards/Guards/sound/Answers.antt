@@ -1,5 +1,5 @@
 use Rattle.std.proofs.Common.{subst}
-use Rattle.lock_base.specs.Sound.{IsSound}
+use Rattle.lock_machine.specs.Sound.{IsSound}
 use Rattle.lock_desk.proofs.guards.Guards.sound.Goals as goal
 
 pub returns : goal.returns

@@ -1,8 +1,8 @@
 //! Two numbers that a writer keeps equal, behind a lock on a word.
 use crate::tests::Word;
-use lock_guard::raw::RawRwLock;
 use lock_raws::RawLock;
 use lock_rwlock::RwLock;
+use lock_traits::RawRwLock;
 use std::test::Fail;
 use std::thread;
 

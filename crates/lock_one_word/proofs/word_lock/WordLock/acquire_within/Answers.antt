@@ -1,5 +1,5 @@
 use Rattle.std.proofs.Common.{true, refl, sym, subst, ◌∙◌}
-use Rattle.lock_base.specs.Holds.{no_hold}
+use Rattle.lock_modes.specs.Holds.{no_hold}
 use Rattle.lock_word.specs.declared.want.ExWant.{ExWant}
 use Rattle.lock_one.specs.declared.action.Action.TheVariants.{End}
 use Rattle.lock_one_word.specs.Calls.{TimesOut}

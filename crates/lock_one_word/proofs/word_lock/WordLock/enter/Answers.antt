@@ -1,5 +1,5 @@
 use Rattle.std.proofs.Common.{◌≡◌, true, IsTrue, refl, sym, ap, subst, ◌∙◌}
-use Rattle.lock_base.specs.Holds.{no_hold, hold_has}
+use Rattle.lock_modes.specs.Holds.{no_hold, hold_has}
 use Rattle.lock_word.specs.Word.{step_of_want}
 use Rattle.lock_one.specs.Machine.{acquiring, next_of}
 use Rattle.lock_one_word.specs.Calls.{WordLockView}

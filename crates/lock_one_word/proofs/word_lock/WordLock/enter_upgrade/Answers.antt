@@ -1,5 +1,5 @@
 use Rattle.std.proofs.Common.{true, refl, sym, ap, ◌∙◌}
-use Rattle.lock_base.specs.declared.machine.mode.Mode.TheVariants.{Upgradable}
+use Rattle.lock_modes.specs.declared.mode.Mode.TheVariants.{Upgradable}
 use Rattle.lock_word.specs.declared.want.ExWant.TheVariants.{Upgrade}
 use Rattle.lock_one.specs.declared.action.Action.TheVariants.{Load}
 use Rattle.lock_one.specs.Machine.{acquiring}

@@ -1,5 +1,5 @@
 use Rattle.std.proofs.Common.{true, false, refl, sym, ap, subst, ◌∙◌, if◌then◌else◌}
-use Rattle.lock_base.specs.Holds.{no_hold, hold_after}
+use Rattle.lock_modes.specs.Holds.{no_hold, hold_after}
 use Rattle.lock_word.specs.declared.want.ExWant.{ExWant}
 use Rattle.lock_word.specs.Word.{step_of_want, want_of_mode}
 use Rattle.lock_one_word.specs.Calls.{IsTry}

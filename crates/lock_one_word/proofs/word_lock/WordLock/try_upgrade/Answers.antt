@@ -1,6 +1,6 @@
 use Rattle.std.proofs.Common.{true, false, refl, sym, ap, subst, ◌∙◌, if◌then◌else◌}
-use Rattle.lock_base.specs.Holds.{hold_after}
-use Rattle.lock_base.specs.declared.machine.mode.Mode.TheVariants.{Exclusive, Upgradable}
+use Rattle.lock_modes.specs.Holds.{hold_after}
+use Rattle.lock_modes.specs.declared.mode.Mode.TheVariants.{Exclusive, Upgradable}
 use Rattle.lock_word.specs.declared.want.ExWant.TheVariants.{Upgrade}
 use Rattle.lock_word.specs.Word.{step_of_want}
 use Rattle.lock_one_word.specs.Calls.{one_hold, IsTry}

@@ -1,4 +1,4 @@
-use Rattle.lock_base.specs.declared.machine.mode.Mode.TheVariants.{Upgradable}
+use Rattle.lock_modes.specs.declared.mode.Mode.TheVariants.{Upgradable}
 use Rattle.lock_one_word.specs.Calls.{IsTokenOf}
 use Rattle.lock_one_word.proofs.word_lock.WordLock.upgrade.Given as goal
 

@@ -1,5 +1,5 @@
 use Rattle.std.proofs.Common.{sym, subst, ◌∙◌}
-use Rattle.lock_base.specs.declared.machine.mode.Mode.TheVariants.{Exclusive, Upgradable}
+use Rattle.lock_modes.specs.declared.mode.Mode.TheVariants.{Exclusive, Upgradable}
 use Rattle.lock_word.specs.declared.want.ExWant.TheVariants.{Upgrade}
 use Rattle.lock_one.specs.declared.action.Action.TheVariants.{End}
 use Rattle.lock_one_word.specs.Calls.{one_hold, TimesOut}

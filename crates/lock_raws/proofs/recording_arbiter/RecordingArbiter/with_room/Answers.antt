@@ -1,5 +1,5 @@
 use Rattle.std.proofs.Common.{sym, subst}
-use Rattle.lock_base.specs.Limits.{IsLimit}
+use Rattle.lock_modes.specs.Limits.{IsLimit}
 use Rattle.lock_raws.proofs.JournalLemmas.{new_recording}
 use Rattle.lock_raws.proofs.recording_arbiter.RecordingArbiter.with_room.Goals as goal
 

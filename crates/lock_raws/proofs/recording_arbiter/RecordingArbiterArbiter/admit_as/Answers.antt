@@ -1,7 +1,7 @@
 use Rattle.std.proofs.Common.{sym}
 use Rattle.std.proofs.lemmas.Bool.{and_parts}
-use Rattle.lock_base.specs.declared.machine.mode_step.ModeStep.TheVariants.{Acquire}
-use Rattle.lock_base.proofs.TokenSteps.{acquires}
+use Rattle.lock_modes.specs.declared.mode_step.ModeStep.TheVariants.{Acquire}
+use Rattle.lock_modes.proofs.TokenSteps.{acquires}
 use Rattle.lock_raws.proofs.JournalLemmas.{recording_stepped}
 use Rattle.lock_raws.proofs.recording_arbiter.RecordingArbiterArbiter.admit_as.Goals as goal
 

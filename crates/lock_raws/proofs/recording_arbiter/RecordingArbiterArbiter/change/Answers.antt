@@ -1,6 +1,6 @@
 use Rattle.std.proofs.Common.{sym}
-use Rattle.lock_base.specs.declared.machine.mode_step.ModeStep.TheVariants.{Change}
-use Rattle.lock_base.proofs.TokenSteps.{changes}
+use Rattle.lock_modes.specs.declared.mode_step.ModeStep.TheVariants.{Change}
+use Rattle.lock_modes.proofs.TokenSteps.{changes}
 use Rattle.lock_raws.proofs.JournalLemmas.{recording_stepped}
 use Rattle.lock_raws.proofs.recording_arbiter.RecordingArbiterArbiter.change.Goals as goal
 

@@ -1,6 +1,6 @@
 use Rattle.std.proofs.lemmas.Bool.{OnTrue_at}
-use Rattle.lock_base.specs.declared.machine.mode_step.ModeStep.TheVariants.{Release}
-use Rattle.lock_base.proofs.TokenSteps.{releases}
+use Rattle.lock_modes.specs.declared.mode_step.ModeStep.TheVariants.{Release}
+use Rattle.lock_modes.proofs.TokenSteps.{releases}
 use Rattle.lock_raws.proofs.JournalLemmas.{recording_stepped}
 use Rattle.lock_raws.proofs.recording_arbiter.RecordingArbiterArbiter.give_back.Goals as goal
 

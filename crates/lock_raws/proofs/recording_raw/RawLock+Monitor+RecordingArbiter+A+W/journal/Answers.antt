@@ -1,7 +1,7 @@
 use Rattle.std.proofs.Common.{◌≤◌, ◌∙◌, sym, subst, arith}
-use Rattle.lock_base.specs.declared.raw.limits.TheConstants.{MAX_LIMIT}
-use Rattle.lock_base.specs.ModeRuns.{Replays}
-use Rattle.lock_base.proofs.ModeLemmas.{Replays_larger}
+use Rattle.lock_modes.specs.declared.limits.TheConstants.{MAX_LIMIT}
+use Rattle.lock_modes.specs.ModeRuns.{Replays}
+use Rattle.lock_modes.proofs.ModeLemmas.{Replays_larger}
 use Rattle.lock_raws.proofs.recording_raw.RawLock+Monitor+RecordingArbiter+A+W.journal.Goals as goal
 
 pub returns-clause-replays : goal.returns-clause-replays

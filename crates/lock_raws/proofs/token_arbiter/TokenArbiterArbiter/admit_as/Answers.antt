@@ -1,7 +1,7 @@
 use Rattle.std.proofs.Common.{◌≡◌, false, ◌&&◌, subst}
-use Rattle.lock_base.specs.Modes.{admits}
-use Rattle.lock_base.specs.Bar.{passes_bar}
-use Rattle.lock_base.specs.Tokens.{bag_of_tokens}
+use Rattle.lock_modes.specs.Modes.{admits}
+use Rattle.lock_modes.specs.Bar.{passes_bar}
+use Rattle.lock_modes.specs.Tokens.{bag_of_tokens}
 use Rattle.lock_raws.proofs.Legal.{full_admits_none, admitted_legal}
 use Rattle.lock_raws.proofs.token_arbiter.TokenArbiterArbiter.admit_as.Goals as goal
 

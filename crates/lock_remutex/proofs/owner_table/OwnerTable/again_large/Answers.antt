@@ -1,5 +1,5 @@
 use Rattle.std.proofs.Common.{Ok, false, sym, subst}
-use Rattle.lock_base.specs.Party.{id_of}
+use Rattle.lock_modes.specs.Party.{id_of}
 use Rattle.lock_remutex.specs.OwnerCalls.{Again}
 use Rattle.lock_remutex.proofs.owner_table.OwnerTable.again_large.Goals as goal
 

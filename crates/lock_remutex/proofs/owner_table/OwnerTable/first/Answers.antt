@@ -1,8 +1,8 @@
 use Rattle.std.proofs.Common.{◌≡◌, ℕ, ◌+◌, ◌*◌, ◌^◌, ◌<◌, ◌≤◌, refl, sym, ap, subst, ◌∙◌, arith, inl, inr}
 use Rattle.std.proofs.lemmas.Bool.{cases_lt, false≢true}
 use Rattle.std.specs.Prelude.{Option, Some, None, IfSome, IfNone, IsSome, IsNone}
-use Rattle.lock_base.specs.Levels.{Levels, free_levels, with_owner}
-use Rattle.lock_base.specs.Party.{id_of}
+use Rattle.lock_modes.specs.Levels.{Levels, free_levels, with_owner}
+use Rattle.lock_modes.specs.Party.{id_of}
 use Rattle.lock_remutex.specs.OwnerTables.{party_in, count_in, word_at, owned_at, IsAtHome}
 use Rattle.lock_remutex.proofs.owner_table.OwnerTable.first.Goals as goal
 

@@ -1,6 +1,6 @@
 use Rattle.std.proofs.Common.{refl, sym, subst}
-use Rattle.lock_base.specs.Party.{id_of}
-use Rattle.lock_base.specs.declared.raw.fault.Fault.TheVariants.{Foreign}
+use Rattle.lock_modes.specs.Party.{id_of}
+use Rattle.lock_modes.specs.declared.fault.Fault.TheVariants.{Foreign}
 use Rattle.lock_remutex.specs.OwnerCalls.{IsStranger}
 use Rattle.lock_remutex.proofs.owner_table.OwnerTable.leave_large.Goals as goal
 

@@ -1,5 +1,5 @@
 use Rattle.std.proofs.Common.{rules}
-use Rattle.lock_base.specs.Party.{id_of}
+use Rattle.lock_modes.specs.Party.{id_of}
 use Rattle.lock_remutex.proofs.Tries.{found_owner}
 use Rattle.lock_remutex.proofs.raw_reentrant_mutex.RawReentrantMutex.first.Goals as goal
 

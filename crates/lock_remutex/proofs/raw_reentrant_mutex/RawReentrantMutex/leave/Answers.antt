@@ -1,5 +1,5 @@
 use Rattle.std.proofs.Common.{◌≡◌, true, rules}
-use Rattle.lock_base.specs.Party.{id_of}
+use Rattle.lock_modes.specs.Party.{id_of}
 use Rattle.lock_remutex.proofs.Losses.{leave_lost}
 use Rattle.lock_remutex.proofs.raw_reentrant_mutex.RawReentrantMutex.leave.Goals as goal
 

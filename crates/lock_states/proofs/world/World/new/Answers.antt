@@ -1,5 +1,5 @@
 use Rattle.std.proofs.Common.{arith}
-use Rattle.lock_base.specs.Limits.{IsLimit}
+use Rattle.lock_modes.specs.Limits.{IsLimit}
 use Rattle.lock_word.proofs.Reached.{reachable_new}
 use Rattle.lock_states.proofs.world.World.new.Goals as goal
 

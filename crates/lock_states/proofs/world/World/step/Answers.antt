@@ -1,7 +1,7 @@
 -- Each return is one of the three cases of a step, and the fields that are left are those of the world after it.
 use Rattle.std.proofs.Common.{◌≡◌, ℕ, ◌-◌, ◌^◌, ◌<◌, ◌∙◌, slice_get, slice_set, Some, None, length, sym, ap, subst, arith}
 use Rattle.std.proofs.lemmas.Option.{slice_get-get_or}
-use Rattle.lock_base.specs.declared.raw.fault.Fault.TheVariants.{UnknownParty}
+use Rattle.lock_modes.specs.declared.fault.Fault.TheVariants.{UnknownParty}
 use Rattle.lock_word.specs.declared.step.Outcome.TheVariants.{Refused}
 use Rattle.lock_word.specs.Holders.{holder_at}
 use Rattle.lock_word.specs.Worlds.{WorldState, Stepped, after_step, IsReachable}

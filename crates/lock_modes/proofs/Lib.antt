@@ -1,0 +1,3 @@
+pub mod ModeLemmas
+pub mod TokenBags
+pub mod TokenSteps

@@ -1,0 +1,10 @@
+pub mod Modes
+pub mod ModeRuns
+pub mod Kind
+pub mod Party
+pub mod Fault
+pub mod Limits
+pub mod Levels
+pub mod Tokens
+pub mod Bar
+pub mod Holds
