@@ -29,10 +29,6 @@ first_look readers found wish blocks me begun next lock clean is awaited has goe
     subst (λ p. IsGoing p me.0.held (to_acquire wish) me.0) (sym (turns ∙ ap (λ (p : Progress). next_of found p.0) is))
     (goes (acquiring readers wish blocks true).0 me.0.held (to_acquire wish) refl (acquiring_first readers wish blocks true me.0 lock awaited has clean))
 
-pub first_try : (readers found : ℕ) (wish : ExWant) (begun next : Progress) → begun ≡ acquiring readers wish false true → next ≡ next_of found begun.0 → IsTrying next
-first_try readers found wish begun next is turns =
-    subst IsTrying (sym (turns ∙ ap (λ (p : Progress). next_of found p.0) is)) (looks found (acquiring readers wish false true).0 refl refl)
-
 -- a seat that holds the mode becomes a token of the mode
 pub token_is : (lock : WordLockView) (mode : Mode) (table : TableId) (me : Self) (token : TokenView) → token ≡ token_of table me → table ≡ lock.id
     → me.0.readers ≡ lock.readers → me.0.held ≡ one_hold mode → token ≡ record { lock = lock; held = one_hold mode }

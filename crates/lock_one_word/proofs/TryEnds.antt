@@ -55,10 +55,6 @@ pub tries_again : (found old new : ℕ) (call : Call) (v : OneView) (before : Ho
 tries_again found old new call v before task going trying =
     subst (λ st. IsTrying (next_at st found call)) (sym (at_try call (action.Exchange old new) v before task refl going trying)) (try_tries found call trying.tries)
 
-pub steps_try : (old new : ℕ) (call : Call) (v : OneView) (before : Hold) (task : Task) → IsGoing (call, action.Exchange old new) before task v
-    → IsTrying (call, action.Exchange old new) → is_step call.stage ≡ true
-steps_try old new call v before task going trying = ap is_step (at_try call (action.Exchange old new) v before task refl going trying)
-
 -- a try asks for an exchange, or ends
 abbrev pub is_tried : Action → Bool
 is_tried (action.Exchange x y) = true
@@ -113,18 +109,6 @@ pub tried : (call : Call) (a : Action) (v : OneView) (before : Hold) (wish : ExW
 tried call a v before wish clean awaited going trying true e =
     acquired_end call before wish v clean awaited (subst (λ (x : Action). IsGoing (call, x) before (to_acquire wish) v) (yes_ends a (sym e)) going)
 tried call a v before wish clean awaited going trying false e = leaves_all call a v before (to_acquire wish) clean going trying (sym e)
-
--- a try may stop at any time
-pub may_end : (call : Call) (a : Action) (v : OneView) (before : Hold) (task : Task) → IsGoing (call, a) before task v → IsTrying (call, a) → MayEnd (call, a)
-may_end call a v before task going trying =
-    elim trying.stage [
-      | inl tries ↦ inr (trying.tries, tries)
-      | inr over ↦
-          elim over [
-            | inl acquired ↦ (let is = subst (λ st. IsAt st call (placed v.held a) a) acquired going.at in inl (ap ends is.1))
-            | inr refused ↦ (let is = subst (λ st. IsAt st call (placed v.held a) a) refused going.at in inl (ap ends is.1))
-          ]
-    ]
 
 abbrev pub is_exchange : Action → Bool
 is_exchange (action.Exchange x y) = true

@@ -62,7 +62,7 @@ TimesOut readers e = (e.readers ≡ readers) × (e.late ≡ true)
 abbrev pub HasTimedOut : WordLockView → Type 0
 HasTimedOut lock = (e : Ending) × TimesOut lock.readers e
 
--- a call with a deadline was refused after it, or, if it measured no time, as a try
+-- a call with a deadline was refused after it, or as a try; so is a plain try, and a call whose deadline measures no time
 abbrev pub WasLate : WordLockView → ExWant → Type 0
 WasLate lock wish = HasTimedOut lock ⊎ WasTried lock wish false
 

@@ -96,13 +96,13 @@ impl<T: Drop, V, P: ReadyRule<T, V>> RuledMutex<T, V, P> {
         self.join::<M>(user, other)
     }
 
-    /// Tells what the user knows of the value that it acquired.
+    /// States what the user knows of the value that it acquired.
     pub fn known(&self, guard: &RuledGuard<T, V>)
         requires { Meets P.rule guard.now.taken guard.now.user.view }
         ensures { P.knows guard.now.taken guard.now.user.view }
     {}
 
-    /// Consumes the mutex and its only user as `into_inner` does, and tells what that user knows of the value.
+    /// Consumes the mutex and its only user as `into_inner` does, and states what that user knows of the value.
     pub fn into_inner_ready(self, user: User<T, V>) -> T
         requires mutex { user.mutex ≡ self }
         requires alone { user.parts ≡ all_parts }

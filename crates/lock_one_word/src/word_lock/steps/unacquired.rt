@@ -5,7 +5,8 @@ ghost use Rattle.lock_one_word.specs.Drives.{at, unacquired_at};
 use crate::word_lock::steps::looked::Looked;
 use crate::word_lock::steps::pending::Pending;
 
-/// A call that acquires or upgrades, and that its first load refused, or whose first exchange found another word.
+/// A call that acquires or upgrades, which its first load did not admit or admitted with S, or whose first exchange found
+/// another word.
 pub(crate) struct Unacquired {
     pub(super) looked: Looked,
     pub(super) found: Option<u64>,
