@@ -1,11 +1,7 @@
 //! Rounds of locks on one thread. Loops that a Rust program has too are not inlined, so that each is compiled by itself.
-use crate::turns::{TakeTurns, TurnAct, Turns, cost_beside};
 use lock_modes::PartyId;
 use lock_mutex::Mutex;
-use lock_raws::{
-    LockCore, Monitor, NoTime, RawLock, RealTime, RecordingArbiter, TableArbiter, TokenRaw,
-    WordCore, WordRaw,
-};
+use lock_raws::{LockCore, Monitor, NoTime, RawLock, TableArbiter, WordCore};
 use lock_raws_fair::FairCore;
 use lock_remutex::ReentrantMutex;
 use lock_rwlock::{RwLock, RwLockUpgradableReadGuard, RwLockWriteGuard};
@@ -13,25 +9,16 @@ use lock_traits::{RawMutex, RawRwLock, RawRwLockUpgradeDowngrade};
 use std::alloc::Global;
 use std::io;
 use std::sync::Wait;
-use std::thread::Threads;
-use std::time::{Clock, CpuClock, Instant};
+use std::time::{Clock, Instant};
 
 /// How many readers the reader-writer locks have.
-pub const READERS: u64 = 64;
+const READERS: u64 = 64;
 
 /// A line for each lock and raw lock: its names, and nanoseconds a round.
-pub fn print<R: Print + Clock + CpuClock + Wait + Threads + Sync + Copy>(
-    rt: &R,
-    alloc: Global,
-    rounds: u64,
-) -> io::Result<()> {
+pub fn print<R: Print + Clock + Wait + Copy>(rt: &R, alloc: Global, rounds: u64) -> io::Result<()> {
     over::<R, Monitor<TableArbiter, R>>(rt, alloc, "TokenRaw", rounds)?;
-    over::<R, Monitor<RecordingArbiter<TableArbiter>, R>>(rt, alloc, "RecordingRaw", rounds)?;
     over::<R, WordCore<R, NoTime>>(rt, alloc, "WordRaw", rounds)?;
-    over::<R, WordCore<R, RealTime>>(rt, alloc, "TimedRaw", rounds)?;
-    over::<R, FairCore<TableArbiter, R, NoTime>>(rt, alloc, "FairRaw", rounds)?;
-    trips::<R, Turns<TokenRaw<R>>>(rt, alloc, "TokenRaw", rounds / 100)?;
-    trips::<R, Turns<WordRaw<R>>>(rt, alloc, "WordRaw", rounds / 100)
+    over::<R, FairCore<TableArbiter, R, NoTime>>(rt, alloc, "FairRaw", rounds)
 }
 
 /// The lines of one raw lock.
@@ -120,7 +107,7 @@ where
 }
 
 /// The names, and nanoseconds a round with a tenth.
-pub fn line<R: Print + Clock>(
+fn line<R: Print + Clock>(
     rt: &R,
     name: &str,
     what: &str,
@@ -200,35 +187,4 @@ where
         }
     }
     sum
-}
-
-/// The line of a condition variable: two threads that take turns.
-fn trips<
-    R: Print + Clock + CpuClock + Wait + Threads + Sync + Copy,
-    T: TakeTurns<Waiter = R> + Sync,
->(rt: &R, alloc: Global, name: &str, rounds: u64) -> io::Result<()> {
-    let Ok(turns) = T::new(alloc, *rt) else {
-        return println!(rt; "{name}: out of memory");
-    };
-    // its fault is told once the turns are ended, since nothing else drops them
-    let start = Instant::now(rt);
-    let even = TurnAct::Take {
-        first: 0,
-        rounds,
-        after: 0,
-    };
-    let odd = TurnAct::Take {
-        first: 1,
-        rounds,
-        after: 0,
-    };
-    let _ = cost_beside(rt, &turns, even, odd, 0);
-    turns.end();
-    line(
-        rt,
-        name,
-        "a round trip over SleepingCondvar",
-        start?,
-        rounds,
-    )
 }

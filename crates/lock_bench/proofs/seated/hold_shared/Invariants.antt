@@ -1,6 +1,0 @@
-use Rattle.std.proofs.Common.{◌≡◌}
-use Rattle.lock_bench.proofs.seated.hold_shared.Given as goal
-
--- the party stays of the lock
-abbrev pub invariant-loop : goal.invariant-loop
-invariant-loop l = l.party.lock ≡ l.fn.lock
