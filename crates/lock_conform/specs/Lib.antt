@@ -1,5 +1,3 @@
-pub mod Choices
-pub mod DifferenceText
 pub mod Differences
 pub mod Done
 pub mod Entries
@@ -8,4 +6,3 @@ pub mod PlainRaws
 pub mod Refusals
 pub mod Reports
 pub mod Texts
-pub mod WrongTokens

@@ -1,5 +1,4 @@
-//! Scripts of calls, made on the shared locks over any raw lock and compared with the `Desk`. The program `lockconform`
-//! makes them on the raw locks of the library, and on raw locks with a mistake.
+//! Scripts of calls, made on the shared locks over any raw lock and compared with the `Desk`.
 #![tactic(auto)]
 
 mod comparison;
@@ -11,7 +10,6 @@ mod mutex;
 mod operation;
 mod parts;
 mod plain_raw;
-mod program;
 mod reentrant;
 mod report;
 mod report_entry;
@@ -21,7 +19,6 @@ mod rwlock;
 mod script_call;
 mod script_guards;
 mod script_run;
-mod wrong;
 
 pub use difference::Difference;
 pub use driven::{After, Driven, ScriptGuard};
@@ -33,8 +30,6 @@ pub use mutex::run_mutex;
 pub use operation::{ask, change};
 pub use parts::{RunParts, run_parts};
 pub use plain_raw::PlainRaw;
-pub use program::replay::replay;
-pub use program::{Choice, RawChoice};
 pub use reentrant::run_reentrant;
 pub use report::Report;
 pub use report_entry::ReportEntry;
@@ -42,4 +37,3 @@ pub use report_text::write_report;
 pub use rw_guard::{AnyGuard, RwDriven, RwGuard};
 pub use rwlock::run_rwlock;
 pub use script_run::run_on;
-pub use wrong::{Mistake, WrongRaw};

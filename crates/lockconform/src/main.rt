@@ -2,7 +2,7 @@
 //! from the `Desk`'s.
 #![tactic(auto)]
 
-use lock_conform::{Choice, replay};
+use lock_choice::{Choice, replay};
 use lock_script::ReplayFault;
 use std::process::ExitCode;
 use std::rt::Env;

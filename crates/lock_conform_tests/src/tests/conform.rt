@@ -1,6 +1,7 @@
 //! The raw lock that spins, tested by a script, and the words that choose a raw lock.
 use lock_api::RawMutex;
-use lock_conform::{Choice, Manner, ParkBy, PlainRaw, RawChoice, parse, run_mutex};
+use lock_choice::{Choice, RawChoice};
+use lock_conform::{Manner, ParkBy, PlainRaw, parse, run_mutex};
 use lock_examples::SpinLock;
 use std::test::Fail;
 

@@ -1,7 +1,8 @@
 //! Scripts on the shared locks over a table and over a word. No contract states the answers and raw calls of these locks.
 mod scripts;
 
-use lock_conform::{Choice, Manner, ParkBy, RawChoice, replay};
+use lock_choice::{Choice, RawChoice, replay};
+use lock_conform::{Manner, ParkBy};
 use scripts::SCRIPTS;
 use std::test::Fail;
 

@@ -2,10 +2,10 @@
 ghost use Rattle.std.specs.Prelude.{◌≡◌, [], ◌∷◌, IfOk, string_bytes};
 ghost use Rattle.lock_script.specs.Answers.{reply_lines};
 
-use super::choice::Choice;
-use super::difference_line::{difference_line, script_line};
-use super::over_raw::run_chosen;
-use crate::report_text::write_report;
+use crate::choice::Choice;
+use crate::difference_line::{difference_line, script_line};
+use crate::over_raw::run_chosen;
+use lock_conform::write_report;
 use lock_machine::Reply;
 use lock_modes::Fault;
 use lock_script::{Answer, DeskScript, ReplayFault, parse, write_answer};

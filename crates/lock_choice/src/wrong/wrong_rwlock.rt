@@ -1,6 +1,6 @@
 //! The raw lock with a mistake, for readers and writers.
 ghost use Rattle.std.specs.Prelude.{◌≡◌, IfErr};
-ghost use Rattle.lock_conform.specs.WrongTokens.{owns_if_some};
+ghost use Rattle.lock_choice.specs.WrongTokens.{owns_if_some};
 
 use super::mistake::Mistake;
 use super::wrong_raw::WrongRaw;

@@ -1,6 +1,6 @@
 //! A raw lock with a mistake.
 ghost use Rattle.std.specs.Prelude.{◌≡◌, Some, IfSome};
-ghost use Rattle.lock_conform.specs.WrongTokens.{owns_if_some};
+ghost use Rattle.lock_choice.specs.WrongTokens.{owns_if_some};
 
 use super::mistake::Mistake;
 use lock_guard::forget;

@@ -1,6 +1,6 @@
 //! Lists of words.
 ghost use Rattle.std.specs.Prelude.{◌≡◌, ◌↔◌, IsTrue, All, string_bytes};
-ghost use Rattle.lock_conform.specs.Choices.{HasWord, IsOption};
+ghost use Rattle.lock_choice.specs.Choices.{HasWord, IsOption};
 
 /// Returns whether the word is among the words.
 pub fn has(words: &[String], word: &str) -> bool

@@ -1,11 +1,11 @@
 -- What the words after the program's name choose.
 use Rattle.std.specs.Prelude.{◌≡◌, ◌≢◌, ◌⊎◌, ◌↔◌, [], ◌∷◌, ℕ, List, String, string_bytes, codes, IsTrue, All}
 use Rattle.std.specs.Global.{Global}
-use Rattle.lock_conform.specs.declared.program.choice.Choice.{Choice}
-use Rattle.lock_conform.specs.declared.program.choice.RawChoice.{RawChoice}
-use Rattle.lock_conform.specs.declared.program.choice.RawChoice.TheVariants.{Word, Table, Timed, Recording, Fair, TimedFair, Wrong}
-use Rattle.lock_conform.specs.declared.wrong.mistake.Mistake.{Mistake}
-use Rattle.lock_conform.specs.declared.wrong.mistake.Mistake.TheVariants.{ExtraReader, UpgradeAmongReaders, RefusalAdmits, KeptToken, FairKeptToken, HalfBump, TimedRefusal}
+use Rattle.lock_choice.specs.declared.choice.Choice.{Choice}
+use Rattle.lock_choice.specs.declared.choice.RawChoice.{RawChoice}
+use Rattle.lock_choice.specs.declared.choice.RawChoice.TheVariants.{Word, Table, Timed, Recording, Fair, TimedFair, Wrong}
+use Rattle.lock_choice.specs.declared.wrong.mistake.Mistake.{Mistake}
+use Rattle.lock_choice.specs.declared.wrong.mistake.Mistake.TheVariants.{ExtraReader, UpgradeAmongReaders, RefusalAdmits, KeptToken, FairKeptToken, HalfBump, TimedRefusal}
 use Rattle.lock_conform.specs.declared.manner.ParkBy.TheVariants.{Unlocked}
 
 -- the word of a mistake

@@ -1,9 +1,9 @@
 //! The line on a difference.
 ghost use Rattle.std.specs.Prelude.{◌≡◌, IfOk, string_bytes};
 ghost use Rattle.lock_script.specs.Answers.{reply_text};
-ghost use Rattle.lock_conform.specs.DifferenceText.{difference_text};
+ghost use Rattle.lock_choice.specs.DifferenceText.{difference_text};
 
-use crate::difference::Difference;
+use lock_conform::Difference;
 use lock_machine::Reply;
 use lock_script::{Answer, write_answer};
 use std::alloc::{AllocError, Global};

@@ -3,8 +3,8 @@ ghost use Rattle.std.specs.Prelude.{IfErr};
 ghost use Rattle.std.specs.Io.KnownBytes.{Keeps};
 ghost use Rattle.lock_script.specs.Faults.{IsBeforeWriting};
 
-use super::choice::Choice;
-use super::script_answer::ScriptAnswer;
+use crate::choice::Choice;
+use crate::script_answer::ScriptAnswer;
 use lock_script::ReplayFault;
 use script_text::{put, read_script};
 use std::alloc::Global;

@@ -3,18 +3,13 @@ ghost use Rattle.std.specs.Prelude.{◌≡◌, ◌≤◌, IfOk, OnOk};
 ghost use Rattle.lock_script.specs.Session.{HasLimits, replies_to};
 ghost use Rattle.lock_conform.specs.Reports.{IsReport};
 
-use super::choice::RawChoice;
-use crate::manner::Manner;
-use crate::mutex::run_mutex;
-use crate::reentrant::run_reentrant;
-use crate::report::Report;
-use crate::rwlock::run_rwlock;
+use crate::choice::RawChoice;
 use crate::wrong::{Mistake, WrongRaw};
+use lock_conform::{Deadline, Manner, Report, run_mutex, run_reentrant, run_rwlock};
 use lock_modes::{Fault, MAX_LIMIT};
 use lock_raws::{LockCore, Monitor, NoTime, RawLock, RealTime, Recorded, TableArbiter, WordCore};
 use lock_raws_fair::FairCore;
 use lock_script::{DeskScript, Maker};
-use lock_test_support::raw_lock::Deadline;
 use lock_traits::{
     RawMutex, RawMutexFair, RawMutexTimed, RawRwLock, RawRwLockTimed, RawRwLockUpgradeDowngrade,
     RawRwLockUpgradeFair, RawRwLockUpgradeTimed,

@@ -1,10 +1,10 @@
 //! What the words after the program's name choose.
 ghost use Rattle.std.specs.Prelude.{◌≡◌, ◌≢◌, ◌↔◌, IfNone, IfSome, codes};
-ghost use Rattle.lock_conform.specs.Choices.{HasWord, mistake_word};
+ghost use Rattle.lock_choice.specs.Choices.{HasWord, mistake_word};
 
-use super::words::{are_options, has};
-use crate::manner::{Manner, ParkBy};
+use crate::words::{are_options, has};
 use crate::wrong::Mistake;
+use lock_conform::{Manner, ParkBy};
 
 /// A raw lock of the library, or one that makes a mistake.
 #[derive(Clone, Copy, PartialEq, Eq, Debug)]
@@ -27,7 +27,7 @@ pub struct Choice {
 }
 
 impl Choice {
-    ghost use Rattle.lock_conform.specs.Choices.{IsChoice};
+    ghost use Rattle.lock_choice.specs.Choices.{IsChoice};
 
     /// Returns what the words choose, or `None` for the usage line.
     pub fn of_words(words: &[String]) -> Option<Choice>
@@ -51,7 +51,7 @@ impl Choice {
 }
 
 impl RawChoice {
-    ghost use Rattle.lock_conform.specs.Choices.{raw_word};
+    ghost use Rattle.lock_choice.specs.Choices.{raw_word};
 
     /// Returns the raw lock of a word.
     fn of_word(word: &str) -> Option<RawChoice>

@@ -1,5 +1,5 @@
 use Rattle.std.proofs.Common.{◌≡◌, ◌∷◌, rules}
-use Rattle.lock_conform.proofs.program.choice.Choice.of_words.Goals as goal
+use Rattle.lock_choice.proofs.choice.Choice.of_words.Goals as goal
 
 pub returns-clause-some : goal.returns-clause-some
 returns-clause-some c =
