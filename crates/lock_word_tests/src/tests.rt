@@ -2,6 +2,7 @@
 mod counter;
 mod deadlines;
 mod events;
+mod helpers;
 mod permits;
 mod refused_memory;
 mod seated;
