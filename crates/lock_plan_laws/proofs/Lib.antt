@@ -21,6 +21,8 @@ pub mod Traces
 pub mod CoveredStands
 pub mod Exclusion
 pub mod CoveredWorlds
+pub mod HeldByAll
+pub mod BlockedCalls
 pub mod WaitRanks
 pub mod RankedLocks
 pub mod OrderChecks

@@ -1,16 +1,12 @@
 -- In a world of a plan without a circle of waits some party has a step or none is due, and there is no circle. Else each party
 -- that waits is held up by one that waits at a higher rank.
-use Rattle.std.proofs.Common.{◌≡◌, ◌≢◌, ℕ, zero, suc, ◌+◌, ◌*◌, ◌<◌, ◌≤◌, ◌⊎◌, inl, inr, Bool, true, false, not, ◌&&◌, ◌||◌, if◌then◌else◌, List, [], ◌∷◌, length, map, get_or, Option, Some, None, Ok, refl, ap, sym, ◌∙◌, subst, suc-mul, mul-le-mul_right, arith, IsTrue}
-use Rattle.std.specs.Prelude.{◌==◌, is_some, nat_lt}
-use Rattle.std.proofs.lemmas.Bool.{false≢true, and_parts, and_from, and_cases, and_left, and_right, cases_eq, cases_lt, cases_Bool, eq-eqb, lt-ltb, ltb-true, eqb-true, eqb-false, ne_eqb, not-true, not-false, not_from_false, or_from, or_left, or_right, false_from_ne_true}
+use Rattle.std.proofs.Common.{◌≡◌, ◌≢◌, ℕ, zero, suc, ◌+◌, ◌*◌, ◌<◌, ◌≤◌, inl, inr, Bool, true, false, not, ◌&&◌, ◌||◌, if◌then◌else◌, List, [], ◌∷◌, length, map, get_or, Option, Some, None, Ok, refl, ap, sym, ◌∙◌, subst, mul-le-mul_right, arith}
+use Rattle.std.specs.Prelude.{◌==◌, nat_lt}
+use Rattle.std.proofs.lemmas.Bool.{false≢true, and_parts, and_from, and_left, and_right, cases_eq, cases_lt, cases_Bool, eq-eqb, lt-ltb, ltb-true, eqb-true, eqb-false, not-false, not_from_false, not_from_true, or_from, or_left, or_right, false_from_ne_true}
 use Rattle.std.proofs.lemmas.List.{get_or-map, get_or_past, length-map}
-use Rattle.lock_modes.specs.declared.kind.Kind.{Kind}
-use Rattle.lock_modes.specs.declared.kind.Kind.TheVariants as kind
 use Rattle.lock_modes.specs.declared.mode.Mode.{Mode}
-use Rattle.lock_modes.specs.declared.mode.Mode.TheVariants.{Shared, Exclusive, Upgradable}
-use Rattle.lock_modes.specs.declared.mode_step.ModeStep.TheVariants.{Acquire, Change}
+use Rattle.lock_modes.specs.declared.mode_step.ModeStep.TheVariants.{Acquire}
 use Rattle.lock_modes.specs.declared.bag.Bag.{Bag}
-use Rattle.lock_modes.specs.declared.lock_step.LockStep.{LockStep}
 use Rattle.lock_modes.specs.declared.lock_step.LockStep.TheVariants as lock_step
 use Rattle.lock_modes.specs.declared.hold.Hold.{Hold}
 use Rattle.lock_modes.specs.Modes.{tokens, readers, admits, is_exclusive}
@@ -18,25 +14,21 @@ use Rattle.lock_machine.specs.Operation.{Operation}
 use Rattle.lock_modes.specs.Kind.{is_reentrant, is_rwlock}
 use Rattle.lock_modes.specs.Bar.{bar_lets_pass}
 use Rattle.lock_modes.specs.Holds.{no_hold, hold_has}
-use Rattle.lock_modes.proofs.ModeLemmas.{admits-beside_exclusive}
 use Rattle.lock_plan.specs.declared.call.PlanCall.{PlanCall}
-use Rattle.lock_plan.specs.declared.fault.CallFault.{CallFault}
-use Rattle.lock_plan.specs.declared.fault.CallFault.TheVariants.{UnknownLock}
 use Rattle.lock_plan.specs.declared.lock.PlanLock.{PlanLock}
 use Rattle.lock_plan.specs.declared.program.Act.{Act}
 use Rattle.lock_plan.specs.declared.program.Act.TheVariants.{Call, Try, Choose, Signal}
 use Rattle.lock_plan.specs.declared.program.ProgramPlace.{ProgramPlace}
 use Rattle.lock_plan.specs.declared.turn.Turn.{Turn}
-use Rattle.lock_plan.specs.declared.turn.Turn.TheVariants.{Goes, Announces, Waits}
+use Rattle.lock_plan.specs.declared.turn.Turn.TheVariants.{Waits}
 use Rattle.lock_plan.specs.Circles.{is_member, held_within, is_wait, waits_within, is_circle_by, has_circle, is_deadlock}
-use Rattle.lock_plan.specs.Holds.{is_write, announces_itself, lines_up, admits_step, turn_on}
+use Rattle.lock_plan.specs.Holds.{is_write, lines_up, admits_step}
 use Rattle.lock_plan.specs.CallFaults.{fault_on}
-use Rattle.lock_plan.specs.Checks.{fits_machine, fits_kind, fit_machines}
+use Rattle.lock_plan.specs.Checks.{fits_machine, fits_kind}
 use Rattle.lock_plan.specs.Known.{Known, known_of}
-use Rattle.lock_plan.specs.Worlds.{Stand, no_stand, no_lock, act_in, act_of, acts_of, bag_on, bar_from, joined, lock_holds, reply_at, reply_to, turn_by, turn_of, is_server, is_due, is_refused_turn, is_step_turn, some_below, line_of, waits_for, has_waiter, on_lock, goes_on, is_stuck, is_refused, is_stop, first_world}
+use Rattle.lock_plan.specs.Worlds.{Stand, no_stand, no_lock, act_in, act_of, acts_of, bag_on, bar_from, lock_holds, reply_at, reply_to, turn_by, turn_of, is_server, is_due, is_refused_turn, is_step_turn, some_below, line_of, waits_for, has_waiter, on_lock, goes_on, is_stuck, is_refused, is_stop, first_world}
 use Rattle.lock_plan.proofs.CircleSearch.{within_at}
 use Rattle.lock_plan.proofs.CircleSets.{IsRing, ring_of, some_set_at, below_none, below_each, member_within}
-use Rattle.lock_plan_laws.specs.Ranks.{is_ranked_step}
 use Rattle.lock_plan_laws.specs.WaitRanks.{excludes, may_hold_up, CanMeet, Wait, IsWaitOf, IsLenient, HasWaitRanks, RankedPlansNeverDeadlock, RankedMachinesNeverStop}
 use Rattle.lock_plan_laws.proofs.CoveredStands.{IsCoveredAt, IsFine, fine}
 use Rattle.lock_plan_laws.proofs.CoveredWorlds.{AreCovered, steps_covered, starts_covered}
@@ -44,191 +36,13 @@ use Rattle.lock_plan_laws.proofs.Exclusion.{not_excluded, one_within, right_kind
 use Rattle.lock_plan_laws.proofs.Fits.{fits_by}
 use Rattle.lock_plan_laws.proofs.MachineStops.{never, no_deadlocks}
 use Rattle.lock_plan_laws.proofs.SceneStops.{some_found}
-
--- What all parties hold of a lock, and which party has announced itself
-
--- if all hold some, one does
-some_with : (f : Bag → ℕ) → ((a b : Bag) → f (joined a b) ≡ f a + f b) → f Rattle.lock_modes.specs.Modes.empty_bag ≡ 0
-    → (hss : List (List Hold)) (l : ℕ) → 0 < f (bag_on l hss) → (q : ℕ) × (0 < f (get_or (get_or hss q []) l no_hold).bag)
-some_with f adds none [] l some = absurd (omega (arith, none, some))
-some_with f adds none (hs ∷ hss) l some =
-    elim (cases_lt 0 (f (get_or hs l no_hold).bag)) [
-      | inl here ↦ (0, here)
-      | inr nothing ↦
-          let q = some_with f adds none hss l (omega (arith, some, nothing, adds (get_or hs l no_hold).bag (bag_on l hss))) in
-          (suc q.0, q.1)
-    ]
-
-some_holder : (hss : List (List Hold)) (l : ℕ) → 0 < tokens (bag_on l hss) → (q : ℕ) × (0 < tokens (get_or (get_or hss q []) l no_hold).bag)
-some_holder = some_with (λ b. tokens b) (λ a b. omega arith) refl
-
-some_writer : (hss : List (List Hold)) (l : ℕ) → 0 < (bag_on l hss).exclusive → (q : ℕ) × (0 < (get_or (get_or hss q []) l no_hold).bag.exclusive)
-some_writer = some_with (λ b. b.exclusive) (λ a b. refl) refl
-
-some_upgradable : (hss : List (List Hold)) (l : ℕ) → 0 < (bag_on l hss).upgradable
-    → (q : ℕ) × (0 < (get_or (get_or hss q []) l no_hold).bag.upgradable)
-some_upgradable = some_with (λ b. b.upgradable) (λ a b. refl) refl
-
--- if all hold more than one of them, another one holds some
-some_other : (hss : List (List Hold)) (l p : ℕ) → tokens (bag_on l hss) ≢ tokens (get_or (get_or hss p []) l no_hold).bag
-    → (q : ℕ) × (q ≢ p) × (0 < tokens (get_or (get_or hss q []) l no_hold).bag)
-some_other [] l p more = absurd (more refl)
-some_other (hs ∷ hss) l zero more =
-    let some = some_holder hss l (omega (arith, one_more (tokens (bag_on l hss)) (λ none. more (omega (arith, none))))) in
-    (suc some.0, λ same. cc, some.1)
-  where
-    one_more : (n : ℕ) → (n ≡ 0 → ⊥) → 0 < n
-    one_more zero other = absurd (other refl)
-    one_more (suc n) other = omega arith
-some_other (hs ∷ hss) l (suc p) more =
-    elim (cases_lt 0 (tokens (get_or hs l no_hold).bag)) [
-      | inl here ↦ (0, λ same. cc, here)
-      | inr none ↦
-          let q = some_other hss l p (λ same. more (omega (arith, none, same))) in
-          (suc q.0, λ same. q.1 (omega (arith, same)), q.2)
-    ]
-
--- if no party reads more than so often, all together read at most so often for each of them
-few_readers : (hss : List (List Hold)) (l most : ℕ) → ((q : ℕ) → readers (get_or (get_or hss q []) l no_hold).bag ≤ most)
-    → readers (bag_on l hss) ≤ length hss * most
-few_readers [] l most each = omega arith
-few_readers (hs ∷ hss) l most each =
-    let here = each 0 in
-    let rest = few_readers hss l most (λ q. each (suc q)) in
-    omega (arith, here, rest, suc-mul (length hss) most)
-
-if_some : (b : Bool) (row q : ℕ) (o : Option ℕ) → (if b then Some row else o) ≡ Some q → ((b ≡ true) × (row ≡ q)) ⊎ (o ≡ Some q)
-if_some true row q o e = inl (refl, cc)
-if_some false row q o e = inr e
-
-some_bar : (hss : List (List Hold)) (row l q : ℕ) → bar_from row l hss ≡ Some q
-    → (i : ℕ) × (row + i ≡ q) × ((get_or (get_or hss i []) l no_hold).announced ≡ true)
-some_bar [] row l q e = cc
-some_bar (hs ∷ hss) row l q e =
-    elim (if_some (get_or hs l no_hold).announced row q (bar_from (row + 1) l hss) e) [
-      | inl here ↦ (0, omega (arith, here.1), here.0)
-      | inr later ↦
-          let i = some_bar hss (row + 1) l q later in
-          (suc i.0, omega (arith, i.1), i.2)
-    ]
-
--- A call that is not admitted
-
-free_admits : (limit : ℕ) (b : Bag) (mode : Mode) → tokens b ≡ 0 → (is_exclusive mode ≡ false → 0 < limit) → admits limit b mode ≡ true
-free_admits limit b Shared free some =
-    let room : 0 < limit = some refl in
-    and_from (b.exclusive == 0) (nat_lt (readers b) limit) (eq-eqb b.exclusive 0 (omega (arith, free))) (lt-ltb (readers b) limit (omega (arith, free, room)))
-free_admits limit b Exclusive free some = eq-eqb (tokens b) 0 free
-free_admits limit b Upgradable free some =
-    let room : 0 < limit = some refl in
-    and_from (b.exclusive == 0) ((b.upgradable == 0) && nat_lt (readers b) limit) (eq-eqb b.exclusive 0 (omega (arith, free)))
-    (and_from (b.upgradable == 0) (nat_lt (readers b) limit) (eq-eqb b.upgradable 0 (omega (arith, free)))
-    (lt-ltb (readers b) limit (omega (arith, free, room))))
-
--- what a call without a fault says of its lock
-fits_at : (locks : List PlanLock) (l : ℕ) → IsTrue (fit_machines locks) → l < length locks → fits_machine (get_or locks l no_lock) ≡ true
-fits_at [] l fit lt = absurd (omega (arith, lt))
-fits_at (lock ∷ locks) zero fit lt = (and_parts (fits_machine lock) (fit_machines locks) fit).0
-fits_at (lock ∷ locks) (suc l) fit lt = fits_at locks l (and_parts (fits_machine lock) (fit_machines locks) fit).1 (omega (arith, lt))
-
-no_unknown : (b : Bool) (o : Option CallFault) → (if b then o else Some UnknownLock) ≡ None → (b ≡ true) × (o ≡ None)
-no_unknown true o e = (refl, e)
-no_unknown false o e = cc
-
-by_kind : (k : Kind) (limit : ℕ) (bar : Bool) (mode : Mode) → (is_exclusive mode || is_rwlock k) ≡ true → fits_kind k limit bar ≡ true
-    → is_exclusive mode ≡ false → 0 < limit
-by_kind kind.Mutex limit bar Shared is fits other = cc
-by_kind kind.Mutex limit bar Exclusive is fits other = cc
-by_kind kind.Mutex limit bar Upgradable is fits other = cc
-by_kind kind.RwLock limit bar mode is fits other = ltb-true 0 limit fits
-by_kind kind.Reentrant limit bar Shared is fits other = cc
-by_kind kind.Reentrant limit bar Exclusive is fits other = cc
-by_kind kind.Reentrant limit bar Upgradable is fits other = cc
-
--- a reentrant lock has no bar, and is acquired exclusively
-reentrant_is : (k : Kind) (limit : ℕ) (bar : Bool) (mode : Mode) → is_reentrant k ≡ true → (is_exclusive mode || is_rwlock k) ≡ true
-    → fits_kind k limit bar ≡ true → (bar ≡ false) × (mode ≡ Exclusive)
-reentrant_is kind.Reentrant limit bar Exclusive r is fits = (not-true bar (and_parts (nat_lt 0 limit) (not bar) fits).1, refl)
-reentrant_is kind.Reentrant limit bar Shared r is fits = cc
-reentrant_is kind.Reentrant limit bar Upgradable r is fits = cc
-reentrant_is kind.Mutex limit bar mode r is fits = cc
-reentrant_is kind.RwLock limit bar mode r is fits = cc
-
--- Turns
-
-waits : (a b : Bool) → is_step_turn (Some (if a then Goes else (if b then Announces else Waits))) ≡ false → a ≡ false
-waits true b e = cc
-waits false true e = cc
-waits false false e = refl
-
-never_refused : (a b : Bool) → is_refused_turn (Some (if a then Goes else (if b then Announces else Waits))) ≡ false
-never_refused true b = refl
-never_refused false true = refl
-never_refused false false = refl
-
-no_step : (t : Turn) → is_wait t ≡ true → is_step_turn (Some t) ≡ false
-no_step Waits e = refl
-no_step t e = cc
-
-module _ (lock : PlanLock) (hss : List (List Hold)) (q l : ℕ) where
-  not_refused : (s : LockStep) → is_ranked_step s ≡ true → is_refused_turn (Some (turn_on lock (lock_holds hss q l) s)) ≡ false
-  not_refused (lock_step.Modes step) r =
-      never_refused (admits_step lock (lock_holds hss q l) step) (announces_itself lock (get_or (get_or hss q []) l no_hold) (lock_step.Modes step) && not (is_some (bar_from 0 l hss)))
-  not_refused lock_step.Announce r = cc
-  not_refused lock_step.Withdraw r = refl
-
-  -- a call that has no turn waits for a lock that does not admit it
-  step_blocks : (s : LockStep) → is_ranked_step s ≡ true → is_step_turn (Some (turn_on lock (lock_holds hss q l) s)) ≡ false
-      → (mode : Mode) × (s ≡ lock_step.Modes (Acquire mode)) × (admits_step lock (lock_holds hss q l) (Acquire mode) ≡ false)
-  step_blocks (lock_step.Modes (Acquire mode)) r e = (
-    mode,
-    refl,
-    waits (admits_step lock (lock_holds hss q l) (Acquire mode))
-        (announces_itself lock (get_or (get_or hss q []) l no_hold) (lock_step.Modes (Acquire mode)) && not (is_some (bar_from 0 l hss))) e,
-  )
-  step_blocks (lock_step.Modes (Change from Shared)) r e = cc
-  step_blocks s r e = cc
-
-and_false : (a b : Bool) → b ≡ true → (a && b) ≡ false → a ≡ false
-and_false true b t e = absurd (false≢true (sym e ∙ t))
-and_false false b t e = refl
+use Rattle.lock_plan_laws.proofs.HeldByAll.{some_holder, some_other, few_readers, some_bar, first_false, second_false, not_zero, refusing}
+use Rattle.lock_plan_laws.proofs.BlockedCalls.{free_admits, fits_at, no_unknown, by_kind, reentrant_is, no_step, not_refused, step_blocks, no_line, lined_mode, call_same, call_is, bar_there, own_bar, write_mode}
 
 and_not_true : (a b : Bool) → b ≡ true → (a && not b) ≡ false
 and_not_true true true e = refl
 and_not_true true false e = cc
 and_not_true false b e = refl
-
--- a lock with a bar has no line
-no_line : (lock : PlanLock) (s : LockStep) → fits_machine lock ≡ true → lock.bar ≡ true → lines_up lock s ≡ false
-no_line lock (lock_step.Modes (Acquire mode)) fits bars =
-    let no : (lock.fair && lock.bar) ≡ false = not-true _ (and_parts (fits_kind lock.kind lock.limit lock.bar) (not (lock.fair && lock.bar)) fits).1 in
-    ap (λ (b : Bool). b && not (is_reentrant lock.kind)) (and_false lock.fair lock.bar bars no)
-no_line lock s fits bars = refl
-
--- a step that lines up acquires
-lined_mode : (lock : PlanLock) (s : LockStep) → lines_up lock s ≡ true → (mode : Mode) × (s ≡ lock_step.Modes (Acquire mode))
-lined_mode lock (lock_step.Modes (Acquire mode)) e = (mode, refl)
-lined_mode lock s e = cc
-
-call_same : (a b : PlanCall) → Some (Call a) ≡ Some (Call b) → a ≡ b
-call_same a b e = cc
-
-call_is : (call : PlanCall) (mode : Mode) → call.step ≡ lock_step.Modes (Acquire mode)
-    → call ≡ record { lock = call.lock; step = lock_step.Modes (Acquire mode) }
-call_is call mode e = ap (λ (s : LockStep). record call { step = s }) e
-
-bar_there : (bar : Option ℕ) (party : ℕ) (mode : Mode) → bar_lets_pass bar party mode ≡ false → (q : ℕ) × (bar ≡ Some q)
-bar_there None party mode e = cc
-bar_there (Some q) party mode e = (q, refl)
-
-own_bar : (bar : Option ℕ) (q : ℕ) (mode : Mode) → bar ≡ Some q → is_exclusive mode ≡ true → bar_lets_pass bar q mode ≡ true
-own_bar None q mode e x = cc
-own_bar (Some b) q mode e x =
-    let same : b ≡ q = cc in
-    ap (λ (y : Bool). y && (b == q)) x ∙ eq-eqb b q same
-
-write_mode : (s : LockStep) (mode : Mode) → is_write s ≡ true → s ≡ lock_step.Modes (Acquire mode) → is_exclusive mode ≡ true
-write_mode s mode w e = ap is_write (sym e) ∙ w
 
 if_true : {X : Type 0} (b : Bool) (x y : X) → b ≡ true → (if b then x else y) ≡ x
 if_true true x y e = refl
@@ -237,48 +51,6 @@ if_true false x y e = cc
 if_false : {X : Type 0} (b : Bool) (x y : X) → b ≡ false → (if b then x else y) ≡ y
 if_false true x y e = cc
 if_false false x y e = refl
-
-not_zero : (n : ℕ) → 0 < n → (n == 0) ≡ false
-not_zero n some = ne_eqb n 0 (λ none. omega (arith, some, none))
-
--- where a lock that is not strict admits no mode, some holder alone refuses it
-module _ (hss : List (List Hold)) (l limit : ℕ) (few : readers (bag_on l hss) < limit) where
-  abbrev Refuses : Mode → Type 0
-  Refuses mode = (q : ℕ) × (0 < tokens (get_or (get_or hss q []) l no_hold).bag)
-      × (admits limit (get_or (get_or hss q []) l no_hold).bag mode ≡ false)
-
-  some_more : (n : ℕ) → (n == 0) ≡ false → 0 < n
-  some_more zero e = cc
-  some_more (suc n) e = omega arith
-
-  by_writer : (mode : Mode) → 0 < (bag_on l hss).exclusive → Refuses mode
-  by_writer mode some =
-      let q = some_writer hss l some in
-      (q.0, omega (arith, q.1), admits-beside_exclusive limit (get_or (get_or hss q.0 []) l no_hold).bag mode q.1)
-
-  room : nat_lt (readers (bag_on l hss)) limit ≡ true
-  room = lt-ltb (readers (bag_on l hss)) limit few
-
-  refusing : (mode : Mode) → admits limit (bag_on l hss) mode ≡ false → Refuses mode
-  refusing Shared e =
-      by_writer Shared (some_more (bag_on l hss).exclusive (and_false ((bag_on l hss).exclusive == 0) (nat_lt (readers (bag_on l hss)) limit) room e))
-  refusing Exclusive e =
-      let q = some_holder hss l (some_more (tokens (bag_on l hss)) e) in
-      (q.0, q.1, not_zero (tokens (get_or (get_or hss q.0 []) l no_hold).bag) q.1)
-  refusing Upgradable e =
-      elim (and_cases ((bag_on l hss).exclusive == 0) (((bag_on l hss).upgradable == 0) && nat_lt (readers (bag_on l hss)) limit) e) [
-        | inl writer ↦ by_writer Upgradable (some_more (bag_on l hss).exclusive writer)
-        | inr other ↦
-            let some = some_more (bag_on l hss).upgradable
-            (and_false ((bag_on l hss).upgradable == 0) (nat_lt (readers (bag_on l hss)) limit) room other) in
-            let q = some_upgradable hss l some in
-            let b = (get_or (get_or hss q.0 []) l no_hold).bag in (
-              q.0,
-              omega (arith, q.1),
-              and_right (b.exclusive == 0) ((b.upgradable == 0) && nat_lt (readers b) limit)
-                  (and_left (b.upgradable == 0) (nat_lt (readers b) limit) (not_zero b.upgradable q.1)),
-            )
-      ]
 
 module _ (rank : ℕ → ℕ → ℕ) (strict : ℕ → Bool) (servers : List Bool) (locks : List PlanLock) (programs : List (List ProgramPlace))
     (plan : HasWaitRanks rank strict locks programs) (w : List Stand)
@@ -387,7 +159,7 @@ module _ (rank : ℕ → ℕ → ℕ) (strict : ℕ → Bool) (servers : List Bo
     barred : (p : ℕ) (b : Blocked p) → IsRight b.call.lock b.mode → tokens (bag_on b.call.lock hss) ≡ 0
         → bar_lets_pass (bar_from 0 b.call.lock hss) p b.mode ≡ false
     barred p b right none =
-        and_false (bar_lets_pass (bar_from 0 b.call.lock hss) p b.mode) _ (open_if_free p b.call.lock b.mode right none) b.refused
+        first_false (bar_lets_pass (bar_from 0 b.call.lock hss) p b.mode) _ (open_if_free p b.call.lock b.mode right none) b.refused
 
     -- the party that has announced itself on a lock
     record Announcer (l : ℕ) : Type 0 where
@@ -495,14 +267,6 @@ module _ (rank : ℕ → ℕ → ℕ) (strict : ℕ → Bool) (servers : List Bo
                 (ap (admits (Lock l).limit (held_by hss other.0 l).bag) is.1 ∙ not_zero (tokens (held_by hss other.0 l).bag) other.2));
             not_owner = λ is_owner. other.1;
           }
-        where
-          not_from_true : (b : Bool) → b ≡ true → not b ≡ false
-          not_from_true true e = refl
-          not_from_true false e = cc
-
-          second_false : (a b : Bool) → a ≡ true → (a && b) ≡ false → b ≡ false
-          second_false true b t e = e
-          second_false false b t e = cc
 
       -- any holder of a strict lock
       any_holder : (p : ℕ) (h : HeldUp p) → is_reentrant (Lock h.call.lock).kind ≡ false → strict h.call.lock ≡ true → Holder p h.call.lock h.mode
@@ -554,10 +318,6 @@ module _ (rank : ℕ → ℕ → ℕ) (strict : ℕ → Bool) (servers : List Bo
                 (not_from_false (admits (Lock l).limit (held_by hss q.0 l).bag h.mode) q.2);
             not_owner = λ r. absurd (false≢true (sym plain ∙ r));
           }
-        where
-          second_false : (a b : Bool) → a ≡ true → (a && b) ≡ false → b ≡ false
-          second_false true b t e = e
-          second_false false b t e = cc
 
       holder : (p : ℕ) → In p → (h : HeldUp p) → Holder p h.call.lock h.mode
       holder p in_it h =

@@ -12,7 +12,7 @@ use Rattle.lock_plan.specs.Worlds.{Stand, no_stand, world_step, world_after, fir
 use Rattle.lock_plan_laws.specs.Bridge.{AreDistinct, FitsMachines}
 use Rattle.lock_plan_laws.specs.Scenes.{Caller, steps_of, Scene, first_scene, IsRun}
 
--- each row of the set stands in v where it stands in w and has no step, and the set is a circle still
+-- each row of the set is in v as it is in w and has no step, and the set is still a circle
 pub record IsStill (locks : List PlanLock) (set : List Bool) (w v : List Stand) : Type 0 where
   pub same : (row : ℕ) → is_member set row ≡ true → get_or v row no_stand ≡ get_or w row no_stand
   pub none : (step : Step) → is_member set step.party ≡ true → world_step locks v step ≡ None

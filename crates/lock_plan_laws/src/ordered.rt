@@ -24,9 +24,9 @@ pub fn ordered_plans_never_stop<T, O: Op<T>>()
 
 /// No run of a plan leads into a stop or a circle where the waits have ranks, and no run of its machines of guards into a stop.
 ///
-/// The ranks rise from each wait to each wait that may hold it up. One wait may hold up another one only if both can stand at one
-/// time, and if the first holds the lock in a mode that may refuse the other. So a gate, a read next to a read, and two places of
-/// one party make no circle.
+/// The ranks rise from each wait to each wait that may hold it up. One wait may hold up another one only if both can be at one
+/// time, and if the first holds the lock in a mode that may refuse the other. So two waits never hold up each other if a gate is
+/// around both, if both are reads, or if they are of one party.
 pub fn plans_without_a_circle_never_stop<T, O: Op<T>>()
     ensures worlds { RankedPlansNeverDeadlock }
     ensures machines { RankedMachinesNeverStop O.meaning }
