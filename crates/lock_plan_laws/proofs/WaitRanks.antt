@@ -286,7 +286,7 @@ module _ (rank : ℕ → ℕ → ℕ) (strict : ℕ → Bool) (servers : List Bo
           ]
 
       -- a party in the set reads no more than what is known of its program
-      each_reads : (l : ℕ) (k : IsLenient locks programs plan.known l) (q : ℕ) → readers (held_by hss q l).bag ≤ k.most
+      each_reads : (l : ℕ) (k : IsLenient (Lock l) (length programs) plan.known l) (q : ℕ) → readers (held_by hss q l).bag ≤ k.most
       each_reads l k q = elim (cases_lt 0 (tokens (held_by hss q l).bag)) [
         | inr none ↦ omega (arith, none)
         | inl some ↦
@@ -300,7 +300,7 @@ module _ (rank : ℕ → ℕ → ℕ) (strict : ℕ → Bool) (servers : List Bo
       ]
 
       -- a holder of a lenient lock that alone refuses the call
-      refusing_holder : (p : ℕ) (h : HeldUp p) → is_reentrant (Lock h.call.lock).kind ≡ false → IsLenient locks programs plan.known h.call.lock
+      refusing_holder : (p : ℕ) (h : HeldUp p) → is_reentrant (Lock h.call.lock).kind ≡ false → IsLenient (Lock h.call.lock) (length programs) plan.known h.call.lock
           → Holder p h.call.lock h.mode
       refusing_holder p h plain k =
           let l = h.call.lock in

@@ -61,14 +61,14 @@ pub record MayHoldUp (strict : ℕ → Bool) (locks : List PlanLock) (x y : Wait
       ⊎ (((x.party ≡ y.party) × (x.place ≡ y.place)) × (is_reentrant (get_or locks x.lock no_lock).kind ≡ false))
   pub refuses : may_hold_up (strict x.lock) (get_or locks x.lock no_lock).limit x.mode (get_or y.holds x.lock no_hold).bag ≡ true
 
--- a lock that is not strict has neither a line nor a bar, and all parties together never have as many reads as its limit
-pub record IsLenient (locks : List PlanLock) (programs : List (List ProgramPlace)) (known : ℕ → Known) (lock : ℕ) : Type 0 where
-  pub no_line : (get_or locks lock no_lock).fair ≡ false
-  pub no_bar : (get_or locks lock no_lock).bar ≡ false
+-- the lock with this number has neither a line nor a bar, and so many parties together never have as many reads as its limit
+pub record IsLenient (lock : PlanLock) (parties : ℕ) (known : ℕ → Known) (number : ℕ) : Type 0 where
+  pub no_line : lock.fair ≡ false
+  pub no_bar : lock.bar ≡ false
   pub most : ℕ
-  pub each : (party place : ℕ) (hs : List Hold) → party < length programs → known_at (known party) place ≡ Some hs
-      → readers (get_or hs lock no_hold).bag ≤ most
-  pub room : length programs * most < (get_or locks lock no_lock).limit
+  pub each : (party place : ℕ) (hs : List Hold) → party < parties → known_at (known party) place ≡ Some hs
+      → readers (get_or hs number no_hold).bag ≤ most
+  pub room : parties * most < lock.limit
 
 -- a plan of machines whose waits have such ranks
 pub record HasWaitRanks (rank : ℕ → ℕ → ℕ) (strict : ℕ → Bool) (locks : List PlanLock) (programs : List (List ProgramPlace)) : Type 0 where
@@ -78,7 +78,8 @@ pub record HasWaitRanks (rank : ℕ → ℕ → ℕ) (strict : ℕ → Bool) (lo
       → IsCovered hs (act_in (get_or programs party []) place)
   pub upward : (x y : Wait) → IsWaitOf programs known x → IsWaitOf programs known y → MayHoldUp strict locks x y
       → rank x.party x.place < rank y.party y.place
-  pub lenient : (lock : ℕ) → lock < length locks → strict lock ≡ false → IsLenient locks programs known lock
+  pub lenient : (lock : ℕ) → lock < length locks → strict lock ≡ false
+      → IsLenient (get_or locks lock no_lock) (length programs) known lock
   pub machines : IsTrue (fit_machines locks)
 
 -- no run of such a plan leads into a stop or a circle, and no run of its machines into a stop

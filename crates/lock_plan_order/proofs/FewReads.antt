@@ -1,12 +1,14 @@
 -- A lock that all parties together never read as often as its limit.
-use Rattle.std.proofs.Common.{◌≡◌, ◌∙◌, ℕ, zero, suc, ◌+◌, ◌*◌, ◌/◌, ◌-◌, ◌<◌, ◌++◌, inl, inr, Bool, true, false, not, ◌&&◌, List, [], ◌∷◌, length, map, get_or, Option, None, Vec, refl, sym, subst, mul_comm, arith}
+use Rattle.std.proofs.Common.{◌≡◌, ◌∙◌, ℕ, zero, suc, ◌+◌, ◌*◌, ◌/◌, ◌-◌, ◌<◌, ◌++◌, inl, inr, Bool, true, false, not, ◌&&◌, List, [], ◌∷◌, length, map, get_or, Option, None, Vec, refl, ap, sym, subst, mul_comm, arith}
 use Rattle.std.specs.Prelude.{nat_lt, option_map}
 use Rattle.std.specs.Global.{Global}
 use Rattle.std.specs.List.{list_all, list_any}
 use Rattle.std.proofs.Math.Nat.{div-mul-le_self}
-use Rattle.std.proofs.lemmas.Bool.{and_parts, cases_eq, ltb-true, not-false, not-true}
+use Rattle.std.proofs.lemmas.Bool.{and_parts, cases_eq, leb-true, ltb-true, not-false, not-true}
 use Rattle.std.proofs.lemmas.List.{get_or_append_left, get_or_push, length-map}
 use Rattle.lock_modes.specs.declared.hold.Hold.{Hold}
+use Rattle.lock_modes.specs.Holds.{no_hold}
+use Rattle.lock_modes.specs.Modes.{readers}
 use Rattle.lock_plan.specs.declared.lock.PlanLock.{PlanLock}
 use Rattle.lock_plan.specs.Known.{Known, known_at}
 use Rattle.lock_plan.specs.Worlds.{no_lock}
@@ -44,15 +46,18 @@ lenient_is lock many known number most plain is reads =
     let same : length (map held_in known) * most ≡ (lock.limit - 1) / length known * length known =
     subst (λ (m : ℕ). length (map held_in known) * m ≡ (lock.limit - 1) / length known * length known) (sym is)
     (subst (λ (n : ℕ). n * ((lock.limit - 1) / length known) ≡ (lock.limit - 1) / length known * length known) (sym (length-map known held_in))
-    (mul_comm (length known) ((lock.limit - 1) / length known))) in
-    record {
-      no_line = not-true lock.fair one.0;
-      no_bar = not-true lock.bar two.0;
-      none_many = not-true _ three.1;
-      most = most;
-      each = everywhere number most known reads;
-      room = omega (arith, some, few, same);
-    }
+    (mul_comm (length known) ((lock.limit - 1) / length known))) in (
+      not-true _ three.1,
+      record {
+        no_line = not-true lock.fair one.0;
+        no_bar = not-true lock.bar two.0;
+        most = most;
+        each = λ program place hs lt is.
+            leb-true (readers (get_or hs number no_hold).bag) most
+            (ap (reads_at_most number most) (sym is) ∙ everywhere number most known reads program place);
+        room = omega (arith, some, few, same);
+      },
+    )
 
 -- the next lock is lenient too, if it is not marked
 pub one_more_lenient : (locks : List PlanLock) (many : List Bool) (known : List Known) (strict : List Bool) (number : ℕ) (b : Bool)

@@ -1,16 +1,16 @@
 -- Programs whose waits are ranked make no circle, whatever parties run them.
-use Rattle.std.proofs.Common.{◌≡◌, ◌≢◌, ℕ, zero, suc, ◌+◌, ◌*◌, ◌<◌, ◌≤◌, inl, inr, Bool, true, false, not, ◌&&◌, ◌||◌, if◌then◌else◌, List, [], ◌∷◌, ◌++◌, length, get_or, Option, Some, None, refl, ap, sym, ◌∙◌, subst, arith}
+use Rattle.std.proofs.Common.{◌≡◌, ◌≢◌, ℕ, zero, suc, ◌+◌, ◌*◌, ◌<◌, ◌≤◌, inl, inr, Bool, true, false, not, ◌&&◌, ◌||◌, if◌then◌else◌, List, [], ◌∷◌, length, get_or, Option, Some, None, refl, ap, sym, ◌∙◌, subst, arith}
 use Rattle.std.specs.Prelude.{◌==◌, nat_lt}
 use Rattle.std.specs.List.{list_all}
 use Rattle.std.specs.Option.{unwrap_or}
 use Rattle.std.proofs.Math.Nat.{mul-le-mul_right}
-use Rattle.std.proofs.lemmas.Bool.{and_parts, and_from, cases_Bool, cases_eq, eq-eqb, eqb-true, leb-true, ltb-true, ne_eqb, not_from_false, or_left, or_right}
+use Rattle.std.proofs.lemmas.Bool.{and_parts, and_from, cases_Bool, cases_eq, eq-eqb, eqb-true, ltb-true, ne_eqb, not_from_false, or_left, or_right}
 use Rattle.lock_modes.specs.declared.hold.Hold.{Hold}
 use Rattle.lock_modes.specs.declared.lock_step.LockStep.TheVariants.{Modes}
 use Rattle.lock_modes.specs.declared.mode_step.ModeStep.TheVariants.{Acquire}
 use Rattle.lock_modes.specs.Holds.{no_hold}
 use Rattle.lock_modes.specs.Kind.{is_reentrant}
-use Rattle.lock_modes.specs.Modes.{admits, readers, tokens}
+use Rattle.lock_modes.specs.Modes.{admits, tokens}
 use Rattle.lock_plan.specs.declared.lock.PlanLock.{PlanLock}
 use Rattle.lock_plan.specs.declared.program.Act.{Act}
 use Rattle.lock_plan.specs.declared.program.Act.TheVariants.{Call}
@@ -25,58 +25,10 @@ use Rattle.lock_plan_laws.proofs.OrderChecks.{covered_at, covers_place}
 use Rattle.lock_plan_laws.proofs.WaitRanks.{never_deadlock}
 use Rattle.lock_plan_order.specs.declared.setting.Setting.{Setting}
 use Rattle.lock_plan_order.specs.declared.wait_place.WaitPlace.{WaitPlace}
-use Rattle.lock_plan_order.specs.LockOrders.{AreCovered, AreKnown, AreRuns, AreStrict, IsWithoutCircle, reads_at_most}
-use Rattle.lock_plan_order.specs.WaitChecks.{added, are_ranked, are_together, are_two, holds_at, holds_some, is_below_all, is_same, known_in, may_be_held_up, meet_from, rank_at, rises, wait_at, waits_after, waits_of}
+use Rattle.lock_plan_order.specs.LockOrders.{AreCovered, AreKnown, AreRuns, AreStrict, IsWithoutCircle}
+use Rattle.lock_plan_order.specs.WaitChecks.{are_ranked, are_together, are_two, holds_at, holds_some, is_below_all, is_same, known_in, may_be_held_up, meet_from, rank_at, rises, wait_at, waits_of}
 use Rattle.lock_plan_order.proofs.LockOrders.{as_many, known_at_program}
-
--- a test of reads
-reads_few : (lock most : ℕ) (hs : List Hold) → reads_at_most lock most (Some hs) ≡ true → readers (get_or hs lock no_hold).bag ≤ most
-reads_few lock most hs e = leb-true (readers (get_or hs lock no_hold).bag) most e
-
--- What all waits have, each has
-
-all_parts : (f : WaitPlace → Bool) (xs ys : List WaitPlace) → list_all f (xs ++ ys) ≡ true → (list_all f xs ≡ true) × (list_all f ys ≡ true)
-all_parts f [] ys e = (refl, e)
-all_parts f (x ∷ xs) ys e =
-    let two = and_parts (f x) (list_all f (xs ++ ys)) e in
-    let rest = all_parts f xs ys two.1 in
-    (and_from (f x) (list_all f xs) two.0 rest.0, rest.1)
-
-module _ (f : WaitPlace → Bool) where
-  added_parts : (waits : List WaitPlace) (o : Option WaitPlace) → list_all f (added waits o) ≡ true
-      → (list_all f waits ≡ true) × ((x : WaitPlace) → o ≡ Some x → f x ≡ true)
-  added_parts waits None e = (e, λ x is. cc)
-  added_parts waits (Some wait) e =
-      let two = all_parts f waits (wait ∷ []) e in
-      (two.0, λ x is. let same : wait ≡ x = cc in ap f (sym same) ∙ (and_parts (f wait) true two.1).0)
-
-  in_program : (before : List WaitPlace) (number : ℕ) (program : List ProgramPlace) (known : Known) (n : ℕ)
-      → list_all f (waits_after before number program known n) ≡ true
-      → (list_all f before ≡ true)
-      × ((place : ℕ) (x : WaitPlace) → place < n → wait_at number place (act_in program place) (known_at known place) ≡ Some x → f x ≡ true)
-  in_program before number program known zero e = (e, λ place x lt is. absurd (omega (arith, lt)))
-  in_program before number program known (suc n) e =
-      let two = added_parts (waits_after before number program known n) (wait_at number n (act_in program n) (known_at known n)) e in
-      let rest = in_program before number program known n two.0 in (
-        rest.0,
-        λ place x lt is. elim (cases_eq place n) [
-          | inl same ↦ two.1 x (ap (λ (i : ℕ). wait_at number i (act_in program i) (known_at known i)) (sym same) ∙ is)
-          | inr other ↦ rest.1 place x (omega (arith, lt, other)) is
-        ],
-      )
-
-  in_programs : (programs : List (List ProgramPlace)) (known : List Known) (n : ℕ) → list_all f (waits_of programs known n) ≡ true
-      → (number place : ℕ) (x : WaitPlace) → number < n → place < length (get_or known number [])
-      → wait_at number place (act_in (get_or programs number []) place) (known_at (get_or known number []) place) ≡ Some x → f x ≡ true
-  in_programs programs known zero e number place x lt below is = absurd (omega (arith, lt))
-  in_programs programs known (suc n) e number place x lt below is =
-      let two = in_program (waits_of programs known n) n (get_or programs n []) (get_or known n []) (length (get_or known n [])) e in
-      elim (cases_eq number n) [
-        | inl same ↦
-            two.1 place x (subst (λ (i : ℕ). place < length (get_or known i [])) same below)
-            (ap (λ (i : ℕ). wait_at i place (act_in (get_or programs i []) place) (known_at (get_or known i []) place)) (sym same) ∙ is)
-        | inr other ↦ in_programs programs known n two.0 number place x (omega (arith, lt, other)) below is
-      ]
+use Rattle.lock_plan_order.proofs.WaitLists.{in_programs}
 
 -- what is known of a place is known of one of the places
 known_below : (known : Known) (place : ℕ) (holds : List Hold) → known_at known place ≡ Some holds → place < length known
@@ -114,7 +66,7 @@ rises_by false m n is e = cc
 
 module _ (s : Setting) (programs : List (List ProgramPlace)) (ranks : List (List ℕ)) (waits : List WaitPlace)
     (told : AreKnown s.locks.now programs (known_in s)) (strict : AreStrict s.locks.now s.many.now (known_in s) s.strict.now)
-    (are_all : waits ≡ waits_of programs (known_in s) (length programs))
+    (are_all : waits ≡ waits_of programs (known_in s))
     (fit : fit_machines s.locks.now ≡ true) (covered : AreCovered programs (known_in s)) (ranked : are_ranked s ranks waits ≡ true)
     (parties : List (List ProgramPlace)) (runs : ℕ → ℕ) (are : AreRuns programs s.many.now parties runs) where
   abbrev locks : List PlanLock
@@ -162,7 +114,7 @@ module _ (s : Setting) (programs : List (List ProgramPlace)) (ranks : List (List
   among : (f : WaitPlace → Bool) → list_all f waits ≡ true → (x : Wait) → IsWaitOf parties Known_of x → holds_some x.holds ≡ true → f (place_of x) ≡ true
   among f e x is some =
       let of = are.each x.party is.within in
-      in_programs f programs (known_in s) (length programs) (ap (list_all f) (sym are_all) ∙ e) (runs x.party) x.place (place_of x) of.0
+      in_programs f programs (known_in s) (ap (list_all f) (sym are_all) ∙ e) (runs x.party) x.place (place_of x) of.0
       (known_below (Known_of x.party) x.place x.holds is.is) (found x is some)
 
   -- two parties at the waits
@@ -237,17 +189,20 @@ module _ (s : Setting) (programs : List (List ProgramPlace)) (ranks : List (List
             omega (arith, there, here, at)
       ]
 
-  lenient : (lock : ℕ) → lock < length locks → is_strict lock ≡ false → IsLenient locks parties Known_of lock
+  lenient : (lock : ℕ) → lock < length locks → is_strict lock ≡ false → IsLenient (get_or locks lock no_lock) (length parties) Known_of lock
   lenient lock lt plain =
-      let k = strict lock lt plain in
-      let fewer = are.few k.none_many in
-      let more : length parties * k.most ≤ length (known_in s) * k.most = mul-le-mul_right k.most (omega (arith, fewer, as_many locks programs (known_in s) told)) in
+      let among_them = strict lock lt plain in
+      let k = among_them.1 in
+      let fewer = are.few among_them.0 in
+      let as_long = as_many locks programs (known_in s) told in
+      let more : length parties * k.most ≤ length (known_in s) * k.most = mul-le-mul_right k.most (omega (arith, fewer, as_long)) in
       record {
         no_line = k.no_line;
         no_bar = k.no_bar;
         most = k.most;
         each = λ p place hs below is.
-            reads_few lock k.most hs (ap (reads_at_most lock k.most) (sym is) ∙ k.each (runs p) place);
+            let of = are.each p below in
+            k.each (runs p) place hs (omega (arith, of.0, as_long)) is;
         room = omega (arith, more, k.room);
       }
 
@@ -265,7 +220,7 @@ module _ (s : Setting) (programs : List (List ProgramPlace)) (ranks : List (List
 
 pub without_circle : (s : Setting) (programs : List (List ProgramPlace)) (ranks : List (List ℕ)) (waits : List WaitPlace)
     → AreKnown s.locks.now programs (known_in s) → AreStrict s.locks.now s.many.now (known_in s) s.strict.now
-    → waits ≡ waits_of programs (known_in s) (length programs) → fit_machines s.locks.now ≡ true → AreCovered programs (known_in s)
+    → waits ≡ waits_of programs (known_in s) → fit_machines s.locks.now ≡ true → AreCovered programs (known_in s)
     → are_ranked s ranks waits ≡ true → IsWithoutCircle s.locks.now programs s.many.now
 without_circle s programs ranks waits told strict are_all fit covered ranked servers parties runs are =
     never_deadlock (rank s programs ranks waits told strict are_all fit covered ranked parties runs are)

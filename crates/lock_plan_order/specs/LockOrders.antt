@@ -1,5 +1,5 @@
 -- What a look for an order finds, whatever parties run the programs.
-use Rattle.std.specs.Prelude.{◌≡◌, ◌≢◌, ℕ, ◌*◌, ◌<◌, ◌≤◌, ◌==◌, Bool, true, false, not, ◌&&◌, ⊤, List, [], length, map, Option, option_map, Some, None, Ok, nat_le, nat_lt, Vec}
+use Rattle.std.specs.Prelude.{◌≡◌, ◌≢◌, ℕ, ◌<◌, ◌≤◌, ◌==◌, Bool, true, false, not, ◌&&◌, ⊤, List, [], length, map, Option, option_map, Some, None, Ok, nat_le, nat_lt, Vec}
 use Rattle.std.specs.Global.{Global}
 use Rattle.std.specs.List.{list_all, list_any, position}
 use Rattle.std.specs.Option.{unwrap_or}
@@ -11,10 +11,11 @@ use Rattle.lock_modes.specs.Modes.{readers}
 use Rattle.lock_plan.specs.declared.lock.PlanLock.{PlanLock}
 use Rattle.lock_plan.specs.declared.program.ProgramPlace.{ProgramPlace}
 use Rattle.lock_plan.specs.Circles.{NeverDeadlocks}
-use Rattle.lock_plan.specs.Known.{Known, known_at, known_of}
+use Rattle.lock_plan.specs.Known.{Known, known_of}
 use Rattle.lock_plan.specs.Worlds.{no_lock}
 use Rattle.lock_plan_laws.specs.OrderChecks.{covers_from, keeps_from}
 use Rattle.lock_plan_laws.specs.Ranks.{IsOrderedPlan}
+use Rattle.lock_plan_laws.specs.WaitRanks.{IsLenient}
 use Rattle.lock_plan_order.specs.declared.lock_order.LockOrder.{LockOrder}
 use Rattle.lock_plan_order.specs.declared.lock_order.LockOrder.TheVariants.{Kept, NoCircle, Broken}
 
@@ -75,14 +76,10 @@ reads_at_most lock most (Some holds) = nat_le (readers (get_or holds lock no_hol
 abbrev pub is_plain : PlanLock → List Bool → Bool
 is_plain lock many = (not lock.fair && (not lock.bar && (nat_lt 0 lock.limit && not (list_any (λ b. b) many))))
 
--- the lock with this number refuses no mode by a line, a bar, or the number of its readers
-pub record IsLenientAmong (lock : PlanLock) (many : List Bool) (known : List Known) (number : ℕ) : Type 0 where
-  pub no_line : lock.fair ≡ false
-  pub no_bar : lock.bar ≡ false
-  pub none_many : list_any (λ b. b) many ≡ false
-  pub most : ℕ
-  pub each : (program place : ℕ) → reads_at_most number most (known_at (get_or known program []) place) ≡ true
-  pub room : length known * most < lock.limit
+-- no program is run by any number of parties, and the lock with this number is lenient for one party of each program
+abbrev pub IsLenientAmong : PlanLock → List Bool → List Known → ℕ → Type 0
+IsLenientAmong lock many known number =
+    (list_any (λ b. b) many ≡ false) × IsLenient lock (length known) (λ program. get_or known program []) number
 
 -- each lock that is not marked as strict is lenient
 abbrev pub AreStrict : List PlanLock → List Bool → List Known → List Bool → Type 0

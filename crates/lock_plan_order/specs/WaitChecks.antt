@@ -1,6 +1,6 @@
 -- The test of ranks of waits: programs, what is known of each, and a rank for each wait.
-use Rattle.std.specs.Prelude.{ℕ, zero, suc, ◌+◌, Bool, true, false, not, ◌&&◌, ◌||◌, ◌==◌, nat_lt, if◌then◌else◌, List, [], ◌∷◌, ◌++◌, length, map, Option, Some, None}
-use Rattle.std.specs.List.{list_all}
+use Rattle.std.specs.Prelude.{ℕ, ◌+◌, Bool, true, false, not, ◌&&◌, ◌||◌, ◌==◌, nat_lt, if◌then◌else◌, List, [], ◌∷◌, length, map, Option, Some, None}
+use Rattle.std.specs.List.{filter_map, flat_map, list_all, range_with_len}
 use Rattle.std.specs.Option.{unwrap_or}
 use Rattle.std.proofs.Common.{get_or}
 use Rattle.lock_modes.specs.declared.hold.Hold.{Hold}
@@ -39,21 +39,21 @@ abbrev pub wait_at : ℕ → ℕ → Option Act → Option (List Hold) → Optio
 wait_at program place here None = None
 wait_at program place here (Some holds) = if holds_some holds then wait_of program place here else None
 
-abbrev pub added : List WaitPlace → Option WaitPlace → List WaitPlace
-added waits None = waits
-added waits (Some wait) = waits ++ wait ∷ []
+-- the wait at this place of a program
+abbrev pub wait_in : ℕ → List ProgramPlace → Known → ℕ → Option WaitPlace
+wait_in number program known place = wait_at number place (act_in program place) (known_at known place)
 
--- the waits at the first so many places of a program, after these ones
-abbrev pub waits_after : List WaitPlace → ℕ → List ProgramPlace → Known → ℕ → List WaitPlace
-waits_after before number program known zero = before
-waits_after before number program known (suc place) =
-    added (waits_after before number program known place) (wait_at number place (act_in program place) (known_at known place))
+-- the waits of a program, place by place
+abbrev pub waits_in : ℕ → List ProgramPlace → Known → List WaitPlace
+waits_in number program known = filter_map (wait_in number program known) (range_with_len 0 (length known))
 
--- the waits of the first so many programs
-abbrev pub waits_of : List (List ProgramPlace) → List Known → ℕ → List WaitPlace
-waits_of programs known zero = []
-waits_of programs known (suc number) =
-    waits_after (waits_of programs known number) number (get_or programs number []) (get_or known number []) (length (get_or known number []))
+-- the waits of the program with this number
+abbrev pub numbered_waits : List (List ProgramPlace) → List Known → ℕ → List WaitPlace
+numbered_waits programs known number = waits_in number (get_or programs number []) (get_or known number [])
+
+-- the waits of all programs
+abbrev pub waits_of : List (List ProgramPlace) → List Known → List WaitPlace
+waits_of programs known = flat_map (numbered_waits programs known) (range_with_len 0 (length programs))
 
 -- what a party holds at a place, if that is known
 abbrev pub holds_at : List Known → ℕ → ℕ → List Hold

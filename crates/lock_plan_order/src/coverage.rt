@@ -8,7 +8,7 @@ ghost use Rattle.lock_plan_laws.specs.OrderChecks.{covers, covers_at, covers_fro
 ghost use Rattle.lock_plan_laws.specs.Ranks.{is_ranked_step};
 ghost use Rattle.lock_plan_order.specs.LockOrders.{AreCovered, held_in};
 
-use crate::ranks::{are_free, held_of, program_of};
+use crate::lookups::{are_free, held_of, program_of};
 use lock_modes::{Hold, LockStep, Mode, ModeStep};
 use lock_plan::{Act, Block, PlanLock, ProgramPlace, act_in};
 

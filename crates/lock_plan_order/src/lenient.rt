@@ -5,7 +5,7 @@ ghost use Rattle.std.specs.List.{list_all, list_any};
 ghost use Rattle.lock_modes.specs.Modes.{readers};
 ghost use Rattle.lock_plan_order.specs.LockOrders.{AreStrict, IsLenientAmong, held_in, is_plain, reads_at_most};
 
-use crate::ranks::{bag_of, lock_at};
+use crate::lookups::{bag_of, lock_at};
 use lock_modes::{Bag, Hold};
 use lock_plan::PlanLock;
 use std::alloc::{AllocError, Global};

@@ -7,7 +7,7 @@ ghost use Rattle.lock_plan_laws.specs.OrderChecks.{goes_up, is_above, is_below, 
 ghost use Rattle.lock_plan_order.specs.LockOrders.{AreKept, AreKnown, IsKept, held_in, none_reentrant, rank_in};
 
 use crate::coverage::{covers_at, fit_machines};
-use crate::ranks::{held_of, is_free, program_of};
+use crate::lookups::{held_of, is_free, program_of};
 use lock_modes::{Hold, LockStep, ModeStep};
 use lock_plan::{Act, PlanLock, ProgramPlace, act_in};
 

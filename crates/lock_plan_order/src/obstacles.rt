@@ -1,7 +1,7 @@
 //! Where an order of the locks says nothing of a plan. No proof rests on these functions.
 use crate::coverage::covers_act;
 use crate::lock_order::Obstacle;
-use crate::ranks::is_free;
+use crate::lookups::is_free;
 use lock_modes::Hold;
 use lock_plan::{Act, PlanLock, ProgramPlace, Signal};
 use std::alloc::AllocError;

@@ -2,6 +2,7 @@
 ghost use Rattle.std.specs.Prelude.{◌≡◌, map, not, option_map, Ok, IfErr, IfOk, IsTrue};
 ghost use Rattle.lock_plan.specs.Checks.{IsFault, parties_fault};
 ghost use Rattle.lock_plan_order.specs.LockOrders.{AreKnown, IsLockOrder, held_in};
+ghost use Rattle.lock_plan_order.specs.WaitChecks.{waits_of as all_waits};
 
 use crate::circle::Ranking;
 use crate::held_waits::{held_waits, sorted};
@@ -10,6 +11,7 @@ use crate::lock_order::{LockOrder, Obstacle};
 use crate::lock_ranks::is_kept;
 use crate::obstacles::add_obstacles;
 use crate::setting::Setting;
+use crate::wait_place::WaitPlace;
 use crate::wait_ranks::{has_no_circle, waits_of};
 use lock_modes::Hold;
 use lock_plan::{PlanFault, PlanLock, ProgramPlace, known_holds};
@@ -74,12 +76,13 @@ fn order_of(
     requires { AreKnown locks.now (map (λ v. v.items) programs.now) (map held_in known.now) }
     ensures { IfOk result (IsLockOrder locks.now (map (λ v. v.items) programs.now) many.now) }
 {
-    let held = held_waits(alloc, locks, programs, known)?;
+    let waits = waits_of(alloc, programs, known)?;
+    let held = held_waits(alloc, known, waits.as_slice())?;
     let order = sorted(alloc, locks.len(), held.as_slice())?;
     if is_kept(order.as_slice(), locks, programs, known) {
         return Ok(LockOrder::Kept(order));
     }
-    by_waits(alloc, locks, programs, many, known)
+    by_waits(alloc, locks, programs, many, known, waits.as_slice())
 }
 
 /// Returns whether the waits make no circle, or what is in the way.
@@ -89,8 +92,10 @@ fn by_waits(
     programs: &[Vec<ProgramPlace>],
     many: &[bool],
     known: &[Vec<Option<Vec<Hold>>>],
+    waits: &[WaitPlace],
 ) -> Result<LockOrder, AllocError>
-    requires { AreKnown locks.now (map (λ v. v.items) programs.now) (map held_in known.now) }
+    requires waits { waits.now ≡ all_waits (map (λ v. v.items) programs.now) (map held_in known.now) }
+    requires known { AreKnown locks.now (map (λ v. v.items) programs.now) (map held_in known.now) }
     ensures { IfOk result (IsLockOrder locks.now (map (λ v. v.items) programs.now) many.now) }
 {
     let strict = strict_locks(alloc, locks, many, known)?;
@@ -100,21 +105,15 @@ fn by_waits(
         many,
         known,
     };
-    let waits = waits_of(alloc, programs, known)?;
     let mut found = Vec::new(alloc);
     if waits.len() > MOST_WAITS {
         found.push(Obstacle::TooManyWaits)?;
     } else {
-        let ranking = Ranking::of(alloc, setting, waits.as_slice())?;
-        if has_no_circle(
-            setting,
-            programs,
-            ranking.ranks.as_slice(),
-            waits.as_slice(),
-        ) {
+        let ranking = Ranking::of(alloc, setting, waits)?;
+        if has_no_circle(setting, programs, ranking.ranks.as_slice(), waits) {
             return Ok(LockOrder::NoCircle);
         }
-        ranking.add_circle(alloc, setting, waits.as_slice(), &mut found)?;
+        ranking.add_circle(alloc, setting, waits, &mut found)?;
     }
     add_obstacles(&mut found, locks, programs, known)?;
     Ok(LockOrder::Broken(found))

@@ -8,7 +8,7 @@ ghost use Rattle.lock_plan_laws.specs.WaitRanks.{excludes, is_sole, may_hold_up}
 ghost use Rattle.lock_plan_order.specs.LockOrders.{held_in};
 ghost use Rattle.lock_plan_order.specs.WaitChecks.{are_together, are_two, holds_at, is_same, known_in, may_be_held_up, meet_from};
 
-use crate::ranks::{bag_of, held_of, is_held, lock_at};
+use crate::lookups::{bag_of, holds_at, is_held, lock_at};
 use crate::wait_place::WaitPlace;
 use lock_modes::{Bag, Hold, Mode};
 use lock_plan::PlanLock;
@@ -30,7 +30,7 @@ impl Setting<'_> {
     pub(crate) fn may_be_held_up(self, x: WaitPlace, y: WaitPlace) -> bool
         ensures { result ≡ may_be_held_up self.entry x y }
     {
-        let bag = bag_of(self.holds_at(y.program, y.place), x.lock);
+        let bag = bag_of(holds_at(self.known, y.program, y.place), x.lock);
         let limit = lock_at(self.locks, x.lock).limit;
         may_hold_up(is_strict(self.strict, x.lock), limit, x.mode, bag) && self.are_together(x, y)
     }
@@ -42,20 +42,10 @@ impl Setting<'_> {
         let can_be_two = are_two(self.many, x, y)
             && meet_from(
                 self.locks,
-                self.holds_at(x.program, x.place),
-                self.holds_at(y.program, y.place),
+                holds_at(self.known, x.program, x.place),
+                holds_at(self.known, y.program, y.place),
             );
         can_be_two || (is_same(x, y) && !lock_at(self.locks, x.lock).kind.is_reentrant())
-    }
-
-    /// Returns what a party holds at a place, or nothing if that is not known.
-    fn holds_at(&self, program: usize, place: usize) -> &[Hold]
-        ensures { result.now ≡ holds_at (known_in self.now) program place }
-    {
-        match held_of(self.known, program).get(place) {
-            Some(Some(holds)) => holds.as_slice(),
-            _ => &[],
-        }
     }
 }
 

@@ -4,7 +4,7 @@ ghost use Rattle.std.specs.List.{list_all};
 ghost use Rattle.lock_modes.specs.Modes.{tokens};
 ghost use Rattle.lock_plan_order.specs.WaitChecks.{holds_some, wait_at, wait_by, wait_of};
 
-use crate::ranks::are_free;
+use crate::lookups::are_free;
 use lock_modes::{Hold, LockStep, Mode, ModeStep};
 use lock_plan::Act;
 

@@ -1,12 +1,12 @@
 //! Whether the waits of programs have ranks, each below those that may hold it up.
-ghost use Rattle.std.specs.Prelude.{◌≡◌, ◌&&◌, [], length, map, nat_lt, not, option_map, IfOk, IsTrue, OnOk};
+ghost use Rattle.std.specs.Prelude.{◌≡◌, ◌&&◌, ◌++◌, [], map, nat_lt, not, option_map, IfOk, IsTrue, OnOk};
 ghost use Rattle.std.proofs.Common.{get_or};
 ghost use Rattle.std.specs.List.{list_all};
 ghost use Rattle.lock_plan_order.specs.LockOrders.{AreKnown, AreStrict, IsWithoutCircle, held_in};
-ghost use Rattle.lock_plan_order.specs.WaitChecks.{are_ranked, is_below_all, known_in, rank_at, rises, waits_after, waits_of as all_waits};
+ghost use Rattle.lock_plan_order.specs.WaitChecks.{are_ranked, is_below_all, known_in, rank_at, rises, waits_in, waits_of as all_waits};
 
 use crate::coverage::{are_covered, fit_machines};
-use crate::ranks::{held_of, program_of};
+use crate::lookups::{held_of, program_of};
 use crate::setting::Setting;
 use crate::wait_place::WaitPlace;
 use lock_modes::Hold;
@@ -19,8 +19,7 @@ pub(crate) fn waits_of(
     programs: &[Vec<ProgramPlace>],
     known: &[Vec<Option<Vec<Hold>>>],
 ) -> Result<Vec<WaitPlace>, AllocError>
-    ensures { IfOk result (λ waits. waits.items
-        ≡ all_waits (map (λ v. v.items) programs.now) (map held_in known.now) (length programs.now)) }
+    ensures { IfOk result (λ waits. waits.items ≡ all_waits (map (λ v. v.items) programs.now) (map held_in known.now)) }
 {
     let mut waits = Vec::new(alloc);
     for number in 0..programs.len() {
@@ -41,8 +40,7 @@ fn add_waits(
     program: &[ProgramPlace],
     known: &[Option<Vec<Hold>>],
 ) -> Result<(), AllocError>
-    ensures { OnOk result (waits.new.items
-        ≡ waits_after waits.old.items number program.now (map (option_map (λ v. v.items)) known.now) (length known.now)) }
+    ensures { OnOk result (waits.new.items ≡ waits.old.items ++ waits_in number program.now (map (option_map (λ v. v.items)) known.now)) }
 {
     for place in 0..known.len() {
         if let Some(wait) = WaitPlace::at(number, place, act_in(program, place), &known[place]) {
@@ -61,7 +59,7 @@ pub(crate) fn has_no_circle(
 ) -> bool
     requires known { AreKnown setting.locks.now (map (λ v. v.items) programs.now) (known_in setting) }
     requires strict { AreStrict setting.locks.now setting.many.now (known_in setting) setting.strict.now }
-    requires waits { waits.now ≡ all_waits (map (λ v. v.items) programs.now) (known_in setting) (length programs.now) }
+    requires waits { waits.now ≡ all_waits (map (λ v. v.items) programs.now) (known_in setting) }
     ensures { IsTrue result → IsWithoutCircle setting.entry.locks.now (map (λ v. v.items) programs.now) setting.entry.many.now }
 {
     if !fit_machines(setting.locks) || !are_covered(programs, setting.known) {

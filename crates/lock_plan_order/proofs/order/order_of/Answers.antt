@@ -4,4 +4,4 @@ use Rattle.lock_plan_order.proofs.order.order_of.Goals as goal
 
 pub returns-then-is_kept : goal.returns-then-is_kept
 returns-then-is_kept c =
-    subst (IsKept c.args.locks.now (map (λ v. v.items) c.args.programs.now)) c.as_slice-2.ensures.value (c.is_kept.ensures c.if-is_kept.true)
+    subst (IsKept c.args.locks.now (map (λ v. v.items) c.args.programs.now)) c.as_slice-3.ensures.value (c.is_kept.ensures c.if-is_kept.true)

@@ -1,4 +1,4 @@
-//! What the tests of ranks read: programs, holds, and bags, by number.
+//! Programs, locks and holds by number, and whether something is held.
 ghost use Rattle.std.specs.Prelude.{◌≡◌, ◌==◌, [], map, not, nat_lt, option_map};
 ghost use Rattle.std.proofs.Common.{get_or};
 ghost use Rattle.std.specs.List.{list_all};
@@ -6,6 +6,7 @@ ghost use Rattle.lock_modes.specs.Holds.{no_hold};
 ghost use Rattle.lock_modes.specs.Modes.{tokens};
 ghost use Rattle.lock_plan.specs.Worlds.{no_lock};
 ghost use Rattle.lock_plan_order.specs.LockOrders.{held_in};
+ghost use Rattle.lock_plan_order.specs.WaitChecks.{holds_at};
 
 use lock_modes::{Bag, Hold, Kind};
 use lock_plan::{PlanLock, ProgramPlace};
@@ -27,6 +28,16 @@ pub(crate) fn held_of(known: &[Vec<Option<Vec<Hold>>>], number: usize) -> &[Opti
     match known.get(number) {
         Some(held) => held.as_slice(),
         None => &[],
+    }
+}
+
+/// Returns what a party with a program holds at a place, or nothing if that is not known.
+pub(crate) fn holds_at(known: &[Vec<Option<Vec<Hold>>>], program: usize, place: usize) -> &[Hold]
+    ensures { result.now ≡ holds_at (map held_in known.now) program place }
+{
+    match held_of(known, program).get(place) {
+        Some(Some(holds)) => holds.as_slice(),
+        _ => &[],
     }
 }
 
