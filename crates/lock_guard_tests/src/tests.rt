@@ -1,16 +1,9 @@
 //! What no contract and no script of `conform/` says of these locks.
 mod arc;
-mod condition_loop;
-mod condvar;
-mod mutex;
-mod remutex;
+mod gated;
 mod rwlock;
-mod texts;
 
-use lock_raws::{Monitor, NoTime, TableArbiter, WordCore};
-
-/// The core of the raw lock over a table.
-type Table = Monitor<TableArbiter, HostRuntime>;
-
-/// The core of the raw lock on a word.
-type Word = WordCore<HostRuntime, NoTime>;
+/// Whether a try gave no guard.
+fn is_refused<G: Drop>(guard: Option<G>) -> bool {
+    guard.is_none()
+}

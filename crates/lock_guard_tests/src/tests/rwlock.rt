@@ -7,13 +7,12 @@ mod texts;
 mod threads;
 mod upgrades;
 
-use crate::tests::Table;
 use lock_modes::Fault;
-use lock_raws::{LockCore, RawLock};
+use lock_raws::TokenRaw;
 use lock_rwlock::RwLock;
 use lock_test_support::answer::equal;
 use lock_test_support::project::Nested;
-use lock_test_support::raw_lock::{CallWatch, Deadline, Recorder};
+use lock_test_support::raw_lock::{CallWatch, Recorder};
 use lock_traits::{RawRwLock, RawRwLockFair, RawRwLockUpgradeDowngrade, RawRwLockUpgradeTimed};
 use std::alloc::Global;
 use std::sync::Arc;
@@ -41,14 +40,22 @@ where
         + RawRwLockUpgradeTimed<Duration = u64, Instant = u64>
         + Drop,
 {
-    texts::check_parts(alloc, &lock, &mut watch)?;
+    let [read, written] = texts::parts_print(alloc, &lock, &mut watch);
     raw_calls::check(&lock, &mut watch);
     *lock.get_mut() = ((5, 2), 1);
     let (raw, value) = lock.into_inner_with_raw();
     let value = RwLock::from_raw(raw, value)?.into_inner();
     watch.saw(&[]);
     watch.verdict()?;
-    equal(value, ((5, 2), 1))
+    let shown = [
+        ("MappedRwLockReadGuard", read),
+        ("MappedRwLockWriteGuard", written),
+    ];
+    let wanted = [
+        ("MappedRwLockReadGuard", true),
+        ("MappedRwLockWriteGuard", true),
+    ];
+    equal((shown, value), (wanted, ((5, 2), 1)))
 }
 
 /// Guards of a number, `Arc` guards among them, and the end of the last reference.
@@ -68,22 +75,12 @@ where
     watch.verdict()
 }
 
-fn check<C: LockCore>(alloc: Global, waiters: ([C::Waiter; 4], [C::Waiter; 2])) -> Result<(), Fail>
-where
-    C::Duration: Default,
-    C::Instant: Deadline<C::Waiter>,
-{
-    let (of_makers, [first, last]) = waiters;
-    makers::check::<RawLock<C>>(alloc, of_makers)?;
-    check_pair(
-        alloc,
-        watched::<RawLock<C>, Nested>(alloc, first, ((0, 0), 5))?,
-    )?;
-    check_number(alloc, watched::<RawLock<C>, u64>(alloc, last, 5)?)
-}
-
 /// One test: each function that names the raw lock would have to be proved anew.
 #[test]
 fn guards_on_one_thread(rt: HostRuntime) -> Result<(), Fail> {
-    check::<Table>(rt.alloc(), ([rt; 4], [rt; 2]))
+    let alloc = rt.alloc();
+    makers::check::<TokenRaw<HostRuntime>>(alloc, [rt; 4])?;
+    let pair = watched::<TokenRaw<HostRuntime>, Nested>(alloc, rt, ((0, 0), 5))?;
+    check_pair(alloc, pair)?;
+    check_number(alloc, watched::<TokenRaw<HostRuntime>, u64>(alloc, rt, 5)?)
 }

@@ -1,8 +1,7 @@
 //! Each acquisition of a free lock by a guard that owns a reference to it.
-use crate::tests::Table;
 use lock_modes::{Fault, PartyId};
 use lock_mutex::Mutex;
-use lock_raws::{LockCore, RawLock};
+use lock_raws::TokenRaw;
 use lock_remutex::ReentrantMutex;
 use lock_rwlock::RwLock;
 use lock_test_support::answer::equal;
@@ -128,20 +127,9 @@ where
     equal(ended, [FREED; 4])
 }
 
-fn check<C: LockCore<Duration = (), Instant = ()>>(
-    alloc: Global,
-    waiters: [C::Waiter; 3],
-) -> Result<(), Fail>
-where
-    C::Token: Send,
-{
-    let [first, second, third] = waiters;
-    check_mutex::<RawLock<C>>(alloc, first)?;
-    check_rwlock::<RawLock<C>>(alloc, second)?;
-    check_reentrant_mutex::<RawLock<C>>(alloc, third, party(1)?)
-}
-
 #[test]
 fn each_acquisition_by_an_arc_ends_free(rt: HostRuntime) -> Result<(), Fail> {
-    check::<Table>(rt.alloc(), [rt; 3])
+    check_mutex::<TokenRaw<HostRuntime>>(rt.alloc(), rt)?;
+    check_rwlock::<TokenRaw<HostRuntime>>(rt.alloc(), rt)?;
+    check_reentrant_mutex::<TokenRaw<HostRuntime>>(rt.alloc(), rt, party(1)?)
 }

@@ -1,8 +1,8 @@
 //! A guard returns its own lock.
-use crate::tests::Table;
+use crate::tests::is_refused;
 use lock_modes::{Fault, PartyId};
 use lock_mutex::{ArcMutexGuard, Mutex};
-use lock_raws::{LockCore, RawLock};
+use lock_raws::TokenRaw;
 use lock_remutex::{ArcReentrantMutexGuard, ReentrantMutex};
 use lock_rwlock::{ArcRwLockGuard, FairMode, RwLock};
 use lock_test_support::answer::equal;
@@ -18,7 +18,7 @@ fn refuses_beside<R: RawMutex + Drop>(
     tried: &Arc<Mutex<R, u64>>,
 ) -> bool {
     let _guard = held.lock();
-    tried.try_lock().is_none()
+    is_refused(tried.try_lock())
 }
 
 /// By `into_arc` and by `into_arc_fair`.
@@ -36,49 +36,53 @@ type Owned<R> = Arc<RwLock<R, u64>>;
 /// Whether the second lock refuses a reader while the first is held by a writer.
 fn refuses_readers<R: RawRwLock + Drop>(held: Owned<R>, tried: &Owned<R>) -> bool {
     let _guard = held.write();
-    tried.try_read().is_none()
+    is_refused(tried.try_read())
 }
 
-/// Whether the guard, if there is one, returns the lock by `into_arc`.
+/// Whether the guard returns the lock, by `into_arc` or by `into_arc_fair`.
 fn returns<M: FairMode<R>, R: RawRwLock + Drop>(
     guard: Result<ArcRwLockGuard<M, R, u64>, Fault>,
     lock: &Owned<R>,
-) -> bool {
-    match guard {
-        Ok(guard) => refuses_readers(ArcRwLockGuard::into_arc(guard), lock),
-        Err(_) => false,
-    }
+    is_fair: bool,
+) -> Result<bool, Fault> {
+    let guard = guard?;
+    let own = if is_fair {
+        ArcRwLockGuard::into_arc_fair(guard)
+    } else {
+        ArcRwLockGuard::into_arc(guard)
+    };
+    Ok(refuses_readers(own, lock))
 }
 
-/// `returns`, by `into_arc_fair`.
-fn returns_fair<M: FairMode<R>, R: RawRwLock + Drop>(
-    guard: Result<ArcRwLockGuard<M, R, u64>, Fault>,
+/// `returns` of a reader, of a writer, and of an upgradable reader.
+fn returned_rwlocks<R: RawRwLockUpgradeFair + Drop>(
     lock: &Owned<R>,
-) -> bool {
-    match guard {
-        Ok(guard) => refuses_readers(ArcRwLockGuard::into_arc_fair(guard), lock),
-        Err(_) => false,
-    }
+    is_fair: bool,
+) -> Result<[bool; 3], Fault> {
+    Ok([
+        returns(RwLock::read_arc(lock), lock, is_fair)?,
+        returns(RwLock::write_arc(lock), lock, is_fair)?,
+        returns(RwLock::upgradable_read_arc(lock), lock, is_fair)?,
+    ])
 }
 
-/// By a reader, by a writer, and by an upgradable reader.
+/// By `into_arc` and by `into_arc_fair`.
 fn check_rwlock<R: RawRwLockUpgradeFair + Drop>(
     alloc: Global,
     waiter: R::Waiter,
 ) -> Result<(), Fail> {
     let lock: RwLock<R, u64> = RwLock::new(alloc, waiter, 0)?;
     let lock = Arc::new(alloc, lock)?;
-    let plain = [
-        returns(RwLock::read_arc(&lock), &lock),
-        returns(RwLock::write_arc(&lock), &lock),
-        returns(RwLock::upgradable_read_arc(&lock), &lock),
-    ];
-    let fair = [
-        returns_fair(RwLock::read_arc(&lock), &lock),
-        returns_fair(RwLock::write_arc(&lock), &lock),
-        returns_fair(RwLock::upgradable_read_arc(&lock), &lock),
-    ];
-    equal([plain, fair], [[true; 3]; 2])
+    let (plain, fair) = (
+        returned_rwlocks(&lock, false),
+        returned_rwlocks(&lock, true),
+    );
+    equal([plain, fair], [Ok([true; 3]); 2])
+}
+
+/// Whether a try gave no guard, for a party that may have more levels.
+fn is_refused_level<G: Drop>(tried: Result<Option<G>, Fault>) -> bool {
+    matches!(tried, Ok(None))
 }
 
 /// Whether the second lock refuses the second party while the first is held by the first.
@@ -88,7 +92,7 @@ fn refuses_the_other<R: RawMutex + Drop>(
     parties: (PartyId, PartyId),
 ) -> bool {
     let guard = held.lock(parties.0);
-    guard.is_ok() && matches!(tried.try_lock(parties.1), Ok(None))
+    guard.is_ok() && is_refused_level(tried.try_lock(parties.1))
 }
 
 /// By `into_arc` and by `into_arc_fair`.
@@ -115,18 +119,10 @@ where
     equal(returned_reentrant_mutexes(&lock, parties)?, [true; 2])
 }
 
-fn check<C: LockCore>(alloc: Global, waiters: [C::Waiter; 3]) -> Result<(), Fail>
-where
-    C::Token: Send,
-{
-    let [first, second, third] = waiters;
-    check_mutex::<RawLock<C>>(alloc, first)?;
-    check_rwlock::<RawLock<C>>(alloc, second)?;
-    check_reentrant_mutex::<RawLock<C>>(alloc, third, two_parties()?)
-}
-
 /// A lock that a guard returned refuses a try through the first reference while it is held.
 #[test]
 fn an_arc_guard_returns_its_own_lock(rt: HostRuntime) -> Result<(), Fail> {
-    check::<Table>(rt.alloc(), [rt; 3])
+    check_mutex::<TokenRaw<HostRuntime>>(rt.alloc(), rt)?;
+    check_rwlock::<TokenRaw<HostRuntime>>(rt.alloc(), rt)?;
+    check_reentrant_mutex::<TokenRaw<HostRuntime>>(rt.alloc(), rt, two_parties()?)
 }

@@ -1,8 +1,7 @@
 //! The makers of a lock.
-use crate::tests::Table;
 use lock_guard::forget;
 use lock_modes::Fault;
-use lock_raws::{LockCore, RawLock};
+use lock_raws::TokenRaw;
 use lock_rwlock::RwLock;
 use lock_test_support::answer::{answers_or_lacks_memory, equal};
 use lock_test_support::raw_lock::Recorder;
@@ -50,10 +49,13 @@ type Seen = (&'static str, bool, u64, u64);
 /// What a lock shows, and what it should.
 fn seen<R: RawRwLock + Drop>(made: Made<Recorder<R>>) -> (Result<Seen, Fault>, Seen) {
     let (name, lock, readers, value) = made;
-    let found = lock.map(|lock| {
-        let (raw, found) = lock.into_inner_with_raw();
-        (name, raw.has_no_calls(), readers_of_66(&raw), found)
-    });
+    let found = match lock {
+        Ok(lock) => {
+            let (raw, found) = lock.into_inner_with_raw();
+            Ok((name, raw.has_no_calls(), readers_of_66(&raw), found))
+        }
+        Err(fault) => Err(fault),
+    };
     (found, (name, true, readers, value))
 }
 
@@ -70,16 +72,20 @@ type Named = (&'static str, u64);
 /// A maker's name and the value of its lock, and what they should be.
 fn named<R: RawRwLock + Drop>(made: Made<R>) -> (Result<Named, Fault>, Named) {
     let (name, lock, _, value) = made;
-    (lock.map(|lock| (name, lock.into_inner())), (name, value))
+    let found = match lock {
+        Ok(lock) => Ok((name, lock.into_inner())),
+        Err(fault) => Err(fault),
+    };
+    (found, (name, value))
 }
 
 /// Checks that each maker gave a lock of its value, or that it lacked memory.
-fn check_all_or_lack<C: LockCore, E: Env>(
+fn check_all_or_lack<R: RawRwLock + Drop, E: Env>(
     rt: &E,
     alloc: Global,
-    waiters: [C::Waiter; 4],
+    waiters: [R::Waiter; 4],
 ) -> Result<(), Fail> {
-    let (new, from, default, with_readers) = made::<RawLock<C>>(alloc, waiters);
+    let (new, from, default, with_readers) = made::<R>(alloc, waiters);
     for (found, wanted) in [named(new), named(from), named(default), named(with_readers)] {
         answers_or_lacks_memory(rt, found, wanted)?;
     }
@@ -88,5 +94,5 @@ fn check_all_or_lack<C: LockCore, E: Env>(
 
 #[test]
 fn refused_memory_rwlock_makers(rt: HostRuntime) -> Result<(), Fail> {
-    check_all_or_lack::<Table, HostRuntime>(&rt, rt.alloc(), [rt; 4])
+    check_all_or_lack::<TokenRaw<HostRuntime>, HostRuntime>(&rt, rt.alloc(), [rt; 4])
 }

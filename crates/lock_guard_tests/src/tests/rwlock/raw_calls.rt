@@ -32,23 +32,48 @@ fn names<R: RawRwLock>(lock: &Paired<R>, watch: &mut CallWatch) {
     watch.saw_hold(writer, Exclusive);
 }
 
-/// A guard, which was just acquired in the mode, is mapped.
-fn map_and_hold<L: Mappable>(guard: RwLockGuard<L>, mode: Mode, watch: &mut CallWatch)
+/// A map of a guard, to the item at an index of the inner pair if it has one. A mapped guard is dropped, but for `MapEnd`.
+#[derive(Clone, Copy)]
+enum MapCall {
+    Map,
+    MapEnd,
+    TryMap(usize),
+    TryMapOrErr(usize),
+}
+
+/// Maps to an item that is there, and to one that is not.
+const MAPS: [MapCall; 6] = [
+    MapCall::Map,
+    MapCall::MapEnd,
+    MapCall::TryMap(1),
+    MapCall::TryMapOrErr(1),
+    MapCall::TryMap(2),
+    MapCall::TryMapOrErr(2),
+];
+
+/// Maps a guard, which was just acquired in the mode.
+fn watch_map<L: Mappable + AcquireFair>(
+    guard: RwLockGuard<L>,
+    call: MapCall,
+    mode: Mode,
+    watch: &mut CallWatch,
+)
 where
     L::Shown: ValueGuard<Value = Nested>,
 {
-    watch.saw_hold(RwLockGuard::map(guard, Item0), mode);
+    match call {
+        MapCall::Map => watch.saw_hold(RwLockGuard::map(guard, Item0), mode),
+        MapCall::MapEnd => watch_fair_end(RwLockGuard::map(guard, Item0), mode, watch),
+        MapCall::TryMap(index) => {
+            watch.saw_hold(RwLockGuard::try_map(guard, inner_item(index)), mode);
+        }
+        MapCall::TryMapOrErr(index) => {
+            watch.saw_hold(RwLockGuard::try_map_or_err(guard, inner_item(index)), mode);
+        }
+    }
 }
 
-/// Such a guard ends by a fair release.
-fn map_and_end<L: Mappable + AcquireFair>(guard: RwLockGuard<L>, mode: Mode, watch: &mut CallWatch)
-where
-    L::Shown: ValueGuard<Value = Nested>,
-{
-    watch_fair_end(RwLockGuard::map(guard, Item0), mode, watch);
-}
-
-/// Such a guard is written.
+/// Maps and writes such a guard.
 fn map_and_write<L: Mappable>(guard: RwLockGuard<L>, mode: Mode, watch: &mut CallWatch)
 where
     L::Shown: ValueGuard<Value = Nested> + ValueGuardMut,
@@ -56,45 +81,12 @@ where
     watch_write(RwLockGuard::map(guard, Item0), mode, watch);
 }
 
-/// A guard is mapped. What a mapped guard asks by itself is one code for all locks, and asked of a mutex.
+/// Maps guards. What a mapped guard asks by itself is one code for all locks, and asked of a mutex.
 fn maps<R: RawRwLockFair>(lock: &Paired<R>, watch: &mut CallWatch) {
-    map_and_hold(lock.read(), Shared, watch);
-    map_and_end(lock.read(), Shared, watch);
-    map_and_write(lock.write(), Exclusive, watch);
-}
-
-/// A guard, which was just acquired in the mode, is mapped to the item at this index of the inner pair, if it has one.
-fn try_map_and_hold<L: Mappable>(
-    guard: RwLockGuard<L>,
-    index: usize,
-    mode: Mode,
-    watch: &mut CallWatch,
-)
-where
-    L::Shown: ValueGuard<Value = Nested>,
-{
-    watch.saw_hold(RwLockGuard::try_map(guard, inner_item(index)), mode);
-}
-
-/// The same, by `try_map_or_err`.
-fn try_map_or_err_and_hold<L: Mappable>(
-    guard: RwLockGuard<L>,
-    index: usize,
-    mode: Mode,
-    watch: &mut CallWatch,
-)
-where
-    L::Shown: ValueGuard<Value = Nested>,
-{
-    watch.saw_hold(RwLockGuard::try_map_or_err(guard, inner_item(index)), mode);
-}
-
-/// Guards are mapped to an item that is there, and to one that is not.
-fn try_maps<R: RawRwLock>(lock: &Paired<R>, watch: &mut CallWatch) {
-    for index in [1, 2] {
-        try_map_and_hold(lock.read(), index, Shared, watch);
-        try_map_or_err_and_hold(lock.read(), index, Shared, watch);
+    for call in MAPS {
+        watch_map(lock.read(), call, Shared, watch);
     }
+    map_and_write(lock.write(), Exclusive, watch);
 }
 
 /// Calls under an upgraded guard. Each closure looks at the raw lock.
@@ -136,7 +128,6 @@ pub fn check<
 >(lock: &Paired<R>, watch: &mut CallWatch) {
     names(lock, watch);
     maps(lock, watch);
-    try_maps(lock, watch);
     calls_under_an_upgrade(lock);
     watch.saw(&UNDER_AN_UPGRADE);
 }

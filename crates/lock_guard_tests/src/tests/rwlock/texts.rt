@@ -1,5 +1,4 @@
 //! How a lock and its guards print, and the raw calls that this makes.
-use crate::tests::texts::{Shown, are_right};
 use lock_guard::guard::{Acquire, ValueGuard};
 use lock_modes::Mode::{self, Exclusive, Shared, Upgradable};
 use lock_rwlock::{ArcModeGuard, Mappable, ReadValue, RwLock, RwLockGuard};
@@ -71,11 +70,18 @@ fn check_borrowing_guards<R: RawRwLockUpgrade>(
     let reader = guard_prints(alloc, watch, lock.read(), Shared);
     let writer = guard_prints(alloc, watch, lock.write(), Exclusive);
     let upgradable = guard_prints(alloc, watch, lock.upgradable_read(), Upgradable);
-    are_right(&[
-        ("RwLockReadGuard", reader),
-        ("RwLockWriteGuard", writer),
-        ("RwLockUpgradableReadGuard", upgradable),
-    ])
+    equal(
+        [
+            ("RwLockReadGuard", reader),
+            ("RwLockWriteGuard", writer),
+            ("RwLockUpgradableReadGuard", upgradable),
+        ],
+        [
+            ("RwLockReadGuard", true),
+            ("RwLockWriteGuard", true),
+            ("RwLockUpgradableReadGuard", true),
+        ],
+    )
 }
 
 /// `prints`, of a guard that owns a reference to the lock.
@@ -98,11 +104,18 @@ fn check_owning_guards<R: RawRwLockUpgrade + Drop>(
     let writer = arc_guard_prints(alloc, watch, RwLock::write_arc(lock)?, Exclusive);
     let guard = RwLock::upgradable_read_arc(lock)?;
     let upgradable = arc_guard_prints(alloc, watch, guard, Upgradable);
-    are_right(&[
-        ("ArcRwLockReadGuard", reader),
-        ("ArcRwLockWriteGuard", writer),
-        ("ArcRwLockUpgradableReadGuard", upgradable),
-    ])
+    equal(
+        [
+            ("ArcRwLockReadGuard", reader),
+            ("ArcRwLockWriteGuard", writer),
+            ("ArcRwLockUpgradableReadGuard", upgradable),
+        ],
+        [
+            ("ArcRwLockReadGuard", true),
+            ("ArcRwLockWriteGuard", true),
+            ("ArcRwLockUpgradableReadGuard", true),
+        ],
+    )
 }
 
 /// The texts of a lock of 5.
@@ -129,16 +142,12 @@ where
     prints(alloc, watch, RwLockGuard::map(guard, Item1), mode)
 }
 
-/// The texts of guards of a part.
-pub fn check_parts<R: RawRwLock>(
+/// Whether the texts of a reader's part and of a writer's part are right.
+pub fn parts_print<R: RawRwLock>(
     alloc: Global,
     lock: &RwLock<R, Nested>,
     watch: &mut CallWatch,
-) -> Result<(), Fail> {
+) -> [bool; 2] {
     let read = part_prints(alloc, watch, lock.read(), Shared);
-    let written = part_prints(alloc, watch, lock.write(), Exclusive);
-    are_right(&[
-        ("MappedRwLockReadGuard", read),
-        ("MappedRwLockWriteGuard", written),
-    ])
+    [read, part_prints(alloc, watch, lock.write(), Exclusive)]
 }

@@ -1,8 +1,7 @@
 //! Threads that count behind a lock, readers at the same time, and readers against a writer.
 mod pairs;
 
-use crate::tests::Word;
-use lock_raws::RawLock;
+use lock_raws::WordRaw;
 use lock_rwlock::RwLock;
 use lock_test_support::raw_lock::AdmitsAll;
 use lock_test_support::{Count, add_in_four_threads};
@@ -62,7 +61,12 @@ fn four_threads_count_and_two_read_at_once(rt: HostRuntime) -> Result<(), Fail> 
 #[test]
 fn four_threads_count_behind_a_word(rt: HostRuntime) -> Result<(), Fail> {
     for readers in [1, 4, 4_294_967_295] {
-        let lock: RwLock<RawLock<Word>, u64> = RwLock::with_readers(rt.alloc(), rt, readers, 0)?;
+        let lock: RwLock<WordRaw<HostRuntime>, u64> = RwLock::with_readers(
+            rt.alloc(),
+            rt,
+            readers,
+            0,
+        )?;
         for _ in 0..10 {
             add_in_four_threads(&rt, &CountedRwLock(&lock));
         }

@@ -1,6 +1,6 @@
 //! An upgradable guard of a pair, beside a reader and then alone, which ends as the guard of a part.
-use crate::tests::{Table, Word};
-use lock_raws::{LockCore, RawLock};
+use crate::tests::is_refused;
+use lock_raws::{TokenRaw, WordRaw};
 use lock_rwlock::{RwLock, RwLockReadGuard, RwLockUpgradableReadGuard, RwLockWriteGuard};
 use lock_test_support::answer::equal;
 use lock_test_support::project::Item0;
@@ -52,6 +52,31 @@ fn item_after_upgrades<
     Some(*part)
 }
 
+/// What the tries answered beside a reader, the guard that each try to upgrade it returned, and whether another upgradable
+/// guard was refused.
+type Beside<'a, R> = (
+    Applied,
+    Option<RwLockUpgradableReadGuard<'a, R, Pair>>,
+    bool,
+);
+
+fn beside_a_reader<
+    'a,
+    R: RawRwLockUpgradeTimed<Duration = (), Instant = ()> + RawRwLockUpgradeDowngrade,
+>(
+    lock: &'a RwLock<R, Pair>,
+    guard: RwLockUpgradableReadGuard<'a, R, Pair>,
+    calls: &Cell<u64>,
+) -> Beside<'a, R> {
+    let mut guard = guard;
+    let reader = lock.read();
+    let applied = add_by_each_try(&mut guard, calls);
+    let back = refused_by_each_try(guard);
+    let is_refused = is_refused(lock.try_upgradable_read());
+    drop(reader);
+    (applied, back, is_refused)
+}
+
 /// What the tries answered beside a reader and alone, whether another upgradable guard was refused, the part, and whether
 /// the lock is held in the end.
 type Seen = (Applied, bool, Applied, u64, bool);
@@ -60,12 +85,8 @@ fn upgrades<R: RawRwLockUpgradeTimed<Duration = (), Instant = ()> + RawRwLockUpg
     lock: &RwLock<R, Pair>,
 ) -> Option<Seen> {
     let calls = Cell::new(0_u64);
-    let mut guard = lock.upgradable_read();
-    let reader = lock.read();
-    let beside = add_by_each_try(&mut guard, &calls);
-    let mut guard = refused_by_each_try(guard)?;
-    let is_refused = lock.try_upgradable_read().is_none();
-    drop(reader);
+    let (beside, back, is_refused) = beside_a_reader(lock, lock.upgradable_read(), &calls);
+    let mut guard = back?;
     let alone = add_by_each_try(&mut guard, &calls);
     let item = item_after_upgrades(guard)?;
     Some((beside, is_refused, alone, item, lock.is_locked()))
@@ -79,17 +100,16 @@ const WANTED: Option<Seen> = Some((
     false,
 ));
 
-fn check<C: LockCore<Duration = (), Instant = ()>>(
-    name: &str,
-    alloc: Global,
-    waiter: C::Waiter,
-) -> Result<(), Fail> {
-    let lock: RwLock<RawLock<C>, Pair> = RwLock::with_readers(alloc, waiter, 8, (1, 2))?;
+fn check<R>(name: &str, alloc: Global, waiter: R::Waiter) -> Result<(), Fail>
+where
+    R: RawRwLockUpgradeTimed<Duration = (), Instant = ()> + RawRwLockUpgradeDowngrade + Drop,
+{
+    let lock: RwLock<R, Pair> = RwLock::with_readers(alloc, waiter, 8, (1, 2))?;
     equal((name, upgrades(&lock)), (name, WANTED))
 }
 
 #[test]
 fn a_refused_upgrade_calls_nothing(rt: HostRuntime) -> Result<(), Fail> {
-    check::<Table>("over a table", rt.alloc(), rt)?;
-    check::<Word>("over a word", rt.alloc(), rt)
+    check::<TokenRaw<HostRuntime>>("over a table", rt.alloc(), rt)?;
+    check::<WordRaw<HostRuntime>>("over a word", rt.alloc(), rt)
 }

@@ -1,6 +1,5 @@
 //! Two numbers that a writer keeps equal, behind a lock on a word.
-use crate::tests::Word;
-use lock_raws::RawLock;
+use lock_raws::WordRaw;
 use lock_rwlock::RwLock;
 use lock_traits::RawRwLock;
 use std::test::Fail;
@@ -35,7 +34,7 @@ fn read_pairs<R: RawRwLock>(lock: &RwLock<R, Pair>) -> u64 {
 #[test]
 fn readers_see_no_half_of_a_pair(rt: HostRuntime) -> Result<(), Fail> {
     for readers in [1, 2, 64] {
-        let lock: RwLock<RawLock<Word>, Pair> = RwLock::with_readers(
+        let lock: RwLock<WordRaw<HostRuntime>, Pair> = RwLock::with_readers(
             rt.alloc(),
             rt,
             readers,

@@ -2,10 +2,9 @@
 use super::calls::WaitCall::{self, Once, While};
 use super::calls::WaitEnd::{For, Never, Until};
 use super::calls::waited;
-use crate::tests::Table;
 use lock_modes::Mode::Exclusive;
-use lock_mutex::{Condvar, Mutex};
-use lock_raws::{LockCore, RawLock, SpuriousCondvar};
+use lock_mutex::{Condvar, Mutex, MutexGuard};
+use lock_raws::{SpuriousCondvar, TokenRaw};
 use lock_test_support::answer::equal;
 use lock_test_support::raw_lock::RawCall::{Lock, Unlock};
 use lock_test_support::raw_lock::{AdmitsAll, CallWatch};
@@ -25,24 +24,31 @@ const WAITS: [(WaitCall<()>, bool, usize); 6] = [
     (While(2, Until(())), true, 2),
 ];
 
-/// Makes each wait of `WAITS` under one guard. Returns whether the mutex is held after them.
+/// Makes each wait of `WAITS`. Returns whether the mutex is held after them.
+fn check_each<R: RawMutexTimed<Duration = (), Instant = ()>>(
+    condvar: &Condvar<SpuriousCondvar<R>>,
+    guard: &mut MutexGuard<'_, R, usize>,
+) -> Result<bool, Fail> {
+    for (row, (call, times_out, made)) in WAITS.into_iter().enumerate() {
+        let seen = waited(condvar, guard, call);
+        equal((row, seen), (row, (times_out, made)))?;
+    }
+    Ok(MutexGuard::mutex(guard).is_locked())
+}
+
+/// Makes the waits under one guard.
 fn check_waits<R: RawMutexTimed<Duration = (), Instant = ()>>(
     condvar: &Condvar<SpuriousCondvar<R>>,
     checks: &Mutex<R, usize>,
 ) -> Result<bool, Fail> {
-    let mut guard = checks.lock();
-    for (row, (call, times_out, made)) in WAITS.into_iter().enumerate() {
-        let seen = waited(condvar, &mut guard, call);
-        equal((row, seen), (row, (times_out, made)))?;
-    }
-    Ok(checks.is_locked())
+    check_each(condvar, &mut checks.lock())
 }
 
-fn check<C: LockCore<Duration = (), Instant = ()>>(
+fn check<R: RawMutexTimed<Duration = (), Instant = ()> + Drop>(
     alloc: Global,
-    waiter: C::Waiter,
+    waiter: R::Waiter,
 ) -> Result<(), Fail> {
-    let condvar: Condvar<SpuriousCondvar<RawLock<C>>> = Condvar::default(alloc)?;
+    let condvar: Condvar<SpuriousCondvar<R>> = Condvar::default(alloc)?;
     let is_held = check_waits(&condvar, &Mutex::new(alloc, waiter, 0)?)?;
     let woken = (condvar.notify_one(), condvar.notify_all());
     equal((is_held, woken), (true, (false, 0)))
@@ -50,7 +56,7 @@ fn check<C: LockCore<Duration = (), Instant = ()>>(
 
 #[test]
 fn a_spurious_wait_ends_at_once(rt: HostRuntime) -> Result<(), Fail> {
-    check::<Table>(rt.alloc(), rt)
+    check::<TokenRaw<HostRuntime>>(rt.alloc(), rt)
 }
 
 /// Waits that release the mutex once.

@@ -1,6 +1,5 @@
 //! The mutex and its guards.
-pub mod gated;
-pub mod makers;
+mod makers;
 mod order;
 mod parked_part;
 mod parts;

@@ -1,9 +1,9 @@
 //! A party that has all its levels.
-use crate::tests::Table;
+use crate::tests::only_level::taken_meanwhile;
 use lock_modes::Fault::{self, FullCount};
 use lock_modes::Mode::Exclusive;
 use lock_modes::PartyId;
-use lock_raws::{LockCore, RawLock};
+use lock_raws::TokenRaw;
 use lock_remutex::{ReentrantMutex, ReentrantMutexGuard};
 use lock_test_support::answer::equal;
 use lock_test_support::party;
@@ -19,9 +19,7 @@ type Refused = (&'static str, Option<Fault>);
 
 /// The refusal of `unlocked` whose closure acquires the only level.
 fn unlocked<R: RawMutex>(guard: ReentrantMutexGuard<'_, R, u8>, party: PartyId) -> Option<Fault> {
-    let lock = ReentrantMutexGuard::remutex(&guard);
-    let (fault, taken) = ReentrantMutexGuard::unlocked(guard, || lock.lock(party)).err()?;
-    taken.ok()?;
+    let (fault, _) = taken_meanwhile(guard, party)?;
     Some(fault)
 }
 
@@ -40,41 +38,50 @@ fn refused<R: RawMutexTimed<Duration = u64, Instant = u64>>(
     ]
 }
 
-/// The same of the acquisitions by guards that own a reference to the lock.
+/// The refusals by guards that borrow.
+fn check_refused<R: RawMutexTimed<Duration = u64, Instant = u64>>(
+    lock: &ReentrantMutex<R, u8>,
+    party: PartyId,
+) -> Result<(), Fail> {
+    equal(
+        refused(lock.lock(party)?, party),
+        [
+            ("lock", Some(FullCount)),
+            ("try_lock", Some(FullCount)),
+            ("try_lock_for", Some(FullCount)),
+            ("try_lock_until", Some(FullCount)),
+            ("unlocked", Some(FullCount)),
+        ],
+    )
+}
+
+/// The refusals of `lock_arc`, `try_lock_arc`, `try_lock_arc_for` and `try_lock_arc_until` beside a guard of the only level.
 fn arc_refused<R: RawMutexTimed<Duration = u64, Instant = u64> + Drop>(
     lock: &Arc<ReentrantMutex<R, u8>>,
     party: PartyId,
-) -> [Refused; 4] {
-    [
-        ("lock_arc", ReentrantMutex::lock_arc(lock, party).err()),
-        (
-            "try_lock_arc",
-            ReentrantMutex::try_lock_arc(lock, party).err(),
-        ),
-        (
-            "try_lock_arc_for",
-            ReentrantMutex::try_lock_arc_for(lock, party, 3).err(),
-        ),
-        (
-            "try_lock_arc_until",
-            ReentrantMutex::try_lock_arc_until(lock, party, 4).err(),
-        ),
-    ]
+) -> Result<[Option<Fault>; 4], Fault> {
+    let _guard = ReentrantMutex::lock_arc(lock, party)?;
+    Ok([
+        ReentrantMutex::lock_arc(lock, party).err(),
+        ReentrantMutex::try_lock_arc(lock, party).err(),
+        ReentrantMutex::try_lock_arc_for(lock, party, 3).err(),
+        ReentrantMutex::try_lock_arc_until(lock, party, 4).err(),
+    ])
 }
 
 /// The refusals by guards that borrow, and the raw calls that they make. Returns the value.
-fn check_borrowed<R: RawMutexTimed + Drop>(alloc: Global, waiter: R::Waiter) -> Result<u8, Fail>
+fn check_borrowed<R: RawMutexTimed + Drop>(
+    alloc: Global,
+    waiter: R::Waiter,
+    party: PartyId,
+) -> Result<u8, Fail>
 where
     R::Guard: Send,
     R::Duration: Default,
     R::Instant: Deadline<R::Waiter>,
 {
-    let one = party(1)?;
     let lock: ReentrantMutex<Recorder<R>, u8> = ReentrantMutex::with_levels(alloc, waiter, 1, 7)?;
-    let guard = lock.lock(one)?;
-    for (call, fault) in refused(guard, one) {
-        equal((call, fault), (call, Some(FullCount)))?;
-    }
+    check_refused(&lock, party)?;
     let (raw, value) = lock.into_inner_with_raw();
     let mut watch = CallWatch::new(raw.log()?);
     watch.saw(&[
@@ -88,40 +95,36 @@ where
 }
 
 /// The refusals by guards that own a reference to the lock.
-fn check_arc<R: RawMutexTimed + Drop>(
+fn check_arc<R: RawMutexTimed<Duration = u64, Instant = u64> + Drop>(
     alloc: Global,
     waiter: R::Waiter,
+    party: PartyId,
     value: u8,
 ) -> Result<(), Fail>
 where
     R::Guard: Send,
-    R::Duration: Default,
-    R::Instant: Deadline<R::Waiter>,
 {
-    let one = party(1)?;
-    let lock: ReentrantMutex<Recorder<R>, u8> = ReentrantMutex::with_levels(
-        alloc, waiter, 1, value,
-    )?;
-    let lock = Arc::new(alloc, lock)?;
-    let _guard = ReentrantMutex::lock_arc(&lock, one)?;
-    for (call, fault) in arc_refused(&lock, one) {
-        equal((call, fault), (call, Some(FullCount)))?;
-    }
-    Ok(())
-}
-
-fn check<C: LockCore>(alloc: Global, waiters: [C::Waiter; 2]) -> Result<(), Fail>
-where
-    C::Token: Send,
-    C::Duration: Default,
-    C::Instant: Deadline<C::Waiter>,
-{
-    let [first, last] = waiters;
-    let value = check_borrowed::<RawLock<C>>(alloc, first)?;
-    check_arc::<RawLock<C>>(alloc, last, value)
+    let lock: ReentrantMutex<R, u8> = ReentrantMutex::with_levels(alloc, waiter, 1, value)?;
+    let [locked, tried, tried_for, tried_until] = arc_refused(&Arc::new(alloc, lock)?, party)?;
+    equal(
+        [
+            ("lock_arc", locked),
+            ("try_lock_arc", tried),
+            ("try_lock_arc_for", tried_for),
+            ("try_lock_arc_until", tried_until),
+        ],
+        [
+            ("lock_arc", Some(FullCount)),
+            ("try_lock_arc", Some(FullCount)),
+            ("try_lock_arc_for", Some(FullCount)),
+            ("try_lock_arc_until", Some(FullCount)),
+        ],
+    )
 }
 
 #[test]
 fn a_full_count_is_refused(rt: HostRuntime) -> Result<(), Fail> {
-    check::<Table>(rt.alloc(), [rt; 2])
+    let one = party(1)?;
+    let value = check_borrowed::<TokenRaw<HostRuntime>>(rt.alloc(), rt, one)?;
+    check_arc::<Recorder<TokenRaw<HostRuntime>>>(rt.alloc(), rt, one, value)
 }

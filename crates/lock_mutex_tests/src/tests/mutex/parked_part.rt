@@ -1,11 +1,10 @@
 //! A guard that is parked and bumped, and then ends as the guard of a part.
-use crate::tests::{Table, Word};
 use lock_guard::guard::{AcquireFair, Mapped, ValueGuard};
 use lock_mutex::{Guard, Mutex};
-use lock_raws::{LockCore, RawLock};
+use lock_raws::{TokenRaw, WordRaw};
 use lock_test_support::answer::equal;
 use lock_test_support::project::Item0;
-use lock_traits::RawMutex;
+use lock_traits::{RawMutex, RawMutexFair};
 use std::alloc::Global;
 use std::test::Fail;
 
@@ -19,11 +18,12 @@ fn parked_and_mapped<R: RawMutex, L: AcquireFair>(mutex: &Mutex<R, Pair>, guard:
 where
     L::Shown: ValueGuard<Value = Pair>,
 {
+    let is_held = || mutex.is_locked();
     let mut guard = guard;
-    let parked = Guard::unlocked(&mut guard, || mutex.is_locked());
+    let parked = Guard::unlocked(&mut guard, is_held);
     Guard::bump(&mut guard);
     let bumped = mutex.is_locked();
-    let parked_fair = Guard::unlocked_fair(&mut guard, || mutex.is_locked());
+    let parked_fair = Guard::unlocked_fair(&mut guard, is_held);
     let part = Guard::map(guard, Item0);
     let item = *part;
     let mapped = mutex.is_locked();
@@ -36,14 +36,14 @@ where
 
 const WANTED: Seen = ([false, true, false, true, false], 1);
 
-fn check<C: LockCore>(name: &str, alloc: Global, waiter: C::Waiter) -> Result<(), Fail> {
-    let mutex: Mutex<RawLock<C>, Pair> = Mutex::new(alloc, waiter, (1, 2))?;
+fn check<R: RawMutexFair + Drop>(name: &str, alloc: Global, waiter: R::Waiter) -> Result<(), Fail> {
+    let mutex: Mutex<R, Pair> = Mutex::new(alloc, waiter, (1, 2))?;
     let seen = parked_and_mapped(&mutex, mutex.lock());
     equal((name, seen), (name, WANTED))
 }
 
 #[test]
 fn a_parked_guard_ends_as_a_part(rt: HostRuntime) -> Result<(), Fail> {
-    check::<Table>("over a table", rt.alloc(), rt)?;
-    check::<Word>("over a word", rt.alloc(), rt)
+    check::<TokenRaw<HostRuntime>>("over a table", rt.alloc(), rt)?;
+    check::<WordRaw<HostRuntime>>("over a word", rt.alloc(), rt)
 }

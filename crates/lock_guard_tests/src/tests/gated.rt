@@ -1,4 +1,7 @@
-//! A raw lock whose releases wait.
+//! A raw lock whose releases wait, and locks over it.
+mod bump;
+mod release;
+
 use lock_modes::Fault;
 use lock_test_support::wait_for_flag;
 use lock_traits::{GuardSend, RawMutex, RawMutexFair};

@@ -1,11 +1,10 @@
 //! Guards of a part of a mutex's value.
 use super::watched;
-use crate::tests::Table;
-use lock_guard::guard::{Acquire, AcquireFair, Mapped, ValueGuard, ValueGuardMut};
+use lock_guard::guard::{Acquire, AcquireFair, LockGuardMut, Mapped, ValueGuard, ValueGuardMut};
 use lock_modes::Mode::Exclusive;
 use lock_mutex::{Guard, Mutex};
-use lock_parts::Missed;
-use lock_raws::{LockCore, RawLock};
+use lock_parts::{Missed, TryProject};
+use lock_raws::TokenRaw;
 use lock_test_support::answer::equal;
 use lock_test_support::project::{Item0, Item1, Nested, NthItem, inner_item};
 use lock_test_support::raw_lock::CallWatch;
@@ -27,6 +26,16 @@ where
     Mapped::unlock_fair(second);
 }
 
+/// Writes 8 to the part, which the guard releases. Returns what the part was.
+fn write_part<G: LockGuardMut, P: TryProject<G::Value, Part = u64> + Copy>(
+    part: Mapped<G, P>,
+) -> Option<u64> {
+    let mut part = part;
+    let item = *Mapped::get(&part)?;
+    *Mapped::get_mut(&mut part)? = 8;
+    Some(item)
+}
+
 /// Misses a third and a sixth item, and then writes 8 to the second one. Returns whether the mutex is held after the first
 /// miss, the last miss, and the second item before it is written.
 fn miss_and_write<R: RawMutex, L: Acquire>(
@@ -39,9 +48,7 @@ where
     let guard = Guard::try_map(guard, NthItem(2)).err()?;
     let is_locked = mutex.is_locked();
     let (guard, missed) = Guard::try_map_or_err(guard, NthItem(5)).err()?;
-    let mut second = Guard::try_map(guard, NthItem(1)).ok()?;
-    let item = *Mapped::get(&second)?;
-    *Mapped::get_mut(&mut second)? = 8;
+    let item = write_part(Guard::try_map(guard, NthItem(1)).ok()?)?;
     Some((is_locked, missed, item))
 }
 
@@ -56,6 +63,18 @@ where
     Some([at_once, in_turn])
 }
 
+/// Misses and writes parts of a pair in a pair. Returns the misses.
+fn miss_and_write_nested<R: RawMutexFair>(
+    mutex: &Mutex<R, Nested>,
+    watch: &mut CallWatch,
+) -> Option<[Missed<(), usize>; 2]> {
+    let misses = misses_of_the_second(mutex.lock());
+    watch.saw(&[Lock(Exclusive), Unlock(Exclusive)]);
+    write_inner(mutex.lock());
+    watch.saw(&[Lock(Exclusive), UnlockFair(Exclusive)]);
+    misses
+}
+
 /// Misses and writes parts of a pair in a pair. Returns the raw lock.
 fn check_nested<R: RawMutexFair + Drop>(
     mutex: Mutex<R, Nested>,
@@ -63,13 +82,9 @@ fn check_nested<R: RawMutexFair + Drop>(
 ) -> Result<R, Fail> {
     let mut mutex = mutex;
     *mutex.get_mut() = ((1, 2), 3);
-    let misses = misses_of_the_second(mutex.lock());
-    equal(misses, Some([Missed::Second(4); 2]))?;
-    watch.saw(&[Lock(Exclusive), Unlock(Exclusive)]);
-    write_inner(mutex.lock());
-    watch.saw(&[Lock(Exclusive), UnlockFair(Exclusive)]);
+    let misses = miss_and_write_nested(&mutex, watch);
     let (raw, value) = mutex.into_inner_with_raw();
-    equal(value, ((1, 9), 3))?;
+    equal((misses, value), (Some([Missed::Second(4); 2]), ((1, 9), 3)))?;
     Ok(raw)
 }
 
@@ -79,13 +94,12 @@ fn check_pair<R: RawMutex + Drop>(
     watch: &mut CallWatch,
 ) -> Result<(), Fail> {
     let seen = miss_and_write(&mutex, mutex.lock());
-    equal(seen, Some((true, 5, 2)))?;
     watch.saw(&[Lock(Exclusive), IsLocked, Unlock(Exclusive)]);
-    equal(mutex.into_inner(), (1, 8))
+    equal((seen, mutex.into_inner()), (Some((true, 5, 2)), (1, 8)))
 }
 
-fn check<C: LockCore>(alloc: Global, waiter: C::Waiter) -> Result<(), Fail> {
-    let (mutex, mut watch) = watched::<RawLock<C>, Nested>(alloc, waiter, ((0, 0), 0))?;
+fn check<R: RawMutexFair + Drop>(alloc: Global, waiter: R::Waiter) -> Result<(), Fail> {
+    let (mutex, mut watch) = watched::<R, Nested>(alloc, waiter, ((0, 0), 0))?;
     let raw = check_nested(mutex, &mut watch)?;
     check_pair(Mutex::from_raw(raw, (1, 2))?, &mut watch)?;
     watch.saw(&[]);
@@ -94,5 +108,5 @@ fn check<C: LockCore>(alloc: Global, waiter: C::Waiter) -> Result<(), Fail> {
 
 #[test]
 fn guards_write_and_miss_parts(rt: HostRuntime) -> Result<(), Fail> {
-    check::<Table>(rt.alloc(), rt)
+    check::<TokenRaw<HostRuntime>>(rt.alloc(), rt)
 }

@@ -12,13 +12,11 @@ use lock_modes::Mode::Exclusive;
 use lock_mutex::{Condvar, Mutex, MutexGuard};
 use lock_test_support::answer::equal;
 use lock_test_support::raw_lock::RawCall::{Lock, Unlock};
-use lock_test_support::raw_lock::{AdmitsAll, Recorder};
+use lock_test_support::raw_lock::{AdmitsAll, CallWatch};
 use lock_traits::{RawMutex, RawMutexTimed};
 use mock::CondvarCall::{self, NotifyAll, NotifyOne, Wait, WaitUntil};
 use mock::{ENDLESS, LATE, MockCondvar};
 use std::alloc::Global;
-use std::clone::Clone;
-use std::sync;
 use std::test::Fail;
 
 /// A wait, its raw calls, whether it times out, and how many checks it makes.
@@ -42,27 +40,25 @@ const WAITS: [Row; 15] = [
     (While(2, Until(LATE)), &[WaitUntil(LATE)], true, 2),
 ];
 
-fn check_wait<R: RawMutexTimed<Duration = u64, Instant = u64>>(
+/// Makes each wait of `WAITS`.
+fn check_each<R: RawMutexTimed<Duration = u64, Instant = u64>>(
     condvar: &Condvar<MockCondvar<R>>,
     guard: &mut MutexGuard<'_, R, usize>,
-    row: usize,
-    (call, raw_calls, times_out, made): Row,
 ) -> Result<(), Fail> {
-    let seen = waited(condvar, guard, call);
-    let is_right = condvar.raw().got(raw_calls);
-    equal((row, is_right, seen), (row, true, (times_out, made)))
+    for (row, (call, raw_calls, times_out, made)) in WAITS.into_iter().enumerate() {
+        let seen = waited(condvar, guard, call);
+        let is_right = condvar.raw().got(raw_calls);
+        equal((row, is_right, seen), (row, true, (times_out, made)))?;
+    }
+    Ok(())
 }
 
-/// Makes each wait of `WAITS` under one guard.
+/// Makes the waits under one guard.
 fn check_waits<R: RawMutexTimed<Duration = u64, Instant = u64>>(
     condvar: &Condvar<MockCondvar<R>>,
     checks: &Mutex<R, usize>,
 ) -> Result<(), Fail> {
-    let mut guard = checks.lock();
-    for (row, wait) in WAITS.iter().enumerate() {
-        check_wait(condvar, &mut guard, row, *wait)?;
-    }
-    Ok(())
+    check_each(condvar, &mut checks.lock())
 }
 
 /// Checks that a notification is one raw call, whose answer it returns.
@@ -77,17 +73,22 @@ fn check_notifications<R: RawMutex>(condvar: &Condvar<MockCondvar<R>>) -> Result
 }
 
 /// Waits and notifications over the raw lock. Since these waits do not release the mutex, the guard alone calls it.
-fn check_calls<W: sync::Wait + Clone + Drop>(alloc: Global, waiter: W) -> Result<(), Fail> {
-    let (checks, mut watch) = watched::<AdmitsAll<W>, usize>(alloc, waiter, 0)?;
-    let condvar: Condvar<MockCondvar<Recorder<AdmitsAll<W>>>> = Condvar::new(alloc)?;
-    check_waits(&condvar, &checks)?;
+fn check_calls<R: RawMutexTimed<Duration = u64, Instant = u64> + Drop>(
+    alloc: Global,
+    checks: &Mutex<R, usize>,
+    watch: &mut CallWatch,
+) -> Result<(), Fail> {
+    let condvar: Condvar<MockCondvar<R>> = Condvar::new(alloc)?;
+    check_waits(&condvar, checks)?;
     watch.saw(&[Lock(Exclusive), Unlock(Exclusive)]);
     check_notifications(&condvar)?;
     watch.saw(&[]);
-    watch.verdict()
+    Ok(())
 }
 
 #[test]
 fn each_wait_is_a_raw_wait(rt: HostRuntime) -> Result<(), Fail> {
-    check_calls(rt.alloc(), rt)
+    let (checks, mut watch) = watched::<AdmitsAll<HostRuntime>, usize>(rt.alloc(), rt, 0)?;
+    check_calls(rt.alloc(), &checks, &mut watch)?;
+    watch.verdict()
 }

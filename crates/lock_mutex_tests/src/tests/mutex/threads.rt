@@ -1,7 +1,6 @@
 //! Threads that count behind a mutex, and wait for each other.
-use crate::tests::Word;
 use lock_mutex::{Condvar, Mutex};
-use lock_raws::{RawLock, SpuriousCondvar};
+use lock_raws::{SpuriousCondvar, WordRaw};
 use lock_test_support::raw_lock::AdmitsAll;
 use lock_test_support::{Count, add_in_four_threads};
 use lock_traits::RawMutex;
@@ -51,7 +50,7 @@ fn four_threads_count_and_two_wait_for_each_other(rt: HostRuntime) -> Result<(),
 
 #[test]
 fn four_threads_count_behind_a_word(rt: HostRuntime) -> Result<(), Fail> {
-    let counter: Mutex<RawLock<Word>, u64> = Mutex::new(rt.alloc(), rt, 0)?;
+    let counter: Mutex<WordRaw<HostRuntime>, u64> = Mutex::new(rt.alloc(), rt, 0)?;
     for _ in 0..10 {
         add_in_four_threads(&rt, &CountedMutex(&counter));
     }

@@ -1,29 +1,35 @@
 //! Parties that are threads.
-use crate::tests::Table;
-use crate::tests::mutex::gated::Gated;
 use lock_modes::{Fault, PartyId};
-use lock_raws::RawLock;
+use lock_raws::TokenRaw;
 use lock_remutex::{ReentrantMutex, ReentrantMutexGuard};
 use lock_test_support::answer::equal;
 use lock_test_support::raw_lock::{AdmitsAll, CallLog};
-use lock_test_support::{party, two_parties, wait_for_calls, wait_for_flag, wait_until};
-use lock_traits::{RawMutex, RawMutexFair};
+use lock_test_support::{two_parties, wait_for_calls, wait_for_flag};
+use lock_traits::RawMutex;
 use std::sync::Wait;
 use std::sync::atomic::{AtomicBool, AtomicU64, Ordering};
 use std::test::Fail;
 use std::thread;
 
-/// Adds 1 a thousand times, by a separate read and write.
+/// Adds 1 by a separate read and write, at the inner level. The outer level ends first.
+fn add_one<R: RawMutex>(
+    outer: ReentrantMutexGuard<'_, R, AtomicU64>,
+    inner: Result<ReentrantMutexGuard<'_, R, AtomicU64>, Fault>,
+) -> Result<(), Fault> {
+    drop(outer);
+    let inner = inner?;
+    let found = inner.load(Ordering::SeqCst);
+    inner.store(found.wrapping_add(1), Ordering::SeqCst);
+    Ok(())
+}
+
+/// Adds 1 a thousand times.
 fn count_up<R: RawMutex>(
     count: &ReentrantMutex<R, AtomicU64>,
     party: PartyId,
 ) -> Result<(), Fault> {
     for _ in 0..1_000 {
-        let outer = count.lock(party)?;
-        let inner = count.lock(party)?;
-        drop(outer);
-        let found = inner.load(Ordering::SeqCst);
-        inner.store(found.wrapping_add(1), Ordering::SeqCst);
+        add_one(count.lock(party)?, count.lock(party))?;
     }
     Ok(())
 }
@@ -32,7 +38,7 @@ fn count_up<R: RawMutex>(
 fn two_parties_take_turns(rt: HostRuntime) -> Result<(), Fail> {
     let (one, two) = two_parties()?;
     let zero = AtomicU64::new(0);
-    let count: ReentrantMutex<RawLock<Table>, AtomicU64> = ReentrantMutex::new(
+    let count: ReentrantMutex<TokenRaw<HostRuntime>, AtomicU64> = ReentrantMutex::new(
         rt.alloc(),
         rt,
         zero,
@@ -84,58 +90,4 @@ fn lock_asks_again_while_another_owns(rt: HostRuntime) -> Result<(), Fail> {
         || lock_once_owned(&lock, two, &rt, &is_owned),
     );
     equal(ends, (Ok(()), Ok(true)))
-}
-
-/// Bumps a guard. Returns whether the party owns the lock once the level of the other thread is released.
-fn bump<W: Wait, R: RawMutexFair>(
-    lock: &ReentrantMutex<R, u8>,
-    party: PartyId,
-    waiter: &W,
-    is_held: &AtomicBool,
-    is_over: &AtomicBool,
-) -> Result<bool, Fault> {
-    let mut guard = lock.lock(party)?;
-    is_held.store(true, Ordering::SeqCst);
-    ReentrantMutexGuard::bump(&mut guard);
-    wait_for_flag(waiter, is_over);
-    Ok(lock.is_owned_by_current_thread(party))
-}
-
-/// Acquires the only level during the bump, and keeps it while the bump tries to reacquire it.
-fn lock_during_bump<W: Wait, R: RawMutex>(
-    lock: &ReentrantMutex<R, u8>,
-    party: PartyId,
-    waiter: &W,
-    is_held: &AtomicBool,
-    is_over: &AtomicBool,
-) -> Result<(), Fault> {
-    wait_for_flag(waiter, is_held);
-    wait_until(waiter, || !lock.is_owned_by_current_thread(party));
-    let guard = lock.lock(party)?;
-    // the raw bump ends, and its token is released again
-    wait_until(waiter, || !lock.is_locked());
-    for _ in 0..10_000u32 {
-        thread::yield_now();
-    }
-    drop(guard);
-    is_over.store(true, Ordering::SeqCst);
-    Ok(())
-}
-
-#[test]
-fn a_bump_waits_for_a_level(rt: HostRuntime) -> Result<(), Fail> {
-    let one = party(1)?;
-    let lock: ReentrantMutex<Gated<HostRuntime>, u8> = ReentrantMutex::with_levels(
-        rt.alloc(),
-        rt,
-        1,
-        0,
-    )?;
-    let (is_held, is_over) = (AtomicBool::new(false), AtomicBool::new(false));
-    let ends = thread::join(
-        &rt,
-        || bump(&lock, one, &rt, &is_held, &is_over),
-        || lock_during_bump(&lock, one, &rt, &is_held, &is_over),
-    );
-    equal(ends, (Ok(true), Ok(())))
 }

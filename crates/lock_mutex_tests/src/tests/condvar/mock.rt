@@ -12,7 +12,7 @@ pub const LATE: u64 = 100;
 pub const ENDLESS: u64 = u64::MAX;
 
 /// A call of a raw condition variable, with its time.
-#[derive(Clone, Copy, PartialEq, Debug)]
+#[derive(Clone, Copy, PartialEq)]
 pub enum CondvarCall {
     Wait,
     WaitUntil(u64),
