@@ -5,11 +5,11 @@
 mod choice;
 mod difference_line;
 mod over_raw;
-mod replay;
 mod script_answer;
+mod script_run;
 mod words;
 mod wrong;
 
 pub use choice::{Choice, RawChoice};
-pub use replay::replay;
+pub use script_run::replay;
 pub use wrong::{Mistake, WrongRaw};
