@@ -2,7 +2,6 @@
 mod counter;
 mod deadlines;
 mod events;
-mod helpers;
 mod permits;
 mod refused_memory;
 mod seated;
