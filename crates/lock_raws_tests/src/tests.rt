@@ -1,7 +1,6 @@
 //! What no contract says of the raw locks.
 mod actions;
 mod cases;
-mod fair;
 mod foreign_tokens;
 mod held;
 mod makers;

@@ -1,5 +1,6 @@
 //! The raw locks that admit in the order of arrival: which thread is admitted when.
 mod counts;
+mod parts;
 mod scene;
 
 use counts::{count_beside_readers, count_in_four_threads};

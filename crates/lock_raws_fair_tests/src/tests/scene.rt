@@ -1,12 +1,9 @@
 //! Threads that act on one fair core, each after a number of events.
-ghost use Rattle.std.specs.Prelude.{◌≡◌, true};
-ghost use Rattle.lock_modes.specs.declared.mode.Mode.{Mode};
-
+use super::parts::{Parts, play_in_threads};
 use lock_modes::Mode::{self, Exclusive, Upgradable};
 use lock_raws::{Arbiter, LockCore, RealTime};
 use lock_raws_fair::FairCore;
 use lock_test_support::answer::equal;
-use lock_test_support::wait_until;
 use std::alloc::Global;
 use std::clone::Clone;
 use std::sync::Wait;
@@ -49,47 +46,14 @@ pub enum Role {
 /// does, and the digit that it appends to the order of admission while it holds the lock exclusively.
 pub type Actor = (u64, u64, Role, u64);
 
-/// A token, with the core that holds it in the mode.
-struct CoreHold<'a, C: LockCore> {
-    core: &'a C,
-    mode: Mode,
-    token: C::Token,
-    ghost own: { C.holds core.now mode token ≡ true },
-}
+/// How many threads must have arrived, and how many timed calls timed out.
+type Cue = (u64, u64);
 
-impl<'a, C: LockCore> CoreHold<'a, C> {
-    /// Acquires the mode, blocking until it is admitted.
-    fn acquire(core: &'a C, mode: Mode) -> CoreHold<'a, C> {
-        CoreHold {
-            core,
-            mode,
-            token: core.acquire(mode),
-        }
-    }
-
-    fn release(self) {
-        let CoreHold { core, mode, token } = self;
-        core.release(token, mode);
-    }
-
-    /// Makes an upgradable token exclusive, blocking until no other token is held.
-    fn upgrade(self) -> CoreHold<'a, C> {
-        let CoreHold { core, mode, token } = self;
-        match mode {
-            Upgradable => CoreHold {
-                core,
-                mode: Exclusive,
-                token: core.upgrade(token),
-            },
-            _ => CoreHold { core, mode, token },
-        }
-    }
-}
-
-/// A core, and what its threads note.
+/// A core, its threads, and what they note.
 #[derive(Drop)]
-struct Scene<C: LockCore> {
+struct Scene<'a, C: LockCore> {
     core: C,
+    actors: &'a [Actor; 5],
     /// How many threads have what they hold when the scene begins.
     started: AtomicU64,
     /// The digits of the threads, in the order of admission.
@@ -98,94 +62,119 @@ struct Scene<C: LockCore> {
     timed_out: AtomicU64,
 }
 
-impl<C: Queueing> Scene<C> {
-    fn play(&self, (arrived, timed_out, role, digit): Actor) {
-        let held = self.start(role);
-        self.started.fetch_add(1, Ordering::SeqCst);
-        wait_until(self.core.waiter(), || self.has_come_to(arrived, timed_out));
-        match (role, held) {
-            (Role::Write, None) => self.write(digit),
-            (Role::TimedWrite, None) => self.timed_write(digit),
-            (Role::Upgrade, Some(held)) => self.note(held.upgrade(), digit),
-            (Role::Pass, Some(held)) => {
-                held.release();
+impl<C: Queueing> Parts for Scene<'_, C> {
+    type Waiter = C::Waiter;
+
+    fn play(&self, thread: usize) {
+        let actors = self.actors;
+        if let Some(actor) = actors.get(thread) {
+            let (arrived, timed_out, role, digit) = *actor;
+            self.act((arrived, timed_out), role, digit);
+        }
+    }
+}
+
+impl<C: Queueing> Scene<'_, C> {
+    fn act(&self, cue: Cue, role: Role, digit: u64) {
+        match role {
+            Role::Write => {
+                self.await_cue(cue);
                 self.write(digit);
             }
-            (Role::TimedCalls, Some(held)) => {
-                self.call_in_time();
-                held.release();
+            Role::TimedWrite => {
+                self.await_cue(cue);
+                self.write_within(Duration::from_millis(1), digit);
             }
-            (_, Some(held)) => held.release(),
-            (_, None) => {}
+            Role::Release(mode) => self.release(cue, mode),
+            Role::Pass => {
+                self.release(cue, Exclusive);
+                self.write(digit);
+            }
+            Role::Upgrade => self.upgrade(cue, digit),
+            Role::TimedCalls => self.call_in_time(cue),
+            Role::Nothing => self.await_cue(cue),
         }
     }
 
-    /// Acquires what the thread holds when the scene begins.
-    fn start(&self, role: Role) -> Option<CoreHold<'_, C>> {
-        let mode = match role {
-            Role::Release(mode) => mode,
-            Role::Pass | Role::TimedCalls => Exclusive,
-            Role::Upgrade => Upgradable,
-            _ => return None,
-        };
-        let token = self.core.try_acquire(mode)?;
-        Some(CoreHold {
-            core: &self.core,
-            mode,
-            token,
-        })
-    }
-
-    /// Makes 70 timed calls, which are not admitted while the core is locked.
-    fn call_in_time(&self) {
-        for _ in 0..70u32 {
-            if self.core.is_locked()
-                && let Some(held) = acquired_within(&self.core, Duration::from_micros(200))
+    /// Says that the thread has what it holds when the scene begins, and blocks until its cue.
+    fn await_cue(&self, (arrived, timed_out): Cue) {
+        self.started.fetch_add(1, Ordering::SeqCst);
+        for _ in self.core.waiter().forever() {
+            if self.started.load(Ordering::SeqCst) == 5
+                && self.core.joined() >= arrived
+                && self.timed_out.load(Ordering::SeqCst) >= timed_out
             {
-                held.release();
+                return;
             }
+            thread::yield_now();
         }
     }
 
-    fn has_come_to(&self, arrived: u64, timed_out: u64) -> bool {
-        self.started.load(Ordering::SeqCst) == 5
-            && self.core.joined() >= arrived
-            && self.timed_out.load(Ordering::SeqCst) >= timed_out
-    }
-
-    /// Appends the digit, and releases.
-    fn note(&self, held: CoreHold<'_, C>, digit: u64) {
+    /// Appends the digit, while the thread holds the core exclusively.
+    fn note(&self, digit: u64) {
         let digits = self.admitted.load(Ordering::SeqCst);
         self.admitted.store(
             digits.wrapping_mul(10).wrapping_add(digit),
             Ordering::SeqCst,
         );
-        held.release();
     }
 
     fn write(&self, digit: u64) {
-        self.note(CoreHold::acquire(&self.core, Exclusive), digit);
+        let token = self.core.acquire(Exclusive);
+        self.note(digit);
+        self.core.release(token, Exclusive);
     }
 
-    fn timed_write(&self, digit: u64) {
-        match acquired_within(&self.core, Duration::from_millis(1)) {
-            Some(held) => self.note(held, digit),
+    /// Writes if the core admits it within so long.
+    fn write_within(&self, time: Duration, digit: u64) {
+        let admitted = match self.core.instant_after(time) {
+            Some(deadline) => self.core.try_acquire_until(Exclusive, deadline),
+            None => None,
+        };
+        match admitted {
+            Some(token) => {
+                self.note(digit);
+                self.core.release(token, Exclusive);
+            }
             None => {
                 self.timed_out.fetch_add(1, Ordering::SeqCst);
             }
         }
     }
-}
 
-/// Acquires exclusively for at most so long.
-fn acquired_within<C: Queueing>(core: &C, time: Duration) -> Option<CoreHold<'_, C>> {
-    let deadline = core.instant_after(time)?;
-    let token = core.try_acquire_until(Exclusive, deadline)?;
-    Some(CoreHold {
-        core,
-        mode: Exclusive,
-        token,
-    })
+    /// Holds the mode from the begin to the cue.
+    fn release(&self, cue: Cue, mode: Mode) {
+        let held = self.core.try_acquire(mode);
+        self.await_cue(cue);
+        if let Some(token) = held {
+            self.core.release(token, mode);
+        }
+    }
+
+    /// Upgrades what it holds from the begin, at the cue.
+    fn upgrade(&self, cue: Cue, digit: u64) {
+        let held = self.core.try_acquire(Upgradable);
+        self.await_cue(cue);
+        if let Some(token) = held {
+            let token = self.core.upgrade(token);
+            self.note(digit);
+            self.core.release(token, Exclusive);
+        }
+    }
+
+    /// Makes 70 timed calls, which are not admitted while the core is locked.
+    fn call_in_time(&self, cue: Cue) {
+        let held = self.core.try_acquire(Exclusive);
+        self.await_cue(cue);
+        if let Some(token) = held {
+            for _ in 0..70u32 {
+                if self.core.is_locked() {
+                    self.write_within(Duration::from_micros(200), 0);
+                }
+            }
+            self.core.release(token, Exclusive);
+        }
+    }
 }
 
 /// Plays a scene of five threads. Returns their digits in the order of admission, and how many arrived.
@@ -201,11 +190,12 @@ where
     let core: C = LockCore::new(alloc, waiter, 4)?;
     let scene = Scene {
         core,
+        actors,
         started: AtomicU64::new(0),
         admitted: AtomicU64::new(0),
         timed_out: AtomicU64::new(0),
     };
-    thread::map_indices(rt, alloc, 5, &|index| scene.play(actors[index]))?;
+    play_in_threads(rt, alloc, 5, &scene)?;
     Ok((scene.admitted.load(Ordering::SeqCst), scene.core.joined()))
 }
 
