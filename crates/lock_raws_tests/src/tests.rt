@@ -6,7 +6,5 @@ mod held;
 mod makers;
 mod markers;
 mod meeting;
-mod queue;
-mod real_time;
 mod recording;
 mod shared;

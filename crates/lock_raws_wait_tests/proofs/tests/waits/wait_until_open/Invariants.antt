@@ -1,5 +1,5 @@
 use Rattle.std.proofs.Common.{◌≡◌, true}
-use Rattle.lock_raws_tests.proofs.tests.real_time.waits.waits_in_time.Given as goal
+use Rattle.lock_raws_wait_tests.proofs.tests.waits.wait_until_open.Given as goal
 
 -- the token is one of the mutex
 abbrev pub invariant-loop : goal.invariant-loop

@@ -1,14 +1,9 @@
-//! What timed calls answer, and that none is refused before its time.
+//! What waits answer, and that none is refused before its time.
+mod queue;
 mod timed_calls;
 mod waits;
 
-use lock_raws::LockCore;
 use std::time::{Clock, Duration, Instant};
-
-/// A core that measures time.
-pub trait TimedCore: LockCore<Duration = Duration, Instant = Instant> {}
-
-impl<C: LockCore<Duration = Duration, Instant = Instant>> TimedCore for C {}
 
 /// How long a call that is refused waits.
 fn short() -> Duration {

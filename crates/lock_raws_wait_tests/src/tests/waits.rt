@@ -1,5 +1,6 @@
 //! Waits of a condition variable that measures time.
 use super::{is_over, short};
+use lock_modes::Fault;
 use lock_raws::{SleepingCondvar, TimedRaw};
 use lock_test_support::answer::equal;
 use lock_test_support::wait_for_flag;
@@ -10,6 +11,24 @@ use std::sync::atomic::{AtomicBool, AtomicU64, Ordering};
 use std::test::Fail;
 use std::thread::{self, Threads};
 use std::time::{Clock, Duration, Instant};
+
+/// A raw lock, and a condition variable for the threads that hold it as a mutex.
+#[derive(Drop)]
+struct Signal<R: RawMutex> {
+    raw: R,
+    condvar: SleepingCondvar<R>,
+}
+
+impl<R: RawMutex + RawRwLock + Drop> Signal<R> {
+    /// Over a lock of four readers.
+    fn new(alloc: Global, waiter: <R as RawRwLock>::Waiter) -> Result<Signal<R>, Fault> {
+        let raw: R = RawRwLock::new(alloc, waiter, 4)?;
+        Ok(Signal {
+            raw,
+            condvar: RawCondvar::new(alloc)?,
+        })
+    }
+}
 
 /// Waits until the condition variable says that the time is up, for nobody notifies. Whether `short` was over then.
 fn waits_in_time<K: Clock, R: RawMutexTimed<Duration = Duration, Instant = Instant>>(
@@ -33,7 +52,7 @@ where
     Ok(is_over(clock, start))
 }
 
-/// Whether a wait at a lock of four readers times out in time.
+/// Whether a wait times out in time.
 fn times_out<T, R>(rt: &T, alloc: Global) -> Result<bool, Fail>
 where
     T: Wait + Clock + Copy + Drop,
@@ -42,9 +61,8 @@ where
         + RawRwLock<Waiter = T>
         + Drop,
 {
-    let raw: R = RawRwLock::new(alloc, *rt, 4)?;
-    let condvar: SleepingCondvar<R> = RawCondvar::new(alloc)?;
-    waits_in_time(rt, &raw, &condvar)
+    let signal: Signal<R> = Signal::new(alloc, *rt)?;
+    waits_in_time(rt, &signal.raw, &signal.condvar)
 }
 
 #[test]
@@ -98,8 +116,8 @@ where
     T: Threads + Clock + Send + Sync + Copy,
     R: RawMutex<Waiter = T> + RawRwLock<Waiter = T> + Drop + Sync,
 {
-    let raw: R = RawRwLock::new(alloc, *rt, 4)?;
-    let opened: SleepingCondvar<R> = RawCondvar::new(alloc)?;
+    let signal: Signal<R> = Signal::new(alloc, *rt)?;
+    let (raw, opened) = (&signal.raw, &signal.condvar);
     let (waiting, is_open) = (AtomicU64::new(0), AtomicBool::new(false));
     let told = thread::map_indices(
         rt,
@@ -107,14 +125,16 @@ where
         3,
         &|thread| {
             if thread == 0 {
-                return open(rt, &raw, &opened, &waiting, &is_open);
+                return open(rt, raw, opened, &waiting, &is_open);
             }
-            wait_until_open(&raw, &opened, &waiting, &is_open);
+            wait_until_open(raw, opened, &waiting, &is_open);
             0
         },
     )?;
-    equal(told.as_slice(), [2, 0, 0].as_slice())?;
-    equal((opened.notify_one(), opened.notify_all()), (false, 0))
+    equal(
+        (told.as_slice(), opened.notify_one(), opened.notify_all()),
+        ([2, 0, 0].as_slice(), false, 0),
+    )
 }
 
 #[test]
@@ -159,6 +179,25 @@ fn notify_and_hold<K: Clock, R: RawMutex>(
 }
 
 /// Whether a wait next to a notification did not time out. On a busy machine it may, but not each of five.
+fn is_notified_once_in_five<T, R>(rt: &T, raw: &R, notified: &SleepingCondvar<R>) -> bool
+where
+    T: Threads + Clock + Sync,
+    R: RawMutexTimed<Duration = Duration, Instant = Instant> + RawMutex<Waiter = T> + Sync,
+{
+    for _ in 0..5u32 {
+        let is_waiting = AtomicBool::new(false);
+        let (in_time, ()) = thread::join(
+            rt,
+            || is_notified_in_time(raw, notified, &is_waiting),
+            || notify_and_hold(rt, raw, notified, &is_waiting),
+        );
+        if in_time == Some(true) {
+            return true;
+        }
+    }
+    false
+}
+
 fn is_notified<T, R>(rt: &T, alloc: Global) -> Result<bool, Fail>
 where
     T: Threads + Clock + Send + Sync + Copy,
@@ -168,20 +207,8 @@ where
         + Drop
         + Sync,
 {
-    for _ in 0..5u32 {
-        let raw: R = RawRwLock::new(alloc, *rt, 4)?;
-        let notified: SleepingCondvar<R> = RawCondvar::new(alloc)?;
-        let is_waiting = AtomicBool::new(false);
-        let (in_time, ()) = thread::join(
-            rt,
-            || is_notified_in_time(&raw, &notified, &is_waiting),
-            || notify_and_hold(rt, &raw, &notified, &is_waiting),
-        );
-        if in_time == Some(true) {
-            return Ok(true);
-        }
-    }
-    Ok(false)
+    let signal: Signal<R> = Signal::new(alloc, *rt)?;
+    Ok(is_notified_once_in_five(rt, &signal.raw, &signal.condvar))
 }
 
 #[test]

@@ -22,34 +22,40 @@ struct OneItem<R: RawMutex> {
 impl<R: RawMutex + Drop> OneItem<R> {
     fn new(alloc: Global, waiter: R::Waiter) -> Result<OneItem<R>, Fault> {
         Ok(OneItem {
-            item: Mutex::new(alloc, waiter, None)?,
             filled: Condvar::new(alloc)?,
             emptied: Condvar::new(alloc)?,
+            item: Mutex::new(alloc, waiter, None)?,
         })
     }
 
-    /// Puts this item and those after it, each once there is room. Takes none, so their sum is 0.
+    /// Puts the next item once there is room, or with no next item takes one once there is one. Returns what it takes.
+    fn swap(&self, next: Option<u64>) -> Option<u64> {
+        let (ready, swapped) = match next {
+            Some(_) => (&self.emptied, &self.filled),
+            None => (&self.filled, &self.emptied),
+        };
+        let mut slot = self.item.lock();
+        ready.wait_while(&mut slot, |slot| slot.is_some() == next.is_some());
+        let taken = *slot;
+        *slot = next;
+        drop(slot);
+        swapped.notify_one();
+        taken
+    }
+
+    /// Puts this item and those after it. Takes none, so their sum is 0.
     fn produce(&self, first: u64) -> u64 {
         for index in 0..EACH {
-            let mut slot = self.item.lock();
-            self.emptied.wait_while(&mut slot, |slot| slot.is_some());
-            *slot = Some(first.wrapping_add(index));
-            drop(slot);
-            self.filled.notify_one();
+            self.swap(Some(first.wrapping_add(index)));
         }
         0
     }
 
-    /// Takes items, each once there is one, and returns their sum.
+    /// Takes items, and returns their sum.
     fn consume(&self) -> u64 {
         let mut sum: u64 = 0;
         for _ in 0..EACH {
-            let mut slot = self.item.lock();
-            self.filled.wait_while(&mut slot, |slot| slot.is_none());
-            sum = sum.wrapping_add(slot.unwrap_or(0));
-            *slot = None;
-            drop(slot);
-            self.emptied.notify_one();
+            sum = sum.wrapping_add(self.swap(None).unwrap_or(0));
         }
         sum
     }
