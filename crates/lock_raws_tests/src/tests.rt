@@ -3,6 +3,7 @@ mod actions;
 mod cases;
 mod foreign_tokens;
 mod held;
+mod helpers;
 mod makers;
 mod markers;
 mod meeting;
