@@ -14,7 +14,6 @@ mod seated;
 mod shared_permits;
 mod shelf;
 mod spin_lock;
-mod tries;
 
 /// The word while a writer holds the lock and none waits: bit 33 alone.
 const WRITER_ALONE: u64 = 8_589_934_592;

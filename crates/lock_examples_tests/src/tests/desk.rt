@@ -1,7 +1,7 @@
 //! The examples of a `Desk` and of a journal: the calls succeed with ample memory.
 use lock_api::model::{Bag, Mode, ModeStep, PackedWord, Reply, TokenTable};
 use lock_api::raw::RecordingRaw;
-use lock_api::{Mutex, PartyId, RawMutex};
+use lock_api::{Mutex, PartyId};
 use lock_examples::desk::{audit, audit_lock, deposit_under_lock, two_parties_acquire};
 use std::alloc::Global;
 use std::clone::Clone;
@@ -26,17 +26,13 @@ fn a_deposit_is_replied_to(rt: HostRuntime) -> Result<(), Fail> {
     Ok(())
 }
 
-fn write<R: RawMutex>(mutex: &Mutex<R, u64>, value: u64) {
-    *mutex.lock() = value;
-}
-
 /// The value of a mutex after 5 was written to it, and what an audit of its journal finds.
 fn write_and_audit<W: Wait + Clone + Drop>(
     alloc: Global,
     waiter: W,
 ) -> Result<(u64, Result<Bag, usize>), Fail> {
     let mutex: Mutex<RecordingRaw<W>, u64> = Mutex::new(alloc, waiter, 0)?;
-    write(&mutex, 5);
+    *mutex.lock() = 5;
     let (raw, value) = mutex.into_inner_with_raw();
     Ok((value, audit_lock(alloc, &raw)?))
 }

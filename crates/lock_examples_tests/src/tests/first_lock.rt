@@ -1,42 +1,30 @@
 //! The first locks, by names that fix their raw lock.
 use crate::tests::in_threads::twice;
-use crate::tests::tries::admits_a_writer;
-use lock_api::{
-    FairMutex, Mutex, RawMutex, RawRwLock, RawRwLockUpgradeDowngrade, RwLock,
-    RwLockUpgradableReadGuard, WordMutex, WordRwLock,
-};
+use lock_api::raw::{LockCore, RawLock};
+use lock_api::{FairMutex, RwLock, RwLockUpgradableReadGuard, WordMutex, WordRwLock};
 use std::test::Fail;
 use std::thread;
-
-/// Writes 5 through a guard. Returns whether the mutex is refused to others meanwhile, and what the next guard reads.
-fn write_and_read<R: RawMutex>(count: &Mutex<R, u64>) -> (bool, u64) {
-    let mut guard = count.lock();
-    *guard = 5;
-    let is_refused = count.try_lock().is_none();
-    drop(guard);
-    (is_refused, *count.lock())
-}
 
 #[test]
 fn a_value_is_locked(rt: HostRuntime) -> Result<(), Fail> {
     let count = WordMutex::new(rt.alloc(), rt, 0u64)?;
-    assert_eq!(rt; write_and_read(&count), (true, 5));
+    let mut guard = count.lock();
+    *guard = 5;
+    assert!(rt; count.try_lock().is_none());
+    drop(guard);
+    assert_eq!(rt; *count.lock(), 5);
     Ok(())
-}
-
-/// Adds to the count, and returns the sum.
-fn add<R: RawMutex>(count: &Mutex<R, u64>, number: u64) -> u64 {
-    count.with(|value| {
-        *value = value.wrapping_add(number);
-        *value
-    })
 }
 
 #[test]
 fn two_threads_share_a_mutex(rt: HostRuntime) -> Result<(), Fail> {
     let count = WordMutex::new(rt.alloc(), rt, 0u64)?;
-    thread::join(&rt, || add(&count, 2), || add(&count, 3));
-    assert_eq!(rt; add(&count, 0), 5);
+    thread::join(
+        &rt,
+        || count.with(|value| *value = value.wrapping_add(2)),
+        || count.with(|value| *value = value.wrapping_add(3)),
+    );
+    assert_eq!(rt; count.with(|value| *value), 5);
     Ok(())
 }
 
@@ -48,43 +36,38 @@ fn two_threads_share_a_fair_mutex(rt: HostRuntime) -> Result<(), Fail> {
     Ok(())
 }
 
-fn read<R: RawRwLock>(lock: &RwLock<R, u64>) -> u64 {
-    lock.with_read(|value| *value)
-}
-
-/// What a second reader reads of the lock.
-fn read_beside_a_reader<R: RawRwLock>(lock: &RwLock<R, u64>) -> u64 {
-    let _reader = lock.read();
-    read(lock)
-}
-
-/// What a second reader reads of a lock of 7, and what one reads after a write of 8. Then whether the lock is held.
-fn seen_around_a_write<R: RawRwLock>(lock: &RwLock<R, u64>) -> ([u64; 2], bool) {
-    let before = read_beside_a_reader(lock);
+/// What a reader reads of a lock of 7 while another reader holds it, and what one reads after a write of 8. Then whether
+/// the lock is held.
+fn seen_around_a_write<C: LockCore>(lock: RwLock<RawLock<C>, u64>) -> ([u64; 2], bool) {
+    let reader = lock.read();
+    let before = lock.with_read(|value| *value);
+    drop(reader);
     lock.with_write(|value| *value = 8);
-    ([before, read(lock)], lock.is_locked())
+    let after = lock.with_read(|value| *value);
+    ([before, after], lock.is_locked())
 }
 
 #[test]
 fn readers_and_a_writer_run_closures(rt: HostRuntime) -> Result<(), Fail> {
     let lock = WordRwLock::new(rt.alloc(), rt, 7u64)?;
-    assert_eq!(rt; seen_around_a_write(&lock), ([7, 8], false));
+    assert_eq!(rt; seen_around_a_write(lock), ([7, 8], false));
     Ok(())
 }
 
-/// What a downgraded guard reads, and whether a writer and an upgradable reader are admitted beside it.
-fn beside_a_downgraded_guard<R: RawRwLockUpgradeDowngrade>(
-    lock: &RwLock<R, u64>,
-) -> (u64, [bool; 2]) {
+/// What a downgraded guard reads. Then whether a writer and an upgradable reader are admitted beside it, and whether a
+/// writer is once it has ended.
+fn beside_a_downgraded_guard<C: LockCore>(lock: RwLock<RawLock<C>, u64>) -> (u64, [bool; 3]) {
     let reader = RwLockUpgradableReadGuard::downgrade(lock.upgradable_read());
+    let writes = lock.try_write().is_some();
     let upgrades = lock.try_upgradable_read().is_some();
-    (*reader, [admits_a_writer(lock), upgrades])
+    let value = *reader;
+    drop(reader);
+    (value, [writes, upgrades, lock.try_write().is_some()])
 }
 
 #[test]
 fn a_downgraded_guard_shows_the_value(rt: HostRuntime) -> Result<(), Fail> {
     let lock = WordRwLock::new(rt.alloc(), rt, 7u64)?;
-    assert_eq!(rt; beside_a_downgraded_guard(&lock), (7, [false, true]));
-    assert!(rt; admits_a_writer(&lock));
+    assert_eq!(rt; beside_a_downgraded_guard(lock), (7, [false, true, true]));
     Ok(())
 }

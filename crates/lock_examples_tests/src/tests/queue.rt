@@ -1,6 +1,5 @@
 //! Producers and consumers on threads.
-use lock_api::raw::{SleepingCondvar, SpuriousCondvar, TokenRaw, WordRaw};
-use lock_api::{RawCondvar, RawCondvarTimed, RawMutex, RawMutexTimed};
+use lock_api::raw::{LockCore, RawLock, SleepingCondvar, SpuriousCondvar, TokenRaw, WordRaw};
 use lock_examples::Queue;
 use std::alloc::{AllocError, Global};
 use std::sync::Wait;
@@ -22,8 +21,8 @@ trait Belt {
     fn consume(&self, alloc: Global) -> Result<Vec<u64>, AllocError>;
 }
 
-impl<C: RawCondvar> Belt for Queue<C, u64> {
-    type Waiter = <C::RawMutex as RawMutex>::Waiter;
+impl<C: LockCore> Belt for Queue<SleepingCondvar<RawLock<C>>, u64> {
+    type Waiter = C::Waiter;
 
     fn produce(&self, first: u64) {
         for item in first..first.saturating_add(EACH) {
@@ -71,22 +70,20 @@ fn hand_on<T: Threads + Sync, B: Belt + Sync>(
 fn each_item_arrives_once(rt: HostRuntime) -> Result<(), Fail> {
     let alloc: Global = rt.alloc();
     let queue: Queue<SleepingCondvar<WordRaw<HostRuntime>>, u64> = Queue::new(alloc, rt, 7)?;
-    let popped = hand_on(&rt, &queue, alloc);
-    assert_eq!(rt; queue.try_pop(), None);
-    drop(queue);
+    let popped = hand_on(&rt, &queue, alloc)?;
     let mut pushed = Vec::new(alloc);
     for item in 0..2 * EACH {
         pushed.push(item)?;
     }
-    assert!(rt; popped? == pushed);
+    assert!(rt; popped == pushed);
+    assert_eq!(rt; queue.try_pop(), None);
     Ok(())
 }
 
 /// What a queue of two places answers to pushes of 2 to 5, after one of 1, and to four pops. The first pop makes room for 5.
-fn fill<C: RawCondvarTimed>(queue: &Queue<C, u64>) -> ([Result<(), u64>; 4], [Option<u64>; 4])
-where
-    C::RawMutex: RawMutexTimed<Duration = ()>,
-{
+fn fill<C: LockCore<Duration = (), Instant = ()>>(
+    queue: &Queue<SpuriousCondvar<RawLock<C>>, u64>,
+) -> ([Result<(), u64>; 4], [Option<u64>; 4]) {
     queue.push(1);
     let full = [queue.try_push(2), queue.try_push(3), queue.push_for(4, ())];
     let first = Some(queue.pop());

@@ -1,7 +1,7 @@
 //! Ranked locks: what a server, a limit and a bank answer, and a bank on eight threads.
+use lock_api::Fault;
 use lock_api::ranked::{AtRank, Order, ThreadOrder, join_ranked};
-use lock_api::raw::{SleepingCondvar, WordRaw};
-use lock_api::{RawCondvar, RawMutex, RawRwLockUpgrade};
+use lock_api::raw::{LockCore, RawLock, SleepingCondvar, WordRaw};
 use lock_ranked_examples::{Accounts, Limits, Server, open, total, transfer_both_ways};
 use std::alloc::Global;
 use std::test::Fail;
@@ -9,9 +9,12 @@ use std::thread::Threads;
 
 type Raw = WordRaw<HostRuntime>;
 
+/// A server whose threads sleep on their core's waiters.
+type SleepingServer<C> = Server<SleepingCondvar<RawLock<C>>>;
+
 /// The places of three clients, of one that tries, and of one more.
-fn enter_all<C: RawCondvar>(
-    server: &Server<C>,
+fn enter_all<C: LockCore>(
+    server: &SleepingServer<C>,
     order: &mut Order<'_, AtRank<0>>,
 ) -> ([Option<u64>; 3], [Option<u64>; 2]) {
     let entered = [
@@ -32,7 +35,7 @@ trait PlacesGivenBack {
     fn clear(&self, order: &mut Order<'_, AtRank<0>>) -> u64;
 }
 
-impl<C: RawCondvar> PlacesGivenBack for Server<C> {
+impl<C: LockCore> PlacesGivenBack for SleepingServer<C> {
     fn wait(&self, order: &mut Order<'_, AtRank<0>>) {
         self.wait_for_place(order);
     }
@@ -74,8 +77,8 @@ fn a_server_admits_two_clients(rt: HostRuntime) -> Result<(), Fail> {
 }
 
 /// Whether a lower and a higher limit are raised to, and the limit with the number of its changes after that.
-fn raise_twice<R: RawRwLockUpgrade>(
-    limits: &Limits<R>,
+fn raise_twice<C: LockCore>(
+    limits: &Limits<RawLock<C>>,
     order: &mut Order<'_, AtRank<0>>,
 ) -> ([bool; 2], [(u64, u64); 2]) {
     let raised = [limits.raise(order, 5), limits.raise(order, 20)];
@@ -106,7 +109,7 @@ trait Works {
     fn work(&self, alloc: Global, order: &mut Order<'_, AtRank<0>>, number: usize) -> bool;
 }
 
-impl<R: RawMutex> Works for Accounts<R> {
+impl<C: LockCore> Works for Accounts<RawLock<C>> {
     /// Threads with even numbers move money up and down, two others in the other direction; the last two add all up.
     fn work(&self, alloc: Global, order: &mut Order<'_, AtRank<0>>, number: usize) -> bool {
         let (from, to) = (number % 4, number.wrapping_add(1) % 4);
@@ -123,8 +126,8 @@ impl<R: RawMutex> Works for Accounts<R> {
 }
 
 /// Whether the accounts have the same sum each time.
-fn has_all<R: RawMutex>(
-    accounts: &Accounts<R>,
+fn has_all<C: LockCore>(
+    accounts: &Accounts<RawLock<C>>,
     alloc: Global,
     order: &mut Order<'_, AtRank<0>>,
 ) -> bool {

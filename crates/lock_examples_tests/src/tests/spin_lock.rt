@@ -1,6 +1,5 @@
 //! The raw lock that spins, under both locks.
 use crate::tests::in_threads::twice;
-use crate::tests::tries::{admits_a_reader, admits_a_writer};
 use lock_api::{Mutex, RawMutex, RawRwLock, RwLock};
 use lock_examples::SpinLock;
 use std::test::Fail;
@@ -19,7 +18,7 @@ fn two_threads_count_under_a_mutex(rt: HostRuntime) -> Result<(), Fail> {
 /// What two readers read at a time, and whether a third one and a writer are refused meanwhile.
 fn read_together<R: RawRwLock>(lock: &RwLock<R, u64>) -> ((u64, u64), [bool; 2]) {
     let readers = (lock.read(), lock.read());
-    let kept_out = [!admits_a_reader(lock), !admits_a_writer(lock)];
+    let kept_out = [lock.try_read().is_none(), lock.try_write().is_none()];
     ((*readers.0, *readers.1), kept_out)
 }
 
@@ -27,7 +26,7 @@ fn read_together<R: RawRwLock>(lock: &RwLock<R, u64>) -> ((u64, u64), [bool; 2])
 fn write_alone<R: RawRwLock>(lock: &RwLock<R, u64>) -> [bool; 2] {
     let mut writer = lock.write();
     *writer = 8;
-    [lock.is_locked_exclusive(), !admits_a_reader(lock)]
+    [lock.is_locked_exclusive(), lock.try_read().is_none()]
 }
 
 #[test]
