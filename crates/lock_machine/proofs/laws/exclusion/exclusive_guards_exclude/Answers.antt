@@ -1,5 +1,0 @@
-use Rattle.lock_machine.proofs.Outsiders.{exclusive_excludes, mutex_excludes}
-use Rattle.lock_machine.proofs.laws.exclusion.exclusive_guards_exclude.Goals as goal
-
-pub returns : goal.returns
-returns g c = record { exclusive = exclusive_excludes; mutex = mutex_excludes }

@@ -1,5 +1,0 @@
-use Rattle.lock_machine.proofs.KeptRefusals.{upgrades_keep}
-use Rattle.lock_machine.proofs.laws.kept.refused_upgrades_keep_guard.Goals as goal
-
-pub returns : goal.returns
-returns g c = upgrades_keep g.O.Op.meaning

@@ -1,5 +1,0 @@
-use Rattle.lock_machine.proofs.Written.{only_writes}
-use Rattle.lock_machine.proofs.laws.values.only_writes_change_value.Goals as goal
-
-pub returns : goal.returns
-returns g c = only_writes g.O.Op.meaning
