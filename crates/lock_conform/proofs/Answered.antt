@@ -6,8 +6,8 @@ use Rattle.std.proofs.lemmas.List.{take_more, take_all, map-append, length_push}
 use Rattle.std.proofs.lemmas.Option.{slice_get_within, get_or_from_slice_get}
 use Rattle.lock_machine.specs.declared.reply.Reply.{Reply}
 use Rattle.lock_conform.specs.declared.comparison.Comparison.{Comparison}
-use Rattle.lock_conform.specs.declared.difference.Difference.{Difference}
-use Rattle.lock_conform.specs.declared.report_entry.ReportEntry.{ReportEntry}
+use Rattle.lock_conform.specs.declared.report.Difference.{Difference}
+use Rattle.lock_conform.specs.declared.report.ReportEntry.{ReportEntry}
 use Rattle.lock_conform.specs.Done.{lines_done}
 use Rattle.lock_conform.specs.Entries.{replies_of, IsSilentIfRefused}
 

@@ -4,7 +4,7 @@ use Rattle.std.specs.List.{slice_get}
 use Rattle.lock_machine.specs.declared.call.Call.{Call}
 use Rattle.lock_machine.specs.declared.reply.Reply.{Reply}
 use Rattle.lock_script.specs.declared.pair.PairOp.{PairOp}
-use Rattle.lock_conform.specs.declared.difference.Difference.{Difference}
+use Rattle.lock_conform.specs.declared.report.Difference.{Difference}
 
 -- the difference is at the call that so many calls precede: its call, the reply of the `Desk`, and another one. The
 -- first line of the script makes the lock

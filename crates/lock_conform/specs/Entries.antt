@@ -1,7 +1,7 @@
 -- The entries of a report.
 use Rattle.std.specs.Prelude.{◌≡◌, ℤ, List, [], map}
 use Rattle.lock_machine.specs.declared.reply.Reply.{Reply}
-use Rattle.lock_conform.specs.declared.report_entry.ReportEntry.{ReportEntry}
+use Rattle.lock_conform.specs.declared.report.ReportEntry.{ReportEntry}
 use Rattle.lock_conform.specs.Refusals.{IsOutright}
 
 -- the replies of the entries

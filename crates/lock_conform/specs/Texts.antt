@@ -4,7 +4,7 @@ use Rattle.std.specs.List.{flat_map}
 use Rattle.lock_machine.specs.declared.reply.Reply.{Reply}
 use Rattle.lock_script.specs.declared.answer.Answer.{Answer}
 use Rattle.lock_script.specs.Answers.{answer_line}
-use Rattle.lock_conform.specs.declared.report_entry.ReportEntry.{ReportEntry}
+use Rattle.lock_conform.specs.declared.report.ReportEntry.{ReportEntry}
 use Rattle.lock_conform.specs.declared.report.Report.{Report}
 use Rattle.lock_test_support.specs.declared.raw_lock.raw_call.RawCall.{RawCall}
 use Rattle.lock_test_support.specs.RawCalls.{raw_call_line}

@@ -3,10 +3,8 @@ ghost use Rattle.std.specs.Prelude.{◌≡◌, length, take, IfSome};
 ghost use Rattle.lock_conform.specs.Differences.{IsAt};
 ghost use Rattle.lock_conform.specs.Entries.{replies_of};
 
-use crate::difference::Difference;
 use crate::lines::Lines;
-use crate::report::Report;
-use crate::report_entry::ReportEntry;
+use crate::report::{Difference, Report, ReportEntry};
 use crate::script_call::ScriptCall;
 use lock_machine::Reply;
 use lock_test_support::raw_lock::CallLog;

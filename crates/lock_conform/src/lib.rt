@@ -2,7 +2,6 @@
 #![tactic(auto)]
 
 mod comparison;
-mod difference;
 mod driven;
 mod lines;
 mod manner;
@@ -12,7 +11,6 @@ mod parts;
 mod plain_raw;
 mod reentrant;
 mod report;
-mod report_entry;
 mod report_text;
 mod rw_guard;
 mod rwlock;
@@ -20,7 +18,6 @@ mod script_call;
 mod script_guards;
 mod script_run;
 
-pub use difference::Difference;
 pub use driven::{After, Driven, ScriptGuard};
 pub use lines::Lines;
 pub use lock_script::{DeskScript, parse};
@@ -31,8 +28,7 @@ pub use operation::{ask, change};
 pub use parts::{RunParts, run_parts};
 pub use plain_raw::PlainRaw;
 pub use reentrant::run_reentrant;
-pub use report::Report;
-pub use report_entry::ReportEntry;
+pub use report::{Difference, Report, ReportEntry};
 pub use report_text::write_report;
 pub use rw_guard::{AnyGuard, RwDriven, RwGuard};
 pub use rwlock::run_rwlock;

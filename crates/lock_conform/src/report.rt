@@ -1,6 +1,9 @@
 //! What came of a script.
-use crate::difference::Difference;
-use crate::report_entry::ReportEntry;
+ghost use Rattle.std.specs.Prelude.{◌≡◌, []};
+ghost use Rattle.lock_conform.specs.Refusals.{IsOutright};
+
+use lock_machine::{Call, Reply};
+use lock_script::PairOp;
 use lock_test_support::raw_lock::RawCall;
 
 /// What came of a script on a lock.
@@ -12,4 +15,25 @@ pub struct Report {
     pub difference: Option<Difference>,
     /// The raw calls of the guards that are released at the end.
     pub last_calls: Vec<RawCall>,
+}
+
+/// The answer to a line of a script, and the raw calls that the line made. A call that the `Desk` refuses makes none,
+/// unless it is refused because it would block.
+#[derive(Drop)]
+pub struct ReportEntry {
+    pub reply: Reply<i64>,
+    pub raw_calls: Vec<RawCall>,
+    pub ghost silent: { IsOutright reply → raw_calls.items ≡ [] },
+}
+
+/// The answer of a lock to a line of a script, where the `Desk` replies otherwise.
+#[derive(Clone, Copy, PartialEq, Eq, Debug)]
+pub struct Difference {
+    /// The line of the script, counted from 1.
+    pub line: u64,
+    pub call: Call<PairOp>,
+    /// The reply of the `Desk`.
+    pub wanted: Reply<i64>,
+    /// The reply of the lock.
+    pub found: Reply<i64>,
 }

@@ -3,8 +3,7 @@ ghost use Rattle.std.specs.Prelude.{◌≡◌, ◌++◌, IfOk, OnOk, string_byte
 ghost use Rattle.std.specs.List.{flat_map};
 ghost use Rattle.lock_conform.specs.Texts.{entry_text, raw_call_lines, report_text};
 
-use crate::report::Report;
-use crate::report_entry::ReportEntry;
+use crate::report::{Report, ReportEntry};
 use lock_machine::Reply;
 use lock_script::{Answer, write_answer};
 use lock_test_support::raw_lock::RawCall;

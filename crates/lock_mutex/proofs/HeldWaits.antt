@@ -10,8 +10,8 @@ use Rattle.lock_guard.specs.Inner.{inner_value}
 use Rattle.lock_mutex.specs.declared.waiting.Waiting.{Waiting}
 use Rattle.lock_mutex.specs.Waiting.{false_not_true, inner_value-filled, waiting_value, waiting_with_value, waiting_value-with, waiting_gives}
 use Rattle.lock_mutex.specs.WaitsWhile.{end_of, WaitsWhile}
-use Rattle.lock_mutex.specs.declared.condition_loop.loop_end.LoopEnd.{LoopEnd}
-use Rattle.lock_mutex.specs.declared.condition_loop.loop_end.LoopEnd.TheVariants.{False, TimedOut, RanOut}
+use Rattle.lock_mutex.specs.declared.condition_loop.LoopEnd.{LoopEnd}
+use Rattle.lock_mutex.specs.declared.condition_loop.LoopEnd.TheVariants.{False, TimedOut, RanOut}
 use Rattle.lock_mutex.specs.ConditionLoop.{Check, InTurn, last_of, EndsBy, ConditionLoop}
 use Rattle.lock_mutex.specs.ValueLoop.{ValueLoop}
 use Rattle.lock_mutex.proofs.Values.{value_loop}

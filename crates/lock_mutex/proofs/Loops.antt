@@ -4,8 +4,8 @@ use Rattle.std.specs.Borrow.{MutBor}
 use Rattle.std.specs.Fn.{Mut}
 use Rattle.std.proofs.Common.{◌∙◌, sym, subst}
 use denote.Param.Members.{Called}
-use Rattle.lock_mutex.specs.declared.condition_loop.loop_end.LoopEnd.{LoopEnd}
-use Rattle.lock_mutex.specs.declared.condition_loop.loop_end.LoopEnd.TheVariants.{False, TimedOut, RanOut}
+use Rattle.lock_mutex.specs.declared.condition_loop.LoopEnd.{LoopEnd}
+use Rattle.lock_mutex.specs.declared.condition_loop.LoopEnd.TheVariants.{False, TimedOut, RanOut}
 use Rattle.lock_mutex.specs.ConditionLoop.{Check, InTurn, last_of, EndsBy, ConditionLoop}
 
 module _ {F W X : Type 0} (calls : Mut F (MutBor X × Unit {0}) (Bool × (MutBor X × Unit {0}))) (current : W → X)

@@ -2,7 +2,7 @@
 use Rattle.std.specs.Prelude.{Bool, false, Option, IsSome}
 use Rattle.std.specs.Borrow.{MutBor}
 use Rattle.std.specs.Fn.{Mut}
-use Rattle.lock_mutex.specs.declared.condition_loop.loop_end.LoopEnd.{LoopEnd}
+use Rattle.lock_mutex.specs.declared.condition_loop.LoopEnd.{LoopEnd}
 use Rattle.lock_mutex.specs.ConditionLoop.{ConditionLoop}
 
 -- a wait may leave any value, and there is always one more

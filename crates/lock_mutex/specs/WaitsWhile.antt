@@ -3,8 +3,8 @@ use Rattle.std.specs.Prelude.{◌≡◌, Bool, Option, Some, if◌then◌else◌
 use Rattle.std.specs.Borrow.{MutBor}
 use Rattle.std.specs.Fn.{Mut}
 use Rattle.lock_mutex.specs.declared.wait_timeout_result.WaitTimeoutResult.{WaitTimeoutResult}
-use Rattle.lock_mutex.specs.declared.condition_loop.loop_end.LoopEnd.{LoopEnd}
-use Rattle.lock_mutex.specs.declared.condition_loop.loop_end.LoopEnd.TheVariants.{False, TimedOut}
+use Rattle.lock_mutex.specs.declared.condition_loop.LoopEnd.{LoopEnd}
+use Rattle.lock_mutex.specs.declared.condition_loop.LoopEnd.TheVariants.{False, TimedOut}
 use Rattle.lock_mutex.specs.ValueLoop.{ValueLoop}
 
 -- whether the wait timed out

@@ -2,7 +2,6 @@
 mod acquire;
 mod guard;
 mod owned;
-mod text;
 
 pub use guard::{
     ArcModeGuard, ArcRwLockGuard, ArcRwLockReadGuard, ArcRwLockUpgradableReadGuard,

@@ -15,6 +15,8 @@ use crate::mode::{Exclusive, FairMode, LockMode, Shared, Upgradable};
 use lock_guard::guard::{Acquire, AcquireFair, Held, Release, another_owner};
 use lock_modes::Fault;
 use lock_traits::RawRwLock;
+use std::fmt;
+use std::fmt::{Debug, Display, Formatter};
 use std::sync::Arc;
 
 /// A guard of a lock in the mode `M` that owns a reference to the lock. It releases the lock on drop, and lends the
@@ -142,5 +144,24 @@ impl<M: FairMode<R>, R: RawRwLock + Drop, T: Drop> ArcModeGuard<OwnedInMode<M, R
         ensures { arc_of guard.new ≡ arc_of guard.old }
     {
         guard.held.bump();
+    }
+}
+
+/// The text is that of the value, whose lock is held for the length of the call.
+impl<L: ReadValue> Debug for ArcModeGuard<L>
+where
+    L::Value: Debug,
+{
+    fn fmt<W: fmt::Write>(&self, f: &mut Formatter<W>) -> fmt::Result {
+        self.held.lock.read_value(|value| value.fmt(f))
+    }
+}
+
+impl<L: ReadValue> Display for ArcModeGuard<L>
+where
+    L::Value: Display,
+{
+    fn fmt<W: fmt::Write>(&self, f: &mut Formatter<W>) -> fmt::Result {
+        self.held.lock.read_value(|value| value.fmt(f))
     }
 }

@@ -1,6 +1,6 @@
 use Rattle.std.proofs.Common.{rules, ◌≡◌, ◌∙◌}
 use Rattle.lock_mutex.proofs.Loops.{only_false}
-use Rattle.lock_mutex.specs.declared.condition_loop.loop_end.LoopEnd.TheVariants.{False, TimedOut}
+use Rattle.lock_mutex.specs.declared.condition_loop.LoopEnd.TheVariants.{False, TimedOut}
 use Rattle.lock_mutex.specs.Waiting.{answers_as}
 use Rattle.lock_mutex.proofs.HeldWaits.{keeps_lock, timed_out_slept, waits_while}
 use Rattle.lock_mutex.proofs.waiting.sleep_while.Goals as goal

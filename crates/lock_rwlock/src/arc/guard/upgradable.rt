@@ -1,4 +1,4 @@
-//! What an upgradable guard can do besides.
+//! Upgrades and downgrades of a guard that owns a reference to its lock.
 ghost use Rattle.std.specs.Prelude.{◌≡◌, IfSome, IfNone, MatchResult};
 ghost use Rattle.std.specs.Arc.{arc_value};
 ghost use Rattle.std.specs.Result.{result_ok};

@@ -1,4 +1,4 @@
-//! What a write guard can do besides.
+//! Writes and downgrades by a write guard that owns a reference to its lock.
 ghost use Rattle.std.specs.Prelude.{◌≡◌};
 ghost use Rattle.lock_guard.specs.Closure.{AnswersSomeValue};
 ghost use Rattle.lock_rwlock.specs.ArcRwLockGuard.{arc_of};

@@ -1,7 +1,7 @@
 use denote.Param.Always.{mut_next}
 use Rattle.std.proofs.Common.{refl}
 use Rattle.lock_mutex.proofs.Loops.{was_false, was_timed_out, ran_out, one_more}
-use Rattle.lock_mutex.proofs.condition_loop.run.run_loop.Goals as goal
+use Rattle.lock_mutex.proofs.condition_loop.run_loop.Goals as goal
 
 pub returns-then-not-condition : goal.returns-then-not-condition
 returns-then-not-condition g c =

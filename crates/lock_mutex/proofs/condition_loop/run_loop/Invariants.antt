@@ -1,7 +1,7 @@
 use Rattle.std.proofs.Common.{false}
 use denote.Param.Always.{always_mut}
 use Rattle.lock_mutex.specs.ConditionLoop.{ConditionLoop}
-use Rattle.lock_mutex.proofs.condition_loop.run.run_loop.Given as goal
+use Rattle.lock_mutex.proofs.condition_loop.run_loop.Given as goal
 
 -- a loop from here on is, with the checks up to here in front, a loop from the start
 abbrev pub invariant-loop : goal.invariant-loop
