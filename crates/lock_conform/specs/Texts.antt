@@ -6,8 +6,8 @@ use Rattle.lock_script.specs.declared.answer.Answer.{Answer}
 use Rattle.lock_script.specs.Answers.{answer_line}
 use Rattle.lock_conform.specs.declared.report.ReportEntry.{ReportEntry}
 use Rattle.lock_conform.specs.declared.report.Report.{Report}
-use Rattle.lock_test_support.specs.declared.raw_lock.raw_call.RawCall.{RawCall}
-use Rattle.lock_test_support.specs.RawCalls.{raw_call_line}
+use Rattle.lock_recorder.specs.declared.raw_call.RawCall.{RawCall}
+use Rattle.lock_recorder.specs.RawCalls.{raw_call_line}
 
 -- a line for each raw call, where they are printed
 abbrev pub raw_call_lines : Bool → List RawCall → List ℕ

@@ -7,7 +7,7 @@ use crate::lines::Lines;
 use crate::report::{Difference, Report, ReportEntry};
 use crate::script_call::ScriptCall;
 use lock_machine::Reply;
-use lock_test_support::raw_lock::CallLog;
+use lock_recorder::CallLog;
 use std::alloc::{AllocError, Global};
 
 /// The lines of a script, and the answers of a lock so far: the first replies of the `Desk`, up to a difference.

@@ -20,8 +20,8 @@ mod script_run;
 
 pub use driven::{After, Driven, ScriptGuard};
 pub use lines::Lines;
+pub use lock_recorder::{CallLog, Deadline, RawCall, Recorder};
 pub use lock_script::{DeskScript, parse};
-pub use lock_test_support::raw_lock::{CallLog, Deadline, RawCall, Recorder};
 pub use manner::{Manner, ParkBy};
 pub use mutex::run_mutex;
 pub use operation::{ask, change};

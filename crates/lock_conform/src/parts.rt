@@ -5,8 +5,8 @@ ghost use Rattle.lock_conform.specs.Makers.{IsRunFault, kind_of};
 
 use crate::lines::Lines;
 use lock_modes::{Fault, Kind};
+use lock_recorder::{CallLog, Recorder};
 use lock_script::{DeskScript, Maker, Pair};
-use lock_test_support::raw_lock::{CallLog, Recorder};
 use std::alloc::Global;
 use std::sync::Arc;
 

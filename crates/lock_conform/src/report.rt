@@ -3,8 +3,8 @@ ghost use Rattle.std.specs.Prelude.{◌≡◌, []};
 ghost use Rattle.lock_conform.specs.Refusals.{IsOutright};
 
 use lock_machine::{Call, Reply};
+use lock_recorder::RawCall;
 use lock_script::PairOp;
-use lock_test_support::raw_lock::RawCall;
 
 /// What came of a script on a lock.
 #[derive(Drop)]

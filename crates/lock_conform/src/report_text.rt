@@ -5,8 +5,8 @@ ghost use Rattle.lock_conform.specs.Texts.{entry_text, raw_call_lines, report_te
 
 use crate::report::{Report, ReportEntry};
 use lock_machine::Reply;
+use lock_recorder::RawCall;
 use lock_script::{Answer, write_answer};
-use lock_test_support::raw_lock::RawCall;
 use std::alloc::{AllocError, Global};
 
 /// Returns the answers, a line each, as `lockreplay` prints them. If `prints_calls` is set, a line for each raw call

@@ -14,12 +14,12 @@ use crate::script_run::run_on;
 use lock_guard::guard::{AcquireFair, ValueGuard};
 use lock_machine::{Call, Form, Reply, Want, Way};
 use lock_modes::{Fault, Kind, PartyId};
+use lock_recorder::Deadline;
 use lock_rwlock::{
     ArcRwLockGuard, ArcRwLockReadGuard, ArcRwLockUpgradableReadGuard, ArcRwLockWriteGuard,
     FairMode, RwLock, RwLockGuard, RwLockReadGuard, RwLockUpgradableReadGuard, RwLockWriteGuard,
 };
 use lock_script::{DeskScript, Pair, PairOp};
-use lock_test_support::raw_lock::Deadline;
 use lock_traits::{
     RawRwLock, RawRwLockUpgradeDowngrade, RawRwLockUpgradeFair, RawRwLockUpgradeTimed,
 };

@@ -13,8 +13,8 @@ use crate::script_call::ScriptCall;
 use crate::script_guards::{GuardState, ScriptGuards};
 use lock_machine::{Call, Form, Reply, Want, Way};
 use lock_modes::{Fault, PartyId};
+use lock_recorder::CallLog;
 use lock_script::PairOp;
-use lock_test_support::raw_lock::CallLog;
 use std::alloc::{AllocError, Global};
 
 /// Makes the lines of a script on a lock, whose raw calls the log records.

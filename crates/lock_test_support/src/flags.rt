@@ -2,7 +2,7 @@
 ghost use Rattle.std.specs.Prelude.{true};
 ghost use Rattle.std.specs.Fn.{FnReturns};
 
-use crate::raw_lock::CallLog;
+use lock_recorder::CallLog;
 use std::sync::Wait;
 use std::sync::atomic::{AtomicBool, Ordering};
 use std::thread;

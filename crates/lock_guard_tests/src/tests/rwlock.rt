@@ -9,10 +9,11 @@ mod upgrades;
 
 use lock_modes::Fault;
 use lock_raws::TokenRaw;
+use lock_recorder::Recorder;
 use lock_rwlock::RwLock;
 use lock_test_support::answer::equal;
 use lock_test_support::project::Nested;
-use lock_test_support::raw_lock::{CallWatch, Recorder};
+use lock_test_support::raw_lock::CallWatch;
 use lock_traits::{RawRwLock, RawRwLockFair, RawRwLockUpgradeDowngrade, RawRwLockUpgradeTimed};
 use std::alloc::Global;
 use std::sync::Arc;

@@ -8,7 +8,8 @@ mod threads;
 
 use lock_modes::Fault;
 use lock_mutex::Mutex;
-use lock_test_support::raw_lock::{CallWatch, Recorder};
+use lock_recorder::Recorder;
+use lock_test_support::raw_lock::CallWatch;
 use lock_traits::RawMutex;
 use std::alloc::Global;
 

@@ -2,13 +2,14 @@
 use lock_modes::Mode::Exclusive;
 use lock_modes::{Fault, PartyId};
 use lock_raws::TokenRaw;
+use lock_recorder::Recorder;
 use lock_remutex::{
     ArcReentrantMutexGuard, MappedReentrantMutexGuard, ReentrantMutex, ReentrantMutexGuard,
 };
 use lock_test_support::answer::equal;
 use lock_test_support::party;
 use lock_test_support::project::{Item0, Item1, NthItem};
-use lock_test_support::raw_lock::{CallWatch, Recorder, watch_fair_end};
+use lock_test_support::raw_lock::{CallWatch, watch_fair_end};
 use lock_traits::{RawMutex, RawMutexFair};
 use std::alloc::Global;
 use std::sync::Arc;

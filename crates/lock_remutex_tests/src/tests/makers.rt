@@ -2,11 +2,12 @@
 use lock_modes::Mode::Exclusive;
 use lock_modes::{Fault, PartyId};
 use lock_raws::TokenRaw;
+use lock_recorder::RawCall::Lock;
+use lock_recorder::Recorder;
 use lock_remutex::{RawReentrantMutex, ReentrantMutex};
 use lock_test_support::answer::{answers_or_lacks_memory, equal};
 use lock_test_support::party;
-use lock_test_support::raw_lock::RawCall::Lock;
-use lock_test_support::raw_lock::{CallWatch, Recorder};
+use lock_test_support::raw_lock::CallWatch;
 use lock_traits::RawMutex;
 use std::alloc::Global;
 use std::mem;

@@ -2,9 +2,9 @@
 use lock_modes::Fault::{self, Foreign};
 use lock_modes::Mode::Exclusive;
 use lock_modes::PartyId;
+use lock_recorder::RawCall::{Lock, TryLock, Unlock, UnlockFair};
 use lock_remutex::RawReentrantMutex;
 use lock_test_support::answer::equal;
-use lock_test_support::raw_lock::RawCall::{Lock, TryLock, Unlock, UnlockFair};
 use lock_test_support::raw_lock::{AdmitsAll, CallWatch};
 use lock_test_support::{party, two_parties};
 use lock_traits::{RawMutex, RawMutexFair};

@@ -1,9 +1,10 @@
 //! Parties that are threads.
 use lock_modes::{Fault, PartyId};
 use lock_raws::TokenRaw;
+use lock_recorder::CallLog;
 use lock_remutex::{ReentrantMutex, ReentrantMutexGuard};
 use lock_test_support::answer::equal;
-use lock_test_support::raw_lock::{AdmitsAll, CallLog};
+use lock_test_support::raw_lock::AdmitsAll;
 use lock_test_support::{two_parties, wait_for_calls, wait_for_flag};
 use lock_traits::RawMutex;
 use std::sync::Wait;

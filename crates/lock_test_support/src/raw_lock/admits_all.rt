@@ -1,7 +1,6 @@
 //! A raw lock that admits everything.
-use crate::raw_lock::call_log::CallLog;
-use crate::raw_lock::raw_call::RawCall;
 use lock_modes::{Fault, Mode};
+use lock_recorder::{CallLog, RawCall};
 use lock_traits::{GuardSend, RawMutex, RawMutexFair, RawMutexTimed};
 use std::alloc::Global;
 use std::clone::Clone;

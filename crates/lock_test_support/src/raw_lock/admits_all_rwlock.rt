@@ -1,7 +1,7 @@
 //! The raw lock that admits everything, for readers and writers.
 use crate::raw_lock::admits_all::AdmitsAll;
-use crate::raw_lock::raw_call::RawCall;
 use lock_modes::{Fault, Mode, is_limit};
+use lock_recorder::RawCall;
 use lock_traits::{
     GuardSend, RawMutex, RawRwLock, RawRwLockFair, RawRwLockUpgrade, RawRwLockUpgradeFair,
 };

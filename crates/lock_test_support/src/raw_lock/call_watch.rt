@@ -1,9 +1,8 @@
 //! Checks of recorded calls, one after another.
 ghost use Rattle.std.specs.Prelude.{◌≡◌, None, IsSome, MatchBool, MatchResult};
 
-use crate::raw_lock::call_log::CallLog;
-use crate::raw_lock::raw_call::RawCall;
 use lock_modes::Mode;
+use lock_recorder::{CallLog, RawCall};
 use std::test::Fail;
 
 /// Compares the calls that a raw lock recorded since the last check with the wanted ones, and keeps the first difference.

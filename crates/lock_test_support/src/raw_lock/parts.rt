@@ -1,9 +1,9 @@
 //! Checks of the raw calls of a mapped guard, which was acquired in the mode since the last check.
 use crate::raw_lock::call_watch::CallWatch;
-use crate::raw_lock::raw_call::RawCall::{Lock, UnlockFair};
 use lock_guard::guard::{LockGuardFair, LockGuardMut, Mapped};
 use lock_modes::Mode;
 use lock_parts::{Project, TryView};
+use lock_recorder::RawCall::{Lock, UnlockFair};
 
 /// Reads the part, and releases the guard by a fair release.
 pub fn watch_fair_end<G: LockGuardFair, P: TryView<G::Value>>(

@@ -1,7 +1,7 @@
 -- The calls so far, and what is left of them, are all.
 use Rattle.std.proofs.Common.{◌≡◌, ◌++◌, drop, string_bytes}
 use Rattle.std.specs.List.{flat_map}
-use Rattle.lock_test_support.specs.RawCalls.{raw_call_line}
+use Rattle.lock_recorder.specs.RawCalls.{raw_call_line}
 use Rattle.lock_conform.proofs.report_text.write_raw_calls.Given as goal
 
 abbrev pub invariant-loop-call : goal.invariant-loop-call

@@ -2,10 +2,10 @@
 use super::raw_calls::UNDER_AN_UPGRADE;
 use lock_modes::Fault;
 use lock_modes::Mode::Shared;
+use lock_recorder::RawCall::{Lock, Unlock};
 use lock_rwlock::{ArcRwLockGuard, ArcRwLockReadGuard, RwLock};
 use lock_test_support::answer::equal;
 use lock_test_support::raw_lock::CallWatch;
-use lock_test_support::raw_lock::RawCall::{Lock, Unlock};
 use lock_traits::{RawRwLock, RawRwLockUpgradeDowngrade, RawRwLockUpgradeTimed};
 use std::sync::Arc;
 use std::test::Fail;

@@ -2,9 +2,9 @@
 use lock_guard::forget;
 use lock_modes::Fault;
 use lock_raws::TokenRaw;
+use lock_recorder::Recorder;
 use lock_rwlock::RwLock;
 use lock_test_support::answer::{answers_or_lacks_memory, equal};
-use lock_test_support::raw_lock::Recorder;
 use lock_traits::RawRwLock;
 use std::alloc::Global;
 use std::rt::Env;

@@ -1,10 +1,11 @@
 //! The order in which a lock locks and unlocks its raw lock and the value's lock.
 use lock_guard::guard::Acquire;
 use lock_modes::Mode::{self, Exclusive, Shared, Upgradable};
+use lock_recorder::CallLog;
+use lock_recorder::RawCall::{Lock, Unlock};
 use lock_rwlock::{RwLock, RwLockGuard};
 use lock_test_support::answer::equal;
-use lock_test_support::raw_lock::RawCall::{Lock, Unlock};
-use lock_test_support::raw_lock::{AdmitsAll, CallLog, CallWatch};
+use lock_test_support::raw_lock::{AdmitsAll, CallWatch};
 use lock_test_support::{wait_for_calls, wait_for_flag};
 use lock_traits::{RawRwLock, RawRwLockUpgrade};
 use std::sync::Wait;

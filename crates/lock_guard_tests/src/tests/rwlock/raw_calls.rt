@@ -1,14 +1,14 @@
 //! What the raw lock is asked by guards that borrow the lock, where no script of `conform/` makes the call.
 use lock_guard::guard::{AcquireFair, ValueGuard, ValueGuardMut};
 use lock_modes::Mode::{self, Exclusive, Shared, Upgradable};
+use lock_recorder::RawCall::{
+    self, DowngradeToUpgradable, IsLocked, Lock, TryUpgrade, TryUpgradeFor, TryUpgradeUntil,
+    Unlock, UnlockFair, Upgrade,
+};
 use lock_rwlock::{
     Mappable, RwLock, RwLockGuard, RwLockReadGuard, RwLockUpgradableReadGuard, RwLockWriteGuard,
 };
 use lock_test_support::project::{Item0, Nested, inner_item};
-use lock_test_support::raw_lock::RawCall::{
-    self, DowngradeToUpgradable, IsLocked, Lock, TryUpgrade, TryUpgradeFor, TryUpgradeUntil,
-    Unlock, UnlockFair, Upgrade,
-};
 use lock_test_support::raw_lock::{AdmitsAll, CallWatch, watch_fair_end, watch_write};
 use lock_traits::{
     RawRwLock, RawRwLockFair, RawRwLockUpgrade, RawRwLockUpgradeDowngrade, RawRwLockUpgradeFair,

@@ -1,11 +1,11 @@
 //! How a lock and its guards print, and the raw calls that this makes.
 use lock_guard::guard::{Acquire, ValueGuard};
 use lock_modes::Mode::{self, Exclusive, Shared, Upgradable};
+use lock_recorder::RawCall::{Lock, TryLock, Unlock};
 use lock_rwlock::{ArcModeGuard, Mappable, ReadValue, RwLock, RwLockGuard};
 use lock_test_support::answer::{debug_is, equal, texts_are};
 use lock_test_support::project::{Item1, Nested};
 use lock_test_support::raw_lock::CallWatch;
-use lock_test_support::raw_lock::RawCall::{Lock, TryLock, Unlock};
 use lock_traits::{RawRwLock, RawRwLockUpgrade};
 use std::alloc::Global;
 use std::fmt::{Debug, Display};

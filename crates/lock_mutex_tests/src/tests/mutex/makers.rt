@@ -2,8 +2,8 @@
 use lock_modes::Fault;
 use lock_mutex::{Condvar, Mutex};
 use lock_raws::{SleepingCondvar, TokenRaw};
+use lock_recorder::Recorder;
 use lock_test_support::answer::{answers_or_lacks_memory, equal};
-use lock_test_support::raw_lock::Recorder;
 use lock_traits::{RawCondvar, RawMutex};
 use std::alloc::Global;
 use std::test::Fail;

@@ -1,6 +1,7 @@
 //! The order in which a mutex locks and unlocks its raw lock and the value's lock.
 use lock_mutex::{Mutex, MutexGuard};
-use lock_test_support::raw_lock::{AdmitsAll, CallLog};
+use lock_recorder::CallLog;
+use lock_test_support::raw_lock::AdmitsAll;
 use lock_test_support::{wait_for_calls, wait_for_flag};
 use lock_traits::RawMutex;
 use std::sync::Wait;

@@ -1,8 +1,9 @@
 //! The calls that raw locks get by default bodies, and the record of them.
 use lock_modes::Mode::Exclusive;
+use lock_recorder::CallLog;
+use lock_recorder::RawCall::{self, Lock, Unlock, UnlockFair};
 use lock_test_support::answer::equal;
-use lock_test_support::raw_lock::RawCall::{self, Lock, Unlock, UnlockFair};
-use lock_test_support::raw_lock::{AdmitsAll, CallLog, CallWatch};
+use lock_test_support::raw_lock::{AdmitsAll, CallWatch};
 use lock_traits::{RawMutex, RawMutexFair};
 use std::alloc::Global;
 use std::clone::Clone;

@@ -1,7 +1,7 @@
 //! A list of raw calls that a raw lock writes and its caller reads.
 ghost use Rattle.std.specs.Prelude.{IsOkUnless};
 
-use crate::raw_lock::raw_call::RawCall;
+use crate::raw_call::RawCall;
 use lock_modes::Fault;
 use std::alloc::Global;
 use std::mem;

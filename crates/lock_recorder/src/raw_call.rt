@@ -1,6 +1,6 @@
 //! The calls of a raw lock.
 ghost use Rattle.std.specs.Prelude.{◌≡◌, ⊤};
-ghost use Rattle.lock_test_support.specs.ModeWords.{word_of};
+ghost use Rattle.lock_recorder.specs.ModeWords.{word_of};
 
 use lock_modes::Mode;
 use std::alloc::AllocError;
@@ -38,7 +38,7 @@ impl Clone for RawCall {
 
 impl RawCall {
     ghost use Rattle.std.specs.Prelude.{◌++◌, OnOk, string_bytes};
-    ghost use Rattle.lock_test_support.specs.RawCalls.{call_name, raw_call_line};
+    ghost use Rattle.lock_recorder.specs.RawCalls.{call_name, raw_call_line};
 
     /// Appends the call's line: two spaces, and the name that the raw traits of a reader-writer lock give it,
     /// without its time.

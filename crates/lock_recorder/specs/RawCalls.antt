@@ -1,7 +1,7 @@
 -- Raw calls as text.
 use Rattle.std.specs.Prelude.{ℕ, List, ◌++◌, codes}
-use Rattle.lock_test_support.specs.declared.raw_lock.raw_call.RawCall.{RawCall}
-use Rattle.lock_test_support.specs.ModeWords.{word_of}
+use Rattle.lock_recorder.specs.declared.raw_call.RawCall.{RawCall}
+use Rattle.lock_recorder.specs.ModeWords.{word_of}
 
 -- the name of a raw call, as the raw traits of a reader-writer lock have it
 abbrev pub call_name : RawCall → List ℕ

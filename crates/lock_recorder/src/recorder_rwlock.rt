@@ -1,7 +1,7 @@
 //! The recording raw lock, for readers and writers.
-use crate::raw_lock::deadline::Deadline;
-use crate::raw_lock::raw_call::RawCall;
-use crate::raw_lock::recorder::Recorder;
+use crate::deadline::Deadline;
+use crate::raw_call::RawCall;
+use crate::recorder::Recorder;
 use lock_modes::{Fault, Mode};
 use lock_traits::{
     RawRwLock, RawRwLockDowngrade, RawRwLockFair, RawRwLockTimed, RawRwLockUpgrade,

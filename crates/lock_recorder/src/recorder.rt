@@ -1,7 +1,7 @@
 //! A raw lock that records the calls made on it.
-use crate::raw_lock::call_log::CallLog;
-use crate::raw_lock::deadline::Deadline;
-use crate::raw_lock::raw_call::RawCall;
+use crate::call_log::CallLog;
+use crate::deadline::Deadline;
+use crate::raw_call::RawCall;
 use lock_modes::{Fault, Mode};
 use lock_traits::{RawMutex, RawMutexFair, RawMutexTimed};
 use std::alloc::Global;

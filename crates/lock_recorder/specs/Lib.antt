@@ -1,0 +1,2 @@
+pub mod ModeWords
+pub mod RawCalls
