@@ -1,4 +1,4 @@
-//! What tests of the locks share: raw locks that record their calls or admit everything, projections of pairs, flags
+//! What tests of the locks share: raw locks that admit everything, watches of raw calls, projections of pairs, flags
 //! between threads, and checks of answers.
 #![tactic(auto)]
 
